@@ -1,0 +1,10 @@
+// The forms in memory, which tell all.
+mod clock;
+mod files;
+mod sink;
+mod source;
+
+pub use clock::ListClock;
+pub use files::{File, MemFiles};
+pub use sink::MemSink;
+pub use source::{MemSource, PollsOwed};
