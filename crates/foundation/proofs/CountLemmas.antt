@@ -1,0 +1,47 @@
+-- Laws of the tests of the numbers below a number.
+use Rattle.std.proofs.Common.{◌≡◌, ℕ, zero, suc, ◌+◌, ◌<◌, Bool, true, false, ◌||◌, refl, arith, add-one}
+use Rattle.foundation.specs.Count.{any_below}
+
+pub any_below-zero : (f : ℕ → Bool) → any_below f 0 ≡ false
+unfolding any_below
+any_below-zero f = refl
+
+pub any_below-more : (f : ℕ → Bool) (n : ℕ) → any_below f (n + 1) ≡ (any_below f n || f n)
+unfolding any_below
+any_below-more f n = rw add-one
+
+pub any_below-next : (f : ℕ → Bool) (n : ℕ) → any_below f n ≡ false → f n ≡ false → any_below f (n + 1) ≡ false
+any_below-next f n h e = rw (any_below-more f n, h, e)
+
+-- where none passes
+pub any_below-none : (f : ℕ → Bool) (n : ℕ) → ((k : ℕ) → k < n → f k ≡ false) → any_below f n ≡ false
+unfolding any_below
+any_below-none f zero h = refl
+any_below-none f (suc n) h =
+    let rest = any_below-none f n (λ k l. h k (omega arith)) in
+    let here = h n (omega arith) in
+    rw (rest, here)
+
+or_step : (f : ℕ → Bool) (n k : ℕ) (a : Bool) → (k < n → a ≡ true) → k < n + 1 → f k ≡ true → (a || f n) ≡ true
+or_step f n k a h l e = grind arith
+
+-- where one passes
+pub any_below-true : (f : ℕ → Bool) (n k : ℕ) → k < n → f k ≡ true → any_below f n ≡ true
+unfolding any_below
+any_below-true f zero k l h = absurd (omega arith)
+any_below-true f (suc n) k l h = or_step f n k (any_below f n) (λ s. any_below-true f n k s h) (omega arith) h
+
+either : (a b : Bool) (P : Type 0) → (a ≡ true → P) → (b ≡ true → P) → (a || b) ≡ true → P
+either true b P f g h = f refl
+either false b P f g h = g h
+
+-- the one that passes
+pub any_below-some : (f : ℕ → Bool) (n : ℕ) → any_below f n ≡ true → (k : ℕ) × (k < n) × (f k ≡ true)
+unfolding any_below
+any_below-some f zero h = cc
+any_below-some f (suc n) h =
+    either (any_below f n) (f n) ((k : ℕ) × (k < suc n) × (f k ≡ true))
+    (λ e. let s = any_below-some f n e in (s.0, omega (arith, s.1), s.2))
+    (λ e. (n, omega arith, e)) h
+
+pub ruleset any = (any_below-zero, any_below-next, any_below-true)

@@ -1,0 +1,3 @@
+pub mod Squares
+pub mod Reach
+pub mod Repeats

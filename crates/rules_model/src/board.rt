@@ -1,0 +1,88 @@
+//! Squares, pieces and positions.
+ghost use Rattle.std.specs.Prelude.{◌≡◌};
+ghost use Rattle.rules_model.specs.Repeats as Repeats;
+
+/// A square of the largest board, 12 files by 10 ranks: 12 * rank + file, both counted from 0, so below 120.
+#[derive(Clone, Copy, Debug, PartialEq, Eq)]
+pub struct Square(pub u8);
+
+#[derive(Clone, Copy, Debug, PartialEq, Eq)]
+pub enum Side {
+    White,
+    Black,
+}
+
+/// A kind of piece by its letter: 0 is `a`, 25 is `z`.
+#[derive(Clone, Copy, Debug, PartialEq, Eq)]
+pub struct Kind(pub u8);
+
+/// A piece that stands on a square.
+#[derive(Clone, Copy, Debug, PartialEq, Eq)]
+pub struct Cell {
+    pub side: Side,
+    pub kind: Kind,
+    /// The kind from which it was promoted and to which it returns in a hand.
+    pub origin: Option<Kind>,
+}
+
+/// What stands on each square of the largest board.
+pub type Cells = [Option<Cell>; 120];
+
+/// A set of squares.
+#[derive(Clone, Copy, PartialEq, Eq)]
+pub struct Region {
+    pub squares: [bool; 120],
+}
+
+/// The size of a variant's board: at most 12 files and 10 ranks.
+#[derive(Clone, Copy, Debug, PartialEq, Eq)]
+pub struct Board {
+    pub files: u8,
+    pub ranks: u8,
+}
+
+/// A position without its counts: what its moves depend on, and what a repetition compares.
+/// White and kingside have index 0.
+#[derive(Clone, Copy, PartialEq, Eq)]
+pub struct Repeat {
+    pub cells: [Option<Cell>; 120],
+    /// How many pieces of each kind a side holds.
+    pub hands: [[u8; 26]; 2],
+    /// The gates of a side's first rank, bit f for file f.
+    pub gates: [u16; 2],
+    /// The castling rights of a side, by wing.
+    pub rights: [[bool; 2]; 2],
+    /// The checks that a side has still to give.
+    pub checks: [u8; 2],
+    pub ep: Option<Square>,
+    pub side: Side,
+}
+
+/// A position: a `Repeat`, the plies since the last capture or pawn move, and the number of the move.
+#[derive(Clone, Copy, PartialEq, Eq)]
+pub struct Position {
+    pub cells: [Option<Cell>; 120],
+    pub hands: [[u8; 26]; 2],
+    pub gates: [u16; 2],
+    pub counter: u16,
+    pub number: u16,
+    pub rights: [[bool; 2]; 2],
+    pub checks: [u8; 2],
+    pub ep: Option<Square>,
+    pub side: Side,
+}
+
+/// What a position must share with another to repeat it.
+pub fn repeat_of(p: &Position) -> Repeat
+    ensures { result ≡ Repeats.repeat_of p.now }
+{
+    Repeat {
+        cells: p.cells,
+        hands: p.hands,
+        gates: p.gates,
+        rights: p.rights,
+        checks: p.checks,
+        ep: p.ep,
+        side: p.side,
+    }
+}
