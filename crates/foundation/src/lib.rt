@@ -3,7 +3,7 @@
 
 ghost use Rattle.std.specs.Prelude.{◌≡◌, List, ℕ};
 
-use std::alloc::AllocError;
+use std::alloc::{AllocError, AllocFailed};
 use std::marker::Model;
 
 /// The answer of a call that found no memory.
@@ -16,6 +16,16 @@ impl From<AllocError> for Memory {
     ghost from_gives = { λ _ memory. memory ≡ record {} };
 
     fn from(_error: AllocError) -> Self {
+        Memory
+    }
+}
+
+impl<T: Drop> From<AllocFailed<T>> for Memory {
+    ghost use Rattle.std.specs.Prelude.{◌≡◌};
+
+    ghost from_gives = { λ _ memory. memory ≡ record {} };
+
+    fn from(_error: AllocFailed<T>) -> Self {
         Memory
     }
 }
