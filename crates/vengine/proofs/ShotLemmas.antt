@@ -1,0 +1,211 @@
+-- What a run says.
+use Rattle.std.proofs.Common.{◌≡◌, ℕ, List, [], ◌∷◌, ◌++◌, ◌⊎◌, inl, inr, refl, sym, ap, subst, ◌∙◌, Option, Some, None, Ok, Err, IfOk, OnErr, IsOk, IsNone, ◌≢◌, ◌↔◌, arith}
+use Rattle.std.specs.declared.result.Result.{Result}
+use Rattle.std.specs.Io.KnownBytes.{Appends}
+use Rattle.betza_text.specs.declared.part.Part.{Part}
+use Rattle.betza_text.specs.declared.fault.BetzaFault.{BetzaFault}
+use Rattle.betza_text.specs.declared.fault.BetzaFault.TheVariants.{Memory as NoMemory}
+use Rattle.betza_text.specs.Word.{Spells, BetzaBad}
+use Rattle.foundation.specs.declared.Memory.{Memory}
+use Rattle.vengine.specs.declared.answers.Answer.{Answer}
+use Rattle.betza_text.specs.Fault.{fault_text}
+use Rattle.betza_text.proofs.WordLaws.{word_or_fault, one_word, one_fault, not_both}
+use Rattle.betza_compile.specs.Terms.{terms}
+use Rattle.io_ports.specs.Files.{Contents}
+use Rattle.io_ports.specs.Sink.{AppendsFront}
+use Rattle.io_ports.specs.Trace.{Moves, Reads}
+use Rattle.io_ports.proofs.Moved.{moves_none, moves_sink}
+use Rattle.io_ports.proofs.Asked.{reads_none}
+use Rattle.rules_model.specs.declared.board.Square.{Square}
+use Rattle.vengine.specs.Words.{Command, Reach, command_of}
+use Rattle.vengine.specs.ReachText.{square_named, reach_text}
+use Rattle.vengine.specs.Shot.{Shot, Says, SaysReach, reached, faulty_word, faulty_square, usage_line, error_line, bad_square}
+use Rattle.vengine.specs.Run.{IsTold, Did, DidPart, IsDone, IsCut}
+
+-- an option that is not Some
+pub is_none_from : {A : Type 0} (o : Option A) → ((x : A) → o ≡ Some x → ⊥) → o ≡ None
+is_none_from None differs = refl
+is_none_from (Some x) differs = absurd (differs x refl)
+
+some_inj : {A : Type 0} (x y : A) → Some x ≡ Some y → x ≡ y
+some_inj x y e = cc
+
+some_none : {A : Type 0} (x : A) → Some x ≡ None → ⊥
+some_none x e = cc
+
+-- some answer of `reach`
+reach_at : (word square : List ℕ) (b : List Part) → Spells word b → (o : Option Square) → square_named square ≡ o → (status : ℕ) × (text : List ℕ) × SaysReach word square status text
+reach_at word square b spells (Some from) is = (0, reach_text (terms b) from, reached b from spells is)
+reach_at word square b spells None is = (3, error_line (bad_square square), faulty_square b spells is)
+
+reach_some : (word square : List ℕ) → (status : ℕ) × (text : List ℕ) × SaysReach word square status text
+reach_some word square =
+    elim (word_or_fault word) [
+      | inl (b, spells) ↦ reach_at word square b spells (square_named square) refl
+      | inr (fault, bad) ↦ (3, error_line (fault_text fault), faulty_word fault bad)
+    ]
+
+says_some : (c : Option Command) (files : Contents) (failed : ℕ) (input : List ℕ) → (status : ℕ) × (text : List ℕ) × Says c files failed input status text
+says_some None files failed input = (2, usage_line, (refl, refl))
+says_some (Some (Reach word square)) files failed input = reach_some word square
+
+-- words have some answer
+pub shot_some : (words : List (List ℕ)) (files : Contents) (failed : ℕ) (input : List ℕ) → (status : ℕ) × (text : List ℕ) × Shot words files failed input status text
+unfolding Shot
+shot_some words files failed input = says_some (command_of words) files failed input
+
+reach_done : (word square : List ℕ) (status : ℕ) (text : List ℕ) → SaysReach word square status text → IsDone status
+reach_done word square status text (reached b from spells is) = inl refl
+reach_done word square status text (faulty_word fault bad) = inr (inr refl)
+reach_done word square status text (faulty_square b spells is) = inr (inr refl)
+
+-- an answer of `reach`, by equations
+says_at : (word square : List ℕ) (status status' : ℕ) (text text' : List ℕ) → status' ≡ status → text' ≡ text → SaysReach word square status text → SaysReach word square status' text'
+says_at word square status status' text text' p q says =
+    subst (λ (x : ℕ). SaysReach word square x text') (sym p) (subst (λ (x : List ℕ). SaysReach word square status x) (sym q) says)
+
+-- the squares of a word from a square
+pub says_reached : (word square : List ℕ) (b : List Part) (from : Square) (text : List ℕ) → Spells word b → square_named square ≡ Some from → text ≡ reach_text (terms b) from → SaysReach word square 0 text
+says_reached word square b from text spells names is = says_at word square 0 0 (reach_text (terms b) from) text refl is (reached b from spells names)
+
+-- the fault of a word
+pub says_faulty_word : (r : Result Answer Memory) (word square : List ℕ) (fault : BetzaFault) → (fault ≢ NoMemory → BetzaBad word fault) → (IsOk r → fault ≢ NoMemory)
+    → IfOk r (λ answer. answer.status ≡ 3) → IfOk r (λ answer. answer.text ≡ error_line (fault_text fault)) → IfOk r (λ answer. SaysReach word square answer.status answer.text)
+says_faulty_word (Ok answer) word square fault bad named status text = says_at word square 3 answer.status _ answer.text status text (faulty_word fault (bad (named refl)))
+says_faulty_word (Err memory) word square fault bad named status text = tt
+
+-- the fault of a square
+pub says_faulty_square : (r : Result Answer Memory) (word square : List ℕ) (b : List Part) → Spells word b → square_named square ≡ None
+    → IfOk r (λ answer. answer.status ≡ 3) → IfOk r (λ answer. answer.text ≡ error_line (bad_square square)) → IfOk r (λ answer. SaysReach word square answer.status answer.text)
+says_faulty_square (Ok answer) word square b spells names status text = says_at word square 3 answer.status _ answer.text status text (faulty_square b spells names)
+says_faulty_square (Err memory) word square b spells names status text = tt
+
+-- what a run says has one of the statuses of a run that was not cut short
+says_done : (c : Option Command) (files : Contents) (failed : ℕ) (input : List ℕ) (status : ℕ) (text : List ℕ) → Says c files failed input status text → IsDone status
+says_done None files failed input status text says = inr (inl says.0)
+says_done (Some (Reach word square)) files failed input status text says = reach_done word square status text says
+
+pub shot_done : (words : List (List ℕ)) (files : Contents) (failed : ℕ) (input : List ℕ) (status : ℕ) (text : List ℕ) → Shot words files failed input status text → IsDone status
+unfolding Shot
+shot_done words files failed input status text shot = says_done (command_of words) files failed input status text shot
+
+-- `reach` has one answer to a word and a square
+reach_once : (word square : List ℕ) (s s' : ℕ) (t t' : List ℕ) → SaysReach word square s t → SaysReach word square s' t' → (s ≡ s') × (t ≡ t')
+reach_once word square s s' t t' (reached b from spells names) (reached b' from' spells' names') =
+    (refl, ap (λ (x : List Part). reach_text (terms x) from) (one_word word b b' spells spells') ∙ ap (λ (x : Square). reach_text (terms b') x) (some_inj from from' (sym names ∙ names')))
+reach_once word square s s' t t' (reached b from spells names) (faulty_word fault bad) = absurd (not_both word b fault spells bad)
+reach_once word square s s' t t' (reached b from spells names) (faulty_square b' spells' names') = absurd (some_none from (sym names ∙ names'))
+reach_once word square s s' t t' (faulty_word fault bad) (reached b from spells names) = absurd (not_both word b fault spells bad)
+reach_once word square s s' t t' (faulty_word fault bad) (faulty_word fault' bad') = (refl, ap (λ (x : BetzaFault). error_line (fault_text x)) (one_fault word fault fault' bad bad'))
+reach_once word square s s' t t' (faulty_word fault bad) (faulty_square b spells names) = absurd (not_both word b fault spells bad)
+reach_once word square s s' t t' (faulty_square b spells names) (reached b' from spells' names') = absurd (some_none from (sym names' ∙ names))
+reach_once word square s s' t t' (faulty_square b spells names) (faulty_word fault bad) = absurd (not_both word b fault spells bad)
+reach_once word square s s' t t' (faulty_square b spells names) (faulty_square b' spells' names') = (refl, refl)
+
+says_once : (c : Option Command) (files : Contents) (failed : ℕ) (input : List ℕ) (s s' : ℕ) (t t' : List ℕ) → Says c files failed input s t → Says c files failed input s' t' → (s ≡ s') × (t ≡ t')
+says_once None files failed input s s' t t' says says' = (says.0 ∙ sym says'.0, says.1 ∙ sym says'.1)
+says_once (Some (Reach word square)) files failed input s s' t t' says says' = reach_once word square s s' t t' says says'
+
+-- words have one answer
+pub shot_once : (words : List (List ℕ)) (files : Contents) (failed : ℕ) (input : List ℕ) (s s' : ℕ) (t t' : List ℕ) → Shot words files failed input s t → Shot words files failed input s' t' → (s ≡ s') × (t ≡ t')
+unfolding Shot
+shot_once words files failed input s s' t t' shot shot' = says_once (command_of words) files failed input s s' t t' shot shot'
+
+not_usage : (word square : List ℕ) (status : ℕ) (text : List ℕ) → SaysReach word square status text → status ≡ 2 → ⊥
+not_usage word square status text (reached b from spells names) is = absurd (omega (arith, is))
+not_usage word square status text (faulty_word fault bad) is = absurd (omega (arith, is))
+not_usage word square status text (faulty_square b spells names) is = absurd (omega (arith, is))
+
+-- the usage line is the answer exactly to words that are not of the command set
+says_usage : (c : Option Command) (files : Contents) (failed : ℕ) (input : List ℕ) (status : ℕ) (text : List ℕ) → Says c files failed input status text → status ≡ 2 ↔ IsNone c
+says_usage None files failed input status text says = (λ is. refl, λ none. says.0)
+says_usage (Some (Reach word square)) files failed input status text says = (λ is. absurd (not_usage word square status text says is), λ none. cc)
+
+pub shot_usage : (words : List (List ℕ)) (files : Contents) (failed : ℕ) (input : List ℕ) (status : ℕ) (text : List ℕ) → Shot words files failed input status text → status ≡ 2 ↔ IsNone (command_of words)
+unfolding Shot
+shot_usage words files failed input status text shot = says_usage (command_of words) files failed input status text shot
+
+-- a run that was cut short has none of these statuses
+pub done_whole : (status : ℕ) → IsDone status → IsCut status → ⊥
+done_whole status (inl a) (inl b) = absurd (omega (arith, a, b))
+done_whole status (inl a) (inr b) = absurd (omega (arith, a, b))
+done_whole status (inr (inl a)) (inl b) = absurd (omega (arith, a, b))
+done_whole status (inr (inl a)) (inr b) = absurd (omega (arith, a, b))
+done_whole status (inr (inr a)) (inl b) = absurd (omega (arith, a, b))
+done_whole status (inr (inr a)) (inr b) = absurd (omega (arith, a, b))
+
+pub no_files : Contents
+no_files name = None
+
+-- what is told, or else this
+told_or : {A : Type 0} (o : Option A) → A → (x : A) × IsTold o x
+told_or None default = (default, tt)
+told_or (Some told) default = (told, refl)
+
+module _ {S K C F : Type 0} {left : S → Option (List ℕ)} {taken : K → Option (List ℕ)} {count last : C → ℕ} {contents : F → Option Contents} {faults : F → ℕ} where
+  -- the text of an answer was written
+  pub run_did : (s : S) (k k' : K) (c : C) (f : F) (words : List (List ℕ)) (status : ℕ) (text : List ℕ)
+      → ((files : Contents) (failed : ℕ) (input : List ℕ) → Shot words files failed input status text) → Appends (taken k) (taken k') text
+      → Did (Moves left taken count last s s k k' c c) (Reads contents faults f f) (contents f) (left s) words status
+  run_did s k k' c f words status text says wrote =
+      let (files, told_files) = told_or (contents f) no_files in
+      let (input, told_input) = told_or (left s) [] in
+      record {
+        lines = [];
+        readings = [];
+        reads = [];
+        files = files;
+        input = input;
+        text = text;
+        moves = moves_sink s c wrote;
+        asks = reads_none f;
+        told_files = told_files;
+        told_input = told_input;
+        allowed = says files 0 input;
+      }
+
+  -- a front part of it was
+  pub run_part : (s : S) (k k' : K) (c : C) (f : F) (words : List (List ℕ)) (status : ℕ) (text : List ℕ)
+      → ((files : Contents) (failed : ℕ) (input : List ℕ) → Shot words files failed input status text) → AppendsFront (taken k) (taken k') text
+      → DidPart (Moves left taken count last s s k k' c c) (Reads contents faults f f) (contents f) (left s) words
+  run_part s k k' c f words status text says wrote =
+      let (files, told_files) = told_or (contents f) no_files in
+      let (input, told_input) = told_or (left s) [] in
+      record {
+        lines = [];
+        readings = [];
+        reads = [];
+        files = files;
+        input = input;
+        written = wrote.front;
+        back = wrote.back;
+        status = status;
+        moves = moves_sink s c wrote.took;
+        asks = reads_none f;
+        told_files = told_files;
+        told_input = told_input;
+        allowed = subst (λ (x : List ℕ). Shot words files 0 input status x) wrote.whole (says files 0 input);
+      }
+
+  -- nothing was
+  pub run_none : (s : S) (k : K) (c : C) (f : F) (words : List (List ℕ))
+      → DidPart (Moves left taken count last s s k k c c) (Reads contents faults f f) (contents f) (left s) words
+  run_none s k c f words =
+      let (files, told_files) = told_or (contents f) no_files in
+      let (input, told_input) = told_or (left s) [] in
+      let (status, text, says) = shot_some words files 0 input in
+      record {
+        lines = [];
+        readings = [];
+        reads = [];
+        files = files;
+        input = input;
+        written = [];
+        back = text;
+        status = status;
+        moves = moves_none s k c;
+        asks = reads_none f;
+        told_files = told_files;
+        told_input = told_input;
+        allowed = says;
+      }

@@ -1,0 +1,4 @@
+pub mod ReachText
+pub mod Run
+pub mod Shot
+pub mod Words

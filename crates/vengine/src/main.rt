@@ -1,0 +1,58 @@
+//! Vengine, a chess-variant engine: what the words of its command line ask, and the one call that does it.
+#![tactic(auto)]
+
+mod answers;
+mod laws;
+mod program;
+mod reach;
+
+use foundation::Memory;
+use io_ports::{ListClock, MemFiles, MemSource, OpenGate, PollsOwed, StandardOutput};
+use program::NO_MEMORY;
+use std::process::ExitCode;
+use std::rt::Env;
+use std::sync::Wait;
+use std::thread::Threads;
+use std::{env, io};
+
+/// The words behind the program's name. Words that are no text are given as `--`, which is of no command.
+fn words(rt: &(impl Env + AllocGlobal)) -> Result<Vec<String>, Memory> {
+    let alloc = rt.alloc();
+    let mut words = Vec::new(alloc);
+    match env::args(rt) {
+        Ok(args) => {
+            for word in args.skip(1) {
+                words.push(word)?;
+            }
+        }
+        Err(_) => words.push(String::from_str(alloc, "--")?)?,
+    }
+    Ok(words)
+}
+
+/// Runs the words of the command line over standard output, an empty source and no files.
+fn run_words<R>(rt: &R) -> Result<u8, Memory>
+where
+    R: Env + Print + AllocGlobal + Threads + Wait + Sync,
+{
+    let alloc = rt.alloc();
+    let words = words(rt)?;
+    let mut source = MemSource::new(alloc, &[], PollsOwed::Endless, &[])?;
+    let mut sink = StandardOutput::new(io::writer(rt));
+    let mut files = MemFiles::new(alloc);
+    let mut clock = ListClock::new(alloc, &[])?;
+    Ok(program::run(
+        rt,
+        alloc,
+        words.as_slice(),
+        &mut source,
+        &mut sink,
+        &mut files,
+        &mut clock,
+        &OpenGate,
+    ))
+}
+
+fn main(rt: HostRuntime) -> ExitCode {
+    ExitCode::from(run_words(&rt).unwrap_or(NO_MEMORY))
+}

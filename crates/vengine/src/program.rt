@@ -1,0 +1,81 @@
+//! The top call.
+ghost use Rattle.std.specs.Prelude.{◌≡◌, ◌⊎◌, ◌↔◌, IsErr, IsNone, OnErr, OnOk, map, string_bytes};
+ghost use Rattle.std.specs.Io.KnownBytes.{Appends};
+ghost use Rattle.io_ports.specs.Cause.{HasCause, Rose};
+ghost use Rattle.io_ports.specs.Sink.{AppendsFront};
+ghost use Rattle.io_ports.specs.Trace.{Moves, Reads};
+ghost use Rattle.vengine.specs.Words.{command_of};
+ghost use Rattle.vengine.specs.Run.{Did, DidPart, IsDone, IsCut, Completes};
+
+use crate::answers::answer_to;
+use foundation::Text;
+use io_ports::{Clock, Failed, Files, Gate, Sink, Source};
+use std::alloc::Global;
+use std::sync::Wait;
+use std::thread::Threads;
+
+/// The status of a run whose sink failed.
+pub const SINK_FAILED: u8 = 5;
+
+/// The status of a run that found no memory.
+pub const NO_MEMORY: u8 = 7;
+
+// Writes a text.
+fn say<K: Sink>(sink: &mut K, text: &Text) -> Result<(), Failed>
+    ensures ok { OnOk result (Appends (K.taken sink.old) (K.taken sink.new) text.now) }
+    ensures err { OnErr result (AppendsFront (K.taken sink.old) (K.taken sink.new) text.now) }
+    ensures cause { HasCause (K.faults sink.old) (K.faults sink.new) (IsErr result) }
+{
+    sink.put(text.items.as_slice())
+}
+
+/// Does what the words of a command line ask, over these ports, and answers the status with which the program ends.
+///
+/// | status | only where |
+/// |---|---|
+/// | 0 | the command wrote its whole text |
+/// | 2 | the words are not of the command set, and the usage line was written |
+/// | 3 | an argument has the fault that was written as a line `error FAULT` |
+/// | 5 | the sink's count of faults rose |
+/// | 7 | there was no memory |
+pub fn run<R, S, K, F, C, G>(
+    rt: &R,
+    alloc: Global,
+    words: &[String],
+    source: &mut S,
+    sink: &mut K,
+    files: &mut F,
+    clock: &mut C,
+    gate: &G,
+) -> u8
+where
+    R: Threads + Wait + Sync,
+    S: Source + Send,
+    K: Sink + Send,
+    F: Files,
+    C: Clock + Send,
+    G: Gate + Sync,
+    ensures statuses { IsDone result ⊎ IsCut result }
+
+    // The sink took exactly the text that the words, the files and the input have for an answer.
+    ensures done { IsDone result → Did (Moves S.left K.taken C.count C.last source.old source.new sink.old sink.new clock.old clock.new) (Reads F.contents F.faults files.old files.new) (F.contents files.old) (S.left source.old) (map string_bytes words.now) result }
+    // A front part of it.
+    ensures cut { IsCut result → DidPart (Moves S.left K.taken C.count C.last source.old source.new sink.old sink.new clock.old clock.new) (Reads F.contents F.faults files.old files.new) (F.contents files.old) (S.left source.old) (map string_bytes words.now) }
+    ensures usage { IsCut result ⊎ ((result ≡ 2) ↔ IsNone (command_of (map string_bytes words.now))) }
+    ensures sink_failed { result ≡ 5 → Rose (K.faults sink.old) (K.faults sink.new) }
+    ensures complete { Completes (F.contents files.old) (S.left source.old) (map string_bytes words.now) result }
+
+    // No command reads its input yet.
+    ensures unread { source.new ≡ source.old }
+{
+    let Ok(answer) = answer_to(alloc, words) else {
+        return NO_MEMORY;
+    };
+    match say(sink, &answer.text) {
+        Ok(()) => answer.status,
+        Err(_) => SINK_FAILED,
+    }
+}
+
+#[cfg(test)]
+mod tests;

@@ -1,0 +1,100 @@
+use super::*;
+use io_ports::{ListClock, MemFiles, MemSink, MemSource, OpenGate, PollsOwed};
+use std::test::Fail;
+
+/// A run over ports in memory, with a sink that has room for so many bytes.
+fn told<R: AllocGlobal + Threads + Wait + Sync>(
+    rt: &R,
+    words: &[&str],
+    room: usize,
+) -> Result<(u8, MemSink), Fail> {
+    let alloc = rt.alloc();
+    let mut list = Vec::new(alloc);
+    for word in words {
+        list.push(String::from_str(alloc, *word)?)?;
+    }
+    let mut source = MemSource::new(alloc, b"a line\n", PollsOwed::Endless, &[])?;
+    let mut sink = MemSink::new(alloc, room)?;
+    let mut files = MemFiles::new(alloc);
+    let mut clock = ListClock::new(alloc, &[])?;
+    let status = run(
+        rt,
+        alloc,
+        list.as_slice(),
+        &mut source,
+        &mut sink,
+        &mut files,
+        &mut clock,
+        &OpenGate,
+    );
+    Ok((status, sink))
+}
+
+#[test]
+fn reach_says_where_a_leaper_goes(rt: HostRuntime) -> Result<(), Fail> {
+    let rows: [(&str, &str, u8, &str); 13] = [
+        ("N", "b1", 0, "quiet d2 a3 c3\ntake -\n"),
+        ("WF", "a1", 0, "quiet b1 a2 b2\ntake -\n"),
+        ("G", "d4", 0, "quiet a1 g1 a7 g7\ntake -\n"),
+        ("H", "h8", 0, "quiet h5 e8\ntake -\n"),
+        ("NN", "b1", 3, "error BetzaFault 11 NotBuilt 1\n"),
+        ("", "b1", 3, "error BetzaFault 1 Empty 0\n"),
+        ("Né", "b1", 3, "error BetzaFault 11 NotBuilt 1\n"),
+        (
+            "WFDNAHLCWFDNAHLCWFDNAHLCWFDNAHLCWFDNAHLCWFDNAHLCWFDNAHLCWFDNAHLCW",
+            "b1",
+            3,
+            "error BetzaFault 11 NotBuilt 8\n",
+        ),
+        ("NN", "z9", 3, "error BetzaFault 11 NotBuilt 1\n"),
+        ("N", "i9", 3, "error ReachFault 1 BadSquare i9\n"),
+        ("N", "a10", 3, "error ReachFault 1 BadSquare a10\n"),
+        ("N", "", 3, "error ReachFault 1 BadSquare \n"),
+        ("N", "é1", 3, "error ReachFault 1 BadSquare é1\n"),
+    ];
+    for (word, square, status, text) in rows {
+        let (answered, sink) = told(&rt, &["reach", word, square], 1000)?;
+        assert_eq!(rt; answered, status, "{word} {square}");
+        assert_eq!(rt; sink.taken(), text.as_bytes(), "{word} {square}");
+    }
+    Ok(())
+}
+
+#[test]
+fn other_words_are_answered_by_the_usage_line(rt: HostRuntime) -> Result<(), Fail> {
+    let rows: [&[&str]; 9] = [
+        &[],
+        &[""],
+        &["--"],
+        &["reach", "N"],
+        &["reach", "N", "b1", "a1"],
+        &["reach", "-N", "b1"],
+        &["reach", "N", "--"],
+        &["Reach", "N", "b1"],
+        &["help"],
+    ];
+    for words in rows {
+        let (status, sink) = told(&rt, words, 1000)?;
+        assert_eq!(rt; status, 2);
+        assert_eq!(rt;
+            sink.taken(),
+            b"usage: vengine [--variants FILE] [--threads N] [COMMAND]\n".as_slice()
+        );
+    }
+    Ok(())
+}
+
+#[test]
+fn a_sink_without_room_takes_a_front_part(rt: HostRuntime) -> Result<(), Fail> {
+    let text = b"quiet d2 a3 c3\ntake -\n".as_slice();
+    for room in 0..text.len() {
+        let (status, sink) = told(&rt, &["reach", "N", "b1"], room)?;
+        assert_eq!(rt; status, 5);
+        assert_eq!(rt; sink.taken(), &text[..room]);
+        assert_eq!(rt; sink.faults(), 1);
+    }
+    let (status, sink) = told(&rt, &["reach", "N", "b1"], text.len())?;
+    assert_eq!(rt; status, 0);
+    assert_eq!(rt; sink.taken(), text);
+    Ok(())
+}
