@@ -46,12 +46,12 @@ fn lines_end_at_lf_or_at_the_end_and_lose_a_final_cr(rt: HostRuntime) -> Result<
         (Polled::Line, b"".as_slice()),
         (Polled::Line, b"a\rb\r".as_slice()),
         (Polled::Line, b"last".as_slice()),
-        (Polled::End, b"last".as_slice()),
+        (Polled::End, b"".as_slice()),
     ] {
-        assert_eq!(rt;
-            (polled(&mut source, &mut line), line.text()),
-            (answer, expected)
-        );
+        assert_eq!(rt; polled(&mut source, &mut line), answer);
+        if answer == Polled::Line {
+            assert_eq!(rt; line.text(), expected);
+        }
     }
     assert_eq!(rt; source.faults(), 2);
     Ok(())
