@@ -5,4 +5,5 @@ pub mod InMemory
 pub mod Lines
 pub mod Sink
 pub mod Source
+pub mod Standard
 pub mod Trace

@@ -11,6 +11,7 @@ mod line;
 mod memory;
 mod sink;
 mod source;
+mod standard;
 
 pub use clock::Clock;
 pub use files::{Files, Given, MAX_FILE};
@@ -20,6 +21,7 @@ pub use line::{LineBuf, MAX_LINE};
 pub use memory::{File, ListClock, MemFiles, MemSink, MemSource, PollsOwed};
 pub use sink::{Failed, Sink};
 pub use source::{Got, Polled, Source};
+pub use standard::StandardOutput;
 
 #[cfg(test)]
 mod tests;

@@ -1,11 +1,11 @@
 use crate::{
     Clock, Failed, Files, Gate, Given, Got, LineBuf, ListClock, MAX_FILE, MAX_LINE, MemFiles,
-    MemSink, MemSource, OpenGate, Polled, PollsOwed, Sink, Source,
+    MemSink, MemSource, OpenGate, Polled, PollsOwed, Sink, Source, StandardOutput,
 };
-use std::alloc::Global;
+use std::alloc::{AllocError, Global};
+use std::io::{self, ErrorKind, Write};
 use std::test::Fail;
 
-// What a poll answers, with the text of a line.
 fn polled<S: Source + Send>(source: &mut S, line: &mut LineBuf) -> Polled {
     source.poll_line(line)
 }
@@ -35,24 +35,30 @@ fn lines_end_at_lf_or_at_the_end_and_lose_a_final_cr(rt: HostRuntime) -> Result<
     let alloc = rt.alloc();
     let mut line = LineBuf::new(alloc)?;
     let text = b"uci\r\n\n\r\na\rb\r\r\nlast\r";
-    let mut source = MemSource::new(alloc, text.as_slice(), PollsOwed::Endless, &[])?;
-    for expected in [
-        b"uci".as_slice(),
-        b"".as_slice(),
-        b"".as_slice(),
-        b"a\rb\r".as_slice(),
-        b"last".as_slice(),
+    let mut source = MemSource::new(alloc, text.as_slice(), PollsOwed::Number(2), &[1, 5])?;
+    for (answer, expected) in [
+        (Polled::NotYet, b"".as_slice()),
+        (Polled::Failed, b"".as_slice()),
+        (Polled::NotYet, b"".as_slice()),
+        (Polled::Line, b"uci".as_slice()),
+        (Polled::Line, b"".as_slice()),
+        (Polled::Failed, b"".as_slice()),
+        (Polled::Line, b"".as_slice()),
+        (Polled::Line, b"a\rb\r".as_slice()),
+        (Polled::Line, b"last".as_slice()),
+        (Polled::End, b"".as_slice()),
     ] {
-        assert_eq!(rt; next(&mut source, &mut line), Got::Line);
-        assert_eq!(rt; line.text(), expected);
+        assert_eq!(rt; polled(&mut source, &mut line), answer);
+        if answer == Polled::Line {
+            assert_eq!(rt; line.text(), expected);
+        }
     }
-    assert_eq!(rt; next(&mut source, &mut line), Got::End);
-    assert_eq!(rt; source.left(), b"".as_slice());
+    assert_eq!(rt; source.faults(), 2);
     Ok(())
 }
 
-// So many bytes, and then an end of line.
-fn long_line(alloc: Global, len: usize, end: &[u8]) -> Result<Vec<u8>, Fail> {
+// So many bytes, and then an end of line and another line.
+fn long_line(alloc: Global, len: usize, end: &[u8]) -> Result<Vec<u8>, AllocError> {
     let mut text = vec![in alloc; b'a'; len]?;
     text.extend_from_slice(end)?;
     text.extend_from_slice(b"next")?;
@@ -65,48 +71,22 @@ fn a_line_is_too_long_by_its_bytes_without_the_cr(rt: HostRuntime) -> Result<(),
     let mut line = LineBuf::new(alloc)?;
     for (len, end, answer) in [
         (MAX_LINE, b"\r\n".as_slice(), Got::Line),
-        (MAX_LINE, b"\n".as_slice(), Got::Line),
         (MAX_LINE + 1, b"\n".as_slice(), Got::TooLong),
-        (MAX_LINE + 1, b"\r\n".as_slice(), Got::TooLong),
     ] {
         let text = long_line(alloc, len, end)?;
         let mut source = MemSource::new(alloc, text.as_slice(), PollsOwed::Endless, &[])?;
-        assert_eq!(rt; next(&mut source, &mut line), answer);
-        assert_eq!(rt; source.left(), b"next".as_slice());
+        assert_eq!(rt; polled(&mut source, &mut line), Polled::NotYet);
+        assert_eq!(rt;
+            (next(&mut source, &mut line), source.left()),
+            (answer, b"next".as_slice())
+        );
     }
-    Ok(())
-}
-
-#[test]
-fn polls_are_owed_and_calls_fail(rt: HostRuntime) -> Result<(), Fail> {
-    let alloc = rt.alloc();
-    let mut line = LineBuf::new(alloc)?;
-    let mut source = MemSource::new(alloc, b"stop\n", PollsOwed::Number(2), &[1, 5])?;
-    for answer in [
-        Polled::NotYet,
-        Polled::Failed,
-        Polled::NotYet,
-        Polled::Line,
-        Polled::End,
-        Polled::Failed,
-        Polled::End,
-    ] {
-        assert_eq!(rt; polled(&mut source, &mut line), answer);
-    }
-    assert_eq!(rt; source.faults(), 2);
-    let mut endless = MemSource::new(alloc, b"stop\n", PollsOwed::Endless, &[])?;
-    for _ in 0..3 {
-        assert_eq!(rt; polled(&mut endless, &mut line), Polled::NotYet);
-    }
-    assert_eq!(rt; next(&mut endless, &mut line), Got::Line);
-    assert_eq!(rt; line.text(), b"stop".as_slice());
     Ok(())
 }
 
 #[test]
 fn a_piece_is_taken_as_far_as_it_fits(rt: HostRuntime) -> Result<(), Fail> {
-    let alloc = rt.alloc();
-    let mut sink = MemSink::new(alloc, 5)?;
+    let mut sink = MemSink::new(rt.alloc(), 5)?;
     for (piece, answer) in [
         (b"abc".as_slice(), Ok(())),
         (b"defg".as_slice(), Err(Failed)),
@@ -115,8 +95,7 @@ fn a_piece_is_taken_as_far_as_it_fits(rt: HostRuntime) -> Result<(), Fail> {
     ] {
         assert_eq!(rt; put(&mut sink, piece), answer);
     }
-    assert_eq!(rt; sink.taken(), b"abcde".as_slice());
-    assert_eq!(rt; sink.faults(), 2);
+    assert_eq!(rt; (sink.taken(), sink.faults()), (b"abcde".as_slice(), 2));
     Ok(())
 }
 
@@ -124,34 +103,94 @@ fn a_piece_is_taken_as_far_as_it_fits(rt: HostRuntime) -> Result<(), Fail> {
 fn files_are_found_by_name(rt: HostRuntime) -> Result<(), Fail> {
     let alloc = rt.alloc();
     let mut files = MemFiles::new(alloc);
+    let mut large = vec![in alloc; b'a'; MAX_FILE]?;
+    files.add(b"full.ini", large.as_slice())?;
+    large.push(b'a')?;
+    files.add(b"large.ini", large.as_slice())?;
     files.add(b"a.ini", b"first")?;
     files.add(b"a.ini", b"second")?;
-    files.add(b"full.ini", vec![in alloc; b'a'; MAX_FILE]?.as_slice())?;
-    files.add(b"large.ini", vec![in alloc; b'a'; MAX_FILE + 1]?.as_slice())?;
-    let mut out = b"kept".to_vec(alloc)?;
-    for (name, answer, len) in [
-        (b"full.ini".as_slice(), Given::Bytes, MAX_FILE),
-        (b"a.ini".as_slice(), Given::Bytes, 5),
+    let mut out = Vec::new(alloc);
+    for (name, answer) in [
+        (b"large.ini".as_slice(), Given::TooLarge),
+        (b"full.ini".as_slice(), Given::Bytes),
+        (b"a.ini".as_slice(), Given::Bytes),
+        (b"a".as_slice(), Given::Missing),
     ] {
         assert_eq!(rt; read(&mut files, name, &mut out), answer);
-        assert_eq!(rt; out.len(), len);
     }
     assert_eq!(rt; out.as_slice(), b"first".as_slice());
-    assert_eq!(rt; read(&mut files, b"b.ini", &mut out), Given::Missing);
-    assert_eq!(rt; read(&mut files, b"large.ini", &mut out), Given::TooLarge);
     Ok(())
 }
 
 #[test]
 fn the_last_reading_comes_again(rt: HostRuntime) -> Result<(), Fail> {
-    let alloc = rt.alloc();
-    let mut clock = ListClock::new(alloc, &[7, 5])?;
-    let mut none = ListClock::new(alloc, &[])?;
-    for expected in [7, 5, 5, 5] {
-        assert_eq!(rt; reading(&mut clock), expected);
-        assert_eq!(rt; reading(&mut none), 0);
-    }
-    assert_eq!(rt; clock.count(), 4);
+    let mut clock = ListClock::new(rt.alloc(), &[7, 5])?;
+    let readings = [
+        reading(&mut clock),
+        reading(&mut clock),
+        reading(&mut clock),
+    ];
+    assert_eq!(rt; (readings, clock.count()), ([7, 5, 5], 3));
     pass(&OpenGate);
+    Ok(())
+}
+
+// A writer that takes at most 3 bytes a call, has room for so many, and can be flushed so often.
+#[derive(Drop)]
+struct Narrow {
+    written: Vec<u8>,
+    room: usize,
+    flushes: u32,
+    flushed: usize,
+}
+
+impl Write for Narrow {
+    fn write(&mut self, buf: &[u8]) -> io::Result<usize> {
+        let taken = buf.len().min(self.room).min(3);
+        if taken == 0 {
+            return Err(io::Error::from(ErrorKind::StorageFull));
+        }
+        self.written.extend_from_slice(&buf[..taken])?;
+        self.room -= taken;
+        Ok(taken)
+    }
+
+    fn flush(&mut self) -> io::Result<()> {
+        if self.flushes == 0 {
+            return Err(io::Error::from(ErrorKind::BrokenPipe));
+        }
+        self.flushes -= 1;
+        self.flushed = self.written.len();
+        Ok(())
+    }
+}
+
+#[test]
+fn a_writer_gets_each_piece_and_its_failure_is_a_fault(rt: HostRuntime) -> Result<(), Fail> {
+    let alloc = rt.alloc();
+    for (room, flushes, second, written, flushed) in [
+        (9, 2, Ok(()), b"readyokok".as_slice(), 9),
+        (8, 2, Err(Failed), b"readyoko".as_slice(), 7),
+        (9, 1, Err(Failed), b"readyokok".as_slice(), 7),
+    ] {
+        let mut writer = Narrow {
+            written: Vec::new(alloc),
+            room,
+            flushes,
+            flushed: 0,
+        };
+        let mut output = StandardOutput::new(&mut writer);
+        assert_eq!(rt; put(&mut output, b"readyok"), Ok(()));
+        assert_eq!(rt; put(&mut output, b"ok"), second);
+        assert_eq!(rt; output.faults(), u64::from(second.is_err()));
+        assert_eq!(rt;
+            (writer.written.as_slice(), writer.flushed),
+            (written, flushed)
+        );
+    }
+    assert_eq!(rt;
+        put(&mut StandardOutput::new(rt.stdout()), b"on its way\n"),
+        Ok(())
+    );
     Ok(())
 }

@@ -167,6 +167,8 @@ impl Source for MemSource {
 
         // It fails exactly at the calls that it was made to fail at.
         ensures failed { (result ≡ Got.Failed) ↔ Contains self.old.failing self.old.calls }
+        ensures counts { result ≡ Got.Failed → self.new.faults ≡ counted self.old.faults }
+        ensures works { result ≢ Got.Failed → self.new.faults ≡ self.old.faults }
         ensures calls { self.new.calls ≡ counted self.old.calls }
         ensures failing { self.new.failing ≡ self.old.failing }
     {
@@ -184,6 +186,8 @@ impl Source for MemSource {
 
         // As for `next_line`.
         ensures failed { (result ≡ Polled.Failed) ↔ Contains self.old.failing self.old.calls }
+        ensures counts { result ≡ Polled.Failed → self.new.faults ≡ counted self.old.faults }
+        ensures works { result ≢ Polled.Failed → self.new.faults ≡ self.old.faults }
         ensures calls { self.new.calls ≡ counted self.old.calls }
         ensures failing { self.new.failing ≡ self.old.failing }
     {
