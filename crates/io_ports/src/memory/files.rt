@@ -53,10 +53,7 @@ impl MemFiles {
                 items: bytes.to_vec(self.alloc)?,
             },
         };
-        match self.files.push(file) {
-            Ok(()) => Ok(()),
-            Err(_) => Err(Memory),
-        }
+        Ok(self.files.push(file)?)
     }
 }
 
