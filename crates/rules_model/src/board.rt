@@ -12,6 +12,13 @@ pub enum Side {
     Black,
 }
 
+/// A side of the king on which it castles: towards higher files, or towards lower ones.
+#[derive(Clone, Copy, Debug, PartialEq, Eq)]
+pub enum Wing {
+    Kingside,
+    Queenside,
+}
+
 /// A kind of piece by its letter: 0 is `a`, 25 is `z`.
 #[derive(Clone, Copy, Debug, PartialEq, Eq)]
 pub struct Kind(pub u8);
