@@ -83,12 +83,15 @@ lies_in regions side (Some s) = in_region regions side s
 
 -- a pawn of the other side has just passed the square: it stands in front, the square and its start are empty, the start lies in its
 -- double-step region, and a pawn of the side to move could take there by its movement alone
-abbrev pub is_sound_ep : Rules → Repeat → Option Square → Bool
-is_sound_ep rules r None = true
-is_sound_ep rules r (Some ep) =
+abbrev pub was_passed : Rules → Repeat → Square → Bool
+was_passed rules r ep =
     rules.double_step && is_free r.cells (Some ep.0)
     && is_free r.cells (ahead (board_of rules) r.side ep 1) && lies_in rules.double_region (other r.side) (ahead (board_of rules) r.side ep 1)
     && pawn_at rules r.cells (other r.side) (ahead (board_of rules) (other r.side) ep 1) && pawn_could_take rules r.cells r.side ep
+
+abbrev pub is_sound_ep : Rules → Repeat → Option Square → Bool
+is_sound_ep rules r None = true
+is_sound_ep rules r (Some ep) = on_board rules ep.0 && was_passed rules r ep
 
 -- ---- the whole
 

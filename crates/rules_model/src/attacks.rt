@@ -10,45 +10,9 @@ ghost use Rattle.rules_model.specs.Attacks as Attacks;
 ghost use Rattle.rules_model.specs.Fit.{IsFit};
 
 use crate::board::{Board, Cell, Kind, Position, Side, Square};
+use crate::kinds::{board_of, names};
 use crate::reach::{Ray, is_target, reaches_plain, step, turn};
-use crate::rules::{KindRule, Rules, Term};
-
-/// The size of the variant's board.
-pub fn board_of(rules: &Rules) -> Board
-    ensures { result ≡ Kinds.board_of rules.now }
-{
-    Board {
-        files: rules.files,
-        ranks: rules.ranks,
-    }
-}
-
-/// Whether the kind is the one that is named.
-pub fn names(named: Option<Kind>, kind: Kind) -> bool
-    ensures { result ≡ Kinds.names named kind }
-{
-    match named {
-        None => false,
-        Some(named) => named.0 == kind.0,
-    }
-}
-
-/// The other side.
-pub fn other(side: Side) -> Side
-    ensures { result ≡ Sides.other side }
-{
-    match side {
-        Side::White => Side::Black,
-        Side::Black => Side::White,
-    }
-}
-
-/// Whether two sides are one.
-pub fn is_same_side(a: Side, b: Side) -> bool
-    ensures { result ≡ Sides.same_side a b }
-{
-    a == b
-}
+use crate::rules::{Rules, Term};
 
 /// The square so many steps forward and `dx` files to the right at each, as the side sees it.
 fn pawn_step(board: Board, side: Side, dx: i8, from: Square, k: u8) -> Option<u8>
@@ -131,7 +95,7 @@ fn attacks_from(rules: &Rules, cells: &[Option<Cell>; 120], by: Side, to: Square
     match cells[from as usize] {
         None => false,
         Some(cell) => {
-            is_same_side(cell.side, by) && attacks_as(rules, cells, by, cell.kind, Square(from), to)
+            cell.side.is(by) && attacks_as(rules, cells, by, cell.kind, Square(from), to)
         }
     }
 }
@@ -159,21 +123,21 @@ pub fn attacks_plain(rules: &Rules, p: &Position, by: Side, at: Square) -> bool
     is_attacked(rules, &p.cells, by, at)
 }
 
-fn is_own_king(rules: &Rules, side: Side, cell: Option<Cell>) -> bool
+pub(crate) fn is_own_king(rules: &Rules, side: Side, cell: Option<Cell>) -> bool
     ensures { result ≡ Attacks.is_own_king rules.now side cell }
 {
     match cell {
         None => false,
-        Some(cell) => is_same_side(cell.side, side) && names(rules.king, cell.kind),
+        Some(cell) => cell.side.is(side) && names(rules.king, cell.kind),
     }
 }
 
-fn is_own_pawn(rules: &Rules, side: Side, cell: Option<Cell>) -> bool
+pub(crate) fn is_own_pawn(rules: &Rules, side: Side, cell: Option<Cell>) -> bool
     ensures { result ≡ Attacks.is_own_pawn rules.now side cell }
 {
     match cell {
         None => false,
-        Some(cell) => is_same_side(cell.side, side) && names(rules.pawn, cell.kind),
+        Some(cell) => cell.side.is(side) && names(rules.pawn, cell.kind),
     }
 }
 
@@ -184,7 +148,7 @@ fn king_attacked_at(rules: &Rules, cells: &[Option<Cell>; 120], side: Side, at: 
     ensures { result ≡ Attacks.king_attacked_at rules.now cells.now side at }
 {
     is_own_king(rules, side, cells[at as usize])
-        && is_attacked(rules, cells, other(side), Square(at))
+        && is_attacked(rules, cells, side.other(), Square(at))
 }
 
 /// Whether the side's king stands attacked. In a variant without a king it never does.
@@ -201,7 +165,12 @@ pub fn king_attacked(rules: &Rules, cells: &[Option<Cell>; 120], side: Side) -> 
     false
 }
 
-fn pawn_at(rules: &Rules, cells: &[Option<Cell>; 120], side: Side, at: Option<u8>) -> bool
+pub(crate) fn pawn_at(
+    rules: &Rules,
+    cells: &[Option<Cell>; 120],
+    side: Side,
+    at: Option<u8>,
+) -> bool
     requires { IfSome at (λ s. s < 120) }
     ensures { result ≡ Attacks.pawn_at rules.now cells.now side at }
 {
@@ -218,6 +187,11 @@ pub fn pawn_could_take(rules: &Rules, cells: &[Option<Cell>; 120], side: Side, a
     ensures { result ≡ Attacks.pawn_could_take rules.now cells.now side at }
 {
     let board = board_of(rules);
-    pawn_at(rules, cells, side, pawn_step(board, other(side), 1, at, 1))
-        || pawn_at(rules, cells, side, pawn_step(board, other(side), -1, at, 1))
+    pawn_at(rules, cells, side, pawn_step(board, side.other(), 1, at, 1))
+        || pawn_at(
+            rules,
+            cells,
+            side,
+            pawn_step(board, side.other(), -1, at, 1),
+        )
 }
