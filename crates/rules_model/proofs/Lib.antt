@@ -1,2 +1,3 @@
 pub mod ReachLemmas
 pub mod worked
+pub mod PlayLaws
