@@ -1,5 +1,5 @@
 -- Laws of the tests of the numbers below a number.
-use Rattle.std.proofs.Common.{◌≡◌, ℕ, zero, suc, ◌+◌, ◌<◌, Bool, true, false, ◌&&◌, ◌||◌, if◌then◌else◌, Option, Some, None, refl, arith, add-one}
+use Rattle.std.proofs.Common.{◌≡◌, ℕ, zero, suc, ◌+◌, ◌<◌, Bool, true, false, ◌&&◌, ◌||◌, if◌then◌else◌, Some, None, refl, arith, add-one}
 use Rattle.foundation.specs.Count.{any_below, all_below, or_else, first_below, last_below}
 
 pub any_below-zero : (f : ℕ → Bool) → any_below f 0 ≡ false

@@ -1,3 +1,4 @@
 pub mod ReachLemmas
 pub mod worked
 pub mod PlayLaws
+pub mod EqualLaws

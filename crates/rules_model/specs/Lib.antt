@@ -18,6 +18,7 @@ pub mod Ends
 pub mod MoveText
 pub mod Moves
 pub mod Legal
+pub mod Allowed
 pub mod Sound
 pub mod Games
 pub mod Fit
