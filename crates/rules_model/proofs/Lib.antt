@@ -2,3 +2,4 @@ pub mod ReachLemmas
 pub mod worked
 pub mod PlayLaws
 pub mod EqualLaws
+pub mod LegalLaws
