@@ -1,6 +1,6 @@
 -- Laws of the tests of the numbers below a number.
-use Rattle.std.proofs.Common.{◌≡◌, ℕ, zero, suc, ◌+◌, ◌<◌, Bool, true, false, ◌||◌, refl, arith, add-one}
-use Rattle.foundation.specs.Count.{any_below}
+use Rattle.std.proofs.Common.{◌≡◌, ℕ, zero, suc, ◌+◌, ◌<◌, Bool, true, false, ◌&&◌, ◌||◌, if◌then◌else◌, Some, None, refl, arith, add-one}
+use Rattle.foundation.specs.Count.{any_below, all_below, or_else, first_below, last_below}
 
 pub any_below-zero : (f : ℕ → Bool) → any_below f 0 ≡ false
 unfolding any_below
@@ -45,3 +45,54 @@ any_below-some f (suc n) h =
     (λ e. (n, omega arith, e)) h
 
 pub ruleset any = (any_below-zero, any_below-next, any_below-true)
+
+and_step : (f : ℕ → Bool) (n k : ℕ) (a : Bool) → (k < n → a ≡ false) → k < n + 1 → f k ≡ false → (a && f n) ≡ false
+and_step f n k a h l e = grind arith
+
+by_cases : (b : Bool) → (b ≡ false → b ≡ true) → b ≡ true
+by_cases true h = refl
+by_cases false h = h refl
+
+-- ---- where each passes
+
+pub all_below-zero : (f : ℕ → Bool) → all_below f 0 ≡ true
+unfolding all_below
+all_below-zero f = refl
+
+pub all_below-more : (f : ℕ → Bool) (n : ℕ) → all_below f (n + 1) ≡ (all_below f n && f n)
+unfolding all_below
+all_below-more f n = rw add-one
+
+-- where one does not pass
+pub all_below-false : (f : ℕ → Bool) (n k : ℕ) → k < n → f k ≡ false → all_below f n ≡ false
+unfolding all_below
+all_below-false f zero k l h = absurd (omega arith)
+all_below-false f (suc n) k l h = and_step f n k (all_below f n) (λ s. all_below-false f n k s h) (omega arith) h
+
+-- each one, of those that all pass
+pub all_below-each : (f : ℕ → Bool) (n : ℕ) → all_below f n ≡ true → (k : ℕ) → k < n → f k ≡ true
+all_below-each f n h k l = by_cases (f k) (λ e. let g = all_below-false f n k l e in cc)
+
+pub ruleset all = (all_below-zero, all_below-more)
+
+-- ---- the first and the last that pass
+
+pub first_below-zero : (f : ℕ → Bool) → first_below f 0 ≡ None
+unfolding first_below
+first_below-zero f = refl
+
+pub first_below-more : (f : ℕ → Bool) (n : ℕ) → first_below f (n + 1) ≡ or_else (first_below f n) (f n) n
+unfolding first_below
+first_below-more f n = rw add-one
+
+pub last_below-zero : (f : ℕ → Bool) → last_below f 0 ≡ None
+unfolding last_below
+last_below-zero f = refl
+
+pub last_below-more : (f : ℕ → Bool) (n : ℕ) → last_below f (n + 1) ≡ (if f n then Some n else last_below f n)
+unfolding last_below
+last_below-more f n = rw add-one
+
+pub ruleset first = (first_below-zero, first_below-more)
+
+pub ruleset last = (last_below-zero, last_below-more)

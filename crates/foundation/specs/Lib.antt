@@ -1,1 +1,4 @@
 pub mod Count
+pub mod Order
+pub mod Tests
+pub mod Member

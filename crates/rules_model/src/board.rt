@@ -1,6 +1,7 @@
 //! Squares, pieces and positions.
-ghost use Rattle.std.specs.Prelude.{◌≡◌};
+ghost use Rattle.std.specs.Prelude.{◌≡◌, ◌<◌};
 ghost use Rattle.rules_model.specs.Repeats as Repeats;
+ghost use Rattle.rules_model.specs.Sides as Sides;
 
 /// A square of the largest board, 12 files by 10 ranks: 12 * rank + file, both counted from 0, so below 120.
 #[derive(Clone, Copy, Debug, PartialEq, Eq)]
@@ -10,6 +11,56 @@ pub struct Square(pub u8);
 pub enum Side {
     White,
     Black,
+}
+
+impl Side {
+    /// The other side.
+    pub fn other(self) -> Side
+        ensures { result ≡ Sides.other self }
+    {
+        match self {
+            Side::White => Side::Black,
+            Side::Black => Side::White,
+        }
+    }
+
+    /// The place of the side's part in hands, rights, gates, checks and regions.
+    pub fn index(self) -> usize
+        ensures is { result ≡ Sides.side_index self }
+        ensures below { result < 2 }
+    {
+        match self {
+            Side::White => 0,
+            Side::Black => 1,
+        }
+    }
+
+    /// Whether the two are one side.
+    pub fn is(self, side: Side) -> bool
+        ensures { result ≡ Sides.same_side self side }
+    {
+        self == side
+    }
+}
+
+/// A side of the king on which it castles: towards higher files, or towards lower ones.
+#[derive(Clone, Copy, Debug, PartialEq, Eq)]
+pub enum Wing {
+    Kingside,
+    Queenside,
+}
+
+impl Wing {
+    /// The place of the wing's right.
+    pub fn index(self) -> usize
+        ensures is { result ≡ Sides.wing_index self }
+        ensures below { result < 2 }
+    {
+        match self {
+            Wing::Kingside => 0,
+            Wing::Queenside => 1,
+        }
+    }
 }
 
 /// A kind of piece by its letter: 0 is `a`, 25 is `z`.

@@ -3,12 +3,22 @@
 
 pub use foundation::{Memory, Text};
 
+pub mod attacks;
 pub mod board;
+pub mod castling;
+pub mod extent;
+pub mod kinds;
 pub mod moves;
 pub mod reach;
 pub mod rules;
+pub mod soundness;
 
-pub use board::{Board, Cell, Cells, Kind, Position, Region, Repeat, Side, Square, repeat_of};
+pub use attacks::{attacks_plain, is_attacked, king_attacked};
+pub use board::{
+    Board, Cell, Cells, Kind, Position, Region, Repeat, Side, Square, Wing, repeat_of,
+};
+pub use extent::built;
 pub use moves::{Cause, Move, MoveList, Outcome, Placed, Promo, Value};
 pub use reach::{Ray, reaches_plain};
 pub use rules::{KindRule, Rules, Term, Terms, Way};
+pub use soundness::sound;

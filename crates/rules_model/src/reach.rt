@@ -15,7 +15,7 @@ pub struct Ray {
     pub dy: i32,
 }
 
-fn turn(side: Side, d: i8) -> i32
+pub(crate) fn turn(side: Side, d: i8) -> i32
     ensures is { result ≡ turned side d }
     ensures short { IsShort result }
 {
@@ -52,7 +52,7 @@ fn moved(at: u8, d: i32, k: u8, n: u8) -> Option<u8>
 }
 
 #[tactic(auto, unfolding(crate::specs::Squares::step_to))]
-fn step(ray: &Ray, k: u8) -> Option<u8>
+pub(crate) fn step(ray: &Ray, k: u8) -> Option<u8>
     requires board { IsOnBoard ray.now.board }
     requires short_dx { IsShort ray.now.dx }
     requires short_dy { IsShort ray.now.dy }
@@ -156,7 +156,7 @@ fn gets_over(cells: &[Option<Cell>; 120], way: Way, ray: &Ray, between: u8, foun
     }
 }
 
-fn is_target(at: Option<u8>, to: Square) -> bool
+pub(crate) fn is_target(at: Option<u8>, to: Square) -> bool
     ensures { result ≡ is_at to.0 at }
 {
     match at {

@@ -1,0 +1,197 @@
+//! What a side attacks, by walking the terms of its pieces.
+ghost use Rattle.std.specs.Prelude.{◌≡◌, ◌≤◌, ◌<◌, ◌&&◌, ◌||◌, ℤ, pos, negsuc, IfSome, slice_get};
+ghost use Rattle.std.specs.List.{list_any};
+ghost use Rattle.std.specs.Option.{option_copied};
+ghost use Rattle.rules_model.specs.Squares.{cell_at, step_to};
+ghost use Rattle.rules_model.specs.Reach.{IsOnBoard};
+ghost use Rattle.rules_model.specs.Kinds as Kinds;
+ghost use Rattle.rules_model.specs.Sides as Sides;
+ghost use Rattle.rules_model.specs.Attacks as Attacks;
+ghost use Rattle.rules_model.specs.Fit.{IsFit};
+
+use crate::board::{Board, Cell, Kind, Position, Side, Square};
+use crate::kinds::{board_of, names};
+use crate::reach::{Ray, is_target, reaches_plain, step, turn};
+use crate::rules::{Rules, Term};
+
+/// The square so many steps forward and `dx` files to the right at each, as the side sees it.
+fn pawn_step(board: Board, side: Side, dx: i8, from: Square, k: u8) -> Option<u8>
+    requires { IsOnBoard board }
+    ensures is { result ≡ step_to (Attacks.pawn_ray board side dx from) k }
+    ensures on_board { IfSome result (λ s. s < 120) }
+{
+    let ray = Ray {
+        board,
+        from,
+        dx: turn(side, dx),
+        dy: turn(side, 1),
+    };
+    step(&ray, k)
+}
+
+/// The square so many steps straight forward, where it is on the board.
+pub fn ahead(board: Board, side: Side, from: Square, k: u8) -> Option<u8>
+    requires { IsOnBoard board }
+    ensures is { result ≡ Attacks.ahead board side from k }
+    ensures on_board { IfSome result (λ s. s < 120) }
+{
+    pawn_step(board, side, 0, from, k)
+}
+
+#[tactic(auto, unfolding(crate::specs::Attacks::is_diagonal))]
+fn is_diagonal(board: Board, side: Side, from: Square, to: Square) -> bool
+    requires { IsOnBoard board }
+    ensures { result ≡ Attacks.is_diagonal board side from to.0 }
+{
+    is_target(pawn_step(board, side, 1, from, 1), to)
+        || is_target(pawn_step(board, side, -1, from, 1), to)
+}
+
+fn takes(
+    board: Board,
+    cells: &[Option<Cell>; 120],
+    side: Side,
+    terms: &[Term],
+    from: Square,
+    to: Square,
+) -> bool
+    requires { IsOnBoard board }
+    ensures { result ≡ list_any (Attacks.takes_by board cells.now side from to.0) terms.now }
+{
+    terms.iter().any(|t| t.takes && reaches_plain(board, cells, side, t, from, to))
+}
+
+fn attacks_as(
+    rules: &Rules,
+    cells: &[Option<Cell>; 120],
+    side: Side,
+    kind: Kind,
+    from: Square,
+    to: Square,
+) -> bool
+    requires { IsFit rules.now }
+    ensures { result ≡ Attacks.attacks_as rules.now cells.now side kind from to.0 }
+{
+    let board = board_of(rules);
+    if names(rules.pawn, kind) {
+        return is_diagonal(board, side, from, to);
+    }
+    match rules.kinds.get(kind.0 as usize) {
+        Some(Some(rule)) => {
+            let terms = &rule.terms;
+            takes(board, cells, side, terms.items.as_slice(), from, to)
+        }
+        Some(None) => false,
+        None => false,
+    }
+}
+
+#[tactic(auto, unfolding(crate::specs::Attacks::attacks_from))]
+fn attacks_from(rules: &Rules, cells: &[Option<Cell>; 120], by: Side, to: Square, from: u8) -> bool
+    requires fit { IsFit rules.now }
+    requires from { from < 120 }
+    ensures { result ≡ Attacks.attacks_from rules.now cells.now by to.0 from }
+{
+    match cells[from as usize] {
+        None => false,
+        Some(cell) => {
+            cell.side.is(by) && attacks_as(rules, cells, by, cell.kind, Square(from), to)
+        }
+    }
+}
+
+/// Whether the side attacks the square: a piece of it reaches the square by a term that takes, or a pawn of it has the
+/// square diagonally one step forward. What stands on the square does not matter.
+#[tactic(auto, using(foundation::proofs::CountLemmas::any), unfolding(crate::specs::Attacks::attacks))]
+pub fn is_attacked(rules: &Rules, cells: &[Option<Cell>; 120], by: Side, at: Square) -> bool
+    requires { IsFit rules.now }
+    ensures { result ≡ Attacks.attacks rules.now cells.now by at.0 }
+{
+    for from in 0..120 {
+        if attacks_from(rules, cells, by, at, from) {
+            return true;
+        }
+    }
+    false
+}
+
+/// Whether the side attacks the square in the position, by walking the terms of its pieces.
+pub fn attacks_plain(rules: &Rules, p: &Position, by: Side, at: Square) -> bool
+    requires { IsFit rules.now }
+    ensures { result ≡ Attacks.attacks rules.now p.now.cells by at.0 }
+{
+    is_attacked(rules, &p.cells, by, at)
+}
+
+pub(crate) fn is_own_king(rules: &Rules, side: Side, cell: Option<Cell>) -> bool
+    ensures { result ≡ Attacks.is_own_king rules.now side cell }
+{
+    match cell {
+        None => false,
+        Some(cell) => cell.side.is(side) && names(rules.king, cell.kind),
+    }
+}
+
+pub(crate) fn is_own_pawn(rules: &Rules, side: Side, cell: Option<Cell>) -> bool
+    ensures { result ≡ Attacks.is_own_pawn rules.now side cell }
+{
+    match cell {
+        None => false,
+        Some(cell) => cell.side.is(side) && names(rules.pawn, cell.kind),
+    }
+}
+
+#[tactic(auto, unfolding(crate::specs::Attacks::king_attacked_at))]
+fn king_attacked_at(rules: &Rules, cells: &[Option<Cell>; 120], side: Side, at: u8) -> bool
+    requires fit { IsFit rules.now }
+    requires at { at < 120 }
+    ensures { result ≡ Attacks.king_attacked_at rules.now cells.now side at }
+{
+    is_own_king(rules, side, cells[at as usize])
+        && is_attacked(rules, cells, side.other(), Square(at))
+}
+
+/// Whether the side's king stands attacked. In a variant without a king it never does.
+#[tactic(auto, using(foundation::proofs::CountLemmas::any), unfolding(crate::specs::Attacks::king_attacked))]
+pub fn king_attacked(rules: &Rules, cells: &[Option<Cell>; 120], side: Side) -> bool
+    requires { IsFit rules.now }
+    ensures { result ≡ Attacks.king_attacked rules.now cells.now side }
+{
+    for at in 0..120 {
+        if king_attacked_at(rules, cells, side, at) {
+            return true;
+        }
+    }
+    false
+}
+
+pub(crate) fn pawn_at(
+    rules: &Rules,
+    cells: &[Option<Cell>; 120],
+    side: Side,
+    at: Option<u8>,
+) -> bool
+    requires { IfSome at (λ s. s < 120) }
+    ensures { result ≡ Attacks.pawn_at rules.now cells.now side at }
+{
+    match at {
+        None => false,
+        Some(at) => is_own_pawn(rules, side, cells[at as usize]),
+    }
+}
+
+/// Whether a pawn of the side has the square diagonally one step forward.
+#[tactic(auto, unfolding(crate::specs::Attacks::pawn_could_take))]
+pub fn pawn_could_take(rules: &Rules, cells: &[Option<Cell>; 120], side: Side, at: Square) -> bool
+    requires { IsFit rules.now }
+    ensures { result ≡ Attacks.pawn_could_take rules.now cells.now side at }
+{
+    let board = board_of(rules);
+    pawn_at(rules, cells, side, pawn_step(board, side.other(), 1, at, 1))
+        || pawn_at(
+            rules,
+            cells,
+            side,
+            pawn_step(board, side.other(), -1, at, 1),
+        )
+}

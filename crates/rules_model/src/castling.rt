@@ -1,0 +1,129 @@
+//! Castling: whether the variant has it, and where its pieces stand.
+ghost use Rattle.std.specs.Prelude.{◌≡◌, ◌<◌, IfSome};
+ghost use Rattle.foundation.specs.Count.{first_below, last_below};
+ghost use Rattle.rules_model.specs.declared.board.Wing.TheVariants.{Kingside, Queenside};
+ghost use Rattle.rules_model.specs.Attacks as Attacks;
+ghost use Rattle.rules_model.specs.Castling as Castling;
+ghost use Rattle.rules_model.specs.Fit.{IsFit};
+ghost use Rattle.rules_model.specs.Gates as Gates;
+ghost use Rattle.rules_model.specs.Kinds as Kinds;
+ghost use Rattle.rules_model.specs.Regions as Regions;
+ghost use Rattle.rules_model.specs.Sides as Sides;
+
+use crate::board::{Cell, Side, Square, Wing};
+use crate::kinds::{masks, names_any};
+use crate::rules::Rules;
+
+/// Whether the variant has castling: the option is on, there are a king and a castling rook, and the files and the rank of
+/// castling lie on the board, in their order.
+#[tactic(auto, unfolding(crate::specs::Castling::castling_on))]
+pub fn castling_on(rules: &Rules) -> bool
+    ensures { result ≡ Castling.castling_on rules.now }
+{
+    rules.castling
+        && rules.king.is_some()
+        && names_any(&rules.castle_rooks)
+        && rules.castle_rank <= rules.ranks
+        && rules.castle_king < rules.files
+        && rules.castle_near < rules.files
+        && rules.castle_far < rules.files
+        && rules.castle_far < rules.castle_king
+        && rules.castle_king < rules.castle_near
+}
+
+/// The square of a file of the side's castling rank.
+pub fn castling_square(rules: &Rules, side: Side, file: u8) -> Square
+    requires fit { IsFit rules.now }
+    requires file { file < 12 }
+    ensures is { result.0 ≡ Regions.castling_square rules.now side file }
+    ensures on_board { result.0 < 120 }
+{
+    let rank = match side {
+        Side::White => rules.castle_rank - 1,
+        Side::Black => rules.ranks.saturating_sub(rules.castle_rank),
+    };
+    Square(12 * rank + file)
+}
+
+/// Whether the side holds the castling right of the wing.
+pub fn holds_right(rights: &[[bool; 2]; 2], side: Side, wing: Wing) -> bool
+    ensures { result ≡ Castling.holds_right rights.now side wing }
+{
+    let held = rights[side.index()];
+    held[wing.index()]
+}
+
+/// Whether the side holds the gate right of the file.
+pub fn has_gate(gates: &[u16; 2], side: Side, file: u8) -> bool
+    requires { file < 16 }
+    ensures { result ≡ Gates.has_gate gates.now side file }
+{
+    (gates[side.index()] >> file) % 2 == 1
+}
+
+fn is_rook(rules: &Rules, side: Side, cell: Option<Cell>) -> bool
+    ensures { result ≡ Attacks.is_own side (Kinds.masks rules.now.castle_rooks) cell }
+{
+    match cell {
+        None => false,
+        Some(cell) => cell.side.is(side) && masks(&rules.castle_rooks, cell.kind),
+    }
+}
+
+#[tactic(auto, unfolding(crate::specs::Castling::rook_on))]
+fn rook_on(rules: &Rules, cells: &[Option<Cell>; 120], side: Side, file: u8) -> bool
+    requires fit { IsFit rules.now }
+    requires file { file < 12 }
+    ensures { result ≡ Castling.rook_on rules.now cells.now side file }
+{
+    is_rook(
+        rules,
+        side,
+        cells[castling_square(rules, side, file).0 as usize],
+    )
+}
+
+/// The file of the last castling rook on the kingside.
+#[tactic(auto, using(foundation::proofs::CountLemmas::last))]
+fn kingside_rook(rules: &Rules, cells: &[Option<Cell>; 120], side: Side) -> Option<u8>
+    requires { IsFit rules.now }
+    ensures is { result ≡ last_below (Castling.rook_beyond rules.now cells.now side Kingside) rules.now.files }
+    ensures on_board { IfSome result (λ f. f < rules.now.files) }
+{
+    let mut found = None;
+    for file in 0..rules.files {
+        if file > rules.castle_king && rook_on(rules, cells, side, file) {
+            found = Some(file);
+        }
+    }
+    found
+}
+
+/// The file of the first castling rook on the queenside.
+#[tactic(auto, using(foundation::proofs::CountLemmas::first))]
+fn queenside_rook(rules: &Rules, cells: &[Option<Cell>; 120], side: Side) -> Option<u8>
+    requires { IsFit rules.now }
+    ensures is { result ≡ first_below (Castling.rook_beyond rules.now cells.now side Queenside) rules.now.files }
+    ensures on_board { IfSome result (λ f. f < rules.now.files) }
+{
+    let mut found = None;
+    for file in 0..rules.files {
+        if found.is_none() && file < rules.castle_king && rook_on(rules, cells, side, file) {
+            found = Some(file);
+        }
+    }
+    found
+}
+
+/// The file of the side's castling rook: the outermost on that side of the king's file.
+#[tactic(auto, unfolding(crate::specs::Castling::rook_file))]
+pub fn rook_file(rules: &Rules, cells: &[Option<Cell>; 120], side: Side, wing: Wing) -> Option<u8>
+    requires { IsFit rules.now }
+    ensures is { result ≡ Castling.rook_file rules.now cells.now side wing }
+    ensures on_board { IfSome result (λ f. f < rules.now.files) }
+{
+    match wing {
+        Wing::Kingside => kingside_rook(rules, cells, side),
+        Wing::Queenside => queenside_rook(rules, cells, side),
+    }
+}
