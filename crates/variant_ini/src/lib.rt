@@ -1,0 +1,12 @@
+//! The text of a variants file, in the manner of Fairy-Stockfish's variants.ini: sections, their keys and values, and
+//! the inheritance of an option from a section's parents. Nothing here knows which keys a variant may have.
+#![tactic(auto)]
+
+mod cuts;
+mod fault;
+mod key_line;
+mod line;
+mod section;
+
+pub use fault::IniFault;
+pub use key_line::KeyLine;
