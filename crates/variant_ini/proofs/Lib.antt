@@ -1,1 +1,3 @@
 pub mod IndexLaws
+pub mod LineLaws
+pub mod ReadingLaws

@@ -5,3 +5,4 @@ pub mod LineView
 pub mod OptionValue
 pub mod Reading
 pub mod Section
+pub mod Steps

@@ -6,6 +6,7 @@ mod cuts;
 mod fault;
 mod key_line;
 mod line;
+mod reading;
 mod section;
 
 pub use fault::IniFault;
