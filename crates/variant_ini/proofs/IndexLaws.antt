@@ -23,9 +23,9 @@ no_value_step line lines key (Some place) h below = absurd (cc)
 no_value_step line lines key None h below =
     ap (λ v. or_here v line key) (below refl)
     ∙ ⊎_elim
-      (λ y. absurd (none-some 0 (sym h ∙ cond-true (bytes_eq line.key key) (Some 0) None y)))
-      (λ n. cond-false (bytes_eq line.key key) (Some line.value) None n)
-      (cases_Bool (bytes_eq line.key key))
+    (λ y. absurd (none-some 0 (sym h ∙ cond-true (bytes_eq line.key key) (Some 0) None y)))
+    (λ n. cond-false (bytes_eq line.key key) (Some line.value) None n)
+    (cases_Bool (bytes_eq line.key key))
 
 -- where no line has the key, no value is found
 pub last_value_none : (lines : List KeyLine) (key : List ℕ) → last_place lines key ≡ None → last_value lines key ≡ None
@@ -81,8 +81,8 @@ index_updates bs old new w h cs =
     ⊎_elim
     (λ y. subst (λ l. found_at new l ≡ w) ((bytes_decides bs cs).0 y) h.1 ∙ sym (cond-true (bytes_eq bs cs) w (found_at old cs) y))
     (λ n.
-      other_entries _ _ _ _ h.3 _ (λ x y. (eq_by_cmp_equiv nat_list_cmp_total).congr cs x.items y.items) (λ k. apart_in_order bs cs k.items n)
-      ∙ sym (cond-false (bytes_eq bs cs) w (found_at old cs) n))
+    other_entries _ _ _ _ h.3 _ (λ x y. (eq_by_cmp_equiv nat_list_cmp_total).congr cs x.items y.items) (λ k. apart_in_order bs cs k.items n)
+    ∙ sym (cond-false (bytes_eq bs cs) w (found_at old cs) n))
     (cases_Bool (bytes_eq bs cs))
 
 -- an index that finds the last lines finds them after a line is added to both

@@ -3,6 +3,7 @@ pub mod LastPlaces
 pub mod LineKind
 pub mod LineView
 pub mod OptionValue
+pub mod Parents
 pub mod Reading
 pub mod Section
 pub mod Steps

@@ -6,8 +6,11 @@ mod cuts;
 mod fault;
 mod key_line;
 mod line;
+mod parents;
 mod reading;
 mod section;
+mod sections;
 
 pub use fault::IniFault;
 pub use key_line::KeyLine;
+pub use sections::Sections;

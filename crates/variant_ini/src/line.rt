@@ -51,8 +51,7 @@ fn has_foreign_byte(text: &[u8]) -> bool
 fn is_name_byte(byte: u8) -> bool
     ensures { result ≡ is_name_byte byte }
 {
-    byte.is_ascii_graphic()
-        && !matches!(byte, b'[' | b']' | b'(' | b')' | b'{' | b'}' | b':')
+    byte.is_ascii_graphic() && !matches!(byte, b'[' | b']' | b'(' | b')' | b'{' | b'}' | b':')
 }
 
 fn has_name_bytes(bytes: &[u8]) -> bool

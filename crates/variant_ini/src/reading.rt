@@ -6,15 +6,16 @@ ghost use Rattle.variant_ini.specs.LineKind.{header, pair, line_kind};
 ghost use Rattle.variant_ini.specs.Reading.{kind_fault, numbered_fault, fault_of, sections_in, IsFaultOrMemory};
 ghost use Rattle.variant_ini.specs.Steps.{TakesLine};
 
-use std::alloc::Global;
-
 use crate::cuts::cut_at;
 use crate::fault::IniFault;
 use crate::line::{Header, Line, Pair, read_line};
 use crate::section::IndexedSection;
+use std::alloc::Global;
 
 const LARGEST_FILE: usize = 1_048_576;
+
 const LONGEST_LINE: usize = 1_024;
+
 const MOST_SECTIONS: usize = 512;
 
 fn open_section(

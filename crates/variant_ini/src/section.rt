@@ -5,12 +5,11 @@ ghost use Rattle.std.specs.Option.{option_copied};
 ghost use Rattle.variant_ini.specs.LastPlaces.{FindsLast};
 ghost use Rattle.variant_ini.specs.Section.{key_line, last_value};
 
+use crate::key_line::KeyLine;
 use foundation::Text;
 use std::alloc::{AllocError, Global};
 use std::collections::BTreeMap;
 use std::marker::Model;
-
-use crate::key_line::KeyLine;
 
 /// A section, with the place of the last line of each of its keys.
 #[derive(Drop)]
@@ -36,8 +35,12 @@ fn line_of(alloc: Global, key: &[u8], value: &[u8]) -> Result<KeyLine, AllocErro
     ensures { IfOk result (λ line. line ≡ key_line key.now value.now) }
 {
     Ok(KeyLine {
-        key: Text { items: Vec::from_slice(alloc, key)? },
-        value: Text { items: Vec::from_slice(alloc, value)? },
+        key: Text {
+            items: Vec::from_slice(alloc, key)?,
+        },
+        value: Text {
+            items: Vec::from_slice(alloc, value)?,
+        },
     })
 }
 
@@ -72,9 +75,13 @@ impl IndexedSection {
     ) -> Result<IndexedSection, AllocError>
         ensures { IfOk result (λ s. s ≡ record { name = name.now; parent = option_copied parent.entry; lines = [] }) }
     {
-        let name = Text { items: Vec::from_slice(alloc, name)? };
+        let name = Text {
+            items: Vec::from_slice(alloc, name)?,
+        };
         let parent = match parent {
-            Some(parent) => Some(Text { items: Vec::from_slice(alloc, parent)? }),
+            Some(parent) => Some(Text {
+                items: Vec::from_slice(alloc, parent)?,
+            }),
             None => None,
         };
         Ok(IndexedSection {
