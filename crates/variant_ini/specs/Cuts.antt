@@ -1,6 +1,6 @@
 -- How the bytes of a variants file are cut.
 use Rattle.std.specs.Prelude.{ℕ, Bool, ◌==◌, ◌||◌, List, [], ◌∷◌, Option, None, Some, reverse, position, take, drop, ◌+◌, if◌then◌else◌}
-use Rattle.std.specs.List.{slice_split}
+use Rattle.std.specs.List.{onto_first}
 
 -- a space or a tab
 abbrev pub is_blank : ℕ → Bool
@@ -23,6 +23,11 @@ cut_where bytes (Some place) = (take place bytes, Some (drop (place + 1) bytes))
 unfoldable pub cut : ℕ → List ℕ → List ℕ × Option (List ℕ)
 cut c bytes = cut_where bytes (position (λ b. b == c) bytes)
 
+-- the lines of a byte and of the bytes behind it: a line feed ends a line, and is in none
+abbrev pub with_byte : ℕ → List (List ℕ) → List (List ℕ)
+with_byte b lines = if b == 10 then [] ∷ lines else onto_first b lines
+
 -- the lines: the parts before, between and behind the line feeds
 unfoldable pub lines_of : List ℕ → List (List ℕ)
-lines_of bytes = slice_split (λ b. b == 10) bytes
+lines_of [] = [] ∷ []
+lines_of (b ∷ bs) = with_byte b (lines_of bs)

@@ -5,6 +5,7 @@
 mod cuts;
 mod fault;
 mod key_line;
+mod laws;
 mod line;
 mod parents;
 mod reading;
@@ -13,4 +14,5 @@ mod sections;
 
 pub use fault::IniFault;
 pub use key_line::KeyLine;
+pub use laws::{later_sections_change_no_option, options_are_inherited};
 pub use sections::Sections;
