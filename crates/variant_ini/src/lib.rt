@@ -16,3 +16,6 @@ pub use fault::IniFault;
 pub use key_line::KeyLine;
 pub use laws::{later_sections_change_no_option, options_are_inherited};
 pub use sections::Sections;
+
+#[cfg(test)]
+mod tests;
