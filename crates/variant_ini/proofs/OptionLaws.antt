@@ -1,5 +1,5 @@
 -- The value of an option, along the chain of parents.
-use Rattle.std.proofs.Common.{◌≡◌, ℕ, zero, suc, ◌+◌, ◌-◌, ◌<◌, ◌≤◌, List, ◌++◌, Option, None, Some, Result, Ok, Err, OnOk, OnErr, length, take, get_or, refl, sym, ap, ◌∙◌, arith, option_and_then, add-one, ⊎_elim}
+use Rattle.std.proofs.Common.{◌≡◌, ℕ, zero, suc, ◌+◌, ◌-◌, ◌<◌, List, ◌++◌, Option, None, Some, Result, Ok, Err, OnOk, OnErr, length, take, get_or, refl, sym, ap, ◌∙◌, arith, option_and_then, add-one, ⊎_elim}
 use Rattle.std.proofs.lemmas.List.{take-append-le, get_or_append_left, get_or-append_right, get_or_read, length-take, length-append}
 use Rattle.std.proofs.lemmas.Bool.{cases_lt}
 use Rattle.std.proofs.lemmas.Option.{option_and_then_some}

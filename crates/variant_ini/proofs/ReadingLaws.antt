@@ -1,16 +1,15 @@
 -- What the reader has after some lines.
 use Rattle.std.proofs.Common.{◌≡◌, ℕ, suc, ◌+◌, ◌-◌, ◌≤◌, ◌<◌, List, [], ◌∷◌, ◌++◌, Option, None, Some, length, map, length-append, refl, sym, ap, ◌∙◌, arith, append_assoc, append-nil, ◌≢◌}
-use Rattle.variant_ini.specs.declared.key_line.KeyLine.{KeyLine}
 use Rattle.std.proofs.lemmas.List.{map-append}
 use Rattle.std.proofs.lemmas.Bool.{cond-true, cond-false, lt-ltb, le-ltb}
 use Rattle.variant_ini.specs.declared.fault.IniFault.{IniFault}
 use Rattle.variant_ini.specs.declared.fault.IniFault.TheVariants.{TooLarge, NotAscii, LineTooLong, NoSection, BadLine, TooManySections, Memory}
 use Rattle.variant_ini.specs.LineKind.{LineKind, comment, foreign, header, pair, bad, line_kind}
-use Rattle.variant_ini.specs.Section.{Section, key_line, section_at}
+use Rattle.variant_ini.specs.Section.{Section, key_line}
 use Rattle.variant_ini.specs.Reading.{pairs_of, sections_of, sections_in_lines, sections_in, numbered_fault, line_fault, first_of, first_fault, fault_of, IsFaultOrMemory}
-use Rattle.variant_ini.specs.Steps.{opened, with_pair, with_line}
+use Rattle.variant_ini.specs.Steps.{with_line}
 use Rattle.variant_ini.specs.Cuts.{cut, lines_of}
-use Rattle.variant_ini.proofs.LineLaws.{rest_lines, bytes_left, lines_of-cut}
+use Rattle.variant_ini.proofs.LineLaws.{rest_lines, lines_of-cut}
 
 module _ (key value : List ℕ) where
   -- a pair below lines without a header

@@ -1,4 +1,4 @@
-use Rattle.std.proofs.Common.{sym, ap, ◌∙◌, refl, arith, None}
+use Rattle.std.proofs.Common.{sym, ap, ◌∙◌, refl, arith}
 use Rattle.std.specs.Str.{bytes_eq}
 use Rattle.std.proofs.lemmas.List.{take_all}
 use Rattle.variant_ini.specs.OptionValue.{first_named}

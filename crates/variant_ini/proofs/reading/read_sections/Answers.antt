@@ -1,7 +1,6 @@
-use Rattle.std.proofs.Common.{◌≡◌, ◌+◌, ◌≤◌, ◌∙◌, Some, length, ap, arith}
+use Rattle.std.proofs.Common.{◌+◌, ◌≤◌, ◌∙◌, length, ap, arith}
 use Rattle.std.specs.Option.{option_copied}
 use Rattle.std.proofs.lemmas.Result.{err_from_is_err_and}
-use Rattle.variant_ini.specs.Reading.{IsFaultOrMemory}
 use Rattle.variant_ini.proofs.LineLaws.{bytes_left, bytes_left-cut}
 use Rattle.variant_ini.proofs.ReadingLaws.{stands_first, stands_next, first_fault_is, all_read, fault_of-fits, fault_of-large, IsFaultOrMemory-weaker}
 use Rattle.variant_ini.proofs.reading.read_sections.Goals as goal

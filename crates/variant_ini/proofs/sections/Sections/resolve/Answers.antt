@@ -1,6 +1,6 @@
-use Rattle.std.proofs.Common.{◌≡◌, ◌+◌, ◌<◌, None, Some, length, sym, ap, ◌∙◌, arith}
-use Rattle.variant_ini.specs.OptionValue.{parent_place, option_value}
-use Rattle.variant_ini.proofs.OptionLaws.{IsPlace, steps_left, value_from, own_value, inherited_value, parent_is_place, place_read}
+use Rattle.std.proofs.Common.{◌≡◌, ◌<◌, length, sym, ap, ◌∙◌, arith}
+use Rattle.variant_ini.specs.OptionValue.{option_value}
+use Rattle.variant_ini.proofs.OptionLaws.{steps_left, value_from, own_value, inherited_value, parent_is_place, place_read}
 use Rattle.variant_ini.proofs.sections.Sections.resolve.Goals as goal
 
 pub returns-in-Some-last_value : goal.returns-in-Some-last_value
