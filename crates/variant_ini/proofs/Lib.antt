@@ -1,0 +1,5 @@
+pub mod IndexLaws
+pub mod LineLaws
+pub mod OptionLaws
+pub mod ParentLaws
+pub mod ReadingLaws

@@ -1,0 +1,9 @@
+use Rattle.std.proofs.Common.{◌≡◌, length}
+use Rattle.variant_ini.specs.Cuts.{without_blanks}
+use Rattle.variant_ini.proofs.cuts.trim_start.Given as goal
+
+abbrev pub invariant-loop-rest : goal.invariant-loop-rest
+invariant-loop-rest l = without_blanks l.rest ≡ without_blanks l.bytes
+
+abbrev pub decreases-loop-rest : goal.decreases-loop-rest
+decreases-loop-rest l = length l.rest

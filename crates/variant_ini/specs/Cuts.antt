@@ -1,0 +1,33 @@
+-- How the bytes of a variants file are cut.
+use Rattle.std.specs.Prelude.{ℕ, Bool, ◌==◌, ◌||◌, List, [], ◌∷◌, Option, None, Some, reverse, position, take, drop, ◌+◌, if◌then◌else◌}
+use Rattle.std.specs.List.{onto_first}
+
+-- a space or a tab
+abbrev pub is_blank : ℕ → Bool
+is_blank b = b == 32 || b == 9
+
+-- without the blanks at the front
+abbrev pub without_blanks : List ℕ → List ℕ
+without_blanks [] = []
+without_blanks (b ∷ bs) = if is_blank b then without_blanks bs else b ∷ bs
+
+-- without the blanks at both ends
+unfoldable pub trimmed : List ℕ → List ℕ
+trimmed bytes = reverse (without_blanks (reverse (without_blanks bytes)))
+
+abbrev pub cut_where : List ℕ → Option ℕ → List ℕ × Option (List ℕ)
+cut_where bytes None = (bytes, None)
+cut_where bytes (Some place) = (take place bytes, Some (drop (place + 1) bytes))
+
+-- the bytes before the first c, and those behind it where it is there
+unfoldable pub cut : ℕ → List ℕ → List ℕ × Option (List ℕ)
+cut c bytes = cut_where bytes (position (λ b. b == c) bytes)
+
+-- the lines of a byte and of the bytes behind it: a line feed ends a line, and is in none
+abbrev pub with_byte : ℕ → List (List ℕ) → List (List ℕ)
+with_byte b lines = if b == 10 then [] ∷ lines else onto_first b lines
+
+-- the lines: the parts before, between and behind the line feeds
+unfoldable pub lines_of : List ℕ → List (List ℕ)
+lines_of [] = [] ∷ []
+lines_of (b ∷ bs) = with_byte b (lines_of bs)

@@ -1,0 +1,9 @@
+pub mod Cuts
+pub mod LastPlaces
+pub mod LineKind
+pub mod LineView
+pub mod OptionValue
+pub mod Parents
+pub mod Reading
+pub mod Section
+pub mod Steps
