@@ -1,0 +1,219 @@
+//! The lock and its passes.
+ghost use Rattle.std.specs.Prelude.{◌≡◌, ◌+◌, ◌-◌, ◌*◌, ◌^◌, ◌<◌, ◌≤◌, [], ◌∷◌, ◌++◌, length, IfOk, Some};
+ghost use mathlib.Core.List.{IsPrefix};
+ghost use Rattle.fact_lock.specs.declared.view.Stage.TheVariants.{Rests, Waits, Acts};
+ghost use Rattle.fact_lock.specs.Rule.{IsServed, HasTurn, at_stage, grown};
+ghost use Rattle.fact_lock.specs.Passes.{Turn, HasSeenOwn, AreApart, entries, all_parts, longer};
+
+use crate::journal::Journal;
+use crate::rule::{Both, Draw, Look, OnePart, PassOn, Raise, Settle, Turns};
+use crate::view::View;
+use atomic_table::{Refused, Table};
+use crossbeam_utils::Backoff;
+use foundation::Memory;
+use std::alloc::Global;
+use std::marker::Model;
+use std::snapshot::Snapshot;
+use std::sync::Wait;
+
+// The words of the table: the number of entries, the next ticket, and the ticket that is served.
+const ENTRIES: usize = 0;
+
+const TICKET: usize = 1;
+
+const SERVING: usize = 2;
+
+// The slot with the value.
+const VALUE: usize = 0;
+
+type Seat<V> = atomic_table::Seat<Option<V>, View<<V as Journal>::Key, <V as Journal>::Entry>>;
+
+/// A value that threads take turns at.
+#[derive(Drop)]
+pub struct Lock<V: Journal> {
+    table: Table<Option<V>, View<V::Key, V::Entry>, Snapshot<V>, Turns<V>, Global>,
+}
+
+impl<V: Journal> Model for Lock<V> {
+    ghost use Rattle.std.specs.Prelude.{◌≡◌};
+    ghost use Rattle.fact_lock.specs.Passes.{LockView};
+
+    ghost Value = { LockView V.Key };
+
+    ghost view = { λ lock. record { id = lock.table.shared.table_id; key = V.key lock.table.shared.key.value } };
+
+    ghost invariant = { λ lock. (lock.table.shared.table_id.words ≡ 3) × (lock.table.shared.table_id.slots ≡ 1) };
+}
+
+/// A thread's right to the lock, and what it knows of it. It has no bytes.
+#[derive(Drop)]
+pub struct Pass<V: Journal> {
+    seat: Seat<V>,
+    lock: Snapshot<Lock<V>>,
+}
+
+impl<V: Journal> Model for Pass<V> {
+    ghost use Rattle.fact_lock.specs.Passes.{PassView};
+    ghost use Rattle.fact_lock.specs.Rule.{IsReady};
+
+    ghost Value = { PassView V.Key V.Entry };
+
+    ghost view = { λ pass. record { lock = pass.lock.value; seen = pass.seat.me.0.seen; own = pass.seat.me.0.own; parts = pass.seat.me.0.parts } };
+
+    ghost invariant = { λ pass. IsReady pass.lock.value pass.seat.table_id pass.seat.me };
+}
+
+impl<V: Journal + Drop> Lock<V> {
+    pub fn new(alloc: Global, value: V) -> Result<(Lock<V>, Pass<V>), Memory>
+        ensures key { IfOk result (λ made. made.0.key ≡ V.key value) }
+        ensures pass { IfOk result (λ made. (made.1.lock ≡ made.0) × (made.1.seen ≡ V.list value) × (made.1.own ≡ []) × (made.1.parts ≡ all_parts)) }
+    {
+        let first = Snapshot::of(&value);
+        let entries = value.len();
+        let mut slots = Vec::with_capacity(alloc, 1)?;
+        slots.push_reserved(Some(value));
+        match Table::new(alloc, &[entries, 0, 0], slots, &first) {
+            Ok((table, seat)) => {
+                let lock = Lock { table };
+                let pass = Pass {
+                    seat,
+                    lock: Snapshot::of(&lock),
+                };
+                Ok((lock, pass))
+            }
+            Err(Refused { slots: _ }) => Err(Memory),
+        }
+    }
+}
+
+impl<V: Journal> Lock<V> {
+    pub fn with<R: Wait>(&self, rt: &R, pass: &mut Pass<V>, op: V::Op) -> V::Reply
+        requires lock { pass.old.lock ≡ self.now }
+        requires fits { V.fits self.now.key op }
+        ensures lock { pass.new.lock ≡ pass.old.lock }
+        ensures parts { pass.new.parts ≡ pass.old.parts }
+        ensures turn { Turn V.reply V.added pass.old op result pass.new }
+        ensures holds { V.holds self.now.key pass.new.seen }
+        ensures own { HasSeenOwn pass.new }
+    {
+        let seat = &mut pass.seat;
+        let ticket = self.draw(rt, seat);
+        self.wait(rt, seat, ticket);
+        let reply = self.turn(seat, op);
+        self.table.shared.fetch_add::<PassOn<V>>(seat, SERVING, 1);
+        reply
+    }
+
+    // The ticket 2^64 - 1 is never drawn, since the next one would be 0 again.
+    fn draw<R: Wait>(&self, rt: &R, seat: &mut Seat<V>) -> u64
+        requires table { seat.old.table_id ≡ self.now.id }
+        requires rests { seat.old.me.0.stage ≡ Rests }
+        requires parts { 0 < seat.old.me.0.parts }
+        ensures seat { (seat.new.table_id ≡ seat.old.table_id) × (seat.new.id ≡ seat.old.id) }
+        ensures drawn { seat.new.me ≡ (at_stage seat.old.me.0 (Waits result), seat.old.me.1) }
+    {
+        let shared = &self.table.shared;
+        let backoff = Backoff::new();
+        for _ in rt.forever() {
+            let next = shared.peek(TICKET);
+            if next < u64::MAX {
+                if shared.compare_exchange::<Draw<V>>(seat, TICKET, next, next + 1) == next {
+                    return next;
+                }
+                backoff.spin();
+            } else {
+                backoff.snooze();
+            }
+        }
+        unreachable!()
+    }
+
+    fn wait<R: Wait>(&self, rt: &R, seat: &mut Seat<V>, ticket: u64)
+        requires table { seat.old.table_id ≡ self.now.id }
+        requires waits { seat.old.me.0.stage ≡ Waits ticket }
+        ensures seat { (seat.new.table_id ≡ seat.old.table_id) × (seat.new.id ≡ seat.old.id) }
+        ensures served { IsServed V.key V.list ticket seat.old.me seat.new.me }
+    {
+        let backoff = Backoff::new();
+        for _ in rt.forever() {
+            if self.table.shared.load::<Look<V>>(seat, SERVING) == ticket {
+                return;
+            }
+            backoff.snooze();
+        }
+        unreachable!()
+    }
+
+    // Acts on the value that the seat has, and counts the entry that was added.
+    fn turn(&self, seat: &mut Seat<V>, op: V::Op) -> V::Reply
+        requires table { seat.old.table_id ≡ self.now.id }
+        requires turn { HasTurn V.key V.list self.now.key seat.old.me }
+        requires fits { V.fits self.now.key op }
+        ensures seat { (seat.new.table_id ≡ seat.old.table_id) × (seat.new.id ≡ seat.old.id) }
+        ensures turn { HasTurn V.key V.list self.now.key seat.new.me }
+        ensures answer { result ≡ V.reply self.now.key seat.old.me.0.seen op }
+        ensures added { let new = entries (V.added self.now.key seat.old.me.0.seen op) in seat.new.me.0 ≡ grown seat.old.me.0 (seat.old.me.0.seen ++ new) (length new) }
+        ensures holds { V.holds self.now.key seat.new.me.0.seen }
+    {
+        let shared = &self.table.shared;
+        let mut value = shared.exchange(seat, VALUE, None).unwrap();
+        let before = value.len();
+        let reply = value.act(op);
+        let added = value.len() - before;
+        let left = shared.exchange(seat, VALUE, Some(value));
+        let None = left else { unreachable!() };
+        shared.fetch_add::<Raise<V>>(seat, ENTRIES, added);
+        reply
+    }
+
+    pub fn split(&self, pass: Pass<V>) -> (Pass<V>, Pass<V>)
+        requires lock { pass.lock ≡ self.now }
+        requires parts { 2 ≤ pass.parts }
+        ensures lock { (result.0.lock ≡ pass.lock) × (result.1.lock ≡ pass.lock) }
+        ensures seen { (result.0.seen ≡ pass.seen) × (result.1.seen ≡ pass.seen) }
+        ensures own { (result.0.own ≡ pass.own) × (result.1.own ≡ []) }
+        ensures parts { (result.0.parts + 1 ≡ pass.parts) × (result.1.parts ≡ 1) }
+    {
+        let Pass { mut seat, lock } = pass;
+        let given = self.table.shared.split_seat::<OnePart>(&mut seat);
+        let other = Pass {
+            seat: given,
+            lock: Snapshot::of(self),
+        };
+        (Pass { seat, lock }, other)
+    }
+
+    pub fn join(&self, a: Pass<V>, b: Pass<V>) -> Pass<V>
+        requires locks { (a.lock ≡ self.now) × (b.lock ≡ self.now) }
+        ensures lock { result.lock ≡ self.now }
+        ensures longer { result.seen ≡ longer a.seen b.seen }
+        ensures seen { IsPrefix a.seen result.seen × IsPrefix b.seen result.seen }
+        ensures own { result.own ≡ a.own ++ b.own }
+        ensures apart { AreApart a.own b.own }
+        ensures parts { result.parts ≡ a.parts + b.parts }
+    {
+        let Pass { mut seat, lock } = a;
+        let Pass {
+            seat: other,
+            lock: _,
+        } = b;
+        let shared = &self.table.shared;
+        shared.join_seat::<Both>(&mut seat, other);
+        shared.load::<Settle<V>>(&mut seat, ENTRIES);
+        Pass { seat, lock }
+    }
+
+    pub fn close(self, pass: Pass<V>) -> V
+        requires lock { pass.lock ≡ self }
+        requires parts { pass.parts ≡ all_parts }
+        ensures key { V.key result ≡ pass.lock.key }
+        ensures list { IsPrefix pass.seen (V.list result) }
+    {
+        let Lock { table } = self;
+        let Pass { seat, lock: _ } = pass;
+        let mut closed = table.close_with(seat);
+        let value = closed.take(VALUE).unwrap();
+        closed.free();
+        value
+    }
+}
