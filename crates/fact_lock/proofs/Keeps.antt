@@ -1,5 +1,5 @@
 -- Each step keeps the rule.
-use Rattle.std.proofs.Common.{◌≡◌, ◌≢◌, ◌⊎◌, ℕ, zero, suc, ◌+◌, ◌-◌, ◌%◌, ◌^◌, ◌<◌, ◌≤◌, eqb, List, [], ◌∷◌, ◌++◌, map, length, get_or, set, Option, Some, None, sym, refl, ap, ◌∙◌, subst, ⊎_elim, arith, eq-eqb, ne_eqb, length-append, lit<}
+use Rattle.std.proofs.Common.{◌≡◌, ◌≢◌, ℕ, zero, suc, ◌+◌, ◌-◌, ◌%◌, ◌^◌, ◌<◌, ◌≤◌, eqb, List, [], ◌∷◌, ◌++◌, length, get_or, set, Option, Some, None, sym, refl, ap, ◌∙◌, subst, ⊎_elim, arith, eq-eqb, ne_eqb, length-append, lit<}
 use mathlib.Core.Logic.{dite}
 use mathlib.Core.List.{IsPrefix}
 use mathlib.Core.Option.{none, some, some-injective, some-ne-none}
@@ -7,15 +7,15 @@ use native.Mathlib.Decide.{dec_le, ℕ_discrete}
 use lib.ListN.{get_elem?}
 use lib.Seq.{set-get_or}
 use prog.Atomic.{either}
-use Rattle.atomic_table.specs.Table.{State, Me, step, keeps, takes, gives, put_back, opening, Allows, Splits, Joins, Final, Seen}
+use Rattle.atomic_table.specs.Table.{State, Me, step, keeps, takes, gives, rest, put_back, opening, Allows, Splits, Joins, Final, Seen}
 use Rattle.atomic_table.proofs.Lists.{at_set, at_snoc, at_longer, set_again, set_here, set_else}
 use Rattle.fact_lock.specs.declared.view.View.{View}
 use Rattle.fact_lock.specs.declared.view.Stage.{Stage}
 use Rattle.fact_lock.specs.declared.view.Stage.TheVariants.{Rests, Waits, Acts}
-use Rattle.fact_lock.specs.Rule.{total, one_if, held, times, new_places, holders, owners, opening_view, nobody, at_stage, acting, grown, kept_half, given_half, joined, settled_view, Fits, NobodyActs, IsHome, Kept, drawn, IsServed, looked, raised, HasTurn, passed, settled}
-use Rattle.fact_lock.specs.Passes.{longer}
-use Rattle.fact_lock.proofs.Sums.{total_set, total-push, total_at, total_two, one_if_same, one_if_other, times-append, new_place_here, new_place_else, new_place_past, set_at}
-use Rattle.fact_lock.proofs.Beginnings.{whole, prefix_trans, shorter_begins, longer_begins}
+use Rattle.fact_lock.specs.Rule.{one_if, held, times, new_places, holders, owners, opening_view, nobody, at_stage, acting, grown, kept_half, given_half, joined, settled_view, Fits, NobodyActs, IsHome, Kept, drawn, looked, raised, HasTurn, passed, settled}
+use Rattle.fact_lock.specs.Passes.{entries}
+use Rattle.fact_lock.proofs.Sums.{total_set, total-push, total_at, total_two, one_if_same, one_if_other, times-append, new_place_here, new_place_else, new_place_past, set_at, few_entries}
+use Rattle.fact_lock.proofs.Beginnings.{whole, prefix_trans, longer_begins}
 
 -- a seat does one thing at a time
 rests_not_acts : (st : Stage) (t : ℕ) → st ≡ Rests → st ≢ Acts t
@@ -41,6 +41,19 @@ same_value {J} c x y e d =
     let pair : a ≡ b = cc in
     let second : Some x ≡ Some y = ap (λ (p : ℕ × Option J). p.1) pair in
     cc
+
+module _ {J V : Type 0} where
+  -- the value that was taken out is the seat's
+  pub taken_is : (m : Me (Option J) V) (x y : J) (found : Option J) → m.1 ≡ (0, Some x) ∷ [] → m.1 ≡ (0, found) ∷ rest m.1 → found ≡ Some y → y ≡ x
+  taken_is m x y found has held_out is =
+      sym (same_value m.1 x y has (held_out ∙ ap (λ (o : Option J). (0, o) ∷ rest m.1) is ∙ ap (λ (l : List (ℕ × Option J)). (0, Some y) ∷ rest l) has))
+
+  -- the seat, after the value was taken out and another was put in its place
+  pub put_in : (m out back : Me (Option J) V) (x y : J) → m.1 ≡ (0, Some x) ∷ [] → out ≡ (m.0, (0, None) ∷ rest m.1) → back ≡ (out.0, (0, Some y) ∷ rest out.1) → back ≡ (m.0, (0, Some y) ∷ [])
+  put_in m out back x y has taken put =
+      put
+      ∙ ap (λ (n : Me (Option J) V). (n.0, (0, Some y) ∷ rest n.1)) taken
+      ∙ ap (λ (l : List (ℕ × Option J)). (m.0, (0, Some y) ∷ rest l)) (refl ∙ ap (λ (l : List (ℕ × Option J)). (0, None) ∷ rest l) has)
 
 module _ {J K E : Type 0} (key_of : J → K) (list_of : J → List E) (k : K) where
   abbrev Sight : Type 0
@@ -140,8 +153,8 @@ module _ {J K E : Type 0} (key_of : J → K) (list_of : J → List E) (k : K) wh
   quiet views id v w at calm nobody_acts j u t there acts =
       dite (ℕ_discrete j id)
       (λ same.
-          let one : v ≡ u = some-injective v u (sym at ∙ subst (λ (i : ℕ). get_elem? views i ≡ some u) same there) in
-          absurd (calm t (ap (λ (y : Sight). y.stage) one ∙ acts)))
+      let one : v ≡ u = some-injective v u (sym at ∙ subst (λ (i : ℕ). get_elem? views i ≡ some u) same there) in
+      absurd (calm t (ap (λ (y : Sight). y.stage) one ∙ acts)))
       (λ other. nobody_acts j u t (set_else views id j w other ∙ there) acts)
 
   pub draws : (slots id : ℕ) (m : M) (old new : ℕ) → m.0.stage ≡ Rests → 0 < m.0.parts → new ≡ old + 1 → new < 2 ^ 64
@@ -168,8 +181,8 @@ module _ {J K E : Type 0} (key_of : J → K) (list_of : J → List E) (k : K) wh
           (λ j t u _ there acts. (r.each j u there).acts t acts)
           (λ t n e below. let o = r.order in let z = none_held t in let g = r.gone t below in let a : held t (Waits old) ≡ 0 = one_if_other old t (λ h. omega arith) in omega arith)
           (λ t n e from below. let z = none_held t in dite (ℕ_discrete old t)
-              (λ same. let g = r.undrawn t (omega arith) in let a : held t (Waits old) ≡ 1 = one_if_same old t same in omega arith)
-              (λ other. let g = r.out t from (omega arith) in let a : held t (Waits old) ≡ 0 = one_if_other old t other in omega arith))
+          (λ same. let g = r.undrawn t (omega arith) in let a : held t (Waits old) ≡ 1 = one_if_same old t same in omega arith)
+          (λ other. let g = r.out t from (omega arith) in let a : held t (Waits old) ≡ 0 = one_if_other old t other in omega arith))
           (λ t n e past. let z = none_held t in let g = r.undrawn t (omega arith) in let a : held t (Waits old) ≡ 0 = one_if_other old t (λ h. omega arith) in omega arith)
           refl
           (λ p n e. let l = r.single p in omega arith)
@@ -201,8 +214,8 @@ module _ {J K E : Type 0} (key_of : J → K) (list_of : J → List E) (k : K) wh
       here : (s : St) (r : Rule s) → get_elem? s.views id ≡ some m.0 → t ≡ r.serving → IsHome key_of list_of k r.log s.homes
       here s r at served = r.home (λ j u n there acts. dite (ℕ_discrete j id)
           (λ same.
-              let one : m.0 ≡ u = some-injective m.0 u (sym at ∙ subst (λ (i : ℕ). get_elem? s.views i ≡ some u) same there) in
-              waits_not_acts u.stage t n (ap (λ (y : Sight). y.stage) (sym one) ∙ waits) acts)
+          let one : m.0 ≡ u = some-injective m.0 u (sym at ∙ subst (λ (i : ℕ). get_elem? s.views i ≡ some u) same there) in
+          waits_not_acts u.stage t n (ap (λ (y : Sight). y.stage) (sym one) ∙ waits) acts)
           (λ other. none_else s r id t m.0 at served (held_waits t m.0.stage waits) j n u other there acts))
 
       turned : (s : St) (r : Rule s) → get_elem? s.views id ≡ some m.0 → t ≡ r.serving → (x : J) → list_of x ≡ r.log
@@ -262,16 +275,30 @@ module _ {J K E : Type 0} (key_of : J → K) (list_of : J → List E) (k : K) wh
           (λ n h e past. let g = r.undrawn n past in omega arith)
           refl
           (λ p n e.
-              let split = times-append p m.0.own (new_places (length m.0.seen) count) in
-              dite (ℕ_discrete (length m.0.seen) p)
-              (λ same. let u = r.unused p (omega arith) in let h = subst (λ (q : ℕ). times q (new_places (length m.0.seen) count) ≡ count) same (new_place_here (length m.0.seen) count few) in omega arith)
-              (λ other. let l = r.single p in let h = new_place_else p (length m.0.seen) count other in omega arith))
+          let split = times-append p m.0.own (new_places (length m.0.seen) count) in
+          dite (ℕ_discrete (length m.0.seen) p)
+          (λ same. let u = r.unused p (omega arith) in let h = subst (λ (q : ℕ). times q (new_places (length m.0.seen) count) ≡ count) same (new_place_here (length m.0.seen) count few) in omega arith)
+          (λ other. let l = r.single p in let h = new_place_else p (length m.0.seen) count other in omega arith))
           (λ p n e past.
-              let split = times-append p m.0.own (new_places (length m.0.seen) count) in
-              let u = r.unused p (omega arith) in
-              let h = new_place_past p (length m.0.seen) count (omega arith) in
-              omega arith)
+          let split = times-append p m.0.own (new_places (length m.0.seen) count) in
+          let u = r.unused p (omega arith) in
+          let h = new_place_past p (length m.0.seen) count (omega arith) in
+          omega arith)
           (λ nobody_acts. absurd (nobody_acts id w t (set_at s.views id m.0 w at) acts)))
+
+  more_by : (xs ys es : List E) (before after : ℕ) → ys ≡ xs ++ es → before ≡ length xs → after ≡ length ys → length es ≡ after - before
+  more_by xs ys es before after grew b a = let n : length ys ≡ length xs + length es = ap length grew ∙ length-append xs es in omega arith
+
+  pub counts_turn : (slots id : ℕ) (m back : M) (kk : K) (before after : ℕ) (x y : J) (new : Option E) → (turn : HasTurn key_of list_of kk m) → x ≡ turn.value → back ≡ (m.0, (0, Some y) ∷ [])
+      → list_of y ≡ list_of x ++ entries new → before ≡ length (list_of x) → after ≡ length (list_of y) → after < 2 ^ 64
+      → Allows Rule slots id back 0 (λ n. (n + (after - before)) % 2 ^ 64) (raised key_of list_of (step slots 0 (after - before) 0 none) back)
+  counts_turn slots id m back kk before after x y new turn is put grew b a room =
+      let more = more_by (list_of x) (list_of y) (entries new) before after grew b a in
+      let few = few_entries new in
+      let lists : list_of y ≡ back.0.seen ++ entries new =
+      grew ∙ ap (λ (l : List E). l ++ entries new) (ap list_of is ∙ turn.seen ∙ ap (λ (n : M). n.0.seen) (sym put)) in
+      raises slots id back (after - before) y (entries new) turn.ticket
+      (ap (λ (n : M). n.1) put) (ap (λ (n : M). n.0.stage) put ∙ turn.stage) lists more (omega arith) (omega arith)
 
   pub passes : (slots id : ℕ) (m : M) (kk : K) → 0 < slots → m.0.key ≡ Some kk → HasTurn key_of list_of kk m → Allows Rule slots id m 2 (λ n. (n + 1) % 2 ^ 64) (passed key_of list_of (step slots 2 1 0 none) m)
   passes slots id m kk wide key turn s r homes at _ = (at_stage m.0 Rests, gives, tt, given, refl)
@@ -297,8 +324,8 @@ module _ {J K E : Type 0} (key_of : J → K) (list_of : J → List E) (k : K) wh
           record { key = mine.key; seen = mine.seen; told = mine.told; acts = λ n e. absurd (rests_not_acts Rests n refl e); idle = λ _. refl }
           (λ j n u other there acts. absurd (none_else s r id t m.0 at served held_here j n u other there acts))
           (λ n h e below. let a = mine_at n in dite (ℕ_discrete t n)
-              (λ same. let o = one_if_same t n same in let g = r.out n (omega arith) (omega arith) in omega arith)
-              (λ other. let o = one_if_other t n other in let g = r.gone n (omega arith) in omega arith))
+          (λ same. let o = one_if_same t n same in let g = r.out n (omega arith) (omega arith) in omega arith)
+          (λ other. let o = one_if_other t n other in let g = r.gone n (omega arith) in omega arith))
           (λ n h e from below. let a = mine_at n in let o = one_if_other t n (λ i. omega arith) in let g = r.out n (omega arith) below in omega arith)
           (λ n h e past. let a = mine_at n in let o = one_if_other t n (λ i. omega arith) in let g = r.undrawn n past in omega arith)
           refl
@@ -346,13 +373,13 @@ module _ {J K E : Type 0} (key_of : J → K) (list_of : J → List E) (k : K) wh
       let right : Sight = given_half v in
       let views : List Sight = set s.views id left in
       let tickets : (t : ℕ) → holders t (views ++ right ∷ []) ≡ holders t s.views = λ t.
-          let a = total_set (λ (u : Sight). held t u.stage) s.views id v left at in
-          let b = total-push (λ (u : Sight). held t u.stage) views right in
-          omega arith in
+      let a = total_set (λ (u : Sight). held t u.stage) s.views id v left at in
+      let b = total-push (λ (u : Sight). held t u.stage) views right in
+      omega arith in
       let owned : (p : ℕ) → owners p (views ++ right ∷ []) ≡ owners p s.views = λ p.
-          let a = total_set (λ (u : Sight). times p u.own) s.views id v left at in
-          let b = total-push (λ (u : Sight). times p u.own) views right in
-          omega arith in
+      let a = total_set (λ (u : Sight). times p u.own) s.views id v left at in
+      let b = total-push (λ (u : Sight). times p u.own) views right in
+      omega arith in
       record {
         log = r.log;
         next = r.next;
@@ -362,10 +389,10 @@ module _ {J K E : Type 0} (key_of : J → K) (list_of : J → List E) (k : K) wh
         small = r.small;
         each = λ j u e. ⊎_elim
             (fits_set r.log r.serving s.views id left
-                record { key = mine.key; seen = mine.seen; told = mine.told; acts = mine.acts; idle = λ _. rests }
-                (λ i x _ there. r.each i x there) j u)
+            record { key = mine.key; seen = mine.seen; told = mine.told; acts = mine.acts; idle = λ _. rests }
+            (λ i x _ there. r.each i x there) j u)
             (λ (is : right ≡ u). subst (Fits k r.log r.serving) is
-                record { key = mine.key; seen = mine.seen; told = (r.log, refl); acts = λ n d. absurd (rests_not_acts Rests n refl d); idle = λ _. refl })
+            record { key = mine.key; seen = mine.seen; told = (r.log, refl); acts = λ n d. absurd (rests_not_acts Rests n refl d); idle = λ _. refl })
             (at_snoc views right u j e);
         gone = λ t below. tickets t ∙ r.gone t below;
         out = λ t from below. tickets t ∙ r.out t from below;
@@ -384,15 +411,15 @@ module _ {J K E : Type 0} (key_of : J → K) (list_of : J → List E) (k : K) wh
       let theirs = r.each other w (sym (set_else s.views id other both apart) ∙ there) in
       let none_held : (t : ℕ) → held t w.stage ≡ 0 = λ t. ap (held t) rests' in
       let tickets : (t : ℕ) → holders t (set views other nobody) ≡ holders t s.views = λ t.
-          let a = total_set (λ (u : Sight). held t u.stage) s.views id v both at in
-          let b = total_set (λ (u : Sight). held t u.stage) views other w nobody there in
-          let z = none_held t in
-          omega arith in
+      let a = total_set (λ (u : Sight). held t u.stage) s.views id v both at in
+      let b = total_set (λ (u : Sight). held t u.stage) views other w nobody there in
+      let z = none_held t in
+      omega arith in
       let owned : (p : ℕ) → owners p (set views other nobody) ≡ owners p s.views = λ p.
-          let a = total_set (λ (u : Sight). times p u.own) s.views id v both at in
-          let b = total_set (λ (u : Sight). times p u.own) views other w nobody there in
-          let c = times-append p v.own w.own in
-          omega arith in
+      let a = total_set (λ (u : Sight). times p u.own) s.views id v both at in
+      let b = total_set (λ (u : Sight). times p u.own) views other w nobody there in
+      let c = times-append p v.own w.own in
+      omega arith in
       record {
         log = r.log;
         next = r.next;
@@ -403,8 +430,8 @@ module _ {J K E : Type 0} (key_of : J → K) (list_of : J → List E) (k : K) wh
         each = fits_set r.log r.serving views other nobody
             record { key = λ x e. absurd (cc); seen = (r.log, refl); told = (r.log, refl); acts = λ n d. absurd (rests_not_acts Rests n refl d); idle = λ _. refl }
             (λ j u _ at'. fits_set r.log r.serving s.views id both
-                record { key = mine.key; seen = mine.seen; told = theirs.seen; acts = mine.acts; idle = λ none_left. absurd (omega arith) }
-                (λ i x _ at''. r.each i x at'') j u at');
+            record { key = mine.key; seen = mine.seen; told = theirs.seen; acts = mine.acts; idle = λ none_left. absurd (omega arith) }
+            (λ i x _ at''. r.each i x at'') j u at');
         gone = λ t below. tickets t ∙ r.gone t below;
         out = λ t from below. tickets t ∙ r.out t from below;
         undrawn = λ t past. tickets t ∙ r.undrawn t past;
@@ -415,21 +442,21 @@ module _ {J K E : Type 0} (key_of : J → K) (list_of : J → List E) (k : K) wh
       }
 
   -- a pass with all parts is the only one, so the value is at home
-  pub closes : (id : ℕ) (v : Sight) (words : List ℕ) (slots : List (Option J)) → v.stage ≡ Rests → v.parts ≡ 65536 → Final (Seen Rule id v) words slots
-      → (x : J) × (get_elem? slots 0 ≡ some (Some x)) × (key_of x ≡ k) × IsPrefix v.seen (list_of x)
-  closes id v words slots rests all f =
+  pub closes : (id : ℕ) (v : Sight) (words : List ℕ) (slots : List (Option J)) (y : Option J) → v.stage ≡ Rests → v.parts ≡ 65536 → Final (Seen Rule id v) words slots → get_elem? slots 0 ≡ some y
+      → (x : J) × (y ≡ Some x) × (key_of x ≡ k) × IsPrefix v.seen (list_of x)
+  closes id v words slots y rests all f found =
       let s : St = f.0 in
       let r : Rule s = f.1.0 in
       let at = f.1.1 in
       let h = r.home (λ j u t there acts. dite (ℕ_discrete j id)
-          (λ same.
-              let one : v ≡ u = some-injective v u (sym at ∙ subst (λ (i : ℕ). get_elem? s.views i ≡ some u) same there) in
-              rests_not_acts u.stage t (ap (λ (y : Sight). y.stage) (sym one) ∙ rests) acts)
-          (λ other.
-              let two = total_two (λ (u : Sight). u.parts) s.views id j v u other at there in
-              let sum = r.parts in
-              rests_not_acts u.stage t ((r.each j u there).idle (omega arith)) acts)) in
-      (h.0, f.4 0 (Some h.0) h.1, h.2, subst (IsPrefix v.seen) (sym h.3) (r.each id v at).seen)
+      (λ same.
+      let one : v ≡ u = some-injective v u (sym at ∙ subst (λ (i : ℕ). get_elem? s.views i ≡ some u) same there) in
+      rests_not_acts u.stage t (ap (λ (w : Sight). w.stage) (sym one) ∙ rests) acts)
+      (λ other.
+      let two = total_two (λ (u : Sight). u.parts) s.views id j v u other at there in
+      let sum = r.parts in
+      rests_not_acts u.stage t ((r.each j u there).idle (omega arith)) acts)) in
+      (h.0, some-injective y (Some h.0) (sym found ∙ f.4 0 (Some h.0) h.1), h.2, subst (IsPrefix v.seen) (sym h.3) (r.each id v at).seen)
 
 module _ {J K E : Type 0} (key_of : J → K) (list_of : J → List E) where
   pub opens : (x : J) (n : ℕ) → n ≡ length (list_of x) → Kept key_of list_of (key_of x) (opening (n ∷ 0 ∷ 0 ∷ []) (Some x ∷ []) (opening_view (key_of x) (list_of x)))

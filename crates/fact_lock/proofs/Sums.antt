@@ -1,12 +1,9 @@
 -- Sums over a list of views, and how often a place stands in a list.
-use Rattle.std.proofs.Common.{◌≡◌, ◌≢◌, ◌⊎◌, ℕ, zero, suc, ◌+◌, ◌<◌, ◌≤◌, eqb, List, [], ◌∷◌, ◌++◌, length, set, Bool, true, false, sym, refl, ap, ◌∙◌, subst, arith, eq-eqb, ne_eqb}
-use mathlib.Core.Logic.{dite}
+use Rattle.std.proofs.Common.{◌≡◌, ◌≢◌, ℕ, zero, suc, ◌+◌, ◌<◌, ◌≤◌, eqb, List, [], ◌∷◌, ◌++◌, length, get_or, set, Option, Some, None, sym, refl, ap, arith, eq-eqb, ne_eqb}
 use mathlib.Core.Option.{some, some-injective, some-ne-none}
-use native.Mathlib.Decide.{ℕ_discrete}
 use lib.ListN.{get_elem?}
-use Rattle.fact_lock.specs.declared.view.Stage.{Stage}
-use Rattle.fact_lock.specs.declared.view.Stage.TheVariants.{Rests, Waits, Acts}
-use Rattle.fact_lock.specs.Rule.{total, one_if, held, times, new_places}
+use Rattle.fact_lock.specs.Passes.{entries, places, AreApart}
+use Rattle.fact_lock.specs.Rule.{total, one_if, times, new_places}
 
 module _ {A : Type 0} (f : A → ℕ) where
   -- the sum after a change of one place
@@ -59,3 +56,24 @@ pub set_at : {A : Type 0} (xs : List A) (i : ℕ) (v w : A) → get_elem? xs i �
 set_at [] i v w e = absurd (some-ne-none v (sym e))
 set_at (x ∷ xs) zero v w e = refl
 set_at (x ∷ xs) (suc i) v w e = set_at xs i v w e
+
+contains_times : (p : ℕ) (xs : List ℕ) (k : ℕ) → k < length xs → get_or xs k p ≡ p → 1 ≤ times p xs
+contains_times p [] k below is = absurd (omega arith)
+contains_times p (x ∷ xs) zero below is = let e = one_if_same x p is in omega arith
+contains_times p (x ∷ xs) (suc k) below is = let r = contains_times p xs k (omega arith) is in omega arith
+
+pub apart_by_times : (xs ys : List ℕ) → ((p : ℕ) → times p (xs ++ ys) ≤ 1) → AreApart xs ys
+apart_by_times xs ys once p a b =
+    let one = once p in
+    let sum = times-append p xs ys in
+    let left = contains_times p xs a.0 a.1 a.2 in
+    let right = contains_times p ys b.0 b.1 b.2 in
+    omega arith
+
+pub few_entries : {E : Type 0} (o : Option E) → length (entries o) ≤ 1
+few_entries None = omega arith
+few_entries (Some e) = omega arith
+
+pub places-new : {E : Type 0} (n : ℕ) (o : Option E) → new_places n (length (entries o)) ≡ places n o
+places-new n None = refl
+places-new n (Some e) = refl

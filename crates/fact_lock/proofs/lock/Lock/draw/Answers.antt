@@ -1,4 +1,4 @@
-use Rattle.std.proofs.Common.{rules, refl, sym, ap, ◌∙◌}
+use Rattle.std.proofs.Common.{rules, refl}
 use Rattle.fact_lock.proofs.Keeps.{draws}
 use Rattle.fact_lock.proofs.lock.Lock.draw.Goals as goal
 
