@@ -8,9 +8,10 @@ pub record LockView (K : Type 0) : Type 0 where
   pub id : TableId
   pub key : K
 
--- a pass: the lock that it is for, the beginning of the list that it has seen, the places of its own entries, and its parts
+-- a pass: which lock it is for, that lock's key, the beginning of the list that it has seen, the places of its own entries, and its parts
 pub record PassView (K E : Type 0) : Type 0 where
-  pub lock : LockView K
+  pub lock : TableId
+  pub key : Option K
   pub seen : List E
   pub own : List ℕ
   pub parts : ℕ
@@ -37,14 +38,18 @@ abbrev pub AreApart : List ℕ → List ℕ → Type 0
 AreApart ps qs = (p : ℕ) → Contains ps p → ¬ (Contains qs p)
 
 module _ {K E : Type 0} where
+  -- it is a pass of this lock
+  abbrev pub IsPassOf : LockView K → PassView K E → Type 0
+  IsPassOf l v = (v.lock ≡ l.id) × (v.key ≡ Some l.key)
+
   -- the own entries are among those seen
   abbrev pub HasSeenOwn : PassView K E → Type 0
   HasSeenOwn v = All (λ p. p < length v.seen) v.own
 
   -- One turn at the lock. `list` is the whole list when it comes, which begins with all that the pass had seen.
-  pub record Turn {O R : Type 0} (reply : K → List E → O → R) (added : K → List E → O → Option E) (before : PassView K E) (op : O) (answer : R) (after : PassView K E) : Type 0 where
+  pub record Turn {O R : Type 0} (reply : K → List E → O → R) (added : K → List E → O → Option E) (key : K) (before : PassView K E) (op : O) (answer : R) (after : PassView K E) : Type 0 where
     pub list : List E
     pub begins : IsPrefix before.seen list
-    pub answered : answer ≡ reply before.lock.key list op
-    pub seen : after.seen ≡ list ++ entries (added before.lock.key list op)
-    pub own : after.own ≡ before.own ++ places (length list) (added before.lock.key list op)
+    pub answered : answer ≡ reply key list op
+    pub seen : after.seen ≡ list ++ entries (added key list op)
+    pub own : after.own ≡ before.own ++ places (length list) (added key list op)

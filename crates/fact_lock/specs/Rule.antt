@@ -7,8 +7,7 @@ use Rattle.atomic_table.specs.Table.{State, Me, Step, rest}
 use Rattle.fact_lock.specs.declared.view.View.{View}
 use Rattle.fact_lock.specs.declared.view.Stage.{Stage}
 use Rattle.fact_lock.specs.declared.view.Stage.TheVariants.{Rests, Waits, Acts}
-use Rattle.atomic_table.specs.Seated.{TableId}
-use Rattle.fact_lock.specs.Passes.{LockView, longer}
+use Rattle.fact_lock.specs.Passes.{longer}
 
 -- the sum of a number of each
 abbrev pub total : {A : Type 0} → (A → ℕ) → List A → ℕ
@@ -145,9 +144,7 @@ module _ {J K E : Type 0} (key_of : J → K) (list_of : J → List E) where
   settled st m r n = (n ≡ (settled_view m.0, m.1)) × IsPrefix m.0.seen n.0.seen × IsPrefix m.0.told n.0.seen × ((p : ℕ) → times p m.0.own ≤ 1)
 
 -- what holds of a pass's seat between two calls
-pub record IsReady {S K E : Type 0} (lock : LockView K) (table : TableId) (m : Me S (View K E)) : Type 0 where
-  pub at : table ≡ lock.id
-  pub key : m.0.key ≡ Some lock.key
+pub record IsReady {S K E : Type 0} (m : Me S (View K E)) : Type 0 where
   pub empty : m.1 ≡ []
   pub rests : m.0.stage ≡ Rests
   pub parts : 0 < m.0.parts

@@ -8,3 +8,6 @@ mod view;
 
 pub use journal::Journal;
 pub use lock::{Lock, Pass};
+
+#[cfg(test)]
+mod tests;

@@ -3,7 +3,7 @@ ghost use Rattle.std.specs.Prelude.{◌≡◌, ◌+◌, ◌-◌, ◌*◌, ◌^�
 ghost use mathlib.Core.List.{IsPrefix};
 ghost use Rattle.fact_lock.specs.declared.view.Stage.TheVariants.{Rests, Waits, Acts};
 ghost use Rattle.fact_lock.specs.Rule.{IsServed, HasTurn, at_stage, grown};
-ghost use Rattle.fact_lock.specs.Passes.{Turn, HasSeenOwn, AreApart, entries, all_parts, longer};
+ghost use Rattle.fact_lock.specs.Passes.{IsPassOf, Turn, HasSeenOwn, AreApart, entries, all_parts, longer};
 
 use crate::journal::Journal;
 use crate::rule::{Both, Draw, Look, OnePart, PassOn, Raise, Settle, Turns};
@@ -49,7 +49,6 @@ impl<V: Journal> Model for Lock<V> {
 #[derive(Drop)]
 pub struct Pass<V: Journal> {
     seat: Seat<V>,
-    lock: Snapshot<Lock<V>>,
 }
 
 impl<V: Journal> Model for Pass<V> {
@@ -58,29 +57,22 @@ impl<V: Journal> Model for Pass<V> {
 
     ghost Value = { PassView V.Key V.Entry };
 
-    ghost view = { λ pass. record { lock = pass.lock.value; seen = pass.seat.me.0.seen; own = pass.seat.me.0.own; parts = pass.seat.me.0.parts } };
+    ghost view = { λ pass. record { lock = pass.seat.table_id; key = pass.seat.me.0.key; seen = pass.seat.me.0.seen; own = pass.seat.me.0.own; parts = pass.seat.me.0.parts } };
 
-    ghost invariant = { λ pass. IsReady pass.lock.value pass.seat.table_id pass.seat.me };
+    ghost invariant = { λ pass. IsReady pass.seat.me };
 }
 
 impl<V: Journal + Drop> Lock<V> {
     pub fn new(alloc: Global, value: V) -> Result<(Lock<V>, Pass<V>), Memory>
         ensures key { IfOk result (λ made. made.0.key ≡ V.key value) }
-        ensures pass { IfOk result (λ made. (made.1.lock ≡ made.0) × (made.1.seen ≡ V.list value) × (made.1.own ≡ []) × (made.1.parts ≡ all_parts)) }
+        ensures pass { IfOk result (λ made. IsPassOf made.0 made.1 × (made.1.seen ≡ V.list value) × (made.1.own ≡ []) × (made.1.parts ≡ all_parts)) }
     {
         let first = Snapshot::of(&value);
         let entries = value.len();
         let mut slots = Vec::with_capacity(alloc, 1)?;
         slots.push_reserved(Some(value));
         match Table::new(alloc, &[entries, 0, 0], slots, &first) {
-            Ok((table, seat)) => {
-                let lock = Lock { table };
-                let pass = Pass {
-                    seat,
-                    lock: Snapshot::of(&lock),
-                };
-                Ok((lock, pass))
-            }
+            Ok((table, seat)) => Ok((Lock { table }, Pass { seat })),
             Err(Refused { slots: _ }) => Err(Memory),
         }
     }
@@ -88,11 +80,11 @@ impl<V: Journal + Drop> Lock<V> {
 
 impl<V: Journal> Lock<V> {
     pub fn with<R: Wait>(&self, rt: &R, pass: &mut Pass<V>, op: V::Op) -> V::Reply
-        requires lock { pass.old.lock ≡ self.now }
+        requires lock { IsPassOf self.now pass.old }
         requires fits { V.fits self.now.key op }
-        ensures lock { pass.new.lock ≡ pass.old.lock }
+        ensures lock { IsPassOf self.now pass.new }
         ensures parts { pass.new.parts ≡ pass.old.parts }
-        ensures turn { Turn V.reply V.added pass.old op result pass.new }
+        ensures turn { Turn V.reply V.added self.now.key pass.old op result pass.new }
         ensures holds { V.holds self.now.key pass.new.seen }
         ensures own { HasSeenOwn pass.new }
     {
@@ -167,50 +159,43 @@ impl<V: Journal> Lock<V> {
     }
 
     pub fn split(&self, pass: Pass<V>) -> (Pass<V>, Pass<V>)
-        requires lock { pass.lock ≡ self.now }
+        requires lock { IsPassOf self.now pass }
         requires parts { 2 ≤ pass.parts }
-        ensures lock { (result.0.lock ≡ pass.lock) × (result.1.lock ≡ pass.lock) }
+        ensures lock { IsPassOf self.now result.0 × IsPassOf self.now result.1 }
         ensures seen { (result.0.seen ≡ pass.seen) × (result.1.seen ≡ pass.seen) }
         ensures own { (result.0.own ≡ pass.own) × (result.1.own ≡ []) }
         ensures parts { (result.0.parts + 1 ≡ pass.parts) × (result.1.parts ≡ 1) }
     {
-        let Pass { mut seat, lock } = pass;
+        let Pass { mut seat } = pass;
         let given = self.table.shared.split_seat::<OnePart>(&mut seat);
-        let other = Pass {
-            seat: given,
-            lock: Snapshot::of(self),
-        };
-        (Pass { seat, lock }, other)
+        (Pass { seat }, Pass { seat: given })
     }
 
     pub fn join(&self, a: Pass<V>, b: Pass<V>) -> Pass<V>
-        requires locks { (a.lock ≡ self.now) × (b.lock ≡ self.now) }
-        ensures lock { result.lock ≡ self.now }
+        requires locks { IsPassOf self.now a × IsPassOf self.now b }
+        ensures lock { IsPassOf self.now result }
         ensures longer { result.seen ≡ longer a.seen b.seen }
         ensures seen { IsPrefix a.seen result.seen × IsPrefix b.seen result.seen }
         ensures own { result.own ≡ a.own ++ b.own }
         ensures apart { AreApart a.own b.own }
         ensures parts { result.parts ≡ a.parts + b.parts }
     {
-        let Pass { mut seat, lock } = a;
-        let Pass {
-            seat: other,
-            lock: _,
-        } = b;
+        let Pass { mut seat } = a;
+        let Pass { seat: other } = b;
         let shared = &self.table.shared;
         shared.join_seat::<Both>(&mut seat, other);
         shared.load::<Settle<V>>(&mut seat, ENTRIES);
-        Pass { seat, lock }
+        Pass { seat }
     }
 
     pub fn close(self, pass: Pass<V>) -> V
-        requires lock { pass.lock ≡ self }
+        requires lock { IsPassOf self pass }
         requires parts { pass.parts ≡ all_parts }
-        ensures key { V.key result ≡ pass.lock.key }
+        ensures key { V.key result ≡ self.key }
         ensures list { IsPrefix pass.seen (V.list result) }
     {
         let Lock { table } = self;
-        let Pass { seat, lock: _ } = pass;
+        let Pass { seat } = pass;
         let mut closed = table.close_with(seat);
         let value = closed.take(VALUE).unwrap();
         closed.free();

@@ -14,7 +14,7 @@ returns-clause-key g c =
     let h = closes g.V.Journal.key g.V.Journal.list _ _ _ _ _ _ c.pass.invariant.rests (ap (λ p. p.parts) c.pass.view_is ∙ c.requires.parts) c.close_with-closed.ensures.values.2 c.take.ensures.value in
     let both : Some c.unwrap-value.result ≡ Some h.0 = sym c.unwrap-value.ensures ∙ h.1 in
     let same : c.unwrap-value.result ≡ h.0 = cc in
-    ap g.V.Journal.key same ∙ h.2 ∙ ap (λ l. l.key) (c.self.view_is ∙ sym c.requires.lock)
+    ap g.V.Journal.key same ∙ h.2 ∙ ap (λ l. l.key) c.self.view_is
 
 pub returns-clause-list : goal.returns-clause-list
 returns-clause-list g c =
