@@ -28,7 +28,7 @@ const VALUE: usize = 0;
 
 type Seat<V> = atomic_table::Seat<Option<V>, View<<V as Journal>::Key, <V as Journal>::Entry>>;
 
-/// A value that threads take turns at.
+/// A value that threads act on in turn, each in the order of its ticket. Contracts see the lock's name and key.
 #[derive(Drop)]
 pub struct Lock<V: Journal> {
     table: Table<Option<V>, View<V::Key, V::Entry>, Snapshot<V>, Turns<V>, Global>,
@@ -45,7 +45,9 @@ impl<V: Journal> Model for Lock<V> {
     ghost invariant = { λ lock. (lock.table.shared.table_id.words ≡ 3) × (lock.table.shared.table_id.slots ≡ 1) };
 }
 
-/// A thread's right to the lock, and what it knows of it. It has no bytes.
+/// The right to act on the value of one lock, and what is known of its list. It has no bytes.
+///
+/// The passes of a lock have 65,536 parts together. A pass that is dropped takes its parts with it.
 #[derive(Drop)]
 pub struct Pass<V: Journal> {
     seat: Seat<V>,
@@ -63,6 +65,11 @@ impl<V: Journal> Model for Pass<V> {
 }
 
 impl<V: Journal + Drop> Lock<V> {
+    /// Puts a value under a new lock. The pass has seen the value's list, owns no entry and has all parts.
+    ///
+    /// # Errors
+    ///
+    /// `Memory` where there is none; the value is then dropped.
     pub fn new(alloc: Global, value: V) -> Result<(Lock<V>, Pass<V>), Memory>
         ensures key { IfOk result (λ made. made.0.key ≡ V.key value) }
         ensures pass { IfOk result (λ made. IsPassOf made.0 made.1 × (made.1.seen ≡ V.list value) × (made.1.own ≡ []) × (made.1.parts ≡ all_parts)) }
@@ -79,6 +86,10 @@ impl<V: Journal + Drop> Lock<V> {
 }
 
 impl<V: Journal> Lock<V> {
+    /// Waits for its ticket, acts once on the value and passes the turn on. It takes no memory.
+    ///
+    /// The pass has then seen the whole list, and an entry that was added is its own. Once 2^64 - 1 tickets
+    /// are drawn, it waits for good.
     pub fn with<R: Wait>(&self, rt: &R, pass: &mut Pass<V>, op: V::Op) -> V::Reply
         requires lock { IsPassOf self.now pass.old }
         requires fits { V.fits self.now.key op }
@@ -86,7 +97,7 @@ impl<V: Journal> Lock<V> {
         ensures parts { pass.new.parts ≡ pass.old.parts }
         ensures turn { Turn V.reply V.added self.now.key pass.old op result pass.new }
         ensures holds { V.holds self.now.key pass.new.seen }
-        ensures own { HasSeenOwn pass.new }
+        ensures places { HasSeenOwn pass.new }
     {
         let seat = &mut pass.seat;
         let ticket = self.draw(rt, seat);
@@ -96,7 +107,7 @@ impl<V: Journal> Lock<V> {
         reply
     }
 
-    // The ticket 2^64 - 1 is never drawn, since the next one would be 0 again.
+    // Draws a ticket. The last one, 2^64 - 1, is never drawn, since 0 would follow it.
     fn draw<R: Wait>(&self, rt: &R, seat: &mut Seat<V>) -> u64
         requires table { seat.old.table_id ≡ self.now.id }
         requires rests { seat.old.me.0.stage ≡ Rests }
@@ -120,6 +131,7 @@ impl<V: Journal> Lock<V> {
         unreachable!()
     }
 
+    // Waits until the ticket is served, and takes the value out.
     fn wait<R: Wait>(&self, rt: &R, seat: &mut Seat<V>, ticket: u64)
         requires table { seat.old.table_id ≡ self.now.id }
         requires waits { seat.old.me.0.stage ≡ Waits ticket }
@@ -158,12 +170,15 @@ impl<V: Journal> Lock<V> {
         reply
     }
 
+    /// Cuts one part off, for another thread. The first pass keeps the own entries; both have seen as much.
+    /// It neither waits nor takes memory.
     pub fn split(&self, pass: Pass<V>) -> (Pass<V>, Pass<V>)
         requires lock { IsPassOf self.now pass }
         requires parts { 2 ≤ pass.parts }
         ensures lock { IsPassOf self.now result.0 × IsPassOf self.now result.1 }
         ensures seen { (result.0.seen ≡ pass.seen) × (result.1.seen ≡ pass.seen) }
         ensures own { (result.0.own ≡ pass.own) × (result.1.own ≡ []) }
+        ensures places { HasSeenOwn result.0 }
         ensures parts { (result.0.parts + 1 ≡ pass.parts) × (result.1.parts ≡ 1) }
     {
         let Pass { mut seat } = pass;
@@ -171,6 +186,7 @@ impl<V: Journal> Lock<V> {
         (Pass { seat }, Pass { seat: given })
     }
 
+    /// Makes two passes one, which has seen what either had, and owns what both did. It neither waits nor takes memory.
     pub fn join(&self, a: Pass<V>, b: Pass<V>) -> Pass<V>
         requires locks { IsPassOf self.now a × IsPassOf self.now b }
         ensures lock { IsPassOf self.now result }
@@ -178,6 +194,7 @@ impl<V: Journal> Lock<V> {
         ensures seen { IsPrefix a.seen result.seen × IsPrefix b.seen result.seen }
         ensures own { result.own ≡ a.own ++ b.own }
         ensures apart { AreApart a.own b.own }
+        ensures places { HasSeenOwn result }
         ensures parts { result.parts ≡ a.parts + b.parts }
     {
         let Pass { mut seat } = a;
@@ -188,6 +205,7 @@ impl<V: Journal> Lock<V> {
         Pass { seat }
     }
 
+    /// Ends the lock, for the pass with all parts, which is then the only one. It takes no memory.
     pub fn close(self, pass: Pass<V>) -> V
         requires lock { IsPassOf self pass }
         requires parts { pass.parts ≡ all_parts }

@@ -18,8 +18,11 @@ struct Numbers {
 
 impl Journal for Numbers {
     type Key = u64;
+
     type Entry = u64;
+
     type Op = Option<u64>;
+
     type Reply = u64;
 
     ghost key = { λ numbers. numbers.most };
