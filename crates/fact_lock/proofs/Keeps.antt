@@ -459,8 +459,8 @@ module _ {J K E : Type 0} (key_of : J → K) (list_of : J → List E) (k : K) wh
       (h.0, some-injective y (Some h.0) (sym found ∙ f.4 0 (Some h.0) h.1), h.2, subst (IsPrefix v.seen) (sym h.3) (r.each id v at).seen)
 
 module _ {J K E : Type 0} (key_of : J → K) (list_of : J → List E) where
-  pub opens : (x : J) (n : ℕ) → n ≡ length (list_of x) → Kept key_of list_of (key_of x) (opening (n ∷ 0 ∷ 0 ∷ []) (Some x ∷ []) (opening_view (key_of x) (list_of x)))
-  opens x n size = record {
+  opens_with : (x : J) (n : ℕ) → n ≡ length (list_of x) → Kept key_of list_of (key_of x) (opening (n ∷ 0 ∷ 0 ∷ []) (Some x ∷ []) (opening_view (key_of x) (list_of x)))
+  opens_with x n size = record {
     log = list_of x;
     next = 0;
     serving = 0;
@@ -486,3 +486,11 @@ module _ {J K E : Type 0} (key_of : J → K) (list_of : J → List E) where
         idle = λ none_left. refl;
       }
       first (suc j) v e = absurd (some-ne-none v (sym e))
+
+  -- the rule holds of a new lock
+  pub opens : (x y : J) (n : ℕ) (before slots : List (Option J)) → y ≡ x → n ≡ length (list_of x) → before ≡ [] → slots ≡ before ++ Some x ∷ []
+      → Kept key_of list_of (key_of y) (opening (n ∷ 0 ∷ 0 ∷ []) slots (opening_view (key_of y) (list_of y)))
+  opens x y n before slots same size none_before one =
+      subst (λ (l : List (Option J)). Kept key_of list_of (key_of y) (opening (n ∷ 0 ∷ 0 ∷ []) l (opening_view (key_of y) (list_of y))))
+      (sym (one ∙ ap (λ (l : List (Option J)). l ++ Some x ∷ []) none_before ∙ ap (λ (v : J). Some v ∷ []) (sym same)))
+      (opens_with y n (size ∙ ap (λ (v : J). length (list_of v)) (sym same)))

@@ -1,4 +1,4 @@
-use Rattle.std.proofs.Common.{rules, Some, ap, ◌∙◌}
+use Rattle.std.proofs.Common.{rules, ap, ◌∙◌}
 use Rattle.fact_lock.proofs.Keeps.{passes}
 use Rattle.fact_lock.proofs.lock.Lock.with.Goals as goal
 
