@@ -12,8 +12,8 @@ use Rattle.atomic_table.proofs.Lists.{at_set, at_snoc, at_longer, set_again, set
 use Rattle.fact_lock.specs.declared.view.View.{View}
 use Rattle.fact_lock.specs.declared.view.Stage.{Stage}
 use Rattle.fact_lock.specs.declared.view.Stage.TheVariants.{Rests, Waits, Acts}
-use Rattle.fact_lock.specs.Rule.{one_if, held, times, new_places, holders, owners, opening_view, nobody, at_stage, acting, grown, kept_half, given_half, joined, settled_view, Fits, NobodyActs, IsHome, Kept, drawn, looked, raised, HasTurn, passed, settled}
-use Rattle.fact_lock.specs.Passes.{entries}
+use Rattle.fact_lock.specs.Rule.{held, new_places, holders, owners, opening_view, nobody, at_stage, acting, grown, kept_half, given_half, joined, settled_view, Fits, NobodyActs, IsHome, Kept, drawn, looked, raised, HasTurn, passed, settled}
+use Rattle.fact_lock.specs.Passes.{one_if, times, entries}
 use Rattle.fact_lock.proofs.Sums.{total_set, total-push, total_at, total_two, one_if_same, one_if_other, times-append, new_place_here, new_place_else, new_place_past, set_at, few_entries}
 use Rattle.fact_lock.proofs.Beginnings.{whole, prefix_trans, longer_begins}
 
@@ -245,8 +245,19 @@ module _ {J K E : Type 0} (key_of : J → K) (list_of : J → List E) (k : K) wh
 
   pub raises : (slots id : ℕ) (m : M) (count : ℕ) (x : J) (es : List E) (t : ℕ) → m.1 ≡ (0, Some x) ∷ [] → m.0.stage ≡ Acts t → list_of x ≡ m.0.seen ++ es → length es ≡ count → count ≤ 1 → length (list_of x) < 2 ^ 64
       → Allows Rule slots id m 0 (λ n. (n + count) % 2 ^ 64) (raised key_of list_of (step slots 0 count 0 none) m)
-  raises slots id m count x es t has acts lists counts few room s r _ at _ =
-      (grown m.0 (list_of x) count, keeps, tt, counted, λ y has'. let same : x ≡ y = same_value m.1 x y has has' in ap (λ (z : J). (grown m.0 (list_of z) count, m.1)) same)
+  raises slots id m count x es t has acts lists counts few room s r _ at _ = (
+    grown m.0 (list_of x) count,
+    keeps,
+    tt,
+    counted,
+    (
+      (λ y has'. let same : x ≡ y = same_value m.1 x y has has' in ap (λ (z : J). (grown m.0 (list_of z) count, m.1)) same),
+      (λ p.
+          let l = counted.single p in
+          let a = total_at (λ (u : Sight). times p u.own) (set s.views id (grown m.0 (list_of x) count)) id (grown m.0 (list_of x) count) (set_at s.views id m.0 (grown m.0 (list_of x) count) at) in
+          omega arith),
+    ),
+  )
     where
       counted : Rule record { words = set s.words 0 ((get_or s.words 0 0 + count) % 2 ^ 64); homes = s.homes; views = set s.views id (grown m.0 (list_of x) count) }
       counted =

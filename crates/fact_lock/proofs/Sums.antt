@@ -2,8 +2,8 @@
 use Rattle.std.proofs.Common.{◌≡◌, ◌≢◌, ℕ, zero, suc, ◌+◌, ◌<◌, ◌≤◌, eqb, List, [], ◌∷◌, ◌++◌, length, get_or, set, Option, Some, None, sym, refl, ap, arith, eq-eqb, ne_eqb}
 use mathlib.Core.Option.{some, some-injective, some-ne-none}
 use lib.ListN.{get_elem?}
-use Rattle.fact_lock.specs.Passes.{entries, places, AreApart}
-use Rattle.fact_lock.specs.Rule.{total, one_if, times, new_places}
+use Rattle.fact_lock.specs.Passes.{one_if, times, entries, places, AreApart}
+use Rattle.fact_lock.specs.Rule.{total, new_places}
 
 module _ {A : Type 0} (f : A → ℕ) where
   -- the sum after a change of one place

@@ -1,5 +1,5 @@
 -- What contracts see of a lock and of its passes.
-use Rattle.std.specs.Prelude.{◌≡◌, ℕ, ◌<◌, List, [], ◌∷◌, ◌++◌, length, nat_lt, if◌then◌else◌, Option, Some, None, All, Contains}
+use Rattle.std.specs.Prelude.{◌≡◌, ℕ, ◌+◌, ◌<◌, ◌≤◌, ◌==◌, Bool, true, false, List, [], ◌∷◌, ◌++◌, length, nat_lt, if◌then◌else◌, Option, Some, None, All, Contains}
 use mathlib.Core.List.{IsPrefix}
 use Rattle.atomic_table.specs.Seated.{TableId}
 
@@ -33,6 +33,15 @@ places n (Some e) = n ∷ []
 abbrev pub longer : {E : Type 0} → List E → List E → List E
 longer xs ys = if nat_lt (length xs) (length ys) then ys else xs
 
+abbrev pub one_if : Bool → ℕ
+one_if true = 1
+one_if false = 0
+
+-- how often a place is named
+abbrev pub times : ℕ → List ℕ → ℕ
+times p [] = 0
+times p (x ∷ xs) = one_if (x == p) + times p xs
+
 -- no place is in both
 abbrev pub AreApart : List ℕ → List ℕ → Type 0
 AreApart ps qs = (p : ℕ) → Contains ps p → ¬ (Contains qs p)
@@ -42,9 +51,10 @@ module _ {K E : Type 0} where
   abbrev pub IsPassOf : LockView K → PassView K E → Type 0
   IsPassOf l v = (v.lock ≡ l.id) × (v.key ≡ Some l.key)
 
-  -- the own entries are among those seen
-  abbrev pub HasSeenOwn : PassView K E → Type 0
-  HasSeenOwn v = All (λ p. p < length v.seen) v.own
+  -- the own entries are among those seen, and each place is named once
+  pub record OwnsSeen (v : PassView K E) : Type 0 where
+    pub below : All (λ p. p < length v.seen) v.own
+    pub once : (p : ℕ) → times p v.own ≤ 1
 
   -- One turn at the lock. `list` is the whole list when it comes, which begins with all that the pass had seen.
   pub record Turn {O R : Type 0} (reply : K → List E → O → R) (added : K → List E → O → Option E) (key : K) (before : PassView K E) (op : O) (answer : R) (after : PassView K E) : Type 0 where

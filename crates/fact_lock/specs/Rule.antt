@@ -1,5 +1,5 @@
 -- The rule of the lock's table, and what each step tells. The words are the number of entries, the next ticket and the ticket that is served.
-use Rattle.std.specs.Prelude.{◌≡◌, ◌≢◌, ℕ, zero, suc, ◌+◌, ◌-◌, ◌^◌, ◌<◌, ◌≤◌, ◌==◌, Bool, true, false, List, [], ◌∷◌, ◌++◌, length, Option, Some, None, All}
+use Rattle.std.specs.Prelude.{◌≡◌, ◌≢◌, ℕ, zero, suc, ◌+◌, ◌-◌, ◌^◌, ◌<◌, ◌≤◌, ◌==◌, List, [], ◌∷◌, ◌++◌, length, Option, Some, None, All}
 use mathlib.Core.List.{IsPrefix}
 use mathlib.Core.Option.{some}
 use lib.ListN.{get_elem?}
@@ -7,27 +7,18 @@ use Rattle.atomic_table.specs.Table.{State, Me, Step, rest}
 use Rattle.fact_lock.specs.declared.view.View.{View}
 use Rattle.fact_lock.specs.declared.view.Stage.{Stage}
 use Rattle.fact_lock.specs.declared.view.Stage.TheVariants.{Rests, Waits, Acts}
-use Rattle.fact_lock.specs.Passes.{longer}
+use Rattle.fact_lock.specs.Passes.{one_if, times, longer}
 
 -- the sum of a number of each
 abbrev pub total : {A : Type 0} → (A → ℕ) → List A → ℕ
 total f [] = 0
 total f (x ∷ xs) = f x + total f xs
 
-abbrev pub one_if : Bool → ℕ
-one_if true = 1
-one_if false = 0
-
 -- 1 where this ticket is held
 abbrev pub held : ℕ → Stage → ℕ
 held t Rests = 0
 held t (Waits n) = one_if (n == t)
 held t (Acts n) = one_if (n == t)
-
--- how often a place stands among these
-abbrev pub times : ℕ → List ℕ → ℕ
-times p [] = 0
-times p (x ∷ xs) = one_if (x == p) + times p xs
 
 -- the place of an entry that is added behind n others
 abbrev pub new_places : ℕ → ℕ → List ℕ
@@ -126,7 +117,7 @@ module _ {J K E : Type 0} (key_of : J → K) (list_of : J → List E) where
 
   -- the entries of the value that the seat has were counted
   abbrev pub raised : Step (Option J) → Sat → ℕ → Sat → Type 0
-  raised st m r n = (x : J) → m.1 ≡ (0, Some x) ∷ [] → n ≡ (grown m.0 (list_of x) st.first, m.1)
+  raised st m r n = ((x : J) → m.1 ≡ (0, Some x) ∷ [] → n ≡ (grown m.0 (list_of x) st.first, m.1)) × ((p : ℕ) → times p n.0.own ≤ 1)
 
   -- the seat's turn has come, and it has the value, whose list it has seen
   pub record HasTurn (k : K) (m : Sat) : Type 0 where
@@ -148,4 +139,5 @@ pub record IsReady {S K E : Type 0} (m : Me S (View K E)) : Type 0 where
   pub empty : m.1 ≡ []
   pub rests : m.0.stage ≡ Rests
   pub parts : 0 < m.0.parts
-  pub own : All (λ p. p < length m.0.seen) m.0.own
+  pub below : All (λ p. p < length m.0.seen) m.0.own
+  pub once : (p : ℕ) → times p m.0.own ≤ 1

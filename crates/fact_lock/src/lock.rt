@@ -1,9 +1,9 @@
 //! The lock and its passes.
-ghost use Rattle.std.specs.Prelude.{◌≡◌, ◌+◌, ◌-◌, ◌*◌, ◌^◌, ◌<◌, ◌≤◌, [], ◌∷◌, ◌++◌, length, IfOk, Some};
+ghost use Rattle.std.specs.Prelude.{◌≡◌, ℕ, ◌+◌, ◌-◌, ◌*◌, ◌^◌, ◌<◌, ◌≤◌, [], ◌∷◌, ◌++◌, length, IfOk, Some};
 ghost use mathlib.Core.List.{IsPrefix};
 ghost use Rattle.fact_lock.specs.declared.view.Stage.TheVariants.{Rests, Waits, Acts};
 ghost use Rattle.fact_lock.specs.Rule.{IsServed, HasTurn, at_stage, grown};
-ghost use Rattle.fact_lock.specs.Passes.{IsPassOf, Turn, HasSeenOwn, AreApart, entries, all_parts, longer};
+ghost use Rattle.fact_lock.specs.Passes.{IsPassOf, Turn, OwnsSeen, AreApart, entries, times, all_parts, longer};
 
 use crate::journal::Journal;
 use crate::rule::{Both, Draw, Look, OnePart, PassOn, Raise, Settle, Turns};
@@ -97,7 +97,7 @@ impl<V: Journal> Lock<V> {
         ensures parts { pass.new.parts ≡ pass.old.parts }
         ensures turn { Turn V.reply V.added self.now.key pass.old op result pass.new }
         ensures holds { V.holds self.now.key pass.new.seen }
-        ensures places { HasSeenOwn pass.new }
+        ensures places { OwnsSeen pass.new }
     {
         let seat = &mut pass.seat;
         let ticket = self.draw(rt, seat);
@@ -158,6 +158,7 @@ impl<V: Journal> Lock<V> {
         ensures answer { result ≡ V.reply self.now.key seat.old.me.0.seen op }
         ensures added { let new = entries (V.added self.now.key seat.old.me.0.seen op) in seat.new.me.0 ≡ grown seat.old.me.0 (seat.old.me.0.seen ++ new) (length new) }
         ensures holds { V.holds self.now.key seat.new.me.0.seen }
+        ensures once { (p : ℕ) → times p seat.new.me.0.own ≤ 1 }
     {
         let shared = &self.table.shared;
         let mut value = shared.exchange(seat, VALUE, None).unwrap();
@@ -178,7 +179,7 @@ impl<V: Journal> Lock<V> {
         ensures lock { IsPassOf self.now result.0 × IsPassOf self.now result.1 }
         ensures seen { (result.0.seen ≡ pass.seen) × (result.1.seen ≡ pass.seen) }
         ensures own { (result.0.own ≡ pass.own) × (result.1.own ≡ []) }
-        ensures places { HasSeenOwn result.0 }
+        ensures places { OwnsSeen result.0 }
         ensures parts { (result.0.parts + 1 ≡ pass.parts) × (result.1.parts ≡ 1) }
     {
         let Pass { mut seat } = pass;
@@ -194,7 +195,7 @@ impl<V: Journal> Lock<V> {
         ensures seen { IsPrefix a.seen result.seen × IsPrefix b.seen result.seen }
         ensures own { result.own ≡ a.own ++ b.own }
         ensures apart { AreApart a.own b.own }
-        ensures places { HasSeenOwn result }
+        ensures places { OwnsSeen result }
         ensures parts { result.parts ≡ a.parts + b.parts }
     {
         let Pass { mut seat } = a;
