@@ -1,5 +1,6 @@
 pub mod ReachLemmas
 pub mod worked
 pub mod PlayLaws
+pub mod GameLaws
 pub mod EqualLaws
 pub mod LegalLaws

@@ -8,6 +8,7 @@ pub mod board;
 pub mod castling;
 pub mod extent;
 pub mod kinds;
+pub mod laws;
 pub mod moves;
 pub mod reach;
 pub mod rules;
