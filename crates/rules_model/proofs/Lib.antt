@@ -4,3 +4,5 @@ pub mod PlayLaws
 pub mod GameLaws
 pub mod EqualLaws
 pub mod LegalLaws
+pub mod CandidateLaws
+pub mod VariantLaws

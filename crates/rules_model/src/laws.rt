@@ -16,7 +16,10 @@ ghost use Rattle.rules_model.specs.Next.{next, next_repeat, next_counter};
 ghost use Rattle.rules_model.specs.Ends.{is_ongoing, early_end};
 ghost use Rattle.rules_model.specs.Legal.{legal, is_stuck, own_end};
 ghost use Rattle.rules_model.specs.Allowed.{is_legal};
-ghost use Rattle.rules_model.specs.Games.{same_repeat, are_legal, last_of};
+ghost use Rattle.rules_model.specs.Games.{same_repeat, are_legal};
+ghost use Rattle.rules_model.specs.Sound.{is_sound_repeat};
+ghost use Rattle.rules_model.specs.Fit.{IsFit};
+ghost use Rattle.rules_model.specs.Promised.{IsMoveOf};
 
 /// Whether two repeats are one, and two moves, is decided by a test.
 pub fn equality_is_tested()
@@ -73,5 +76,11 @@ pub fn ends_have_no_move()
     ensures none { (rules : Rules) (r : Repeat) → is_ongoing (own_end rules r) ≡ false → legal rules r ≡ [] }
     ensures early { (rules : Rules) (r : Repeat) → is_ongoing (early_end rules r) ≡ false → legal rules r ≡ [] }
     ensures games { (rules : Rules) (p : Position) (ms : List Move) → is_ongoing (own_end rules (repeat_of p)) ≡ false → are_legal rules p ms ≡ true → ms ≡ [] }
+{
+}
+
+/// The legal moves of a sound position go between squares of the variant's board, and name kinds of the variant alone.
+pub fn legal_moves_are_the_variants()
+    ensures { (rules : Rules) (r : Repeat) (m : Move) → IsFit rules → is_sound_repeat rules r ≡ true → Member m (legal rules r) → IsMoveOf rules m }
 {
 }
