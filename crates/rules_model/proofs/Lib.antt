@@ -6,3 +6,4 @@ pub mod EqualLaws
 pub mod LegalLaws
 pub mod CandidateLaws
 pub mod VariantLaws
+pub mod TextLaws

@@ -11,7 +11,7 @@ ghost use Rattle.rules_model.specs.declared.rules.Rules.{Rules};
 ghost use Rattle.rules_model.specs.Repeats.{repeat_of};
 ghost use Rattle.rules_model.specs.Sides.{other};
 ghost use Rattle.rules_model.specs.Moves.{IsFitMove, same_move};
-ghost use Rattle.rules_model.specs.MoveText.{move_cmp};
+ghost use Rattle.rules_model.specs.MoveText.{move_cmp, text_of};
 ghost use Rattle.rules_model.specs.Next.{next, next_repeat, next_counter};
 ghost use Rattle.rules_model.specs.Ends.{is_ongoing, early_end};
 ghost use Rattle.rules_model.specs.Legal.{legal, is_stuck, own_end};
@@ -82,5 +82,11 @@ pub fn ends_have_no_move()
 /// The legal moves of a sound position go between squares of the variant's board, and name kinds of the variant alone.
 pub fn legal_moves_are_the_variants()
     ensures { (rules : Rules) (r : Repeat) (m : Move) → IsFit rules → is_sound_repeat rules r ≡ true → Member m (legal rules r) → IsMoveOf rules m }
+{
+}
+
+/// Two legal moves of a sound position never have one text.
+pub fn texts_of_legal_moves_differ()
+    ensures { (rules : Rules) (r : Repeat) (x y : Move) → IsFit rules → is_sound_repeat rules r ≡ true → Member x (legal rules r) → Member y (legal rules r) → text_of x ≡ text_of y → x ≡ y }
 {
 }
