@@ -22,4 +22,5 @@ pub mod Allowed
 pub mod Sound
 pub mod Games
 pub mod Fit
+pub mod Promised
 pub mod Built

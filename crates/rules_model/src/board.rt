@@ -3,6 +3,8 @@ ghost use Rattle.std.specs.Prelude.{◌≡◌, ◌<◌};
 ghost use Rattle.rules_model.specs.Repeats as Repeats;
 ghost use Rattle.rules_model.specs.Sides as Sides;
 
+use std::marker::Model;
+
 /// A square of the largest board, 12 files by 10 ranks: 12 * rank + file, both counted from 0, so below 120.
 #[derive(Clone, Copy, Debug, PartialEq, Eq)]
 pub struct Square(pub u8);
@@ -107,6 +109,21 @@ pub struct Repeat {
     pub checks: [u8; 2],
     pub ep: Option<Square>,
     pub side: Side,
+}
+
+/// A list of positions that may not be entered again: one more standing would make them repetitions.
+#[derive(Drop)]
+pub struct Blocked {
+    pub items: Vec<Repeat>,
+}
+
+impl Model for Blocked {
+    ghost use Rattle.std.specs.Prelude.{List};
+    ghost use Rattle.rules_model.specs.declared.board.Repeat.{Repeat};
+
+    ghost Value = { List Repeat };
+
+    ghost view = { λ l. l.items.items };
 }
 
 /// A position: a `Repeat`, the plies since the last capture or pawn move, and the number of the move.

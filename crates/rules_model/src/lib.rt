@@ -8,6 +8,7 @@ pub mod board;
 pub mod castling;
 pub mod extent;
 pub mod kinds;
+pub mod laws;
 pub mod moves;
 pub mod reach;
 pub mod rules;
@@ -15,7 +16,7 @@ pub mod soundness;
 
 pub use attacks::{attacks_plain, is_attacked, king_attacked};
 pub use board::{
-    Board, Cell, Cells, Kind, Position, Region, Repeat, Side, Square, Wing, repeat_of,
+    Blocked, Board, Cell, Cells, Kind, Position, Region, Repeat, Side, Square, Wing, repeat_of,
 };
 pub use extent::built;
 pub use moves::{Cause, Move, MoveList, Outcome, Placed, Promo, Value};

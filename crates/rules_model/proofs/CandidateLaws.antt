@@ -1,0 +1,203 @@
+-- What stands behind a candidate, taken apart.
+use Rattle.std.proofs.Common.{◌≡◌, ℕ, zero, suc, ◌+◌, ◌-◌, ◌*◌, ◌/◌, ◌%◌, ◌<◌, ◌≤◌, Bool, true, false, not, ◌&&◌, ◌||◌, if◌then◌else◌, ◌⊎◌, inl, inr, Option, Some, None, List, [], ◌∷◌, ℤ, pos, negsuc, refl, ap, sym, ◌∙◌, subst, arith, nat_lt, nat_le, ◌==◌}
+use Rattle.std.specs.List.{list_any, list_all}
+use Rattle.std.proofs.lemmas.Bool.Decides.{nat_tests, Decides-eqb}
+use Rattle.foundation.specs.Count.{any_below, all_below, first_below, last_below, or_else}
+use Rattle.foundation.proofs.CountLemmas.{any_below-some, all_below-each}
+use Rattle.rules_model.specs.declared.board.Cell.{Cell}
+use Rattle.rules_model.specs.declared.board.Kind.{Kind}
+use Rattle.rules_model.specs.declared.board.Repeat.{Repeat}
+use Rattle.rules_model.specs.declared.board.Side.{Side}
+use Rattle.rules_model.specs.declared.board.Side.TheVariants.{White, Black}
+use Rattle.rules_model.specs.declared.board.Square.{Square}
+use Rattle.rules_model.specs.declared.board.Wing.{Wing}
+use Rattle.rules_model.specs.declared.board.Wing.TheVariants.{Kingside, Queenside}
+use Rattle.rules_model.specs.declared.moves.Move.{Move}
+use Rattle.rules_model.specs.declared.moves.Move.TheVariants.{Go, Castle, Drop}
+use Rattle.rules_model.specs.declared.moves.Placed.{Placed}
+use Rattle.rules_model.specs.declared.moves.Promo.{Promo}
+use Rattle.rules_model.specs.declared.moves.Promo.TheVariants.{Stays, Pawn, Plus}
+use Rattle.rules_model.specs.declared.rules.Rules.{Rules}
+use Rattle.rules_model.specs.Squares.{cell_at}
+use Rattle.rules_model.specs.Reach.{is_at}
+use Rattle.rules_model.specs.Sides.{same_side}
+use Rattle.rules_model.specs.Kinds.{is_king, is_pawn}
+use Rattle.rules_model.specs.Regions.{castling_square}
+use Rattle.rules_model.specs.Attacks.{is_own_king}
+use Rattle.rules_model.specs.Castling.{castling_on, holds_right, king_file, rook_on, rook_beyond, outermost, rook_file, rook_target, way_is_open, castles_on, castles}
+use Rattle.rules_model.specs.Pieces.{piece_moves}
+use Rattle.rules_model.specs.Pawns.{pawn_moves}
+use Rattle.rules_model.specs.Drops.{drops_to}
+use Rattle.rules_model.specs.Hands.{holds}
+use Rattle.rules_model.specs.Gating.{gates_from, castle_gates}
+use Rattle.rules_model.specs.Candidates.{own_piece_moves, own_pawn_moves, is_piece_move, is_special_move, is_candidate}
+use Rattle.rules_model.specs.Ends.{is_ongoing, early_end}
+use Rattle.rules_model.specs.Legal.{is_allowed, is_sane}
+use Rattle.rules_model.specs.Allowed.{is_legal}
+
+-- ---- tests that are joined
+
+pub both_of : (a b : Bool) → (a && b) ≡ true → (a ≡ true) × (b ≡ true)
+both_of true b e = (refl, e)
+both_of false b e = cc
+
+pub one_of : (a b : Bool) → (a || b) ≡ true → (a ≡ true) ⊎ (b ≡ true)
+one_of true b e = inl refl
+one_of false b e = inr e
+
+pub false_of_not : (b : Bool) → not b ≡ true → b ≡ false
+false_of_not true e = cc
+false_of_not false e = refl
+
+pub not_both : (b : Bool) → b ≡ true → b ≡ false → ⊥
+not_both b e f = cc
+
+pub any_has : {X : Type 0} (p : X → Bool) (xs : List X) → list_any p xs ≡ true → (x : X) × (p x ≡ true)
+any_has p [] e = cc
+any_has {X = X} p (x ∷ xs) e = elim (one_of (p x) (list_any p xs) e) as (λ _. (y : X) × (p y ≡ true)) [ inl h ↦ (x, h) | inr h ↦ any_has p xs h ]
+
+pub at_some : (s : ℕ) (o : Option ℕ) → is_at s o ≡ true → o ≡ Some s
+at_some s None e = cc
+at_some s (Some r) e = ap (λ k. Some k) ((Decides-eqb r s).0 e)
+
+-- ---- a legal move is a candidate
+
+pub legal_candidate : (rules : Rules) (r : Repeat) (m : Move) → is_legal rules r m ≡ true → is_candidate rules r m ≡ true
+unfolding is_legal is_allowed
+legal_candidate rules r m e =
+    let h = both_of _ _ e in
+    let k = both_of (is_ongoing (early_end rules r)) _ h.0 in
+    (both_of (is_candidate rules r m) (is_sane rules r m) k.1).0
+
+-- ---- the first and the last that pass
+
+first_of : (o : Option ℕ) (b : Bool) (n k : ℕ) → or_else o b n ≡ Some k → (o ≡ Some k) ⊎ ((n ≡ k) × (b ≡ true))
+first_of (Some j) b n k e = inl e
+first_of None true n k e = inr (cc, refl)
+first_of None false n k e = cc
+
+last_of : (o : Option ℕ) (b : Bool) (n k : ℕ) → (if b then Some n else o) ≡ Some k → (o ≡ Some k) ⊎ ((n ≡ k) × (b ≡ true))
+last_of o true n k e = inr (cc, refl)
+last_of o false n k e = inl e
+
+pub first_below-some : (f : ℕ → Bool) (n k : ℕ) → first_below f n ≡ Some k → (k < n) × (f k ≡ true)
+unfolding first_below
+first_below-some f zero k e = cc
+first_below-some f (suc n) k e =
+    elim (first_of (first_below f n) (f n) n k e) as (λ _. (k < suc n) × (f k ≡ true)) [
+      | inl h ↦ let g = first_below-some f n k h in (omega (arith, g.0), g.1)
+      | inr h ↦ (omega (arith, h.0), subst (λ j. f j ≡ true) h.0 h.1)
+    ]
+
+pub last_below-some : (f : ℕ → Bool) (n k : ℕ) → last_below f n ≡ Some k → (k < n) × (f k ≡ true)
+unfolding last_below
+last_below-some f zero k e = cc
+last_below-some f (suc n) k e =
+    elim (last_of (last_below f n) (f n) n k e) as (λ _. (k < suc n) × (f k ≡ true)) [
+      | inl h ↦ let g = last_below-some f n k h in (omega (arith, g.0), g.1)
+      | inr h ↦ (omega (arith, h.0), subst (λ j. f j ≡ true) h.0 h.1)
+    ]
+
+-- ---- ordinary moves
+
+abbrev pub PieceGoes : Rules → Repeat → Cell → Square → Square → Promo → Type 0
+PieceGoes rules r x from to promo = (same_side x.side r.side ≡ true) × (is_pawn rules x.kind ≡ false) × (piece_moves rules r x from to promo ≡ true)
+
+abbrev pub PawnGoes : Rules → Repeat → Cell → Square → Square → Promo → Type 0
+PawnGoes rules r x from to promo = (same_side x.side r.side ≡ true) × (is_pawn rules x.kind ≡ true) × (pawn_moves rules r from to promo ≡ true)
+
+piece_of : (rules : Rules) (r : Repeat) (from to : Square) (promo : Promo) (c : Option Cell) → own_piece_moves rules r from to promo c ≡ true → (x : Cell) × (c ≡ Some x) × PieceGoes rules r x from to promo
+piece_of rules r from to promo None e = cc
+piece_of rules r from to promo (Some x) e =
+    let h = both_of (same_side x.side r.side && not (is_pawn rules x.kind)) (piece_moves rules r x from to promo) e in
+    let k = both_of (same_side x.side r.side) (not (is_pawn rules x.kind)) h.0 in
+    (x, refl, (k.0, false_of_not _ k.1, h.1))
+
+pawn_of : (rules : Rules) (r : Repeat) (from to : Square) (promo : Promo) (c : Option Cell) → own_pawn_moves rules r from to promo c ≡ true → (x : Cell) × (c ≡ Some x) × PawnGoes rules r x from to promo
+pawn_of rules r from to promo None e = cc
+pawn_of rules r from to promo (Some x) e =
+    let h = both_of (same_side x.side r.side && is_pawn rules x.kind) (pawn_moves rules r from to promo) e in
+    let k = both_of (same_side x.side r.side) (is_pawn rules x.kind) h.0 in
+    (x, refl, (k.0, k.1, h.1))
+
+-- a piece or a pawn goes without a gate
+pub plain_go : (rules : Rules) (r : Repeat) (from to : Square) (promo : Promo) → is_candidate rules r (Go from to promo None) ≡ true → (x : Cell) × (cell_at r.cells from.0 ≡ Some x) × (PieceGoes rules r x from to promo ⊎ PawnGoes rules r x from to promo)
+unfolding is_candidate is_piece_move is_special_move
+plain_go rules r from to promo e =
+    elim (one_of (own_piece_moves rules r from to promo (cell_at r.cells from.0)) (own_pawn_moves rules r from to promo (cell_at r.cells from.0)) e)
+      as (λ _. (x : Cell) × (cell_at r.cells from.0 ≡ Some x) × (PieceGoes rules r x from to promo ⊎ PawnGoes rules r x from to promo)) [
+        | inl h ↦ let k = piece_of rules r from to promo (cell_at r.cells from.0) h in (k.0, k.1, inl k.2)
+        | inr h ↦ let k = pawn_of rules r from to promo (cell_at r.cells from.0) h in (k.0, k.1, inr k.2)
+      ]
+
+-- only a piece goes with one
+pub gated_go : (rules : Rules) (r : Repeat) (from to : Square) (promo : Promo) (kind : Kind) → is_candidate rules r (Go from to promo (Some kind)) ≡ true → (x : Cell) × (cell_at r.cells from.0 ≡ Some x) × PieceGoes rules r x from to promo × (gates_from rules r from kind ≡ true)
+unfolding is_candidate is_piece_move is_special_move
+gated_go rules r from to promo kind e =
+    let h = both_of (own_piece_moves rules r from to promo (cell_at r.cells from.0)) (gates_from rules r from kind) e in
+    let k = piece_of rules r from to promo (cell_at r.cells from.0) h.0 in
+    (k.0, k.1, k.2, h.1)
+
+-- ---- castling
+
+-- what a castle to a wing asks
+pub record Castles (rules : Rules) (r : Repeat) (from to rook : Square) (wing : Wing) : Type 0 where
+  pub on : castling_on rules ≡ true
+  pub held : holds_right r.rights r.side wing ≡ true
+  pub start : from.0 ≡ castling_square rules r.side rules.castle_king
+  pub king : is_own_king rules r.side (cell_at r.cells from.0) ≡ true
+  pub target : to.0 ≡ castling_square rules r.side (king_file rules wing)
+  pub file : rook_file rules r.cells r.side wing ≡ Some (rook.0 % 12)
+  pub rank : rook.0 ≡ castling_square rules r.side (rook.0 % 12)
+
+castles_to : (rules : Rules) (r : Repeat) (from to rook : Square) (wing : Wing) → castling_on rules ≡ true → castles_on rules r from to rook wing ≡ true → Castles rules r from to rook wing
+castles_to rules r from to rook wing on e =
+    let a = both_of _ (way_is_open rules r.cells r.side (king_file rules wing) (rook.0 % 12) (rook_target from to rook % 12)) e in
+    let b = both_of _ (rook.0 == castling_square rules r.side (rook.0 % 12)) a.0 in
+    let c = both_of _ (is_at (rook.0 % 12) (rook_file rules r.cells r.side wing)) b.0 in
+    let d = both_of _ (to.0 == castling_square rules r.side (king_file rules wing)) c.0 in
+    let f = both_of _ (is_own_king rules r.side (cell_at r.cells from.0)) d.0 in
+    let g = both_of (holds_right r.rights r.side wing) (from.0 == castling_square rules r.side rules.castle_king) f.0 in
+    record {
+      on = on;
+      held = g.0;
+      start = (Decides-eqb _ _).0 g.1;
+      king = f.1;
+      target = (Decides-eqb _ _).0 d.1;
+      file = at_some _ _ c.1;
+      rank = (Decides-eqb _ _).0 b.1;
+    }
+
+pub castle_is : (rules : Rules) (r : Repeat) (from to rook : Square) (gate : Option Placed) → is_candidate rules r (Castle from to rook gate) ≡ true → ((wing : Wing) × Castles rules r from to rook wing) × (castle_gates rules r from to rook gate ≡ true)
+unfolding is_candidate is_piece_move is_special_move castles
+castle_is rules r from to rook gate e =
+    let a = both_of (castling_on rules && (castles_on rules r from to rook Kingside || castles_on rules r from to rook Queenside)) (castle_gates rules r from to rook gate) e in
+    let b = both_of (castling_on rules) (castles_on rules r from to rook Kingside || castles_on rules r from to rook Queenside) a.0 in
+    (elim (one_of (castles_on rules r from to rook Kingside) (castles_on rules r from to rook Queenside) b.1) as (λ _. (wing : Wing) × Castles rules r from to rook wing) [
+      | inl h ↦ (Kingside, castles_to rules r from to rook Kingside b.0 h)
+      | inr h ↦ (Queenside, castles_to rules r from to rook Queenside b.0 h)
+    ], a.1)
+
+-- the castling rook stands on the board, and beyond the king
+pub rook_file-some : (rules : Rules) (r : Repeat) (side : Side) (wing : Wing) (file : ℕ) → rook_file rules r.cells side wing ≡ Some file → (file < rules.files) × (rook_beyond rules r.cells side wing file ≡ true)
+unfolding rook_file
+rook_file-some rules r side Kingside file e = last_below-some (rook_beyond rules r.cells side Kingside) rules.files file e
+rook_file-some rules r side Queenside file e = first_below-some (rook_beyond rules r.cells side Queenside) rules.files file e
+
+-- what a castle places comes from the hand, and to the king's or the rook's start
+pub castle_gate : (rules : Rules) (r : Repeat) (from to rook : Square) (placed : Placed) → castle_gates rules r from to rook (Some placed) ≡ true → (rules.gate_hand ≡ true) × (holds r.hands r.side placed.kind ≡ true) × ((placed.at.0 ≡ from.0) ⊎ (placed.at.0 ≡ rook.0))
+castle_gate rules r from to rook placed e =
+    let a = both_of _ (not (placed.at.0 == rook_target from to rook)) e in
+    let b = both_of _ (not (placed.at.0 == to.0)) a.0 in
+    let c = both_of (rules.gate_hand && holds r.hands r.side placed.kind) ((placed.at.0 == from.0) || (placed.at.0 == rook.0)) b.0 in
+    let d = both_of rules.gate_hand (holds r.hands r.side placed.kind) c.0 in
+    (d.0, d.1, elim (one_of (placed.at.0 == from.0) (placed.at.0 == rook.0) c.1) as (λ _. (placed.at.0 ≡ from.0) ⊎ (placed.at.0 ≡ rook.0)) [
+      | inl h ↦ inl ((Decides-eqb _ _).0 h)
+      | inr h ↦ inr ((Decides-eqb _ _).0 h)
+    ])
+
+-- ---- drops
+
+pub drop_is : (rules : Rules) (r : Repeat) (kind : Kind) (to : Square) → is_candidate rules r (Drop kind to) ≡ true → drops_to rules r kind to.0 ≡ true
+unfolding is_candidate is_piece_move is_special_move
+drop_is rules r kind to e = e

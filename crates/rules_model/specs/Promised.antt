@@ -1,0 +1,64 @@
+-- What is promised of the legal moves of a sound position, and of the position after one.
+use Rattle.std.specs.Prelude.{◌≡◌, true, false, ◌==◌, Option, Some, None, List, length}
+use Rattle.std.specs.List.{list_all}
+use Rattle.foundation.specs.Member.{Member}
+use Rattle.rules_model.specs.declared.board.Kind.{Kind}
+use Rattle.rules_model.specs.declared.board.Position.{Position}
+use Rattle.rules_model.specs.declared.board.Repeat.{Repeat}
+use Rattle.rules_model.specs.declared.board.Square.{Square}
+use Rattle.rules_model.specs.declared.moves.Move.{Move}
+use Rattle.rules_model.specs.declared.moves.Move.TheVariants.{Go, Castle, Drop}
+use Rattle.rules_model.specs.declared.moves.Placed.{Placed}
+use Rattle.rules_model.specs.declared.moves.Promo.{Promo}
+use Rattle.rules_model.specs.declared.moves.Promo.TheVariants.{Stays, Pawn, Plus}
+use Rattle.rules_model.specs.declared.rules.Rules.{Rules}
+use Rattle.rules_model.specs.Repeats.{repeat_of}
+use Rattle.rules_model.specs.Kinds.{has_kind}
+use Rattle.rules_model.specs.Next.{next}
+use Rattle.rules_model.specs.Legal.{legal}
+use Rattle.rules_model.specs.Sound.{on_board, is_sound}
+use Rattle.rules_model.specs.Fit.{IsFit}
+
+-- ---- moves of a variant
+
+abbrev pub IsSquareOf : Rules → Square → Type 0
+IsSquareOf rules s = on_board rules s.0 ≡ true
+
+abbrev pub IsKindOf : Rules → Kind → Type 0
+IsKindOf rules kind = has_kind rules kind ≡ true
+
+abbrev pub IsPromoOf : Rules → Promo → Type 0
+IsPromoOf rules Stays = Unit {0}
+IsPromoOf rules (Pawn kind) = IsKindOf rules kind
+IsPromoOf rules Plus = Unit {0}
+
+abbrev pub IsGateOf : Rules → Option Kind → Type 0
+IsGateOf rules None = Unit {0}
+IsGateOf rules (Some kind) = IsKindOf rules kind
+
+abbrev pub IsPlacedOf : Rules → Option Placed → Type 0
+IsPlacedOf rules None = Unit {0}
+IsPlacedOf rules (Some placed) = IsKindOf rules placed.kind × IsSquareOf rules placed.at
+
+-- its squares are on the variant's board, and its kinds are the variant's
+abbrev pub IsMoveOf : Rules → Move → Type 0
+IsMoveOf rules (Go from to promo gate) = IsSquareOf rules from × IsSquareOf rules to × IsPromoOf rules promo × IsGateOf rules gate
+IsMoveOf rules (Castle from to rook gate) = IsSquareOf rules from × IsSquareOf rules to × IsSquareOf rules rook × IsPlacedOf rules gate
+IsMoveOf rules (Drop kind to) = IsKindOf rules kind × IsSquareOf rules to
+
+-- ---- soundness along a game
+
+-- the lists of a position have the lengths of its fields
+pub record HasSizes (r : Repeat) : Type 0 where
+  pub cells : length r.cells ≡ 120
+  pub hands : length r.hands ≡ 2
+  pub each_hand : list_all (λ hand. length hand == 26) r.hands ≡ true
+  pub gates : length r.gates ≡ 2
+  pub rights : length r.rights ≡ 2
+  pub each_right : list_all (λ rights. length rights == 2) r.rights ≡ true
+  pub checks : length r.checks ≡ 2
+
+-- after each legal move of a sound position the position is sound
+abbrev pub NextKeepsSound : Rules → Type 0
+NextKeepsSound rules =
+    (p : Position) (m : Move) → HasSizes (repeat_of p) → is_sound rules p ≡ true → Member m (legal rules (repeat_of p)) → is_sound rules (next rules p m) ≡ true
