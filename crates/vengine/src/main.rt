@@ -6,6 +6,8 @@ mod laws;
 mod program;
 mod reach;
 
+pub use program::run;
+
 use foundation::Memory;
 use io_ports::{ListClock, MemFiles, MemSource, OpenGate, PollsOwed, StandardOutput};
 use program::NO_MEMORY;
@@ -41,7 +43,7 @@ where
     let mut sink = StandardOutput::new(io::writer(rt));
     let mut files = MemFiles::new(alloc);
     let mut clock = ListClock::new(alloc, &[])?;
-    Ok(program::run(
+    Ok(run(
         rt,
         alloc,
         words.as_slice(),
