@@ -1,2 +1,4 @@
-pub mod StepLemmas
+pub mod FaultLemmas
+pub mod PlaceLemmas
+pub mod ReadLemmas
 pub mod WordLaws

@@ -1,7 +1,7 @@
 -- how a fault prints
 use Rattle.std.specs.Prelude.{ℕ, List, ◌++◌, codes, decimal}
 use Rattle.betza_text.specs.declared.fault.BetzaFault.{BetzaFault}
-use Rattle.betza_text.specs.declared.fault.BetzaFault.TheVariants.{Empty, TooLong, UnknownAtom, UnsupportedModifier, DoubledModifier, AmbiguousDirection, BadLame, BadHopper, BadNumber, TooManyTerms, NotBuilt, Memory}
+use Rattle.betza_text.specs.declared.fault.BetzaFault.TheVariants.{Empty, TooLong, UnknownAtom, UnsupportedModifier, DoubledModifier, AmbiguousDirection, BadLame, BadHopper, BadNumber, TooManyTerms, Memory}
 
 -- the type's name, the fault's number, its name and its place, parted by single blanks
 abbrev pub fault_text : BetzaFault → List ℕ
@@ -15,5 +15,4 @@ fault_text (BadLame place) = codes "BetzaFault 7 BadLame " ++ decimal place
 fault_text (BadHopper place) = codes "BetzaFault 8 BadHopper " ++ decimal place
 fault_text (BadNumber place) = codes "BetzaFault 9 BadNumber " ++ decimal place
 fault_text (TooManyTerms place) = codes "BetzaFault 10 TooManyTerms " ++ decimal place
-fault_text (NotBuilt place) = codes "BetzaFault 11 NotBuilt " ++ decimal place
 fault_text Memory = codes "BetzaFault Memory"

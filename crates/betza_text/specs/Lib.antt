@@ -1,3 +1,6 @@
-pub mod Fault
-pub mod Word
+pub mod Letters
+pub mod Cut
 pub mod Steps
+pub mod Fault
+pub mod PartFault
+pub mod Word

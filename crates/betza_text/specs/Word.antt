@@ -1,51 +1,52 @@
 -- What a word spells, and what is wrong with it: relations on the whole text.
-use Rattle.std.specs.Prelude.{◌≡◌, ℕ, ◌-◌, ◌<◌, Bool, true, false, not, ◌||◌, ◌&&◌, ◌==◌, nat_lt, List, [], length, map, slice_index, None}
-use Rattle.betza_text.specs.declared.part.HopKind.TheVariants.{No}
+use Rattle.std.specs.Prelude.{◌≡◌, ℕ, zero, suc, ◌+◌, ◌<◌, ◌≤◌, ◌⊎◌, Some, None, List, [], ◌∷◌, length, drop}
 use Rattle.betza_text.specs.declared.part.Part.{Part}
 use Rattle.betza_text.specs.declared.fault.BetzaFault.{BetzaFault}
-use Rattle.betza_text.specs.declared.fault.BetzaFault.TheVariants.{Empty, NotBuilt}
+use Rattle.betza_text.specs.declared.fault.BetzaFault.TheVariants.{Empty, TooLong}
+use Rattle.betza_text.specs.Cut.{cut_of, cut_length, part_of}
+use Rattle.betza_text.specs.Steps.{steps_of}
+use Rattle.betza_text.specs.PartFault.{part_fault}
 
--- the letters of the leaping atoms, W F D N A H L C J Z G
-abbrev pub is_atom : ℕ → Bool
-is_atom a =
-    a == 87 || a == 70 || a == 68 || a == 78 || a == 65 || a == 72 || a == 76 || a == 67 || a == 74 || a == 90 || a == 71
+-- the part with which the text begins
+unfoldable pub first_part : List ℕ → Part
+first_part text = part_of text (cut_of text)
 
--- the part that the letter of an atom spells alone
-abbrev pub plain : ℕ → Part
-plain a = record {
-  quiet = true;
-  takes = true;
-  lame = false;
-  hop = No;
-  dirs = [];
-  atom = a;
-  doubled = false;
-  number = None;
-}
+-- what follows it
+unfoldable pub first_length : List ℕ → ℕ
+first_length text = cut_length (cut_of text)
 
--- whether this place is the ninth, or its byte is no atom, or the same as the byte before
-unfoldable pub is_refused : List ℕ → ℕ → Bool
-is_refused text place =
-    place == 8 || not (is_atom (slice_index text place)) || (nat_lt 0 place && slice_index text (place - 1) == slice_index text place)
+abbrev pub rest_of : List ℕ → List ℕ
+rest_of text = drop (first_length text) text
 
--- no place before this one is refused
-abbrev pub IsCleanBelow : List ℕ → ℕ → Type 0
-IsCleanBelow text place = (k : ℕ) → k < place → is_refused text k ≡ false
+-- how many terms it has
+unfoldable pub first_terms : List ℕ → ℕ
+first_terms text = length (steps_of (first_part text))
 
--- the text has a letter, each is the letter of an atom, and b lists their parts in order
+-- the text, which stands at this place of the word behind so many terms, is these parts one after the other, and none has a fault
+unfoldable pub SpelledFrom : ℕ → ℕ → List ℕ → List Part → Type 0
+SpelledFrom at before text [] = text ≡ []
+SpelledFrom at before text (part ∷ parts) =
+    (0 < length text) × (part_fault at before text ≡ None) × (part ≡ first_part text) × SpelledFrom (at + first_length text) (before + first_terms text) (rest_of text) parts
+
+-- so many parts of the text have no fault, and the next part has this one first
+unfoldable pub FaultBehind : ℕ → ℕ → ℕ → List ℕ → BetzaFault → Type 0
+FaultBehind zero at before text fault = (0 < length text) × (part_fault at before text ≡ Some fault)
+FaultBehind (suc parts) at before text fault =
+    (0 < length text) × (part_fault at before text ≡ None) × FaultBehind parts (at + first_length text) (before + first_terms text) (rest_of text) fault
+
+-- the text has one to 64 bytes, and is these parts one after the other
 pub record Spells (text : List ℕ) (b : List Part) : Type 0 where
   pub begins : 0 < length text
-  pub clean : IsCleanBelow text (length text)
-  pub parts : b ≡ map plain text
+  pub short : length text ≤ 64
+  pub parts : SpelledFrom 0 0 text b
 
--- this place is the first that is refused
-pub record IsFirstRefused (text : List ℕ) (place : ℕ) : Type 0 where
-  pub within : place < length text
-  pub refused : is_refused text place ≡ true
-  pub clean : IsCleanBelow text place
+-- the text has at most 64 bytes, and this is the first fault of the first part that has one
+pub record HasBadPart (text : List ℕ) (fault : BetzaFault) : Type 0 where
+  pub short : length text ≤ 64
+  pub good : ℕ
+  pub first : FaultBehind good 0 0 text fault
 
 -- the first fault of the text, with its place
 abbrev pub BetzaBad : List ℕ → BetzaFault → Type 0
-BetzaBad text (Empty place) = (text ≡ []) × (place ≡ 0)
-BetzaBad text (NotBuilt place) = IsFirstRefused text place
-BetzaBad text _ = ⊥
+BetzaBad text fault =
+    ((text ≡ []) × (fault ≡ Empty 0)) ⊎ (((64 < length text) × (fault ≡ TooLong 64)) ⊎ HasBadPart text fault)

@@ -8,7 +8,7 @@ use std::fmt;
 pub enum BetzaFault {
     /// The word has no byte.
     Empty(usize),
-    /// The word has more than 64 bytes.
+    /// The word has more than 64 bytes; the place is 64.
     TooLong(usize),
     /// A byte that is no atom stands where an atom should, or the word ends there.
     UnknownAtom(usize),
@@ -16,18 +16,16 @@ pub enum BetzaFault {
     UnsupportedModifier(usize),
     /// One of `m`, `c`, `n`, `p` and `g` for the second time in a part.
     DoubledModifier(usize),
-    /// Direction letters that have no one meaning for the atom.
+    /// Direction letters that have no one meaning for the atom; the place is the first's.
     AmbiguousDirection(usize),
-    /// `n` with an atom that cannot be lame.
+    /// `n` with an atom that is not N, A, D, H or G, or is doubled or numbered.
     BadLame(usize),
-    /// `p` or `g` with an atom that goes one step, or both together.
+    /// `p` or `g` with an atom that goes one step, or both together; the place is the later's.
     BadHopper(usize),
-    /// A number that is no limit.
+    /// A number over 11, of more than two digits, or with a 0 before another digit.
     BadNumber(usize),
     /// The atom that brings the terms of the word over 64.
     TooManyTerms(usize),
-    /// What is not read yet.
-    NotBuilt(usize),
     /// There was no memory for the parts.
     Memory,
 }
@@ -79,7 +77,6 @@ impl fmt::Display for BetzaFault {
             BetzaFault::BadHopper(place) => write!(f, "BetzaFault 8 BadHopper {place}"),
             BetzaFault::BadNumber(place) => write!(f, "BetzaFault 9 BadNumber {place}"),
             BetzaFault::TooManyTerms(place) => write!(f, "BetzaFault 10 TooManyTerms {place}"),
-            BetzaFault::NotBuilt(place) => write!(f, "BetzaFault 11 NotBuilt {place}"),
             BetzaFault::Memory => f.write_str("BetzaFault Memory"),
         }
     }

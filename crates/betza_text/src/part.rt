@@ -34,7 +34,7 @@ pub struct Part {
     pub quiet: bool,
     /// It captures.
     pub takes: bool,
-    /// A piece on the way of the leap blocks it.
+    /// A piece on the way of the leap blocks it (`n`).
     pub lame: bool,
     pub hop: HopKind,
     /// No letter means all directions.
@@ -64,23 +64,13 @@ impl Model for Betza {
 
 impl Part {
     ghost use Rattle.std.specs.Prelude.{◌≡◌};
-    ghost use Rattle.betza_text.specs.Word.{plain};
+    ghost use Rattle.betza_text.specs.Steps as Steps;
 
-    /// The part that the letter of an atom spells alone.
-    pub(crate) fn plain(atom: u8) -> Part
-        ensures { result ≡ plain atom }
+    /// Whether its step is repeated: a rider, a doubled atom, or one with a number.
+    #[tactic(auto, unfolding(crate::specs::Steps::is_far))]
+    pub fn is_far(&self) -> bool
+        ensures { result ≡ Steps.is_far self.now }
     {
-        Part {
-            quiet: true,
-            takes: true,
-            lame: false,
-            hop: HopKind::No,
-            dirs: Dirs {
-                items: ArrayVec::new(),
-            },
-            atom,
-            doubled: false,
-            number: None,
-        }
+        matches!(self.atom, b'R' | b'B' | b'Q') || self.doubled || self.number.is_some()
     }
 }

@@ -31,22 +31,34 @@ fn told<R: AllocGlobal + Threads + Wait + Sync>(
 }
 
 #[test]
-fn reach_says_where_a_leaper_goes(rt: HostRuntime) -> Result<(), Fail> {
-    let rows: [(&str, &str, u8, &str); 13] = [
+fn reach_says_where_a_piece_goes(rt: HostRuntime) -> Result<(), Fail> {
+    let rows: [(&str, &str, u8, &str); 25] = [
         ("N", "b1", 0, "quiet d2 a3 c3\ntake -\n"),
         ("WF", "a1", 0, "quiet b1 a2 b2\ntake -\n"),
         ("G", "d4", 0, "quiet a1 g1 a7 g7\ntake -\n"),
         ("H", "h8", 0, "quiet h5 e8\ntake -\n"),
-        ("NN", "b1", 3, "error BetzaFault 11 NotBuilt 1\n"),
+        ("NN", "b1", 0, "quiet d2 a3 c3 f3 h4 d5 e7\ntake -\n"),
+        ("nN", "b1", 0, "quiet d2 a3 c3\ntake -\n"),
+        ("ffN", "d4", 0, "quiet c6 e6\ntake -\n"),
+        ("fsN", "d4", 0, "quiet b5 f5\ntake -\n"),
+        ("bFfW", "d4", 0, "quiet c3 e3 d5\ntake -\n"),
+        ("mRcpR", "a1", 0, "quiet b1 c1 d1 e1 f1 g1 h1 a2 a3 a4 a5 a6 a7 a8\ntake -\n"),
+        ("gQ", "d4", 0, "quiet -\ntake -\n"),
+        ("fN", "d4", 3, "error BetzaFault 6 AmbiguousDirection 0\n"),
+        ("iN", "a1", 3, "error BetzaFault 4 UnsupportedModifier 0\n"),
+        ("nR", "a1", 3, "error BetzaFault 7 BadLame 0\n"),
+        ("pgR", "a1", 3, "error BetzaFault 8 BadHopper 1\n"),
+        ("R12", "a1", 3, "error BetzaFault 9 BadNumber 1\n"),
+        ("NLJNLJNLJ", "a1", 3, "error BetzaFault 10 TooManyTerms 8\n"),
         ("", "b1", 3, "error BetzaFault 1 Empty 0\n"),
-        ("Né", "b1", 3, "error BetzaFault 11 NotBuilt 1\n"),
+        ("Né", "b1", 3, "error BetzaFault 3 UnknownAtom 1\n"),
         (
             "WFDNAHLCWFDNAHLCWFDNAHLCWFDNAHLCWFDNAHLCWFDNAHLCWFDNAHLCWFDNAHLCW",
             "b1",
             3,
-            "error BetzaFault 11 NotBuilt 8\n",
+            "error BetzaFault 2 TooLong 64\n",
         ),
-        ("NN", "z9", 3, "error BetzaFault 11 NotBuilt 1\n"),
+        ("fN", "z9", 3, "error BetzaFault 6 AmbiguousDirection 0\n"),
         ("N", "i9", 3, "error ReachFault 1 BadSquare i9\n"),
         ("N", "a10", 3, "error ReachFault 1 BadSquare a10\n"),
         ("N", "", 3, "error ReachFault 1 BadSquare \n"),
