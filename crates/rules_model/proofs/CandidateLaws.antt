@@ -125,10 +125,10 @@ pub plain_go : (rules : Rules) (r : Repeat) (from to : Square) (promo : Promo) �
 unfolding is_candidate is_piece_move is_special_move
 plain_go rules r from to promo e =
     elim (one_of (own_piece_moves rules r from to promo (cell_at r.cells from.0)) (own_pawn_moves rules r from to promo (cell_at r.cells from.0)) e)
-      as (λ _. (x : Cell) × (cell_at r.cells from.0 ≡ Some x) × (PieceGoes rules r x from to promo ⊎ PawnGoes rules r x from to promo)) [
-        | inl h ↦ let k = piece_of rules r from to promo (cell_at r.cells from.0) h in (k.0, k.1, inl k.2)
-        | inr h ↦ let k = pawn_of rules r from to promo (cell_at r.cells from.0) h in (k.0, k.1, inr k.2)
-      ]
+    as (λ _. (x : Cell) × (cell_at r.cells from.0 ≡ Some x) × (PieceGoes rules r x from to promo ⊎ PawnGoes rules r x from to promo)) [
+      | inl h ↦ let k = piece_of rules r from to promo (cell_at r.cells from.0) h in (k.0, k.1, inl k.2)
+      | inr h ↦ let k = pawn_of rules r from to promo (cell_at r.cells from.0) h in (k.0, k.1, inr k.2)
+    ]
 
 -- only a piece goes with one
 pub gated_go : (rules : Rules) (r : Repeat) (from to : Square) (promo : Promo) (kind : Kind) → is_candidate rules r (Go from to promo (Some kind)) ≡ true → (x : Cell) × (cell_at r.cells from.0 ≡ Some x) × PieceGoes rules r x from to promo × (gates_from rules r from kind ≡ true)
@@ -172,11 +172,13 @@ pub castle_is : (rules : Rules) (r : Repeat) (from to rook : Square) (gate : Opt
 unfolding is_candidate is_piece_move is_special_move castles
 castle_is rules r from to rook gate e =
     let a = both_of (castling_on rules && (castles_on rules r from to rook Kingside || castles_on rules r from to rook Queenside)) (castle_gates rules r from to rook gate) e in
-    let b = both_of (castling_on rules) (castles_on rules r from to rook Kingside || castles_on rules r from to rook Queenside) a.0 in
-    (elim (one_of (castles_on rules r from to rook Kingside) (castles_on rules r from to rook Queenside) b.1) as (λ _. (wing : Wing) × Castles rules r from to rook wing) [
-      | inl h ↦ (Kingside, castles_to rules r from to rook Kingside b.0 h)
-      | inr h ↦ (Queenside, castles_to rules r from to rook Queenside b.0 h)
-    ], a.1)
+    let b = both_of (castling_on rules) (castles_on rules r from to rook Kingside || castles_on rules r from to rook Queenside) a.0 in (
+      elim (one_of (castles_on rules r from to rook Kingside) (castles_on rules r from to rook Queenside) b.1) as (λ _. (wing : Wing) × Castles rules r from to rook wing) [
+        | inl h ↦ (Kingside, castles_to rules r from to rook Kingside b.0 h)
+        | inr h ↦ (Queenside, castles_to rules r from to rook Queenside b.0 h)
+      ],
+      a.1,
+    )
 
 -- the castling rook stands on the board, and beyond the king
 pub rook_file-some : (rules : Rules) (r : Repeat) (side : Side) (wing : Wing) (file : ℕ) → rook_file rules r.cells side wing ≡ Some file → (file < rules.files) × (rook_beyond rules r.cells side wing file ≡ true)
@@ -190,11 +192,14 @@ castle_gate rules r from to rook placed e =
     let a = both_of _ (not (placed.at.0 == rook_target from to rook)) e in
     let b = both_of _ (not (placed.at.0 == to.0)) a.0 in
     let c = both_of (rules.gate_hand && holds r.hands r.side placed.kind) ((placed.at.0 == from.0) || (placed.at.0 == rook.0)) b.0 in
-    let d = both_of rules.gate_hand (holds r.hands r.side placed.kind) c.0 in
-    (d.0, d.1, elim (one_of (placed.at.0 == from.0) (placed.at.0 == rook.0) c.1) as (λ _. (placed.at.0 ≡ from.0) ⊎ (placed.at.0 ≡ rook.0)) [
-      | inl h ↦ inl ((Decides-eqb _ _).0 h)
-      | inr h ↦ inr ((Decides-eqb _ _).0 h)
-    ])
+    let d = both_of rules.gate_hand (holds r.hands r.side placed.kind) c.0 in (
+      d.0,
+      d.1,
+      elim (one_of (placed.at.0 == from.0) (placed.at.0 == rook.0) c.1) as (λ _. (placed.at.0 ≡ from.0) ⊎ (placed.at.0 ≡ rook.0)) [
+        | inl h ↦ inl ((Decides-eqb _ _).0 h)
+        | inr h ↦ inr ((Decides-eqb _ _).0 h)
+      ],
+    )
 
 -- ---- drops
 

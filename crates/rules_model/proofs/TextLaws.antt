@@ -538,7 +538,7 @@ go_and_castle rules fit r a b c d k p g gate sound h l m n e =
     let x = castle_is rules r c d k gate n in
     let at = at_rook k gate in
     let t = two_squares a b (first_by at c k) (second_by at c d) (promo_text p ++ gate_text g) (placed_text gate) h.0 h.1 (first_small at c k l.0 l.2) (second_small at c d l.0 l.1) (promo_stops p g) (placed_stops gate)
-        (sym (go_spelled a b p g) ∙ e ∙ castle_spelled c d k gate) in
+    (sym (go_spelled a b p g) ∙ e ∙ castle_spelled c d k gate) in
     go_by rules fit r a b c d k p g x.0.0 at sound x.0.1 m t.0 t.1
 
 -- ---- drops
@@ -581,7 +581,7 @@ text_apart rules fit r (Castle a b k g) (Castle a' b' k' h) sound i j m n e =
     let s = at_rook k g in
     let t = at_rook k' h in
     let z = two_squares (first_by s a k) (second_by s a b) (first_by t a' k') (second_by t a' b') (placed_text g) (placed_text h) (first_small s a k i.0 i.2) (second_small s a b i.0 i.1) (first_small t a' k' j.0 j.2) (second_small t a' b' j.0 j.1) (placed_stops g) (placed_stops h)
-        (sym (castle_spelled a b k g) ∙ e ∙ castle_spelled a' b' k' h) in
+    (sym (castle_spelled a b k g) ∙ e ∙ castle_spelled a' b' k' h) in
     same_castles rules fit r a b k a' b' k' g h x.0.0 y.0.0 s t x.0.1 y.0.1 refl refl x.1 y.1 i.3 j.3 z.0 z.1 z.2
 text_apart rules fit r (Castle a b k g) (Drop j s) sound i l m n e =
     absurd (starts_apart (first_by (at_rook k g) a k) j _ _ (sym (castle_spelled a b k g) ∙ e ∙ drop_spelled j s))

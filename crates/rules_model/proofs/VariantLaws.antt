@@ -276,11 +276,13 @@ plain_of rules fit r from to promo x sound l p c (inr h) =
 placed_of : (rules : Rules) (fit : IsFit rules) (r : Repeat) (from to rook : Square) (gate : Option Placed) → is_sound_repeat rules r ≡ true → IsFitPlaced gate → IsSquareOf rules from → IsSquareOf rules rook → castle_gates rules r from to rook gate ≡ true → IsPlacedOf rules gate
 placed_of rules fit r from to rook None sound l f k e = tt
 placed_of rules fit r from to rook (Some placed) sound l f k e =
-    let h = castle_gate rules r from to rook placed e in
-    (hand_kind_of rules r r.side placed.kind sound l.0 h.1, elim h.2 as (λ _. IsSquareOf rules placed.at) [
-      | inl a ↦ subst (λ s. on_board rules s ≡ true) (sym a) f
-      | inr a ↦ subst (λ s. on_board rules s ≡ true) (sym a) k
-    ])
+    let h = castle_gate rules r from to rook placed e in (
+      hand_kind_of rules r r.side placed.kind sound l.0 h.1,
+      elim h.2 as (λ _. IsSquareOf rules placed.at) [
+        | inl a ↦ subst (λ s. on_board rules s ≡ true) (sym a) f
+        | inr a ↦ subst (λ s. on_board rules s ≡ true) (sym a) k
+      ],
+    )
 
 candidate_of : (rules : Rules) (fit : IsFit rules) (r : Repeat) (m : Move) → is_sound_repeat rules r ≡ true → IsFitMove m → is_candidate rules r m ≡ true → IsMoveOf rules m
 candidate_of rules fit r (Go from to promo None) sound h e =

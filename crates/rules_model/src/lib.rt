@@ -13,6 +13,8 @@ pub mod moves;
 pub mod reach;
 pub mod rules;
 pub mod soundness;
+#[cfg(test)]
+mod tests;
 
 pub use attacks::{attacks_plain, is_attacked, king_attacked};
 pub use board::{
