@@ -1,0 +1,6 @@
+pub mod Contests
+pub mod Games
+pub mod Claims
+pub mod Lines
+pub mod Tables
+pub mod PlainTables
