@@ -10,3 +10,4 @@ pub mod GoodExists
 pub mod NearLimit
 pub mod Verdicts
 pub mod Unsettled
+mod worked

@@ -4,3 +4,4 @@ pub mod Claims
 pub mod Lines
 pub mod Tables
 pub mod PlainTables
+pub mod Toy
