@@ -5,3 +5,7 @@ pub mod Lines
 pub mod Tables
 pub mod PlainTables
 pub mod Toy
+pub mod Views
+pub mod Wins
+pub mod Facts
+pub mod Strategies

@@ -1,6 +1,9 @@
 //! The theory of forced wins: laws about definitions, each the contract of a function without code.
 //!
-//! `any_game` has them over any game of two sides whose positions repeat and have a counter.
+//! `any_game` has them over any game of two sides whose positions repeat and have a counter, `by_rules` over the rules of play.
 #![tactic(auto)]
 
 pub mod any_game;
+mod fact;
+
+pub use fact::Fact;
