@@ -11,3 +11,10 @@ pub mod NearLimit
 pub mod Verdicts
 pub mod Unsettled
 mod worked
+pub mod Along
+pub mod Rules
+pub mod Blocked
+pub mod FactLaws
+pub mod Played
+pub mod StrategyLaws
+pub mod Sentences

@@ -176,3 +176,6 @@ module _ {P R M : Type 0} (r : Game P R M) (t : TableLaws P R M r) (g : Story P)
 
   pub near-good-or-unsettled : (n : ℕ) → IsPlayed r g → near_root r n g ≡ true → ((s : List (Node P M)) × IsGood r plain true s g n) ⊎ IsUnsettled P R M r n g
   near-good-or-unsettled n played h = elim (near-settled n played h) as (λ _. ((s : List (Node P M)) × IsGood r plain true s g n) ⊎ IsUnsettled P R M r n g) [ inl k ↦ inl (judged n k) | inr k ↦ inr k ]
+
+  pub ended-good : (n : ℕ) → near_root r n g ≡ true → (w : Bool) → r.own g.last ≡ Some w → (s : List (Node P M)) × IsGood r plain true s g n
+  ended-good n h w e = judged n (ended n h w e)

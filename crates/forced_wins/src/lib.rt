@@ -4,6 +4,7 @@
 #![tactic(auto)]
 
 pub mod any_game;
+pub mod by_rules;
 mod fact;
 
 pub use fact::Fact;
