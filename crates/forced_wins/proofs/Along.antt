@@ -1,5 +1,5 @@
 -- Two contests of which one is seen in the other have the same forced wins.
-use Rattle.std.proofs.Common.{◌≡◌, ℕ, zero, suc, Bool, false, Option, List, if◌then◌else◌, refl, ap, ◌∙◌}
+use Rattle.std.proofs.Common.{◌≡◌, ℕ, zero, suc, Bool, false, if◌then◌else◌, ap, ◌∙◌}
 use Rattle.std.specs.List.{list_any, list_all}
 use Rattle.forced_wins.specs.Contests.{Contest, decided, replies, attacks_by, forced}
 

@@ -1,8 +1,8 @@
 -- The blocked repeats as a list and as a test; near wins of games.
-use Rattle.std.proofs.Common.{◌≡◌, ◌⊎◌, inl, inr, ℕ, zero, suc, ◌+◌, ◌*◌, ◌<◌, ◌≤◌, List, [], ◌∷◌, ◌++◌, map, Bool, true, false, Option, Some, None, cond, not, nat_le, nat_lt, ◌==◌, ◌&&◌, ◌||◌, if◌then◌else◌, refl, ap, sym, ◌∙◌, arith}
+use Rattle.std.proofs.Common.{◌≡◌, ◌⊎◌, inl, inr, ℕ, zero, suc, ◌+◌, ◌<◌, ◌≤◌, List, [], ◌∷◌, map, Bool, true, false, Option, Some, None, cond, not, nat_le, nat_lt, ◌==◌, ◌&&◌, ◌||◌, if◌then◌else◌, refl, ap, sym, ◌∙◌, arith}
 use Rattle.std.specs.List.{list_any, list_all, filter, count_by}
 use Rattle.std.proofs.lemmas.Bool.Decides.{nat_tests}
-use Rattle.std.proofs.lemmas.List.Sums.{sum_by-cons, sum_by-append}
+use Rattle.std.proofs.lemmas.List.Sums.{sum_by-cons}
 use Rattle.foundation.specs.Member.{Member}
 use Rattle.foundation.proofs.Members.{member-filter, filter-member}
 use Rattle.rules_model.specs.declared.board.Position.{Position}
@@ -19,7 +19,6 @@ use Rattle.forced_wins.specs.Contests.{decided}
 use Rattle.forced_wins.specs.Games as Any
 use Rattle.forced_wins.specs.Views.{won_by, seen_by, as_any}
 use Rattle.forced_wins.specs.Wins.{wins, near, near_root, is_in, blocked, each_once, IsInLimit}
-use Rattle.forced_wins.proofs.ClaimLaws.{forced-ended}
 use Rattle.forced_wins.proofs.Counts.{by_cases, times_here}
 use Rattle.forced_wins.proofs.NearLaws as N
 use Rattle.forced_wins.proofs.Rules.{laws, wins-is, near-is, end-is}

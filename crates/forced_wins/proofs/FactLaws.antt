@@ -13,7 +13,6 @@ use Rattle.rules_model.specs.Repeats.{repeat_of}
 use Rattle.rules_model.specs.Sides.{same_side}
 use Rattle.rules_model.specs.Next.{next}
 use Rattle.rules_model.specs.Legal.{legal, own_end}
-use Rattle.rules_model.specs.Games.{same_repeat}
 use Rattle.rules_model.proofs.EqualLaws.{repeat-decides}
 use Rattle.forced_wins.specs.declared.fact.Fact.{Fact}
 use Rattle.forced_wins.specs.Contests.{Contest}

@@ -1,10 +1,9 @@
 -- The positions of a game that were left by a move are not ended by themselves.
-use Rattle.std.proofs.Common.{◌≡◌, ◌⊎◌, inl, inr, List, [], ◌∷◌, ◌++◌, Bool, true, false, Option, Some, None, not, ◌&&◌, refl, ap, sym, ◌∙◌, subst}
+use Rattle.std.proofs.Common.{◌≡◌, inl, inr, List, [], ◌∷◌, Bool, true, false, None, refl, subst}
 use Rattle.std.specs.List.{list_any}
 use Rattle.foundation.specs.Member.{Member}
 use Rattle.foundation.proofs.Members.{member-append}
 use Rattle.rules_model.specs.declared.board.Position.{Position}
-use Rattle.rules_model.specs.declared.board.Repeat.{Repeat}
 use Rattle.rules_model.specs.declared.board.Side.{Side}
 use Rattle.rules_model.specs.declared.moves.Move.{Move}
 use Rattle.rules_model.specs.declared.moves.Outcome.{Outcome}
@@ -13,7 +12,6 @@ use Rattle.rules_model.specs.declared.rules.Rules.{Rules}
 use Rattle.rules_model.specs.Repeats.{repeat_of}
 use Rattle.rules_model.specs.Moves.{same_move}
 use Rattle.rules_model.specs.Ends.{is_ongoing}
-use Rattle.rules_model.specs.Next.{next}
 use Rattle.rules_model.specs.Legal.{legal, own_end}
 use Rattle.rules_model.specs.Games.{Story, history, played, story_from, story_of, are_legal, IsGame}
 use Rattle.rules_model.proofs.PlayLaws.{legal-ended}

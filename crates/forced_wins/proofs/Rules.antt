@@ -1,8 +1,6 @@
 -- The rules of play meet the laws of forced wins, and the definitions by the rules are those of any game.
-use Rattle.std.proofs.Common.{◌≡◌, ◌⊎◌, inl, inr, ℕ, zero, suc, ◌+◌, ◌*◌, ◌<◌, ◌≤◌, List, [], ◌∷◌, Bool, true, false, Option, Some, None, not, nat_le, nat_lt, ◌==◌, ◌&&◌, ◌||◌, if◌then◌else◌, refl, ap, sym, ◌∙◌, subst, arith}
-use Rattle.std.specs.Bool.{Decides}
+use Rattle.std.proofs.Common.{◌≡◌, ℕ, zero, suc, ◌+◌, ◌*◌, ◌<◌, ◌≤◌, List, Bool, true, false, Some, not, nat_le, nat_lt, ◌==◌, ◌&&◌, ◌||◌, if◌then◌else◌, refl, ap, sym, ◌∙◌, subst, arith}
 use Rattle.std.proofs.lemmas.Bool.Decides.{nat_tests}
-use Rattle.foundation.specs.Member.{Member, IsEachOnce}
 use Rattle.rules_model.specs.declared.board.Position.{Position}
 use Rattle.rules_model.specs.declared.board.Repeat.{Repeat}
 use Rattle.rules_model.specs.declared.board.Side.{Side}
@@ -23,7 +21,6 @@ use Rattle.rules_model.specs.Games.{Story, result, is_repeated, is_run_out, time
 use Rattle.rules_model.proofs.EqualLaws.{repeat-decides, move-decides}
 use Rattle.rules_model.proofs.LegalLaws.{legal-once}
 use Rattle.rules_model.proofs.PlayLaws.{next-is, next-side, next-counter, next_counter-mono, next_counter-up}
-use Rattle.forced_wins.specs.Contests.{forced}
 use Rattle.forced_wins.specs.Games as Any
 use Rattle.forced_wins.specs.Views.{won_by, seen_by, as_any}
 use Rattle.forced_wins.specs.Wins.{games, wins, is_in, near_end, positions, near}

@@ -1,11 +1,11 @@
 -- The sentences on results, wins and near wins, one by one.
-use Rattle.std.proofs.Common.{◌≡◌, ◌⊎◌, ℕ, zero, suc, ◌+◌, ◌*◌, ◌≤◌, List, [], ◌∷◌, Bool, true, false, Option, Some, None, not, ◌&&◌, ◌||◌, if◌then◌else◌, refl, ap, sym, ◌∙◌, arith}
+use Rattle.std.proofs.Common.{◌≡◌, ℕ, suc, List, Bool, true, false, Some, None, not, ◌&&◌, ◌||◌, if◌then◌else◌, refl, ap, ◌∙◌}
 use Rattle.std.specs.List.{list_any, list_all}
 use Rattle.rules_model.specs.declared.board.Position.{Position}
 use Rattle.rules_model.specs.declared.board.Repeat.{Repeat}
 use Rattle.rules_model.specs.declared.board.Side.{Side}
 use Rattle.rules_model.specs.declared.moves.Cause.{Cause}
-use Rattle.rules_model.specs.declared.moves.Cause.TheVariants.{Checkmate, Stalemate, Repetition, MoveCount}
+use Rattle.rules_model.specs.declared.moves.Cause.TheVariants.{Repetition, MoveCount}
 use Rattle.rules_model.specs.declared.moves.Move.{Move}
 use Rattle.rules_model.specs.declared.moves.Outcome.{Outcome}
 use Rattle.rules_model.specs.declared.moves.Outcome.TheVariants.{Ongoing, Won, Drawn}
@@ -18,7 +18,6 @@ use Rattle.rules_model.specs.Next.{next}
 use Rattle.rules_model.specs.Legal.{legal, own_end, is_stuck}
 use Rattle.rules_model.specs.Games.{Story, played, result, is_repeated, is_run_out}
 use Rattle.rules_model.proofs.PlayLaws.{own_end-stuck}
-use Rattle.forced_wins.specs.Contests.{decided}
 use Rattle.forced_wins.specs.Views.{won_by, is_repetition}
 use Rattle.forced_wins.specs.Wins.{games, wins, is_in, near_end, positions, near, blocked, near_root}
 use Rattle.forced_wins.proofs.ClaimLaws as C

@@ -1,5 +1,5 @@
 -- Good strategies by the rules: they win, and wins have them.
-use Rattle.std.proofs.Common.{◌≡◌, ◌⊎◌, ◌↔◌, inl, inr, ℕ, zero, suc, ◌+◌, ◌*◌, ◌<◌, ◌≤◌, List, [], ◌∷◌, Bool, true, false, Option, Some, None, ◌==◌, ◌||◌, refl, ap, sym, ◌∙◌, subst, arith}
+use Rattle.std.proofs.Common.{◌≡◌, ◌⊎◌, ◌↔◌, inl, inr, ℕ, List, [], ◌∷◌, Bool, true, false, Option, Some, None, ◌==◌, ◌||◌, refl, ap, sym, ◌∙◌, arith}
 use Rattle.rules_model.specs.declared.board.Position.{Position}
 use Rattle.rules_model.specs.declared.board.Repeat.{Repeat}
 use Rattle.rules_model.specs.declared.board.Side.{Side}
@@ -9,16 +9,16 @@ use Rattle.rules_model.specs.Repeats.{repeat_of}
 use Rattle.rules_model.specs.Sides.{same_side}
 use Rattle.rules_model.specs.Next.{next}
 use Rattle.rules_model.specs.Legal.{own_end}
-use Rattle.rules_model.specs.Games.{Story, history, times, story_of, IsGame}
+use Rattle.rules_model.specs.Games.{Story, times, story_of, IsGame}
 use Rattle.rules_model.proofs.EqualLaws.{side-decides}
 use Rattle.forced_wins.specs.Contests.{decided}
 use Rattle.forced_wins.specs.Games as Any
 use Rattle.forced_wins.specs.Lines as AnyLines
-use Rattle.forced_wins.specs.PlainTables.{Node, Edge, plain}
+use Rattle.forced_wins.specs.PlainTables.{Node, plain}
 use Rattle.forced_wins.specs.Tables as Tables
 use Rattle.forced_wins.specs.Tables.{Accessors}
 use Rattle.forced_wins.specs.Views.{won_by, seen_by, as_any}
-use Rattle.forced_wins.specs.Wins.{wins, near, near_root, blocked, is_in, IsInLimit}
+use Rattle.forced_wins.specs.Wins.{wins, near, near_root, blocked, IsInLimit}
 use Rattle.forced_wins.specs.Strategies.{IsGood, moves_left, IsWonAlong, behind, OnWin, IsUnsettled}
 use Rattle.forced_wins.proofs.GoodWins.{good-wins}
 use Rattle.forced_wins.proofs.Verdicts.{verdict-faultless}

@@ -7,4 +7,4 @@ pub mod any_game;
 pub mod by_rules;
 mod fact;
 
-pub use fact::Fact;
+pub use fact::{Fact, is_falling};

@@ -1,14 +1,13 @@
 -- The toy game, computed.
-use Rattle.std.proofs.Common.{◌≡◌, ℕ, zero, suc, ◌+◌, ◌≤◌, ◌==◌, List, [], ◌∷◌, Bool, true, false, not, ◌&&◌, Option, Some, None, refl, ap, sym, ◌∙◌, arith}
+use Rattle.std.proofs.Common.{◌≡◌, ℕ, ◌==◌, [], Bool, true, false, not, ◌&&◌, refl, ap, arith}
 use Rattle.std.specs.Bool.{Decides}
 use Rattle.std.proofs.lemmas.Bool.Decides.{Decides-eqb}
 use Rattle.foundation.specs.Tests.{same_bool}
-use Rattle.foundation.specs.Member.{Member, IsEachOnce}
 use Rattle.forced_wins.specs.Contests.{replies, attacks_by, forced}
-use Rattle.forced_wins.specs.Games.{Game, GameLaws, TableLaws, Story, times, run_out, repeated, blocked, wins, near_root}
+use Rattle.forced_wins.specs.Games.{GameLaws, times, run_out, repeated, blocked, wins, near_root}
 use Rattle.forced_wins.specs.PlainTables.{plain}
-use Rattle.forced_wins.specs.Tables.{Verdict, Wins, Root, WrongMove, MissingReply, BadRank, BadCounter, Repeats, NotWon, nodes_of, root_fits, wrong_move, missing_reply, bad_rank, bad_counter, repeats_at, not_won, node_verdict, nodes_verdict, verdict}
-use Rattle.forced_wins.specs.Toy.{Spot, Place, roads, toy, place, from, good_table, wrong_move_table, missing_reply_table, bad_rank_table, bad_counter_table, repeats_table, not_won_table, over_seven_table, seven_stood}
+use Rattle.forced_wins.specs.Tables.{Wins, Root, WrongMove, MissingReply, BadRank, BadCounter, Repeats, NotWon, nodes_of, root_fits, wrong_move, missing_reply, bad_rank, bad_counter, repeats_at, not_won, node_verdict, nodes_verdict, verdict}
+use Rattle.forced_wins.specs.Toy.{Spot, Place, roads, toy, from, good_table, wrong_move_table, missing_reply_table, bad_rank_table, bad_counter_table, repeats_table, not_won_table, over_seven_table, seven_stood}
 
 -- ---- a win in two
 
