@@ -1,0 +1,41 @@
+-- How often a repeat stands in a game.
+use Rattle.std.proofs.Common.{◌≡◌, ◌⊎◌, inl, inr, ℕ, ◌+◌, ◌<◌, ◌≤◌, List, [], ◌∷◌, ◌++◌, Bool, true, false, cond, nat_le, nat_lt, ◌&&◌, refl, ap, ◌∙◌, arith}
+use Rattle.std.proofs.lemmas.Bool.Decides.{nat_tests}
+use Rattle.std.proofs.lemmas.List.Sums.{sum_by-append}
+use Rattle.forced_wins.specs.Games.{Game, GameLaws, times}
+
+pub by_cases : {C : Type 0} (b : Bool) → (b ≡ true → C) → (b ≡ false → C) → C
+by_cases true f g = f refl
+by_cases false f g = g refl
+
+pub not_true : (b : Bool) → (b ≡ true → ⊥) → b ≡ false
+not_true true h = absurd (h refl)
+not_true false h = refl
+
+-- a rule by a number that may be off
+pub tests_more : (a x y : ℕ) → x ≤ y → (nat_lt 0 a && nat_le a x) ≡ true → (nat_lt 0 a && nat_le a y) ≡ true
+tests_more a x y h e = grind (arith, nat_tests)
+
+pub tests_none : (a x : ℕ) → (a ≡ 0) ⊎ (x < a) → (nat_lt 0 a && nat_le a x) ≡ false
+tests_none a x (inl h) = grind (arith, nat_tests)
+tests_none a x (inr h) = grind (arith, nat_tests)
+
+pub tests_less : (a x y : ℕ) → x ≤ y → (nat_lt 0 a && nat_le a y) ≡ false → (nat_lt 0 a && nat_le a x) ≡ false
+tests_less a x y h e = not_true (nat_lt 0 a && nat_le a x) (λ k. let u = tests_more a x y h k in cc)
+
+module _ {P R M : Type 0} (r : Game P R M) (l : GameLaws P R M r) where
+  times-push : (x : R) (p : P) (ps : List P) → times r x (ps ++ p ∷ []) ≡ times r x ps + cond (r.same (r.repeat p) x) 1 0
+  unfolding times
+  times-push x p ps = let h = sum_by-append (λ q. cond (r.same (r.repeat q) x) 1 0) ps (p ∷ []) in omega arith
+
+  at_test : (x : R) (p : P) (ps : List P) (b : Bool) → r.same (r.repeat p) x ≡ b → times r x (ps ++ p ∷ []) ≡ times r x ps + cond b 1 0
+  at_test x p ps b e = times-push x p ps ∙ ap (λ c. times r x ps + cond c 1 0) e
+
+  pub times_here : (x : R) (p : P) (ps : List P) → r.repeat p ≡ x → times r x (ps ++ p ∷ []) ≡ times r x ps + 1
+  times_here x p ps e = at_test x p ps true ((l.decides (r.repeat p) x).1 e)
+
+  pub times_other : (x : R) (p : P) (ps : List P) → (r.repeat p ≡ x → ⊥) → times r x (ps ++ p ∷ []) ≡ times r x ps
+  times_other x p ps f = let h = at_test x p ps false (not_true (r.same (r.repeat p) x) (λ e. f ((l.decides (r.repeat p) x).0 e))) in omega arith
+
+  pub times_more : (x : R) (p : P) (ps : List P) → times r x ps ≤ times r x (ps ++ p ∷ [])
+  times_more x p ps = let h = times-push x p ps in omega arith

@@ -1,0 +1,20 @@
+pub mod ContestLaws
+pub mod Counts
+pub mod NearLaws
+pub mod TableLaws
+pub mod GoodWins
+pub mod ClaimLaws
+pub mod Plans
+pub mod Lists
+pub mod GoodExists
+pub mod NearLimit
+pub mod Verdicts
+pub mod Unsettled
+mod worked
+pub mod Along
+pub mod Rules
+pub mod Blocked
+pub mod FactLaws
+pub mod Played
+pub mod StrategyLaws
+pub mod Sentences

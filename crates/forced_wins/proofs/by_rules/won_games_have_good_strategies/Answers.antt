@@ -1,0 +1,5 @@
+use Rattle.forced_wins.proofs.StrategyLaws.{good-exists}
+use Rattle.forced_wins.proofs.by_rules.won_games_have_good_strategies.Goals as goal
+
+pub returns : goal.returns
+returns c = good-exists

@@ -1,0 +1,11 @@
+pub mod Contests
+pub mod Games
+pub mod Claims
+pub mod Lines
+pub mod Tables
+pub mod PlainTables
+pub mod Toy
+pub mod Views
+pub mod Wins
+pub mod Facts
+pub mod Strategies

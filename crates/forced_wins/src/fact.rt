@@ -1,0 +1,91 @@
+//! Facts on positions without their history.
+ghost use Rattle.std.specs.Prelude.{◌≡◌};
+ghost use Rattle.forced_wins.specs.Facts as Facts;
+ghost use Rattle.forced_wins.specs.Tables as Tables;
+
+use rules_model::{Move, Repeat, Side};
+
+/// A win, or a refutation, of the positions of a repeat for the side that attacks.
+#[derive(Clone, Copy, PartialEq, Eq)]
+pub struct Fact {
+    pub repeat: Repeat,
+    pub attacker: Side,
+    /// Within how many of the attacker's own moves.
+    pub moves: u16,
+    /// A win stands at each counter up to it, a refutation at each counter from it on.
+    pub counter: u16,
+    /// The move that wins, or refutes, where a single one does.
+    pub best: Option<Move>,
+    /// Whether the attacker wins.
+    pub wins: bool,
+}
+
+impl Fact {
+    /// Whether the fact answers, for its own repeat, if the attacker wins at the counter within so many of his moves: a win
+    /// answers yes for as many moves or more at a counter up to its own, a refutation no for as many or fewer at one from its own on.
+    pub fn covers(&self, counter: u16, moves: u16) -> bool
+        ensures { result ≡ Facts.covers self.now self.now.wins counter moves }
+    {
+        if self.wins {
+            self.moves <= moves && counter <= self.counter
+        } else {
+            moves <= self.moves && self.counter <= counter
+        }
+    }
+}
+
+/// Whether a strategy's edge may lead from a rank to another: the rank falls at a move of the attacker, and does not rise at
+/// one of the other side.
+pub fn is_falling(is_attacking: bool, from: u16, to: u16) -> bool
+    ensures { result ≡ Tables.fits_rank is_attacking from to }
+{
+    if is_attacking { to < from } else { to <= from }
+}
+
+#[cfg(test)]
+mod tests {
+    use super::*;
+
+    #[test]
+    fn a_win_in_three_and_a_refutation(rt: HostRuntime) {
+        let repeat = Repeat {
+            cells: [None; 120],
+            hands: [[0; 26]; 2],
+            gates: [0; 2],
+            rights: [[false; 2]; 2],
+            checks: [0; 2],
+            ep: None,
+            side: Side::White,
+        };
+        for (wins, counter, moves, want) in [
+            (true, 10, 3, true),
+            (true, 0, 4, true),
+            (true, 11, 3, false),
+            (true, 10, 2, false),
+            (false, 10, 3, true),
+            (false, 99, 0, true),
+            (false, 9, 3, false),
+            (false, 10, 4, false),
+        ] {
+            let fact = Fact {
+                repeat,
+                attacker: Side::White,
+                moves: 3,
+                counter: 10,
+                best: None,
+                wins,
+            };
+            assert_eq!(rt;
+                fact.covers(counter, moves),
+                want,
+                "{wins} at {counter} within {moves}"
+            );
+        }
+        assert!(rt;
+            is_falling(true, 2, 1)
+                && !is_falling(true, 2, 2)
+                && is_falling(false, 2, 2)
+                && !is_falling(false, 2, 3)
+        );
+    }
+}
