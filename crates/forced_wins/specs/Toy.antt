@@ -13,13 +13,13 @@ pub record Place : Type 0 where
   pub spot : Spot
   pub counter : ℕ
 
--- where the attacker can go from his spots, 0, 3, 4, 5, 6 and 8
+-- where the attacker can go from his spots
 abbrev pub own_roads : ℕ → List ℕ
-own_roads n = if n == 0 then 1 ∷ 2 ∷ [] else if n == 5 then 2 ∷ [] else if n == 6 then 7 ∷ [] else if (n == 3) || ((n == 4) || (n == 8)) then 9 ∷ [] else []
+own_roads n = if n == 0 then 1 ∷ 2 ∷ [] else if n == 5 then 2 ∷ [] else if n == 6 then 7 ∷ [] else if n == 10 then 11 ∷ [] else if (n == 3) || ((n == 4) || (n == 8)) then 9 ∷ [] else []
 
--- where the other side can go from its spots, 1 and 7
+-- where the other side can go from its spots: from 11 it may escape to 14
 abbrev pub other_roads : ℕ → List ℕ
-other_roads n = if n == 1 then 3 ∷ 4 ∷ [] else if n == 7 then 8 ∷ [] else []
+other_roads n = if n == 1 then 3 ∷ 4 ∷ [] else if n == 7 then 8 ∷ [] else if n == 11 then 3 ∷ 14 ∷ [] else []
 
 abbrev pub roads : Spot → List ℕ
 roads s = if s.attacking then own_roads s.number else other_roads s.number
@@ -57,7 +57,7 @@ edge chosen to = record { chosen = chosen; to = to }
 abbrev pub node : Place → ℕ → List (Edge ℕ) → Node Place ℕ
 node position rank edges = record { position = position; rank = rank; edges = edges }
 
--- ---- a win in two from spot 0, and tables that spoil it
+-- ---- a win in two from spot 0
 
 abbrev pub good_table : List (Node Place ℕ)
 good_table =
@@ -68,38 +68,46 @@ good_table =
     ∷ node (place false 9 3) 0 []
     ∷ []
 
--- the first move has no road
-abbrev pub wrong_move_table : List (Node Place ℕ)
-wrong_move_table = node (place true 0 0) 2 (edge 9 1 ∷ []) ∷ node (place false 9 1) 1 [] ∷ []
+-- ---- tables with one fault each, for games that are not won
 
--- the reply to spot 4 is left out
+-- the attacker leaves the trap at spot 5 by a road that is not there
+abbrev pub wrong_move_table : List (Node Place ℕ)
+wrong_move_table = node (place true 5 0) 1 (edge 9 1 ∷ []) ∷ node (place false 9 1) 0 [] ∷ []
+
+-- the escape from spot 11 is left out
 abbrev pub missing_reply_table : List (Node Place ℕ)
 missing_reply_table =
-    node (place true 0 0) 2 (edge 1 1 ∷ [])
-    ∷ node (place false 1 1) 1 (edge 3 2 ∷ [])
+    node (place true 10 0) 2 (edge 11 1 ∷ [])
+    ∷ node (place false 11 1) 1 (edge 3 2 ∷ [])
     ∷ node (place true 3 2) 1 (edge 9 3 ∷ [])
     ∷ node (place false 9 3) 0 []
     ∷ []
 
--- the attacker's last move does not lower the rank
+-- the first move does not lower the rank: a win in two as one in one
 abbrev pub bad_rank_table : List (Node Place ℕ)
 bad_rank_table =
-    node (place true 0 0) 2 (edge 1 1 ∷ [])
+    node (place true 0 0) 1 (edge 1 1 ∷ [])
     ∷ node (place false 1 1) 1 (edge 3 2 ∷ edge 4 3 ∷ [])
     ∷ node (place true 3 2) 1 (edge 9 4 ∷ [])
     ∷ node (place true 4 2) 1 (edge 9 4 ∷ [])
-    ∷ node (place false 9 3) 1 []
+    ∷ node (place false 9 3) 0 []
     ∷ []
 
--- the node of spot 9 speaks up to counter 2 alone
+-- the nodes behind the root speak for lower counters than play reaches
 abbrev pub bad_counter_table : List (Node Place ℕ)
 bad_counter_table =
-    node (place true 0 0) 2 (edge 1 1 ∷ [])
+    node (place true 0 1) 2 (edge 1 1 ∷ [])
     ∷ node (place false 1 1) 1 (edge 3 2 ∷ edge 4 3 ∷ [])
     ∷ node (place true 3 2) 1 (edge 9 4 ∷ [])
     ∷ node (place true 4 2) 1 (edge 9 4 ∷ [])
-    ∷ node (place false 9 2) 0 []
+    ∷ node (place false 9 3) 0 []
     ∷ []
+
+-- the attacker walks into the stalemate
+abbrev pub not_won_table : List (Node Place ℕ)
+not_won_table = node (place true 5 0) 1 (edge 2 1 ∷ []) ∷ node (place false 2 1) 0 [] ∷ []
+
+-- ---- a table of a win that is refused all the same
 
 -- spot 9 has two nodes of one counter
 abbrev pub repeats_table : List (Node Place ℕ)
@@ -111,10 +119,6 @@ repeats_table =
     ∷ node (place false 9 3) 0 []
     ∷ node (place false 9 3) 0 []
     ∷ []
-
--- the attacker walks into the stalemate
-abbrev pub not_won_table : List (Node Place ℕ)
-not_won_table = node (place true 0 0) 1 (edge 2 1 ∷ []) ∷ node (place false 2 1) 0 [] ∷ []
 
 -- ---- a win in two from spot 6, over the spots 7 and 8
 

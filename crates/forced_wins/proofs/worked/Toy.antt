@@ -61,7 +61,11 @@ good_counted : verdict (toy 2 3) plain true good_table (from 0 0) 2 ≡ Wins
 unfolding verdict root_fits nodes_verdict node_verdict wrong_move missing_reply bad_rank bad_counter repeats_at not_won nodes_of repeated run_out times
 good_counted = refl
 
--- ---- the tables that spoil it, one for each verdict
+-- ---- tables with one fault each. Where the game is not won, beside it, the law would be false without the verdict.
+
+escaped : wins (toy 0 0) 2 (from 10 0) ≡ false
+unfolding forced attacks_by replies repeated run_out times
+escaped = refl
 
 other_attacker : verdict (toy 0 0) plain false good_table (from 0 0) 2 ≡ Root
 unfolding verdict root_fits nodes_verdict node_verdict wrong_move missing_reply bad_rank bad_counter repeats_at not_won nodes_of repeated run_out times
@@ -79,22 +83,23 @@ no_node : verdict (toy 0 0) plain true [] (from 0 0) 2 ≡ Root
 unfolding verdict root_fits nodes_verdict node_verdict wrong_move missing_reply bad_rank bad_counter repeats_at not_won nodes_of repeated run_out times
 no_node = refl
 
-illegal : verdict (toy 0 0) plain true wrong_move_table (from 0 0) 2 ≡ WrongMove 0
+illegal : verdict (toy 0 0) plain true wrong_move_table (from 5 0) 1 ≡ WrongMove 0
 unfolding verdict root_fits nodes_verdict node_verdict wrong_move missing_reply bad_rank bad_counter repeats_at not_won nodes_of repeated run_out times
 illegal = refl
 
-unanswered : verdict (toy 0 0) plain true missing_reply_table (from 0 0) 2 ≡ MissingReply 1 4
+unanswered : verdict (toy 0 0) plain true missing_reply_table (from 10 0) 2 ≡ MissingReply 1 14
 unfolding verdict root_fits nodes_verdict node_verdict wrong_move missing_reply bad_rank bad_counter repeats_at not_won nodes_of repeated run_out times
 unanswered = refl
 
-equal_rank : verdict (toy 0 0) plain true bad_rank_table (from 0 0) 2 ≡ BadRank 2
+equal_rank : verdict (toy 0 0) plain true bad_rank_table (from 0 0) 1 ≡ BadRank 0
 unfolding verdict root_fits nodes_verdict node_verdict wrong_move missing_reply bad_rank bad_counter repeats_at not_won nodes_of repeated run_out times
 equal_rank = refl
 
-low_counter : verdict (toy 0 0) plain true bad_counter_table (from 0 0) 2 ≡ BadCounter 2
+low_counter : verdict (toy 0 3) plain true bad_counter_table (from 0 1) 2 ≡ BadCounter 0
 unfolding verdict root_fits nodes_verdict node_verdict wrong_move missing_reply bad_rank bad_counter repeats_at not_won nodes_of repeated run_out times
 low_counter = refl
 
+-- this one is of a won game: two nodes for one place
 two_nodes : verdict (toy 0 0) plain true repeats_table (from 0 0) 2 ≡ Repeats 5
 unfolding verdict root_fits nodes_verdict node_verdict wrong_move missing_reply bad_rank bad_counter repeats_at not_won nodes_of repeated run_out times
 two_nodes = refl
@@ -108,7 +113,7 @@ history_suffices : verdict (toy 3 0) plain true over_seven_table seven_stood 2 �
 unfolding verdict root_fits nodes_verdict node_verdict wrong_move missing_reply bad_rank bad_counter repeats_at not_won nodes_of repeated run_out times
 history_suffices = refl
 
-stalemate : verdict (toy 0 0) plain true not_won_table (from 0 0) 2 ≡ NotWon 1
+stalemate : verdict (toy 0 0) plain true not_won_table (from 5 0) 1 ≡ NotWon 1
 unfolding verdict root_fits nodes_verdict node_verdict wrong_move missing_reply bad_rank bad_counter repeats_at not_won nodes_of repeated run_out times
 stalemate = refl
 
