@@ -1,14 +1,12 @@
 -- What stands behind a candidate, taken apart.
-use Rattle.std.proofs.Common.{◌≡◌, ℕ, zero, suc, ◌+◌, ◌-◌, ◌*◌, ◌/◌, ◌%◌, ◌<◌, ◌≤◌, Bool, true, false, not, ◌&&◌, ◌||◌, if◌then◌else◌, ◌⊎◌, inl, inr, Option, Some, None, List, [], ◌∷◌, ℤ, pos, negsuc, refl, ap, sym, ◌∙◌, subst, arith, nat_lt, nat_le, ◌==◌}
-use Rattle.std.specs.List.{list_any, list_all}
-use Rattle.std.proofs.lemmas.Bool.Decides.{nat_tests, Decides-eqb}
-use Rattle.foundation.specs.Count.{any_below, all_below, first_below, last_below, or_else}
-use Rattle.foundation.proofs.CountLemmas.{any_below-some, all_below-each}
+use Rattle.std.proofs.Common.{◌≡◌, ℕ, zero, suc, ◌%◌, ◌<◌, Bool, true, false, not, ◌&&◌, ◌||◌, if◌then◌else◌, ◌⊎◌, inl, inr, Option, Some, None, List, [], ◌∷◌, refl, ap, subst, arith, ◌==◌}
+use Rattle.std.specs.List.{list_any}
+use Rattle.std.proofs.lemmas.Bool.Decides.{Decides-eqb}
+use Rattle.foundation.specs.Count.{first_below, last_below, or_else}
 use Rattle.rules_model.specs.declared.board.Cell.{Cell}
 use Rattle.rules_model.specs.declared.board.Kind.{Kind}
 use Rattle.rules_model.specs.declared.board.Repeat.{Repeat}
 use Rattle.rules_model.specs.declared.board.Side.{Side}
-use Rattle.rules_model.specs.declared.board.Side.TheVariants.{White, Black}
 use Rattle.rules_model.specs.declared.board.Square.{Square}
 use Rattle.rules_model.specs.declared.board.Wing.{Wing}
 use Rattle.rules_model.specs.declared.board.Wing.TheVariants.{Kingside, Queenside}
@@ -16,15 +14,14 @@ use Rattle.rules_model.specs.declared.moves.Move.{Move}
 use Rattle.rules_model.specs.declared.moves.Move.TheVariants.{Go, Castle, Drop}
 use Rattle.rules_model.specs.declared.moves.Placed.{Placed}
 use Rattle.rules_model.specs.declared.moves.Promo.{Promo}
-use Rattle.rules_model.specs.declared.moves.Promo.TheVariants.{Stays, Pawn, Plus}
 use Rattle.rules_model.specs.declared.rules.Rules.{Rules}
 use Rattle.rules_model.specs.Squares.{cell_at}
 use Rattle.rules_model.specs.Reach.{is_at}
 use Rattle.rules_model.specs.Sides.{same_side}
-use Rattle.rules_model.specs.Kinds.{is_king, is_pawn}
+use Rattle.rules_model.specs.Kinds.{is_pawn}
 use Rattle.rules_model.specs.Regions.{castling_square}
 use Rattle.rules_model.specs.Attacks.{is_own_king}
-use Rattle.rules_model.specs.Castling.{castling_on, holds_right, king_file, rook_on, rook_beyond, outermost, rook_file, rook_target, way_is_open, castles_on, castles}
+use Rattle.rules_model.specs.Castling.{castling_on, holds_right, king_file, rook_beyond, rook_file, rook_target, way_is_open, castles_on, castles}
 use Rattle.rules_model.specs.Pieces.{piece_moves}
 use Rattle.rules_model.specs.Pawns.{pawn_moves}
 use Rattle.rules_model.specs.Drops.{drops_to}

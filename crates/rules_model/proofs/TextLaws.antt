@@ -1,5 +1,5 @@
 -- The texts of the legal moves of a sound position differ.
-use Rattle.std.proofs.Common.{◌≡◌, ℕ, zero, suc, ◌+◌, ◌-◌, ◌*◌, ◌/◌, ◌%◌, ◌<◌, ◌≤◌, Bool, true, false, not, ◌&&◌, ◌||◌, if◌then◌else◌, cond, ◌⊎◌, inl, inr, Option, Some, None, List, [], ◌∷◌, ◌++◌, ℤ, pos, negsuc, ◌+ℤ◌, ◌*ℤ◌, neg_ℤ, refl, ap, sym, ◌∙◌, subst, arith, nat_lt, nat_le, ◌==◌, is_none, append_assoc, append-nil}
+use Rattle.std.proofs.Common.{◌≡◌, ℕ, zero, suc, ◌+◌, ◌-◌, ◌*◌, ◌/◌, ◌%◌, ◌<◌, ◌≤◌, Bool, true, false, not, ◌&&◌, ◌||◌, if◌then◌else◌, cond, ◌⊎◌, inl, inr, Option, Some, None, List, [], ◌∷◌, ◌++◌, ℤ, pos, negsuc, ◌+ℤ◌, ◌*ℤ◌, refl, ap, sym, ◌∙◌, subst, arith, nat_lt, ◌==◌, is_none, append_assoc, append-nil}
 use Rattle.std.specs.List.{list_any}
 use Rattle.std.proofs.lemmas.Bool.Decides.{nat_tests, Decides-eqb}
 use Rattle.foundation.specs.Member.{Member}
@@ -24,7 +24,7 @@ use Rattle.rules_model.specs.Sides.{same_side}
 use Rattle.rules_model.specs.Kinds.{board_of, is_king, is_pawn, terms_of}
 use Rattle.rules_model.specs.Regions.{castling_rank, castling_square}
 use Rattle.rules_model.specs.Attacks.{ahead, is_diagonal, is_own_king, is_own_pawn, left_ahead, pawn_ray, right_ahead}
-use Rattle.rules_model.specs.Castling.{castling_on, holds_right, king_file, rook_beyond, rook_file, rook_on}
+use Rattle.rules_model.specs.Castling.{castling_on, holds_right, king_file, rook_on}
 use Rattle.rules_model.specs.Pieces.{goes_by, may_plus, means_castling, piece_goes, piece_moves, piece_promo, serves, to_castling_target}
 use Rattle.rules_model.specs.Pawns.{is_enemy, is_ep, is_stays, may_promote, passes_by, pawn_goes, pawn_moves, pawn_promo, steps_twice}
 use Rattle.rules_model.specs.Gating.{castle_gates}
@@ -33,7 +33,7 @@ use Rattle.rules_model.specs.Sound.{is_sound_ep, is_sound_repeat, on_board, was_
 use Rattle.rules_model.specs.Fit.{IsFit}
 use Rattle.rules_model.specs.Legal.{legal}
 use Rattle.rules_model.specs.Moves.{IsFitMove, IsFitGate, IsFitPromo, IsFitPlaced}
-use Rattle.rules_model.specs.MoveText.{castle_text, digits_of, gate_text, lower, promo_text, square_text, text_of, upper}
+use Rattle.rules_model.specs.MoveText.{gate_text, lower, promo_text, square_text, text_of, upper}
 use Rattle.rules_model.proofs.CandidateLaws.{both_of, one_of, false_of_not, not_both, any_has, at_some, legal_candidate, PieceGoes, PawnGoes, plain_go, gated_go, Castles, castle_is, rook_file-some, castle_gate}
 use Rattle.rules_model.proofs.VariantLaws.{castling_on-is, sound_ep}
 use Rattle.rules_model.proofs.LegalLaws.{legal-member}

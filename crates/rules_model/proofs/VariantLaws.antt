@@ -1,8 +1,8 @@
 -- The legal moves of a sound position are moves of the variant.
-use Rattle.std.proofs.Common.{◌≡◌, ℕ, zero, suc, ◌+◌, ◌-◌, ◌*◌, ◌/◌, ◌%◌, ◌<◌, ◌≤◌, Bool, true, false, not, ◌&&◌, ◌||◌, if◌then◌else◌, ◌⊎◌, inl, inr, Option, Some, None, List, [], ◌∷◌, ℤ, pos, negsuc, refl, ap, sym, ◌∙◌, subst, arith, nat_lt, nat_le, ◌==◌, is_some, slice_index_or}
+use Rattle.std.proofs.Common.{◌≡◌, ℕ, zero, suc, ◌+◌, ◌*◌, ◌/◌, ◌%◌, ◌<◌, ◌≤◌, Bool, true, false, not, ◌&&◌, ◌||◌, if◌then◌else◌, ◌⊎◌, inl, inr, Option, Some, None, List, [], ◌∷◌, ℤ, pos, negsuc, refl, sym, subst, arith, nat_lt, nat_le, is_some, slice_index_or}
 use Rattle.std.specs.List.{list_any, list_all}
-use Rattle.std.proofs.lemmas.Bool.Decides.{nat_tests, Decides-eqb}
-use Rattle.foundation.specs.Count.{any_below, all_below}
+use Rattle.std.proofs.lemmas.Bool.Decides.{nat_tests}
+use Rattle.foundation.specs.Count.{all_below}
 use Rattle.foundation.specs.Member.{Member}
 use Rattle.foundation.proofs.CountLemmas.{any_below-some, all_below-each}
 use Rattle.rules_model.specs.declared.board.Cell.{Cell}
@@ -30,21 +30,18 @@ use Rattle.rules_model.specs.Regions.{no_region, in_region, castling_rank, castl
 use Rattle.rules_model.specs.Ends.{pieces_of}
 use Rattle.rules_model.specs.Attacks.{ahead, king_attacked, is_diagonal, left_ahead, pawn_ray, right_ahead}
 use Rattle.rules_model.specs.Hands.{holds}
-use Rattle.rules_model.specs.Gating.{gates_from, castle_gates}
+use Rattle.rules_model.specs.Gating.{castle_gates}
 use Rattle.rules_model.specs.Candidates.{is_candidate}
-use Rattle.rules_model.specs.Gates.{has_gate}
-use Rattle.rules_model.specs.Regions.{on_first_rank}
 use Rattle.rules_model.specs.Castling.{castling_on, king_file}
 use Rattle.rules_model.specs.Pieces.{goes_by, may_plus, means_castling, piece_goes, piece_moves, piece_promo, serves}
 use Rattle.rules_model.specs.Pawns.{is_enemy, is_stays, may_promote, passes_by, pawn_goes, pawn_moves, pawn_promo, steps_twice}
-use Rattle.rules_model.specs.Drops.{drops_to, bars_pawn, is_doubled}
-use Rattle.rules_model.specs.Kinds.{is_pawn}
+use Rattle.rules_model.specs.Drops.{drops_to}
 use Rattle.rules_model.specs.Sound.{has_hands, is_origin, is_sound_cell, is_sound_ep, is_sound_repeat, is_sound_side, on_board, sound_at, sound_in_hand}
 use Rattle.rules_model.specs.Fit.{IsFit, mask_fits, region_fits, region_fits_at}
 use Rattle.rules_model.specs.Legal.{legal}
-use Rattle.rules_model.specs.Moves.{IsFitMove, IsFitGate, IsFitPromo, IsFitPlaced}
-use Rattle.rules_model.specs.Promised.{IsSquareOf, IsKindOf, IsPromoOf, IsGateOf, IsPlacedOf, IsMoveOf}
-use Rattle.rules_model.proofs.CandidateLaws.{both_of, one_of, any_has, at_some, legal_candidate, PieceGoes, PawnGoes, plain_go, gated_go, Castles, castle_is, rook_file-some, castle_gate, drop_is}
+use Rattle.rules_model.specs.Moves.{IsFitMove, IsFitPromo, IsFitPlaced}
+use Rattle.rules_model.specs.Promised.{IsSquareOf, IsPromoOf, IsPlacedOf, IsMoveOf}
+use Rattle.rules_model.proofs.CandidateLaws.{both_of, one_of, any_has, at_some, legal_candidate, PieceGoes, PawnGoes, plain_go, gated_go, castle_is, rook_file-some, castle_gate, drop_is}
 use Rattle.rules_model.proofs.LegalLaws.{legal-member}
 
 -- ---- squares on the board

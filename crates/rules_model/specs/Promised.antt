@@ -1,5 +1,5 @@
 -- What is promised of the legal moves of a sound position, and of the position after one.
-use Rattle.std.specs.Prelude.{◌≡◌, true, false, ◌==◌, Option, Some, None, List, length}
+use Rattle.std.specs.Prelude.{◌≡◌, true, ◌==◌, Option, Some, None, length}
 use Rattle.std.specs.List.{list_all}
 use Rattle.foundation.specs.Member.{Member}
 use Rattle.rules_model.specs.declared.board.Kind.{Kind}
@@ -17,7 +17,6 @@ use Rattle.rules_model.specs.Kinds.{has_kind}
 use Rattle.rules_model.specs.Next.{next}
 use Rattle.rules_model.specs.Legal.{legal}
 use Rattle.rules_model.specs.Sound.{on_board, is_sound}
-use Rattle.rules_model.specs.Fit.{IsFit}
 
 -- ---- moves of a variant
 

@@ -1,7 +1,7 @@
-use Rattle.std.proofs.Common.{◌≡◌, refl, arith}
+use Rattle.std.proofs.Common.{refl, arith}
 use Rattle.foundation.specs.Count.{any_below, all_below}
 use Rattle.rules_model.specs.Castling.{castling_on}
-use Rattle.rules_model.specs.Fit.{IsFit, chains_promotions, gates_amiss, has_no_piece, kind_fits, mask_fits, promotes_to_pawn_or_king, region_fits_at}
+use Rattle.rules_model.specs.Fit.{chains_promotions, gates_amiss, has_no_piece, kind_fits, mask_fits, promotes_to_pawn_or_king, region_fits_at}
 use Rattle.rules_model.proofs.tests.rules.Goals as goal
 
 pub returns : goal.returns
