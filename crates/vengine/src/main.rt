@@ -6,11 +6,10 @@ mod laws;
 mod program;
 mod reach;
 
-pub use program::run;
-
 use foundation::Memory;
 use io_ports::{ListClock, MemFiles, MemSource, OpenGate, PollsOwed, StandardOutput};
 use program::NO_MEMORY;
+pub use program::run;
 use std::process::ExitCode;
 use std::rt::Env;
 use std::sync::Wait;

@@ -42,7 +42,12 @@ fn reach_says_where_a_piece_goes(rt: HostRuntime) -> Result<(), Fail> {
         ("ffN", "d4", 0, "quiet c6 e6\ntake -\n"),
         ("fsN", "d4", 0, "quiet b5 f5\ntake -\n"),
         ("bFfW", "d4", 0, "quiet c3 e3 d5\ntake -\n"),
-        ("mRcpR", "a1", 0, "quiet b1 c1 d1 e1 f1 g1 h1 a2 a3 a4 a5 a6 a7 a8\ntake -\n"),
+        (
+            "mRcpR",
+            "a1",
+            0,
+            "quiet b1 c1 d1 e1 f1 g1 h1 a2 a3 a4 a5 a6 a7 a8\ntake -\n",
+        ),
         ("gQ", "d4", 0, "quiet -\ntake -\n"),
         ("fN", "d4", 3, "error BetzaFault 6 AmbiguousDirection 0\n"),
         ("iN", "a1", 3, "error BetzaFault 4 UnsupportedModifier 0\n"),
