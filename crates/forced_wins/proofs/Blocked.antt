@@ -16,7 +16,7 @@ use Rattle.rules_model.specs.Legal.{legal, own_end}
 use Rattle.rules_model.specs.Games.{Story, history, times, same_repeat}
 use Rattle.rules_model.proofs.EqualLaws.{repeat-decides}
 use Rattle.forced_wins.specs.Contests.{decided}
-use Rattle.forced_wins.specs.Games as Any
+use Rattle.forced_wins.specs.Games as AnyGame
 use Rattle.forced_wins.specs.Views.{won_by, seen_by, as_any}
 use Rattle.forced_wins.specs.Wins.{wins, near, near_root, is_in, blocked, each_once, IsInLimit}
 use Rattle.forced_wins.proofs.Counts.{by_cases, times_here}
@@ -107,17 +107,17 @@ list_test : (n : ℕ) (x : Repeat) (ps : List Position) → (n ≡ 1 → ⊥) �
 list_test zero x ps fit = refl
 list_test (suc n) x ps fit = held (suc n) x ps (omega arith) fit
 
-pub blocked-is : (rules : Rules) (a : Side) (g : Story) (x : Repeat) → (rules.n_fold ≡ 1 → ⊥) → is_in (blocked rules g) x ≡ Any.blocked (seen_by rules a) (as_any g) x
-unfolding blocked times Any.blocked Any.times
+pub blocked-is : (rules : Rules) (a : Side) (g : Story) (x : Repeat) → (rules.n_fold ≡ 1 → ⊥) → is_in (blocked rules g) x ≡ AnyGame.blocked (seen_by rules a) (as_any g) x
+unfolding blocked times AnyGame.blocked AnyGame.times
 blocked-is rules a g x fit = list_test rules.n_fold x (history g) fit
 
 -- ---- near wins
 
-near_blocked : (rules : Rules) (a : Side) (g : Story) → (rules.n_fold ≡ 1 → ⊥) → (n : ℕ) → ◌≡◌ {A = Position → Bool} (λ p. near rules n p (blocked rules g) a) (λ p. Any.near (seen_by rules a) (Any.blocked (seen_by rules a) (as_any g)) n p)
-near_blocked rules a g fit n i p = (near-is rules n p (blocked rules g) a ∙ ap (λ f. Any.near (seen_by rules a) f n p) (λ j x. blocked-is rules a g x fit j)) i
+near_blocked : (rules : Rules) (a : Side) (g : Story) → (rules.n_fold ≡ 1 → ⊥) → (n : ℕ) → ◌≡◌ {A = Position → Bool} (λ p. near rules n p (blocked rules g) a) (λ p. AnyGame.near (seen_by rules a) (AnyGame.blocked (seen_by rules a) (as_any g)) n p)
+near_blocked rules a g fit n i p = (near-is rules n p (blocked rules g) a ∙ ap (λ f. AnyGame.near (seen_by rules a) f n p) (λ j x. blocked-is rules a g x fit j)) i
 
-near_root-fit : (rules : Rules) (n : ℕ) (g : Story) (a : Side) → (rules.n_fold ≡ 1 → ⊥) → near_root rules n g a ≡ Any.near_root (seen_by rules a) n (as_any g)
-unfolding near_root Any.near_root
+near_root-fit : (rules : Rules) (n : ℕ) (g : Story) (a : Side) → (rules.n_fold ≡ 1 → ⊥) → near_root rules n g a ≡ AnyGame.near_root (seen_by rules a) n (as_any g)
+unfolding near_root AnyGame.near_root
 near_root-fit rules zero g a fit i =
     decided (end-is rules a g i) (if same_side g.last.side a then false else list_all (λ m. near_blocked rules a g fit zero i (next rules g.last m)) (legal rules (repeat_of g.last)))
 near_root-fit rules (suc n) g a fit i =
@@ -127,8 +127,8 @@ near_root-fit rules (suc n) g a fit i =
 
 -- with a fold of 1 every game has ended, so there is nothing to look up
 
-pub ended_at_one : (rules : Rules) (g : Story) (a : Side) → rules.n_fold ≡ 1 → Any.repeated (seen_by rules a) (as_any g) ≡ true
-unfolding Any.repeated
+pub ended_at_one : (rules : Rules) (g : Story) (a : Side) → rules.n_fold ≡ 1 → AnyGame.repeated (seen_by rules a) (as_any g) ≡ true
+unfolding AnyGame.repeated
 ended_at_one rules g a e =
     let here = times_here (seen_by rules a) (laws rules a) (repeat_of g.last) g.last g.earlier refl in
     test_from rules.n_fold _ (omega arith) (at_least rules.n_fold _ (omega arith))
@@ -136,7 +136,7 @@ ended_at_one rules g a e =
     at_least : (m n : ℕ) → m ≤ n → nat_le m n ≡ true
     at_least m n h = grind (arith, nat_tests)
 
-some_end : (o : Option Bool) (y z : Bool) → y ≡ true → (w : Bool) × (Any.or_end o (Any.lost_if (y || z)) ≡ Some w)
+some_end : (o : Option Bool) (y z : Bool) → y ≡ true → (w : Bool) × (AnyGame.or_end o (AnyGame.lost_if (y || z)) ≡ Some w)
 some_end None true z e = (false, refl)
 some_end None false z e = cc
 some_end (Some w) y z e = (w, refl)
@@ -144,10 +144,10 @@ some_end (Some w) y z e = (w, refl)
 ended_same : (o p : Option Bool) (s t : Bool) (w : Bool) → o ≡ p → p ≡ Some w → decided o s ≡ decided p t
 ended_same o p s t w e h = rw (e, h)
 
-near_root-one : (rules : Rules) (n : ℕ) (g : Story) (a : Side) → rules.n_fold ≡ 1 → near_root rules n g a ≡ Any.near_root (seen_by rules a) n (as_any g)
-unfolding near_root Any.near_root
+near_root-one : (rules : Rules) (n : ℕ) (g : Story) (a : Side) → rules.n_fold ≡ 1 → near_root rules n g a ≡ AnyGame.near_root (seen_by rules a) n (as_any g)
+unfolding near_root AnyGame.near_root
 near_root-one rules n g a e =
-    let k = some_end (won_by a (own_end rules (repeat_of g.last))) (Any.repeated (seen_by rules a) (as_any g)) (Any.run_out (seen_by rules a) g.last.counter) (ended_at_one rules g a e) in
+    let k = some_end (won_by a (own_end rules (repeat_of g.last))) (AnyGame.repeated (seen_by rules a) (as_any g)) (AnyGame.run_out (seen_by rules a) g.last.counter) (ended_at_one rules g a e) in
     ended_same _ _ _ _ k.0 (end-is rules a g) k.1
 
 pub one_test : (n : ℕ) → (n == 1) ≡ true → n ≡ 1
@@ -156,10 +156,10 @@ one_test n h = grind (arith, nat_tests)
 pub not_one : (n : ℕ) → (n == 1) ≡ false → n ≡ 1 → ⊥
 not_one n h e = grind (arith, nat_tests)
 
-pub near_root-is : (rules : Rules) (n : ℕ) (g : Story) (a : Side) → near_root rules n g a ≡ Any.near_root (seen_by rules a) n (as_any g)
+pub near_root-is : (rules : Rules) (n : ℕ) (g : Story) (a : Side) → near_root rules n g a ≡ AnyGame.near_root (seen_by rules a) n (as_any g)
 near_root-is rules n g a = by_cases (rules.n_fold == 1) (λ e. near_root-one rules n g a (one_test rules.n_fold e)) (λ e. near_root-fit rules n g a (not_one rules.n_fold e))
 
-pub in_limit : (rules : Rules) (n : ℕ) (g : Story) (a : Side) → IsInLimit rules n g → Any.IsInLimit (seen_by rules a) n (as_any g)
+pub in_limit : (rules : Rules) (n : ℕ) (g : Story) (a : Side) → IsInLimit rules n g → AnyGame.IsInLimit (seen_by rules a) n (as_any g)
 in_limit rules n g a (inl e) = inl (omega arith)
 in_limit rules n g a (inr h) = inr (omega arith)
 

@@ -16,7 +16,7 @@ use Rattle.rules_model.specs.Legal.{legal, own_end}
 use Rattle.rules_model.proofs.EqualLaws.{repeat-decides}
 use Rattle.forced_wins.specs.declared.fact.Fact.{Fact}
 use Rattle.forced_wins.specs.Contests.{Contest}
-use Rattle.forced_wins.specs.Games as Any
+use Rattle.forced_wins.specs.Games as AnyGame
 use Rattle.forced_wins.specs.Views.{won_by, seen_by}
 use Rattle.forced_wins.specs.Wins.{near, near_end, is_in, positions}
 use Rattle.forced_wins.specs.Facts.{Says, IsTrueFact, covers, serves, ServesMove, Each, larger, smaller, greatest, least, fact_of, Derives, won_now, by_move, by_all, refuted_now, refuted_by_all, refuted_by_move, AreDerived, IsGrounded}
@@ -40,7 +40,7 @@ smaller-right m n = grind (arith, nat_tests)
 capped : (n : ℕ) → smaller (n + 1) 65535 ≡ suc (smaller n 65534)
 capped n = grind (arith, nat_tests)
 
-or_own : (o : Option Bool) (b : Bool) → Any.or_end o (Any.lost_if b) ≡ Some true → o ≡ Some true
+or_own : (o : Option Bool) (b : Bool) → AnyGame.or_end o (AnyGame.lost_if b) ≡ Some true → o ≡ Some true
 or_own (Some w) b h = h
 or_own None true h = cc
 or_own None false h = cc

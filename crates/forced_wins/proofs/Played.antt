@@ -15,7 +15,7 @@ use Rattle.rules_model.specs.Ends.{is_ongoing}
 use Rattle.rules_model.specs.Legal.{legal, own_end}
 use Rattle.rules_model.specs.Games.{Story, history, played, story_from, story_of, are_legal, IsGame}
 use Rattle.rules_model.proofs.PlayLaws.{legal-ended}
-use Rattle.forced_wins.specs.Games as Any
+use Rattle.forced_wins.specs.Games as AnyGame
 use Rattle.forced_wins.specs.Views.{won_by, seen_by, as_any}
 use Rattle.forced_wins.proofs.TableLaws.{both}
 
@@ -53,5 +53,5 @@ module _ (rules : Rules) (a : Side) where
       let k = both _ _ h in
       along ms (played rules g m) (longer g f (left g.last m k.0)) k.1
 
-  pub game-played : (start : Position) (ms : List Move) → IsGame rules start ms → Any.IsPlayed (seen_by rules a) (as_any (story_of rules start ms))
+  pub game-played : (start : Position) (ms : List Move) → IsGame rules start ms → AnyGame.IsPlayed (seen_by rules a) (as_any (story_of rules start ms))
   game-played start ms h = along ms (record { earlier = []; last = start }) (λ p m. absurd m) h.legal_moves

@@ -21,7 +21,7 @@ use Rattle.rules_model.specs.Games.{Story, result, is_repeated, is_run_out, time
 use Rattle.rules_model.proofs.EqualLaws.{repeat-decides, move-decides}
 use Rattle.rules_model.proofs.LegalLaws.{legal-once}
 use Rattle.rules_model.proofs.PlayLaws.{next-is, next-side, next-counter, next_counter-mono, next_counter-up}
-use Rattle.forced_wins.specs.Games as Any
+use Rattle.forced_wins.specs.Games as AnyGame
 use Rattle.forced_wins.specs.Views.{won_by, seen_by, as_any}
 use Rattle.forced_wins.specs.Wins.{games, wins, is_in, near_end, positions, near}
 use Rattle.forced_wins.proofs.Along.{forced-along}
@@ -48,7 +48,7 @@ counter-lower rules p q m e h =
 counter-rises : (rules : Rules) (p : Position) (m : Move) → (next rules p m).counter ≤ p.counter + 1
 counter-rises rules p m = subst (λ x. x ≤ p.counter + 1) (sym (next-counter rules p m)) (next_counter-up rules (repeat_of p) m p.counter)
 
-pub laws : (rules : Rules) (a : Side) → Any.GameLaws Position Repeat Move (seen_by rules a)
+pub laws : (rules : Rules) (a : Side) → AnyGame.GameLaws Position Repeat Move (seen_by rules a)
 laws rules a = record {
   decides = repeat-decides;
   decides_move = move-decides;
@@ -61,7 +61,7 @@ laws rules a = record {
   rises = counter-rises rules;
 }
 
-pub table_laws : (rules : Rules) (a : Side) → Any.TableLaws Position Repeat Move (seen_by rules a)
+pub table_laws : (rules : Rules) (a : Side) → AnyGame.TableLaws Position Repeat Move (seen_by rules a)
 table_laws rules a = record {
   base = laws rules a;
   at = λ p c. with_counts (repeat_of p) c p.number;
@@ -86,12 +86,12 @@ on_double (suc k) = from_tests (suc k) (2 * suc k) (omega arith) (omega arith)
     from_tests : (k n : ℕ) → 0 < k → 0 < n → not (k == 0) ≡ nat_lt 0 n
     from_tests k n h e = grind (arith, nat_tests)
 
-pub run_out-is : (rules : Rules) (a : Side) (c : ℕ) → is_run_out rules c ≡ Any.run_out (seen_by rules a) c
-unfolding is_run_out Any.run_out
+pub run_out-is : (rules : Rules) (a : Side) (c : ℕ) → is_run_out rules c ≡ AnyGame.run_out (seen_by rules a) c
+unfolding is_run_out AnyGame.run_out
 run_out-is rules a c = ap (λ b. b && nat_le (2 * rules.n_move) c) (on_double rules.n_move)
 
-pub repeated-is : (rules : Rules) (a : Side) (g : Story) → is_repeated rules g ≡ Any.repeated (seen_by rules a) (as_any g)
-unfolding is_repeated times Any.repeated Any.times
+pub repeated-is : (rules : Rules) (a : Side) (g : Story) → is_repeated rules g ≡ AnyGame.repeated (seen_by rules a) (as_any g)
+unfolding is_repeated times AnyGame.repeated AnyGame.times
 repeated-is rules a g = ap (λ b. b && nat_le rules.n_fold (times (repeat_of g.last) (history g))) (on_again rules.n_fold)
 
 valued_lost : (v : Value) (s a : Side) → won_by a (valued v s Repetition) ≡ Some false
@@ -107,27 +107,27 @@ valued_lost Loss s a = by_and (same_side (other s) a)
     by_and false = refl
 valued_lost Draw s a = refl
 
-ends : (o : Outcome) (y z : Bool) (v : Value) (s a : Side) → won_by a (or_end o (if y then valued v s Repetition else if z then Drawn MoveCount else Ongoing)) ≡ Any.or_end (won_by a o) (Any.lost_if (y || z))
+ends : (o : Outcome) (y z : Bool) (v : Value) (s a : Side) → won_by a (or_end o (if y then valued v s Repetition else if z then Drawn MoveCount else Ongoing)) ≡ AnyGame.or_end (won_by a o) (AnyGame.lost_if (y || z))
 ends Ongoing true z v s a = valued_lost v s a
 ends Ongoing false true v s a = refl
 ends Ongoing false false v s a = refl
 ends (Won t c) y z v s a = refl
 ends (Drawn c) y z v s a = refl
 
-pub end-is : (rules : Rules) (a : Side) (g : Story) → (games rules a).end g ≡ (Any.of_games (seen_by rules a)).end (as_any g)
+pub end-is : (rules : Rules) (a : Side) (g : Story) → (games rules a).end g ≡ (AnyGame.of_games (seen_by rules a)).end (as_any g)
 unfolding result
 end-is rules a g =
     ends (own_end rules (repeat_of g.last)) (is_repeated rules g) (is_run_out rules g.last.counter) rules.n_fold_value g.last.side a
-    ∙ (λ i. Any.or_end (won_by a (own_end rules (repeat_of g.last))) (Any.lost_if (repeated-is rules a g i || run_out-is rules a g.last.counter i)))
+    ∙ (λ i. AnyGame.or_end (won_by a (own_end rules (repeat_of g.last))) (AnyGame.lost_if (repeated-is rules a g i || run_out-is rules a g.last.counter i)))
 
-pub near_end-is : (rules : Rules) (barred : List Repeat) (a : Side) (p : Position) → near_end rules barred a p ≡ (Any.of_positions (seen_by rules a) (is_in barred)).end p
+pub near_end-is : (rules : Rules) (barred : List Repeat) (a : Side) (p : Position) → near_end rules barred a p ≡ (AnyGame.of_positions (seen_by rules a) (is_in barred)).end p
 unfolding near_end
-near_end-is rules barred a p i = Any.or_end (won_by a (own_end rules (repeat_of p))) (Any.lost_if (is_in barred (repeat_of p) || run_out-is rules a p.counter i))
+near_end-is rules barred a p i = AnyGame.or_end (won_by a (own_end rules (repeat_of p))) (AnyGame.lost_if (is_in barred (repeat_of p) || run_out-is rules a p.counter i))
 
 -- ---- the wins are those of any game
 
-pub wins-is : (rules : Rules) (n : ℕ) (g : Story) (a : Side) → wins rules n g a ≡ Any.wins (seen_by rules a) n (as_any g)
-wins-is rules n g a = forced-along (games rules a) (Any.of_games (seen_by rules a)) as_any (end-is rules a) (λ x. refl) (λ x. refl) (λ x m. refl) n g
+pub wins-is : (rules : Rules) (n : ℕ) (g : Story) (a : Side) → wins rules n g a ≡ AnyGame.wins (seen_by rules a) n (as_any g)
+wins-is rules n g a = forced-along (games rules a) (AnyGame.of_games (seen_by rules a)) as_any (end-is rules a) (λ x. refl) (λ x. refl) (λ x m. refl) n g
 
-pub near-is : (rules : Rules) (n : ℕ) (p : Position) (barred : List Repeat) (a : Side) → near rules n p barred a ≡ Any.near (seen_by rules a) (is_in barred) n p
-near-is rules n p barred a = forced-along (positions rules barred a) (Any.of_positions (seen_by rules a) (is_in barred)) (λ q. q) (near_end-is rules barred a) (λ x. refl) (λ x. refl) (λ x m. refl) n p
+pub near-is : (rules : Rules) (n : ℕ) (p : Position) (barred : List Repeat) (a : Side) → near rules n p barred a ≡ AnyGame.near (seen_by rules a) (is_in barred) n p
+near-is rules n p barred a = forced-along (positions rules barred a) (AnyGame.of_positions (seen_by rules a) (is_in barred)) (λ q. q) (near_end-is rules barred a) (λ x. refl) (λ x. refl) (λ x m. refl) n p

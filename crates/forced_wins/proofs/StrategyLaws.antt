@@ -12,7 +12,7 @@ use Rattle.rules_model.specs.Legal.{own_end}
 use Rattle.rules_model.specs.Games.{Story, times, story_of, IsGame}
 use Rattle.rules_model.proofs.EqualLaws.{side-decides}
 use Rattle.forced_wins.specs.Contests.{decided}
-use Rattle.forced_wins.specs.Games as Any
+use Rattle.forced_wins.specs.Games as AnyGame
 use Rattle.forced_wins.specs.Lines as AnyLines
 use Rattle.forced_wins.specs.PlainTables.{Node, plain}
 use Rattle.forced_wins.specs.Tables as Tables
@@ -45,10 +45,10 @@ module _ (rules : Rules) (a : Side) where
 
   -- the evidence of any game is evidence by the rules; a fold of 1, with which every game has ended, comes apart
   module _ (g : Story) (fit : rules.n_fold ≡ 1 → ⊥) where
-    near-here : (n : ℕ) (p : Position) → Any.near (seen_by rules a) (Any.blocked (seen_by rules a) (as_any g)) n p ≡ true → near rules n p (blocked rules g) a ≡ true
-    near-here n p h = near-is rules n p (blocked rules g) a ∙ ap (λ f. Any.near (seen_by rules a) f n p) (λ j x. blocked-is rules a g x fit j) ∙ h
+    near-here : (n : ℕ) (p : Position) → AnyGame.near (seen_by rules a) (AnyGame.blocked (seen_by rules a) (as_any g)) n p ≡ true → near rules n p (blocked rules g) a ≡ true
+    near-here n p h = near-is rules n p (blocked rules g) a ∙ ap (λ f. AnyGame.near (seen_by rules a) f n p) (λ j x. blocked-is rules a g x fit j) ∙ h
 
-    won-along : (n : ℕ) (p : Position) (ms : List Move) → AnyLines.IsWonAlong (seen_by rules a) (Any.blocked (seen_by rules a) (as_any g)) n p ms → IsWonAlong rules (blocked rules g) a n p ms
+    won-along : (n : ℕ) (p : Position) (ms : List Move) → AnyLines.IsWonAlong (seen_by rules a) (AnyGame.blocked (seen_by rules a) (as_any g)) n p ms → IsWonAlong rules (blocked rules g) a n p ms
     won-along n p [] h = tt
     won-along n p (m ∷ ms) h = (h.0, h.1, near-here (moves_left n p a) (next rules p m) h.2, won-along (moves_left n p a) (next rules p m) ms h.3)
 
@@ -66,7 +66,7 @@ module _ (rules : Rules) (a : Side) where
     }
 
     unsettled : (n : ℕ) → AnyLines.IsUnsettled Position Repeat Move (seen_by rules a) n (as_any g) → IsUnsettled rules n g a
-    unfolding times Any.times
+    unfolding times AnyGame.times
     unsettled n h =
         let pos = h.counted in
         let near = h.close in
@@ -81,23 +81,23 @@ module _ (rules : Rules) (a : Side) where
           many = h.many;
         }
 
-    settled_fit : (n : ℕ) → Any.IsPlayed (seen_by rules a) (as_any g) → near_root rules n g a ≡ true → ((s : List (Node Position Move)) × IsGood rules plain g a n a s) ⊎ IsUnsettled rules n g a
+    settled_fit : (n : ℕ) → AnyGame.IsPlayed (seen_by rules a) (as_any g) → near_root rules n g a ≡ true → ((s : List (Node Position Move)) × IsGood rules plain g a n a s) ⊎ IsUnsettled rules n g a
     settled_fit n played h =
         elim (near-good-or-unsettled (seen_by rules a) (table_laws rules a) (as_any g) n played (sym (near_root-is rules n g a) ∙ h)) as (λ _. ((s : List (Node Position Move)) × IsGood rules plain g a n a s) ⊎ IsUnsettled rules n g a) [
           | inl k ↦ inl (k.0, of_own g n k.0 k.1)
           | inr k ↦ inr (unsettled n k)
         ]
 
-  own_of : (o : Option Bool) (y z t : Bool) → y ≡ true → decided (Any.or_end o (Any.lost_if (y || z))) t ≡ true → (w : Bool) × (o ≡ Some w)
+  own_of : (o : Option Bool) (y z t : Bool) → y ≡ true → decided (AnyGame.or_end o (AnyGame.lost_if (y || z))) t ≡ true → (w : Bool) × (o ≡ Some w)
   own_of None true z t e h = cc
   own_of None false z t e h = cc
   own_of (Some w) y z t e h = (w, refl)
 
   settled_one : (g : Story) → rules.n_fold ≡ 1 → (n : ℕ) → near_root rules n g a ≡ true → ((s : List (Node Position Move)) × IsGood rules plain g a n a s) ⊎ IsUnsettled rules n g a
-  unfolding Any.near_root
+  unfolding AnyGame.near_root
   settled_one g e n h =
       let k = sym (near_root-is rules n g a) ∙ h in
-      let w = own_of (won_by a (own_end rules (repeat_of g.last))) (Any.repeated (seen_by rules a) (as_any g)) (Any.run_out (seen_by rules a) g.last.counter) _ (ended_at_one rules g a e) k in
+      let w = own_of (won_by a (own_end rules (repeat_of g.last))) (AnyGame.repeated (seen_by rules a) (as_any g)) (AnyGame.run_out (seen_by rules a) g.last.counter) _ (ended_at_one rules g a e) k in
       let s = ended-good (seen_by rules a) (table_laws rules a) (as_any g) n k w.0 w.1 in
       inl (s.0, of_own g n s.0 s.1)
 

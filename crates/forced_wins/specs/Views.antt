@@ -15,7 +15,7 @@ use Rattle.rules_model.specs.Moves.{same_move}
 use Rattle.rules_model.specs.Next.{next}
 use Rattle.rules_model.specs.Legal.{legal, own_end}
 use Rattle.rules_model.specs.Games.{Story, same_repeat}
-use Rattle.forced_wins.specs.Games as Any
+use Rattle.forced_wins.specs.Games as AnyGame
 
 abbrev pub is_repetition : Cause → Bool
 is_repetition Flag = false
@@ -32,7 +32,7 @@ won_by a Ongoing = None
 won_by a (Won side cause) = Some (same_side side a && not (is_repetition cause))
 won_by a (Drawn cause) = Some false
 
-abbrev pub seen_by : Rules → Side → Any.Game Position Repeat Move
+abbrev pub seen_by : Rules → Side → AnyGame.Game Position Repeat Move
 seen_by rules a = record {
   repeat = repeat_of;
   same = same_repeat;
@@ -47,5 +47,5 @@ seen_by rules a = record {
 }
 
 -- a game of play as one of any game
-abbrev pub as_any : Story → Any.Story Position
+abbrev pub as_any : Story → AnyGame.Story Position
 as_any g = record { earlier = g.earlier; last = g.last }
