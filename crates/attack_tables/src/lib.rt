@@ -6,6 +6,8 @@ pub mod mode;
 mod reach;
 mod squares;
 pub mod tables;
+#[cfg(test)]
+mod tests;
 
 pub use mode::Mode;
 pub use tables::Tables;
