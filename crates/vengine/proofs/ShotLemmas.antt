@@ -1,5 +1,5 @@
 -- What a run says.
-use Rattle.std.proofs.Common.{◌≡◌, ℕ, List, [], ◌∷◌, ◌++◌, ◌⊎◌, inl, inr, refl, sym, ap, subst, ◌∙◌, Option, Some, None, Ok, Err, IfOk, OnErr, IsOk, IsNone, ◌≢◌, ◌↔◌, arith}
+use Rattle.std.proofs.Common.{◌≡◌, ℕ, List, [], inl, inr, refl, sym, ap, subst, ◌∙◌, Option, Some, None, Ok, Err, IfOk, IsOk, IsNone, ◌≢◌, ◌↔◌, arith}
 use Rattle.std.specs.declared.result.Result.{Result}
 use Rattle.std.specs.Io.KnownBytes.{Appends}
 use Rattle.betza_text.specs.declared.part.Part.{Part}
@@ -16,110 +16,126 @@ use Rattle.io_ports.specs.Sink.{AppendsFront}
 use Rattle.io_ports.specs.Trace.{Moves, Reads}
 use Rattle.io_ports.proofs.Moved.{moves_none, moves_sink}
 use Rattle.io_ports.proofs.Asked.{reads_none}
+use Rattle.rules_model.specs.declared.board.Cell.{Cell}
 use Rattle.rules_model.specs.declared.board.Square.{Square}
 use Rattle.vengine.specs.Words.{Command, Reach, command_of}
-use Rattle.vengine.specs.ReachText.{square_named, reach_text}
-use Rattle.vengine.specs.Shot.{Shot, Says, SaysReach, reached, faulty_word, faulty_square, usage_line, error_line, bad_square}
+use Rattle.vengine.specs.ReachText.{reach_text}
+use Rattle.vengine.specs.Setup.{Unplaced, setup_of}
+use Rattle.vengine.specs.Shot.{Shot, Says, SaysReach, reached, faulty_word, faulty_square, usage_line, error_line, unplaced_text}
 use Rattle.vengine.specs.Run.{IsTold, Did, DidPart, IsDone, IsCut}
 
--- an option that is not Some
-pub is_none_from : {A : Type 0} (o : Option A) → ((x : A) → o ≡ Some x → ⊥) → o ≡ None
-is_none_from None differs = refl
-is_none_from (Some x) differs = absurd (differs x refl)
-
-some_inj : {A : Type 0} (x y : A) → Some x ≡ Some y → x ≡ y
-some_inj x y e = cc
-
-some_none : {A : Type 0} (x : A) → Some x ≡ None → ⊥
-some_none x e = cc
-
 -- some answer of `reach`
-reach_at : (word square : List ℕ) (b : List Part) → Spells word b → (o : Option Square) → square_named square ≡ o → (status : ℕ) × (text : List ℕ) × SaysReach word square status text
-reach_at word square b spells (Some from) is = (0, reach_text (terms b) from, reached b from spells is)
-reach_at word square b spells None is = (3, error_line (bad_square square), faulty_square b spells is)
+reach_at : (word square own enemy : List ℕ) (b : List Part) → Spells word b → (o : Result (Square × List (Option Cell)) Unplaced) → setup_of square own enemy ≡ o
+    → (status : ℕ) × (text : List ℕ) × SaysReach word square own enemy status text
+reach_at word square own enemy b spells (Ok (from, cells)) is = (0, reach_text cells (terms b) from, reached b from cells spells is)
+reach_at word square own enemy b spells (Err why) is = (3, error_line (unplaced_text why), faulty_square b why spells is)
 
-reach_some : (word square : List ℕ) → (status : ℕ) × (text : List ℕ) × SaysReach word square status text
-reach_some word square =
+reach_some : (word square own enemy : List ℕ) → (status : ℕ) × (text : List ℕ) × SaysReach word square own enemy status text
+reach_some word square own enemy =
     elim (word_or_fault word) [
-      | inl (b, spells) ↦ reach_at word square b spells (square_named square) refl
+      | inl (b, spells) ↦ reach_at word square own enemy b spells (setup_of square own enemy) refl
       | inr (fault, bad) ↦ (3, error_line (fault_text fault), faulty_word fault bad)
     ]
 
 says_some : (c : Option Command) (files : Contents) (failed : ℕ) (input : List ℕ) → (status : ℕ) × (text : List ℕ) × Says c files failed input status text
 says_some None files failed input = (2, usage_line, (refl, refl))
-says_some (Some (Reach word square)) files failed input = reach_some word square
+says_some (Some (Reach word square own enemy)) files failed input = reach_some word square own enemy
 
 -- words have some answer
 pub shot_some : (words : List (List ℕ)) (files : Contents) (failed : ℕ) (input : List ℕ) → (status : ℕ) × (text : List ℕ) × Shot words files failed input status text
 unfolding Shot
 shot_some words files failed input = says_some (command_of words) files failed input
 
-reach_done : (word square : List ℕ) (status : ℕ) (text : List ℕ) → SaysReach word square status text → IsDone status
-reach_done word square status text (reached b from spells is) = inl refl
-reach_done word square status text (faulty_word fault bad) = inr (inr refl)
-reach_done word square status text (faulty_square b spells is) = inr (inr refl)
+reach_done : (word square own enemy : List ℕ) (status : ℕ) (text : List ℕ) → SaysReach word square own enemy status text → IsDone status
+reach_done word square own enemy status text (reached b from cells spells is) = inl refl
+reach_done word square own enemy status text (faulty_word fault bad) = inr (inr refl)
+reach_done word square own enemy status text (faulty_square b why spells is) = inr (inr refl)
 
 -- an answer of `reach`, by equations
-says_at : (word square : List ℕ) (status status' : ℕ) (text text' : List ℕ) → status' ≡ status → text' ≡ text → SaysReach word square status text → SaysReach word square status' text'
-says_at word square status status' text text' p q says =
-    subst (λ (x : ℕ). SaysReach word square x text') (sym p) (subst (λ (x : List ℕ). SaysReach word square status x) (sym q) says)
+says_at : (word square own enemy : List ℕ) (status status' : ℕ) (text text' : List ℕ) → status' ≡ status → text' ≡ text → SaysReach word square own enemy status text → SaysReach word square own enemy status' text'
+says_at word square own enemy status status' text text' p q says =
+    subst (λ (x : ℕ). SaysReach word square own enemy x text') (sym p) (subst (λ (x : List ℕ). SaysReach word square own enemy status x) (sym q) says)
 
--- the squares of a word from a square
-pub says_reached : (word square : List ℕ) (b : List Part) (from : Square) (text : List ℕ) → Spells word b → square_named square ≡ Some from → text ≡ reach_text (terms b) from → SaysReach word square 0 text
-says_reached word square b from text spells names is = says_at word square 0 0 (reach_text (terms b) from) text refl is (reached b from spells names)
+-- the squares of a word on a board
+pub says_reached : (word square own enemy : List ℕ) (b : List Part) (from : Square) (cells : List (Option Cell)) (text : List ℕ) → Spells word b → setup_of square own enemy ≡ Ok (from, cells)
+    → text ≡ reach_text cells (terms b) from → SaysReach word square own enemy 0 text
+says_reached word square own enemy b from cells text spells set is = says_at word square own enemy 0 0 (reach_text cells (terms b) from) text refl is (reached b from cells spells set)
 
 -- the fault of a word
-pub says_faulty_word : (r : Result Answer Memory) (word square : List ℕ) (fault : BetzaFault) → (fault ≢ NoMemory → BetzaBad word fault) → (IsOk r → fault ≢ NoMemory)
-    → IfOk r (λ answer. answer.status ≡ 3) → IfOk r (λ answer. answer.text ≡ error_line (fault_text fault)) → IfOk r (λ answer. SaysReach word square answer.status answer.text)
-says_faulty_word (Ok answer) word square fault bad named status text = says_at word square 3 answer.status _ answer.text status text (faulty_word fault (bad (named refl)))
-says_faulty_word (Err memory) word square fault bad named status text = tt
+pub says_faulty_word : (r : Result Answer Memory) (word square own enemy : List ℕ) (fault : BetzaFault) → (fault ≢ NoMemory → BetzaBad word fault) → (IsOk r → fault ≢ NoMemory)
+    → IfOk r (λ answer. answer.status ≡ 3) → IfOk r (λ answer. answer.text ≡ error_line (fault_text fault)) → IfOk r (λ answer. SaysReach word square own enemy answer.status answer.text)
+says_faulty_word (Ok answer) word square own enemy fault bad named status text = says_at word square own enemy 3 answer.status _ answer.text status text (faulty_word fault (bad (named refl)))
+says_faulty_word (Err memory) word square own enemy fault bad named status text = tt
 
 -- the fault of a square
-pub says_faulty_square : (r : Result Answer Memory) (word square : List ℕ) (b : List Part) → Spells word b → square_named square ≡ None
-    → IfOk r (λ answer. answer.status ≡ 3) → IfOk r (λ answer. answer.text ≡ error_line (bad_square square)) → IfOk r (λ answer. SaysReach word square answer.status answer.text)
-says_faulty_square (Ok answer) word square b spells names status text = says_at word square 3 answer.status _ answer.text status text (faulty_square b spells names)
-says_faulty_square (Err memory) word square b spells names status text = tt
+pub says_faulty_square : (r : Result Answer Memory) (word square own enemy : List ℕ) (b : List Part) (why : Unplaced) → Spells word b → setup_of square own enemy ≡ Err why
+    → IfOk r (λ answer. answer.status ≡ 3) → IfOk r (λ answer. answer.text ≡ error_line (unplaced_text why)) → IfOk r (λ answer. SaysReach word square own enemy answer.status answer.text)
+says_faulty_square (Ok answer) word square own enemy b why spells set status text = says_at word square own enemy 3 answer.status _ answer.text status text (faulty_square b why spells set)
+says_faulty_square (Err memory) word square own enemy b why spells set status text = tt
+
+-- the usage line
+pub says_usage_line : (r : Result Answer Memory) → IfOk r (λ answer. answer.status ≡ 2) → IfOk r (λ answer. answer.text ≡ usage_line)
+    → (files : Contents) (failed : ℕ) (input : List ℕ) → IfOk r (λ answer. Says None files failed input answer.status answer.text)
+says_usage_line (Ok answer) status text files failed input = (status, text)
+says_usage_line (Err memory) status text files failed input = tt
 
 -- what a run says has one of the statuses of a run that was not cut short
 says_done : (c : Option Command) (files : Contents) (failed : ℕ) (input : List ℕ) (status : ℕ) (text : List ℕ) → Says c files failed input status text → IsDone status
 says_done None files failed input status text says = inr (inl says.0)
-says_done (Some (Reach word square)) files failed input status text says = reach_done word square status text says
+says_done (Some (Reach word square own enemy)) files failed input status text says = reach_done word square own enemy status text says
 
 pub shot_done : (words : List (List ℕ)) (files : Contents) (failed : ℕ) (input : List ℕ) (status : ℕ) (text : List ℕ) → Shot words files failed input status text → IsDone status
 unfolding Shot
 shot_done words files failed input status text shot = says_done (command_of words) files failed input status text shot
 
--- `reach` has one answer to a word and a square
-reach_once : (word square : List ℕ) (s s' : ℕ) (t t' : List ℕ) → SaysReach word square s t → SaysReach word square s' t' → (s ≡ s') × (t ≡ t')
-reach_once word square s s' t t' (reached b from spells names) (reached b' from' spells' names') =
-    (refl, ap (λ (x : List Part). reach_text (terms x) from) (one_word word b b' spells spells') ∙ ap (λ (x : Square). reach_text (terms b') x) (some_inj from from' (sym names ∙ names')))
-reach_once word square s s' t t' (reached b from spells names) (faulty_word fault bad) = absurd (not_both word b fault spells bad)
-reach_once word square s s' t t' (reached b from spells names) (faulty_square b' spells' names') = absurd (some_none from (sym names ∙ names'))
-reach_once word square s s' t t' (faulty_word fault bad) (reached b from spells names) = absurd (not_both word b fault spells bad)
-reach_once word square s s' t t' (faulty_word fault bad) (faulty_word fault' bad') = (refl, ap (λ (x : BetzaFault). error_line (fault_text x)) (one_fault word fault fault' bad bad'))
-reach_once word square s s' t t' (faulty_word fault bad) (faulty_square b spells names) = absurd (not_both word b fault spells bad)
-reach_once word square s s' t t' (faulty_square b spells names) (reached b' from spells' names') = absurd (some_none from (sym names' ∙ names))
-reach_once word square s s' t t' (faulty_square b spells names) (faulty_word fault bad) = absurd (not_both word b fault spells bad)
-reach_once word square s s' t t' (faulty_square b spells names) (faulty_square b' spells' names') = (refl, refl)
+-- a board is set up in one way, or not for one reason
+set_or_not : (x : Result (Square × List (Option Cell)) Unplaced) (y : Square × List (Option Cell)) (why : Unplaced) → x ≡ Ok y → x ≡ Err why → ⊥
+set_or_not x y why p q = cc
+
+one_reason : (x : Result (Square × List (Option Cell)) Unplaced) (why why' : Unplaced) → x ≡ Err why → x ≡ Err why' → why ≡ why'
+one_reason x why why' p q = cc
+
+same_setup : (x : Result (Square × List (Option Cell)) Unplaced) (y y' : Square × List (Option Cell)) → x ≡ Ok y → x ≡ Ok y' → y ≡ y'
+same_setup x y y' p q = cc
+
+one_text : (x : Result (Square × List (Option Cell)) Unplaced) (b b' : List Part) (from from' : Square) (cells cells' : List (Option Cell)) → b ≡ b' → x ≡ Ok (from, cells) → x ≡ Ok (from', cells')
+    → reach_text cells (terms b) from ≡ reach_text cells' (terms b') from'
+one_text x b b' from from' cells cells' p q r =
+    ap (λ (l : List Part). reach_text cells (terms l) from) p
+    ∙ ap (λ (y : Square × List (Option Cell)). reach_text y.1 (terms b') y.0) (same_setup x (from, cells) (from', cells') q r)
+
+-- `reach` has one answer to its arguments
+reach_once : (word square own enemy : List ℕ) (s s' : ℕ) (t t' : List ℕ) → SaysReach word square own enemy s t → SaysReach word square own enemy s' t' → (s ≡ s') × (t ≡ t')
+reach_once word square own enemy s s' t t' (reached b from cells spells set) (reached b' from' cells' spells' set') =
+    (refl, one_text _ b b' from from' cells cells' (one_word word b b' spells spells') set set')
+reach_once word square own enemy s s' t t' (reached b from cells spells set) (faulty_word fault bad) = absurd (not_both word b fault spells bad)
+reach_once word square own enemy s s' t t' (reached b from cells spells set) (faulty_square b' why spells' set') = absurd (set_or_not _ (from, cells) why set set')
+reach_once word square own enemy s s' t t' (faulty_word fault bad) (reached b from cells spells set) = absurd (not_both word b fault spells bad)
+reach_once word square own enemy s s' t t' (faulty_word fault bad) (faulty_word fault' bad') = (refl, ap (λ (x : BetzaFault). error_line (fault_text x)) (one_fault word fault fault' bad bad'))
+reach_once word square own enemy s s' t t' (faulty_word fault bad) (faulty_square b why spells set) = absurd (not_both word b fault spells bad)
+reach_once word square own enemy s s' t t' (faulty_square b why spells set) (reached b' from cells spells' set') = absurd (set_or_not _ (from, cells) why set' set)
+reach_once word square own enemy s s' t t' (faulty_square b why spells set) (faulty_word fault bad) = absurd (not_both word b fault spells bad)
+reach_once word square own enemy s s' t t' (faulty_square b why spells set) (faulty_square b' why' spells' set') =
+    (refl, ap (λ (x : Unplaced). error_line (unplaced_text x)) (one_reason _ why why' set set'))
 
 says_once : (c : Option Command) (files : Contents) (failed : ℕ) (input : List ℕ) (s s' : ℕ) (t t' : List ℕ) → Says c files failed input s t → Says c files failed input s' t' → (s ≡ s') × (t ≡ t')
 says_once None files failed input s s' t t' says says' = (says.0 ∙ sym says'.0, says.1 ∙ sym says'.1)
-says_once (Some (Reach word square)) files failed input s s' t t' says says' = reach_once word square s s' t t' says says'
+says_once (Some (Reach word square own enemy)) files failed input s s' t t' says says' = reach_once word square own enemy s s' t t' says says'
 
 -- words have one answer
 pub shot_once : (words : List (List ℕ)) (files : Contents) (failed : ℕ) (input : List ℕ) (s s' : ℕ) (t t' : List ℕ) → Shot words files failed input s t → Shot words files failed input s' t' → (s ≡ s') × (t ≡ t')
 unfolding Shot
 shot_once words files failed input s s' t t' shot shot' = says_once (command_of words) files failed input s s' t t' shot shot'
 
-not_usage : (word square : List ℕ) (status : ℕ) (text : List ℕ) → SaysReach word square status text → status ≡ 2 → ⊥
-not_usage word square status text (reached b from spells names) is = absurd (omega (arith, is))
-not_usage word square status text (faulty_word fault bad) is = absurd (omega (arith, is))
-not_usage word square status text (faulty_square b spells names) is = absurd (omega (arith, is))
+not_usage : (word square own enemy : List ℕ) (status : ℕ) (text : List ℕ) → SaysReach word square own enemy status text → status ≡ 2 → ⊥
+not_usage word square own enemy status text (reached b from cells spells set) is = absurd (omega (arith, is))
+not_usage word square own enemy status text (faulty_word fault bad) is = absurd (omega (arith, is))
+not_usage word square own enemy status text (faulty_square b why spells set) is = absurd (omega (arith, is))
 
 -- the usage line is the answer exactly to words that are not of the command set
 says_usage : (c : Option Command) (files : Contents) (failed : ℕ) (input : List ℕ) (status : ℕ) (text : List ℕ) → Says c files failed input status text → status ≡ 2 ↔ IsNone c
 says_usage None files failed input status text says = (λ is. refl, λ none. says.0)
-says_usage (Some (Reach word square)) files failed input status text says = (λ is. absurd (not_usage word square status text says is), λ none. cc)
+says_usage (Some (Reach word square own enemy)) files failed input status text says = (λ is. absurd (not_usage word square own enemy status text says is), λ none. cc)
 
 pub shot_usage : (words : List (List ℕ)) (files : Contents) (failed : ℕ) (input : List ℕ) (status : ℕ) (text : List ℕ) → Shot words files failed input status text → status ≡ 2 ↔ IsNone (command_of words)
 unfolding Shot

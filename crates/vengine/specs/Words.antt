@@ -1,21 +1,31 @@
 -- What the words of a run ask.
 use Rattle.std.specs.Prelude.{ℕ, List, [], ◌∷◌, Option, Some, None, Bool, true, not, ◌&&◌, ◌==◌, bytes_eq, codes, if◌then◌else◌}
 
--- a command with its arguments
+-- a command with its arguments: `reach` has a Betza word, a square, and the lists of own and of enemy squares
 pub data Command : Type 0 where
-  Reach : List ℕ → List ℕ → Command
+  Reach : List ℕ → List ℕ → List ℕ → List ℕ → Command
 
 -- an argument does not begin with a dash
 abbrev pub is_argument : List ℕ → Bool
 is_argument [] = true
 is_argument (byte ∷ bytes) = not (byte == 45)
 
--- `reach`, a Betza word and a square
-abbrev pub reach_of : List ℕ → List ℕ → List ℕ → Option Command
-reach_of name word square =
-    if bytes_eq name (codes "reach") && is_argument word && is_argument square then Some (Reach word square) else None
+-- the list of no square
+abbrev pub no_squares : List ℕ
+no_squares = codes "none"
 
--- the command that the words are, where they are of the command set
+-- the name is `reach`, and no argument begins with a dash
+abbrev pub is_reach : List ℕ → List ℕ → List ℕ → List ℕ → List ℕ → Bool
+is_reach name word square own enemy =
+    bytes_eq name (codes "reach") && is_argument word && is_argument square && is_argument own && is_argument enemy
+
+-- the command of this name and these arguments
+unfoldable pub reach_of : List ℕ → List ℕ → List ℕ → List ℕ → List ℕ → Option Command
+reach_of name word square own enemy = if is_reach name word square own enemy then Some (Reach word square own enemy) else None
+
+-- the command that the words are, where they are of the command set; a list that is left out has no square
 unfoldable pub command_of : List (List ℕ) → Option Command
-command_of (name ∷ word ∷ square ∷ []) = reach_of name word square
+command_of (name ∷ word ∷ square ∷ []) = reach_of name word square no_squares no_squares
+command_of (name ∷ word ∷ square ∷ own ∷ []) = reach_of name word square own no_squares
+command_of (name ∷ word ∷ square ∷ own ∷ enemy ∷ []) = reach_of name word square own enemy
 command_of words = None

@@ -5,6 +5,7 @@ mod answers;
 mod laws;
 mod program;
 mod reach;
+mod setup;
 
 use foundation::Memory;
 use io_ports::{ListClock, MemFiles, MemSource, OpenGate, PollsOwed, StandardOutput};

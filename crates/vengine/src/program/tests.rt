@@ -78,15 +78,68 @@ fn reach_says_where_a_piece_goes(rt: HostRuntime) -> Result<(), Fail> {
 }
 
 #[test]
+fn reach_takes_lists_of_own_and_enemy_squares(rt: HostRuntime) -> Result<(), Fail> {
+    let rows: [(&[&str], u8, &str); 15] = [
+        (&["nN", "b1", "b2"], 0, "quiet d2\ntake -\n"),
+        (&["gQ", "d4", "d5", "d6"], 0, "quiet -\ntake d6\n"),
+        (
+            &["mRcpR", "a1", "a4", "a7"],
+            0,
+            "quiet b1 c1 d1 e1 f1 g1 h1 a2 a3\ntake a7\n",
+        ),
+        (&["cF", "a1", "none", "b2"], 0, "quiet -\ntake b2\n"),
+        (&["R", "a1", "b1,a3"], 0, "quiet a2\ntake -\n"),
+        (&["R", "a1", "none", "b1,a3"], 0, "quiet a2\ntake b1 a3\n"),
+        (&["F", "a1", "none", "none"], 0, "quiet b2\ntake -\n"),
+        (&["R", "a1", "a1"], 3, "error ReachFault 2 SquareTwice a1\n"),
+        (
+            &["R", "a1", "a2,a2"],
+            3,
+            "error ReachFault 2 SquareTwice a2\n",
+        ),
+        (
+            &["R", "a1", "a2", "b3,a2"],
+            3,
+            "error ReachFault 2 SquareTwice a2\n",
+        ),
+        (
+            &["R", "a1", "a2,i9", "a2"],
+            3,
+            "error ReachFault 1 BadSquare i9\n",
+        ),
+        (
+            &["R", "a1", "a2,a1", "i9"],
+            3,
+            "error ReachFault 2 SquareTwice a1\n",
+        ),
+        (&["R", "a1", ""], 3, "error ReachFault 1 BadSquare \n"),
+        (
+            &["R", "a1", "b2,none"],
+            3,
+            "error ReachFault 1 BadSquare none\n",
+        ),
+        (&["R12", "a1", "a1"], 3, "error BetzaFault 9 BadNumber 1\n"),
+    ];
+    for (arguments, status, text) in rows {
+        let mut words = vec![in rt.alloc(); "reach"]?;
+        words.extend_from_slice(arguments)?;
+        let (answered, sink) = told(&rt, words.as_slice(), 1000)?;
+        assert_eq!(rt; answered, status, "{text}");
+        assert_eq!(rt; sink.taken(), text.as_bytes(), "{text}");
+    }
+    Ok(())
+}
+
+#[test]
 fn other_words_are_answered_by_the_usage_line(rt: HostRuntime) -> Result<(), Fail> {
     let rows: [&[&str]; 9] = [
         &[],
         &[""],
         &["--"],
         &["reach", "N"],
-        &["reach", "N", "b1", "a1"],
+        &["reach", "N", "b1", "-"],
         &["reach", "-N", "b1"],
-        &["reach", "N", "--"],
+        &["reach", "N", "b1", "none", "none", "none"],
         &["Reach", "N", "b1"],
         &["help"],
     ];
