@@ -1,5 +1,5 @@
 -- How many pieces of a sort stand on the board after a legal move of a sound position, in every variant that fits.
-use Rattle.std.proofs.Common.{◌≡◌, ◌≢◌, ℕ, ◌+◌, ◌-◌, ◌*◌, ◌/◌, ◌%◌, ◌<◌, ◌≤◌, Bool, true, false, not, ◌&&◌, if◌then◌else◌, ◌⊎◌, inl, inr, Option, Some, None, List, length, refl, ap, sym, ◌∙◌, subst, arith, ◌==◌, nat_le, nat_lt, is_none, is_some, length-set}
+use Rattle.std.proofs.Common.{◌≡◌, ◌≢◌, ℕ, ◌+◌, ◌-◌, ◌*◌, ◌/◌, ◌%◌, ◌<◌, ◌≤◌, Bool, true, false, not, ◌&&◌, if◌then◌else◌, ◌⊎◌, inl, inr, Option, Some, None, List, length, refl, ap, sym, ◌∙◌, subst, arith, ◌==◌, nat_le, nat_lt, is_none, is_some, length-set, max, min}
 use Rattle.std.specs.Prelude.{count_by, slice_set}
 use Rattle.std.proofs.lemmas.Bool.{cases_eq, cases_lt, le-leb}
 use Rattle.std.proofs.lemmas.Bool.Decides.{Decides-eqb, nat_tests}
@@ -260,6 +260,8 @@ pub record CastleFiles (rules : Rules) (from to rook : Square) (target : ℕ) : 
   pub from_rank : from.0 ≡ 12 * (from.0 / 12) + rules.castle_king
   pub rook_rank : rook.0 ≡ 12 * (from.0 / 12) + rook.0 % 12
   pub targets_apart : to.0 ≢ target
+  pub file_most : target % 12 ≤ max (from.0 % 12) (to.0 % 12)
+  pub same_rank : target / 12 ≡ to.0 / 12
 
 target_right : (from to rook : Square) → from.0 < rook.0 → rook_target from to rook ≡ to.0 - 1
 target_right from to rook l = let e : nat_lt from.0 rook.0 ≡ true = grind (arith, nat_tests) in rw e
@@ -278,6 +280,8 @@ files_right rules from to rook rank king near file k f t r m a b c d l =
       from_rank = omega (arith, f, k, a, b);
       rook_rank = omega (arith, f, r, m, c, d);
       targets_apart = λ h. omega (arith, h, e, t, a);
+      file_most = omega (arith, e, f, t, a, b);
+      same_rank = omega (arith, e, t, a, b);
     }
 
 files_left : (rules : Rules) (from to rook : Square) (rank king far file : ℕ) → rules.castle_king ≡ king → from.0 ≡ 12 * rank + king → to.0 ≡ 12 * rank + far → rook.0 ≡ 12 * rank + file → rook.0 % 12 ≡ file → far < king → king < 12 → file < king → from.0 < 120 → CastleFiles rules from to rook (rook_target from to rook)
@@ -291,9 +295,11 @@ files_left rules from to rook rank king far file k f t r m a b c l =
       from_rank = omega (arith, f, k, a, b);
       rook_rank = omega (arith, f, r, m, c, b);
       targets_apart = λ h. omega (arith, h, e);
+      file_most = omega (arith, e, f, t, a, b);
+      same_rank = omega (arith, e, t, a, b);
     }
 
-castle_files : (rules : Rules) (fit : IsFit rules) (r : Repeat) (from to rook : Square) (wing : Wing) → Castles rules r from to rook wing → from.0 < 120 → to.0 < 120 → CastleFiles rules from to rook (rook_target from to rook)
+pub castle_files : (rules : Rules) (fit : IsFit rules) (r : Repeat) (from to rook : Square) (wing : Wing) → Castles rules r from to rook wing → from.0 < 120 → to.0 < 120 → CastleFiles rules from to rook (rook_target from to rook)
 castle_files rules fit r from to rook Kingside c l k =
     let on = castling_on-is rules c.on in
     let b = rook_file-some rules r r.side Kingside (rook.0 % 12) c.file in

@@ -23,7 +23,7 @@ use Rattle.rules_model.proofs.GameLaws.{next_counter-range}
 
 -- ---- rights
 
-rights_after-is : (rules : Rules) (r : Repeat) (m : Move) (later : List (Option Cell)) (side : Side) (wing : Wing) → holds_right (rights_after rules r m later) side wing ≡ keeps_right rules r m later side wing
+pub rights_after-is : (rules : Rules) (r : Repeat) (m : Move) (later : List (Option Cell)) (side : Side) (wing : Wing) → holds_right (rights_after rules r m later) side wing ≡ keeps_right rules r m later side wing
 unfolding rights_after
 rights_after-is rules r m later White Kingside = refl
 rights_after-is rules r m later White Queenside = refl
@@ -46,7 +46,7 @@ if_closed : (c : Bool) (gates mask file : ℕ) → bit_at (if c then bit_and gat
 if_closed true gates mask file e = bit_kept gates mask file e
 if_closed false gates mask file e = e
 
-closed_at-kept : (rules : Rules) (side : Side) (s gates file : ℕ) → bit_at (closed_at rules side s gates) file ≡ 1 → bit_at gates file ≡ 1
+pub closed_at-kept : (rules : Rules) (side : Side) (s gates file : ℕ) → bit_at (closed_at rules side s gates) file ≡ 1 → bit_at gates file ≡ 1
 closed_at-kept rules side s gates file e = if_closed (on_first_rank rules side s) gates (65535 - 2 ^ (s % 12)) file e
 
 side_gates-kept : (rules : Rules) (side : Side) (m : Move) (gates file : ℕ) → bit_at (side_gates_after rules side m gates) file ≡ 1 → bit_at gates file ≡ 1

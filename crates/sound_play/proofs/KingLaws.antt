@@ -45,7 +45,7 @@ use Rattle.sound_play.proofs.TargetLaws.{by_contradiction, no_king_taken}
 -- ---- kinds that are no king
 
 -- a kind of the variant is one of 26 letters
-kind_below : (rules : Rules) (kind : Kind) → length rules.kinds ≡ 26 → is_some (kind_rule rules kind) ≡ true → kind.0 < 26
+pub kind_below : (rules : Rules) (kind : Kind) → length rules.kinds ≡ 26 → is_some (kind_rule rules kind) ≡ true → kind.0 < 26
 kind_below rules kind size e =
     elim (cases_lt kind.0 26) as (λ _. kind.0 < 26) [
       | inl l ↦ l
@@ -60,7 +60,7 @@ none_of_two false b e = (refl, e)
 none_below : (f : ℕ → Bool) (k : ℕ) → any_below f 26 ≡ false → k < 26 → f k ≡ false
 none_below f k e l = by_contradiction (f k) (λ h. not_both _ (any_below-true f 26 k l h) e)
 
-named : (o : Option Kind) (kind : Kind) → names o kind ≡ true → o ≡ Some kind
+pub named : (o : Option Kind) (kind : Kind) → names o kind ≡ true → o ≡ Some kind
 named None kind e = cc
 named (Some k) kind e = let h : k.0 ≡ kind.0 = (Decides-eqb _ _).0 e in λ i. Some (record { 0 = h i })
 
@@ -100,7 +100,7 @@ promotion_no_king rules fit kind l e =
     let a = none_below (λ k. masks rules.promotion_kinds (record { 0 = k }) && is_pawn_or_king rules (record { 0 = k })) kind.0 fit.pawn_promotions l in
     (none_of_two (is_pawn rules kind) (is_king rules kind) (both_false (masks rules.promotion_kinds kind) _ a e)).1
 
-promoted_rule : (rules : Rules) (kind : Kind) (q : Kind) → promoted_of rules kind ≡ Some q → is_some (kind_rule rules kind) ≡ true
+pub promoted_rule : (rules : Rules) (kind : Kind) (q : Kind) → promoted_of rules kind ≡ Some q → is_some (kind_rule rules kind) ≡ true
 promoted_rule rules kind q e = from_rule (kind_rule rules kind) e
   where
     from_rule : (rule : Option KindRule) → rule_promoted rule ≡ Some q → is_some rule ≡ true
@@ -146,7 +146,7 @@ plus_king rules fit side x (Some q) size e =
     let a = promoted_no_king rules fit x.kind q size e in
     no_king_of rules side (record { side = x.side; kind = q; origin = Some x.kind }) a.1 ∙ sym (no_king_of rules side x a.0)
 
-pawn_becomes : (rules : Rules) (r : Repeat) (from to : Square) (kind : Kind) → pawn_moves rules r from to (Pawn kind) ≡ true → masks rules.promotion_kinds kind ≡ true
+pub pawn_becomes : (rules : Rules) (r : Repeat) (from to : Square) (kind : Kind) → pawn_moves rules r from to (Pawn kind) ≡ true → masks rules.promotion_kinds kind ≡ true
 unfolding pawn_moves
 pawn_becomes rules r from to kind e =
     elim (one_of (pawn_goes rules r from to.0 && pawn_promo rules (may_promote rules r.side to.0) (Pawn kind)) (passes_by rules r from to.0 && is_stays (Pawn kind)) e) as (λ _. masks rules.promotion_kinds kind ≡ true) [
@@ -154,7 +154,7 @@ pawn_becomes rules r from to kind e =
       | inr h ↦ absurd (not_both _ (both_of (passes_by rules r from to.0) (is_stays (Pawn kind)) h).1 refl)
     ]
 
-piece_becomes : (rules : Rules) (r : Repeat) (x : Cell) (from to : Square) (kind : Kind) → piece_moves rules r x from to (Pawn kind) ≡ true → ⊥
+pub piece_becomes : (rules : Rules) (r : Repeat) (x : Cell) (from to : Square) (kind : Kind) → piece_moves rules r x from to (Pawn kind) ≡ true → ⊥
 unfolding piece_moves
 piece_becomes rules r x from to kind e =
     let a = both_of (piece_goes rules r.cells r.side x.kind from to.0 && piece_promo rules (may_plus rules r.side x.kind from.0 to.0) (Pawn kind)) (not (means_castling rules r x.kind from.0 to.0)) e in

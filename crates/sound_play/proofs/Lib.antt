@@ -5,4 +5,12 @@ pub mod TargetLaws
 pub mod FieldLaws
 pub mod CountLaws
 pub mod KingLaws
+pub mod HandLaws
+pub mod PieceLaws
+pub mod PlayLaws
+pub mod AfterLaws
+pub mod StandLaws
+pub mod PassingLaws
+pub mod DoubleLaws
+pub mod NextLaws
 pub mod BuiltLaws

@@ -57,7 +57,7 @@ with_hand-size hands side kind n h = record {
   each = list_all-set (λ hand. length hand == 26) hands (side_index side) _ (ap (λ l. l == 26) (length-set (hand_of hands side) kind.0 n) ∙ hand_size hands side h) h.each;
 }
 
-take_into-size : (b : Bool) (hands : List (List ℕ)) (side : Side) (piece : Option Cell) → AreHands hands → AreHands (take_into b hands side piece)
+pub take_into-size : (b : Bool) (hands : List (List ℕ)) (side : Side) (piece : Option Cell) → AreHands hands → AreHands (take_into b hands side piece)
 take_into-size b hands side None h = h
 take_into-size true hands side (Some x) h = with_hand-size hands side (hand_kind x) (in_hand hands side (hand_kind x) + 1) h
 take_into-size false hands side (Some x) h = h

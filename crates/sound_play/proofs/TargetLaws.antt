@@ -29,7 +29,7 @@ pub other_twice : (side : Side) → other (other side) ≡ side
 other_twice White = refl
 other_twice Black = refl
 
-side_cases : (a b : Side) → (a ≡ b) ⊎ (a ≡ other b)
+pub side_cases : (a b : Side) → (a ≡ b) ⊎ (a ≡ other b)
 side_cases White White = inl refl
 side_cases White Black = inr refl
 side_cases Black White = inr refl
