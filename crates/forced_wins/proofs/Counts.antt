@@ -1,5 +1,5 @@
 -- How often a repeat stands in a game.
-use Rattle.std.proofs.Common.{◌≡◌, ◌⊎◌, inl, inr, ℕ, ◌+◌, ◌<◌, ◌≤◌, List, [], ◌∷◌, ◌++◌, Bool, true, false, cond, nat_le, nat_lt, ◌&&◌, refl, ap, sym, ◌∙◌, arith}
+use Rattle.std.proofs.Common.{◌≡◌, ◌⊎◌, inl, inr, ℕ, ◌+◌, ◌<◌, ◌≤◌, List, [], ◌∷◌, ◌++◌, Bool, true, false, Option, Some, None, cond, nat_le, nat_lt, ◌&&◌, refl, ap, sym, ◌∙◌, arith}
 use Rattle.std.proofs.lemmas.Bool.Decides.{nat_tests}
 use Rattle.std.proofs.lemmas.List.Sums.{sum_by-cons, sum_by-append}
 use Rattle.forced_wins.specs.Games.{Game, GameLaws, times}
@@ -15,6 +15,10 @@ not_true false h = refl
 pub true_false : (b : Bool) → b ≡ true → b ≡ false → ⊥
 true_false true h k = cc
 true_false false h k = cc
+
+pub own_cases : {C : Type 0} (o : Option Bool) → ((w : Bool) → o ≡ Some w → C) → (o ≡ None → C) → C
+own_cases None f g = g refl
+own_cases (Some w) f g = f w refl
 
 -- two tests of one fact are one
 pub same_from : (a b : Bool) → (a ≡ true → b ≡ true) → (b ≡ true → a ≡ true) → a ≡ b
@@ -45,6 +49,9 @@ tests_none a x (inr h) = grind (arith, nat_tests)
 
 pub tests_less : (a x y : ℕ) → x ≤ y → (nat_lt 0 a && nat_le a y) ≡ false → (nat_lt 0 a && nat_le a x) ≡ false
 tests_less a x y h e = not_true (nat_lt 0 a && nat_le a x) (λ k. let u = tests_more a x y h k in cc)
+
+pub below_fold : (a x : ℕ) → (nat_lt 0 a && nat_le a x) ≡ false → 0 < a → x < a
+below_fold a x h k = grind (arith, nat_tests)
 
 pub none_stand : {P R M : Type 0} (r : Game P R M) (x : R) → times r x [] ≡ 0
 unfolding times
