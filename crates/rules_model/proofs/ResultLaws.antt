@@ -21,6 +21,7 @@ use Rattle.rules_model.specs.Ends.{is_ongoing, or_end, valued, early_end, no_mov
 use Rattle.rules_model.specs.Legal.{legal, is_stuck, own_end}
 use Rattle.rules_model.specs.Games.{same_repeat, times, are_legal, Story, history, played, story_from, is_repeated, is_run_out, result}
 use Rattle.rules_model.proofs.EqualLaws.{repeat-decides, move-decides}
+use Rattle.rules_model.proofs.CandidateLaws.{both_of, one_of}
 use Rattle.rules_model.proofs.PlayLaws.{legal-early, own_end-stuck}
 
 -- ---- games move by move
@@ -32,10 +33,6 @@ story_from-none rules g = refl
 pub story_from-more : (rules : Rules) (g : Story) (m : Move) (ms : List Move) → story_from rules g (m ∷ ms) ≡ story_from rules (played rules g m) ms
 unfolding story_from
 story_from-more rules g m ms = refl
-
-both : (a b : Bool) → (a && b) ≡ true → (a ≡ true) × (b ≡ true)
-both true b h = (refl, h)
-both false b h = cc
 
 and_true : (a b : Bool) → a ≡ true → b ≡ true → (a && b) ≡ true
 and_true true b h k = k
@@ -51,11 +48,7 @@ or_right false b h = h
 
 tested-member : (m : Move) (ms : List Move) → list_any (same_move m) ms ≡ true → Member m ms
 tested-member m [] h = cc
-tested-member m (n ∷ ms) h = head (same_move m n) (λ e. sym ((move-decides m n).0 e)) (tested-member m ms) h
-  where
-    head : (b : Bool) → (b ≡ true → n ≡ m) → (list_any (same_move m) ms ≡ true → Member m ms) → (b || list_any (same_move m) ms) ≡ true → Member m (n ∷ ms)
-    head true f k h = inl (f refl)
-    head false f k h = inr (k h)
+tested-member m (n ∷ ms) h = elim (one_of (same_move m n) (list_any (same_move m) ms) h) as (λ _. Member m (n ∷ ms)) [ inl e ↦ inl (sym ((move-decides m n).0 e)) | inr k ↦ inr (tested-member m ms k) ]
 
 member-tested : (m : Move) (ms : List Move) → Member m ms → list_any (same_move m) ms ≡ true
 member-tested m [] k = absurd k
@@ -69,7 +62,7 @@ are_legal-none rules p = refl
 pub are_legal-more : (rules : Rules) (p : Position) (m : Move) (ms : List Move) → Decides (are_legal rules p (m ∷ ms)) (Member m (legal rules (repeat_of p)) × (are_legal rules (next rules p m) ms ≡ true))
 unfolding are_legal
 are_legal-more rules p m ms = (
-  λ h. let k = both _ _ h in (tested-member m (legal rules (repeat_of p)) k.0, k.1),
+  λ h. let k = both_of _ _ h in (tested-member m (legal rules (repeat_of p)) k.0, k.1),
   λ h. and_true _ _ (member-tested m (legal rules (repeat_of p)) h.0) h.1,
 )
 
