@@ -1,5 +1,5 @@
 -- The blocked repeats as a list and as a test; near wins of games.
-use Rattle.std.proofs.Common.{◌≡◌, inl, inr, ℕ, zero, suc, ◌+◌, ◌<◌, ◌≤◌, List, [], ◌∷◌, map, Bool, true, false, Option, Some, None, not, nat_le, nat_lt, ◌==◌, ◌&&◌, ◌||◌, if◌then◌else◌, refl, ap, sym, ◌∙◌, arith}
+use Rattle.std.proofs.Common.{◌≡◌, inl, inr, ℕ, zero, suc, ◌+◌, ◌<◌, List, [], ◌∷◌, map, Bool, true, false, Option, Some, None, not, nat_le, nat_lt, ◌==◌, ◌&&◌, ◌||◌, if◌then◌else◌, refl, ap, sym, ◌∙◌, arith}
 use Rattle.std.specs.List.{list_any, list_all, filter}
 use Rattle.std.proofs.lemmas.Bool.Decides.{nat_tests}
 use Rattle.foundation.specs.Member.{Member}
@@ -19,7 +19,7 @@ use Rattle.forced_wins.specs.Contests.{decided}
 use Rattle.forced_wins.specs.Games as AnyGame
 use Rattle.forced_wins.specs.Views.{won_by, seen_by, as_any}
 use Rattle.forced_wins.specs.Wins.{wins, near, near_root, is_in, blocked, each_once, IsInLimit}
-use Rattle.forced_wins.proofs.Counts.{by_cases, true_false, same_from, times_here}
+use Rattle.forced_wins.proofs.Counts.{by_cases, true_false, same_from, tests_on, times_here}
 use Rattle.forced_wins.proofs.NearLaws as N
 use Rattle.forced_wins.proofs.Rules.{laws, wins-is, near-is, end-is, times-is}
 
@@ -117,10 +117,7 @@ pub ended_at_one : (rules : Rules) (g : Story) (a : Side) → rules.n_fold ≡ 1
 unfolding AnyGame.repeated
 ended_at_one rules g a e =
     let here = times_here (seen_by rules a) (laws rules a) (repeat_of g.last) g.last g.earlier refl in
-    test_from rules.n_fold _ (omega arith) (at_least rules.n_fold _ (omega arith))
-  where
-    at_least : (m n : ℕ) → m ≤ n → nat_le m n ≡ true
-    at_least m n h = grind (arith, nat_tests)
+    tests_on rules.n_fold _ (omega arith) (omega arith)
 
 some_end : (o : Option Bool) (y z : Bool) → y ≡ true → (w : Bool) × (AnyGame.or_end o (AnyGame.lost_if (y || z)) ≡ Some w)
 some_end None true z e = (false, refl)

@@ -1,5 +1,5 @@
 -- How often a repeat stands in a game.
-use Rattle.std.proofs.Common.{◌≡◌, ◌⊎◌, inl, inr, ℕ, ◌+◌, ◌<◌, ◌≤◌, List, [], ◌∷◌, ◌++◌, Bool, true, false, Option, Some, None, cond, nat_le, nat_lt, ◌&&◌, refl, ap, sym, ◌∙◌, arith}
+use Rattle.std.proofs.Common.{◌≡◌, ◌⊎◌, inl, inr, ℕ, ◌+◌, ◌<◌, ◌≤◌, List, [], ◌∷◌, ◌++◌, Bool, true, false, Option, Some, None, cond, nat_le, nat_lt, ◌==◌, ◌&&◌, refl, ap, sym, ◌∙◌, arith}
 use Rattle.std.proofs.lemmas.Bool.Decides.{nat_tests}
 use Rattle.std.proofs.lemmas.List.Sums.{sum_by-cons, sum_by-append}
 use Rattle.forced_wins.specs.Games.{Game, GameLaws, times}
@@ -19,6 +19,15 @@ true_false false h k = cc
 pub own_cases : {C : Type 0} (o : Option Bool) → ((w : Bool) → o ≡ Some w → C) → (o ≡ None → C) → C
 own_cases None f g = g refl
 own_cases (Some w) f g = f w refl
+
+pub and_true : (a b : Bool) → a ≡ true → b ≡ true → (a && b) ≡ true
+and_true a b h k = grind arith
+
+pub le_true : (m n : ℕ) → m ≤ n → nat_le m n ≡ true
+le_true m n h = grind (arith, nat_tests)
+
+pub eq_from : (m n : ℕ) → (m == n) ≡ true → m ≡ n
+eq_from m n h = grind (arith, nat_tests)
 
 -- two tests of one fact are one
 pub same_from : (a b : Bool) → (a ≡ true → b ≡ true) → (b ≡ true → a ≡ true) → a ≡ b

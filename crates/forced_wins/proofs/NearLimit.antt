@@ -10,10 +10,10 @@ use Rattle.forced_wins.specs.Games.{Game, GameLaws, Story, history, times, run_o
 use Rattle.forced_wins.specs.PlainTables.{Edge, Node, plain}
 use Rattle.forced_wins.specs.Tables.{nodes_of, is_doubled, has_edge, AreFaultless}
 use Rattle.forced_wins.proofs.ContestLaws.{any_mono, all_mono, within-mono, double, double-is}
-use Rattle.forced_wins.proofs.Counts.{by_cases, not_true, true_false, tests_from, below_fold}
+use Rattle.forced_wins.proofs.Counts.{by_cases, not_true, true_false, tests_from, below_fold, and_true, eq_from}
 use Rattle.forced_wins.proofs.ClaimLaws.{within-lower}
 use Rattle.forced_wins.proofs.NearLaws.{near-attack, near-defence}
-use Rattle.forced_wins.proofs.TableLaws.{any_member, both}
+use Rattle.forced_wins.proofs.TableLaws.{any_member, both, neither}
 use Rattle.forced_wins.proofs.Lists.{gathered, listed, once_in, Apart, apart_once, apart_alone, mapped, map_at, map_member}
 use Rattle.forced_wins.proofs.ShortestWins as S
 use Rattle.forced_wins.proofs.ShortestWins.{PlyWins, Shortest, shortest, rank_of, falls_at, doubled}
@@ -29,18 +29,8 @@ won_step : (o : Option Bool) (y z t w : Bool) → o ≡ Some w → decided (or_e
 won_step None y z t w e h = cc
 won_step (Some u) y z t w e h = let k : u ≡ w = cc in sym k ∙ h
 
-eq_from : (m n : ℕ) → (m == n) ≡ true → m ≡ n
-eq_from m n h = grind (arith, nat_tests)
-
 eq_to : (m n : ℕ) → m ≡ n → (m == n) ≡ true
 eq_to m n h = grind (arith, nat_tests)
-
-and_true : (a b : Bool) → a ≡ true → b ≡ true → (a && b) ≡ true
-and_true a b h k = grind arith
-
-neither : (a b : Bool) → (a || b) ≡ false → (a ≡ false) × (b ≡ false)
-neither true b h = cc
-neither false b h = (refl, h)
 
 none_passes : {X : Type 0} (f : X → Bool) (xs : List X) → list_any f xs ≡ false → (x : X) → Member x xs → f x ≡ false
 none_passes f [] h x k = absurd k

@@ -8,7 +8,7 @@ use Rattle.forced_wins.specs.Games.{Game, GameLaws}
 use Rattle.forced_wins.specs.PlainTables.{Edge, plain}
 use Rattle.forced_wins.specs.Tables.{is_doubled, fits_rank}
 use Rattle.forced_wins.proofs.ContestLaws.{if_mono, any_mono, all_mono, any_intro}
-use Rattle.forced_wins.proofs.Counts.{by_cases, not_true}
+use Rattle.forced_wins.proofs.Counts.{by_cases, not_true, le_true}
 use Rattle.forced_wins.proofs.TableLaws.{all_member}
 use Rattle.forced_wins.proofs.Lists.{gather, gather_in, gathered, first_of_all, found, once, once_in, in_once, Apart, apart_once, place, at_place, map_member, map_in}
 
@@ -22,9 +22,6 @@ halves_down b c h = lt_true (c / 2) ((suc b + 1) / 2) (omega arith)
 
 halves_same : (b c : ℕ) → c ≤ b → nat_le ((c + 1) / 2) (suc b / 2) ≡ true
 halves_same b c h = le_true ((c + 1) / 2) (suc b / 2) (omega arith)
-  where
-    le_true : (m n : ℕ) → m ≤ n → nat_le m n ≡ true
-    le_true m n h = grind (arith, nat_tests)
 
 -- how many of n plies are the attacker's, where he is to move or not
 abbrev pub rank_of : Bool → ℕ → ℕ
