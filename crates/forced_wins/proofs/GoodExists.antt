@@ -215,10 +215,6 @@ module _ {P R M : Type 0} (r : Game P R M) (l : GameLaws P R M r) (at : P → �
 
   -- ---- the theorem
 
-  decided_none : (o : Option Bool) (t : Bool) → o ≡ None → decided o t ≡ true → t ≡ true
-  decided_none None t e h = h
-  decided_none (Some w) t e h = cc
-
   end_live : (y z t : Bool) (o : Option Bool) → o ≡ None → decided (or_end o (lost_if (y || z))) t ≡ true → (y ≡ false) × (t ≡ true)
   end_live true z t None e h = cc
   end_live false true t None e h = cc

@@ -98,17 +98,13 @@ repeated-is rules a g =
     (λ h. let k = d.0 h in let enough = k.1 in tests_on rules.n_fold _ k.0 (omega arith))
     (λ h. let k = tests_from rules.n_fold _ h in let enough = k.1 in d.1 (k.0, omega arith))
 
+and_lost : (b : Bool) → Some (b && false) ≡ Some false
+and_lost true = refl
+and_lost false = refl
+
 valued_lost : (v : Value) (s a : Side) → won_by a (valued v s Repetition) ≡ Some false
-valued_lost Win s a = by_and (same_side s a)
-  where
-    by_and : (b : Bool) → Some (b && false) ≡ Some false
-    by_and true = refl
-    by_and false = refl
-valued_lost Loss s a = by_and (same_side (other s) a)
-  where
-    by_and : (b : Bool) → Some (b && false) ≡ Some false
-    by_and true = refl
-    by_and false = refl
+valued_lost Win s a = and_lost (same_side s a)
+valued_lost Loss s a = and_lost (same_side (other s) a)
 valued_lost Draw s a = refl
 
 -- where no move is legal, the end by itself comes first
