@@ -1,0 +1,6 @@
+pub mod SizeLaws
+pub mod CellLemmas
+pub mod SoundLaws
+pub mod TargetLaws
+pub mod FieldLaws
+pub mod BuiltLaws
