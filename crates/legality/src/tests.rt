@@ -129,3 +129,123 @@ fn lists(rt: HostRuntime) -> Result<(), Fail> {
     }
     Ok(())
 }
+
+#[test]
+fn near_misses(rt: HostRuntime) -> Result<(), Fail> {
+    let rules = leapers();
+    let tables = Tables::new(rt.alloc(), &rules)?;
+    let promoted = Move::Go {
+        from: Square(0),
+        to: Square(12),
+        promo: Promo::Plus,
+        gate: None,
+    };
+    let gated = Move::Go {
+        from: Square(0),
+        to: Square(12),
+        promo: Promo::Stays,
+        gate: Some(KNIGHT),
+    };
+    let castle = Move::Castle {
+        from: Square(0),
+        to: Square(12),
+        rook: Square(2),
+        gate: None,
+    };
+    let drop = Move::Drop {
+        kind: KNIGHT,
+        to: Square(12),
+    };
+    let rows = [
+        // The king stays in check.
+        (checked(), go(2, 12)),
+        (checked(), go(2, 27)),
+        // It steps over two squares, onto an own piece, off the board, and from nowhere.
+        (checked(), go(0, 24)),
+        (checked(), go(0, 2)),
+        (checked(), go(0, 120)),
+        (checked(), go(200, 12)),
+        // It is Black's piece, and no piece.
+        (checked(), go(25, 0)),
+        (checked(), go(13, 12)),
+        (checked(), promoted),
+        (checked(), gated),
+        (checked(), castle),
+        (checked(), drop),
+        // The king goes into check.
+        (hemmed(), go(0, 1)),
+        (hemmed(), go(0, 13)),
+        (stalemated(), go(0, 12)),
+        (checkmated(), go(0, 12)),
+    ];
+    for (p, m) in &rows {
+        assert!(rt; sound(&rules, p));
+        assert!(rt; !is_legal(&rules, &tables, p, m));
+    }
+    Ok(())
+}
+
+#[test]
+fn checks(rt: HostRuntime) -> Result<(), Fail> {
+    let rules = leapers();
+    let tables = Tables::new(rt.alloc(), &rules)?;
+    let p = position(&[
+        (Side::White, KING, 4),
+        (Side::White, KNIGHT, 40),
+        (Side::Black, KING, 88),
+    ]);
+    assert!(rt; sound(&rules, &p));
+    for (to, attacks) in [(63, true), (65, true), (54, false), (17, false)] {
+        let m = go(40, to);
+        assert!(rt; is_legal(&rules, &tables, &p, &m));
+        assert_eq!(rt; gives_check(&rules, &tables, &p, &m), attacks);
+    }
+    Ok(())
+}
+
+/// Plays the move and asserts the counter and the number after it.
+fn plays<R: Abort>(
+    rt: &R,
+    rules: &Rules,
+    tables: &Tables,
+    p: &mut Position,
+    m: &Move,
+    counts: (u16, u16),
+) -> Result<(), Fail>
+    requires fit { IsFit rules.now }
+    requires built { is_built rules.now ≡ true }
+    requires tables { tables.now ≡ rules.now }
+{
+    assert!(rt; sound(rules, p));
+    assert!(rt; is_legal(rules, tables, p, m));
+    apply(rules, tables, p, m);
+    assert_eq!(rt; (p.counter, p.number), counts);
+    Ok(())
+}
+
+#[test]
+fn plies(rt: HostRuntime) -> Result<(), Fail> {
+    let rules = leapers();
+    let tables = Tables::new(rt.alloc(), &rules)?;
+    let mut p = checked();
+    plays(&rt, &rules, &tables, &mut p, &go(0, 12), (8, 20))?;
+    assert_eq!(rt; p.side, Side::Black);
+    // The knight takes the knight.
+    plays(&rt, &rules, &tables, &mut p, &go(25, 2), (0, 21))?;
+    assert_eq!(rt; p.side, Side::White);
+    plays(&rt, &rules, &tables, &mut p, &go(12, 1), (1, 21))?;
+    let mut cells = [None; 120];
+    for (side, kind, at) in [
+        (Side::White, KING, 1),
+        (Side::Black, KNIGHT, 2),
+        (Side::Black, KING, 88),
+    ] {
+        cells[at] = Some(Cell {
+            side,
+            kind,
+            origin: None,
+        });
+    }
+    assert_eq!(rt; p.cells, cells);
+    Ok(())
+}
