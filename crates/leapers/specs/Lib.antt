@@ -1,0 +1,2 @@
+pub mod Leapers
+pub mod Parts
