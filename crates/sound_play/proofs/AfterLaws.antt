@@ -1,5 +1,5 @@
 -- The pieces, the hands and their number after each candidate of a sound position, in every variant that fits.
-use Rattle.std.proofs.Common.{◌≡◌, ◌≢◌, ℕ, ◌+◌, ◌/◌, ◌%◌, ◌<◌, ◌≤◌, Bool, true, false, not, ◌&&◌, ◌||◌, if◌then◌else◌, ◌⊎◌, inl, inr, Option, Some, None, List, length, max, refl, ap, sym, ◌∙◌, subst, arith, nat_lt, is_some}
+use Rattle.std.proofs.Common.{◌≡◌, ℕ, ◌+◌, ◌/◌, ◌%◌, ◌<◌, ◌≤◌, Bool, true, false, if◌then◌else◌, ◌⊎◌, inl, Option, Some, None, List, length, refl, sym, subst, arith, nat_lt, is_some}
 use Rattle.std.specs.Prelude.{count_by}
 use Rattle.std.proofs.lemmas.Bool.Decides.{nat_tests}
 use Rattle.foundation.proofs.SetLemmas.{one_if}
@@ -9,7 +9,6 @@ use Rattle.rules_model.specs.declared.board.Repeat.{Repeat}
 use Rattle.rules_model.specs.declared.board.Side.{Side}
 use Rattle.rules_model.specs.declared.board.Side.TheVariants.{White, Black}
 use Rattle.rules_model.specs.declared.board.Square.{Square}
-use Rattle.rules_model.specs.declared.board.Wing.{Wing}
 use Rattle.rules_model.specs.declared.moves.Move.{Move}
 use Rattle.rules_model.specs.declared.moves.Move.TheVariants.{Go, Castle, Drop}
 use Rattle.rules_model.specs.declared.moves.Placed.{Placed}
@@ -18,14 +17,13 @@ use Rattle.rules_model.specs.declared.rules.Rules.{Rules}
 use Rattle.rules_model.specs.Squares.{cell_at}
 use Rattle.rules_model.specs.Sides.{same_side}
 use Rattle.rules_model.specs.Kinds.{has_kind}
-use Rattle.rules_model.specs.Attacks.{is_own_king}
-use Rattle.rules_model.specs.Hands.{hand_of, holds, put_at_gate, put_down}
-use Rattle.rules_model.specs.Gating.{castle_gates, gates_from}
+use Rattle.rules_model.specs.Hands.{holds, put_at_gate}
+use Rattle.rules_model.specs.Gating.{castle_gates}
 use Rattle.rules_model.specs.Pawns.{behind, passes_by}
 use Rattle.rules_model.specs.Castling.{rook_target}
 use Rattle.rules_model.specs.Candidates.{is_candidate}
-use Rattle.rules_model.specs.Ends.{is_of, pieces_of}
-use Rattle.rules_model.specs.Next.{castled, cells_after, emptied, fresh, gated, hand_kind, hands_after, placed_kind, placed_on, promote, take_into, taken}
+use Rattle.rules_model.specs.Ends.{is_of}
+use Rattle.rules_model.specs.Next.{cells_after, emptied, gated, hand_kind, hands_after, placed_kind, promote, take_into, taken}
 use Rattle.rules_model.specs.Moves.{IsFitMove}
 use Rattle.rules_model.specs.Sound.{is_sound_cell, is_sound_repeat, on_board}
 use Rattle.rules_model.specs.Fit.{IsFit}

@@ -1,5 +1,5 @@
 -- How many pieces of a sort stand on the board after a legal move of a sound position, in every variant that fits.
-use Rattle.std.proofs.Common.{◌≡◌, ◌≢◌, ℕ, ◌+◌, ◌-◌, ◌*◌, ◌/◌, ◌%◌, ◌<◌, ◌≤◌, Bool, true, false, not, ◌&&◌, if◌then◌else◌, ◌⊎◌, inl, inr, Option, Some, None, List, length, refl, ap, sym, ◌∙◌, subst, arith, ◌==◌, nat_le, nat_lt, is_none, is_some, length-set, max, min}
+use Rattle.std.proofs.Common.{◌≡◌, ◌≢◌, ℕ, ◌+◌, ◌-◌, ◌*◌, ◌/◌, ◌%◌, ◌<◌, ◌≤◌, Bool, true, false, not, ◌&&◌, if◌then◌else◌, ◌⊎◌, inl, inr, Option, Some, None, List, length, refl, ap, sym, ◌∙◌, subst, arith, ◌==◌, nat_le, nat_lt, is_none, is_some, length-set, max}
 use Rattle.std.specs.Prelude.{count_by, slice_set}
 use Rattle.std.proofs.lemmas.Bool.{cases_eq, cases_lt, le-leb}
 use Rattle.std.proofs.lemmas.Bool.Decides.{Decides-eqb, nat_tests}
@@ -256,9 +256,7 @@ pub record CastleFiles (rules : Rules) (from to rook : Square) (target : ℕ) : 
   pub rook_apart : rook.0 % 12 ≢ rules.castle_king
   pub below : target < 120
   pub on_rank : target ≡ 12 * (from.0 / 12) + target % 12
-  pub to_rank : to.0 ≡ 12 * (from.0 / 12) + to.0 % 12
   pub from_rank : from.0 ≡ 12 * (from.0 / 12) + rules.castle_king
-  pub rook_rank : rook.0 ≡ 12 * (from.0 / 12) + rook.0 % 12
   pub targets_apart : to.0 ≢ target
   pub file_most : target % 12 ≤ max (from.0 % 12) (to.0 % 12)
   pub same_rank : target / 12 ≡ to.0 / 12
@@ -276,9 +274,7 @@ files_right rules from to rook rank king near file k f t r m a b c d l =
       rook_apart = λ h. omega (arith, h, m, c, k);
       below = omega (arith, e, l);
       on_rank = omega (arith, e, f, t, a, b);
-      to_rank = omega (arith, f, t, a, b);
       from_rank = omega (arith, f, k, a, b);
-      rook_rank = omega (arith, f, r, m, c, d);
       targets_apart = λ h. omega (arith, h, e, t, a);
       file_most = omega (arith, e, f, t, a, b);
       same_rank = omega (arith, e, t, a, b);
@@ -291,9 +287,7 @@ files_left rules from to rook rank king far file k f t r m a b c l =
       rook_apart = λ h. omega (arith, h, m, c, k);
       below = omega (arith, e, f, t, a, l);
       on_rank = omega (arith, e, f, t, a, b);
-      to_rank = omega (arith, f, t, a, b);
       from_rank = omega (arith, f, k, a, b);
-      rook_rank = omega (arith, f, r, m, c, b);
       targets_apart = λ h. omega (arith, h, e);
       file_most = omega (arith, e, f, t, a, b);
       same_rank = omega (arith, e, t, a, b);

@@ -1,6 +1,6 @@
 -- The en passant square after a legal move of a sound position, in every variant that fits.
-use Rattle.std.proofs.Common.{◌≡◌, ◌≢◌, ℕ, ◌+◌, ◌/◌, ◌%◌, ◌<◌, ◌≤◌, Bool, true, false, not, ◌&&◌, ◌||◌, if◌then◌else◌, ◌⊎◌, inl, inr, Option, Some, None, List, length, pos, negsuc, refl, ap, sym, ◌∙◌, subst, arith, ◌==◌, nat_lt, is_none}
-use Rattle.std.proofs.lemmas.Bool.Decides.{Decides-eqb, nat_tests}
+use Rattle.std.proofs.Common.{◌≡◌, ◌≢◌, ℕ, ◌/◌, ◌%◌, ◌<◌, ◌≤◌, Bool, true, false, ◌&&◌, ◌||◌, if◌then◌else◌, inl, inr, Option, Some, None, length, pos, negsuc, refl, ap, sym, ◌∙◌, subst, arith, nat_lt, is_none}
+use Rattle.std.proofs.lemmas.Bool.Decides.{nat_tests}
 use Rattle.rules_model.specs.declared.board.Board.{Board}
 use Rattle.rules_model.specs.declared.board.Cell.{Cell}
 use Rattle.rules_model.specs.declared.board.Kind.{Kind}
@@ -19,11 +19,10 @@ use Rattle.rules_model.specs.Sides.{other, same_side}
 use Rattle.rules_model.specs.Kinds.{board_of, is_pawn}
 use Rattle.rules_model.specs.Regions.{in_region}
 use Rattle.rules_model.specs.Attacks.{ahead, is_diagonal, is_own_pawn, left_ahead, pawn_at, pawn_could_take, right_ahead}
-use Rattle.rules_model.specs.Pawns.{is_enemy, is_ep, is_free, is_stays, may_promote, passes_by, pawn_goes, pawn_moves, pawn_promo, steps_twice}
+use Rattle.rules_model.specs.Pawns.{is_enemy, is_free, is_stays, may_promote, passes_by, pawn_goes, pawn_moves, pawn_promo, steps_twice}
 use Rattle.rules_model.specs.Next.{cells_after, ep_after, ep_where, is_double_step, square_at}
 use Rattle.rules_model.specs.Sound.{is_sound_ep, lies_in, on_board, was_passed}
-use Rattle.rules_model.proofs.CandidateLaws.{at_some, both_of, gated_go, not_both, one_of, PawnGoes, PieceGoes, plain_go}
-use Rattle.rules_model.proofs.VariantLaws.{step_board}
+use Rattle.rules_model.proofs.CandidateLaws.{at_some, both_of, gated_go, not_both, one_of, plain_go}
 use Rattle.sound_play.proofs.AfterLaws.{IsReady}
 use Rattle.sound_play.proofs.CellLemmas.{moved, moved-from, moved-other, moved-to}
 use Rattle.sound_play.proofs.PassingLaws.{advances, ahead_one, same_file_one, same_file_two, step_one, step_two}

@@ -1,25 +1,16 @@
 -- What the hands hold after a legal move of a sound position, and how many pieces there are, in every variant that fits.
-use Rattle.std.proofs.Common.{◌≡◌, ◌≢◌, ℕ, ◌+◌, ◌-◌, ◌<◌, ◌≤◌, Bool, true, false, not, ◌&&◌, ◌||◌, if◌then◌else◌, ◌⊎◌, inl, inr, Option, Some, None, List, [], length, get_or, sum, refl, ap, sym, ◌∙◌, subst, arith, ◌==◌, nat_lt, is_some, slice_index}
-use Rattle.std.specs.Prelude.{count_by, slice_set}
+use Rattle.std.proofs.Common.{◌≡◌, ◌≢◌, ℕ, ◌+◌, ◌-◌, ◌<◌, ◌≤◌, true, ◌⊎◌, inl, inr, List, [], length, sum, ap, sym, ◌∙◌, subst, arith, nat_lt, slice_index}
+use Rattle.std.specs.Prelude.{slice_set}
 use Rattle.std.proofs.lemmas.Bool.{cases_eq, cases_lt}
 use Rattle.std.proofs.lemmas.Bool.Decides.{nat_tests}
 use Rattle.std.proofs.lemmas.List.{get_or-set_other, get_or-set_same, get_or_past, set_past}
 use Rattle.std.proofs.lemmas.List.Sums.{sum_by-set}
-use Rattle.foundation.specs.Count.{all_below}
-use Rattle.foundation.proofs.CountLemmas.{all_below-each, all_below-true}
-use Rattle.foundation.proofs.SetLemmas.{one_if}
-use Rattle.rules_model.specs.declared.board.Cell.{Cell}
 use Rattle.rules_model.specs.declared.board.Kind.{Kind}
-use Rattle.rules_model.specs.declared.board.Repeat.{Repeat}
 use Rattle.rules_model.specs.declared.board.Side.{Side}
 use Rattle.rules_model.specs.declared.board.Side.TheVariants.{White, Black}
-use Rattle.rules_model.specs.declared.board.Square.{Square}
-use Rattle.rules_model.specs.declared.rules.Rules.{Rules}
-use Rattle.rules_model.specs.Sides.{other, same_side, side_index}
-use Rattle.rules_model.specs.Hands.{hand_of, holds, in_hand, put_at_gate, put_down, taken_in, with_hand}
-use Rattle.rules_model.specs.Ends.{is_of}
-use Rattle.rules_model.specs.Next.{gated, hand_kind, take_into}
-use Rattle.sound_play.proofs.TargetLaws.{by_contradiction, side_cases}
+use Rattle.rules_model.specs.Sides.{other, side_index}
+use Rattle.rules_model.specs.Hands.{hand_of, holds, in_hand, put_down, taken_in, with_hand}
+use Rattle.sound_play.proofs.TargetLaws.{side_cases}
 
 -- ---- one hand
 

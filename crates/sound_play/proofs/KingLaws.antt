@@ -187,10 +187,6 @@ taken_no_king rules fit r x from to promo side size sound l k here h =
 
 -- ---- the count of kings
 
-gate_no_king : (rules : Rules) (side : Side) (mover : Side) (gate : Option Kind) → ((kind : Kind) → gate ≡ Some kind → is_king rules kind ≡ false) → is_own_king rules side (gated mover gate) ≡ false
-gate_no_king rules side mover None h = refl
-gate_no_king rules side mover (Some kind) h = no_king_of rules side (fresh mover kind) (h kind refl)
-
 go_kings : (rules : Rules) (fit : IsFit rules) (r : Repeat) (x : Cell) (from to : Square) (promo : Promo) (gate : Option Kind) (side : Side) → length rules.kinds ≡ 26 → length r.cells ≡ 120 → is_sound_repeat rules r ≡ true → from.0 < 120 → to.0 < 120 → IsFitPromo promo → cell_at r.cells from.0 ≡ Some x → PieceGoes rules r x from to promo ⊎ PawnGoes rules r x from to promo → is_own_king rules side (gated r.side gate) ≡ false → count_by (is_own_king rules side) (cells_after rules r (Go from to promo gate)) ≡ count_by (is_own_king rules side) r.cells
 go_kings rules fit r x from to promo gate side kinds size sound l k j here h none =
     let a = go-count (is_own_king rules side) rules r x from to promo gate refl sound (go_leaves rules r x from to promo size sound l k here h) in
@@ -198,9 +194,6 @@ go_kings rules fit r x from to promo gate side kinds size sound l k j here h non
     let c : one_if (is_own_king rules side (gated r.side gate)) ≡ 0 = ap one_if none in
     let d : one_if (is_own_king rules side (promote rules (Some x) promo)) ≡ one_if (is_own_king rules side (Some x)) = ap one_if (promo_king rules fit r x from to promo side kinds j h) in
     omega (arith, a, b, c, d)
-
-some_kind : (a b : Kind) → Some a ≡ Some b → a ≡ b
-some_kind a b e = cc
 
 candidate_kings : (rules : Rules) (fit : IsFit rules) (r : Repeat) (m : Move) (side : Side) → length rules.kinds ≡ 26 → length r.cells ≡ 120 → is_sound_repeat rules r ≡ true → IsFitMove m → is_candidate rules r m ≡ true → count_by (is_own_king rules side) (cells_after rules r m) ≡ count_by (is_own_king rules side) r.cells
 candidate_kings rules fit r (Go from to promo None) side kinds size sound l e =

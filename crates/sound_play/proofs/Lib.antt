@@ -13,4 +13,3 @@ pub mod StandLaws
 pub mod PassingLaws
 pub mod DoubleLaws
 pub mod NextLaws
-pub mod BuiltLaws

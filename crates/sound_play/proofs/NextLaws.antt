@@ -1,8 +1,8 @@
 -- The position after a legal move of a sound position is sound, in every variant that fits.
-use Rattle.std.proofs.Common.{◌≡◌, ◌≢◌, ℕ, ◌+◌, ◌-◌, ◌<◌, ◌≤◌, Bool, true, false, not, ◌&&◌, ◌||◌, if◌then◌else◌, ◌⊎◌, inl, inr, Option, None, List, length, refl, ap, sym, ◌∙◌, subst, arith, ◌==◌, nat_le, slice_index}
+use Rattle.std.proofs.Common.{◌≡◌, ℕ, ◌+◌, ◌-◌, ◌≤◌, Bool, true, false, ◌&&◌, ◌||◌, if◌then◌else◌, inl, inr, Option, List, length, refl, ap, sym, ◌∙◌, subst, arith, ◌==◌, nat_le, slice_index}
 use Rattle.std.specs.Prelude.{slice_set}
 use Rattle.std.proofs.lemmas.Bool.{leb-true, le-leb}
-use Rattle.std.proofs.lemmas.Bool.Decides.{Decides-eqb, nat_tests}
+use Rattle.std.proofs.lemmas.Bool.Decides.{Decides-eqb}
 use Rattle.foundation.specs.Member.{Member}
 use Rattle.foundation.proofs.CountLemmas.{all_below-true}
 use Rattle.rules_model.specs.declared.board.Cell.{Cell}
@@ -22,7 +22,7 @@ use Rattle.rules_model.specs.Legal.{legal}
 use Rattle.rules_model.specs.Fit.{IsFit}
 use Rattle.rules_model.specs.Promised.{HasSizes}
 use Rattle.rules_model.specs.Sound.{is_sound, is_sound_ep, is_sound_repeat, sound_gate}
-use Rattle.rules_model.proofs.CandidateLaws.{legal_candidate, one_of}
+use Rattle.rules_model.proofs.CandidateLaws.{legal_candidate}
 use Rattle.rules_model.proofs.LegalLaws.{legal-member}
 use Rattle.rules_model.proofs.PlayLaws.{next-is}
 use Rattle.rules_model.proofs.VariantLaws.{legal_of_variant}

@@ -1,20 +1,17 @@
 -- The pieces that stand on the board after a legal move of a sound position, in every variant that fits.
-use Rattle.std.proofs.Common.{◌≡◌, ◌≢◌, ℕ, ◌+◌, ◌/◌, ◌%◌, ◌<◌, ◌≤◌, Bool, true, false, not, ◌&&◌, ◌||◌, if◌then◌else◌, ◌⊎◌, inl, inr, Option, Some, None, List, length, refl, ap, sym, ◌∙◌, subst, arith, ◌==◌, nat_lt, is_some}
+use Rattle.std.proofs.Common.{◌≡◌, ℕ, ◌<◌, true, ◌&&◌, inl, inr, Option, Some, None, List, length, refl, sym, subst}
 use Rattle.std.specs.Prelude.{slice_set}
 use Rattle.std.proofs.lemmas.Bool.{cases_eq, cases_lt}
-use Rattle.std.proofs.lemmas.Bool.Decides.{Decides-eqb, nat_tests}
 use Rattle.std.proofs.lemmas.List.{set_past}
 use Rattle.foundation.specs.Count.{all_below}
 use Rattle.foundation.proofs.CountLemmas.{all_below-each, all_below-true}
 use Rattle.rules_model.specs.declared.board.Cell.{Cell}
 use Rattle.rules_model.specs.declared.board.Kind.{Kind}
-use Rattle.rules_model.specs.declared.board.Repeat.{Repeat}
 use Rattle.rules_model.specs.declared.board.Side.{Side}
-use Rattle.rules_model.specs.declared.board.Square.{Square}
 use Rattle.rules_model.specs.declared.rules.Rules.{Rules}
 use Rattle.rules_model.specs.Squares.{cell_at}
 use Rattle.rules_model.specs.Kinds.{has_kind}
-use Rattle.rules_model.specs.Next.{emptied, fresh, gated}
+use Rattle.rules_model.specs.Next.{emptied, fresh}
 use Rattle.rules_model.specs.Sound.{is_origin, is_sound_cell, on_board, sound_at}
 use Rattle.rules_model.proofs.CandidateLaws.{both_of}
 use Rattle.sound_play.proofs.CellLemmas.{cell_at-set_other, cell_at-set_same}

@@ -1,51 +1,34 @@
 -- Pieces and hands stay sound, and do not grow in number, in every variant that fits.
-use Rattle.std.proofs.Common.{◌≡◌, ◌≢◌, ℕ, ◌+◌, ◌/◌, ◌%◌, ◌<◌, ◌≤◌, Bool, true, false, not, ◌&&◌, ◌||◌, if◌then◌else◌, ◌⊎◌, inl, inr, Option, Some, None, List, [], ◌∷◌, length, max, refl, ap, sym, ◌∙◌, subst, arith, ◌==◌, nat_lt, is_some, unwrap_or}
-use Rattle.std.specs.Prelude.{count_by, slice_set}
-use Rattle.std.specs.List.{list_all}
-use Rattle.std.proofs.lemmas.Bool.Decides.{Decides-eqb, nat_tests}
+use Rattle.std.proofs.Common.{◌≡◌, ℕ, ◌<◌, Bool, true, false, not, ◌&&◌, ◌||◌, if◌then◌else◌, ◌⊎◌, inl, inr, Option, Some, None, List, length, refl, sym, subst, arith, unwrap_or}
+use Rattle.std.proofs.lemmas.Bool.Decides.{Decides-eqb}
 use Rattle.foundation.specs.Count.{all_below}
-use Rattle.foundation.specs.Member.{Member}
-use Rattle.foundation.specs.Tests.{same_bool}
 use Rattle.foundation.proofs.CountLemmas.{all_below-each, all_below-true}
-use Rattle.foundation.proofs.SetLemmas.{one_if}
 use Rattle.rules_model.specs.declared.board.Cell.{Cell}
 use Rattle.rules_model.specs.declared.board.Kind.{Kind}
 use Rattle.rules_model.specs.declared.board.Repeat.{Repeat}
 use Rattle.rules_model.specs.declared.board.Side.{Side}
 use Rattle.rules_model.specs.declared.board.Side.TheVariants.{White, Black}
 use Rattle.rules_model.specs.declared.board.Square.{Square}
-use Rattle.rules_model.specs.declared.board.Wing.{Wing}
-use Rattle.rules_model.specs.declared.moves.Move.{Move}
-use Rattle.rules_model.specs.declared.moves.Move.TheVariants.{Go, Castle, Drop}
-use Rattle.rules_model.specs.declared.moves.Placed.{Placed}
 use Rattle.rules_model.specs.declared.moves.Promo.{Promo}
 use Rattle.rules_model.specs.declared.moves.Promo.TheVariants.{Stays, Pawn, Plus}
 use Rattle.rules_model.specs.declared.rules.KindRule.{KindRule}
 use Rattle.rules_model.specs.declared.rules.Rules.{Rules}
 use Rattle.rules_model.specs.Squares.{cell_at}
-use Rattle.rules_model.specs.Sides.{other, same_side}
+use Rattle.rules_model.specs.Sides.{same_side}
 use Rattle.rules_model.specs.Kinds.{has_kind, is_king, is_pawn, kind_rule, masks, names, promoted_of, rule_promoted}
 use Rattle.rules_model.specs.Attacks.{is_own_king}
-use Rattle.rules_model.specs.Hands.{hand_of, holds, in_hand, put_at_gate, put_down, taken_in}
-use Rattle.rules_model.specs.Gating.{castle_gates, gates_from}
+use Rattle.rules_model.specs.Hands.{holds, put_at_gate, put_down, taken_in}
 use Rattle.rules_model.specs.Pawns.{behind, passes_by}
-use Rattle.rules_model.specs.Castling.{rook_target}
-use Rattle.rules_model.specs.Candidates.{is_candidate}
-use Rattle.rules_model.specs.Ends.{is_of, pieces_of}
-use Rattle.rules_model.specs.Next.{after_promo, castled, cell_on, cells_after, emptied, fresh, gated, hand_kind, hands_after, next_repeat, placed_kind, placed_on, plus, promote, take_into, taken}
-use Rattle.rules_model.specs.Legal.{legal}
-use Rattle.rules_model.specs.Moves.{IsFitMove, IsFitPromo}
-use Rattle.rules_model.specs.Sound.{has_hands, is_origin, is_sound_cell, is_sound_repeat, on_board, sound_at, sound_in_hand}
-use Rattle.rules_model.specs.Fit.{fits_pawn, fits_rule, fits_term, IsFit, is_there, kind_fits, mask_fits}
-use Rattle.rules_model.specs.Promised.{IsGateOf, IsMoveOf, IsPlacedOf}
-use Rattle.rules_model.proofs.CandidateLaws.{both_of, castle_gate, castle_is, Castles, drop_is, false_of_not, gated_go, legal_candidate, not_both, one_of, PawnGoes, PieceGoes, plain_go}
-use Rattle.rules_model.proofs.LegalLaws.{legal-member}
-use Rattle.rules_model.proofs.VariantLaws.{legal_of_variant}
-use Rattle.sound_play.proofs.CountLaws.{castle-count, castle_files, cell_within, drop-count, dropped_free, go-count, go_leaves, Passes, passes_by-is}
-use Rattle.sound_play.proofs.HandLaws.{held-taken_in, held_by_both, put_down-both, put_down-held, taken_in-both, taken_in-held}
-use Rattle.sound_play.proofs.KingLaws.{held_no_king, kind_below, named, pawn_becomes, pawn_no_king, piece_becomes, promoted_no_king, promoted_rule, taken_no_king}
-use Rattle.sound_play.proofs.PieceLaws.{all_sound, are_sound, AreSound, sound_emptied, sound_fresh, sound_set, sound_there}
-use Rattle.sound_play.proofs.SoundLaws.{repeat_parts, side_of, side_parts, SoundRepeat}
+use Rattle.rules_model.specs.Next.{cell_on, hand_kind, plus, promote, take_into, taken}
+use Rattle.rules_model.specs.Moves.{IsFitPromo}
+use Rattle.rules_model.specs.Sound.{has_hands, is_origin, is_sound_cell, is_sound_repeat, on_board, sound_in_hand}
+use Rattle.rules_model.specs.Fit.{fits_rule, IsFit, is_there, kind_fits, mask_fits}
+use Rattle.rules_model.proofs.CandidateLaws.{both_of, one_of, PawnGoes, PieceGoes}
+use Rattle.sound_play.proofs.CountLaws.{cell_within}
+use Rattle.sound_play.proofs.HandLaws.{put_down-held, taken_in-held}
+use Rattle.sound_play.proofs.KingLaws.{kind_below, named, pawn_becomes, pawn_no_king, piece_becomes, promoted_no_king, promoted_rule}
+use Rattle.sound_play.proofs.PieceLaws.{AreSound, sound_there}
+use Rattle.sound_play.proofs.SoundLaws.{repeat_parts, side_of, side_parts}
 
 -- ---- what a hand may hold
 
@@ -183,9 +166,6 @@ plus_sound rules fit s t x (Some q) kinds e sound l =
 pawn_origin : (rules : Rules) (kind o : Kind) (b : Bool) → rules.to_hand ≡ b → is_pawn rules o ≡ true → masks rules.promotion_kinds kind ≡ true → is_origin rules kind (if b then Some o else None) ≡ true
 pawn_origin rules kind o true on pawn mask = rw (on, pawn, mask)
 pawn_origin rules kind o false on pawn mask = refl
-
-mask_there : (a b : Bool) → (not a || b) ≡ true → a ≡ true → b ≡ true
-mask_there = held_then
 
 pub becomes_sound : (rules : Rules) (fit : IsFit rules) (r : Repeat) (x : Cell) (from to : Square) (promo : Promo) → length rules.kinds ≡ 26 → IsFitPromo promo → PieceGoes rules r x from to promo ⊎ PawnGoes rules r x from to promo → is_sound_cell rules from.0 (Some x) ≡ true → on_board rules to.0 ≡ true → is_sound_cell rules to.0 (promote rules (Some x) promo) ≡ true
 unfolding mask_fits

@@ -1,11 +1,10 @@
 -- What stands still: pieces that a move neither moves nor takes, and the rights and gates that rest on them.
-use Rattle.std.proofs.Common.{◌≡◌, ◌≢◌, ℕ, ◌+◌, ◌-◌, ◌*◌, ◌/◌, ◌%◌, ◌^◌, ◌<◌, ◌≤◌, Bool, true, false, not, ◌&&◌, ◌||◌, if◌then◌else◌, min, ◌⊎◌, inl, inr, Option, Some, None, List, length, refl, ap, sym, ◌∙◌, subst, arith, ◌==◌, nat_lt, bit_and, is_some}
+use Rattle.std.proofs.Common.{◌≡◌, ◌≢◌, ℕ, ◌+◌, ◌-◌, ◌*◌, ◌/◌, ◌%◌, ◌^◌, ◌<◌, Bool, true, false, not, ◌&&◌, ◌||◌, if◌then◌else◌, inl, inr, Option, Some, None, List, length, refl, ap, sym, ◌∙◌, subst, arith, ◌==◌, nat_lt, bit_and}
 use Rattle.std.specs.Int.{bit_at}
-use Rattle.std.proofs.lemmas.Bool.{cases_eq}
 use Rattle.std.proofs.lemmas.Bool.Decides.{Decides-eqb, nat_tests}
 use Rattle.std.proofs.lemmas.Nat.Bits.{bit_at_and}
 use Rattle.foundation.specs.Count.{all_below}
-use Rattle.foundation.proofs.CountLemmas.{all_below-each, all_below-true}
+use Rattle.foundation.proofs.CountLemmas.{all_below-each}
 use Rattle.rules_model.specs.declared.board.Cell.{Cell}
 use Rattle.rules_model.specs.declared.board.Kind.{Kind}
 use Rattle.rules_model.specs.declared.board.Repeat.{Repeat}
@@ -15,13 +14,12 @@ use Rattle.rules_model.specs.declared.board.Square.{Square}
 use Rattle.rules_model.specs.declared.board.Wing.{Wing}
 use Rattle.rules_model.specs.declared.moves.Move.{Move}
 use Rattle.rules_model.specs.declared.moves.Move.TheVariants.{Go, Castle, Drop}
-use Rattle.rules_model.specs.declared.moves.Placed.{Placed}
 use Rattle.rules_model.specs.declared.rules.Rules.{Rules}
 use Rattle.rules_model.specs.Squares.{cell_at}
 use Rattle.rules_model.specs.Reach.{is_at}
-use Rattle.rules_model.specs.Sides.{same_side, side_index}
+use Rattle.rules_model.specs.Sides.{same_side}
 use Rattle.rules_model.specs.Kinds.{is_king, is_pawn}
-use Rattle.rules_model.specs.Regions.{castling_rank, castling_square, first_rank, on_first_rank}
+use Rattle.rules_model.specs.Regions.{castling_square, first_rank, on_first_rank}
 use Rattle.rules_model.specs.Attacks.{is_own, is_own_king}
 use Rattle.rules_model.specs.Gates.{closed_at, has_gate, without_gate}
 use Rattle.rules_model.specs.Castling.{castling_on, holds_right, rook_file, rook_target}
@@ -30,11 +28,10 @@ use Rattle.rules_model.specs.Next.{castled, cells_after, emptied, enters, gates_
 use Rattle.rules_model.specs.Sound.{sound_gate, sound_right, sound_rook}
 use Rattle.rules_model.specs.Fit.{gates_amiss, IsFit, rook_is_pawn}
 use Rattle.rules_model.proofs.CandidateLaws.{at_some, both_of, castle_gate, castle_is, drop_is, false_of_not, not_both, one_of, rook_file-some}
-use Rattle.rules_model.proofs.VariantLaws.{castling_on-is}
 use Rattle.sound_play.proofs.AfterLaws.{goes, IsReady}
 use Rattle.sound_play.proofs.CellLemmas.{cell_at-set_other}
 use Rattle.sound_play.proofs.CountLaws.{castle_places, dropped_free, Passes, passes_by-is}
-use Rattle.sound_play.proofs.FieldLaws.{closed_at-kept, gate_was_open, right_was_held, rights_after-is}
+use Rattle.sound_play.proofs.FieldLaws.{closed_at-kept, gate_was_open, rights_after-is}
 use Rattle.sound_play.proofs.KingLaws.{pawn_no_king}
 use Rattle.sound_play.proofs.SoundLaws.{repeat_parts, side_of, side_parts}
 use Rattle.sound_play.proofs.TargetLaws.{by_contradiction, no_king_taken}
