@@ -36,6 +36,7 @@ use Rattle.sound_play.proofs.PieceLaws.{are_sound, AreSound, sound_emptied, soun
 use Rattle.sound_play.proofs.PlayLaws.{becomes_sound, fit_hands, fit_put_at_gate, fit_put_down, fit_take_into, FitHands, taken_sound, TakenSound}
 use Rattle.sound_play.proofs.SizeLaws.{AreHands, take_into-size}
 use Rattle.sound_play.proofs.SoundLaws.{repeat_parts}
+use Rattle.sound_play.proofs.TestLemmas.{lt_from, same_some}
 
 -- ---- a candidate, by what it does
 
@@ -46,9 +47,6 @@ pub record Goes (rules : Rules) (r : Repeat) (from to : Square) (promo : Promo) 
   pub how : PieceGoes rules r piece from to promo ⊎ PawnGoes rules r piece from to promo
   pub held : (kind : Kind) → gate ≡ Some kind → holds r.hands r.side kind ≡ true
 
-same_gate : (a b : Kind) → Some a ≡ Some b → a ≡ b
-same_gate a b e = cc
-
 pub goes : (rules : Rules) (r : Repeat) (from to : Square) (promo : Promo) (gate : Option Kind) → is_candidate rules r (Go from to promo gate) ≡ true → Goes rules r from to promo gate
 goes rules r from to promo None e =
     let g = plain_go rules r from to promo e in
@@ -56,7 +54,7 @@ goes rules r from to promo None e =
 goes rules r from to promo (Some k) e =
     let g = gated_go rules r from to promo k e in
     let h = (both_of _ (holds r.hands r.side k) g.3).1 in
-    record { piece = g.0; here = g.1; how = inl g.2; held = λ kind f. subst (λ j. holds r.hands r.side j ≡ true) (same_gate k kind f) h }
+    record { piece = g.0; here = g.1; how = inl g.2; held = λ kind f. subst (λ j. holds r.hands r.side j ≡ true) (same_some k kind f) h }
 
 -- what a candidate needs of its position
 pub record IsReady (rules : Rules) (r : Repeat) (m : Move) : Type 0 where
@@ -90,13 +88,10 @@ passed_sound rules cells false at h = h
 gate_kind : (rules : Rules) (r : Repeat) (from to : Square) (promo : Promo) (gate : Option Kind) → IsReady rules r (Go from to promo gate) → Goes rules r from to promo gate → (kind : Kind) → gate ≡ Some kind → has_kind rules kind ≡ true
 gate_kind rules r from to promo None ready g kind e = cc
 gate_kind rules r from to promo (Some k) ready g kind e =
-    subst (λ j. has_kind rules j ≡ true) (same_gate k kind e) (held_kind rules r k ready.sound ready.fit_move.3 (g.held k refl))
+    subst (λ j. has_kind rules j ≡ true) (same_some k kind e) (held_kind rules r k ready.sound ready.fit_move.3 (g.held k refl))
 
 file_on : (rules : Rules) (s : ℕ) → on_board rules s ≡ true → (s % 12 < rules.files) × (s / 12 < rules.ranks)
 file_on rules s e = let a = both_of (nat_lt (s % 12) rules.files) (nat_lt (s / 12) rules.ranks) e in (lt_from _ _ a.0, lt_from _ _ a.1)
-  where
-    lt_from : (a b : ℕ) → nat_lt a b ≡ true → a < b
-    lt_from a b e = grind (arith, nat_tests)
 
 on_file : (rules : Rules) (s : ℕ) → s % 12 < rules.files → s / 12 < rules.ranks → on_board rules s ≡ true
 on_file rules s h k = grind (arith, nat_tests)
@@ -191,7 +186,7 @@ put_at_gate-both hands side mover (Some kind) two h = let a = put_down-both hand
 
 castle_held : (rules : Rules) (r : Repeat) (from to rook : Square) (gate : Option Placed) → castle_gates rules r from to rook gate ≡ true → (kind : Kind) → placed_kind gate ≡ Some kind → holds r.hands r.side kind ≡ true
 castle_held rules r from to rook None e kind f = cc
-castle_held rules r from to rook (Some placed) e kind f = subst (λ j. holds r.hands r.side j ≡ true) (same_gate placed.kind kind f) (castle_gate rules r from to rook placed e).1
+castle_held rules r from to rook (Some placed) e kind f = subst (λ j. holds r.hands r.side j ≡ true) (same_some placed.kind kind f) (castle_gate rules r from to rook placed e).1
 
 castle_pieces : (rules : Rules) (r : Repeat) (from to rook : Square) (gate : Option Placed) → IsReady rules r (Castle from to rook gate) → on_board_of_both (cells_after rules r (Castle from to rook gate)) ≡ on_board_of_both r.cells + one_if (is_some (gated r.side (placed_kind gate)))
 unfolding on_board_of_both

@@ -36,10 +36,8 @@ use Rattle.rules_model.proofs.VariantLaws.{castling_on-is, sound_ep}
 use Rattle.rules_model.specs.Moves.{IsFitMove}
 use Rattle.rules_model.specs.Hands.{holds}
 use Rattle.sound_play.proofs.CellLemmas.{cell_at-set_other, cell_at-set_same, count_cells-set}
-use Rattle.sound_play.proofs.TargetLaws.{by_contradiction, go_takes}
-
-lt_from : (a b : ℕ) → nat_lt a b ≡ true → a < b
-lt_from a b e = grind (arith, nat_tests)
+use Rattle.sound_play.proofs.TargetLaws.{go_takes}
+use Rattle.sound_play.proofs.TestLemmas.{by_contradiction, lt_from, none_from, of_apart, same_some}
 
 -- a square where something stands is one of the list
 pub cell_within : (cells : List (Option Cell)) (s : ℕ) (x : Cell) → cell_at cells s ≡ Some x → s < length cells
@@ -72,10 +70,6 @@ pub record Passes (rules : Rules) (r : Repeat) (to : Square) : Type 0 where
   pub kind : is_pawn rules pawn.kind ≡ true
   pub free : cell_at r.cells to.0 ≡ None
 
-none_there : (c : Option Cell) → is_none c ≡ true → c ≡ None
-none_there None e = refl
-none_there (Some x) e = cc
-
 own_pawn_there : (rules : Rules) (side : Side) (c : Option Cell) → is_own_pawn rules side c ≡ true → (z : Cell) × (c ≡ Some z) × (same_side z.side side ≡ true) × (is_pawn rules z.kind ≡ true)
 own_pawn_there rules side None e = cc
 own_pawn_there rules side (Some z) e = let a = both_of (same_side z.side side) (is_pawn rules z.kind) e in (z, refl, a.0, a.1)
@@ -103,7 +97,7 @@ passes_from rules r to (Some ep) sound e =
       there = y.1;
       enemy = y.2;
       kind = y.3;
-      free = none_there _ (subst (λ s. is_none (cell_at r.cells s) ≡ true) same free);
+      free = none_from _ (subst (λ s. is_none (cell_at r.cells s) ≡ true) same free);
     }
 
 pub passes_by-is : (rules : Rules) (r : Repeat) (from to : Square) → is_sound_repeat rules r ≡ true → passes_by rules r from to.0 ≡ true → Passes rules r to
@@ -138,13 +132,10 @@ go_leaves rules r x from to promo size sound l k here h = record {
   apart = λ e. not_both _ (own_of rules r x from to promo h) (go_takes rules r x x from to promo sound l here h (subst (λ s. cell_at r.cells s ≡ Some x) e here)).enemy;
 }
 
-same_cell : (x z : Cell) → Some x ≡ Some z → x ≡ z
-same_cell x z e = cc
-
 passing_count : (p : Option Cell → Bool) (rules : Rules) (r : Repeat) (x : Cell) (from to : Square) (left entered : Option Cell) → p None ≡ false → Passes rules r to → Leaves rules r x from to → count_by p (slice_set (slice_set (emptied r.cells (behind rules r.side to)) from.0 left) to.0 entered) + one_if (p (cell_on r.cells (behind rules r.side to))) + one_if (p (Some x)) ≡ count_by p r.cells + one_if (p left) + one_if (p entered)
 passing_count p rules r x from to left entered none s g =
     let without = slice_set r.cells s.at None in
-    let on_start : s.at ≢ from.0 = λ e. not_both _ g.own (subst (λ (y : Cell). same_side y.side r.side ≡ false) (same_cell _ _ (sym s.there ∙ ap (cell_at r.cells) e ∙ g.here)) (not_own s.pawn.side r.side s.enemy)) in
+    let on_start : s.at ≢ from.0 = λ e. not_both _ g.own (subst (λ (y : Cell). same_side y.side r.side ≡ false) (same_some _ _ (sym s.there ∙ ap (cell_at r.cells) e ∙ g.here)) (not_own s.pawn.side r.side s.enemy)) in
     let on_target : s.at ≢ to.0 = λ e. let f : Some s.pawn ≡ None = sym s.there ∙ ap (cell_at r.cells) e ∙ s.free in cc in
     let size = length-set r.cells s.at None in
     let start = g.start in
@@ -241,15 +232,12 @@ stands_not true true true d (Some x) e ha hb hc hd = cc
 stands_not true false c d (Some x) e ha hb hc hd = cc
 stands_not false b c d (Some x) e ha hb hc hd = cc
 
-differs : (a b : ℕ) → a ≢ b → (a == b) ≡ false
-differs a b h = by_contradiction (a == b) (λ e. h ((Decides-eqb a b).0 e))
-
 file_free : (rules : Rules) (cells : List (Option Cell)) (side : Side) (target rook rook_to file : ℕ) → way_is_open rules cells side target rook rook_to ≡ true → file < 12 → lowest rules.castle_king target rook rook_to ≤ file → file ≤ highest rules.castle_king target rook rook_to → file ≢ rules.castle_king → file ≢ rook → cell_at cells (castling_square rules side file) ≡ None
 unfolding way_is_open in_the_way
 file_free rules cells side target rook rook_to file e l low high king other =
     let a = both_of (not (any_below (in_the_way rules cells side (lowest rules.castle_king target rook rook_to) (highest rules.castle_king target rook rook_to) rook) 12)) (not (any_below (king_passes_attack rules cells side target) 12)) e in
     let b = open_at (in_the_way rules cells side (lowest rules.castle_king target rook rook_to) (highest rules.castle_king target rook rook_to) rook) file (false_of_not _ a.0) l in
-    stands_not (nat_le (lowest rules.castle_king target rook rook_to) file) (nat_le file (highest rules.castle_king target rook rook_to)) (file == rules.castle_king) (file == rook) _ b (le-leb _ _ low) (le-leb _ _ high) (differs _ _ king) (differs _ _ other)
+    stands_not (nat_le (lowest rules.castle_king target rook rook_to) file) (nat_le file (highest rules.castle_king target rook rook_to)) (file == rules.castle_king) (file == rook) _ b (le-leb _ _ low) (le-leb _ _ high) (of_apart _ _ king) (of_apart _ _ other)
 
 -- the files of a castle, and the square to which the rook goes
 pub record CastleFiles (rules : Rules) (from to rook : Square) (target : ℕ) : Type 0 where
@@ -369,7 +357,7 @@ unfolding drops_to
 dropped_free rules r kind to e =
     let a = both_of _ _ (both_of _ _ (both_of _ _ e).0).0 in
     let b = both_of _ (is_none (cell_at r.cells to)) a.0 in
-    ((both_of rules.drops (holds r.hands r.side kind) b.0).1, none_there _ b.1)
+    ((both_of rules.drops (holds r.hands r.side kind) b.0).1, none_from _ b.1)
 
 pub drop-count : (p : Option Cell → Bool) (rules : Rules) (r : Repeat) (kind : Kind) (to : Square) → p None ≡ false → to.0 < length r.cells → drops_to rules r kind to.0 ≡ true → count_by p (cells_after rules r (Drop kind to)) ≡ count_by p r.cells + one_if (p (Some (fresh r.side kind)))
 unfolding cells_after

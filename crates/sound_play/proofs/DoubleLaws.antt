@@ -26,8 +26,8 @@ use Rattle.rules_model.proofs.CandidateLaws.{at_some, both_of, gated_go, not_bot
 use Rattle.sound_play.proofs.AfterLaws.{IsReady}
 use Rattle.sound_play.proofs.CellLemmas.{moved, moved-from, moved-other, moved-to}
 use Rattle.sound_play.proofs.PassingLaws.{advances, ahead_one, same_file_one, same_file_two, step_one, step_two}
-use Rattle.sound_play.proofs.SoundLaws.{joined}
-use Rattle.sound_play.proofs.TargetLaws.{by_contradiction, other_twice}
+use Rattle.sound_play.proofs.TargetLaws.{other_twice}
+use Rattle.sound_play.proofs.TestLemmas.{by_contradiction, joined, lt_from, none_from}
 
 -- ---- a double step is what its name says
 
@@ -48,10 +48,6 @@ passing_off : (rules : Rules) (r : Repeat) (from to : Square) → rules.files �
 unfolding passes_by
 passing_off rules r from to few e h = not_diagonal (board_of rules) r.side from to.0 few e (both_of _ (is_diagonal (board_of rules) r.side from to.0) h).1
 
-none_there : (c : Option Cell) → is_none c ≡ true → c ≡ None
-none_there None e = refl
-none_there (Some x) e = cc
-
 goes_twice : (rules : Rules) (r : Repeat) (from to : Square) → rules.files ≤ 12 → is_at to.0 (ahead (board_of rules) r.side from 2) ≡ true → pawn_goes rules r from to.0 ≡ true → (steps_twice rules r from to.0 ≡ true) × (cell_at r.cells to.0 ≡ None)
 unfolding pawn_goes
 goes_twice rules r from to few e h =
@@ -60,7 +56,7 @@ goes_twice rules r from to few e h =
           let a = both_of (is_none (cell_at r.cells to.0)) (is_at to.0 (ahead (board_of rules) r.side from 1) || steps_twice rules r from to.0) k in
           elim (one_of (is_at to.0 (ahead (board_of rules) r.side from 1)) (steps_twice rules r from to.0) a.1) as (λ _. (steps_twice rules r from to.0 ≡ true) × (cell_at r.cells to.0 ≡ None)) [
             | inl l ↦ absurd (one_or_two r.side _ _ (step_one (board_of rules) r.side (pos 0) from to.0 few (at_some to.0 _ l)) (step_two (board_of rules) r.side (pos 0) from to.0 few (at_some to.0 _ e)))
-            | inr l ↦ (l, none_there _ a.0)
+            | inr l ↦ (l, none_from _ a.0)
           ]
       | inr k ↦ absurd (not_diagonal (board_of rules) r.side from to.0 few e (both_of (is_enemy r.side (cell_at r.cells to.0)) (is_diagonal (board_of rules) r.side from to.0) k).1)
     ]
@@ -101,7 +97,7 @@ twice_of rules r x from to passed here own far near e =
       near = near;
       on = c.0;
       region = c.1;
-      free = none_there _ d;
+      free = none_from _ d;
     }
 
 plain_cells : (rules : Rules) (r : Repeat) (x : Cell) (from to : Square) → passes_by rules r from to.0 ≡ false → cell_at r.cells from.0 ≡ Some x → cells_after rules r (Go from to Stays None) ≡ moved r.cells from.0 to.0 x
@@ -121,9 +117,6 @@ second_one Black a b c e f = omega (arith, e, f)
 rank_apart : (side : Side) (s t : ℕ) → advances side (s / 12) (t / 12) 1 → s ≢ t
 rank_apart White s t e f = let g = ap (λ n. n / 12) f in omega (arith, e, g)
 rank_apart Black s t e f = let g = ap (λ n. n / 12) f in omega (arith, e, g)
-
-lt_from : (a b : ℕ) → nat_lt a b ≡ true → a < b
-lt_from a b e = grind (arith, nat_tests)
 
 -- the square that was passed is the en passant square of a sound position
 passed_sound : (rules : Rules) (r q : Repeat) (x : Cell) (from to : Square) (passed : ℕ) → rules.files ≤ 12 → on_board rules from.0 ≡ true → from.0 < length r.cells → to.0 < length r.cells → StepsTwice rules r x from to passed → q.cells ≡ moved r.cells from.0 to.0 x → q.side ≡ other r.side → pawn_could_take rules q.cells (other r.side) (record { 0 = passed }) ≡ true → is_sound_ep rules q (Some (record { 0 = passed })) ≡ true

@@ -1,8 +1,7 @@
 -- What the hands hold after a legal move of a sound position, and how many pieces there are, in every variant that fits.
-use Rattle.std.proofs.Common.{◌≡◌, ◌≢◌, ℕ, ◌+◌, ◌-◌, ◌<◌, ◌≤◌, true, ◌⊎◌, inl, inr, List, [], length, sum, ap, sym, ◌∙◌, subst, arith, nat_lt, slice_index}
+use Rattle.std.proofs.Common.{◌≡◌, ◌≢◌, ℕ, ◌+◌, ◌-◌, ◌<◌, ◌≤◌, true, ◌⊎◌, inl, inr, List, [], length, sum, ap, sym, ◌∙◌, subst, arith, slice_index}
 use Rattle.std.specs.Prelude.{slice_set}
 use Rattle.std.proofs.lemmas.Bool.{cases_eq, cases_lt}
-use Rattle.std.proofs.lemmas.Bool.Decides.{nat_tests}
 use Rattle.std.proofs.lemmas.List.{get_or-set_other, get_or-set_same, get_or_past, set_past}
 use Rattle.std.proofs.lemmas.List.Sums.{sum_by-set}
 use Rattle.rules_model.specs.declared.board.Kind.{Kind}
@@ -11,6 +10,7 @@ use Rattle.rules_model.specs.declared.board.Side.TheVariants.{White, Black}
 use Rattle.rules_model.specs.Sides.{other, side_index}
 use Rattle.rules_model.specs.Hands.{hand_of, holds, in_hand, put_down, taken_in, with_hand}
 use Rattle.sound_play.proofs.TargetLaws.{side_cases}
+use Rattle.sound_play.proofs.TestLemmas.{lt_from, lt_to}
 
 -- ---- one hand
 
@@ -68,12 +68,6 @@ held_with hands side kind n s k two =
           ]
       | inr e ↦ inr (ap (λ h. slice_index h k.0) (subst (λ t. hand_of (with_hand hands side kind n) t ≡ hand_of hands t) (sym e) (with_hand-other hands side kind n)))
     ]
-
-lt_from : (a b : ℕ) → nat_lt a b ≡ true → a < b
-lt_from a b e = grind (arith, nat_tests)
-
-lt_to : (a b : ℕ) → a < b → nat_lt a b ≡ true
-lt_to a b h = grind (arith, nat_tests)
 
 same_hand : (hands : List (List ℕ)) (s t : Side) (j k : Kind) → s ≡ t → j.0 ≡ k.0 → in_hand hands s j ≡ in_hand hands t k
 same_hand hands s t j k e f = ap (λ u. slice_index (hand_of hands u) j.0) e ∙ ap (λ i. slice_index (hand_of hands t) i) f

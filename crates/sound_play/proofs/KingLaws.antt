@@ -40,7 +40,8 @@ use Rattle.rules_model.proofs.CandidateLaws.{both_of, castle_gate, castle_is, dr
 use Rattle.rules_model.proofs.LegalLaws.{legal-member}
 use Rattle.sound_play.proofs.CountLaws.{castle-count, drop-count, dropped_free, go-count, go_leaves, Passes, passes_by-is}
 use Rattle.sound_play.proofs.SoundLaws.{repeat_parts, side_of, side_parts}
-use Rattle.sound_play.proofs.TargetLaws.{by_contradiction, no_king_taken}
+use Rattle.sound_play.proofs.TargetLaws.{no_king_taken}
+use Rattle.sound_play.proofs.TestLemmas.{asked, both_false, by_contradiction, neither}
 
 -- ---- kinds that are no king
 
@@ -52,10 +53,6 @@ kind_below rules kind size e =
       | inr l ↦ absurd (let g : slice_get rules.kinds kind.0 ≡ None = slice_get_past rules.kinds kind.0 (omega (arith, size, l)) in
           let h : is_some (kind_rule rules kind) ≡ false = rw g in not_both _ e h)
     ]
-
-none_of_two : (a b : Bool) → (a || b) ≡ false → (a ≡ false) × (b ≡ false)
-none_of_two true b e = cc
-none_of_two false b e = (refl, e)
 
 none_below : (f : ℕ → Bool) (k : ℕ) → any_below f 26 ≡ false → k < 26 → f k ≡ false
 none_below f k e l = by_contradiction (f k) (λ h. not_both _ (any_below-true f 26 k l h) e)
@@ -78,10 +75,6 @@ pawn_rule rules kind (Some rule) e f h =
     marked true b e h = refl
     marked false b e h = absurd (not_both b h (false_of_not b e))
 
-    asked : (a b : Bool) → (not a || b) ≡ true → a ≡ true → b ≡ true
-    asked true b e h = e
-    asked false b e h = cc
-
 -- the pawn is no king
 pub pawn_no_king : (rules : Rules) (fit : IsFit rules) (kind : Kind) → length rules.kinds ≡ 26 → is_pawn rules kind ≡ true → is_king rules kind ≡ false
 unfolding kind_fits
@@ -89,16 +82,12 @@ pawn_no_king rules fit kind size e =
     let a : is_there rules (Some kind) ≡ true = subst (λ o. is_there rules o ≡ true) (named rules.pawn kind e) fit.pawn in
     pawn_rule rules kind (kind_rule rules kind) a (all_below-each (kind_fits rules) 26 fit.kinds kind.0 (kind_below rules kind size a)) e
 
-both_false : (a b : Bool) → (a && b) ≡ false → a ≡ true → b ≡ false
-both_false true b e h = e
-both_false false b e h = cc
-
 -- what a pawn becomes is no king
 promotion_no_king : (rules : Rules) (fit : IsFit rules) (kind : Kind) → kind.0 < 26 → masks rules.promotion_kinds kind ≡ true → is_king rules kind ≡ false
 unfolding promotes_to_pawn_or_king
 promotion_no_king rules fit kind l e =
     let a = none_below (λ k. masks rules.promotion_kinds (record { 0 = k }) && is_pawn_or_king rules (record { 0 = k })) kind.0 fit.pawn_promotions l in
-    (none_of_two (is_pawn rules kind) (is_king rules kind) (both_false (masks rules.promotion_kinds kind) _ a e)).1
+    (neither (is_pawn rules kind) (is_king rules kind) (both_false (masks rules.promotion_kinds kind) _ a e)).1
 
 pub promoted_rule : (rules : Rules) (kind : Kind) (q : Kind) → promoted_of rules kind ≡ Some q → is_some (kind_rule rules kind) ≡ true
 promoted_rule rules kind q e = from_rule (kind_rule rules kind) e
@@ -114,9 +103,9 @@ promoted_no_king rules fit kind q size e =
     let l = kind_below rules kind size (promoted_rule rules kind q e) in
     let a : bad_promotion rules kind (promoted_of rules kind) ≡ false = none_below (λ k. bad_promotion rules (record { 0 = k }) (promoted_of rules (record { 0 = k }))) kind.0 fit.piece_promotions l in
     let b : bad_promotion rules kind (Some q) ≡ false = subst (λ o. bad_promotion rules kind o ≡ false) e a in
-    let c = none_of_two (is_pawn_or_king rules kind || is_pawn_or_king rules q) (is_some (promoted_of rules q)) b in
-    let d = none_of_two (is_pawn_or_king rules kind) (is_pawn_or_king rules q) c.0 in
-    ((none_of_two (is_pawn rules kind) (is_king rules kind) d.0).1, (none_of_two (is_pawn rules q) (is_king rules q) d.1).1)
+    let c = neither (is_pawn_or_king rules kind || is_pawn_or_king rules q) (is_some (promoted_of rules q)) b in
+    let d = neither (is_pawn_or_king rules kind) (is_pawn_or_king rules q) c.0 in
+    ((neither (is_pawn rules kind) (is_king rules kind) d.0).1, (neither (is_pawn rules q) (is_king rules q) d.1).1)
 
 held_as : (a h k i : Bool) → (not a || (h && k && not i)) ≡ true → a ≡ true → i ≡ false
 held_as true h k i e f = false_of_not i (both_of (h && k) (not i) e).1

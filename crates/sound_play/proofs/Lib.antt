@@ -1,3 +1,4 @@
+pub mod TestLemmas
 pub mod SizeLaws
 pub mod CellLemmas
 pub mod SoundLaws

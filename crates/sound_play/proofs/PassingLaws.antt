@@ -58,79 +58,57 @@ abbrev pub advances : Side → ℕ → ℕ → ℕ → Type 0
 advances White a b k = b ≡ a + k
 advances Black a b k = b + k ≡ a
 
-rank_of : (rank file s : ℕ) → s ≡ 12 * rank + file → file < 12 → s / 12 ≡ rank
-rank_of rank file s e l = omega (arith, e, l)
-
-file_of : (rank file s : ℕ) → s ≡ 12 * rank + file → file < 12 → s % 12 ≡ file
-file_of rank file s e l = omega (arith, e, l)
-
 step_of : (board : Board) (side : Side) (dx : ℤ) (from : Square) (k s : ℕ) → step_to (pawn_ray board side dx from) k ≡ Some s → IsStep board (pos (from.0 % 12) +ℤ (pos k *ℤ turned side dx)) (pos (from.0 / 12) +ℤ (pos k *ℤ turned side (pos 1))) s
 unfolding step_to
 step_of board side dx from k s e = square_is board _ _ _ _ s refl refl e
 
+-- where a step leads
+place_of : (board : Board) (x y : ℤ) (s : ℕ) → board.files ≤ 12 → (h : IsStep board x y s) → (s % 12 ≡ h.file) × (s / 12 ≡ h.rank)
+place_of board x y s few h =
+    let square = h.square in
+    let below = h.file_below in
+    (omega (arith, square, few, below), omega (arith, square, few, below))
+
 pub step_one : (board : Board) (side : Side) (dx : ℤ) (from : Square) (s : ℕ) → board.files ≤ 12 → step_to (pawn_ray board side dx from) 1 ≡ Some s → advances side (from.0 / 12) (s / 12) 1
 step_one board White dx from s few e =
     let h = step_of board White dx from 1 s e in
-    let below = h.file_below in
-    let a = rank_of h.rank h.file s h.square (omega (arith, few, below)) in
+    let a = (place_of board _ _ s few h).1 in
     let b = up_one (from.0 / 12) h.rank h.rank_is in
     omega (arith, a, b)
 step_one board Black dx from s few e =
     let h = step_of board Black dx from 1 s e in
-    let below = h.file_below in
-    let a = rank_of h.rank h.file s h.square (omega (arith, few, below)) in
+    let a = (place_of board _ _ s few h).1 in
     let b = down_one (from.0 / 12) h.rank h.rank_is in
     omega (arith, a, b)
 
 pub step_two : (board : Board) (side : Side) (dx : ℤ) (from : Square) (s : ℕ) → board.files ≤ 12 → step_to (pawn_ray board side dx from) 2 ≡ Some s → advances side (from.0 / 12) (s / 12) 2
 step_two board White dx from s few e =
     let h = step_of board White dx from 2 s e in
-    let below = h.file_below in
-    let a = rank_of h.rank h.file s h.square (omega (arith, few, below)) in
+    let a = (place_of board _ _ s few h).1 in
     let b = up_two (from.0 / 12) h.rank h.rank_is in
     omega (arith, a, b)
 step_two board Black dx from s few e =
     let h = step_of board Black dx from 2 s e in
-    let below = h.file_below in
-    let a = rank_of h.rank h.file s h.square (omega (arith, few, below)) in
+    let a = (place_of board _ _ s few h).1 in
     let b = down_two (from.0 / 12) h.rank h.rank_is in
     omega (arith, a, b)
 
+straight : (board : Board) (a : ℕ) (y : ℤ) (s : ℕ) → board.files ≤ 12 → IsStep board (pos a +ℤ pos 0) y s → (s % 12 ≡ a) × (s / 12 < board.ranks)
+straight board a y s few h =
+    let place = place_of board _ _ s few h in
+    let b = same_one a h.file h.file_is in
+    let rank = h.rank_below in
+    let c = place.1 in
+    (place.0 ∙ b, omega (arith, c, rank))
+
+-- straight forward one stays on the file
 pub same_file_one : (board : Board) (side : Side) (from : Square) (s : ℕ) → board.files ≤ 12 → ahead board side from 1 ≡ Some s → (s % 12 ≡ from.0 % 12) × (s / 12 < board.ranks)
-same_file_one board White from s few e =
-    let h = step_of board White (pos 0) from 1 s e in
-    let below = h.file_below in
-    let rank = h.rank_below in
-    let a = file_of h.rank h.file s h.square (omega (arith, few, below)) in
-    let b = same_one (from.0 % 12) h.file h.file_is in
-    let c = rank_of h.rank h.file s h.square (omega (arith, few, below)) in
-    (omega (arith, a, b), omega (arith, c, rank))
-same_file_one board Black from s few e =
-    let h = step_of board Black (pos 0) from 1 s e in
-    let below = h.file_below in
-    let rank = h.rank_below in
-    let a = file_of h.rank h.file s h.square (omega (arith, few, below)) in
-    let b = same_one (from.0 % 12) h.file h.file_is in
-    let c = rank_of h.rank h.file s h.square (omega (arith, few, below)) in
-    (omega (arith, a, b), omega (arith, c, rank))
+same_file_one board White from s few e = straight board (from.0 % 12) _ s few (step_of board White (pos 0) from 1 s e)
+same_file_one board Black from s few e = straight board (from.0 % 12) _ s few (step_of board Black (pos 0) from 1 s e)
 
 pub same_file_two : (board : Board) (side : Side) (from : Square) (s : ℕ) → board.files ≤ 12 → ahead board side from 2 ≡ Some s → (s % 12 ≡ from.0 % 12) × (s / 12 < board.ranks)
-same_file_two board White from s few e =
-    let h = step_of board White (pos 0) from 2 s e in
-    let below = h.file_below in
-    let rank = h.rank_below in
-    let a = file_of h.rank h.file s h.square (omega (arith, few, below)) in
-    let b = same_one (from.0 % 12) h.file h.file_is in
-    let c = rank_of h.rank h.file s h.square (omega (arith, few, below)) in
-    (omega (arith, a, b), omega (arith, c, rank))
-same_file_two board Black from s few e =
-    let h = step_of board Black (pos 0) from 2 s e in
-    let below = h.file_below in
-    let rank = h.rank_below in
-    let a = file_of h.rank h.file s h.square (omega (arith, few, below)) in
-    let b = same_one (from.0 % 12) h.file h.file_is in
-    let c = rank_of h.rank h.file s h.square (omega (arith, few, below)) in
-    (omega (arith, a, b), omega (arith, c, rank))
+same_file_two board White from s few e = straight board (from.0 % 12) _ s few (step_of board White (pos 0) from 2 s e)
+same_file_two board Black from s few e = straight board (from.0 % 12) _ s few (step_of board Black (pos 0) from 2 s e)
 
 within-is : (n a : ℕ) (z : ℤ) → z ≡ pos a → a < n → within n z ≡ Some a
 within-is n a z e l = subst (λ y. within n y ≡ Some a) (sym e) (let b : nat_lt a n ≡ true = grind (arith, nat_tests) in rw b)

@@ -29,6 +29,7 @@ use Rattle.sound_play.proofs.HandLaws.{put_down-held, taken_in-held}
 use Rattle.sound_play.proofs.KingLaws.{kind_below, named, pawn_becomes, pawn_no_king, piece_becomes, promoted_no_king, promoted_rule}
 use Rattle.sound_play.proofs.PieceLaws.{AreSound, sound_there}
 use Rattle.sound_play.proofs.SoundLaws.{repeat_parts, side_of, side_parts}
+use Rattle.sound_play.proofs.TestLemmas.{answered, asked, both_false, or_right}
 
 -- ---- what a hand may hold
 
@@ -38,23 +39,15 @@ fits_hand rules kind = has_hands rules && has_kind rules kind && not (is_king ru
 pub record FitHands (rules : Rules) (hands : List (List ℕ)) : Type 0 where
   pub each : (side : Side) (kind : Kind) → kind.0 < 26 → holds hands side kind ≡ true → fits_hand rules kind ≡ true
 
-held_then : (a b : Bool) → (not a || b) ≡ true → a ≡ true → b ≡ true
-held_then true b e h = e
-held_then false b e h = cc
-
-then_held : (a b : Bool) → (a ≡ true → b ≡ true) → (not a || b) ≡ true
-then_held true b h = h refl
-then_held false b h = refl
-
 pub fit_hands : (rules : Rules) (r : Repeat) → is_sound_repeat rules r ≡ true → FitHands rules r.hands
 unfolding sound_in_hand
 fit_hands rules r sound = record {
-  each = λ side kind l e. held_then (holds r.hands side kind) (fits_hand rules kind) (all_below-each (sound_in_hand rules r.hands side) 26 (side_parts rules r side (side_of rules r side (repeat_parts rules r sound))).hand kind.0 l) e;
+  each = λ side kind l e. asked (holds r.hands side kind) (fits_hand rules kind) (all_below-each (sound_in_hand rules r.hands side) 26 (side_parts rules r side (side_of rules r side (repeat_parts rules r sound))).hand kind.0 l) e;
 }
 
 pub sound_hands : (rules : Rules) (hands : List (List ℕ)) (side : Side) → FitHands rules hands → all_below (sound_in_hand rules hands side) 26 ≡ true
 unfolding sound_in_hand
-sound_hands rules hands side h = all_below-true (sound_in_hand rules hands side) 26 (λ k l. then_held (holds hands side (record { 0 = k })) (fits_hand rules (record { 0 = k })) (h.each side (record { 0 = k }) l))
+sound_hands rules hands side h = all_below-true (sound_in_hand rules hands side) 26 (λ k l. answered (holds hands side (record { 0 = k })) (fits_hand rules (record { 0 = k })) (h.each side (record { 0 = k }) l))
 
 pub fit_put_down : (rules : Rules) (hands : List (List ℕ)) (side : Side) (kind : Kind) → length hands ≡ 2 → FitHands rules hands → FitHands rules (put_down hands side kind)
 fit_put_down rules hands side kind two h = record { each = λ s k l e. h.each s k l (put_down-held hands side kind s k two e) }
@@ -98,11 +91,7 @@ own_side White = refl
 own_side Black = refl
 
 king_kind : (rules : Rules) (c : Cell) → ((side : Side) → is_own_king rules side (Some c) ≡ false) → is_king rules c.kind ≡ false
-king_kind rules c h = let a : (same_side c.side c.side && is_king rules c.kind) ≡ false = h c.side in plain (same_side c.side c.side) (is_king rules c.kind) a (own_side c.side)
-  where
-    plain : (a b : Bool) → (a && b) ≡ false → a ≡ true → b ≡ false
-    plain true b e f = e
-    plain false b e f = cc
+king_kind rules c h = let a : (same_side c.side c.side && is_king rules c.kind) ≡ false = h c.side in both_false (same_side c.side c.side) (is_king rules c.kind) a (own_side c.side)
 
 -- the piece that is taken is a sound one on its square
 pub record TakenSound (rules : Rules) (c : Option Cell) : Type 0 where
@@ -139,10 +128,6 @@ fit_put_at_gate rules hands side (Some kind) two h = fit_put_down rules hands si
 
 -- ---- what a piece becomes is sound
 
-or_right : (a b : Bool) → b ≡ true → (a || b) ≡ true
-or_right true b e = refl
-or_right false b e = e
-
 promoted_there : (rules : Rules) (kind q : Kind) (rule : Option KindRule) → fits_rule rules kind rule ≡ true → rule_promoted rule ≡ Some q → has_kind rules q ≡ true
 promoted_there rules kind q None e h = cc
 promoted_there rules kind q (Some rule) e h =
@@ -173,7 +158,7 @@ becomes_sound rules fit r x from to Stays kinds l h sound on = sound_there rules
 becomes_sound rules fit r x from to (Pawn kind) kinds l (inl h) sound on = absurd (piece_becomes rules r x from to kind h.2)
 becomes_sound rules fit r x from to (Pawn kind) kinds l (inr h) sound on =
     let mask = pawn_becomes rules r from to kind h.2 in
-    let a = held_then (masks rules.promotion_kinds kind) (has_kind rules kind) (all_below-each (mask_fits rules rules.promotion_kinds) 26 fit.promotion_kinds kind.0 l) mask in
+    let a = asked (masks rules.promotion_kinds kind) (has_kind rules kind) (all_below-each (mask_fits rules rules.promotion_kinds) 26 fit.promotion_kinds kind.0 l) mask in
     let b = pawn_origin rules kind x.kind rules.to_hand refl h.1 mask in
     rw (on, a, b)
 becomes_sound rules fit r x from to Plus kinds l h sound on = plus_sound rules fit from.0 to.0 x (promoted_of rules x.kind) kinds refl sound on

@@ -1,5 +1,5 @@
 -- Soundness by its parts.
-use Rattle.std.proofs.Common.{◌≡◌, ◌+◌, ◌≤◌, Bool, true, false, not, ◌&&◌, ◌||◌, refl, ◌==◌, nat_le, slice_index}
+use Rattle.std.proofs.Common.{◌≡◌, ◌+◌, ◌≤◌, true, false, not, ◌||◌, ◌==◌, nat_le, slice_index}
 use Rattle.std.proofs.lemmas.Bool.{leb-true, le-leb}
 use Rattle.foundation.specs.Count.{all_below}
 use Rattle.rules_model.specs.declared.board.Position.{Position}
@@ -14,14 +14,7 @@ use Rattle.rules_model.specs.Attacks.{king_attacked}
 use Rattle.rules_model.specs.Ends.{pieces_of}
 use Rattle.rules_model.specs.Sound.{has_its_king, is_sound, is_sound_ep, is_sound_repeat, is_sound_side, sound_at, sound_gate, sound_in_hand, sound_right}
 use Rattle.rules_model.proofs.CandidateLaws.{both_of, false_of_not}
-
-pub joined : (a b : Bool) → a ≡ true → b ≡ true → (a && b) ≡ true
-joined true b e f = f
-joined false b e f = cc
-
-not_of_false : (b : Bool) → b ≡ false → not b ≡ true
-not_of_false true e = cc
-not_of_false false e = refl
+use Rattle.sound_play.proofs.TestLemmas.{joined, not_of_false}
 
 -- ---- a repeat
 

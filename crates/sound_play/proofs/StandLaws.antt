@@ -1,7 +1,7 @@
 -- What stands still: pieces that a move neither moves nor takes, and the rights and gates that rest on them.
 use Rattle.std.proofs.Common.{◌≡◌, ◌≢◌, ℕ, ◌+◌, ◌-◌, ◌*◌, ◌/◌, ◌%◌, ◌^◌, ◌<◌, Bool, true, false, not, ◌&&◌, ◌||◌, if◌then◌else◌, inl, inr, Option, Some, None, List, length, refl, ap, sym, ◌∙◌, subst, arith, ◌==◌, nat_lt, bit_and}
 use Rattle.std.specs.Int.{bit_at}
-use Rattle.std.proofs.lemmas.Bool.Decides.{Decides-eqb, nat_tests}
+use Rattle.std.proofs.lemmas.Bool.Decides.{Decides-eqb}
 use Rattle.std.proofs.lemmas.Nat.Bits.{bit_at_and}
 use Rattle.foundation.specs.Count.{all_below}
 use Rattle.foundation.proofs.CountLemmas.{all_below-each}
@@ -34,31 +34,16 @@ use Rattle.sound_play.proofs.CountLaws.{castle_places, dropped_free, Passes, pas
 use Rattle.sound_play.proofs.FieldLaws.{closed_at-kept, gate_was_open, rights_after-is}
 use Rattle.sound_play.proofs.KingLaws.{pawn_no_king}
 use Rattle.sound_play.proofs.SoundLaws.{repeat_parts, side_of, side_parts}
-use Rattle.sound_play.proofs.TargetLaws.{by_contradiction, no_king_taken}
+use Rattle.sound_play.proofs.TargetLaws.{no_king_taken}
+use Rattle.sound_play.proofs.TestLemmas.{answered, apart_of, asked, by_contradiction, lt_from, neither, of_apart, or_neither, same_some}
 
 -- ---- pieces
-
-apart_of : (a b : ℕ) → (a == b) ≡ false → a ≢ b
-apart_of a b e f = not_both _ ((Decides-eqb a b).1 f) e
-
-of_apart : (a b : ℕ) → a ≢ b → (a == b) ≡ false
-of_apart a b h = by_contradiction (a == b) (λ e. h ((Decides-eqb a b).0 e))
-
-neither : (a b : Bool) → (a || b) ≡ false → (a ≡ false) × (b ≡ false)
-neither true b e = cc
-neither false b e = (refl, e)
-
-or_neither : (a b : Bool) → a ≡ false → b ≡ false → (a || b) ≡ false
-or_neither a b e f = rw (e, f)
-
-same_piece : (x z : Cell) → Some x ≡ Some z → x ≡ z
-same_piece x z e = cc
 
 passed_stands : (rules : Rules) (r : Repeat) (to : Square) (s : ℕ) (z : Cell) (b : Bool) → (b ≡ true → Passes rules r to) → cell_at r.cells s ≡ Some z → is_pawn rules z.kind ≡ false → cell_at (if b then emptied r.cells (behind rules r.side to) else r.cells) s ≡ Some z
 passed_stands rules r to s z false passes here kind = here
 passed_stands rules r to s z true passes here kind =
     let p = passes refl in
-    let apart : p.at ≢ s = λ e. let same = same_piece _ _ (sym p.there ∙ ap (cell_at r.cells) e ∙ here) in not_both _ (subst (λ (x : Cell). is_pawn rules x.kind ≡ true) same p.kind) kind in
+    let apart : p.at ≢ s = λ e. let same = same_some _ _ (sym p.there ∙ ap (cell_at r.cells) e ∙ here) in not_both _ (subst (λ (x : Cell). is_pawn rules x.kind ≡ true) same p.kind) kind in
     subst (λ at. cell_at (emptied r.cells at) s ≡ Some z) (sym p.is) (cell_at-set_other r.cells p.at s None apart ∙ here)
 
 castle_stands : (cells : List (Option Cell)) (from to rook : Square) (s : ℕ) → from.0 ≢ s → rook.0 ≢ s → to.0 ≢ s → rook_target from to rook ≢ s → cell_at (castled cells from to rook) s ≡ cell_at cells s
@@ -174,17 +159,6 @@ gate_stays : (rules : Rules) (r : Repeat) (m : Move) (side : Side) (file : ℕ) 
 unfolding gates_after
 gate_stays rules r m White file l left entered e = (Decides-eqb _ _).1 (side_stays rules White m _ file l left entered ((Decides-eqb _ _).0 e))
 gate_stays rules r m Black file l left entered e = (Decides-eqb _ _).1 (side_stays rules Black m _ file l left entered ((Decides-eqb _ _).0 e))
-
-lt_from : (a b : ℕ) → nat_lt a b ≡ true → a < b
-lt_from a b e = grind (arith, nat_tests)
-
-asked : (a b : Bool) → (not a || b) ≡ true → a ≡ true → b ≡ true
-asked true b e h = e
-asked false b e h = cc
-
-answered : (a b : Bool) → (a ≡ true → b ≡ true) → (not a || b) ≡ true
-answered true b h = h refl
-answered false b h = refl
 
 no_pawn_of : (rules : Rules) (fit : IsFit rules) (kind : Kind) → length rules.kinds ≡ 26 → is_king rules kind ≡ true → is_pawn rules kind ≡ false
 no_pawn_of rules fit kind kinds e = by_contradiction (is_pawn rules kind) (λ h. not_both _ e (pawn_no_king rules fit kind kinds h))

@@ -22,6 +22,7 @@ use Rattle.rules_model.specs.Sound.{is_sound_ep, is_sound_repeat, on_board, was_
 use Rattle.rules_model.proofs.CandidateLaws.{both_of, one_of, any_has, false_of_not, not_both, PieceGoes, PawnGoes}
 use Rattle.rules_model.proofs.VariantLaws.{sound_ep}
 use Rattle.sound_play.proofs.SoundLaws.{repeat_parts}
+use Rattle.sound_play.proofs.TestLemmas.{by_contradiction, or_right}
 
 -- ---- sides
 
@@ -50,10 +51,6 @@ any_more p q (x ∷ xs) h e =
       | inl a ↦ let b = h x a in rw b
       | inr a ↦ let b = any_more p q xs h a in or_right (q x) (list_any q xs) b
     ]
-  where
-    or_right : (a b : Bool) → b ≡ true → (a || b) ≡ true
-    or_right true b e = refl
-    or_right false b e = e
 
 -- what a move onto a piece is: the piece is an enemy, and the mover attacks it
 pub record Takes (rules : Rules) (r : Repeat) (to : Square) (y : Cell) : Type 0 where
@@ -127,10 +124,6 @@ king_hit rules r to y l there king hit =
     let a : is_own_king rules (other r.side) (cell_at r.cells to.0) ≡ true = subst (λ c. is_own_king rules (other r.side) c ≡ true) (sym there) king in
     let b : attacks rules r.cells (other (other r.side)) to.0 ≡ true = rw (other_twice r.side) hit in
     any_below-true (king_attacked_at rules r.cells (other r.side)) 120 to.0 l (rw (a, b))
-
-pub by_contradiction : (b : Bool) → (b ≡ true → ⊥) → b ≡ false
-by_contradiction true h = absurd (h refl)
-by_contradiction false h = refl
 
 -- no piece or pawn goes onto a king
 pub no_king_taken : (rules : Rules) (r : Repeat) (x : Cell) (from to : Square) (promo : Promo) (side : Side) → is_sound_repeat rules r ≡ true → from.0 < 120 → to.0 < 120 → cell_at r.cells from.0 ≡ Some x → PieceGoes rules r x from to promo ⊎ PawnGoes rules r x from to promo → is_own_king rules side (cell_at r.cells to.0) ≡ false
