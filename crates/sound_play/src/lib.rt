@@ -1,8 +1,7 @@
 //! What stays sound along a game: laws about positions, each the contract of a call that does nothing.
 #![tactic(auto)]
 
-ghost use Rattle.std.specs.Prelude.{◌≡◌, ◌≤◌, ℕ, true, false, length};
-ghost use Rattle.foundation.specs.Member.{Member};
+ghost use Rattle.std.specs.Prelude.{◌≡◌, ◌≤◌, ℕ, true, length};
 ghost use Rattle.rules_model.specs.declared.board.Position.{Position};
 ghost use Rattle.rules_model.specs.declared.board.Repeat.{Repeat};
 ghost use Rattle.rules_model.specs.declared.board.Side.{Side};
@@ -12,11 +11,8 @@ ghost use Rattle.rules_model.specs.declared.rules.Rules.{Rules};
 ghost use Rattle.rules_model.specs.Castling.{holds_right};
 ghost use Rattle.rules_model.specs.Fit.{IsFit};
 ghost use Rattle.rules_model.specs.Gates.{has_gate};
-ghost use Rattle.rules_model.specs.Legal.{legal};
 ghost use Rattle.rules_model.specs.Next.{next, next_repeat};
-ghost use Rattle.rules_model.specs.Promised.{HasSizes};
-ghost use Rattle.rules_model.specs.Repeats.{repeat_of};
-ghost use Rattle.rules_model.specs.Sound.{is_sound};
+ghost use Rattle.rules_model.specs.Promised.{HasSizes, NextKeepsSound};
 
 /// Every move, in every variant, keeps the lengths of a position's lists.
 pub fn moves_keep_sizes()
@@ -36,8 +32,8 @@ pub fn rights_and_gates_only_go()
     ensures gates { (rules : Rules) (r : Repeat) (m : Move) (side : Side) (file : ℕ) → has_gate (next_repeat rules r m).gates side file ≡ true → has_gate r.gates side file ≡ true }
 {}
 
-/// In every variant that fits, the position after a legal move of a sound position is sound. The lengths are those of the lists
-/// in the machine's values.
+/// In every variant that fits, the position after a legal move of a sound position is sound. The rules have their 26 kinds, and
+/// the position's lists have the lengths of its fields, as every value has them.
 pub fn legal_moves_keep_soundness()
-    ensures { (rules : Rules) (p : Position) (m : Move) → IsFit rules → length rules.kinds ≡ 26 → HasSizes (repeat_of p) → is_sound rules p ≡ true → Member m (legal rules (repeat_of p)) → is_sound rules (next rules p m) ≡ true }
+    ensures { (rules : Rules) → IsFit rules → length rules.kinds ≡ 26 → NextKeepsSound rules }
 {}
