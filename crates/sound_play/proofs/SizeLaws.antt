@@ -1,10 +1,11 @@
 -- The lengths of a position's lists after a move.
-use Rattle.std.proofs.Common.{◌≡◌, ℕ, ◌+◌, Bool, true, false, if◌then◌else◌, Option, Some, None, List, [], length, refl, ap, ◌∙◌, arith, length-set, ◌==◌}
+use Rattle.std.proofs.Common.{◌≡◌, ℕ, ◌+◌, Bool, true, false, if◌then◌else◌, Option, Some, None, List, [], length, refl, ap, ◌∙◌, arith, length-set, ◌==◌, sym, subst}
 use Rattle.std.specs.Prelude.{slice_set}
 use Rattle.std.specs.List.{list_all}
 use Rattle.foundation.proofs.SetLemmas.{list_all-set, list_all-get}
 use Rattle.rules_model.specs.declared.board.Cell.{Cell}
 use Rattle.rules_model.specs.declared.board.Kind.{Kind}
+use Rattle.rules_model.specs.declared.board.Position.{Position}
 use Rattle.rules_model.specs.declared.board.Repeat.{Repeat}
 use Rattle.rules_model.specs.declared.board.Side.{Side}
 use Rattle.rules_model.specs.declared.board.Side.TheVariants.{White, Black}
@@ -15,8 +16,10 @@ use Rattle.rules_model.specs.declared.rules.Rules.{Rules}
 use Rattle.rules_model.specs.Sides.{side_index}
 use Rattle.rules_model.specs.Hands.{hand_of, in_hand, put_at_gate, with_hand}
 use Rattle.rules_model.specs.Pawns.{behind, passes_by}
-use Rattle.rules_model.specs.Next.{cells_after, checks_after, emptied, fresh, gates_after, hand_kind, hands_after, next_repeat, placed_kind, placed_on, rights_after, take_into, taken}
+use Rattle.rules_model.specs.Next.{cells_after, checks_after, emptied, fresh, gates_after, hand_kind, hands_after, next, next_repeat, placed_kind, placed_on, rights_after, take_into, taken}
 use Rattle.rules_model.specs.Promised.{HasSizes}
+use Rattle.rules_model.specs.Repeats.{repeat_of}
+use Rattle.rules_model.proofs.PlayLaws.{next-is}
 
 -- ---- cells
 
@@ -107,3 +110,6 @@ next_repeat-sizes rules r m h =
       each_right = rights_after-each rules r m (cells_after rules r m);
       checks = checks_after-size rules r (cells_after rules r m) ∙ h.checks;
     }
+
+pub next-sizes : (rules : Rules) (p : Position) (m : Move) → HasSizes (repeat_of p) → HasSizes (repeat_of (next rules p m))
+next-sizes rules p m h = subst HasSizes (sym (next-is rules p m)) (next_repeat-sizes rules (repeat_of p) m h)

@@ -13,10 +13,12 @@ ghost use Rattle.rules_model.specs.Fit.{IsFit};
 ghost use Rattle.rules_model.specs.Gates.{has_gate};
 ghost use Rattle.rules_model.specs.Next.{next, next_repeat};
 ghost use Rattle.rules_model.specs.Promised.{HasSizes, NextKeepsSound};
+ghost use Rattle.rules_model.specs.Repeats.{repeat_of};
 
 /// Every move, in every variant, keeps the lengths of a position's lists.
 pub fn moves_keep_sizes()
-    ensures { (rules : Rules) (r : Repeat) (m : Move) → HasSizes r → HasSizes (next_repeat rules r m) }
+    ensures repeats { (rules : Rules) (r : Repeat) (m : Move) → HasSizes r → HasSizes (next_repeat rules r m) }
+    ensures positions { (rules : Rules) (p : Position) (m : Move) → HasSizes (repeat_of p) → HasSizes (repeat_of (next rules p m)) }
 {}
 
 /// Every move, in every variant, keeps the counter and the number of the move in their ranges.
