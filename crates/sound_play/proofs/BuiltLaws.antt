@@ -1,5 +1,5 @@
 -- In a variant that the program plays, legal moves of sound positions lead to sound positions.
-use Rattle.std.proofs.Common.{◌≡◌, ◌≢◌, ℕ, ◌+◌, ◌<◌, ◌≤◌, Bool, true, false, not, ◌&&◌, ◌||◌, inl, inr, Option, Some, None, List, length, refl, ap, sym, ◌∙◌, subst, arith, ◌==◌, nat_le, is_none, is_some, slice_index, sum}
+use Rattle.std.proofs.Common.{◌≡◌, ◌≢◌, ℕ, ◌<◌, ◌≤◌, Bool, true, false, not, ◌&&◌, ◌||◌, inl, inr, Option, Some, None, List, length, refl, ap, sym, ◌∙◌, subst, arith, ◌==◌, nat_le, is_none, is_some, slice_index, sum}
 use Rattle.std.specs.Prelude.{count_by, slice_get}
 use Rattle.std.specs.List.{list_all}
 use Rattle.std.proofs.lemmas.Bool.{cases_eq, cases_lt}
@@ -27,7 +27,7 @@ use Rattle.rules_model.specs.Squares.{cell_at}
 use Rattle.rules_model.specs.Sides.{other, same_side, side_index}
 use Rattle.rules_model.specs.Repeats.{repeat_of}
 use Rattle.rules_model.specs.Kinds.{has_kind, is_pawn, kind_rule, promoted_of, rule_promoted}
-use Rattle.rules_model.specs.Attacks.{is_own_king, is_own_pawn, king_attacked}
+use Rattle.rules_model.specs.Attacks.{is_own_pawn, king_attacked}
 use Rattle.rules_model.specs.Hands.{hand_of}
 use Rattle.rules_model.specs.Gates.{has_gate}
 use Rattle.rules_model.specs.Castling.{castling_on, holds_right}
@@ -35,24 +35,24 @@ use Rattle.rules_model.specs.Drops.{drops_to}
 use Rattle.rules_model.specs.Pawns.{passes_by}
 use Rattle.rules_model.specs.Pieces.{may_plus, means_castling, piece_goes, piece_moves, piece_promo}
 use Rattle.rules_model.specs.Candidates.{is_candidate}
-use Rattle.rules_model.specs.Ends.{is_of, is_ongoing, early_end, pieces_of}
+use Rattle.rules_model.specs.Ends.{is_of, pieces_of}
 use Rattle.rules_model.specs.Next.{cells_after, checks_after, ep_after, gates_after, hands_after, next, next_repeat, rights_after, take_into, taken}
-use Rattle.rules_model.specs.Legal.{is_allowed, is_safe, is_sane, legal, may_check}
-use Rattle.rules_model.specs.Allowed.{is_legal}
+use Rattle.rules_model.specs.Legal.{legal}
 use Rattle.rules_model.specs.Moves.{IsFitMove}
-use Rattle.rules_model.specs.Sound.{is_origin, is_sound, is_sound_cell, is_sound_ep, is_sound_repeat, on_board, sound_at, sound_gate, sound_in_hand, sound_right}
+use Rattle.rules_model.specs.Sound.{has_its_king, is_origin, is_sound, is_sound_cell, is_sound_ep, is_sound_repeat, on_board, sound_at, sound_gate, sound_in_hand, sound_right}
 use Rattle.rules_model.specs.Fit.{IsFit}
 use Rattle.rules_model.specs.Built.{is_built, is_leaper, is_plain, leaper_at, leaps}
 use Rattle.rules_model.specs.Promised.{HasSizes, IsMoveOf}
 use Rattle.rules_model.proofs.CandidateLaws.{both_of, castle_is, drop_is, false_of_not, gated_go, legal_candidate, not_both, PieceGoes, plain_go}
-use Rattle.rules_model.proofs.GameLaws.{next_counter-range}
 use Rattle.rules_model.proofs.LegalLaws.{legal-member}
 use Rattle.rules_model.proofs.PlayLaws.{next-is}
 use Rattle.rules_model.proofs.VariantLaws.{legal_of_variant}
-use Rattle.sound_play.proofs.CellLemmas.{moved, moved-count, moved-from, moved-other, moved-to}
-use Rattle.sound_play.proofs.FieldLaws.{gate_was_open, next_number-range, right_was_held}
+use Rattle.sound_play.proofs.CellLemmas.{moved, moved-from, moved-other, moved-to}
+use Rattle.sound_play.proofs.CountLaws.{go-count, go_leaves}
+use Rattle.sound_play.proofs.KingLaws.{next_repeat-kings, next_repeat-safe}
+use Rattle.sound_play.proofs.FieldLaws.{gate_was_open, next-counter_most, next-number_least, next-number_most, right_was_held}
 use Rattle.sound_play.proofs.SoundLaws.{position_of_parts, position_parts, repeat_of_parts, repeat_parts, side_of, side_of_parts, side_parts, SoundCounts, SoundRepeat, SoundSide}
-use Rattle.sound_play.proofs.TargetLaws.{by_contradiction, no_king_taken, other_twice, piece_takes}
+use Rattle.sound_play.proofs.TargetLaws.{by_contradiction, other_twice, piece_takes}
 
 -- ---- what the rules exclude
 
@@ -250,16 +250,11 @@ plain_at rules r x from to size sound g on s l =
       ]
     ]
 
-plain_count : (rules : Rules) (r : Repeat) (x : Cell) (from to : Square) (p : Option Cell → Bool) → length r.cells ≡ 120 → SoundRepeat rules r → GoesPlainly rules r x from to → p None ≡ false → count_by p (moved r.cells from.0 to.0 x) + one_if (p (cell_at r.cells to.0)) ≡ count_by p r.cells
-plain_count rules r x from to p size sound g none =
-    let l = g.start in
-    let k = g.target in
-    moved-count p r.cells from.0 to.0 x none (omega (arith, l, size)) (omega (arith, k, size)) (apart rules r x from to sound g) g.here
-
-plain_king : (rules : Rules) (r : Repeat) (x : Cell) (from to : Square) (side : Side) → length r.cells ≡ 120 → SoundRepeat rules r → GoesPlainly rules r x from to → count_by (is_own_king rules side) (moved r.cells from.0 to.0 x) ≡ count_by (is_own_king rules side) r.cells
-plain_king rules r x from to side size sound g =
-    let a = plain_count rules r x from to (is_own_king rules side) size sound g refl in
-    let b : one_if (is_own_king rules side (cell_at r.cells to.0)) ≡ 0 = ap one_if (no_king_taken rules r x from to Stays side (repeat_of_parts rules r sound) g.start g.target g.here (inl g.goes)) in
+plain_count : (rules : Rules) (r : Repeat) (x : Cell) (from to : Square) (p : Option Cell → Bool) → p None ≡ false → length r.cells ≡ 120 → SoundRepeat rules r → GoesPlainly rules r x from to → count_by p (cells_after rules r (Go from to Stays None)) ≤ count_by p r.cells
+plain_count rules r x from to p none size sound g =
+    let whole = repeat_of_parts rules r sound in
+    let a = go-count p rules r x from to Stays None none whole (go_leaves rules r x from to Stays size whole g.start g.target g.here (inl g.goes)) in
+    let b : one_if (p None) ≡ 0 = ap one_if none in
     omega (arith, a, b)
 
 fewer_pieces : (r q : Repeat) (side : Side) → q.hands ≡ r.hands → count_by (is_of side) q.cells ≤ count_by (is_of side) r.cells → pieces_of q side ≤ pieces_of r side
@@ -295,16 +290,16 @@ pub record FollowsPlainly (rules : Rules) (r q : Repeat) (m : Move) (x : Cell) (
   pub checks : q.checks ≡ r.checks
   pub ep : q.ep ≡ None
   pub side : q.side ≡ other r.side
+  pub kings : (side : Side) → has_its_king rules q.cells side ≡ true
   pub safe : king_attacked rules q.cells r.side ≡ false
 
 side_after : (rules : Rules) (r q : Repeat) (m : Move) (x : Cell) (from to : Square) (side : Side) → Plain rules → length r.cells ≡ 120 → SoundRepeat rules r → GoesPlainly rules r x from to → FollowsPlainly rules r q m x from to → SoundSide rules q side
 side_after rules r q m x from to side plain size sound g f =
     let s = side_parts rules r side (side_of rules r side sound) in
-    let count : count_by (is_own_king rules side) q.cells ≡ count_by (is_own_king rules side) r.cells = ap (count_by (is_own_king rules side)) f.cells ∙ plain_king rules r x from to side size sound g in
     let gone = λ (wing : Wing) (e : sound_right rules r side wing ≡ true). right_of_none rules q side wing (by_contradiction _ (λ h. not_both _ (right_was_held rules r m q.cells side wing (subst (λ rights. holds_right rights side wing ≡ true) f.rights h)) (no_right rules r side wing plain.castling e))) in
     record {
       hand = subst (λ hands. all_below (sound_in_hand rules hands side) 26 ≡ true) (sym f.hands) s.hand;
-      king = ap (λ n. is_none rules.king || (n == 1)) count ∙ s.king;
+      king = f.kings side;
       kingside = gone Kingside s.kingside;
       queenside = gone Queenside s.queenside;
       gates = all_below-true (sound_gate rules q side) 16 (λ file l. gate_of_none rules q side file (by_contradiction _ (λ h. not_both _ (gate_was_open rules r m side file (subst (λ gates. has_gate gates side file ≡ true) f.gates h)) (no_gate rules r side file plain.gating (all_below-each (sound_gate rules r side) 16 s.gates file l)))));
@@ -314,7 +309,7 @@ side_after rules r q m x from to side plain size sound g f =
 
 repeat_after : (rules : Rules) (r q : Repeat) (m : Move) (x : Cell) (from to : Square) → Plain rules → length r.cells ≡ 120 → SoundRepeat rules r → GoesPlainly rules r x from to → on_board rules to.0 ≡ true → FollowsPlainly rules r q m x from to → SoundRepeat rules q
 repeat_after rules r q m x from to plain size sound g on f =
-    let fewer = λ (side : Side). fewer_pieces r q side f.hands (let a = plain_count rules r x from to (is_of side) size sound g refl in let b : count_by (is_of side) q.cells ≡ count_by (is_of side) (moved r.cells from.0 to.0 x) = ap (count_by (is_of side)) f.cells in omega (arith, a, b)) in
+    let fewer = λ (side : Side). fewer_pieces r q side f.hands (let a = plain_count rules r x from to (is_of side) refl size sound g in let b : count_by (is_of side) q.cells ≡ count_by (is_of side) (cells_after rules r (Go from to Stays None)) = ap (count_by (is_of side)) (f.cells ∙ sym (plain_cells rules r x from to plain.pawn g.here)) in omega (arith, a, b)) in
     record {
       cells = subst (λ cells. all_below (sound_at rules cells) 120 ≡ true) (sym f.cells) (all_below-true (sound_at rules (moved r.cells from.0 to.0 x)) 120 (plain_at rules r x from to size sound g on));
       few = let a = fewer White in let b = fewer Black in let c = sound.few in omega (arith, a, b, c);
@@ -326,18 +321,9 @@ repeat_after rules r q m x from to plain size sound g on f =
 
 -- ---- the law
 
-legal_safe : (rules : Rules) (r : Repeat) (m : Move) → is_legal rules r m ≡ true → king_attacked rules (next_repeat rules r m).cells r.side ≡ false
-unfolding is_legal is_allowed is_sane is_safe
-legal_safe rules r m e =
-    let a = both_of _ _ e in
-    let b = both_of (is_ongoing (early_end rules r)) _ a.0 in
-    let c = both_of (is_candidate rules r m) _ b.1 in
-    let d = both_of _ _ c.1 in
-    false_of_not _ (both_of (not (king_attacked rules (next_repeat rules r m).cells r.side)) (may_check rules r m) d.0).0
-
-follows_plainly : (rules : Rules) (r : Repeat) (x : Cell) (from to : Square) → Plain rules → cell_at r.cells from.0 ≡ Some x → king_attacked rules (next_repeat rules r (Go from to Stays None)).cells r.side ≡ false → FollowsPlainly rules r (next_repeat rules r (Go from to Stays None)) (Go from to Stays None) x from to
+follows_plainly : (rules : Rules) (r : Repeat) (x : Cell) (from to : Square) → Plain rules → cell_at r.cells from.0 ≡ Some x → ((side : Side) → has_its_king rules (next_repeat rules r (Go from to Stays None)).cells side ≡ true) → king_attacked rules (next_repeat rules r (Go from to Stays None)).cells r.side ≡ false → FollowsPlainly rules r (next_repeat rules r (Go from to Stays None)) (Go from to Stays None) x from to
 unfolding next_repeat
-follows_plainly rules r x from to plain here safe = record {
+follows_plainly rules r x from to plain here kings safe = record {
   cells = plain_cells rules r x from to plain.pawn here;
   hands = plain_hands rules r from to plain.to_hand;
   gates = refl;
@@ -345,6 +331,7 @@ follows_plainly rules r x from to plain here safe = record {
   checks = plain_checks rules r (cells_after rules r (Go from to Stays None)) plain.check_counting;
   ep = plain_ep rules r from to (cells_after rules r (Go from to Stays None)) plain.pawn;
   side = refl;
+  kings = kings;
   safe = safe;
 }
 
@@ -354,17 +341,19 @@ next_repeat-sound rules r m fit built kinds size sound h =
     let l = legal-member rules r m h in
     let p = plain_move rules r m fit b.1 (λ kind. promoted_none rules kind kinds b.0) l.0 (legal_candidate rules r m l.1) in
     let on : IsMoveOf rules (Go p.from p.to Stays None) = subst (IsMoveOf rules) p.is (legal_of_variant rules r m fit sound h) in
-    let safe = subst (λ n. king_attacked rules (next_repeat rules r n).cells r.side ≡ false) p.is (legal_safe rules r m l.1) in
+    let kings = λ (side : Side). subst (λ n. has_its_king rules (next_repeat rules r n).cells side ≡ true) p.is (next_repeat-kings rules r m side fit kinds size sound h) in
+    let safe = subst (λ n. king_attacked rules (next_repeat rules r n).cells r.side ≡ false) p.is (next_repeat-safe rules r m h) in
     subst (λ n. is_sound_repeat rules (next_repeat rules r n) ≡ true) (sym p.is)
     (repeat_of_parts rules (next_repeat rules r (Go p.from p.to Stays None))
     (repeat_after rules r (next_repeat rules r (Go p.from p.to Stays None)) (Go p.from p.to Stays None) p.piece p.from p.to b.1 size (repeat_parts rules r sound) p.goes on.1
-    (follows_plainly rules r p.piece p.from p.to b.1 p.goes.here safe)))
+    (follows_plainly rules r p.piece p.from p.to b.1 p.goes.here kings safe)))
 
 counts_after : (rules : Rules) (p : Position) (m : Move) → SoundCounts p → SoundCounts (next rules p m)
-unfolding next
-counts_after rules p m h =
-    let n = next_number-range p.side p.number h.number_least h.number_most in
-    record { counter = next_counter-range rules (repeat_of p) m p.counter h.counter; number_least = n.0; number_most = n.1 }
+counts_after rules p m h = record {
+  counter = next-counter_most rules p m h.counter;
+  number_least = next-number_least rules p m h.number_least;
+  number_most = next-number_most rules p m h.number_most;
+}
 
 pub next-sound : (rules : Rules) (p : Position) (m : Move) → IsFit rules → is_built rules ≡ true → length rules.kinds ≡ 26 → HasSizes (repeat_of p) → is_sound rules p ≡ true → Member m (legal rules (repeat_of p)) → is_sound rules (next rules p m) ≡ true
 next-sound rules p m fit built kinds sizes sound h =

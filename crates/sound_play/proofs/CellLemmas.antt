@@ -1,5 +1,5 @@
 -- What the writes of a move leave on the squares.
-use Rattle.std.proofs.Common.{◌≡◌, ◌≢◌, ℕ, ◌+◌, ◌<◌, Bool, false, Option, Some, None, List, length, ap, sym, ◌∙◌, arith, length-set}
+use Rattle.std.proofs.Common.{◌≡◌, ◌≢◌, ℕ, ◌+◌, ◌<◌, Bool, Option, Some, None, List, length, ap, sym, ◌∙◌, arith, length-set}
 use Rattle.std.specs.Prelude.{slice_get, slice_set, count_by}
 use Rattle.std.proofs.lemmas.Option.{slice_get-get_or}
 use Rattle.foundation.proofs.SetLemmas.{count_by-set, one_if, slice_get-set_other, slice_get-set_same}
@@ -32,14 +32,3 @@ moved-from cells from to x l apart = cell_at-set_other (slice_set cells from Non
 
 pub moved-other : (cells : List (Option Cell)) (from to s : ℕ) (x : Cell) → from ≢ s → to ≢ s → cell_at (moved cells from to x) s ≡ cell_at cells s
 moved-other cells from to s x a b = cell_at-set_other (slice_set cells from None) to s (Some x) b ∙ cell_at-set_other cells from s None a
-
--- pieces that pass a test are as many as before, less one that was taken
-pub moved-count : (p : Option Cell → Bool) (cells : List (Option Cell)) (from to : ℕ) (x : Cell) → p None ≡ false → from < length cells → to < length cells → from ≢ to → cell_at cells from ≡ Some x → count_by p (moved cells from to x) + one_if (p (cell_at cells to)) ≡ count_by p cells
-moved-count p cells from to x none l k apart here =
-    let left = count_cells-set p cells from None l in
-    let size = length-set cells from None in
-    let entered = count_cells-set p (slice_set cells from None) to (Some x) (omega (arith, size, k)) in
-    let target : one_if (p (cell_at (slice_set cells from None) to)) ≡ one_if (p (cell_at cells to)) = ap (λ c. one_if (p c)) (cell_at-set_other cells from to None apart) in
-    let start : one_if (p (cell_at cells from)) ≡ one_if (p (Some x)) = ap (λ c. one_if (p c)) here in
-    let nothing : one_if (p None) ≡ 0 = ap one_if none in
-    omega (arith, left, entered, target, start, nothing)

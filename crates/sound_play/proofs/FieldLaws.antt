@@ -4,6 +4,7 @@ use Rattle.std.specs.Int.{bit_at}
 use Rattle.std.proofs.lemmas.Bool.Decides.{Decides-eqb, nat_tests}
 use Rattle.std.proofs.lemmas.Nat.Bits.{bit_at_and}
 use Rattle.rules_model.specs.declared.board.Cell.{Cell}
+use Rattle.rules_model.specs.declared.board.Position.{Position}
 use Rattle.rules_model.specs.declared.board.Repeat.{Repeat}
 use Rattle.rules_model.specs.declared.board.Side.{Side}
 use Rattle.rules_model.specs.declared.board.Side.TheVariants.{White, Black}
@@ -12,11 +13,13 @@ use Rattle.rules_model.specs.declared.board.Wing.TheVariants.{Kingside, Queensid
 use Rattle.rules_model.specs.declared.moves.Move.{Move}
 use Rattle.rules_model.specs.declared.moves.Move.TheVariants.{Go, Castle, Drop}
 use Rattle.rules_model.specs.declared.rules.Rules.{Rules}
+use Rattle.rules_model.specs.Repeats.{repeat_of}
 use Rattle.rules_model.specs.Regions.{castling_square, on_first_rank}
 use Rattle.rules_model.specs.Gates.{closed_at, has_gate}
 use Rattle.rules_model.specs.Castling.{holds_right, rook_file}
-use Rattle.rules_model.specs.Next.{gates_after, keeps_right, leaves, next_number, rights_after, risen, rook_stays, side_gates_after}
+use Rattle.rules_model.specs.Next.{cells_after, gates_after, keeps_right, leaves, next, next_number, next_repeat, rights_after, risen, rook_stays, side_gates_after}
 use Rattle.rules_model.proofs.CandidateLaws.{both_of}
+use Rattle.rules_model.proofs.GameLaws.{next_counter-range}
 
 -- ---- rights
 
@@ -61,11 +64,38 @@ unfolding gates_after
 gate_was_open rules r m White file e = gate_of _ _ (side_gates-kept rules White m _ file) e
 gate_was_open rules r m Black file e = gate_of _ _ (side_gates-kept rules Black m _ file) e
 
--- ---- the number of the move
+pub next_repeat-rights : (rules : Rules) (r : Repeat) (m : Move) (side : Side) (wing : Wing) → holds_right (next_repeat rules r m).rights side wing ≡ true → holds_right r.rights side wing ≡ true
+unfolding next_repeat
+next_repeat-rights rules r m side wing e = right_was_held rules r m (cells_after rules r m) side wing e
 
-risen_range : (n : ℕ) → 1 ≤ n → n ≤ 9999 → (1 ≤ risen n) × (risen n ≤ 9999)
-risen_range n h k = (grind (arith, nat_tests), grind (arith, nat_tests))
+pub next_repeat-gates : (rules : Rules) (r : Repeat) (m : Move) (side : Side) (file : ℕ) → has_gate (next_repeat rules r m).gates side file ≡ true → has_gate r.gates side file ≡ true
+unfolding next_repeat
+next_repeat-gates rules r m side file e = gate_was_open rules r m side file e
 
-pub next_number-range : (side : Side) (n : ℕ) → 1 ≤ n → n ≤ 9999 → (1 ≤ next_number side n) × (next_number side n ≤ 9999)
-next_number-range White n h k = (h, k)
-next_number-range Black n h k = risen_range n h k
+-- ---- the counts
+
+risen_least : (n : ℕ) → 1 ≤ n → 1 ≤ risen n
+risen_least n h = grind (arith, nat_tests)
+
+risen_most : (n : ℕ) → n ≤ 9999 → risen n ≤ 9999
+risen_most n h = grind (arith, nat_tests)
+
+number_least : (side : Side) (n : ℕ) → 1 ≤ n → 1 ≤ next_number side n
+number_least White n h = h
+number_least Black n h = risen_least n h
+
+number_most : (side : Side) (n : ℕ) → n ≤ 9999 → next_number side n ≤ 9999
+number_most White n h = h
+number_most Black n h = risen_most n h
+
+pub next-counter_most : (rules : Rules) (p : Position) (m : Move) → p.counter ≤ 9999 → (next rules p m).counter ≤ 9999
+unfolding next
+next-counter_most rules p m h = next_counter-range rules (repeat_of p) m p.counter h
+
+pub next-number_least : (rules : Rules) (p : Position) (m : Move) → 1 ≤ p.number → 1 ≤ (next rules p m).number
+unfolding next
+next-number_least rules p m h = number_least p.side p.number h
+
+pub next-number_most : (rules : Rules) (p : Position) (m : Move) → p.number ≤ 9999 → (next rules p m).number ≤ 9999
+unfolding next
+next-number_most rules p m h = number_most p.side p.number h
