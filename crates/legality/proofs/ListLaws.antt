@@ -14,7 +14,6 @@ use Rattle.rules_model.specs.Candidates.{is_piece_move}
 use Rattle.rules_model.specs.Fit.{IsFit}
 use Rattle.rules_model.specs.Legal.{is_safe, is_stuck, legal}
 use Rattle.rules_model.specs.MoveText.{move_cmp}
-use Rattle.rules_model.specs.Moves.{IsFitMove}
 use Rattle.rules_model.specs.Allowed.{is_legal}
 use Rattle.rules_model.proofs.CandidateLaws.{both_of}
 use Rattle.rules_model.proofs.LegalLaws.{legal-member, legal-sorted, member-legal, moves-unique}

@@ -8,7 +8,7 @@ ghost use Rattle.rules_model.specs.Legal as Legal;
 ghost use Rattle.rules_model.specs.Repeats.{repeat_of};
 ghost use Rattle.rules_model.specs.Sound.{is_sound};
 
-use crate::safety::{king_attacked_after, is_safe};
+use crate::safety::{is_safe, king_attacked_after};
 use crate::sizes::position_sizes;
 use attack_tables::Tables;
 use piece_moves::is_candidate;
