@@ -1,4 +1,5 @@
 pub mod BuiltLaws
 pub mod GoesLaws
 pub mod ListLaws
+pub mod MemberLaws
 pub mod PieceLaws

@@ -14,10 +14,10 @@ use Rattle.rules_model.specs.Candidates.{is_piece_move}
 use Rattle.rules_model.specs.Fit.{IsFit}
 use Rattle.rules_model.specs.Legal.{is_safe, is_stuck, legal}
 use Rattle.rules_model.specs.MoveText.{move_cmp}
-use Rattle.rules_model.specs.Moves.{IsFitMove}
 use Rattle.rules_model.specs.Allowed.{is_legal}
 use Rattle.rules_model.proofs.CandidateLaws.{both_of}
 use Rattle.rules_model.proofs.LegalLaws.{legal-member, legal-sorted, member-legal, moves-unique}
+use Rattle.piece_moves.specs.Parts.{FitPieceMoves}
 use Rattle.legality.proofs.BuiltLaws.{legal-built}
 use Rattle.legality.proofs.PieceLaws.{piece_move-fit}
 
@@ -33,15 +33,12 @@ once-filter p (x ∷ xs) a =
 
 -- ---- the list
 
--- the moves of a list that keeps of the ordinary ones those that are safe
-abbrev pub PieceMoves : Rules → Repeat → Move → Type 0
-PieceMoves rules r m = IsFitMove m × (is_piece_move rules r m ≡ true)
-
 -- what was appended to nothing
-pub pieces-listed : (rules : Rules) (r : Repeat) (none out xs : List Move) → none ≡ [] → xs ≡ out → Appends (PieceMoves rules r) none out → Lists (PieceMoves rules r) xs
-pieces-listed rules r none out xs e f a = subst (Lists (PieceMoves rules r)) (sym (f ∙ a.is ∙ ap (λ l. l ++ a.added) e)) a.each
+pub pieces-listed : (rules : Rules) (r : Repeat) (none out xs : List Move) → none ≡ [] → xs ≡ out → Appends (FitPieceMoves rules r) none out → Lists (FitPieceMoves rules r) xs
+pieces-listed rules r none out xs e f a = subst (Lists (FitPieceMoves rules r)) (sym (f ∙ a.is ∙ ap (λ l. l ++ a.added) e)) a.each
 
-pub safe-once : (rules : Rules) (r : Repeat) (xs : List Move) → Lists (PieceMoves rules r) xs → IsEachOnce (filter (is_safe rules r) xs)
+-- the safe ones stand there once each
+pub safe-once : (rules : Rules) (r : Repeat) (xs : List Move) → Lists (FitPieceMoves rules r) xs → IsEachOnce (filter (is_safe rules r) xs)
 safe-once rules r xs l = once-filter (is_safe rules r) xs l.once
 
 both_true : (a b : Bool) → a ≡ true → b ≡ true → (a && b) ≡ true
@@ -54,7 +51,7 @@ pub legal_then : (rules : Rules) (r : Repeat) (m : Move) → IsFit rules → is_
 legal_then rules r m fit b e = both_of _ _ (sym (legal-built rules r m fit b) ∙ e)
 
 -- the safe ones of the ordinary moves, in order, are the legal list
-pub legal-sorted_safe : (rules : Rules) (r : Repeat) (xs ys : List Move) → IsFit rules → is_built rules ≡ true → Lists (PieceMoves rules r) xs → IsPermutation (filter (is_safe rules r) xs) ys → IsStrictlySortedBy move_cmp ys → ys ≡ legal rules r
+pub legal-sorted_safe : (rules : Rules) (r : Repeat) (xs ys : List Move) → IsFit rules → is_built rules ≡ true → Lists (FitPieceMoves rules r) xs → IsPermutation (filter (is_safe rules r) xs) ys → IsStrictlySortedBy move_cmp ys → ys ≡ legal rules r
 legal-sorted_safe rules r xs ys fit b l h s =
     moves-unique ys (legal rules r) s (legal-sorted rules r)
     (λ m k.

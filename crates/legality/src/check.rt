@@ -8,13 +8,13 @@ ghost use Rattle.rules_model.specs.Legal as Legal;
 ghost use Rattle.rules_model.specs.Repeats.{repeat_of};
 ghost use Rattle.rules_model.specs.Sound.{is_sound};
 
-use crate::safety::{attacks_king_after, is_safe};
+use crate::safety::{is_safe, king_attacked_after};
 use crate::sizes::position_sizes;
 use attack_tables::Tables;
 use piece_moves::is_candidate;
 use rules_model::{Move, Position, Rules};
 
-/// Whether the move is legal: whether it stands in the list of `legal_moves`.
+/// Whether the move is legal: whether it stands in the list of `legal_moves`. Every value of `Move` may be asked for.
 pub fn is_legal(rules: &Rules, tables: &Tables, p: &Position, m: &Move) -> bool
     requires fit { IsFit rules.now }
     requires built { is_built rules.now ≡ true }
@@ -27,7 +27,7 @@ pub fn is_legal(rules: &Rules, tables: &Tables, p: &Position, m: &Move) -> bool
     is_candidate(rules, tables, p, m) && is_safe(rules, p, m)
 }
 
-/// Whether the legal move attacks the other side's king.
+/// Whether the legal move attacks the other side's king. The tables are not read.
 #[tactic(auto, unfolding(rules_model::specs::Legal::gives_check, rules_model::specs::Next::next_repeat))]
 pub fn gives_check(rules: &Rules, tables: &Tables, p: &Position, m: &Move) -> bool
     requires fit { IsFit rules.now }
@@ -37,5 +37,5 @@ pub fn gives_check(rules: &Rules, tables: &Tables, p: &Position, m: &Move) -> bo
     requires legal { Member m.now (Legal.legal rules.now (repeat_of p.now)) }
     ensures { result ≡ Legal.gives_check rules.now (repeat_of p.now) m.now }
 {
-    attacks_king_after(rules, p, m, p.side.other())
+    king_attacked_after(rules, p, m, p.side.other())
 }

@@ -14,7 +14,8 @@ use piece_moves::push_moves;
 use rules_model::{MoveList, Position, Rules};
 use std::alloc::Global;
 
-/// The legal moves, each once and in the byte order of their texts, or `Memory`.
+/// The legal moves, each once and in the byte order of their texts, or `Memory`: those of the rules of movement after which
+/// the mover's king is not attacked (FIDE Laws of Chess, article 3.9).
 pub fn legal_moves(
     alloc: Global,
     rules: &Rules,

@@ -14,7 +14,7 @@ use next_position::{make_move, sound_positions_have_room};
 use rules_model::{Move, Position, Rules};
 use sound_play::legal_moves_keep_soundness;
 
-/// Makes the legal move: the position is the one after it, and is sound again.
+/// Makes the legal move: the position is the one after it, and is sound again. The tables are not read.
 pub fn apply(rules: &Rules, tables: &Tables, p: &mut Position, m: &Move)
     requires fit { IsFit rules.now }
     requires built { is_built rules.now ≡ true }

@@ -14,7 +14,7 @@ use next_position::move_pieces;
 use rules_model::{Move, Position, Rules, Side, king_attacked};
 
 /// Whether the side's king is attacked after the move.
-pub(crate) fn attacks_king_after(rules: &Rules, p: &Position, m: &Move, side: Side) -> bool
+pub(crate) fn king_attacked_after(rules: &Rules, p: &Position, m: &Move, side: Side) -> bool
     requires rules { IsFit rules.now }
     requires fit { IsFitMove m.now }
     ensures { result ≡ Attacks.king_attacked rules.now (Next.cells_after rules.now (repeat_of p.now) m.now) side }
@@ -31,7 +31,7 @@ pub(crate) fn is_safe(rules: &Rules, p: &Position, m: &Move) -> bool
     requires fit { IsFitMove m.now }
     ensures { result ≡ Legal.is_safe rules.now (repeat_of p.now) m.now }
 {
-    !attacks_king_after(rules, p, m, p.side)
+    !king_attacked_after(rules, p, m, p.side)
 }
 
 /// Keeps the moves that leave the own king safe, in their order.
