@@ -12,11 +12,7 @@ use Rattle.rules_model.specs.Reach.{reaches, reaches_over, passes, is_at}
 use Rattle.rules_model.specs.Squares.{step_to}
 use Rattle.attack_tables.specs.declared.mode.Mode.{Mode}
 use Rattle.attack_tables.specs.declared.mode.Mode.TheVariants.{Quiet, Take}
-use Rattle.attack_tables.specs.Reached.{reaches_any, pawn_reaches}
-
--- a leap of one rank forward that takes
-abbrev pub diagonal : ℤ → Term
-diagonal dx = record { dx = dx; dy = pos 1; way = Leap; limit = 1; quiet = false; takes = true }
+use Rattle.attack_tables.specs.Reached.{diagonal, diagonals, reaches_any, pawn_reaches}
 
 and_true : (b : Bool) → (b && true) ≡ b
 and_true true = refl
@@ -31,8 +27,8 @@ unfolding any_below reaches_over passes
 leaps board cells side from dx to = and_true (is_at to (step_to (pawn_ray board side dx from) 1))
 
 -- a pawn reaches what the two leaps reach
-pub pawn-is : (board : Board) (cells : List (Option Cell)) (side : Side) (from : Square) (mode : Mode) (to : ℕ) → reaches_any board cells side from mode (diagonal (pos 1) ∷ diagonal (negsuc 0) ∷ []) to ≡ pawn_reaches board side from mode to
+pub pawn_is : (board : Board) (cells : List (Option Cell)) (side : Side) (from : Square) (mode : Mode) (to : ℕ) → reaches_any board cells side from mode diagonals to ≡ pawn_reaches board side from mode to
 unfolding is_diagonal
-pawn-is board cells side from Quiet to = refl
-pawn-is board cells side from Take to =
+pawn_is board cells side from Quiet to = refl
+pawn_is board cells side from Take to =
     rw (leaps board cells side from (pos 1) to, leaps board cells side from (negsuc 0) to, or_false (is_at to (step_to (pawn_ray board side (negsuc 0) from) 1)))

@@ -1,5 +1,5 @@
 -- The squares that a piece reaches in a position, as a set.
-use Rattle.std.specs.Prelude.{◌≡◌, ℕ, Bool, false, nat_lt, ◌&&◌, ◌==◌, if◌then◌else◌, Option, Some, None, List}
+use Rattle.std.specs.Prelude.{◌≡◌, ℕ, Bool, false, nat_lt, ◌&&◌, ◌==◌, if◌then◌else◌, Option, Some, None, List, [], ◌∷◌, ℤ, pos, negsuc, true}
 use Rattle.std.specs.Int.{bit_at}
 use Rattle.std.specs.List.{list_any}
 use Rattle.rules_model.specs.declared.board.Board.{Board}
@@ -9,6 +9,7 @@ use Rattle.rules_model.specs.declared.board.Side.{Side}
 use Rattle.rules_model.specs.declared.board.Square.{Square}
 use Rattle.rules_model.specs.declared.rules.Rules.{Rules}
 use Rattle.rules_model.specs.declared.rules.Term.{Term}
+use Rattle.rules_model.specs.declared.rules.Way.TheVariants.{Leap}
 use Rattle.rules_model.specs.Attacks.{is_diagonal}
 use Rattle.rules_model.specs.Kinds.{board_of, is_pawn, terms_of}
 use Rattle.rules_model.specs.Reach.{reaches}
@@ -28,6 +29,14 @@ reaches_by board cells side from mode to t = serves mode t && reaches board cell
 -- by some of the terms
 abbrev pub reaches_any : Board → List (Option Cell) → Side → Square → Mode → List Term → ℕ → Bool
 reaches_any board cells side from mode terms to = list_any (reaches_by board cells side from mode to) terms
+
+-- a leap of one rank forward that takes
+abbrev pub diagonal : ℤ → Term
+diagonal dx = record { dx = dx; dy = pos 1; way = Leap; limit = 1; quiet = false; takes = true }
+
+-- the pawn's two diagonals as such leaps
+abbrev pub diagonals : List Term
+diagonals = diagonal (pos 1) ∷ diagonal (negsuc 0) ∷ []
 
 -- the pawn's two diagonals for Take, and none for Quiet
 abbrev pub pawn_reaches : Board → Side → Square → Mode → ℕ → Bool

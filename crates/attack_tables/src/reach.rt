@@ -7,7 +7,8 @@ use crate::mode::Mode;
 use crate::squares::with;
 use rules_model::{Board, Cell, Side, Square, Term, Way, reaches_plain};
 
-fn reaches_any(
+/// Whether a piece of the side on `from` reaches the square by one of the terms that is of the mode.
+pub(crate) fn reaches_any(
     board: Board,
     cells: &[Option<Cell>; 120],
     side: Side,
@@ -43,6 +44,37 @@ pub(crate) fn squares_by_terms(
     reached
 }
 
+/// The pawn's two diagonals as leaps that take.
+fn diagonals() -> [Term; 2]
+    ensures { result ≡ Reached.diagonals }
+{
+    let right = Term {
+        dx: 1,
+        dy: 1,
+        way: Way::Leap,
+        limit: 1,
+        quiet: false,
+        takes: true,
+    };
+    [right, Term { dx: -1, ..right }]
+}
+
+/// Whether a pawn of the side on `from` reaches the square: diagonally one step forward, to take.
+#[tactic(auto, using(crate::proofs::PawnLemmas::pawn_is))]
+pub(crate) fn reaches_by_pawn(
+    board: Board,
+    cells: &[Option<Cell>; 120],
+    side: Side,
+    from: Square,
+    mode: Mode,
+    to: Square,
+) -> bool
+    requires { IsOnBoard board }
+    ensures { result ≡ Reached.pawn_reaches board side from mode to.0 }
+{
+    reaches_any(board, cells, side, &diagonals(), from, mode, to)
+}
+
 /// The squares that a pawn of the side on `from` reaches: the two diagonally one step forward, to take.
 pub(crate) fn squares_by_pawn(
     board: Board,
@@ -54,14 +86,5 @@ pub(crate) fn squares_by_pawn(
     requires { IsOnBoard board }
     ensures { Reached.IsSetBelow 120 (Reached.pawn_reaches board side from mode) result }
 {
-    let diagonal = Term {
-        dx: 1,
-        dy: 1,
-        way: Way::Leap,
-        limit: 1,
-        quiet: false,
-        takes: true,
-    };
-    let terms = [diagonal, Term { dx: -1, ..diagonal }];
-    squares_by_terms(board, cells, side, &terms, from, mode)
+    squares_by_terms(board, cells, side, &diagonals(), from, mode)
 }

@@ -6,7 +6,7 @@ ghost use Rattle.attack_tables.specs.Reached as Reached;
 
 use crate::copy::copy_of;
 use crate::mode::Mode;
-use crate::reach::{squares_by_pawn, squares_by_terms};
+use crate::reach::{reaches_any, reaches_by_pawn, squares_by_pawn, squares_by_terms};
 use foundation::Memory;
 use rules_model::kinds::{board_of, names};
 use rules_model::{Cell, Position, Rules, Side, Square, is_attacked};
@@ -53,6 +53,40 @@ fn squares_of(
     }
 }
 
+/// Whether such a piece on `from` reaches the square.
+fn reaches_as(
+    rules: &Rules,
+    cells: &[Option<Cell>; 120],
+    piece: Cell,
+    from: Square,
+    mode: Mode,
+    to: Square,
+) -> bool
+    requires { IsFit rules.now }
+    ensures { result ≡ Reached.reaches_as rules.now cells.now piece.side piece.kind from mode to.0 }
+{
+    let board = board_of(rules);
+    if names(rules.pawn, piece.kind) {
+        return reaches_by_pawn(board, cells, piece.side, from, mode, to);
+    }
+    match rules.kinds.get(piece.kind.0 as usize) {
+        Some(Some(rule)) => {
+            let terms = &rule.terms;
+            reaches_any(
+                board,
+                cells,
+                piece.side,
+                terms.items.as_slice(),
+                from,
+                mode,
+                to,
+            )
+        }
+        Some(None) => false,
+        None => false,
+    }
+}
+
 impl Tables {
     /// The tables of the rules, or `Memory`.
     pub fn new(alloc: Global, rules: &Rules) -> Result<Tables, Memory>
@@ -75,6 +109,19 @@ impl Tables {
             Some(Some(cell)) => squares_of(&self.rules, &p.cells, *cell, from, mode),
             Some(None) => 0,
             None => 0,
+        }
+    }
+
+    /// Whether the square is one of those that `reaches` answers. To ask for one costs less than to ask for all.
+    #[tactic(auto, unfolding(crate::specs::Reached::reaches_in))]
+    pub fn reaches_square(&self, p: &Position, from: Square, mode: Mode, to: Square) -> bool
+        requires { IsFit self.now }
+        ensures { result ≡ Reached.reaches_in self.now p.now.cells from mode to.0 }
+    {
+        match p.cells.get(from.0 as usize) {
+            Some(Some(cell)) => reaches_as(&self.rules, &p.cells, *cell, from, mode, to),
+            Some(None) => false,
+            None => false,
         }
     }
 

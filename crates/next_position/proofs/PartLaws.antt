@@ -1,0 +1,88 @@
+-- The parts make up the position after the move.
+use Rattle.std.proofs.Common.{◌≡◌, ℕ, Bool, true, false, ◌&&◌, not, if◌then◌else◌, List, [], ◌∷◌, Option, Some, None, refl, ap, ◌∙◌}
+use Rattle.rules_model.specs.declared.board.Cell.{Cell}
+use Rattle.rules_model.specs.declared.board.Position.{Position}
+use Rattle.rules_model.specs.declared.board.Repeat.{Repeat}
+use Rattle.rules_model.specs.declared.board.Side.{Side}
+use Rattle.rules_model.specs.declared.board.Side.TheVariants.{White, Black}
+use Rattle.rules_model.specs.declared.board.Square.{Square}
+use Rattle.rules_model.specs.declared.board.Wing.{Wing}
+use Rattle.rules_model.specs.declared.board.Wing.TheVariants.{Kingside, Queenside}
+use Rattle.rules_model.specs.declared.moves.Move.{Move}
+use Rattle.rules_model.specs.declared.moves.Move.TheVariants.{Go, Castle, Drop}
+use Rattle.rules_model.specs.declared.rules.Rules.{Rules}
+use Rattle.rules_model.specs.Repeats.{repeat_of}
+use Rattle.rules_model.specs.Sides.{other}
+use Rattle.rules_model.specs.Regions.{castling_square}
+use Rattle.rules_model.specs.Castling.{holds_right, rook_file}
+use Rattle.rules_model.specs.Next.{cells_after, checks_after, enters, ep_after, ep_where, gates_after, hands_after, is_double_step, keeps_right, leaves, next, next_counter, next_number, next_repeat, rights_after, rook_stays}
+use Rattle.next_position.specs.Parts.{cells_by, checks_by, gates_by, hands_by, is_outermost, is_passing, passed_over, rights_by, rook_left, rooks_left, standing, taken_by}
+
+pub cells_after-by : (rules : Rules) (r : Repeat) (m : Move) → cells_after rules r m ≡ cells_by rules r.side (is_passing rules r m) m r.cells
+unfolding cells_after
+cells_after-by rules r (Go from to promo gate) = refl
+cells_after-by rules r (Castle from to rook gate) = refl
+cells_after-by rules r (Drop kind to) = refl
+
+pub hands_after-by : (rules : Rules) (r : Repeat) (m : Move) → hands_after rules r m ≡ hands_by rules r.side (taken_by rules r m) m r.hands
+unfolding hands_after
+hands_after-by rules r (Go from to promo gate) = refl
+hands_after-by rules r (Castle from to rook gate) = refl
+hands_after-by rules r (Drop kind to) = refl
+
+pub gates_after-by : (rules : Rules) (r : Repeat) (m : Move) → gates_after rules r m ≡ gates_by rules m r.gates
+unfolding gates_after
+gates_after-by rules r m = refl
+
+pub checks_after-by : (rules : Rules) (r : Repeat) (later : List (Option Cell)) → checks_after rules r later ≡ checks_by rules r.side later r.checks
+unfolding checks_after
+checks_after-by rules r later = refl
+
+-- ---- the en passant square
+
+no_square : (rules : Rules) (side : Side) (later : List (Option Cell)) (b : Bool) (s : Option Square) → (if b then ep_where rules side later s else None) ≡ ep_where rules side later (if b then s else None)
+no_square rules side later true s = refl
+no_square rules side later false s = refl
+
+pub ep_after-by : (rules : Rules) (r : Repeat) (m : Move) (later : List (Option Cell)) → ep_after rules r m later ≡ ep_where rules r.side later (passed_over rules r m)
+unfolding ep_after
+ep_after-by rules r (Go from to promo gate) later = no_square rules r.side later (is_double_step rules r from to promo) _
+ep_after-by rules r (Castle from to rook gate) later = refl
+ep_after-by rules r (Drop kind to) later = refl
+
+-- ---- rights
+
+where_still : (b c : Bool) (file : ℕ) (later : Option ℕ) → (b && c && is_outermost (Some file) later) ≡ is_outermost (if b && c then Some file else None) later
+where_still true true file later = refl
+where_still true false file later = refl
+where_still false c file later = refl
+
+rook_stays-by : (rules : Rules) (side : Side) (m : Move) (file later : Option ℕ) → rook_stays rules side m file later ≡ is_outermost (standing rules side m file) later
+rook_stays-by rules side m None later = refl
+rook_stays-by rules side m (Some file) later =
+    where_still (not (leaves m (castling_square rules side file))) (not (enters m (castling_square rules side file))) file later
+
+where_held : (b : Bool) (rook later : Option ℕ) (stays : Bool) → stays ≡ is_outermost rook later → (b && stays) ≡ is_outermost (if b then rook else None) later
+where_held true rook later stays e = e
+where_held false rook later stays e = refl
+
+keeps_right-by : (rules : Rules) (r : Repeat) (m : Move) (later : List (Option Cell)) (side : Side) (wing : Wing) → keeps_right rules r m later side wing ≡ is_outermost (rook_left rules r m side wing) (rook_file rules later side wing)
+unfolding keeps_right
+keeps_right-by rules r m later side wing =
+    where_held (holds_right r.rights side wing && not (leaves m (castling_square rules side rules.castle_king))) (standing rules side m (rook_file rules r.cells side wing)) (rook_file rules later side wing) _
+    (rook_stays-by rules side m (rook_file rules r.cells side wing) (rook_file rules later side wing))
+
+pub rights_after-by : (rules : Rules) (r : Repeat) (m : Move) (later : List (Option Cell)) → rights_after rules r m later ≡ rights_by rules later White (rooks_left rules r m White) ∷ rights_by rules later Black (rooks_left rules r m Black) ∷ []
+unfolding rights_after
+rights_after-by rules r m later =
+    rw (keeps_right-by rules r m later White Kingside, keeps_right-by rules r m later White Queenside, keeps_right-by rules r m later Black Kingside, keeps_right-by rules r m later Black Queenside)
+
+-- ---- the position
+
+pub next-by : (rules : Rules) (p q : Position) (m : Move) → q.cells ≡ cells_after rules (repeat_of p) m → q.hands ≡ hands_after rules (repeat_of p) m → q.gates ≡ gates_after rules (repeat_of p) m → q.counter ≡ next_counter rules (repeat_of p) m p.counter → q.number ≡ next_number p.side p.number → q.rights ≡ rights_after rules (repeat_of p) m q.cells → q.checks ≡ checks_after rules (repeat_of p) q.cells → q.ep ≡ ep_after rules (repeat_of p) m q.cells → q.side ≡ other p.side → q ≡ next rules p m
+unfolding next next_repeat
+next-by rules p q m cells hands gates counter number rights checks ep side =
+    let rights' : q.rights ≡ rights_after rules (repeat_of p) m (cells_after rules (repeat_of p) m) = rights ∙ ap (rights_after rules (repeat_of p) m) cells in
+    let checks' : q.checks ≡ checks_after rules (repeat_of p) (cells_after rules (repeat_of p) m) = checks ∙ ap (checks_after rules (repeat_of p)) cells in
+    let ep' : q.ep ≡ ep_after rules (repeat_of p) m (cells_after rules (repeat_of p) m) = ep ∙ ap (ep_after rules (repeat_of p) m) cells in
+    λ i. record { cells = cells i; hands = hands i; gates = gates i; counter = counter i; number = number i; rights = rights' i; checks = checks' i; ep = ep' i; side = side i }

@@ -1,0 +1,67 @@
+//! The position after a move, made in place, for every variant and every move on the largest board.
+#![tactic(auto)]
+
+ghost use Rattle.std.specs.Prelude.{◌≡◌, true};
+ghost use Rattle.rules_model.specs.declared.board.Position.{Position};
+ghost use Rattle.rules_model.specs.declared.rules.Rules.{Rules};
+ghost use Rattle.rules_model.specs.Fit.{IsFit};
+ghost use Rattle.rules_model.specs.Moves.{IsFitMove};
+ghost use Rattle.rules_model.specs.Next as Next;
+ghost use Rattle.rules_model.specs.Repeats.{repeat_of};
+ghost use Rattle.rules_model.specs.Sound.{is_sound};
+ghost use Rattle.next_position.specs.Room.{HasRoom};
+
+mod counts;
+mod gates;
+mod hands;
+mod passing;
+mod pieces;
+mod rights;
+
+use rules_model::{Cells, Move, Position, Rules, Side};
+
+/// Makes of the pieces of a position those that stand there after a move.
+///
+/// It writes two to five squares, so a scratch board serves for the moves of a position one after another.
+pub fn move_pieces(rules: &Rules, p: &Position, m: &Move, cells: &mut Cells)
+    requires rules { IsFit rules.now }
+    requires fit { IsFitMove m.now }
+    requires copy { cells.old ≡ p.now.cells }
+    ensures { cells.new ≡ Next.cells_after rules.now (repeat_of p.now) m.now }
+{
+    let passing = passing::is_passing(rules, p, m);
+    pieces::write(rules, p.side, passing, m, cells);
+}
+
+/// Makes the move: pieces, hands, rights, gates, the checks left, the en passant square, both counts and the side to move
+/// are those of the position after it.
+pub fn make_move(rules: &Rules, p: &mut Position, m: &Move)
+    requires rules { IsFit rules.now }
+    requires fit { IsFitMove m.now }
+    requires room { HasRoom p.old }
+    ensures { p.new ≡ Next.next rules.now p.old m.now }
+{
+    let side = p.side;
+    let passing = passing::is_passing(rules, p, m);
+    let taken = pieces::taken(rules, p, passing, m);
+    let passed = passing::passed_over(rules, p, m);
+    let white = rights::rooks_left(rules, p, m, Side::White);
+    let black = rights::rooks_left(rules, p, m, Side::Black);
+    p.counter = counts::counter(rules, p, m, taken);
+    p.number = counts::number(side, p.number);
+    pieces::write(rules, side, passing, m, &mut p.cells);
+    hands::change(rules, side, taken, m, &mut p.hands);
+    gates::close(rules, m, &mut p.gates);
+    p.rights = [
+        rights::kept(rules, &p.cells, Side::White, white),
+        rights::kept(rules, &p.cells, Side::Black, black),
+    ];
+    counts::give_check(rules, &p.cells, side, &mut p.checks);
+    p.ep = passing::ep_square(rules, &p.cells, side, passed);
+    p.side = side.other();
+}
+
+/// A sound position has room for every move.
+pub fn sound_positions_have_room()
+    ensures { (rules : Rules) (p : Position) → is_sound rules p ≡ true → HasRoom p }
+{}

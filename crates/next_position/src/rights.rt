@@ -1,0 +1,140 @@
+//! The castling rights after a move.
+ghost use Rattle.std.specs.Prelude.{◌≡◌, ◌<◌, IfSome, Some};
+ghost use Rattle.rules_model.specs.Castling as Castling;
+ghost use Rattle.rules_model.specs.Fit.{IsFit};
+ghost use Rattle.rules_model.specs.Moves.{IsFitMove};
+ghost use Rattle.rules_model.specs.Next as Next;
+ghost use Rattle.rules_model.specs.Repeats.{repeat_of};
+ghost use Rattle.next_position.specs.Parts as Parts;
+
+use crate::pieces::rook_target;
+use rules_model::castling::{castling_square, holds_right, rook_file};
+use rules_model::{Cells, Move, Position, Rules, Side, Square, Wing};
+
+/// The files of the rooks with which a side may still castle, as far as what it had before the move tells.
+#[derive(Clone, Copy)]
+pub(crate) struct Rooks {
+    pub kingside: Option<u8>,
+    pub queenside: Option<u8>,
+}
+
+/// Whether the move leaves the square.
+fn leaves(m: &Move, at: Square) -> bool
+    ensures { result ≡ Next.leaves m.now at.0 }
+{
+    match *m {
+        Move::Go {
+            from,
+            to: _,
+            promo: _,
+            gate: _,
+        } => from.0 == at.0,
+        Move::Castle {
+            from,
+            to: _,
+            rook,
+            gate: _,
+        } => from.0 == at.0 || rook.0 == at.0,
+        Move::Drop { kind: _, to: _ } => false,
+    }
+}
+
+/// Whether the move enters the square.
+fn enters(m: &Move, at: Square) -> bool
+    requires { IsFitMove m.now }
+    ensures { result ≡ Next.enters m.now at.0 }
+{
+    match *m {
+        Move::Go {
+            from: _,
+            to,
+            promo: _,
+            gate: _,
+        } => to.0 == at.0,
+        Move::Castle {
+            from,
+            to,
+            rook,
+            gate: _,
+        } => to.0 == at.0 || rook_target(from, to, rook) == at.0,
+        Move::Drop { kind: _, to } => to.0 == at.0,
+    }
+}
+
+/// The file of the rook, where the rook stands still.
+fn standing(rules: &Rules, side: Side, m: &Move, file: Option<u8>) -> Option<u8>
+    requires rules { IsFit rules.now }
+    requires fit { IsFitMove m.now }
+    requires file { IfSome file (λ f. f < 12) }
+    ensures { result ≡ Parts.standing rules.now side m.now file }
+{
+    match file {
+        None => None,
+        Some(file) => {
+            let rook = castling_square(rules, side, file);
+            if !leaves(m, rook) && !enters(m, rook) {
+                Some(file)
+            } else {
+                None
+            }
+        }
+    }
+}
+
+/// The file of the wing's rook, where the side has the right and neither king nor rook moves.
+fn rook_left(rules: &Rules, p: &Position, m: &Move, side: Side, wing: Wing) -> Option<u8>
+    requires rules { IsFit rules.now }
+    requires fit { IsFitMove m.now }
+    ensures { result ≡ Parts.rook_left rules.now (repeat_of p.now) m.now side wing }
+{
+    if holds_right(&p.rights, side, wing)
+        && !leaves(m, castling_square(rules, side, rules.castle_king))
+    {
+        standing(rules, side, m, rook_file(rules, &p.cells, side, wing))
+    } else {
+        None
+    }
+}
+
+/// The rooks of the side that the move leaves to castle with.
+pub(crate) fn rooks_left(rules: &Rules, p: &Position, m: &Move, side: Side) -> Rooks
+    requires rules { IsFit rules.now }
+    requires fit { IsFitMove m.now }
+    ensures { result ≡ Parts.rooks_left rules.now (repeat_of p.now) m.now side }
+{
+    Rooks {
+        kingside: rook_left(rules, p, m, side, Wing::Kingside),
+        queenside: rook_left(rules, p, m, side, Wing::Queenside),
+    }
+}
+
+fn is_file(file: u8, outermost: Option<u8>) -> bool
+    ensures { result ≡ Parts.is_outermost (Some file) outermost }
+{
+    match outermost {
+        None => false,
+        Some(outermost) => outermost == file,
+    }
+}
+
+/// Whether the rook is still the outermost one.
+fn is_outermost(rules: &Rules, cells: &Cells, side: Side, wing: Wing, rook: Option<u8>) -> bool
+    requires { IsFit rules.now }
+    ensures { result ≡ Parts.is_outermost rook (Castling.rook_file rules.now cells.now side wing) }
+{
+    match rook {
+        None => false,
+        Some(file) => is_file(file, rook_file(rules, cells, side, wing)),
+    }
+}
+
+/// The rights that the side keeps, by the pieces after the move.
+pub(crate) fn kept(rules: &Rules, cells: &Cells, side: Side, rooks: Rooks) -> [bool; 2]
+    requires { IsFit rules.now }
+    ensures { result ≡ Parts.rights_by rules.now cells.now side rooks }
+{
+    [
+        is_outermost(rules, cells, side, Wing::Kingside, rooks.kingside),
+        is_outermost(rules, cells, side, Wing::Queenside, rooks.queenside),
+    ]
+}

@@ -1,0 +1,3 @@
+pub mod AppendedLemmas
+pub mod GoalLemmas
+pub mod PartLemmas

@@ -1,0 +1,85 @@
+//! The test of one move.
+ghost use Rattle.std.specs.Prelude.{◌≡◌, Some};
+ghost use Rattle.rules_model.specs.Candidates.{own_piece_moves, is_piece_move};
+ghost use Rattle.rules_model.specs.Fit.{IsFit};
+ghost use Rattle.rules_model.specs.Pieces.{piece_moves};
+ghost use Rattle.rules_model.specs.Repeats.{repeat_of};
+ghost use Rattle.rules_model.specs.Squares.{cell_at};
+ghost use Rattle.piece_moves.specs.Goals as Goals;
+
+use crate::goal::goes;
+use crate::piece::own_piece;
+use crate::promotion::{becomes, may_plus, means_castling};
+use attack_tables::Tables;
+use rules_model::{Cell, Move, Position, Promo, Rules, Square};
+
+/// Whether the own piece on `from` makes the move.
+#[tactic(auto, unfolding(rules_model::specs::Pieces::piece_moves))]
+fn makes(
+    rules: &Rules,
+    tables: &Tables,
+    p: &Position,
+    piece: Cell,
+    from: Square,
+    to: Square,
+    promo: Promo,
+) -> bool
+    requires fit { IsFit rules.now }
+    requires tables { tables.now ≡ rules.now }
+    requires own { Goals.own_piece rules.now p.now.side (cell_at p.now.cells from.0) ≡ Some piece }
+    ensures { result ≡ piece_moves rules.now (repeat_of p.now) piece from to promo }
+{
+    goes(tables, p, piece, from, to)
+        && becomes(rules, may_plus(rules, p.side, piece.kind, from, to), promo)
+        && !means_castling(rules, p, piece.kind, from, to)
+}
+
+fn moves(
+    rules: &Rules,
+    tables: &Tables,
+    p: &Position,
+    from: Square,
+    to: Square,
+    promo: Promo,
+) -> bool
+    requires fit { IsFit rules.now }
+    requires tables { tables.now ≡ rules.now }
+    ensures { result ≡ own_piece_moves rules.now (repeat_of p.now) from to promo (cell_at p.now.cells from.0) }
+{
+    match own_piece(rules, p, from) {
+        None => false,
+        Some(piece) => makes(rules, tables, p, piece, from, to, promo),
+    }
+}
+
+/// Whether the move is an ordinary one of an own piece that is not the pawn, without a gate: to an empty square that the
+/// piece reaches quietly, or to an enemy's that it reaches to take; and with a promotion where it must promote, or may.
+/// The king's move that means castling is none. Whether it leaves the king safe is not asked.
+#[tactic(auto, unfolding(rules_model::specs::Candidates::is_piece_move))]
+pub fn is_candidate(rules: &Rules, tables: &Tables, p: &Position, m: &Move) -> bool
+    requires fit { IsFit rules.now }
+    requires tables { tables.now ≡ rules.now }
+    ensures { result ≡ is_piece_move rules.now (repeat_of p.now) m.now }
+{
+    match *m {
+        Move::Go {
+            from,
+            to,
+            promo,
+            gate: None,
+        } => moves(rules, tables, p, from, to, promo),
+        Move::Go {
+            from: _,
+            to: _,
+            promo: _,
+            gate: Some(_),
+        } => false,
+        Move::Castle {
+            from: _,
+            to: _,
+            rook: _,
+            gate: _,
+        } => false,
+        Move::Drop { kind: _, to: _ } => false,
+    }
+}

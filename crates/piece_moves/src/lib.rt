@@ -1,0 +1,11 @@
+//! The ordinary moves of pieces that are not the chess pawn, without gating.
+#![tactic(auto)]
+
+pub mod candidate;
+pub mod generate;
+mod goal;
+mod piece;
+mod promotion;
+
+pub use candidate::is_candidate;
+pub use generate::push_moves;
