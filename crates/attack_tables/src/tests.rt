@@ -326,6 +326,10 @@ fn pieces_reach(rt: HostRuntime) -> Result<(), Memory> {
     ];
     for (from, mode, squares) in rows {
         assert_eq!(rt; tables.reaches(&p, Square(from), mode), set(squares));
+        for to in 0..120 {
+            let reached = tables.reaches_square(&p, Square(from), mode, Square(to));
+            assert_eq!(rt; reached, squares.contains(&to));
+        }
     }
     Ok(())
 }

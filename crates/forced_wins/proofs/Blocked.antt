@@ -1,8 +1,7 @@
 -- The blocked repeats as a list and as a test; near wins of games.
-use Rattle.std.proofs.Common.{◌≡◌, ◌⊎◌, inl, inr, ℕ, zero, suc, ◌+◌, ◌<◌, ◌≤◌, List, [], ◌∷◌, map, Bool, true, false, Option, Some, None, cond, not, nat_le, nat_lt, ◌==◌, ◌&&◌, ◌||◌, if◌then◌else◌, refl, ap, sym, ◌∙◌, arith}
-use Rattle.std.specs.List.{list_any, list_all, filter, count_by}
+use Rattle.std.proofs.Common.{◌≡◌, inl, inr, ℕ, zero, suc, ◌+◌, ◌<◌, List, [], ◌∷◌, map, Bool, true, false, Option, Some, None, not, nat_le, nat_lt, ◌==◌, ◌&&◌, ◌||◌, if◌then◌else◌, refl, ap, sym, ◌∙◌, arith}
+use Rattle.std.specs.List.{list_any, list_all, filter}
 use Rattle.std.proofs.lemmas.Bool.Decides.{nat_tests}
-use Rattle.std.proofs.lemmas.List.Sums.{sum_by-cons}
 use Rattle.foundation.specs.Member.{Member}
 use Rattle.foundation.proofs.Members.{member-filter, filter-member}
 use Rattle.rules_model.specs.declared.board.Position.{Position}
@@ -15,19 +14,14 @@ use Rattle.rules_model.specs.Next.{next}
 use Rattle.rules_model.specs.Legal.{legal, own_end}
 use Rattle.rules_model.specs.Games.{Story, history, times, same_repeat}
 use Rattle.rules_model.proofs.EqualLaws.{repeat-decides}
+use Rattle.rules_model.proofs.ResultLaws.{times-none, times-elsewhere}
 use Rattle.forced_wins.specs.Contests.{decided}
 use Rattle.forced_wins.specs.Games as AnyGame
 use Rattle.forced_wins.specs.Views.{won_by, seen_by, as_any}
 use Rattle.forced_wins.specs.Wins.{wins, near, near_root, is_in, blocked, each_once, IsInLimit}
-use Rattle.forced_wins.proofs.Counts.{by_cases, times_here}
+use Rattle.forced_wins.proofs.Counts.{by_cases, true_false, same_from, tests_on, times_here}
 use Rattle.forced_wins.proofs.NearLaws as N
-use Rattle.forced_wins.proofs.Rules.{laws, wins-is, near-is, end-is}
-
-same_from : (a b : Bool) → (a ≡ true → b ≡ true) → (b ≡ true → a ≡ true) → a ≡ b
-same_from true true f g = refl
-same_from true false f g = sym (f refl)
-same_from false true f g = g refl
-same_from false false f g = refl
+use Rattle.forced_wins.proofs.Rules.{laws, wins-is, near-is, end-is, times-is}
 
 or_cases : {C : Type 0} (a b : Bool) → (a || b) ≡ true → (a ≡ true → C) → (b ≡ true → C) → C
 or_cases true b h f g = f refl
@@ -67,20 +61,12 @@ member-each_once x (y ∷ ys) (inr k) =
     (λ e. inl (sym ((repeat-decides x y).0 e)))
     (λ e. inr (member-filter (λ z. not (same_repeat z y)) x (each_once ys) (member-each_once x ys k) (ap not e)))
 
-abbrev count : Repeat → List Position → ℕ
-count x ps = count_by (λ p. same_repeat (repeat_of p) x) ps
-
-one_of : (b : Bool) (n : ℕ) → 0 < cond b 1 0 + n → (b ≡ true) ⊎ (0 < n)
-one_of true n h = inl refl
-one_of false n h = inr (omega arith)
-
-stood-member : (x : Repeat) (ps : List Position) → 0 < count x ps → Member x (map repeat_of ps)
-stood-member x [] h = absurd (omega arith)
-stood-member x (p ∷ ps) h = split (one_of (same_repeat (repeat_of p) x) (count x ps) (let e = sum_by-cons (λ q. cond (same_repeat (repeat_of q) x) 1 0) p ps in omega arith)) (stood-member x ps)
-  where
-    split : (same_repeat (repeat_of p) x ≡ true) ⊎ (0 < count x ps) → (0 < count x ps → Member x (map repeat_of ps)) → (repeat_of p ≡ x) ⊎ Member x (map repeat_of ps)
-    split (inl e) f = inl ((repeat-decides (repeat_of p) x).0 e)
-    split (inr k) f = inr (f k)
+stood-member : (x : Repeat) (ps : List Position) → 0 < times x ps → Member x (map repeat_of ps)
+stood-member x [] h = let e = times-none x in absurd (omega arith)
+stood-member x (p ∷ ps) h =
+    by_cases (same_repeat (repeat_of p) x)
+    (λ e. inl ((repeat-decides (repeat_of p) x).0 e))
+    (λ e. let k = times-elsewhere x p ps (λ s. true_false _ ((repeat-decides (repeat_of p) x).1 s) e) in inr (stood-member x ps (omega arith)))
 
 not_zero : (n : ℕ) → 0 < n → (n == 0) ≡ false
 not_zero n h = grind (arith, nat_tests)
@@ -95,21 +81,21 @@ stood_once : (n t : ℕ) → 0 < n → (n ≡ 1 → ⊥) → nat_le n (t + 1) �
 stood_once n t h f e = grind (arith, nat_tests)
 
 held : (n : ℕ) (x : Repeat) (ps : List Position) → 0 < n → (n ≡ 1 → ⊥) →
-    is_in (if n == 0 then [] else filter (λ y. nat_le n (count y ps + 1)) (each_once (map repeat_of ps))) x ≡ (nat_lt 0 n && nat_le n (count x ps + 1))
+    is_in (if n == 0 then [] else filter (λ y. nat_le n (times y ps + 1)) (each_once (map repeat_of ps))) x ≡ (nat_lt 0 n && nat_le n (times x ps + 1))
 held n x ps h fit =
     rw (not_zero n h) (same_from _ _
-    (λ e. let k = filter-member (λ y. nat_le n (count y ps + 1)) x (each_once (map repeat_of ps)) (in-member x _ e) in test_from n (count x ps + 1) h k.1)
-    (λ e. let t = test_to n (count x ps + 1) e in
-    member-in x _ (member-filter (λ y. nat_le n (count y ps + 1)) x (each_once (map repeat_of ps)) (member-each_once x _ (stood-member x ps (stood_once n (count x ps) h fit t))) t)))
+    (λ e. let k = filter-member (λ y. nat_le n (times y ps + 1)) x (each_once (map repeat_of ps)) (in-member x _ e) in test_from n (times x ps + 1) h k.1)
+    (λ e. let t = test_to n (times x ps + 1) e in
+    member-in x _ (member-filter (λ y. nat_le n (times y ps + 1)) x (each_once (map repeat_of ps)) (member-each_once x _ (stood-member x ps (stood_once n (times x ps) h fit t))) t)))
 
 list_test : (n : ℕ) (x : Repeat) (ps : List Position) → (n ≡ 1 → ⊥) →
-    is_in (if n == 0 then [] else filter (λ y. nat_le n (count y ps + 1)) (each_once (map repeat_of ps))) x ≡ (nat_lt 0 n && nat_le n (count x ps + 1))
+    is_in (if n == 0 then [] else filter (λ y. nat_le n (times y ps + 1)) (each_once (map repeat_of ps))) x ≡ (nat_lt 0 n && nat_le n (times x ps + 1))
 list_test zero x ps fit = refl
 list_test (suc n) x ps fit = held (suc n) x ps (omega arith) fit
 
 pub blocked-is : (rules : Rules) (a : Side) (g : Story) (x : Repeat) → (rules.n_fold ≡ 1 → ⊥) → is_in (blocked rules g) x ≡ AnyGame.blocked (seen_by rules a) (as_any g) x
-unfolding blocked times AnyGame.blocked AnyGame.times
-blocked-is rules a g x fit = list_test rules.n_fold x (history g) fit
+unfolding blocked AnyGame.blocked
+blocked-is rules a g x fit = list_test rules.n_fold x (history g) fit ∙ ap (λ t. nat_lt 0 rules.n_fold && nat_le rules.n_fold (t + 1)) (times-is rules a x (history g))
 
 -- ---- near wins
 
@@ -131,10 +117,7 @@ pub ended_at_one : (rules : Rules) (g : Story) (a : Side) → rules.n_fold ≡ 1
 unfolding AnyGame.repeated
 ended_at_one rules g a e =
     let here = times_here (seen_by rules a) (laws rules a) (repeat_of g.last) g.last g.earlier refl in
-    test_from rules.n_fold _ (omega arith) (at_least rules.n_fold _ (omega arith))
-  where
-    at_least : (m n : ℕ) → m ≤ n → nat_le m n ≡ true
-    at_least m n h = grind (arith, nat_tests)
+    tests_on rules.n_fold _ (omega arith) (omega arith)
 
 some_end : (o : Option Bool) (y z : Bool) → y ≡ true → (w : Bool) × (AnyGame.or_end o (AnyGame.lost_if (y || z)) ≡ Some w)
 some_end None true z e = (false, refl)

@@ -1,7 +1,7 @@
 -- How often a repeat stands in a game.
-use Rattle.std.proofs.Common.{◌≡◌, ◌⊎◌, inl, inr, ℕ, ◌+◌, ◌<◌, ◌≤◌, List, [], ◌∷◌, ◌++◌, Bool, true, false, cond, nat_le, nat_lt, ◌&&◌, refl, ap, ◌∙◌, arith}
+use Rattle.std.proofs.Common.{◌≡◌, ◌⊎◌, inl, inr, ℕ, ◌+◌, ◌<◌, ◌≤◌, List, [], ◌∷◌, ◌++◌, Bool, true, false, Option, Some, None, cond, nat_le, nat_lt, ◌==◌, ◌&&◌, refl, ap, sym, ◌∙◌, arith}
 use Rattle.std.proofs.lemmas.Bool.Decides.{nat_tests}
-use Rattle.std.proofs.lemmas.List.Sums.{sum_by-append}
+use Rattle.std.proofs.lemmas.List.Sums.{sum_by-cons, sum_by-append}
 use Rattle.forced_wins.specs.Games.{Game, GameLaws, times}
 
 pub by_cases : {C : Type 0} (b : Bool) → (b ≡ true → C) → (b ≡ false → C) → C
@@ -12,7 +12,43 @@ pub not_true : (b : Bool) → (b ≡ true → ⊥) → b ≡ false
 not_true true h = absurd (h refl)
 not_true false h = refl
 
+pub true_false : (b : Bool) → b ≡ true → b ≡ false → ⊥
+true_false true h k = cc
+true_false false h k = cc
+
+pub own_cases : {C : Type 0} (o : Option Bool) → ((w : Bool) → o ≡ Some w → C) → (o ≡ None → C) → C
+own_cases None f g = g refl
+own_cases (Some w) f g = f w refl
+
+pub and_true : (a b : Bool) → a ≡ true → b ≡ true → (a && b) ≡ true
+and_true a b h k = grind arith
+
+pub le_true : (m n : ℕ) → m ≤ n → nat_le m n ≡ true
+le_true m n h = grind (arith, nat_tests)
+
+pub eq_from : (m n : ℕ) → (m == n) ≡ true → m ≡ n
+eq_from m n h = grind (arith, nat_tests)
+
+-- two tests of one fact are one
+pub same_from : (a b : Bool) → (a ≡ true → b ≡ true) → (b ≡ true → a ≡ true) → a ≡ b
+same_from true true f g = refl
+same_from true false f g = sym (f refl)
+same_from false true f g = g refl
+same_from false false f g = refl
+
 -- a rule by a number that may be off
+pub tests_on : (a x : ℕ) → 0 < a → a ≤ x → (nat_lt 0 a && nat_le a x) ≡ true
+tests_on a x h k = grind (arith, nat_tests)
+
+pub tests_from : (a x : ℕ) → (nat_lt 0 a && nat_le a x) ≡ true → (0 < a) × (a ≤ x)
+tests_from a x h = (is_on a x h, is_reached a x h)
+  where
+    is_on : (a x : ℕ) → (nat_lt 0 a && nat_le a x) ≡ true → 0 < a
+    is_on a x h = grind (arith, nat_tests)
+
+    is_reached : (a x : ℕ) → (nat_lt 0 a && nat_le a x) ≡ true → a ≤ x
+    is_reached a x h = grind (arith, nat_tests)
+
 pub tests_more : (a x y : ℕ) → x ≤ y → (nat_lt 0 a && nat_le a x) ≡ true → (nat_lt 0 a && nat_le a y) ≡ true
 tests_more a x y h e = grind (arith, nat_tests)
 
@@ -23,7 +59,20 @@ tests_none a x (inr h) = grind (arith, nat_tests)
 pub tests_less : (a x y : ℕ) → x ≤ y → (nat_lt 0 a && nat_le a y) ≡ false → (nat_lt 0 a && nat_le a x) ≡ false
 tests_less a x y h e = not_true (nat_lt 0 a && nat_le a x) (λ k. let u = tests_more a x y h k in cc)
 
+pub below_fold : (a x : ℕ) → (nat_lt 0 a && nat_le a x) ≡ false → 0 < a → x < a
+below_fold a x h k = grind (arith, nat_tests)
+
+pub none_stand : {P R M : Type 0} (r : Game P R M) (x : R) → times r x [] ≡ 0
+unfolding times
+none_stand r x = refl
+
 module _ {P R M : Type 0} (r : Game P R M) (l : GameLaws P R M r) where
+  pub times-test : (x : R) (p : P) (ps : List P) (b : Bool) → r.same (r.repeat p) x ≡ b → times r x (p ∷ ps) ≡ times r x ps + cond b 1 0
+  unfolding times
+  times-test x p ps b e =
+      let h = sum_by-cons (λ q. cond (r.same (r.repeat q) x) 1 0) p ps in
+      let c : ◌≡◌ {A = ℕ} (cond (r.same (r.repeat p) x) 1 0) (cond b 1 0) = ap (λ t. cond t 1 0) e in omega arith
+
   times-push : (x : R) (p : P) (ps : List P) → times r x (ps ++ p ∷ []) ≡ times r x ps + cond (r.same (r.repeat p) x) 1 0
   unfolding times
   times-push x p ps = let h = sum_by-append (λ q. cond (r.same (r.repeat q) x) 1 0) ps (p ∷ []) in omega arith

@@ -1,5 +1,5 @@
 -- Facts that derive from true ones are true, and so are those that a change of the barred repeats keeps.
-use Rattle.std.proofs.Common.{◌≡◌, ◌⊎◌, inl, inr, ℕ, suc, ◌+◌, ◌≤◌, List, [], ◌∷◌, ◌++◌, Bool, true, false, Option, Some, None, not, ◌&&◌, nat_le, add-one, refl, ap, sym, ◌∙◌, subst, arith}
+use Rattle.std.proofs.Common.{◌≡◌, ◌⊎◌, inl, inr, ℕ, suc, ◌+◌, ◌≤◌, List, [], ◌∷◌, ◌++◌, Bool, true, false, Option, Some, None, not, add-one, refl, ap, sym, ◌∙◌, subst, arith}
 use Rattle.std.specs.List.{list_any, list_all}
 use Rattle.std.proofs.lemmas.Bool.Decides.{nat_tests}
 use Rattle.foundation.specs.Member.{Member}
@@ -21,7 +21,8 @@ use Rattle.forced_wins.specs.Views.{won_by, seen_by}
 use Rattle.forced_wins.specs.Wins.{near, near_end, is_in, positions}
 use Rattle.forced_wins.specs.Facts.{Says, IsTrueFact, covers, serves, ServesMove, Each, larger, smaller, greatest, least, fact_of, Derives, won_now, by_move, by_all, refuted_now, refuted_by_all, refuted_by_move, AreDerived, IsGrounded}
 use Rattle.forced_wins.proofs.ContestLaws.{any_intro, all_intro}
-use Rattle.forced_wins.proofs.Counts.{by_cases, not_true}
+use Rattle.forced_wins.proofs.Counts.{by_cases, not_true, true_false}
+use Rattle.forced_wins.proofs.TableLaws.{both, le_from}
 use Rattle.forced_wins.proofs.ClaimLaws as C
 use Rattle.forced_wins.proofs.Rules.{laws, near-is, near_end-is}
 
@@ -44,17 +45,6 @@ or_own : (o : Option Bool) (b : Bool) → AnyGame.or_end o (AnyGame.lost_if b) �
 or_own (Some w) b h = h
 or_own None true h = cc
 or_own None false h = cc
-
-true_false : (b : Bool) → b ≡ true → b ≡ false → ⊥
-true_false true h k = cc
-true_false false h k = cc
-
-both : (a b : Bool) → (a && b) ≡ true → (a ≡ true) × (b ≡ true)
-both true b h = (refl, h)
-both false b h = cc
-
-le_from : (m n : ℕ) → nat_le m n ≡ true → m ≤ n
-le_from m n h = grind (arith, nat_tests)
 
 none_of : {X : Type 0} (f : X → Bool) (xs : List X) → ((x : X) → Member x xs → f x ≡ false) → list_any f xs ≡ false
 none_of f [] h = refl

@@ -8,7 +8,7 @@ use Rattle.forced_wins.specs.Contests.{decided, within}
 use Rattle.forced_wins.specs.Games.{Game, GameLaws, Story, history, times, run_out, repeated, plus, lost_if, or_end, of_games, wins}
 use Rattle.forced_wins.specs.Tables.{Accessors, nodes_of, fits_rank, root_fits, IsFaultless, AreFaultless}
 use Rattle.forced_wins.proofs.ContestLaws.{any_intro, all_intro, double, double-is, forced-attacking, forced-other}
-use Rattle.forced_wins.proofs.Counts.{by_cases, tests_none, tests_less, times_here, times_other}
+use Rattle.forced_wins.proofs.Counts.{by_cases, tests_none, tests_less, times_here, times_other, and_true, le_true, own_cases}
 use Rattle.forced_wins.proofs.NearLaws.{of_games-turns}
 use Rattle.forced_wins.proofs.TableLaws.{both, led, lt_from, le_from, Edged, won-at, not_counted-at, attack-at, defence-at, few-at, start-at}
 
@@ -44,14 +44,8 @@ module _ {X : Type 0} (f h : X → Bool) (sub : (x : X) → f x ≡ true → h x
 and_left : (a b : Bool) → (a && b) ≡ true → a ≡ true
 and_left a b h = grind arith
 
-and_true : (a b : Bool) → a ≡ true → b ≡ true → (a && b) ≡ true
-and_true a b h k = grind arith
-
 and_false : (a b : Bool) → b ≡ false → (a && b) ≡ false
 and_false a b h = grind arith
-
-le_true : (m n : ℕ) → m ≤ n → nat_le m n ≡ true
-le_true m n h = grind (arith, nat_tests)
 
 le_false : (m n : ℕ) → n < m → nat_le m n ≡ false
 le_false m n h = grind (arith, nat_tests)
@@ -65,10 +59,6 @@ won_end o e w t h k = rw (h, k)
 
 ongoing : (o : Option Bool) (y z t : Bool) → o ≡ None → y ≡ false → z ≡ false → t ≡ true → decided (or_end o (lost_if (y || z))) t ≡ true
 ongoing o y z t h k m f = rw (h, k, m, f)
-
-own_cases : {C : Type 0} (o : Option Bool) → ((w : Bool) → o ≡ Some w → C) → (o ≡ None → C) → C
-own_cases None f g = g refl
-own_cases (Some w) f g = f w refl
 
 lt_zero : (j : ℕ) → nat_lt 0 (suc j) ≡ true
 lt_zero j = grind (arith, nat_tests)

@@ -6,6 +6,7 @@ pub mod GoodWins
 pub mod ClaimLaws
 pub mod Plans
 pub mod Lists
+pub mod ShortestWins
 pub mod GoodExists
 pub mod NearLimit
 pub mod Verdicts

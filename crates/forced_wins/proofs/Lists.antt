@@ -1,5 +1,5 @@
 -- Lists gathered, thinned and searched.
-use Rattle.std.proofs.Common.{◌≡◌, ◌⊎◌, inl, inr, ℕ, zero, suc, List, [], ◌∷◌, ◌++◌, Bool, true, false, Some, if◌then◌else◌, slice_get, refl, ap, sym, ◌∙◌, subst}
+use Rattle.std.proofs.Common.{◌≡◌, ◌⊎◌, inl, inr, ℕ, zero, suc, List, [], ◌∷◌, ◌++◌, map, Bool, true, false, Some, if◌then◌else◌, slice_get, refl, ap, sym, ◌∙◌, subst}
 use Rattle.std.specs.List.{list_any}
 use Rattle.std.specs.Bool.{Decides}
 use Rattle.foundation.specs.Member.{Member}
@@ -63,6 +63,26 @@ pub listed : {X : Type 0} (xs : List X) (i : ℕ) (x : X) → slice_get xs i ≡
 listed [] i x h = cc
 listed (y ∷ ys) zero x h = inl cc
 listed (y ∷ ys) (suc i) x h = inr (listed ys i x h)
+
+pub mapped : {X Y : Type 0} (f : X → Y) (xs : List X) (i : ℕ) (y : Y) → slice_get (map f xs) i ≡ Some y → (x : X) × (slice_get xs i ≡ Some x) × (f x ≡ y)
+mapped f [] i y h = cc
+mapped f (x ∷ xs) zero y h = (x, refl, cc)
+mapped f (x ∷ xs) (suc i) y h = mapped f xs i y h
+
+pub map_at : {X Y : Type 0} (f : X → Y) (xs : List X) (i : ℕ) (x : X) → slice_get xs i ≡ Some x → slice_get (map f xs) i ≡ Some (f x)
+map_at f [] i x h = cc
+map_at f (y ∷ xs) zero x h = ap (λ z. Some (f z)) (let e : y ≡ x = cc in e)
+map_at f (y ∷ xs) (suc i) x h = map_at f xs i x h
+
+pub map_member : {X Y : Type 0} (f : X → Y) (xs : List X) (y : Y) → Member y (map f xs) → (x : X) × Member x xs × (f x ≡ y)
+map_member f [] y k = absurd k
+map_member f (x ∷ xs) y (inl e) = (x, inl refl, e)
+map_member f (x ∷ xs) y (inr k) = let u = map_member f xs y k in (u.0, inr u.1, u.2)
+
+pub map_in : {X Y : Type 0} (f : X → Y) (xs : List X) (x : X) → Member x xs → Member (f x) (map f xs)
+map_in f [] x k = absurd k
+map_in f (y ∷ xs) x (inl e) = inl (ap f e)
+map_in f (y ∷ xs) x (inr k) = inr (map_in f xs x k)
 
 module _ {P R : Type 0} (same : R → R → Bool) (d : (a b : R) → Decides (same a b) (a ≡ b)) (key : P → R) where
   pub without : R → List P → List P

@@ -1,5 +1,5 @@
 -- Near the move-count rule: what is won without history has a good strategy, or some repeat stands at too many counters.
-use Rattle.std.proofs.Common.{◌≡◌, ◌⊎◌, inl, inr, ℕ, zero, suc, ◌+◌, ◌-◌, ◌<◌, ◌≤◌, List, [], ◌∷◌, map, length, cond, Bool, true, false, Option, Some, None, not, nat_le, nat_lt, ◌==◌, ◌&&◌, ◌||◌, if◌then◌else◌, slice_get, refl, ap, sym, ◌∙◌, subst, arith}
+use Rattle.std.proofs.Common.{◌≡◌, ◌⊎◌, inl, inr, ℕ, zero, suc, ◌+◌, ◌<◌, ◌≤◌, List, [], ◌∷◌, map, length, cond, Bool, true, false, Option, Some, None, not, nat_le, nat_lt, ◌==◌, ◌&&◌, ◌||◌, if◌then◌else◌, slice_get, refl, ap, sym, ◌∙◌, subst, arith}
 use Rattle.std.specs.List.{list_any, list_all, filter, count_by}
 use Rattle.std.specs.Bool.{Decides}
 use Rattle.std.proofs.lemmas.Bool.Decides.{nat_tests}
@@ -8,15 +8,16 @@ use Rattle.foundation.specs.Member.{Member}
 use Rattle.forced_wins.specs.Contests.{decided, within}
 use Rattle.forced_wins.specs.Games.{Game, GameLaws, Story, history, times, run_out, repeated, lost_if, or_end, of_positions, blocked, near_attack, near_defence, near_root}
 use Rattle.forced_wins.specs.PlainTables.{Edge, Node, plain}
-use Rattle.forced_wins.specs.Tables.{nodes_of, is_doubled, has_edge, fits_rank, AreFaultless}
-use Rattle.forced_wins.proofs.ContestLaws.{if_mono, any_mono, all_mono, any_intro, within-mono, double, double-is}
-use Rattle.forced_wins.proofs.Counts.{by_cases, not_true}
+use Rattle.forced_wins.specs.Tables.{nodes_of, is_doubled, has_edge, AreFaultless}
+use Rattle.forced_wins.proofs.ContestLaws.{any_mono, all_mono, within-mono, double, double-is}
+use Rattle.forced_wins.proofs.Counts.{by_cases, not_true, true_false, tests_from, below_fold, and_true, eq_from}
 use Rattle.forced_wins.proofs.ClaimLaws.{within-lower}
 use Rattle.forced_wins.proofs.NearLaws.{near-attack, near-defence}
-use Rattle.forced_wins.proofs.TableLaws.{all_member, any_member}
-use Rattle.forced_wins.proofs.Lists.{gather, gather_in, gathered, first_of_all, found, listed, once, once_in, in_once, Apart, apart_once, apart_alone, place, at_place}
+use Rattle.forced_wins.proofs.TableLaws.{any_member, both, neither}
+use Rattle.forced_wins.proofs.Lists.{gathered, listed, once_in, Apart, apart_once, apart_alone, mapped, map_at, map_member}
+use Rattle.forced_wins.proofs.ShortestWins as S
+use Rattle.forced_wins.proofs.ShortestWins.{PlyWins, Shortest, shortest, rank_of, falls_at, doubled}
 use Rattle.forced_wins.proofs.Plans.{Fits, IsPlan, plan-good}
-use Rattle.forced_wins.proofs.GoodExists.{doubled, least, upward, least-true, least-le, least-min, mapped, map_at, map_member, map_in, halves_down, halves_same, rank_of}
 
 live_step : (o : Option Bool) (y z t : Bool) → o ≡ None → decided (or_end o (lost_if (y || z))) t ≡ true → (y ≡ false) × (z ≡ false) × (t ≡ true)
 live_step None true z t e h = cc
@@ -28,47 +29,17 @@ won_step : (o : Option Bool) (y z t w : Bool) → o ≡ Some w → decided (or_e
 won_step None y z t w e h = cc
 won_step (Some u) y z t w e h = let k : u ≡ w = cc in sym k ∙ h
 
-eq_from : (m n : ℕ) → (m == n) ≡ true → m ≡ n
-eq_from m n h = grind (arith, nat_tests)
-
 eq_to : (m n : ℕ) → m ≡ n → (m == n) ≡ true
 eq_to m n h = grind (arith, nat_tests)
-
-and_both : (a b : Bool) → (a && b) ≡ true → (a ≡ true) × (b ≡ true)
-and_both true b h = (refl, h)
-and_both false b h = cc
-
-and_true : (a b : Bool) → a ≡ true → b ≡ true → (a && b) ≡ true
-and_true a b h k = grind arith
-
-neither : (a b : Bool) → (a || b) ≡ false → (a ≡ false) × (b ≡ false)
-neither true b h = cc
-neither false b h = (refl, h)
-
-below_test : (a x : ℕ) → (nat_lt 0 a && nat_le a x) ≡ false → 0 < a → x < a
-below_test a x h k = grind (arith, nat_tests)
 
 none_passes : {X : Type 0} (f : X → Bool) (xs : List X) → list_any f xs ≡ false → (x : X) → Member x xs → f x ≡ false
 none_passes f [] h x k = absurd k
 none_passes f (y ∷ ys) h x (inl e) = sym (ap f e) ∙ (neither (f y) (list_any f ys) h).0
 none_passes f (y ∷ ys) h x (inr k) = none_passes f ys (neither (f y) (list_any f ys) h).1 x k
 
-true_false : (b : Bool) → b ≡ true → b ≡ false → ⊥
-true_false true h k = cc
-true_false false h k = cc
-
 or_right_of : (a b : Bool) → a ≡ false → (a || b) ≡ true → b ≡ true
 or_right_of true b h k = cc
 or_right_of false b h k = k
-
-above_test : (a x : ℕ) → (nat_lt 0 a && nat_le a x) ≡ true → (0 < a) × (a ≤ x)
-above_test a x h = (lt_part a x h, le_part a x h)
-  where
-    lt_part : (a x : ℕ) → (nat_lt 0 a && nat_le a x) ≡ true → 0 < a
-    lt_part a x h = grind (arith, nat_tests)
-
-    le_part : (a x : ℕ) → (nat_lt 0 a && nat_le a x) ≡ true → a ≤ x
-    le_part a x h = grind (arith, nat_tests)
 
 two : (m n : ℕ) → (m ≡ n → ⊥) → (i j c : ℕ) → slice_get (m ∷ n ∷ []) i ≡ Some c → slice_get (m ∷ n ∷ []) j ≡ Some c → i ≡ j
 two m n d zero zero c a b = refl
@@ -106,14 +77,6 @@ pub record Key (R : Type 0) : Type 0 where
   pub count : ℕ
 
 module _ {P R M : Type 0} (r : Game P R M) (l : GameLaws P R M r) (apart : (p : P) → doubled r.same_move (r.legal p) ≡ false) (g : Story P) where
-  any_map : (edge : M → Edge M) → ((c : M) → (edge c).chosen ≡ c) → (m : M) (ms : List M) → list_any (λ (f : Edge M). r.same_move (edge m).chosen f.chosen) (map edge ms) ≡ list_any (r.same_move m) ms
-  any_map edge h m [] = refl
-  any_map edge h m (x ∷ ms) = rw (h m, h x) (ap (λ b. r.same_move m x || b) (any_map edge h m ms))
-
-  doubled_map : (edge : M → Edge M) → ((c : M) → (edge c).chosen ≡ c) → (ms : List M) → is_doubled r plain (map edge ms) ≡ doubled r.same_move ms
-  doubled_map edge h [] = refl
-  doubled_map edge h (m ∷ ms) = let a = any_map edge h m ms in let b = doubled_map edge h ms in rw (a, b)
-
   abbrev W : ℕ → P → Bool
   W t p = within (of_positions r (blocked r g)) t p
 
@@ -123,247 +86,117 @@ module _ {P R M : Type 0} (r : Game P R M) (l : GameLaws P R M r) (apart : (p : 
   abbrev same_key : Key R → Key R → Bool
   same_key a b = r.same a.of b.of && (a.count == b.count)
 
-  key_decides : (a b : Key R) → Decides (same_key a b) (a ≡ b)
+  pub key_decides : (a b : Key R) → Decides (same_key a b) (a ≡ b)
   key_decides a b = (
-    λ e. let k = and_both _ _ e in let f = (l.decides a.of b.of).0 k.0 in let h = eq_from a.count b.count k.1 in (λ i. record { of = f i; count = h i }),
+    λ e. let k = both _ _ e in let f = (l.decides a.of b.of).0 k.0 in let h = eq_from a.count b.count k.1 in (λ i. record { of = f i; count = h i }),
     λ e. and_true _ _ ((l.decides a.of b.of).1 (ap (λ (x : Key R). x.of) e)) (eq_to a.count b.count (ap (λ (x : Key R). x.count) e)),
   )
-
-  W-up : (p : P) (t : ℕ) → W t p ≡ true → W (suc t) p ≡ true
-  W-up p t h = within-mono (of_positions r (blocked r g)) t p h
 
   abbrev moves_on : ℕ → P → Bool
   moves_on t p = if r.attacking p then list_any (λ m. W t (r.next p m)) (r.legal p) else list_all (λ m. W t (r.next p m)) (r.legal p)
 
-  unfoldable pub root_on : ℕ → Bool
-  root_on zero = false
-  root_on (suc t) = moves_on t g.last
-
-  root-up : (t : ℕ) → root_on t ≡ true → root_on (suc t) ≡ true
-  unfolding root_on
-  root-up zero h = cc
-  root-up (suc t) h = if_mono (r.attacking g.last) _ _ _ _ (any_mono _ _ (r.legal g.last) (λ m. W-up (r.next g.last m) t)) (all_mono _ _ (r.legal g.last) (λ m. W-up (r.next g.last m) t)) h
-
-  W-live : (t : ℕ) (p : P) → r.own p ≡ None → W t p ≡ true → (u : ℕ) × (t ≡ suc u) × (run_out r (r.counter p) ≡ false) × (moves_on u p ≡ true)
+  pub W-live : (t : ℕ) (p : P) → r.own p ≡ None → W t p ≡ true → (u : ℕ) × (t ≡ suc u) × (run_out r (r.counter p) ≡ false) × (moves_on u p ≡ true)
   unfolding within
   W-live zero p e h = let k = live_step (r.own p) (blocked r g (r.repeat p)) (run_out r (r.counter p)) false e h in let z = k.2 in cc
   W-live (suc t) p e h = let k = live_step (r.own p) (blocked r g (r.repeat p)) (run_out r (r.counter p)) _ e h in (t, refl, k.1, k.2)
 
-  W-won : (t : ℕ) (p : P) (w : Bool) → r.own p ≡ Some w → W t p ≡ true → w ≡ true
+  pub W-won : (t : ℕ) (p : P) (w : Bool) → r.own p ≡ Some w → W t p ≡ true → w ≡ true
   unfolding within
   W-won zero p w e h = won_step (r.own p) (blocked r g (r.repeat p)) (run_out r (r.counter p)) _ w e h
   W-won (suc t) p w e h = won_step (r.own p) (blocked r g (r.repeat p)) (run_out r (r.counter p)) _ w e h
 
-  W-same : (t : ℕ) (p q : P) → key p ≡ key q → W t p ≡ true → W t q ≡ true
+  pub W-same : (t : ℕ) (p q : P) → key p ≡ key q → W t p ≡ true → W t q ≡ true
   W-same t p q e h = let c : r.counter p ≡ r.counter q = ap (λ (x : Key R). x.count) e in within-lower r l (blocked r g) t p q (sym (ap (λ (x : Key R). x.of) e)) (omega arith) h
 
-  unfoldable collect : ℕ → P → List P
-  collect zero p = p ∷ []
-  collect (suc t) p = p ∷ gather (λ m. W t (r.next p m)) (λ m. collect t (r.next p m)) (r.legal p)
+  -- a repeat at a counter says by how many plies it is won
+  abbrev ways : PlyWins P R M (Key R) r
+  ways = record {
+    won = W;
+    longer = λ t p h. within-mono (of_positions r (blocked r g)) t p h;
+    goes_on = λ t p e h. let k = W-live t p e h in (k.0, k.1, k.3);
+    ended = W-won;
+    key = key;
+    same = same_key;
+    decides = key_decides;
+    alike = W-same;
+  }
 
   -- a line of at most t moves from p to x, each position behind p being won by what is left
   abbrev pub Line : ℕ → P → P → Type 0
   Line zero p x = p ≡ x
   Line (suc t) p x = (p ≡ x) ⊎ ((m : M) × Member m (r.legal p) × (W t (r.next p m) ≡ true) × Line t (r.next p m) x)
 
-  line-of : (t : ℕ) (p x : P) → Member x (collect t p) → Line t p x
-  unfolding collect
+  line-of : (t : ℕ) (p x : P) → Member x (S.collect r ways t p) → Line t p x
+  unfolding S.collect
   line-of zero p x (inl e) = e
   line-of zero p x (inr k) = absurd k
   line-of (suc t) p x (inl e) = inl e
-  line-of (suc t) p x (inr k) = let a = gathered (λ m. W t (r.next p m)) (λ m. collect t (r.next p m)) (r.legal p) x k in inr (a.0, a.1, a.2, line-of t (r.next p a.0) x a.3)
+  line-of (suc t) p x (inr k) = let a = gathered (λ m. W t (r.next p m)) (λ m. S.collect r ways t (r.next p m)) (r.legal p) x k in inr (a.0, a.1, a.2, line-of t (r.next p a.0) x a.3)
 
-  head-in : (t : ℕ) (p : P) → Member p (collect t p)
-  unfolding collect
-  head-in zero p = inl refl
-  head-in (suc t) p = inl refl
+  module _ (x : Shortest P R M (Key R) r ways g.last) (open_game : repeated r g ≡ false) (open_count : run_out r (r.counter g.last) ≡ false) where
+    abbrev tail : List P
+    tail = S.tail r ways g.last x
 
-  inside : (t : ℕ) (p : P) → W t p ≡ true → (x : P) → Member x (collect t p) → (u : ℕ) × (u ≤ t) × (W u x ≡ true) × ((y : P) → Member y (collect u x) → Member y (collect t p))
-  unfolding collect
-  inside zero p h x (inl e) = (zero, omega arith, subst (λ z. W zero z ≡ true) e h, λ y k. subst (λ z. Member y (collect zero z)) (sym e) k)
-  inside zero p h x (inr k) = absurd k
-  inside (suc t) p h x (inl e) = (suc t, omega arith, subst (λ z. W (suc t) z ≡ true) e h, λ y k. subst (λ z. Member y (collect (suc t) z)) (sym e) k)
-  inside (suc t) p h x (inr k) =
-      let a = gathered (λ m. W t (r.next p m)) (λ m. collect t (r.next p m)) (r.legal p) x k in
-      let u = inside t (r.next p a.0) a.2 x a.3 in
-      let small = u.1 in
-      (u.0, omega arith, u.2, λ y m. inr (gather_in (λ m. W t (r.next p m)) (λ m. collect t (r.next p m)) (r.legal p) a.0 y a.1 a.2 (u.3 y m)))
+    abbrev rest : List P
+    rest = S.rest r ways g.last x
 
-  module _ (own : r.own g.last ≡ None) (open_game : repeated r g ≡ false) (open_count : run_out r (r.counter g.last) ≡ false) (b : ℕ) (T : ℕ) (least_root : least root_on T ≡ suc b) (root_true : root_on T ≡ true) where
-    root_step : moves_on b g.last ≡ true
-    unfolding root_on
-    root_step = let k = least-true root_on root-up T root_true in subst (λ t. root_on t ≡ true) least_root k
+    abbrev all : List P
+    all = S.all r ways g.last x
 
-    small : suc b ≤ T
-    small = let k = least-le root_on root-up T in omega arith
+    abbrev budget : P → ℕ
+    budget = S.budget r ways g.last x
 
-    tail : List P
-    tail = gather (λ m. W b (r.next g.last m)) (λ m. collect b (r.next g.last m)) (r.legal g.last)
-
-    pub rest : List P
-    rest = once same_key key_decides key tail
-
-    pub all : List P
-    all = g.last ∷ rest
-
-    from_tail : (x : P) → Member x tail → (u : ℕ) × (u ≤ b) × (W u x ≡ true) × ((y : P) → Member y (collect u x) → Member y tail)
-    unfolding tail
-    from_tail x k =
-        let a = gathered (λ m. W b (r.next g.last m)) (λ m. collect b (r.next g.last m)) (r.legal g.last) x k in
-        let u = inside b (r.next g.last a.0) a.2 x a.3 in
-        (u.0, u.1, u.2, λ y m. gather_in (λ m. W b (r.next g.last m)) (λ m. collect b (r.next g.last m)) (r.legal g.last) a.0 y a.1 a.2 (u.3 y m))
-
-    -- the root comes back at another counter alone
-    not_root : (x : P) → Member x tail → key x ≡ key g.last → ⊥
-    unfolding root_on
-    not_root x k e =
-        let u = from_tail x k in
-        let h = W-live u.0 g.last own (W-same u.0 x g.last e u.2) in
-        let s = h.1 in
-        let low = u.1 in
-        let on : root_on (suc h.0) ≡ true = h.3 in
-        let m = least-min root_on root-up T (suc h.0) on in omega arith
-
-    budget : P → ℕ
-    budget p = if same_key (key p) (key g.last) then suc b else least (λ t. W t p) T
-
-    budget-root : budget g.last ≡ suc b
-    unfolding budget
-    budget-root = let e = (key_decides (key g.last) (key g.last)).1 refl in rw e
-
-    budget-tail : (x : P) → (key x ≡ key g.last → ⊥) → budget x ≡ least (λ t. W t x) T
-    unfolding budget
-    budget-tail x n = let e = not_true (same_key (key x) (key g.last)) (λ t. n ((key_decides _ _).0 t)) in rw e
-
-    record Step (p : P) : Type 0 where
-      pub left : ℕ
-      pub is : budget p ≡ suc left
-      pub counted : run_out r (r.counter p) ≡ false
-      pub on : moves_on left p ≡ true
-      pub into : (m : M) → Member m (r.legal p) → W left (r.next p m) ≡ true → (z : P) × Member z tail × (key z ≡ key (r.next p m))
-
-    step-root : Step g.last
-    unfolding tail
-    step-root = record {
-      left = b;
-      is = budget-root;
-      counted = open_count;
-      on = root_step;
-      into = λ m k h. (r.next g.last m, gather_in (λ m. W b (r.next g.last m)) (λ m. collect b (r.next g.last m)) (r.legal g.last) m (r.next g.last m) k h (head-in b (r.next g.last m)), refl);
-    }
-
-    next-inside : (u v : ℕ) (x : P) (m : M) → v < u → Member m (r.legal x) → W v (r.next x m) ≡ true → Member (r.next x m) (collect u x)
-    unfolding collect
-    next-inside zero v x m h k w = absurd (omega arith)
-    next-inside (suc u) v x m h k w =
-        inr (gather_in (λ m. W u (r.next x m)) (λ m. collect u (r.next x m)) (r.legal x) m (r.next x m) k (upward (λ t. W t (r.next x m)) (W-up (r.next x m)) v u (omega arith) w) (head-in u (r.next x m)))
-
-    step-tail : (x : P) → Member x tail → r.own x ≡ None → Step x
-    step-tail x k e =
-        let u = from_tail x k in
-        let low = u.1 in
-        let s = small in
-        let h = upward (λ t. W t x) (W-up x) u.0 T (omega arith) u.2 in
-        let w = least-true (λ t. W t x) (W-up x) T h in
-        let a = W-live (least (λ t. W t x) T) x e w in
-        let size = a.1 in
-        let m = least-min (λ t. W t x) (W-up x) T u.0 u.2 in
-        record {
-          left = a.0;
-          is = budget-tail x (not_root x k) ∙ a.1;
-          counted = a.2;
-          on = a.3;
-          into = λ c is won. (r.next x c, u.3 (r.next x c) (next-inside u.0 a.0 x c (omega arith) is won), refl);
-        }
-
-    edge : P → M → Edge M
-    edge p m = record { chosen = m; to = place same_key key_decides key (key (r.next p m)) all }
-
-    edges_at : P → Option Bool → Bool → List (Edge M)
-    edges_at p (Some w) attacking = []
-    edges_at p None true = map (edge p) (first_of_all (λ m. W (budget p - 1) (r.next p m)) (r.legal p))
-    edges_at p None false = map (edge p) (r.legal p)
+    abbrev edge : P → M → Edge M
+    edge = S.edge r ways g.last x
 
     node_of : P → Node P M
-    node_of p = record { position = p; rank = rank_of (r.attacking p) (budget p); edges = edges_at p (r.own p) (r.attacking p) }
+    node_of p = record { position = p; rank = rank_of (r.attacking p) (budget p); edges = S.edges_at r ways g.last x p (r.own p) (r.attacking p) }
 
-    pub table : List (Node P M)
+    table : List (Node P M)
     table = map node_of all
 
-    falls_at : (x : Bool) (n k : ℕ) → k ≤ n → fits_rank x (rank_of x (suc n)) (rank_of (not x) k) ≡ true
-    falls_at true n k h = halves_down n k h
-    falls_at false n k h = halves_same n k h
-
-    fits : (p : P) (s : Step p) (m : M) → Member m (r.legal p) → W s.left (r.next p m) ≡ true → Fits r plain l table (node_of p) (edge p m)
-    unfolding table node_of edge all rest
+    fits : (p : P) (s : S.Step r ways g.last x p) (m : M) → Member m (r.legal p) → W s.left (r.next p m) ≡ true → Fits r plain l table (node_of p) (edge p m)
+    unfolding table node_of
     fits p s m k w =
-        let z = s.into m k w in
-        let q = in_once same_key key_decides key tail z.0 z.1 in
-        let y = at_place same_key key_decides key (key (r.next p m)) all q.0 (inr q.1) (q.2 ∙ z.2) in
-        let other : key y.0 ≡ key g.last → ⊥ = λ e. not_root z.0 z.1 (z.2 ∙ sym y.2 ∙ e) in
-        let size = budget-tail y.0 other in
-        let less = least-min (λ t. W t y.0) (W-up y.0) T s.left (W-same s.left (r.next p m) y.0 (sym y.2) w) in
+        let y = S.led r ways g.last x p s m k w in
         let is = s.is in
-        let same : r.repeat y.0 ≡ r.repeat (r.next p m) = ap (λ (x : Key R). x.of) y.2 in
-        let count : r.counter y.0 ≡ r.counter (r.next p m) = ap (λ (x : Key R). x.count) y.2 in
+        let same : r.repeat y.0 ≡ r.repeat (r.next p m) = ap (λ (z : Key R). z.of) y.2 in
+        let count : r.counter y.0 ≡ r.counter (r.next p m) = ap (λ (z : Key R). z.count) y.2 in
         let next : r.attacking y.0 ≡ not (r.attacking p) = l.same_turn y.0 (r.next p m) same ∙ l.turns p m in
-        let low : budget y.0 ≤ s.left = omega arith in
         record {
           node = node_of y.0;
           stands = map_at node_of all _ y.0 y.1;
           legal = k;
           same = same;
           covers = omega arith;
-          falls = rw (next, is) (falls_at (r.attacking p) s.left (budget y.0) low);
+          falls = rw (next, is) (falls_at (r.attacking p) s.left (budget y.0) y.3);
         }
 
-    record Facts (p : P) : Type 0 where
-      pub won : (w : Bool) → r.own p ≡ Some w → w ≡ true
-      pub step : r.own p ≡ None → Step p
-
-    facts-of : (p : P) → Member p all → Facts p
-    unfolding all rest
-    facts-of p (inl e) = subst Facts e (record { won = λ w h. cc; step = λ _. step-root })
-    facts-of p (inr k) =
-        let t = once_in same_key key_decides key tail p k in
-        let u = from_tail p t in
-        record { won = λ w h. W-won u.0 p w h u.2; step = step-tail p t }
-
-    node_at : (i : ℕ) (v : Node P M) → slice_get table i ≡ Some v → (p : P) × (slice_get all i ≡ Some p) × (node_of p ≡ v) × Facts p
+    node_at : (i : ℕ) (v : Node P M) → slice_get table i ≡ Some v → (p : P) × (slice_get all i ≡ Some p) × (node_of p ≡ v) × Member p all
     unfolding table
-    node_at i v h = let k = mapped node_of all i v h in (k.0, k.1, k.2, facts-of k.0 (listed all i k.0 k.1))
+    node_at i v h = let k = mapped node_of all i v h in (k.0, k.1, k.2, listed all i k.0 k.1)
 
-    ended_node : (p : P) → Facts p → (w : Bool) → r.own p ≡ Some w → (w ≡ true) × ((node_of p).edges ≡ [])
-    unfolding node_of edges_at
-    ended_node p f w e = (f.won w e, rw e)
+    ended_node : (p : P) → Member p all → (w : Bool) → r.own p ≡ Some w → (w ≡ true) × ((node_of p).edges ≡ [])
+    unfolding node_of
+    ended_node p i w e = ((S.facts r ways g.last x p i).0 w e, S.ended-edges r ways g.last x p w e)
 
-    attack_node : (p : P) → Facts p → r.own p ≡ None → r.attacking p ≡ true → (e : Edge M) × ((node_of p).edges ≡ e ∷ []) × Fits r plain l table (node_of p) e
-    unfolding node_of edges_at
-    attack_node p f live attacking =
-        let s = f.step live in
-        let is = s.is in
-        let on : list_any (λ c. W s.left (r.next p c)) (r.legal p) ≡ true = subst (λ b. (if b then list_any (λ c. W s.left (r.next p c)) (r.legal p) else list_all (λ c. W s.left (r.next p c)) (r.legal p)) ≡ true) attacking s.on in
-        let less : s.left ≡ budget p - 1 = omega arith in
-        let u = found (λ c. W (budget p - 1) (r.next p c)) (r.legal p) (subst (λ t. list_any (λ c. W t (r.next p c)) (r.legal p) ≡ true) less on) in
-        let edges : edges_at p (r.own p) (r.attacking p) ≡ map (edge p) (first_of_all (λ c. W (budget p - 1) (r.next p c)) (r.legal p)) = rw (live, attacking) in
-        (edge p u.0, edges ∙ ap (map (edge p)) u.1, fits p s u.0 u.2 (subst (λ t. W t (r.next p u.0) ≡ true) (sym less) u.3))
+    counted_node : (p : P) → Member p all → r.own p ≡ None → run_out r (r.counter p) ≡ false
+    counted_node p (inl e) h = subst (λ q. run_out r (r.counter q) ≡ false) e open_count
+    counted_node p (inr k) h = let u = S.from_tail r ways g.last x p (once_in same_key key_decides key tail p k) in (W-live u.0 p h u.2).2
 
-    defence_node : (p : P) → Facts p → r.own p ≡ None → r.attacking p ≡ false → (is_doubled r plain (node_of p).edges ≡ false) × ((m : M) → Member m (r.legal p) → has_edge r plain (node_of p) m ≡ true) × ((e : Edge M) → Member e (node_of p).edges → Fits r plain l table (node_of p) e)
-    unfolding node_of edges_at edge
-    defence_node p f live other =
-        let s = f.step live in
-        let on : list_all (λ c. W s.left (r.next p c)) (r.legal p) ≡ true = subst (λ b. (if b then list_any (λ c. W s.left (r.next p c)) (r.legal p) else list_all (λ c. W s.left (r.next p c)) (r.legal p)) ≡ true) other s.on in
-        let edges : edges_at p (r.own p) (r.attacking p) ≡ map (edge p) (r.legal p) = rw (live, other) in (
-          ap (is_doubled r plain) edges ∙ doubled_map (edge p) (λ c. refl) (r.legal p) ∙ apart p,
-          λ c k. ap (list_any (λ x. r.same_move x.chosen c)) edges ∙ any_intro (λ (x : Edge M). r.same_move x.chosen c) (edge p c) (map (edge p) (r.legal p)) (map_in (edge p) (r.legal p) c k) ((l.decides_move c c).1 refl),
-          λ x k.
-              let u = map_member (edge p) (r.legal p) x (subst (Member x) edges k) in
-              subst (λ y. Fits r plain l table (node_of p) y) u.2 (fits p s u.0 u.1 (all_member (λ c. W s.left (r.next p c)) (r.legal p) on u.0 u.1)),
-        )
+    attack_node : (p : P) → Member p all → r.own p ≡ None → r.attacking p ≡ true → (e : Edge M) × ((node_of p).edges ≡ e ∷ []) × Fits r plain l table (node_of p) e
+    unfolding node_of
+    attack_node p i live attacking =
+        let s = (S.facts r ways g.last x p i).1 live in
+        let u = S.attack-edge r ways g.last x p s live attacking in
+        (edge p u.0, u.1, fits p s u.0 u.2 u.3)
 
-    apart_all : Apart same_key key_decides key all
-    unfolding all rest
-    apart_all = (λ z k e. not_root z (once_in same_key key_decides key tail z k) e, apart_once same_key key_decides key tail)
+    defence_node : (p : P) → Member p all → r.own p ≡ None → r.attacking p ≡ false → (is_doubled r plain (node_of p).edges ≡ false) × ((m : M) → Member m (r.legal p) → has_edge r plain (node_of p) m ≡ true) × ((e : Edge M) → Member e (node_of p).edges → Fits r plain l table (node_of p) e)
+    unfolding node_of
+    defence_node p i live other =
+        let s = (S.facts r ways g.last x p i).1 live in
+        let u = S.defence-edges r ways g.last x l p s live other (apart p) (node_of p).edges refl in
+        (u.0, u.1, λ f k. let v = u.2 f k in subst (λ y. Fits r plain l table (node_of p) y) v.2 (fits p s v.0 v.1 v.3))
 
     places : (i j : ℕ) (v w : Node P M) → slice_get table i ≡ Some v → slice_get table j ≡ Some w → r.repeat v.position ≡ r.repeat w.position → r.counter v.position ≡ r.counter w.position → i ≡ j
     unfolding node_of
@@ -371,31 +204,31 @@ module _ {P R M : Type 0} (r : Game P R M) (l : GameLaws P R M r) (apart : (p : 
         let k = node_at i v a in
         let n = node_at j w d in
         let keys : key v.position ≡ key w.position = λ i. record { of = e i; count = h i } in
-        apart_alone same_key key_decides key all apart_all i j k.0 n.0 k.1 n.1 (ap (λ u. key u.position) k.2 ∙ keys ∙ sym (ap (λ u. key u.position) n.2))
+        apart_alone same_key key_decides key all (S.apart_all r ways g.last x) i j k.0 n.0 k.1 n.1 (ap (λ u. key u.position) k.2 ∙ keys ∙ sym (ap (λ u. key u.position) n.2))
 
     -- a position that stands in the way of a good strategy
-    unfoldable pub stands_in_way : P → Bool
+    stands_in_way : P → Bool
     stands_in_way p = r.same (r.repeat p) (r.repeat g.last) || (nat_lt 0 r.fold && nat_le r.fold (times r (r.repeat p) (history g) + nodes_of r plain (r.repeat p) table))
 
     -- each position of the table lies on a winning line
-    pub lines : (p : P) → Member p rest → (m : M) × Member m (r.legal g.last) × (W b (r.next g.last m) ≡ true) × Line b (r.next g.last m) p
-    unfolding rest tail
+    lines : (p : P) → Member p rest → (m : M) × Member m (r.legal g.last) × (W x.left (r.next g.last m) ≡ true) × Line x.left (r.next g.last m) p
+    unfolding S.tail
     lines p k =
-        let a = gathered (λ m. W b (r.next g.last m)) (λ m. collect b (r.next g.last m)) (r.legal g.last) p (once_in same_key key_decides key tail p k) in
-        (a.0, a.1, a.2, line-of b (r.next g.last a.0) p a.3)
+        let a = gathered (λ m. W x.left (r.next g.last m)) (λ m. S.collect r ways x.left (r.next g.last m)) (r.legal g.last) p (once_in same_key key_decides key tail p k) in
+        (a.0, a.1, a.2, line-of x.left (r.next g.last a.0) p a.3)
 
-    plan : (n : ℕ) → rank_of (r.attacking g.last) (suc b) ≤ n → list_any stands_in_way rest ≡ false → IsPlan r plain l table g n
-    unfolding table node_of all rest stands_in_way
+    plan : (n : ℕ) → rank_of (r.attacking g.last) (suc x.left) ≤ n → list_any stands_in_way rest ≡ false → IsPlan r plain l table g n
+    unfolding table node_of stands_in_way
     plan n rank clear =
-        let root = budget-root in
+        let root = S.budget-root r ways g.last x in
         record {
           root = node_of g.last;
           stands = refl;
           same = refl;
           covers = omega arith;
-          rank = subst (λ x. rank_of (r.attacking g.last) x ≤ n) (sym root) rank;
+          rank = subst (λ y. rank_of (r.attacking g.last) y ≤ n) (sym root) rank;
           ended = λ i v h. let k = node_at i v h in subst (λ u. (w : Bool) → r.own u.position ≡ Some w → (w ≡ true) × (u.edges ≡ [])) k.2 (ended_node k.0 k.3);
-          counted = λ i v h. let k = node_at i v h in subst (λ u. r.own u.position ≡ None → run_out r (r.counter u.position) ≡ false) k.2 (λ e. let s = k.3.step e in s.counted);
+          counted = λ i v h. let k = node_at i v h in subst (λ u. r.own u.position ≡ None → run_out r (r.counter u.position) ≡ false) k.2 (counted_node k.0 k.3);
           attack = λ i v h. let k = node_at i v h in subst (λ u. r.own u.position ≡ None → r.attacking u.position ≡ true → (e : Edge M) × (u.edges ≡ e ∷ []) × Fits r plain l table u e) k.2 (attack_node k.0 k.3);
           defence = λ i v h. let k = node_at i v h in subst (λ u. r.own u.position ≡ None → r.attacking u.position ≡ false → (is_doubled r plain u.edges ≡ false) × ((m : M) → Member m (r.legal u.position) → has_edge r plain u m ≡ true) × ((e : Edge M) → Member e u.edges → Fits r plain l table u e)) k.2 (defence_node k.0 k.3);
           differ = places;
@@ -406,12 +239,12 @@ module _ {P R M : Type 0} (r : Game P R M) (l : GameLaws P R M r) (apart : (p : 
           few = λ i v h q.
               let k = node_at (suc i) v h in
               let t = (neither _ _ (none_passes stands_in_way rest clear k.0 (listed rest i k.0 k.1))).1 in
-              subst (λ u. times r (r.repeat u.position) (history g) + nodes_of r plain (r.repeat u.position) table < r.fold) k.2 (below_test r.fold _ t q);
+              subst (λ u. times r (r.repeat u.position) (history g) + nodes_of r plain (r.repeat u.position) table < r.fold) k.2 (below_fold r.fold _ t q);
           start = λ _. (open_game, open_count);
         }
 
     -- a good strategy, or a position of the table that stands in the way
-    pub good-or : (n : ℕ) → rank_of (r.attacking g.last) (suc b) ≤ n → AreFaultless P R M (Node P M) (Edge M) r plain table g n ⊎ ((p : P) × Member p rest × (stands_in_way p ≡ true))
+    good-or : (n : ℕ) → rank_of (r.attacking g.last) (suc x.left) ≤ n → AreFaultless P R M (Node P M) (Edge M) r plain table g n ⊎ ((p : P) × Member p rest × (stands_in_way p ≡ true))
     good-or n rank =
         by_cases (list_any stands_in_way rest)
         (λ h. let u = any_member stands_in_way rest h in inr (u.0, u.1, u.2))
@@ -422,37 +255,36 @@ module _ {P R M : Type 0} (r : Game P R M) (l : GameLaws P R M r) (apart : (p : 
       pub repeat : R
       pub counters : List ℕ
       pub differ : (i j c : ℕ) → slice_get counters i ≡ Some c → slice_get counters j ≡ Some c → i ≡ j
-      pub on_lines : (c : ℕ) → Member c counters → (x : P) × (r.repeat x ≡ repeat) × (r.counter x ≡ c) × Line (suc b) g.last x
+      pub on_lines : (c : ℕ) → Member c counters → (p : P) × (r.repeat p ≡ repeat) × (r.counter p ≡ c) × Line (suc x.left) g.last p
       pub many : ((repeat ≡ r.repeat g.last) × (2 ≤ length counters)) ⊎ ((repeat ≡ r.repeat g.last → ⊥) × (0 < r.fold) × (r.fold ≤ length counters + times r repeat (history g)))
 
     root_again : (p : P) → Member p rest → r.repeat p ≡ r.repeat g.last → Evidence
-    unfolding rest
     root_again p k e = record {
       repeat = r.repeat g.last;
       counters = r.counter g.last ∷ r.counter p ∷ [];
-      differ = two (r.counter g.last) (r.counter p) (λ c. not_root p (once_in same_key key_decides key tail p k) (λ i. record { of = e i; count = sym c i }));
+      differ = two (r.counter g.last) (r.counter p) (λ c. S.not_root r ways g.last x p (once_in same_key key_decides key tail p k) (λ i. record { of = e i; count = sym c i }));
       on_lines = λ c m. line c m;
       many = inl (refl, omega arith);
     }
       where
-        line : (c : ℕ) → Member c (r.counter g.last ∷ r.counter p ∷ []) → (x : P) × (r.repeat x ≡ r.repeat g.last) × (r.counter x ≡ c) × Line (suc b) g.last x
+        line : (c : ℕ) → Member c (r.counter g.last ∷ r.counter p ∷ []) → (q : P) × (r.repeat q ≡ r.repeat g.last) × (r.counter q ≡ c) × Line (suc x.left) g.last q
         line c (inl h) = (g.last, refl, h, inl refl)
         line c (inr (inl h)) = (p, e, h, inr (lines p k))
         line c (inr (inr h)) = absurd h
 
     picked : R → List P
-    picked x = filter (λ q. r.same (r.repeat q) x) rest
+    picked y = filter (λ q. r.same (r.repeat q) y) rest
 
-    nodes_length : (x : R) → (r.repeat g.last ≡ x → ⊥) → nodes_of r plain x table ≡ length (map r.counter (picked x))
-    unfolding nodes_of table all picked node_of
-    nodes_length x n =
-        let f : Node P M → Bool = λ v. r.same (r.repeat v.position) x in
+    nodes_length : (y : R) → (r.repeat g.last ≡ y → ⊥) → nodes_of r plain y table ≡ length (map r.counter (picked y))
+    unfolding nodes_of table picked node_of
+    nodes_length y n =
+        let f : Node P M → Bool = λ v. r.same (r.repeat v.position) y in
         let a = sum_by-cons (λ v. cond (f v) 1 0) (node_of g.last) (map node_of rest) in
-        let e = not_true (r.same (r.repeat g.last) x) (λ t. n ((l.decides _ _).0 t)) in
+        let e = not_true (r.same (r.repeat g.last) y) (λ t. n ((l.decides _ _).0 t)) in
         let z : ◌≡◌ {A = ℕ} (cond (f (node_of g.last)) 1 0) 0 = ap (λ c. cond c 1 0) e in
         let b = count_map f node_of rest in
-        let c = length-filter (λ q. r.same (r.repeat q) x) rest in
-        let d = map_length r.counter (filter (λ q. r.same (r.repeat q) x) rest) in
+        let c = length-filter (λ q. r.same (r.repeat q) y) rest in
+        let d = map_length r.counter (filter (λ q. r.same (r.repeat q) y) rest) in
         omega arith
 
     apart_kept : (f : P → Bool) (ys : List P) → Apart same_key key_decides key ys → Apart same_key key_decides key (filter f ys)
@@ -463,7 +295,7 @@ module _ {P R M : Type 0} (r : Game P R M) (l : GameLaws P R M r) (apart : (p : 
         (λ e. subst (λ c. Apart same_key key_decides key (cond c (y ∷ filter f ys) (filter f ys))) (sym e) (apart_kept f ys a.1))
 
     too_often : (p : P) → Member p rest → (r.repeat p ≡ r.repeat g.last → ⊥) → 0 < r.fold → r.fold ≤ times r (r.repeat p) (history g) + nodes_of r plain (r.repeat p) table → Evidence
-    unfolding picked rest
+    unfolding picked
     too_often p k n pos h = record {
       repeat = r.repeat p;
       counters = map r.counter (picked (r.repeat p));
@@ -484,9 +316,9 @@ module _ {P R M : Type 0} (r : Game P R M) (l : GameLaws P R M r) (apart : (p : 
     evidence p k h =
         by_cases (r.same (r.repeat p) (r.repeat g.last))
         (λ e. root_again p k ((l.decides _ _).0 e))
-        (λ e. let t = or_right_of _ _ e h in let u = above_test r.fold _ t in too_often p k (λ s. true_false _ ((l.decides _ _).1 s) e) u.0 u.1)
+        (λ e. let t = or_right_of _ _ e h in let u = tests_from r.fold _ t in too_often p k (λ s. true_false _ ((l.decides _ _).1 s) e) u.0 u.1)
 
-    pub good-or-evidence : (n : ℕ) → rank_of (r.attacking g.last) (suc b) ≤ n → AreFaultless P R M (Node P M) (Edge M) r plain table g n ⊎ Evidence
+    good-or-evidence : (n : ℕ) → rank_of (r.attacking g.last) (suc x.left) ≤ n → AreFaultless P R M (Node P M) (Edge M) r plain table g n ⊎ Evidence
     good-or-evidence n rank = widen (good-or n rank)
       where
         widen : AreFaultless P R M (Node P M) (Edge M) r plain table g n ⊎ ((p : P) × Member p rest × (stands_in_way p ≡ true)) → AreFaultless P R M (Node P M) (Edge M) r plain table g n ⊎ Evidence
@@ -498,8 +330,8 @@ module _ {P R M : Type 0} (r : Game P R M) (l : GameLaws P R M r) (apart : (p : 
   end_live : (y z t : Bool) (o : Option Bool) → o ≡ None → decided (or_end o (lost_if (y || z))) t ≡ true → (y ≡ false) × (z ≡ false) × (t ≡ true)
   end_live y z t o e h = live_step o y z t e h
 
-  root_mine : (n : ℕ) → r.own g.last ≡ None → r.attacking g.last ≡ true → near_root r n g ≡ true → root_on (double n) ≡ true
-  unfolding near_root root_on double
+  root_mine : (n : ℕ) → r.own g.last ≡ None → r.attacking g.last ≡ true → near_root r n g ≡ true → S.root_on r ways g.last (double n) ≡ true
+  unfolding near_root S.root_on double
   root_mine zero own m h =
       let k = end_live (repeated r g) (run_out r (r.counter g.last)) _ (r.own g.last) own h in
       let z : false ≡ true = subst (λ c. (if c then false else near_defence r (blocked r g) zero g.last) ≡ true) m k.2 in cc
@@ -508,25 +340,17 @@ module _ {P R M : Type 0} (r : Game P R M) (l : GameLaws P R M r) (apart : (p : 
       let z : near_attack r (blocked r g) (suc n) g.last ≡ true = subst (λ c. (if c then near_attack r (blocked r g) (suc n) g.last else near_defence r (blocked r g) (suc n) g.last) ≡ true) m k.2 in
       rw m (any_mono _ _ (r.legal g.last) (λ c f. sym (near-attack r l (blocked r g) n g.last m c) ∙ f) z)
 
-  root_other : (n : ℕ) → r.own g.last ≡ None → r.attacking g.last ≡ false → near_root r n g ≡ true → root_on (suc (double n)) ≡ true
-  unfolding near_root root_on
+  root_other : (n : ℕ) → r.own g.last ≡ None → r.attacking g.last ≡ false → near_root r n g ≡ true → S.root_on r ways g.last (suc (double n)) ≡ true
+  unfolding near_root S.root_on
   root_other n own m h =
       let k = end_live (repeated r g) (run_out r (r.counter g.last)) _ (r.own g.last) own h in
       let z : near_defence r (blocked r g) n g.last ≡ true = subst (λ c. (if c then near_attack r (blocked r g) n g.last else near_defence r (blocked r g) n g.last) ≡ true) m k.2 in
       rw m (all_mono _ _ (r.legal g.last) (λ c f. sym (near-defence r l (blocked r g) n g.last m c) ∙ f) z)
 
-  positive : (T : ℕ) → root_on T ≡ true → (b : ℕ) × (least root_on T ≡ suc b)
-  unfolding root_on
-  positive T h = from (least root_on T) (least-true root_on root-up T h)
-    where
-      from : (k : ℕ) → root_on k ≡ true → (b : ℕ) × (k ≡ suc b)
-      from zero h = cc
-      from (suc k) h = (k, refl)
-
   abbrev plies : ℕ → ℕ
   plies n = if r.attacking g.last then double n else suc (double n)
 
-  root_near : (n : ℕ) → r.own g.last ≡ None → near_root r n g ≡ true → root_on (plies n) ≡ true
+  root_near : (n : ℕ) → r.own g.last ≡ None → near_root r n g ≡ true → S.root_on r ways g.last (plies n) ≡ true
   root_near n own h = by_cases (r.attacking g.last) (λ m. rw m (root_mine n own m h)) (λ m. rw m (root_other n own m h))
 
   rank_fits : (n b : ℕ) → suc b ≤ plies n → rank_of (r.attacking g.last) (suc b) ≤ n
@@ -538,13 +362,11 @@ module _ {P R M : Type 0} (r : Game P R M) (l : GameLaws P R M r) (apart : (p : 
 
   -- an ongoing game that is won without history has a good strategy, or the evidence that a solver shows in its place
   pub near_root-settled : (n : ℕ) (own : r.own g.last ≡ None) (open_game : repeated r g ≡ false) (open_count : run_out r (r.counter g.last) ≡ false) → near_root r n g ≡ true →
-      ((s : List (Node P M)) × AreFaultless P R M (Node P M) (Edge M) r plain s g n) ⊎ ((b : ℕ) × (T : ℕ) × (e : least root_on T ≡ suc b) × (f : root_on T ≡ true) × (suc b ≤ plies n) × Evidence own open_game open_count b T e f)
+      ((s : List (Node P M)) × AreFaultless P R M (Node P M) (Edge M) r plain s g n) ⊎ ((x : Shortest P R M (Key R) r ways g.last) × (suc x.left ≤ plies n) × Evidence x open_game open_count)
   near_root-settled n own open_game open_count h =
-      let on = root_near n own h in
-      let b = positive (plies n) on in
-      let small = small own open_game open_count b.0 (plies n) b.1 on in
-      widen n own open_game open_count b.0 (plies n) b.1 on small (good-or-evidence own open_game open_count b.0 (plies n) b.1 on n (rank_fits n b.0 small))
+      let x = shortest r ways g.last own (plies n) (root_near n own h) in
+      widen x.0 x.2 (good-or-evidence x.0 open_game open_count n (rank_fits n x.0.left x.2))
     where
-      widen : (n : ℕ) (own : r.own g.last ≡ None) (open_game : repeated r g ≡ false) (open_count : run_out r (r.counter g.last) ≡ false) (b T : ℕ) (e : least root_on T ≡ suc b) (f : root_on T ≡ true) → suc b ≤ plies n → AreFaultless P R M (Node P M) (Edge M) r plain (table own open_game open_count b T e f) g n ⊎ Evidence own open_game open_count b T e f → ((s : List (Node P M)) × AreFaultless P R M (Node P M) (Edge M) r plain s g n) ⊎ ((b : ℕ) × (T : ℕ) × (e : least root_on T ≡ suc b) × (f : root_on T ≡ true) × (suc b ≤ plies n) × Evidence own open_game open_count b T e f)
-      widen n own open_game open_count b T e f s (inl h) = inl (table own open_game open_count b T e f, h)
-      widen n own open_game open_count b T e f s (inr h) = inr (b, T, e, f, s, h)
+      widen : (x : Shortest P R M (Key R) r ways g.last) → suc x.left ≤ plies n → AreFaultless P R M (Node P M) (Edge M) r plain (table x open_game open_count) g n ⊎ Evidence x open_game open_count → ((s : List (Node P M)) × AreFaultless P R M (Node P M) (Edge M) r plain s g n) ⊎ ((x : Shortest P R M (Key R) r ways g.last) × (suc x.left ≤ plies n) × Evidence x open_game open_count)
+      widen x low (inl h) = inl (table x open_game open_count, h)
+      widen x low (inr h) = inr (x, low, h)

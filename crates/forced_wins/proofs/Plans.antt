@@ -1,23 +1,13 @@
 -- What a table must meet to have no fault, in positive words.
 use Rattle.std.proofs.Common.{◌≡◌, ◌⊎◌, inl, inr, ℕ, zero, suc, ◌+◌, ◌<◌, ◌≤◌, List, [], ◌∷◌, length, take, Bool, true, false, Option, Some, None, cond, not, nat_le, nat_lt, ◌==◌, ◌&&◌, ◌||◌, slice_get, refl, ap, sym, ◌∙◌, subst, arith}
 use Rattle.std.specs.List.{count_by}
-use Rattle.std.proofs.lemmas.Bool.Decides.{nat_tests}
 use Rattle.std.proofs.lemmas.List.Sums.{sum_by-cons}
 use Rattle.foundation.specs.Member.{Member}
 use Rattle.forced_wins.specs.Games.{Game, GameLaws, Story, history, times, run_out, repeated}
 use Rattle.forced_wins.specs.Tables.{Accessors, nodes_of, node_end, ends_lost, leads, fits_edge, is_doubled, fits_number, wrong_move, has_edge, first_missing, missing_at, missing_reply, fits_rank, bad_rank, bad_counter, stands_often, repeats_at, is_root_again, is_earlier, not_won, is_cut, root_fits, IsFaultless, AreFaultless}
 use Rattle.forced_wins.proofs.ContestLaws.{any_intro, all_intro}
-use Rattle.forced_wins.proofs.Counts.{by_cases, not_true, tests_none}
+use Rattle.forced_wins.proofs.Counts.{by_cases, not_true, own_cases, tests_none, and_true, le_true, eq_from}
 use Rattle.forced_wins.proofs.TableLaws.{any_member, both}
-
-eq_from : (m n : ℕ) → (m == n) ≡ true → m ≡ n
-eq_from m n h = grind (arith, nat_tests)
-
-le_true : (m n : ℕ) → m ≤ n → nat_le m n ≡ true
-le_true m n h = grind (arith, nat_tests)
-
-and_true : (a b : Bool) → a ≡ true → b ≡ true → (a && b) ≡ true
-and_true a b h k = grind arith
 
 or_false : (a b : Bool) → a ≡ false → b ≡ false → (a || b) ≡ false
 or_false a b h k = grind arith
@@ -41,10 +31,6 @@ none_pass f (x ∷ xs) h =
     let e = sum_by-cons (λ y. cond (f y) 1 0) x xs in
     let c : ◌≡◌ {A = ℕ} (cond (f x) 1 0) 0 = ap (λ b. cond b 1 0) (h 0 x refl) in
     let z = none_pass f xs (λ j y a. h (suc j) y a) in omega arith
-
-own_cases : {C : Type 0} (o : Option Bool) → ((w : Bool) → o ≡ Some w → C) → (o ≡ None → C) → C
-own_cases None f g = g refl
-own_cases (Some w) f g = f w refl
 
 none_or : (a x : ℕ) → (0 < a → x < a) → (a ≡ 0) ⊎ (x < a)
 none_or zero x f = inl refl

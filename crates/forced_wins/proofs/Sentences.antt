@@ -1,70 +1,22 @@
--- The sentences on results, wins and near wins, one by one.
-use Rattle.std.proofs.Common.{◌≡◌, ℕ, suc, List, Bool, true, false, Some, None, not, ◌&&◌, ◌||◌, if◌then◌else◌, refl, ap, ◌∙◌}
+-- The sentences on wins and near wins, one by one.
+use Rattle.std.proofs.Common.{◌≡◌, ℕ, suc, List, Bool, true, false, Some, None, not, ◌&&◌, ◌||◌, ap}
 use Rattle.std.specs.List.{list_any, list_all}
 use Rattle.rules_model.specs.declared.board.Position.{Position}
 use Rattle.rules_model.specs.declared.board.Repeat.{Repeat}
 use Rattle.rules_model.specs.declared.board.Side.{Side}
 use Rattle.rules_model.specs.declared.moves.Cause.{Cause}
-use Rattle.rules_model.specs.declared.moves.Cause.TheVariants.{Repetition, MoveCount}
 use Rattle.rules_model.specs.declared.moves.Move.{Move}
-use Rattle.rules_model.specs.declared.moves.Outcome.{Outcome}
 use Rattle.rules_model.specs.declared.moves.Outcome.TheVariants.{Ongoing, Won, Drawn}
 use Rattle.rules_model.specs.declared.rules.Rules.{Rules}
 use Rattle.rules_model.specs.Repeats.{repeat_of}
 use Rattle.rules_model.specs.Sides.{same_side}
-use Rattle.rules_model.specs.Attacks.{king_attacked}
-use Rattle.rules_model.specs.Ends.{is_ongoing, or_end, valued, early_end, no_move}
 use Rattle.rules_model.specs.Next.{next}
-use Rattle.rules_model.specs.Legal.{legal, own_end, is_stuck}
-use Rattle.rules_model.specs.Games.{Story, played, result, is_repeated, is_run_out}
-use Rattle.rules_model.proofs.PlayLaws.{own_end-stuck}
+use Rattle.rules_model.specs.Legal.{legal, own_end}
+use Rattle.rules_model.specs.Games.{Story, played, result, is_run_out}
 use Rattle.forced_wins.specs.Views.{won_by, is_repetition}
 use Rattle.forced_wins.specs.Wins.{games, wins, is_in, near_end, positions, near, blocked, near_root}
 use Rattle.forced_wins.proofs.ClaimLaws as C
 use Rattle.forced_wins.proofs.Rules.{laws}
-
--- ---- results
-
-first_end : (o p : Outcome) → is_ongoing o ≡ false → or_end o p ≡ o
-first_end Ongoing p h = cc
-first_end (Won s c) p h = refl
-first_end (Drawn c) p h = refl
-
-then_end : (o p : Outcome) → is_ongoing o ≡ true → or_end o p ≡ p
-then_end Ongoing p h = refl
-then_end (Won s c) p h = cc
-then_end (Drawn c) p h = cc
-
-pub result-early : (rules : Rules) (g : Story) → is_ongoing (early_end rules (repeat_of g.last)) ≡ false → result rules g ≡ early_end rules (repeat_of g.last)
-unfolding result own_end
-result-early rules g h =
-    let e : own_end rules (repeat_of g.last) ≡ early_end rules (repeat_of g.last) = first_end _ _ h in
-    first_end _ _ (ap is_ongoing e ∙ h) ∙ e
-
-own-stuck : (rules : Rules) (r : Repeat) → is_ongoing (early_end rules r) ≡ true → is_stuck rules r ≡ true → own_end rules r ≡ no_move rules r.side (king_attacked rules r.cells r.side)
-unfolding own_end
-own-stuck rules r h k = then_end _ _ h ∙ rw k
-
-own-free : (rules : Rules) (r : Repeat) → is_ongoing (early_end rules r) ≡ true → is_stuck rules r ≡ false → own_end rules r ≡ Ongoing
-unfolding own_end
-own-free rules r h k = then_end _ _ h ∙ rw k
-
-pub result-stuck : (rules : Rules) (g : Story) → is_ongoing (early_end rules (repeat_of g.last)) ≡ true → is_stuck rules (repeat_of g.last) ≡ true → result rules g ≡ no_move rules g.last.side (king_attacked rules g.last.cells g.last.side)
-unfolding result
-result-stuck rules g h k = first_end _ _ (own_end-stuck rules (repeat_of g.last) ∙ ap not k) ∙ own-stuck rules (repeat_of g.last) h k
-
-later : (rules : Rules) (g : Story) → is_ongoing (early_end rules (repeat_of g.last)) ≡ true → is_stuck rules (repeat_of g.last) ≡ false → result rules g ≡ (if is_repeated rules g then valued rules.n_fold_value g.last.side Repetition else if is_run_out rules g.last.counter then Drawn MoveCount else Ongoing)
-unfolding result
-later rules g h k = then_end _ _ (ap is_ongoing (own-free rules (repeat_of g.last) h k))
-
-pub result-repeated : (rules : Rules) (g : Story) → is_ongoing (early_end rules (repeat_of g.last)) ≡ true → is_stuck rules (repeat_of g.last) ≡ false → is_repeated rules g ≡ true → result rules g ≡ valued rules.n_fold_value g.last.side Repetition
-result-repeated rules g h k e = later rules g h k ∙ rw e
-
-pub result-counted : (rules : Rules) (g : Story) → is_ongoing (early_end rules (repeat_of g.last)) ≡ true → is_stuck rules (repeat_of g.last) ≡ false → is_repeated rules g ≡ false → is_run_out rules g.last.counter ≡ true → result rules g ≡ Drawn MoveCount
-result-counted rules g h k e f = later rules g h k ∙ rw (e, f)
-
-pub result-ongoing : (rules : Rules) (g : Story) → is_ongoing (early_end rules (repeat_of g.last)) ≡ true → is_stuck rules (repeat_of g.last) ≡ false → is_repeated rules g ≡ false → is_run_out rules g.last.counter ≡ false → result rules g ≡ Ongoing
-result-ongoing rules g h k e f = later rules g h k ∙ rw (e, f)
 
 -- ---- wins
 

@@ -1,5 +1,5 @@
 -- Good strategies by the rules: they win, and wins have them.
-use Rattle.std.proofs.Common.{◌≡◌, ◌⊎◌, ◌↔◌, inl, inr, ℕ, List, [], ◌∷◌, Bool, true, false, Option, Some, None, ◌==◌, ◌||◌, refl, ap, sym, ◌∙◌, arith}
+use Rattle.std.proofs.Common.{◌≡◌, ◌⊎◌, ◌↔◌, inl, inr, ℕ, ◌+◌, ◌<◌, ◌≤◌, List, [], ◌∷◌, length, Bool, true, false, Option, Some, None, ◌==◌, ◌||◌, refl, ap, sym, ◌∙◌, subst, arith}
 use Rattle.rules_model.specs.declared.board.Position.{Position}
 use Rattle.rules_model.specs.declared.board.Repeat.{Repeat}
 use Rattle.rules_model.specs.declared.board.Side.{Side}
@@ -9,7 +9,7 @@ use Rattle.rules_model.specs.Repeats.{repeat_of}
 use Rattle.rules_model.specs.Sides.{same_side}
 use Rattle.rules_model.specs.Next.{next}
 use Rattle.rules_model.specs.Legal.{own_end}
-use Rattle.rules_model.specs.Games.{Story, times, story_of, IsGame}
+use Rattle.rules_model.specs.Games.{Story, history, story_of, IsGame}
 use Rattle.rules_model.proofs.EqualLaws.{side-decides}
 use Rattle.forced_wins.specs.Contests.{decided}
 use Rattle.forced_wins.specs.Games as AnyGame
@@ -24,7 +24,7 @@ use Rattle.forced_wins.proofs.GoodWins.{good-wins}
 use Rattle.forced_wins.proofs.Verdicts.{verdict-faultless}
 use Rattle.forced_wins.proofs.Counts.{by_cases}
 use Rattle.forced_wins.proofs.Unsettled.{good-exactly-wins, near-good-or-unsettled, ended-good}
-use Rattle.forced_wins.proofs.Rules.{laws, table_laws, wins-is, near-is}
+use Rattle.forced_wins.proofs.Rules.{laws, table_laws, wins-is, near-is, times-is}
 use Rattle.forced_wins.proofs.Blocked.{blocked-is, near_root-is, in_limit, ended_at_one, one_test, not_one}
 use Rattle.forced_wins.proofs.Played.{game-played}
 
@@ -66,7 +66,6 @@ module _ (rules : Rules) (a : Side) where
     }
 
     unsettled : (n : ℕ) → AnyLines.IsUnsettled Position Repeat Move (seen_by rules a) n (as_any g) → IsUnsettled rules n g a
-    unfolding times AnyGame.times
     unsettled n h =
         let pos = h.counted in
         let near = h.close in
@@ -78,7 +77,7 @@ module _ (rules : Rules) (a : Side) where
           counters = h.counters;
           differ = h.differ;
           on_lines = λ c m. on-win n h.repeat c (h.on_lines c m);
-          many = h.many;
+          many = subst (λ t. ((h.repeat ≡ repeat_of g.last) × (2 ≤ length h.counters)) ⊎ ((h.repeat ≡ repeat_of g.last → ⊥) × (0 < rules.n_fold) × (rules.n_fold ≤ length h.counters + t))) (sym (times-is rules a h.repeat (history g))) h.many;
         }
 
     settled_fit : (n : ℕ) → AnyGame.IsPlayed (seen_by rules a) (as_any g) → near_root rules n g a ≡ true → ((s : List (Node Position Move)) × IsGood rules plain g a n a s) ⊎ IsUnsettled rules n g a

@@ -12,10 +12,11 @@ use Rattle.forced_wins.specs.Tables.{IsGood, AreFaultless}
 use Rattle.forced_wins.proofs.GoodWins.{good-wins}
 use Rattle.forced_wins.proofs.Verdicts.{verdict-faultless, faultless-verdict}
 use Rattle.forced_wins.proofs.ContestLaws.{within-mono, double, double-is, forced-attacking, forced-other}
-use Rattle.forced_wins.proofs.Counts.{by_cases, not_true}
+use Rattle.forced_wins.proofs.Counts.{by_cases, not_true, own_cases, tests_from}
 use Rattle.forced_wins.proofs.NearLaws.{near_root-wins}
 use Rattle.forced_wins.proofs.Plans.{plan-good}
-use Rattle.forced_wins.proofs.GoodExists.{doubled, own_cases, upward, ended_plan, exists-good}
+use Rattle.forced_wins.proofs.GoodExists.{ended_plan, exists-good}
+use Rattle.forced_wins.proofs.ShortestWins.{upward, doubled}
 use Rattle.forced_wins.proofs.NearLimit.{Line, near_root-settled}
 
 -- ---- a list with each element once has none doubled
@@ -109,14 +110,8 @@ decided_some None b t w e h = cc
 decided_some (Some u) b t w e h = let k : u ≡ w = cc in sym k ∙ h
 
 limit_cases : {C : Type 0} (a x : ℕ) → ((a ≡ 0) ⊎ (x < a) → C) → (0 < a → a ≤ x → C) → C
-limit_cases {C = C} a x f g = by_cases (nat_lt 0 a && nat_le a x) (λ h. g (pos a x h) (high a x h)) (λ h. f (low a x h))
+limit_cases {C = C} a x f g = by_cases (nat_lt 0 a && nat_le a x) (λ h. let k = tests_from a x h in g k.0 k.1) (λ h. f (low a x h))
   where
-    pos : (a x : ℕ) → (nat_lt 0 a && nat_le a x) ≡ true → 0 < a
-    pos a x h = grind (arith, nat_tests)
-
-    high : (a x : ℕ) → (nat_lt 0 a && nat_le a x) ≡ true → a ≤ x
-    high a x h = grind (arith, nat_tests)
-
     low : (a x : ℕ) → (nat_lt 0 a && nat_le a x) ≡ false → (a ≡ 0) ⊎ (x < a)
     low a x h = grind (arith, nat_tests)
 
@@ -142,11 +137,11 @@ module _ {P R M : Type 0} (r : Game P R M) (t : TableLaws P R M r) (g : Story P)
           near_win = h;
           counted = counted;
           close = close;
-          repeat = k.5.repeat;
-          counters = k.5.counters;
-          differ = k.5.differ;
-          on_lines = λ c m. on_win r l apart g n (suc k.0) k.5.repeat c k.4 (k.5.on_lines c m);
-          many = k.5.many;
+          repeat = k.2.repeat;
+          counters = k.2.counters;
+          differ = k.2.differ;
+          on_lines = λ c m. on_win r l apart g n (suc k.0.left) k.2.repeat c k.1 (k.2.on_lines c m);
+          many = k.2.many;
         })
       ]
 

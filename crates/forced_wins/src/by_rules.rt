@@ -1,23 +1,22 @@
 //! Forced wins by the rules of play, over games with their whole history (`Story`) and for either side as the attacker.
-ghost use Rattle.std.specs.Prelude.{◌≡◌, ◌⊎◌, ◌↔◌, ℕ, suc, ◌≤◌, List, Bool, true, false, not, ◌&&◌, ◌||◌, Option, Some, None, if◌then◌else◌};
+//!
+//! How a game stands is said by the laws of `rules_model`, in `game_laws`: these laws use it, and open no definition of the rules.
+ghost use Rattle.std.specs.Prelude.{◌≡◌, ◌⊎◌, ◌↔◌, ℕ, suc, ◌≤◌, List, Bool, true, false, not, ◌&&◌, ◌||◌, Option, Some, None};
 ghost use Rattle.std.specs.List.{list_any, list_all};
 ghost use Rattle.foundation.specs.Member.{Member};
 ghost use Rattle.rules_model.specs.declared.board.Position.{Position};
 ghost use Rattle.rules_model.specs.declared.board.Repeat.{Repeat};
 ghost use Rattle.rules_model.specs.declared.board.Side.{Side};
 ghost use Rattle.rules_model.specs.declared.moves.Cause.{Cause};
-ghost use Rattle.rules_model.specs.declared.moves.Cause.TheVariants.{Repetition, MoveCount};
 ghost use Rattle.rules_model.specs.declared.moves.Move.{Move};
 ghost use Rattle.rules_model.specs.declared.moves.Outcome.TheVariants.{Ongoing, Won, Drawn};
 ghost use Rattle.rules_model.specs.declared.rules.Rules.{Rules};
 ghost use Rattle.rules_model.specs.Repeats.{repeat_of};
 ghost use Rattle.rules_model.specs.Sides.{same_side};
-ghost use Rattle.rules_model.specs.Attacks.{king_attacked};
-ghost use Rattle.rules_model.specs.Ends.{is_ongoing, valued, early_end, no_move};
 ghost use Rattle.rules_model.specs.Next.{next};
-ghost use Rattle.rules_model.specs.Legal.{legal, is_stuck, own_end};
+ghost use Rattle.rules_model.specs.Legal.{legal, own_end};
 ghost use Rattle.rules_model.specs.Games as Games;
-ghost use Rattle.rules_model.specs.Games.{Story, played, story_of, IsGame, is_repeated, is_run_out};
+ghost use Rattle.rules_model.specs.Games.{Story, played, story_of, IsGame, is_run_out};
 ghost use Rattle.forced_wins.specs.declared.fact.Fact.{Fact};
 ghost use Rattle.forced_wins.specs.Views.{won_by, is_repetition};
 ghost use Rattle.forced_wins.specs.Wins.{wins, blocked, is_in, near, near_end, near_root, IsInLimit};
@@ -25,16 +24,6 @@ ghost use Rattle.forced_wins.specs.Facts.{IsTrueFact, Derives, IsGrounded};
 ghost use Rattle.forced_wins.specs.Tables.{Accessors};
 ghost use Rattle.forced_wins.specs.PlainTables.{Node, plain};
 ghost use Rattle.forced_wins.specs.Strategies.{IsGood, IsUnsettled};
-
-/// The sentences on the result of a game, in their order: an early end; no legal move, in check or not; repetition; the move
-/// count; else the game is ongoing.
-pub fn a_result_is_the_first_that_holds()
-    ensures early { (rules : Rules) (g : Story) → is_ongoing (early_end rules (repeat_of g.last)) ≡ false → Games.result rules g ≡ early_end rules (repeat_of g.last) }
-    ensures stuck { (rules : Rules) (g : Story) → is_ongoing (early_end rules (repeat_of g.last)) ≡ true → is_stuck rules (repeat_of g.last) ≡ true → Games.result rules g ≡ no_move rules g.last.side (king_attacked rules g.last.cells g.last.side) }
-    ensures repetition { (rules : Rules) (g : Story) → is_ongoing (early_end rules (repeat_of g.last)) ≡ true → is_stuck rules (repeat_of g.last) ≡ false → is_repeated rules g ≡ true → Games.result rules g ≡ valued rules.n_fold_value g.last.side Repetition }
-    ensures move_count { (rules : Rules) (g : Story) → is_ongoing (early_end rules (repeat_of g.last)) ≡ true → is_stuck rules (repeat_of g.last) ≡ false → is_repeated rules g ≡ false → is_run_out rules g.last.counter ≡ true → Games.result rules g ≡ Drawn MoveCount }
-    ensures ongoing { (rules : Rules) (g : Story) → is_ongoing (early_end rules (repeat_of g.last)) ≡ true → is_stuck rules (repeat_of g.last) ≡ false → is_repeated rules g ≡ false → is_run_out rules g.last.counter ≡ false → Games.result rules g ≡ Ongoing }
-{}
 
 /// The sentences on wins: a game that has ended is won exactly by a win of the attacker that is no repetition; with no move
 /// left the attacker wins no ongoing game where he is to move; else he needs some legal move; and each legal move of the other

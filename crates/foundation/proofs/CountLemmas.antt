@@ -73,6 +73,15 @@ all_below-false f (suc n) k l h = and_step f n k (all_below f n) (λ s. all_belo
 pub all_below-each : (f : ℕ → Bool) (n : ℕ) → all_below f n ≡ true → (k : ℕ) → k < n → f k ≡ true
 all_below-each f n h k l = by_cases (f k) (λ e. let g = all_below-false f n k l e in cc)
 
+-- where each passes
+pub all_below-true : (f : ℕ → Bool) (n : ℕ) → ((k : ℕ) → k < n → f k ≡ true) → all_below f n ≡ true
+unfolding all_below
+all_below-true f zero h = refl
+all_below-true f (suc n) h =
+    let rest = all_below-true f n (λ k l. h k (omega arith)) in
+    let here = h n (omega arith) in
+    rw (rest, here)
+
 pub ruleset all = (all_below-zero, all_below-more)
 
 -- ---- the first and the last that pass

@@ -1,3 +1,4 @@
 pub mod CountLemmas
 pub mod Members
 pub mod Ordered
+pub mod SetLemmas

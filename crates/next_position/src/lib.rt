@@ -17,6 +17,8 @@ mod hands;
 mod passing;
 mod pieces;
 mod rights;
+#[cfg(test)]
+mod tests;
 
 use rules_model::{Cells, Move, Position, Rules, Side};
 

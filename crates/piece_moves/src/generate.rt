@@ -28,7 +28,8 @@ fn push_if(wanted: bool, m: Move, out: &mut MoveList) -> Result<(), Memory>
     Ok(())
 }
 
-fn go(from: Square, to: Square, promo: Promo) -> Move
+/// The move without a gate.
+pub(crate) fn go(from: Square, to: Square, promo: Promo) -> Move
     ensures { result ≡ Go from to promo None }
 {
     Move::Go {

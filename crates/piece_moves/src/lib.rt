@@ -6,6 +6,8 @@ pub mod generate;
 mod goal;
 mod piece;
 mod promotion;
+#[cfg(test)]
+mod tests;
 
 pub use candidate::is_candidate;
 pub use generate::push_moves;

@@ -146,6 +146,7 @@ pub record Castles (rules : Rules) (r : Repeat) (from to rook : Square) (wing : 
   pub target : to.0 ≡ castling_square rules r.side (king_file rules wing)
   pub file : rook_file rules r.cells r.side wing ≡ Some (rook.0 % 12)
   pub rank : rook.0 ≡ castling_square rules r.side (rook.0 % 12)
+  pub way : way_is_open rules r.cells r.side (king_file rules wing) (rook.0 % 12) (rook_target from to rook % 12) ≡ true
 
 castles_to : (rules : Rules) (r : Repeat) (from to rook : Square) (wing : Wing) → castling_on rules ≡ true → castles_on rules r from to rook wing ≡ true → Castles rules r from to rook wing
 castles_to rules r from to rook wing on e =
@@ -163,6 +164,7 @@ castles_to rules r from to rook wing on e =
       target = (Decides-eqb _ _).0 d.1;
       file = at_some _ _ c.1;
       rank = (Decides-eqb _ _).0 b.1;
+      way = a.1;
     }
 
 pub castle_is : (rules : Rules) (r : Repeat) (from to rook : Square) (gate : Option Placed) → is_candidate rules r (Castle from to rook gate) ≡ true → ((wing : Wing) × Castles rules r from to rook wing) × (castle_gates rules r from to rook gate ≡ true)

@@ -3,6 +3,7 @@ pub mod worked
 pub mod PlayLaws
 pub mod GameLaws
 pub mod EqualLaws
+pub mod ResultLaws
 pub mod LegalLaws
 pub mod CandidateLaws
 pub mod VariantLaws

@@ -7,6 +7,7 @@ pub mod attacks;
 pub mod board;
 pub mod castling;
 pub mod extent;
+pub mod game_laws;
 pub mod kinds;
 pub mod laws;
 pub mod moves;

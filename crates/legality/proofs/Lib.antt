@@ -1,0 +1,4 @@
+pub mod BuiltLaws
+pub mod GoesLaws
+pub mod ListLaws
+pub mod PieceLaws

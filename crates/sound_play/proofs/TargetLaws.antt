@@ -1,0 +1,152 @@
+-- What stands on the target of a candidate: an enemy that the mover attacks, and so no king in a sound position.
+use Rattle.std.proofs.Common.{◌≡◌, ◌<◌, Bool, true, false, not, ◌&&◌, ◌||◌, ◌⊎◌, inl, inr, Option, Some, None, List, [], ◌∷◌, refl, sym, subst, is_none}
+use Rattle.std.specs.List.{list_any}
+use Rattle.std.proofs.lemmas.Bool.Decides.{Decides-eqb}
+use Rattle.foundation.proofs.CountLemmas.{any_below-true}
+use Rattle.rules_model.specs.declared.board.Cell.{Cell}
+use Rattle.rules_model.specs.declared.board.Repeat.{Repeat}
+use Rattle.rules_model.specs.declared.board.Side.{Side}
+use Rattle.rules_model.specs.declared.board.Side.TheVariants.{White, Black}
+use Rattle.rules_model.specs.declared.board.Square.{Square}
+use Rattle.rules_model.specs.declared.moves.Promo.{Promo}
+use Rattle.rules_model.specs.declared.rules.Rules.{Rules}
+use Rattle.rules_model.specs.declared.rules.Term.{Term}
+use Rattle.rules_model.specs.Squares.{cell_at}
+use Rattle.rules_model.specs.Reach.{reaches}
+use Rattle.rules_model.specs.Sides.{other, same_side}
+use Rattle.rules_model.specs.Kinds.{board_of, terms_of}
+use Rattle.rules_model.specs.Attacks.{attacks, attacks_as, attacks_by, attacks_from, is_diagonal, is_own_king, king_attacked, king_attacked_at, takes_by}
+use Rattle.rules_model.specs.Pieces.{goes_by, may_plus, means_castling, piece_goes, piece_moves, piece_promo, serves}
+use Rattle.rules_model.specs.Pawns.{is_enemy, is_ep, is_free, is_stays, may_promote, passes_by, pawn_goes, pawn_moves, pawn_promo}
+use Rattle.rules_model.specs.Sound.{is_sound_ep, is_sound_repeat, on_board, was_passed}
+use Rattle.rules_model.proofs.CandidateLaws.{both_of, one_of, any_has, false_of_not, not_both, PieceGoes, PawnGoes}
+use Rattle.rules_model.proofs.VariantLaws.{sound_ep}
+use Rattle.sound_play.proofs.SoundLaws.{repeat_parts}
+
+-- ---- sides
+
+pub other_twice : (side : Side) → other (other side) ≡ side
+other_twice White = refl
+other_twice Black = refl
+
+side_cases : (a b : Side) → (a ≡ b) ⊎ (a ≡ other b)
+side_cases White White = inl refl
+side_cases White Black = inr refl
+side_cases Black White = inr refl
+side_cases Black Black = inl refl
+
+-- ---- attacks by a piece that is known
+
+pub attacks_as-attacks : (rules : Rules) (cells : List (Option Cell)) (by : Side) (from to : Square) (x : Cell) → from.0 < 120 → cell_at cells from.0 ≡ Some x → same_side x.side by ≡ true → attacks_as rules cells by x.kind from to.0 ≡ true → attacks rules cells by to.0 ≡ true
+unfolding attacks attacks_from
+attacks_as-attacks rules cells by from to x l here own e =
+    let a : attacks_by rules cells by to.0 from (Some x) ≡ true = rw (own, e) in
+    any_below-true (attacks_from rules cells by to.0) 120 from.0 l (subst (λ c. attacks_by rules cells by to.0 from c ≡ true) (sym here) a)
+
+any_more : {X : Type 0} (p q : X → Bool) (xs : List X) → ((x : X) → p x ≡ true → q x ≡ true) → list_any p xs ≡ true → list_any q xs ≡ true
+any_more p q [] h e = e
+any_more p q (x ∷ xs) h e =
+    elim (one_of (p x) (list_any p xs) e) as (λ _. (q x || list_any q xs) ≡ true) [
+      | inl a ↦ let b = h x a in rw b
+      | inr a ↦ let b = any_more p q xs h a in or_right (q x) (list_any q xs) b
+    ]
+  where
+    or_right : (a b : Bool) → b ≡ true → (a || b) ≡ true
+    or_right true b e = refl
+    or_right false b e = e
+
+-- what a move onto a piece is: the piece is an enemy, and the mover attacks it
+pub record Takes (rules : Rules) (r : Repeat) (to : Square) (y : Cell) : Type 0 where
+  pub enemy : same_side y.side r.side ≡ false
+  pub attacked : attacks rules r.cells r.side to.0 ≡ true
+
+takes_term : (rules : Rules) (r : Repeat) (from to : Square) (y : Cell) (t : Term) → cell_at r.cells to.0 ≡ Some y → goes_by rules r.cells r.side from to.0 t ≡ true → (takes_by (board_of rules) r.cells r.side from to.0 t ≡ true) × (same_side y.side r.side ≡ false)
+takes_term rules r from to y t there e =
+    let a = both_of (serves r.side (cell_at r.cells to.0) t) (reaches (board_of rules) r.cells r.side t from to.0) e in
+    let b : serves r.side (Some y) t ≡ true = subst (λ c. serves r.side c t ≡ true) there a.0 in
+    let c = both_of t.takes (not (same_side y.side r.side)) b in
+    let d : takes_by (board_of rules) r.cells r.side from to.0 t ≡ true = rw (c.0, a.1) in
+    (d, false_of_not _ c.1)
+
+pub piece_takes : (rules : Rules) (r : Repeat) (x y : Cell) (from to : Square) (promo : Promo) → from.0 < 120 → cell_at r.cells from.0 ≡ Some x → PieceGoes rules r x from to promo → cell_at r.cells to.0 ≡ Some y → Takes rules r to y
+unfolding piece_moves piece_goes
+piece_takes rules r x y from to promo l here h there =
+    let a = both_of _ (not (means_castling rules r x.kind from.0 to.0)) h.2 in
+    let b = both_of (list_any (goes_by rules r.cells r.side from to.0) (terms_of rules x.kind)) (piece_promo rules (may_plus rules r.side x.kind from.0 to.0) promo) a.0 in
+    let t = any_has (goes_by rules r.cells r.side from to.0) (terms_of rules x.kind) b.0 in
+    let c = any_more (goes_by rules r.cells r.side from to.0) (takes_by (board_of rules) r.cells r.side from to.0) (terms_of rules x.kind) (λ s e. (takes_term rules r from to y s there e).0) b.0 in
+    let d : attacks_as rules r.cells r.side x.kind from to.0 ≡ true = rw (h.1, c) in
+    record { enemy = (takes_term rules r from to y t.0 there t.1).1; attacked = attacks_as-attacks rules r.cells r.side from to x l here h.0 d }
+
+ep_free : (rules : Rules) (r : Repeat) (to : Square) (y : Cell) (ep : Option Square) → is_sound_ep rules r ep ≡ true → is_ep ep to.0 ≡ true → cell_at r.cells to.0 ≡ Some y → ⊥
+ep_free rules r to y None sound e there = cc
+ep_free rules r to y (Some ep) sound e there =
+    let a = both_of (on_board rules ep.0) (was_passed rules r ep) sound in
+    let b = both_of _ _ (both_of _ _ (both_of _ _ (both_of _ _ a.1).0).0).0 in
+    let c : is_none (cell_at r.cells ep.0) ≡ true = (both_of rules.double_step (is_free r.cells (Some ep.0)) b.0).1 in
+    let d : ep.0 ≡ to.0 = (Decides-eqb _ _).0 e in
+    let f : is_none (cell_at r.cells to.0) ≡ true = subst (λ s. is_none (cell_at r.cells s) ≡ true) d c in
+    let g : is_none (Some y) ≡ true = subst (λ o. is_none o ≡ true) there f in
+    cc
+
+pawn_diagonal : (rules : Rules) (r : Repeat) (y : Cell) (from to : Square) (promo : Promo) → is_sound_repeat rules r ≡ true → cell_at r.cells to.0 ≡ Some y → pawn_moves rules r from to promo ≡ true → (is_diagonal (board_of rules) r.side from to.0 ≡ true) × (same_side y.side r.side ≡ false)
+unfolding pawn_moves pawn_goes passes_by
+pawn_diagonal rules r y from to promo sound there e =
+    elim (one_of (pawn_goes rules r from to.0 && pawn_promo rules (may_promote rules r.side to.0) promo) (passes_by rules r from to.0 && is_stays promo) e) as (λ _. (is_diagonal (board_of rules) r.side from to.0 ≡ true) × (same_side y.side r.side ≡ false)) [
+      | inl a ↦ onto (both_of (pawn_goes rules r from to.0) (pawn_promo rules (may_promote rules r.side to.0) promo) a).0
+      | inr a ↦ let b = both_of _ (is_diagonal (board_of rules) r.side from to.0) (both_of (passes_by rules r from to.0) (is_stays promo) a).0 in
+          absurd (ep_free rules r to y r.ep (sound_ep rules r sound) (both_of _ (is_ep r.ep to.0) b.0).1 there)
+    ]
+  where
+    of_enemy : (c : Option Cell) (quiet d : Bool) → c ≡ Some y → ((is_none c && quiet) || (is_enemy r.side c && d)) ≡ true → (d ≡ true) × (same_side y.side r.side ≡ false)
+    of_enemy None quiet d f g = cc
+    of_enemy (Some z) quiet d f g =
+        let h = both_of (not (same_side z.side r.side)) d g in
+        let i : same_side z.side r.side ≡ false = false_of_not _ h.0 in
+        let j : z ≡ y = cc in
+        (h.1, subst (λ (w : Cell). same_side w.side r.side ≡ false) j i)
+
+    onto : pawn_goes rules r from to.0 ≡ true → (is_diagonal (board_of rules) r.side from to.0 ≡ true) × (same_side y.side r.side ≡ false)
+    onto g = of_enemy (cell_at r.cells to.0) _ (is_diagonal (board_of rules) r.side from to.0) there g
+
+pub pawn_takes : (rules : Rules) (r : Repeat) (x y : Cell) (from to : Square) (promo : Promo) → is_sound_repeat rules r ≡ true → from.0 < 120 → cell_at r.cells from.0 ≡ Some x → PawnGoes rules r x from to promo → cell_at r.cells to.0 ≡ Some y → Takes rules r to y
+pawn_takes rules r x y from to promo sound l here h there =
+    let a = pawn_diagonal rules r y from to promo sound there h.2 in
+    let b : attacks_as rules r.cells r.side x.kind from to.0 ≡ true = rw (h.1, a.0) in
+    record { enemy = a.1; attacked = attacks_as-attacks rules r.cells r.side from to x l here h.0 b }
+
+pub go_takes : (rules : Rules) (r : Repeat) (x y : Cell) (from to : Square) (promo : Promo) → is_sound_repeat rules r ≡ true → from.0 < 120 → cell_at r.cells from.0 ≡ Some x → PieceGoes rules r x from to promo ⊎ PawnGoes rules r x from to promo → cell_at r.cells to.0 ≡ Some y → Takes rules r to y
+go_takes rules r x y from to promo sound l here (inl h) there = piece_takes rules r x y from to promo l here h there
+go_takes rules r x y from to promo sound l here (inr h) there = pawn_takes rules r x y from to promo sound l here h there
+
+-- ---- kings
+
+king_hit : (rules : Rules) (r : Repeat) (to : Square) (y : Cell) → to.0 < 120 → cell_at r.cells to.0 ≡ Some y → is_own_king rules (other r.side) (Some y) ≡ true → attacks rules r.cells r.side to.0 ≡ true → king_attacked rules r.cells (other r.side) ≡ true
+unfolding king_attacked king_attacked_at
+king_hit rules r to y l there king hit =
+    let a : is_own_king rules (other r.side) (cell_at r.cells to.0) ≡ true = subst (λ c. is_own_king rules (other r.side) c ≡ true) (sym there) king in
+    let b : attacks rules r.cells (other (other r.side)) to.0 ≡ true = rw (other_twice r.side) hit in
+    any_below-true (king_attacked_at rules r.cells (other r.side)) 120 to.0 l (rw (a, b))
+
+pub by_contradiction : (b : Bool) → (b ≡ true → ⊥) → b ≡ false
+by_contradiction true h = absurd (h refl)
+by_contradiction false h = refl
+
+-- no piece or pawn goes onto a king
+pub no_king_taken : (rules : Rules) (r : Repeat) (x : Cell) (from to : Square) (promo : Promo) (side : Side) → is_sound_repeat rules r ≡ true → from.0 < 120 → to.0 < 120 → cell_at r.cells from.0 ≡ Some x → PieceGoes rules r x from to promo ⊎ PawnGoes rules r x from to promo → is_own_king rules side (cell_at r.cells to.0) ≡ false
+no_king_taken rules r x from to promo side sound l k here h = at_target (cell_at r.cells to.0) refl
+  where
+    of_enemy : (y : Cell) → cell_at r.cells to.0 ≡ Some y → (side ≡ r.side) ⊎ (side ≡ other r.side) → is_own_king rules side (Some y) ≡ false
+    of_enemy y there (inl e) =
+        let t = go_takes rules r x y from to promo sound l here h there in
+        let a : same_side y.side side ≡ false = subst (λ s. same_side y.side s ≡ false) (sym e) t.enemy in
+        rw a
+    of_enemy y there (inr e) =
+        let t = go_takes rules r x y from to promo sound l here h there in
+        by_contradiction (is_own_king rules side (Some y)) (λ king. not_both _
+        (king_hit rules r to y k there (subst (λ s. is_own_king rules s (Some y) ≡ true) e king) t.attacked)
+        (repeat_parts rules r sound).king)
+
+    at_target : (c : Option Cell) → cell_at r.cells to.0 ≡ c → is_own_king rules side c ≡ false
+    at_target None there = refl
+    at_target (Some y) there = of_enemy y there (side_cases side r.side)
