@@ -6,7 +6,6 @@ use Rattle.rules_model.specs.declared.board.Kind.{Kind}
 use Rattle.rules_model.specs.declared.board.Side.{Side}
 use Rattle.rules_model.specs.declared.rules.Rules.{Rules}
 use Rattle.rules_model.specs.Kinds.{has_kind, masks, promoted_of}
-use Rattle.rules_model.specs.Squares.{cell_at}
 use Rattle.variant_fen.specs.declared.fault.FenFault.{FenFault}
 use Rattle.variant_fen.specs.declared.fault.FenFault.TheVariants.{Rank, Letter, Width}
 use Rattle.variant_fen.specs.Chain.{◌>>=◌}
@@ -109,7 +108,7 @@ cells_of rules board = do
 
 -- the squares of so many files of a rank
 unfoldable pub row_at : List (Option Cell) → ℕ → ℕ → List (Option Cell)
-row_at cells rank files = map (λ file. cell_at cells (12 * rank + file)) (range_with_len 0 files)
+row_at cells rank files = map (λ file. slice_index_or cells (12 * rank + file) None) (range_with_len 0 files)
 
 -- so many rows of a board of so many ranks, from the highest on
 unfoldable pub rows_at : Rules → List (Option Cell) → ℕ → List (List (Option Cell))

@@ -1,5 +1,5 @@
 -- The side to move, the checks left and the counts.
-use Rattle.std.specs.Prelude.{ℕ, nat_le, ◌==◌, ◌&&◌, Bool, List, [], ◌∷◌, Option, Some, None, Result, Ok, Err, if◌then◌else◌, bytes_eq}
+use Rattle.std.specs.Prelude.{ℕ, nat_le, ◌==◌, ◌&&◌, Bool, List, [], ◌∷◌, Option, Some, None, Result, Ok, Err, if◌then◌else◌}
 use Rattle.std.specs.List.{slice_split}
 use Rattle.rules_model.specs.declared.board.Side.{Side}
 use Rattle.rules_model.specs.declared.board.Side.TheVariants.{White, Black}
@@ -9,7 +9,8 @@ use Rattle.variant_fen.specs.Numbers.{number_of}
 
 -- `w` or `b`
 unfoldable pub side_of : List ℕ → Result Side FenFault
-side_of text = if bytes_eq text (119 ∷ []) then Ok White else if bytes_eq text (98 ∷ []) then Ok Black else Err fault.Side
+side_of (b ∷ []) = if b == 119 then Ok White else if b == 98 then Ok Black else Err fault.Side
+side_of text = Err fault.Side
 
 abbrev pub is_plus : ℕ → Bool
 is_plus b = b == 43

@@ -1,5 +1,5 @@
 -- How a text is cut into its fields.
-use Rattle.std.specs.Prelude.{ℕ, nat_lt, Bool, ◌==◌, List, [], ◌∷◌, Option, Some, None, Result, Err, if◌then◌else◌, length, take, drop}
+use Rattle.std.specs.Prelude.{ℕ, nat_lt, Bool, false, ◌==◌, List, [], ◌∷◌, Option, Some, None, Result, Err, if◌then◌else◌, length, take, drop}
 use Rattle.std.specs.List.{slice_split, position_or_len}
 use Rattle.rules_model.specs.declared.rules.Rules.{Rules}
 use Rattle.variant_fen.specs.declared.fault.FenFault.{FenFault}
@@ -29,6 +29,10 @@ pub record Fields : Type 0 where
 -- the texts of what is not there: `-`, `0+0`, `0` and `1`
 abbrev pub no_text : List ℕ
 no_text = 45 ∷ []
+
+abbrev pub says_none : List ℕ → Bool
+says_none (b ∷ []) = b == 45
+says_none text = false
 
 abbrev pub no_checks : List ℕ
 no_checks = 48 ∷ 43 ∷ 48 ∷ []
@@ -73,6 +77,11 @@ counted_fields parts = None
 
 abbrev pub fields_in : Rules → List (List ℕ) → Option Fields
 fields_in rules parts = if rules.check_counting then counted_fields parts else plain_fields parts
+
+-- the parts of a text where there is one
+abbrev pub parts_behind : ℕ → Option (List ℕ) → List (List ℕ)
+parts_behind byte None = []
+parts_behind byte (Some text) = slice_split (λ b. b == byte) text
 
 -- the fields, parted by single blanks, of a text of at most 1,024 bytes
 unfoldable pub fields_of : Rules → List ℕ → Result Fields FenFault

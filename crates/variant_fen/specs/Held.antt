@@ -1,5 +1,5 @@
 -- Castling rights and gates.
-use Rattle.std.specs.Prelude.{ℕ, zero, suc, ◌+◌, ◌-◌, ◌*◌, ◌^◌, nat_lt, nat_le, Bool, false, ◌&&◌, ◌||◌, not, ◌==◌, List, [], ◌∷◌, Option, Result, Ok, Err, if◌then◌else◌, length, is_some, count_by, bytes_eq}
+use Rattle.std.specs.Prelude.{ℕ, zero, suc, ◌+◌, ◌-◌, ◌*◌, ◌^◌, nat_lt, nat_le, Bool, false, ◌&&◌, ◌||◌, not, ◌==◌, List, [], ◌∷◌, Option, Result, Ok, Err, if◌then◌else◌, length, is_some, count_by}
 use Rattle.std.specs.List.{list_all, list_any}
 use Rattle.rules_model.specs.declared.board.Cell.{Cell}
 use Rattle.rules_model.specs.declared.board.Side.{Side}
@@ -15,7 +15,7 @@ use Rattle.rules_model.specs.Attacks.{is_own, is_own_king}
 use Rattle.rules_model.specs.Castling.{castling_on, rook_file}
 use Rattle.variant_fen.specs.declared.fault.FenFault.{FenFault}
 use Rattle.variant_fen.specs.declared.fault.FenFault.TheVariants.{Rights}
-use Rattle.variant_fen.specs.Fields.{no_text}
+use Rattle.variant_fen.specs.Fields.{says_none}
 
 -- what the sides hold: rights by side and wing, and the gates of each side
 pub record Held : Type 0 where
@@ -98,6 +98,6 @@ nothing_held = record {
 -- what a text says to be held: `-` for nothing
 unfoldable pub held_of : Rules → List (Option Cell) → List ℕ → Result Held FenFault
 held_of rules cells text =
-    if bytes_eq text no_text then Ok nothing_held
+    if says_none text then Ok nothing_held
     else if are_held rules cells text then Ok (held_said rules cells text)
     else Err Rights

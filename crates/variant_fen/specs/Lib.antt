@@ -10,3 +10,5 @@ pub mod Passed
 pub mod Counts
 pub mod Reading
 pub mod Printing
+pub mod FieldView
+pub mod Plain

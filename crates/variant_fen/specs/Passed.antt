@@ -1,5 +1,5 @@
 -- The square that a pawn has passed.
-use Rattle.std.specs.Prelude.{ℕ, ◌+◌, ◌-◌, ◌*◌, nat_le, Bool, ◌&&◌, List, [], ◌∷◌, Option, Some, None, Result, Ok, Err, if◌then◌else◌, bytes_eq}
+use Rattle.std.specs.Prelude.{ℕ, ◌+◌, ◌-◌, ◌*◌, nat_le, Bool, ◌&&◌, List, [], ◌∷◌, Option, Some, None, Result, Ok, Err, if◌then◌else◌}
 use Rattle.rules_model.specs.declared.board.Cell.{Cell}
 use Rattle.rules_model.specs.declared.board.Side.{Side}
 use Rattle.rules_model.specs.declared.board.Square.{Square}
@@ -11,7 +11,7 @@ use Rattle.rules_model.specs.Pawns.{is_free}
 use Rattle.rules_model.specs.Sound.{lies_in, on_board}
 use Rattle.variant_fen.specs.declared.fault.FenFault.{FenFault}
 use Rattle.variant_fen.specs.declared.fault.FenFault.TheVariants.{EnPassant}
-use Rattle.variant_fen.specs.Fields.{no_text}
+use Rattle.variant_fen.specs.Fields.{says_none}
 use Rattle.variant_fen.specs.Numbers.{number_of}
 
 abbrev pub square_on : ℕ → Option ℕ → Option Square
@@ -40,4 +40,4 @@ passed_at rules cells side (Some ep) =
 
 -- what the field says: `-` for none
 unfoldable pub passed_of : Rules → List (Option Cell) → Side → List ℕ → Result (Option Square) FenFault
-passed_of rules cells side text = if bytes_eq text no_text then Ok None else passed_at rules cells side (square_named text)
+passed_of rules cells side text = if says_none text then Ok None else passed_at rules cells side (square_named text)

@@ -1,12 +1,12 @@
 -- The pocket: the pieces in the hands.
-use Rattle.std.specs.Prelude.{ℕ, ◌+◌, ◌-◌, Bool, ◌&&◌, ◌||◌, not, ◌==◌, List, [], ◌∷◌, Option, Some, None, Result, Ok, Err, if◌then◌else◌, length, take, slice_index, replicate, map, count_by, bytes_eq}
+use Rattle.std.specs.Prelude.{ℕ, ◌+◌, ◌-◌, Bool, ◌&&◌, ◌||◌, not, ◌==◌, List, [], ◌∷◌, Option, Some, None, Result, Ok, Err, if◌then◌else◌, length, take, slice_index, replicate, map, count_by}
 use Rattle.std.specs.List.{list_all, range_with_len}
 use Rattle.rules_model.specs.declared.rules.Rules.{Rules}
 use Rattle.rules_model.specs.Kinds.{has_kind, is_king}
 use Rattle.rules_model.specs.Sound.{has_hands}
 use Rattle.variant_fen.specs.declared.fault.FenFault.{FenFault}
 use Rattle.variant_fen.specs.declared.fault.FenFault.TheVariants.{Pocket}
-use Rattle.variant_fen.specs.Fields.{no_text}
+use Rattle.variant_fen.specs.Fields.{says_none}
 use Rattle.variant_fen.specs.Tokens.{is_letter, letter_kind}
 
 -- what stands between the brackets; a pocket that is not there is empty
@@ -32,7 +32,7 @@ no_hands = replicate 2 (replicate 26 0)
 abbrev pub hands_inside : Rules → Option (List ℕ) → Result (List (List ℕ)) FenFault
 hands_inside rules None = Err Pocket
 hands_inside rules (Some inside) =
-    if length inside == 0 || bytes_eq inside no_text then Ok no_hands
+    if length inside == 0 || says_none inside then Ok no_hands
     else if has_hands rules && list_all (is_hand_letter rules) inside then Ok (hands_said inside)
     else Err Pocket
 

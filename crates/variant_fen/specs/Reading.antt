@@ -54,7 +54,7 @@ said_by rules fields = do
   checks ← checks_of fields.checks
   counter ← count_of fields.halfmoves
   number ← count_of fields.number
-  judged rules (position_with cells hands side held ep checks counter (max 1 number))
+  judged rules (position_with cells hands side held ep checks counter (max number 1))
 
 -- the position that a text says, or its first fault
 unfoldable pub fen_of : Rules → List ℕ → Result Position FenFault

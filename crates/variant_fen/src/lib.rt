@@ -6,7 +6,12 @@ ghost use Rattle.rules_model.specs.declared.board.Position.{Position};
 ghost use Rattle.rules_model.specs.declared.rules.Rules.{Rules};
 ghost use Rattle.variant_fen.specs.Reading.{Fen, FenBad};
 
+mod board;
+mod cut;
 mod fault;
+mod fields;
+mod number;
+mod read;
 
 pub use fault::FenFault;
 pub use rules_model::{Position, Rules};
