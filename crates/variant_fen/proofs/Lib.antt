@@ -7,3 +7,4 @@ pub mod BuiltLaws
 pub mod BoardLemmas
 pub mod ReadLemmas
 pub mod SaidLaws
+pub mod SoundLaws

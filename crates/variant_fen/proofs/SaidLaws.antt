@@ -11,12 +11,12 @@ use Rattle.variant_fen.specs.declared.fault.FenFault.TheVariants.{EnPassant, Rig
 use Rattle.variant_fen.specs.Board.{cells_of}
 use Rattle.variant_fen.specs.Chain.{◌>>=◌}
 use Rattle.variant_fen.specs.Counts.{checks_of, count_of, side_of}
-use Rattle.variant_fen.specs.Fields.{Fields, no_checks, says_none}
+use Rattle.variant_fen.specs.Fields.{Fields, fields_of, no_checks, says_none}
 use Rattle.variant_fen.specs.Held.{held_of}
 use Rattle.variant_fen.specs.Passed.{passed_of}
 use Rattle.variant_fen.specs.Plain.{plain_position}
 use Rattle.variant_fen.specs.Pocket.{hands_of, no_hands}
-use Rattle.variant_fen.specs.Reading.{judged, said_by}
+use Rattle.variant_fen.specs.Reading.{fen_of, judged, said_by}
 use Rattle.variant_fen.proofs.ReadLemmas.{held_none, held_some, no_checks_left, passed_none, passed_some}
 
 pub said_cells : (rules : Rules) (f : Fields) (e : FenFault) → cells_of rules f.board ≡ Err e → said_by rules f ≡ Err e
@@ -80,3 +80,12 @@ said_all rules f cells side counter number well k n =
     let j = well.checks in let l = no_checks_left in rw (a, b, c, h, i, j, l, k, n) refl
 
 pub ruleset saying = (said_cells, said_hands, said_side, said_rights, said_passed, said_counter, said_number, said_all)
+
+-- the text as a whole
+pub fen_fields : (rules : Rules) (text : List ℕ) (f : Fields) → fields_of rules text ≡ Ok f → fen_of rules text ≡ said_by rules f
+unfolding fen_of
+fen_fields rules text f h = rw h refl
+
+pub fen_fault : (rules : Rules) (text : List ℕ) (e : FenFault) → fields_of rules text ≡ Err e → fen_of rules text ≡ Err e
+unfolding fen_of
+fen_fault rules text e h = rw h refl

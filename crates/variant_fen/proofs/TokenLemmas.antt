@@ -106,49 +106,66 @@ joined_letter : (o : Option Cell) → joined (one_square o) (Err Letter) ≡ Err
 joined_letter None = refl
 joined_letter (Some c) = refl
 
-abbrev pub HasLetter : List Token → Type 0
-HasLetter (piece before c behind ∷ tokens) = is_letter c ≡ true
-HasLetter tokens = Unit {0}
-
-digit_has : (d : ℕ) (tokens : List Token) → HasLetter (with_digit d tokens)
-digit_has d [] = tt
-digit_has d (run digits ∷ tokens) = tt
-digit_has d (piece before c behind ∷ tokens) = tt
-digit_has d (tilde ∷ tokens) = tt
-digit_has d (stray ∷ tokens) = tt
-
-letter_has : (c : ℕ) (tokens : List Token) → is_letter c ≡ true → HasLetter (with_letter c tokens)
-letter_has c [] h = h
-letter_has c (run digits ∷ tokens) h = h
-letter_has c (piece before d behind ∷ tokens) h = h
-letter_has c (tilde ∷ tokens) h = h
-letter_has c (stray ∷ tokens) h = h
-
-plus_has : (tokens : List Token) → HasLetter tokens → HasLetter (with_plus tokens)
-plus_has [] h = tt
-plus_has (run digits ∷ tokens) h = tt
-plus_has (piece true d behind ∷ tokens) h = tt
-plus_has (piece false d behind ∷ tokens) h = h
-plus_has (tilde ∷ tokens) h = tt
-plus_has (stray ∷ tokens) h = tt
-
 -- a piece's byte is a letter
-tokens_have : (text : List ℕ) → HasLetter (tokens_of text)
-unfolding tokens_of
-tokens_have [] = tt
-tokens_have (b ∷ bs) =
+unfoldable pub HasLetters : List Token → Type 0
+HasLetters [] = Unit {0}
+HasLetters (run digits ∷ tokens) = HasLetters tokens
+HasLetters (piece before c behind ∷ tokens) = (is_letter c ≡ true) × HasLetters tokens
+HasLetters (tilde ∷ tokens) = HasLetters tokens
+HasLetters (stray ∷ tokens) = HasLetters tokens
+
+digit_has : (d : ℕ) (tokens : List Token) → HasLetters tokens → HasLetters (with_digit d tokens)
+unfolding HasLetters
+digit_has d [] h = tt
+digit_has d (run digits ∷ tokens) h = h
+digit_has d (piece before c behind ∷ tokens) h = h
+digit_has d (tilde ∷ tokens) h = h
+digit_has d (stray ∷ tokens) h = h
+
+letter_has : (c : ℕ) (tokens : List Token) → is_letter c ≡ true → HasLetters tokens → HasLetters (with_letter c tokens)
+unfolding HasLetters
+letter_has c [] h k = (h, tt)
+letter_has c (run digits ∷ tokens) h k = (h, k)
+letter_has c (piece before d behind ∷ tokens) h k = (h, k)
+letter_has c (tilde ∷ tokens) h k = (h, k)
+letter_has c (stray ∷ tokens) h k = (h, k)
+
+plus_has : (tokens : List Token) → HasLetters tokens → HasLetters (with_plus tokens)
+unfolding HasLetters
+plus_has [] h = tt
+plus_has (run digits ∷ tokens) h = h
+plus_has (piece true d behind ∷ tokens) h = h
+plus_has (piece false d behind ∷ tokens) h = h
+plus_has (tilde ∷ tokens) h = h
+plus_has (stray ∷ tokens) h = h
+
+tilde_has : (tokens : List Token) → HasLetters tokens → HasLetters (tilde ∷ tokens)
+unfolding HasLetters
+tilde_has tokens h = h
+
+stray_has : (tokens : List Token) → HasLetters tokens → HasLetters (stray ∷ tokens)
+unfolding HasLetters
+stray_has tokens h = h
+
+byte_has : (b : ℕ) (tokens : List Token) → HasLetters tokens → HasLetters (with_byte b tokens)
+byte_has b tokens h =
     ⊎_elim
-    (λ y. rw y (digit_has b (tokens_of bs)))
+    (λ y. rw y (digit_has b tokens h))
     (λ n. rw n (⊎_elim
-        (λ y. rw y (letter_has b (tokens_of bs) y))
+        (λ y. rw y (letter_has b tokens y h))
         (λ m. rw m (⊎_elim
-            (λ y. rw y (plus_has (tokens_of bs) (tokens_have bs)))
-            (λ o. rw o (⊎_elim (λ y. rw y tt) (λ p. rw p tt) (cases_Bool (b == 126))))
+            (λ y. rw y (plus_has tokens h))
+            (λ o. rw o (⊎_elim (λ y. rw y (tilde_has tokens h)) (λ p. rw p (stray_has tokens h)) (cases_Bool (b == 126))))
             (cases_Bool (b == 43))))
         (cases_Bool (is_letter b))))
     (cases_Bool (is_digit b))
 
-kind_below : (c : ℕ) → is_letter c ≡ true → (letter_kind c).0 < 26
+pub tokens_have : (text : List ℕ) → HasLetters (tokens_of text)
+unfolding tokens_of HasLetters
+tokens_have [] = tt
+tokens_have (b ∷ bs) = byte_has b (tokens_of bs) (tokens_have bs)
+
+pub kind_below : (c : ℕ) → is_letter c ≡ true → (letter_kind c).0 < 26
 kind_below c h = grind (arith, common_steps)
 
 -- a letter and what is behind it
@@ -161,14 +178,14 @@ letter_then rules plain b (piece before d behind ∷ tokens) h = rw h refl
 letter_then rules plain b (tilde ∷ tokens) h = rw (plain.no_pawn) (sym (joined_letter (letter_cell rules b)))
 letter_then rules plain b (stray ∷ tokens) h = rw h refl
 
-plus_then : (rules : Rules) → IsPlain rules → (tokens : List Token) → HasLetter tokens → squares_of rules (with_plus tokens) ≡ Err Letter
-unfolding squares_of
+plus_then : (rules : Rules) → IsPlain rules → (tokens : List Token) → HasLetters tokens → squares_of rules (with_plus tokens) ≡ Err Letter
+unfolding squares_of HasLetters
 plus_then rules plain [] h = refl
 plus_then rules plain (run digits ∷ tokens) h = refl
 plus_then rules plain (piece true d behind ∷ tokens) h = refl
 plus_then rules plain (piece false d true ∷ tokens) h = refl
 plus_then rules plain (piece false d false ∷ tokens) h =
-    ap (λ o. joined (one_square (promoted_cell rules (letter_side d) (letter_kind d) o)) (squares_of rules tokens)) (plain.no_promoted (letter_kind d).0 (kind_below d h))
+    ap (λ o. joined (one_square (promoted_cell rules (letter_side d) (letter_kind d) o)) (squares_of rules tokens)) (plain.no_promoted (letter_kind d).0 (kind_below d h.0))
 plus_then rules plain (tilde ∷ tokens) h = refl
 plus_then rules plain (stray ∷ tokens) h = refl
 
@@ -178,7 +195,7 @@ no_letter rules b others h = rw h refl
 byte_letter : (b : ℕ) (tokens : List Token) → is_digit b ≡ false → is_letter b ≡ true → with_byte b tokens ≡ with_letter b tokens
 byte_letter b tokens n y = rw (n, y) refl
 
-other_byte : (rules : Rules) → IsPlain rules → (b : ℕ) (tokens : List Token) → HasLetter tokens → is_digit b ≡ false → is_letter b ≡ false
+other_byte : (rules : Rules) → IsPlain rules → (b : ℕ) (tokens : List Token) → HasLetters tokens → is_digit b ≡ false → is_letter b ≡ false
     → squares_of rules (with_byte b tokens) ≡ Err Letter
 other_byte rules plain b tokens has n m =
     rw (n, m) (⊎_elim

@@ -6,7 +6,7 @@ ghost use Rattle.rules_model.specs.declared.board.Side.TheVariants.{White, Black
 ghost use Rattle.rules_model.specs.Attacks.{is_own_king};
 ghost use Rattle.rules_model.specs.Built.{is_built};
 ghost use Rattle.rules_model.specs.Fit.{IsFit};
-ghost use Rattle.rules_model.specs.Sound.{has_its_king};
+ghost use Rattle.rules_model.specs.Sound.{has_its_king, is_sound};
 ghost use Rattle.variant_fen.specs.FieldView.{fields_view};
 ghost use Rattle.variant_fen.specs.Counts as Counts;
 ghost use Rattle.variant_fen.specs.Fields as Fields;
@@ -141,7 +141,8 @@ fn empty_position() -> Position
 pub(crate) fn read_position(rules: &Rules, texts: FieldTexts<'_>) -> Result<Position, FenFault>
     requires fit { IsFit rules.now }
     requires built { is_built rules.now ≡ true }
-    ensures { result ≡ said_by rules.now (fields_view texts.entry) }
+    ensures is { result ≡ said_by rules.now (fields_view texts.entry) }
+    ensures sound { IfOk result (λ p. is_sound rules.now p ≡ true) }
 {
     let mut p = empty_position();
     read_board(rules, texts.board, &mut p.cells)?;
