@@ -8,7 +8,7 @@ use Rattle.io_ports.specs.Lines.{Line, pieces_of, line_of}
 use Rattle.io_ports.specs.Source.{Takes}
 use Rattle.io_ports.specs.Trace.{Moves}
 
-map_line-append : (xs ys : List (List ℕ)) → map line_of (xs ++ ys) ≡ map line_of xs ++ map line_of ys
+pub map_line-append : (xs ys : List (List ℕ)) → map line_of (xs ++ ys) ≡ map line_of xs ++ map line_of ys
 map_line-append [] ys = refl
 map_line-append (x ∷ xs) ys = ap (λ lines. line_of x ∷ lines) (map_line-append xs ys)
 

@@ -12,6 +12,7 @@ mod memory;
 mod sink;
 mod source;
 mod standard;
+mod standard_input;
 
 pub use clock::Clock;
 pub use files::{Files, Given, MAX_FILE};
@@ -22,6 +23,7 @@ pub use memory::{File, ListClock, MemFiles, MemSink, MemSource, PollsOwed};
 pub use sink::{Failed, Sink};
 pub use source::{Got, Polled, Source};
 pub use standard::StandardOutput;
+pub use standard_input::StandardInput;
 
 #[cfg(test)]
 mod tests;

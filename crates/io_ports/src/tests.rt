@@ -1,9 +1,9 @@
 use crate::{
     Clock, Failed, Files, Gate, Given, Got, LineBuf, ListClock, MAX_FILE, MAX_LINE, MemFiles,
-    MemSink, MemSource, OpenGate, Polled, PollsOwed, Sink, Source, StandardOutput,
+    MemSink, MemSource, OpenGate, Polled, PollsOwed, Sink, Source, StandardInput, StandardOutput,
 };
 use std::alloc::{AllocError, Global};
-use std::io::{self, ErrorKind, Write};
+use std::io::{self, BufReader, ErrorKind, Read, Write};
 use std::test::Fail;
 
 fn polled<S: Source + Send>(source: &mut S, line: &mut LineBuf) -> Polled {
@@ -192,5 +192,74 @@ fn a_writer_gets_each_piece_and_its_failure_is_a_fault(rt: HostRuntime) -> Resul
         put(&mut StandardOutput::new(rt.stdout()), b"on its way\n"),
         Ok(())
     );
+    Ok(())
+}
+
+// A reader that gives at most 3 bytes a call, and fails at the calls of these numbers.
+#[derive(Drop)]
+struct Halting {
+    text: &'static [u8],
+    calls: u64,
+    failing: &'static [u64],
+}
+
+impl Read for Halting {
+    fn read(&mut self, buf: &mut [u8]) -> io::Result<usize> {
+        self.calls = self.calls.saturating_add(1);
+        if self.failing.contains(&self.calls) {
+            return Err(io::Error::from(ErrorKind::BrokenPipe));
+        }
+        let given = self.text.len().min(buf.len()).min(3);
+        buf[..given].copy_from_slice(&self.text[..given]);
+        self.text = &self.text[given..];
+        Ok(given)
+    }
+}
+
+#[test]
+fn standard_input_takes_up_a_line_that_a_failure_interrupts(rt: HostRuntime) -> Result<(), Fail> {
+    let alloc = rt.alloc();
+    let mut line = LineBuf::new(alloc)?;
+    let reader = Halting {
+        text: b"uci\r\n\nisready",
+        calls: 0,
+        failing: &[2, 4, 6],
+    };
+    let mut input = StandardInput::new(alloc, BufReader::new(alloc, reader)?)?;
+    for (answer, expected) in [
+        (Polled::Failed, b"".as_slice()),
+        (Polled::Line, b"uci".as_slice()),
+        (Polled::Line, b"".as_slice()),
+        (Polled::Failed, b"".as_slice()),
+        (Polled::Failed, b"".as_slice()),
+        (Polled::Line, b"isready".as_slice()),
+        (Polled::End, b"".as_slice()),
+    ] {
+        assert_eq!(rt; polled(&mut input, &mut line), answer);
+        if answer == Polled::Line {
+            assert_eq!(rt; line.text(), expected);
+        }
+    }
+    assert_eq!(rt; input.faults(), 3);
+    Ok(())
+}
+
+#[test]
+fn standard_input_takes_a_long_line_whole(rt: HostRuntime) -> Result<(), Fail> {
+    let alloc = rt.alloc();
+    let mut line = LineBuf::new(alloc)?;
+    for (len, end, answer) in [
+        (MAX_LINE, b"\r\n".as_slice(), Got::Line),
+        (MAX_LINE + 1, b"\n".as_slice(), Got::TooLong),
+        (MAX_LINE + 1, b"\r\n".as_slice(), Got::TooLong),
+        (3 * MAX_LINE, b"\n".as_slice(), Got::TooLong),
+    ] {
+        let text = long_line(alloc, len, end)?;
+        let mut input = StandardInput::new(alloc, text.as_slice())?;
+        assert_eq!(rt; next(&mut input, &mut line), answer);
+        assert_eq!(rt; next(&mut input, &mut line), Got::Line);
+        assert_eq!(rt; line.text(), b"next".as_slice());
+        assert_eq!(rt; next(&mut input, &mut line), Got::End);
+    }
     Ok(())
 }

@@ -1,2 +1,5 @@
 mod SetupLemmas
 mod ShotLemmas
+mod HeardLemmas
+mod GameLemmas
+mod WordLemmas

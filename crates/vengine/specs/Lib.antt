@@ -1,6 +1,11 @@
+pub mod GameText
+pub mod GameView
+pub mod Heard
+pub mod MovesText
 pub mod ReachText
 pub mod Run
 pub mod Setup
 pub mod Shot
+pub mod StopView
 pub mod UnplacedView
 pub mod Words

@@ -2,15 +2,19 @@
 #![tactic(auto)]
 
 mod answers;
+mod game;
 mod laws;
+mod moves;
 mod program;
 mod reach;
 mod setup;
+mod stop;
 
 use foundation::Memory;
-use io_ports::{ListClock, MemFiles, MemSource, OpenGate, PollsOwed, StandardOutput};
+use io_ports::{ListClock, MemFiles, OpenGate, StandardInput, StandardOutput};
 use program::NO_MEMORY;
 pub use program::run;
+use std::io::{BufReader, Read};
 use std::process::ExitCode;
 use std::rt::Env;
 use std::sync::Wait;
@@ -32,14 +36,18 @@ fn words(rt: &(impl Env + AllocGlobal)) -> Result<Vec<String>, Memory> {
     Ok(words)
 }
 
-/// Runs the words of the command line over standard output, an empty source and no files.
-fn run_words<R>(rt: &R) -> Result<u8, Memory>
+/// Runs the words of the command line over this input, standard output and no files.
+fn run_words<R, I>(rt: &R, input: I) -> Result<u8, Memory>
 where
     R: Env + Print + AllocGlobal + Threads + Wait + Sync,
+    I: Read + Drop + Send,
 {
     let alloc = rt.alloc();
     let words = words(rt)?;
-    let mut source = MemSource::new(alloc, &[], PollsOwed::Endless, &[])?;
+    let Ok(reader) = BufReader::new(alloc, input) else {
+        return Err(Memory);
+    };
+    let mut source = StandardInput::new(alloc, reader)?;
     let mut sink = StandardOutput::new(io::writer(rt));
     let mut files = MemFiles::new(alloc);
     let mut clock = ListClock::new(alloc, &[])?;
@@ -56,5 +64,5 @@ where
 }
 
 fn main(rt: HostRuntime) -> ExitCode {
-    ExitCode::from(run_words(&rt).unwrap_or(NO_MEMORY))
+    ExitCode::from(run_words(&rt, rt.stdin()).unwrap_or(NO_MEMORY))
 }

@@ -1,18 +1,22 @@
 //! The top call.
-ghost use Rattle.std.specs.Prelude.{◌≡◌, ◌⊎◌, ◌↔◌, IsErr, IsNone, OnErr, OnOk, map, string_bytes};
+ghost use Rattle.std.specs.Prelude.{◌≡◌, ◌⊎◌, ◌↔◌, false, IsErr, IsNone, OnErr, OnOk, map, string_bytes};
 ghost use Rattle.std.specs.Io.KnownBytes.{Appends};
 ghost use Rattle.io_ports.specs.Cause.{HasCause, Rose};
 ghost use Rattle.io_ports.specs.Sink.{AppendsFront};
 ghost use Rattle.io_ports.specs.Trace.{Moves, Reads};
-ghost use Rattle.vengine.specs.Words.{command_of};
+ghost use Rattle.vengine.specs.Words.{command_of, reads_input};
 ghost use Rattle.vengine.specs.Run.{Did, DidPart, IsDone, IsCut, Completes};
 
 use crate::answers::answer_to;
+use crate::stop::Stop;
 use foundation::Text;
 use io_ports::{Clock, Failed, Files, Gate, Sink, Source};
 use std::alloc::Global;
 use std::sync::Wait;
 use std::thread::Threads;
+
+/// The status of a run whose source failed.
+pub const SOURCE_FAILED: u8 = 4;
 
 /// The status of a run whose sink failed.
 pub const SINK_FAILED: u8 = 5;
@@ -35,7 +39,8 @@ fn say<K: Sink>(sink: &mut K, text: &Text) -> Result<(), Failed>
 /// |---|---|
 /// | 0 | the command wrote its whole text |
 /// | 2 | the words are not of the command set, and the usage line was written |
-/// | 3 | an argument has the fault that was written as a line `error FAULT` |
+/// | 3 | an argument or the input has the fault that was written as a line `error FAULT` |
+/// | 4 | the source's count of faults rose; nothing was written |
 /// | 5 | the sink's count of faults rose |
 /// | 7 | there was no memory |
 pub fn run<R, S, K, F, C, G>(
@@ -62,18 +67,21 @@ where
     // A front part of it.
     ensures cut { IsCut result → DidPart (Moves S.left K.taken C.count C.last source.old source.new sink.old sink.new clock.old clock.new) (Reads F.contents F.faults files.old files.new) (F.contents files.old) (S.left source.old) (map string_bytes words.now) }
     ensures usage { IsCut result ⊎ ((result ≡ 2) ↔ IsNone (command_of (map string_bytes words.now))) }
+    ensures source_failed { result ≡ 4 → Rose (S.faults source.old) (S.faults source.new) }
+    ensures silent { result ≡ 4 → sink.new ≡ sink.old }
     ensures sink_failed { result ≡ 5 → Rose (K.faults sink.old) (K.faults sink.new) }
     ensures complete { Completes (F.contents files.old) (S.left source.old) (map string_bytes words.now) result }
 
-    // No command reads its input yet.
-    ensures unread { source.new ≡ source.old }
+    // A command that takes no input leaves it untouched.
+    ensures unread { reads_input (command_of (map string_bytes words.now)) ≡ false → source.new ≡ source.old }
 {
-    let Ok(answer) = answer_to(alloc, words) else {
-        return NO_MEMORY;
-    };
-    match say(sink, &answer.text) {
-        Ok(()) => answer.status,
-        Err(_) => SINK_FAILED,
+    match answer_to(alloc, words, source) {
+        Ok(answer) => match say(sink, &answer.text) {
+            Ok(()) => answer.status,
+            Err(_) => SINK_FAILED,
+        },
+        Err(Stop::Source) => SOURCE_FAILED,
+        Err(Stop::Memory) => NO_MEMORY,
     }
 }
 

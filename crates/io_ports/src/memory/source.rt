@@ -6,7 +6,8 @@ ghost use Rattle.io_ports.specs.Lines.{Text, TooLong, line_of, text_of};
 ghost use Rattle.io_ports.specs.Source.{Takes, Owes, got_lines, polled_lines};
 ghost use Rattle.io_ports.specs.InMemory.{SourceState, owed_of};
 
-use crate::{Got, LineBuf, MAX_LINE, Polled, Source};
+use crate::line::put_line;
+use crate::{Got, LineBuf, Polled, Source};
 use foundation::Memory;
 use std::alloc::Global;
 use std::marker::Model;
@@ -128,28 +129,6 @@ fn piece_len(bytes: &[u8]) -> usize
         }
     }
     bytes.len()
-}
-
-fn stripped(text: &[u8], byte: u8) -> &[u8]
-    ensures { result.now ≡ strip_last byte text.now }
-{
-    if !text.is_empty() && text[text.len() - 1] == byte {
-        &text[..text.len() - 1]
-    } else {
-        text
-    }
-}
-
-// Puts a piece's text into the buffer, unless it is too long.
-fn put_line(piece: &[u8], line: &mut LineBuf) -> bool
-    ensures { line_of piece.now ≡ (if result then Text line.new else TooLong) }
-{
-    let text = stripped(stripped(piece, b'\n'), b'\r');
-    if text.len() > MAX_LINE {
-        return false;
-    }
-    line.set(text);
-    true
 }
 
 impl Source for MemSource {

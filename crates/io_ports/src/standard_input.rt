@@ -1,0 +1,209 @@
+ghost use Rattle.std.specs.Prelude.{◌≡◌, ◌≢◌, ◌≤◌, ◌<◌, ◌++◌, ◌∷◌, [], ⊤, ℕ, List, None, IfOk, false, length, vec_capacity};
+ghost use Rattle.io_ports.specs.Cause.{HasCause, counted};
+ghost use Rattle.io_ports.specs.Source.{Takes, Owes, Untold, got_lines, polled_lines};
+ghost use Rattle.io_ports.specs.Standard.{InputState};
+ghost use Rattle.io_ports.specs.declared.standard_input.TheConstants.{LONGEST};
+
+use crate::line::put_line;
+use crate::{Got, LineBuf, MAX_LINE, Polled, Source};
+use foundation::Memory;
+use std::alloc::Global;
+use std::io::{self, BufRead, ErrorKind, Read};
+use std::marker::Model;
+
+/// The most bytes of a piece whose line is not too long: a line with CR and LF.
+const LONGEST: usize = MAX_LINE + 2;
+
+/// The front of a piece, as the list of its bytes. It has room for the longest from the start, and never grows.
+#[derive(Drop)]
+struct Front {
+    items: Vec<u8>,
+}
+
+impl Model for Front {
+    ghost Value = { List ℕ };
+
+    ghost view = { λ front. front.items.items };
+
+    ghost invariant = { λ front. (LONGEST ≤ vec_capacity front.items) × (length front.items.items ≤ LONGEST) };
+}
+
+impl Front {
+    fn new(alloc: Global) -> Result<Front, Memory>
+        ensures { IfOk result (λ front. front ≡ []) }
+    {
+        let items = Vec::with_capacity(alloc, LONGEST)?;
+        Ok(Front { items })
+    }
+
+    fn bytes(&self) -> &[u8]
+        ensures bytes { result.now ≡ self.now }
+        ensures within { length result.now ≤ LONGEST }
+    {
+        self.items.as_slice()
+    }
+
+    fn add(&mut self, byte: u8)
+        requires { length self.old < LONGEST }
+        ensures { self.new ≡ self.old ++ byte ∷ [] }
+    {
+        let _ = self.items.push(byte);
+    }
+
+    fn clear(&mut self)
+        ensures { self.new ≡ [] }
+    {
+        self.items.clear();
+    }
+}
+
+/// A source over standard input, or over another reader, which it reads byte by byte. It waits for each line, also where it
+/// is polled, and tells nothing of the bytes that are left. A line that a failure interrupts is taken up again.
+#[derive(Drop)]
+pub struct StandardInput<R: BufRead> {
+    reader: R,
+    front: Front,
+    is_long: bool,
+    faults: u64,
+}
+
+impl<R: BufRead> Model for StandardInput<R> {
+    ghost Value = { InputState R };
+
+    ghost view = { λ input. record { reader = input.reader; front = input.front; is_long = input.is_long; faults = input.faults } };
+}
+
+/// What was read of a piece.
+enum Piece {
+    /// The whole of it, or nothing, where no byte is left.
+    Whole,
+    /// The longest front, with no LF in it.
+    Long,
+}
+
+// The next byte, if one is left.
+fn next_byte<R: BufRead>(reader: &mut R) -> io::Result<Option<u8>> {
+    let mut byte = [0];
+    for _ in 0..u64::MAX {
+        match reader.read(&mut byte) {
+            Ok(0) => return Ok(None),
+            Ok(_) => return Ok(Some(byte[0])),
+            Err(error) => {
+                if error.kind() != ErrorKind::Interrupted {
+                    return Err(error);
+                }
+            }
+        }
+    }
+    Err(io::Error::from(ErrorKind::Interrupted))
+}
+
+// Reads on to the end of a piece.
+fn read_piece<R: BufRead>(reader: &mut R, front: &mut Front) -> io::Result<Piece> {
+    for _ in front.bytes().len()..LONGEST {
+        let Some(byte) = next_byte(reader)? else {
+            return Ok(Piece::Whole);
+        };
+        front.add(byte);
+        if byte == b'\n' {
+            return Ok(Piece::Whole);
+        }
+    }
+    Ok(Piece::Long)
+}
+
+impl<R: BufRead> StandardInput<R> {
+    /// A source over this reader.
+    pub fn new(alloc: Global, reader: R) -> Result<StandardInput<R>, Memory>
+    where
+        R: Drop,
+        ensures { IfOk result (λ input. input ≡ record { reader = reader; front = []; is_long = false; faults = 0 }) }
+    {
+        Ok(StandardInput {
+            reader,
+            front: Front::new(alloc)?,
+            is_long: false,
+            faults: 0,
+        })
+    }
+
+    /// How many calls failed.
+    pub fn faults(&self) -> u64
+        ensures { result ≡ self.now.faults }
+    {
+        self.faults
+    }
+
+    // Takes a line, if there is one.
+    fn take_line(&mut self, line: &mut LineBuf) -> io::Result<Got>
+        ensures works { IfOk result (λ got. got ≢ Got.Failed) }
+        ensures faults { self.new.faults ≡ self.old.faults }
+    {
+        if !self.is_long {
+            match read_piece(&mut self.reader, &mut self.front)? {
+                Piece::Whole => return Ok(self.end_line(line)),
+                Piece::Long => {
+                    self.front.clear();
+                    self.is_long = true;
+                }
+            }
+        }
+        self.reader.skip_until(b'\n')?;
+        self.is_long = false;
+        Ok(Got::TooLong)
+    }
+
+    // Takes the line of the piece that was read.
+    fn end_line(&mut self, line: &mut LineBuf) -> Got
+        ensures works { result ≢ Got.Failed }
+        ensures faults { self.new.faults ≡ self.old.faults }
+    {
+        if self.front.bytes().is_empty() {
+            return Got::End;
+        }
+        let fits = put_line(self.front.bytes(), line);
+        self.front.clear();
+        if fits { Got::Line } else { Got::TooLong }
+    }
+}
+
+impl<R: BufRead> Source for StandardInput<R> {
+    ghost left = { λ input. None };
+
+    ghost owed = { λ input. Untold };
+
+    ghost faults = { λ input. input.faults };
+
+    fn next_line(&mut self, line: &mut LineBuf) -> Got
+        ensures takes { Takes None None (got_lines result line.new) }
+        ensures end { result ≡ Got.End → ⊤ }
+        ensures owed { Untold ≡ Untold }
+        ensures cause { HasCause self.old.faults self.new.faults (result ≡ Got.Failed) }
+
+        // A failure is one fault.
+        ensures counts { result ≡ Got.Failed → self.new.faults ≡ counted self.old.faults }
+        ensures works { result ≢ Got.Failed → self.new.faults ≡ self.old.faults }
+    {
+        match self.take_line(line) {
+            Ok(got) => got,
+            Err(_) => {
+                self.faults = self.faults.saturating_add(1);
+                Got::Failed
+            }
+        }
+    }
+
+    fn poll_line(&mut self, line: &mut LineBuf) -> Polled
+        ensures takes { Takes None None (polled_lines result line.new) }
+        ensures end { result ≡ Polled.End → ⊤ }
+        ensures owed { Owes Untold Untold result }
+        ensures cause { HasCause self.old.faults self.new.faults (result ≡ Polled.Failed) }
+
+        // As for `next_line`.
+        ensures counts { result ≡ Polled.Failed → self.new.faults ≡ counted self.old.faults }
+        ensures works { result ≢ Polled.Failed → self.new.faults ≡ self.old.faults }
+        ensures waits { result ≢ Polled.NotYet }
+    {
+        self.next_line(line).into()
+    }
+}

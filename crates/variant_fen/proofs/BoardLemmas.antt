@@ -1,0 +1,150 @@
+-- The ranks of a board, one after another.
+use Rattle.std.proofs.Common.{◌≡◌, ◌≢◌, ℕ, suc, ◌+◌, ◌-◌, ◌*◌, ◌/◌, ◌%◌, ◌<◌, ◌≤◌, nat_lt, ◌==◌, Bool, true, false, List, [], ◌∷◌, ◌++◌, length, get_or, map, replicate, reverse, Option, Some, None, Ok, Err, refl, sym, ap, ◌∙◌, arith, ⊎_elim, append_assoc}
+use Rattle.std.specs.declared.result.Result.{Result}
+use Rattle.std.specs.List.{range_with_len, slice_split}
+use Rattle.std.proofs.Math.ListN.{get_or-eq_default}
+use Rattle.std.proofs.lemmas.Bool.{cases_Bool, ltb-true, ltb-false, eqb-true, eqb-false, eq-eqb, ne_eqb}
+use Rattle.std.proofs.lemmas.Grind.{common_steps}
+use Rattle.std.proofs.lemmas.List.{append-nil, get_or-replicate, get_or-reverse, length-replicate, length-reverse}
+use Rattle.std.proofs.lemmas.List.FromFn.{length-map-range_with_len, get_or-map-range_with_len, map-range_with_len_more, fill_by_all}
+use Rattle.rules_model.specs.declared.board.Cell.{Cell}
+use Rattle.rules_model.specs.declared.rules.Rules.{Rules}
+use Rattle.variant_fen.specs.declared.fault.FenFault.{FenFault}
+use Rattle.variant_fen.specs.declared.fault.FenFault.TheVariants.{Rank}
+use Rattle.variant_fen.specs.Board.{cells_from, cells_of, is_slash, ranks_of, row_at, row_of, rows_at, rows_of, said_at}
+use Rattle.variant_fen.specs.Chain.{◌>>=◌}
+use Rattle.variant_fen.specs.Fields.{parts_behind}
+use Rattle.variant_fen.specs.Plain.{IsFreeFrom, IsSameBut}
+use Rattle.variant_fen.proofs.RowLemmas.{get_or-row_at, length-row_at, same-row_at}
+
+-- ---- the rows of a board
+
+pub length-rows_at : (rules : Rules) (cells : List (Option Cell)) (n : ℕ) → length (rows_at rules cells n) ≡ n
+unfolding rows_at
+length-rows_at rules cells n = length-map-range_with_len (λ k. row_at cells (rules.ranks - 1 - k) rules.files) 0 n
+
+pub get_or-rows_at : (rules : Rules) (cells : List (Option Cell)) (n k : ℕ) → k < n → get_or (rows_at rules cells n) k [] ≡ row_at cells (rules.ranks - 1 - k) rules.files
+unfolding rows_at
+get_or-rows_at rules cells n k below = get_or-map-range_with_len (λ j. row_at cells (rules.ranks - 1 - j) rules.files) 0 n k k [] below (omega arith)
+
+rows_at-more : (rules : Rules) (cells : List (Option Cell)) (n : ℕ) → rows_at rules cells (n + 1) ≡ rows_at rules cells n ++ row_at cells (rules.ranks - 1 - n) rules.files ∷ []
+unfolding rows_at
+rows_at-more rules cells n = map-range_with_len_more (λ j. row_at cells (rules.ranks - 1 - j) rules.files) 0 n n (omega arith)
+
+-- the highest rows are those of other cells that are the same there
+rows_at-same : (rules : Rules) (cells others : List (Option Cell)) (n : ℕ) → ((k : ℕ) → k < n → row_at cells (rules.ranks - 1 - k) rules.files ≡ row_at others (rules.ranks - 1 - k) rules.files)
+    → rows_at rules cells n ≡ rows_at rules others n
+unfolding rows_at
+rows_at-same rules cells others n same =
+    fill_by_all (λ k. row_at others (rules.ranks - 1 - k) rules.files) (rows_at rules cells n) n [] (length-rows_at rules cells n)
+    (λ k below. get_or-rows_at rules cells n k below ∙ same k below)
+
+-- ---- off the board
+
+abbrev pub IsFreeBeside : ℕ → List (Option Cell) → Type 0
+IsFreeBeside files cells = (s : ℕ) → files ≤ s % 12 → get_or cells s None ≡ None
+
+abbrev pub IsFreeAbove : ℕ → List (Option Cell) → Type 0
+IsFreeAbove ranks cells = (s : ℕ) → ranks ≤ s / 12 → get_or cells s None ≡ None
+
+beyond_row : (cells : List (Option Cell)) (rank files file : ℕ) → files ≤ file → get_or (row_at cells rank files) file None ≡ None
+beyond_row cells rank files file h = get_or-eq_default (row_at cells rank files) None (omega (arith, length-row_at cells rank files))
+
+said_there : (rules : Rules) (cells : List (Option Cell)) (s : ℕ) → IsFreeBeside rules.files cells → IsFreeAbove rules.ranks cells → said_at (rows_at rules cells rules.ranks) s ≡ get_or cells s None
+said_there rules cells s beside above =
+    let rows = rows_at rules cells rules.ranks in
+    ⊎_elim
+    (λ y. let low : s / 12 < rules.ranks = ltb-true _ _ y in
+        let long : length rows ≡ rules.ranks = length-rows_at rules cells rules.ranks in
+        let row : get_or (reverse rows) (s / 12) [] ≡ row_at cells (s / 12) rules.files =
+            get_or-reverse rows (s / 12) [] (omega arith)
+            ∙ get_or-rows_at rules cells rules.ranks (length rows - 1 - s / 12) (omega arith)
+            ∙ ap (λ rank. row_at cells rank rules.files) (omega arith) in
+        ap (λ squares. get_or squares (s % 12) None) row
+        ∙ ⊎_elim
+        (λ z. get_or-row_at cells (s / 12) rules.files (s % 12) (ltb-true _ _ z) ∙ ap (λ n. get_or cells n None) (omega arith))
+        (λ m. beyond_row cells (s / 12) rules.files (s % 12) (ltb-false _ _ m) ∙ sym (beside s (ltb-false _ _ m)))
+        (cases_Bool (nat_lt (s % 12) rules.files)))
+    (λ n. let high : rules.ranks ≤ s / 12 = ltb-false _ _ n in
+        ap (λ squares. get_or squares (s % 12) None) (get_or-eq_default (reverse rows) [] {n = s / 12} (omega (arith, length-reverse rows, length-rows_at rules cells rules.ranks)))
+        ∙ sym (above s high))
+    (cases_Bool (nat_lt (s / 12) rules.ranks))
+
+-- the cells that the rows of a board say are its cells
+pub cells_from-rows_at : (rules : Rules) (cells : List (Option Cell)) → length cells ≡ 120 → IsFreeBeside rules.files cells → IsFreeAbove rules.ranks cells
+    → cells_from (rows_at rules cells rules.ranks) ≡ cells
+unfolding cells_from
+cells_from-rows_at rules cells long beside above =
+    sym (fill_by_all (said_at (rows_at rules cells rules.ranks)) cells 120 None long (λ s below. sym (said_there rules cells s beside above)))
+
+-- ---- reading
+
+-- the rows read so far stand on the board, and these follow
+unfoldable pub behind_rows : Rules → List (Option Cell) → ℕ → Result (List (List (Option Cell))) FenFault → Result (List (List (Option Cell))) FenFault
+behind_rows rules cells n others = others >>= (λ rows. Ok (rows_at rules cells n ++ rows))
+
+pub behind_none : (rules : Rules) (cells : List (Option Cell)) (others : Result (List (List (Option Cell))) FenFault) → others ≡ behind_rows rules cells 0 others
+unfolding behind_rows rows_at
+behind_none rules cells (Err fault) = refl
+behind_none rules cells (Ok rows) = refl
+
+one_row : (rules : Rules) (cells new : List (Option Cell)) (n rank : ℕ) (others : Result (List (List (Option Cell))) FenFault) → rank ≡ rules.ranks - 1 - n → n < rules.ranks → rules.files ≤ 12 → IsSameBut rank cells new
+    → (others >>= (λ rows. Ok (row_at new rank rules.files ∷ rows))) >>= (λ rows. Ok (rows_at rules cells n ++ rows)) ≡ behind_rows rules new (n + 1) others
+unfolding behind_rows
+one_row rules cells new n rank (Err fault) is below few same = refl
+one_row rules cells new n rank (Ok rows) is below few same =
+    let there : row_at new rank rules.files ≡ row_at new (rules.ranks - 1 - n) rules.files = ap (λ r. row_at new r rules.files) is in
+    let others : rows_at rules cells n ≡ rows_at rules new n =
+        rows_at-same rules cells new n (λ k lower. same-row_at cells new (rules.ranks - 1 - k) rules.files (λ f short. sym (same (12 * (rules.ranks - 1 - k) + f) (omega arith)))) in
+    ap Ok (ap (λ front. front ++ row_at new rank rules.files ∷ rows) others
+        ∙ ap (λ row. rows_at rules new n ++ row ∷ rows) there
+        ∙ sym (append_assoc (rows_at rules new n) (row_at new (rules.ranks - 1 - n) rules.files ∷ []) rows)
+        ∙ ap (λ front. front ++ rows) (sym (rows_at-more rules new n)))
+
+-- one more rank
+pub step_row : (rules : Rules) (cells new : List (Option Cell)) (n rank : ℕ) (text : List ℕ) (parts : List (List ℕ)) → rank ≡ rules.ranks - 1 - n → n < rules.ranks → rules.files ≤ 12 → IsSameBut rank cells new
+    → row_of rules text ≡ Ok (row_at new rank rules.files)
+    → behind_rows rules cells n (rows_of rules (text ∷ parts)) ≡ behind_rows rules new (n + 1) (rows_of rules parts)
+unfolding behind_rows rows_of
+step_row rules cells new n rank text parts is below few same read = rw read (one_row rules cells new n rank (rows_of rules parts) is below few same)
+
+pub step_row_fault : (rules : Rules) (cells : List (Option Cell)) (n : ℕ) (text : List ℕ) (parts : List (List ℕ)) (fault : FenFault) → row_of rules text ≡ Err fault → behind_rows rules cells n (rows_of rules (text ∷ parts)) ≡ Err fault
+unfolding behind_rows rows_of
+step_row_fault rules cells n text parts fault read = rw read refl
+
+-- all rows are read
+pub all_rows : (rules : Rules) (cells : List (Option Cell)) (board : List ℕ) → length (slice_split is_slash board) ≡ rules.ranks
+    → rows_of rules (slice_split is_slash board) ≡ behind_rows rules cells rules.ranks (rows_of rules [])
+    → length cells ≡ 120 → IsFreeBeside rules.files cells → IsFreeAbove rules.ranks cells → cells_of rules board ≡ Ok cells
+unfolding cells_of behind_rows rows_of
+all_rows rules cells board ranks read long beside above =
+    let test : (length (slice_split is_slash board) == rules.ranks) ≡ true = eq-eqb _ _ ranks in
+    rw (test, read) (ap Ok (ap cells_from (append-nil (rows_at rules cells rules.ranks)) ∙ cells_from-rows_at rules cells long beside above))
+
+pub rank_fault : (rules : Rules) (board : List ℕ) → length (slice_split is_slash board) ≢ rules.ranks → cells_of rules board ≡ Err Rank
+unfolding cells_of
+rank_fault rules board h = let test : (length (slice_split is_slash board) == rules.ranks) ≡ false = ne_eqb _ _ h in rw test refl
+
+pub row_fault : (rules : Rules) (board : List ℕ) (fault : FenFault) → length (slice_split is_slash board) ≡ rules.ranks → rows_of rules (slice_split is_slash board) ≡ Err fault → cells_of rules board ≡ Err fault
+unfolding cells_of
+row_fault rules board fault ranks read = let test : (length (slice_split is_slash board) == rules.ranks) ≡ true = eq-eqb _ _ ranks in rw (test, read) refl
+
+-- ---- what stays free
+
+pub none_anywhere : (n s : ℕ) → get_or (replicate {A = Option Cell} n None) s None ≡ None
+none_anywhere n s =
+    ⊎_elim
+    (λ y. get_or-replicate n s None None (ltb-true _ _ y))
+    (λ m. get_or-eq_default (replicate {A = Option Cell} n None) None {n = s} (let from : n ≤ s = ltb-false _ _ m in omega (arith, length-replicate {A = Option Cell} n None)))
+    (cases_Bool (nat_lt s n))
+
+pub empty_anywhere : (cells : List (Option Cell)) → cells ≡ replicate 120 None → (s : ℕ) → get_or cells s None ≡ None
+empty_anywhere cells is s = ap (λ xs. get_or xs s None) is ∙ none_anywhere 120 s
+
+pub beside_after : (files rank : ℕ) (old new : List (Option Cell)) → IsSameBut rank old new → IsFreeFrom new rank files → IsFreeBeside files old → IsFreeBeside files new
+beside_after files rank old new same beyond beside = λ s from.
+    ⊎_elim
+    (λ y. let here : s / 12 ≡ rank = eqb-true _ _ y in
+        ap (λ n. get_or new n None) (let at : s ≡ 12 * rank + s % 12 = omega arith in at) ∙ beyond (s % 12) from (omega arith))
+    (λ n. same s (eqb-false _ _ n) ∙ beside s from)
+    (cases_Bool (s / 12 == rank))

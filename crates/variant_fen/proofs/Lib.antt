@@ -1,0 +1,10 @@
+pub mod CutLemmas
+pub mod NumberLemmas
+pub mod FieldLemmas
+pub mod TokenLemmas
+pub mod RowLemmas
+pub mod BuiltLaws
+pub mod BoardLemmas
+pub mod ReadLemmas
+pub mod SaidLaws
+pub mod SoundLaws

@@ -1,0 +1,68 @@
+use Rattle.std.proofs.Common.{◌≡◌, ◌≢◌, ◌<◌, ◌≤◌, ◌+◌, ◌*◌, ◌/◌, ◌==◌, true, false, length, min, None, Some, Ok, Err, ℕ, List, [], ◌∷◌, refl, sym, ap, ◌∙◌, arith, take, get_or}
+use Rattle.std.proofs.lemmas.Bool.{eq-eqb, ne_eqb}
+use Rattle.std.specs.List.{prefix_len}
+use Rattle.std.proofs.lemmas.Grind.{common_steps}
+use Rattle.variant_fen.specs.Board.{squares_of}
+use Rattle.variant_fen.specs.Numbers.{is_digit, begins_with_zero}
+use Rattle.variant_fen.specs.Plain.{letter_cell, IsFreeFrom, IsSameBut}
+use Rattle.variant_fen.specs.Tokens.{tokens_of}
+use Rattle.variant_fen.proofs.BuiltLaws.{built-plain, built-files}
+use Rattle.variant_fen.proofs.RowLemmas.{ended, ended_none, step_run, step_zero, step_put, step_bad, step_end, free_after, same_after, no_bytes}
+use Rattle.variant_fen.proofs.board.read_row.Goals as goal
+
+pub loop-first-init : goal.loop-first-init
+loop-first-init c = record {
+  said = ended_none c.args.rules.now c.args.cells.now c.args.rank c.args.text.now;
+  free = c.requires.empty;
+  others = λ s differs. refl;
+}
+
+pub loop-first-preserved-then-is_digit : goal.loop-first-preserved-then-is_digit
+loop-first-preserved-then-is_digit c =
+    let left = c.loop-first.left.now in
+    let first : left ≡ c.in-Some.first.now ∷ c.in-Some.behind.now = c.in-Some.ensures.cases.0 in
+    let digit : is_digit c.in-Some.first.now ≡ true = sym c.is_digit.ensures ∙ c.if-is_digit.true in
+    let zero : begins_with_zero (take (prefix_len is_digit left) left) ≡ false = ap begins_with_zero (sym c.cut_run.ensures.run) ∙ sym c.begins_with_zero.ensures ∙ c.if-begins_with_zero.false in
+    let step = step_run c.args.rules.now c.loop-first.cells c.args.rank c.loop-first.file c.in-Some.first.now c.in-Some.behind.now left c.requires.fit.files_most c.loop-first.invariant.free first digit zero in
+    record {
+      said = c.loop-first.invariant.said ∙ cc (step, c.cut_run.ensures.run, c.cut_run.ensures.behind, c.value.ensures, c.saturating_add-file.ensures);
+      free = λ f from below. c.loop-first.invariant.free f (omega arith) below;
+      others = c.loop-first.invariant.others;
+    }
+
+pub loop-first-preserved : goal.loop-first-preserved
+loop-first-preserved c =
+    let first : c.loop-first.left.now ≡ c.in-Some.first.now ∷ c.in-Some.behind.now = c.in-Some.ensures.cases.0 in
+    let digit : is_digit c.in-Some.first.now ≡ false = sym c.is_digit.ensures ∙ c.if-is_digit.false in
+    let piece : letter_cell c.args.rules.now c.in-Some.first.now ≡ Some c.in-Some-letter_cell.cell = sym c.letter_cell.ensures ∙ c.in-Some-letter_cell.is in
+    let step = step_put c.args.rules.now c.loop-first.cells c.args.rank c.loop-first.file c.in-Some.first.now c.in-Some.behind.now c.loop-first.left.now c.in-Some-letter_cell.cell (built-plain c.args.rules.now c.requires.built) c.requires.fit.files_most c.requires.rank c.put.ensures.long first digit piece in
+    record {
+      said = c.loop-first.invariant.said ∙ cc (step, c.put.ensures.is, c.saturating_add-file-else-is_digit.ensures);
+      free = free_after c.args.rules.now c.loop-first.cells c.put.new.cells c.args.rank c.loop-first.file _ _ c.put.ensures.is c.saturating_add-file-else-is_digit.ensures c.loop-first.invariant.free;
+      others = same_after c.args.rules.now c.args.cells.now c.loop-first.cells c.put.new.cells c.args.rank c.loop-first.file _ c.put.ensures.is c.requires.fit.files_most c.loop-first.invariant.others;
+    }
+
+pub returns-then-begins_with_zero-clause-row : goal.returns-then-begins_with_zero-clause-row
+returns-then-begins_with_zero-clause-row c =
+    let left = c.loop-first.left.now in
+    let digit : is_digit c.in-Some.first.now ≡ true = sym c.is_digit.ensures ∙ c.if-is_digit.true in
+    let zero : begins_with_zero (take (prefix_len is_digit left) left) ≡ true = ap begins_with_zero (sym c.cut_run.ensures.run) ∙ sym c.begins_with_zero.ensures ∙ c.if-begins_with_zero.true in
+    c.loop-first.invariant.said ∙ step_zero c.args.rules.now c.loop-first.cells c.args.rank c.loop-first.file c.in-Some.first.now c.in-Some.behind.now left c.in-Some.ensures.cases.0 digit zero
+
+pub returns-in_default-letter_cell-clause-row : goal.returns-in_default-letter_cell-clause-row
+returns-in_default-letter_cell-clause-row c =
+    let digit : is_digit c.in-Some.first.now ≡ false = sym c.is_digit.ensures ∙ c.if-is_digit.false in
+    let none : letter_cell c.args.rules.now c.in-Some.first.now ≡ None = sym c.letter_cell.ensures ∙ c.in_default-letter_cell.is in
+    c.loop-first.invariant.said ∙ step_bad c.args.rules.now c.loop-first.cells c.args.rank c.loop-first.file c.in-Some.first.now c.in-Some.behind.now c.loop-first.left.now (built-plain c.args.rules.now c.requires.built) c.in-Some.ensures.cases.0 digit none
+
+pub returns-then-file-from-clause-row : goal.returns-then-file-from-clause-row
+returns-then-file-from-clause-row c =
+    let nothing : c.loop-first.left.now ≡ [] = no_bytes _ c.in_default.ensures.cases in
+    let all : (c.loop-first.file == c.args.rules.now.files) ≡ true = eq-eqb _ _ (c.if-file-from.true ∙ c.from.ensures) in
+    c.loop-first.invariant.said ∙ step_end c.args.rules.now c.loop-first.cells c.args.rank c.loop-first.file c.loop-first.left.now nothing ∙ (rw all refl)
+
+pub returns-else-file-from-clause-row : goal.returns-else-file-from-clause-row
+returns-else-file-from-clause-row c =
+    let nothing : c.loop-first.left.now ≡ [] = no_bytes _ c.in_default.ensures.cases in
+    let wrong : (c.loop-first.file == c.args.rules.now.files) ≡ false = ne_eqb _ _ (λ e. c.if-file-from.false (e ∙ sym c.from.ensures)) in
+    c.loop-first.invariant.said ∙ step_end c.args.rules.now c.loop-first.cells c.args.rank c.loop-first.file c.loop-first.left.now nothing ∙ (rw wrong refl)

@@ -1,0 +1,14 @@
+pub mod Fault
+pub mod Chain
+pub mod Numbers
+pub mod Fields
+pub mod Tokens
+pub mod Board
+pub mod Pocket
+pub mod Held
+pub mod Passed
+pub mod Counts
+pub mod Reading
+pub mod Printing
+pub mod FieldView
+pub mod Plain

@@ -1,0 +1,115 @@
+-- The one text that is printed for a position.
+use Rattle.std.specs.Prelude.{ℕ, zero, suc, Bool, ◌&&◌, ◌||◌, not, List, [], ◌∷◌, ◌++◌, Option, Some, None, if◌then◌else◌, map, replicate, slice_index}
+use Rattle.std.specs.Fmt.{decimal}
+use Rattle.std.specs.List.{flat_map, join_with_byte, range_with_len}
+use Rattle.rules_model.specs.declared.board.Cell.{Cell}
+use Rattle.rules_model.specs.declared.board.Kind.{Kind}
+use Rattle.rules_model.specs.declared.board.Position.{Position}
+use Rattle.rules_model.specs.declared.board.Repeat.{Repeat}
+use Rattle.rules_model.specs.declared.board.Side.{Side}
+use Rattle.rules_model.specs.declared.board.Side.TheVariants.{White, Black}
+use Rattle.rules_model.specs.declared.board.Square.{Square}
+use Rattle.rules_model.specs.declared.board.Wing.{Wing}
+use Rattle.rules_model.specs.declared.board.Wing.TheVariants.{Kingside, Queenside}
+use Rattle.rules_model.specs.declared.rules.Rules.{Rules}
+use Rattle.rules_model.specs.Castling.{holds_right}
+use Rattle.rules_model.specs.Gates.{has_gate}
+use Rattle.rules_model.specs.Hands.{in_hand}
+use Rattle.rules_model.specs.Kinds.{names, promoted_of}
+use Rattle.rules_model.specs.MoveText.{lower, square_text, upper}
+use Rattle.rules_model.specs.Repeats.{repeat_of}
+use Rattle.rules_model.specs.Sound.{has_hands}
+use Rattle.variant_fen.specs.Board.{rows_at}
+use Rattle.variant_fen.specs.Fields.{no_text}
+use Rattle.variant_fen.specs.Held.{gate_letter, right_gives, right_letter}
+
+-- ---- the placement
+
+abbrev pub kind_letter : Side → Kind → ℕ
+kind_letter White kind = upper kind
+kind_letter Black kind = lower kind
+
+abbrev pub marked_text : Rules → Cell → Option Kind → List ℕ
+marked_text rules c None = kind_letter c.side c.kind ∷ []
+marked_text rules c (Some origin) =
+    if names (promoted_of rules origin) c.kind then 43 ∷ kind_letter c.side origin ∷ [] else kind_letter c.side c.kind ∷ 126 ∷ []
+
+-- a piece's letter: `+` and the origin's letter where it is the origin's promoted kind, else `~` behind its own for another origin
+abbrev pub cell_text : Rules → Cell → List ℕ
+cell_text rules c = marked_text rules c c.origin
+
+-- the number of a run of empty squares
+abbrev pub run_text : ℕ → List ℕ
+run_text zero = []
+run_text (suc n) = decimal (suc n)
+
+-- the squares of a rank behind so many empty ones
+unfoldable pub row_text : Rules → ℕ → List (Option Cell) → List ℕ
+row_text rules empty [] = run_text empty
+row_text rules empty (None ∷ squares) = row_text rules (suc empty) squares
+row_text rules empty (Some c ∷ squares) = run_text empty ++ cell_text rules c ++ row_text rules 0 squares
+
+-- the ranks from the highest on, parted by `/`
+unfoldable pub board_text : Rules → List (Option Cell) → List ℕ
+board_text rules cells = join_with_byte 47 (map (row_text rules 0) (rows_at rules cells rules.ranks))
+
+-- ---- the pocket
+
+-- the letters of a hand in alphabetical order
+unfoldable pub hand_text : List (List ℕ) → Side → List ℕ
+hand_text hands side =
+    flat_map (λ kind. replicate (in_hand hands side (record { 0 = kind })) (kind_letter side (record { 0 = kind }))) (range_with_len 0 26)
+
+-- White's letters and then Black's, in brackets, in each variant with hands
+unfoldable pub pocket_text : Rules → List (List ℕ) → List ℕ
+pocket_text rules hands = if has_hands rules then 91 ∷ (hand_text hands White ++ hand_text hands Black ++ 93 ∷ []) else []
+
+-- ---- the other fields
+
+abbrev pub side_text : Side → List ℕ
+side_text White = 119 ∷ []
+side_text Black = 98 ∷ []
+
+abbrev pub right_text : Repeat → Side → Wing → List ℕ
+right_text r side wing = if holds_right r.rights side wing then right_letter side wing ∷ [] else []
+
+-- the side holds the right of the wing, which gives the gate
+abbrev pub right_implies : Rules → Repeat → Side → ℕ → Wing → Bool
+right_implies rules r side file wing = holds_right r.rights side wing && right_gives rules r.cells side wing file
+
+-- the letter of a gate that no held right gives
+abbrev pub gate_text : Rules → Repeat → Side → ℕ → List ℕ
+gate_text rules r side file =
+    if has_gate r.gates side file && not (right_implies rules r side file Kingside || right_implies rules r side file Queenside) then gate_letter side file ∷ [] else []
+
+-- a side's rights, and then its gates by file
+unfoldable pub side_rights_text : Rules → Repeat → Side → List ℕ
+side_rights_text rules r side =
+    right_text r side Kingside ++ right_text r side Queenside ++ flat_map (gate_text rules r side) (range_with_len 0 10)
+
+abbrev pub or_none : List ℕ → List ℕ
+or_none [] = no_text
+or_none (b ∷ bs) = b ∷ bs
+
+-- White's before Black's, or `-`
+unfoldable pub rights_text : Rules → Repeat → List ℕ
+rights_text rules r = or_none (side_rights_text rules r White ++ side_rights_text rules r Black)
+
+abbrev pub ep_text : Option Square → List ℕ
+ep_text None = no_text
+ep_text (Some s) = square_text s
+
+-- the checks left, a field of the variants that count them
+abbrev pub checks_texts : Rules → List ℕ → List (List ℕ)
+checks_texts rules checks = if rules.check_counting then (decimal (slice_index checks 0) ++ 43 ∷ decimal (slice_index checks 1)) ∷ [] else []
+
+-- ---- the whole
+
+unfoldable pub field_texts : Rules → Position → List (List ℕ)
+field_texts rules p =
+    (board_text rules p.cells ++ pocket_text rules p.hands) ∷ side_text p.side ∷ rights_text rules (repeat_of p) ∷ ep_text p.ep
+    ∷ (checks_texts rules p.checks ++ decimal p.counter ∷ decimal p.number ∷ [])
+
+-- all fields, parted by single blanks
+unfoldable pub fen_text : Rules → Position → List ℕ
+fen_text rules p = join_with_byte 32 (field_texts rules p)

@@ -1,0 +1,33 @@
+//! Why a run has no answer.
+use foundation::Memory as NoMemory;
+use std::alloc::AllocError;
+
+#[derive(Clone, Copy, Debug, PartialEq, Eq)]
+pub enum Stop {
+    /// The source failed.
+    Source,
+    /// There was no memory.
+    Memory,
+}
+
+impl From<NoMemory> for Stop {
+    ghost use Rattle.std.specs.Prelude.{◌≡◌};
+    ghost use Rattle.vengine.specs.declared.stop.Stop.TheVariants as stop;
+
+    ghost from_gives = { λ _ given. given ≡ stop.Memory };
+
+    fn from(_error: NoMemory) -> Self {
+        Stop::Memory
+    }
+}
+
+impl From<AllocError> for Stop {
+    ghost use Rattle.std.specs.Prelude.{◌≡◌};
+    ghost use Rattle.vengine.specs.declared.stop.Stop.TheVariants as stop;
+
+    ghost from_gives = { λ _ given. given ≡ stop.Memory };
+
+    fn from(_error: AllocError) -> Self {
+        Stop::Memory
+    }
+}
