@@ -8,3 +8,6 @@ pub mod BoardLemmas
 pub mod ReadLemmas
 pub mod SaidLaws
 pub mod SoundLaws
+pub mod WriteLemmas
+pub mod SoundParts
+pub mod PrintLaws
