@@ -11,3 +11,7 @@ pub mod SoundLaws
 pub mod WriteLemmas
 pub mod SoundParts
 pub mod PrintLaws
+pub mod DecimalLaws
+pub mod JoinLaws
+pub mod BackLaws
+pub mod GivesBack

@@ -1,5 +1,5 @@
 -- What soundness says of a position's parts.
-use Rattle.std.proofs.Common.{◌≡◌, ℕ, zero, suc, ◌+◌, ◌-◌, ◌*◌, ◌/◌, ◌%◌, ◌^◌, ◌<◌, ◌≤◌, nat_lt, nat_le, ◌==◌, Bool, true, false, ◌&&◌, ◌||◌, not, List, [], ◌∷◌, ◌++◌, length, get_or, replicate, Option, Some, None, refl, sym, ap, ◌∙◌, arith, subst}
+use Rattle.std.proofs.Common.{◌≡◌, ℕ, zero, suc, ◌+◌, ◌-◌, ◌*◌, ◌/◌, ◌%◌, ◌^◌, ◌<◌, ◌≤◌, nat_lt, nat_le, ◌==◌, Bool, true, false, ◌&&◌, ◌||◌, not, List, [], ◌∷◌, ◌++◌, length, get_or, slice_index, replicate, Option, Some, None, refl, sym, ap, ◌∙◌, arith, subst}
 use Rattle.std.specs.List.{list_all}
 use Rattle.std.proofs.lemmas.Bool.{le-leb, leb-true, ltb-true, eqb-true}
 use Rattle.foundation.specs.Count.{all_below}
@@ -22,7 +22,7 @@ use Rattle.rules_model.specs.Gates.{has_gate}
 use Rattle.rules_model.specs.Hands.{holds}
 use Rattle.rules_model.specs.Kinds.{board_of}
 use Rattle.rules_model.specs.Repeats.{repeat_of}
-use Rattle.rules_model.specs.Sides.{other}
+use Rattle.rules_model.specs.Sides.{other, side_index}
 use Rattle.rules_model.specs.Sound.{has_hands, has_its_king, is_sound, is_sound_ep, is_sound_repeat, is_sound_side, sound_at, sound_gate, sound_in_hand, sound_right}
 use Rattle.variant_fen.proofs.BuiltLaws.{LeavesOut, leaves_out, left, not_true, right}
 use Rattle.variant_fen.proofs.ReadLemmas.{and-false, no_pawn_at}
@@ -106,3 +106,11 @@ never_passed rules p (Some ep) none h =
 
 pub no-ep : (rules : Rules) (p : Position) → is_built rules ≡ true → is_sound rules p ≡ true → p.ep ≡ None
 no-ep rules p built h = never_passed rules p p.ep (leaves_out rules built).no_pawn (sound-ep rules p h)
+
+zero_checks : (b : Bool) (n : ℕ) → b ≡ false → (b || (n == 0)) ≡ true → n ≡ 0
+zero_checks true n off h = cc
+zero_checks false n off h = eqb-true _ _ h
+
+pub no-checks : (rules : Rules) (p : Position) → is_built rules ≡ true → is_sound rules p ≡ true → (side : Side) → slice_index p.checks (side_index side) ≡ 0
+unfolding is_sound_side
+no-checks rules p built h side = zero_checks rules.check_counting (slice_index p.checks (side_index side)) (leaves_out rules built).no_checks (right _ _ (sound-side rules p h side))

@@ -14,6 +14,7 @@ mod board;
 mod cut;
 mod fault;
 mod fields;
+pub mod laws;
 mod number;
 mod read;
 mod write;
