@@ -27,7 +27,7 @@ pub get_or-rows_at : (rules : Rules) (cells : List (Option Cell)) (n k : ℕ) �
 unfolding rows_at
 get_or-rows_at rules cells n k below = get_or-map-range_with_len (λ j. row_at cells (rules.ranks - 1 - j) rules.files) 0 n k k [] below (omega arith)
 
-rows_at-more : (rules : Rules) (cells : List (Option Cell)) (n : ℕ) → rows_at rules cells (n + 1) ≡ rows_at rules cells n ++ row_at cells (rules.ranks - 1 - n) rules.files ∷ []
+pub rows_at-more : (rules : Rules) (cells : List (Option Cell)) (n : ℕ) → rows_at rules cells (n + 1) ≡ rows_at rules cells n ++ row_at cells (rules.ranks - 1 - n) rules.files ∷ []
 unfolding rows_at
 rows_at-more rules cells n = map-range_with_len_more (λ j. row_at cells (rules.ranks - 1 - j) rules.files) 0 n n (omega arith)
 

@@ -14,11 +14,11 @@ use Rattle.rules_model.specs.Kinds.{kind_rule, promoted_of, rule_promoted}
 use Rattle.rules_model.specs.Sound.{has_hands}
 use Rattle.variant_fen.proofs.TokenLemmas.{IsPlain}
 
-left : (a b : Bool) → (a && b) ≡ true → a ≡ true
+pub left : (a b : Bool) → (a && b) ≡ true → a ≡ true
 left true b h = refl
 left false b h = h
 
-right : (a b : Bool) → (a && b) ≡ true → b ≡ true
+pub right : (a b : Bool) → (a && b) ≡ true → b ≡ true
 right true b h = h
 right false b h = cc
 
@@ -51,7 +51,7 @@ pub record LeavesOut (rules : Rules) : Type 0 where
   pub no_gating : rules.gating ≡ false
   pub no_checks : rules.check_counting ≡ false
 
-not_true : (b : Bool) → not b ≡ true → b ≡ false
+pub not_true : (b : Bool) → not b ≡ true → b ≡ false
 not_true true h = cc
 not_true false h = refl
 

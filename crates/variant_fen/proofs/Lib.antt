@@ -8,3 +8,10 @@ pub mod BoardLemmas
 pub mod ReadLemmas
 pub mod SaidLaws
 pub mod SoundLaws
+pub mod WriteLemmas
+pub mod SoundParts
+pub mod PrintLaws
+pub mod DecimalLaws
+pub mod JoinLaws
+pub mod BackLaws
+pub mod GivesBack

@@ -4,7 +4,7 @@ use Rattle.std.proofs.Math.Seq.{take-suc}
 use Rattle.variant_fen.specs.Numbers.{value_behind, value_of}
 
 -- one more digit
-value_behind-append : (n : ℕ) (digits : List ℕ) (d : ℕ) → value_behind n (digits ++ d ∷ []) ≡ 10 * value_behind n digits + (d - 48)
+pub value_behind-append : (n : ℕ) (digits : List ℕ) (d : ℕ) → value_behind n (digits ++ d ∷ []) ≡ 10 * value_behind n digits + (d - 48)
 unfolding value_behind
 value_behind-append n [] d = refl
 value_behind-append n (x ∷ digits) d = value_behind-append (10 * n + (x - 48)) digits d

@@ -37,7 +37,7 @@ use Rattle.variant_fen.specs.Numbers.{are_digits, is_number, number_of, value_be
 use Rattle.variant_fen.specs.Reading.{judged}
 use Rattle.variant_fen.proofs.BuiltLaws.{LeavesOut, leaves_out}
 
-and-false : (b : Bool) → (b && false) ≡ false
+pub and-false : (b : Bool) → (b && false) ≡ false
 and-false true = refl
 and-false false = refl
 
@@ -132,7 +132,7 @@ no_own_pawn : (rules : Rules) (side : Side) (o : Option Cell) → rules.pawn ≡
 no_own_pawn rules side None none = refl
 no_own_pawn rules side (Some c) none = rw none (and-false (same_side c.side side))
 
-no_pawn_at : (rules : Rules) (cells : List (Option Cell)) (side : Side) (at : Option ℕ) → rules.pawn ≡ None → pawn_at rules cells side at ≡ false
+pub no_pawn_at : (rules : Rules) (cells : List (Option Cell)) (side : Side) (at : Option ℕ) → rules.pawn ≡ None → pawn_at rules cells side at ≡ false
 no_pawn_at rules cells side None none = refl
 no_pawn_at rules cells side (Some s) none = no_own_pawn rules side (cell_at cells s) none
 

@@ -3,6 +3,7 @@ use Rattle.std.specs.Prelude.{ℕ, ◌+◌, ◌*◌, ◌/◌, ◌≡◌, ◌≢�
 use Rattle.rules_model.specs.declared.board.Cell.{Cell}
 use Rattle.rules_model.specs.declared.board.Position.{Position}
 use Rattle.rules_model.specs.declared.board.Side.{Side}
+use Rattle.rules_model.specs.declared.board.Side.TheVariants.{White, Black}
 use Rattle.rules_model.specs.declared.rules.Rules.{Rules}
 use Rattle.variant_fen.specs.Board.{plain_cell}
 use Rattle.variant_fen.specs.Held.{nothing_held}
@@ -29,3 +30,8 @@ IsSameBut rank old new = (s : ℕ) → s / 12 ≢ rank → slice_index_or new s 
 -- a position with pieces on the board alone, and nothing held
 abbrev pub plain_position : List (Option Cell) → Side → ℕ → ℕ → Position
 plain_position cells side counter number = position_with cells no_hands side nothing_held None (0 ∷ 0 ∷ []) counter number
+
+-- the text between the placement and the counts
+abbrev pub bare_fields : Side → List ℕ
+bare_fields White = 32 ∷ 119 ∷ 32 ∷ 45 ∷ 32 ∷ 45 ∷ 32 ∷ []
+bare_fields Black = 32 ∷ 98 ∷ 32 ∷ 45 ∷ 32 ∷ 45 ∷ 32 ∷ []

@@ -1,5 +1,6 @@
 -- What a text says as a whole (FEN, Forsyth-Edwards notation, as Fairy-Stockfish extends it for variants).
-use Rattle.std.specs.Prelude.{◌≡◌, ℕ, ◌+◌, max, nat_lt, ◌&&◌, not, List, Option, Result, Ok, Err, if◌then◌else◌}
+use Rattle.std.specs.Prelude.{◌≡◌, ℕ, ◌+◌, max, nat_lt, ◌&&◌, not, List, Option, Result, Ok, Err, if◌then◌else◌, length, true}
+use Rattle.std.specs.List.{list_all}
 use Rattle.rules_model.specs.declared.board.Cell.{Cell}
 use Rattle.rules_model.specs.declared.board.Position.{Position}
 use Rattle.rules_model.specs.declared.board.Side.{Side}
@@ -8,6 +9,7 @@ use Rattle.rules_model.specs.declared.board.Square.{Square}
 use Rattle.rules_model.specs.declared.rules.Rules.{Rules}
 use Rattle.rules_model.specs.Attacks.{king_attacked}
 use Rattle.rules_model.specs.Ends.{pieces_of}
+use Rattle.rules_model.specs.Promised.{HasSizes}
 use Rattle.rules_model.specs.Repeats.{repeat_of}
 use Rattle.rules_model.specs.Sides.{other}
 use Rattle.rules_model.specs.Sound.{has_its_king}
@@ -69,3 +71,9 @@ Fen rules text p = fen_of rules text ≡ Ok p
 -- the text says none, and this is its first fault
 abbrev pub FenBad : Rules → List ℕ → FenFault → Type 0
 FenBad rules text fault = fen_of rules text ≡ Err fault
+
+-- the lists of a position and of rules are as long as their fields, and a side's gates are a number of 16 bits
+pub record IsValue (rules : Rules) (p : Position) : Type 0 where
+  pub kinds : length rules.kinds ≡ 26
+  pub sizes : HasSizes (repeat_of p)
+  pub gates : list_all (λ gates. nat_lt gates 65536) p.gates ≡ true

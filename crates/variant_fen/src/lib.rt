@@ -7,19 +7,24 @@ ghost use Rattle.rules_model.specs.declared.rules.Rules.{Rules};
 ghost use Rattle.rules_model.specs.Built.{is_built};
 ghost use Rattle.rules_model.specs.Fit.{IsFit};
 ghost use Rattle.rules_model.specs.Sound.{is_sound};
+ghost use Rattle.variant_fen.specs.Printing.{fen_text};
 ghost use Rattle.variant_fen.specs.Reading.{Fen, FenBad, fen_of};
 
 mod board;
 mod cut;
 mod fault;
 mod fields;
+pub mod laws;
 mod number;
 mod read;
+mod write;
 
 pub use fault::FenFault;
 use fields::read_fields;
 use read::read_position;
-pub use rules_model::{Position, Rules};
+pub use rules_model::{Memory, Position, Rules, Text};
+use std::alloc::Global;
+use write::{bare_fields, push_board, push_number};
 
 /// Every text says a position or has a fault, and not both; there is one such position or fault.
 pub fn one_answer()
@@ -39,4 +44,22 @@ pub fn read_fen(rules: &Rules, text: &[u8]) -> Result<Position, FenFault>
     ensures sound { IfOk result (λ p. is_sound rules.now p ≡ true) }
 {
     read_position(rules, read_fields(rules, text)?)
+}
+
+/// Writes the one FEN of a sound position, for rules that the program plays so far: no piece is in hand, and no right is held.
+///
+/// `Memory` is the answer where there was none for the text.
+pub fn write_fen(alloc: Global, rules: &Rules, p: &Position) -> Result<Text, Memory>
+    requires fit { IsFit rules.now }
+    requires built { is_built rules.now ≡ true }
+    requires sound { is_sound rules.now p.now ≡ true }
+    ensures text { IfOk result (λ text. text ≡ fen_text rules.now p.now) }
+{
+    let mut text = Vec::new(alloc);
+    push_board(rules, &mut text, &p.cells)?;
+    text.extend_from_slice(bare_fields(p.side))?;
+    push_number(&mut text, p.counter)?;
+    text.push(b' ')?;
+    push_number(&mut text, p.number)?;
+    Ok(Text { items: text })
 }

@@ -1,0 +1,116 @@
+-- What soundness says of a position's parts.
+use Rattle.std.proofs.Common.{◌≡◌, ℕ, zero, suc, ◌+◌, ◌-◌, ◌*◌, ◌/◌, ◌%◌, ◌^◌, ◌<◌, ◌≤◌, nat_lt, nat_le, ◌==◌, Bool, true, false, ◌&&◌, ◌||◌, not, List, [], ◌∷◌, ◌++◌, length, get_or, slice_index, replicate, Option, Some, None, refl, sym, ap, ◌∙◌, arith, subst}
+use Rattle.std.specs.List.{list_all}
+use Rattle.std.proofs.lemmas.Bool.{le-leb, leb-true, ltb-true, eqb-true}
+use Rattle.foundation.specs.Count.{all_below}
+use Rattle.foundation.proofs.CountLemmas.{all_below-each}
+use Rattle.rules_model.specs.declared.board.Cell.{Cell}
+use Rattle.rules_model.specs.declared.board.Kind.{Kind}
+use Rattle.rules_model.specs.declared.board.Position.{Position}
+use Rattle.rules_model.specs.declared.board.Repeat.{Repeat}
+use Rattle.rules_model.specs.declared.board.Side.{Side}
+use Rattle.rules_model.specs.declared.board.Side.TheVariants.{White, Black}
+use Rattle.rules_model.specs.declared.board.Square.{Square}
+use Rattle.rules_model.specs.declared.board.Wing.{Wing}
+use Rattle.rules_model.specs.declared.board.Wing.TheVariants.{Kingside, Queenside}
+use Rattle.rules_model.specs.declared.rules.Rules.{Rules}
+use Rattle.rules_model.specs.Attacks.{ahead, king_attacked, pawn_at, pawn_could_take}
+use Rattle.rules_model.specs.Built.{is_built}
+use Rattle.rules_model.specs.Castling.{castling_on, holds_right}
+use Rattle.rules_model.specs.Ends.{pieces_of}
+use Rattle.rules_model.specs.Gates.{has_gate}
+use Rattle.rules_model.specs.Hands.{holds}
+use Rattle.rules_model.specs.Kinds.{board_of}
+use Rattle.rules_model.specs.Repeats.{repeat_of}
+use Rattle.rules_model.specs.Sides.{other, side_index}
+use Rattle.rules_model.specs.Sound.{has_hands, has_its_king, is_sound, is_sound_ep, is_sound_repeat, is_sound_side, sound_at, sound_gate, sound_in_hand, sound_right}
+use Rattle.variant_fen.proofs.BuiltLaws.{LeavesOut, leaves_out, left, not_true, right}
+use Rattle.variant_fen.proofs.ReadLemmas.{and-false, no_pawn_at}
+
+whole : (rules : Rules) (p : Position) → is_sound rules p ≡ true → is_sound_repeat rules (repeat_of p) ≡ true
+unfolding is_sound
+whole rules p h = left _ _ (left _ _ (left _ _ h))
+
+pub sound-counter : (rules : Rules) (p : Position) → is_sound rules p ≡ true → p.counter ≤ 9999
+unfolding is_sound
+sound-counter rules p h = leb-true _ _ (right _ _ (left _ _ (left _ _ h)))
+
+pub sound-number : (rules : Rules) (p : Position) → is_sound rules p ≡ true → (1 ≤ p.number) × (p.number ≤ 9999)
+unfolding is_sound
+sound-number rules p h = (leb-true _ _ (right _ _ (left _ _ h)), leb-true _ _ (right _ _ h))
+
+pub sound-cells : (rules : Rules) (p : Position) → is_sound rules p ≡ true → (s : ℕ) → s < 120 → sound_at rules p.cells s ≡ true
+unfolding is_sound_repeat
+sound-cells rules p h = all_below-each (sound_at rules p.cells) 120 (left _ _ (left _ _ (left _ _ (left _ _ (left _ _ (whole rules p h))))))
+
+pub sound-few : (rules : Rules) (p : Position) → is_sound rules p ≡ true → pieces_of (repeat_of p) White + pieces_of (repeat_of p) Black ≤ 240
+unfolding is_sound_repeat
+sound-few rules p h = leb-true _ _ (right _ _ (left _ _ (left _ _ (left _ _ (left _ _ (whole rules p h))))))
+
+sound-side : (rules : Rules) (p : Position) → is_sound rules p ≡ true → (side : Side) → is_sound_side rules (repeat_of p) side ≡ true
+unfolding is_sound_repeat
+sound-side rules p h White = right _ _ (left _ _ (left _ _ (left _ _ (whole rules p h))))
+sound-side rules p h Black = right _ _ (left _ _ (left _ _ (whole rules p h)))
+
+pub sound-safe : (rules : Rules) (p : Position) → is_sound rules p ≡ true → king_attacked rules p.cells (other p.side) ≡ false
+unfolding is_sound_repeat
+sound-safe rules p h = not_true _ (right _ _ (left _ _ (whole rules p h)))
+
+sound-ep : (rules : Rules) (p : Position) → is_sound rules p ≡ true → is_sound_ep rules (repeat_of p) p.ep ≡ true
+unfolding is_sound_repeat
+sound-ep rules p h = right _ _ (whole rules p h)
+
+pub sound-king : (rules : Rules) (p : Position) → is_sound rules p ≡ true → (side : Side) → has_its_king rules p.cells side ≡ true
+unfolding is_sound_side
+sound-king rules p h side = right _ _ (left _ _ (left _ _ (left _ _ (left _ _ (left _ _ (sound-side rules p h side))))))
+
+sound-hand : (rules : Rules) (p : Position) → is_sound rules p ≡ true → (side : Side) (k : ℕ) → k < 26 → sound_in_hand rules p.hands side k ≡ true
+unfolding is_sound_side
+sound-hand rules p h side = all_below-each (sound_in_hand rules p.hands side) 26 (left _ _ (left _ _ (left _ _ (left _ _ (left _ _ (left _ _ (sound-side rules p h side)))))))
+
+sound-wing : (rules : Rules) (p : Position) → is_sound rules p ≡ true → (side : Side) (wing : Wing) → sound_right rules (repeat_of p) side wing ≡ true
+unfolding is_sound_side
+sound-wing rules p h side Kingside = right _ _ (left _ _ (left _ _ (left _ _ (left _ _ (sound-side rules p h side)))))
+sound-wing rules p h side Queenside = right _ _ (left _ _ (left _ _ (left _ _ (sound-side rules p h side))))
+
+sound-gates : (rules : Rules) (p : Position) → is_sound rules p ≡ true → (side : Side) (file : ℕ) → file < 16 → sound_gate rules (repeat_of p) side file ≡ true
+unfolding is_sound_side
+sound-gates rules p h side = all_below-each (sound_gate rules (repeat_of p) side) 16 (right _ _ (left _ _ (left _ _ (sound-side rules p h side))))
+
+-- ---- under the rules that are played so far
+
+not_or : (a b : Bool) → (not a || b) ≡ true → b ≡ false → a ≡ false
+not_or true b h k = cc
+not_or false b h k = refl
+
+pub no-right : (rules : Rules) (p : Position) → is_built rules ≡ true → is_sound rules p ≡ true → (side : Side) (wing : Wing) → holds_right p.rights side wing ≡ false
+unfolding sound_right
+no-right rules p built h side wing = not_or _ _ (sound-wing rules p h side wing) (let off = (leaves_out rules built).no_castling in rw off refl)
+
+pub no-gate : (rules : Rules) (p : Position) → is_built rules ≡ true → is_sound rules p ≡ true → (side : Side) (file : ℕ) → file < 16 → has_gate p.gates side file ≡ false
+unfolding sound_gate
+no-gate rules p built h side file below = not_or _ _ (sound-gates rules p h side file below) (let off = (leaves_out rules built).no_gating in rw off refl)
+
+pub no-hand : (rules : Rules) (p : Position) → is_built rules ≡ true → is_sound rules p ≡ true → (side : Side) (k : ℕ) → k < 26 → holds p.hands side (record { 0 = k }) ≡ false
+unfolding sound_in_hand
+no-hand rules p built h side k below = not_or _ _ (sound-hand rules p h side k below) (let off = (leaves_out rules built).no_hands in rw off refl)
+
+both_ways : (b : Bool) → b ≡ true → b ≡ false → ⊥
+both_ways b h k = cc
+
+never_passed : (rules : Rules) (p : Position) (ep : Option Square) → rules.pawn ≡ None → is_sound_ep rules (repeat_of p) ep ≡ true → ep ≡ None
+never_passed rules p None none h = refl
+never_passed rules p (Some ep) none h =
+    let no_pawn = no_pawn_at rules p.cells (other p.side) (ahead (board_of rules) (other p.side) ep 1) none in
+    let pawn : pawn_at rules p.cells (other p.side) (ahead (board_of rules) (other p.side) ep 1) ≡ true = right _ _ (left _ _ (right _ _ h)) in absurd (both_ways _ pawn no_pawn)
+
+pub no-ep : (rules : Rules) (p : Position) → is_built rules ≡ true → is_sound rules p ≡ true → p.ep ≡ None
+no-ep rules p built h = never_passed rules p p.ep (leaves_out rules built).no_pawn (sound-ep rules p h)
+
+zero_checks : (b : Bool) (n : ℕ) → b ≡ false → (b || (n == 0)) ≡ true → n ≡ 0
+zero_checks true n off h = cc
+zero_checks false n off h = eqb-true _ _ h
+
+pub no-checks : (rules : Rules) (p : Position) → is_built rules ≡ true → is_sound rules p ≡ true → (side : Side) → slice_index p.checks (side_index side) ≡ 0
+unfolding is_sound_side
+no-checks rules p built h side = zero_checks rules.check_counting (slice_index p.checks (side_index side)) (leaves_out rules built).no_checks (right _ _ (sound-side rules p h side))
