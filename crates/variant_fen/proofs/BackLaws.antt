@@ -1,36 +1,34 @@
 -- A board that is printed is read back.
-use Rattle.std.proofs.Common.{◌≡◌, ◌≢◌, ℕ, zero, suc, ◌+◌, ◌-◌, ◌*◌, ◌/◌, ◌%◌, ◌^◌, ◌<◌, ◌≤◌, nat_lt, nat_le, ◌==◌, Bool, true, false, ◌&&◌, ◌||◌, not, List, [], ◌∷◌, ◌++◌, length, get_or, map, replicate, take, drop, Option, Some, None, Ok, Err, refl, sym, ap, ◌∙◌, arith, ⊎_elim, length-append, append_assoc, subst}
+use Rattle.std.proofs.Common.{◌≡◌, ℕ, zero, suc, ◌+◌, ◌-◌, ◌*◌, ◌/◌, ◌%◌, ◌^◌, ◌<◌, ◌≤◌, nat_lt, nat_le, ◌==◌, Bool, true, false, ◌&&◌, ◌||◌, List, [], ◌∷◌, ◌++◌, length, get_or, map, replicate, take, drop, Option, Some, None, Ok, Err, refl, sym, ap, ◌∙◌, arith, ⊎_elim, length-append, append_assoc, subst}
 use Rattle.std.specs.declared.result.Result.{Result}
 use Rattle.std.specs.Fmt.{decimal}
-use Rattle.std.specs.List.{join_with_byte, list_all, prefix_len, range_with_len, slice_get, slice_split}
+use Rattle.std.specs.List.{join_with_byte, list_all, prefix_len, slice_get, slice_split}
 use Rattle.std.proofs.Math.ListN.{get_or-eq_default}
 use Rattle.std.proofs.Math.Seq.{take-append_seam, drop-append_seam}
-use Rattle.std.proofs.lemmas.Bool.{cases_Bool, le-leb, lt-leb, le-ltb, leb-true, lt-ltb, ltb-true, ltb-false, eq-eqb, eqb-true}
-use Rattle.std.proofs.lemmas.List.{append-nil, drop_all, take_all, length-map, length-replicate}
+use Rattle.std.proofs.lemmas.Bool.{cases_Bool, le-leb, lt-leb, le-ltb, ltb-true, ltb-false, eq-eqb}
+use Rattle.std.proofs.lemmas.List.{append-nil, drop_all, take_all, length-map}
 use Rattle.std.proofs.lemmas.List.Folds.{list_all-append}
 use Rattle.rules_model.specs.declared.board.Cell.{Cell}
 use Rattle.rules_model.specs.declared.board.Kind.{Kind}
 use Rattle.rules_model.specs.declared.board.Position.{Position}
 use Rattle.rules_model.specs.declared.board.Side.{Side}
 use Rattle.rules_model.specs.declared.board.Side.TheVariants.{White, Black}
-use Rattle.rules_model.specs.declared.rules.KindRule.{KindRule}
 use Rattle.rules_model.specs.declared.rules.Rules.{Rules}
 use Rattle.rules_model.specs.Built.{is_built}
 use Rattle.rules_model.specs.Fit.{IsFit}
-use Rattle.rules_model.specs.Kinds.{has_kind, kind_rule, names, promoted_of, rule_of, rule_promoted}
+use Rattle.rules_model.specs.Kinds.{has_kind, kind_rule, promoted_of, rule_of, rule_promoted}
 use Rattle.rules_model.specs.Sound.{is_origin, is_sound, is_sound_cell, on_board, sound_at}
 use Rattle.rules_model.specs.Squares.{cell_at}
 use Rattle.variant_fen.specs.declared.fault.FenFault.{FenFault}
-use Rattle.variant_fen.specs.Board.{cell_of, cells_of, is_slash, one_square, plain_cell, row_at, row_of, rows_at, rows_of, run_squares, sized, squares_of}
-use Rattle.variant_fen.specs.Chain.{◌>>=◌}
-use Rattle.variant_fen.specs.Numbers.{is_digit, value_of}
+use Rattle.variant_fen.specs.Board.{cell_of, cells_of, is_slash, one_square, row_at, row_of, rows_at, rows_of, run_squares, squares_of}
+use Rattle.variant_fen.specs.Numbers.{is_digit}
 use Rattle.variant_fen.specs.Plain.{letter_cell}
 use Rattle.variant_fen.specs.Printing.{board_text, cell_text, kind_letter, row_text, run_text}
-use Rattle.variant_fen.specs.Tokens.{is_letter, is_lower, is_upper, letter_kind, letter_side, tokens_of}
+use Rattle.variant_fen.specs.Tokens.{is_letter, is_lower, is_upper, tokens_of}
 use Rattle.variant_fen.proofs.BoardLemmas.{cells_from-rows_at, length-rows_at, IsFreeAbove, IsFreeBeside}
 use Rattle.variant_fen.proofs.BuiltLaws.{built-plain, built-promoted, leaves_out, left, right}
-use Rattle.variant_fen.proofs.DecimalLaws.{Writes, decimal-writes, not-zero}
-use Rattle.variant_fen.proofs.JoinLaws.{Each, Lacks, each-map, each-range, join-all, join-short, lacks-from, place-none, split-join}
+use Rattle.variant_fen.proofs.DecimalLaws.{decimal-writes, not-zero}
+use Rattle.variant_fen.proofs.JoinLaws.{Each, Lacks, each-range, join-all, join-short, lacks-from, split-join}
 use Rattle.variant_fen.proofs.RowLemmas.{length-row_at}
 use Rattle.variant_fen.proofs.SoundLaws.{cell_at-get_or}
 use Rattle.variant_fen.proofs.SoundParts.{sound-cells}
@@ -210,8 +208,8 @@ squares-back rules plain n (Some c ∷ row) small each =
     ap (λ t. squares_of rules (tokens_of t)) text
     ∙ run_behind rules n (letter ∷ rest) letter rest (omega arith) refl (no-digit c.side c.kind)
     ∙ ap (joined (Ok (replicate n None))) (byte_then rules plain letter rest (no-digit c.side c.kind)
-        ∙ ap (λ o. joined (one_square o) (squares_of rules (tokens_of rest))) (letter-back rules c.side c.kind each.0.0 each.0.1 ∙ ap Some (plain-again c each.0.2))
-        ∙ ap (joined (one_square (Some c))) (squares-back rules plain 0 row (omega arith) each.1))
+    ∙ ap (λ o. joined (one_square o) (squares_of rules (tokens_of rest))) (letter-back rules c.side c.kind each.0.0 each.0.1 ∙ ap Some (plain-again c each.0.2))
+    ∙ ap (joined (one_square (Some c))) (squares-back rules plain 0 row (omega arith) each.1))
 
 -- ---- the bytes and the length of a row
 
@@ -226,7 +224,7 @@ row-plain rules n (None ∷ row) small each = row-plain rules (suc n) row (omega
 row-plain rules n (Some c ∷ row) small each =
     list_all-append is_plain_byte (run_text n ++ cell_text rules c) (row_text rules 0 row)
     ∙ both _ _ (list_all-append is_plain_byte (run_text n) (cell_text rules c) ∙ both _ _ (run-plain n (omega arith)) (ap (list_all is_plain_byte) (cell_text-plain rules c each.0.2) ∙ both _ _ (letter-plain c.side c.kind each.0.0) refl))
-        (row-plain rules 0 row (omega arith) each.1)
+    (row-plain rules 0 row (omega arith) each.1)
 
 run-short : (n : ℕ) → n < 2 ^ 64 → length (run_text n) ≤ 2 * n
 run-short zero small = omega arith
@@ -280,8 +278,10 @@ unfolding rows_at row_at
 plain-rows rules cells fit board =
     let few = fit.files_most in let low = fit.ranks_most in
     each-range (IsPlainRow rules) (λ k. row_at cells (rules.ranks - 1 - k) rules.files) 0 rules.ranks
-    (λ k below. (length-row_at cells (rules.ranks - 1 - k) rules.files,
-        each-range (IsPlainCell rules) (λ file. get_or cells (12 * (rules.ranks - 1 - k) + file) None) 0 rules.files (λ file short. board.plain (12 * (rules.ranks - 1 - k) + file) (omega arith))))
+    (λ k below. (
+      length-row_at cells (rules.ranks - 1 - k) rules.files,
+      each-range (IsPlainCell rules) (λ file. get_or cells (12 * (rules.ranks - 1 - k) + file) None) 0 rules.files (λ file short. board.plain (12 * (rules.ranks - 1 - k) + file) (omega arith)),
+    ))
 
 split-all : (byte : ℕ) (texts : List (List ℕ)) → 0 < length texts → Each (Lacks byte) texts → slice_split (λ b. b == byte) (join_with_byte byte texts) ≡ texts
 split-all byte [] some each = absurd (omega arith)
@@ -313,7 +313,7 @@ cells-back rules cells fit built board =
     let some = fit.ranks_least in
     let count = length-rank_texts rules cells in
     let split : slice_split is_slash (join_with_byte 47 (rank_texts rules cells)) ≡ rank_texts rules cells =
-        split-all 47 (rank_texts rules cells) (omega (arith, count)) (each-weaker _ (Lacks 47) (rank_texts rules cells) (λ text good. lacks-from is_plain_byte 47 text refl good.0) (each-rank rules cells fit board)) in
+    split-all 47 (rank_texts rules cells) (omega (arith, count)) (each-weaker _ (Lacks 47) (rank_texts rules cells) (λ text good. lacks-from is_plain_byte 47 text refl good.0) (each-rank rules cells fit board)) in
     let test : (length (rank_texts rules cells) == rules.ranks) ≡ true = eq-eqb _ _ count in
     let rows = rows-back rules (built-plain rules built) (rows_at rules cells rules.ranks) fit.files_most (plain-rows rules cells fit board) in
     let back = cells_from-rows_at rules cells board.long board.beside board.above in

@@ -1,19 +1,17 @@
 -- The ranks of a board, one after another.
-use Rattle.std.proofs.Common.{◌≡◌, ◌≢◌, ℕ, suc, ◌+◌, ◌-◌, ◌*◌, ◌/◌, ◌%◌, ◌<◌, ◌≤◌, nat_lt, ◌==◌, Bool, true, false, List, [], ◌∷◌, ◌++◌, length, get_or, map, replicate, reverse, Option, Some, None, Ok, Err, refl, sym, ap, ◌∙◌, arith, ⊎_elim, append_assoc}
+use Rattle.std.proofs.Common.{◌≡◌, ◌≢◌, ℕ, ◌+◌, ◌-◌, ◌*◌, ◌/◌, ◌%◌, ◌<◌, ◌≤◌, nat_lt, ◌==◌, true, false, List, [], ◌∷◌, ◌++◌, length, get_or, replicate, reverse, Option, None, Ok, Err, refl, sym, ap, ◌∙◌, arith, ⊎_elim, append_assoc}
 use Rattle.std.specs.declared.result.Result.{Result}
-use Rattle.std.specs.List.{range_with_len, slice_split}
+use Rattle.std.specs.List.{slice_split}
 use Rattle.std.proofs.Math.ListN.{get_or-eq_default}
 use Rattle.std.proofs.lemmas.Bool.{cases_Bool, ltb-true, ltb-false, eqb-true, eqb-false, eq-eqb, ne_eqb}
-use Rattle.std.proofs.lemmas.Grind.{common_steps}
 use Rattle.std.proofs.lemmas.List.{append-nil, get_or-replicate, get_or-reverse, length-replicate, length-reverse}
 use Rattle.std.proofs.lemmas.List.FromFn.{length-map-range_with_len, get_or-map-range_with_len, map-range_with_len_more, fill_by_all}
 use Rattle.rules_model.specs.declared.board.Cell.{Cell}
 use Rattle.rules_model.specs.declared.rules.Rules.{Rules}
 use Rattle.variant_fen.specs.declared.fault.FenFault.{FenFault}
 use Rattle.variant_fen.specs.declared.fault.FenFault.TheVariants.{Rank}
-use Rattle.variant_fen.specs.Board.{cells_from, cells_of, is_slash, ranks_of, row_at, row_of, rows_at, rows_of, said_at}
+use Rattle.variant_fen.specs.Board.{cells_from, cells_of, is_slash, row_at, row_of, rows_at, rows_of, said_at}
 use Rattle.variant_fen.specs.Chain.{◌>>=◌}
-use Rattle.variant_fen.specs.Fields.{parts_behind}
 use Rattle.variant_fen.specs.Plain.{IsFreeFrom, IsSameBut}
 use Rattle.variant_fen.proofs.RowLemmas.{get_or-row_at, length-row_at, same-row_at}
 
@@ -55,19 +53,19 @@ said_there rules cells s beside above =
     let rows = rows_at rules cells rules.ranks in
     ⊎_elim
     (λ y. let low : s / 12 < rules.ranks = ltb-true _ _ y in
-        let long : length rows ≡ rules.ranks = length-rows_at rules cells rules.ranks in
-        let row : get_or (reverse rows) (s / 12) [] ≡ row_at cells (s / 12) rules.files =
-            get_or-reverse rows (s / 12) [] (omega arith)
-            ∙ get_or-rows_at rules cells rules.ranks (length rows - 1 - s / 12) (omega arith)
-            ∙ ap (λ rank. row_at cells rank rules.files) (omega arith) in
-        ap (λ squares. get_or squares (s % 12) None) row
-        ∙ ⊎_elim
-        (λ z. get_or-row_at cells (s / 12) rules.files (s % 12) (ltb-true _ _ z) ∙ ap (λ n. get_or cells n None) (omega arith))
-        (λ m. beyond_row cells (s / 12) rules.files (s % 12) (ltb-false _ _ m) ∙ sym (beside s (ltb-false _ _ m)))
-        (cases_Bool (nat_lt (s % 12) rules.files)))
+    let long : length rows ≡ rules.ranks = length-rows_at rules cells rules.ranks in
+    let row : get_or (reverse rows) (s / 12) [] ≡ row_at cells (s / 12) rules.files =
+    get_or-reverse rows (s / 12) [] (omega arith)
+    ∙ get_or-rows_at rules cells rules.ranks (length rows - 1 - s / 12) (omega arith)
+    ∙ ap (λ rank. row_at cells rank rules.files) (omega arith) in
+    ap (λ squares. get_or squares (s % 12) None) row
+    ∙ ⊎_elim
+    (λ z. get_or-row_at cells (s / 12) rules.files (s % 12) (ltb-true _ _ z) ∙ ap (λ n. get_or cells n None) (omega arith))
+    (λ m. beyond_row cells (s / 12) rules.files (s % 12) (ltb-false _ _ m) ∙ sym (beside s (ltb-false _ _ m)))
+    (cases_Bool (nat_lt (s % 12) rules.files)))
     (λ n. let high : rules.ranks ≤ s / 12 = ltb-false _ _ n in
-        ap (λ squares. get_or squares (s % 12) None) (get_or-eq_default (reverse rows) [] {n = s / 12} (omega (arith, length-reverse rows, length-rows_at rules cells rules.ranks)))
-        ∙ sym (above s high))
+    ap (λ squares. get_or squares (s % 12) None) (get_or-eq_default (reverse rows) [] {n = s / 12} (omega (arith, length-reverse rows, length-rows_at rules cells rules.ranks)))
+    ∙ sym (above s high))
     (cases_Bool (nat_lt (s / 12) rules.ranks))
 
 -- the cells that the rows of a board say are its cells
@@ -95,11 +93,11 @@ one_row rules cells new n rank (Err fault) is below few same = refl
 one_row rules cells new n rank (Ok rows) is below few same =
     let there : row_at new rank rules.files ≡ row_at new (rules.ranks - 1 - n) rules.files = ap (λ r. row_at new r rules.files) is in
     let others : rows_at rules cells n ≡ rows_at rules new n =
-        rows_at-same rules cells new n (λ k lower. same-row_at cells new (rules.ranks - 1 - k) rules.files (λ f short. sym (same (12 * (rules.ranks - 1 - k) + f) (omega arith)))) in
+    rows_at-same rules cells new n (λ k lower. same-row_at cells new (rules.ranks - 1 - k) rules.files (λ f short. sym (same (12 * (rules.ranks - 1 - k) + f) (omega arith)))) in
     ap Ok (ap (λ front. front ++ row_at new rank rules.files ∷ rows) others
-        ∙ ap (λ row. rows_at rules new n ++ row ∷ rows) there
-        ∙ sym (append_assoc (rows_at rules new n) (row_at new (rules.ranks - 1 - n) rules.files ∷ []) rows)
-        ∙ ap (λ front. front ++ rows) (sym (rows_at-more rules new n)))
+    ∙ ap (λ row. rows_at rules new n ++ row ∷ rows) there
+    ∙ sym (append_assoc (rows_at rules new n) (row_at new (rules.ranks - 1 - n) rules.files ∷ []) rows)
+    ∙ ap (λ front. front ++ rows) (sym (rows_at-more rules new n)))
 
 -- one more rank
 pub step_row : (rules : Rules) (cells new : List (Option Cell)) (n rank : ℕ) (text : List ℕ) (parts : List (List ℕ)) → rank ≡ rules.ranks - 1 - n → n < rules.ranks → rules.files ≤ 12 → IsSameBut rank cells new
@@ -145,6 +143,6 @@ pub beside_after : (files rank : ℕ) (old new : List (Option Cell)) → IsSameB
 beside_after files rank old new same beyond beside = λ s from.
     ⊎_elim
     (λ y. let here : s / 12 ≡ rank = eqb-true _ _ y in
-        ap (λ n. get_or new n None) (let at : s ≡ 12 * rank + s % 12 = omega arith in at) ∙ beyond (s % 12) from (omega arith))
+    ap (λ n. get_or new n None) (let at : s ≡ 12 * rank + s % 12 = omega arith in at) ∙ beyond (s % 12) from (omega arith))
     (λ n. same s (eqb-false _ _ n) ∙ beside s from)
     (cases_Bool (s / 12 == rank))

@@ -1,10 +1,9 @@
 -- Reading the text of a sound position gives the position back.
-use Rattle.std.proofs.Common.{◌≡◌, ◌≢◌, ℕ, zero, suc, ◌+◌, ◌-◌, ◌*◌, ◌^◌, ◌<◌, ◌≤◌, max, nat_lt, nat_le, ◌==◌, Bool, true, false, ◌&&◌, List, [], ◌∷◌, ◌++◌, length, get_or, replicate, take, drop, Option, Some, None, Ok, Err, refl, sym, ap, ◌∙◌, arith, ⊎_elim, length-append, subst, lit<, slice_index}
-use Rattle.std.specs.declared.result.Result.{Result}
+use Rattle.std.proofs.Common.{◌≡◌, ◌≢◌, ℕ, zero, suc, ◌<◌, ◌≤◌, max, nat_lt, ◌==◌, Bool, true, false, ◌&&◌, List, [], ◌∷◌, ◌++◌, length, get_or, replicate, take, drop, Some, Ok, refl, sym, ap, ◌∙◌, arith, length-append}
 use Rattle.std.specs.Fmt.{decimal}
 use Rattle.std.specs.Int.{bit_at}
 use Rattle.std.specs.List.{join_with_byte, list_all, position_or_len, slice_split}
-use Rattle.std.proofs.lemmas.Bool.{cases_Bool, le-ltb, ltb-true, ltb-false, eqb-true, eqb-false, ne_eqb}
+use Rattle.std.proofs.lemmas.Bool.{le-ltb, ltb-true, ltb-false, eqb-true, eqb-false}
 use Rattle.std.proofs.lemmas.Fmt.{length-decimal-le}
 use Rattle.std.proofs.lemmas.List.{drop_all, take_all}
 use Rattle.std.proofs.lemmas.Nat.Bits.{bit_at-lt, bit_at-zero, same_from_bits_below}
@@ -18,20 +17,17 @@ use Rattle.rules_model.specs.Built.{is_built}
 use Rattle.rules_model.specs.Castling.{holds_right}
 use Rattle.rules_model.specs.Fit.{IsFit}
 use Rattle.rules_model.specs.Gates.{has_gate}
-use Rattle.rules_model.specs.Hands.{hand_of, holds}
-use Rattle.rules_model.specs.Promised.{HasSizes}
-use Rattle.rules_model.specs.Repeats.{repeat_of}
+use Rattle.rules_model.specs.Hands.{holds}
 use Rattle.rules_model.specs.Sound.{has_its_king, is_sound}
-use Rattle.variant_fen.specs.Board.{cells_of}
 use Rattle.variant_fen.specs.Chain.{or_fault}
 use Rattle.variant_fen.specs.Counts.{side_of}
 use Rattle.variant_fen.specs.declared.fault.FenFault.TheVariants.{Length}
-use Rattle.variant_fen.specs.Fields.{Fields, fields, fields_in, fields_of, first_number, is_blank, is_bracket, no_checks, no_text, plain_fields, pocket_place}
+use Rattle.variant_fen.specs.Fields.{Fields, fields, fields_in, fields_of, is_blank, is_bracket, no_checks, no_text, pocket_place}
 use Rattle.variant_fen.specs.Numbers.{are_digits, is_digit}
 use Rattle.variant_fen.specs.Plain.{bare_fields, plain_position}
 use Rattle.variant_fen.specs.Pocket.{hands_of, no_hands}
 use Rattle.variant_fen.specs.Printing.{board_text, fen_text, side_text}
-use Rattle.variant_fen.specs.Reading.{Fen, IsValue, fen_of, judged, said_by}
+use Rattle.variant_fen.specs.Reading.{Fen, IsValue, judged}
 use Rattle.variant_fen.proofs.BackLaws.{IsPlainBoard, board-bytes, board-short, cells-back, is_board_byte, plain-board}
 use Rattle.variant_fen.proofs.BuiltLaws.{leaves_out}
 use Rattle.variant_fen.proofs.DecimalLaws.{count-back, decimal-writes}
@@ -145,11 +141,22 @@ side-lacks Black = refl
 
 texts-lack : (rules : Rules) (p : Position) → IsFit rules → IsPlainBoard rules p.cells → p.counter ≤ 9999 → p.number ≤ 9999 → Each (Lacks 32) (plain_texts rules p)
 unfolding plain_texts
-texts-lack rules p fit board counter number =
-    (lacks-from is_board_byte 32 (board_text rules p.cells) refl (board-bytes rules p.cells fit board),
-    (side-lacks p.side, (refl, (refl,
-    (lacks-from is_digit 32 (decimal p.counter) refl (decimal-writes p.counter (omega arith)).digits,
-    (lacks-from is_digit 32 (decimal p.number) refl (decimal-writes p.number (omega arith)).digits, tt))))))
+texts-lack rules p fit board counter number = (
+  lacks-from is_board_byte 32 (board_text rules p.cells) refl (board-bytes rules p.cells fit board),
+  (
+    side-lacks p.side,
+    (
+      refl,
+      (
+        refl,
+        (
+          lacks-from is_digit 32 (decimal p.counter) refl (decimal-writes p.counter (omega arith)).digits,
+          (lacks-from is_digit 32 (decimal p.number) refl (decimal-writes p.number (omega arith)).digits, tt),
+        ),
+      ),
+    ),
+  ),
+)
 
 -- the fields of the text
 abbrev said_fields : Rules → Position → Fields
@@ -169,7 +176,14 @@ unfolding are_digits
 no_digits = refl
 
 uncut : (board side counter number : List ℕ) → Lacks 91 board → fields board side no_text no_text no_checks counter number ≡ record {
-  board = board; pocket = []; side = side; rights = no_text; ep = no_text; checks = no_checks; halfmoves = counter; number = number;
+  board = board;
+  pocket = [];
+  side = side;
+  rights = no_text;
+  ep = no_text;
+  checks = no_checks;
+  halfmoves = counter;
+  number = number;
 }
 unfolding pocket_place
 uncut board side counter number lacks =
@@ -189,11 +203,17 @@ text-short rules p built sound fit board =
     let second = length-decimal-le 4 p.number (omega arith) (omega arith) (omega arith) in
     let short = board-short rules p.cells fit board in
     rw (text-plain rules p built sound) (
-    omega (arith, short, first, second, bare-long p.side,
-    length-append (((board_text rules p.cells ++ bare_fields p.side) ++ decimal p.counter) ++ 32 ∷ []) (decimal p.number),
-    length-append ((board_text rules p.cells ++ bare_fields p.side) ++ decimal p.counter) (32 ∷ []),
-    length-append (board_text rules p.cells ++ bare_fields p.side) (decimal p.counter),
-    length-append (board_text rules p.cells) (bare_fields p.side)))
+    omega (
+      arith,
+      short,
+      first,
+      second,
+      bare-long p.side,
+      length-append (((board_text rules p.cells ++ bare_fields p.side) ++ decimal p.counter) ++ 32 ∷ []) (decimal p.number),
+      length-append ((board_text rules p.cells ++ bare_fields p.side) ++ decimal p.counter) (32 ∷ []),
+      length-append (board_text rules p.cells ++ bare_fields p.side) (decimal p.counter),
+      length-append (board_text rules p.cells) (bare_fields p.side),
+    ))
 
 fields_found : (rules : Rules) (text : List ℕ) (parts : List (List ℕ)) (f : Fields) → nat_lt 1024 (length text) ≡ false → slice_split is_blank text ≡ parts → fields_in rules parts ≡ Some f → fields_of rules text ≡ Ok f
 unfolding fields_of
@@ -205,8 +225,8 @@ fields-back rules p fit built sound board =
     let short : nat_lt 1024 (length (fen_text rules p)) ≡ false = le-ltb _ _ (text-short rules p built sound fit board) in
     let lack = texts-lack rules p fit board (sound-counter rules p sound) (sound-number rules p sound).1 in
     let parts : slice_split is_blank (fen_text rules p) ≡ plain_texts rules p =
-        ap (λ texts. slice_split is_blank (join_with_byte 32 texts)) (texts-plain rules p built sound)
-        ∙ split-join 32 (board_text rules p.cells) (side_text p.side ∷ no_text ∷ no_text ∷ decimal p.counter ∷ decimal p.number ∷ []) lack in
+    ap (λ texts. slice_split is_blank (join_with_byte 32 texts)) (texts-plain rules p built sound)
+    ∙ split-join 32 (board_text rules p.cells) (side_text p.side ∷ no_text ∷ no_text ∷ decimal p.counter ∷ decimal p.number ∷ []) lack in
     let six = six_fields rules (board_text rules p.cells) (side_text p.side) (decimal p.counter) (decimal p.number) (leaves_out rules built).no_checks in
     let whole = uncut (board_text rules p.cells) (side_text p.side) (decimal p.counter) (decimal p.number) (lacks-from is_board_byte 91 (board_text rules p.cells) refl (board-bytes rules p.cells fit board)) in
     fields_found rules (fen_text rules p) (plain_texts rules p) (said_fields rules p) short parts (six ∙ ap Some whole)
@@ -229,7 +249,10 @@ gives-back rules p fit built value sound =
     let number = sound-number rules p sound in
     let f = said_fields rules p in
     let begins : BeginsWell rules f p.cells p.side = record {
-      built = built; cells_read = cells-back rules p.cells fit built board; hands_read = hands-back rules; side_read = side-back p.side;
+      built = built;
+      cells_read = cells-back rules p.cells fit built board;
+      hands_read = hands-back rules;
+      side_read = side-back p.side;
     } in
     let goes : GoesOnWell rules f p.cells p.side = record { begins = begins; rights = refl; ep = refl; checks = refl } in
     let same : max p.number 1 ≡ p.number = (let least = number.0 in omega arith) in

@@ -1,6 +1,6 @@
 -- Parts that are joined are cut again.
-use Rattle.std.proofs.Common.{◌≡◌, ◌≢◌, ℕ, zero, suc, ◌+◌, ◌-◌, ◌*◌, ◌<◌, ◌≤◌, ◌==◌, Bool, true, false, ◌&&◌, ◌||◌, not, List, [], ◌∷◌, ◌++◌, length, get_or, map, refl, sym, ap, ◌∙◌, arith, ⊎_elim, length-append}
-use Rattle.std.specs.List.{All, join_with_byte, list_all, position_or_len, prefix_len, range_with_len, slice_split}
+use Rattle.std.proofs.Common.{◌≡◌, ℕ, zero, suc, ◌+◌, ◌*◌, ◌<◌, ◌≤◌, ◌==◌, Bool, true, false, ◌&&◌, not, List, [], ◌∷◌, length, get_or, map, refl, ap, ◌∙◌, arith, ⊎_elim, length-append}
+use Rattle.std.specs.List.{All, join_with_byte, list_all, position_or_len, range_with_len, slice_split}
 use Rattle.std.proofs.lemmas.Bool.{cases_Bool, eq-eqb, eqb-true}
 use Rattle.std.proofs.lemmas.List.Folds.{list_all-append, list_all_at}
 use Rattle.std.proofs.lemmas.List.Splits.{slice_split_at, slice_split_none}

@@ -1,14 +1,10 @@
 -- Fields under rules without hands, rights, pawns and counted checks.
-use Rattle.std.proofs.Common.{◌≡◌, ℕ, ◌+◌, ◌-◌, ◌*◌, ◌<◌, ◌≤◌, nat_lt, nat_le, ◌==◌, Bool, true, false, ◌&&◌, ◌||◌, not, cond, if◌then◌else◌, List, [], ◌∷◌, ◌++◌, length, get_or, take, replicate, sum, Option, Some, None, Ok, Err, refl, sym, ap, ◌∙◌, arith, ⊎_elim, length-append}
-use Rattle.std.specs.declared.result.Result.{Result}
-use Rattle.std.specs.List.{list_all}
-use Rattle.std.proofs.lemmas.Bool.{cases_Bool, le-ltb, ltb-true, ltb-false, eq-eqb}
-use Rattle.std.proofs.lemmas.Grind.{common_steps}
+use Rattle.std.proofs.Common.{◌≡◌, ℕ, ◌+◌, ◌-◌, ◌≤◌, nat_lt, ◌==◌, Bool, true, false, ◌&&◌, ◌||◌, if◌then◌else◌, List, [], ◌∷◌, ◌++◌, length, get_or, take, sum, Option, Some, None, Ok, Err, refl, ap, ◌∙◌, arith, length-append}
+use Rattle.std.proofs.lemmas.Bool.{le-ltb}
 use Rattle.std.proofs.lemmas.List.{get_or-append_right}
 use Rattle.std.proofs.lemmas.List.Sums.{count_by-le-length}
 use Rattle.std.proofs.Math.Seq.{take-append_seam}
 use Rattle.rules_model.specs.declared.board.Cell.{Cell}
-use Rattle.rules_model.specs.declared.board.Kind.{Kind}
 use Rattle.rules_model.specs.declared.board.Side.{Side}
 use Rattle.rules_model.specs.declared.board.Side.TheVariants.{White, Black}
 use Rattle.rules_model.specs.declared.board.Square.{Square}
@@ -26,16 +22,15 @@ use Rattle.rules_model.specs.Sides.{other, same_side}
 use Rattle.rules_model.specs.Squares.{cell_at}
 use Rattle.rules_model.specs.Castling.{castling_on}
 use Rattle.rules_model.specs.Sound.{has_hands, has_its_king}
-use Rattle.variant_fen.specs.declared.fault.FenFault.{FenFault}
 use Rattle.variant_fen.specs.declared.fault.FenFault.TheVariants.{EnPassant, Kings, OpponentAttacked, Pocket, Rights}
 use Rattle.variant_fen.specs.Fields.{no_checks, says_none}
-use Rattle.variant_fen.specs.Held.{are_held, gate_stands, Held, held_of, may_hold, nothing_held, right_stands, stands_once}
+use Rattle.variant_fen.specs.Held.{are_held, gate_stands, held_of, may_hold, nothing_held, right_stands}
 use Rattle.variant_fen.specs.Passed.{is_passed, passed_at, passed_of, square_named}
-use Rattle.variant_fen.specs.Pocket.{hands_inside, hands_of, inside_of, is_hand_letter, no_hands}
+use Rattle.variant_fen.specs.Pocket.{hands_inside, inside_of, no_hands}
 use Rattle.variant_fen.specs.Counts.{checks_of}
 use Rattle.variant_fen.specs.Numbers.{are_digits, is_number, number_of, value_behind}
 use Rattle.variant_fen.specs.Reading.{judged}
-use Rattle.variant_fen.proofs.BuiltLaws.{LeavesOut, leaves_out}
+use Rattle.variant_fen.proofs.BuiltLaws.{leaves_out}
 
 pub and-false : (b : Bool) → (b && false) ≡ false
 and-false true = refl

@@ -1,7 +1,7 @@
 -- One rank, square by square.
-use Rattle.std.proofs.Common.{◌≡◌, ◌≢◌, ℕ, suc, ◌+◌, ◌-◌, ◌*◌, ◌/◌, ◌<◌, ◌≤◌, nat_lt, nat_le, ◌==◌, min, Bool, true, false, cond, if◌then◌else◌, List, [], ◌∷◌, ◌++◌, length, get_or, set, replicate, take, drop, Option, Some, None, Ok, Err, refl, sym, ap, ◌∙◌, arith, ⊎_elim, add-one, length-append, append_assoc}
+use Rattle.std.proofs.Common.{◌≡◌, ◌≢◌, ℕ, ◌+◌, ◌-◌, ◌*◌, ◌<◌, ◌≤◌, nat_lt, nat_le, ◌==◌, min, true, false, if◌then◌else◌, List, [], ◌∷◌, ◌++◌, length, get_or, set, replicate, take, drop, Option, Some, None, Ok, Err, refl, sym, ap, ◌∙◌, arith, ⊎_elim, length-append, append_assoc}
 use Rattle.std.specs.declared.result.Result.{Result}
-use Rattle.std.specs.List.{prefix_len, range_with_len}
+use Rattle.std.specs.List.{prefix_len}
 use Rattle.std.proofs.lemmas.Bool.{cases_Bool, ltb-true, ltb-false, eqb-true, eqb-false, eq-eqb, leb-true, leb-false}
 use Rattle.std.proofs.lemmas.Grind.{common_steps}
 use Rattle.std.proofs.lemmas.List.{append-nil, get_or-append_right, get_or_append_left, get_or-set_other, get_or-set_same, get_or-replicate, length-replicate}
@@ -49,13 +49,13 @@ row_at-put : (cells : List (Option Cell)) (rank file : ℕ) (c : Option Cell) �
 row_at-put cells rank file c within =
     is-row_at _ rank (file + 1) _ (omega (arith, length-append (row_at cells rank file) (c ∷ []), length-row_at cells rank file))
     (λ k below. ⊎_elim
-        (λ y. let before : k < file = ltb-true _ _ y in let at : k < length (row_at cells rank file) = omega (arith, length-row_at cells rank file) in
-            get_or_append_left (row_at cells rank file) (c ∷ []) None k at ∙ get_or-row_at cells rank file k before
-            ∙ sym (get_or-set_other cells (12 * rank + file) (12 * rank + k) c None (omega arith)))
-        (λ n. let from : file ≤ k = ltb-false _ _ n in let here : k ≡ file = omega arith in
-            rw here (get_or-append_right (row_at cells rank file) (c ∷ []) file file None (length-row_at cells rank file) (omega arith)
-            ∙ (let none : file - file ≡ 0 = omega arith in rw none (sym (get_or-set_same cells (12 * rank + file) c None within)))))
-        (cases_Bool (nat_lt k file)))
+    (λ y. let before : k < file = ltb-true _ _ y in let at : k < length (row_at cells rank file) = omega (arith, length-row_at cells rank file) in
+    get_or_append_left (row_at cells rank file) (c ∷ []) None k at ∙ get_or-row_at cells rank file k before
+    ∙ sym (get_or-set_other cells (12 * rank + file) (12 * rank + k) c None (omega arith)))
+    (λ n. let from : file ≤ k = ltb-false _ _ n in let here : k ≡ file = omega arith in
+    rw here (get_or-append_right (row_at cells rank file) (c ∷ []) file file None (length-row_at cells rank file) (omega arith)
+    ∙ (let none : file - file ≡ 0 = omega arith in rw none (sym (get_or-set_same cells (12 * rank + file) c None within)))))
+    (cases_Bool (nat_lt k file)))
 
 -- empty squares
 row_at-free : (cells : List (Option Cell)) (rank file n : ℕ) → IsFreeFrom cells rank file → file + n ≤ 12
@@ -63,12 +63,12 @@ row_at-free : (cells : List (Option Cell)) (rank file n : ℕ) → IsFreeFrom ce
 row_at-free cells rank file n free short =
     is-row_at cells rank (file + n) _ (omega (arith, length-append (row_at cells rank file) (replicate n None), length-row_at cells rank file, length-replicate {A = Option Cell} n None))
     (λ k below. ⊎_elim
-        (λ y. let before : k < file = ltb-true _ _ y in let at : k < length (row_at cells rank file) = omega (arith, length-row_at cells rank file) in
-            get_or_append_left (row_at cells rank file) (replicate n None) None k at ∙ get_or-row_at cells rank file k before)
-        (λ m. let from : file ≤ k = ltb-false _ _ m in
-            get_or-append_right (row_at cells rank file) (replicate n None) file k None (length-row_at cells rank file) from
-            ∙ get_or-replicate n (k - file) None None (omega arith) ∙ sym (free k from (omega arith)))
-        (cases_Bool (nat_lt k file)))
+    (λ y. let before : k < file = ltb-true _ _ y in let at : k < length (row_at cells rank file) = omega (arith, length-row_at cells rank file) in
+    get_or_append_left (row_at cells rank file) (replicate n None) None k at ∙ get_or-row_at cells rank file k before)
+    (λ m. let from : file ≤ k = ltb-false _ _ m in
+    get_or-append_right (row_at cells rank file) (replicate n None) file k None (length-row_at cells rank file) from
+    ∙ get_or-replicate n (k - file) None None (omega arith) ∙ sym (free k from (omega arith)))
+    (cases_Bool (nat_lt k file)))
 
 -- ---- what a row says, read up to a file
 
@@ -109,12 +109,12 @@ closed_put : (rules : Rules) (cells : List (Option Cell)) (rank file : ℕ) (c :
 closed_put rules cells rank file c more few low long =
     ⊎_elim
     (λ y. let below : file < rules.files = ltb-true _ _ y in
-        let next : min (file + 1) 65535 ≡ file + 1 = omega arith in
-        rw (y, next) (within rules cells rank file (Some c ∷ more) (omega arith)
-        ∙ ap (sized rules) (sym (append_assoc (row_at cells rank file) (Some c ∷ []) more) ∙ ap (λ squares. squares ++ more) (row_at-put cells rank file (Some c) (omega arith)))
-        ∙ sym (within rules (set cells (12 * rank + file) (Some c)) rank (file + 1) more (omega arith))))
+    let next : min (file + 1) 65535 ≡ file + 1 = omega arith in
+    rw (y, next) (within rules cells rank file (Some c ∷ more) (omega arith)
+    ∙ ap (sized rules) (sym (append_assoc (row_at cells rank file) (Some c ∷ []) more) ∙ ap (λ squares. squares ++ more) (row_at-put cells rank file (Some c) (omega arith)))
+    ∙ sym (within rules (set cells (12 * rank + file) (Some c)) rank (file + 1) more (omega arith))))
     (λ n. let from : rules.files ≤ file = ltb-false _ _ n in
-        rw n (too_far rules cells rank file (Some c ∷ more) (omega arith) ∙ sym (beyond rules cells rank (min (file + 1) 65535) more (omega arith))))
+    rw n (too_far rules cells rank file (Some c ∷ more) (omega arith) ∙ sym (beyond rules cells rank (min (file + 1) 65535) more (omega arith))))
     (cases_Bool (nat_lt file rules.files))
 
 closed_run : (rules : Rules) (cells : List (Option Cell)) (rank file n : ℕ) (more : List (Option Cell)) → rules.files ≤ 12 → IsFreeFrom cells rank file
@@ -122,13 +122,13 @@ closed_run : (rules : Rules) (cells : List (Option Cell)) (rank file n : ℕ) (m
 closed_run rules cells rank file n more few free =
     ⊎_elim
     (λ y. let fits : file + n ≤ rules.files = leb-true _ _ y in
-        let next : min (file + min 10000 n) 65535 ≡ file + n = omega arith in
-        rw next (within rules cells rank file (replicate n None ++ more) (omega arith)
-        ∙ ap (sized rules) (sym (append_assoc (row_at cells rank file) (replicate n None) more) ∙ ap (λ squares. squares ++ more) (row_at-free cells rank file n free (omega arith)))
-        ∙ sym (within rules cells rank (file + n) more fits)))
+    let next : min (file + min 10000 n) 65535 ≡ file + n = omega arith in
+    rw next (within rules cells rank file (replicate n None ++ more) (omega arith)
+    ∙ ap (sized rules) (sym (append_assoc (row_at cells rank file) (replicate n None) more) ∙ ap (λ squares. squares ++ more) (row_at-free cells rank file n free (omega arith)))
+    ∙ sym (within rules cells rank (file + n) more fits)))
     (λ m. let over : rules.files < file + n = leb-false _ _ m in
-        too_far rules cells rank file (replicate n None ++ more) (omega (arith, length-append (replicate {A = Option Cell} n None) more, length-replicate {A = Option Cell} n None))
-        ∙ sym (beyond rules cells rank (min (file + min 10000 n) 65535) more (omega arith)))
+    too_far rules cells rank file (replicate n None ++ more) (omega (arith, length-append (replicate {A = Option Cell} n None) more, length-replicate {A = Option Cell} n None))
+    ∙ sym (beyond rules cells rank (min (file + min 10000 n) 65535) more (omega arith)))
     (cases_Bool (nat_le (file + n) rules.files))
 
 -- a piece is put on its file
@@ -154,13 +154,13 @@ unfolding ended squares_of tokens_of
 ended_all rules cells rank file =
     ⊎_elim
     (λ y. let same : file ≡ rules.files = eqb-true _ _ y in
-        rw (y, same) (within rules cells rank rules.files [] (omega arith) ∙ ap (sized rules) (append-nil (row_at cells rank rules.files))
-        ∙ (let test : (length (row_at cells rank rules.files) == rules.files) ≡ true = eq-eqb _ _ (length-row_at cells rank rules.files) in rw test refl)))
+    rw (y, same) (within rules cells rank rules.files [] (omega arith) ∙ ap (sized rules) (append-nil (row_at cells rank rules.files))
+    ∙ (let test : (length (row_at cells rank rules.files) == rules.files) ≡ true = eq-eqb _ _ (length-row_at cells rank rules.files) in rw test refl)))
     (λ n. rw n (⊎_elim
-        (λ m. within rules cells rank file [] (leb-true _ _ m)
-            ∙ wrong_size rules (row_at cells rank file ++ []) (let differs : file ≢ rules.files = eqb-false _ _ n in omega (arith, length-append (row_at cells rank file) [], length-row_at cells rank file)))
-        (λ m. beyond rules cells rank file [] (leb-false _ _ m))
-        (cases_Bool (nat_le file rules.files))))
+    (λ m. within rules cells rank file [] (leb-true _ _ m)
+    ∙ wrong_size rules (row_at cells rank file ++ []) (let differs : file ≢ rules.files = eqb-false _ _ n in omega (arith, length-append (row_at cells rank file) [], length-row_at cells rank file)))
+    (λ m. beyond rules cells rank file [] (leb-false _ _ m))
+    (cases_Bool (nat_le file rules.files))))
     (cases_Bool (file == rules.files))
 
 -- ---- one step of reading
@@ -228,7 +228,7 @@ pub same_put : (rules : Rules) (first cells : List (Option Cell)) (rank file : �
 same_put rules first cells rank file c few same = λ s differs.
     ⊎_elim
     (λ y. let below : file < rules.files = ltb-true _ _ y in
-        rw y (get_or-set_other cells (12 * rank + file) s (Some c) None (omega arith) ∙ same s differs))
+    rw y (get_or-set_other cells (12 * rank + file) s (Some c) None (omega arith) ∙ same s differs))
     (λ n. rw n (same s differs))
     (cases_Bool (nat_lt file rules.files))
 

@@ -1,19 +1,14 @@
 -- The fields of a text one after another, under rules without hands, rights, pawns and counted checks.
-use Rattle.std.proofs.Common.{◌≡◌, ℕ, max, true, false, List, [], ◌∷◌, Option, None, Ok, Err, refl}
-use Rattle.std.specs.declared.result.Result.{Result}
+use Rattle.std.proofs.Common.{◌≡◌, ℕ, max, true, false, List, Option, Ok, Err, refl}
 use Rattle.rules_model.specs.declared.board.Cell.{Cell}
-use Rattle.rules_model.specs.declared.board.Position.{Position}
 use Rattle.rules_model.specs.declared.board.Side.{Side}
 use Rattle.rules_model.specs.declared.rules.Rules.{Rules}
 use Rattle.rules_model.specs.Built.{is_built}
 use Rattle.variant_fen.specs.declared.fault.FenFault.{FenFault}
 use Rattle.variant_fen.specs.declared.fault.FenFault.TheVariants.{EnPassant, Rights}
 use Rattle.variant_fen.specs.Board.{cells_of}
-use Rattle.variant_fen.specs.Chain.{◌>>=◌}
-use Rattle.variant_fen.specs.Counts.{checks_of, count_of, side_of}
+use Rattle.variant_fen.specs.Counts.{count_of, side_of}
 use Rattle.variant_fen.specs.Fields.{Fields, fields_of, no_checks, says_none}
-use Rattle.variant_fen.specs.Held.{held_of}
-use Rattle.variant_fen.specs.Passed.{passed_of}
 use Rattle.variant_fen.specs.Plain.{plain_position}
 use Rattle.variant_fen.specs.Pocket.{hands_of, no_hands}
 use Rattle.variant_fen.specs.Reading.{fen_of, judged, said_by}

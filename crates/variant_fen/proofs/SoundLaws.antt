@@ -1,11 +1,9 @@
 -- What is read is sound.
-use Rattle.std.proofs.Common.{◌≡◌, ℕ, zero, suc, ◌+◌, ◌-◌, ◌*◌, ◌/◌, ◌%◌, ◌^◌, ◌<◌, ◌≤◌, max, nat_lt, nat_le, ◌==◌, Bool, true, false, ◌&&◌, ◌||◌, not, cond, List, [], ◌∷◌, ◌++◌, length, get_or, map, replicate, reverse, Option, Some, None, Ok, Err, refl, sym, ap, ◌∙◌, arith, ⊎_elim, subst}
+use Rattle.std.proofs.Common.{◌≡◌, ℕ, zero, suc, ◌+◌, ◌-◌, ◌/◌, ◌%◌, ◌<◌, ◌≤◌, max, nat_lt, nat_le, ◌==◌, Bool, true, false, ◌&&◌, ◌||◌, List, [], ◌∷◌, ◌++◌, length, get_or, replicate, reverse, Option, Some, None, Ok, Err, refl, sym, ap, ◌∙◌, arith, ⊎_elim, subst}
 use Rattle.std.specs.declared.result.Result.{Result}
-use Rattle.std.specs.List.{list_all, range_with_len, slice_split, slice_get}
-use Rattle.std.specs.Option.{is_some, is_none}
+use Rattle.std.specs.List.{list_all, slice_split}
 use Rattle.std.proofs.Math.ListN.{get_or-eq_default}
 use Rattle.std.proofs.lemmas.Bool.{cases_Bool, le-leb, leb-true, le-ltb, ltb-true, ltb-false, eqb-true}
-use Rattle.std.proofs.lemmas.Grind.{common_steps}
 use Rattle.std.proofs.lemmas.List.{get_or-reverse, length-reverse}
 use Rattle.std.proofs.lemmas.List.Folds.{list_all-append, list_all_at}
 use Rattle.std.proofs.lemmas.Nat.Bits.{bit_at-zero}
@@ -26,18 +24,17 @@ use Rattle.rules_model.specs.Kinds.{has_kind}
 use Rattle.rules_model.specs.Repeats.{repeat_of}
 use Rattle.rules_model.specs.Sides.{other}
 use Rattle.rules_model.specs.Sound.{has_its_king, is_origin, is_sound, is_sound_cell, is_sound_repeat, is_sound_side, on_board, sound_at, sound_gate, sound_in_hand, sound_right}
-use Rattle.rules_model.specs.Squares.{cell_at, flat}
+use Rattle.rules_model.specs.Squares.{cell_at}
 use Rattle.variant_fen.specs.declared.fault.FenFault.{FenFault}
-use Rattle.variant_fen.specs.Board.{cells_from, cells_of, is_slash, marked_cell, one_square, pawn_cell, plain_cell, promoted_cell, ranks_of, row_of, rows_of, run_squares, said_at, sized, squares_of, token_squares}
+use Rattle.variant_fen.specs.Board.{cells_from, cells_of, is_slash, marked_cell, one_square, pawn_cell, plain_cell, promoted_cell, ranks_of, row_of, rows_of, run_squares, said_at, sized, squares_of}
 use Rattle.variant_fen.specs.Chain.{◌>>=◌}
 use Rattle.variant_fen.specs.Counts.{count_of, up_to_most}
 use Rattle.variant_fen.specs.Numbers.{begins_with_zero, number_of, value_of}
-use Rattle.variant_fen.specs.Plain.{plain_position}
 use Rattle.variant_fen.specs.Pocket.{no_hands}
 use Rattle.variant_fen.specs.Reading.{judged}
 use Rattle.variant_fen.specs.Tokens.{Token, run, piece, tilde, stray, is_letter, letter_kind, letter_side, tokens_of}
 use Rattle.variant_fen.proofs.BuiltLaws.{built-plain}
-use Rattle.variant_fen.proofs.TokenLemmas.{HasLetters, IsPlain, kind_below, squares_of-cons, tokens_have}
+use Rattle.variant_fen.proofs.TokenLemmas.{HasLetters, IsPlain, kind_below, tokens_have}
 
 -- ---- tests
 
@@ -188,18 +185,18 @@ sound_said : (rules : Rules) (rows : List (List (Option Cell))) (s : ℕ) → Ar
 sound_said rules rows s are count =
     ⊎_elim
     (λ y. let low : s / 12 < rules.ranks = ltb-true _ _ y in
-        let row = row_there rules rows (length rows - 1 - s / 12) are (omega arith) in
-        let there : get_or (reverse rows) (s / 12) [] ≡ get_or rows (length rows - 1 - s / 12) [] = get_or-reverse rows (s / 12) [] (omega arith) in
-        subst (λ squares. is_sound_cell rules s (get_or squares (s % 12) None) ≡ true) (sym there)
-        (⊎_elim
-            (λ z. let short : s % 12 < rules.files = ltb-true _ _ z in
-                good_there rules s (get_or (get_or rows (length rows - 1 - s / 12) []) (s % 12) None) (both _ _ z y) (good_at rules _ (s % 12) row.good (omega (arith, row.long))))
-            (λ m. let wide : rules.files ≤ s % 12 = ltb-false _ _ m in
-                subst (λ o. is_sound_cell rules s o ≡ true) (sym (get_or-eq_default (get_or rows (length rows - 1 - s / 12) []) None {n = s % 12} (omega (arith, row.long)))) refl)
-            (cases_Bool (nat_lt (s % 12) rules.files))))
+    let row = row_there rules rows (length rows - 1 - s / 12) are (omega arith) in
+    let there : get_or (reverse rows) (s / 12) [] ≡ get_or rows (length rows - 1 - s / 12) [] = get_or-reverse rows (s / 12) [] (omega arith) in
+    subst (λ squares. is_sound_cell rules s (get_or squares (s % 12) None) ≡ true) (sym there)
+    (⊎_elim
+    (λ z. let short : s % 12 < rules.files = ltb-true _ _ z in
+    good_there rules s (get_or (get_or rows (length rows - 1 - s / 12) []) (s % 12) None) (both _ _ z y) (good_at rules _ (s % 12) row.good (omega (arith, row.long))))
+    (λ m. let wide : rules.files ≤ s % 12 = ltb-false _ _ m in
+    subst (λ o. is_sound_cell rules s o ≡ true) (sym (get_or-eq_default (get_or rows (length rows - 1 - s / 12) []) None {n = s % 12} (omega (arith, row.long)))) refl)
+    (cases_Bool (nat_lt (s % 12) rules.files))))
     (λ n. let high : rules.ranks ≤ s / 12 = ltb-false _ _ n in
-        let none : get_or (reverse rows) (s / 12) [] ≡ [] = get_or-eq_default (reverse rows) [] {n = s / 12} (omega (arith, length-reverse rows)) in
-        subst (λ squares. is_sound_cell rules s (get_or squares (s % 12) None) ≡ true) (sym none) refl)
+    let none : get_or (reverse rows) (s / 12) [] ≡ [] = get_or-eq_default (reverse rows) [] {n = s / 12} (omega (arith, length-reverse rows)) in
+    subst (λ squares. is_sound_cell rules s (get_or squares (s % 12) None) ≡ true) (sym none) refl)
     (cases_Bool (nat_lt (s / 12) rules.ranks))
 
 ranks_ok : (rules : Rules) (ranks : List (List ℕ)) (rows : List (List (Option Cell))) → ranks_of rules ranks ≡ Ok rows → (rows_of rules ranks ≡ Ok rows) × (length ranks ≡ rules.ranks)
@@ -219,9 +216,9 @@ sound_cells rules plain board cells h =
     let e : cells_from said.0 ≡ cells = cc (said.2) in
     subst (λ xs. all_below (sound_at rules xs) 120 ≡ true) e
     (all_below-intro (sound_at rules (cells_from said.0)) 120 (λ s below.
-        subst (λ o. is_sound_cell rules s o ≡ true)
-        (sym (cell_at-get_or (cells_from said.0) s ∙ get_or-map-range_with_len (said_at said.0) 0 120 s s None below (omega arith)))
-        (sound_said rules said.0 s all.0 (all.1 ∙ rows.1))))
+    subst (λ o. is_sound_cell rules s o ≡ true)
+    (sym (cell_at-get_or (cells_from said.0) s ∙ get_or-map-range_with_len (said_at said.0) 0 120 s s None below (omega arith)))
+    (sound_said rules said.0 s all.0 (all.1 ∙ rows.1))))
 
 -- ---- the position
 

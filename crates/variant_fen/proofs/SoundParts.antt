@@ -1,31 +1,26 @@
 -- What soundness says of a position's parts.
-use Rattle.std.proofs.Common.{◌≡◌, ℕ, zero, suc, ◌+◌, ◌-◌, ◌*◌, ◌/◌, ◌%◌, ◌^◌, ◌<◌, ◌≤◌, nat_lt, nat_le, ◌==◌, Bool, true, false, ◌&&◌, ◌||◌, not, List, [], ◌∷◌, ◌++◌, length, get_or, slice_index, replicate, Option, Some, None, refl, sym, ap, ◌∙◌, arith, subst}
-use Rattle.std.specs.List.{list_all}
-use Rattle.std.proofs.lemmas.Bool.{le-leb, leb-true, ltb-true, eqb-true}
-use Rattle.foundation.specs.Count.{all_below}
+use Rattle.std.proofs.Common.{◌≡◌, ℕ, ◌+◌, ◌<◌, ◌≤◌, ◌==◌, Bool, true, false, ◌||◌, not, slice_index, Option, Some, None, refl}
+use Rattle.std.proofs.lemmas.Bool.{leb-true, eqb-true}
 use Rattle.foundation.proofs.CountLemmas.{all_below-each}
-use Rattle.rules_model.specs.declared.board.Cell.{Cell}
-use Rattle.rules_model.specs.declared.board.Kind.{Kind}
 use Rattle.rules_model.specs.declared.board.Position.{Position}
-use Rattle.rules_model.specs.declared.board.Repeat.{Repeat}
 use Rattle.rules_model.specs.declared.board.Side.{Side}
 use Rattle.rules_model.specs.declared.board.Side.TheVariants.{White, Black}
 use Rattle.rules_model.specs.declared.board.Square.{Square}
 use Rattle.rules_model.specs.declared.board.Wing.{Wing}
 use Rattle.rules_model.specs.declared.board.Wing.TheVariants.{Kingside, Queenside}
 use Rattle.rules_model.specs.declared.rules.Rules.{Rules}
-use Rattle.rules_model.specs.Attacks.{ahead, king_attacked, pawn_at, pawn_could_take}
+use Rattle.rules_model.specs.Attacks.{ahead, king_attacked, pawn_at}
 use Rattle.rules_model.specs.Built.{is_built}
-use Rattle.rules_model.specs.Castling.{castling_on, holds_right}
+use Rattle.rules_model.specs.Castling.{holds_right}
 use Rattle.rules_model.specs.Ends.{pieces_of}
 use Rattle.rules_model.specs.Gates.{has_gate}
 use Rattle.rules_model.specs.Hands.{holds}
 use Rattle.rules_model.specs.Kinds.{board_of}
 use Rattle.rules_model.specs.Repeats.{repeat_of}
 use Rattle.rules_model.specs.Sides.{other, side_index}
-use Rattle.rules_model.specs.Sound.{has_hands, has_its_king, is_sound, is_sound_ep, is_sound_repeat, is_sound_side, sound_at, sound_gate, sound_in_hand, sound_right}
-use Rattle.variant_fen.proofs.BuiltLaws.{LeavesOut, leaves_out, left, not_true, right}
-use Rattle.variant_fen.proofs.ReadLemmas.{and-false, no_pawn_at}
+use Rattle.rules_model.specs.Sound.{has_its_king, is_sound, is_sound_ep, is_sound_repeat, is_sound_side, sound_at, sound_gate, sound_in_hand, sound_right}
+use Rattle.variant_fen.proofs.BuiltLaws.{leaves_out, left, not_true, right}
+use Rattle.variant_fen.proofs.ReadLemmas.{no_pawn_at}
 
 whole : (rules : Rules) (p : Position) → is_sound rules p ≡ true → is_sound_repeat rules (repeat_of p) ≡ true
 unfolding is_sound

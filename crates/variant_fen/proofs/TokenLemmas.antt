@@ -1,17 +1,15 @@
 -- Tokens of a rank under rules that promote no piece.
-use Rattle.std.proofs.Common.{◌≡◌, ℕ, suc, ◌+◌, ◌-◌, ◌*◌, ◌<◌, ◌≤◌, nat_lt, nat_le, ◌==◌, Bool, true, false, ◌&&◌, ◌||◌, cond, if◌then◌else◌, List, [], ◌∷◌, ◌++◌, length, take, drop, Option, Some, None, Ok, Err, refl, sym, ap, ◌∙◌, arith, ⊎_elim}
+use Rattle.std.proofs.Common.{◌≡◌, ℕ, suc, ◌+◌, ◌<◌, ◌==◌, true, false, List, [], ◌∷◌, ◌++◌, take, drop, Option, Some, None, Ok, Err, refl, sym, ap, ◌∙◌, arith, ⊎_elim}
 use Rattle.std.specs.declared.result.Result.{Result}
 use Rattle.std.specs.List.{prefix_len}
 use Rattle.std.proofs.lemmas.Bool.{cases_Bool}
 use Rattle.std.proofs.lemmas.Grind.{common_steps}
 use Rattle.rules_model.specs.declared.board.Cell.{Cell}
-use Rattle.rules_model.specs.declared.board.Kind.{Kind}
-use Rattle.rules_model.specs.declared.board.Side.{Side}
 use Rattle.rules_model.specs.declared.rules.Rules.{Rules}
 use Rattle.rules_model.specs.Kinds.{promoted_of}
 use Rattle.variant_fen.specs.declared.fault.FenFault.{FenFault}
 use Rattle.variant_fen.specs.declared.fault.FenFault.TheVariants.{Letter}
-use Rattle.variant_fen.specs.Board.{marked_cell, one_square, promoted_cell, run_squares, squares_of, token_squares}
+use Rattle.variant_fen.specs.Board.{one_square, promoted_cell, run_squares, squares_of, token_squares}
 use Rattle.variant_fen.specs.Chain.{◌>>=◌}
 use Rattle.variant_fen.specs.Numbers.{is_digit}
 use Rattle.variant_fen.specs.Plain.{letter_cell}
@@ -63,9 +61,9 @@ byte_no_run b tokens n =
     rw n (⊎_elim
     (λ y. rw y (letter_no_run b tokens))
     (λ m. rw m (⊎_elim
-        (λ y. rw y (plus_no_run tokens))
-        (λ o. rw o (⊎_elim (λ y. rw y tt) (λ p. rw p tt) (cases_Bool (b == 126))))
-        (cases_Bool (b == 43))))
+    (λ y. rw y (plus_no_run tokens))
+    (λ o. rw o (⊎_elim (λ y. rw y tt) (λ p. rw p tt) (cases_Bool (b == 126))))
+    (cases_Bool (b == 43))))
     (cases_Bool (is_letter b)))
 
 one_more : (text : List ℕ) → 1 + prefix_len is_digit text ≡ suc (prefix_len is_digit text)
@@ -152,12 +150,12 @@ byte_has b tokens h =
     ⊎_elim
     (λ y. rw y (digit_has b tokens h))
     (λ n. rw n (⊎_elim
-        (λ y. rw y (letter_has b tokens y h))
-        (λ m. rw m (⊎_elim
-            (λ y. rw y (plus_has tokens h))
-            (λ o. rw o (⊎_elim (λ y. rw y (tilde_has tokens h)) (λ p. rw p (stray_has tokens h)) (cases_Bool (b == 126))))
-            (cases_Bool (b == 43))))
-        (cases_Bool (is_letter b))))
+    (λ y. rw y (letter_has b tokens y h))
+    (λ m. rw m (⊎_elim
+    (λ y. rw y (plus_has tokens h))
+    (λ o. rw o (⊎_elim (λ y. rw y (tilde_has tokens h)) (λ p. rw p (stray_has tokens h)) (cases_Bool (b == 126))))
+    (cases_Bool (b == 43))))
+    (cases_Bool (is_letter b))))
     (cases_Bool (is_digit b))
 
 pub tokens_have : (text : List ℕ) → HasLetters (tokens_of text)

@@ -15,8 +15,11 @@ const MOST_BYTES: usize = 1024;
 
 /// The texts of what may be left out.
 const NO_RIGHTS: &[u8] = b"-";
+
 const NO_SQUARE: &[u8] = b"-";
+
 const NO_HALFMOVES: &[u8] = b"0";
+
 const FIRST_NUMBER: &[u8] = b"1";
 
 /// What a text says in each field, in a variant that counts no checks.
@@ -86,9 +89,7 @@ fn cut_fields(text: &[u8]) -> Option<FieldTexts<'_>>
     if left_out || behind.is_some() {
         return None;
     }
-    Some(field_texts(
-        placement, side, third, fourth, halfmoves, number,
-    ))
+    Some(field_texts(placement, side, third, fourth, halfmoves, number))
 }
 
 /// Cuts a text of at most 1,024 bytes into its fields, in a variant that counts no checks.

@@ -17,10 +17,13 @@ mod fields;
 pub mod laws;
 mod number;
 mod read;
+#[cfg(test)]
+mod tests;
 mod write;
 
 pub use fault::FenFault;
 use fields::read_fields;
+pub use move_text::{MoveText, write_move};
 use read::read_position;
 pub use rules_model::{Memory, Position, Rules, Text};
 use std::alloc::Global;

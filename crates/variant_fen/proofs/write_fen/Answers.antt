@@ -1,4 +1,4 @@
-use Rattle.std.proofs.Common.{◌≡◌, ◌++◌, sym, ap, ◌∙◌}
+use Rattle.std.proofs.Common.{◌++◌, sym, ap, ◌∙◌}
 use Rattle.variant_fen.proofs.PrintLaws.{text-plain}
 use Rattle.variant_fen.proofs.WriteLemmas.{put_behind}
 use Rattle.variant_fen.proofs.write_fen.Goals as goal

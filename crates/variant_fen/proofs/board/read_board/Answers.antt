@@ -1,10 +1,10 @@
-use Rattle.std.proofs.Common.{◌≡◌, ◌≢◌, ℕ, ◌<◌, ◌≤◌, ◌+◌, ◌-◌, ◌*◌, ◌/◌, ◌∷◌, [], List, length, Option, None, Some, Ok, Err, refl, sym, ap, ◌∙◌, arith}
+use Rattle.std.proofs.Common.{◌≡◌, ℕ, ◌<◌, ◌+◌, ◌-◌, ◌∷◌, [], List, length, Option, None, sym, ap, ◌∙◌, arith}
 use Rattle.std.specs.List.{slice_split}
 use Rattle.std.specs.Option.{option_copied}
 use Rattle.std.proofs.lemmas.List.{length-replicate}
 use Rattle.std.proofs.lemmas.Result.{err_from_is_err_and}
 use Rattle.rules_model.specs.declared.board.Cell.{Cell}
-use Rattle.variant_fen.specs.Board.{is_slash, row_of, row_at, rows_of}
+use Rattle.variant_fen.specs.Board.{is_slash, rows_of}
 use Rattle.variant_fen.specs.Fields.{parts_behind}
 use Rattle.variant_fen.proofs.BoardLemmas.{behind_rows, behind_none, step_row, step_row_fault, all_rows, rank_fault, row_fault, empty_anywhere, beside_after}
 use Rattle.variant_fen.proofs.board.read_board.Goals as goal

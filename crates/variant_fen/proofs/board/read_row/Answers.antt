@@ -1,13 +1,10 @@
-use Rattle.std.proofs.Common.{◌≡◌, ◌≢◌, ◌<◌, ◌≤◌, ◌+◌, ◌*◌, ◌/◌, ◌==◌, true, false, length, min, None, Some, Ok, Err, ℕ, List, [], ◌∷◌, refl, sym, ap, ◌∙◌, arith, take, get_or}
+use Rattle.std.proofs.Common.{◌≡◌, ◌==◌, true, false, None, Some, [], ◌∷◌, refl, sym, ap, ◌∙◌, arith, take}
 use Rattle.std.proofs.lemmas.Bool.{eq-eqb, ne_eqb}
 use Rattle.std.specs.List.{prefix_len}
-use Rattle.std.proofs.lemmas.Grind.{common_steps}
-use Rattle.variant_fen.specs.Board.{squares_of}
 use Rattle.variant_fen.specs.Numbers.{is_digit, begins_with_zero}
-use Rattle.variant_fen.specs.Plain.{letter_cell, IsFreeFrom, IsSameBut}
-use Rattle.variant_fen.specs.Tokens.{tokens_of}
-use Rattle.variant_fen.proofs.BuiltLaws.{built-plain, built-files}
-use Rattle.variant_fen.proofs.RowLemmas.{ended, ended_none, step_run, step_zero, step_put, step_bad, step_end, free_after, same_after, no_bytes}
+use Rattle.variant_fen.specs.Plain.{letter_cell}
+use Rattle.variant_fen.proofs.BuiltLaws.{built-plain}
+use Rattle.variant_fen.proofs.RowLemmas.{ended_none, step_run, step_zero, step_put, step_bad, step_end, free_after, same_after, no_bytes}
 use Rattle.variant_fen.proofs.board.read_row.Goals as goal
 
 pub loop-first-init : goal.loop-first-init

@@ -7,8 +7,8 @@ use Rattle.variant_fen.proofs.fields.cut_fields.Goals.{then-left_out-2-via-then-
 pub returns-then-left_out-2 : goal.returns-then-left_out-2
 returns-then-left_out-2 c =
     elim c.then-left_out-2.branch [
-      then-left_out-2-via-then-left_out-2 w ↦ grind (arith, seven_behind)
-    | then-left_out-2-via-else-left_out-2+then-is_some w ↦
-      let more : is_some c.cut_at-6.result.1 ≡ true = sym w.is_some.ensures ∙ w.if-is_some.true in
-      grind (arith, seven_behind c.cut_at.result.0.now c.cut_at-2.result.0.now c.cut_at-3.result.0.now c.cut_at-4.result.0.now c.cut_at-5.result.0.now c.cut_at-6.result.0.now c.cut_at-6.result.1 more)
+      | then-left_out-2-via-then-left_out-2 w ↦ grind (arith, seven_behind)
+      | then-left_out-2-via-else-left_out-2+then-is_some w ↦
+          let more : is_some c.cut_at-6.result.1 ≡ true = sym w.is_some.ensures ∙ w.if-is_some.true in
+          grind (arith, seven_behind c.cut_at.result.0.now c.cut_at-2.result.0.now c.cut_at-3.result.0.now c.cut_at-4.result.0.now c.cut_at-5.result.0.now c.cut_at-6.result.0.now c.cut_at-6.result.1 more)
     ]
