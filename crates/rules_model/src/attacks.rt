@@ -38,8 +38,9 @@ pub fn ahead(board: Board, side: Side, from: Square, k: u8) -> Option<u8>
     pawn_step(board, side, 0, from, k)
 }
 
+/// Whether `to` is a square diagonally one step forward of `from`, as the side sees it.
 #[tactic(auto, unfolding(crate::specs::Attacks::is_diagonal))]
-fn is_diagonal(board: Board, side: Side, from: Square, to: Square) -> bool
+pub fn is_diagonal(board: Board, side: Side, from: Square, to: Square) -> bool
     requires { IsOnBoard board }
     ensures { result ≡ Attacks.is_diagonal board side from to.0 }
 {
@@ -132,7 +133,8 @@ pub(crate) fn is_own_king(rules: &Rules, side: Side, cell: Option<Cell>) -> bool
     }
 }
 
-pub(crate) fn is_own_pawn(rules: &Rules, side: Side, cell: Option<Cell>) -> bool
+/// Whether a pawn of the side stands there.
+pub fn is_own_pawn(rules: &Rules, side: Side, cell: Option<Cell>) -> bool
     ensures { result ≡ Attacks.is_own_pawn rules.now side cell }
 {
     match cell {

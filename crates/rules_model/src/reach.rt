@@ -156,7 +156,8 @@ fn gets_over(cells: &[Option<Cell>; 120], way: Way, ray: &Ray, between: u8, foun
     }
 }
 
-pub(crate) fn is_target(at: Option<u8>, to: Square) -> bool
+/// Whether the number, if there is one, is that of the square.
+pub fn is_target(at: Option<u8>, to: Square) -> bool
     ensures { result ≡ is_at to.0 at }
 {
     match at {
