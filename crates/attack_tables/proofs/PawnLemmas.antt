@@ -1,12 +1,10 @@
 -- The pawn's two diagonals as leaps.
-use Rattle.std.proofs.Common.{◌≡◌, ℕ, Bool, true, false, ◌&&◌, ◌||◌, Option, List, [], ◌∷◌, ℤ, pos, negsuc, refl}
+use Rattle.std.proofs.Common.{◌≡◌, ℕ, Bool, true, false, ◌&&◌, ◌||◌, Option, List, ℤ, pos, negsuc, refl}
 use Rattle.foundation.specs.Count.{any_below}
 use Rattle.rules_model.specs.declared.board.Board.{Board}
 use Rattle.rules_model.specs.declared.board.Cell.{Cell}
 use Rattle.rules_model.specs.declared.board.Side.{Side}
 use Rattle.rules_model.specs.declared.board.Square.{Square}
-use Rattle.rules_model.specs.declared.rules.Term.{Term}
-use Rattle.rules_model.specs.declared.rules.Way.TheVariants.{Leap}
 use Rattle.rules_model.specs.Attacks.{pawn_ray, is_diagonal}
 use Rattle.rules_model.specs.Reach.{reaches, reaches_over, passes, is_at}
 use Rattle.rules_model.specs.Squares.{step_to}
