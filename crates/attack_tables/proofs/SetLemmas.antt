@@ -1,6 +1,6 @@
 -- Laws of sets of squares that grow.
-use Rattle.std.proofs.Common.{◌≡◌, ◌≢◌, ℕ, ◌+◌, ◌<◌, nat_lt, Bool, true, false, ◌&&◌, ◌||◌, ◌==◌, Option, Some, None, List, length, take, get_or, refl, ap, sym, ◌∙◌, arith}
-use Rattle.std.proofs.lemmas.Bool.{lt-ltb}
+use Rattle.std.proofs.Common.{◌≡◌, ◌≢◌, ℕ, zero, suc, ◌+◌, ◌-◌, ◌<◌, ◌≤◌, nat_lt, Bool, true, false, ◌&&◌, ◌||◌, ◌==◌, Option, Some, None, List, length, take, get_or, refl, ap, sym, ◌∙◌, subst, arith, add-zero}
+use Rattle.std.proofs.lemmas.Bool.{lt-ltb, ne_eqb}
 use Rattle.std.proofs.lemmas.Bool.Decides.{Decides-eqb}
 use Rattle.std.proofs.lemmas.List.Folds.{list_any_more}
 use Rattle.foundation.specs.Count.{any_below}
@@ -12,9 +12,10 @@ use Rattle.rules_model.specs.declared.board.Square.{Square}
 use Rattle.rules_model.specs.declared.reach.Ray.{Ray}
 use Rattle.rules_model.specs.declared.rules.Term.{Term}
 use Rattle.rules_model.specs.declared.rules.Way.{Way}
-use Rattle.rules_model.specs.Reach.{is_at, passes, reaches, reaches_over}
-use Rattle.rules_model.specs.Squares.{step_to}
-use Rattle.rules_model.proofs.ReachLemmas.{reaches_over-is}
+use Rattle.rules_model.specs.declared.rules.Way.TheVariants.{Leap, Lame, Slide, Hop, Grass}
+use Rattle.rules_model.specs.Reach.{blockers, is_at, passes, reaches, reaches_over, weight, weight_of}
+use Rattle.rules_model.specs.Squares.{cell_at, step_to}
+use Rattle.rules_model.proofs.ReachLemmas.{blockers-more, reaches_over-is}
 use Rattle.attack_tables.specs.declared.mode.Mode.{Mode}
 use Rattle.attack_tables.specs.Reached.{serves, reaches_by, reaches_any, has_square, IsSetBelow, AddsBelow}
 
@@ -88,6 +89,53 @@ module _ (cells : List (Option Cell)) (way : Way) (ray : Ray) (set : ℕ) where
   walk-not k reached w over s =
       let here : reaches_over cells way ray s k ≡ false = reaches_over-is cells way ray s k ∙ ap (λ b. is_at s (step_to ray (k + 1)) && b) over ∙ and_false (is_at s (step_to ray (k + 1))) in
       w s ∙ ap (λ b. has_square set s || (nat_lt s 120 && b)) (sym (or_false (any_below (reaches_over cells way ray s) k)) ∙ ap (λ b. any_below (reaches_over cells way ray s) k || b) (sym here) ∙ sym (any_below-more (reaches_over cells way ray s) k))
+
+-- ---- behind two blockers
+
+cell_weight : (c : Option Cell) → weight_of c ≤ 1
+cell_weight None = omega arith
+cell_weight (Some c) = omega arith
+
+weight_most : (cells : List (Option Cell)) (at : Option ℕ) → weight cells at ≤ 1
+weight_most cells None = omega arith
+weight_most cells (Some s) = cell_weight (cell_at cells s)
+
+at_start : (j : ℕ) → 2 ≤ j → (j == 0) ≡ false
+at_start j l = ne_eqb j 0 (λ e. omega (arith, e))
+
+module _ (cells : List (Option Cell)) (ray : Ray) where
+  blockers_most : (k : ℕ) → blockers cells ray k ≤ k
+  unfolding blockers
+  blockers_most zero = omega arith
+  blockers_most (suc k) = omega (arith, blockers_most k, weight_most cells (step_to ray (suc k)))
+
+  stays_blocked : (k n : ℕ) → 2 ≤ blockers cells ray k → 2 ≤ blockers cells ray (k + n)
+  stays_blocked k zero l = rw add-zero l
+  stays_blocked k (suc n) l =
+      let h = stays_blocked k n l in
+      let e : k + suc n ≡ k + n + 1 = omega arith in
+      rw (e, blockers-more cells ray (k + n)) (omega (arith, h))
+
+  -- no way gets over two pieces
+  stopped : (way : Way) (j : ℕ) → 2 ≤ blockers cells ray j → passes cells way ray j ≡ false
+  unfolding passes
+  stopped Leap j l = at_start j (omega (arith, l, blockers_most j))
+  stopped Lame j l = rw (at_start j (omega (arith, l, blockers_most j)))
+  stopped Slide j l = ne_eqb _ _ (λ e. omega (arith, e, l))
+  stopped Hop j l = ne_eqb _ _ (λ e. omega (arith, e, l))
+  stopped Grass j l = rw (ne_eqb (blockers cells ray j) 1 (λ e. omega (arith, e, l)))
+
+  stop : (way : Way) (set k n reached : ℕ) → 2 ≤ blockers cells ray k → Walked cells way ray set k reached → Walked cells way ray set (k + n) reached
+  stop way set k zero reached l w = rw add-zero w
+  stop way set k (suc n) reached l w =
+      let before = stop way set k n reached l w in
+      let e : k + suc n ≡ (k + n) + 1 = omega arith in
+      rw e (walk-not cells way ray set (k + n) reached before (stopped way (k + n) (stays_blocked k n l)))
+
+  pub walk-stop : (way : Way) (set k limit reached : ℕ) → k ≤ limit → 2 ≤ blockers cells ray k → Walked cells way ray set k reached → Walked cells way ray set limit reached
+  walk-stop way set k limit reached l b w =
+      let e : k + (limit - k) ≡ limit = omega (arith, l) in
+      subst (λ n. Walked cells way ray set n reached) e (stop way set k (limit - k) reached b w)
 
 -- ---- over the terms
 

@@ -40,6 +40,10 @@ fn with_reached(
     let mut reached = set;
     let mut found: u8 = 0;
     for between in 0..term.limit {
+        // no way gets over two pieces
+        if found > 1 {
+            return reached;
+        }
         let next = step(&ray, between + 1);
         if gets_over(cells, term.way, &ray, between, found) {
             reached = with_next(reached, next);
