@@ -1,1 +1,2 @@
 pub mod PawnLemmas
+pub mod SetLemmas

@@ -1,5 +1,5 @@
 -- The squares that a piece reaches in a position, as a set.
-use Rattle.std.specs.Prelude.{◌≡◌, ℕ, Bool, false, nat_lt, ◌&&◌, ◌==◌, if◌then◌else◌, Option, Some, None, List, [], ◌∷◌, ℤ, pos, negsuc, true}
+use Rattle.std.specs.Prelude.{◌≡◌, ℕ, Bool, false, nat_lt, ◌&&◌, ◌||◌, ◌==◌, if◌then◌else◌, Option, Some, None, List, [], ◌∷◌, ℤ, pos, negsuc, true}
 use Rattle.std.specs.Int.{bit_at}
 use Rattle.std.specs.List.{list_any}
 use Rattle.rules_model.specs.declared.board.Board.{Board}
@@ -63,3 +63,7 @@ has_square set s = bit_at set s == 1
 -- the bits of the set are the numbers below n that pass the test: no more and no fewer
 abbrev pub IsSetBelow : ℕ → (ℕ → Bool) → ℕ → Type 0
 IsSetBelow n test set = (s : ℕ) → has_square set s ≡ (nat_lt s n && test s)
+
+-- the bits of the new set are those of the old one and the numbers below n that pass the test
+abbrev pub AddsBelow : ℕ → (ℕ → Bool) → ℕ → ℕ → Type 0
+AddsBelow n test old new = (s : ℕ) → has_square new s ≡ (has_square old s || (nat_lt s n && test s))

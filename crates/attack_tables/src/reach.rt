@@ -1,10 +1,11 @@
 //! The squares that a piece reaches, by walking its terms.
 ghost use Rattle.std.specs.Prelude.{◌≡◌, ◌<◌};
-ghost use Rattle.rules_model.specs.Reach.{IsOnBoard};
+ghost use Rattle.rules_model.specs.Reach.{IsOnBoard, reaches};
 ghost use Rattle.attack_tables.specs.Reached as Reached;
 
 use crate::mode::Mode;
-use crate::squares::with;
+use crate::squares::with_next;
+use rules_model::reach::{gets_over, step, term_ray, weight_at};
 use rules_model::{Board, Cell, Side, Square, Term, Way, reaches_plain};
 
 /// Whether a piece of the side on `from` reaches the square by one of the terms that is of the mode.
@@ -23,6 +24,35 @@ pub(crate) fn reaches_any(
     terms.iter().any(|t| mode.is_of(t) && reaches_plain(board, cells, side, t, from, to))
 }
 
+/// The set with the squares that a piece of the side on `from` reaches by the term.
+fn with_reached(
+    board: Board,
+    cells: &[Option<Cell>; 120],
+    side: Side,
+    term: &Term,
+    from: Square,
+    set: u128,
+) -> u128
+    requires { IsOnBoard board }
+    ensures { Reached.AddsBelow 120 (reaches board cells.now side term.now from) set result }
+{
+    let ray = term_ray(board, side, term, from);
+    let mut reached = set;
+    let mut found: u8 = 0;
+    for between in 0..term.limit {
+        // no way gets over two pieces
+        if found > 1 {
+            return reached;
+        }
+        let next = step(&ray, between + 1);
+        if gets_over(cells, term.way, &ray, between, found) {
+            reached = with_next(reached, next);
+        }
+        found += weight_at(cells, next);
+    }
+    reached
+}
+
 /// The squares that a piece of the side on `from` reaches by terms of the mode.
 pub(crate) fn squares_by_terms(
     board: Board,
@@ -36,9 +66,9 @@ pub(crate) fn squares_by_terms(
     ensures { Reached.IsSetBelow 120 (Reached.reaches_any board cells.now side from mode terms.now) result }
 {
     let mut reached: u128 = 0;
-    for to in 0..120 {
-        if reaches_any(board, cells, side, terms, from, mode, Square(to)) {
-            reached = with(reached, to);
+    for term in terms {
+        if mode.is_of(term) {
+            reached = with_reached(board, cells, side, term, from, reached);
         }
     }
     reached

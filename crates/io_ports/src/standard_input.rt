@@ -14,6 +14,9 @@ use std::marker::Model;
 /// The most bytes of a piece whose line is not too long: a line with CR and LF.
 const LONGEST: usize = MAX_LINE + 2;
 
+/// The most bytes of a piece that is taken.
+const MOST: usize = 1 << 30;
+
 /// The front of a piece, as the list of its bytes. It has room for the longest from the start, and never grows.
 #[derive(Drop)]
 struct Front {
@@ -58,7 +61,8 @@ impl Front {
 }
 
 /// A source over standard input, or over another reader, which it reads byte by byte. It waits for each line, also where it
-/// is polled, and tells nothing of the bytes that are left. A line that a failure interrupts is taken up again.
+/// is polled, and tells nothing of the bytes that are left. A line that a failure interrupts is taken up again. A line of
+/// more than 2^30 bytes is a fault.
 #[derive(Drop)]
 pub struct StandardInput<R: BufRead> {
     reader: R,
@@ -112,6 +116,17 @@ fn read_piece<R: BufRead>(reader: &mut R, front: &mut Front) -> io::Result<Piece
     Ok(Piece::Long)
 }
 
+// Reads over the rest of a piece that is too long.
+fn skip_piece<R: BufRead>(reader: &mut R) -> io::Result<()> {
+    for _ in LONGEST..MOST {
+        match next_byte(reader)? {
+            None | Some(b'\n') => return Ok(()),
+            Some(_) => {}
+        }
+    }
+    Err(io::Error::from(ErrorKind::InvalidData))
+}
+
 impl<R: BufRead> StandardInput<R> {
     /// A source over this reader.
     pub fn new(alloc: Global, reader: R) -> Result<StandardInput<R>, Memory>
@@ -148,7 +163,7 @@ impl<R: BufRead> StandardInput<R> {
                 }
             }
         }
-        self.reader.skip_until(b'\n')?;
+        skip_piece(&mut self.reader)?;
         self.is_long = false;
         Ok(Got::TooLong)
     }

@@ -25,7 +25,8 @@ pub(crate) fn turn(side: Side, d: i8) -> i32
     }
 }
 
-fn term_ray(board: Board, side: Side, term: &Term, from: Square) -> Ray
+/// The multiples of the term's step from the square, as the side sees them.
+pub fn term_ray(board: Board, side: Side, term: &Term, from: Square) -> Ray
     ensures is { result ≡ ray_of board side term.now from }
     ensures short_dx { IsShort result.dx }
     ensures short_dy { IsShort result.dy }
@@ -51,8 +52,9 @@ fn moved(at: u8, d: i32, k: u8, n: u8) -> Option<u8>
     }
 }
 
+/// The square `k` steps along the ray, where it is on the board.
 #[tactic(auto, unfolding(crate::specs::Squares::step_to))]
-pub(crate) fn step(ray: &Ray, k: u8) -> Option<u8>
+pub fn step(ray: &Ray, k: u8) -> Option<u8>
     requires board { IsOnBoard ray.now.board }
     requires short_dx { IsShort ray.now.dx }
     requires short_dy { IsShort ray.now.dy }
@@ -64,7 +66,8 @@ pub(crate) fn step(ray: &Ray, k: u8) -> Option<u8>
     Some(12 * rank + file)
 }
 
-fn weight_at(cells: &[Option<Cell>; 120], at: Option<u8>) -> u8
+/// 1 where a piece stands on the square, and 0 where none does or there is no square.
+pub fn weight_at(cells: &[Option<Cell>; 120], at: Option<u8>) -> u8
     requires { IfSome at (λ s. s < 120) }
     ensures is { result ≡ weight cells.now at }
     ensures small { result ≤ 1 }
@@ -140,7 +143,7 @@ fn is_clear(cells: &[Option<Cell>; 120], ray: &Ray) -> bool
 
 /// Whether the way gets over the `between` squares before the target, of which `found` are occupied.
 #[tactic(auto, unfolding(crate::specs::Reach::passes))]
-fn gets_over(cells: &[Option<Cell>; 120], way: Way, ray: &Ray, between: u8, found: u8) -> bool
+pub fn gets_over(cells: &[Option<Cell>; 120], way: Way, ray: &Ray, between: u8, found: u8) -> bool
     requires board { IsOnBoard ray.now.board }
     requires short_dx { IsShort ray.now.dx }
     requires short_dy { IsShort ray.now.dy }

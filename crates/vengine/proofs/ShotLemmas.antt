@@ -208,11 +208,11 @@ shot_without words files failed input input' status text reads shot = says_witho
 pub done_whole : (status : ℕ) → IsDone status → IsCut status → ⊥
 done_whole status done cut =
     elim done [
-      | inl a ↦ elim cut [ | inl b ↦ absurd (omega (arith, a, b)) | inr more ↦ elim more [ | inl b ↦ absurd (omega (arith, a, b)) | inr b ↦ absurd (omega (arith, a, b)) ] ]
+      | inl a ↦ elim cut [ inl b ↦ absurd (omega (arith, a, b)) | inr more ↦ elim more [ inl b ↦ absurd (omega (arith, a, b)) | inr b ↦ absurd (omega (arith, a, b)) ] ]
       | inr other ↦ elim other [
-          | inl a ↦ elim cut [ | inl b ↦ absurd (omega (arith, a, b)) | inr more ↦ elim more [ | inl b ↦ absurd (omega (arith, a, b)) | inr b ↦ absurd (omega (arith, a, b)) ] ]
-          | inr a ↦ elim cut [ | inl b ↦ absurd (omega (arith, a, b)) | inr more ↦ elim more [ | inl b ↦ absurd (omega (arith, a, b)) | inr b ↦ absurd (omega (arith, a, b)) ] ]
-        ]
+        | inl a ↦ elim cut [ inl b ↦ absurd (omega (arith, a, b)) | inr more ↦ elim more [ inl b ↦ absurd (omega (arith, a, b)) | inr b ↦ absurd (omega (arith, a, b)) ] ]
+        | inr a ↦ elim cut [ inl b ↦ absurd (omega (arith, a, b)) | inr more ↦ elim more [ inl b ↦ absurd (omega (arith, a, b)) | inr b ↦ absurd (omega (arith, a, b)) ] ]
+      ]
     ]
 
 pub no_files : Contents

@@ -1,11 +1,13 @@
 use super::*;
-use io_ports::{ListClock, MemFiles, MemSink, MemSource, OpenGate, PollsOwed};
+use io_ports::{ListClock, MAX_LINE, MemFiles, MemSink, MemSource, OpenGate, PollsOwed};
 use std::test::Fail;
 
-/// A run over ports in memory, with a sink that has room for so many bytes.
-fn told<R: AllocGlobal + Threads + Wait + Sync>(
+/// A run over ports in memory: a source that fails at these calls, and a sink that has room for so many bytes.
+fn answered<R: AllocGlobal + Threads + Wait + Sync>(
     rt: &R,
     words: &[&str],
+    input: &[u8],
+    failing: &[u64],
     room: usize,
 ) -> Result<(u8, MemSink), Fail> {
     let alloc = rt.alloc();
@@ -13,7 +15,7 @@ fn told<R: AllocGlobal + Threads + Wait + Sync>(
     for word in words {
         list.push(String::from_str(alloc, *word)?)?;
     }
-    let mut source = MemSource::new(alloc, b"a line\n", PollsOwed::Endless, &[])?;
+    let mut source = MemSource::new(alloc, input, PollsOwed::Endless, failing)?;
     let mut sink = MemSink::new(alloc, room)?;
     let mut files = MemFiles::new(alloc);
     let mut clock = ListClock::new(alloc, &[])?;
@@ -28,6 +30,15 @@ fn told<R: AllocGlobal + Threads + Wait + Sync>(
         &OpenGate,
     );
     Ok((status, sink))
+}
+
+/// A run of words that read no input.
+fn told<R: AllocGlobal + Threads + Wait + Sync>(
+    rt: &R,
+    words: &[&str],
+    room: usize,
+) -> Result<(u8, MemSink), Fail> {
+    answered(rt, words, b"a line\n", &[], room)
 }
 
 #[test]
@@ -132,8 +143,10 @@ fn reach_takes_lists_of_own_and_enemy_squares(rt: HostRuntime) -> Result<(), Fai
 
 #[test]
 fn other_words_are_answered_by_the_usage_line(rt: HostRuntime) -> Result<(), Fail> {
-    let rows: [&[&str]; 9] = [
+    let rows: [&[&str]; 11] = [
         &[],
+        &["moves", "leapers"],
+        &["Moves"],
         &[""],
         &["--"],
         &["reach", "N"],
@@ -166,5 +179,124 @@ fn a_sink_without_room_takes_a_front_part(rt: HostRuntime) -> Result<(), Fail> {
     let (status, sink) = told(&rt, &["reach", "N", "b1"], text.len())?;
     assert_eq!(rt; status, 0);
     assert_eq!(rt; sink.taken(), text);
+    Ok(())
+}
+
+#[test]
+fn moves_lists_the_legal_moves(rt: HostRuntime) -> Result<(), Fail> {
+    let start = "d1c1\nd1c2\nd1d2\nd1e1\nd1e2\nf1c2\nf1e4\nf1g4\ng1e2\ng1f3\ng1h3\nmoves 11\n";
+    let rows = [
+        ("leapers\nstartpos\n", 0, start),
+        ("leapers\nstartpos", 0, start),
+        ("leapers\r\nstartpos\r\n\r\n", 0, start),
+        ("leapers\nstartpos\n \t\n\n", 0, start),
+        (
+            "leapers\n4k3/8/8/8/8/1n6/8/K1N5 w - - 0 1\n",
+            0,
+            "a1a2\na1b1\na1b2\nc1b3\nmoves 4\n",
+        ),
+        ("leapers\nk7/2K5/2N5/8/8/8/8/8 b - - 0 1\n", 0, "moves 0\n"),
+        (
+            "chess\nstartpos\n",
+            3,
+            "error GameFault 2 UnknownVariant chess\n",
+        ),
+        ("chess", 3, "error GameFault 2 UnknownVariant chess\n"),
+        (
+            " leapers\n",
+            3,
+            "error GameFault 2 UnknownVariant  leapers\n",
+        ),
+        ("\n", 3, "error GameFault 2 UnknownVariant \n"),
+        ("leapers", 3, "error GameFault 1 Missing 2\n"),
+        ("", 3, "error GameFault 1 Missing 1\n"),
+        (
+            "leapers\n\nd1c1",
+            3,
+            "error GameFault 4 BadPosition FenFault 1 Length\n",
+        ),
+        (
+            "leapers\n8/8/8/8/8/8/8/q7 w - - 0 1\n",
+            3,
+            "error GameFault 4 BadPosition FenFault 3 Letter\n",
+        ),
+        (
+            "leapers\nstartpos\nd1c1\n",
+            3,
+            "error GameFault 9 NotBuilt 3\n",
+        ),
+        (
+            "leapers\nstartpos\n\n.",
+            3,
+            "error GameFault 9 NotBuilt 4\n",
+        ),
+    ];
+    for (input, status, text) in rows {
+        let (answered, sink) = answered(&rt, &["moves"], input.as_bytes(), &[], 1000)?;
+        assert_eq!(rt; answered, status, "{input}");
+        assert_eq!(rt; sink.taken(), text.as_bytes(), "{input}");
+    }
+    Ok(())
+}
+
+#[test]
+fn a_line_of_a_game_text_is_too_long_before_its_other_faults(rt: HostRuntime) -> Result<(), Fail> {
+    let rows = [
+        ("", MAX_LINE + 1, 3, "error GameFault 8 LineTooLong 1\n"),
+        (
+            "leapers\n",
+            MAX_LINE + 1,
+            3,
+            "error GameFault 8 LineTooLong 2\n",
+        ),
+        (
+            "leapers\n",
+            MAX_LINE,
+            3,
+            "error GameFault 4 BadPosition FenFault 1 Length\n",
+        ),
+        (
+            "leapers\nstartpos\n",
+            MAX_LINE + 1,
+            3,
+            "error GameFault 8 LineTooLong 3\n",
+        ),
+        (
+            "leapers\n4k3/8/8/8/8/1n6/8/K1N5 w - - 0 1\n",
+            MAX_LINE,
+            0,
+            "a1a2\na1b1\na1b2\nc1b3\nmoves 4\n",
+        ),
+    ];
+    for (front, len, status, text) in rows {
+        let mut input = front.as_bytes().to_vec(rt.alloc())?;
+        for _ in 0..len {
+            input.push(b' ')?;
+        }
+        input.extend_from_slice(b"\n\n")?;
+        let (answered, sink) = answered(&rt, &["moves"], input.as_slice(), &[], 1000)?;
+        assert_eq!(rt; answered, status, "{text}");
+        assert_eq!(rt; sink.taken(), text.as_bytes(), "{text}");
+    }
+    Ok(())
+}
+
+#[test]
+fn moves_fails_with_its_ports(rt: HostRuntime) -> Result<(), Fail> {
+    let input = b"leapers\n4k3/8/8/8/8/1n6/8/K1N5 w - - 0 1\n\n".as_slice();
+    let text = b"a1a2\na1b1\na1b2\nc1b3\nmoves 4\n".as_slice();
+    for call in 0..4 {
+        let (status, sink) = answered(&rt, &["moves"], input, &[call], 1000)?;
+        assert_eq!(rt; status, 4);
+        assert_eq!(rt; sink.taken(), b"".as_slice());
+    }
+    let (status, sink) = answered(&rt, &["moves"], input, &[4], text.len())?;
+    assert_eq!(rt; status, 0);
+    assert_eq!(rt; sink.taken(), text);
+    for room in 0..text.len() {
+        let (status, sink) = answered(&rt, &["moves"], input, &[], room)?;
+        assert_eq!(rt; status, 5);
+        assert_eq!(rt; sink.taken(), &text[..room]);
+    }
     Ok(())
 }
