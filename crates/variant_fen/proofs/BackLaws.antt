@@ -26,21 +26,14 @@ use Rattle.variant_fen.specs.Plain.{letter_cell}
 use Rattle.variant_fen.specs.Printing.{board_text, cell_text, kind_letter, row_text, run_text}
 use Rattle.variant_fen.specs.Tokens.{is_letter, is_lower, is_upper, tokens_of}
 use Rattle.variant_fen.proofs.BoardLemmas.{cells_from-rows_at, length-rows_at, IsFreeAbove, IsFreeBeside}
-use Rattle.variant_fen.proofs.BuiltLaws.{built-plain, built-promoted, leaves_out, left, right}
+use Rattle.variant_fen.proofs.BuiltLaws.{built-plain, built-promoted, leaves_out}
 use Rattle.variant_fen.proofs.DecimalLaws.{decimal-writes, not-zero}
 use Rattle.variant_fen.proofs.JoinLaws.{Each, Lacks, each-range, join-all, join-short, lacks-from, split-join}
 use Rattle.variant_fen.proofs.RowLemmas.{length-row_at}
 use Rattle.variant_fen.proofs.SoundLaws.{cell_at-get_or}
 use Rattle.variant_fen.proofs.SoundParts.{sound-cells}
-use Rattle.variant_fen.proofs.ReadLemmas.{and-false}
 use Rattle.variant_fen.proofs.TokenLemmas.{IsPlain, byte_then, joined, run_then}
-
-or-true : (b : Bool) → (b || true) ≡ true
-or-true true = refl
-or-true false = refl
-
-both : (a b : Bool) → a ≡ true → b ≡ true → (a && b) ≡ true
-both a b h k = rw (h, k) refl
+use Rattle.variant_fen.proofs.TestLaws.{both, left, right, and-false, or-true}
 
 -- ---- pieces
 

@@ -1,5 +1,5 @@
 -- What the rules that the program plays so far leave out.
-use Rattle.std.proofs.Common.{◌≡◌, ℕ, ◌<◌, Bool, true, false, ◌&&◌, not, Option, Some, None, refl}
+use Rattle.std.proofs.Common.{◌≡◌, ℕ, ◌<◌, true, false, Option, Some, None, refl}
 use Rattle.std.specs.Option.{is_none}
 use Rattle.std.proofs.lemmas.Bool.{eqb-true}
 use Rattle.foundation.specs.Count.{all_below}
@@ -11,14 +11,7 @@ use Rattle.rules_model.specs.Castling.{castling_on}
 use Rattle.rules_model.specs.Kinds.{kind_rule, promoted_of, rule_promoted}
 use Rattle.rules_model.specs.Sound.{has_hands}
 use Rattle.variant_fen.proofs.TokenLemmas.{IsPlain}
-
-pub left : (a b : Bool) → (a && b) ≡ true → a ≡ true
-left true b h = refl
-left false b h = h
-
-pub right : (a b : Bool) → (a && b) ≡ true → b ≡ true
-right true b h = h
-right false b h = cc
+use Rattle.variant_fen.proofs.TestLaws.{left, right, not_true}
 
 none_is : {A : Type 0} (o : Option A) → is_none o ≡ true → o ≡ None
 none_is None h = refl
@@ -48,10 +41,6 @@ pub record LeavesOut (rules : Rules) : Type 0 where
   pub no_taking_in : rules.to_hand ≡ false
   pub no_gating : rules.gating ≡ false
   pub no_checks : rules.check_counting ≡ false
-
-pub not_true : (b : Bool) → not b ≡ true → b ≡ false
-not_true true h = cc
-not_true false h = refl
 
 of_plain : (rules : Rules) → is_plain rules ≡ true → LeavesOut rules
 unfolding is_plain

@@ -1,15 +1,12 @@
 -- A cut takes off the first part.
-use Rattle.std.proofs.Common.{◌≡◌, ℕ, ◌+◌, ◌-◌, ◌≤◌, Bool, true, false, not, List, [], ◌∷◌, Option, None, Some, length, refl, sym, ap, ◌∙◌, arith, nat_lt, ◌==◌, ⊎_elim, length-drop, take, drop}
+use Rattle.std.proofs.Common.{◌≡◌, ℕ, ◌+◌, ◌-◌, ◌≤◌, Bool, false, not, List, [], ◌∷◌, Option, None, Some, length, sym, ap, ◌∙◌, arith, nat_lt, ◌==◌, ⊎_elim, length-drop, take, drop}
 use Rattle.std.specs.List.{All, slice_split, position_or_len, position}
 use Rattle.std.proofs.lemmas.List.Splits.{slice_split_first, slice_split_none}
 use Rattle.std.proofs.lemmas.List.{take_all}
 use Rattle.std.proofs.lemmas.List.Sums.{prefix_len_passes}
 use Rattle.std.proofs.lemmas.Bool.{cases_Bool, ltb-true, ltb-false}
 use Rattle.variant_fen.specs.Fields.{parts_behind}
-
-not_true : (b : Bool) → not b ≡ true → b ≡ false
-not_true true h = sym h
-not_true false h = refl
+use Rattle.variant_fen.proofs.TestLaws.{not_true}
 
 none_at : (p : ℕ → Bool) (text : List ℕ) → length text ≤ position_or_len p text → All (λ b. p b ≡ false) text
 none_at p text h = λ k d below.

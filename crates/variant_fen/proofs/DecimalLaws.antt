@@ -1,5 +1,5 @@
 -- Numbers that are printed are read back.
-use Rattle.std.proofs.Common.{◌≡◌, ℕ, zero, suc, ◌+◌, ◌/◌, ◌%◌, ◌^◌, ◌<◌, ◌≤◌, nat_lt, nat_le, ◌==◌, Bool, true, false, ◌&&◌, ◌||◌, not, List, [], ◌∷◌, ◌++◌, length, get_or, Some, Ok, refl, ◌∙◌, arith, length-append}
+use Rattle.std.proofs.Common.{◌≡◌, ℕ, zero, suc, ◌+◌, ◌/◌, ◌%◌, ◌^◌, ◌<◌, ◌≤◌, nat_lt, nat_le, ◌==◌, true, false, ◌||◌, not, List, [], ◌∷◌, ◌++◌, length, get_or, Some, Ok, refl, ◌∙◌, arith, length-append}
 use Rattle.std.specs.Fmt.{decimal}
 use Rattle.std.specs.List.{list_all}
 use Rattle.std.proofs.lemmas.Bool.{le-leb, lt-ltb, ne_eqb}
@@ -8,13 +8,7 @@ use Rattle.std.proofs.lemmas.List.Folds.{list_all-append}
 use Rattle.variant_fen.specs.Counts.{count_of}
 use Rattle.variant_fen.specs.Numbers.{are_digits, begins_with_zero, is_digit, is_number, number_of, value_behind, value_of}
 use Rattle.variant_fen.proofs.NumberLemmas.{value_behind-append}
-
-both : (a b : Bool) → a ≡ true → b ≡ true → (a && b) ≡ true
-both a b h k = rw (h, k) refl
-
-or-true : (b : Bool) → (b || true) ≡ true
-or-true true = refl
-or-true false = refl
+use Rattle.variant_fen.proofs.TestLaws.{both, or-true}
 
 -- digits, at least one, that write the number
 pub record Writes (n : ℕ) (ds : List ℕ) : Type 0 where

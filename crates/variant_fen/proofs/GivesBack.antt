@@ -36,9 +36,7 @@ use Rattle.variant_fen.proofs.PrintLaws.{plain_texts, text-plain, texts-plain}
 use Rattle.variant_fen.proofs.ReadLemmas.{judged_ok}
 use Rattle.variant_fen.proofs.SaidLaws.{BeginsWell, GoesOnWell, fen_fields, said_all}
 use Rattle.variant_fen.proofs.SoundParts.{no-checks, no-ep, no-gate, no-hand, no-right, sound-counter, sound-king, sound-number, sound-safe}
-
-both : (a b : Bool) → a ≡ true → b ≡ true → (a && b) ≡ true
-both a b h k = rw (h, k) refl
+use Rattle.variant_fen.proofs.TestLaws.{both, left, right}
 
 bare-long : (side : Side) → length (bare_fields side) ≡ 7
 bare-long White = refl
@@ -63,14 +61,6 @@ zeros (suc n) (x ∷ xs) h z =
 
 no_bits : (g : ℕ) → g < 65536 → ((f : ℕ) → f < 16 → bit_at g f ≡ 0) → g ≡ 0
 no_bits g small none = same_from_bits_below 16 g 0 (omega arith) (omega arith) (λ f below. none f below ∙ sym (bit_at-zero f))
-
-left : (a b : Bool) → (a && b) ≡ true → a ≡ true
-left true b h = refl
-left false b h = h
-
-right : (a b : Bool) → (a && b) ≡ true → b ≡ true
-right true b h = h
-right false b h = cc
 
 no_bit : (g f : ℕ) → (bit_at g f == 1) ≡ false → bit_at g f ≡ 0
 no_bit g f h = let differs : bit_at g f ≢ 1 = eqb-false _ _ h in omega (arith, bit_at-lt g f)

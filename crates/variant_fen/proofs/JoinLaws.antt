@@ -1,20 +1,10 @@
 -- Parts that are joined are cut again.
-use Rattle.std.proofs.Common.{◌≡◌, ℕ, zero, suc, ◌+◌, ◌*◌, ◌<◌, ◌≤◌, ◌==◌, Bool, true, false, ◌&&◌, not, List, [], ◌∷◌, length, get_or, map, refl, ap, ◌∙◌, arith, ⊎_elim, length-append}
+use Rattle.std.proofs.Common.{◌≡◌, ℕ, zero, suc, ◌+◌, ◌*◌, ◌<◌, ◌≤◌, ◌==◌, Bool, true, false, not, List, [], ◌∷◌, length, get_or, map, refl, ap, ◌∙◌, arith, ⊎_elim, length-append}
 use Rattle.std.specs.List.{All, join_with_byte, list_all, position_or_len, range_with_len, slice_split}
 use Rattle.std.proofs.lemmas.Bool.{cases_Bool, eq-eqb, eqb-true}
 use Rattle.std.proofs.lemmas.List.Folds.{list_all-append, list_all_at}
 use Rattle.std.proofs.lemmas.List.Splits.{slice_split_at, slice_split_none}
-
-both : (a b : Bool) → a ≡ true → b ≡ true → (a && b) ≡ true
-both a b h k = rw (h, k) refl
-
-left : (a b : Bool) → (a && b) ≡ true → a ≡ true
-left true b h = refl
-left false b h = h
-
-right : (a b : Bool) → (a && b) ≡ true → b ≡ true
-right true b h = h
-right false b h = cc
+use Rattle.variant_fen.proofs.TestLaws.{both, left, right, not_true}
 
 -- the text has no such byte
 abbrev pub Lacks : ℕ → List ℕ → Type 0
@@ -44,10 +34,6 @@ differs q byte b not_q is_q =
 pub lacks-from : (q : ℕ → Bool) (byte : ℕ) (text : List ℕ) → q byte ≡ false → list_all q text ≡ true → Lacks byte text
 lacks-from q byte [] not_q all = refl
 lacks-from q byte (b ∷ bs) not_q all = both _ _ (differs q byte b not_q (left _ _ all)) (lacks-from q byte bs not_q (right _ _ all))
-
-not_true : (b : Bool) → not b ≡ true → b ≡ false
-not_true true h = cc
-not_true false h = refl
 
 none_there : (byte : ℕ) (text : List ℕ) → Lacks byte text → All (λ b. (b == byte) ≡ false) text
 none_there byte text lacks = λ k d below.

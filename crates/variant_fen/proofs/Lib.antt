@@ -1,3 +1,4 @@
+pub mod TestLaws
 pub mod CutLemmas
 pub mod NumberLemmas
 pub mod FieldLemmas

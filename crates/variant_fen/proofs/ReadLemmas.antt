@@ -31,10 +31,7 @@ use Rattle.variant_fen.specs.Counts.{checks_of}
 use Rattle.variant_fen.specs.Numbers.{are_digits, is_number, number_of, value_behind}
 use Rattle.variant_fen.specs.Reading.{judged}
 use Rattle.variant_fen.proofs.BuiltLaws.{leaves_out}
-
-pub and-false : (b : Bool) → (b && false) ≡ false
-and-false true = refl
-and-false false = refl
+use Rattle.variant_fen.proofs.TestLaws.{and-false}
 
 -- ---- the pocket
 

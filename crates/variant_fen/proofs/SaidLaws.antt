@@ -52,6 +52,15 @@ pub record GoesOnWell (rules : Rules) (f : Fields) (cells : List (Option Cell)) 
   pub ep : says_none f.ep ≡ true
   pub checks : f.checks ≡ no_checks
 
+pub goes_on_well : (rules : Rules) (f : Fields) (cells : List (Option Cell)) (side : Side) → is_built rules ≡ true → cells_of rules f.board ≡ Ok cells → hands_of rules f.pocket ≡ Ok no_hands → side_of f.side ≡ Ok side
+    → says_none f.rights ≡ true → says_none f.ep ≡ true → f.checks ≡ no_checks → GoesOnWell rules f cells side
+goes_on_well rules f cells side built a b c d e g = record {
+  begins = record { built = built; cells_read = a; hands_read = b; side_read = c };
+  rights = d;
+  ep = e;
+  checks = g;
+}
+
 pub said_counter : (rules : Rules) (f : Fields) (cells : List (Option Cell)) (side : Side) (e : FenFault) → GoesOnWell rules f cells side → count_of f.halfmoves ≡ Err e → said_by rules f ≡ Err e
 unfolding said_by
 said_counter rules f cells side e well k =

@@ -1,5 +1,5 @@
 -- What is read is sound.
-use Rattle.std.proofs.Common.{◌≡◌, ℕ, zero, suc, ◌+◌, ◌-◌, ◌/◌, ◌%◌, ◌<◌, ◌≤◌, max, nat_lt, nat_le, ◌==◌, Bool, true, false, ◌&&◌, ◌||◌, List, [], ◌∷◌, ◌++◌, length, get_or, replicate, reverse, Option, Some, None, Ok, Err, refl, sym, ap, ◌∙◌, arith, ⊎_elim, subst}
+use Rattle.std.proofs.Common.{◌≡◌, ℕ, zero, suc, ◌+◌, ◌-◌, ◌/◌, ◌%◌, ◌<◌, ◌≤◌, max, nat_lt, nat_le, ◌==◌, Bool, true, false, ◌&&◌, List, [], ◌∷◌, ◌++◌, length, get_or, replicate, reverse, Option, Some, None, Ok, Err, refl, sym, ap, ◌∙◌, arith, ⊎_elim, subst}
 use Rattle.std.specs.declared.result.Result.{Result}
 use Rattle.std.specs.List.{list_all, slice_split}
 use Rattle.std.proofs.Math.ListN.{get_or-eq_default}
@@ -35,28 +35,14 @@ use Rattle.variant_fen.specs.Reading.{judged}
 use Rattle.variant_fen.specs.Tokens.{Token, run, piece, tilde, stray, is_letter, letter_kind, letter_side, tokens_of}
 use Rattle.variant_fen.proofs.BuiltLaws.{built-plain}
 use Rattle.variant_fen.proofs.TokenLemmas.{HasLetters, IsPlain, kind_below, tokens_have}
+use Rattle.variant_fen.proofs.TestLaws.{both, left, right, or-true}
 
 -- ---- tests
-
-both : (a b : Bool) → a ≡ true → b ≡ true → (a && b) ≡ true
-both a b h k = rw (h, k) refl
 
 pub all_below-intro : (f : ℕ → Bool) (n : ℕ) → ((k : ℕ) → k < n → f k ≡ true) → all_below f n ≡ true
 unfolding all_below
 all_below-intro f zero h = refl
 all_below-intro f (suc n) h = both _ _ (all_below-intro f n (λ k below. h k (omega arith))) (h n (omega arith))
-
-left : (a b : Bool) → (a && b) ≡ true → a ≡ true
-left true b h = refl
-left false b h = h
-
-right : (a b : Bool) → (a && b) ≡ true → b ≡ true
-right true b h = h
-right false b h = cc
-
-or-true : (b : Bool) → (b || true) ≡ true
-or-true true = refl
-or-true false = refl
 
 then_ok : {A B : Type 0} (r : Result A FenFault) (f : A → Result B FenFault) (y : B) → (r >>= f) ≡ Ok y → (x : A) × (r ≡ Ok x) × (f x ≡ Ok y)
 then_ok (Ok x) f y h = (x, refl, h)

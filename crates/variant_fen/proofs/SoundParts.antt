@@ -19,8 +19,9 @@ use Rattle.rules_model.specs.Kinds.{board_of}
 use Rattle.rules_model.specs.Repeats.{repeat_of}
 use Rattle.rules_model.specs.Sides.{other, side_index}
 use Rattle.rules_model.specs.Sound.{has_its_king, is_sound, is_sound_ep, is_sound_repeat, is_sound_side, sound_at, sound_gate, sound_in_hand, sound_right}
-use Rattle.variant_fen.proofs.BuiltLaws.{leaves_out, left, not_true, right}
+use Rattle.variant_fen.proofs.BuiltLaws.{leaves_out}
 use Rattle.variant_fen.proofs.ReadLemmas.{no_pawn_at}
+use Rattle.variant_fen.proofs.TestLaws.{left, right, not_true}
 
 whole : (rules : Rules) (p : Position) → is_sound rules p ≡ true → is_sound_repeat rules (repeat_of p) ≡ true
 unfolding is_sound

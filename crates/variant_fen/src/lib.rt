@@ -17,6 +17,7 @@ mod fields;
 pub mod laws;
 mod number;
 mod read;
+mod sizes;
 #[cfg(test)]
 mod tests;
 mod write;
@@ -26,6 +27,7 @@ use fields::read_fields;
 pub use move_text::{MoveText, write_move};
 use read::read_position;
 pub use rules_model::{Memory, Position, Rules, Text};
+use sizes::are_values;
 use std::alloc::Global;
 use write::{bare_fields, push_board, push_number};
 
@@ -50,6 +52,7 @@ pub fn read_fen(rules: &Rules, text: &[u8]) -> Result<Position, FenFault>
 }
 
 /// Writes the one FEN of a sound position, for rules that the program plays so far: no piece is in hand, and no right is held.
+/// Reading the text gives the position back.
 ///
 /// `Memory` is the answer where there was none for the text.
 pub fn write_fen(alloc: Global, rules: &Rules, p: &Position) -> Result<Text, Memory>
@@ -57,7 +60,9 @@ pub fn write_fen(alloc: Global, rules: &Rules, p: &Position) -> Result<Text, Mem
     requires built { is_built rules.now ≡ true }
     requires sound { is_sound rules.now p.now ≡ true }
     ensures text { IfOk result (λ text. text ≡ fen_text rules.now p.now) }
+    ensures back { IfOk result (λ text. Fen rules.now text p.now) }
 {
+    are_values(rules, p);
     let mut text = Vec::new(alloc);
     push_board(rules, &mut text, &p.cells)?;
     text.extend_from_slice(bare_fields(p.side))?;

@@ -2,7 +2,7 @@ use Rattle.std.proofs.Common.{ap, sym, refl}
 use Rattle.rules_model.specs.declared.board.Position.{Position}
 use Rattle.std.proofs.lemmas.Result.{err_from_is_err_and}
 use Rattle.variant_fen.specs.FieldView.{fields_view}
-use Rattle.variant_fen.proofs.SaidLaws.{BeginsWell, GoesOnWell, said_cells, said_counter, said_hands, said_number, said_side}
+use Rattle.variant_fen.proofs.SaidLaws.{goes_on_well, said_cells, said_counter, said_hands, said_number, said_side}
 use Rattle.variant_fen.proofs.SoundLaws.{IsBare, read_sound}
 use Rattle.variant_fen.proofs.read.read_position.Goals as goal
 
@@ -24,35 +24,13 @@ returns-in_err-p-clause-is c =
 pub returns-in_err-p-2-clause-is : goal.returns-in_err-p-2-clause-is
 returns-in_err-p-2-clause-is c =
     let p = err_from_is_err_and c.from_residual-in_err-p-2.result c.from_residual-in_err-p-2.ensures.1 in
-    let begins : BeginsWell c.args.rules.now (fields_view c.args.texts) c.read_board.new.cells c.in_ok-p.field-0 = record {
-      built = c.requires.built;
-      cells_read = c.in_ok-read_board.ensures;
-      hands_read = c.in_ok-read_pocket.ensures;
-      side_read = sym c.in_ok-p.ensures;
-    } in
-    let goes : GoesOnWell c.args.rules.now (fields_view c.args.texts) c.read_board.new.cells c.in_ok-p.field-0 = record {
-      begins = begins;
-      rights = c.in_ok-read_none.ensures.none;
-      ep = c.in_ok-read_none-2.ensures.none;
-      checks = refl;
-    } in
+    let goes = goes_on_well c.args.rules.now (fields_view c.args.texts) c.read_board.new.cells c.in_ok-p.field-0 c.requires.built c.in_ok-read_board.ensures c.in_ok-read_pocket.ensures (sym c.in_ok-p.ensures) c.in_ok-read_none.ensures.none c.in_ok-read_none-2.ensures.none refl in
     rw (p.1, p.2) (sym (said_counter c.args.rules.now (fields_view c.args.texts) _ _ _ goes (sym c.in_err-p-2.ensures)))
 
 pub returns-in_err-read_count-clause-is : goal.returns-in_err-read_count-clause-is
 returns-in_err-read_count-clause-is c =
     let p = err_from_is_err_and c.from_residual-in_err-read_count.result c.from_residual-in_err-read_count.ensures.1 in
-    let begins : BeginsWell c.args.rules.now (fields_view c.args.texts) c.read_board.new.cells c.in_ok-p.field-0 = record {
-      built = c.requires.built;
-      cells_read = c.in_ok-read_board.ensures;
-      hands_read = c.in_ok-read_pocket.ensures;
-      side_read = sym c.in_ok-p.ensures;
-    } in
-    let goes : GoesOnWell c.args.rules.now (fields_view c.args.texts) c.read_board.new.cells c.in_ok-p.field-0 = record {
-      begins = begins;
-      rights = c.in_ok-read_none.ensures.none;
-      ep = c.in_ok-read_none-2.ensures.none;
-      checks = refl;
-    } in
+    let goes = goes_on_well c.args.rules.now (fields_view c.args.texts) c.read_board.new.cells c.in_ok-p.field-0 c.requires.built c.in_ok-read_board.ensures c.in_ok-read_pocket.ensures (sym c.in_ok-p.ensures) c.in_ok-read_none.ensures.none c.in_ok-read_none-2.ensures.none refl in
     rw (p.1, p.2) (sym (said_number c.args.rules.now (fields_view c.args.texts) _ _ _ _ goes (sym c.in_ok-p-2.ensures) (sym c.in_err-read_count.ensures)))
 
 pub returns-clause-sound : goal.returns-clause-sound
