@@ -1,3 +1,4 @@
 pub mod Asked
 pub mod Moved
 pub mod Pieces
+mod InputLemmas

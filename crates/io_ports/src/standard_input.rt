@@ -1,7 +1,10 @@
-ghost use Rattle.std.specs.Prelude.{◌≡◌, ◌≢◌, ◌≤◌, ◌<◌, ◌++◌, ◌∷◌, [], ⊤, ℕ, List, None, IfOk, false, length, vec_capacity};
+ghost use Rattle.std.specs.Prelude.{◌≡◌, ◌≢◌, ◌≤◌, ◌<◌, ◌++◌, ◌∷◌, [], ⊤, ℕ, List, None, IfOk, OnOk, OnErr, false, true, length, vec_capacity};
+ghost use Rattle.std.specs.Io.BufRead.{DropsThrough};
+ghost use Rattle.std.specs.Io.KnownBytes.{Keeps, IsAtEnd, prepend_known};
 ghost use Rattle.io_ports.specs.Cause.{HasCause, counted};
+ghost use Rattle.io_ports.specs.Lines.{line_of};
 ghost use Rattle.io_ports.specs.Source.{Takes, Owes, Untold, got_lines, polled_lines};
-ghost use Rattle.io_ports.specs.Standard.{InputState};
+ghost use Rattle.io_ports.specs.Standard.{InputState, left_of, is_unended, GivesByte, ReadsPiece};
 ghost use Rattle.io_ports.specs.declared.standard_input.TheConstants.{LONGEST};
 
 use crate::line::put_line;
@@ -11,8 +14,8 @@ use std::alloc::Global;
 use std::io::{self, BufRead, ErrorKind, Read};
 use std::marker::Model;
 
-/// The most bytes of a piece whose line is not too long: a line with CR and LF.
-const LONGEST: usize = MAX_LINE + 2;
+/// The bytes of a front whose line is too long, whatever follows: a line may end in CR and LF.
+const LONGEST: usize = MAX_LINE + 3;
 
 /// The most bytes of a piece that is taken.
 const MOST: usize = 1 << 30;
@@ -61,7 +64,7 @@ impl Front {
 }
 
 /// A source over standard input, or over another reader, which it reads byte by byte. It waits for each line, also where it
-/// is polled, and tells nothing of the bytes that are left. A line that a failure interrupts is taken up again. A line of
+/// is polled, and tells nothing of the bytes that are left; contracts name them where the reader tells its own. A line that a failure interrupts is taken up again. A line of
 /// more than 2^30 bytes is a fault.
 #[derive(Drop)]
 pub struct StandardInput<R: BufRead> {
@@ -75,6 +78,8 @@ impl<R: BufRead> Model for StandardInput<R> {
     ghost Value = { InputState R };
 
     ghost view = { λ input. record { reader = input.reader; front = input.front; is_long = input.is_long; faults = input.faults } };
+
+    ghost invariant = { λ input. is_unended input.front ≡ true };
 }
 
 /// What was read of a piece.
@@ -86,7 +91,10 @@ enum Piece {
 }
 
 // The next byte, if one is left.
-fn next_byte<R: BufRead>(reader: &mut R) -> io::Result<Option<u8>> {
+fn next_byte<R: BufRead>(reader: &mut R) -> io::Result<Option<u8>>
+    ensures ok { IfOk result (GivesByte (R.remaining reader.old) (R.remaining reader.new)) }
+    ensures err { OnErr result (Keeps (R.remaining reader.old) (R.remaining reader.new)) }
+{
     let mut byte = [0];
     for _ in 0..u64::MAX {
         match reader.read(&mut byte) {
@@ -103,7 +111,12 @@ fn next_byte<R: BufRead>(reader: &mut R) -> io::Result<Option<u8>> {
 }
 
 // Reads on to the end of a piece.
-fn read_piece<R: BufRead>(reader: &mut R, front: &mut Front) -> io::Result<Piece> {
+fn read_piece<R: BufRead>(reader: &mut R, front: &mut Front) -> io::Result<Piece>
+    requires { is_unended front.old ≡ true }
+    ensures kept { Keeps (prepend_known front.old (R.remaining reader.old)) (prepend_known front.new (R.remaining reader.new)) }
+    ensures piece { IfOk result (λ piece. ReadsPiece piece front.new (R.remaining reader.new)) }
+    ensures begun { OnErr result (is_unended front.new ≡ true) }
+{
     for _ in front.bytes().len()..LONGEST {
         let Some(byte) = next_byte(reader)? else {
             return Ok(Piece::Whole);
@@ -116,12 +129,32 @@ fn read_piece<R: BufRead>(reader: &mut R, front: &mut Front) -> io::Result<Piece
     Ok(Piece::Long)
 }
 
+// Takes the line of a whole piece.
+fn end_line(front: &mut Front, line: &mut LineBuf) -> Got
+    ensures none { front.old ≡ [] → result ≡ Got.End }
+    ensures ended { result ≡ Got.End → front.old ≡ [] }
+    ensures line { front.old ≢ [] → got_lines result line.new ≡ line_of front.old ∷ [] }
+    ensures works { result ≢ Got.Failed }
+    ensures taken { front.new ≡ [] }
+{
+    if front.bytes().is_empty() {
+        return Got::End;
+    }
+    let fits = put_line(front.bytes(), line);
+    front.clear();
+    if fits { Got::Line } else { Got::TooLong }
+}
+
 // Reads over the rest of a piece that is too long.
-fn skip_piece<R: BufRead>(reader: &mut R) -> io::Result<()> {
+fn skip_piece<R: BufRead>(reader: &mut R) -> io::Result<()>
+    ensures { OnOk result (DropsThrough (R.remaining reader.old) (R.remaining reader.new) 10) }
+{
     for _ in LONGEST..MOST {
-        match next_byte(reader)? {
-            None | Some(b'\n') => return Ok(()),
-            Some(_) => {}
+        let Some(byte) = next_byte(reader)? else {
+            return Ok(());
+        };
+        if byte == b'\n' {
+            return Ok(());
         }
     }
     Err(io::Error::from(ErrorKind::InvalidData))
@@ -153,32 +186,37 @@ impl<R: BufRead> StandardInput<R> {
     fn take_line(&mut self, line: &mut LineBuf) -> io::Result<Got>
         ensures works { IfOk result (λ got. got ≢ Got.Failed) }
         ensures faults { self.new.faults ≡ self.old.faults }
+        ensures whole { OnOk result (self.new.is_long ≡ false) }
+        ensures known { IfOk result (λ got. self.old.is_long ≡ false → Takes (left_of R.remaining self.old) (left_of R.remaining self.new) (got_lines got line.new)) }
+        ensures ended { IfOk result (λ got. got ≡ Got.End → IsAtEnd (left_of R.remaining self.new)) }
+        ensures kept { OnErr result (self.old.is_long ≡ false → self.new.is_long ≡ false → Keeps (left_of R.remaining self.old) (left_of R.remaining self.new)) }
     {
-        if !self.is_long {
-            match read_piece(&mut self.reader, &mut self.front)? {
-                Piece::Whole => return Ok(self.end_line(line)),
-                Piece::Long => {
-                    self.front.clear();
-                    self.is_long = true;
-                }
+        if self.is_long {
+            return self.skip_line();
+        }
+        match read_piece(&mut self.reader, &mut self.front)? {
+            Piece::Whole => Ok(end_line(&mut self.front, line)),
+            Piece::Long => {
+                self.front.clear();
+                self.is_long = true;
+                self.skip_line()
             }
         }
+    }
+
+    // Takes the rest of a line whose front was dropped.
+    fn skip_line(&mut self) -> io::Result<Got>
+        requires { self.old.is_long ≡ true }
+        ensures long { IfOk result (λ got. got ≡ Got.TooLong) }
+        ensures faults { self.new.faults ≡ self.old.faults }
+        ensures front { self.new.front ≡ self.old.front }
+        ensures whole { OnOk result (self.new.is_long ≡ false) }
+        ensures begun { OnErr result (self.new.is_long ≡ true) }
+        ensures rest { OnOk result (DropsThrough (R.remaining self.old.reader) (R.remaining self.new.reader) 10) }
+    {
         skip_piece(&mut self.reader)?;
         self.is_long = false;
         Ok(Got::TooLong)
-    }
-
-    // Takes the line of the piece that was read.
-    fn end_line(&mut self, line: &mut LineBuf) -> Got
-        ensures works { result ≢ Got.Failed }
-        ensures faults { self.new.faults ≡ self.old.faults }
-    {
-        if self.front.bytes().is_empty() {
-            return Got::End;
-        }
-        let fits = put_line(self.front.bytes(), line);
-        self.front.clear();
-        if fits { Got::Line } else { Got::TooLong }
     }
 }
 
@@ -194,6 +232,11 @@ impl<R: BufRead> Source for StandardInput<R> {
         ensures end { result ≡ Got.End → ⊤ }
         ensures owed { Untold ≡ Untold }
         ensures cause { HasCause self.old.faults self.new.faults (result ≡ Got.Failed) }
+
+        // As a source that tells what is left, where its reader tells that and no front of a line was dropped.
+        ensures known { self.old.is_long ≡ false → self.new.is_long ≡ false → Takes (left_of R.remaining self.old) (left_of R.remaining self.new) (got_lines result line.new) }
+        ensures ended { result ≡ Got.End → IsAtEnd (left_of R.remaining self.new) }
+        ensures whole { result ≢ Got.Failed → self.new.is_long ≡ false }
 
         // A failure is one fault.
         ensures counts { result ≡ Got.Failed → self.new.faults ≡ counted self.old.faults }
@@ -215,6 +258,9 @@ impl<R: BufRead> Source for StandardInput<R> {
         ensures cause { HasCause self.old.faults self.new.faults (result ≡ Polled.Failed) }
 
         // As for `next_line`.
+        ensures known { self.old.is_long ≡ false → self.new.is_long ≡ false → Takes (left_of R.remaining self.old) (left_of R.remaining self.new) (polled_lines result line.new) }
+        ensures ended { result ≡ Polled.End → IsAtEnd (left_of R.remaining self.new) }
+        ensures whole { result ≢ Polled.Failed → self.new.is_long ≡ false }
         ensures counts { result ≡ Polled.Failed → self.new.faults ≡ counted self.old.faults }
         ensures works { result ≢ Polled.Failed → self.new.faults ≡ self.old.faults }
         ensures waits { result ≢ Polled.NotYet }
