@@ -83,10 +83,11 @@ bits_of test (suc n) = bits_of test n + (if test n then 2 ^ n else 0)
 abbrev pub rights_said : List ℕ → Side → List Bool
 rights_said text side = has (right_letter side Kingside) text ∷ has (right_letter side Queenside) text ∷ []
 
+-- gates have the letters of the first ten files: the next one would be that of a castling right
 abbrev pub held_said : Rules → List (Option Cell) → List ℕ → Held
 held_said rules cells text = record {
   rights = rights_said text White ∷ rights_said text Black ∷ [];
-  gates = bits_of (gate_said rules cells text White) 12 ∷ bits_of (gate_said rules cells text Black) 12 ∷ [];
+  gates = bits_of (gate_said rules cells text White) 10 ∷ bits_of (gate_said rules cells text Black) 10 ∷ [];
 }
 
 abbrev pub nothing_held : Held
