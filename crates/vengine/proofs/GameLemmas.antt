@@ -1,5 +1,5 @@
 -- What the lines of a game text say.
-use Rattle.std.proofs.Common.{◌≡◌, ℕ, false, true, List, [], ◌∷◌, Option, Some, None, Result, Ok, Err, bytes_eq, codes, Bool, refl, ap, sym, ◌∙◌}
+use Rattle.std.proofs.Common.{◌≡◌, ℕ, false, true, List, [], ◌∷◌, Some, None, Result, Ok, Err, bytes_eq, codes, Bool, refl, ap, sym, ◌∙◌}
 use Rattle.io_ports.specs.Lines.{Line, Text, TooLong}
 use Rattle.leapers.specs.Leapers.{leapers}
 use Rattle.rules_model.specs.declared.board.Position.{Position}

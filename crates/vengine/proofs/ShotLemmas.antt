@@ -34,7 +34,7 @@ use Rattle.vengine.proofs.HeardLemmas.{settle}
 use Rattle.vengine.specs.ReachText.{reach_text}
 use Rattle.vengine.specs.Setup.{Unplaced, setup_of}
 use Rattle.vengine.specs.Shot.{Shot, Says, SaysReach, SaysMoves, SaysMovesOf, reached, faulty_word, faulty_square, usage_line, error_line, unplaced_text}
-use Rattle.vengine.specs.Run.{IsTold, IsInput, TellsInput, Decide, Did, DidPart, IsDone, IsCut}
+use Rattle.vengine.specs.Run.{IsTold, TellsInput, Did, DidPart, IsDone, IsCut}
 
 -- some answer of `reach`
 reach_at : (word square own enemy : List ℕ) (b : List Part) → Spells word b → (o : Result (Square × List (Option Cell)) Unplaced) → setup_of square own enemy ≡ o

@@ -1,6 +1,6 @@
 -- Words, and whether their command reads its input.
-use Rattle.std.proofs.Common.{◌≡◌, ℕ, ◌≤◌, Bool, true, false, List, [], ◌∷◌, length, Option, Some, None, if◌then◌else◌, refl, arith}
-use Rattle.vengine.specs.Words.{Command, Reach, is_reach, reach_of, command_of, no_squares, reads_input}
+use Rattle.std.proofs.Common.{◌≡◌, ℕ, ◌≤◌, Bool, true, false, List, [], ◌∷◌, length, Some, None, if◌then◌else◌, refl, arith}
+use Rattle.vengine.specs.Words.{Reach, is_reach, reach_of, command_of, no_squares, reads_input}
 
 no_input : (is : Bool) (word square own enemy : List ℕ) → reads_input (if is then Some (Reach word square own enemy) else None) ≡ false
 no_input true word square own enemy = refl

@@ -1,5 +1,5 @@
 -- What the code answers of a game text, as the definitions have it.
-use Rattle.std.specs.Prelude.{◌≡◌, ℕ, List, Option, Some, None, Result, Ok, Err, ⊤}
+use Rattle.std.specs.Prelude.{◌≡◌, ℕ, List, Some, None, Result, Ok, Err, ⊤}
 use Rattle.io_ports.specs.Lines.{Line}
 use Rattle.rules_model.specs.declared.board.Position.{Position}
 use Rattle.rules_model.specs.declared.rules.Rules.{Rules}
@@ -7,7 +7,6 @@ use Rattle.vengine.specs.declared.game.GameFault.{GameFault}
 use Rattle.vengine.specs.declared.game.GameFault.TheVariants as fault
 use Rattle.vengine.specs.declared.game.NoGame.{NoGame}
 use Rattle.vengine.specs.declared.game.NoGame.TheVariants.{Faulty, Unread}
-use Rattle.vengine.specs.declared.stop.Stop.{Stop}
 use Rattle.vengine.specs.declared.stop.Stop.TheVariants.{Source, Memory}
 use Rattle.vengine.specs.GameText.{BadGame, Missing, UnknownVariant, BadPosition, LineTooLong, NotBuilt, fault_behind, game_behind, game_of}
 

@@ -1,4 +1,4 @@
-use Rattle.std.proofs.Common.{◌≡◌, Result, Ok, Err, sym, ◌∙◌, ap}
+use Rattle.std.proofs.Common.{◌≡◌, Ok, Err, sym}
 use Rattle.vengine.specs.GameText.{position_of}
 use Rattle.vengine.proofs.HeardLemmas.{heard_so, heard_nothing}
 use Rattle.vengine.proofs.GameLemmas.{behind_ok, behind_bad, says_no_game}
