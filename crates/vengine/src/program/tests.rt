@@ -300,3 +300,30 @@ fn moves_fails_with_its_ports(rt: HostRuntime) -> Result<(), Fail> {
     }
     Ok(())
 }
+
+#[test]
+fn moves_reads_nothing_behind_the_first_faulty_line(rt: HostRuntime) -> Result<(), Fail> {
+    let rows = [
+        (
+            "chess\nstartpos\n",
+            1,
+            "error GameFault 2 UnknownVariant chess\n",
+        ),
+        (
+            "leapers\n8/8\n\n",
+            2,
+            "error GameFault 4 BadPosition FenFault 1 Length\n",
+        ),
+        (
+            "leapers\nstartpos\nd1c1\n",
+            3,
+            "error GameFault 9 NotBuilt 3\n",
+        ),
+    ];
+    for (input, call, text) in rows {
+        let (status, sink) = answered(&rt, &["moves"], input.as_bytes(), &[call], 1000)?;
+        assert_eq!(rt; status, 3, "{input}");
+        assert_eq!(rt; sink.taken(), text.as_bytes(), "{input}");
+    }
+    Ok(())
+}
