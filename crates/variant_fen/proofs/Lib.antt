@@ -16,3 +16,4 @@ pub mod DecimalLaws
 pub mod JoinLaws
 pub mod BackLaws
 pub mod GivesBack
+pub mod worked
