@@ -1,4 +1,3 @@
-pub mod TestLaws
 pub mod CutLemmas
 pub mod NumberLemmas
 pub mod FieldLemmas
