@@ -20,7 +20,7 @@ use Rattle.variant_fen.specs.Pocket as Pocket
 use Rattle.variant_fen.specs.Printing.{hand_text, pocket_text, rights_text, row_text, side_rights_text}
 use Rattle.variant_fen.specs.Tokens.{tokens_of}
 
--- every definition of texts, opened at once
+-- the definitions that the cases compute, opened at once
 unfoldable fen_opened : Unit {0}
 unfolding rules_opened row_of squares_of checks_of are_held bits_of gate_said gate_stands has held_of right_stands are_digits is_number number_of value_behind is_passed passed_of hands_of Pocket.no_hands hand_text pocket_text rights_text row_text side_rights_text tokens_of
 fen_opened = tt
