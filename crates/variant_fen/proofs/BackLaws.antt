@@ -5,7 +5,7 @@ use Rattle.std.specs.Fmt.{decimal}
 use Rattle.std.specs.List.{join_with_byte, list_all, prefix_len, slice_get, slice_split}
 use Rattle.std.proofs.Math.ListN.{get_or-eq_default}
 use Rattle.std.proofs.Math.Seq.{take-append_seam, drop-append_seam}
-use Rattle.std.proofs.lemmas.Bool.{cases_Bool, le-leb, lt-leb, le-ltb, ltb-true, ltb-false, eq-eqb}
+use Rattle.std.proofs.lemmas.Bool.{cases_Bool, le-leb, lt-leb, le-ltb, ltb-true, ltb-false, eq-eqb, and_from, and_parts, and_right, or_right}
 use Rattle.std.proofs.lemmas.List.{append-nil, drop_all, take_all, length-map}
 use Rattle.std.proofs.lemmas.List.Folds.{list_all-append}
 use Rattle.rules_model.specs.declared.board.Cell.{Cell}
@@ -33,7 +33,6 @@ use Rattle.variant_fen.proofs.RowLemmas.{length-row_at}
 use Rattle.variant_fen.proofs.SoundLaws.{cell_at-get_or}
 use Rattle.variant_fen.proofs.SoundParts.{sound-cells}
 use Rattle.variant_fen.proofs.TokenLemmas.{IsPlain, byte_then, joined, run_then}
-use Rattle.variant_fen.proofs.TestLaws.{both, left, right, and-false, or-true}
 
 -- ---- pieces
 
@@ -74,24 +73,24 @@ no_origin rules kind (Some origin) built kinds h =
 plain-cell : (rules : Rules) (s : ℕ) (o : Option Cell) → is_built rules ≡ true → length rules.kinds ≡ 26 → is_sound_cell rules s o ≡ true → IsPlainCell rules o
 plain-cell rules s None built kinds h = tt
 plain-cell rules s (Some c) built kinds h =
-    let kind = right _ _ (left _ _ h) in
-    (small_kind rules c.kind kinds kind, kind, no_origin rules c.kind c.origin built kinds (right _ _ h))
+    let kind = (and_parts _ _ (and_parts _ _ h).0).1 in
+    (small_kind rules c.kind kinds kind, kind, no_origin rules c.kind c.origin built kinds (and_parts _ _ h).1)
 
 -- nothing stands off the board
 off-board : (rules : Rules) (s : ℕ) (o : Option Cell) → is_sound_cell rules s o ≡ true → on_board rules s ≡ false → o ≡ None
 off-board rules s None h off = refl
-off-board rules s (Some c) h off = let on = left (on_board rules s) (has_kind rules c.kind) (left (on_board rules s && has_kind rules c.kind) (is_origin rules c.kind c.origin) h) in cc
+off-board rules s (Some c) h off = let on = (and_parts (on_board rules s) (has_kind rules c.kind) (and_parts (on_board rules s && has_kind rules c.kind) (is_origin rules c.kind c.origin) h).0).0 in cc
 
 -- ---- a piece's letter
 
 white-letter : (k : ℕ) → k < 26 → is_upper (65 + k % 26) ≡ true
-white-letter k h = both (nat_le 65 (65 + k % 26)) (nat_le (65 + k % 26) 90) (le-leb _ _ (omega arith)) (le-leb _ _ (omega arith))
+white-letter k h = and_from (nat_le 65 (65 + k % 26)) (nat_le (65 + k % 26) 90) (le-leb _ _ (omega arith)) (le-leb _ _ (omega arith))
 
 black-letter : (k : ℕ) → k < 26 → is_lower (97 + k % 26) ≡ true
-black-letter k h = both (nat_le 97 (97 + k % 26)) (nat_le (97 + k % 26) 122) (le-leb _ _ (omega arith)) (le-leb _ _ (omega arith))
+black-letter k h = and_from (nat_le 97 (97 + k % 26)) (nat_le (97 + k % 26) 122) (le-leb _ _ (omega arith)) (le-leb _ _ (omega arith))
 
 not-upper : (k : ℕ) → is_upper (97 + k % 26) ≡ false
-not-upper k = let high : nat_le (97 + k % 26) 90 ≡ false = lt-leb _ _ (omega arith) in rw high (and-false (nat_le 65 (97 + k % 26)))
+not-upper k = let high : nat_le (97 + k % 26) 90 ≡ false = lt-leb _ _ (omega arith) in rw high (and_right (nat_le 65 (97 + k % 26)) false refl)
 
 letter-back : (rules : Rules) (side : Side) (kind : Kind) → kind.0 < 26 → has_kind rules kind ≡ true → letter_cell rules (kind_letter side kind) ≡ Some (cell_of side kind None)
 letter-back rules White kind small has =
@@ -105,16 +104,16 @@ letter-back rules Black kind small has =
     rw none (rw down (rw e (rw has refl)))
 
 no-digit : (side : Side) (kind : Kind) → is_digit (kind_letter side kind) ≡ false
-no-digit White kind = let high : nat_le (65 + kind.0 % 26) 57 ≡ false = lt-leb _ _ (omega arith) in rw high (and-false (nat_le 48 (65 + kind.0 % 26)))
-no-digit Black kind = let high : nat_le (97 + kind.0 % 26) 57 ≡ false = lt-leb _ _ (omega arith) in rw high (and-false (nat_le 48 (97 + kind.0 % 26)))
+no-digit White kind = let high : nat_le (65 + kind.0 % 26) 57 ≡ false = lt-leb _ _ (omega arith) in rw high (and_right (nat_le 48 (65 + kind.0 % 26)) false refl)
+no-digit Black kind = let high : nat_le (97 + kind.0 % 26) 57 ≡ false = lt-leb _ _ (omega arith) in rw high (and_right (nat_le 48 (97 + kind.0 % 26)) false refl)
 
 -- a digit or a letter
 abbrev pub is_plain_byte : ℕ → Bool
 is_plain_byte b = is_digit b || is_letter b
 
 letter-plain : (side : Side) (kind : Kind) → kind.0 < 26 → is_plain_byte (kind_letter side kind) ≡ true
-letter-plain White kind small = let up = white-letter kind.0 small in rw up (or-true _)
-letter-plain Black kind small = let none = not-upper kind.0 in let down = black-letter kind.0 small in rw none (rw down (or-true _))
+letter-plain White kind small = let up = white-letter kind.0 small in rw up (or_right _ true refl)
+letter-plain Black kind small = let none = not-upper kind.0 in let down = black-letter kind.0 small in rw none (rw down (or_right _ true refl))
 
 -- ---- rows
 
@@ -129,8 +128,8 @@ one-more (suc n) row = ap (λ squares. None ∷ squares) (one-more n row)
 digits-plain : (ds : List ℕ) → list_all is_digit ds ≡ true → list_all is_plain_byte ds ≡ true
 digits-plain [] all = refl
 digits-plain (d ∷ ds) all =
-    let first = left (is_digit d) (list_all is_digit ds) all in
-    both _ _ (rw first refl) (digits-plain ds (right (is_digit d) (list_all is_digit ds) all))
+    let first = (and_parts (is_digit d) (list_all is_digit ds) all).0 in
+    and_from _ _ (rw first refl) (digits-plain ds (and_parts (is_digit d) (list_all is_digit ds) all).1)
 
 cell_text-plain : (rules : Rules) (c : Cell) → c.origin ≡ None → cell_text rules c ≡ kind_letter c.side c.kind ∷ []
 cell_text-plain rules c none = rw none refl
@@ -141,15 +140,15 @@ plain-again c none = ap (cell_of c.side c.kind) (sym none)
 prefix-digits : (ds rest : List ℕ) → list_all is_digit ds ≡ true → (b : ℕ) (bs : List ℕ) → rest ≡ b ∷ bs → is_digit b ≡ false → prefix_len is_digit (ds ++ rest) ≡ length ds
 prefix-digits [] rest all b bs is n = rw is (rw n refl)
 prefix-digits (d ∷ ds) rest all b bs is n =
-    let first = left (is_digit d) (list_all is_digit ds) all in
-    let more = prefix-digits ds rest (right (is_digit d) (list_all is_digit ds) all) b bs is n in
+    let first = (and_parts (is_digit d) (list_all is_digit ds) all).0 in
+    let more = prefix-digits ds rest (and_parts (is_digit d) (list_all is_digit ds) all).1 b bs is n in
     rw first (omega (arith, more))
 
 all-digits : (ds : List ℕ) → list_all is_digit ds ≡ true → prefix_len is_digit ds ≡ length ds
 all-digits [] all = refl
 all-digits (d ∷ ds) all =
-    let first = left (is_digit d) (list_all is_digit ds) all in
-    let more = all-digits ds (right (is_digit d) (list_all is_digit ds) all) in
+    let first = (and_parts (is_digit d) (list_all is_digit ds) all).0 in
+    let more = all-digits ds (and_parts (is_digit d) (list_all is_digit ds) all).1 in
     rw first (omega (arith, more))
 
 run-back : (n : ℕ) → n < 2 ^ 64 → 0 < n → run_squares (decimal n) ≡ Ok (replicate n None)
@@ -216,7 +215,7 @@ row-plain rules n [] small each = run-plain n (omega arith)
 row-plain rules n (None ∷ row) small each = row-plain rules (suc n) row (omega arith) each.1
 row-plain rules n (Some c ∷ row) small each =
     list_all-append is_plain_byte (run_text n ++ cell_text rules c) (row_text rules 0 row)
-    ∙ both _ _ (list_all-append is_plain_byte (run_text n) (cell_text rules c) ∙ both _ _ (run-plain n (omega arith)) (ap (list_all is_plain_byte) (cell_text-plain rules c each.0.2) ∙ both _ _ (letter-plain c.side c.kind each.0.0) refl))
+    ∙ and_from _ _ (list_all-append is_plain_byte (run_text n) (cell_text rules c) ∙ and_from _ _ (run-plain n (omega arith)) (ap (list_all is_plain_byte) (cell_text-plain rules c each.0.2) ∙ and_from _ _ (letter-plain c.side c.kind each.0.0) refl))
     (row-plain rules 0 row (omega arith) each.1)
 
 run-short : (n : ℕ) → n < 2 ^ 64 → length (run_text n) ≤ 2 * n
@@ -319,8 +318,8 @@ is_board_byte b = is_plain_byte b || b == 47
 board-byte : (text : List ℕ) → list_all is_plain_byte text ≡ true → list_all is_board_byte text ≡ true
 board-byte [] all = refl
 board-byte (b ∷ bs) all =
-    let first = left (is_plain_byte b) (list_all is_plain_byte bs) all in
-    both _ _ (rw first refl) (board-byte bs (right (is_plain_byte b) (list_all is_plain_byte bs) all))
+    let first = (and_parts (is_plain_byte b) (list_all is_plain_byte bs) all).0 in
+    and_from _ _ (rw first refl) (board-byte bs (and_parts (is_plain_byte b) (list_all is_plain_byte bs) all).1)
 
 pub board-bytes : (rules : Rules) (cells : List (Option Cell)) → IsFit rules → IsPlainBoard rules cells → list_all is_board_byte (board_text rules cells) ≡ true
 unfolding board_text rank_texts
@@ -343,7 +342,7 @@ off_beside : (rules : Rules) (s : ℕ) → rules.files ≤ s % 12 → on_board r
 off_beside rules s from = let none : nat_lt (s % 12) rules.files ≡ false = le-ltb _ _ from in rw none refl
 
 off_above : (rules : Rules) (s : ℕ) → rules.ranks ≤ s / 12 → on_board rules s ≡ false
-off_above rules s from = let none : nat_lt (s / 12) rules.ranks ≡ false = le-ltb _ _ from in rw none (and-false (nat_lt (s % 12) rules.files))
+off_above rules s from = let none : nat_lt (s / 12) rules.ranks ≡ false = le-ltb _ _ from in rw none (and_right (nat_lt (s % 12) rules.files) false refl)
 
 free_off : (rules : Rules) (cells : List (Option Cell)) (s : ℕ) → length cells ≡ 120 → (s < 120 → is_sound_cell rules s (get_or cells s None) ≡ true) → on_board rules s ≡ false → get_or cells s None ≡ None
 free_off rules cells s long there off =

@@ -4,13 +4,12 @@ use Rattle.std.specs.List.{All, slice_split, position_or_len, position}
 use Rattle.std.proofs.lemmas.List.Splits.{slice_split_first, slice_split_none}
 use Rattle.std.proofs.lemmas.List.{take_all}
 use Rattle.std.proofs.lemmas.List.Sums.{prefix_len_passes}
-use Rattle.std.proofs.lemmas.Bool.{cases_Bool, ltb-true, ltb-false}
+use Rattle.std.proofs.lemmas.Bool.{cases_Bool, ltb-true, ltb-false, not-true}
 use Rattle.variant_fen.specs.Fields.{parts_behind}
-use Rattle.variant_fen.proofs.TestLaws.{not_true}
 
 none_at : (p : ℕ → Bool) (text : List ℕ) → length text ≤ position_or_len p text → All (λ b. p b ≡ false) text
 none_at p text h = λ k d below.
-    not_true _ (prefix_len_passes (λ b. not (p b)) text k d (omega (arith, h)))
+    not-true _ (prefix_len_passes (λ b. not (p b)) text k d (omega (arith, h)))
 
 abbrev cut_where : List ℕ → Option ℕ → List ℕ
 cut_where text None = text

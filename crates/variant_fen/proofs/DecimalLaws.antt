@@ -2,13 +2,12 @@
 use Rattle.std.proofs.Common.{◌≡◌, ℕ, zero, suc, ◌+◌, ◌/◌, ◌%◌, ◌^◌, ◌<◌, ◌≤◌, nat_lt, nat_le, ◌==◌, true, false, ◌||◌, not, List, [], ◌∷◌, ◌++◌, length, get_or, Some, Ok, refl, ◌∙◌, arith, length-append}
 use Rattle.std.specs.Fmt.{decimal}
 use Rattle.std.specs.List.{list_all}
-use Rattle.std.proofs.lemmas.Bool.{le-leb, lt-ltb, ne_eqb}
+use Rattle.std.proofs.lemmas.Bool.{le-leb, lt-ltb, ne_eqb, and_from, or_right}
 use Rattle.std.proofs.lemmas.Fmt.{decimal_by_steps, decimal_digit, first_decimal}
 use Rattle.std.proofs.lemmas.List.Folds.{list_all-append}
 use Rattle.variant_fen.specs.Counts.{count_of}
 use Rattle.variant_fen.specs.Numbers.{are_digits, begins_with_zero, is_digit, is_number, number_of, value_behind, value_of}
 use Rattle.variant_fen.proofs.NumberLemmas.{value_behind-append}
-use Rattle.variant_fen.proofs.TestLaws.{both, or-true}
 
 -- digits, at least one, that write the number
 pub record Writes (n : ℕ) (ds : List ℕ) : Type 0 where
@@ -18,12 +17,12 @@ pub record Writes (n : ℕ) (ds : List ℕ) : Type 0 where
   pub short : length ds ≤ n + 1
 
 digit-is : (d : ℕ) → d < 10 → is_digit (48 + d) ≡ true
-digit-is d h = both _ _ (le-leb 48 (48 + d) (omega arith)) (le-leb (48 + d) 57 (omega arith))
+digit-is d h = and_from _ _ (le-leb 48 (48 + d) (omega arith)) (le-leb (48 + d) 57 (omega arith))
 
 one-writes : (n : ℕ) → n < 10 → Writes n ((48 + n) ∷ [])
 unfolding value_behind
 one-writes n h = record {
-  digits = both _ _ (digit-is n h) refl;
+  digits = and_from _ _ (digit-is n h) refl;
   value = omega arith;
   some = omega arith;
   short = omega arith;
@@ -31,7 +30,7 @@ one-writes n h = record {
 
 more-write : (n : ℕ) (ds : List ℕ) → 10 ≤ n → Writes (n / 10) ds → Writes n (ds ++ (48 + n % 10) ∷ [])
 more-write n ds h w = record {
-  digits = list_all-append is_digit ds ((48 + n % 10) ∷ []) ∙ both _ _ w.digits (both _ _ (digit-is (n % 10) (omega arith)) refl);
+  digits = list_all-append is_digit ds ((48 + n % 10) ∷ []) ∙ and_from _ _ w.digits (and_from _ _ (digit-is (n % 10) (omega arith)) refl);
   value = value_behind-append 0 ds (48 + n % 10) ∙ (let v = w.value in omega arith);
   some = omega (arith, length-append ds ((48 + n % 10) ∷ []));
   short = omega (arith, length-append ds ((48 + n % 10) ∷ []), w.short);
@@ -45,7 +44,7 @@ not-zero n some small = let above : 48 < get_or (decimal n) 0 0 = first_decimal 
 
 first_is : (n : ℕ) → n < 2 ^ 64 → (length (decimal n) == 1 || not (begins_with_zero (decimal n))) ≡ true
 first_is zero small = let one = decimal_digit 0 (omega arith) in rw one refl
-first_is (suc n) small = let first = not-zero (suc n) (omega arith) small in rw first (or-true (length (decimal (suc n)) == 1))
+first_is (suc n) small = let first = not-zero (suc n) (omega arith) small in rw first (or_right (length (decimal (suc n)) == 1) true refl)
 
 number-back : (n : ℕ) → n < 2 ^ 64 → number_of (decimal n) ≡ Some n
 unfolding number_of is_number are_digits

@@ -3,7 +3,7 @@ use Rattle.std.proofs.Common.{◌≡◌, ◌≢◌, ℕ, zero, suc, ◌<◌, ◌
 use Rattle.std.specs.Fmt.{decimal}
 use Rattle.std.specs.Int.{bit_at}
 use Rattle.std.specs.List.{join_with_byte, list_all, position_or_len, slice_split}
-use Rattle.std.proofs.lemmas.Bool.{le-ltb, ltb-true, ltb-false, eqb-true, eqb-false}
+use Rattle.std.proofs.lemmas.Bool.{le-ltb, ltb-true, ltb-false, eqb-true, eqb-false, and_from, and_parts}
 use Rattle.std.proofs.lemmas.Fmt.{length-decimal-le}
 use Rattle.std.proofs.lemmas.List.{drop_all, take_all}
 use Rattle.std.proofs.lemmas.Nat.Bits.{bit_at-lt, bit_at-zero, same_from_bits_below}
@@ -36,7 +36,6 @@ use Rattle.variant_fen.proofs.PrintLaws.{plain_texts, text-plain, texts-plain}
 use Rattle.variant_fen.proofs.ReadLemmas.{judged_ok}
 use Rattle.variant_fen.proofs.SaidLaws.{BeginsWell, GoesOnWell, fen_fields, said_all}
 use Rattle.variant_fen.proofs.SoundParts.{no-checks, no-ep, no-gate, no-hand, no-right, sound-counter, sound-king, sound-number, sound-safe}
-use Rattle.variant_fen.proofs.TestLaws.{both, left, right}
 
 bare-long : (side : Side) → length (bare_fields side) ≡ 7
 bare-long White = refl
@@ -69,8 +68,8 @@ gates_none : (gates : List ℕ) → length gates ≡ 2 → list_all (λ g. nat_l
 gates_none [] two small none = absurd (omega arith)
 gates_none (a ∷ []) two small none = absurd (omega arith)
 gates_none (a ∷ b ∷ []) two small none =
-    let white = no_bits a (ltb-true _ _ (left (nat_lt a 65536) (nat_lt b 65536 && true) small)) (λ f below. no_bit a f (none White f below)) in
-    let black = no_bits b (ltb-true _ _ (left (nat_lt b 65536) true (right (nat_lt a 65536) (nat_lt b 65536 && true) small))) (λ f below. no_bit b f (none Black f below)) in
+    let white = no_bits a (ltb-true _ _ (and_parts (nat_lt a 65536) (nat_lt b 65536 && true) small).0) (λ f below. no_bit a f (none White f below)) in
+    let black = no_bits b (ltb-true _ _ (and_parts (nat_lt b 65536) true (and_parts (nat_lt a 65536) (nat_lt b 65536 && true) small).1).0) (λ f below. no_bit b f (none Black f below)) in
     rw (white, black) refl
 gates_none (a ∷ b ∷ c ∷ gates) two small none = absurd (omega arith)
 
@@ -82,8 +81,8 @@ unfolding no_hands
 hands_none [] two sizes none = absurd (omega arith)
 hands_none (a ∷ []) two sizes none = absurd (omega arith)
 hands_none (a ∷ b ∷ []) two sizes none =
-    let white = zeros 26 a (eqb-true _ _ (left (length a == 26) (length b == 26 && true) sizes)) (λ k below. no_piece (get_or a k 0) (none White k below)) in
-    let black = zeros 26 b (eqb-true _ _ (left (length b == 26) true (right (length a == 26) (length b == 26 && true) sizes))) (λ k below. no_piece (get_or b k 0) (none Black k below)) in
+    let white = zeros 26 a (eqb-true _ _ (and_parts (length a == 26) (length b == 26 && true) sizes).0) (λ k below. no_piece (get_or a k 0) (none White k below)) in
+    let black = zeros 26 b (eqb-true _ _ (and_parts (length b == 26) true (and_parts (length a == 26) (length b == 26 && true) sizes).1).0) (λ k below. no_piece (get_or b k 0) (none Black k below)) in
     ap (λ x. x ∷ b ∷ []) white ∙ ap (λ y. replicate 26 0 ∷ y ∷ []) black
 hands_none (a ∷ b ∷ c ∷ hands) two sizes none = absurd (omega arith)
 
@@ -97,8 +96,8 @@ rights_none : (rights : List (List Bool)) → length rights ≡ 2 → list_all (
 rights_none [] two sizes none = absurd (omega arith)
 rights_none (a ∷ []) two sizes none = absurd (omega arith)
 rights_none (a ∷ b ∷ []) two sizes none =
-    let white = wings_none a (eqb-true _ _ (left (length a == 2) (length b == 2 && true) sizes)) (none White Kingside) (none White Queenside) in
-    let black = wings_none b (eqb-true _ _ (left (length b == 2) true (right (length a == 2) (length b == 2 && true) sizes))) (none Black Kingside) (none Black Queenside) in
+    let white = wings_none a (eqb-true _ _ (and_parts (length a == 2) (length b == 2 && true) sizes).0) (none White Kingside) (none White Queenside) in
+    let black = wings_none b (eqb-true _ _ (and_parts (length b == 2) true (and_parts (length a == 2) (length b == 2 && true) sizes).1).0) (none Black Kingside) (none Black Queenside) in
     ap (λ x. x ∷ b ∷ []) white ∙ ap (λ y. (false ∷ false ∷ []) ∷ y ∷ []) black
 rights_none (a ∷ b ∷ c ∷ rights) two sizes none = absurd (omega arith)
 
@@ -247,7 +246,7 @@ gives-back rules p fit built value sound =
     let goes : GoesOnWell rules f p.cells p.side = record { begins = begins; rights = refl; ep = refl; checks = refl } in
     let same : max p.number 1 ≡ p.number = (let least = number.0 in omega arith) in
     let plain = is-plain rules p built value sound in
-    let kings = both (has_its_king rules p.cells White) (has_its_king rules p.cells Black) (sound-king rules p sound White) (sound-king rules p sound Black) in
+    let kings = and_from (has_its_king rules p.cells White) (has_its_king rules p.cells Black) (sound-king rules p sound White) (sound-king rules p sound Black) in
     let hands = hands_none p.hands value.sizes.hands value.sizes.each_hand (no-hand rules p built sound) in
     fen_fields rules (fen_text rules p) f (fields-back rules p fit built sound board)
     ∙ said_all rules f p.cells p.side p.counter p.number goes (count-back p.counter counter) (count-back p.number number.1)

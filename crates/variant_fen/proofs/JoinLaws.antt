@@ -1,10 +1,9 @@
 -- Parts that are joined are cut again.
-use Rattle.std.proofs.Common.{◌≡◌, ℕ, zero, suc, ◌+◌, ◌*◌, ◌<◌, ◌≤◌, ◌==◌, Bool, true, false, not, List, [], ◌∷◌, length, get_or, map, refl, ap, ◌∙◌, arith, ⊎_elim, length-append}
+use Rattle.std.proofs.Common.{◌≡◌, ℕ, zero, suc, ◌+◌, ◌*◌, ◌<◌, ◌≤◌, ◌==◌, Bool, true, false, not, List, [], ◌∷◌, length, map, refl, ap, ◌∙◌, arith, length-append}
 use Rattle.std.specs.List.{All, join_with_byte, list_all, position_or_len, range_with_len, slice_split}
-use Rattle.std.proofs.lemmas.Bool.{cases_Bool, eq-eqb, eqb-true}
+use Rattle.std.proofs.lemmas.Bool.{eq-eqb, ne_eqb, and_from, and_parts, not-true, not_from_false, true_from_ne_false}
 use Rattle.std.proofs.lemmas.List.Folds.{list_all-append, list_all_at}
 use Rattle.std.proofs.lemmas.List.Splits.{slice_split_at, slice_split_none}
-use Rattle.variant_fen.proofs.TestLaws.{both, left, right, not_true}
 
 -- the text has no such byte
 abbrev pub Lacks : ℕ → List ℕ → Type 0
@@ -24,20 +23,16 @@ each-map P f [] each = tt
 each-map P f (x ∷ xs) each = (each.0, each-map P f xs each.1)
 
 differs : (q : ℕ → Bool) (byte b : ℕ) → q byte ≡ false → q b ≡ true → not (b == byte) ≡ true
-differs q byte b not_q is_q =
-    ⊎_elim
-    (λ y. let same : b ≡ byte = eqb-true _ _ y in let h = ap q same in cc)
-    (λ n. rw n refl)
-    (cases_Bool (b == byte))
+differs q byte b not_q is_q = not_from_false _ (ne_eqb b byte (λ same. let h = ap q same in cc))
 
 -- a text of bytes that pass a test lacks the bytes that do not
 pub lacks-from : (q : ℕ → Bool) (byte : ℕ) (text : List ℕ) → q byte ≡ false → list_all q text ≡ true → Lacks byte text
 lacks-from q byte [] not_q all = refl
-lacks-from q byte (b ∷ bs) not_q all = both _ _ (differs q byte b not_q (left _ _ all)) (lacks-from q byte bs not_q (right _ _ all))
+lacks-from q byte (b ∷ bs) not_q all = and_from _ _ (differs q byte b not_q (and_parts _ _ all).0) (lacks-from q byte bs not_q (and_parts _ _ all).1)
 
 none_there : (byte : ℕ) (text : List ℕ) → Lacks byte text → All (λ b. (b == byte) ≡ false) text
 none_there byte text lacks = λ k d below.
-    not_true _ (⊎_elim (λ y. y) (λ n. let bad = list_all_at (λ b. not (b == byte)) text k d below n in cc) (cases_Bool (not (get_or text k d == byte))))
+    not-true _ (true_from_ne_false _ (λ n. let bad = list_all_at (λ b. not (b == byte)) text k d below n in cc))
 
 pub split-join : (byte : ℕ) (text : List ℕ) (texts : List (List ℕ)) → Each (Lacks byte) (text ∷ texts) → slice_split (λ b. b == byte) (join_with_byte byte (text ∷ texts)) ≡ text ∷ texts
 split-join byte text [] each = slice_split_none (λ b. b == byte) text (none_there byte text each.0)
@@ -49,8 +44,8 @@ split-join byte text (next ∷ texts) each =
 pub place-none : (byte : ℕ) (text : List ℕ) → Lacks byte text → position_or_len (λ b. b == byte) text ≡ length text
 place-none byte [] lacks = refl
 place-none byte (b ∷ bs) lacks =
-    let here : not (b == byte) ≡ true = left (not (b == byte)) (list_all (λ c. not (c == byte)) bs) lacks in
-    let e = place-none byte bs (right (not (b == byte)) (list_all (λ c. not (c == byte)) bs) lacks) in
+    let here : not (b == byte) ≡ true = (and_parts (not (b == byte)) (list_all (λ c. not (c == byte)) bs) lacks).0 in
+    let e = place-none byte bs (and_parts (not (b == byte)) (list_all (λ c. not (c == byte)) bs) lacks).1 in
     rw here (omega (arith, e))
 
 -- bytes of joined texts
@@ -58,7 +53,7 @@ pub join-all : (q : ℕ → Bool) (byte : ℕ) (texts : List (List ℕ)) → q b
 join-all q byte [] is_q each = refl
 join-all q byte (text ∷ []) is_q each = each.0
 join-all q byte (text ∷ next ∷ texts) is_q each =
-    list_all-append q text (byte ∷ join_with_byte byte (next ∷ texts)) ∙ both _ _ each.0 (both _ _ is_q (join-all q byte (next ∷ texts) is_q each.1))
+    list_all-append q text (byte ∷ join_with_byte byte (next ∷ texts)) ∙ and_from _ _ each.0 (and_from _ _ is_q (join-all q byte (next ∷ texts) is_q each.1))
 
 -- the length of joined texts
 pub join-short : (n byte : ℕ) (texts : List (List ℕ)) → Each (λ text. length text ≤ n) texts → length (join_with_byte byte texts) ≤ length texts * (n + 1)

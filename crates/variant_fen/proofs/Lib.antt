@@ -1,4 +1,3 @@
-pub mod TestLaws
 pub mod CutLemmas
 pub mod NumberLemmas
 pub mod FieldLemmas
@@ -16,3 +15,4 @@ pub mod DecimalLaws
 pub mod JoinLaws
 pub mod BackLaws
 pub mod GivesBack
+pub mod worked

@@ -1,6 +1,6 @@
 -- Fields under rules without hands, rights, pawns and counted checks.
 use Rattle.std.proofs.Common.{◌≡◌, ℕ, ◌+◌, ◌-◌, ◌≤◌, nat_lt, ◌==◌, Bool, true, false, ◌&&◌, ◌||◌, if◌then◌else◌, List, [], ◌∷◌, ◌++◌, length, get_or, take, sum, Option, Some, None, Ok, Err, refl, ap, ◌∙◌, arith, length-append}
-use Rattle.std.proofs.lemmas.Bool.{le-ltb}
+use Rattle.std.proofs.lemmas.Bool.{le-ltb, and_right}
 use Rattle.std.proofs.lemmas.List.{get_or-append_right}
 use Rattle.std.proofs.lemmas.List.Sums.{count_by-le-length}
 use Rattle.std.proofs.Math.Seq.{take-append_seam}
@@ -31,7 +31,6 @@ use Rattle.variant_fen.specs.Counts.{checks_of}
 use Rattle.variant_fen.specs.Numbers.{are_digits, is_number, number_of, value_behind}
 use Rattle.variant_fen.specs.Reading.{judged}
 use Rattle.variant_fen.proofs.BuiltLaws.{leaves_out}
-use Rattle.variant_fen.proofs.TestLaws.{and-false}
 
 -- ---- the pocket
 
@@ -107,7 +106,7 @@ may_hold_none rules cells b off shut =
 none_held : (rules : Rules) (cells : List (Option Cell)) (text : List ℕ) → castling_on rules ≡ false → rules.gating ≡ false → are_held rules cells text ≡ false
 unfolding are_held
 none_held rules cells [] off shut = refl
-none_held rules cells (b ∷ bs) off shut = let none = may_hold_none rules cells b off shut in rw none (and-false (nat_lt 0 (length (b ∷ bs))))
+none_held rules cells (b ∷ bs) off shut = let none = may_hold_none rules cells b off shut in rw none (and_right (nat_lt 0 (length (b ∷ bs))) false refl)
 
 pub held_none : (rules : Rules) (cells : List (Option Cell)) (text : List ℕ) → says_none text ≡ true → held_of rules cells text ≡ Ok nothing_held
 unfolding held_of
@@ -122,7 +121,7 @@ held_some rules cells text built some =
 
 no_own_pawn : (rules : Rules) (side : Side) (o : Option Cell) → rules.pawn ≡ None → is_own_pawn rules side o ≡ false
 no_own_pawn rules side None none = refl
-no_own_pawn rules side (Some c) none = rw none (and-false (same_side c.side side))
+no_own_pawn rules side (Some c) none = rw none (and_right (same_side c.side side) false refl)
 
 pub no_pawn_at : (rules : Rules) (cells : List (Option Cell)) (side : Side) (at : Option ℕ) → rules.pawn ≡ None → pawn_at rules cells side at ≡ false
 no_pawn_at rules cells side None none = refl
@@ -131,7 +130,7 @@ no_pawn_at rules cells side (Some s) none = no_own_pawn rules side (cell_at cell
 not_passed : (rules : Rules) (cells : List (Option Cell)) (side : Side) (ep : Square) → rules.pawn ≡ None → is_passed rules cells side ep ≡ false
 unfolding is_passed
 not_passed rules cells side ep none =
-    let no_pawn = no_pawn_at rules cells (other side) (ahead (board_of rules) (other side) ep 1) none in rw no_pawn (and-false _)
+    let no_pawn = no_pawn_at rules cells (other side) (ahead (board_of rules) (other side) ep 1) none in rw no_pawn (and_right _ false refl)
 
 passed_never : (rules : Rules) (cells : List (Option Cell)) (side : Side) (square : Option Square) → rules.pawn ≡ None → passed_at rules cells side square ≡ Err EnPassant
 passed_never rules cells side None none = refl

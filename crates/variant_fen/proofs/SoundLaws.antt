@@ -3,12 +3,13 @@ use Rattle.std.proofs.Common.{◌≡◌, ℕ, zero, suc, ◌+◌, ◌-◌, ◌/�
 use Rattle.std.specs.declared.result.Result.{Result}
 use Rattle.std.specs.List.{list_all, slice_split}
 use Rattle.std.proofs.Math.ListN.{get_or-eq_default}
-use Rattle.std.proofs.lemmas.Bool.{cases_Bool, le-leb, leb-true, le-ltb, ltb-true, ltb-false, eqb-true}
+use Rattle.std.proofs.lemmas.Bool.{cases_Bool, le-leb, leb-true, le-ltb, ltb-true, ltb-false, eqb-true, and_from, and_parts, or_right}
 use Rattle.std.proofs.lemmas.List.{get_or-reverse, length-reverse}
 use Rattle.std.proofs.lemmas.List.Folds.{list_all-append, list_all_at}
 use Rattle.std.proofs.lemmas.Nat.Bits.{bit_at-zero}
 use Rattle.std.proofs.lemmas.List.FromFn.{get_or-map-range_with_len}
 use Rattle.foundation.specs.Count.{all_below}
+use Rattle.foundation.proofs.CountLemmas.{all_below-true}
 use Rattle.rules_model.specs.declared.board.Cell.{Cell}
 use Rattle.rules_model.specs.declared.board.Kind.{Kind}
 use Rattle.rules_model.specs.declared.board.Position.{Position}
@@ -35,14 +36,6 @@ use Rattle.variant_fen.specs.Reading.{judged}
 use Rattle.variant_fen.specs.Tokens.{Token, run, piece, tilde, stray, is_letter, letter_kind, letter_side, tokens_of}
 use Rattle.variant_fen.proofs.BuiltLaws.{built-plain}
 use Rattle.variant_fen.proofs.TokenLemmas.{HasLetters, IsPlain, kind_below, tokens_have}
-use Rattle.variant_fen.proofs.TestLaws.{both, left, right, or-true}
-
--- ---- tests
-
-pub all_below-intro : (f : ℕ → Bool) (n : ℕ) → ((k : ℕ) → k < n → f k ≡ true) → all_below f n ≡ true
-unfolding all_below
-all_below-intro f zero h = refl
-all_below-intro f (suc n) h = both _ _ (all_below-intro f n (λ k below. h k (omega arith))) (h n (omega arith))
 
 then_ok : {A B : Type 0} (r : Result A FenFault) (f : A → Result B FenFault) (y : B) → (r >>= f) ≡ Ok y → (x : A) × (r ≡ Ok x) × (f x ≡ Ok y)
 then_ok (Ok x) f y h = (x, refl, h)
@@ -56,7 +49,7 @@ is_good rules None = true
 is_good rules (Some c) = has_kind rules c.kind && is_origin rules c.kind c.origin
 
 good_append : (rules : Rules) (xs ys : List (Option Cell)) → list_all (is_good rules) xs ≡ true → list_all (is_good rules) ys ≡ true → list_all (is_good rules) (xs ++ ys) ≡ true
-good_append rules xs ys h k = list_all-append (is_good rules) xs ys ∙ both _ _ h k
+good_append rules xs ys h k = list_all-append (is_good rules) xs ys ∙ and_from _ _ h k
 
 good_free : (rules : Rules) (n : ℕ) → list_all (is_good rules) (replicate n None) ≡ true
 good_free rules zero = refl
@@ -72,7 +65,7 @@ good_run rules digits squares h =
 good_one : (rules : Rules) (o : Option Cell) (squares : List (Option Cell)) → is_good rules o ≡ true → one_square o ≡ Ok squares → list_all (is_good rules) squares ≡ true
 good_one rules None squares g h = cc
 good_one rules (Some c) squares g h =
-    let e : Some c ∷ [] ≡ squares = cc in subst (λ xs. list_all (is_good rules) xs ≡ true) e (both _ _ g refl)
+    let e : Some c ∷ [] ≡ squares = cc in subst (λ xs. list_all (is_good rules) xs ≡ true) e (and_from _ _ g refl)
 
 good_plain : (rules : Rules) (side : Side) (kind : Kind) → is_good rules (plain_cell rules side kind) ≡ true
 good_plain rules side kind = ⊎_elim (λ y. rw y (rw y refl)) (λ n. rw n refl) (cases_Bool (has_kind rules kind))
@@ -176,7 +169,7 @@ sound_said rules rows s are count =
     subst (λ squares. is_sound_cell rules s (get_or squares (s % 12) None) ≡ true) (sym there)
     (⊎_elim
     (λ z. let short : s % 12 < rules.files = ltb-true _ _ z in
-    good_there rules s (get_or (get_or rows (length rows - 1 - s / 12) []) (s % 12) None) (both _ _ z y) (good_at rules _ (s % 12) row.good (omega (arith, row.long))))
+    good_there rules s (get_or (get_or rows (length rows - 1 - s / 12) []) (s % 12) None) (and_from _ _ z y) (good_at rules _ (s % 12) row.good (omega (arith, row.long))))
     (λ m. let wide : rules.files ≤ s % 12 = ltb-false _ _ m in
     subst (λ o. is_sound_cell rules s o ≡ true) (sym (get_or-eq_default (get_or rows (length rows - 1 - s / 12) []) None {n = s % 12} (omega (arith, row.long)))) refl)
     (cases_Bool (nat_lt (s % 12) rules.files))))
@@ -201,7 +194,7 @@ sound_cells rules plain board cells h =
     let all = rows_good rules plain (slice_split is_slash board) said.0 rows.0 in
     let e : cells_from said.0 ≡ cells = cc (said.2) in
     subst (λ xs. all_below (sound_at rules xs) 120 ≡ true) e
-    (all_below-intro (sound_at rules (cells_from said.0)) 120 (λ s below.
+    (all_below-true (sound_at rules (cells_from said.0)) 120 (λ s below.
     subst (λ o. is_sound_cell rules s o ≡ true)
     (sym (cell_at-get_or (cells_from said.0) s ∙ get_or-map-range_with_len (said_at said.0) 0 120 s s None below (omega arith)))
     (sound_said rules said.0 s all.0 (all.1 ∙ rows.1))))
@@ -263,16 +256,16 @@ bare_side : (rules : Rules) (p : Position) (side : Side) → IsBare p → has_it
 unfolding is_sound_side
 bare_side rules p White bare king =
     seven _ _ _ _ _ _ _
-    (all_below-intro _ 26 (λ k below. let none = bare.hands in rw none (no_piece_in rules White k))) king
+    (all_below-true _ 26 (λ k below. let none = bare.hands in rw none (no_piece_in rules White k))) king
     (no_right_held rules p White Kingside bare.rights) (no_right_held rules p White Queenside bare.rights)
-    (all_below-intro _ 16 (λ k below. no_gate_held rules p White k bare.gates))
-    (let none = bare.checks in rw none refl) (let none = bare.checks in rw none (or-true rules.check_counting))
+    (all_below-true _ 16 (λ k below. no_gate_held rules p White k bare.gates))
+    (let none = bare.checks in rw none refl) (let none = bare.checks in rw none (or_right rules.check_counting true refl))
 bare_side rules p Black bare king =
     seven _ _ _ _ _ _ _
-    (all_below-intro _ 26 (λ k below. let none = bare.hands in rw none (no_piece_in rules Black k))) king
+    (all_below-true _ 26 (λ k below. let none = bare.hands in rw none (no_piece_in rules Black k))) king
     (no_right_held rules p Black Kingside bare.rights) (no_right_held rules p Black Queenside bare.rights)
-    (all_below-intro _ 16 (λ k below. no_gate_held rules p Black k bare.gates))
-    (let none = bare.checks in rw none refl) (let none = bare.checks in rw none (or-true rules.check_counting))
+    (all_below-true _ 16 (λ k below. no_gate_held rules p Black k bare.gates))
+    (let none = bare.checks in rw none refl) (let none = bare.checks in rw none (or_right rules.check_counting true refl))
 
 six : (a b c d e f : Bool) → a ≡ true → b ≡ true → c ≡ true → d ≡ true → e ≡ true → f ≡ true → (a && b && c && d && e && f) ≡ true
 six a b c d e f i j k l m n = rw (i, j, k, l, m, n) refl
@@ -281,7 +274,7 @@ bare_repeat : (rules : Rules) (p q : Position) → IsBare p → all_below (sound
 unfolding is_sound_repeat
 bare_repeat rules p q bare cells h =
     let kings = kings_hold rules p q h in
-    six _ _ _ _ _ _ cells (le-leb _ _ (few_enough rules p q h)) (bare_side rules p White bare (left _ _ kings)) (bare_side rules p Black bare (right _ _ kings))
+    six _ _ _ _ _ _ cells (le-leb _ _ (few_enough rules p q h)) (bare_side rules p White bare (and_parts _ _ kings).0) (bare_side rules p Black bare (and_parts _ _ kings).1)
     (let safe = king_safe rules p q h in rw safe refl) (let none = bare.ep in rw none refl)
 
 four : (a b c d : Bool) → a ≡ true → b ≡ true → c ≡ true → d ≡ true → (a && b && c && d) ≡ true

@@ -62,7 +62,7 @@ fn put(rules: &Rules, cells: &mut Cells, rank: u8, file: u16, cell: Cell)
 }
 
 /// Reads a rank that is empty so far. No piece is promoted, so no letter has a mark.
-fn read_row(rules: &Rules, text: &[u8], rank: u8, cells: &mut Cells) -> Result<(), FenFault>
+fn read_rank(rules: &Rules, text: &[u8], rank: u8, cells: &mut Cells) -> Result<(), FenFault>
     requires fit { IsFit rules.now }
     requires built { is_built rules.now ≡ true }
     requires rank { rank < 10 }
@@ -124,9 +124,9 @@ pub(crate) fn read_board(rules: &Rules, board: &[u8], cells: &mut Cells) -> Resu
     let mut rank = rules.ranks;
     let mut left = Some(board);
     while let Some(text) = left {
-        let (row, behind) = cut_at(text, b'/');
+        let (rank_text, behind) = cut_at(text, b'/');
         rank -= 1;
-        read_row(rules, row, rank, cells)?;
+        read_rank(rules, rank_text, rank, cells)?;
         left = behind;
     }
     Ok(())

@@ -24,7 +24,7 @@ const FIRST_NUMBER: &[u8] = b"1";
 
 /// What a text says in each field, in a variant that counts no checks.
 #[derive(Clone, Copy)]
-pub struct FieldTexts<'a> {
+pub(crate) struct FieldTexts<'a> {
     pub board: &'a [u8],
     pub pocket: &'a [u8],
     pub side: &'a [u8],

@@ -26,7 +26,7 @@ pub use fault::FenFault;
 use fields::read_fields;
 pub use move_text::{MoveText, write_move};
 use read::read_position;
-pub use rules_model::{Memory, Position, Rules, Text};
+use rules_model::{Memory, Position, Rules, Text};
 use sizes::are_values;
 use std::alloc::Global;
 use write::{bare_fields, push_board, push_number};

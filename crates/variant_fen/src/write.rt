@@ -59,7 +59,7 @@ fn push_run(text: &mut Vec<u8>, empty: u8) -> Result<(), Memory>
 }
 
 /// Appends a rank.
-fn push_row(rules: &Rules, text: &mut Vec<u8>, cells: &Cells, rank: u8) -> Result<(), Memory>
+fn push_rank(rules: &Rules, text: &mut Vec<u8>, cells: &Cells, rank: u8) -> Result<(), Memory>
     requires fit { IsFit rules.now }
     requires rank { rank < 10 }
     ensures { OnOk result (text.new.items ≡ text.old.items ++ Printing.row_text rules.now 0 (row_at cells.now rank rules.now.files)) }
@@ -88,7 +88,7 @@ pub(crate) fn push_board(rules: &Rules, text: &mut Vec<u8>, cells: &Cells) -> Re
         if above > 0 {
             text.push(b'/')?;
         }
-        push_row(rules, text, cells, rules.ranks - 1 - above)?;
+        push_rank(rules, text, cells, rules.ranks - 1 - above)?;
     }
     Ok(())
 }

@@ -27,15 +27,15 @@ loop-left-init c =
       above = λ s from. free s;
     }
 
-pub returns-in_err-read_row : goal.returns-in_err-read_row
-returns-in_err-read_row c =
+pub returns-in_err-read_rank : goal.returns-in_err-read_rank
+returns-in_err-read_rank c =
     let rules = c.args.rules.now in
     let n : ℕ = rules.ranks - c.loop-left.rank in
     let parts : List (List ℕ) = parts_behind 47 (option_copied c.cut_at.result.1) in
     let cut : parts_behind 47 (option_copied c.loop-left.left) ≡ c.cut_at.result.0.now ∷ parts = ap (λ o. parts_behind 47 (option_copied o)) c.in-Some.is ∙ c.cut_at.ensures in
     let p = err_from_is_err_and c.from_residual.result c.from_residual.ensures.1 in
     rw (p.1, p.2) (row_fault rules c.args.board.now _ (sym c.rank_count.ensures ∙ c.if-rank_count-from.false ∙ c.from.ensures)
-    (c.loop-left.invariant.said ∙ ap (λ ps. behind_rows rules c.loop-left.cells n (rows_of rules ps)) cut ∙ step_row_fault rules c.loop-left.cells n c.cut_at.result.0.now parts _ c.in_err-read_row.ensures.row))
+    (c.loop-left.invariant.said ∙ ap (λ ps. behind_rows rules c.loop-left.cells n (rows_of rules ps)) cut ∙ step_row_fault rules c.loop-left.cells n c.cut_at.result.0.now parts _ c.in_err-read_rank.ensures.row))
 
 pub loop-left-preserved : goal.loop-left-preserved
 loop-left-preserved c =
@@ -45,15 +45,15 @@ loop-left-preserved c =
     let cut : parts_behind 47 (option_copied c.loop-left.left) ≡ c.cut_at.result.0.now ∷ parts = ap (λ o. parts_behind 47 (option_copied o)) c.in-Some.is ∙ c.cut_at.ensures in
     let count : 1 + length parts ≡ c.loop-left.rank = omega (arith, ap length cut, c.loop-left.invariant.left) in
     let lower : rank < rules.ranks = omega arith in
-    let said = step_row rules c.loop-left.cells c.read_row.new.cells (rules.ranks - c.loop-left.rank) rank c.cut_at.result.0.now parts (omega arith) (omega arith) c.requires.fit.files_most c.in_ok-read_row.ensures.others c.in_ok-read_row.ensures.row in
+    let said = step_row rules c.loop-left.cells c.read_rank.new.cells (rules.ranks - c.loop-left.rank) rank c.cut_at.result.0.now parts (omega arith) (omega arith) c.requires.fit.files_most c.in_ok-read_rank.ensures.others c.in_ok-read_rank.ensures.row in
     record {
-      said = c.loop-left.invariant.said ∙ ap (λ ps. behind_rows rules c.loop-left.cells (rules.ranks - c.loop-left.rank) (rows_of rules ps)) cut ∙ said ∙ ap (λ n. behind_rows rules c.read_row.new.cells n (rows_of rules parts)) (let next : (rules.ranks - c.loop-left.rank) + 1 ≡ rules.ranks - (c.loop-left.rank - 1) = omega arith in next);
+      said = c.loop-left.invariant.said ∙ ap (λ ps. behind_rows rules c.loop-left.cells (rules.ranks - c.loop-left.rank) (rows_of rules ps)) cut ∙ said ∙ ap (λ n. behind_rows rules c.read_rank.new.cells n (rows_of rules parts)) (let next : (rules.ranks - c.loop-left.rank) + 1 ≡ rules.ranks - (c.loop-left.rank - 1) = omega arith in next);
       left = omega arith;
       low = omega arith;
-      long = c.read_row.array_long;
-      free = λ s below. c.in_ok-read_row.ensures.others s (omega arith) ∙ c.loop-left.invariant.free s (omega arith);
-      beside = beside_after rules.files rank c.loop-left.cells c.read_row.new.cells c.in_ok-read_row.ensures.others c.in_ok-read_row.ensures.beyond c.loop-left.invariant.beside;
-      above = λ s from. c.in_ok-read_row.ensures.others s (omega arith) ∙ c.loop-left.invariant.above s from;
+      long = c.read_rank.array_long;
+      free = λ s below. c.in_ok-read_rank.ensures.others s (omega arith) ∙ c.loop-left.invariant.free s (omega arith);
+      beside = beside_after rules.files rank c.loop-left.cells c.read_rank.new.cells c.in_ok-read_rank.ensures.others c.in_ok-read_rank.ensures.beyond c.loop-left.invariant.beside;
+      above = λ s from. c.in_ok-read_rank.ensures.others s (omega arith) ∙ c.loop-left.invariant.above s from;
     }
 
 pub returns : goal.returns

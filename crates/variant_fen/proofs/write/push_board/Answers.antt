@@ -17,11 +17,11 @@ loop-above-preserved c =
           let more = ranks_text-more c.args.rules.now c.args.cells.now c.loop-above.above w.if-above-gt0.true in
           let slash = append_assoc c.loop-above.text.items (47 ∷ []) row in
           let join = append_assoc c.args.text.now.items (ranks_text c.args.rules.now c.args.cells.now c.loop-above.above) (47 ∷ row) in
-          cc (more, slash, join, w.text-is, w.in_ok-push.ensures.items, c.in_ok-push_row.ensures, c.loop-above.invariant)
+          cc (more, slash, join, w.text-is, w.in_ok-push.ensures.items, c.in_ok-push_rank.ensures, c.loop-above.invariant)
       | else-above-gt0 w ↦
           let zero : c.loop-above.above ≡ 0 = omega (arith, w.if-above-gt0.false) in
           let first = ranks_text-next c.args.rules.now c.args.cells.now c.loop-above.above zero in
           let none = ap (ranks_text c.args.rules.now c.args.cells.now) zero ∙ ranks_text-none c.args.rules.now c.args.cells.now in
           let nothing = append-nil c.args.text.now.items in
-          cc (first, none, nothing, w.text-is, c.in_ok-push_row.ensures, c.loop-above.invariant)
+          cc (first, none, nothing, w.text-is, c.in_ok-push_rank.ensures, c.loop-above.invariant)
     ]

@@ -1,7 +1,7 @@
 use Rattle.std.proofs.Common.{◌≡◌, ◌≤◌, ◌++◌, drop}
 use Rattle.variant_fen.specs.Board.{row_at}
 use Rattle.variant_fen.specs.Printing.{row_text}
-use Rattle.variant_fen.proofs.write.push_row.Given as goal
+use Rattle.variant_fen.proofs.write.push_rank.Given as goal
 
 abbrev pub invariant-loop-file : goal.invariant-loop-file
 invariant-loop-file l = record {

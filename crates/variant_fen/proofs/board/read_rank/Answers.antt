@@ -5,7 +5,7 @@ use Rattle.variant_fen.specs.Numbers.{is_digit, begins_with_zero}
 use Rattle.variant_fen.specs.Plain.{letter_cell}
 use Rattle.variant_fen.proofs.BuiltLaws.{built-plain}
 use Rattle.variant_fen.proofs.RowLemmas.{ended_none, step_run, step_zero, step_put, step_bad, step_end, free_after, same_after, no_bytes}
-use Rattle.variant_fen.proofs.board.read_row.Goals as goal
+use Rattle.variant_fen.proofs.board.read_rank.Goals as goal
 
 pub loop-first-init : goal.loop-first-init
 loop-first-init c = record {

@@ -2,8 +2,8 @@ use Rattle.std.proofs.Common.{◌≡◌, ◌++◌, ◌+◌, drop, arith}
 use Rattle.variant_fen.specs.Board.{row_at}
 use Rattle.variant_fen.specs.Printing.{cell_text, row_text, run_text}
 use Rattle.variant_fen.proofs.WriteLemmas.{after_ok, row_none, row_some, row_done, three_behind}
-use Rattle.variant_fen.proofs.write.push_row.Goals as goal
-use Rattle.variant_fen.proofs.write.push_row.Goals.{in-None, in-Some+in_ok-push_run-in-Some+in_ok-push_cell-in-Some}
+use Rattle.variant_fen.proofs.write.push_rank.Goals as goal
+use Rattle.variant_fen.proofs.write.push_rank.Goals.{in-None, in-Some+in_ok-push_run-in-Some+in_ok-push_cell-in-Some}
 
 pub loop-file-preserved : goal.loop-file-preserved
 loop-file-preserved c =

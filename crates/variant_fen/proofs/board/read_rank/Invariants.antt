@@ -3,7 +3,7 @@ use Rattle.variant_fen.specs.Board.{row_of, squares_of}
 use Rattle.variant_fen.specs.Plain.{IsFreeFrom, IsSameBut}
 use Rattle.variant_fen.specs.Tokens.{tokens_of}
 use Rattle.variant_fen.proofs.RowLemmas.{ended}
-use Rattle.variant_fen.proofs.board.read_row.Given as goal
+use Rattle.variant_fen.proofs.board.read_rank.Given as goal
 
 abbrev pub invariant-loop-first : goal.invariant-loop-first
 invariant-loop-first l = record {
