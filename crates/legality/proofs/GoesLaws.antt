@@ -1,5 +1,5 @@
 -- Whether some legal move leads somewhere is whether there is one.
-use Rattle.std.proofs.Common.{◌≡◌, ℕ, ◌<◌, Bool, true, false, not, ◌&&◌, ◌||◌, ◌⊎◌, inl, inr, Option, Some, None, length, refl}
+use Rattle.std.proofs.Common.{◌≡◌, ℕ, ◌<◌, Bool, true, false, not, ◌&&◌, ◌||◌, ◌⊎◌, inl, inr, Option, Some, None, length, refl, ◌∙◌}
 use Rattle.foundation.specs.Member.{Member}
 use Rattle.foundation.proofs.CountLemmas.{any_below-none, any_below-some, any_below-true}
 use Rattle.rules_model.specs.declared.board.Cell.{Cell}
@@ -24,6 +24,10 @@ use Rattle.rules_model.specs.Sides.{same_side}
 use Rattle.rules_model.specs.Squares.{cell_at}
 use Rattle.rules_model.proofs.CandidateLaws.{both_of, not_both, one_of}
 use Rattle.rules_model.proofs.LegalLaws.{legal-member}
+use Rattle.attack_tables.specs.declared.mode.Mode.TheVariants.{Quiet, Take}
+use Rattle.attack_tables.specs.Reached.{reaches_in, IsSetBelow}
+use Rattle.piece_moves.specs.Goals.{lands_in, makes, own_piece}
+use Rattle.piece_moves.proofs.GoalLemmas.{lands_goes, own_makes}
 use Rattle.legality.specs.Goes.{goes_to, goes_from, goes_somewhere}
 use Rattle.legality.proofs.ListLaws.{legal_then, member-is, not_legal, not_stuck, stuck}
 
@@ -46,6 +50,25 @@ unfolding goes_from goes_to
 goes_from-none rules r from fit built e =
     any_below-none (goes_to rules r (record { 0 = from })) 120
     (λ to l. neither_is _ _ (none_at rules r (record { 0 = from }) (record { 0 = to }) Stays fit built e) (none_at rules r (record { 0 = from }) (record { 0 = to }) Plus fit built e))
+
+-- ---- nor to a square on which the piece does not land
+
+not_made : (rules : Rules) (r : Repeat) (from to : Square) (promo : Promo) (o : Option Cell) → ((c : Cell) → o ≡ Some c → piece_goes rules r.cells r.side c.kind from to.0 ≡ false) → makes rules r o from to promo ≡ false
+unfolding piece_moves
+not_made rules r from to promo None h = refl
+not_made rules r from to promo (Some c) h = rw (h c refl) refl
+
+module _ (rules : Rules) (r : Repeat) (from to : Square) (quiet takes : ℕ) (fit : IsFit rules) (built : is_built rules ≡ true) (q : IsSetBelow 120 (reaches_in rules r.cells from Quiet) quiet) (t : IsSetBelow 120 (reaches_in rules r.cells from Take) takes) (below : to.0 < 120) (e : lands_in r.cells r.side quiet takes to.0 ≡ false) where
+  not_landed : (promo : Promo) → is_legal rules r (Go from to promo None) ≡ false
+  unfolding is_piece_move
+  not_landed promo =
+      not_legal rules r (Go from to promo None) fit built
+      (own_makes rules r from to promo (cell_at r.cells from.0)
+      ∙ not_made rules r from to promo (own_piece rules r.side (cell_at r.cells from.0)) (λ c own. lands_goes rules r.cells r.side from quiet takes to.0 c own q t below ∙ e))
+
+  pub goes_to-not_landed : goes_to rules r from to.0 ≡ false
+  unfolding goes_to
+  goes_to-not_landed = neither_is _ _ (not_landed Stays) (not_landed Plus)
 
 -- ---- where one goes somewhere, there is a legal move
 
