@@ -1,5 +1,6 @@
 -- What the definitions come to where the rules are built: no special moves, no early ends and no rules of choice.
 use Rattle.std.proofs.Common.{◌≡◌, Bool, true, false, not, ◌&&◌, ◌||◌, Option, Some, None, List, refl, ap, is_none, ◌∙◌}
+use Rattle.std.proofs.lemmas.Bool.{and_left, and_right}
 use Rattle.foundation.proofs.CountLemmas.{any_below-none}
 use Rattle.rules_model.specs.declared.board.Cell.{Cell}
 use Rattle.rules_model.specs.declared.board.Kind.{Kind}
@@ -25,14 +26,11 @@ use Rattle.rules_model.specs.Ends.{is_ongoing, early_end, flag_at, has_flag}
 use Rattle.rules_model.specs.Legal.{is_drop, is_safe, may_check, is_sane, is_allowed, stays_mobile, gives_check}
 use Rattle.rules_model.specs.Next.{captures}
 use Rattle.rules_model.specs.Allowed.{can_capture, is_legal}
-use Rattle.rules_model.specs.Sides.{other}
+use Rattle.rules_model.specs.Sides.{other, same_side}
 use Rattle.rules_model.proofs.CandidateLaws.{both_of, false_of_not}
+use Rattle.sound_play.proofs.TestLemmas.{none_from}
 
 -- ---- the parts of `is_plain`
-
-none_of : {X : Type 0} (o : Option X) → is_none o ≡ true → o ≡ None
-none_of None e = refl
-none_of (Some x) e = cc
 
 record Plain (rules : Rules) : Type 0 where
   pawn : rules.pawn ≡ None
@@ -61,7 +59,7 @@ plain rules e =
     let k = both_of _ (not (castling_on rules)) j.0 in
     let l = both_of _ (is_none rules.pawn) k.0 in
     record {
-      pawn = none_of _ l.1;
+      pawn = none_from _ l.1;
       castling = false_of_not _ k.1;
       drops = false_of_not _ j.1;
       gating = false_of_not _ h.1;
@@ -69,15 +67,9 @@ plain rules e =
       immobile_bad = false_of_not _ f.1;
       checking = d.1;
       check_counting = false_of_not _ c.1;
-      extinction = none_of _ b.1;
-      flag_kind = none_of _ a.1;
+      extinction = none_from _ b.1;
+      flag_kind = none_from _ a.1;
     }
-
--- ---- tests that are joined
-
-and_false : (a : Bool) → (a && false) ≡ false
-and_false true = refl
-and_false false = refl
 
 -- ---- no special move
 
@@ -88,7 +80,7 @@ no_hand_gate false gating e g = refl
 
 no_pawn_move : (rules : Rules) (r : Repeat) (from to : Square) (promo : Promo) (c : Option Cell) → rules.pawn ≡ None → own_pawn_moves rules r from to promo c ≡ false
 no_pawn_move rules r from to promo None e = refl
-no_pawn_move rules r from to promo (Some c) e = rw (e, and_false)
+no_pawn_move rules r from to promo (Some c) e = rw e (and_left (same_side c.side r.side && false) _ (and_right (same_side c.side r.side) false refl))
 
 no_gate : (rules : Rules) (r : Repeat) (from : Square) (kind : Kind) → rules.gate_hand ≡ false → gates_from rules r from kind ≡ false
 no_gate rules r from kind e = rw e
@@ -97,7 +89,7 @@ no_special : (rules : Rules) (r : Repeat) (m : Move) → IsFit rules → Plain r
 unfolding is_special_move castles drops_to
 no_special rules r (Go from to promo None) fit p = no_pawn_move rules r from to promo (cell_at r.cells from.0) p.pawn
 no_special rules r (Go from to promo (Some kind)) fit p =
-    rw (no_gate rules r from kind (no_hand_gate rules.gate_hand rules.gating fit.hand_gates p.gating)) (and_false (own_piece_moves rules r from to promo (cell_at r.cells from.0)))
+    rw (no_gate rules r from kind (no_hand_gate rules.gate_hand rules.gating fit.hand_gates p.gating)) (and_right (own_piece_moves rules r from to promo (cell_at r.cells from.0)) false refl)
 no_special rules r (Castle from to rook gate) fit p = rw p.castling
 no_special rules r (Drop kind to) fit p = rw p.drops
 
@@ -105,7 +97,7 @@ no_special rules r (Drop kind to) fit p = rw p.drops
 
 not_flagged : (rules : Rules) (side : Side) (c : Option Cell) (in_region : Bool) → rules.flag_kind ≡ None → (is_own side (names rules.flag_kind) c && in_region) ≡ false
 not_flagged rules side None b e = refl
-not_flagged rules side (Some c) b e = rw (e, and_false)
+not_flagged rules side (Some c) b e = rw e (and_left (same_side c.side side && false) b (and_right (same_side c.side side) false refl))
 
 no_flag : (rules : Rules) (cells : List (Option Cell)) (side : Side) → rules.flag_kind ≡ None → has_flag rules cells side ≡ false
 unfolding has_flag flag_at

@@ -1,5 +1,6 @@
 -- Whether some legal move leads somewhere is whether there is one.
-use Rattle.std.proofs.Common.{◌≡◌, ℕ, ◌<◌, Bool, true, false, not, ◌&&◌, ◌||◌, ◌⊎◌, inl, inr, Option, Some, None, length, refl}
+use Rattle.std.proofs.Common.{◌≡◌, ℕ, ◌<◌, true, false, not, ◌&&◌, inl, inr, Option, Some, None, length, refl, ◌∙◌}
+use Rattle.std.proofs.lemmas.Bool.{or_from, or_left, or_right}
 use Rattle.foundation.specs.Member.{Member}
 use Rattle.foundation.proofs.CountLemmas.{any_below-none, any_below-some, any_below-true}
 use Rattle.rules_model.specs.declared.board.Cell.{Cell}
@@ -24,6 +25,10 @@ use Rattle.rules_model.specs.Sides.{same_side}
 use Rattle.rules_model.specs.Squares.{cell_at}
 use Rattle.rules_model.proofs.CandidateLaws.{both_of, not_both, one_of}
 use Rattle.rules_model.proofs.LegalLaws.{legal-member}
+use Rattle.attack_tables.specs.declared.mode.Mode.TheVariants.{Quiet, Take}
+use Rattle.attack_tables.specs.Reached.{reaches_in, IsSetBelow}
+use Rattle.piece_moves.specs.Goals.{lands_in, makes, own_piece}
+use Rattle.piece_moves.proofs.GoalLemmas.{lands_goes, own_makes}
 use Rattle.legality.specs.Goes.{goes_to, goes_from, goes_somewhere}
 use Rattle.legality.proofs.ListLaws.{legal_then, member-is, not_legal, not_stuck, stuck}
 
@@ -38,14 +43,30 @@ unfolding is_piece_move
 none_at rules r from to promo fit built e =
     not_legal rules r (Go from to promo None) fit built (not_own rules r from to promo (cell_at r.cells from.0) e)
 
-neither_is : (a b : Bool) → a ≡ false → b ≡ false → (a || b) ≡ false
-neither_is a b e f = rw (e, f)
-
 pub goes_from-none : (rules : Rules) (r : Repeat) (from : ℕ) → IsFit rules → is_built rules ≡ true → is_of r.side (cell_at r.cells from) ≡ false → goes_from rules r from ≡ false
 unfolding goes_from goes_to
 goes_from-none rules r from fit built e =
     any_below-none (goes_to rules r (record { 0 = from })) 120
-    (λ to l. neither_is _ _ (none_at rules r (record { 0 = from }) (record { 0 = to }) Stays fit built e) (none_at rules r (record { 0 = from }) (record { 0 = to }) Plus fit built e))
+    (λ to l. or_from _ _ (none_at rules r (record { 0 = from }) (record { 0 = to }) Stays fit built e) (none_at rules r (record { 0 = from }) (record { 0 = to }) Plus fit built e))
+
+-- ---- nor to a square on which the piece does not land
+
+not_made : (rules : Rules) (r : Repeat) (from to : Square) (promo : Promo) (o : Option Cell) → ((c : Cell) → o ≡ Some c → piece_goes rules r.cells r.side c.kind from to.0 ≡ false) → makes rules r o from to promo ≡ false
+unfolding piece_moves
+not_made rules r from to promo None h = refl
+not_made rules r from to promo (Some c) h = rw (h c refl) refl
+
+module _ (rules : Rules) (r : Repeat) (from to : Square) (quiet takes : ℕ) (fit : IsFit rules) (built : is_built rules ≡ true) (q : IsSetBelow 120 (reaches_in rules r.cells from Quiet) quiet) (t : IsSetBelow 120 (reaches_in rules r.cells from Take) takes) (below : to.0 < 120) (e : lands_in r.cells r.side quiet takes to.0 ≡ false) where
+  not_landed : (promo : Promo) → is_legal rules r (Go from to promo None) ≡ false
+  unfolding is_piece_move
+  not_landed promo =
+      not_legal rules r (Go from to promo None) fit built
+      (own_makes rules r from to promo (cell_at r.cells from.0)
+      ∙ not_made rules r from to promo (own_piece rules r.side (cell_at r.cells from.0)) (λ c own. lands_goes rules r.cells r.side from quiet takes to.0 c own q t below ∙ e))
+
+  pub goes_to-not_landed : goes_to rules r from to.0 ≡ false
+  unfolding goes_to
+  goes_to-not_landed = or_from _ _ (not_landed Stays) (not_landed Plus)
 
 -- ---- where one goes somewhere, there is a legal move
 
@@ -76,21 +97,16 @@ no_pawn_promo rules r from to kind (Some x) e =
     let d = both_of (piece_goes rules r.cells r.side x.kind from to.0) (piece_promo rules (may_plus rules r.side x.kind from.0 to.0) (Pawn kind)) b.0 in
     not_both false d.1 refl
 
-either_is : (a b : Bool) → (a ≡ true) ⊎ (b ≡ true) → (a || b) ≡ true
-either_is true b h = refl
-either_is false b (inl e) = cc
-either_is false b (inr e) = e
-
-goes_if : (rules : Rules) (r : Repeat) (from to : Square) → from.0 < 120 → to.0 < 120 → (is_legal rules r (Go from to Stays None) ≡ true) ⊎ (is_legal rules r (Go from to Plus None) ≡ true) → goes_somewhere rules r ≡ true
-unfolding goes_somewhere goes_from goes_to
+goes_if : (rules : Rules) (r : Repeat) (from to : Square) → from.0 < 120 → to.0 < 120 → goes_to rules r from to.0 ≡ true → goes_somewhere rules r ≡ true
+unfolding goes_somewhere goes_from
 goes_if rules r from to f t h =
-    any_below-true (goes_from rules r) 120 from.0 f (any_below-true (goes_to rules r from) 120 to.0 t (either_is _ _ h))
+    any_below-true (goes_from rules r) 120 from.0 f (any_below-true (goes_to rules r from) 120 to.0 t h)
 
 goes_with : (rules : Rules) (r : Repeat) (m : Move) → IsFitMove m → is_piece_move rules r m ≡ true → is_legal rules r m ≡ true → goes_somewhere rules r ≡ true
-unfolding is_piece_move
-goes_with rules r (Go from to Stays None) fit e h = goes_if rules r from to fit.0 fit.1 (inl h)
+unfolding is_piece_move goes_to
+goes_with rules r (Go from to Stays None) fit e h = goes_if rules r from to fit.0 fit.1 (or_left _ _ h)
 goes_with rules r (Go from to (Pawn kind) None) fit e h = absurd (no_pawn_promo rules r from to kind (cell_at r.cells from.0) e)
-goes_with rules r (Go from to Plus None) fit e h = goes_if rules r from to fit.0 fit.1 (inr h)
+goes_with rules r (Go from to Plus None) fit e h = goes_if rules r from to fit.0 fit.1 (or_right _ _ h)
 goes_with rules r (Go from to promo (Some kind)) fit e h = cc
 goes_with rules r (Castle from to rook gate) fit e h = cc
 goes_with rules r (Drop kind to) fit e h = cc

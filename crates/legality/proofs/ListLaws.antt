@@ -2,6 +2,7 @@
 use Rattle.std.proofs.Common.{◌≡◌, Bool, true, false, ◌&&◌, ◌↔◌, cond, inl, IsTrue, List, [], ◌∷◌, ◌++◌, length, refl, sym, ◌∙◌, subst, ap}
 use Rattle.std.specs.List.{filter}
 use Rattle.std.specs.List.Sorted.{IsPermutation, IsStrictlySortedBy}
+use Rattle.std.proofs.lemmas.Bool.{and_from}
 use Rattle.std.proofs.lemmas.List.Sorted.{IsPermutation-sym}
 use Rattle.foundation.specs.Member.{Appends, Member, IsEachOnce, Lists}
 use Rattle.foundation.specs.Tests.{is_nil}
@@ -41,11 +42,8 @@ pieces-listed rules r none out xs e f a = subst (Lists (FitPieceMoves rules r)) 
 pub safe-once : (rules : Rules) (r : Repeat) (xs : List Move) → Lists (FitPieceMoves rules r) xs → IsEachOnce (filter (is_safe rules r) xs)
 safe-once rules r xs l = once-filter (is_safe rules r) xs l.once
 
-both_true : (a b : Bool) → a ≡ true → b ≡ true → (a && b) ≡ true
-both_true a b e f = rw (e, f)
-
 legal_if : (rules : Rules) (r : Repeat) (m : Move) → IsFit rules → is_built rules ≡ true → is_piece_move rules r m ≡ true → is_safe rules r m ≡ true → is_legal rules r m ≡ true
-legal_if rules r m fit b e f = legal-built rules r m fit b ∙ both_true _ _ e f
+legal_if rules r m fit b e f = legal-built rules r m fit b ∙ and_from _ _ e f
 
 pub legal_then : (rules : Rules) (r : Repeat) (m : Move) → IsFit rules → is_built rules ≡ true → is_legal rules r m ≡ true → (is_piece_move rules r m ≡ true) × (is_safe rules r m ≡ true)
 legal_then rules r m fit b e = both_of _ _ (sym (legal-built rules r m fit b) ∙ e)

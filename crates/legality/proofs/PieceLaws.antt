@@ -1,7 +1,6 @@
 -- The ordinary moves of pieces go between squares of the largest board.
-use Rattle.std.proofs.Common.{◌≡◌, ℕ, ◌/◌, ◌%◌, ◌<◌, ◌≤◌, Bool, true, not, ◌&&◌, nat_lt, slice_get, Option, Some, None, List, length, refl, arith, suc}
+use Rattle.std.proofs.Common.{◌≡◌, ℕ, ◌/◌, ◌%◌, ◌<◌, ◌≤◌, Bool, true, not, ◌&&◌, nat_lt, Option, Some, None, List, length, refl, arith, suc}
 use Rattle.std.proofs.lemmas.Bool.Decides.{nat_tests}
-use Rattle.std.proofs.lemmas.Option.{slice_get_within}
 use Rattle.foundation.proofs.CountLemmas.{any_below-some}
 use Rattle.rules_model.specs.declared.board.Cell.{Cell}
 use Rattle.rules_model.specs.declared.board.Kind.{Kind}
@@ -14,7 +13,7 @@ use Rattle.rules_model.specs.declared.moves.Promo.{Promo}
 use Rattle.rules_model.specs.declared.moves.Promo.TheVariants.{Stays, Pawn, Plus}
 use Rattle.rules_model.specs.declared.rules.Rules.{Rules}
 use Rattle.rules_model.specs.declared.rules.Term.{Term}
-use Rattle.rules_model.specs.Squares.{cell_at, flat, step_to}
+use Rattle.rules_model.specs.Squares.{cell_at, step_to}
 use Rattle.rules_model.specs.Reach.{is_at, passes, ray_of, reaches, reaches_over}
 use Rattle.rules_model.specs.Kinds.{board_of, is_pawn, terms_of}
 use Rattle.rules_model.specs.Sides.{same_side}
@@ -24,15 +23,7 @@ use Rattle.rules_model.specs.Fit.{IsFit}
 use Rattle.rules_model.specs.Moves.{IsFitMove, IsFitPromo}
 use Rattle.rules_model.proofs.CandidateLaws.{any_has, both_of}
 use Rattle.rules_model.proofs.VariantLaws.{step_board}
-
--- ---- the start
-
-some_flat : (o : Option (Option Cell)) (c : Cell) → flat o ≡ Some c → (x : Option Cell) × (o ≡ Some x)
-some_flat None c e = cc
-some_flat (Some x) c e = (x, refl)
-
-where_some : (cells : List (Option Cell)) (s : ℕ) (c : Cell) → cell_at cells s ≡ Some c → s < length cells
-where_some cells s c e = let o = some_flat (slice_get cells s) c e in slice_get_within cells s o.0 o.1
+use Rattle.sound_play.proofs.CountLaws.{cell_within}
 
 -- ---- the target
 
@@ -70,7 +61,7 @@ own_fit rules r from to promo (Some x) fit size at e =
     let a = both_of (same_side x.side r.side && not (is_pawn rules x.kind)) (piece_moves rules r x from to promo) e in
     let b = both_of _ (not (means_castling rules r x.kind from.0 to.0)) a.1 in
     let d = both_of (piece_goes rules r.cells r.side x.kind from to.0) (piece_promo rules (may_plus rules r.side x.kind from.0 to.0) promo) b.0 in
-    let l = where_some r.cells from.0 x at in
+    let l = cell_within r.cells from.0 x at in
     (omega (arith, size), goes_small rules r.cells r.side x.kind from to.0 fit d.0, promo_small rules _ promo d.1)
 
 -- an ordinary move of a piece is one on the largest board

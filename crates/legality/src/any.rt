@@ -12,7 +12,8 @@ ghost use Rattle.legality.specs.Goes as Goes;
 
 use crate::check::is_legal;
 use crate::sizes::position_sizes;
-use attack_tables::Tables;
+use attack_tables::{Mode, Tables};
+use piece_moves::lands;
 use rules_model::{Move, Position, Promo, Rules, Square};
 
 /// Whether an own piece stands on the square.
@@ -63,8 +64,10 @@ fn goes_from(rules: &Rules, tables: &Tables, p: &Position, from: u8) -> bool
     if !is_own(p, from) {
         return false;
     }
+    let quiet = tables.reaches(p, Square(from), Mode::Quiet);
+    let takes = tables.reaches(p, Square(from), Mode::Take);
     for to in 0..120 {
-        if goes_to(rules, tables, p, Square(from), Square(to)) {
+        if lands(p, quiet, takes, to) && goes_to(rules, tables, p, Square(from), Square(to)) {
             return true;
         }
     }

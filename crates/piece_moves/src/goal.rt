@@ -40,8 +40,9 @@ fn has(set: u128, square: u8) -> bool
     (set >> square) % 2 == 1
 }
 
-/// Whether the square is one to land on, of those that the piece reaches quietly and to take.
-pub(crate) fn lands(p: &Position, quiet: u128, takes: u128, to: u8) -> bool
+/// Whether a piece of the side to move may land on the square, by the sets of the squares that it reaches quietly and to take, as
+/// `Tables::reaches` answers them: on an empty square of the one set, and on an enemy's of the other. Bit s of a set is square s.
+pub fn lands(p: &Position, quiet: u128, takes: u128, to: u8) -> bool
     requires { to < 120 }
     ensures { result ≡ Goals.lands_in p.now.cells p.now.side quiet takes to }
 {

@@ -11,3 +11,4 @@ mod tests;
 
 pub use candidate::is_candidate;
 pub use generate::push_moves;
+pub use goal::lands;

@@ -1,5 +1,6 @@
 -- The pieces, the hands and their number after each candidate of a sound position, in every variant that fits.
 use Rattle.std.proofs.Common.{◌≡◌, ℕ, ◌+◌, ◌/◌, ◌%◌, ◌<◌, ◌≤◌, Bool, true, false, if◌then◌else◌, ◌⊎◌, inl, Option, Some, None, List, length, refl, sym, subst, arith, nat_lt, is_some}
+use Rattle.std.proofs.lemmas.Bool.{ltb-true}
 use Rattle.std.specs.Prelude.{count_by}
 use Rattle.std.proofs.lemmas.Bool.Decides.{nat_tests}
 use Rattle.foundation.proofs.SetLemmas.{one_if}
@@ -36,7 +37,7 @@ use Rattle.sound_play.proofs.PieceLaws.{are_sound, AreSound, sound_emptied, soun
 use Rattle.sound_play.proofs.PlayLaws.{becomes_sound, fit_hands, fit_put_at_gate, fit_put_down, fit_take_into, FitHands, taken_sound, TakenSound}
 use Rattle.sound_play.proofs.SizeLaws.{AreHands, take_into-size}
 use Rattle.sound_play.proofs.SoundLaws.{repeat_parts}
-use Rattle.sound_play.proofs.TestLemmas.{lt_from, same_some}
+use Rattle.sound_play.proofs.TestLemmas.{same_some}
 
 -- ---- a candidate, by what it does
 
@@ -91,7 +92,7 @@ gate_kind rules r from to promo (Some k) ready g kind e =
     subst (λ j. has_kind rules j ≡ true) (same_some k kind e) (held_kind rules r k ready.sound ready.fit_move.3 (g.held k refl))
 
 file_on : (rules : Rules) (s : ℕ) → on_board rules s ≡ true → (s % 12 < rules.files) × (s / 12 < rules.ranks)
-file_on rules s e = let a = both_of (nat_lt (s % 12) rules.files) (nat_lt (s / 12) rules.ranks) e in (lt_from _ _ a.0, lt_from _ _ a.1)
+file_on rules s e = let a = both_of (nat_lt (s % 12) rules.files) (nat_lt (s / 12) rules.ranks) e in (ltb-true _ _ a.0, ltb-true _ _ a.1)
 
 on_file : (rules : Rules) (s : ℕ) → s % 12 < rules.files → s / 12 < rules.ranks → on_board rules s ≡ true
 on_file rules s h k = grind (arith, nat_tests)

@@ -1,7 +1,7 @@
 -- How many pieces of a sort stand on the board after a legal move of a sound position, in every variant that fits.
 use Rattle.std.proofs.Common.{◌≡◌, ◌≢◌, ℕ, ◌+◌, ◌-◌, ◌*◌, ◌/◌, ◌%◌, ◌<◌, ◌≤◌, Bool, true, false, not, ◌&&◌, if◌then◌else◌, ◌⊎◌, inl, inr, Option, Some, None, List, length, refl, ap, sym, ◌∙◌, subst, arith, ◌==◌, nat_le, nat_lt, is_none, is_some, length-set, max}
 use Rattle.std.specs.Prelude.{count_by, slice_set}
-use Rattle.std.proofs.lemmas.Bool.{cases_eq, cases_lt, le-leb}
+use Rattle.std.proofs.lemmas.Bool.{cases_eq, cases_lt, false_from_ne_true, le-leb, ltb-true, ne_eqb}
 use Rattle.std.proofs.lemmas.Bool.Decides.{Decides-eqb, nat_tests}
 use Rattle.std.proofs.lemmas.Option.{slice_get_past}
 use Rattle.foundation.specs.Count.{any_below}
@@ -37,7 +37,7 @@ use Rattle.rules_model.specs.Moves.{IsFitMove}
 use Rattle.rules_model.specs.Hands.{holds}
 use Rattle.sound_play.proofs.CellLemmas.{cell_at-set_other, cell_at-set_same, count_cells-set}
 use Rattle.sound_play.proofs.TargetLaws.{go_takes}
-use Rattle.sound_play.proofs.TestLemmas.{by_contradiction, lt_from, none_from, of_apart, same_some}
+use Rattle.sound_play.proofs.TestLemmas.{none_from, same_some}
 
 -- a square where something stands is one of the list
 pub cell_within : (cells : List (Option Cell)) (s : ℕ) (x : Cell) → cell_at cells s ≡ Some x → s < length cells
@@ -222,7 +222,7 @@ castled-size cells from to rook = length-set _ _ _ ∙ length-set _ _ _ ∙ leng
 -- the way of a castle is free
 
 open_at : (f : ℕ → Bool) (k : ℕ) → any_below f 12 ≡ false → k < 12 → f k ≡ false
-open_at f k e l = by_contradiction (f k) (λ h. not_both _ (any_below-true f 12 k l h) e)
+open_at f k e l = false_from_ne_true (f k) (λ h. not_both _ (any_below-true f 12 k l h) e)
 
 stands_not : (a b c d : Bool) (x : Option Cell) → (a && b && not c && not d && is_some x) ≡ false → a ≡ true → b ≡ true → c ≡ false → d ≡ false → x ≡ None
 stands_not a b c d None e ha hb hc hd = refl
@@ -237,7 +237,7 @@ unfolding way_is_open in_the_way
 file_free rules cells side target rook rook_to file e l low high king other =
     let a = both_of (not (any_below (in_the_way rules cells side (lowest rules.castle_king target rook rook_to) (highest rules.castle_king target rook rook_to) rook) 12)) (not (any_below (king_passes_attack rules cells side target) 12)) e in
     let b = open_at (in_the_way rules cells side (lowest rules.castle_king target rook rook_to) (highest rules.castle_king target rook rook_to) rook) file (false_of_not _ a.0) l in
-    stands_not (nat_le (lowest rules.castle_king target rook rook_to) file) (nat_le file (highest rules.castle_king target rook rook_to)) (file == rules.castle_king) (file == rook) _ b (le-leb _ _ low) (le-leb _ _ high) (of_apart _ _ king) (of_apart _ _ other)
+    stands_not (nat_le (lowest rules.castle_king target rook rook_to) file) (nat_le file (highest rules.castle_king target rook rook_to)) (file == rules.castle_king) (file == rook) _ b (le-leb _ _ low) (le-leb _ _ high) (ne_eqb _ _ king) (ne_eqb _ _ other)
 
 -- the files of a castle, and the square to which the rook goes
 pub record CastleFiles (rules : Rules) (from to rook : Square) (target : ℕ) : Type 0 where
@@ -285,13 +285,13 @@ pub castle_files : (rules : Rules) (fit : IsFit rules) (r : Repeat) (from to roo
 castle_files rules fit r from to rook Kingside c l k =
     let on = castling_on-is rules c.on in
     let b = rook_file-some rules r r.side Kingside (rook.0 % 12) c.file in
-    let a = lt_from _ _ (both_of (nat_lt rules.castle_king (rook.0 % 12)) _ b.1).0 in
+    let a = ltb-true _ _ (both_of (nat_lt rules.castle_king (rook.0 % 12)) _ b.1).0 in
     let most = fit.files_most in
     files_right rules from to rook (castling_rank rules r.side) rules.castle_king rules.castle_near (rook.0 % 12) refl c.start c.target c.rank refl on.5 (omega (arith, most, on.2)) a (omega (arith, most, b.0)) k
 castle_files rules fit r from to rook Queenside c l k =
     let on = castling_on-is rules c.on in
     let b = rook_file-some rules r r.side Queenside (rook.0 % 12) c.file in
-    let a = lt_from _ _ (both_of (nat_lt (rook.0 % 12) rules.castle_king) _ b.1).0 in
+    let a = ltb-true _ _ (both_of (nat_lt (rook.0 % 12) rules.castle_king) _ b.1).0 in
     let most = fit.files_most in
     files_left rules from to rook (castling_rank rules r.side) rules.castle_king rules.castle_far (rook.0 % 12) refl c.start c.target c.rank refl on.4 (omega (arith, most, on.1)) a l
 

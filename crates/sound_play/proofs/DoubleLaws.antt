@@ -1,5 +1,6 @@
 -- The en passant square after a legal move of a sound position, in every variant that fits.
 use Rattle.std.proofs.Common.{◌≡◌, ◌≢◌, ℕ, ◌/◌, ◌%◌, ◌<◌, ◌≤◌, Bool, true, false, ◌&&◌, ◌||◌, if◌then◌else◌, inl, inr, Option, Some, None, length, pos, negsuc, refl, ap, sym, ◌∙◌, subst, arith, nat_lt, is_none}
+use Rattle.std.proofs.lemmas.Bool.{and_from, false_from_ne_true, ltb-true}
 use Rattle.std.proofs.lemmas.Bool.Decides.{nat_tests}
 use Rattle.rules_model.specs.declared.board.Board.{Board}
 use Rattle.rules_model.specs.declared.board.Cell.{Cell}
@@ -27,7 +28,7 @@ use Rattle.sound_play.proofs.AfterLaws.{IsReady}
 use Rattle.sound_play.proofs.CellLemmas.{moved, moved-from, moved-other, moved-to}
 use Rattle.sound_play.proofs.PassingLaws.{advances, ahead_one, same_file_one, same_file_two, step_one, step_two}
 use Rattle.sound_play.proofs.TargetLaws.{other_twice}
-use Rattle.sound_play.proofs.TestLemmas.{by_contradiction, joined, lt_from, none_from}
+use Rattle.sound_play.proofs.TestLemmas.{none_from}
 
 -- ---- a double step is what its name says
 
@@ -130,9 +131,9 @@ passed_sound rules r q x from to passed few on l k s cells side could =
     let start_on = both_of (nat_lt (from.0 % 12) rules.files) (nat_lt (from.0 / 12) rules.ranks) on in
     let f0 = file.0 in
     let f1 = file'.0 in
-    let lf = lt_from _ _ start_on.0 in
+    let lf = ltb-true _ _ start_on.0 in
     let back : ahead board q.side (record { 0 = passed }) 1 ≡ Some from.0 = subst (λ t. ahead board t (record { 0 = passed }) 1 ≡ Some from.0) (sym side)
-    (ahead_one board (other r.side) (record { 0 = passed }) from.0 (sym f0) (back_one r.side _ _ one) lf (lt_from _ _ start_on.1)) in
+    (ahead_one board (other r.side) (record { 0 = passed }) from.0 (sym f0) (back_one r.side _ _ one) lf (ltb-true _ _ start_on.1)) in
     let front : ahead board (other q.side) (record { 0 = passed }) 1 ≡ Some to.0 = subst (λ t. ahead board t (record { 0 = passed }) 1 ≡ Some to.0) (sym (ap other side ∙ other_twice r.side))
     (ahead_one board r.side (record { 0 = passed }) to.0 (f1 ∙ sym f0) next (omega (arith, f1, lf)) file'.1) in
     let from_passed = rank_apart r.side from.0 passed one in
@@ -148,8 +149,8 @@ passed_sound rules r q x from to passed few on l k s cells side could =
     (subst (λ c. is_own_pawn rules r.side c ≡ true) (sym (ap (λ cs. cell_at cs to.0) cells ∙ moved-to r.cells from.0 to.0 x k)) s.own)) in
     let take : pawn_could_take rules q.cells q.side (record { 0 = passed }) ≡ true = subst (λ t. pawn_could_take rules q.cells t (record { 0 = passed }) ≡ true) (sym side) could in
     let there : on_board rules passed ≡ true = on_there (omega (arith, f0, lf)) file.1 in
-    joined (on_board rules passed) (was_passed rules q (record { 0 = passed })) there
-    (joined _ _ (joined _ _ (joined _ _ (joined _ _ (joined _ _ s.on free) empty) region) pawn) take)
+    and_from (on_board rules passed) (was_passed rules q (record { 0 = passed })) there
+    (and_from _ _ (and_from _ _ (and_from _ _ (and_from _ _ (and_from _ _ s.on free) empty) region) pawn) take)
   where
     far_apart : (side : Side) (a b : ℕ) → advances side (a / 12) (b / 12) 2 → a ≢ b
     far_apart White a b e f = let g = ap (λ n. n / 12) f in omega (arith, e, g)
@@ -189,7 +190,7 @@ step_sound rules r q from to promo passed ready cells side e near could =
       | inr h ↦
           let t = moves_twice rules r from to promo few a.1 h.2 in
           let s = twice_of rules r g.0 from to passed g.1 b.0 a.1 near t.0 in
-          let off : passes_by rules r from to.0 ≡ false = by_contradiction _ (passing_off rules r from to few a.1) in
+          let off : passes_by rules r from to.0 ≡ false = false_from_ne_true _ (passing_off rules r from to few a.1) in
           let plain : q.cells ≡ moved r.cells from.0 to.0 g.0 = cells ∙ ap (λ p. cells_after rules r (Go from to p None)) (stays_is promo b.1) ∙ plain_cells rules r g.0 from to off g.1 in
           passed_sound rules r q g.0 from to passed few ready.of_variant.0 (omega (arith, l, size)) (omega (arith, k, size)) s plain side could
     ]

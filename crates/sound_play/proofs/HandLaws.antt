@@ -1,7 +1,7 @@
 -- What the hands hold after a legal move of a sound position, and how many pieces there are, in every variant that fits.
 use Rattle.std.proofs.Common.{◌≡◌, ◌≢◌, ℕ, ◌+◌, ◌-◌, ◌<◌, ◌≤◌, true, ◌⊎◌, inl, inr, List, [], length, sum, ap, sym, ◌∙◌, subst, arith, slice_index}
 use Rattle.std.specs.Prelude.{slice_set}
-use Rattle.std.proofs.lemmas.Bool.{cases_eq, cases_lt}
+use Rattle.std.proofs.lemmas.Bool.{cases_eq, cases_lt, lt-ltb, ltb-true}
 use Rattle.std.proofs.lemmas.List.{get_or-set_other, get_or-set_same, get_or_past, set_past}
 use Rattle.std.proofs.lemmas.List.Sums.{sum_by-set}
 use Rattle.rules_model.specs.declared.board.Kind.{Kind}
@@ -10,7 +10,6 @@ use Rattle.rules_model.specs.declared.board.Side.TheVariants.{White, Black}
 use Rattle.rules_model.specs.Sides.{other, side_index}
 use Rattle.rules_model.specs.Hands.{hand_of, holds, in_hand, put_down, taken_in, with_hand}
 use Rattle.sound_play.proofs.TargetLaws.{side_cases}
-use Rattle.sound_play.proofs.TestLemmas.{lt_from, lt_to}
 
 -- ---- one hand
 
@@ -75,28 +74,28 @@ same_hand hands s t j k e f = ap (λ u. slice_index (hand_of hands u) j.0) e ∙
 -- what is still held after a piece was put down was held
 pub put_down-held : (hands : List (List ℕ)) (side : Side) (kind : Kind) (s : Side) (k : Kind) → length hands ≡ 2 → holds (put_down hands side kind) s k ≡ true → holds hands s k ≡ true
 put_down-held hands side kind s k two e =
-    let l = lt_from _ _ e in
+    let l = ltb-true _ _ e in
     elim (held_with hands side kind (in_hand hands side kind - 1) s k two) as (λ _. holds hands s k ≡ true) [
-      | inl h ↦ let a = h.2 in let b = same_hand hands s side k kind h.0 h.1 in lt_to 0 (in_hand hands s k) (omega (arith, l, a, b))
-      | inr h ↦ lt_to 0 (in_hand hands s k) (omega (arith, l, h))
+      | inl h ↦ let a = h.2 in let b = same_hand hands s side k kind h.0 h.1 in lt-ltb 0 (in_hand hands s k) (omega (arith, l, a, b))
+      | inr h ↦ lt-ltb 0 (in_hand hands s k) (omega (arith, l, h))
     ]
 
 -- what is held after a piece was taken in was held, or is its kind
 pub taken_in-held : (hands : List (List ℕ)) (side : Side) (kind : Kind) (s : Side) (k : Kind) → length hands ≡ 2 → holds (taken_in hands side kind) s k ≡ true → (holds hands s k ≡ true) ⊎ (k.0 ≡ kind.0)
 taken_in-held hands side kind s k two e =
-    let l = lt_from _ _ e in
+    let l = ltb-true _ _ e in
     elim (held_with hands side kind (in_hand hands side kind + 1) s k two) as (λ _. (holds hands s k ≡ true) ⊎ (k.0 ≡ kind.0)) [
       | inl h ↦ inr h.1
-      | inr h ↦ inl (lt_to 0 (in_hand hands s k) (omega (arith, l, h)))
+      | inr h ↦ inl (lt-ltb 0 (in_hand hands s k) (omega (arith, l, h)))
     ]
 
 -- what was held is still held after a piece was taken in
 pub held-taken_in : (hands : List (List ℕ)) (side : Side) (kind : Kind) (s : Side) (k : Kind) → length hands ≡ 2 → holds hands s k ≡ true → holds (taken_in hands side kind) s k ≡ true
 held-taken_in hands side kind s k two e =
-    let l = lt_from _ _ e in
+    let l = ltb-true _ _ e in
     elim (held_with hands side kind (in_hand hands side kind + 1) s k two) as (λ _. holds (taken_in hands side kind) s k ≡ true) [
-      | inl h ↦ let a = h.2 in lt_to 0 _ (omega (arith, a))
-      | inr h ↦ lt_to 0 _ (omega (arith, l, h))
+      | inl h ↦ let a = h.2 in lt-ltb 0 _ (omega (arith, a))
+      | inr h ↦ lt-ltb 0 _ (omega (arith, l, h))
     ]
 
 -- ---- how many both sides hold
@@ -124,5 +123,5 @@ taken_in-both hands side kind two =
 pub put_down-both : (hands : List (List ℕ)) (side : Side) (kind : Kind) → length hands ≡ 2 → holds hands side kind ≡ true → held_by_both (put_down hands side kind) + 1 ≤ held_by_both hands
 put_down-both hands side kind two e =
     let a = both_with hands side kind (in_hand hands side kind - 1) two in
-    let b = sum_less (hand_of hands side) kind.0 (lt_from _ _ e) in
+    let b = sum_less (hand_of hands side) kind.0 (ltb-true _ _ e) in
     omega (arith, a, b)

@@ -2,7 +2,7 @@
 use Rattle.std.proofs.Common.{◌≡◌, ℕ, ◌<◌, Bool, true, false, not, ◌&&◌, ◌||◌, if◌then◌else◌, ◌⊎◌, inl, inr, Option, Some, None, length, refl, ap, sym, ◌∙◌, subst, arith, ◌==◌, is_none, is_some}
 use Rattle.std.specs.Prelude.{count_by, slice_get}
 use Rattle.std.specs.List.{list_all}
-use Rattle.std.proofs.lemmas.Bool.{cases_lt}
+use Rattle.std.proofs.lemmas.Bool.{cases_lt, false_from_ne_true, or_parts}
 use Rattle.std.proofs.lemmas.Bool.Decides.{Decides-eqb}
 use Rattle.std.proofs.lemmas.Option.{slice_get_past}
 use Rattle.foundation.specs.Count.{any_below}
@@ -41,7 +41,7 @@ use Rattle.rules_model.proofs.LegalLaws.{legal-member}
 use Rattle.sound_play.proofs.CountLaws.{castle-count, drop-count, dropped_free, go-count, go_leaves, Passes, passes_by-is}
 use Rattle.sound_play.proofs.SoundLaws.{repeat_parts, side_of, side_parts}
 use Rattle.sound_play.proofs.TargetLaws.{no_king_taken}
-use Rattle.sound_play.proofs.TestLemmas.{asked, both_false, by_contradiction, neither}
+use Rattle.sound_play.proofs.TestLemmas.{asked, both_false}
 
 -- ---- kinds that are no king
 
@@ -55,7 +55,7 @@ kind_below rules kind size e =
     ]
 
 none_below : (f : ℕ → Bool) (k : ℕ) → any_below f 26 ≡ false → k < 26 → f k ≡ false
-none_below f k e l = by_contradiction (f k) (λ h. not_both _ (any_below-true f 26 k l h) e)
+none_below f k e l = false_from_ne_true (f k) (λ h. not_both _ (any_below-true f 26 k l h) e)
 
 pub named : (o : Option Kind) (kind : Kind) → names o kind ≡ true → o ≡ Some kind
 named None kind e = cc
@@ -87,7 +87,7 @@ promotion_no_king : (rules : Rules) (fit : IsFit rules) (kind : Kind) → kind.0
 unfolding promotes_to_pawn_or_king
 promotion_no_king rules fit kind l e =
     let a = none_below (λ k. masks rules.promotion_kinds (record { 0 = k }) && is_pawn_or_king rules (record { 0 = k })) kind.0 fit.pawn_promotions l in
-    (neither (is_pawn rules kind) (is_king rules kind) (both_false (masks rules.promotion_kinds kind) _ a e)).1
+    (or_parts (is_pawn rules kind) (is_king rules kind) (both_false (masks rules.promotion_kinds kind) _ a e)).1
 
 pub promoted_rule : (rules : Rules) (kind : Kind) (q : Kind) → promoted_of rules kind ≡ Some q → is_some (kind_rule rules kind) ≡ true
 promoted_rule rules kind q e = from_rule (kind_rule rules kind) e
@@ -103,9 +103,9 @@ promoted_no_king rules fit kind q size e =
     let l = kind_below rules kind size (promoted_rule rules kind q e) in
     let a : bad_promotion rules kind (promoted_of rules kind) ≡ false = none_below (λ k. bad_promotion rules (record { 0 = k }) (promoted_of rules (record { 0 = k }))) kind.0 fit.piece_promotions l in
     let b : bad_promotion rules kind (Some q) ≡ false = subst (λ o. bad_promotion rules kind o ≡ false) e a in
-    let c = neither (is_pawn_or_king rules kind || is_pawn_or_king rules q) (is_some (promoted_of rules q)) b in
-    let d = neither (is_pawn_or_king rules kind) (is_pawn_or_king rules q) c.0 in
-    ((neither (is_pawn rules kind) (is_king rules kind) d.0).1, (neither (is_pawn rules q) (is_king rules q) d.1).1)
+    let c = or_parts (is_pawn_or_king rules kind || is_pawn_or_king rules q) (is_some (promoted_of rules q)) b in
+    let d = or_parts (is_pawn_or_king rules kind) (is_pawn_or_king rules q) c.0 in
+    ((or_parts (is_pawn rules kind) (is_king rules kind) d.0).1, (or_parts (is_pawn rules q) (is_king rules q) d.1).1)
 
 held_as : (a h k i : Bool) → (not a || (h && k && not i)) ≡ true → a ≡ true → i ≡ false
 held_as true h k i e f = false_of_not i (both_of (h && k) (not i) e).1

@@ -1,5 +1,6 @@
 -- Pieces and hands stay sound, and do not grow in number, in every variant that fits.
 use Rattle.std.proofs.Common.{◌≡◌, ℕ, ◌<◌, Bool, true, false, not, ◌&&◌, ◌||◌, if◌then◌else◌, ◌⊎◌, inl, inr, Option, Some, None, List, length, refl, sym, subst, arith, unwrap_or}
+use Rattle.std.proofs.lemmas.Bool.{or_right}
 use Rattle.std.proofs.lemmas.Bool.Decides.{Decides-eqb}
 use Rattle.foundation.specs.Count.{all_below}
 use Rattle.foundation.proofs.CountLemmas.{all_below-each, all_below-true}
@@ -29,7 +30,7 @@ use Rattle.sound_play.proofs.HandLaws.{put_down-held, taken_in-held}
 use Rattle.sound_play.proofs.KingLaws.{kind_below, named, pawn_becomes, pawn_no_king, piece_becomes, promoted_no_king, promoted_rule}
 use Rattle.sound_play.proofs.PieceLaws.{AreSound, sound_there}
 use Rattle.sound_play.proofs.SoundLaws.{repeat_parts, side_of, side_parts}
-use Rattle.sound_play.proofs.TestLemmas.{answered, asked, both_false, or_right}
+use Rattle.sound_play.proofs.TestLemmas.{answered, asked, both_false}
 
 -- ---- what a hand may hold
 

@@ -1,6 +1,6 @@
 -- Soundness by its parts.
 use Rattle.std.proofs.Common.{◌≡◌, ◌+◌, ◌≤◌, true, false, not, ◌||◌, ◌==◌, nat_le, slice_index}
-use Rattle.std.proofs.lemmas.Bool.{leb-true, le-leb}
+use Rattle.std.proofs.lemmas.Bool.{and_from, le-leb, leb-true, not_from_false}
 use Rattle.foundation.specs.Count.{all_below}
 use Rattle.rules_model.specs.declared.board.Position.{Position}
 use Rattle.rules_model.specs.declared.board.Repeat.{Repeat}
@@ -14,7 +14,6 @@ use Rattle.rules_model.specs.Attacks.{king_attacked}
 use Rattle.rules_model.specs.Ends.{pieces_of}
 use Rattle.rules_model.specs.Sound.{has_its_king, is_sound, is_sound_ep, is_sound_repeat, is_sound_side, sound_at, sound_gate, sound_in_hand, sound_right}
 use Rattle.rules_model.proofs.CandidateLaws.{both_of, false_of_not}
-use Rattle.sound_play.proofs.TestLemmas.{joined, not_of_false}
 
 -- ---- a repeat
 
@@ -39,7 +38,7 @@ repeat_parts rules r e =
 pub repeat_of_parts : (rules : Rules) (r : Repeat) → SoundRepeat rules r → is_sound_repeat rules r ≡ true
 unfolding is_sound_repeat
 repeat_of_parts rules r h =
-    joined _ _ (joined _ _ (joined _ _ (joined _ _ (joined _ _ h.cells (le-leb _ _ h.few)) h.white) h.black) (not_of_false _ h.king)) h.ep
+    and_from _ _ (and_from _ _ (and_from _ _ (and_from _ _ (and_from _ _ h.cells (le-leb _ _ h.few)) h.white) h.black) (not_from_false _ h.king)) h.ep
 
 pub side_of : (rules : Rules) (r : Repeat) (side : Side) → SoundRepeat rules r → is_sound_side rules r side ≡ true
 side_of rules r White h = h.white
@@ -70,7 +69,7 @@ side_parts rules r side e =
 pub side_of_parts : (rules : Rules) (r : Repeat) (side : Side) → SoundSide rules r side → is_sound_side rules r side ≡ true
 unfolding is_sound_side
 side_of_parts rules r side h =
-    joined _ _ (joined _ _ (joined _ _ (joined _ _ (joined _ _ (joined _ _ h.hand h.king) h.kingside) h.queenside) h.gates) h.few_checks) h.checks
+    and_from _ _ (and_from _ _ (and_from _ _ (and_from _ _ (and_from _ _ (and_from _ _ h.hand h.king) h.kingside) h.queenside) h.gates) h.few_checks) h.checks
 
 -- ---- a position
 
@@ -89,4 +88,4 @@ position_parts rules p e =
 
 pub position_of_parts : (rules : Rules) (p : Position) → is_sound_repeat rules (repeat_of p) ≡ true → SoundCounts p → is_sound rules p ≡ true
 unfolding is_sound
-position_of_parts rules p e h = joined _ _ (joined _ _ (joined _ _ e (le-leb _ _ h.counter)) (le-leb _ _ h.number_least)) (le-leb _ _ h.number_most)
+position_of_parts rules p e h = and_from _ _ (and_from _ _ (and_from _ _ e (le-leb _ _ h.counter)) (le-leb _ _ h.number_least)) (le-leb _ _ h.number_most)

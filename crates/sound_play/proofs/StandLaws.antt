@@ -1,5 +1,6 @@
 -- What stands still: pieces that a move neither moves nor takes, and the rights and gates that rest on them.
 use Rattle.std.proofs.Common.{◌≡◌, ◌≢◌, ℕ, ◌+◌, ◌-◌, ◌*◌, ◌/◌, ◌%◌, ◌^◌, ◌<◌, Bool, true, false, not, ◌&&◌, ◌||◌, if◌then◌else◌, inl, inr, Option, Some, None, List, length, refl, ap, sym, ◌∙◌, subst, arith, ◌==◌, nat_lt, bit_and}
+use Rattle.std.proofs.lemmas.Bool.{eqb-false, false_from_ne_true, ltb-true, ne_eqb, or_from, or_parts}
 use Rattle.std.specs.Int.{bit_at}
 use Rattle.std.proofs.lemmas.Bool.Decides.{Decides-eqb}
 use Rattle.std.proofs.lemmas.Nat.Bits.{bit_at_and}
@@ -35,7 +36,7 @@ use Rattle.sound_play.proofs.FieldLaws.{closed_at-kept, gate_was_open, rights_af
 use Rattle.sound_play.proofs.KingLaws.{pawn_no_king}
 use Rattle.sound_play.proofs.SoundLaws.{repeat_parts, side_of, side_parts}
 use Rattle.sound_play.proofs.TargetLaws.{no_king_taken}
-use Rattle.sound_play.proofs.TestLemmas.{answered, apart_of, asked, by_contradiction, lt_from, neither, of_apart, or_neither, same_some}
+use Rattle.sound_play.proofs.TestLemmas.{answered, asked, same_some}
 
 -- ---- pieces
 
@@ -53,19 +54,19 @@ castle_stands cells from to rook s a b c d = cell_at-set_other _ _ s _ d ∙ cel
 pub stands : (rules : Rules) (r : Repeat) (m : Move) (s : ℕ) (z : Cell) → IsReady rules r m → cell_at r.cells s ≡ Some z → is_pawn rules z.kind ≡ false → leaves m s ≡ false → enters m s ≡ false → cell_at (cells_after rules r m) s ≡ Some z
 unfolding cells_after
 stands rules r (Go from to promo gate) s z ready here kind left entered =
-    cell_at-set_other _ to.0 s _ (apart_of _ _ entered) ∙ cell_at-set_other _ from.0 s _ (apart_of _ _ left)
+    cell_at-set_other _ to.0 s _ (eqb-false _ _ entered) ∙ cell_at-set_other _ from.0 s _ (eqb-false _ _ left)
     ∙ passed_stands rules r to s z (passes_by rules r from to.0) (passes_by-is rules r from to ready.sound) here kind
 stands rules r (Castle from to rook None) s z ready here kind left entered =
-    let a = neither (from.0 == s) (rook.0 == s) left in
-    let b = neither (to.0 == s) (rook_target from to rook == s) entered in
-    castle_stands r.cells from to rook s (apart_of _ _ a.0) (apart_of _ _ a.1) (apart_of _ _ b.0) (apart_of _ _ b.1) ∙ here
+    let a = or_parts (from.0 == s) (rook.0 == s) left in
+    let b = or_parts (to.0 == s) (rook_target from to rook == s) entered in
+    castle_stands r.cells from to rook s (eqb-false _ _ a.0) (eqb-false _ _ a.1) (eqb-false _ _ b.0) (eqb-false _ _ b.1) ∙ here
 stands rules r (Castle from to rook (Some placed)) s z ready here kind left entered =
-    let a = neither (from.0 == s) (rook.0 == s) left in
-    let b = neither (to.0 == s) (rook_target from to rook == s) entered in
+    let a = or_parts (from.0 == s) (rook.0 == s) left in
+    let b = or_parts (to.0 == s) (rook_target from to rook == s) entered in
     let c = castle_is rules r from to rook (Some placed) ready.candidate in
-    let at : placed.at.0 ≢ s = λ e. elim (castle_gate rules r from to rook placed c.1).2 as (λ _. ⊥) [ inl f ↦ apart_of _ _ a.0 (sym f ∙ e) | inr f ↦ apart_of _ _ a.1 (sym f ∙ e) ] in
-    cell_at-set_other _ placed.at.0 s _ at ∙ castle_stands r.cells from to rook s (apart_of _ _ a.0) (apart_of _ _ a.1) (apart_of _ _ b.0) (apart_of _ _ b.1) ∙ here
-stands rules r (Drop kind' to) s z ready here kind left entered = cell_at-set_other _ to.0 s _ (apart_of _ _ entered) ∙ here
+    let at : placed.at.0 ≢ s = λ e. elim (castle_gate rules r from to rook placed c.1).2 as (λ _. ⊥) [ inl f ↦ eqb-false _ _ a.0 (sym f ∙ e) | inr f ↦ eqb-false _ _ a.1 (sym f ∙ e) ] in
+    cell_at-set_other _ placed.at.0 s _ at ∙ castle_stands r.cells from to rook s (eqb-false _ _ a.0) (eqb-false _ _ a.1) (eqb-false _ _ b.0) (eqb-false _ _ b.1) ∙ here
+stands rules r (Drop kind' to) s z ready here kind left entered = cell_at-set_other _ to.0 s _ (eqb-false _ _ entered) ∙ here
 
 own_there : (side : Side) (test : Kind → Bool) (c : Option Cell) → is_own side test c ≡ true → (z : Cell) × (c ≡ Some z) × (same_side z.side side ≡ true) × (test z.kind ≡ true)
 own_there side test None e = cc
@@ -78,16 +79,16 @@ no_king_on_none rules side c e f = let g : is_own_king rules side None ≡ true 
 pub king_not_entered : (rules : Rules) (r : Repeat) (m : Move) (side : Side) (s : ℕ) → IsReady rules r m → is_own_king rules side (cell_at r.cells s) ≡ true → leaves m s ≡ false → enters m s ≡ false
 king_not_entered rules r (Go from to promo gate) side s ready king left =
     let g = goes rules r from to promo gate ready.candidate in
-    of_apart to.0 s (λ e. not_both _ (subst (λ t. is_own_king rules side (cell_at r.cells t) ≡ true) (sym e) king) (no_king_taken rules r g.piece from to promo side ready.sound ready.fit_move.0 ready.fit_move.1 g.here g.how))
+    ne_eqb to.0 s (λ e. not_both _ (subst (λ t. is_own_king rules side (cell_at r.cells t) ≡ true) (sym e) king) (no_king_taken rules r g.piece from to promo side ready.sound ready.fit_move.0 ready.fit_move.1 g.here g.how))
 king_not_entered rules r (Castle from to rook gate) side s ready king left =
-    let a = neither (from.0 == s) (rook.0 == s) left in
+    let a = or_parts (from.0 == s) (rook.0 == s) left in
     let c = castle_is rules r from to rook gate ready.candidate in
     let p = castle_places rules ready.fit r from to rook c.0.0 ready.cells c.0.1 ready.fit_move.0 ready.fit_move.1 ready.fit_move.2 in
-    or_neither (to.0 == s) (rook_target from to rook == s)
-    (of_apart to.0 s (λ e. no_king_on_none rules side (cell_at r.cells s) king (ap (cell_at r.cells) (sym e) ∙ p.to_free (λ f. apart_of _ _ a.0 (sym f ∙ e)) (λ f. apart_of _ _ a.1 (sym f ∙ e)))))
-    (of_apart (rook_target from to rook) s (λ e. no_king_on_none rules side (cell_at r.cells s) king (ap (cell_at r.cells) (sym e) ∙ p.target_free (λ f. apart_of _ _ a.0 (sym f ∙ e)) (λ f. apart_of _ _ a.1 (sym f ∙ e)))))
+    or_from (to.0 == s) (rook_target from to rook == s)
+    (ne_eqb to.0 s (λ e. no_king_on_none rules side (cell_at r.cells s) king (ap (cell_at r.cells) (sym e) ∙ p.to_free (λ f. eqb-false _ _ a.0 (sym f ∙ e)) (λ f. eqb-false _ _ a.1 (sym f ∙ e)))))
+    (ne_eqb (rook_target from to rook) s (λ e. no_king_on_none rules side (cell_at r.cells s) king (ap (cell_at r.cells) (sym e) ∙ p.target_free (λ f. eqb-false _ _ a.0 (sym f ∙ e)) (λ f. eqb-false _ _ a.1 (sym f ∙ e)))))
 king_not_entered rules r (Drop kind to) side s ready king left =
-    of_apart to.0 s (λ e. no_king_on_none rules side (cell_at r.cells s) king (ap (cell_at r.cells) (sym e) ∙ (dropped_free rules r kind to.0 (drop_is rules r kind to ready.candidate)).1))
+    ne_eqb to.0 s (λ e. no_king_on_none rules side (cell_at r.cells s) king (ap (cell_at r.cells) (sym e) ∙ (dropped_free rules r kind to.0 (drop_is rules r kind to ready.candidate)).1))
 
 -- ---- gates
 
@@ -130,25 +131,25 @@ stays_open rules side s gates file l apart e =
 
 side_open : (rules : Rules) (side : Side) (m : Move) (gates file : ℕ) → file < 12 → bit_at (side_gates_after rules side m gates) file ≡ 1 → (leaves m (gate_square rules side file) ≡ false) × (enters m (gate_square rules side file) ≡ false)
 side_open rules side (Go from to promo gate) gates file l e =
-    (of_apart _ _ (open_not_left rules side from.0 gates file l (closed_at-kept rules side to.0 _ file e)), of_apart _ _ (open_not_left rules side to.0 _ file l e))
+    (ne_eqb _ _ (open_not_left rules side from.0 gates file l (closed_at-kept rules side to.0 _ file e)), ne_eqb _ _ (open_not_left rules side to.0 _ file l e))
 side_open rules side (Castle from to rook gate) gates file l e =
     let a = closed_at-kept rules side (rook_target from to rook) _ file e in
     let b = closed_at-kept rules side to.0 _ file a in
     let c = closed_at-kept rules side rook.0 _ file b in (
-      or_neither _ _ (of_apart _ _ (open_not_left rules side from.0 gates file l c)) (of_apart _ _ (open_not_left rules side rook.0 _ file l b)),
-      or_neither _ _ (of_apart _ _ (open_not_left rules side to.0 _ file l a)) (of_apart _ _ (open_not_left rules side (rook_target from to rook) _ file l e)),
+      or_from _ _ (ne_eqb _ _ (open_not_left rules side from.0 gates file l c)) (ne_eqb _ _ (open_not_left rules side rook.0 _ file l b)),
+      or_from _ _ (ne_eqb _ _ (open_not_left rules side to.0 _ file l a)) (ne_eqb _ _ (open_not_left rules side (rook_target from to rook) _ file l e)),
     )
-side_open rules side (Drop kind to) gates file l e = (refl, of_apart _ _ (open_not_left rules side to.0 gates file l e))
+side_open rules side (Drop kind to) gates file l e = (refl, ne_eqb _ _ (open_not_left rules side to.0 gates file l e))
 
 side_stays : (rules : Rules) (side : Side) (m : Move) (gates file : ℕ) → file < 12 → leaves m (gate_square rules side file) ≡ false → enters m (gate_square rules side file) ≡ false → bit_at gates file ≡ 1 → bit_at (side_gates_after rules side m gates) file ≡ 1
 side_stays rules side (Go from to promo gate) gates file l left entered e =
-    stays_open rules side to.0 _ file l (apart_of _ _ entered) (stays_open rules side from.0 gates file l (apart_of _ _ left) e)
+    stays_open rules side to.0 _ file l (eqb-false _ _ entered) (stays_open rules side from.0 gates file l (eqb-false _ _ left) e)
 side_stays rules side (Castle from to rook gate) gates file l left entered e =
-    let a = neither (from.0 == gate_square rules side file) (rook.0 == gate_square rules side file) left in
-    let b = neither (to.0 == gate_square rules side file) (rook_target from to rook == gate_square rules side file) entered in
-    stays_open rules side (rook_target from to rook) _ file l (apart_of _ _ b.1)
-    (stays_open rules side to.0 _ file l (apart_of _ _ b.0) (stays_open rules side rook.0 _ file l (apart_of _ _ a.1) (stays_open rules side from.0 gates file l (apart_of _ _ a.0) e)))
-side_stays rules side (Drop kind to) gates file l left entered e = stays_open rules side to.0 gates file l (apart_of _ _ entered) e
+    let a = or_parts (from.0 == gate_square rules side file) (rook.0 == gate_square rules side file) left in
+    let b = or_parts (to.0 == gate_square rules side file) (rook_target from to rook == gate_square rules side file) entered in
+    stays_open rules side (rook_target from to rook) _ file l (eqb-false _ _ b.1)
+    (stays_open rules side to.0 _ file l (eqb-false _ _ b.0) (stays_open rules side rook.0 _ file l (eqb-false _ _ a.1) (stays_open rules side from.0 gates file l (eqb-false _ _ a.0) e)))
+side_stays rules side (Drop kind to) gates file l left entered e = stays_open rules side to.0 gates file l (eqb-false _ _ entered) e
 
 gate_open : (rules : Rules) (r : Repeat) (m : Move) (side : Side) (file : ℕ) → file < 12 → has_gate (gates_after rules r m) side file ≡ true → (leaves m (gate_square rules side file) ≡ false) × (enters m (gate_square rules side file) ≡ false)
 unfolding gates_after
@@ -161,7 +162,7 @@ gate_stays rules r m White file l left entered e = (Decides-eqb _ _).1 (side_sta
 gate_stays rules r m Black file l left entered e = (Decides-eqb _ _).1 (side_stays rules Black m _ file l left entered ((Decides-eqb _ _).0 e))
 
 no_pawn_of : (rules : Rules) (fit : IsFit rules) (kind : Kind) → length rules.kinds ≡ 26 → is_king rules kind ≡ true → is_pawn rules kind ≡ false
-no_pawn_of rules fit kind kinds e = by_contradiction (is_pawn rules kind) (λ h. not_both _ e (pawn_no_king rules fit kind kinds h))
+no_pawn_of rules fit kind kinds e = false_from_ne_true (is_pawn rules kind) (λ h. not_both _ e (pawn_no_king rules fit kind kinds h))
 
 gate_before : (rules : Rules) (r : Repeat) (side : Side) (file : ℕ) → sound_gate rules r side file ≡ true → has_gate r.gates side file ≡ true → (rules.gating && nat_lt file rules.files && is_own side (λ kind. not (is_pawn rules kind)) (cell_at r.cells (gate_square rules side file))) ≡ true
 unfolding sound_gate
@@ -175,7 +176,7 @@ gate_after rules r q m side file ready l cells gates =
     let s = side_parts rules r side (side_of rules r side (repeat_parts rules r ready.sound)) in
     let before = gate_before rules r side file (all_below-each (sound_gate rules r side) 16 s.gates file l) (gate_was_open rules r m side file still_open) in
     let a = both_of _ (is_own side (λ kind. not (is_pawn rules kind)) (cell_at r.cells (gate_square rules side file))) before in
-    let few = lt_from _ _ (both_of rules.gating (nat_lt file rules.files) a.0).1 in
+    let few = ltb-true _ _ (both_of rules.gating (nat_lt file rules.files) a.0).1 in
     let most = ready.fit.files_most in
     let z = own_there side (λ kind. not (is_pawn rules kind)) (cell_at r.cells (gate_square rules side file)) a.1 in
     let still = gate_open rules r m side file (omega (arith, few, most)) still_open in

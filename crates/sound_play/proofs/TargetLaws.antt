@@ -1,5 +1,6 @@
 -- What stands on the target of a candidate: an enemy that the mover attacks, and so no king in a sound position.
 use Rattle.std.proofs.Common.{◌≡◌, ◌<◌, Bool, true, false, not, ◌&&◌, ◌||◌, ◌⊎◌, inl, inr, Option, Some, None, List, [], ◌∷◌, refl, sym, subst, is_none}
+use Rattle.std.proofs.lemmas.Bool.{false_from_ne_true, or_right}
 use Rattle.std.specs.List.{list_any}
 use Rattle.std.proofs.lemmas.Bool.Decides.{Decides-eqb}
 use Rattle.foundation.proofs.CountLemmas.{any_below-true}
@@ -22,7 +23,6 @@ use Rattle.rules_model.specs.Sound.{is_sound_ep, is_sound_repeat, on_board, was_
 use Rattle.rules_model.proofs.CandidateLaws.{both_of, one_of, any_has, false_of_not, not_both, PieceGoes, PawnGoes}
 use Rattle.rules_model.proofs.VariantLaws.{sound_ep}
 use Rattle.sound_play.proofs.SoundLaws.{repeat_parts}
-use Rattle.sound_play.proofs.TestLemmas.{by_contradiction, or_right}
 
 -- ---- sides
 
@@ -136,7 +136,7 @@ no_king_taken rules r x from to promo side sound l k here h = at_target (cell_at
         rw a
     of_enemy y there (inr e) =
         let t = go_takes rules r x y from to promo sound l here h there in
-        by_contradiction (is_own_king rules side (Some y)) (λ king. not_both _
+        false_from_ne_true (is_own_king rules side (Some y)) (λ king. not_both _
         (king_hit rules r to y k there (subst (λ s. is_own_king rules s (Some y) ≡ true) e king) t.attacked)
         (repeat_parts rules r sound).king)
 
