@@ -1,7 +1,6 @@
 -- What a side attacks (FIDE Laws of Chess, article 3.1: a piece attacks a square where it may capture on that square,
 -- also where it is itself kept from moving).
-use Rattle.std.specs.Prelude.{ℕ, Bool, false, ◌&&◌, ◌||◌, if◌then◌else◌, Option, Some, None, List, ℤ, pos, negsuc}
-use Rattle.std.specs.List.{list_any}
+use Rattle.std.specs.Prelude.{ℕ, ◌%◌, min, max, nat_lt, Bool, false, ◌&&◌, ◌||◌, not, ◌==◌, is_some, if◌then◌else◌, Option, Some, None, List, ℤ, pos, negsuc}
 use Rattle.foundation.specs.Count.{any_below}
 use Rattle.rules_model.specs.declared.board.Board.{Board}
 use Rattle.rules_model.specs.declared.board.Cell.{Cell}
@@ -10,11 +9,11 @@ use Rattle.rules_model.specs.declared.board.Side.{Side}
 use Rattle.rules_model.specs.declared.board.Square.{Square}
 use Rattle.rules_model.specs.declared.reach.Ray.{Ray}
 use Rattle.rules_model.specs.declared.rules.Rules.{Rules}
-use Rattle.rules_model.specs.declared.rules.Term.{Term}
 use Rattle.rules_model.specs.Squares.{turned, step_to, cell_at}
-use Rattle.rules_model.specs.Reach.{reaches, is_at}
+use Rattle.rules_model.specs.Reach.{is_at}
 use Rattle.rules_model.specs.Sides.{other, same_side}
-use Rattle.rules_model.specs.Kinds.{board_of, is_king, is_pawn, terms_of}
+use Rattle.rules_model.specs.Kinds.{board_of, is_king, is_pawn}
+use Rattle.rules_model.specs.Movement.{kind_reaches}
 
 -- the squares one rank forward of a square, and dx files to the right at each rank, as the side sees them
 abbrev pub pawn_ray : Board → Side → ℤ → Square → Ray
@@ -35,27 +34,6 @@ left_ahead board side from = step_to (pawn_ray board side (negsuc 0) from) 1
 unfoldable pub is_diagonal : Board → Side → Square → ℕ → Bool
 is_diagonal board side from to = is_at to (right_ahead board side from) || is_at to (left_ahead board side from)
 
--- by a term that takes
-abbrev pub takes_by : Board → List (Option Cell) → Side → Square → ℕ → Term → Bool
-takes_by board cells side from to t = t.takes && reaches board cells side t from to
-
--- as a piece of the kind: the pawn diagonally, the others by their terms
-abbrev pub attacks_as : Rules → List (Option Cell) → Side → Kind → Square → ℕ → Bool
-attacks_as rules cells side kind from to =
-    if is_pawn rules kind then is_diagonal (board_of rules) side from to else list_any (takes_by (board_of rules) cells side from to) (terms_of rules kind)
-
-abbrev pub attacks_by : Rules → List (Option Cell) → Side → ℕ → Square → Option Cell → Bool
-attacks_by rules cells by to from None = false
-attacks_by rules cells by to from (Some c) = same_side c.side by && attacks_as rules cells by c.kind from to
-
--- what stands on `from` is a piece of the side and attacks `to`
-unfoldable pub attacks_from : Rules → List (Option Cell) → Side → ℕ → ℕ → Bool
-attacks_from rules cells by to from = attacks_by rules cells by to (record { 0 = from }) (cell_at cells from)
-
--- the side attacks the square: what stands on the square does not matter
-unfoldable pub attacks : Rules → List (Option Cell) → Side → ℕ → Bool
-attacks rules cells by to = any_below (attacks_from rules cells by to) 120
-
 -- a piece of the side and of a kind that passes
 abbrev pub is_own : Side → (Kind → Bool) → Option Cell → Bool
 is_own side test None = false
@@ -66,6 +44,41 @@ is_own_king rules side c = is_own side (is_king rules) c
 
 abbrev pub is_own_pawn : Rules → Side → Option Cell → Bool
 is_own_pawn rules side c = is_own side (is_pawn rules) c
+
+-- as a piece of the kind: the pawn diagonally, the others by their terms that take
+abbrev pub attacks_as : Rules → List (Option Cell) → Side → Kind → Square → ℕ → Bool
+attacks_as rules cells side kind from to =
+    if is_pawn rules kind then is_diagonal (board_of rules) side from to else kind_reaches rules cells side kind (λ t. t.takes) from to
+
+abbrev pub attacks_by : Rules → List (Option Cell) → Side → ℕ → Square → Option Cell → Bool
+attacks_by rules cells by to from None = false
+attacks_by rules cells by to from (Some c) = same_side c.side by && attacks_as rules cells by c.kind from to
+
+-- what stands on `from` is a piece of the side and attacks `to`
+unfoldable pub attacks_from : Rules → List (Option Cell) → Side → ℕ → ℕ → Bool
+attacks_from rules cells by to from = attacks_by rules cells by to (record { 0 = from }) (cell_at cells from)
+
+-- ---- the flying general (xiangqi; Fairy-Stockfish's `flyingGeneral`)
+
+-- a piece stands on the square, which is one between two squares of its file
+unfoldable pub stands_between : List (Option Cell) → ℕ → ℕ → ℕ → Bool
+stands_between cells a b s = (s % 12 == a % 12) && nat_lt (min a b) s && nat_lt s (max a b) && is_some (cell_at cells s)
+
+-- the side's king stands on `from`, on the file of `to`, and all squares between the two are empty
+unfoldable pub king_faces : Rules → List (Option Cell) → Side → ℕ → ℕ → Bool
+king_faces rules cells by to from =
+    is_own_king rules by (cell_at cells from) && (from % 12 == to % 12) && not (any_below (stands_between cells from to) 120)
+
+-- where kings fly: the square holds the other side's king, and the side's own king faces it along an open file
+unfoldable pub flies_to : Rules → List (Option Cell) → Side → ℕ → Bool
+flies_to rules cells by to =
+    rules.flying && is_own_king rules (other by) (cell_at cells to) && any_below (king_faces rules cells by to) 120
+
+-- ---- the whole
+
+-- the side attacks the square, by a piece or by its flying king. But for that king, what stands on the square does not matter
+unfoldable pub attacks : Rules → List (Option Cell) → Side → ℕ → Bool
+attacks rules cells by to = any_below (attacks_from rules cells by to) 120 || flies_to rules cells by to
 
 unfoldable pub king_attacked_at : Rules → List (Option Cell) → Side → ℕ → Bool
 king_attacked_at rules cells side s = is_own_king rules side (cell_at cells s) && attacks rules cells (other side) s

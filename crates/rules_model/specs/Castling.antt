@@ -1,5 +1,5 @@
 -- Castling (FIDE Laws of Chess, article 3.8), on the files and the rank that the variant names (`castlingKingFile` and its kin).
-use Rattle.std.specs.Prelude.{ℕ, ◌+◌, ◌-◌, ◌%◌, min, max, nat_lt, nat_le, Bool, false, ◌&&◌, ◌||◌, not, ◌==◌, is_some, if◌then◌else◌, Option, List, [], slice_index_or}
+use Rattle.std.specs.Prelude.{ℕ, ◌+◌, ◌-◌, min, max, nat_lt, nat_le, Bool, false, ◌&&◌, ◌||◌, not, ◌==◌, is_some, if◌then◌else◌, Option, Some, None, List, [], slice_index_or}
 use Rattle.std.specs.List.{list_any}
 use Rattle.foundation.specs.Count.{any_below, first_below, last_below}
 use Rattle.rules_model.specs.declared.board.Cell.{Cell}
@@ -10,7 +10,6 @@ use Rattle.rules_model.specs.declared.board.Wing.{Wing}
 use Rattle.rules_model.specs.declared.board.Wing.TheVariants.{Kingside, Queenside}
 use Rattle.rules_model.specs.declared.rules.Rules.{Rules}
 use Rattle.rules_model.specs.Squares.{cell_at}
-use Rattle.rules_model.specs.Reach.{is_at}
 use Rattle.rules_model.specs.Sides.{other, side_index, wing_index}
 use Rattle.rules_model.specs.Kinds.{masks}
 use Rattle.rules_model.specs.Regions.{castling_square}
@@ -48,42 +47,74 @@ outermost Queenside test n = first_below test n
 unfoldable pub rook_file : Rules → List (Option Cell) → Side → Wing → Option ℕ
 rook_file rules cells side wing = outermost wing (rook_beyond rules cells side wing) rules.files
 
--- the square to which the rook of a castle goes: the one beside the king's target on the inner side. The rook's start lies
--- on the wing of the king's start that is castled to
-abbrev pub rook_target : Square → Square → Square → ℕ
-rook_target from to rook = if nat_lt from.0 rook.0 then to.0 - 1 else to.0 + 1
+-- ---- a castle
 
--- the lowest and the highest of the four files that king and rook leave and enter
-abbrev pub lowest : ℕ → ℕ → ℕ → ℕ → ℕ
-lowest a b c d = min (min a b) (min c d)
+-- where king and rook stand before a castle, and after it
+pub record CastleSquares : Type 0 where
+  pub king : ℕ
+  pub king_to : ℕ
+  pub rook : ℕ
+  pub rook_to : ℕ
 
-abbrev pub highest : ℕ → ℕ → ℕ → ℕ → ℕ
-highest a b c d = max (max a b) (max c d)
+-- the file to which the rook goes: the one beside the king's on the inner side
+abbrev pub rook_to_file : Rules → Wing → ℕ
+rook_to_file rules Kingside = rules.castle_near - 1
+rook_to_file rules Queenside = rules.castle_far + 1
 
--- a piece other than king and rook stands on that file of the castling rank, from the lowest to the highest
-unfoldable pub in_the_way : Rules → List (Option Cell) → Side → ℕ → ℕ → ℕ → ℕ → Bool
-in_the_way rules cells side low high rook file =
-    nat_le low file && nat_le file high && not (file == rules.castle_king) && not (file == rook) && is_some (cell_at cells (castling_square rules side file))
+-- the side's castle to the wing with the rook of that file
+abbrev pub castle_with : Rules → Side → Wing → ℕ → CastleSquares
+castle_with rules side wing file = record {
+  king = castling_square rules side rules.castle_king;
+  king_to = castling_square rules side (king_file rules wing);
+  rook = castling_square rules side file;
+  rook_to = castling_square rules side (rook_to_file rules wing);
+}
 
--- the other side attacks the square of a file from the king's start to its target
-unfoldable pub king_passes_attack : Rules → List (Option Cell) → Side → ℕ → ℕ → Bool
-king_passes_attack rules cells side target file =
-    nat_le (min rules.castle_king target) file && nat_le file (max rules.castle_king target) && attacks rules cells (other side) (castling_square rules side file)
+-- the lowest and the highest of its four squares, which are on one rank
+abbrev pub lowest : CastleSquares → ℕ
+lowest castle = min (min castle.king castle.king_to) (min castle.rook castle.rook_to)
 
--- the files of king and rook, and of the squares that they go to: the way is clear and the king's is not attacked
-unfoldable pub way_is_open : Rules → List (Option Cell) → Side → ℕ → ℕ → ℕ → Bool
-way_is_open rules cells side target rook rook_to =
-    not (any_below (in_the_way rules cells side (lowest rules.castle_king target rook rook_to) (highest rules.castle_king target rook rook_to) rook) 12)
-    && not (any_below (king_passes_attack rules cells side target) 12)
+abbrev pub highest : CastleSquares → ℕ
+highest castle = max (max castle.king castle.king_to) (max castle.rook castle.rook_to)
 
--- the king castles to the wing
+-- a piece other than king and rook stands on the square, from the lowest to the highest
+unfoldable pub in_the_way : List (Option Cell) → CastleSquares → ℕ → Bool
+in_the_way cells castle s =
+    nat_le (lowest castle) s && nat_le s (highest castle) && not (s == castle.king) && not (s == castle.rook) && is_some (cell_at cells s)
+
+-- the other side attacks the square, from the king's start to its target
+unfoldable pub king_passes_attack : Rules → List (Option Cell) → Side → CastleSquares → ℕ → Bool
+king_passes_attack rules cells side castle s =
+    nat_le (min castle.king castle.king_to) s && nat_le s (max castle.king castle.king_to) && attacks rules cells (other side) s
+
+-- the way is clear, and the king's is not attacked
+unfoldable pub way_is_open : Rules → List (Option Cell) → Side → CastleSquares → Bool
+way_is_open rules cells side castle =
+    not (any_below (in_the_way cells castle) 120) && not (any_below (king_passes_attack rules cells side castle) 120)
+
+-- ---- the move
+
+-- the squares of the move are those of the castle
+abbrev pub is_castle : CastleSquares → Square → Square → Square → Bool
+is_castle castle from to rook = (from.0 == castle.king) && (to.0 == castle.king_to) && (rook.0 == castle.rook)
+
+abbrev pub castles_with : Rules → Repeat → Square → Square → Square → CastleSquaresSquares → Bool
+castles_with rules r from to rook castle =
+    is_own_king rules r.side (cell_at r.cells castle.king) && is_castle castle from to rook && way_is_open rules r.cells r.side castle
+
+-- with the castling rook, where one stands on that side of the king's file
+abbrev pub castles_by : Rules → Repeat → Square → Square → Square → Wing → Option ℕ → Bool
+castles_by rules r from to rook wing None = false
+castles_by rules r from to rook wing (Some file) = castles_with rules r from to rook (castle_with rules r.side wing file)
+
+-- the king castles to the wing, whose right the side holds
 abbrev pub castles_on : Rules → Repeat → Square → Square → Square → Wing → Bool
-castles_on rules r from to rook wing =
-    holds_right r.rights r.side wing
-    && (from.0 == castling_square rules r.side rules.castle_king) && is_own_king rules r.side (cell_at r.cells from.0)
-    && (to.0 == castling_square rules r.side (king_file rules wing))
-    && is_at (rook.0 % 12) (rook_file rules r.cells r.side wing) && (rook.0 == castling_square rules r.side (rook.0 % 12))
-    && way_is_open rules r.cells r.side (king_file rules wing) (rook.0 % 12) (rook_target from to rook % 12)
+castles_on rules r from to rook wing = holds_right r.rights r.side wing && castles_by rules r from to rook wing (rook_file rules r.cells r.side wing)
 
 unfoldable pub castles : Rules → Repeat → Square → Square → Square → Bool
 castles rules r from to rook = castling_on rules && (castles_on rules r from to rook Kingside || castles_on rules r from to rook Queenside)
+
+-- the square to which the rook of a castle goes, by the move alone: the one beside the king's target on the inner side. The rook's
+-- start lies on the wing of the king's start that is castled to
+abbrev pub rook_target : Square → Square → Square → ℕ
+rook_target from to rook = if nat_lt from.0 rook.0 then to.0 - 1 else to.0 + 1

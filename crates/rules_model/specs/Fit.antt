@@ -1,6 +1,6 @@
 -- Rules that fit: what the options of a variant may say together (the variants.ini documentation of Fairy-Stockfish). A position may
 -- be sound for such rules, and every call of the crates above asks for them.
-use Rattle.std.specs.Prelude.{◌≡◌, ◌≢◌, ℕ, ◌+◌, ◌<◌, ◌≤◌, min, max, nat_lt, nat_le, Bool, true, false, ◌&&◌, ◌||◌, not, ◌==◌, is_some, is_none, Option, Some, None, List, slice_index_or, ℤ, pos, negsuc, nat_abs, int_le}
+use Rattle.std.specs.Prelude.{◌≡◌, ◌≢◌, ℕ, ◌+◌, ◌<◌, ◌≤◌, min, max, nat_lt, nat_le, Bool, true, false, ◌&&◌, ◌||◌, not, ◌==◌, is_some, is_none, Option, Some, None, List, length, slice_index_or, ℤ, pos, negsuc, nat_abs, int_le}
 use Rattle.std.specs.List.{list_all}
 use Rattle.foundation.specs.Tests.{same_bool, is_nil}
 use Rattle.foundation.specs.Count.{any_below, all_below}
@@ -37,6 +37,15 @@ fits_term t =
     is_within t.dx && is_within t.dy && nat_lt 0 (nat_abs t.dx + nat_abs t.dy) && nat_le 1 t.limit && nat_le t.limit 11
     && fits_way t.way t.limit (max (nat_abs t.dx) (nat_abs t.dy)) (min (nat_abs t.dx) (nat_abs t.dy)) && (t.quiet || t.takes)
 
+-- ---- regions
+
+unfoldable pub region_fits_at : Rules → Region → ℕ → Bool
+region_fits_at rules region s = not (slice_index_or region.squares s false) || on_board rules s
+
+-- the region lies on the board
+abbrev pub region_fits : Rules → Region → Bool
+region_fits rules region = all_below (region_fits_at rules region) 120
+
 -- ---- kinds
 
 abbrev pub is_there : Rules → Option Kind → Bool
@@ -50,7 +59,8 @@ fits_pawn rules kind rule = not (is_king rules kind) && is_nil rule.terms && is_
 abbrev pub fits_rule : Rules → Kind → Option KindRule → Bool
 fits_rule rules kind None = true
 fits_rule rules kind (Some rule) =
-    same_bool rule.pawn (is_pawn rules kind) && (not rule.pawn || fits_pawn rules kind rule) && list_all fits_term rule.terms && is_there rules rule.promoted
+    same_bool rule.pawn (is_pawn rules kind) && (not rule.pawn || fits_pawn rules kind rule) && list_all fits_term rule.terms
+    && list_all (region_fits rules) rule.mobility && is_there rules rule.promoted
 
 -- the kind's rule fits: it has the mark of the pawn exactly where it is the one that is named
 unfoldable pub kind_fits : Rules → ℕ → Bool
@@ -59,15 +69,6 @@ kind_fits rules k = fits_rule rules (record { 0 = k }) (kind_rule rules (record 
 -- the kind is there where a mask names it
 unfoldable pub mask_fits : Rules → List Bool → ℕ → Bool
 mask_fits rules mask k = not (masks mask (record { 0 = k })) || has_kind rules (record { 0 = k })
-
--- ---- regions
-
-unfoldable pub region_fits_at : Rules → Region → ℕ → Bool
-region_fits_at rules region s = not (slice_index_or region.squares s false) || on_board rules s
-
--- the region lies on the board
-abbrev pub region_fits : Rules → Region → Bool
-region_fits rules region = all_below (region_fits_at rules region) 120
 
 -- ---- rules that contradict each other
 
@@ -89,6 +90,10 @@ bad_promotion rules kind (Some promoted) = is_pawn_or_king rules kind || is_pawn
 unfoldable pub chains_promotions : Rules → Bool
 chains_promotions rules = any_below (λ k. bad_promotion rules (record { 0 = k }) (promoted_of rules (record { 0 = k }))) 26
 
+abbrev pub is_pawn_named : Rules → Option Kind → Bool
+is_pawn_named rules None = false
+is_pawn_named rules (Some kind) = is_pawn rules kind
+
 -- hand pieces come in by gates that the variant has not
 abbrev pub gates_nowhere : Rules → Bool
 gates_nowhere rules = rules.gate_hand && not rules.gating
@@ -101,9 +106,10 @@ rook_is_pawn rules (Some pawn) = masks rules.castle_rooks pawn
 unfoldable pub gates_amiss : Rules → Bool
 gates_amiss rules = rules.gating && (nat_lt 10 rules.files || (castling_on rules && (not (rules.castle_rank == 1) || rook_is_pawn rules rules.pawn)))
 
--- ---- the whole: every number in its range, every region on the board, every kind that is named there, and no contradiction.
--- The start is not looked at
+-- ---- the whole: a place for each letter, every number in its range, every region on the board, every kind that is named there, and
+-- no contradiction. The start is not looked at
 pub record IsFit (rules : Rules) : Type 0 where
+  pub letters : length rules.kinds ≡ 26
   pub files_least : 1 ≤ rules.files
   pub files_most : rules.files ≤ 12
   pub ranks_least : 1 ≤ rules.ranks
@@ -113,6 +119,8 @@ pub record IsFit (rules : Rules) : Type 0 where
   pub castle_far : rules.castle_far < 12
   pub castle_rank_least : 1 ≤ rules.castle_rank
   pub castle_rank_most : rules.castle_rank ≤ 10
+  pub soldier_rank_least : 1 ≤ rules.soldier_rank
+  pub soldier_rank_most : rules.soldier_rank ≤ 10
   pub n_move : rules.n_move ≤ 500
   pub n_fold_most : rules.n_fold ≤ 100
   pub n_fold_not_one : rules.n_fold ≢ 1
@@ -125,6 +133,8 @@ pub record IsFit (rules : Rules) : Type 0 where
   pub kinds : all_below (kind_fits rules) 26 ≡ true
   pub king : is_there rules rules.king ≡ true
   pub pawn : is_there rules rules.pawn ≡ true
+  pub soldier : is_there rules rules.soldier ≡ true
+  pub soldier_no_pawn : is_pawn_named rules rules.soldier ≡ false
   pub no_doubled : is_there rules rules.no_doubled ≡ true
   pub flag_kind : is_there rules rules.flag_kind ≡ true
   pub promotion_kinds : all_below (mask_fits rules rules.promotion_kinds) 26 ≡ true

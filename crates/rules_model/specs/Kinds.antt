@@ -2,6 +2,7 @@
 use Rattle.std.specs.Prelude.{Bool, true, false, ◌==◌, is_some, Option, Some, None, List, [], slice_get, slice_index_or}
 use Rattle.rules_model.specs.declared.board.Board.{Board}
 use Rattle.rules_model.specs.declared.board.Kind.{Kind}
+use Rattle.rules_model.specs.declared.board.Region.{Region}
 use Rattle.rules_model.specs.declared.rules.KindRule.{KindRule}
 use Rattle.rules_model.specs.declared.rules.Term.{Term}
 use Rattle.rules_model.specs.declared.rules.Rules.{Rules}
@@ -46,9 +47,17 @@ abbrev pub rule_terms : Option KindRule → List Term
 rule_terms None = []
 rule_terms (Some rule) = rule.terms
 
--- the terms by which a kind reaches squares
+-- the terms of a kind
 abbrev pub terms_of : Rules → Kind → List Term
 terms_of rules kind = rule_terms (kind_rule rules kind)
+
+abbrev pub rule_mobility : Option KindRule → List Region
+rule_mobility None = []
+rule_mobility (Some rule) = rule.mobility
+
+-- the regions of the two sides within which a kind reaches squares
+abbrev pub mobility_of : Rules → Kind → List Region
+mobility_of rules kind = rule_mobility (kind_rule rules kind)
 
 abbrev pub rule_promoted : Option KindRule → Option Kind
 rule_promoted None = None

@@ -18,9 +18,9 @@ use Rattle.rules_model.specs.declared.moves.Promo.{Promo}
 use Rattle.rules_model.specs.declared.moves.Promo.TheVariants.{Stays, Pawn, Plus}
 use Rattle.rules_model.specs.declared.rules.Rules.{Rules}
 use Rattle.rules_model.specs.Squares.{cell_at}
-use Rattle.rules_model.specs.Reach.{reaches}
+use Rattle.rules_model.specs.Movement.{kind_reaches}
 use Rattle.rules_model.specs.Sides.{other}
-use Rattle.rules_model.specs.Kinds.{board_of, is_pawn, terms_of}
+use Rattle.rules_model.specs.Kinds.{board_of, is_pawn}
 use Rattle.rules_model.specs.Attacks.{ahead, king_attacked}
 use Rattle.rules_model.specs.Candidates.{is_candidate}
 use Rattle.rules_model.specs.Next.{captures, next_repeat}
@@ -88,9 +88,9 @@ may_check rules r m = (rules.checking || not (gives_check rules r m)) && (rules.
 abbrev pub empty_board : List (Option Cell)
 empty_board = replicate 120 None
 
--- a piece of the kind reaches the square of the otherwise empty board, by any term
+-- a piece of the kind reaches the square of the otherwise empty board, by any term, quiet or taking
 unfoldable pub roams_to : Rules → Side → Kind → Square → ℕ → Bool
-roams_to rules side kind from to = list_any (λ t. reaches (board_of rules) empty_board side t from to) (terms_of rules kind)
+roams_to rules side kind from to = kind_reaches rules empty_board side kind (λ t. true) from to
 
 -- a piece of the kind reaches some square of the otherwise empty board; for the pawn, there is a square in front of it
 unfoldable pub is_mobile : Rules → Side → Kind → Square → Bool

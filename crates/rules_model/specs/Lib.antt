@@ -4,6 +4,7 @@ pub mod Repeats
 pub mod Sides
 pub mod Kinds
 pub mod Regions
+pub mod Movement
 pub mod Attacks
 pub mod Hands
 pub mod Gates
@@ -19,8 +20,10 @@ pub mod MoveText
 pub mod Moves
 pub mod Legal
 pub mod Allowed
+pub mod Sizes
 pub mod Sound
 pub mod Games
 pub mod Fit
+pub mod Ready
 pub mod Promised
 pub mod Built

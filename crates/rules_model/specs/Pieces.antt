@@ -1,6 +1,5 @@
 -- The ordinary move of a piece that is not the pawn (Betza's terms; Fairy-Stockfish's `promotedPieceType`).
 use Rattle.std.specs.Prelude.{ℕ, Bool, false, ◌&&◌, ◌||◌, not, ◌==◌, is_some, Option, Some, None, List}
-use Rattle.std.specs.List.{list_any}
 use Rattle.rules_model.specs.declared.board.Cell.{Cell}
 use Rattle.rules_model.specs.declared.board.Kind.{Kind}
 use Rattle.rules_model.specs.declared.board.Repeat.{Repeat}
@@ -13,10 +12,10 @@ use Rattle.rules_model.specs.declared.moves.Promo.TheVariants.{Stays, Pawn, Plus
 use Rattle.rules_model.specs.declared.rules.Rules.{Rules}
 use Rattle.rules_model.specs.declared.rules.Term.{Term}
 use Rattle.rules_model.specs.Squares.{cell_at}
-use Rattle.rules_model.specs.Reach.{reaches}
 use Rattle.rules_model.specs.Sides.{same_side}
-use Rattle.rules_model.specs.Kinds.{board_of, is_king, terms_of, promoted_of}
+use Rattle.rules_model.specs.Kinds.{is_king, promoted_of}
 use Rattle.rules_model.specs.Regions.{in_region, castling_square}
+use Rattle.rules_model.specs.Movement.{kind_reaches}
 use Rattle.rules_model.specs.Castling.{holds_right, king_file}
 
 -- a term serves for a move onto what stands there: a quiet one onto an empty square, one that takes onto an enemy
@@ -24,12 +23,9 @@ abbrev pub serves : Side → Option Cell → Term → Bool
 serves side None t = t.quiet
 serves side (Some c) t = t.takes && not (same_side c.side side)
 
-abbrev pub goes_by : Rules → List (Option Cell) → Side → Square → ℕ → Term → Bool
-goes_by rules cells side from to t = serves side (cell_at cells to) t && reaches (board_of rules) cells side t from to
-
 -- a piece of the kind goes to a square that it reaches
 unfoldable pub piece_goes : Rules → List (Option Cell) → Side → Kind → Square → ℕ → Bool
-piece_goes rules cells side kind from to = list_any (goes_by rules cells side from to) (terms_of rules kind)
+piece_goes rules cells side kind from to = kind_reaches rules cells side kind (serves side (cell_at cells to)) from to
 
 -- the kind has a promoted kind, and the start or the target lies in the promotion region
 abbrev pub may_plus : Rules → Side → Kind → ℕ → ℕ → Bool

@@ -1,10 +1,8 @@
 -- What is promised of the legal moves of a sound position, and of the position after one.
-use Rattle.std.specs.Prelude.{◌≡◌, true, ◌==◌, Option, Some, None, length}
-use Rattle.std.specs.List.{list_all}
+use Rattle.std.specs.Prelude.{◌≡◌, true, Option, Some, None}
 use Rattle.foundation.specs.Member.{Member}
 use Rattle.rules_model.specs.declared.board.Kind.{Kind}
 use Rattle.rules_model.specs.declared.board.Position.{Position}
-use Rattle.rules_model.specs.declared.board.Repeat.{Repeat}
 use Rattle.rules_model.specs.declared.board.Square.{Square}
 use Rattle.rules_model.specs.declared.moves.Move.{Move}
 use Rattle.rules_model.specs.declared.moves.Move.TheVariants.{Go, Castle, Drop}
@@ -47,17 +45,7 @@ IsMoveOf rules (Drop kind to) = IsKindOf rules kind × IsSquareOf rules to
 
 -- ---- soundness along a game
 
--- the lists of a position have the lengths of its fields
-pub record HasSizes (r : Repeat) : Type 0 where
-  pub cells : length r.cells ≡ 120
-  pub hands : length r.hands ≡ 2
-  pub each_hand : list_all (λ hand. length hand == 26) r.hands ≡ true
-  pub gates : length r.gates ≡ 2
-  pub rights : length r.rights ≡ 2
-  pub each_right : list_all (λ rights. length rights == 2) r.rights ≡ true
-  pub checks : length r.checks ≡ 2
-
 -- after each legal move of a sound position the position is sound
 abbrev pub NextKeepsSound : Rules → Type 0
 NextKeepsSound rules =
-    (p : Position) (m : Move) → HasSizes (repeat_of p) → is_sound rules p ≡ true → Member m (legal rules (repeat_of p)) → is_sound rules (next rules p m) ≡ true
+    (p : Position) (m : Move) → is_sound rules p ≡ true → Member m (legal rules (repeat_of p)) → is_sound rules (next rules p m) ≡ true

@@ -21,6 +21,11 @@ first_rank rules Black = rules.ranks - 1
 abbrev pub on_first_rank : Rules → Side → ℕ → Bool
 on_first_rank rules side s = s / 12 == first_rank rules side
 
+-- the rank of a square as the side counts it: 1 for its own first rank
+abbrev pub rank_for : Rules → Side → ℕ → ℕ
+rank_for rules White s = s / 12 + 1
+rank_for rules Black s = rules.ranks - s / 12
+
 -- the rank on which the side castles: Black's mirrors White's
 abbrev pub castling_rank : Rules → Side → ℕ
 castling_rank rules White = rules.castle_rank - 1

@@ -12,6 +12,7 @@ use Rattle.rules_model.specs.declared.board.Square.{Square}
 use Rattle.rules_model.specs.declared.board.Wing.{Wing}
 use Rattle.rules_model.specs.declared.board.Wing.TheVariants.{Kingside, Queenside}
 use Rattle.rules_model.specs.declared.rules.Rules.{Rules}
+use Rattle.rules_model.specs.Sizes.{has_sizes}
 use Rattle.rules_model.specs.Squares.{cell_at}
 use Rattle.rules_model.specs.Repeats.{repeat_of}
 use Rattle.rules_model.specs.Sides.{other, side_index}
@@ -104,7 +105,7 @@ is_sound_side rules r side =
 -- what soundness asks of a repeat
 unfoldable pub is_sound_repeat : Rules → Repeat → Bool
 is_sound_repeat rules r =
-    all_below (sound_at rules r.cells) 120 && nat_le (pieces_of r White + pieces_of r Black) 240
+    has_sizes r && all_below (sound_at rules r.cells) 120 && nat_le (pieces_of r White + pieces_of r Black) 240
     && is_sound_side rules r White && is_sound_side rules r Black
     && not (king_attacked rules r.cells (other r.side)) && is_sound_ep rules r r.ep
 
