@@ -1,5 +1,5 @@
 -- What stands behind a candidate, taken apart.
-use Rattle.std.proofs.Common.{◌≡◌, ℕ, zero, suc, ◌%◌, ◌<◌, Bool, true, false, not, ◌&&◌, ◌||◌, if◌then◌else◌, ◌⊎◌, inl, inr, Option, Some, None, List, [], ◌∷◌, refl, ap, subst, arith, ◌==◌}
+use Rattle.std.proofs.Common.{◌≡◌, ℕ, zero, suc, ◌<◌, Bool, true, false, not, ◌&&◌, ◌||◌, if◌then◌else◌, ◌⊎◌, inl, inr, Option, Some, None, List, [], ◌∷◌, refl, sym, ap, subst, arith, ◌==◌}
 use Rattle.std.specs.List.{list_any}
 use Rattle.std.proofs.lemmas.Bool.Decides.{Decides-eqb}
 use Rattle.foundation.specs.Count.{first_below, last_below, or_else}
@@ -15,13 +15,15 @@ use Rattle.rules_model.specs.declared.moves.Move.TheVariants.{Go, Castle, Drop}
 use Rattle.rules_model.specs.declared.moves.Placed.{Placed}
 use Rattle.rules_model.specs.declared.moves.Promo.{Promo}
 use Rattle.rules_model.specs.declared.rules.Rules.{Rules}
+use Rattle.rules_model.specs.declared.rules.Term.{Term}
 use Rattle.rules_model.specs.Squares.{cell_at}
-use Rattle.rules_model.specs.Reach.{is_at}
+use Rattle.rules_model.specs.Reach.{is_at, reaches}
 use Rattle.rules_model.specs.Sides.{same_side}
-use Rattle.rules_model.specs.Kinds.{is_pawn}
+use Rattle.rules_model.specs.Kinds.{board_of, is_pawn}
+use Rattle.rules_model.specs.Movement.{in_mobility, kind_reaches, reaches_by, terms_from}
 use Rattle.rules_model.specs.Regions.{castling_square}
 use Rattle.rules_model.specs.Attacks.{is_own_king}
-use Rattle.rules_model.specs.Castling.{castling_on, holds_right, king_file, rook_beyond, rook_file, rook_target, way_is_open, castles_on, castles}
+use Rattle.rules_model.specs.Castling.{castling_on, holds_right, king_file, rook_beyond, rook_file, rook_target, way_is_open, castle_with, castle_by, castle_of, is_castle, castles_as, castles_on, castles}
 use Rattle.rules_model.specs.Pieces.{piece_moves}
 use Rattle.rules_model.specs.Pawns.{pawn_moves}
 use Rattle.rules_model.specs.Drops.{drops_to}
@@ -97,6 +99,15 @@ last_below-some f (suc n) k e =
 
 -- ---- ordinary moves
 
+-- the term by which a kind reaches a square
+pub term_of_reach : (rules : Rules) (cells : List (Option Cell)) (side : Side) (kind : Kind) (test : Term → Bool) (from : Square) (s : ℕ) → kind_reaches rules cells side kind test from s ≡ true → (t : Term) × (test t ≡ true) × (reaches (board_of rules) cells side t from s ≡ true)
+unfolding kind_reaches
+term_of_reach rules cells side kind test from s e =
+    let a = both_of (in_mobility rules side kind s) (list_any (reaches_by rules cells side test from s) (terms_from rules side kind from)) e in
+    let t = any_has (reaches_by rules cells side test from s) (terms_from rules side kind from) a.1 in
+    let b = both_of (test t.0) (reaches (board_of rules) cells side t.0 from s) t.1 in
+    (t.0, b.0, b.1)
+
 abbrev pub PieceGoes : Rules → Repeat → Cell → Square → Square → Promo → Type 0
 PieceGoes rules r x from to promo = (same_side x.side r.side ≡ true) × (is_pawn rules x.kind ≡ false) × (piece_moves rules r x from to promo ≡ true)
 
@@ -144,28 +155,36 @@ pub record Castles (rules : Rules) (r : Repeat) (from to rook : Square) (wing : 
   pub start : from.0 ≡ castling_square rules r.side rules.castle_king
   pub king : is_own_king rules r.side (cell_at r.cells from.0) ≡ true
   pub target : to.0 ≡ castling_square rules r.side (king_file rules wing)
-  pub file : rook_file rules r.cells r.side wing ≡ Some (rook.0 % 12)
-  pub rank : rook.0 ≡ castling_square rules r.side (rook.0 % 12)
-  pub way : way_is_open rules r.cells r.side (king_file rules wing) (rook.0 % 12) (rook_target from to rook % 12) ≡ true
+  pub beyond : ℕ
+  pub file : rook_file rules r.cells r.side wing ≡ Some beyond
+  pub rank : rook.0 ≡ castling_square rules r.side beyond
+  pub way : way_is_open rules r.cells r.side (castle_with rules r.side wing beyond) ≡ true
+
+castles_of : (rules : Rules) (r : Repeat) (from to rook : Square) (wing : Wing) (o : Option ℕ) → castling_on rules ≡ true → holds_right r.rights r.side wing ≡ true → rook_file rules r.cells r.side wing ≡ o → castles_as rules r from to rook (castle_by rules r.side wing o) ≡ true → Castles rules r from to rook wing
+castles_of rules r from to rook wing None on held f e = cc
+castles_of rules r from to rook wing (Some file) on held f e =
+    let castle = castle_with rules r.side wing file in
+    let a = both_of _ (way_is_open rules r.cells r.side castle) e in
+    let b = both_of (is_own_king rules r.side (cell_at r.cells castle.king.0)) (is_castle castle from to rook) a.0 in
+    let c = both_of ((from.0 == castle.king.0) && (to.0 == castle.king_to.0)) (rook.0 == castle.rook.0) b.1 in
+    let d = both_of (from.0 == castle.king.0) (to.0 == castle.king_to.0) c.0 in
+    let start = (Decides-eqb from.0 castle.king.0).0 d.0 in
+    record {
+      on = on;
+      held = held;
+      start = start;
+      king = subst (λ s. is_own_king rules r.side (cell_at r.cells s) ≡ true) (sym start) b.0;
+      target = (Decides-eqb to.0 castle.king_to.0).0 d.1;
+      beyond = file;
+      file = f;
+      rank = (Decides-eqb rook.0 castle.rook.0).0 c.1;
+      way = a.1;
+    }
 
 castles_to : (rules : Rules) (r : Repeat) (from to rook : Square) (wing : Wing) → castling_on rules ≡ true → castles_on rules r from to rook wing ≡ true → Castles rules r from to rook wing
 castles_to rules r from to rook wing on e =
-    let a = both_of _ (way_is_open rules r.cells r.side (king_file rules wing) (rook.0 % 12) (rook_target from to rook % 12)) e in
-    let b = both_of _ (rook.0 == castling_square rules r.side (rook.0 % 12)) a.0 in
-    let c = both_of _ (is_at (rook.0 % 12) (rook_file rules r.cells r.side wing)) b.0 in
-    let d = both_of _ (to.0 == castling_square rules r.side (king_file rules wing)) c.0 in
-    let f = both_of _ (is_own_king rules r.side (cell_at r.cells from.0)) d.0 in
-    let g = both_of (holds_right r.rights r.side wing) (from.0 == castling_square rules r.side rules.castle_king) f.0 in
-    record {
-      on = on;
-      held = g.0;
-      start = (Decides-eqb _ _).0 g.1;
-      king = f.1;
-      target = (Decides-eqb _ _).0 d.1;
-      file = at_some _ _ c.1;
-      rank = (Decides-eqb _ _).0 b.1;
-      way = a.1;
-    }
+    let a = both_of (holds_right r.rights r.side wing) (castles_as rules r from to rook (castle_of rules r.cells r.side wing)) e in
+    castles_of rules r from to rook wing (rook_file rules r.cells r.side wing) on a.0 refl a.1
 
 pub castle_is : (rules : Rules) (r : Repeat) (from to rook : Square) (gate : Option Placed) → is_candidate rules r (Castle from to rook gate) ≡ true → ((wing : Wing) × Castles rules r from to rook wing) × (castle_gates rules r from to rook gate ≡ true)
 unfolding is_candidate is_piece_move is_special_move castles

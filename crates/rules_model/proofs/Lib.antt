@@ -7,4 +7,5 @@ pub mod ResultLaws
 pub mod LegalLaws
 pub mod CandidateLaws
 pub mod VariantLaws
+pub mod SizeLaws
 pub mod TextLaws

@@ -1,6 +1,5 @@
 -- The texts of the legal moves of a sound position differ.
 use Rattle.std.proofs.Common.{◌≡◌, ℕ, zero, suc, ◌+◌, ◌-◌, ◌*◌, ◌/◌, ◌%◌, ◌<◌, ◌≤◌, Bool, true, false, not, ◌&&◌, ◌||◌, if◌then◌else◌, cond, ◌⊎◌, inl, inr, Option, Some, None, List, [], ◌∷◌, ◌++◌, ℤ, pos, negsuc, ◌+ℤ◌, ◌*ℤ◌, refl, ap, sym, ◌∙◌, subst, arith, nat_lt, ◌==◌, is_none, append_assoc, append-nil}
-use Rattle.std.specs.List.{list_any}
 use Rattle.std.proofs.lemmas.Bool.Decides.{nat_tests, Decides-eqb}
 use Rattle.foundation.specs.Member.{Member}
 use Rattle.rules_model.specs.declared.board.Cell.{Cell}
@@ -19,13 +18,14 @@ use Rattle.rules_model.specs.declared.moves.Promo.TheVariants.{Stays, Pawn, Plus
 use Rattle.rules_model.specs.declared.rules.Rules.{Rules}
 use Rattle.rules_model.specs.declared.rules.Term.{Term}
 use Rattle.rules_model.specs.Squares.{cell_at, turned, within, square_of, step_to}
-use Rattle.rules_model.specs.Reach.{is_at, reaches}
+use Rattle.rules_model.specs.Reach.{is_at}
 use Rattle.rules_model.specs.Sides.{same_side}
-use Rattle.rules_model.specs.Kinds.{board_of, is_king, is_pawn, terms_of}
+use Rattle.rules_model.specs.Kinds.{board_of, is_king, is_pawn}
+use Rattle.rules_model.specs.Movement.{kind_reaches}
 use Rattle.rules_model.specs.Regions.{castling_rank, castling_square}
 use Rattle.rules_model.specs.Attacks.{ahead, is_diagonal, is_own_king, is_own_pawn, left_ahead, pawn_ray, right_ahead}
 use Rattle.rules_model.specs.Castling.{castling_on, holds_right, king_file, rook_on}
-use Rattle.rules_model.specs.Pieces.{goes_by, may_plus, means_castling, piece_goes, piece_moves, piece_promo, serves, to_castling_target}
+use Rattle.rules_model.specs.Pieces.{may_plus, means_castling, piece_goes, piece_moves, piece_promo, serves, to_castling_target}
 use Rattle.rules_model.specs.Pawns.{is_enemy, is_ep, is_stays, may_promote, passes_by, pawn_goes, pawn_moves, pawn_promo, steps_twice}
 use Rattle.rules_model.specs.Gating.{castle_gates}
 use Rattle.rules_model.specs.Candidates.{is_candidate}
@@ -34,7 +34,7 @@ use Rattle.rules_model.specs.Fit.{IsFit}
 use Rattle.rules_model.specs.Legal.{legal}
 use Rattle.rules_model.specs.Moves.{IsFitMove, IsFitGate, IsFitPromo, IsFitPlaced}
 use Rattle.rules_model.specs.MoveText.{gate_text, lower, promo_text, square_text, text_of, upper}
-use Rattle.rules_model.proofs.CandidateLaws.{both_of, one_of, false_of_not, not_both, any_has, at_some, legal_candidate, PieceGoes, PawnGoes, plain_go, gated_go, Castles, castle_is, rook_file-some, castle_gate}
+use Rattle.rules_model.proofs.CandidateLaws.{both_of, one_of, false_of_not, not_both, at_some, term_of_reach, legal_candidate, PieceGoes, PawnGoes, plain_go, gated_go, Castles, castle_is, rook_file-some, castle_gate}
 use Rattle.rules_model.proofs.VariantLaws.{castling_on-is, sound_ep}
 use Rattle.rules_model.proofs.LegalLaws.{legal-member}
 
@@ -229,8 +229,8 @@ placed_stops (Some placed) = λ e. omega (arith, e)
 -- the squares that a castle to a wing names
 same_castle : (rules : Rules) (r : Repeat) (a b k a' b' k' : Square) (w : Wing) → Castles rules r a b k w → Castles rules r a' b' k' w → (a ≡ a') × (b ≡ b') × (k ≡ k')
 same_castle rules r a b k a' b' k' w x y =
-    let s : Some (k.0 % 12) ≡ Some (k'.0 % 12) = sym x.file ∙ y.file in
-    let f : k.0 % 12 ≡ k'.0 % 12 = cc in
+    let s : Some x.beyond ≡ Some y.beyond = sym x.file ∙ y.file in
+    let f : x.beyond ≡ y.beyond = cc in
     (square_is a a' (x.start ∙ sym y.start), square_is b b' (x.target ∙ sym y.target), square_is k k' (x.rank ∙ ap (castling_square rules r.side) f ∙ sym y.rank))
 
 apart_targets : (rules : Rules) (side : Side) → castling_on rules ≡ true → castling_square rules side rules.castle_near ≡ castling_square rules side rules.castle_far → ⊥
@@ -249,18 +249,20 @@ by_target rules r a b k a' b' k' Queenside Queenside x y e = refl
 lt_test : (a b : ℕ) → nat_lt a b ≡ true → a < b
 lt_test a b e = grind (arith, nat_tests)
 
-right_of_king : (rules : Rules) (r : Repeat) (a b k : Square) → Castles rules r a b k Kingside → rules.castle_king < k.0 % 12
-right_of_king rules r a b k x = lt_test _ _ (both_of (nat_lt rules.castle_king (k.0 % 12)) (rook_on rules r.cells r.side (k.0 % 12)) (rook_file-some rules r r.side Kingside (k.0 % 12) x.file).1).0
+right_of_king : (rules : Rules) (r : Repeat) (a b k : Square) (x : Castles rules r a b k Kingside) → rules.castle_king < x.beyond
+right_of_king rules r a b k x = lt_test _ _ (both_of (nat_lt rules.castle_king x.beyond) (rook_on rules r.cells r.side x.beyond) (rook_file-some rules r r.side Kingside x.beyond x.file).1).0
 
-left_of_king : (rules : Rules) (r : Repeat) (a b k : Square) → Castles rules r a b k Queenside → k.0 % 12 < rules.castle_king
-left_of_king rules r a b k x = lt_test _ _ (both_of (nat_lt (k.0 % 12) rules.castle_king) (rook_on rules r.cells r.side (k.0 % 12)) (rook_file-some rules r r.side Queenside (k.0 % 12) x.file).1).0
+left_of_king : (rules : Rules) (r : Repeat) (a b k : Square) (x : Castles rules r a b k Queenside) → x.beyond < rules.castle_king
+left_of_king rules r a b k x = lt_test _ _ (both_of (nat_lt x.beyond rules.castle_king) (rook_on rules r.cells r.side x.beyond) (rook_file-some rules r r.side Queenside x.beyond x.file).1).0
 
 both_wings : (rules : Rules) (r : Repeat) (a b k a' b' k' : Square) → Castles rules r a b k Kingside → Castles rules r a' b' k' Queenside → k ≡ k' → ⊥
 both_wings rules r a b k a' b' k' x y e =
     let h = right_of_king rules r a b k x in
     let l = left_of_king rules r a' b' k' y in
     let f : k.0 ≡ k'.0 = ap (λ (s : Square). s.0) e in
-    omega (arith, h, l, f)
+    let m = x.rank in
+    let n = y.rank in
+    omega (arith, h, l, f, m, n)
 
 by_rook : (rules : Rules) (r : Repeat) (a b k a' b' k' : Square) (w v : Wing) → Castles rules r a b k w → Castles rules r a' b' k' v → k ≡ k' → w ≡ v
 by_rook rules r a b k a' b' k' Kingside Kingside x y e = refl
@@ -268,19 +270,20 @@ by_rook rules r a b k a' b' k' Kingside Queenside x y e = absurd (both_wings rul
 by_rook rules r a b k a' b' k' Queenside Kingside x y e = absurd (both_wings rules r a' b' k' a b k y x (sym e))
 by_rook rules r a b k a' b' k' Queenside Queenside x y e = refl
 
-file_of : (king rank s : ℕ) → king < 12 → s ≡ 12 * rank + king → s % 12 ≡ king
-file_of king rank s h e = omega (arith, h, e)
-
 -- the rook does not stand on the king's start
-rook_apart : (rules : Rules) (fit : IsFit rules) (r : Repeat) (a b k : Square) (w : Wing) → Castles rules r a b k w → a ≡ k → ⊥
-rook_apart rules fit r a b k Kingside x e =
+rook_apart : (rules : Rules) (r : Repeat) (a b k : Square) (w : Wing) → Castles rules r a b k w → a ≡ k → ⊥
+rook_apart rules r a b k Kingside x e =
     let h = right_of_king rules r a b k x in
-    let f = file_of rules.castle_king (castling_rank rules r.side) k.0 fit.castle_king (sym (ap (λ (s : Square). s.0) e) ∙ x.start) in
-    omega (arith, h, f)
-rook_apart rules fit r a b k Queenside x e =
+    let f : a.0 ≡ k.0 = ap (λ (s : Square). s.0) e in
+    let m = x.start in
+    let n = x.rank in
+    omega (arith, h, f, m, n)
+rook_apart rules r a b k Queenside x e =
     let h = left_of_king rules r a b k x in
-    let f = file_of rules.castle_king (castling_rank rules r.side) k.0 fit.castle_king (sym (ap (λ (s : Square). s.0) e) ∙ x.start) in
-    omega (arith, h, f)
+    let f : a.0 ≡ k.0 = ap (λ (s : Square). s.0) e in
+    let m = x.start in
+    let n = x.rank in
+    omega (arith, h, f, m, n)
 
 -- where a castle places its piece
 place_is : (rules : Rules) (r : Repeat) (a b k : Square) (placed : Placed) (at : Bool) → castle_gates rules r a b k (Some placed) ≡ true → (placed.at.0 == k.0) ≡ at → placed.at.0 ≡ (first_by at a k).0
@@ -308,14 +311,14 @@ castle_from a b k a' b' k' g h e f = let x = e.0 in let y = e.1 in let z = e.2 i
 one_wing : (rules : Rules) (r : Repeat) (a b k a' b' k' : Square) (w v : Wing) → Castles rules r a b k w → Castles rules r a' b' k' v → w ≡ v → (a ≡ a') × (b ≡ b') × (k ≡ k')
 one_wing rules r a b k a' b' k' w v x y e = same_castle rules r a b k a' b' k' v (subst (λ z. Castles rules r a b k z) e x) y
 
-same_castles : (rules : Rules) (fit : IsFit rules) (r : Repeat) (a b k a' b' k' : Square) (g h : Option Placed) (w v : Wing) (s t : Bool) → Castles rules r a b k w → Castles rules r a' b' k' v → at_rook k g ≡ s → at_rook k' h ≡ t → castle_gates rules r a b k g ≡ true → castle_gates rules r a' b' k' h ≡ true → IsFitPlaced g → IsFitPlaced h → first_by s a k ≡ first_by t a' k' → second_by s a b ≡ second_by t a' b' → placed_text g ≡ placed_text h → Castle a b k g ≡ Castle a' b' k' h
-same_castles rules fit r a b k a' b' k' g h w v true true x y i j m n p q e f z =
+same_castles : (rules : Rules) (r : Repeat) (a b k a' b' k' : Square) (g h : Option Placed) (w v : Wing) (s t : Bool) → Castles rules r a b k w → Castles rules r a' b' k' v → at_rook k g ≡ s → at_rook k' h ≡ t → castle_gates rules r a b k g ≡ true → castle_gates rules r a' b' k' h ≡ true → IsFitPlaced g → IsFitPlaced h → first_by s a k ≡ first_by t a' k' → second_by s a b ≡ second_by t a' b' → placed_text g ≡ placed_text h → Castle a b k g ≡ Castle a' b' k' h
+same_castles rules r a b k a' b' k' g h w v true true x y i j m n p q e f z =
     castle_from a b k a' b' k' g h (one_wing rules r a b k a' b' k' w v x y (by_rook rules r a b k a' b' k' w v x y e)) (same_gate rules r a b k a' b' k' g h true i j e m n p q z)
-same_castles rules fit r a b k a' b' k' g h w v true false x y i j m n p q e f z =
-    absurd (rook_apart rules fit r a b k w x (square_is a a' (x.start ∙ sym y.start) ∙ sym e))
-same_castles rules fit r a b k a' b' k' g h w v false true x y i j m n p q e f z =
-    absurd (rook_apart rules fit r a' b' k' v y (square_is a' a (y.start ∙ sym x.start) ∙ e))
-same_castles rules fit r a b k a' b' k' g h w v false false x y i j m n p q e f z =
+same_castles rules r a b k a' b' k' g h w v true false x y i j m n p q e f z =
+    absurd (rook_apart rules r a b k w x (square_is a a' (x.start ∙ sym y.start) ∙ sym e))
+same_castles rules r a b k a' b' k' g h w v false true x y i j m n p q e f z =
+    absurd (rook_apart rules r a' b' k' v y (square_is a' a (y.start ∙ sym x.start) ∙ e))
+same_castles rules r a b k a' b' k' g h w v false false x y i j m n p q e f z =
     castle_from a b k a' b' k' g h (one_wing rules r a b k a' b' k' w v x y (by_target rules r a b k a' b' k' w v x y f)) (same_gate rules r a b k a' b' k' g h false i j e m n p q z)
 
 -- ---- an ordinary move and a castle
@@ -455,9 +458,9 @@ piece_not_on_own : (rules : Rules) (r : Repeat) (x y : Cell) (a b : Square) (p :
 unfolding piece_moves piece_goes
 piece_not_on_own rules r x y a b p f h e =
     let m = both_of _ (not (means_castling rules r x.kind a.0 b.0)) e in
-    let n = both_of (list_any (goes_by rules r.cells r.side a b.0) (terms_of rules x.kind)) (piece_promo rules (may_plus rules r.side x.kind a.0 b.0) p) m.0 in
-    let t = any_has (goes_by rules r.cells r.side a b.0) (terms_of rules x.kind) n.0 in
-    serves_no_own r.side (cell_at r.cells b.0) y t.0 f h (both_of (serves r.side (cell_at r.cells b.0) t.0) (reaches (board_of rules) r.cells r.side t.0 a b.0) t.1).0
+    let n = both_of (kind_reaches rules r.cells r.side x.kind (serves r.side (cell_at r.cells b.0)) a b.0) (piece_promo rules (may_plus rules r.side x.kind a.0 b.0) p) m.0 in
+    let t = term_of_reach rules r.cells r.side x.kind (serves r.side (cell_at r.cells b.0)) a b.0 n.0 in
+    serves_no_own r.side (cell_at r.cells b.0) y t.0 f h t.1
 
 none_or_some : (o : Option Cell) (y : Cell) → o ≡ Some y → is_none o ≡ true → ⊥
 none_or_some o y e h = let k : is_none (Some y) ≡ true = subst (λ c. is_none c ≡ true) e h in cc
@@ -582,7 +585,7 @@ text_apart rules fit r (Castle a b k g) (Castle a' b' k' h) sound i j m n e =
     let t = at_rook k' h in
     let z = two_squares (first_by s a k) (second_by s a b) (first_by t a' k') (second_by t a' b') (placed_text g) (placed_text h) (first_small s a k i.0 i.2) (second_small s a b i.0 i.1) (first_small t a' k' j.0 j.2) (second_small t a' b' j.0 j.1) (placed_stops g) (placed_stops h)
     (sym (castle_spelled a b k g) ∙ e ∙ castle_spelled a' b' k' h) in
-    same_castles rules fit r a b k a' b' k' g h x.0.0 y.0.0 s t x.0.1 y.0.1 refl refl x.1 y.1 i.3 j.3 z.0 z.1 z.2
+    same_castles rules r a b k a' b' k' g h x.0.0 y.0.0 s t x.0.1 y.0.1 refl refl x.1 y.1 i.3 j.3 z.0 z.1 z.2
 text_apart rules fit r (Castle a b k g) (Drop j s) sound i l m n e =
     absurd (starts_apart (first_by (at_rook k g) a k) j _ _ (sym (castle_spelled a b k g) ∙ e ∙ drop_spelled j s))
 text_apart rules fit r (Drop k s) (Go a b p g) sound i j m n e =

@@ -25,7 +25,8 @@ use Rattle.rules_model.specs.declared.rules.Term.{Term}
 use Rattle.rules_model.specs.Squares.{cell_at, within, square_of, step_to}
 use Rattle.rules_model.specs.Reach.{is_at, passes, reaches_over, reaches, ray_of}
 use Rattle.rules_model.specs.Sides.{other, side_index}
-use Rattle.rules_model.specs.Kinds.{board_of, has_kind, is_king, masks, terms_of}
+use Rattle.rules_model.specs.Kinds.{board_of, has_kind, is_king, masks}
+use Rattle.rules_model.specs.Movement.{kind_reaches}
 use Rattle.rules_model.specs.Regions.{no_region, in_region, castling_rank, castling_square}
 use Rattle.rules_model.specs.Ends.{pieces_of}
 use Rattle.rules_model.specs.Attacks.{ahead, king_attacked, is_diagonal, left_ahead, pawn_ray, right_ahead}
@@ -33,15 +34,16 @@ use Rattle.rules_model.specs.Hands.{holds}
 use Rattle.rules_model.specs.Gating.{castle_gates}
 use Rattle.rules_model.specs.Candidates.{is_candidate}
 use Rattle.rules_model.specs.Castling.{castling_on, king_file}
-use Rattle.rules_model.specs.Pieces.{goes_by, may_plus, means_castling, piece_goes, piece_moves, piece_promo, serves}
+use Rattle.rules_model.specs.Pieces.{may_plus, means_castling, piece_goes, piece_moves, piece_promo, serves}
 use Rattle.rules_model.specs.Pawns.{is_enemy, is_stays, may_promote, passes_by, pawn_goes, pawn_moves, pawn_promo, steps_twice}
 use Rattle.rules_model.specs.Drops.{drops_to}
 use Rattle.rules_model.specs.Sound.{has_hands, is_origin, is_sound_cell, is_sound_ep, is_sound_repeat, is_sound_side, on_board, sound_at, sound_in_hand}
+use Rattle.rules_model.specs.Sizes.{has_sizes}
 use Rattle.rules_model.specs.Fit.{IsFit, mask_fits, region_fits, region_fits_at}
 use Rattle.rules_model.specs.Legal.{legal}
 use Rattle.rules_model.specs.Moves.{IsFitMove, IsFitPromo, IsFitPlaced}
 use Rattle.rules_model.specs.Promised.{IsSquareOf, IsPromoOf, IsPlacedOf, IsMoveOf}
-use Rattle.rules_model.proofs.CandidateLaws.{both_of, one_of, any_has, at_some, legal_candidate, PieceGoes, PawnGoes, plain_go, gated_go, castle_is, rook_file-some, castle_gate, drop_is}
+use Rattle.rules_model.proofs.CandidateLaws.{both_of, one_of, at_some, term_of_reach, legal_candidate, PieceGoes, PawnGoes, plain_go, gated_go, castle_is, rook_file-some, castle_gate, drop_is}
 use Rattle.rules_model.proofs.LegalLaws.{legal-member}
 
 -- ---- squares on the board
@@ -84,13 +86,18 @@ diagonal_board rules side from s h e =
       | inr k ↦ step_board (pawn_ray (board_of rules) side (negsuc 0) from) 1 s h k
     ]
 
+-- what a kind reaches lies on the board
+pub kind_reaches-board : (rules : Rules) (cells : List (Option Cell)) (side : Side) (kind : Kind) (test : Term → Bool) (from : Square) (s : ℕ) → rules.files ≤ 12 → kind_reaches rules cells side kind test from s ≡ true → on_board rules s ≡ true
+kind_reaches-board rules cells side kind test from s h e =
+    let t = term_of_reach rules cells side kind test from s e in
+    reach_board rules cells side t.0 from s h t.2
+
 piece_board : (rules : Rules) (r : Repeat) (x : Cell) (from to : Square) (promo : Promo) → rules.files ≤ 12 → piece_moves rules r x from to promo ≡ true → on_board rules to.0 ≡ true
 unfolding piece_moves piece_goes
 piece_board rules r x from to promo h e =
     let a = both_of _ (not (means_castling rules r x.kind from.0 to.0)) e in
-    let b = both_of (list_any (goes_by rules r.cells r.side from to.0) (terms_of rules x.kind)) (piece_promo rules (may_plus rules r.side x.kind from.0 to.0) promo) a.0 in
-    let t = any_has (goes_by rules r.cells r.side from to.0) (terms_of rules x.kind) b.0 in
-    reach_board rules r.cells r.side t.0 from to.0 h (both_of (serves r.side (cell_at r.cells to.0) t.0) (reaches (board_of rules) r.cells r.side t.0 from to.0) t.1).1
+    let b = both_of (kind_reaches rules r.cells r.side x.kind (serves r.side (cell_at r.cells to.0)) from to.0) (piece_promo rules (may_plus rules r.side x.kind from.0 to.0) promo) a.0 in
+    kind_reaches-board rules r.cells r.side x.kind (serves r.side (cell_at r.cells to.0)) from to.0 h b.0
 
 step_twice_board : (rules : Rules) (r : Repeat) (from : Square) (s : ℕ) → rules.files ≤ 12 → steps_twice rules r from s ≡ true → on_board rules s ≡ true
 step_twice_board rules r from s h e =
@@ -154,31 +161,36 @@ piece_promo_kind rules r x from to promo e =
 
 -- ---- what soundness gives
 
-sound_cells : (rules : Rules) (r : Repeat) → is_sound_repeat rules r ≡ true → all_below (sound_at rules r.cells) 120 ≡ true
-unfolding is_sound_repeat
-sound_cells rules r e = all_six _ _ _ _ _ _ e
-  where
-    all_six : (a b c d f g : Bool) → (a && b && c && d && f && g) ≡ true → a ≡ true
-    all_six true b c d f g h = refl
-    all_six false b c d f g h = cc
+-- the parts of soundness, one by one
+pub record SoundParts (rules : Rules) (r : Repeat) : Type 0 where
+  pub sizes : has_sizes r ≡ true
+  pub cells : all_below (sound_at rules r.cells) 120 ≡ true
+  pub white : is_sound_side rules r White ≡ true
+  pub black : is_sound_side rules r Black ≡ true
+  pub safe : not (king_attacked rules r.cells (other r.side)) ≡ true
+  pub ep : is_sound_ep rules r r.ep ≡ true
 
-sides_and_ep : (a b c d f g : Bool) → (a && b && c && d && f && g) ≡ true → (c ≡ true) × (d ≡ true) × (g ≡ true)
-sides_and_ep a b c d f g e =
-    let h = both_of (a && b && c && d && f) g e in
-    let i = both_of (a && b && c && d) f h.0 in
-    let j = both_of (a && b && c) d i.0 in
-    let k = both_of (a && b) c j.0 in
-    (k.1, j.1, h.1)
+pub sound_parts : (rules : Rules) (r : Repeat) → is_sound_repeat rules r ≡ true → SoundParts rules r
+unfolding is_sound_repeat
+sound_parts rules r e =
+    let h = both_of _ (is_sound_ep rules r r.ep) e in
+    let i = both_of _ (not (king_attacked rules r.cells (other r.side))) h.0 in
+    let j = both_of _ (is_sound_side rules r Black) i.0 in
+    let k = both_of _ (is_sound_side rules r White) j.0 in
+    let l = both_of _ (nat_le (pieces_of r White + pieces_of r Black) 240) k.0 in
+    let m = both_of (has_sizes r) (all_below (sound_at rules r.cells) 120) l.0 in
+    record { sizes = m.0; cells = m.1; white = k.1; black = j.1; safe = i.1; ep = h.1 }
+
+sound_cells : (rules : Rules) (r : Repeat) → is_sound_repeat rules r ≡ true → all_below (sound_at rules r.cells) 120 ≡ true
+sound_cells rules r e = (sound_parts rules r e).cells
 
 pub sound_side : (rules : Rules) (r : Repeat) (side : Side) → is_sound_repeat rules r ≡ true → is_sound_side rules r side ≡ true
-unfolding is_sound_repeat
-sound_side rules r White e = (sides_and_ep (all_below (sound_at rules r.cells) 120) (nat_le (pieces_of r White + pieces_of r Black) 240) (is_sound_side rules r White) (is_sound_side rules r Black) (not (king_attacked rules r.cells (other r.side))) (is_sound_ep rules r r.ep) e).0
-sound_side rules r Black e = (sides_and_ep (all_below (sound_at rules r.cells) 120) (nat_le (pieces_of r White + pieces_of r Black) 240) (is_sound_side rules r White) (is_sound_side rules r Black) (not (king_attacked rules r.cells (other r.side))) (is_sound_ep rules r r.ep) e).1
+sound_side rules r White e = (sound_parts rules r e).white
+sound_side rules r Black e = (sound_parts rules r e).black
 
 -- the en passant square of a sound position
 pub sound_ep : (rules : Rules) (r : Repeat) → is_sound_repeat rules r ≡ true → is_sound_ep rules r r.ep ≡ true
-unfolding is_sound_repeat
-sound_ep rules r e = (sides_and_ep (all_below (sound_at rules r.cells) 120) (nat_le (pieces_of r White + pieces_of r Black) 240) (is_sound_side rules r White) (is_sound_side rules r Black) (not (king_attacked rules r.cells (other r.side))) (is_sound_ep rules r r.ep) e).2
+sound_ep rules r e = (sound_parts rules r e).ep
 
 of_hand : (a b c d f g h : Bool) → (a && b && c && d && f && g && h) ≡ true → a ≡ true
 of_hand true b c d f g h e = refl
@@ -297,7 +309,7 @@ candidate_of rules fit r (Castle from to rook gate) sound h e =
     let on = castling_on-is rules c.on in
     let f : IsSquareOf rules from = subst (λ s. on_board rules s ≡ true) (sym c.start) (castling_square_board rules fit r.side rules.castle_king on.0 on.1) in
     let t : IsSquareOf rules to = subst (λ s. on_board rules s ≡ true) (sym c.target) (castling_square_board rules fit r.side (king_file rules g.0.0) on.0 (king_file_below rules g.0.0 c.on)) in
-    let k : IsSquareOf rules rook = subst (λ s. on_board rules s ≡ true) (sym c.rank) (castling_square_board rules fit r.side (rook.0 % 12) on.0 (rook_file-some rules r r.side g.0.0 (rook.0 % 12) c.file).0) in
+    let k : IsSquareOf rules rook = subst (λ s. on_board rules s ≡ true) (sym c.rank) (castling_square_board rules fit r.side c.beyond on.0 (rook_file-some rules r r.side g.0.0 c.beyond c.file).0) in
     (f, t, k, placed_of rules fit r from to rook gate sound h.3 f k g.1)
 candidate_of rules fit r (Drop kind to) sound h e =
     let d = drops_kind rules r kind to.0 (drop_is rules r kind to e) in

@@ -1,5 +1,5 @@
 -- The form that values of a position's type have: lists of the definitions may have any length, and numbers of them no bound.
-use Rattle.std.specs.Prelude.{◌≡◌, true, ℕ, nat_lt, Bool, ◌&&◌, ◌==◌, length}
+use Rattle.std.specs.Prelude.{◌≡◌, true, nat_lt, Bool, ◌&&◌, ◌==◌, length}
 use Rattle.std.specs.List.{list_all}
 use Rattle.rules_model.specs.declared.board.Repeat.{Repeat}
 

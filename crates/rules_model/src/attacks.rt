@@ -1,7 +1,6 @@
 //! What a side attacks, by walking the terms of its pieces.
-ghost use Rattle.std.specs.Prelude.{◌≡◌, ◌≤◌, ◌<◌, ◌&&◌, ◌||◌, ℤ, pos, negsuc, IfSome, slice_get};
-ghost use Rattle.std.specs.List.{list_any};
-ghost use Rattle.std.specs.Option.{option_copied};
+ghost use Rattle.std.specs.Prelude.{◌≡◌, ◌<◌, not, IfSome};
+ghost use Rattle.foundation.specs.Count.{any_below};
 ghost use Rattle.rules_model.specs.Squares.{cell_at, step_to};
 ghost use Rattle.rules_model.specs.Reach.{IsOnBoard};
 ghost use Rattle.rules_model.specs.Kinds as Kinds;
@@ -11,8 +10,9 @@ ghost use Rattle.rules_model.specs.Fit.{IsFit};
 
 use crate::board::{Board, Cell, Kind, Position, Side, Square};
 use crate::kinds::{board_of, names};
-use crate::reach::{Ray, is_target, reaches_plain, step, turn};
-use crate::rules::{Rules, Term};
+use crate::movement::kind_takes;
+use crate::reach::{Ray, is_target, step, turn};
+use crate::rules::Rules;
 
 /// The square so many steps forward and `dx` files to the right at each, as the side sees it.
 fn pawn_step(board: Board, side: Side, dx: i8, from: Square, k: u8) -> Option<u8>
@@ -48,20 +48,6 @@ pub fn is_diagonal(board: Board, side: Side, from: Square, to: Square) -> bool
         || is_target(pawn_step(board, side, -1, from, 1), to)
 }
 
-fn takes(
-    board: Board,
-    cells: &[Option<Cell>; 120],
-    side: Side,
-    terms: &[Term],
-    from: Square,
-    to: Square,
-) -> bool
-    requires { IsOnBoard board }
-    ensures { result ≡ list_any (Attacks.takes_by board cells.now side from to.0) terms.now }
-{
-    terms.iter().any(|t| t.takes && reaches_plain(board, cells, side, t, from, to))
-}
-
 fn attacks_as(
     rules: &Rules,
     cells: &[Option<Cell>; 120],
@@ -73,17 +59,10 @@ fn attacks_as(
     requires { IsFit rules.now }
     ensures { result ≡ Attacks.attacks_as rules.now cells.now side kind from to.0 }
 {
-    let board = board_of(rules);
     if names(rules.pawn, kind) {
-        return is_diagonal(board, side, from, to);
-    }
-    match rules.kinds.get(kind.0 as usize) {
-        Some(Some(rule)) => {
-            let terms = &rule.terms;
-            takes(board, cells, side, terms.items.as_slice(), from, to)
-        }
-        Some(None) => false,
-        None => false,
+        is_diagonal(board_of(rules), side, from, to)
+    } else {
+        kind_takes(rules, cells, side, kind, from, to)
     }
 }
 
@@ -101,12 +80,10 @@ fn attacks_from(rules: &Rules, cells: &[Option<Cell>; 120], by: Side, to: Square
     }
 }
 
-/// Whether the side attacks the square: a piece of it reaches the square by a term that takes, or a pawn of it has the
-/// square diagonally one step forward. What stands on the square does not matter.
-#[tactic(auto, using(foundation::proofs::CountLemmas::any), unfolding(crate::specs::Attacks::attacks))]
-pub fn is_attacked(rules: &Rules, cells: &[Option<Cell>; 120], by: Side, at: Square) -> bool
+#[tactic(auto, using(foundation::proofs::CountLemmas::any))]
+fn is_attacked_by_piece(rules: &Rules, cells: &[Option<Cell>; 120], by: Side, at: Square) -> bool
     requires { IsFit rules.now }
-    ensures { result ≡ Attacks.attacks rules.now cells.now by at.0 }
+    ensures { result ≡ any_below (Attacks.attacks_from rules.now cells.now by at.0) 120 }
 {
     for from in 0..120 {
         if attacks_from(rules, cells, by, at, from) {
@@ -114,6 +91,76 @@ pub fn is_attacked(rules: &Rules, cells: &[Option<Cell>; 120], by: Side, at: Squ
         }
     }
     false
+}
+
+#[tactic(auto, unfolding(crate::specs::Attacks::stands_between))]
+fn stands_between(cells: &[Option<Cell>; 120], a: u8, b: u8, at: u8) -> bool
+    requires { at < 120 }
+    ensures { result ≡ Attacks.stands_between cells.now a b at }
+{
+    at % 12 == a % 12 && a.min(b) < at && at < a.max(b) && cells[at as usize].is_some()
+}
+
+#[tactic(auto, using(foundation::proofs::CountLemmas::any))]
+fn is_open_between(cells: &[Option<Cell>; 120], a: u8, b: u8) -> bool
+    ensures { result ≡ not (any_below (Attacks.stands_between cells.now a b) 120) }
+{
+    for at in 0..120 {
+        if stands_between(cells, a, b, at) {
+            return false;
+        }
+    }
+    true
+}
+
+#[tactic(auto, unfolding(crate::specs::Attacks::king_faces))]
+fn king_faces(rules: &Rules, cells: &[Option<Cell>; 120], by: Side, to: Square, from: u8) -> bool
+    requires { from < 120 }
+    ensures { result ≡ Attacks.king_faces rules.now cells.now by to.0 from }
+{
+    is_own_king(rules, by, cells[from as usize])
+        && from % 12 == to.0 % 12
+        && is_open_between(cells, from, to.0)
+}
+
+#[tactic(auto, using(foundation::proofs::CountLemmas::any))]
+fn any_king_faces(rules: &Rules, cells: &[Option<Cell>; 120], by: Side, to: Square) -> bool
+    ensures { result ≡ any_below (Attacks.king_faces rules.now cells.now by to.0) 120 }
+{
+    for from in 0..120 {
+        if king_faces(rules, cells, by, to, from) {
+            return true;
+        }
+    }
+    false
+}
+
+fn is_king_on(rules: &Rules, cells: &[Option<Cell>; 120], side: Side, at: Square) -> bool
+    ensures { result ≡ Attacks.is_own_king rules.now side (cell_at cells.now at.0) }
+{
+    match cells.get(at.0 as usize) {
+        Some(cell) => is_own_king(rules, side, *cell),
+        None => false,
+    }
+}
+
+/// Whether the flying king of the side attacks the square: the other king is on it, on the file of the side's own king, and all
+/// squares between the two are empty.
+#[tactic(auto, unfolding(crate::specs::Attacks::flies_to))]
+pub fn flies_to(rules: &Rules, cells: &[Option<Cell>; 120], by: Side, to: Square) -> bool
+    ensures { result ≡ Attacks.flies_to rules.now cells.now by to.0 }
+{
+    rules.flying && is_king_on(rules, cells, by.other(), to) && any_king_faces(rules, cells, by, to)
+}
+
+/// Whether the side attacks the square: a piece of it reaches the square by a term that takes, or a pawn of it has the
+/// square diagonally one step forward, or its flying king attacks it. But for that king, what stands on the square does not matter.
+#[tactic(auto, unfolding(crate::specs::Attacks::attacks))]
+pub fn is_attacked(rules: &Rules, cells: &[Option<Cell>; 120], by: Side, at: Square) -> bool
+    requires { IsFit rules.now }
+    ensures { result ≡ Attacks.attacks rules.now cells.now by at.0 }
+{
+    is_attacked_by_piece(rules, cells, by, at) || flies_to(rules, cells, by, at)
 }
 
 /// Whether the side attacks the square in the position, by walking the terms of its pieces.

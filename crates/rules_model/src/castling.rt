@@ -1,9 +1,10 @@
 //! Castling: whether the variant has it, and where its pieces stand.
-ghost use Rattle.std.specs.Prelude.{◌≡◌, ◌<◌, IfSome};
+ghost use Rattle.std.specs.Prelude.{◌≡◌, ◌<◌, ◌≤◌, true, IfSome};
 ghost use Rattle.foundation.specs.Count.{first_below, last_below};
 ghost use Rattle.rules_model.specs.declared.board.Wing.TheVariants.{Kingside, Queenside};
 ghost use Rattle.rules_model.specs.Attacks as Attacks;
 ghost use Rattle.rules_model.specs.Castling as Castling;
+ghost use Rattle.rules_model.specs.Castling.{IsFitCastle, castling_on};
 ghost use Rattle.rules_model.specs.Fit.{IsFit};
 ghost use Rattle.rules_model.specs.Gates as Gates;
 ghost use Rattle.rules_model.specs.Kinds as Kinds;
@@ -13,6 +14,15 @@ ghost use Rattle.rules_model.specs.Sides as Sides;
 use crate::board::{Cell, Side, Square, Wing};
 use crate::kinds::{masks, names_any};
 use crate::rules::Rules;
+
+/// The squares of a castle: where king and rook stand before it, and after it.
+#[derive(Clone, Copy, Debug, PartialEq, Eq)]
+pub struct CastleSquares {
+    pub king: Square,
+    pub king_to: Square,
+    pub rook: Square,
+    pub rook_to: Square,
+}
 
 /// Whether the variant has castling: the option is on, there are a king and a castling rook, and the files and the rank of
 /// castling lie on the board, in their order.
@@ -125,5 +135,64 @@ pub fn rook_file(rules: &Rules, cells: &[Option<Cell>; 120], side: Side, wing: W
     match wing {
         Wing::Kingside => kingside_rook(rules, cells, side),
         Wing::Queenside => queenside_rook(rules, cells, side),
+    }
+}
+
+/// The file to which the king goes when it castles to the wing.
+pub fn king_file(rules: &Rules, wing: Wing) -> u8
+    requires { IsFit rules.now }
+    ensures is { result ≡ Castling.king_file rules.now wing }
+    ensures below { result < 12 }
+{
+    match wing {
+        Wing::Kingside => rules.castle_near,
+        Wing::Queenside => rules.castle_far,
+    }
+}
+
+#[tactic(auto, unfolding(crate::specs::Castling::castling_on))]
+fn rook_to_file(rules: &Rules, wing: Wing) -> u8
+    requires fit { IsFit rules.now }
+    requires on { castling_on rules.now ≡ true }
+    ensures is { result ≡ Castling.rook_to_file rules.now wing }
+    ensures below { result < 12 }
+{
+    match wing {
+        Wing::Kingside => rules.castle_near.saturating_sub(1),
+        Wing::Queenside => rules.castle_far + 1,
+    }
+}
+
+/// The squares of the side's castle to the wing. None where no castling rook stands on that side of the king's file.
+pub fn castle_of(
+    rules: &Rules,
+    cells: &[Option<Cell>; 120],
+    side: Side,
+    wing: Wing,
+) -> Option<CastleSquares>
+    requires fit { IsFit rules.now }
+    requires on { castling_on rules.now ≡ true }
+    ensures is { result ≡ Castling.castle_of rules.now cells.now side wing }
+    ensures on_board { IfSome result IsFitCastle }
+{
+    let file = rook_file(rules, cells, side, wing)?;
+    Some(CastleSquares {
+        king: castling_square(rules, side, rules.castle_king),
+        king_to: castling_square(rules, side, king_file(rules, wing)),
+        rook: castling_square(rules, side, file),
+        rook_to: castling_square(rules, side, rook_to_file(rules, wing)),
+    })
+}
+
+/// The square to which the rook of a castle goes, by the move alone: one past the last square at most.
+pub fn rook_target(from: Square, to: Square, rook: Square) -> u8
+    requires { to.0 < 120 }
+    ensures is { result ≡ Castling.rook_target from to rook }
+    ensures near { result ≤ 120 }
+{
+    if from.0 < rook.0 {
+        to.0.saturating_sub(1)
+    } else {
+        to.0 + 1
     }
 }

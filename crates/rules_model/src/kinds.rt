@@ -84,11 +84,13 @@ pub fn first_rank(rules: &Rules, side: Side) -> u8
 
 /// Whether the square lies in the side's region.
 pub fn in_region(regions: &[Region; 2], side: Side, at: u8) -> bool
-    requires { at < 120 }
     ensures { result ≡ Regions.in_region regions.now side at }
 {
     let region = regions[side.index()];
-    region.squares[at as usize]
+    match region.squares.get(at as usize) {
+        Some(lies) => *lies,
+        None => false,
+    }
 }
 
 fn count_of(hand: &[u8; 26], kind: Kind) -> u8

@@ -1,13 +1,18 @@
 //! What the layers above know of the rules without opening a definition. Each law is the contract of a call that does nothing.
-ghost use Rattle.std.specs.Prelude.{◌≡◌, ◌↔◌, ℕ, ◌+◌, ◌<◌, ◌≤◌, Bool, true, false, not, List, []};
+ghost use Rattle.std.specs.Prelude.{◌≡◌, ◌↔◌, ℕ, ◌+◌, ◌<◌, ◌≤◌, Bool, true, false, not, Option, List, []};
 ghost use Rattle.std.specs.Bool.{Decides};
 ghost use Rattle.std.specs.List.Sorted.{IsStrictlySortedBy};
 ghost use Rattle.foundation.specs.Member.{Member, IsEachOnce};
+ghost use Rattle.rules_model.specs.declared.board.Cell.{Cell};
+ghost use Rattle.rules_model.specs.declared.board.Kind.{Kind};
 ghost use Rattle.rules_model.specs.declared.board.Position.{Position};
 ghost use Rattle.rules_model.specs.declared.board.Repeat.{Repeat};
+ghost use Rattle.rules_model.specs.declared.board.Side.{Side};
 ghost use Rattle.rules_model.specs.declared.board.Side.TheVariants.{White, Black};
+ghost use Rattle.rules_model.specs.declared.board.Square.{Square};
 ghost use Rattle.rules_model.specs.declared.moves.Move.{Move};
 ghost use Rattle.rules_model.specs.declared.rules.Rules.{Rules};
+ghost use Rattle.rules_model.specs.declared.rules.Term.{Term};
 ghost use Rattle.rules_model.specs.Repeats.{repeat_of};
 ghost use Rattle.rules_model.specs.Sides.{other};
 ghost use Rattle.rules_model.specs.Moves.{IsFitMove, same_move};
@@ -17,7 +22,9 @@ ghost use Rattle.rules_model.specs.Ends.{is_ongoing, early_end};
 ghost use Rattle.rules_model.specs.Legal.{legal, is_stuck, own_end};
 ghost use Rattle.rules_model.specs.Allowed.{is_legal};
 ghost use Rattle.rules_model.specs.Games.{same_repeat, are_legal};
-ghost use Rattle.rules_model.specs.Sound.{is_sound_repeat};
+ghost use Rattle.rules_model.specs.Movement.{kind_reaches};
+ghost use Rattle.rules_model.specs.Sizes.{HasSizes, has_sizes};
+ghost use Rattle.rules_model.specs.Sound.{is_sound_repeat, on_board};
 ghost use Rattle.rules_model.specs.Fit.{IsFit};
 ghost use Rattle.rules_model.specs.Promised.{IsMoveOf};
 
@@ -80,4 +87,15 @@ pub fn legal_moves_are_the_variants()
 /// Two legal moves of a sound position never have one text.
 pub fn texts_of_legal_moves_differ()
     ensures { (rules : Rules) (r : Repeat) (x y : Move) → IsFit rules → is_sound_repeat rules r ≡ true → Member x (legal rules r) → Member y (legal rules r) → text_of x ≡ text_of y → x ≡ y }
+{}
+
+/// What a kind reaches lies on the variant's board, by whatever terms.
+pub fn reached_squares_are_on_board()
+    ensures { (rules : Rules) (cells : List (Option Cell)) (side : Side) (kind : Kind) (test : Term → Bool) (from : Square) (s : ℕ) → IsFit rules → kind_reaches rules cells side kind test from s ≡ true → on_board rules s ≡ true }
+{}
+
+/// The lists of a sound position are as long as its fields, and a test decides that.
+pub fn sound_positions_have_sizes()
+    ensures tested { (r : Repeat) → Decides (has_sizes r) (HasSizes r) }
+    ensures sound { (rules : Rules) (r : Repeat) → is_sound_repeat rules r ≡ true → HasSizes r }
 {}

@@ -10,9 +10,11 @@ pub mod extent;
 pub mod game_laws;
 pub mod kinds;
 pub mod laws;
+pub mod movement;
 pub mod moves;
 pub mod reach;
 pub mod rules;
+pub mod sizes;
 pub mod soundness;
 #[cfg(test)]
 mod tests;

@@ -21,6 +21,7 @@ use crate::board::{Cell, Kind, Position, Region, Side, Square, Wing};
 use crate::castling::{castling_on, castling_square, has_gate, holds_right, rook_file};
 use crate::kinds::{board_of, first_rank, has_kind, in_hand, in_region, masks, names, promoted_of};
 use crate::rules::Rules;
+use crate::sizes::position_sizes;
 
 fn is_on_board(rules: &Rules, at: u8) -> bool
     ensures { result ≡ Sound.on_board rules.now at }
@@ -271,11 +272,12 @@ fn is_sound_side(rules: &Rules, p: &Position, side: Side) -> bool
         && are_sound_checks(rules, p, side)
 }
 
-#[tactic(auto, unfolding(crate::specs::Sound::is_sound_repeat))]
+#[tactic(auto, using(crate::proofs::SizeLaws::has_sizes_test), unfolding(crate::specs::Sound::is_sound_repeat))]
 fn is_sound_repeat(rules: &Rules, p: &Position) -> bool
     requires { IsFit rules.now }
     ensures { result ≡ Sound.is_sound_repeat rules.now (repeat_of p.now) }
 {
+    position_sizes(p);
     are_sound_cells(rules, &p.cells)
         && pieces_of(p, Side::White) + pieces_of(p, Side::Black) <= 240
         && is_sound_side(rules, p, Side::White)

@@ -1,4 +1,4 @@
-ghost use Rattle.std.specs.Prelude.{◌≡◌, ◌<◌, true, false, None, []};
+ghost use Rattle.std.specs.Prelude.{◌≡◌, ◌<◌, true, []};
 ghost use Rattle.std.specs.List.{list_all};
 ghost use Rattle.rules_model.specs.Fit.{IsFit, fits_term};
 
@@ -27,10 +27,8 @@ fn step(dx: i8, dy: i8, way: Way, limit: u8) -> Term
     }
 }
 
-fn king() -> KindRule
-    ensures terms { list_all fits_term result.terms ≡ true }
-    ensures pawn { result.pawn ≡ false }
-    ensures promoted { result.promoted ≡ None }
+fn king() -> Terms
+    ensures { list_all fits_term result ≡ true }
 {
     let mut items = ArrayVec::new();
     items.push(step(1, 0, Way::Leap, 1));
@@ -41,43 +39,42 @@ fn king() -> KindRule
     items.push(step(1, -1, Way::Leap, 1));
     items.push(step(-1, 1, Way::Leap, 1));
     items.push(step(-1, -1, Way::Leap, 1));
-    KindRule {
-        terms: Terms { items },
-        pawn: false,
-        promoted: None,
-    }
+    Terms { items }
 }
 
-fn rook() -> KindRule
-    ensures terms { list_all fits_term result.terms ≡ true }
-    ensures pawn { result.pawn ≡ false }
-    ensures promoted { result.promoted ≡ None }
+fn rook() -> Terms
+    ensures { list_all fits_term result ≡ true }
 {
     let mut items = ArrayVec::new();
     items.push(step(1, 0, Way::Slide, 11));
     items.push(step(-1, 0, Way::Slide, 11));
     items.push(step(0, 1, Way::Slide, 11));
     items.push(step(0, -1, Way::Slide, 11));
-    KindRule {
-        terms: Terms { items },
-        pawn: false,
-        promoted: None,
+    Terms { items }
+}
+
+fn none() -> Terms
+    ensures { result ≡ [] }
+{
+    Terms {
+        items: ArrayVec::new(),
     }
 }
 
-fn pawn() -> KindRule
-    ensures terms { result.terms ≡ [] }
-    ensures pawn { result.pawn ≡ true }
-    ensures promoted { result.promoted ≡ None }
-{
-    KindRule {
-        terms: Terms {
-            items: ArrayVec::new(),
-        },
-        pawn: true,
-        promoted: None,
-    }
-}
+/// The squares of the chess board.
+const BOARD: Region = Region {
+    squares: [
+        true, true, true, true, true, true, true, true, false, false, false, false, true, true,
+        true, true, true, true, true, true, false, false, false, false, true, true, true, true,
+        true, true, true, true, false, false, false, false, true, true, true, true, true, true,
+        true, true, false, false, false, false, true, true, true, true, true, true, true, true,
+        false, false, false, false, true, true, true, true, true, true, true, true, false, false,
+        false, false, true, true, true, true, true, true, true, true, false, false, false, false,
+        true, true, true, true, true, true, true, true, false, false, false, false, false, false,
+        false, false, false, false, false, false, false, false, false, false, false, false, false,
+        false, false, false, false, false, false, false, false, false,
+    ],
+};
 
 const NOWHERE: Region = Region {
     squares: [false; 120],
@@ -136,14 +133,29 @@ fn rules() -> Rules
             None,
             None,
             None,
-            Some(king()),
+            Some(KindRule {
+                terms: king(),
+                mobility: [BOARD, BOARD],
+                pawn: false,
+                promoted: None,
+            }),
             None,
             None,
             None,
             None,
-            Some(pawn()),
+            Some(KindRule {
+                terms: none(),
+                mobility: [BOARD, BOARD],
+                pawn: true,
+                promoted: None,
+            }),
             None,
-            Some(rook()),
+            Some(KindRule {
+                terms: rook(),
+                mobility: [BOARD, BOARD],
+                pawn: false,
+                promoted: None,
+            }),
             None,
             None,
             None,
@@ -172,6 +184,8 @@ fn rules() -> Rules
         ranks: 8,
         king: Some(KING),
         pawn: Some(PAWN),
+        soldier: None,
+        soldier_rank: 1,
         no_doubled: None,
         flag_kind: None,
         castle_king: 4,
@@ -200,6 +214,7 @@ fn rules() -> Rules
         gate_hand: false,
         extinct_all: false,
         check_counting: false,
+        flying: false,
     }
 }
 

@@ -15,24 +15,27 @@ use Rattle.rules_model.specs.declared.rules.Term.{Term}
 use Rattle.rules_model.specs.declared.rules.Way.{Way}
 use Rattle.rules_model.specs.declared.rules.Way.TheVariants.{Leap, Slide}
 
-abbrev term : Way → ℕ → ℤ → ℤ → Term
+abbrev pub term : Way → ℕ → ℤ → ℤ → Term
 term way limit dx dy = record { dx = dx; dy = dy; way = way; limit = limit; quiet = true; takes = true }
 
-abbrev fourfold : Way → ℕ → ℤ → ℤ → ℤ → ℤ → List Term
+abbrev pub fourfold : Way → ℕ → ℤ → ℤ → ℤ → ℤ → List Term
 fourfold way limit a b c d = term way limit a c ∷ term way limit a d ∷ term way limit b c ∷ term way limit b d ∷ []
 
 -- the orthogonal steps of a length, and the diagonal ones
-abbrev straight : Way → ℕ → List Term
+abbrev pub straight : Way → ℕ → List Term
 straight way limit = term way limit (pos 1) (pos 0) ∷ term way limit (negsuc 0) (pos 0) ∷ term way limit (pos 0) (pos 1) ∷ term way limit (pos 0) (negsuc 0) ∷ []
 
-abbrev slanted : Way → ℕ → List Term
+abbrev pub slanted : Way → ℕ → List Term
 slanted way limit = fourfold way limit (pos 1) (negsuc 0) (pos 1) (negsuc 0)
 
-abbrev piece : List Term → Option KindRule
-piece terms = Some (record { terms = terms; pawn = false; promoted = None })
+abbrev pub everywhere : Region
+everywhere = record { squares = replicate 120 true }
+
+abbrev pub piece : List Term → Option KindRule
+piece terms = Some (record { terms = terms; mobility = everywhere ∷ everywhere ∷ []; pawn = false; promoted = None })
 
 abbrev the_pawn : Option KindRule
-the_pawn = Some (record { terms = []; pawn = true; promoted = None })
+the_pawn = Some (record { terms = []; mobility = everywhere ∷ everywhere ∷ []; pawn = true; promoted = None })
 
 -- the letters b, k, n, p, q, r
 abbrev pub chess_kinds : List (Option KindRule)
@@ -55,9 +58,6 @@ rank r = record { squares = replicate (12 * r) false ++ replicate 8 true ++ repl
 
 abbrev pub nowhere : Region
 nowhere = record { squares = replicate 120 false }
-
-abbrev pub everywhere : Region
-everywhere = record { squares = replicate 120 true }
 
 -- the mask of the letters that are listed
 abbrev pub mask : List ℕ → List Bool
@@ -94,6 +94,8 @@ chess = record {
   ranks = 8;
   king = Some (kind 10);
   pawn = Some (kind 15);
+  soldier = None;
+  soldier_rank = 1;
   no_doubled = None;
   flag_kind = None;
   castle_king = 4;
@@ -122,6 +124,7 @@ chess = record {
   gate_hand = false;
   extinct_all = false;
   check_counting = false;
+  flying = false;
 }
 
 -- a piece by its side and letter

@@ -11,7 +11,7 @@ use Rattle.rules_model.specs.declared.rules.Way.TheVariants.{Leap}
 use Rattle.rules_model.specs.Next.{next_repeat}
 use Rattle.rules_model.specs.Legal.{is_allowed}
 use Rattle.rules_model.specs.Squares.{cell_at}
-use Rattle.rules_model.proofs.worked.Chess.{chess, at, kind, bare, man, stands, empty, no_hands, chess_kinds}
+use Rattle.rules_model.proofs.worked.Chess.{everywhere, chess, at, kind, bare, man, stands, empty, no_hands, chess_kinds}
 use Rattle.rules_model.proofs.worked.Open.{rules_opened}
 
 abbrev zh : Rules
@@ -115,7 +115,7 @@ returns_as_pawn = refl
 
 -- a knight that becomes a queen by `Plus` in the region, and keeps its kind as its origin
 abbrev knights : Rules
-knights = record zh { kinds = set chess_kinds 13 (Some (record { terms = record { dx = pos 1; dy = pos 2; way = Leap; limit = 1; quiet = true; takes = true } ∷ []; pawn = false; promoted = Some (kind 16) })) }
+knights = record zh { kinds = set chess_kinds 13 (Some (record { terms = record { dx = pos 1; dy = pos 2; way = Leap; limit = 1; quiet = true; takes = true } ∷ []; mobility = everywhere ∷ everywhere ∷ []; pawn = false; promoted = Some (kind 16) })) }
 
 abbrev knight_on_six : Repeat
 knight_on_six = bare (stands White 13 (at 0 5) kings) White

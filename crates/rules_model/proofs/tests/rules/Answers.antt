@@ -7,6 +7,7 @@ use Rattle.rules_model.proofs.tests.rules.Goals as goal
 pub returns : goal.returns
 unfolding any_below all_below castling_on chains_promotions gates_amiss has_no_piece kind_fits mask_fits promotes_to_pawn_or_king region_fits_at
 returns c = record {
+  letters = refl;
   files_least = omega arith;
   files_most = omega arith;
   ranks_least = omega arith;
@@ -16,6 +17,8 @@ returns c = record {
   castle_far = omega arith;
   castle_rank_least = omega arith;
   castle_rank_most = omega arith;
+  soldier_rank_least = omega arith;
+  soldier_rank_most = omega arith;
   n_move = omega arith;
   n_fold_most = omega arith;
   n_fold_not_one = λ e. omega (arith, e);
@@ -25,9 +28,11 @@ returns c = record {
   double_region = refl;
   drop_region = refl;
   flag_region = refl;
-  kinds = rw (c.king.ensures.terms, c.king.ensures.pawn, c.king.ensures.promoted, c.rook.ensures.terms, c.rook.ensures.pawn, c.rook.ensures.promoted, c.pawn.ensures.terms, c.pawn.ensures.pawn, c.pawn.ensures.promoted);
+  kinds = rw (c.king.ensures, c.rook.ensures, c.none.ensures);
   king = refl;
   pawn = refl;
+  soldier = refl;
+  soldier_no_pawn = refl;
   no_doubled = refl;
   flag_kind = refl;
   promotion_kinds = refl;
@@ -36,7 +41,7 @@ returns c = record {
   extinct_kinds = refl;
   pieces = refl;
   pawn_promotions = refl;
-  piece_promotions = rw (c.king.ensures.promoted, c.rook.ensures.promoted, c.pawn.ensures.promoted);
+  piece_promotions = refl;
   hand_gates = refl;
   gates = refl;
 }

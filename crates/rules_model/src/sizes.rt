@@ -1,0 +1,40 @@
+//! The lengths of the lists that a position and rules hold. Their types fix them; reading an element makes them known to a proof.
+ghost use Rattle.std.specs.Prelude.{◌≡◌, ◌<◌, length, true};
+ghost use Rattle.rules_model.specs.Repeats.{repeat_of};
+ghost use Rattle.rules_model.specs.Sizes.{HasSizes, has_sizes};
+
+use crate::board::Position;
+use crate::rules::Rules;
+
+fn hand_size(hand: &[u8; 26])
+    ensures { length hand.now ≡ 26 }
+{
+    let _first = hand[0];
+}
+
+fn rights_size(rights: &[bool; 2])
+    ensures { length rights.now ≡ 2 }
+{
+    let _first = rights[0];
+}
+
+/// A position has 120 squares, and a part of each list for each side.
+pub fn position_sizes(p: &Position)
+    ensures { HasSizes (repeat_of p.now) }
+{
+    let _cell = p.cells[0];
+    let _white = p.gates[0];
+    let _black = p.gates[1];
+    let _checks = p.checks[0];
+    hand_size(&p.hands[0]);
+    hand_size(&p.hands[1]);
+    rights_size(&p.rights[0]);
+    rights_size(&p.rights[1]);
+}
+
+/// Rules have a place for each letter.
+pub fn rules_letters(rules: &Rules)
+    ensures { length rules.now.kinds ≡ 26 }
+{
+    let _first = &rules.kinds[0];
+}
