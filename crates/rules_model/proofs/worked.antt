@@ -6,3 +6,4 @@ mod Castles
 mod Drops
 mod Gating
 mod Ends
+mod Xiangqi
