@@ -8,4 +8,5 @@ pub mod LegalLaws
 pub mod CandidateLaws
 pub mod VariantLaws
 pub mod SizeLaws
+pub mod SquareLaws
 pub mod TextLaws

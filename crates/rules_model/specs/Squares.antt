@@ -3,7 +3,18 @@ use Rattle.std.specs.Prelude.{ℕ, ◌+◌, ◌*◌, ◌/◌, ◌%◌, nat_lt, i
 use Rattle.rules_model.specs.declared.board.Cell.{Cell}
 use Rattle.rules_model.specs.declared.board.Side.{Side}
 use Rattle.rules_model.specs.declared.board.Side.TheVariants.{White, Black}
+use Rattle.rules_model.specs.declared.board.Square.{Square}
 use Rattle.rules_model.specs.declared.reach.Ray.{Ray}
+
+-- the square on a file and a rank, and the file and the rank of a square: all counted from 0
+abbrev pub square_on : ℕ → ℕ → Square
+square_on file rank = record { 0 = 12 * rank + file }
+
+abbrev pub file_of : Square → ℕ
+file_of s = s.0 % 12
+
+abbrev pub rank_of : Square → ℕ
+rank_of s = s.0 / 12
 
 -- a direction as the side sees it: White's forward is towards higher ranks, and for Black both signs are turned
 abbrev pub turned : Side → ℤ → ℤ

@@ -8,7 +8,7 @@ ghost use Rattle.rules_model.specs.Sides as Sides;
 ghost use Rattle.rules_model.specs.Attacks as Attacks;
 ghost use Rattle.rules_model.specs.Fit.{IsFit};
 
-use crate::board::{Board, Cell, Kind, Position, Side, Square};
+use crate::board::{Board, Cell, Cells, Kind, Position, SQUARES, Side, Square};
 use crate::kinds::{board_of, names};
 use crate::movement::kind_takes;
 use crate::reach::{Ray, is_target, step, turn};
@@ -50,7 +50,7 @@ pub fn is_diagonal(board: Board, side: Side, from: Square, to: Square) -> bool
 
 fn attacks_as(
     rules: &Rules,
-    cells: &[Option<Cell>; 120],
+    cells: &Cells,
     side: Side,
     kind: Kind,
     from: Square,
@@ -67,7 +67,7 @@ fn attacks_as(
 }
 
 #[tactic(auto, unfolding(crate::specs::Attacks::attacks_from))]
-fn attacks_from(rules: &Rules, cells: &[Option<Cell>; 120], by: Side, to: Square, from: u8) -> bool
+fn attacks_from(rules: &Rules, cells: &Cells, by: Side, to: Square, from: u8) -> bool
     requires fit { IsFit rules.now }
     requires from { from < 120 }
     ensures { result ≡ Attacks.attacks_from rules.now cells.now by to.0 from }
@@ -81,11 +81,11 @@ fn attacks_from(rules: &Rules, cells: &[Option<Cell>; 120], by: Side, to: Square
 }
 
 #[tactic(auto, using(foundation::proofs::CountLemmas::any))]
-fn is_attacked_by_piece(rules: &Rules, cells: &[Option<Cell>; 120], by: Side, at: Square) -> bool
+fn is_attacked_by_piece(rules: &Rules, cells: &Cells, by: Side, at: Square) -> bool
     requires { IsFit rules.now }
     ensures { result ≡ any_below (Attacks.attacks_from rules.now cells.now by at.0) 120 }
 {
-    for from in 0..120 {
+    for from in 0..SQUARES as u8 {
         if attacks_from(rules, cells, by, at, from) {
             return true;
         }
@@ -94,18 +94,21 @@ fn is_attacked_by_piece(rules: &Rules, cells: &[Option<Cell>; 120], by: Side, at
 }
 
 #[tactic(auto, unfolding(crate::specs::Attacks::stands_between))]
-fn stands_between(cells: &[Option<Cell>; 120], a: u8, b: u8, at: u8) -> bool
+fn stands_between(cells: &Cells, a: Square, b: Square, at: u8) -> bool
     requires { at < 120 }
-    ensures { result ≡ Attacks.stands_between cells.now a b at }
+    ensures { result ≡ Attacks.stands_between cells.now a.0 b.0 at }
 {
-    at % 12 == a % 12 && a.min(b) < at && at < a.max(b) && cells[at as usize].is_some()
+    Square(at).file() == a.file()
+        && a.0.min(b.0) < at
+        && at < a.0.max(b.0)
+        && cells[at as usize].is_some()
 }
 
 #[tactic(auto, using(foundation::proofs::CountLemmas::any))]
-fn is_open_between(cells: &[Option<Cell>; 120], a: u8, b: u8) -> bool
-    ensures { result ≡ not (any_below (Attacks.stands_between cells.now a b) 120) }
+fn is_open_between(cells: &Cells, a: Square, b: Square) -> bool
+    ensures { result ≡ not (any_below (Attacks.stands_between cells.now a.0 b.0) 120) }
 {
-    for at in 0..120 {
+    for at in 0..SQUARES as u8 {
         if stands_between(cells, a, b, at) {
             return false;
         }
@@ -114,20 +117,20 @@ fn is_open_between(cells: &[Option<Cell>; 120], a: u8, b: u8) -> bool
 }
 
 #[tactic(auto, unfolding(crate::specs::Attacks::king_faces))]
-fn king_faces(rules: &Rules, cells: &[Option<Cell>; 120], by: Side, to: Square, from: u8) -> bool
+fn king_faces(rules: &Rules, cells: &Cells, by: Side, to: Square, from: u8) -> bool
     requires { from < 120 }
     ensures { result ≡ Attacks.king_faces rules.now cells.now by to.0 from }
 {
     is_own_king(rules, by, cells[from as usize])
-        && from % 12 == to.0 % 12
-        && is_open_between(cells, from, to.0)
+        && Square(from).file() == to.file()
+        && is_open_between(cells, Square(from), to)
 }
 
 #[tactic(auto, using(foundation::proofs::CountLemmas::any))]
-fn any_king_faces(rules: &Rules, cells: &[Option<Cell>; 120], by: Side, to: Square) -> bool
+fn any_king_faces(rules: &Rules, cells: &Cells, by: Side, to: Square) -> bool
     ensures { result ≡ any_below (Attacks.king_faces rules.now cells.now by to.0) 120 }
 {
-    for from in 0..120 {
+    for from in 0..SQUARES as u8 {
         if king_faces(rules, cells, by, to, from) {
             return true;
         }
@@ -135,7 +138,7 @@ fn any_king_faces(rules: &Rules, cells: &[Option<Cell>; 120], by: Side, to: Squa
     false
 }
 
-fn is_king_on(rules: &Rules, cells: &[Option<Cell>; 120], side: Side, at: Square) -> bool
+fn is_king_on(rules: &Rules, cells: &Cells, side: Side, at: Square) -> bool
     ensures { result ≡ Attacks.is_own_king rules.now side (cell_at cells.now at.0) }
 {
     match cells.get(at.0 as usize) {
@@ -147,7 +150,7 @@ fn is_king_on(rules: &Rules, cells: &[Option<Cell>; 120], side: Side, at: Square
 /// Whether the flying king of the side attacks the square: the other king is on it, on the file of the side's own king, and all
 /// squares between the two are empty.
 #[tactic(auto, unfolding(crate::specs::Attacks::flies_to))]
-pub fn flies_to(rules: &Rules, cells: &[Option<Cell>; 120], by: Side, to: Square) -> bool
+pub fn flies_to(rules: &Rules, cells: &Cells, by: Side, to: Square) -> bool
     ensures { result ≡ Attacks.flies_to rules.now cells.now by to.0 }
 {
     rules.flying && is_king_on(rules, cells, by.other(), to) && any_king_faces(rules, cells, by, to)
@@ -156,7 +159,7 @@ pub fn flies_to(rules: &Rules, cells: &[Option<Cell>; 120], by: Side, to: Square
 /// Whether the side attacks the square: a piece of it reaches the square by a term that takes, or a pawn of it has the
 /// square diagonally one step forward, or its flying king attacks it. But for that king, what stands on the square does not matter.
 #[tactic(auto, unfolding(crate::specs::Attacks::attacks))]
-pub fn is_attacked(rules: &Rules, cells: &[Option<Cell>; 120], by: Side, at: Square) -> bool
+pub fn is_attacked(rules: &Rules, cells: &Cells, by: Side, at: Square) -> bool
     requires { IsFit rules.now }
     ensures { result ≡ Attacks.attacks rules.now cells.now by at.0 }
 {
@@ -191,7 +194,7 @@ pub fn is_own_pawn(rules: &Rules, side: Side, cell: Option<Cell>) -> bool
 }
 
 #[tactic(auto, unfolding(crate::specs::Attacks::king_attacked_at))]
-fn king_attacked_at(rules: &Rules, cells: &[Option<Cell>; 120], side: Side, at: u8) -> bool
+fn king_attacked_at(rules: &Rules, cells: &Cells, side: Side, at: u8) -> bool
     requires fit { IsFit rules.now }
     requires at { at < 120 }
     ensures { result ≡ Attacks.king_attacked_at rules.now cells.now side at }
@@ -202,11 +205,11 @@ fn king_attacked_at(rules: &Rules, cells: &[Option<Cell>; 120], side: Side, at: 
 
 /// Whether the side's king stands attacked. In a variant without a king it never does.
 #[tactic(auto, using(foundation::proofs::CountLemmas::any), unfolding(crate::specs::Attacks::king_attacked))]
-pub fn king_attacked(rules: &Rules, cells: &[Option<Cell>; 120], side: Side) -> bool
+pub fn king_attacked(rules: &Rules, cells: &Cells, side: Side) -> bool
     requires { IsFit rules.now }
     ensures { result ≡ Attacks.king_attacked rules.now cells.now side }
 {
-    for at in 0..120 {
+    for at in 0..SQUARES as u8 {
         if king_attacked_at(rules, cells, side, at) {
             return true;
         }
@@ -214,12 +217,7 @@ pub fn king_attacked(rules: &Rules, cells: &[Option<Cell>; 120], side: Side) -> 
     false
 }
 
-pub(crate) fn pawn_at(
-    rules: &Rules,
-    cells: &[Option<Cell>; 120],
-    side: Side,
-    at: Option<u8>,
-) -> bool
+pub(crate) fn pawn_at(rules: &Rules, cells: &Cells, side: Side, at: Option<u8>) -> bool
     requires { IfSome at (λ s. s < 120) }
     ensures { result ≡ Attacks.pawn_at rules.now cells.now side at }
 {
@@ -231,7 +229,7 @@ pub(crate) fn pawn_at(
 
 /// Whether a pawn of the side has the square diagonally one step forward.
 #[tactic(auto, unfolding(crate::specs::Attacks::pawn_could_take))]
-pub fn pawn_could_take(rules: &Rules, cells: &[Option<Cell>; 120], side: Side, at: Square) -> bool
+pub fn pawn_could_take(rules: &Rules, cells: &Cells, side: Side, at: Square) -> bool
     requires { IsFit rules.now }
     ensures { result ≡ Attacks.pawn_could_take rules.now cells.now side at }
 {

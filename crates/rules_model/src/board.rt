@@ -2,12 +2,53 @@
 ghost use Rattle.std.specs.Prelude.{◌≡◌, ◌<◌};
 ghost use Rattle.rules_model.specs.Repeats as Repeats;
 ghost use Rattle.rules_model.specs.Sides as Sides;
+ghost use Rattle.rules_model.specs.Squares as Squares;
 
 use std::marker::Model;
 
-/// A square of the largest board, 12 files by 10 ranks: 12 * rank + file, both counted from 0, so below 120.
+/// How many files the largest board has.
+pub const FILES: u8 = 12;
+
+/// How many ranks the largest board has.
+pub const RANKS: u8 = 10;
+
+/// How many squares the largest board has.
+pub const SQUARES: usize = 120;
+
+/// How many kinds of pieces there are: one for each letter.
+pub const KINDS: usize = 26;
+
+/// A square of the largest board: 12 * rank + file, both counted from 0, so below 120.
 #[derive(Clone, Copy, Debug, PartialEq, Eq)]
 pub struct Square(pub u8);
+
+impl Square {
+    /// The square of a file and a rank, both counted from 0: e4 is `Square::at(4, 3)`.
+    pub fn at(file: u8, rank: u8) -> Square
+        requires file { file < 12 }
+        requires rank { rank < 10 }
+        ensures is { result ≡ Squares.square_on file rank }
+        ensures below { result.0 < 120 }
+    {
+        Square(FILES * rank + file)
+    }
+
+    /// The file of the square, counted from 0 for the file a.
+    pub fn file(self) -> u8
+        ensures is { result ≡ Squares.file_of self }
+        ensures below { result < 12 }
+    {
+        self.0 % FILES
+    }
+
+    /// The rank of the square, counted from 0 for White's first rank.
+    pub fn rank(self) -> u8
+        ensures is { result ≡ Squares.rank_of self }
+        ensures below { self.0 < 120 → result < 10 }
+    {
+        self.0 / FILES
+    }
+}
 
 #[derive(Clone, Copy, Debug, PartialEq, Eq)]
 pub enum Side {
@@ -79,12 +120,12 @@ pub struct Cell {
 }
 
 /// What stands on each square of the largest board.
-pub type Cells = [Option<Cell>; 120];
+pub type Cells = [Option<Cell>; SQUARES];
 
 /// A set of squares.
 #[derive(Clone, Copy, PartialEq, Eq)]
 pub struct Region {
-    pub squares: [bool; 120],
+    pub squares: [bool; SQUARES],
 }
 
 /// The size of a variant's board: at most 12 files and 10 ranks.
@@ -98,9 +139,9 @@ pub struct Board {
 /// White and kingside have index 0.
 #[derive(Clone, Copy, PartialEq, Eq)]
 pub struct Repeat {
-    pub cells: [Option<Cell>; 120],
+    pub cells: [Option<Cell>; SQUARES],
     /// How many pieces of each kind a side holds.
-    pub hands: [[u8; 26]; 2],
+    pub hands: [[u8; KINDS]; 2],
     /// The gates of a side's first rank, bit f for file f.
     pub gates: [u16; 2],
     /// The castling rights of a side, by wing.
@@ -129,8 +170,8 @@ impl Model for Blocked {
 /// A position: a `Repeat`, the plies since the last capture or pawn move, and the number of the move.
 #[derive(Clone, Copy, PartialEq, Eq)]
 pub struct Position {
-    pub cells: [Option<Cell>; 120],
-    pub hands: [[u8; 26]; 2],
+    pub cells: [Option<Cell>; SQUARES],
+    pub hands: [[u8; KINDS]; 2],
     pub gates: [u16; 2],
     pub counter: u16,
     pub number: u16,

@@ -11,7 +11,7 @@ ghost use Rattle.rules_model.specs.Kinds as Kinds;
 ghost use Rattle.rules_model.specs.Regions as Regions;
 ghost use Rattle.rules_model.specs.Sides as Sides;
 
-use crate::board::{Cell, Side, Square, Wing};
+use crate::board::{Cell, Cells, Side, Square, Wing};
 use crate::kinds::{masks, names_any};
 use crate::rules::Rules;
 
@@ -52,7 +52,7 @@ pub fn castling_square(rules: &Rules, side: Side, file: u8) -> Square
         Side::White => rules.castle_rank - 1,
         Side::Black => rules.ranks.saturating_sub(rules.castle_rank),
     };
-    Square(12 * rank + file)
+    Square::at(file, rank)
 }
 
 /// Whether the side holds the castling right of the wing.
@@ -81,7 +81,7 @@ fn is_rook(rules: &Rules, side: Side, cell: Option<Cell>) -> bool
 }
 
 #[tactic(auto, unfolding(crate::specs::Castling::rook_on))]
-fn rook_on(rules: &Rules, cells: &[Option<Cell>; 120], side: Side, file: u8) -> bool
+fn rook_on(rules: &Rules, cells: &Cells, side: Side, file: u8) -> bool
     requires fit { IsFit rules.now }
     requires file { file < 12 }
     ensures { result ≡ Castling.rook_on rules.now cells.now side file }
@@ -95,7 +95,7 @@ fn rook_on(rules: &Rules, cells: &[Option<Cell>; 120], side: Side, file: u8) -> 
 
 /// The file of the last castling rook on the kingside.
 #[tactic(auto, using(foundation::proofs::CountLemmas::last))]
-fn kingside_rook(rules: &Rules, cells: &[Option<Cell>; 120], side: Side) -> Option<u8>
+fn kingside_rook(rules: &Rules, cells: &Cells, side: Side) -> Option<u8>
     requires { IsFit rules.now }
     ensures is { result ≡ last_below (Castling.rook_beyond rules.now cells.now side Kingside) rules.now.files }
     ensures on_board { IfSome result (λ f. f < rules.now.files) }
@@ -111,7 +111,7 @@ fn kingside_rook(rules: &Rules, cells: &[Option<Cell>; 120], side: Side) -> Opti
 
 /// The file of the first castling rook on the queenside.
 #[tactic(auto, using(foundation::proofs::CountLemmas::first))]
-fn queenside_rook(rules: &Rules, cells: &[Option<Cell>; 120], side: Side) -> Option<u8>
+fn queenside_rook(rules: &Rules, cells: &Cells, side: Side) -> Option<u8>
     requires { IsFit rules.now }
     ensures is { result ≡ first_below (Castling.rook_beyond rules.now cells.now side Queenside) rules.now.files }
     ensures on_board { IfSome result (λ f. f < rules.now.files) }
@@ -127,7 +127,7 @@ fn queenside_rook(rules: &Rules, cells: &[Option<Cell>; 120], side: Side) -> Opt
 
 /// The file of the side's castling rook: the outermost on that side of the king's file.
 #[tactic(auto, unfolding(crate::specs::Castling::rook_file))]
-pub fn rook_file(rules: &Rules, cells: &[Option<Cell>; 120], side: Side, wing: Wing) -> Option<u8>
+pub fn rook_file(rules: &Rules, cells: &Cells, side: Side, wing: Wing) -> Option<u8>
     requires { IsFit rules.now }
     ensures is { result ≡ Castling.rook_file rules.now cells.now side wing }
     ensures on_board { IfSome result (λ f. f < rules.now.files) }
@@ -164,12 +164,7 @@ fn rook_to_file(rules: &Rules, wing: Wing) -> u8
 }
 
 /// The squares of the side's castle to the wing. None where no castling rook stands on that side of the king's file.
-pub fn castle_of(
-    rules: &Rules,
-    cells: &[Option<Cell>; 120],
-    side: Side,
-    wing: Wing,
-) -> Option<CastleSquares>
+pub fn castle_of(rules: &Rules, cells: &Cells, side: Side, wing: Wing) -> Option<CastleSquares>
     requires fit { IsFit rules.now }
     requires on { castling_on rules.now ≡ true }
     ensures is { result ≡ Castling.castle_of rules.now cells.now side wing }

@@ -4,6 +4,7 @@ ghost use Rattle.std.specs.List.{list_all};
 ghost use Rattle.foundation.specs.Count.{all_below};
 ghost use Rattle.rules_model.specs.Built as Built;
 
+use crate::board::KINDS;
 use crate::castling::castling_on;
 use crate::rules::{KindRule, Rules, Term, Way};
 
@@ -50,7 +51,7 @@ fn are_leapers(rules: &Rules) -> bool
     ensures { result ≡ all_below (Built.leaper_at rules.now) 26 }
 {
     let mut leap = true;
-    for kind in 0..26 {
+    for kind in 0..KINDS as u8 {
         leap = leap && leaper_at(rules, kind);
     }
     leap

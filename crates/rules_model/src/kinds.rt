@@ -7,7 +7,7 @@ ghost use Rattle.rules_model.specs.Kinds as Kinds;
 ghost use Rattle.rules_model.specs.Regions as Regions;
 ghost use Rattle.rules_model.specs.Sides as Sides;
 
-use crate::board::{Board, Kind, Region, Side};
+use crate::board::{Board, KINDS, Kind, Region, Side};
 use crate::rules::{KindRule, Rules};
 
 /// The size of the variant's board.
@@ -31,10 +31,10 @@ pub fn names(named: Option<Kind>, kind: Kind) -> bool
 }
 
 /// Whether a mask of kinds holds the kind.
-pub fn masks(mask: &[bool; 26], kind: Kind) -> bool
+pub fn masks(mask: &[bool; KINDS], kind: Kind) -> bool
     ensures { result ≡ Kinds.masks mask.now kind }
 {
-    if kind.0 < 26 {
+    if (kind.0 as usize) < KINDS {
         mask[kind.0 as usize]
     } else {
         false
@@ -42,7 +42,7 @@ pub fn masks(mask: &[bool; 26], kind: Kind) -> bool
 }
 
 /// Whether some entry of a mask is set.
-pub fn names_any(mask: &[bool; 26]) -> bool
+pub fn names_any(mask: &[bool; KINDS]) -> bool
     ensures { result ≡ list_any (λ b. b) mask.now }
 {
     mask.iter().any(|b| *b)
@@ -93,10 +93,10 @@ pub fn in_region(regions: &[Region; 2], side: Side, at: u8) -> bool
     }
 }
 
-fn count_of(hand: &[u8; 26], kind: Kind) -> u8
+fn count_of(hand: &[u8; KINDS], kind: Kind) -> u8
     ensures { result ≡ slice_index hand.now kind.0 }
 {
-    if kind.0 < 26 {
+    if (kind.0 as usize) < KINDS {
         hand[kind.0 as usize]
     } else {
         0
@@ -104,7 +104,7 @@ fn count_of(hand: &[u8; 26], kind: Kind) -> u8
 }
 
 /// How many pieces of the kind the side holds in its hand.
-pub fn in_hand(hands: &[[u8; 26]; 2], side: Side, kind: Kind) -> u8
+pub fn in_hand(hands: &[[u8; KINDS]; 2], side: Side, kind: Kind) -> u8
     ensures { result ≡ Hands.in_hand hands.now side kind }
 {
     count_of(&hands[side.index()], kind)

@@ -15,6 +15,7 @@ ghost use Rattle.rules_model.specs.declared.rules.Rules.{Rules};
 ghost use Rattle.rules_model.specs.declared.rules.Term.{Term};
 ghost use Rattle.rules_model.specs.Repeats.{repeat_of};
 ghost use Rattle.rules_model.specs.Sides.{other};
+ghost use Rattle.rules_model.specs.Squares.{square_on, file_of, rank_of};
 ghost use Rattle.rules_model.specs.Moves.{IsFitMove, same_move};
 ghost use Rattle.rules_model.specs.MoveText.{move_cmp, text_of};
 ghost use Rattle.rules_model.specs.Next.{next, next_repeat, next_counter};
@@ -27,6 +28,16 @@ ghost use Rattle.rules_model.specs.Sizes.{HasSizes, has_sizes};
 ghost use Rattle.rules_model.specs.Sound.{is_sound_repeat, on_board};
 ghost use Rattle.rules_model.specs.Fit.{IsFit};
 ghost use Rattle.rules_model.specs.Promised.{IsMoveOf};
+
+/// A square is its file and its rank, and the squares of the largest board are those below 120.
+pub fn squares_are_files_and_ranks()
+    ensures whole { (s : Square) → square_on (file_of s) (rank_of s) ≡ s }
+    ensures file { (file rank : ℕ) → file < 12 → file_of (square_on file rank) ≡ file }
+    ensures rank { (file rank : ℕ) → file < 12 → rank_of (square_on file rank) ≡ rank }
+    ensures below { (file rank : ℕ) → file < 12 → rank < 10 → (square_on file rank).0 < 120 }
+    ensures file_below { (s : Square) → file_of s < 12 }
+    ensures rank_below { (s : Square) → s.0 < 120 → rank_of s < 10 }
+{}
 
 /// Whether two repeats are one, and two moves, is decided by a test.
 pub fn equality_is_tested()

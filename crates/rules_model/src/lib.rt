@@ -21,7 +21,8 @@ mod tests;
 
 pub use attacks::{attacks_plain, is_attacked, king_attacked};
 pub use board::{
-    Blocked, Board, Cell, Cells, Kind, Position, Region, Repeat, Side, Square, Wing, repeat_of,
+    Blocked, Board, Cell, Cells, FILES, KINDS, Kind, Position, RANKS, Region, Repeat, SQUARES,
+    Side, Square, Wing, repeat_of,
 };
 pub use extent::built;
 pub use moves::{Cause, Move, MoveList, Outcome, Placed, Promo, Value};

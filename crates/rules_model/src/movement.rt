@@ -5,7 +5,7 @@ ghost use Rattle.rules_model.specs.Fit.{IsFit};
 ghost use Rattle.rules_model.specs.Movement as Movement;
 ghost use Rattle.rules_model.specs.Regions as Regions;
 
-use crate::board::{Cell, Kind, Side, Square};
+use crate::board::{Cells, Kind, Side, Square};
 use crate::kinds::{board_of, in_region, names};
 use crate::reach::reaches_plain;
 use crate::rules::{Rules, Term};
@@ -15,8 +15,8 @@ pub fn rank_for(rules: &Rules, side: Side, at: Square) -> u8
     ensures { result ≡ Regions.rank_for rules.now side at.0 }
 {
     match side {
-        Side::White => at.0 / 12 + 1,
-        Side::Black => rules.ranks.saturating_sub(at.0 / 12),
+        Side::White => at.rank() + 1,
+        Side::Black => rules.ranks.saturating_sub(at.rank()),
     }
 }
 
@@ -45,14 +45,7 @@ pub fn is_straight(term: &Term) -> bool
     term.dx == 0
 }
 
-fn takes_to(
-    rules: &Rules,
-    cells: &[Option<Cell>; 120],
-    side: Side,
-    term: &Term,
-    from: Square,
-    to: Square,
-) -> bool
+fn takes_to(rules: &Rules, cells: &Cells, side: Side, term: &Term, from: Square, to: Square) -> bool
     requires { IsFit rules.now }
     ensures { result ≡ Movement.reaches_by rules.now cells.now side (λ t. t.takes) from to.0 term.now }
 {
@@ -61,7 +54,7 @@ fn takes_to(
 
 fn any_takes(
     rules: &Rules,
-    cells: &[Option<Cell>; 120],
+    cells: &Cells,
     side: Side,
     terms: &[Term],
     from: Square,
@@ -77,7 +70,7 @@ fn any_takes(
 
 fn any_straight_takes(
     rules: &Rules,
-    cells: &[Option<Cell>; 120],
+    cells: &Cells,
     side: Side,
     terms: &[Term],
     from: Square,
@@ -96,7 +89,7 @@ fn any_straight_takes(
 #[tactic(auto, unfolding(crate::specs::Movement::kind_reaches))]
 pub fn kind_takes(
     rules: &Rules,
-    cells: &[Option<Cell>; 120],
+    cells: &Cells,
     side: Side,
     kind: Kind,
     from: Square,

@@ -3,7 +3,7 @@ ghost use Rattle.std.specs.Prelude.{◌≡◌, ◌≤◌, ◌<◌, ◌+◌, ◌*
 ghost use Rattle.rules_model.specs.Squares.{turned, within, step_to};
 ghost use Rattle.rules_model.specs.Reach.{ray_of, weight, blockers, sign, leg, long_leg, block_squares, passes, is_at, reaches_over, reaches, IsOnBoard, IsShort};
 
-use crate::board::{Board, Cell, Side, Square};
+use crate::board::{Board, Cells, Side, Square};
 use crate::rules::{Term, Way};
 
 /// The squares at the multiples of a step from a square.
@@ -61,13 +61,13 @@ pub fn step(ray: &Ray, k: u8) -> Option<u8>
     ensures is { result ≡ step_to ray.now k }
     ensures on_board { IfSome result (λ s. s < 120) }
 {
-    let file = moved(ray.from.0 % 12, ray.dx, k, ray.board.files)?;
-    let rank = moved(ray.from.0 / 12, ray.dy, k, ray.board.ranks)?;
-    Some(12 * rank + file)
+    let file = moved(ray.from.file(), ray.dx, k, ray.board.files)?;
+    let rank = moved(ray.from.rank(), ray.dy, k, ray.board.ranks)?;
+    Some(Square::at(file, rank).0)
 }
 
 /// 1 where a piece stands on the square, and 0 where none does or there is no square.
-pub fn weight_at(cells: &[Option<Cell>; 120], at: Option<u8>) -> u8
+pub fn weight_at(cells: &Cells, at: Option<u8>) -> u8
     requires { IfSome at (λ s. s < 120) }
     ensures is { result ≡ weight cells.now at }
     ensures small { result ≤ 1 }
@@ -83,7 +83,7 @@ pub fn weight_at(cells: &[Option<Cell>; 120], at: Option<u8>) -> u8
 
 /// How many of the squares at 1 to `k` steps are occupied.
 #[tactic(auto, using(crate::proofs::ReachLemmas::stepping))]
-fn blockers_within(cells: &[Option<Cell>; 120], ray: &Ray, k: u8) -> u8
+fn blockers_within(cells: &Cells, ray: &Ray, k: u8) -> u8
     requires board { IsOnBoard ray.now.board }
     requires short_dx { IsShort ray.now.dx }
     requires short_dy { IsShort ray.now.dy }
@@ -121,7 +121,7 @@ fn leg_of(d: i32, other: i32) -> i32
     }
 }
 
-fn is_clear(cells: &[Option<Cell>; 120], ray: &Ray) -> bool
+fn is_clear(cells: &Cells, ray: &Ray) -> bool
     requires board { IsOnBoard ray.now.board }
     requires short_dx { IsShort ray.now.dx }
     requires short_dy { IsShort ray.now.dy }
@@ -143,7 +143,7 @@ fn is_clear(cells: &[Option<Cell>; 120], ray: &Ray) -> bool
 
 /// Whether the way gets over the `between` squares before the target, of which `found` are occupied.
 #[tactic(auto, unfolding(crate::specs::Reach::passes))]
-pub fn gets_over(cells: &[Option<Cell>; 120], way: Way, ray: &Ray, between: u8, found: u8) -> bool
+pub fn gets_over(cells: &Cells, way: Way, ray: &Ray, between: u8, found: u8) -> bool
     requires board { IsOnBoard ray.now.board }
     requires short_dx { IsShort ray.now.dx }
     requires short_dy { IsShort ray.now.dy }
@@ -174,7 +174,7 @@ pub fn is_target(at: Option<u8>, to: Square) -> bool
 #[tactic(auto, using(crate::proofs::ReachLemmas::stepping))]
 pub fn reaches_plain(
     board: Board,
-    cells: &[Option<Cell>; 120],
+    cells: &Cells,
     side: Side,
     term: &Term,
     from: Square,
@@ -198,9 +198,9 @@ pub fn reaches_plain(
 #[cfg(test)]
 mod tests {
     use super::*;
-    use crate::board::Kind;
+    use crate::board::{Cell, Kind, SQUARES};
 
-    const EMPTY: [Option<Cell>; 120] = [None; 120];
+    const EMPTY: [Option<Cell>; SQUARES] = [None; SQUARES];
 
     const CHESS: Board = Board { files: 8, ranks: 8 };
 
@@ -223,40 +223,107 @@ mod tests {
         }
     }
 
-    fn square(file: u8, rank: u8) -> Square
-        requires file { file < 12 }
-        requires rank { rank ≤ 10 }
-        requires one { 1 ≤ rank }
-    {
-        Square(12 * (rank - 1) + file)
-    }
-
-    // From d4 (file 3), with men on d6 (file 3, rank 6) and e4 (file 4, rank 4).
+    // From d4, with men on d6 and e4. Files and ranks are counted from 0: d4 is (3, 3).
     #[test]
     fn each_way(rt: HostRuntime) {
         let mut cells = EMPTY;
         cells[63] = man(Side::Black);
         cells[40] = man(Side::White);
         let rows = [
-            (leap(1, 2, Way::Leap, 1), Side::White, square(4, 6), true),
-            (leap(1, 2, Way::Leap, 1), Side::Black, square(4, 6), false),
-            (leap(1, 2, Way::Leap, 1), Side::Black, square(2, 2), true),
-            (leap(1, 2, Way::Lame, 1), Side::White, square(4, 6), true),
-            (leap(2, 1, Way::Lame, 1), Side::White, square(5, 5), false),
-            (leap(0, 3, Way::Lame, 1), Side::White, square(3, 7), false),
-            (leap(0, 1, Way::Slide, 11), Side::White, square(3, 6), true),
-            (leap(0, 1, Way::Slide, 11), Side::White, square(3, 7), false),
-            (leap(0, 1, Way::Slide, 1), Side::White, square(3, 6), false),
-            (leap(0, 1, Way::Hop, 11), Side::White, square(3, 8), true),
-            (leap(0, 1, Way::Hop, 11), Side::White, square(3, 9), false),
-            (leap(0, 1, Way::Grass, 11), Side::White, square(3, 7), true),
-            (leap(0, 1, Way::Grass, 11), Side::White, square(3, 8), false),
-            (leap(5, 0, Way::Leap, 1), Side::White, square(8, 4), false),
-            (leap(-3, 0, Way::Slide, 11), Side::White, square(0, 4), true),
+            (
+                leap(1, 2, Way::Leap, 1),
+                Side::White,
+                Square::at(4, 5),
+                true,
+            ),
+            (
+                leap(1, 2, Way::Leap, 1),
+                Side::Black,
+                Square::at(4, 5),
+                false,
+            ),
+            (
+                leap(1, 2, Way::Leap, 1),
+                Side::Black,
+                Square::at(2, 1),
+                true,
+            ),
+            (
+                leap(1, 2, Way::Lame, 1),
+                Side::White,
+                Square::at(4, 5),
+                true,
+            ),
+            (
+                leap(2, 1, Way::Lame, 1),
+                Side::White,
+                Square::at(5, 4),
+                false,
+            ),
+            (
+                leap(0, 3, Way::Lame, 1),
+                Side::White,
+                Square::at(3, 6),
+                false,
+            ),
+            (
+                leap(0, 1, Way::Slide, 11),
+                Side::White,
+                Square::at(3, 5),
+                true,
+            ),
+            (
+                leap(0, 1, Way::Slide, 11),
+                Side::White,
+                Square::at(3, 6),
+                false,
+            ),
+            (
+                leap(0, 1, Way::Slide, 1),
+                Side::White,
+                Square::at(3, 5),
+                false,
+            ),
+            (
+                leap(0, 1, Way::Hop, 11),
+                Side::White,
+                Square::at(3, 7),
+                true,
+            ),
+            (
+                leap(0, 1, Way::Hop, 11),
+                Side::White,
+                Square::at(3, 8),
+                false,
+            ),
+            (
+                leap(0, 1, Way::Grass, 11),
+                Side::White,
+                Square::at(3, 6),
+                true,
+            ),
+            (
+                leap(0, 1, Way::Grass, 11),
+                Side::White,
+                Square::at(3, 7),
+                false,
+            ),
+            (
+                leap(5, 0, Way::Leap, 1),
+                Side::White,
+                Square::at(8, 3),
+                false,
+            ),
+            (
+                leap(-3, 0, Way::Slide, 11),
+                Side::White,
+                Square::at(0, 3),
+                true,
+            ),
         ];
         for (term, side, to, reached) in rows {
             assert_eq!(rt;
-                reaches_plain(CHESS, &cells, side, &term, square(3, 4), to),
+                reaches_plain(CHESS, &cells, side, &term, Square::at(3, 3), to),
                 reached
             );
         }

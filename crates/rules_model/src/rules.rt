@@ -1,5 +1,5 @@
 //! What a variant's rules are made of.
-use crate::board::{Kind, Position, Region};
+use crate::board::{KINDS, Kind, Position, Region};
 use crate::moves::Value;
 use arrayvec::ArrayVec;
 use std::marker::Model;
@@ -61,7 +61,7 @@ pub struct KindRule {
 #[derive(Clone, Drop)]
 pub struct Rules {
     /// The kinds of pieces by letter: None where the variant has no piece of the letter.
-    pub kinds: [Option<KindRule>; 26],
+    pub kinds: [Option<KindRule>; KINDS],
     /// The position from which a game starts (`startFen`).
     pub start: Position,
 
@@ -77,13 +77,13 @@ pub struct Rules {
 
     // Which kinds an option lists, by letter.
     /// `promotionPieceTypes`: what a pawn becomes.
-    pub promotion_kinds: [bool; 26],
+    pub promotion_kinds: [bool; KINDS],
     /// `castlingRookPieces`: what castles with the king.
-    pub castle_rooks: [bool; 26],
+    pub castle_rooks: [bool; KINDS],
     /// `nMoveRuleTypes`: the kinds whose moves set the counter of plies to 0.
-    pub n_move_kinds: [bool; 26],
+    pub n_move_kinds: [bool; KINDS],
     /// `extinctionPieceTypes`: the kinds that may die out.
-    pub extinct_kinds: [bool; 26],
+    pub extinct_kinds: [bool; KINDS],
 
     // How games end.
     /// `nMoveRule`: a game is drawn after so many moves of each side without a capture or a listed move; 0 for never.

@@ -3,10 +3,10 @@ ghost use Rattle.std.specs.Prelude.{◌≡◌, ◌<◌, length, true};
 ghost use Rattle.rules_model.specs.Repeats.{repeat_of};
 ghost use Rattle.rules_model.specs.Sizes.{HasSizes, has_sizes};
 
-use crate::board::Position;
+use crate::board::{KINDS, Position};
 use crate::rules::Rules;
 
-fn hand_size(hand: &[u8; 26])
+fn hand_size(hand: &[u8; KINDS])
     ensures { length hand.now ≡ 26 }
 {
     let _first = hand[0];

@@ -17,16 +17,16 @@ ghost use Rattle.rules_model.specs.Sides as Sides;
 ghost use Rattle.rules_model.specs.Sound as Sound;
 
 use crate::attacks::{ahead, is_own_king, is_own_pawn, king_attacked, pawn_at, pawn_could_take};
-use crate::board::{Cell, Kind, Position, Region, Side, Square, Wing};
+use crate::board::{Cell, Cells, KINDS, Kind, Position, Region, SQUARES, Side, Square, Wing};
 use crate::castling::{castling_on, castling_square, has_gate, holds_right, rook_file};
 use crate::kinds::{board_of, first_rank, has_kind, in_hand, in_region, masks, names, promoted_of};
 use crate::rules::Rules;
 use crate::sizes::position_sizes;
 
-fn is_on_board(rules: &Rules, at: u8) -> bool
-    ensures { result ≡ Sound.on_board rules.now at }
+fn is_on_board(rules: &Rules, at: Square) -> bool
+    ensures { result ≡ Sound.on_board rules.now at.0 }
 {
-    at % 12 < rules.files && at / 12 < rules.ranks
+    at.file() < rules.files && at.rank() < rules.ranks
 }
 
 fn is_origin(rules: &Rules, kind: Kind, origin: Option<Kind>) -> bool
@@ -42,14 +42,14 @@ fn is_origin(rules: &Rules, kind: Kind, origin: Option<Kind>) -> bool
 }
 
 #[tactic(auto, unfolding(crate::specs::Sound::sound_at))]
-fn is_sound_at(rules: &Rules, cells: &[Option<Cell>; 120], at: u8) -> bool
+fn is_sound_at(rules: &Rules, cells: &Cells, at: u8) -> bool
     requires { at < 120 }
     ensures { result ≡ Sound.sound_at rules.now cells.now at }
 {
     match cells[at as usize] {
         None => true,
         Some(cell) => {
-            is_on_board(rules, at)
+            is_on_board(rules, Square(at))
                 && has_kind(rules, cell.kind)
                 && is_origin(rules, cell.kind, cell.origin)
         }
@@ -57,18 +57,18 @@ fn is_sound_at(rules: &Rules, cells: &[Option<Cell>; 120], at: u8) -> bool
 }
 
 #[tactic(auto, using(foundation::proofs::CountLemmas::all))]
-fn are_sound_cells(rules: &Rules, cells: &[Option<Cell>; 120]) -> bool
+fn are_sound_cells(rules: &Rules, cells: &Cells) -> bool
     ensures { result ≡ all_below (Sound.sound_at rules.now cells.now) 120 }
 {
     let mut sound = true;
-    for at in 0..120 {
+    for at in 0..SQUARES as u8 {
         sound = sound && is_sound_at(rules, cells, at);
     }
     sound
 }
 
 #[tactic(auto, unfolding(crate::specs::Sound::sound_in_hand))]
-fn is_sound_in_hand(rules: &Rules, hands: &[[u8; 26]; 2], side: Side, kind: u8) -> bool
+fn is_sound_in_hand(rules: &Rules, hands: &[[u8; KINDS]; 2], side: Side, kind: u8) -> bool
     ensures { result ≡ Sound.sound_in_hand rules.now hands.now side kind }
 {
     let kind = Kind(kind);
@@ -79,17 +79,17 @@ fn is_sound_in_hand(rules: &Rules, hands: &[[u8; 26]; 2], side: Side, kind: u8) 
 }
 
 #[tactic(auto, using(foundation::proofs::CountLemmas::all))]
-fn is_sound_hand(rules: &Rules, hands: &[[u8; 26]; 2], side: Side) -> bool
+fn is_sound_hand(rules: &Rules, hands: &[[u8; KINDS]; 2], side: Side) -> bool
     ensures { result ≡ all_below (Sound.sound_in_hand rules.now hands.now side) 26 }
 {
     let mut sound = true;
-    for kind in 0..26 {
+    for kind in 0..KINDS as u8 {
         sound = sound && is_sound_in_hand(rules, hands, side, kind);
     }
     sound
 }
 
-fn has_its_king(rules: &Rules, cells: &[Option<Cell>; 120], side: Side) -> bool
+fn has_its_king(rules: &Rules, cells: &Cells, side: Side) -> bool
     ensures { result ≡ Sound.has_its_king rules.now cells.now side }
 {
     rules.king.is_none()
@@ -109,14 +109,14 @@ fn is_of(side: Side, cell: Option<Cell>) -> bool
     }
 }
 
-fn on_board_of(cells: &[Option<Cell>; 120], side: Side) -> usize
+fn on_board_of(cells: &Cells, side: Side) -> usize
     ensures is { result ≡ count_by (Ends.is_of side) cells.now }
     ensures few { result ≤ 120 }
 {
     cells.iter().filter(|cell| is_of(side, **cell)).count()
 }
 
-fn total(hand: &[u8; 26]) -> usize
+fn total(hand: &[u8; KINDS]) -> usize
     ensures is { result ≡ sum hand.now }
     ensures few { result ≤ 6630 }
 {
@@ -189,8 +189,8 @@ fn is_sound_gate(rules: &Rules, p: &Position, side: Side, file: u8) -> bool
     if !rules.gating || file >= rules.files {
         return false;
     }
-    let at = 12 * first_rank(rules, side) + file;
-    is_own_piece(rules, side, p.cells[at as usize])
+    let at = Square::at(file, first_rank(rules, side));
+    is_own_piece(rules, side, p.cells[at.0 as usize])
 }
 
 #[tactic(auto, using(foundation::proofs::CountLemmas::all))]
@@ -205,7 +205,7 @@ fn are_sound_gates(rules: &Rules, p: &Position, side: Side) -> bool
     sound
 }
 
-fn is_free(cells: &[Option<Cell>; 120], at: Option<u8>) -> bool
+fn is_free(cells: &Cells, at: Option<u8>) -> bool
     requires { IfSome at (λ s. s < 120) }
     ensures { result ≡ Pawns.is_free cells.now at }
 {
@@ -248,7 +248,7 @@ fn is_sound_ep(rules: &Rules, p: &Position) -> bool
 {
     match p.ep {
         None => true,
-        Some(ep) => is_on_board(rules, ep.0) && was_passed(rules, p, ep),
+        Some(ep) => is_on_board(rules, ep) && was_passed(rules, p, ep),
     }
 }
 

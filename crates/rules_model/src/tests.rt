@@ -77,15 +77,8 @@ const BOARD: Region = Region {
 };
 
 const NOWHERE: Region = Region {
-    squares: [false; 120],
+    squares: [false; SQUARES],
 };
-
-fn at(file: u8, rank: u8) -> Square
-    requires file { file < 12 }
-    requires rank { rank < 10 }
-{
-    Square(12 * rank + file)
-}
 
 fn man(side: Side, kind: Kind) -> Option<Cell> {
     Some(Cell {
@@ -97,7 +90,7 @@ fn man(side: Side, kind: Kind) -> Option<Cell> {
 
 /// White: king e1, rooks a1 and h1, pawn e4. Black: king e8, pawn d5.
 fn position(side: Side) -> Position {
-    let mut cells = [None; 120];
+    let mut cells = [None; SQUARES];
     cells[4] = man(Side::White, KING);
     cells[0] = man(Side::White, ROOK);
     cells[7] = man(Side::White, ROOK);
@@ -106,7 +99,7 @@ fn position(side: Side) -> Position {
     cells[51] = man(Side::Black, PAWN);
     Position {
         cells,
-        hands: [[0; 26]; 2],
+        hands: [[0; KINDS]; 2],
         gates: [0; 2],
         counter: 0,
         number: 1,
@@ -170,14 +163,14 @@ fn rules() -> Rules
         double_region: [NOWHERE, NOWHERE],
         drop_region: [NOWHERE, NOWHERE],
         flag_region: [NOWHERE, NOWHERE],
-        promotion_kinds: [false; 26],
+        promotion_kinds: [false; KINDS],
         castle_rooks: [
             false, false, false, false, false, false, false, false, false, false, false, false,
             false, false, false, false, false, true, false, false, false, false, false, false,
             false, false,
         ],
-        n_move_kinds: [false; 26],
-        extinct_kinds: [false; 26],
+        n_move_kinds: [false; KINDS],
+        extinct_kinds: [false; KINDS],
         n_move: 50,
         n_fold: 3,
         files: 8,
@@ -224,27 +217,27 @@ fn sides_attack(rt: HostRuntime) {
     let rules = rules();
     let p = position(Side::White);
     let rows = [
-        (Side::White, at(3, 4), true),
-        (Side::White, at(5, 4), true),
-        (Side::White, at(4, 4), false),
-        (Side::White, at(4, 0), true),
-        (Side::White, at(0, 7), true),
-        (Side::White, at(4, 7), false),
-        (Side::White, at(3, 1), true),
-        (Side::White, at(4, 2), false),
-        (Side::Black, at(2, 3), true),
-        (Side::Black, at(4, 3), true),
-        (Side::Black, at(3, 3), false),
-        (Side::Black, at(4, 5), false),
-        (Side::Black, at(5, 6), true),
+        (Side::White, Square::at(3, 4), true),
+        (Side::White, Square::at(5, 4), true),
+        (Side::White, Square::at(4, 4), false),
+        (Side::White, Square::at(4, 0), true),
+        (Side::White, Square::at(0, 7), true),
+        (Side::White, Square::at(4, 7), false),
+        (Side::White, Square::at(3, 1), true),
+        (Side::White, Square::at(4, 2), false),
+        (Side::Black, Square::at(2, 3), true),
+        (Side::Black, Square::at(4, 3), true),
+        (Side::Black, Square::at(3, 3), false),
+        (Side::Black, Square::at(4, 5), false),
+        (Side::Black, Square::at(5, 6), true),
     ];
     for (by, to, attacked) in rows {
         assert_eq!(rt; attacks_plain(&rules, &p, by, to), attacked, "{}", to.0);
         assert_eq!(rt; is_attacked(&rules, &p.cells, by, to), attacked, "{}", to.0);
     }
     assert!(rt; !king_attacked(&rules, &p.cells, Side::Black));
-    assert!(rt; pawn_could_take(&rules, &p.cells, Side::Black, at(4, 3)));
-    assert!(rt; !pawn_could_take(&rules, &p.cells, Side::Black, at(4, 4)));
+    assert!(rt; pawn_could_take(&rules, &p.cells, Side::Black, Square::at(4, 3)));
+    assert!(rt; !pawn_could_take(&rules, &p.cells, Side::Black, Square::at(4, 4)));
     let mut checked = p.cells;
     checked[75] = man(Side::White, PAWN);
     assert!(rt; king_attacked(&rules, &checked, Side::Black));
@@ -273,7 +266,7 @@ fn positions_are_sound(rt: HostRuntime) {
     let mut off_board = start;
     off_board.cells[8] = man(Side::White, ROOK);
     let mut passed = start;
-    passed.ep = Some(at(3, 5));
+    passed.ep = Some(Square::at(3, 5));
     let mut promoted = start;
     promoted.cells[0] = Some(Cell {
         side: Side::White,
@@ -307,7 +300,7 @@ fn rules_are_read(rt: HostRuntime) {
     let rules = rules();
     let p = position(Side::White);
     assert!(rt; castling_on(&rules));
-    assert_eq!(rt; castling_square(&rules, Side::Black, 2), at(2, 7));
+    assert_eq!(rt; castling_square(&rules, Side::Black, 2), Square::at(2, 7));
     assert_eq!(rt;
         rook_file(&rules, &p.cells, Side::White, Wing::Kingside),
         Some(7)

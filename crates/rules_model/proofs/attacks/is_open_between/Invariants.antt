@@ -4,4 +4,4 @@ use Rattle.rules_model.specs.Attacks.{stands_between}
 use Rattle.rules_model.proofs.attacks.is_open_between.Given as goal
 
 abbrev pub invariant-loop-at : goal.invariant-loop-at
-invariant-loop-at l = any_below (stands_between l.cells l.a l.b) l.at ≡ false
+invariant-loop-at l = any_below (stands_between l.cells l.a.0 l.b.0) l.at ≡ false
