@@ -24,7 +24,8 @@ use Rattle.rules_model.specs.Sides.{other, same_side}
 use Rattle.rules_model.specs.Kinds.{board_of, is_pawn}
 use Rattle.rules_model.specs.Regions.{castling_rank, castling_square}
 use Rattle.rules_model.specs.Attacks.{ahead, is_diagonal, is_own_pawn, pawn_at}
-use Rattle.rules_model.specs.Castling.{castling_on, highest, in_the_way, king_file, king_passes_attack, lowest, rook_target, way_is_open}
+use Rattle.rules_model.specs.declared.castling.CastleSquares.{CastleSquares}
+use Rattle.rules_model.specs.Castling.{castle_with, highest, in_the_way, king_passes_attack, lowest, rook_target, rook_to_file, way_is_open}
 use Rattle.rules_model.specs.Gating.{castle_gates}
 use Rattle.rules_model.specs.Pawns.{behind, is_ep, passes_by}
 use Rattle.rules_model.specs.Drops.{drops_to}
@@ -221,8 +222,8 @@ castled-size cells from to rook = length-set _ _ _ ∙ length-set _ _ _ ∙ leng
 
 -- the way of a castle is free
 
-open_at : (f : ℕ → Bool) (k : ℕ) → any_below f 12 ≡ false → k < 12 → f k ≡ false
-open_at f k e l = false_from_ne_true (f k) (λ h. not_both _ (any_below-true f 12 k l h) e)
+open_at : (f : ℕ → Bool) (k : ℕ) → any_below f 120 ≡ false → k < 120 → f k ≡ false
+open_at f k e l = false_from_ne_true (f k) (λ h. not_both _ (any_below-true f 120 k l h) e)
 
 stands_not : (a b c d : Bool) (x : Option Cell) → (a && b && not c && not d && is_some x) ≡ false → a ≡ true → b ≡ true → c ≡ false → d ≡ false → x ≡ None
 stands_not a b c d None e ha hb hc hd = refl
@@ -232,19 +233,18 @@ stands_not true true true d (Some x) e ha hb hc hd = cc
 stands_not true false c d (Some x) e ha hb hc hd = cc
 stands_not false b c d (Some x) e ha hb hc hd = cc
 
-file_free : (rules : Rules) (cells : List (Option Cell)) (side : Side) (target rook rook_to file : ℕ) → way_is_open rules cells side target rook rook_to ≡ true → file < 12 → lowest rules.castle_king target rook rook_to ≤ file → file ≤ highest rules.castle_king target rook rook_to → file ≢ rules.castle_king → file ≢ rook → cell_at cells (castling_square rules side file) ≡ None
+square_free : (rules : Rules) (cells : List (Option Cell)) (side : Side) (castle : CastleSquares) (s : ℕ) → way_is_open rules cells side castle ≡ true → s < 120 → lowest castle ≤ s → s ≤ highest castle → s ≢ castle.king.0 → s ≢ castle.rook.0 → cell_at cells s ≡ None
 unfolding way_is_open in_the_way
-file_free rules cells side target rook rook_to file e l low high king other =
-    let a = both_of (not (any_below (in_the_way rules cells side (lowest rules.castle_king target rook rook_to) (highest rules.castle_king target rook rook_to) rook) 12)) (not (any_below (king_passes_attack rules cells side target) 12)) e in
-    let b = open_at (in_the_way rules cells side (lowest rules.castle_king target rook rook_to) (highest rules.castle_king target rook rook_to) rook) file (false_of_not _ a.0) l in
-    stands_not (nat_le (lowest rules.castle_king target rook rook_to) file) (nat_le file (highest rules.castle_king target rook rook_to)) (file == rules.castle_king) (file == rook) _ b (le-leb _ _ low) (le-leb _ _ high) (ne_eqb _ _ king) (ne_eqb _ _ other)
+square_free rules cells side castle s e l low high king other =
+    let a = both_of (not (any_below (in_the_way cells castle) 120)) (not (any_below (king_passes_attack rules cells side castle) 120)) e in
+    let b = open_at (in_the_way cells castle) s (false_of_not _ a.0) l in
+    stands_not (nat_le (lowest castle) s) (nat_le s (highest castle)) (s == castle.king.0) (s == castle.rook.0) _ b (le-leb _ _ low) (le-leb _ _ high) (ne_eqb _ _ king) (ne_eqb _ _ other)
 
--- the files of a castle, and the square to which the rook goes
-pub record CastleFiles (rules : Rules) (from to rook : Square) (target : ℕ) : Type 0 where
-  pub rook_apart : rook.0 % 12 ≢ rules.castle_king
+-- the squares of a castle, and the one to which the rook goes
+pub record CastleFiles (from to rook : Square) (target rook_to : ℕ) : Type 0 where
+  pub is : target ≡ rook_to
+  pub pieces_apart : from.0 ≢ rook.0
   pub below : target < 120
-  pub on_rank : target ≡ 12 * (from.0 / 12) + target % 12
-  pub from_rank : from.0 ≡ 12 * (from.0 / 12) + rules.castle_king
   pub targets_apart : to.0 ≢ target
   pub file_most : target % 12 ≤ max (from.0 % 12) (to.0 % 12)
   pub same_rank : target / 12 ≡ to.0 / 12
@@ -255,74 +255,62 @@ target_right from to rook l = let e : nat_lt from.0 rook.0 ≡ true = grind (ari
 target_left : (from to rook : Square) → rook.0 ≤ from.0 → rook_target from to rook ≡ to.0 + 1
 target_left from to rook l = let e : nat_lt from.0 rook.0 ≡ false = grind (arith, nat_tests) in rw e
 
-files_right : (rules : Rules) (from to rook : Square) (rank king near file : ℕ) → rules.castle_king ≡ king → from.0 ≡ 12 * rank + king → to.0 ≡ 12 * rank + near → rook.0 ≡ 12 * rank + file → rook.0 % 12 ≡ file → king < near → near < 12 → king < file → file < 12 → to.0 < 120 → CastleFiles rules from to rook (rook_target from to rook)
-files_right rules from to rook rank king near file k f t r m a b c d l =
+files_right : (from to rook : Square) (rank king near file : ℕ) → from.0 ≡ 12 * rank + king → to.0 ≡ 12 * rank + near → rook.0 ≡ 12 * rank + file → king < near → near < 12 → king < file → to.0 < 120 → CastleFiles from to rook (rook_target from to rook) (12 * rank + (near - 1))
+files_right from to rook rank king near file f t r a b c l =
     let e = target_right from to rook (omega (arith, f, r, c)) in
     record {
-      rook_apart = λ h. omega (arith, h, m, c, k);
+      is = omega (arith, e, t, a);
+      pieces_apart = λ h. omega (arith, h, f, r, c);
       below = omega (arith, e, l);
-      on_rank = omega (arith, e, f, t, a, b);
-      from_rank = omega (arith, f, k, a, b);
       targets_apart = λ h. omega (arith, h, e, t, a);
       file_most = omega (arith, e, f, t, a, b);
       same_rank = omega (arith, e, t, a, b);
     }
 
-files_left : (rules : Rules) (from to rook : Square) (rank king far file : ℕ) → rules.castle_king ≡ king → from.0 ≡ 12 * rank + king → to.0 ≡ 12 * rank + far → rook.0 ≡ 12 * rank + file → rook.0 % 12 ≡ file → far < king → king < 12 → file < king → from.0 < 120 → CastleFiles rules from to rook (rook_target from to rook)
-files_left rules from to rook rank king far file k f t r m a b c l =
+files_left : (from to rook : Square) (rank king far file : ℕ) → from.0 ≡ 12 * rank + king → to.0 ≡ 12 * rank + far → rook.0 ≡ 12 * rank + file → far < king → king < 12 → file < king → from.0 < 120 → CastleFiles from to rook (rook_target from to rook) (12 * rank + (far + 1))
+files_left from to rook rank king far file f t r a b c l =
     let e = target_left from to rook (omega (arith, f, r, c)) in
     record {
-      rook_apart = λ h. omega (arith, h, m, c, k);
+      is = omega (arith, e, t);
+      pieces_apart = λ h. omega (arith, h, f, r, c);
       below = omega (arith, e, f, t, a, l);
-      on_rank = omega (arith, e, f, t, a, b);
-      from_rank = omega (arith, f, k, a, b);
       targets_apart = λ h. omega (arith, h, e);
       file_most = omega (arith, e, f, t, a, b);
       same_rank = omega (arith, e, t, a, b);
     }
 
-pub castle_files : (rules : Rules) (fit : IsFit rules) (r : Repeat) (from to rook : Square) (wing : Wing) → Castles rules r from to rook wing → from.0 < 120 → to.0 < 120 → CastleFiles rules from to rook (rook_target from to rook)
+pub castle_files : (rules : Rules) (fit : IsFit rules) (r : Repeat) (from to rook : Square) (wing : Wing) → Castles rules r from to rook wing → from.0 < 120 → to.0 < 120 → CastleFiles from to rook (rook_target from to rook) (castling_square rules r.side (rook_to_file rules wing))
 castle_files rules fit r from to rook Kingside c l k =
     let on = castling_on-is rules c.on in
-    let b = rook_file-some rules r r.side Kingside (rook.0 % 12) c.file in
-    let a = ltb-true _ _ (both_of (nat_lt rules.castle_king (rook.0 % 12)) _ b.1).0 in
+    let b = rook_file-some rules r r.side Kingside c.beyond c.file in
+    let a = ltb-true _ _ (both_of (nat_lt rules.castle_king c.beyond) _ b.1).0 in
     let most = fit.files_most in
-    files_right rules from to rook (castling_rank rules r.side) rules.castle_king rules.castle_near (rook.0 % 12) refl c.start c.target c.rank refl on.5 (omega (arith, most, on.2)) a (omega (arith, most, b.0)) k
+    files_right from to rook (castling_rank rules r.side) rules.castle_king rules.castle_near c.beyond c.start c.target c.rank on.5 (omega (arith, most, on.2)) a k
 castle_files rules fit r from to rook Queenside c l k =
     let on = castling_on-is rules c.on in
-    let b = rook_file-some rules r r.side Queenside (rook.0 % 12) c.file in
-    let a = ltb-true _ _ (both_of (nat_lt (rook.0 % 12) rules.castle_king) _ b.1).0 in
+    let b = rook_file-some rules r r.side Queenside c.beyond c.file in
+    let a = ltb-true _ _ (both_of (nat_lt c.beyond rules.castle_king) _ b.1).0 in
     let most = fit.files_most in
-    files_left rules from to rook (castling_rank rules r.side) rules.castle_king rules.castle_far (rook.0 % 12) refl c.start c.target c.rank refl on.4 (omega (arith, most, on.1)) a l
-
-king_file_few : (rules : Rules) (fit : IsFit rules) (wing : Wing) → castling_on rules ≡ true → king_file rules wing < 12
-king_file_few rules fit Kingside e = let a = (castling_on-is rules e).2 in let most = fit.files_most in omega (arith, a, most)
-king_file_few rules fit Queenside e = let a = (castling_on-is rules e).3 in let most = fit.files_most in omega (arith, a, most)
+    files_left from to rook (castling_rank rules r.side) rules.castle_king rules.castle_far c.beyond c.start c.target c.rank on.4 (omega (arith, most, on.1)) a l
 
 pub castle_places : (rules : Rules) (fit : IsFit rules) (r : Repeat) (from to rook : Square) (wing : Wing) → length r.cells ≡ 120 → Castles rules r from to rook wing → from.0 < 120 → to.0 < 120 → rook.0 < 120 → CastlePlaces r.cells from.0 to.0 rook.0 (rook_target from to rook)
 castle_places rules fit r from to rook wing size c l k j =
     let f = castle_files rules fit r from to rook wing c l k in
+    let castle = castle_with rules r.side wing c.beyond in
     let below = f.below in
-    let rank = castling_rank rules r.side in
-    let start = c.start in
     let target = c.target in
-    let place = c.rank in
-    let on_rank = f.on_rank in
-    let from_rank = f.from_rank in
-    let few = king_file_few rules fit wing c.on in
+    let is = f.is in
     record {
       king_start = omega (arith, l, size);
       rook_start = omega (arith, j, size);
       king_target = omega (arith, k, size);
       rook_target = omega (arith, below, size);
-      pieces_apart = λ e. f.rook_apart (omega (arith, e, start, place));
+      pieces_apart = f.pieces_apart;
       targets_apart = f.targets_apart;
       to_free = λ a b. subst (λ s. cell_at r.cells s ≡ None) (sym target)
-          (file_free rules r.cells r.side (king_file rules wing) (rook.0 % 12) (rook_target from to rook % 12) (king_file rules wing) c.way few (omega arith) (omega arith) (λ e. a (omega (arith, e, start, target))) (λ e. b (omega (arith, e, place, target))));
-      target_free = λ a b.
-          let there : rook_target from to rook ≡ castling_square rules r.side (rook_target from to rook % 12) = omega (arith, on_rank, from_rank, start) in
-          subst (λ s. cell_at r.cells s ≡ None) (sym there)
-          (file_free rules r.cells r.side (king_file rules wing) (rook.0 % 12) (rook_target from to rook % 12) (rook_target from to rook % 12) c.way (omega arith) (omega arith) (omega arith) (λ e. a (omega (arith, e, there, start))) (λ e. b (omega (arith, e, there, place))));
+          (square_free rules r.cells r.side castle castle.king_to.0 c.way (omega (arith, k, target)) (omega arith) (omega arith) (λ e. a (target ∙ e ∙ sym c.start)) (λ e. b (target ∙ e ∙ sym c.rank)));
+      target_free = λ a b. subst (λ s. cell_at r.cells s ≡ None) (sym is)
+          (square_free rules r.cells r.side castle castle.rook_to.0 c.way (omega (arith, below, is)) (omega arith) (omega arith) (λ e. a (is ∙ e ∙ sym c.start)) (λ e. b (is ∙ e ∙ sym c.rank)));
     }
 
 gate_square : (rules : Rules) (r : Repeat) (from to rook : Square) (placed : Placed) → castle_gates rules r from to rook (Some placed) ≡ true → (placed.at.0 ≢ to.0) × (placed.at.0 ≢ rook_target from to rook)

@@ -35,7 +35,7 @@ use Rattle.rules_model.specs.Legal.{is_allowed, is_safe, is_sane, legal, may_che
 use Rattle.rules_model.specs.Allowed.{is_legal}
 use Rattle.rules_model.specs.Moves.{IsFitMove, IsFitPromo}
 use Rattle.rules_model.specs.Sound.{has_hands, has_its_king, is_sound_repeat, sound_in_hand}
-use Rattle.rules_model.specs.Fit.{bad_promotion, chains_promotions, fits_pawn, fits_rule, fits_term, IsFit, is_pawn_or_king, is_there, kind_fits, promotes_to_pawn_or_king}
+use Rattle.rules_model.specs.Fit.{bad_promotion, chains_promotions, fits_pawn, fits_rule, fits_term, IsFit, is_pawn_or_king, is_there, kind_fits, promotes_to_pawn_or_king, region_fits}
 use Rattle.rules_model.proofs.CandidateLaws.{both_of, castle_gate, castle_is, drop_is, false_of_not, gated_go, legal_candidate, not_both, one_of, PawnGoes, PieceGoes, plain_go}
 use Rattle.rules_model.proofs.LegalLaws.{legal-member}
 use Rattle.sound_play.proofs.CountLaws.{castle-count, drop-count, dropped_free, go-count, go_leaves, Passes, passes_by-is}
@@ -65,7 +65,7 @@ pawn_rule : (rules : Rules) (kind : Kind) (rule : Option KindRule) → is_some r
 pawn_rule rules kind None e f h = cc
 pawn_rule rules kind (Some rule) e f h =
     let a = both_of _ (is_there rules rule.promoted) f in
-    let b = both_of _ (list_all fits_term rule.terms) a.0 in
+    let b = both_of _ (list_all fits_term rule.terms) (both_of _ (list_all (region_fits rules) rule.mobility) a.0).0 in
     let c = both_of (same_bool rule.pawn (is_pawn rules kind)) (not rule.pawn || fits_pawn rules kind rule) b.0 in
     let d : rule.pawn ≡ true = marked rule.pawn (is_pawn rules kind) c.0 h in
     let g : fits_pawn rules kind rule ≡ true = asked rule.pawn (fits_pawn rules kind rule) c.1 d in

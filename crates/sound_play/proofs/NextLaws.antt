@@ -1,5 +1,5 @@
 -- The position after a legal move of a sound position is sound, in every variant that fits.
-use Rattle.std.proofs.Common.{◌≡◌, ℕ, ◌+◌, ◌-◌, ◌≤◌, Bool, true, false, ◌&&◌, ◌||◌, if◌then◌else◌, inl, inr, Option, List, length, refl, ap, sym, ◌∙◌, subst, arith, ◌==◌, nat_le, slice_index}
+use Rattle.std.proofs.Common.{◌≡◌, ℕ, ◌+◌, ◌-◌, ◌≤◌, Bool, true, false, ◌&&◌, ◌||◌, if◌then◌else◌, inl, inr, Option, List, refl, ap, sym, ◌∙◌, subst, arith, ◌==◌, nat_le, slice_index}
 use Rattle.std.specs.Prelude.{slice_set}
 use Rattle.std.proofs.lemmas.Bool.{leb-true, le-leb}
 use Rattle.std.proofs.lemmas.Bool.Decides.{Decides-eqb}
@@ -20,11 +20,11 @@ use Rattle.rules_model.specs.Ends.{pieces_of}
 use Rattle.rules_model.specs.Next.{cells_after, checks_after, ep_after, gates_after, hands_after, next, next_repeat, rights_after}
 use Rattle.rules_model.specs.Legal.{legal}
 use Rattle.rules_model.specs.Fit.{IsFit}
-use Rattle.rules_model.specs.Promised.{HasSizes}
 use Rattle.rules_model.specs.Sound.{is_sound, is_sound_ep, is_sound_repeat, sound_gate}
 use Rattle.rules_model.proofs.CandidateLaws.{legal_candidate}
 use Rattle.rules_model.proofs.LegalLaws.{legal-member}
 use Rattle.rules_model.proofs.PlayLaws.{next-is}
+use Rattle.rules_model.proofs.SizeLaws.{has_sizes-is, sizes-has}
 use Rattle.rules_model.proofs.VariantLaws.{legal_of_variant}
 use Rattle.sound_play.proofs.AfterLaws.{cells_after-sound, hands_after-fit, IsReady, on_board_of_both, pieces_after-most}
 use Rattle.sound_play.proofs.DoubleLaws.{ep_after-sound}
@@ -33,6 +33,7 @@ use Rattle.sound_play.proofs.HandLaws.{hand_set, held_by_both}
 use Rattle.sound_play.proofs.KingLaws.{next_repeat-kings, next_repeat-safe}
 use Rattle.sound_play.proofs.PieceLaws.{all_sound, AreSound}
 use Rattle.sound_play.proofs.PlayLaws.{FitHands, sound_hands}
+use Rattle.sound_play.proofs.SizeLaws.{next_repeat-sizes}
 use Rattle.sound_play.proofs.SoundLaws.{position_of_parts, position_parts, repeat_of_parts, repeat_parts, side_of, side_of_parts, side_parts, SoundCounts, SoundRepeat, SoundSide}
 use Rattle.sound_play.proofs.StandLaws.{gate_after, right_after}
 use Rattle.sound_play.proofs.TargetLaws.{other_twice}
@@ -110,6 +111,7 @@ repeat_after rules r m ready h =
     let q = next_repeat rules r m in
     let f = next_repeat-follows rules r m in
     record {
+      sizes = sizes-has q (next_repeat-sizes rules r m (has_sizes-is r (repeat_parts rules r ready.sound).sizes));
       cells = all_sound rules q.cells (subst (AreSound rules) (sym f.cells) (cells_after-sound rules r m ready));
       few = few_after rules r m ready;
       white = side_of_parts rules q White (side_after rules r m White ready h);
@@ -118,12 +120,13 @@ repeat_after rules r m ready h =
       ep = subst (λ ep. is_sound_ep rules q ep ≡ true) (sym f.ep) (ep_after-sound rules r q m ready f.cells f.side);
     }
 
-pub next_repeat-sound : (rules : Rules) (r : Repeat) (m : Move) → IsFit rules → length rules.kinds ≡ 26 → HasSizes r → is_sound_repeat rules r ≡ true → Member m (legal rules r) → is_sound_repeat rules (next_repeat rules r m) ≡ true
-next_repeat-sound rules r m fit kinds sizes sound h =
+pub next_repeat-sound : (rules : Rules) (r : Repeat) (m : Move) → IsFit rules → is_sound_repeat rules r ≡ true → Member m (legal rules r) → is_sound_repeat rules (next_repeat rules r m) ≡ true
+next_repeat-sound rules r m fit sound h =
+    let sizes = has_sizes-is r (repeat_parts rules r sound).sizes in
     let l = legal-member rules r m h in
     let ready : IsReady rules r m = record {
       fit = fit;
-      kinds = kinds;
+      kinds = fit.letters;
       cells = sizes.cells;
       hands = record { two = sizes.hands; each = sizes.each_hand };
       sound = sound;
@@ -140,8 +143,8 @@ counts_after rules p m h = record {
   number_most = next-number_most rules p m h.number_most;
 }
 
-pub next-sound : (rules : Rules) (p : Position) (m : Move) → IsFit rules → length rules.kinds ≡ 26 → HasSizes (repeat_of p) → is_sound rules p ≡ true → Member m (legal rules (repeat_of p)) → is_sound rules (next rules p m) ≡ true
-next-sound rules p m fit kinds sizes sound h =
+pub next-sound : (rules : Rules) (p : Position) (m : Move) → IsFit rules → is_sound rules p ≡ true → Member m (legal rules (repeat_of p)) → is_sound rules (next rules p m) ≡ true
+next-sound rules p m fit sound h =
     let s = position_parts rules p sound in
-    let repeat = next_repeat-sound rules (repeat_of p) m fit kinds sizes (repeat_of_parts rules (repeat_of p) s.0) h in
+    let repeat = next_repeat-sound rules (repeat_of p) m fit (repeat_of_parts rules (repeat_of p) s.0) h in
     position_of_parts rules (next rules p m) (subst (λ q. is_sound_repeat rules q ≡ true) (sym (next-is rules p m)) repeat) (counts_after rules p m s.1)

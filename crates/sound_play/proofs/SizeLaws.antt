@@ -1,7 +1,10 @@
 -- The lengths of a position's lists after a move.
-use Rattle.std.proofs.Common.{◌≡◌, ℕ, ◌+◌, Bool, true, false, if◌then◌else◌, Option, Some, None, List, [], length, refl, ap, ◌∙◌, arith, length-set, ◌==◌, sym, subst}
+use Rattle.std.proofs.Common.{◌≡◌, ℕ, ◌+◌, ◌-◌, ◌%◌, ◌^◌, ◌<◌, ◌≤◌, Bool, true, false, if◌then◌else◌, Option, Some, None, List, [], length, refl, ap, ◌∙◌, arith, length-set, ◌==◌, nat_lt, sym, subst, slice_index, bit_and}
 use Rattle.std.specs.Prelude.{slice_set}
 use Rattle.std.specs.List.{list_all}
+use Rattle.std.proofs.lemmas.Bool.{ltb-true}
+use Rattle.std.proofs.lemmas.Bool.Decides.{nat_tests}
+use Rattle.std.proofs.lemmas.Nat.{and_le_r}
 use Rattle.foundation.proofs.SetLemmas.{list_all-set, list_all-get}
 use Rattle.rules_model.specs.declared.board.Cell.{Cell}
 use Rattle.rules_model.specs.declared.board.Kind.{Kind}
@@ -14,10 +17,13 @@ use Rattle.rules_model.specs.declared.moves.Move.TheVariants.{Go, Castle, Drop}
 use Rattle.rules_model.specs.declared.moves.Placed.{Placed}
 use Rattle.rules_model.specs.declared.rules.Rules.{Rules}
 use Rattle.rules_model.specs.Sides.{side_index}
+use Rattle.rules_model.specs.Regions.{on_first_rank}
+use Rattle.rules_model.specs.Gates.{closed_at}
+use Rattle.rules_model.specs.Castling.{rook_target}
 use Rattle.rules_model.specs.Hands.{hand_of, in_hand, put_at_gate, with_hand}
 use Rattle.rules_model.specs.Pawns.{behind, passes_by}
-use Rattle.rules_model.specs.Next.{cells_after, checks_after, emptied, fresh, gates_after, hand_kind, hands_after, next, next_repeat, placed_kind, placed_on, rights_after, take_into, taken}
-use Rattle.rules_model.specs.Promised.{HasSizes}
+use Rattle.rules_model.specs.Next.{cells_after, checks_after, emptied, fresh, gates_after, hand_kind, hands_after, next, next_repeat, placed_kind, placed_on, rights_after, side_gates_after, take_into, taken}
+use Rattle.rules_model.specs.Sizes.{HasSizes}
 use Rattle.rules_model.specs.Repeats.{repeat_of}
 use Rattle.rules_model.proofs.PlayLaws.{next-is}
 
@@ -89,6 +95,33 @@ gates_after-size : (rules : Rules) (r : Repeat) (m : Move) → length (gates_aft
 unfolding gates_after
 gates_after-size rules r m = omega arith
 
+closed_below : (b : Bool) (gates without : ℕ) → gates < 65536 → without ≤ 65535 → (if b then bit_and gates without else gates) < 65536
+closed_below true gates without l h = let a = and_le_r gates without in omega (arith, a, h)
+closed_below false gates without l h = l
+
+closed_at-below : (rules : Rules) (side : Side) (s gates : ℕ) → gates < 65536 → closed_at rules side s gates < 65536
+closed_at-below rules side s gates l = closed_below (on_first_rank rules side s) gates (65535 - 2 ^ (s % 12)) l (omega arith)
+
+side_gates-below : (rules : Rules) (side : Side) (m : Move) (gates : ℕ) → gates < 65536 → side_gates_after rules side m gates < 65536
+side_gates-below rules side (Go from to promo gate) gates l = closed_at-below rules side to.0 _ (closed_at-below rules side from.0 gates l)
+side_gates-below rules side (Castle from to rook gate) gates l =
+    closed_at-below rules side (rook_target from to rook) _ (closed_at-below rules side to.0 _ (closed_at-below rules side rook.0 _ (closed_at-below rules side from.0 gates l)))
+side_gates-below rules side (Drop kind to) gates l = closed_at-below rules side to.0 gates l
+
+below_test : (a : ℕ) → a < 65536 → nat_lt a 65536 ≡ true
+below_test a l = grind (arith, nat_tests)
+
+gate_below : (gates : List ℕ) (side : Side) → length gates ≡ 2 → list_all (λ g. nat_lt g 65536) gates ≡ true → slice_index gates (side_index side) < 65536
+gate_below gates White two h = ltb-true _ _ (list_all-get (λ g. nat_lt g 65536) gates 0 0 (omega (arith, two)) h)
+gate_below gates Black two h = ltb-true _ _ (list_all-get (λ g. nat_lt g 65536) gates 1 0 (omega (arith, two)) h)
+
+gates_after-each : (rules : Rules) (r : Repeat) (m : Move) → length r.gates ≡ 2 → list_all (λ g. nat_lt g 65536) r.gates ≡ true → list_all (λ g. nat_lt g 65536) (gates_after rules r m) ≡ true
+unfolding gates_after
+gates_after-each rules r m two h =
+    let white = below_test _ (side_gates-below rules White m _ (gate_below r.gates White two h)) in
+    let black = below_test _ (side_gates-below rules Black m _ (gate_below r.gates Black two h)) in
+    rw (white, black)
+
 rights_after-size : (rules : Rules) (r : Repeat) (m : Move) (later : List (Option Cell)) → length (rights_after rules r m later) ≡ 2
 unfolding rights_after
 rights_after-size rules r m later = omega arith
@@ -106,6 +139,7 @@ next_repeat-sizes rules r m h =
       hands = hands.two;
       each_hand = hands.each;
       gates = gates_after-size rules r m;
+      each_gate = gates_after-each rules r m h.gates h.each_gate;
       rights = rights_after-size rules r m (cells_after rules r m);
       each_right = rights_after-each rules r m (cells_after rules r m);
       checks = checks_after-size rules r (cells_after rules r m) ∙ h.checks;

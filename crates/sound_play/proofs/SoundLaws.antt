@@ -11,6 +11,7 @@ use Rattle.rules_model.specs.declared.rules.Rules.{Rules}
 use Rattle.rules_model.specs.Sides.{other, side_index}
 use Rattle.rules_model.specs.Repeats.{repeat_of}
 use Rattle.rules_model.specs.Attacks.{king_attacked}
+use Rattle.rules_model.specs.Sizes.{has_sizes}
 use Rattle.rules_model.specs.Ends.{pieces_of}
 use Rattle.rules_model.specs.Sound.{has_its_king, is_sound, is_sound_ep, is_sound_repeat, is_sound_side, sound_at, sound_gate, sound_in_hand, sound_right}
 use Rattle.rules_model.proofs.CandidateLaws.{both_of, false_of_not}
@@ -18,6 +19,7 @@ use Rattle.rules_model.proofs.CandidateLaws.{both_of, false_of_not}
 -- ---- a repeat
 
 pub record SoundRepeat (rules : Rules) (r : Repeat) : Type 0 where
+  pub sizes : has_sizes r ≡ true
   pub cells : all_below (sound_at rules r.cells) 120 ≡ true
   pub few : pieces_of r White + pieces_of r Black ≤ 240
   pub white : is_sound_side rules r White ≡ true
@@ -32,13 +34,14 @@ repeat_parts rules r e =
     let b = both_of _ (not (king_attacked rules r.cells (other r.side))) a.0 in
     let c = both_of _ (is_sound_side rules r Black) b.0 in
     let d = both_of _ (is_sound_side rules r White) c.0 in
-    let f = both_of (all_below (sound_at rules r.cells) 120) (nat_le (pieces_of r White + pieces_of r Black) 240) d.0 in
-    record { cells = f.0; few = leb-true _ _ f.1; white = d.1; black = c.1; king = false_of_not _ b.1; ep = a.1 }
+    let f = both_of _ (nat_le (pieces_of r White + pieces_of r Black) 240) d.0 in
+    let g = both_of (has_sizes r) (all_below (sound_at rules r.cells) 120) f.0 in
+    record { sizes = g.0; cells = g.1; few = leb-true _ _ f.1; white = d.1; black = c.1; king = false_of_not _ b.1; ep = a.1 }
 
 pub repeat_of_parts : (rules : Rules) (r : Repeat) → SoundRepeat rules r → is_sound_repeat rules r ≡ true
 unfolding is_sound_repeat
 repeat_of_parts rules r h =
-    and_from _ _ (and_from _ _ (and_from _ _ (and_from _ _ (and_from _ _ h.cells (le-leb _ _ h.few)) h.white) h.black) (not_from_false _ h.king)) h.ep
+    and_from _ _ (and_from _ _ (and_from _ _ (and_from _ _ (and_from _ _ (and_from _ _ h.sizes h.cells) (le-leb _ _ h.few)) h.white) h.black) (not_from_false _ h.king)) h.ep
 
 pub side_of : (rules : Rules) (r : Repeat) (side : Side) → SoundRepeat rules r → is_sound_side rules r side ≡ true
 side_of rules r White h = h.white

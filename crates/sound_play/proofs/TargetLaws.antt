@@ -1,10 +1,11 @@
 -- What stands on the target of a candidate: an enemy that the mover attacks, and so no king in a sound position.
-use Rattle.std.proofs.Common.{◌≡◌, ◌<◌, Bool, true, false, not, ◌&&◌, ◌||◌, ◌⊎◌, inl, inr, Option, Some, None, List, [], ◌∷◌, refl, sym, subst, is_none}
+use Rattle.std.proofs.Common.{◌≡◌, ℕ, ◌<◌, Bool, true, false, not, ◌&&◌, ◌||◌, ◌⊎◌, inl, inr, Option, Some, None, List, [], ◌∷◌, refl, sym, subst, is_none}
 use Rattle.std.proofs.lemmas.Bool.{false_from_ne_true, or_right}
 use Rattle.std.specs.List.{list_any}
 use Rattle.std.proofs.lemmas.Bool.Decides.{Decides-eqb}
 use Rattle.foundation.proofs.CountLemmas.{any_below-true}
 use Rattle.rules_model.specs.declared.board.Cell.{Cell}
+use Rattle.rules_model.specs.declared.board.Kind.{Kind}
 use Rattle.rules_model.specs.declared.board.Repeat.{Repeat}
 use Rattle.rules_model.specs.declared.board.Side.{Side}
 use Rattle.rules_model.specs.declared.board.Side.TheVariants.{White, Black}
@@ -15,12 +16,13 @@ use Rattle.rules_model.specs.declared.rules.Term.{Term}
 use Rattle.rules_model.specs.Squares.{cell_at}
 use Rattle.rules_model.specs.Reach.{reaches}
 use Rattle.rules_model.specs.Sides.{other, same_side}
-use Rattle.rules_model.specs.Kinds.{board_of, terms_of}
-use Rattle.rules_model.specs.Attacks.{attacks, attacks_as, attacks_by, attacks_from, is_diagonal, is_own_king, king_attacked, king_attacked_at, takes_by}
-use Rattle.rules_model.specs.Pieces.{goes_by, may_plus, means_castling, piece_goes, piece_moves, piece_promo, serves}
+use Rattle.rules_model.specs.Kinds.{board_of}
+use Rattle.rules_model.specs.Movement.{in_mobility, kind_reaches, reaches_by, terms_from}
+use Rattle.rules_model.specs.Attacks.{attacks, attacks_as, attacks_by, attacks_from, is_diagonal, is_own_king, king_attacked, king_attacked_at}
+use Rattle.rules_model.specs.Pieces.{may_plus, means_castling, piece_goes, piece_moves, piece_promo, serves}
 use Rattle.rules_model.specs.Pawns.{is_enemy, is_ep, is_free, is_stays, may_promote, passes_by, pawn_goes, pawn_moves, pawn_promo}
 use Rattle.rules_model.specs.Sound.{is_sound_ep, is_sound_repeat, on_board, was_passed}
-use Rattle.rules_model.proofs.CandidateLaws.{both_of, one_of, any_has, false_of_not, not_both, PieceGoes, PawnGoes}
+use Rattle.rules_model.proofs.CandidateLaws.{both_of, one_of, term_of_reach, false_of_not, not_both, PieceGoes, PawnGoes}
 use Rattle.rules_model.proofs.VariantLaws.{sound_ep}
 use Rattle.sound_play.proofs.SoundLaws.{repeat_parts}
 
@@ -42,7 +44,8 @@ pub attacks_as-attacks : (rules : Rules) (cells : List (Option Cell)) (by : Side
 unfolding attacks attacks_from
 attacks_as-attacks rules cells by from to x l here own e =
     let a : attacks_by rules cells by to.0 from (Some x) ≡ true = rw (own, e) in
-    any_below-true (attacks_from rules cells by to.0) 120 from.0 l (subst (λ c. attacks_by rules cells by to.0 from c ≡ true) (sym here) a)
+    let b = any_below-true (attacks_from rules cells by to.0) 120 from.0 l (subst (λ c. attacks_by rules cells by to.0 from c ≡ true) (sym here) a) in
+    rw b
 
 any_more : {X : Type 0} (p q : X → Bool) (xs : List X) → ((x : X) → p x ≡ true → q x ≡ true) → list_any p xs ≡ true → list_any q xs ≡ true
 any_more p q [] h e = e
@@ -57,23 +60,31 @@ pub record Takes (rules : Rules) (r : Repeat) (to : Square) (y : Cell) : Type 0 
   pub enemy : same_side y.side r.side ≡ false
   pub attacked : attacks rules r.cells r.side to.0 ≡ true
 
-takes_term : (rules : Rules) (r : Repeat) (from to : Square) (y : Cell) (t : Term) → cell_at r.cells to.0 ≡ Some y → goes_by rules r.cells r.side from to.0 t ≡ true → (takes_by (board_of rules) r.cells r.side from to.0 t ≡ true) × (same_side y.side r.side ≡ false)
-takes_term rules r from to y t there e =
-    let a = both_of (serves r.side (cell_at r.cells to.0) t) (reaches (board_of rules) r.cells r.side t from to.0) e in
-    let b : serves r.side (Some y) t ≡ true = subst (λ c. serves r.side c t ≡ true) there a.0 in
-    let c = both_of t.takes (not (same_side y.side r.side)) b in
-    let d : takes_by (board_of rules) r.cells r.side from to.0 t ≡ true = rw (c.0, a.1) in
-    (d, false_of_not _ c.1)
+-- what reaches by the terms that pass one test does so by those of a wider one
+reach_more : (rules : Rules) (cells : List (Option Cell)) (side : Side) (kind : Kind) (p q : Term → Bool) (from : Square) (s : ℕ) → ((t : Term) → p t ≡ true → q t ≡ true) → kind_reaches rules cells side kind p from s ≡ true → kind_reaches rules cells side kind q from s ≡ true
+unfolding kind_reaches
+reach_more rules cells side kind p q from s wider e =
+    let a = both_of (in_mobility rules side kind s) (list_any (reaches_by rules cells side p from s) (terms_from rules side kind from)) e in
+    let b = any_more (reaches_by rules cells side p from s) (reaches_by rules cells side q from s) (terms_from rules side kind from)
+        (λ t f. let c = both_of (p t) (reaches (board_of rules) cells side t from s) f in let d = wider t c.0 in rw (d, c.1)) a.1 in
+    rw (a.0, b)
+
+serves_onto : (side : Side) (c : Option Cell) (y : Cell) (t : Term) → c ≡ Some y → serves side c t ≡ true → (t.takes ≡ true) × (same_side y.side side ≡ false)
+serves_onto side c y t there e =
+    let a : serves side (Some y) t ≡ true = subst (λ o. serves side o t ≡ true) there e in
+    let b = both_of t.takes (not (same_side y.side side)) a in
+    (b.0, false_of_not _ b.1)
 
 pub piece_takes : (rules : Rules) (r : Repeat) (x y : Cell) (from to : Square) (promo : Promo) → from.0 < 120 → cell_at r.cells from.0 ≡ Some x → PieceGoes rules r x from to promo → cell_at r.cells to.0 ≡ Some y → Takes rules r to y
 unfolding piece_moves piece_goes
 piece_takes rules r x y from to promo l here h there =
+    let serving = serves r.side (cell_at r.cells to.0) in
     let a = both_of _ (not (means_castling rules r x.kind from.0 to.0)) h.2 in
-    let b = both_of (list_any (goes_by rules r.cells r.side from to.0) (terms_of rules x.kind)) (piece_promo rules (may_plus rules r.side x.kind from.0 to.0) promo) a.0 in
-    let t = any_has (goes_by rules r.cells r.side from to.0) (terms_of rules x.kind) b.0 in
-    let c = any_more (goes_by rules r.cells r.side from to.0) (takes_by (board_of rules) r.cells r.side from to.0) (terms_of rules x.kind) (λ s e. (takes_term rules r from to y s there e).0) b.0 in
+    let b = both_of (kind_reaches rules r.cells r.side x.kind serving from to.0) (piece_promo rules (may_plus rules r.side x.kind from.0 to.0) promo) a.0 in
+    let t = term_of_reach rules r.cells r.side x.kind serving from to.0 b.0 in
+    let c = reach_more rules r.cells r.side x.kind serving (λ t. t.takes) from to.0 (λ s e. (serves_onto r.side (cell_at r.cells to.0) y s there e).0) b.0 in
     let d : attacks_as rules r.cells r.side x.kind from to.0 ≡ true = rw (h.1, c) in
-    record { enemy = (takes_term rules r from to y t.0 there t.1).1; attacked = attacks_as-attacks rules r.cells r.side from to x l here h.0 d }
+    record { enemy = (serves_onto r.side (cell_at r.cells to.0) y t.0 there t.1).1; attacked = attacks_as-attacks rules r.cells r.side from to x l here h.0 d }
 
 ep_free : (rules : Rules) (r : Repeat) (to : Square) (y : Cell) (ep : Option Square) → is_sound_ep rules r ep ≡ true → is_ep ep to.0 ≡ true → cell_at r.cells to.0 ≡ Some y → ⊥
 ep_free rules r to y None sound e there = cc

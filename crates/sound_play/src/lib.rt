@@ -1,7 +1,7 @@
 //! What stays sound along a game: laws about positions, each the contract of a call that does nothing.
 #![tactic(auto)]
 
-ghost use Rattle.std.specs.Prelude.{◌≡◌, ◌≤◌, ℕ, true, length};
+ghost use Rattle.std.specs.Prelude.{◌≡◌, ◌≤◌, ℕ, true};
 ghost use Rattle.rules_model.specs.declared.board.Position.{Position};
 ghost use Rattle.rules_model.specs.declared.board.Repeat.{Repeat};
 ghost use Rattle.rules_model.specs.declared.board.Side.{Side};
@@ -12,10 +12,11 @@ ghost use Rattle.rules_model.specs.Castling.{holds_right};
 ghost use Rattle.rules_model.specs.Fit.{IsFit};
 ghost use Rattle.rules_model.specs.Gates.{has_gate};
 ghost use Rattle.rules_model.specs.Next.{next, next_repeat};
-ghost use Rattle.rules_model.specs.Promised.{HasSizes, NextKeepsSound};
+ghost use Rattle.rules_model.specs.Promised.{NextKeepsSound};
 ghost use Rattle.rules_model.specs.Repeats.{repeat_of};
+ghost use Rattle.rules_model.specs.Sizes.{HasSizes};
 
-/// Every move, in every variant, keeps the lengths of a position's lists.
+/// Every move, in every variant, keeps the lengths of a position's lists and the range of its gates.
 pub fn moves_keep_sizes()
     ensures repeats { (rules : Rules) (r : Repeat) (m : Move) → HasSizes r → HasSizes (next_repeat rules r m) }
     ensures positions { (rules : Rules) (p : Position) (m : Move) → HasSizes (repeat_of p) → HasSizes (repeat_of (next rules p m)) }
@@ -34,8 +35,7 @@ pub fn rights_and_gates_only_go()
     ensures gates { (rules : Rules) (r : Repeat) (m : Move) (side : Side) (file : ℕ) → has_gate (next_repeat rules r m).gates side file ≡ true → has_gate r.gates side file ≡ true }
 {}
 
-/// In every variant that fits, the position after a legal move of a sound position is sound. The rules have their 26 kinds, and
-/// the position's lists have the lengths of its fields, as every value has them.
+/// In every variant that fits, the position after a legal move of a sound position is sound.
 pub fn legal_moves_keep_soundness()
-    ensures { (rules : Rules) → IsFit rules → length rules.kinds ≡ 26 → NextKeepsSound rules }
+    ensures { (rules : Rules) → IsFit rules → NextKeepsSound rules }
 {}
