@@ -6,7 +6,7 @@ ghost use Rattle.rules_model.specs.Moves.{IsFitMove};
 ghost use Rattle.rules_model.specs.Next as Next;
 ghost use Rattle.next_position.specs.Parts as Parts;
 
-use crate::pieces::rook_target;
+use rules_model::castling::rook_target;
 use rules_model::kinds::first_rank;
 use rules_model::{Move, Rules, Side};
 

@@ -1,6 +1,5 @@
 //! What stands on the squares after a move.
 ghost use Rattle.std.specs.Prelude.{◌≡◌, ◌<◌, ◌≤◌, IfSome, slice_set};
-ghost use Rattle.rules_model.specs.Castling as Castling;
 ghost use Rattle.rules_model.specs.Fit.{IsFit};
 ghost use Rattle.rules_model.specs.Moves.{IsFitMove};
 ghost use Rattle.rules_model.specs.Next as Next;
@@ -9,6 +8,7 @@ ghost use Rattle.rules_model.specs.Repeats.{repeat_of};
 ghost use Rattle.next_position.specs.Parts as Parts;
 
 use rules_model::attacks::ahead;
+use rules_model::castling::rook_target;
 use rules_model::kinds::{board_of, promoted_of};
 use rules_model::{Cell, Cells, Kind, Move, Placed, Position, Promo, Rules, Side, Square};
 
@@ -97,19 +97,6 @@ fn empty(cells: &mut Cells, at: Option<u8>)
 {
     if let Some(at) = at {
         put(cells, at, None);
-    }
-}
-
-/// The square to which the rook of a castle goes: one past the last square at most.
-pub(crate) fn rook_target(from: Square, to: Square, rook: Square) -> u8
-    requires { to.0 < 120 }
-    ensures is { result ≡ Castling.rook_target from to rook }
-    ensures near { result ≤ 120 }
-{
-    if from.0 < rook.0 {
-        to.0.saturating_sub(1)
-    } else {
-        to.0 + 1
     }
 }
 

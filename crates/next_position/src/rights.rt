@@ -7,8 +7,7 @@ ghost use Rattle.rules_model.specs.Next as Next;
 ghost use Rattle.rules_model.specs.Repeats.{repeat_of};
 ghost use Rattle.next_position.specs.Parts as Parts;
 
-use crate::pieces::rook_target;
-use rules_model::castling::{castling_square, holds_right, rook_file};
+use rules_model::castling::{castling_square, holds_right, rook_file, rook_target};
 use rules_model::{Cells, Move, Position, Rules, Side, Square, Wing};
 
 /// The files of the rooks with which a side may still castle, as far as what it had before the move tells.

@@ -1,4 +1,4 @@
-ghost use Rattle.std.specs.Prelude.{◌≡◌, true, false, None, []};
+ghost use Rattle.std.specs.Prelude.{◌≡◌, true, []};
 ghost use Rattle.rules_model.specs.Fit.{IsFit};
 ghost use Rattle.rules_model.specs.Moves.{IsFitGate, IsFitMove, IsFitPlaced, IsFitPromo};
 
@@ -17,31 +17,11 @@ const ROOK: Kind = Kind(17);
 
 const SILVER: Kind = Kind(18);
 
-fn piece(promoted: Option<Kind>) -> KindRule
-    ensures terms { result.terms ≡ [] }
-    ensures pawn { result.pawn ≡ false }
-    ensures promoted { result.promoted ≡ promoted }
+fn no_terms() -> Terms
+    ensures { result ≡ [] }
 {
-    KindRule {
-        terms: Terms {
-            items: ArrayVec::new(),
-        },
-        pawn: false,
-        promoted,
-    }
-}
-
-fn pawn() -> KindRule
-    ensures terms { result.terms ≡ [] }
-    ensures pawn { result.pawn ≡ true }
-    ensures promoted { result.promoted ≡ None }
-{
-    KindRule {
-        terms: Terms {
-            items: ArrayVec::new(),
-        },
-        pawn: true,
-        promoted: None,
+    Terms {
+        items: ArrayVec::new(),
     }
 }
 
@@ -61,19 +41,44 @@ fn rules(to_hand: bool) -> Rules
             None,
             None,
             None,
-            Some(piece(None)),
+            Some(KindRule {
+                terms: no_terms(),
+                mobility: [NOWHERE, NOWHERE],
+                pawn: false,
+                promoted: None,
+            }),
             None,
             None,
             None,
-            Some(piece(None)),
+            Some(KindRule {
+                terms: no_terms(),
+                mobility: [NOWHERE, NOWHERE],
+                pawn: false,
+                promoted: None,
+            }),
             None,
             None,
             None,
             None,
-            Some(pawn()),
+            Some(KindRule {
+                terms: no_terms(),
+                mobility: [NOWHERE, NOWHERE],
+                pawn: true,
+                promoted: None,
+            }),
             None,
-            Some(piece(None)),
-            Some(piece(Some(GOLD))),
+            Some(KindRule {
+                terms: no_terms(),
+                mobility: [NOWHERE, NOWHERE],
+                pawn: false,
+                promoted: None,
+            }),
+            Some(KindRule {
+                terms: no_terms(),
+                mobility: [NOWHERE, NOWHERE],
+                pawn: false,
+                promoted: Some(GOLD),
+            }),
             None,
             None,
             None,
@@ -116,6 +121,8 @@ fn rules(to_hand: bool) -> Rules
         ranks: 8,
         king: Some(KING),
         pawn: Some(PAWN),
+        soldier: None,
+        soldier_rank: 1,
         no_doubled: None,
         flag_kind: None,
         castle_king: 4,
@@ -144,6 +151,7 @@ fn rules(to_hand: bool) -> Rules
         gate_hand: true,
         extinct_all: false,
         check_counting: true,
+        flying: false,
     }
 }
 

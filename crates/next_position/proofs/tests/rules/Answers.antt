@@ -7,6 +7,7 @@ use Rattle.next_position.proofs.tests.rules.Goals as goal
 pub returns : goal.returns
 unfolding any_below all_below castling_on chains_promotions gates_amiss has_no_piece kind_fits mask_fits promotes_to_pawn_or_king region_fits_at
 returns c = record {
+  letters = refl;
   files_least = omega arith;
   files_most = omega arith;
   ranks_least = omega arith;
@@ -16,6 +17,8 @@ returns c = record {
   castle_far = omega arith;
   castle_rank_least = omega arith;
   castle_rank_most = omega arith;
+  soldier_rank_least = omega arith;
+  soldier_rank_most = omega arith;
   n_move = omega arith;
   n_fold_most = omega arith;
   n_fold_not_one = λ e. omega (arith, e);
@@ -25,9 +28,11 @@ returns c = record {
   double_region = refl;
   drop_region = refl;
   flag_region = refl;
-  kinds = rw (c.piece.ensures.terms, c.piece.ensures.pawn, c.piece.ensures.promoted, c.piece-2.ensures.terms, c.piece-2.ensures.pawn, c.piece-2.ensures.promoted, c.pawn.ensures.terms, c.pawn.ensures.pawn, c.pawn.ensures.promoted, c.piece-3.ensures.terms, c.piece-3.ensures.pawn, c.piece-3.ensures.promoted, c.piece-4.ensures.terms, c.piece-4.ensures.pawn, c.piece-4.ensures.promoted);
+  kinds = rw (c.no_terms.ensures, c.no_terms-2.ensures, c.no_terms-3.ensures, c.no_terms-4.ensures, c.no_terms-5.ensures);
   king = refl;
   pawn = refl;
+  soldier = refl;
+  soldier_no_pawn = refl;
   no_doubled = refl;
   flag_kind = refl;
   promotion_kinds = refl;
@@ -36,7 +41,7 @@ returns c = record {
   extinct_kinds = refl;
   pieces = refl;
   pawn_promotions = refl;
-  piece_promotions = rw (c.piece.ensures.promoted, c.piece-2.ensures.promoted, c.piece-3.ensures.promoted, c.piece-4.ensures.promoted, c.pawn.ensures.promoted);
+  piece_promotions = refl;
   hand_gates = refl;
   gates = refl;
 }
