@@ -1,5 +1,6 @@
 -- What stands behind a candidate, taken apart.
 use Rattle.std.proofs.Common.{◌≡◌, ℕ, zero, suc, ◌<◌, Bool, true, false, not, ◌&&◌, ◌||◌, if◌then◌else◌, ◌⊎◌, inl, inr, Option, Some, None, List, [], ◌∷◌, refl, sym, ap, subst, arith, ◌==◌}
+use Rattle.std.proofs.lemmas.Bool.{and_parts, not-true, or_cases}
 use Rattle.std.specs.List.{list_any}
 use Rattle.std.proofs.lemmas.Bool.Decides.{Decides-eqb}
 use Rattle.foundation.specs.Count.{first_below, last_below, or_else}
@@ -36,24 +37,12 @@ use Rattle.rules_model.specs.Allowed.{is_legal}
 
 -- ---- tests that are joined
 
-pub both_of : (a b : Bool) → (a && b) ≡ true → (a ≡ true) × (b ≡ true)
-both_of true b e = (refl, e)
-both_of false b e = cc
-
-pub one_of : (a b : Bool) → (a || b) ≡ true → (a ≡ true) ⊎ (b ≡ true)
-one_of true b e = inl refl
-one_of false b e = inr e
-
-pub false_of_not : (b : Bool) → not b ≡ true → b ≡ false
-false_of_not true e = cc
-false_of_not false e = refl
-
 pub not_both : (b : Bool) → b ≡ true → b ≡ false → ⊥
 not_both b e f = cc
 
 pub any_has : {X : Type 0} (p : X → Bool) (xs : List X) → list_any p xs ≡ true → (x : X) × (p x ≡ true)
 any_has p [] e = cc
-any_has {X = X} p (x ∷ xs) e = elim (one_of (p x) (list_any p xs) e) as (λ _. (y : X) × (p y ≡ true)) [ inl h ↦ (x, h) | inr h ↦ any_has p xs h ]
+any_has {X = X} p (x ∷ xs) e = elim (or_cases (p x) (list_any p xs) e) as (λ _. (y : X) × (p y ≡ true)) [ inl h ↦ (x, h) | inr h ↦ any_has p xs h ]
 
 pub at_some : (s : ℕ) (o : Option ℕ) → is_at s o ≡ true → o ≡ Some s
 at_some s None e = cc
@@ -64,9 +53,9 @@ at_some s (Some r) e = ap (λ k. Some k) ((Decides-eqb r s).0 e)
 pub legal_candidate : (rules : Rules) (r : Repeat) (m : Move) → is_legal rules r m ≡ true → is_candidate rules r m ≡ true
 unfolding is_legal is_allowed
 legal_candidate rules r m e =
-    let h = both_of _ _ e in
-    let k = both_of (is_ongoing (early_end rules r)) _ h.0 in
-    (both_of (is_candidate rules r m) (is_sane rules r m) k.1).0
+    let h = and_parts _ _ e in
+    let k = and_parts (is_ongoing (early_end rules r)) _ h.0 in
+    (and_parts (is_candidate rules r m) (is_sane rules r m) k.1).0
 
 -- ---- the first and the last that pass
 
@@ -103,9 +92,9 @@ last_below-some f (suc n) k e =
 pub term_of_reach : (rules : Rules) (cells : List (Option Cell)) (side : Side) (kind : Kind) (test : Term → Bool) (from : Square) (s : ℕ) → kind_reaches rules cells side kind test from s ≡ true → (t : Term) × (test t ≡ true) × (reaches (board_of rules) cells side t from s ≡ true)
 unfolding kind_reaches
 term_of_reach rules cells side kind test from s e =
-    let a = both_of (in_mobility rules side kind s) (list_any (reaches_by rules cells side test from s) (terms_from rules side kind from)) e in
+    let a = and_parts (in_mobility rules side kind s) (list_any (reaches_by rules cells side test from s) (terms_from rules side kind from)) e in
     let t = any_has (reaches_by rules cells side test from s) (terms_from rules side kind from) a.1 in
-    let b = both_of (test t.0) (reaches (board_of rules) cells side t.0 from s) t.1 in
+    let b = and_parts (test t.0) (reaches (board_of rules) cells side t.0 from s) t.1 in
     (t.0, b.0, b.1)
 
 abbrev pub PieceGoes : Rules → Repeat → Cell → Square → Square → Promo → Type 0
@@ -117,22 +106,22 @@ PawnGoes rules r x from to promo = (same_side x.side r.side ≡ true) × (is_paw
 piece_of : (rules : Rules) (r : Repeat) (from to : Square) (promo : Promo) (c : Option Cell) → own_piece_moves rules r from to promo c ≡ true → (x : Cell) × (c ≡ Some x) × PieceGoes rules r x from to promo
 piece_of rules r from to promo None e = cc
 piece_of rules r from to promo (Some x) e =
-    let h = both_of (same_side x.side r.side && not (is_pawn rules x.kind)) (piece_moves rules r x from to promo) e in
-    let k = both_of (same_side x.side r.side) (not (is_pawn rules x.kind)) h.0 in
-    (x, refl, (k.0, false_of_not _ k.1, h.1))
+    let h = and_parts (same_side x.side r.side && not (is_pawn rules x.kind)) (piece_moves rules r x from to promo) e in
+    let k = and_parts (same_side x.side r.side) (not (is_pawn rules x.kind)) h.0 in
+    (x, refl, (k.0, not-true _ k.1, h.1))
 
 pawn_of : (rules : Rules) (r : Repeat) (from to : Square) (promo : Promo) (c : Option Cell) → own_pawn_moves rules r from to promo c ≡ true → (x : Cell) × (c ≡ Some x) × PawnGoes rules r x from to promo
 pawn_of rules r from to promo None e = cc
 pawn_of rules r from to promo (Some x) e =
-    let h = both_of (same_side x.side r.side && is_pawn rules x.kind) (pawn_moves rules r from to promo) e in
-    let k = both_of (same_side x.side r.side) (is_pawn rules x.kind) h.0 in
+    let h = and_parts (same_side x.side r.side && is_pawn rules x.kind) (pawn_moves rules r from to promo) e in
+    let k = and_parts (same_side x.side r.side) (is_pawn rules x.kind) h.0 in
     (x, refl, (k.0, k.1, h.1))
 
 -- a piece or a pawn goes without a gate
 pub plain_go : (rules : Rules) (r : Repeat) (from to : Square) (promo : Promo) → is_candidate rules r (Go from to promo None) ≡ true → (x : Cell) × (cell_at r.cells from.0 ≡ Some x) × (PieceGoes rules r x from to promo ⊎ PawnGoes rules r x from to promo)
 unfolding is_candidate is_piece_move is_special_move
 plain_go rules r from to promo e =
-    elim (one_of (own_piece_moves rules r from to promo (cell_at r.cells from.0)) (own_pawn_moves rules r from to promo (cell_at r.cells from.0)) e)
+    elim (or_cases (own_piece_moves rules r from to promo (cell_at r.cells from.0)) (own_pawn_moves rules r from to promo (cell_at r.cells from.0)) e)
     as (λ _. (x : Cell) × (cell_at r.cells from.0 ≡ Some x) × (PieceGoes rules r x from to promo ⊎ PawnGoes rules r x from to promo)) [
       | inl h ↦ let k = piece_of rules r from to promo (cell_at r.cells from.0) h in (k.0, k.1, inl k.2)
       | inr h ↦ let k = pawn_of rules r from to promo (cell_at r.cells from.0) h in (k.0, k.1, inr k.2)
@@ -142,7 +131,7 @@ plain_go rules r from to promo e =
 pub gated_go : (rules : Rules) (r : Repeat) (from to : Square) (promo : Promo) (kind : Kind) → is_candidate rules r (Go from to promo (Some kind)) ≡ true → (x : Cell) × (cell_at r.cells from.0 ≡ Some x) × PieceGoes rules r x from to promo × (gates_from rules r from kind ≡ true)
 unfolding is_candidate is_piece_move is_special_move
 gated_go rules r from to promo kind e =
-    let h = both_of (own_piece_moves rules r from to promo (cell_at r.cells from.0)) (gates_from rules r from kind) e in
+    let h = and_parts (own_piece_moves rules r from to promo (cell_at r.cells from.0)) (gates_from rules r from kind) e in
     let k = piece_of rules r from to promo (cell_at r.cells from.0) h.0 in
     (k.0, k.1, k.2, h.1)
 
@@ -164,10 +153,10 @@ castles_of : (rules : Rules) (r : Repeat) (from to rook : Square) (wing : Wing) 
 castles_of rules r from to rook wing None on held f e = cc
 castles_of rules r from to rook wing (Some file) on held f e =
     let castle = castle_with rules r.side wing file in
-    let a = both_of _ (way_is_open rules r.cells r.side castle) e in
-    let b = both_of (is_own_king rules r.side (cell_at r.cells castle.king.0)) (is_castle castle from to rook) a.0 in
-    let c = both_of ((from.0 == castle.king.0) && (to.0 == castle.king_to.0)) (rook.0 == castle.rook.0) b.1 in
-    let d = both_of (from.0 == castle.king.0) (to.0 == castle.king_to.0) c.0 in
+    let a = and_parts _ (way_is_open rules r.cells r.side castle) e in
+    let b = and_parts (is_own_king rules r.side (cell_at r.cells castle.king.0)) (is_castle castle from to rook) a.0 in
+    let c = and_parts ((from.0 == castle.king.0) && (to.0 == castle.king_to.0)) (rook.0 == castle.rook.0) b.1 in
+    let d = and_parts (from.0 == castle.king.0) (to.0 == castle.king_to.0) c.0 in
     let start = (Decides-eqb from.0 castle.king.0).0 d.0 in
     record {
       on = on;
@@ -183,15 +172,15 @@ castles_of rules r from to rook wing (Some file) on held f e =
 
 castles_to : (rules : Rules) (r : Repeat) (from to rook : Square) (wing : Wing) → castling_on rules ≡ true → castles_on rules r from to rook wing ≡ true → Castles rules r from to rook wing
 castles_to rules r from to rook wing on e =
-    let a = both_of (holds_right r.rights r.side wing) (castles_as rules r from to rook (castle_of rules r.cells r.side wing)) e in
+    let a = and_parts (holds_right r.rights r.side wing) (castles_as rules r from to rook (castle_of rules r.cells r.side wing)) e in
     castles_of rules r from to rook wing (rook_file rules r.cells r.side wing) on a.0 refl a.1
 
 pub castle_is : (rules : Rules) (r : Repeat) (from to rook : Square) (gate : Option Placed) → is_candidate rules r (Castle from to rook gate) ≡ true → ((wing : Wing) × Castles rules r from to rook wing) × (castle_gates rules r from to rook gate ≡ true)
 unfolding is_candidate is_piece_move is_special_move castles
 castle_is rules r from to rook gate e =
-    let a = both_of (castling_on rules && (castles_on rules r from to rook Kingside || castles_on rules r from to rook Queenside)) (castle_gates rules r from to rook gate) e in
-    let b = both_of (castling_on rules) (castles_on rules r from to rook Kingside || castles_on rules r from to rook Queenside) a.0 in (
-      elim (one_of (castles_on rules r from to rook Kingside) (castles_on rules r from to rook Queenside) b.1) as (λ _. (wing : Wing) × Castles rules r from to rook wing) [
+    let a = and_parts (castling_on rules && (castles_on rules r from to rook Kingside || castles_on rules r from to rook Queenside)) (castle_gates rules r from to rook gate) e in
+    let b = and_parts (castling_on rules) (castles_on rules r from to rook Kingside || castles_on rules r from to rook Queenside) a.0 in (
+      elim (or_cases (castles_on rules r from to rook Kingside) (castles_on rules r from to rook Queenside) b.1) as (λ _. (wing : Wing) × Castles rules r from to rook wing) [
         | inl h ↦ (Kingside, castles_to rules r from to rook Kingside b.0 h)
         | inr h ↦ (Queenside, castles_to rules r from to rook Queenside b.0 h)
       ],
@@ -207,13 +196,13 @@ rook_file-some rules r side Queenside file e = first_below-some (rook_beyond rul
 -- what a castle places comes from the hand, and to the king's or the rook's start
 pub castle_gate : (rules : Rules) (r : Repeat) (from to rook : Square) (placed : Placed) → castle_gates rules r from to rook (Some placed) ≡ true → (rules.gate_hand ≡ true) × (holds r.hands r.side placed.kind ≡ true) × ((placed.at.0 ≡ from.0) ⊎ (placed.at.0 ≡ rook.0))
 castle_gate rules r from to rook placed e =
-    let a = both_of _ (not (placed.at.0 == rook_target from to rook)) e in
-    let b = both_of _ (not (placed.at.0 == to.0)) a.0 in
-    let c = both_of (rules.gate_hand && holds r.hands r.side placed.kind) ((placed.at.0 == from.0) || (placed.at.0 == rook.0)) b.0 in
-    let d = both_of rules.gate_hand (holds r.hands r.side placed.kind) c.0 in (
+    let a = and_parts _ (not (placed.at.0 == rook_target from to rook)) e in
+    let b = and_parts _ (not (placed.at.0 == to.0)) a.0 in
+    let c = and_parts (rules.gate_hand && holds r.hands r.side placed.kind) ((placed.at.0 == from.0) || (placed.at.0 == rook.0)) b.0 in
+    let d = and_parts rules.gate_hand (holds r.hands r.side placed.kind) c.0 in (
       d.0,
       d.1,
-      elim (one_of (placed.at.0 == from.0) (placed.at.0 == rook.0) c.1) as (λ _. (placed.at.0 ≡ from.0) ⊎ (placed.at.0 ≡ rook.0)) [
+      elim (or_cases (placed.at.0 == from.0) (placed.at.0 == rook.0) c.1) as (λ _. (placed.at.0 ≡ from.0) ⊎ (placed.at.0 ≡ rook.0)) [
         | inl h ↦ inl ((Decides-eqb _ _).0 h)
         | inr h ↦ inr ((Decides-eqb _ _).0 h)
       ],

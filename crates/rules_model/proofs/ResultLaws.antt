@@ -1,5 +1,6 @@
 -- Games move by move, what they count, and their results.
-use Rattle.std.proofs.Common.{◌≡◌, ℕ, ◌+◌, ◌*◌, ◌<◌, ◌≤◌, ◌==◌, nat_le, Bool, true, false, not, ◌&&◌, ◌||◌, cond, if◌then◌else◌, inl, inr, List, [], ◌∷◌, refl, ap, sym, ◌∙◌, arith}
+use Rattle.std.proofs.Common.{◌≡◌, ℕ, ◌+◌, ◌*◌, ◌<◌, ◌≤◌, ◌==◌, nat_le, Bool, true, false, not, ◌&&◌, cond, if◌then◌else◌, inl, inr, List, [], ◌∷◌, refl, ap, sym, ◌∙◌, arith}
+use Rattle.std.proofs.lemmas.Bool.{and_from, and_parts, or_cases, or_left, or_right}
 use Rattle.std.specs.Bool.{Decides}
 use Rattle.std.specs.List.{list_any}
 use Rattle.std.proofs.lemmas.Bool.Decides.{nat_tests}
@@ -21,7 +22,6 @@ use Rattle.rules_model.specs.Ends.{is_ongoing, or_end, valued, early_end, no_mov
 use Rattle.rules_model.specs.Legal.{legal, is_stuck, own_end}
 use Rattle.rules_model.specs.Games.{same_repeat, times, are_legal, Story, history, played, story_from, is_repeated, is_run_out, result}
 use Rattle.rules_model.proofs.EqualLaws.{repeat-decides, move-decides}
-use Rattle.rules_model.proofs.CandidateLaws.{both_of, one_of}
 use Rattle.rules_model.proofs.PlayLaws.{legal-early, own_end-stuck}
 
 -- ---- games move by move
@@ -34,21 +34,9 @@ pub story_from-more : (rules : Rules) (g : Story) (m : Move) (ms : List Move) �
 unfolding story_from
 story_from-more rules g m ms = refl
 
-and_true : (a b : Bool) → a ≡ true → b ≡ true → (a && b) ≡ true
-and_true true b h k = k
-and_true false b h k = cc
-
-or_left : (a b : Bool) → a ≡ true → (a || b) ≡ true
-or_left true b h = refl
-or_left false b h = cc
-
-or_right : (a b : Bool) → b ≡ true → (a || b) ≡ true
-or_right true b h = refl
-or_right false b h = h
-
 tested-member : (m : Move) (ms : List Move) → list_any (same_move m) ms ≡ true → Member m ms
 tested-member m [] h = cc
-tested-member m (n ∷ ms) h = elim (one_of (same_move m n) (list_any (same_move m) ms) h) as (λ _. Member m (n ∷ ms)) [ inl e ↦ inl (sym ((move-decides m n).0 e)) | inr k ↦ inr (tested-member m ms k) ]
+tested-member m (n ∷ ms) h = elim (or_cases (same_move m n) (list_any (same_move m) ms) h) as (λ _. Member m (n ∷ ms)) [ inl e ↦ inl (sym ((move-decides m n).0 e)) | inr k ↦ inr (tested-member m ms k) ]
 
 member-tested : (m : Move) (ms : List Move) → Member m ms → list_any (same_move m) ms ≡ true
 member-tested m [] k = absurd k
@@ -62,8 +50,8 @@ are_legal-none rules p = refl
 pub are_legal-more : (rules : Rules) (p : Position) (m : Move) (ms : List Move) → Decides (are_legal rules p (m ∷ ms)) (Member m (legal rules (repeat_of p)) × (are_legal rules (next rules p m) ms ≡ true))
 unfolding are_legal
 are_legal-more rules p m ms = (
-  λ h. let k = both_of _ _ h in (tested-member m (legal rules (repeat_of p)) k.0, k.1),
-  λ h. and_true _ _ (member-tested m (legal rules (repeat_of p)) h.0) h.1,
+  λ h. let k = and_parts _ _ h in (tested-member m (legal rules (repeat_of p)) k.0, k.1),
+  λ h. and_from _ _ (member-tested m (legal rules (repeat_of p)) h.0) h.1,
 )
 
 -- ---- what is counted

@@ -1,5 +1,6 @@
 -- The texts of the legal moves of a sound position differ.
 use Rattle.std.proofs.Common.{◌≡◌, ℕ, zero, suc, ◌+◌, ◌-◌, ◌*◌, ◌/◌, ◌%◌, ◌<◌, ◌≤◌, Bool, true, false, not, ◌&&◌, ◌||◌, if◌then◌else◌, cond, ◌⊎◌, inl, inr, Option, Some, None, List, [], ◌∷◌, ◌++◌, ℤ, pos, negsuc, ◌+ℤ◌, ◌*ℤ◌, refl, ap, sym, ◌∙◌, subst, arith, nat_lt, ◌==◌, is_none, append_assoc, append-nil}
+use Rattle.std.proofs.lemmas.Bool.{and_from, and_parts, ltb-true, not-true, or_cases, or_left, or_right}
 use Rattle.std.proofs.lemmas.Bool.Decides.{nat_tests, Decides-eqb}
 use Rattle.foundation.specs.Member.{Member}
 use Rattle.rules_model.specs.declared.board.Cell.{Cell}
@@ -34,7 +35,7 @@ use Rattle.rules_model.specs.Fit.{IsFit}
 use Rattle.rules_model.specs.Legal.{legal}
 use Rattle.rules_model.specs.Moves.{IsFitMove, IsFitGate, IsFitPromo, IsFitPlaced}
 use Rattle.rules_model.specs.MoveText.{gate_text, lower, promo_text, square_text, text_of, upper}
-use Rattle.rules_model.proofs.CandidateLaws.{both_of, one_of, false_of_not, not_both, at_some, term_of_reach, legal_candidate, PieceGoes, PawnGoes, plain_go, gated_go, Castles, castle_is, rook_file-some, castle_gate}
+use Rattle.rules_model.proofs.CandidateLaws.{not_both, at_some, term_of_reach, legal_candidate, PieceGoes, PawnGoes, plain_go, gated_go, Castles, castle_is, rook_file-some, castle_gate}
 use Rattle.rules_model.proofs.VariantLaws.{castling_on-is, sound_ep}
 use Rattle.rules_model.proofs.LegalLaws.{legal-member}
 
@@ -135,8 +136,8 @@ of_piece rules may Plus e = tt
 piece_becomes : (rules : Rules) (r : Repeat) (x : Cell) (from to : Square) (p : Promo) → piece_moves rules r x from to p ≡ true → OfPiece p
 unfolding piece_moves
 piece_becomes rules r x from to p e =
-    let a = both_of (piece_goes rules r.cells r.side x.kind from to.0 && piece_promo rules (may_plus rules r.side x.kind from.0 to.0) p) (not (means_castling rules r x.kind from.0 to.0)) e in
-    of_piece rules (may_plus rules r.side x.kind from.0 to.0) p (both_of (piece_goes rules r.cells r.side x.kind from to.0) (piece_promo rules (may_plus rules r.side x.kind from.0 to.0) p) a.0).1
+    let a = and_parts (piece_goes rules r.cells r.side x.kind from to.0 && piece_promo rules (may_plus rules r.side x.kind from.0 to.0) p) (not (means_castling rules r x.kind from.0 to.0)) e in
+    of_piece rules (may_plus rules r.side x.kind from.0 to.0) p (and_parts (piece_goes rules r.cells r.side x.kind from to.0) (piece_promo rules (may_plus rules r.side x.kind from.0 to.0) p) a.0).1
 
 no_gate : (p q : Promo) (k : Kind) → OfPiece p → OfPiece q → promo_text p ++ [] ≡ promo_text q ++ (lower k ∷ []) → ⊥
 no_gate Stays Stays k h l e = cc
@@ -246,14 +247,11 @@ by_target rules r a b k a' b' k' Kingside Queenside x y e = absurd (apart_target
 by_target rules r a b k a' b' k' Queenside Kingside x y e = absurd (apart_targets rules r.side x.on (sym y.target ∙ ap (λ (s : Square). s.0) (sym e) ∙ x.target))
 by_target rules r a b k a' b' k' Queenside Queenside x y e = refl
 
-lt_test : (a b : ℕ) → nat_lt a b ≡ true → a < b
-lt_test a b e = grind (arith, nat_tests)
-
 right_of_king : (rules : Rules) (r : Repeat) (a b k : Square) (x : Castles rules r a b k Kingside) → rules.castle_king < x.beyond
-right_of_king rules r a b k x = lt_test _ _ (both_of (nat_lt rules.castle_king x.beyond) (rook_on rules r.cells r.side x.beyond) (rook_file-some rules r r.side Kingside x.beyond x.file).1).0
+right_of_king rules r a b k x = ltb-true _ _ (and_parts (nat_lt rules.castle_king x.beyond) (rook_on rules r.cells r.side x.beyond) (rook_file-some rules r r.side Kingside x.beyond x.file).1).0
 
 left_of_king : (rules : Rules) (r : Repeat) (a b k : Square) (x : Castles rules r a b k Queenside) → x.beyond < rules.castle_king
-left_of_king rules r a b k x = lt_test _ _ (both_of (nat_lt x.beyond rules.castle_king) (rook_on rules r.cells r.side x.beyond) (rook_file-some rules r r.side Queenside x.beyond x.file).1).0
+left_of_king rules r a b k x = ltb-true _ _ (and_parts (nat_lt x.beyond rules.castle_king) (rook_on rules r.cells r.side x.beyond) (rook_file-some rules r r.side Queenside x.beyond x.file).1).0
 
 both_wings : (rules : Rules) (r : Repeat) (a b k a' b' k' : Square) → Castles rules r a b k Kingside → Castles rules r a' b' k' Queenside → k ≡ k' → ⊥
 both_wings rules r a b k a' b' k' x y e =
@@ -327,22 +325,12 @@ three : (a b c : Bool) → a ≡ true → b ≡ true → c ≡ true → (a && b 
 three true b c e f g = rw (f, g)
 three false b c e f g = cc
 
-left_or : (a b : Bool) → a ≡ true → (a || b) ≡ true
-left_or a b e = rw e
-
-right_or : (a b : Bool) → b ≡ true → (a || b) ≡ true
-right_or true b e = refl
-right_or false b e = e
-
-and_from : (a b : Bool) → a ≡ true → b ≡ true → (a && b) ≡ true
-and_from a b e f = rw (e, f)
-
 own_king_of : (rules : Rules) (side : Side) (o : Option Cell) (x : Cell) → o ≡ Some x → is_own_king rules side o ≡ true → (same_side x.side side ≡ true) × (is_king rules x.kind ≡ true)
-own_king_of rules side o x e h = both_of (same_side x.side side) (is_king rules x.kind) (subst (λ c. is_own_king rules side c ≡ true) e h)
+own_king_of rules side o x e h = and_parts (same_side x.side side) (is_king rules x.kind) (subst (λ c. is_own_king rules side c ≡ true) e h)
 
 own_king_cell : (rules : Rules) (side : Side) (o : Option Cell) → is_own_king rules side o ≡ true → (x : Cell) × (o ≡ Some x) × (same_side x.side side ≡ true)
 own_king_cell rules side None h = cc
-own_king_cell rules side (Some x) h = (x, refl, (both_of (same_side x.side side) (is_king rules x.kind) h).0)
+own_king_cell rules side (Some x) h = (x, refl, (and_parts (same_side x.side side) (is_king rules x.kind) h).0)
 
 target_of : (rules : Rules) (r : Repeat) (a b k : Square) (w : Wing) → Castles rules r a b k w → to_castling_target rules r w a.0 b.0 ≡ true
 target_of rules r a b k w x =
@@ -350,17 +338,17 @@ target_of rules r a b k w x =
     x.held ((Decides-eqb _ _).1 x.start) ((Decides-eqb _ _).1 x.target)
 
 some_target : (rules : Rules) (r : Repeat) (a b k : Square) (w : Wing) → Castles rules r a b k w → (to_castling_target rules r Kingside a.0 b.0 || to_castling_target rules r Queenside a.0 b.0) ≡ true
-some_target rules r a b k Kingside x = left_or (to_castling_target rules r Kingside a.0 b.0) (to_castling_target rules r Queenside a.0 b.0) (target_of rules r a b k Kingside x)
-some_target rules r a b k Queenside x = right_or (to_castling_target rules r Kingside a.0 b.0) (to_castling_target rules r Queenside a.0 b.0) (target_of rules r a b k Queenside x)
+some_target rules r a b k Kingside x = or_left (to_castling_target rules r Kingside a.0 b.0) (to_castling_target rules r Queenside a.0 b.0) (target_of rules r a b k Kingside x)
+some_target rules r a b k Queenside x = or_right (to_castling_target rules r Kingside a.0 b.0) (to_castling_target rules r Queenside a.0 b.0) (target_of rules r a b k Queenside x)
 
 -- the king's move to a castling target is no ordinary one
 piece_no_castle : (rules : Rules) (r : Repeat) (x : Cell) (a b k : Square) (w : Wing) (p : Promo) → Castles rules r a b k w → cell_at r.cells a.0 ≡ Some x → piece_moves rules r x a b p ≡ true → ⊥
 unfolding piece_moves
 piece_no_castle rules r x a b k w p c f e =
-    let n = both_of (piece_goes rules r.cells r.side x.kind a b.0 && piece_promo rules (may_plus rules r.side x.kind a.0 b.0) p) (not (means_castling rules r x.kind a.0 b.0)) e in
+    let n = and_parts (piece_goes rules r.cells r.side x.kind a b.0 && piece_promo rules (may_plus rules r.side x.kind a.0 b.0) p) (not (means_castling rules r x.kind a.0 b.0)) e in
     not_both (means_castling rules r x.kind a.0 b.0)
     (and_from (is_king rules x.kind) (to_castling_target rules r Kingside a.0 b.0 || to_castling_target rules r Queenside a.0 b.0) (own_king_of rules r.side (cell_at r.cells a.0) x f c.king).1 (some_target rules r a b k w c))
-    (false_of_not (means_castling rules r x.kind a.0 b.0) n.1)
+    (not-true (means_castling rules r x.kind a.0 b.0) n.1)
 
 within_is_if : (n a k : ℕ) (b : Bool) → (if b then Some a else None) ≡ Some k → a ≡ k
 within_is_if n a k true e = cc
@@ -371,7 +359,7 @@ within_is n (pos a) k e = ap (λ x. pos x) (within_is_if n a k (nat_lt a n) e)
 within_is n (negsuc a) k e = cc
 
 file_below : (n a k : ℕ) (b : Bool) → nat_lt a n ≡ b → (if b then Some a else None) ≡ Some k → k < n
-file_below n a k true t e = let f = within_is_if n a k true e in let l = lt_test a n t in omega (arith, l, f)
+file_below n a k true t e = let f = within_is_if n a k true e in let l = ltb-true a n t in omega (arith, l, f)
 file_below n a k false t e = cc
 
 file_in : (n : ℕ) (z : ℤ) (k : ℕ) → within n z ≡ Some k → k < n
@@ -410,7 +398,7 @@ two_on Black (suc (suc a)) b e f = let h = by_sign _ _ (suc (suc a) - 2) b e in 
 diagonal_leaves : (rules : Rules) (side : Side) (from : Square) (s : ℕ) → rules.files ≤ 12 → is_diagonal (board_of rules) side from s ≡ true → s / 12 ≡ from.0 / 12 → ⊥
 unfolding is_diagonal
 diagonal_leaves rules side from s h e f =
-    elim (one_of (is_at s (right_ahead (board_of rules) side from)) (is_at s (left_ahead (board_of rules) side from)) e) as (λ _. ⊥) [
+    elim (or_cases (is_at s (right_ahead (board_of rules) side from)) (is_at s (left_ahead (board_of rules) side from)) e) as (λ _. ⊥) [
       | inl k ↦ one_on side (from.0 / 12) (s / 12) (pawn_rank rules side (pos 1) from 1 s h k) f
       | inr k ↦ one_on side (from.0 / 12) (s / 12) (pawn_rank rules side (negsuc 0) from 1 s h k) f
     ]
@@ -418,21 +406,21 @@ diagonal_leaves rules side from s h e f =
 goes_leaves : (rules : Rules) (r : Repeat) (from : Square) (s : ℕ) → rules.files ≤ 12 → pawn_goes rules r from s ≡ true → s / 12 ≡ from.0 / 12 → ⊥
 unfolding pawn_goes
 goes_leaves rules r from s h e f =
-    elim (one_of _ (is_enemy r.side (cell_at r.cells s) && is_diagonal (board_of rules) r.side from s) e) as (λ _. ⊥) [
-      | inl k ↦ elim (one_of (is_at s (ahead (board_of rules) r.side from 1)) (steps_twice rules r from s) (both_of (is_none (cell_at r.cells s)) (is_at s (ahead (board_of rules) r.side from 1) || steps_twice rules r from s) k).1) as (λ _. ⊥) [
+    elim (or_cases _ (is_enemy r.side (cell_at r.cells s) && is_diagonal (board_of rules) r.side from s) e) as (λ _. ⊥) [
+      | inl k ↦ elim (or_cases (is_at s (ahead (board_of rules) r.side from 1)) (steps_twice rules r from s) (and_parts (is_none (cell_at r.cells s)) (is_at s (ahead (board_of rules) r.side from 1) || steps_twice rules r from s) k).1) as (λ _. ⊥) [
         | inl l ↦ one_on r.side (from.0 / 12) (s / 12) (pawn_rank rules r.side (pos 0) from 1 s h l) f
-        | inr l ↦ two_on r.side (from.0 / 12) (s / 12) (pawn_rank rules r.side (pos 0) from 2 s h (both_of _ (is_at s (ahead (board_of rules) r.side from 2)) l).1) f
+        | inr l ↦ two_on r.side (from.0 / 12) (s / 12) (pawn_rank rules r.side (pos 0) from 2 s h (and_parts _ (is_at s (ahead (board_of rules) r.side from 2)) l).1) f
       ]
-      | inr k ↦ diagonal_leaves rules r.side from s h (both_of (is_enemy r.side (cell_at r.cells s)) (is_diagonal (board_of rules) r.side from s) k).1 f
+      | inr k ↦ diagonal_leaves rules r.side from s h (and_parts (is_enemy r.side (cell_at r.cells s)) (is_diagonal (board_of rules) r.side from s) k).1 f
     ]
 
 -- a pawn leaves its rank
 pawn_leaves : (rules : Rules) (r : Repeat) (from to : Square) (p : Promo) → rules.files ≤ 12 → pawn_moves rules r from to p ≡ true → to.0 / 12 ≡ from.0 / 12 → ⊥
 unfolding pawn_moves passes_by
 pawn_leaves rules r from to p h e f =
-    elim (one_of (pawn_goes rules r from to.0 && pawn_promo rules (may_promote rules r.side to.0) p) _ e) as (λ _. ⊥) [
-      | inl k ↦ goes_leaves rules r from to.0 h (both_of (pawn_goes rules r from to.0) (pawn_promo rules (may_promote rules r.side to.0) p) k).0 f
-      | inr k ↦ diagonal_leaves rules r.side from to.0 h (both_of _ (is_diagonal (board_of rules) r.side from to.0) (both_of _ (is_stays p) k).0).1 f
+    elim (or_cases (pawn_goes rules r from to.0 && pawn_promo rules (may_promote rules r.side to.0) p) _ e) as (λ _. ⊥) [
+      | inl k ↦ goes_leaves rules r from to.0 h (and_parts (pawn_goes rules r from to.0) (pawn_promo rules (may_promote rules r.side to.0) p) k).0 f
+      | inr k ↦ diagonal_leaves rules r.side from to.0 h (and_parts _ (is_diagonal (board_of rules) r.side from to.0) (and_parts _ (is_stays p) k).0).1 f
     ]
 
 rank_same : (rank king file : ℕ) → king < 12 → file < 12 → (12 * rank + file) / 12 ≡ (12 * rank + king) / 12
@@ -452,13 +440,13 @@ castle_rank_same rules fit r a b k w x =
 serves_no_own : (side : Side) (o : Option Cell) (y : Cell) (t : Term) → o ≡ Some y → same_side y.side side ≡ true → serves side o t ≡ true → ⊥
 serves_no_own side o y t e h s =
     let k : serves side (Some y) t ≡ true = subst (λ c. serves side c t ≡ true) e s in
-    not_both (same_side y.side side) h (false_of_not (same_side y.side side) (both_of t.takes (not (same_side y.side side)) k).1)
+    not_both (same_side y.side side) h (not-true (same_side y.side side) (and_parts t.takes (not (same_side y.side side)) k).1)
 
 piece_not_on_own : (rules : Rules) (r : Repeat) (x y : Cell) (a b : Square) (p : Promo) → cell_at r.cells b.0 ≡ Some y → same_side y.side r.side ≡ true → piece_moves rules r x a b p ≡ true → ⊥
 unfolding piece_moves piece_goes
 piece_not_on_own rules r x y a b p f h e =
-    let m = both_of _ (not (means_castling rules r x.kind a.0 b.0)) e in
-    let n = both_of (kind_reaches rules r.cells r.side x.kind (serves r.side (cell_at r.cells b.0)) a b.0) (piece_promo rules (may_plus rules r.side x.kind a.0 b.0) p) m.0 in
+    let m = and_parts _ (not (means_castling rules r x.kind a.0 b.0)) e in
+    let n = and_parts (kind_reaches rules r.cells r.side x.kind (serves r.side (cell_at r.cells b.0)) a b.0) (piece_promo rules (may_plus rules r.side x.kind a.0 b.0) p) m.0 in
     let t = term_of_reach rules r.cells r.side x.kind (serves r.side (cell_at r.cells b.0)) a b.0 n.0 in
     serves_no_own r.side (cell_at r.cells b.0) y t.0 f h t.1
 
@@ -468,7 +456,7 @@ none_or_some o y e h = let k : is_none (Some y) ≡ true = subst (λ c. is_none 
 enemy_or_own : (side : Side) (o : Option Cell) (y : Cell) → o ≡ Some y → same_side y.side side ≡ true → is_enemy side o ≡ true → ⊥
 enemy_or_own side o y e h n =
     let k : is_enemy side (Some y) ≡ true = subst (λ c. is_enemy side c ≡ true) e n in
-    not_both (same_side y.side side) h (false_of_not (same_side y.side side) k)
+    not_both (same_side y.side side) h (not-true (same_side y.side side) k)
 
 free_second : (a b c d f g : Bool) → (a && b && c && d && f && g) ≡ true → b ≡ true
 free_second true true c d f g e = refl
@@ -479,22 +467,22 @@ free_second false b c d f g e = cc
 ep_free : (rules : Rules) (r : Repeat) (o : Option Square) (s : ℕ) → is_sound_ep rules r o ≡ true → is_ep o s ≡ true → is_none (cell_at r.cells s) ≡ true
 ep_free rules r None s e h = cc
 ep_free rules r (Some ep) s e h =
-    let k = both_of (on_board rules ep.0) (was_passed rules r ep) e in
+    let k = and_parts (on_board rules ep.0) (was_passed rules r ep) e in
     let f : is_none (cell_at r.cells ep.0) ≡ true = free_second rules.double_step (is_none (cell_at r.cells ep.0)) _ _ _ _ k.1 in
     subst (λ n. is_none (cell_at r.cells n) ≡ true) ((Decides-eqb ep.0 s).0 h) f
 
 pawn_not_on_own : (rules : Rules) (r : Repeat) (y : Cell) (a b : Square) (p : Promo) → is_sound_repeat rules r ≡ true → cell_at r.cells b.0 ≡ Some y → same_side y.side r.side ≡ true → pawn_moves rules r a b p ≡ true → ⊥
 unfolding pawn_moves pawn_goes passes_by
 pawn_not_on_own rules r y a b p sound f h e =
-    elim (one_of (pawn_goes rules r a b.0 && pawn_promo rules (may_promote rules r.side b.0) p) (passes_by rules r a b.0 && is_stays p) e) as (λ _. ⊥) [
-      | inl k ↦ elim (one_of (is_none (cell_at r.cells b.0) && (is_at b.0 (ahead (board_of rules) r.side a 1) || steps_twice rules r a b.0)) (is_enemy r.side (cell_at r.cells b.0) && is_diagonal (board_of rules) r.side a b.0) (both_of (pawn_goes rules r a b.0) (pawn_promo rules (may_promote rules r.side b.0) p) k).0) as (λ _. ⊥) [
-        | inl l ↦ none_or_some (cell_at r.cells b.0) y f (both_of (is_none (cell_at r.cells b.0)) _ l).0
-        | inr l ↦ enemy_or_own r.side (cell_at r.cells b.0) y f h (both_of (is_enemy r.side (cell_at r.cells b.0)) (is_diagonal (board_of rules) r.side a b.0) l).0
+    elim (or_cases (pawn_goes rules r a b.0 && pawn_promo rules (may_promote rules r.side b.0) p) (passes_by rules r a b.0 && is_stays p) e) as (λ _. ⊥) [
+      | inl k ↦ elim (or_cases (is_none (cell_at r.cells b.0) && (is_at b.0 (ahead (board_of rules) r.side a 1) || steps_twice rules r a b.0)) (is_enemy r.side (cell_at r.cells b.0) && is_diagonal (board_of rules) r.side a b.0) (and_parts (pawn_goes rules r a b.0) (pawn_promo rules (may_promote rules r.side b.0) p) k).0) as (λ _. ⊥) [
+        | inl l ↦ none_or_some (cell_at r.cells b.0) y f (and_parts (is_none (cell_at r.cells b.0)) _ l).0
+        | inr l ↦ enemy_or_own r.side (cell_at r.cells b.0) y f h (and_parts (is_enemy r.side (cell_at r.cells b.0)) (is_diagonal (board_of rules) r.side a b.0) l).0
       ]
       | inr k ↦
-          let m = both_of (passes_by rules r a b.0) (is_stays p) k in
-          let n = both_of (is_own_pawn rules r.side (cell_at r.cells a.0) && is_ep r.ep b.0) (is_diagonal (board_of rules) r.side a b.0) m.0 in
-          let o = both_of (is_own_pawn rules r.side (cell_at r.cells a.0)) (is_ep r.ep b.0) n.0 in
+          let m = and_parts (passes_by rules r a b.0) (is_stays p) k in
+          let n = and_parts (is_own_pawn rules r.side (cell_at r.cells a.0) && is_ep r.ep b.0) (is_diagonal (board_of rules) r.side a b.0) m.0 in
+          let o = and_parts (is_own_pawn rules r.side (cell_at r.cells a.0)) (is_ep r.ep b.0) n.0 in
           none_or_some (cell_at r.cells b.0) y f (ep_free rules r r.ep b.0 (sound_ep rules r sound) o.1)
     ]
 

@@ -1,5 +1,6 @@
 -- The legal moves of a sound position are moves of the variant.
 use Rattle.std.proofs.Common.{◌≡◌, ℕ, zero, suc, ◌+◌, ◌*◌, ◌/◌, ◌%◌, ◌<◌, ◌≤◌, Bool, true, false, not, ◌&&◌, ◌||◌, if◌then◌else◌, ◌⊎◌, inl, inr, Option, Some, None, List, [], ◌∷◌, ℤ, pos, negsuc, refl, sym, subst, arith, nat_lt, nat_le, is_some, slice_index_or}
+use Rattle.std.proofs.lemmas.Bool.{and_parts, leb-true, ltb-true, or_cases}
 use Rattle.std.specs.List.{list_any, list_all}
 use Rattle.std.proofs.lemmas.Bool.Decides.{nat_tests}
 use Rattle.foundation.specs.Count.{all_below}
@@ -43,7 +44,7 @@ use Rattle.rules_model.specs.Fit.{IsFit, mask_fits, region_fits, region_fits_at}
 use Rattle.rules_model.specs.Legal.{legal}
 use Rattle.rules_model.specs.Moves.{IsFitMove, IsFitPromo, IsFitPlaced}
 use Rattle.rules_model.specs.Promised.{IsSquareOf, IsPromoOf, IsPlacedOf, IsMoveOf}
-use Rattle.rules_model.proofs.CandidateLaws.{both_of, one_of, at_some, term_of_reach, legal_candidate, PieceGoes, PawnGoes, plain_go, gated_go, castle_is, rook_file-some, castle_gate, drop_is}
+use Rattle.rules_model.proofs.CandidateLaws.{at_some, term_of_reach, legal_candidate, PieceGoes, PawnGoes, plain_go, gated_go, castle_is, rook_file-some, castle_gate, drop_is}
 use Rattle.rules_model.proofs.LegalLaws.{legal-member}
 
 -- ---- squares on the board
@@ -76,12 +77,12 @@ reach_board : (rules : Rules) (cells : List (Option Cell)) (side : Side) (t : Te
 unfolding reaches_over
 reach_board rules cells side t from s h e =
     let k = any_below-some (reaches_over cells t.way (ray_of (board_of rules) side t from) s) t.limit e in
-    step_board (ray_of (board_of rules) side t from) (suc k.0) s h (both_of (is_at s (step_to (ray_of (board_of rules) side t from) (suc k.0))) (passes cells t.way (ray_of (board_of rules) side t from) k.0) k.2).0
+    step_board (ray_of (board_of rules) side t from) (suc k.0) s h (and_parts (is_at s (step_to (ray_of (board_of rules) side t from) (suc k.0))) (passes cells t.way (ray_of (board_of rules) side t from) k.0) k.2).0
 
 diagonal_board : (rules : Rules) (side : Side) (from : Square) (s : ℕ) → rules.files ≤ 12 → is_diagonal (board_of rules) side from s ≡ true → on_board rules s ≡ true
 unfolding is_diagonal
 diagonal_board rules side from s h e =
-    elim (one_of (is_at s (right_ahead (board_of rules) side from)) (is_at s (left_ahead (board_of rules) side from)) e) as (λ _. on_board rules s ≡ true) [
+    elim (or_cases (is_at s (right_ahead (board_of rules) side from)) (is_at s (left_ahead (board_of rules) side from)) e) as (λ _. on_board rules s ≡ true) [
       | inl k ↦ step_board (pawn_ray (board_of rules) side (pos 1) from) 1 s h k
       | inr k ↦ step_board (pawn_ray (board_of rules) side (negsuc 0) from) 1 s h k
     ]
@@ -95,31 +96,31 @@ kind_reaches-board rules cells side kind test from s h e =
 piece_board : (rules : Rules) (r : Repeat) (x : Cell) (from to : Square) (promo : Promo) → rules.files ≤ 12 → piece_moves rules r x from to promo ≡ true → on_board rules to.0 ≡ true
 unfolding piece_moves piece_goes
 piece_board rules r x from to promo h e =
-    let a = both_of _ (not (means_castling rules r x.kind from.0 to.0)) e in
-    let b = both_of (kind_reaches rules r.cells r.side x.kind (serves r.side (cell_at r.cells to.0)) from to.0) (piece_promo rules (may_plus rules r.side x.kind from.0 to.0) promo) a.0 in
+    let a = and_parts _ (not (means_castling rules r x.kind from.0 to.0)) e in
+    let b = and_parts (kind_reaches rules r.cells r.side x.kind (serves r.side (cell_at r.cells to.0)) from to.0) (piece_promo rules (may_plus rules r.side x.kind from.0 to.0) promo) a.0 in
     kind_reaches-board rules r.cells r.side x.kind (serves r.side (cell_at r.cells to.0)) from to.0 h b.0
 
 step_twice_board : (rules : Rules) (r : Repeat) (from : Square) (s : ℕ) → rules.files ≤ 12 → steps_twice rules r from s ≡ true → on_board rules s ≡ true
 step_twice_board rules r from s h e =
-    step_board (pawn_ray (board_of rules) r.side (pos 0) from) 2 s h (both_of _ (is_at s (ahead (board_of rules) r.side from 2)) e).1
+    step_board (pawn_ray (board_of rules) r.side (pos 0) from) 2 s h (and_parts _ (is_at s (ahead (board_of rules) r.side from 2)) e).1
 
 pawn_goes_board : (rules : Rules) (r : Repeat) (from : Square) (s : ℕ) → rules.files ≤ 12 → pawn_goes rules r from s ≡ true → on_board rules s ≡ true
 unfolding pawn_goes
 pawn_goes_board rules r from s h e =
-    elim (one_of _ (is_enemy r.side (cell_at r.cells s) && is_diagonal (board_of rules) r.side from s) e) as (λ _. on_board rules s ≡ true) [
-      | inl k ↦ elim (one_of (is_at s (ahead (board_of rules) r.side from 1)) (steps_twice rules r from s) (both_of _ (is_at s (ahead (board_of rules) r.side from 1) || steps_twice rules r from s) k).1) as (λ _. on_board rules s ≡ true) [
+    elim (or_cases _ (is_enemy r.side (cell_at r.cells s) && is_diagonal (board_of rules) r.side from s) e) as (λ _. on_board rules s ≡ true) [
+      | inl k ↦ elim (or_cases (is_at s (ahead (board_of rules) r.side from 1)) (steps_twice rules r from s) (and_parts _ (is_at s (ahead (board_of rules) r.side from 1) || steps_twice rules r from s) k).1) as (λ _. on_board rules s ≡ true) [
         | inl l ↦ step_board (pawn_ray (board_of rules) r.side (pos 0) from) 1 s h l
         | inr l ↦ step_twice_board rules r from s h l
       ]
-      | inr k ↦ diagonal_board rules r.side from s h (both_of (is_enemy r.side (cell_at r.cells s)) (is_diagonal (board_of rules) r.side from s) k).1
+      | inr k ↦ diagonal_board rules r.side from s h (and_parts (is_enemy r.side (cell_at r.cells s)) (is_diagonal (board_of rules) r.side from s) k).1
     ]
 
 pawn_board : (rules : Rules) (r : Repeat) (from to : Square) (promo : Promo) → rules.files ≤ 12 → pawn_moves rules r from to promo ≡ true → on_board rules to.0 ≡ true
 unfolding pawn_moves passes_by
 pawn_board rules r from to promo h e =
-    elim (one_of (pawn_goes rules r from to.0 && pawn_promo rules (may_promote rules r.side to.0) promo) _ e) as (λ _. on_board rules to.0 ≡ true) [
-      | inl k ↦ pawn_goes_board rules r from to.0 h (both_of (pawn_goes rules r from to.0) (pawn_promo rules (may_promote rules r.side to.0) promo) k).0
-      | inr k ↦ diagonal_board rules r.side from to.0 h (both_of _ (is_diagonal (board_of rules) r.side from to.0) (both_of _ (is_stays promo) k).0).1
+    elim (or_cases (pawn_goes rules r from to.0 && pawn_promo rules (may_promote rules r.side to.0) promo) _ e) as (λ _. on_board rules to.0 ≡ true) [
+      | inl k ↦ pawn_goes_board rules r from to.0 h (and_parts (pawn_goes rules r from to.0) (pawn_promo rules (may_promote rules r.side to.0) promo) k).0
+      | inr k ↦ diagonal_board rules r.side from to.0 h (and_parts _ (is_diagonal (board_of rules) r.side from to.0) (and_parts _ (is_stays promo) k).0).1
     ]
 
 -- ---- kinds of the variant
@@ -132,7 +133,7 @@ promo_kind : (rules : Rules) (fit : IsFit rules) (may : Bool) (promo : Promo) �
 unfolding mask_fits
 promo_kind rules fit may Stays l e = tt
 promo_kind rules fit may (Pawn kind) l e =
-    kind_of_mask (masks rules.promotion_kinds kind) (has_kind rules kind) (all_below-each (mask_fits rules rules.promotion_kinds) 26 fit.promotion_kinds kind.0 l) (both_of may (masks rules.promotion_kinds kind) e).1
+    kind_of_mask (masks rules.promotion_kinds kind) (has_kind rules kind) (all_below-each (mask_fits rules rules.promotion_kinds) 26 fit.promotion_kinds kind.0 l) (and_parts may (masks rules.promotion_kinds kind) e).1
 promo_kind rules fit may Plus l e = tt
 
 stays_kind : (rules : Rules) (promo : Promo) → is_stays promo ≡ true → IsPromoOf rules promo
@@ -148,16 +149,16 @@ piece_kind rules may Plus e = tt
 pawn_promo_kind : (rules : Rules) (fit : IsFit rules) (r : Repeat) (from to : Square) (promo : Promo) → IsFitPromo promo → pawn_moves rules r from to promo ≡ true → IsPromoOf rules promo
 unfolding pawn_moves
 pawn_promo_kind rules fit r from to promo l e =
-    elim (one_of (pawn_goes rules r from to.0 && pawn_promo rules (may_promote rules r.side to.0) promo) (passes_by rules r from to.0 && is_stays promo) e) as (λ _. IsPromoOf rules promo) [
-      | inl k ↦ promo_kind rules fit (may_promote rules r.side to.0) promo l (both_of (pawn_goes rules r from to.0) (pawn_promo rules (may_promote rules r.side to.0) promo) k).1
-      | inr k ↦ stays_kind rules promo (both_of (passes_by rules r from to.0) (is_stays promo) k).1
+    elim (or_cases (pawn_goes rules r from to.0 && pawn_promo rules (may_promote rules r.side to.0) promo) (passes_by rules r from to.0 && is_stays promo) e) as (λ _. IsPromoOf rules promo) [
+      | inl k ↦ promo_kind rules fit (may_promote rules r.side to.0) promo l (and_parts (pawn_goes rules r from to.0) (pawn_promo rules (may_promote rules r.side to.0) promo) k).1
+      | inr k ↦ stays_kind rules promo (and_parts (passes_by rules r from to.0) (is_stays promo) k).1
     ]
 
 piece_promo_kind : (rules : Rules) (r : Repeat) (x : Cell) (from to : Square) (promo : Promo) → piece_moves rules r x from to promo ≡ true → IsPromoOf rules promo
 unfolding piece_moves
 piece_promo_kind rules r x from to promo e =
-    let a = both_of (piece_goes rules r.cells r.side x.kind from to.0 && piece_promo rules (may_plus rules r.side x.kind from.0 to.0) promo) (not (means_castling rules r x.kind from.0 to.0)) e in
-    piece_kind rules (may_plus rules r.side x.kind from.0 to.0) promo (both_of (piece_goes rules r.cells r.side x.kind from to.0) (piece_promo rules (may_plus rules r.side x.kind from.0 to.0) promo) a.0).1
+    let a = and_parts (piece_goes rules r.cells r.side x.kind from to.0 && piece_promo rules (may_plus rules r.side x.kind from.0 to.0) promo) (not (means_castling rules r x.kind from.0 to.0)) e in
+    piece_kind rules (may_plus rules r.side x.kind from.0 to.0) promo (and_parts (piece_goes rules r.cells r.side x.kind from to.0) (piece_promo rules (may_plus rules r.side x.kind from.0 to.0) promo) a.0).1
 
 -- ---- what soundness gives
 
@@ -173,12 +174,12 @@ pub record SoundParts (rules : Rules) (r : Repeat) : Type 0 where
 pub sound_parts : (rules : Rules) (r : Repeat) → is_sound_repeat rules r ≡ true → SoundParts rules r
 unfolding is_sound_repeat
 sound_parts rules r e =
-    let h = both_of _ (is_sound_ep rules r r.ep) e in
-    let i = both_of _ (not (king_attacked rules r.cells (other r.side))) h.0 in
-    let j = both_of _ (is_sound_side rules r Black) i.0 in
-    let k = both_of _ (is_sound_side rules r White) j.0 in
-    let l = both_of _ (nat_le (pieces_of r White + pieces_of r Black) 240) k.0 in
-    let m = both_of (has_sizes r) (all_below (sound_at rules r.cells) 120) l.0 in
+    let h = and_parts _ (is_sound_ep rules r r.ep) e in
+    let i = and_parts _ (not (king_attacked rules r.cells (other r.side))) h.0 in
+    let j = and_parts _ (is_sound_side rules r Black) i.0 in
+    let k = and_parts _ (is_sound_side rules r White) j.0 in
+    let l = and_parts _ (nat_le (pieces_of r White + pieces_of r Black) 240) k.0 in
+    let m = and_parts (has_sizes r) (all_below (sound_at rules r.cells) 120) l.0 in
     record { sizes = m.0; cells = m.1; white = k.1; black = j.1; safe = i.1; ep = h.1 }
 
 sound_cells : (rules : Rules) (r : Repeat) → is_sound_repeat rules r ≡ true → all_below (sound_at rules r.cells) 120 ≡ true
@@ -197,7 +198,7 @@ of_hand true b c d f g h e = refl
 of_hand false b c d f g h e = cc
 
 held_kind : (a h k i : Bool) → (not a || (h && k && i)) ≡ true → a ≡ true → k ≡ true
-held_kind true h k i e f = (both_of h k (both_of (h && k) i e).0).1
+held_kind true h k i e f = (and_parts h k (and_parts (h && k) i e).0).1
 held_kind false h k i e f = cc
 
 -- a held kind is of the variant
@@ -213,7 +214,7 @@ unfolding sound_at
 cell_board rules r s x e l c =
     let a : is_sound_cell rules s (cell_at r.cells s) ≡ true = all_below-each (sound_at rules r.cells) 120 (sound_cells rules r e) s l in
     let b : is_sound_cell rules s (Some x) ≡ true = subst (λ o. is_sound_cell rules s o ≡ true) c a in
-    (both_of (on_board rules s) (has_kind rules x.kind) (both_of (on_board rules s && has_kind rules x.kind) (is_origin rules x.kind x.origin) b).0).0
+    (and_parts (on_board rules s) (has_kind rules x.kind) (and_parts (on_board rules s && has_kind rules x.kind) (is_origin rules x.kind x.origin) b).0).0
 
 -- ---- castling and drops
 
@@ -229,26 +230,20 @@ castling_square_board rules fit side file h l = on_rank rules.files rules.ranks 
 
 nine : (a b c d e f g h i : Bool) → (a && b && c && d && e && f && g && h && i) ≡ true → (d ≡ true) × (e ≡ true) × (f ≡ true) × (g ≡ true) × (h ≡ true) × (i ≡ true)
 nine a b c d e f g h i z =
-    let j = both_of (a && b && c && d && e && f && g && h) i z in
-    let k = both_of (a && b && c && d && e && f && g) h j.0 in
-    let l = both_of (a && b && c && d && e && f) g k.0 in
-    let m = both_of (a && b && c && d && e) f l.0 in
-    let n = both_of (a && b && c && d) e m.0 in
-    let o = both_of (a && b && c) d n.0 in
+    let j = and_parts (a && b && c && d && e && f && g && h) i z in
+    let k = and_parts (a && b && c && d && e && f && g) h j.0 in
+    let l = and_parts (a && b && c && d && e && f) g k.0 in
+    let m = and_parts (a && b && c && d && e) f l.0 in
+    let n = and_parts (a && b && c && d) e m.0 in
+    let o = and_parts (a && b && c) d n.0 in
     (o.1, n.1, m.1, l.1, k.1, j.1)
-
-lt_from : (a b : ℕ) → nat_lt a b ≡ true → a < b
-lt_from a b e = grind (arith, nat_tests)
-
-le_from : (a b : ℕ) → nat_le a b ≡ true → a ≤ b
-le_from a b e = grind (arith, nat_tests)
 
 -- the rank and the files of castling lie on the board, the king's between the other two
 pub castling_on-is : (rules : Rules) → castling_on rules ≡ true → (rules.castle_rank ≤ rules.ranks) × (rules.castle_king < rules.files) × (rules.castle_near < rules.files) × (rules.castle_far < rules.files) × (rules.castle_far < rules.castle_king) × (rules.castle_king < rules.castle_near)
 unfolding castling_on
 castling_on-is rules e =
     let h = nine rules.castling (is_some rules.king) (list_any (λ b. b) rules.castle_rooks) _ _ _ _ _ _ e in
-    (le_from _ _ h.0, lt_from _ _ h.1, lt_from _ _ h.2, lt_from _ _ h.3, lt_from _ _ h.4, lt_from _ _ h.5)
+    (leb-true _ _ h.0, ltb-true _ _ h.1, ltb-true _ _ h.2, ltb-true _ _ h.3, ltb-true _ _ h.4, ltb-true _ _ h.5)
 
 king_file_below : (rules : Rules) (wing : Wing) → castling_on rules ≡ true → king_file rules wing < rules.files
 king_file_below rules Kingside e = (castling_on-is rules e).2
@@ -259,16 +254,16 @@ unfolding region_fits_at
 region_board rules [] i s h l e = cc
 region_board rules (x ∷ regions) zero s h l e =
     kind_of_mask (slice_index_or x.squares s false) (on_board rules s)
-    (all_below-each (region_fits_at rules x) 120 (both_of (region_fits rules x) (list_all (region_fits rules) regions) h).0 s l) e
-region_board rules (x ∷ regions) (suc i) s h l e = region_board rules regions i s (both_of (region_fits rules x) (list_all (region_fits rules) regions) h).1 l e
+    (all_below-each (region_fits_at rules x) 120 (and_parts (region_fits rules x) (list_all (region_fits rules) regions) h).0 s l) e
+region_board rules (x ∷ regions) (suc i) s h l e = region_board rules regions i s (and_parts (region_fits rules x) (list_all (region_fits rules) regions) h).1 l e
 
 drop_of : (a b c d f g : Bool) → (a && b && c && d && f && g) ≡ true → (b ≡ true) × (d ≡ true)
 drop_of a b c d f g e =
-    let h = both_of (a && b && c && d && f) g e in
-    let i = both_of (a && b && c && d) f h.0 in
-    let j = both_of (a && b && c) d i.0 in
-    let k = both_of (a && b) c j.0 in
-    ((both_of a b k.0).1, j.1)
+    let h = and_parts (a && b && c && d && f) g e in
+    let i = and_parts (a && b && c && d) f h.0 in
+    let j = and_parts (a && b && c) d i.0 in
+    let k = and_parts (a && b) c j.0 in
+    ((and_parts a b k.0).1, j.1)
 
 drops_kind : (rules : Rules) (r : Repeat) (kind : Kind) (s : ℕ) → drops_to rules r kind s ≡ true → (holds r.hands r.side kind ≡ true) × (in_region rules.drop_region r.side s ≡ true)
 unfolding drops_to
@@ -301,7 +296,7 @@ candidate_of rules fit r (Go from to promo None) sound h e =
 candidate_of rules fit r (Go from to promo (Some kind)) sound h e =
     let g = gated_go rules r from to promo kind e in
     let k = plain_of rules fit r from to promo g.0 sound h.0 h.2 g.1 (inl g.2) in
-    let held = both_of _ (holds r.hands r.side kind) g.3 in
+    let held = and_parts _ (holds r.hands r.side kind) g.3 in
     (k.0, k.1, k.2, hand_kind_of rules r r.side kind sound h.3 held.1)
 candidate_of rules fit r (Castle from to rook gate) sound h e =
     let g = castle_is rules r from to rook gate e in

@@ -1,8 +1,10 @@
--- What is promised of the legal moves of a sound position, and of the position after one.
-use Rattle.std.specs.Prelude.{◌≡◌, true, Option, Some, None}
+-- What is promised of the squares that pieces reach, of the legal moves of a sound position, and of the position after one.
+use Rattle.std.specs.Prelude.{◌≡◌, ℕ, Bool, true, Option, Some, None, List}
 use Rattle.foundation.specs.Member.{Member}
+use Rattle.rules_model.specs.declared.board.Cell.{Cell}
 use Rattle.rules_model.specs.declared.board.Kind.{Kind}
 use Rattle.rules_model.specs.declared.board.Position.{Position}
+use Rattle.rules_model.specs.declared.board.Side.{Side}
 use Rattle.rules_model.specs.declared.board.Square.{Square}
 use Rattle.rules_model.specs.declared.moves.Move.{Move}
 use Rattle.rules_model.specs.declared.moves.Move.TheVariants.{Go, Castle, Drop}
@@ -10,11 +12,21 @@ use Rattle.rules_model.specs.declared.moves.Placed.{Placed}
 use Rattle.rules_model.specs.declared.moves.Promo.{Promo}
 use Rattle.rules_model.specs.declared.moves.Promo.TheVariants.{Stays, Pawn, Plus}
 use Rattle.rules_model.specs.declared.rules.Rules.{Rules}
+use Rattle.rules_model.specs.declared.rules.Term.{Term}
 use Rattle.rules_model.specs.Repeats.{repeat_of}
 use Rattle.rules_model.specs.Kinds.{has_kind}
+use Rattle.rules_model.specs.Movement.{kind_reaches}
 use Rattle.rules_model.specs.Next.{next}
 use Rattle.rules_model.specs.Legal.{legal}
 use Rattle.rules_model.specs.Sound.{on_board, is_sound}
+
+-- ---- squares of a variant
+
+-- what a kind reaches, by whatever terms, is on the board
+abbrev pub ReachStaysOnBoard : Rules → Type 0
+ReachStaysOnBoard rules =
+    (cells : List (Option Cell)) (side : Side) (kind : Kind) (test : Term → Bool) (from : Square) (s : ℕ)
+    → kind_reaches rules cells side kind test from s ≡ true → on_board rules s ≡ true
 
 -- ---- moves of a variant
 

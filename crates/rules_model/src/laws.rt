@@ -1,18 +1,14 @@
 //! What the layers above know of the rules without opening a definition. Each law is the contract of a call that does nothing.
-ghost use Rattle.std.specs.Prelude.{◌≡◌, ◌↔◌, ℕ, ◌+◌, ◌<◌, ◌≤◌, Bool, true, false, not, Option, List, []};
+ghost use Rattle.std.specs.Prelude.{◌≡◌, ◌↔◌, ℕ, ◌+◌, ◌<◌, ◌≤◌, Bool, true, false, not, List, []};
 ghost use Rattle.std.specs.Bool.{Decides};
 ghost use Rattle.std.specs.List.Sorted.{IsStrictlySortedBy};
 ghost use Rattle.foundation.specs.Member.{Member, IsEachOnce};
-ghost use Rattle.rules_model.specs.declared.board.Cell.{Cell};
-ghost use Rattle.rules_model.specs.declared.board.Kind.{Kind};
 ghost use Rattle.rules_model.specs.declared.board.Position.{Position};
 ghost use Rattle.rules_model.specs.declared.board.Repeat.{Repeat};
-ghost use Rattle.rules_model.specs.declared.board.Side.{Side};
 ghost use Rattle.rules_model.specs.declared.board.Side.TheVariants.{White, Black};
 ghost use Rattle.rules_model.specs.declared.board.Square.{Square};
 ghost use Rattle.rules_model.specs.declared.moves.Move.{Move};
 ghost use Rattle.rules_model.specs.declared.rules.Rules.{Rules};
-ghost use Rattle.rules_model.specs.declared.rules.Term.{Term};
 ghost use Rattle.rules_model.specs.Repeats.{repeat_of};
 ghost use Rattle.rules_model.specs.Sides.{other};
 ghost use Rattle.rules_model.specs.Squares.{square_on, file_of, rank_of};
@@ -23,11 +19,10 @@ ghost use Rattle.rules_model.specs.Ends.{is_ongoing, early_end};
 ghost use Rattle.rules_model.specs.Legal.{legal, is_stuck, own_end};
 ghost use Rattle.rules_model.specs.Allowed.{is_legal};
 ghost use Rattle.rules_model.specs.Games.{same_repeat, are_legal};
-ghost use Rattle.rules_model.specs.Movement.{kind_reaches};
 ghost use Rattle.rules_model.specs.Sizes.{HasSizes, has_sizes};
-ghost use Rattle.rules_model.specs.Sound.{is_sound_repeat, on_board};
+ghost use Rattle.rules_model.specs.Sound.{is_sound_repeat};
 ghost use Rattle.rules_model.specs.Fit.{IsFit};
-ghost use Rattle.rules_model.specs.Promised.{IsMoveOf};
+ghost use Rattle.rules_model.specs.Promised.{IsMoveOf, ReachStaysOnBoard};
 
 /// A square is its file and its rank, and the squares of the largest board are those below 120.
 pub fn squares_are_files_and_ranks()
@@ -102,7 +97,7 @@ pub fn texts_of_legal_moves_differ()
 
 /// What a kind reaches lies on the variant's board, by whatever terms.
 pub fn reached_squares_are_on_board()
-    ensures { (rules : Rules) (cells : List (Option Cell)) (side : Side) (kind : Kind) (test : Term → Bool) (from : Square) (s : ℕ) → IsFit rules → kind_reaches rules cells side kind test from s ≡ true → on_board rules s ≡ true }
+    ensures { (rules : Rules) → IsFit rules → ReachStaysOnBoard rules }
 {}
 
 /// The lists of a sound position are as long as its fields, and a test decides that.

@@ -1,6 +1,6 @@
 -- The pieces, the hands and their number after each candidate of a sound position, in every variant that fits.
 use Rattle.std.proofs.Common.{◌≡◌, ℕ, ◌+◌, ◌/◌, ◌%◌, ◌<◌, ◌≤◌, Bool, true, false, if◌then◌else◌, ◌⊎◌, inl, Option, Some, None, List, length, refl, sym, subst, arith, nat_lt, is_some}
-use Rattle.std.proofs.lemmas.Bool.{ltb-true}
+use Rattle.std.proofs.lemmas.Bool.{and_parts, ltb-true}
 use Rattle.std.specs.Prelude.{count_by}
 use Rattle.std.proofs.lemmas.Bool.Decides.{nat_tests}
 use Rattle.foundation.proofs.SetLemmas.{one_if}
@@ -29,7 +29,7 @@ use Rattle.rules_model.specs.Moves.{IsFitMove}
 use Rattle.rules_model.specs.Sound.{is_sound_cell, is_sound_repeat, on_board}
 use Rattle.rules_model.specs.Fit.{IsFit}
 use Rattle.rules_model.specs.Promised.{IsMoveOf}
-use Rattle.rules_model.proofs.CandidateLaws.{both_of, castle_gate, castle_is, drop_is, gated_go, PawnGoes, PieceGoes, plain_go}
+use Rattle.rules_model.proofs.CandidateLaws.{castle_gate, castle_is, drop_is, gated_go, PawnGoes, PieceGoes, plain_go}
 use Rattle.sound_play.proofs.CountLaws.{castle-count, castle_files, drop-count, dropped_free, go-count, go_leaves, Leaves}
 use Rattle.sound_play.proofs.HandLaws.{held-taken_in, held_by_both, put_down-both, taken_in-both}
 use Rattle.sound_play.proofs.KingLaws.{taken_no_king}
@@ -54,7 +54,7 @@ goes rules r from to promo None e =
     record { piece = g.0; here = g.1; how = g.2; held = λ kind f. cc }
 goes rules r from to promo (Some k) e =
     let g = gated_go rules r from to promo k e in
-    let h = (both_of _ (holds r.hands r.side k) g.3).1 in
+    let h = (and_parts _ (holds r.hands r.side k) g.3).1 in
     record { piece = g.0; here = g.1; how = inl g.2; held = λ kind f. subst (λ j. holds r.hands r.side j ≡ true) (same_some k kind f) h }
 
 -- what a candidate needs of its position
@@ -74,7 +74,7 @@ sound_cells rules r sound = are_sound rules r.cells (repeat_parts rules r sound)
 held_kind : (rules : Rules) (r : Repeat) (kind : Kind) → is_sound_repeat rules r ≡ true → kind.0 < 26 → holds r.hands r.side kind ≡ true → has_kind rules kind ≡ true
 held_kind rules r kind sound l e =
     let a = (fit_hands rules r sound).each r.side kind l e in
-    (both_of _ (has_kind rules kind) (both_of _ _ a).0).1
+    (and_parts _ (has_kind rules kind) (and_parts _ _ a).0).1
 
 -- ---- the pieces
 
@@ -92,7 +92,7 @@ gate_kind rules r from to promo (Some k) ready g kind e =
     subst (λ j. has_kind rules j ≡ true) (same_some k kind e) (held_kind rules r k ready.sound ready.fit_move.3 (g.held k refl))
 
 file_on : (rules : Rules) (s : ℕ) → on_board rules s ≡ true → (s % 12 < rules.files) × (s / 12 < rules.ranks)
-file_on rules s e = let a = both_of (nat_lt (s % 12) rules.files) (nat_lt (s / 12) rules.ranks) e in (ltb-true _ _ a.0, ltb-true _ _ a.1)
+file_on rules s e = let a = and_parts (nat_lt (s % 12) rules.files) (nat_lt (s / 12) rules.ranks) e in (ltb-true _ _ a.0, ltb-true _ _ a.1)
 
 on_file : (rules : Rules) (s : ℕ) → s % 12 < rules.files → s / 12 < rules.ranks → on_board rules s ≡ true
 on_file rules s h k = grind (arith, nat_tests)

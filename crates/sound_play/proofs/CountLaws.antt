@@ -1,7 +1,7 @@
 -- How many pieces of a sort stand on the board after a legal move of a sound position, in every variant that fits.
 use Rattle.std.proofs.Common.{◌≡◌, ◌≢◌, ℕ, ◌+◌, ◌-◌, ◌*◌, ◌/◌, ◌%◌, ◌<◌, ◌≤◌, Bool, true, false, not, ◌&&◌, if◌then◌else◌, ◌⊎◌, inl, inr, Option, Some, None, List, length, refl, ap, sym, ◌∙◌, subst, arith, ◌==◌, nat_le, nat_lt, is_none, is_some, length-set, max}
 use Rattle.std.specs.Prelude.{count_by, slice_set}
-use Rattle.std.proofs.lemmas.Bool.{cases_eq, cases_lt, false_from_ne_true, le-leb, ltb-true, ne_eqb}
+use Rattle.std.proofs.lemmas.Bool.{and_parts, cases_eq, cases_lt, false_from_ne_true, le-leb, ltb-true, ne_eqb, not-true}
 use Rattle.std.proofs.lemmas.Bool.Decides.{Decides-eqb, nat_tests}
 use Rattle.std.proofs.lemmas.Option.{slice_get_past}
 use Rattle.foundation.specs.Count.{any_below}
@@ -32,7 +32,7 @@ use Rattle.rules_model.specs.Drops.{drops_to}
 use Rattle.rules_model.specs.Sound.{is_sound_ep, is_sound_repeat, on_board, was_passed}
 use Rattle.rules_model.specs.Fit.{IsFit}
 use Rattle.rules_model.specs.Next.{castled, cell_on, cells_after, emptied, fresh, gated, placed_kind, promote, taken}
-use Rattle.rules_model.proofs.CandidateLaws.{both_of, castle_gate, Castles, false_of_not, not_both, PawnGoes, PieceGoes, rook_file-some}
+use Rattle.rules_model.proofs.CandidateLaws.{castle_gate, Castles, not_both, PawnGoes, PieceGoes, rook_file-some}
 use Rattle.rules_model.proofs.VariantLaws.{castling_on-is, sound_ep}
 use Rattle.rules_model.specs.Moves.{IsFitMove}
 use Rattle.rules_model.specs.Hands.{holds}
@@ -73,7 +73,7 @@ pub record Passes (rules : Rules) (r : Repeat) (to : Square) : Type 0 where
 
 own_pawn_there : (rules : Rules) (side : Side) (c : Option Cell) → is_own_pawn rules side c ≡ true → (z : Cell) × (c ≡ Some z) × (same_side z.side side ≡ true) × (is_pawn rules z.kind ≡ true)
 own_pawn_there rules side None e = cc
-own_pawn_there rules side (Some z) e = let a = both_of (same_side z.side side) (is_pawn rules z.kind) e in (z, refl, a.0, a.1)
+own_pawn_there rules side (Some z) e = let a = and_parts (same_side z.side side) (is_pawn rules z.kind) e in (z, refl, a.0, a.1)
 
 pawn_there : (rules : Rules) (cells : List (Option Cell)) (side : Side) (at : Option ℕ) → pawn_at rules cells side at ≡ true → (s : ℕ) × (at ≡ Some s) × (is_own_pawn rules side (cell_at cells s) ≡ true)
 pawn_there rules cells side None e = cc
@@ -82,11 +82,11 @@ pawn_there rules cells side (Some s) e = (s, refl, e)
 passes_from : (rules : Rules) (r : Repeat) (to : Square) (ep : Option Square) → is_sound_ep rules r ep ≡ true → is_ep ep to.0 ≡ true → Passes rules r to
 passes_from rules r to None sound e = cc
 passes_from rules r to (Some ep) sound e =
-    let a = both_of (on_board rules ep.0) (was_passed rules r ep) sound in
-    let b = both_of _ _ a.1 in
-    let c = both_of _ (pawn_at rules r.cells (other r.side) (ahead (board_of rules) (other r.side) ep 1)) b.0 in
-    let d = both_of _ _ (both_of _ _ c.0).0 in
-    let free = (both_of rules.double_step (is_none (cell_at r.cells ep.0)) d.0).1 in
+    let a = and_parts (on_board rules ep.0) (was_passed rules r ep) sound in
+    let b = and_parts _ _ a.1 in
+    let c = and_parts _ (pawn_at rules r.cells (other r.side) (ahead (board_of rules) (other r.side) ep 1)) b.0 in
+    let d = and_parts _ _ (and_parts _ _ c.0).0 in
+    let free = (and_parts rules.double_step (is_none (cell_at r.cells ep.0)) d.0).1 in
     let same : ep.0 ≡ to.0 = (Decides-eqb _ _).0 e in
     let square : ep ≡ to = λ i. record { 0 = same i } in
     let z = pawn_there rules r.cells (other r.side) (ahead (board_of rules) (other r.side) ep 1) c.1 in
@@ -104,7 +104,7 @@ passes_from rules r to (Some ep) sound e =
 pub passes_by-is : (rules : Rules) (r : Repeat) (from to : Square) → is_sound_repeat rules r ≡ true → passes_by rules r from to.0 ≡ true → Passes rules r to
 unfolding passes_by
 passes_by-is rules r from to sound e =
-    passes_from rules r to r.ep (sound_ep rules r sound) (both_of _ (is_ep r.ep to.0) (both_of _ (is_diagonal (board_of rules) r.side from to.0) e).0).1
+    passes_from rules r to r.ep (sound_ep rules r sound) (and_parts _ (is_ep r.ep to.0) (and_parts _ (is_diagonal (board_of rules) r.side from to.0) e).0).1
 
 not_own : (a b : Side) → same_side a (other b) ≡ true → same_side a b ≡ false
 not_own White White e = cc
@@ -236,8 +236,8 @@ stands_not false b c d (Some x) e ha hb hc hd = cc
 square_free : (rules : Rules) (cells : List (Option Cell)) (side : Side) (castle : CastleSquares) (s : ℕ) → way_is_open rules cells side castle ≡ true → s < 120 → lowest castle ≤ s → s ≤ highest castle → s ≢ castle.king.0 → s ≢ castle.rook.0 → cell_at cells s ≡ None
 unfolding way_is_open in_the_way
 square_free rules cells side castle s e l low high king other =
-    let a = both_of (not (any_below (in_the_way cells castle) 120)) (not (any_below (king_passes_attack rules cells side castle) 120)) e in
-    let b = open_at (in_the_way cells castle) s (false_of_not _ a.0) l in
+    let a = and_parts (not (any_below (in_the_way cells castle) 120)) (not (any_below (king_passes_attack rules cells side castle) 120)) e in
+    let b = open_at (in_the_way cells castle) s (not-true _ a.0) l in
     stands_not (nat_le (lowest castle) s) (nat_le s (highest castle)) (s == castle.king.0) (s == castle.rook.0) _ b (le-leb _ _ low) (le-leb _ _ high) (ne_eqb _ _ king) (ne_eqb _ _ other)
 
 -- the squares of a castle, and the one to which the rook goes
@@ -283,13 +283,13 @@ pub castle_files : (rules : Rules) (fit : IsFit rules) (r : Repeat) (from to roo
 castle_files rules fit r from to rook Kingside c l k =
     let on = castling_on-is rules c.on in
     let b = rook_file-some rules r r.side Kingside c.beyond c.file in
-    let a = ltb-true _ _ (both_of (nat_lt rules.castle_king c.beyond) _ b.1).0 in
+    let a = ltb-true _ _ (and_parts (nat_lt rules.castle_king c.beyond) _ b.1).0 in
     let most = fit.files_most in
     files_right from to rook (castling_rank rules r.side) rules.castle_king rules.castle_near c.beyond c.start c.target c.rank on.5 (omega (arith, most, on.2)) a k
 castle_files rules fit r from to rook Queenside c l k =
     let on = castling_on-is rules c.on in
     let b = rook_file-some rules r r.side Queenside c.beyond c.file in
-    let a = ltb-true _ _ (both_of (nat_lt c.beyond rules.castle_king) _ b.1).0 in
+    let a = ltb-true _ _ (and_parts (nat_lt c.beyond rules.castle_king) _ b.1).0 in
     let most = fit.files_most in
     files_left from to rook (castling_rank rules r.side) rules.castle_king rules.castle_far c.beyond c.start c.target c.rank on.4 (omega (arith, most, on.1)) a l
 
@@ -315,10 +315,10 @@ castle_places rules fit r from to rook wing size c l k j =
 
 gate_square : (rules : Rules) (r : Repeat) (from to rook : Square) (placed : Placed) → castle_gates rules r from to rook (Some placed) ≡ true → (placed.at.0 ≢ to.0) × (placed.at.0 ≢ rook_target from to rook)
 gate_square rules r from to rook placed e =
-    let a = both_of _ (not (placed.at.0 == rook_target from to rook)) e in
-    let b = both_of _ (not (placed.at.0 == to.0)) a.0 in (
-      λ h. not_both _ ((Decides-eqb _ _).1 h) (false_of_not (placed.at.0 == to.0) b.1),
-      λ h. not_both _ ((Decides-eqb _ _).1 h) (false_of_not (placed.at.0 == rook_target from to rook) a.1),
+    let a = and_parts _ (not (placed.at.0 == rook_target from to rook)) e in
+    let b = and_parts _ (not (placed.at.0 == to.0)) a.0 in (
+      λ h. not_both _ ((Decides-eqb _ _).1 h) (not-true (placed.at.0 == to.0) b.1),
+      λ h. not_both _ ((Decides-eqb _ _).1 h) (not-true (placed.at.0 == rook_target from to rook) a.1),
     )
 
 -- a castle keeps the count, but for the piece that it places
@@ -343,9 +343,9 @@ castle-count p rules fit r from to rook (Some placed) wing none size c e l =
 pub dropped_free : (rules : Rules) (r : Repeat) (kind : Kind) (to : ℕ) → drops_to rules r kind to ≡ true → (holds r.hands r.side kind ≡ true) × (cell_at r.cells to ≡ None)
 unfolding drops_to
 dropped_free rules r kind to e =
-    let a = both_of _ _ (both_of _ _ (both_of _ _ e).0).0 in
-    let b = both_of _ (is_none (cell_at r.cells to)) a.0 in
-    ((both_of rules.drops (holds r.hands r.side kind) b.0).1, none_from _ b.1)
+    let a = and_parts _ _ (and_parts _ _ (and_parts _ _ e).0).0 in
+    let b = and_parts _ (is_none (cell_at r.cells to)) a.0 in
+    ((and_parts rules.drops (holds r.hands r.side kind) b.0).1, none_from _ b.1)
 
 pub drop-count : (p : Option Cell → Bool) (rules : Rules) (r : Repeat) (kind : Kind) (to : Square) → p None ≡ false → to.0 < length r.cells → drops_to rules r kind to.0 ≡ true → count_by p (cells_after rules r (Drop kind to)) ≡ count_by p r.cells + one_if (p (Some (fresh r.side kind)))
 unfolding cells_after

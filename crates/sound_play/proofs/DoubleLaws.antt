@@ -1,6 +1,6 @@
 -- The en passant square after a legal move of a sound position, in every variant that fits.
 use Rattle.std.proofs.Common.{◌≡◌, ◌≢◌, ℕ, ◌/◌, ◌%◌, ◌<◌, ◌≤◌, Bool, true, false, ◌&&◌, ◌||◌, if◌then◌else◌, inl, inr, Option, Some, None, length, pos, negsuc, refl, ap, sym, ◌∙◌, subst, arith, nat_lt, is_none}
-use Rattle.std.proofs.lemmas.Bool.{and_from, false_from_ne_true, ltb-true}
+use Rattle.std.proofs.lemmas.Bool.{and_from, and_parts, false_from_ne_true, ltb-true, or_cases}
 use Rattle.std.proofs.lemmas.Bool.Decides.{nat_tests}
 use Rattle.rules_model.specs.declared.board.Board.{Board}
 use Rattle.rules_model.specs.declared.board.Cell.{Cell}
@@ -23,7 +23,7 @@ use Rattle.rules_model.specs.Attacks.{ahead, is_diagonal, is_own_pawn, left_ahea
 use Rattle.rules_model.specs.Pawns.{is_enemy, is_free, is_stays, may_promote, passes_by, pawn_goes, pawn_moves, pawn_promo, steps_twice}
 use Rattle.rules_model.specs.Next.{cells_after, ep_after, ep_where, is_double_step, square_at}
 use Rattle.rules_model.specs.Sound.{is_sound_ep, lies_in, on_board, was_passed}
-use Rattle.rules_model.proofs.CandidateLaws.{at_some, both_of, gated_go, not_both, one_of, plain_go}
+use Rattle.rules_model.proofs.CandidateLaws.{at_some, gated_go, not_both, plain_go}
 use Rattle.sound_play.proofs.AfterLaws.{IsReady}
 use Rattle.sound_play.proofs.CellLemmas.{moved, moved-from, moved-other, moved-to}
 use Rattle.sound_play.proofs.PassingLaws.{advances, ahead_one, same_file_one, same_file_two, step_one, step_two}
@@ -40,34 +40,34 @@ not_diagonal : (board : Board) (side : Side) (from : Square) (to : ℕ) → boar
 unfolding is_diagonal
 not_diagonal board side from to few e h =
     let far = step_two board side (pos 0) from to few (at_some to _ e) in
-    elim (one_of (is_at to (right_ahead board side from)) (is_at to (left_ahead board side from)) h) as (λ _. ⊥) [
+    elim (or_cases (is_at to (right_ahead board side from)) (is_at to (left_ahead board side from)) h) as (λ _. ⊥) [
       | inl k ↦ one_or_two side _ _ (step_one board side (pos 1) from to few (at_some to _ k)) far
       | inr k ↦ one_or_two side _ _ (step_one board side (negsuc 0) from to few (at_some to _ k)) far
     ]
 
 passing_off : (rules : Rules) (r : Repeat) (from to : Square) → rules.files ≤ 12 → is_at to.0 (ahead (board_of rules) r.side from 2) ≡ true → passes_by rules r from to.0 ≡ true → ⊥
 unfolding passes_by
-passing_off rules r from to few e h = not_diagonal (board_of rules) r.side from to.0 few e (both_of _ (is_diagonal (board_of rules) r.side from to.0) h).1
+passing_off rules r from to few e h = not_diagonal (board_of rules) r.side from to.0 few e (and_parts _ (is_diagonal (board_of rules) r.side from to.0) h).1
 
 goes_twice : (rules : Rules) (r : Repeat) (from to : Square) → rules.files ≤ 12 → is_at to.0 (ahead (board_of rules) r.side from 2) ≡ true → pawn_goes rules r from to.0 ≡ true → (steps_twice rules r from to.0 ≡ true) × (cell_at r.cells to.0 ≡ None)
 unfolding pawn_goes
 goes_twice rules r from to few e h =
-    elim (one_of (is_none (cell_at r.cells to.0) && (is_at to.0 (ahead (board_of rules) r.side from 1) || steps_twice rules r from to.0)) (is_enemy r.side (cell_at r.cells to.0) && is_diagonal (board_of rules) r.side from to.0) h) as (λ _. (steps_twice rules r from to.0 ≡ true) × (cell_at r.cells to.0 ≡ None)) [
+    elim (or_cases (is_none (cell_at r.cells to.0) && (is_at to.0 (ahead (board_of rules) r.side from 1) || steps_twice rules r from to.0)) (is_enemy r.side (cell_at r.cells to.0) && is_diagonal (board_of rules) r.side from to.0) h) as (λ _. (steps_twice rules r from to.0 ≡ true) × (cell_at r.cells to.0 ≡ None)) [
       | inl k ↦
-          let a = both_of (is_none (cell_at r.cells to.0)) (is_at to.0 (ahead (board_of rules) r.side from 1) || steps_twice rules r from to.0) k in
-          elim (one_of (is_at to.0 (ahead (board_of rules) r.side from 1)) (steps_twice rules r from to.0) a.1) as (λ _. (steps_twice rules r from to.0 ≡ true) × (cell_at r.cells to.0 ≡ None)) [
+          let a = and_parts (is_none (cell_at r.cells to.0)) (is_at to.0 (ahead (board_of rules) r.side from 1) || steps_twice rules r from to.0) k in
+          elim (or_cases (is_at to.0 (ahead (board_of rules) r.side from 1)) (steps_twice rules r from to.0) a.1) as (λ _. (steps_twice rules r from to.0 ≡ true) × (cell_at r.cells to.0 ≡ None)) [
             | inl l ↦ absurd (one_or_two r.side _ _ (step_one (board_of rules) r.side (pos 0) from to.0 few (at_some to.0 _ l)) (step_two (board_of rules) r.side (pos 0) from to.0 few (at_some to.0 _ e)))
             | inr l ↦ (l, none_from _ a.0)
           ]
-      | inr k ↦ absurd (not_diagonal (board_of rules) r.side from to.0 few e (both_of (is_enemy r.side (cell_at r.cells to.0)) (is_diagonal (board_of rules) r.side from to.0) k).1)
+      | inr k ↦ absurd (not_diagonal (board_of rules) r.side from to.0 few e (and_parts (is_enemy r.side (cell_at r.cells to.0)) (is_diagonal (board_of rules) r.side from to.0) k).1)
     ]
 
 moves_twice : (rules : Rules) (r : Repeat) (from to : Square) (promo : Promo) → rules.files ≤ 12 → is_at to.0 (ahead (board_of rules) r.side from 2) ≡ true → pawn_moves rules r from to promo ≡ true → (steps_twice rules r from to.0 ≡ true) × (cell_at r.cells to.0 ≡ None)
 unfolding pawn_moves
 moves_twice rules r from to promo few e h =
-    elim (one_of (pawn_goes rules r from to.0 && pawn_promo rules (may_promote rules r.side to.0) promo) (passes_by rules r from to.0 && is_stays promo) h) as (λ _. (steps_twice rules r from to.0 ≡ true) × (cell_at r.cells to.0 ≡ None)) [
-      | inl k ↦ goes_twice rules r from to few e (both_of (pawn_goes rules r from to.0) (pawn_promo rules (may_promote rules r.side to.0) promo) k).0
-      | inr k ↦ absurd (passing_off rules r from to few e (both_of (passes_by rules r from to.0) (is_stays promo) k).0)
+    elim (or_cases (pawn_goes rules r from to.0 && pawn_promo rules (may_promote rules r.side to.0) promo) (passes_by rules r from to.0 && is_stays promo) h) as (λ _. (steps_twice rules r from to.0 ≡ true) × (cell_at r.cells to.0 ≡ None)) [
+      | inl k ↦ goes_twice rules r from to few e (and_parts (pawn_goes rules r from to.0) (pawn_promo rules (may_promote rules r.side to.0) promo) k).0
+      | inr k ↦ absurd (passing_off rules r from to few e (and_parts (passes_by rules r from to.0) (is_stays promo) k).0)
     ]
 
 stays_is : (promo : Promo) → is_stays promo ≡ true → promo ≡ Stays
@@ -87,9 +87,9 @@ pub record StepsTwice (rules : Rules) (r : Repeat) (x : Cell) (from to : Square)
 
 twice_of : (rules : Rules) (r : Repeat) (x : Cell) (from to : Square) (passed : ℕ) → cell_at r.cells from.0 ≡ Some x → is_own_pawn rules r.side (cell_at r.cells from.0) ≡ true → is_at to.0 (ahead (board_of rules) r.side from 2) ≡ true → ahead (board_of rules) r.side from 1 ≡ Some passed → steps_twice rules r from to.0 ≡ true → StepsTwice rules r x from to passed
 twice_of rules r x from to passed here own far near e =
-    let a = both_of _ (is_at to.0 (ahead (board_of rules) r.side from 2)) e in
-    let b = both_of _ (is_free r.cells (ahead (board_of rules) r.side from 1)) a.0 in
-    let c = both_of rules.double_step (in_region rules.double_region r.side from.0) b.0 in
+    let a = and_parts _ (is_at to.0 (ahead (board_of rules) r.side from 2)) e in
+    let b = and_parts _ (is_free r.cells (ahead (board_of rules) r.side from 1)) a.0 in
+    let c = and_parts rules.double_step (in_region rules.double_region r.side from.0) b.0 in
     let d : is_free r.cells (Some passed) ≡ true = subst (λ o. is_free r.cells o ≡ true) near b.1 in
     record {
       here = here;
@@ -128,7 +128,7 @@ passed_sound rules r q x from to passed few on l k s cells side could =
     let file = same_file_one board r.side from passed few s.near in
     let file' = same_file_two board r.side from to.0 few s.far in
     let next = second_one r.side _ _ _ one two in
-    let start_on = both_of (nat_lt (from.0 % 12) rules.files) (nat_lt (from.0 / 12) rules.ranks) on in
+    let start_on = and_parts (nat_lt (from.0 % 12) rules.files) (nat_lt (from.0 / 12) rules.ranks) on in
     let f0 = file.0 in
     let f1 = file'.0 in
     let lf = ltb-true _ _ start_on.0 in
@@ -174,12 +174,12 @@ if_sound rules q true o h = h refl
 if_sound rules q false o h = refl
 
 piece_is_pawn : (rules : Rules) (side : Side) (x : Cell) (c : Option Cell) → c ≡ Some x → is_own_pawn rules side c ≡ true → is_pawn rules x.kind ≡ true
-piece_is_pawn rules side x c e h = (both_of (same_side x.side side) (is_pawn rules x.kind) (subst (λ o. is_own_pawn rules side o ≡ true) e h)).1
+piece_is_pawn rules side x c e h = (and_parts (same_side x.side side) (is_pawn rules x.kind) (subst (λ o. is_own_pawn rules side o ≡ true) e h)).1
 
 step_sound : (rules : Rules) (r q : Repeat) (from to : Square) (promo : Promo) (passed : ℕ) → IsReady rules r (Go from to promo None) → q.cells ≡ cells_after rules r (Go from to promo None) → q.side ≡ other r.side → is_double_step rules r from to promo ≡ true → ahead (board_of rules) r.side from 1 ≡ Some passed → pawn_could_take rules q.cells (other r.side) (record { 0 = passed }) ≡ true → is_sound_ep rules q (Some (record { 0 = passed })) ≡ true
 step_sound rules r q from to promo passed ready cells side e near could =
-    let a = both_of (is_own_pawn rules r.side (cell_at r.cells from.0) && is_stays promo) (is_at to.0 (ahead (board_of rules) r.side from 2)) e in
-    let b = both_of (is_own_pawn rules r.side (cell_at r.cells from.0)) (is_stays promo) a.0 in
+    let a = and_parts (is_own_pawn rules r.side (cell_at r.cells from.0) && is_stays promo) (is_at to.0 (ahead (board_of rules) r.side from 2)) e in
+    let b = and_parts (is_own_pawn rules r.side (cell_at r.cells from.0)) (is_stays promo) a.0 in
     let g = plain_go rules r from to promo ready.candidate in
     let few = ready.fit.files_most in
     let size = ready.cells in
@@ -197,8 +197,8 @@ step_sound rules r q from to promo passed ready cells side e near could =
 
 gated_off : (rules : Rules) (r : Repeat) (from to : Square) (promo : Promo) (kind : Kind) → IsReady rules r (Go from to promo (Some kind)) → is_double_step rules r from to promo ≡ true → ⊥
 gated_off rules r from to promo kind ready e =
-    let a = both_of (is_own_pawn rules r.side (cell_at r.cells from.0) && is_stays promo) (is_at to.0 (ahead (board_of rules) r.side from 2)) e in
-    let b = both_of (is_own_pawn rules r.side (cell_at r.cells from.0)) (is_stays promo) a.0 in
+    let a = and_parts (is_own_pawn rules r.side (cell_at r.cells from.0) && is_stays promo) (is_at to.0 (ahead (board_of rules) r.side from 2)) e in
+    let b = and_parts (is_own_pawn rules r.side (cell_at r.cells from.0)) (is_stays promo) a.0 in
     let g = gated_go rules r from to promo kind ready.candidate in
     not_both _ (piece_is_pawn rules r.side g.0 _ g.1 b.0) g.2.1
 

@@ -1,5 +1,6 @@
 -- What a move does to rights, gates and counts, in every variant.
 use Rattle.std.proofs.Common.{◌≡◌, ℕ, ◌-◌, ◌%◌, ◌^◌, ◌≤◌, Bool, true, false, not, if◌then◌else◌, Option, List, refl, sym, ◌∙◌, arith, ◌==◌, bit_and}
+use Rattle.std.proofs.lemmas.Bool.{and_parts}
 use Rattle.std.specs.Int.{bit_at}
 use Rattle.std.proofs.lemmas.Bool.Decides.{Decides-eqb, nat_tests}
 use Rattle.std.proofs.lemmas.Nat.Bits.{bit_at_and}
@@ -18,7 +19,6 @@ use Rattle.rules_model.specs.Regions.{castling_square, on_first_rank}
 use Rattle.rules_model.specs.Gates.{closed_at, has_gate}
 use Rattle.rules_model.specs.Castling.{holds_right, rook_file}
 use Rattle.rules_model.specs.Next.{cells_after, gates_after, keeps_right, leaves, next, next_number, next_repeat, rights_after, risen, rook_stays, side_gates_after}
-use Rattle.rules_model.proofs.CandidateLaws.{both_of}
 use Rattle.rules_model.proofs.GameLaws.{next_counter-range}
 
 -- ---- rights
@@ -35,7 +35,7 @@ pub right_was_held : (rules : Rules) (r : Repeat) (m : Move) (later : List (Opti
 unfolding keeps_right
 right_was_held rules r m later side wing e =
     let a : keeps_right rules r m later side wing ≡ true = sym (rights_after-is rules r m later side wing) ∙ e in
-    (both_of (holds_right r.rights side wing) (not (leaves m (castling_square rules side rules.castle_king))) (both_of _ (rook_stays rules side m (rook_file rules r.cells side wing) (rook_file rules later side wing)) a).0).0
+    (and_parts (holds_right r.rights side wing) (not (leaves m (castling_square rules side rules.castle_king))) (and_parts _ (rook_stays rules side m (rook_file rules r.cells side wing) (rook_file rules later side wing)) a).0).0
 
 -- ---- gates
 

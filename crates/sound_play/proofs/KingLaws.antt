@@ -2,7 +2,7 @@
 use Rattle.std.proofs.Common.{◌≡◌, ℕ, ◌<◌, Bool, true, false, not, ◌&&◌, ◌||◌, if◌then◌else◌, ◌⊎◌, inl, inr, Option, Some, None, length, refl, ap, sym, ◌∙◌, subst, arith, ◌==◌, is_none, is_some}
 use Rattle.std.specs.Prelude.{count_by, slice_get}
 use Rattle.std.specs.List.{list_all}
-use Rattle.std.proofs.lemmas.Bool.{cases_lt, false_from_ne_true, or_parts}
+use Rattle.std.proofs.lemmas.Bool.{and_parts, cases_lt, false_from_ne_true, not-true, or_cases, or_parts}
 use Rattle.std.proofs.lemmas.Bool.Decides.{Decides-eqb}
 use Rattle.std.proofs.lemmas.Option.{slice_get_past}
 use Rattle.foundation.specs.Count.{any_below}
@@ -36,7 +36,7 @@ use Rattle.rules_model.specs.Allowed.{is_legal}
 use Rattle.rules_model.specs.Moves.{IsFitMove, IsFitPromo}
 use Rattle.rules_model.specs.Sound.{has_hands, has_its_king, is_sound_repeat, sound_in_hand}
 use Rattle.rules_model.specs.Fit.{bad_promotion, chains_promotions, fits_pawn, fits_rule, fits_term, IsFit, is_pawn_or_king, is_there, kind_fits, promotes_to_pawn_or_king, region_fits}
-use Rattle.rules_model.proofs.CandidateLaws.{both_of, castle_gate, castle_is, drop_is, false_of_not, gated_go, legal_candidate, not_both, one_of, PawnGoes, PieceGoes, plain_go}
+use Rattle.rules_model.proofs.CandidateLaws.{castle_gate, castle_is, drop_is, gated_go, legal_candidate, not_both, PawnGoes, PieceGoes, plain_go}
 use Rattle.rules_model.proofs.LegalLaws.{legal-member}
 use Rattle.sound_play.proofs.CountLaws.{castle-count, drop-count, dropped_free, go-count, go_leaves, Passes, passes_by-is}
 use Rattle.sound_play.proofs.SoundLaws.{repeat_parts, side_of, side_parts}
@@ -64,16 +64,16 @@ named (Some k) kind e = let h : k.0 ≡ kind.0 = (Decides-eqb _ _).0 e in λ i. 
 pawn_rule : (rules : Rules) (kind : Kind) (rule : Option KindRule) → is_some rule ≡ true → fits_rule rules kind rule ≡ true → is_pawn rules kind ≡ true → is_king rules kind ≡ false
 pawn_rule rules kind None e f h = cc
 pawn_rule rules kind (Some rule) e f h =
-    let a = both_of _ (is_there rules rule.promoted) f in
-    let b = both_of _ (list_all fits_term rule.terms) (both_of _ (list_all (region_fits rules) rule.mobility) a.0).0 in
-    let c = both_of (same_bool rule.pawn (is_pawn rules kind)) (not rule.pawn || fits_pawn rules kind rule) b.0 in
+    let a = and_parts _ (is_there rules rule.promoted) f in
+    let b = and_parts _ (list_all fits_term rule.terms) (and_parts _ (list_all (region_fits rules) rule.mobility) a.0).0 in
+    let c = and_parts (same_bool rule.pawn (is_pawn rules kind)) (not rule.pawn || fits_pawn rules kind rule) b.0 in
     let d : rule.pawn ≡ true = marked rule.pawn (is_pawn rules kind) c.0 h in
     let g : fits_pawn rules kind rule ≡ true = asked rule.pawn (fits_pawn rules kind rule) c.1 d in
-    false_of_not _ (both_of (not (is_king rules kind)) (is_nil rule.terms) (both_of _ (is_none rule.promoted) g).0).0
+    not-true _ (and_parts (not (is_king rules kind)) (is_nil rule.terms) (and_parts _ (is_none rule.promoted) g).0).0
   where
     marked : (a b : Bool) → same_bool a b ≡ true → b ≡ true → a ≡ true
     marked true b e h = refl
-    marked false b e h = absurd (not_both b h (false_of_not b e))
+    marked false b e h = absurd (not_both b h (not-true b e))
 
 -- the pawn is no king
 pub pawn_no_king : (rules : Rules) (fit : IsFit rules) (kind : Kind) → length rules.kinds ≡ 26 → is_pawn rules kind ≡ true → is_king rules kind ≡ false
@@ -108,7 +108,7 @@ promoted_no_king rules fit kind q size e =
     ((or_parts (is_pawn rules kind) (is_king rules kind) d.0).1, (or_parts (is_pawn rules q) (is_king rules q) d.1).1)
 
 held_as : (a h k i : Bool) → (not a || (h && k && not i)) ≡ true → a ≡ true → i ≡ false
-held_as true h k i e f = false_of_not i (both_of (h && k) (not i) e).1
+held_as true h k i e f = not-true i (and_parts (h && k) (not i) e).1
 held_as false h k i e f = cc
 
 -- what a side holds is no king
@@ -138,16 +138,16 @@ plus_king rules fit side x (Some q) size e =
 pub pawn_becomes : (rules : Rules) (r : Repeat) (from to : Square) (kind : Kind) → pawn_moves rules r from to (Pawn kind) ≡ true → masks rules.promotion_kinds kind ≡ true
 unfolding pawn_moves
 pawn_becomes rules r from to kind e =
-    elim (one_of (pawn_goes rules r from to.0 && pawn_promo rules (may_promote rules r.side to.0) (Pawn kind)) (passes_by rules r from to.0 && is_stays (Pawn kind)) e) as (λ _. masks rules.promotion_kinds kind ≡ true) [
-      | inl h ↦ (both_of (may_promote rules r.side to.0) (masks rules.promotion_kinds kind) (both_of (pawn_goes rules r from to.0) _ h).1).1
-      | inr h ↦ absurd (not_both _ (both_of (passes_by rules r from to.0) (is_stays (Pawn kind)) h).1 refl)
+    elim (or_cases (pawn_goes rules r from to.0 && pawn_promo rules (may_promote rules r.side to.0) (Pawn kind)) (passes_by rules r from to.0 && is_stays (Pawn kind)) e) as (λ _. masks rules.promotion_kinds kind ≡ true) [
+      | inl h ↦ (and_parts (may_promote rules r.side to.0) (masks rules.promotion_kinds kind) (and_parts (pawn_goes rules r from to.0) _ h).1).1
+      | inr h ↦ absurd (not_both _ (and_parts (passes_by rules r from to.0) (is_stays (Pawn kind)) h).1 refl)
     ]
 
 pub piece_becomes : (rules : Rules) (r : Repeat) (x : Cell) (from to : Square) (kind : Kind) → piece_moves rules r x from to (Pawn kind) ≡ true → ⊥
 unfolding piece_moves
 piece_becomes rules r x from to kind e =
-    let a = both_of (piece_goes rules r.cells r.side x.kind from to.0 && piece_promo rules (may_plus rules r.side x.kind from.0 to.0) (Pawn kind)) (not (means_castling rules r x.kind from.0 to.0)) e in
-    not_both _ (both_of (piece_goes rules r.cells r.side x.kind from to.0) (piece_promo rules (may_plus rules r.side x.kind from.0 to.0) (Pawn kind)) a.0).1 refl
+    let a = and_parts (piece_goes rules r.cells r.side x.kind from to.0 && piece_promo rules (may_plus rules r.side x.kind from.0 to.0) (Pawn kind)) (not (means_castling rules r x.kind from.0 to.0)) e in
+    not_both _ (and_parts (piece_goes rules r.cells r.side x.kind from to.0) (piece_promo rules (may_plus rules r.side x.kind from.0 to.0) (Pawn kind)) a.0).1 refl
 
 promo_king : (rules : Rules) (fit : IsFit rules) (r : Repeat) (x : Cell) (from to : Square) (promo : Promo) (side : Side) → length rules.kinds ≡ 26 → IsFitPromo promo → PieceGoes rules r x from to promo ⊎ PawnGoes rules r x from to promo → is_own_king rules side (promote rules (Some x) promo) ≡ is_own_king rules side (Some x)
 promo_king rules fit r x from to Stays side size l h = refl
@@ -190,7 +190,7 @@ candidate_kings rules fit r (Go from to promo None) side kinds size sound l e =
     go_kings rules fit r g.0 from to promo None side kinds size sound l.0 l.1 l.2 g.1 g.2 refl
 candidate_kings rules fit r (Go from to promo (Some kind)) side kinds size sound l e =
     let g = gated_go rules r from to promo kind e in
-    let held = (both_of _ (holds r.hands r.side kind) g.3).1 in
+    let held = (and_parts _ (holds r.hands r.side kind) g.3).1 in
     go_kings rules fit r g.0 from to promo (Some kind) side kinds size sound l.0 l.1 l.2 g.1 (inl g.2) (no_king_of rules side (fresh r.side kind) (held_no_king rules r r.side kind sound l.3 held))
 candidate_kings rules fit r (Castle from to rook None) side kinds size sound l e =
     let g = castle_is rules r from to rook None e in
@@ -225,11 +225,11 @@ next_repeat-kings rules r m side fit kinds size sound h =
 legal_safe : (rules : Rules) (r : Repeat) (m : Move) → is_legal rules r m ≡ true → king_attacked rules (next_repeat rules r m).cells r.side ≡ false
 unfolding is_legal is_allowed is_sane is_safe
 legal_safe rules r m e =
-    let a = both_of _ _ e in
-    let b = both_of (is_ongoing (early_end rules r)) _ a.0 in
-    let c = both_of (is_candidate rules r m) _ b.1 in
-    let d = both_of _ _ c.1 in
-    false_of_not _ (both_of (not (king_attacked rules (next_repeat rules r m).cells r.side)) (may_check rules r m) d.0).0
+    let a = and_parts _ _ e in
+    let b = and_parts (is_ongoing (early_end rules r)) _ a.0 in
+    let c = and_parts (is_candidate rules r m) _ b.1 in
+    let d = and_parts _ _ c.1 in
+    not-true _ (and_parts (not (king_attacked rules (next_repeat rules r m).cells r.side)) (may_check rules r m) d.0).0
 
 pub next_repeat-safe : (rules : Rules) (r : Repeat) (m : Move) → Member m (legal rules r) → king_attacked rules (next_repeat rules r m).cells r.side ≡ false
 next_repeat-safe rules r m h = legal_safe rules r m (legal-member rules r m h).1

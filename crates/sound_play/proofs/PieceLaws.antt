@@ -1,7 +1,7 @@
 -- The pieces that stand on the board after a legal move of a sound position, in every variant that fits.
 use Rattle.std.proofs.Common.{◌≡◌, ℕ, ◌<◌, true, ◌&&◌, inl, inr, Option, Some, None, List, length, refl, sym, subst}
 use Rattle.std.specs.Prelude.{slice_set}
-use Rattle.std.proofs.lemmas.Bool.{cases_eq, cases_lt}
+use Rattle.std.proofs.lemmas.Bool.{and_parts, cases_eq, cases_lt}
 use Rattle.std.proofs.lemmas.List.{set_past}
 use Rattle.foundation.specs.Count.{all_below}
 use Rattle.foundation.proofs.CountLemmas.{all_below-each, all_below-true}
@@ -13,7 +13,6 @@ use Rattle.rules_model.specs.Squares.{cell_at}
 use Rattle.rules_model.specs.Kinds.{has_kind}
 use Rattle.rules_model.specs.Next.{emptied, fresh}
 use Rattle.rules_model.specs.Sound.{is_origin, is_sound_cell, on_board, sound_at}
-use Rattle.rules_model.proofs.CandidateLaws.{both_of}
 use Rattle.sound_play.proofs.CellLemmas.{cell_at-set_other, cell_at-set_same}
 
 -- ---- sound cells, square by square
@@ -49,8 +48,8 @@ sound_emptied rules cells (Some s) h = sound_set rules cells s None h refl
 pub sound_there : (rules : Rules) (s t : ℕ) (c : Option Cell) → is_sound_cell rules s c ≡ true → on_board rules t ≡ true → is_sound_cell rules t c ≡ true
 sound_there rules s t None e l = refl
 sound_there rules s t (Some x) e l =
-    let a = both_of (on_board rules s && has_kind rules x.kind) (is_origin rules x.kind x.origin) e in
-    let b = both_of (on_board rules s) (has_kind rules x.kind) a.0 in
+    let a = and_parts (on_board rules s && has_kind rules x.kind) (is_origin rules x.kind x.origin) e in
+    let b = and_parts (on_board rules s) (has_kind rules x.kind) a.0 in
     rw (l, b.1, a.1)
 
 -- a piece from the hand

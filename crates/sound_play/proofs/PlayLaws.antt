@@ -1,6 +1,6 @@
 -- Pieces and hands stay sound, and do not grow in number, in every variant that fits.
 use Rattle.std.proofs.Common.{◌≡◌, ℕ, ◌<◌, Bool, true, false, not, ◌&&◌, ◌||◌, if◌then◌else◌, ◌⊎◌, inl, inr, Option, Some, None, List, length, refl, sym, subst, arith, unwrap_or}
-use Rattle.std.proofs.lemmas.Bool.{or_right}
+use Rattle.std.proofs.lemmas.Bool.{and_parts, or_cases, or_right}
 use Rattle.std.proofs.lemmas.Bool.Decides.{Decides-eqb}
 use Rattle.foundation.specs.Count.{all_below}
 use Rattle.foundation.proofs.CountLemmas.{all_below-each, all_below-true}
@@ -24,7 +24,7 @@ use Rattle.rules_model.specs.Next.{cell_on, hand_kind, plus, promote, take_into,
 use Rattle.rules_model.specs.Moves.{IsFitPromo}
 use Rattle.rules_model.specs.Sound.{has_hands, is_origin, is_sound_cell, is_sound_repeat, on_board, sound_in_hand}
 use Rattle.rules_model.specs.Fit.{fits_rule, IsFit, is_there, kind_fits, mask_fits}
-use Rattle.rules_model.proofs.CandidateLaws.{both_of, one_of, PawnGoes, PieceGoes}
+use Rattle.rules_model.proofs.CandidateLaws.{PawnGoes, PieceGoes}
 use Rattle.sound_play.proofs.CountLaws.{cell_within}
 use Rattle.sound_play.proofs.HandLaws.{put_down-held, taken_in-held}
 use Rattle.sound_play.proofs.KingLaws.{kind_below, named, pawn_becomes, pawn_no_king, piece_becomes, promoted_no_king, promoted_rule}
@@ -73,17 +73,17 @@ three a b c e f g = rw (e, f, g)
 origin_kind : (rules : Rules) (fit : IsFit rules) (kind : Kind) (o : Option Kind) → length rules.kinds ≡ 26 → has_kind rules kind ≡ true → is_king rules kind ≡ false → is_origin rules kind o ≡ true → (has_kind rules (unwrap_or o kind) ≡ true) × (is_king rules (unwrap_or o kind) ≡ false)
 origin_kind rules fit kind None kinds there king e = (there, king)
 origin_kind rules fit kind (Some o) kinds there king e =
-    elim (one_of (rules.to_hand && is_pawn rules o && masks rules.promotion_kinds kind) (names (promoted_of rules o) kind) e) as (λ _. (has_kind rules o ≡ true) × (is_king rules o ≡ false)) [
+    elim (or_cases (rules.to_hand && is_pawn rules o && masks rules.promotion_kinds kind) (names (promoted_of rules o) kind) e) as (λ _. (has_kind rules o ≡ true) × (is_king rules o ≡ false)) [
       | inl h ↦
-          let pawn = (both_of rules.to_hand (is_pawn rules o) (both_of (rules.to_hand && is_pawn rules o) (masks rules.promotion_kinds kind) h).0).1 in
+          let pawn = (and_parts rules.to_hand (is_pawn rules o) (and_parts (rules.to_hand && is_pawn rules o) (masks rules.promotion_kinds kind) h).0).1 in
           (subst (λ p. is_there rules p ≡ true) (named rules.pawn o pawn) fit.pawn, pawn_no_king rules fit o kinds pawn)
       | inr h ↦ let p = named (promoted_of rules o) kind h in (promoted_rule rules o kind p, (promoted_no_king rules fit o kind kinds p).0)
     ]
 
 hand_kind_fits : (rules : Rules) (fit : IsFit rules) (s : ℕ) (c : Cell) → length rules.kinds ≡ 26 → rules.to_hand ≡ true → is_sound_cell rules s (Some c) ≡ true → is_king rules c.kind ≡ false → fits_hand rules (hand_kind c) ≡ true
 hand_kind_fits rules fit s c kinds on e king =
-    let a = both_of (on_board rules s && has_kind rules c.kind) (is_origin rules c.kind c.origin) e in
-    let b = (both_of (on_board rules s) (has_kind rules c.kind) a.0).1 in
+    let a = and_parts (on_board rules s && has_kind rules c.kind) (is_origin rules c.kind c.origin) e in
+    let b = (and_parts (on_board rules s) (has_kind rules c.kind) a.0).1 in
     let k = origin_kind rules fit c.kind c.origin kinds b king a.1 in
     three (has_hands rules) (has_kind rules (hand_kind c)) (is_king rules (hand_kind c)) (to_hand_has rules.drops rules.to_hand rules.gating on) k.0 k.1
 
@@ -132,7 +132,7 @@ fit_put_at_gate rules hands side (Some kind) two h = fit_put_down rules hands si
 promoted_there : (rules : Rules) (kind q : Kind) (rule : Option KindRule) → fits_rule rules kind rule ≡ true → rule_promoted rule ≡ Some q → has_kind rules q ≡ true
 promoted_there rules kind q None e h = cc
 promoted_there rules kind q (Some rule) e h =
-    let a = (both_of _ (is_there rules rule.promoted) e).1 in
+    let a = (and_parts _ (is_there rules rule.promoted) e).1 in
     subst (λ o. is_there rules o ≡ true) h a
 
 promoted_has_kind : (rules : Rules) (fit : IsFit rules) (kind q : Kind) → length rules.kinds ≡ 26 → promoted_of rules kind ≡ Some q → has_kind rules q ≡ true

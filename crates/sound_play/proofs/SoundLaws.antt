@@ -1,6 +1,6 @@
 -- Soundness by its parts.
 use Rattle.std.proofs.Common.{◌≡◌, ◌+◌, ◌≤◌, true, false, not, ◌||◌, ◌==◌, nat_le, slice_index}
-use Rattle.std.proofs.lemmas.Bool.{and_from, le-leb, leb-true, not_from_false}
+use Rattle.std.proofs.lemmas.Bool.{and_from, and_parts, le-leb, leb-true, not-true, not_from_false}
 use Rattle.foundation.specs.Count.{all_below}
 use Rattle.rules_model.specs.declared.board.Position.{Position}
 use Rattle.rules_model.specs.declared.board.Repeat.{Repeat}
@@ -14,7 +14,6 @@ use Rattle.rules_model.specs.Attacks.{king_attacked}
 use Rattle.rules_model.specs.Sizes.{has_sizes}
 use Rattle.rules_model.specs.Ends.{pieces_of}
 use Rattle.rules_model.specs.Sound.{has_its_king, is_sound, is_sound_ep, is_sound_repeat, is_sound_side, sound_at, sound_gate, sound_in_hand, sound_right}
-use Rattle.rules_model.proofs.CandidateLaws.{both_of, false_of_not}
 
 -- ---- a repeat
 
@@ -30,13 +29,13 @@ pub record SoundRepeat (rules : Rules) (r : Repeat) : Type 0 where
 pub repeat_parts : (rules : Rules) (r : Repeat) → is_sound_repeat rules r ≡ true → SoundRepeat rules r
 unfolding is_sound_repeat
 repeat_parts rules r e =
-    let a = both_of _ (is_sound_ep rules r r.ep) e in
-    let b = both_of _ (not (king_attacked rules r.cells (other r.side))) a.0 in
-    let c = both_of _ (is_sound_side rules r Black) b.0 in
-    let d = both_of _ (is_sound_side rules r White) c.0 in
-    let f = both_of _ (nat_le (pieces_of r White + pieces_of r Black) 240) d.0 in
-    let g = both_of (has_sizes r) (all_below (sound_at rules r.cells) 120) f.0 in
-    record { sizes = g.0; cells = g.1; few = leb-true _ _ f.1; white = d.1; black = c.1; king = false_of_not _ b.1; ep = a.1 }
+    let a = and_parts _ (is_sound_ep rules r r.ep) e in
+    let b = and_parts _ (not (king_attacked rules r.cells (other r.side))) a.0 in
+    let c = and_parts _ (is_sound_side rules r Black) b.0 in
+    let d = and_parts _ (is_sound_side rules r White) c.0 in
+    let f = and_parts _ (nat_le (pieces_of r White + pieces_of r Black) 240) d.0 in
+    let g = and_parts (has_sizes r) (all_below (sound_at rules r.cells) 120) f.0 in
+    record { sizes = g.0; cells = g.1; few = leb-true _ _ f.1; white = d.1; black = c.1; king = not-true _ b.1; ep = a.1 }
 
 pub repeat_of_parts : (rules : Rules) (r : Repeat) → SoundRepeat rules r → is_sound_repeat rules r ≡ true
 unfolding is_sound_repeat
@@ -61,12 +60,12 @@ pub record SoundSide (rules : Rules) (r : Repeat) (side : Side) : Type 0 where
 pub side_parts : (rules : Rules) (r : Repeat) (side : Side) → is_sound_side rules r side ≡ true → SoundSide rules r side
 unfolding is_sound_side
 side_parts rules r side e =
-    let a = both_of _ (rules.check_counting || (slice_index r.checks (side_index side) == 0)) e in
-    let b = both_of _ (nat_le (slice_index r.checks (side_index side)) 99) a.0 in
-    let c = both_of _ (all_below (sound_gate rules r side) 16) b.0 in
-    let d = both_of _ (sound_right rules r side Queenside) c.0 in
-    let f = both_of _ (sound_right rules r side Kingside) d.0 in
-    let g = both_of (all_below (sound_in_hand rules r.hands side) 26) (has_its_king rules r.cells side) f.0 in
+    let a = and_parts _ (rules.check_counting || (slice_index r.checks (side_index side) == 0)) e in
+    let b = and_parts _ (nat_le (slice_index r.checks (side_index side)) 99) a.0 in
+    let c = and_parts _ (all_below (sound_gate rules r side) 16) b.0 in
+    let d = and_parts _ (sound_right rules r side Queenside) c.0 in
+    let f = and_parts _ (sound_right rules r side Kingside) d.0 in
+    let g = and_parts (all_below (sound_in_hand rules r.hands side) 26) (has_its_king rules r.cells side) f.0 in
     record { hand = g.0; king = g.1; kingside = f.1; queenside = d.1; gates = c.1; few_checks = b.1; checks = a.1 }
 
 pub side_of_parts : (rules : Rules) (r : Repeat) (side : Side) → SoundSide rules r side → is_sound_side rules r side ≡ true
@@ -84,9 +83,9 @@ pub record SoundCounts (p : Position) : Type 0 where
 pub position_parts : (rules : Rules) (p : Position) → is_sound rules p ≡ true → SoundRepeat rules (repeat_of p) × SoundCounts p
 unfolding is_sound
 position_parts rules p e =
-    let a = both_of _ (nat_le p.number 9999) e in
-    let b = both_of _ (nat_le 1 p.number) a.0 in
-    let c = both_of (is_sound_repeat rules (repeat_of p)) (nat_le p.counter 9999) b.0 in
+    let a = and_parts _ (nat_le p.number 9999) e in
+    let b = and_parts _ (nat_le 1 p.number) a.0 in
+    let c = and_parts (is_sound_repeat rules (repeat_of p)) (nat_le p.counter 9999) b.0 in
     (repeat_parts rules (repeat_of p) c.0, record { counter = leb-true _ _ c.1; number_least = leb-true _ _ b.1; number_most = leb-true _ _ a.1 })
 
 pub position_of_parts : (rules : Rules) (p : Position) → is_sound_repeat rules (repeat_of p) ≡ true → SoundCounts p → is_sound rules p ≡ true

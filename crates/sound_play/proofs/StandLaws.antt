@@ -1,6 +1,6 @@
 -- What stands still: pieces that a move neither moves nor takes, and the rights and gates that rest on them.
 use Rattle.std.proofs.Common.{◌≡◌, ◌≢◌, ℕ, ◌+◌, ◌-◌, ◌*◌, ◌/◌, ◌%◌, ◌^◌, ◌<◌, Bool, true, false, not, ◌&&◌, ◌||◌, if◌then◌else◌, inl, inr, Option, Some, None, List, length, refl, ap, sym, ◌∙◌, subst, arith, ◌==◌, nat_lt, bit_and}
-use Rattle.std.proofs.lemmas.Bool.{eqb-false, false_from_ne_true, ltb-true, ne_eqb, or_from, or_parts}
+use Rattle.std.proofs.lemmas.Bool.{and_parts, eqb-false, false_from_ne_true, ltb-true, ne_eqb, not-true, or_cases, or_from, or_parts}
 use Rattle.std.specs.Int.{bit_at}
 use Rattle.std.proofs.lemmas.Bool.Decides.{Decides-eqb}
 use Rattle.std.proofs.lemmas.Nat.Bits.{bit_at_and}
@@ -28,7 +28,7 @@ use Rattle.rules_model.specs.Pawns.{behind, passes_by}
 use Rattle.rules_model.specs.Next.{castled, cells_after, emptied, enters, gates_after, keeps_right, leaves, rights_after, rook_stays, side_gates_after}
 use Rattle.rules_model.specs.Sound.{sound_gate, sound_right, sound_rook}
 use Rattle.rules_model.specs.Fit.{gates_amiss, IsFit, rook_is_pawn}
-use Rattle.rules_model.proofs.CandidateLaws.{at_some, both_of, castle_gate, castle_is, drop_is, false_of_not, not_both, one_of, rook_file-some}
+use Rattle.rules_model.proofs.CandidateLaws.{at_some, castle_gate, castle_is, drop_is, not_both, rook_file-some}
 use Rattle.sound_play.proofs.AfterLaws.{goes, IsReady}
 use Rattle.sound_play.proofs.CellLemmas.{cell_at-set_other}
 use Rattle.sound_play.proofs.CountLaws.{castle_places, dropped_free, Passes, passes_by-is}
@@ -70,7 +70,7 @@ stands rules r (Drop kind' to) s z ready here kind left entered = cell_at-set_ot
 
 own_there : (side : Side) (test : Kind → Bool) (c : Option Cell) → is_own side test c ≡ true → (z : Cell) × (c ≡ Some z) × (same_side z.side side ≡ true) × (test z.kind ≡ true)
 own_there side test None e = cc
-own_there side test (Some z) e = let a = both_of (same_side z.side side) (test z.kind) e in (z, refl, a.0, a.1)
+own_there side test (Some z) e = let a = and_parts (same_side z.side side) (test z.kind) e in (z, refl, a.0, a.1)
 
 no_king_on_none : (rules : Rules) (side : Side) (c : Option Cell) → is_own_king rules side c ≡ true → c ≡ None → ⊥
 no_king_on_none rules side c e f = let g : is_own_king rules side None ≡ true = subst (λ o. is_own_king rules side o ≡ true) f e in cc
@@ -103,7 +103,7 @@ mask_other : (f k : ℕ) → f < 12 → k < 12 → f ≢ k → bit_at (65535 - 2
 unfolding all_below other_bit
 mask_other f k l h apart =
     let a = all_below-each (other_bit f) 12 (all_below-each (λ j. all_below (other_bit j) 12) 12 refl f l) k h in
-    elim (one_of (f == k) (bit_at (65535 - 2 ^ f) k == 1) a) as (λ _. bit_at (65535 - 2 ^ f) k ≡ 1) [ inl e ↦ absurd (apart ((Decides-eqb f k).0 e)) | inr e ↦ (Decides-eqb _ _).0 e ]
+    elim (or_cases (f == k) (bit_at (65535 - 2 ^ f) k == 1) a) as (λ _. bit_at (65535 - 2 ^ f) k ≡ 1) [ inl e ↦ absurd (apart ((Decides-eqb f k).0 e)) | inr e ↦ (Decides-eqb _ _).0 e ]
 
 -- the square of a gate
 abbrev pub gate_square : Rules → Side → ℕ → ℕ
@@ -175,12 +175,12 @@ gate_after rules r q m side file ready l cells gates =
     let still_open : has_gate (gates_after rules r m) side file ≡ true = subst (λ g. has_gate g side file ≡ true) gates h in
     let s = side_parts rules r side (side_of rules r side (repeat_parts rules r ready.sound)) in
     let before = gate_before rules r side file (all_below-each (sound_gate rules r side) 16 s.gates file l) (gate_was_open rules r m side file still_open) in
-    let a = both_of _ (is_own side (λ kind. not (is_pawn rules kind)) (cell_at r.cells (gate_square rules side file))) before in
-    let few = ltb-true _ _ (both_of rules.gating (nat_lt file rules.files) a.0).1 in
+    let a = and_parts _ (is_own side (λ kind. not (is_pawn rules kind)) (cell_at r.cells (gate_square rules side file))) before in
+    let few = ltb-true _ _ (and_parts rules.gating (nat_lt file rules.files) a.0).1 in
     let most = ready.fit.files_most in
     let z = own_there side (λ kind. not (is_pawn rules kind)) (cell_at r.cells (gate_square rules side file)) a.1 in
     let still = gate_open rules r m side file (omega (arith, few, most)) still_open in
-    let there : cell_at q.cells (gate_square rules side file) ≡ Some z.0 = ap (λ cs. cell_at cs (gate_square rules side file)) cells ∙ stands rules r m (gate_square rules side file) z.0 ready z.1 (false_of_not _ z.3) still.0 still.1 in
+    let there : cell_at q.cells (gate_square rules side file) ≡ Some z.0 = ap (λ cs. cell_at cs (gate_square rules side file)) cells ∙ stands rules r m (gate_square rules side file) z.0 ready z.1 (not-true _ z.3) still.0 still.1 in
     let own : is_own side (λ kind. not (is_pawn rules kind)) (cell_at q.cells (gate_square rules side file)) ≡ true = subst (λ c. is_own side (λ kind. not (is_pawn rules kind)) c ≡ true) (z.1 ∙ sym there) a.1 in
     rw (a.0, own))
 
@@ -217,9 +217,9 @@ pub record StaysRook (rules : Rules) (side : Side) (m : Move) (before later : Op
 stays_rook : (rules : Rules) (side : Side) (m : Move) (before later : Option ℕ) → rook_stays rules side m before later ≡ true → StaysRook rules side m before later
 stays_rook rules side m None later e = cc
 stays_rook rules side m (Some file) later e =
-    let a = both_of _ (is_at file later) e in
-    let b = both_of (not (leaves m (castling_square rules side file))) (not (enters m (castling_square rules side file))) a.0 in
-    record { file = file; was = refl; is = at_some file later a.1; left = false_of_not _ b.0; entered = false_of_not _ b.1 }
+    let a = and_parts _ (is_at file later) e in
+    let b = and_parts (not (leaves m (castling_square rules side file))) (not (enters m (castling_square rules side file))) a.0 in
+    record { file = file; was = refl; is = at_some file later a.1; left = not-true _ b.0; entered = not-true _ b.1 }
 
 rook_below : (rules : Rules) (cells : List (Option Cell)) (side : Side) (wing : Wing) (r : Repeat) → r.cells ≡ cells → (file : ℕ) → rook_file rules cells side wing ≡ Some file → file < rules.files
 rook_below rules cells side wing r e file f = (rook_file-some rules r side wing file (ap (λ cs. rook_file rules cs side wing) e ∙ f)).0
@@ -231,7 +231,7 @@ right_before rules r side wing e h = asked (holds_right r.rights side wing) _ e 
 rook_after : (rules : Rules) (r q : Repeat) (m : Move) (side : Side) (file : ℕ) → IsFit rules → castling_on rules ≡ true → file < 12 → q.gates ≡ gates_after rules r m → leaves m (castling_square rules side rules.castle_king) ≡ false → enters m (castling_square rules side rules.castle_king) ≡ false → leaves m (castling_square rules side file) ≡ false → enters m (castling_square rules side file) ≡ false → sound_rook rules r.gates side (Some file) ≡ true → sound_rook rules q.gates side (Some file) ≡ true
 rook_after rules r q m side file fit on l gates a b c d e =
     answered rules.gating _ (λ g.
-    let h = both_of (has_gate r.gates side rules.castle_king) (has_gate r.gates side file) (asked rules.gating _ e g) in
+    let h = and_parts (has_gate r.gates side rules.castle_king) (has_gate r.gates side file) (asked rules.gating _ e g) in
     let king = castle_gate_stays rules r m side rules.castle_king fit g on fit.castle_king a b h.0 in
     let rook = castle_gate_stays rules r m side file fit g on l c d h.1 in
     let king' : has_gate q.gates side rules.castle_king ≡ true = subst (λ gs. has_gate gs side rules.castle_king ≡ true) (sym gates) king in
@@ -241,9 +241,9 @@ rook_after rules r q m side file fit on l gates a b c d e =
 kept_parts : (rules : Rules) (r : Repeat) (m : Move) (later : List (Option Cell)) (side : Side) (wing : Wing) → keeps_right rules r m later side wing ≡ true → (holds_right r.rights side wing ≡ true) × (leaves m (castling_square rules side rules.castle_king) ≡ false) × (rook_stays rules side m (rook_file rules r.cells side wing) (rook_file rules later side wing) ≡ true)
 unfolding keeps_right
 kept_parts rules r m later side wing e =
-    let a = both_of _ (rook_stays rules side m (rook_file rules r.cells side wing) (rook_file rules later side wing)) e in
-    let b = both_of (holds_right r.rights side wing) (not (leaves m (castling_square rules side rules.castle_king))) a.0 in
-    (b.0, false_of_not _ b.1, a.1)
+    let a = and_parts _ (rook_stays rules side m (rook_file rules r.cells side wing) (rook_file rules later side wing)) e in
+    let b = and_parts (holds_right r.rights side wing) (not (leaves m (castling_square rules side rules.castle_king))) a.0 in
+    (b.0, not-true _ b.1, a.1)
 
 pub right_after : (rules : Rules) (r q : Repeat) (m : Move) (side : Side) (wing : Wing) → IsReady rules r m → q.cells ≡ cells_after rules r m → q.gates ≡ gates_after rules r m → q.rights ≡ rights_after rules r m q.cells → sound_right rules r side wing ≡ true → sound_right rules q side wing ≡ true
 unfolding sound_right
@@ -252,8 +252,8 @@ right_after rules r q m side wing ready cells gates rights sound =
     let kept : keeps_right rules r m q.cells side wing ≡ true = sym (rights_after-is rules r m q.cells side wing) ∙ subst (λ rs. holds_right rs side wing ≡ true) rights h in
     let k = kept_parts rules r m q.cells side wing kept in
     let before = right_before rules r side wing sound k.0 in
-    let a = both_of _ (sound_rook rules r.gates side (rook_file rules r.cells side wing)) before in
-    let b = both_of (castling_on rules) (is_own_king rules side (cell_at r.cells (castling_square rules side rules.castle_king))) a.0 in
+    let a = and_parts _ (sound_rook rules r.gates side (rook_file rules r.cells side wing)) before in
+    let b = and_parts (castling_on rules) (is_own_king rules side (cell_at r.cells (castling_square rules side rules.castle_king))) a.0 in
     let z = own_there side (is_king rules) (cell_at r.cells (castling_square rules side rules.castle_king)) b.1 in
     let entered = king_not_entered rules r m side (castling_square rules side rules.castle_king) ready b.1 k.1 in
     let there : cell_at q.cells (castling_square rules side rules.castle_king) ≡ Some z.0 = ap (λ cs. cell_at cs (castling_square rules side rules.castle_king)) cells ∙ stands rules r m (castling_square rules side rules.castle_king) z.0 ready z.1 (no_pawn_of rules ready.fit z.0.kind ready.kinds z.3) k.1 entered in
