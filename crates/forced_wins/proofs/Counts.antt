@@ -2,6 +2,7 @@
 use Rattle.std.proofs.Common.{◌≡◌, ◌⊎◌, inl, inr, ℕ, ◌+◌, ◌<◌, ◌≤◌, List, [], ◌∷◌, ◌++◌, Bool, true, false, Option, Some, None, cond, nat_le, nat_lt, ◌==◌, ◌&&◌, refl, ap, sym, ◌∙◌, arith}
 use Rattle.std.proofs.lemmas.Bool.Decides.{nat_tests}
 use Rattle.std.proofs.lemmas.List.Sums.{sum_by-cons, sum_by-append}
+use Rattle.foundation.specs.Member.{Member}
 use Rattle.forced_wins.specs.Games.{Game, GameLaws, times}
 
 pub by_cases : {C : Type 0} (b : Bool) → (b ≡ true → C) → (b ≡ false → C) → C
@@ -28,6 +29,9 @@ le_true m n h = grind (arith, nat_tests)
 
 pub eq_from : (m n : ℕ) → (m == n) ≡ true → m ≡ n
 eq_from m n h = grind (arith, nat_tests)
+
+pub eq_to : (m n : ℕ) → m ≡ n → (m == n) ≡ true
+eq_to m n h = grind (arith, nat_tests)
 
 -- two tests of one fact are one
 pub same_from : (a b : Bool) → (a ≡ true → b ≡ true) → (b ≡ true → a ≡ true) → a ≡ b
@@ -72,6 +76,13 @@ module _ {P R M : Type 0} (r : Game P R M) (l : GameLaws P R M r) where
   times-test x p ps b e =
       let h = sum_by-cons (λ q. cond (r.same (r.repeat q) x) 1 0) p ps in
       let c : ◌≡◌ {A = ℕ} (cond (r.same (r.repeat p) x) 1 0) (cond b 1 0) = ap (λ t. cond t 1 0) e in omega arith
+
+  -- a repeat that none of the positions has
+  pub times_none : (x : R) (ps : List P) → ((q : P) → Member q ps → r.repeat q ≡ x → ⊥) → times r x ps ≡ 0
+  times_none x [] f = none_stand r x
+  times_none x (p ∷ ps) f =
+      let h = times-test x p ps false (not_true (r.same (r.repeat p) x) (λ t. f p (inl refl) ((l.decides (r.repeat p) x).0 t))) in
+      let k = times_none x ps (λ q m. f q (inr m)) in omega arith
 
   times-push : (x : R) (p : P) (ps : List P) → times r x (ps ++ p ∷ []) ≡ times r x ps + cond (r.same (r.repeat p) x) 1 0
   unfolding times

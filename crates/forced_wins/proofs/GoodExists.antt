@@ -5,15 +5,16 @@ use Rattle.foundation.specs.Member.{Member}
 use Rattle.forced_wins.specs.Contests.{decided, within}
 use Rattle.forced_wins.specs.Games.{Game, GameLaws, Story, history, times, run_out, repeated, plus, lost_if, or_end, of_games, of_positions, wins, blocked}
 use Rattle.forced_wins.specs.PlainTables.{Edge, Node, plain}
-use Rattle.forced_wins.specs.Tables.{is_doubled, has_edge, AreFaultless}
+use Rattle.forced_wins.specs.Tables.{is_doubled, has_edge}
 use Rattle.forced_wins.proofs.ContestLaws.{if_mono, any_mono, all_mono, within-mono, double, double-is, forced-attacking, forced-other}
-use Rattle.forced_wins.proofs.Counts.{by_cases, not_true, own_cases, tests_none, below_fold, none_stand, times-test, times_here, times_other}
+use Rattle.forced_wins.proofs.Counts.{by_cases, not_true, own_cases, tests_none, below_fold, times_none, times_here, times_other}
 use Rattle.forced_wins.proofs.NearLaws.{uncounted, free, free-same, within-free, within-positions, of_games-turns}
-use Rattle.forced_wins.proofs.Lists.{listed, once_in, apart_alone, mapped, map_at}
+use Rattle.forced_wins.proofs.Lists.{listed, once_in, apart_alone, mapped, map_at, map_member}
 use Rattle.forced_wins.proofs.ShortestWins as S
 use Rattle.forced_wins.proofs.ShortestWins.{PlyWins, Shortest, shortest, rank_of, falls_at, doubled}
 use Rattle.forced_wins.proofs.Plans.{Fits, IsPlan, plan-good, one_node}
 use Rattle.forced_wins.proofs.ClaimLaws.{forced-ended}
+use Rattle.forced_wins.proofs.Writings.{Writing, GoodTable}
 
 live_step : (o : Option Bool) (y t : Bool) → o ≡ None → decided (or_end o (lost_if (y || false))) t ≡ true → (y ≡ false) × (t ≡ true)
 live_step None true t e h = cc
@@ -26,13 +27,7 @@ won_step (Some u) y t w e h = let k : u ≡ w = cc in sym k ∙ h
 
 -- ---- the plan
 
-module _ {P R M : Type 0} (r : Game P R M) (l : GameLaws P R M r) (at : P → ℕ → P) (at-repeat : (p : P) (c : ℕ) → r.repeat (at p c) ≡ r.repeat p) (at-counter : (p : P) (c : ℕ) → r.counter (at p c) ≡ c) (apart : (p : P) → doubled r.same_move (r.legal p) ≡ false) (g : Story P) where
-  times_none : (x : R) (ps : List P) → ((q : P) → Member q ps → r.repeat q ≡ x → ⊥) → times r x ps ≡ 0
-  times_none x [] f = none_stand r x
-  times_none x (p ∷ ps) f =
-      let h = times-test r l x p ps false (not_true (r.same (r.repeat p) x) (λ t. f p (inl refl) ((l.decides (r.repeat p) x).0 t))) in
-      let k = times_none x ps (λ q m. f q (inr m)) in omega arith
-
+module _ {P R M : Type 0} (r : Game P R M) (l : GameLaws P R M r) {Reached Written : P → Type 0} (writing : Writing P R M r Reached Written) (apart : (p : P) → doubled r.same_move (r.legal p) ≡ false) (g : Story P) (start : Reached g.last) where
   abbrev W : ℕ → P → Bool
   W t p = free r l (blocked r g) t p
 
@@ -87,7 +82,7 @@ module _ {P R M : Type 0} (r : Game P R M) (l : GameLaws P R M r) (at : P → �
     room = r.counter g.last + x.plies
 
     node_of : P → Node P M
-    node_of p = record { position = at p (room - budget p); rank = rank_of (r.attacking p) (budget p); edges = S.edges_at r ways g.last x p (r.own p) (r.attacking p) }
+    node_of p = record { position = writing.at p (room - budget p); rank = rank_of (r.attacking p) (budget p); edges = S.edges_at r ways g.last x p (r.own p) (r.attacking p) }
 
     table : List (Node P M)
     table = map node_of all
@@ -99,19 +94,16 @@ module _ {P R M : Type 0} (r : Game P R M) (l : GameLaws P R M r) (at : P → �
         let y = S.led r ways g.last x p s m k w in
         let low = y.3 in
         let most = y.4 in
-        let here = at-counter p (room - budget p) in
-        let there = at-counter y.0 (room - budget y.0) in
-        let up = l.rises (at p (room - budget p)) m in
         let is = s.is in
         let near = s.near in
-        let turn : r.attacking (at p (room - budget p)) ≡ r.attacking p = l.same_turn _ _ (at-repeat p _) in
+        let turn : r.attacking (writing.at p (room - budget p)) ≡ r.attacking p = l.same_turn _ _ (writing.at_repeat p _) in
         let next : r.attacking y.0 ≡ not (r.attacking p) = l.same_turn y.0 (r.next p m) y.2 ∙ l.turns p m in
         record {
           node = node_of y.0;
           stands = map_at node_of all _ y.0 y.1;
-          legal = subst (Member m) (sym (l.same_legal _ p (at-repeat p _))) k;
-          same = at-repeat y.0 _ ∙ y.2 ∙ sym (l.same_next _ p m (at-repeat p _));
-          covers = omega arith;
+          legal = subst (Member m) (sym (l.same_legal _ p (writing.at_repeat p _))) k;
+          same = writing.at_repeat y.0 _ ∙ y.2 ∙ sym (l.same_next _ p m (writing.at_repeat p _));
+          covers = writing.at_next p y.0 m (room - budget p) (room - budget y.0) (omega arith);
           falls = rw (turn, next, is) (falls_at (r.attacking p) s.left (budget y.0) low);
         }
 
@@ -120,8 +112,15 @@ module _ {P R M : Type 0} (r : Game P R M) (l : GameLaws P R M r) (at : P → �
     unfolding table
     node_at i v h = let k = mapped node_of all i v h in (k.0, k.1, k.2, listed all i k.0 k.1)
 
-    own-at : (p : P) (c : ℕ) → r.own (at p c) ≡ r.own p
-    own-at p c = l.same_own (at p c) p (at-repeat p c)
+    written : (v : Node P M) → Member v table → Written v.position
+    unfolding table node_of
+    written v k =
+        let u = map_member node_of all v k in
+        let reached = S.all-keeps r ways g.last x Reached writing.goes_on start u.0 u.1 in
+        subst (λ y. Written y.position) u.2 (writing.at_written u.0 (room - budget u.0) reached)
+
+    own-at : (p : P) (c : ℕ) → r.own (writing.at p c) ≡ r.own p
+    own-at p c = l.same_own (writing.at p c) p (writing.at_repeat p c)
 
     ended_node : (p : P) → Member p all → (w : Bool) → r.own (node_of p).position ≡ Some w → (w ≡ true) × ((node_of p).edges ≡ [])
     unfolding node_of
@@ -131,7 +130,7 @@ module _ {P R M : Type 0} (r : Game P R M) (l : GameLaws P R M r) (at : P → �
     unfolding node_of run_out room
     counted_node low p i e =
         let s = (S.facts r ways g.last x p i).1 (sym (own-at p _) ∙ e) in
-        let c = at-counter p (room - budget p) in
+        let c = writing.at_low p (room - budget p) in
         let is = s.is in
         let near = s.near in
         tests_none r.limit _ (under r.limit room _ low (omega arith))
@@ -145,7 +144,7 @@ module _ {P R M : Type 0} (r : Game P R M) (l : GameLaws P R M r) (at : P → �
     attack_node p i e m =
         let live = sym (own-at p _) ∙ e in
         let s = (S.facts r ways g.last x p i).1 live in
-        let u = S.attack-edge r ways g.last x p s live (sym (l.same_turn _ p (at-repeat p _)) ∙ m) in
+        let u = S.attack-edge r ways g.last x p s live (sym (l.same_turn _ p (writing.at_repeat p _)) ∙ m) in
         (edge p u.0, u.1, fits p s u.0 u.2 u.3)
 
     defence_node : (p : P) → Member p all → r.own (node_of p).position ≡ None → r.attacking (node_of p).position ≡ false → (is_doubled r plain (node_of p).edges ≡ false) × ((m : M) → Member m (r.legal (node_of p).position) → has_edge r plain (node_of p) m ≡ true) × ((e : Edge M) → Member e (node_of p).edges → Fits r plain l table (node_of p) e)
@@ -153,9 +152,9 @@ module _ {P R M : Type 0} (r : Game P R M) (l : GameLaws P R M r) (at : P → �
     defence_node p i e m =
         let live = sym (own-at p _) ∙ e in
         let s = (S.facts r ways g.last x p i).1 live in
-        let u = S.defence-edges r ways g.last x l p s live (sym (l.same_turn _ p (at-repeat p _)) ∙ m) (apart p) (node_of p).edges refl in (
+        let u = S.defence-edges r ways g.last x l p s live (sym (l.same_turn _ p (writing.at_repeat p _)) ∙ m) (apart p) (node_of p).edges refl in (
           u.0,
-          λ c k. u.1 c (subst (Member c) (l.same_legal _ p (at-repeat p _)) k),
+          λ c k. u.1 c (subst (Member c) (l.same_legal _ p (writing.at_repeat p _)) k),
           λ f k. let v = u.2 f k in subst (λ y. Fits r plain l table (node_of p) y) v.2 (fits p s v.0 v.1 v.3),
         )
 
@@ -166,7 +165,7 @@ module _ {P R M : Type 0} (r : Game P R M) (l : GameLaws P R M r) (at : P → �
     few_ended : (p : P) → 0 < r.fold → (w : Bool) → r.own p ≡ Some w → times r (r.repeat p) (history g) + 1 < r.fold
     unfolding repeated
     few_ended p h w e =
-        let none = times_none (r.repeat p) g.earlier (λ q k s. let a = l.same_own q p s in let b = played q k in cc) in
+        let none = times_none r l (r.repeat p) g.earlier (λ q k s. let a = l.same_own q p s in let b = played q k in cc) in
         let last = times_other r l (r.repeat p) g.last g.earlier (λ s. let a = l.same_own g.last p s in let o = x.own in cc) in
         let here = times_here r l (r.repeat g.last) g.last g.earlier refl in
         let open_now = below_fold r.fold _ open_game h in
@@ -180,7 +179,7 @@ module _ {P R M : Type 0} (r : Game P R M) (l : GameLaws P R M r) (at : P → �
     places i j v w a d e =
         let k = node_at i v a in
         let n = node_at j w d in
-        apart_alone r.same l.decides r.repeat all (S.apart_all r ways g.last x) i j k.0 n.0 k.1 n.1 (sym (at-repeat k.0 _) ∙ ap (λ u. r.repeat u.position) k.2 ∙ e ∙ sym (ap (λ u. r.repeat u.position) n.2) ∙ at-repeat n.0 _)
+        apart_alone r.same l.decides r.repeat all (S.apart_all r ways g.last x) i j k.0 n.0 k.1 n.1 (sym (writing.at_repeat k.0 _) ∙ ap (λ u. r.repeat u.position) k.2 ∙ e ∙ sym (ap (λ u. r.repeat u.position) n.2) ∙ writing.at_repeat n.0 _)
 
     not_run : (p : P) → (r.limit ≡ 0) ⊎ (room ≤ r.limit) → run_out r (r.counter g.last) ≡ false
     unfolding run_out room
@@ -192,12 +191,11 @@ module _ {P R M : Type 0} (r : Game P R M) (l : GameLaws P R M r) (at : P → �
     plan n rank low =
         let size = S.small r ways g.last x in
         let root = S.budget-root r ways g.last x in
-        let c = at-counter g.last (room - budget g.last) in
         record {
           root = node_of g.last;
           stands = refl;
-          same = at-repeat g.last _;
-          covers = omega arith;
+          same = writing.at_repeat g.last _;
+          covers = writing.at_high g.last (room - budget g.last) start (omega arith);
           rank = subst (λ y. rank_of (r.attacking g.last) y ≤ n) (sym root) rank;
           ended = λ i v h. let k = node_at i v h in subst (λ u. (w : Bool) → r.own u.position ≡ Some w → (w ≡ true) × (u.edges ≡ [])) k.2 (ended_node k.0 k.3);
           counted = λ i v h. let k = node_at i v h in subst (λ u. r.own u.position ≡ None → run_out r (r.counter u.position) ≡ false) k.2 (counted_node low k.0 k.3);
@@ -207,7 +205,7 @@ module _ {P R M : Type 0} (r : Game P R M) (l : GameLaws P R M r) (at : P → �
           alone = λ i v h e. let z = places (suc i) 0 v (node_of g.last) h refl e in omega arith;
           few = λ i v h q.
               let k = node_at (suc i) v h in
-              let e : r.repeat k.0 ≡ r.repeat v.position = sym (at-repeat k.0 _) ∙ ap (λ u. r.repeat u.position) k.2 in
+              let e : r.repeat k.0 ≡ r.repeat v.position = sym (writing.at_repeat k.0 _) ∙ ap (λ u. r.repeat u.position) k.2 in
               let one = one_node r plain l table places (r.repeat v.position) in
               let few = subst (λ y. times r y (history g) + 1 < r.fold) e (few_times k.0 (once_in r.same l.decides r.repeat tail k.0 (listed rest i k.0 k.1)) q) in omega arith;
           start = λ _. (open_game, not_run g.last low);
@@ -231,42 +229,55 @@ module _ {P R M : Type 0} (r : Game P R M) (l : GameLaws P R M r) (at : P → �
       (if_mono (r.attacking g.last) _ _ _ _ (any_mono _ _ (r.legal g.last) down) (all_mono _ _ (r.legal g.last) down) k.1, k.0)
 
   -- an ongoing game
-  live_good : (n T : ℕ) → r.own g.last ≡ None → ((p : P) → Member p g.earlier → r.own p ≡ None) → within (of_games r) T g ≡ true → ((b : ℕ) → suc b ≤ T → rank_of (r.attacking g.last) (suc b) ≤ n) → (r.limit ≡ 0) ⊎ (r.counter g.last + T ≤ r.limit) → (s : List (Node P M)) × AreFaultless P R M (Node P M) (Edge M) r plain s g n
+  live_good : (n T : ℕ) → r.own g.last ≡ None → ((p : P) → Member p g.earlier → r.own p ≡ None) → within (of_games r) T g ≡ true → ((b : ℕ) → suc b ≤ T → rank_of (r.attacking g.last) (suc b) ≤ n) → (r.limit ≡ 0) ⊎ (r.counter g.last + T ≤ r.limit) → GoodTable P R M r Written g n
   unfolding room
   live_good n T own played h rank low =
       let k = root_from T own h in
       let x = shortest r ways g.last own T k.0 in
       let p = plan x.0 played k.1 n (rank x.0.left x.2) (subst (λ t. (r.limit ≡ 0) ⊎ (r.counter g.last + t ≤ r.limit)) (sym x.1) low) in
-      (table x.0 played k.1, plan-good r plain l (table x.0 played k.1) g n p)
+      record { nodes = table x.0 played k.1; faultless = plan-good r plain l (table x.0 played k.1) g n p; written = written x.0 played k.1 }
+
+  abbrev root_alone : Node P M
+  root_alone = record { position = writing.exact g.last; rank = 0; edges = [] }
 
   -- an ended game that is won has a strategy of one node
-  pub ended_plan : (w : Bool) → r.own g.last ≡ Some w → w ≡ true → (n : ℕ) → IsPlan r plain l (record { position = g.last; rank = 0; edges = [] } ∷ []) g n
-  ended_plan w own won n = record {
-    root = record { position = g.last; rank = 0; edges = [] };
-    stands = refl;
-    same = refl;
-    covers = omega arith;
-    rank = omega arith;
-    ended = λ i v h u e. let k = alone_at i v h in (let a = ap (λ (x : Node P M). r.own x.position) k in cc, sym (ap (λ (x : Node P M). x.edges) k));
-    counted = λ i v h e. let k = alone_at i v h in let a = ap (λ (x : Node P M). r.own x.position) k in cc;
-    attack = λ i v h e m. let k = alone_at i v h in let a = ap (λ (x : Node P M). r.own x.position) k in let z : Some w ≡ None = sym own ∙ a ∙ e in cc;
-    defence = λ i v h e m. let k = alone_at i v h in let a = ap (λ (x : Node P M). r.own x.position) k in let z : Some w ≡ None = sym own ∙ a ∙ e in cc;
-    differ = λ i j u v a b e _. one_place i j u v a b;
-    alone = λ i v h e. cc;
-    few = λ i v h q. cc;
-    start = λ e. let z : Some w ≡ None = sym own ∙ e in cc;
-  }
+  ended_plan : (w : Bool) → r.own g.last ≡ Some w → w ≡ true → (n : ℕ) → IsPlan r plain l (root_alone ∷ []) g n
+  ended_plan w own won n =
+      let count = writing.exact_counter g.last in
+      let here : r.own (writing.exact g.last) ≡ Some w = l.same_own _ g.last (writing.exact_repeat g.last) ∙ own in
+      record {
+        root = root_alone;
+        stands = refl;
+        same = writing.exact_repeat g.last;
+        covers = omega arith;
+        rank = omega arith;
+        ended = λ i v h u e. let k = alone_at i v h in (let a = ap (λ (x : Node P M). r.own x.position) k in cc, sym (ap (λ (x : Node P M). x.edges) k));
+        counted = λ i v h e. let k = alone_at i v h in let a = ap (λ (x : Node P M). r.own x.position) k in cc;
+        attack = λ i v h e m. let k = alone_at i v h in let a = ap (λ (x : Node P M). r.own x.position) k in let z : Some w ≡ None = sym here ∙ a ∙ e in cc;
+        defence = λ i v h e m. let k = alone_at i v h in let a = ap (λ (x : Node P M). r.own x.position) k in let z : Some w ≡ None = sym here ∙ a ∙ e in cc;
+        differ = λ i j u v a b e _. one_place i j u v a b;
+        alone = λ i v h e. cc;
+        few = λ i v h q. cc;
+        start = λ e. let z : Some w ≡ None = sym own ∙ e in cc;
+      }
     where
-      alone_at : (i : ℕ) (v : Node P M) → slice_get (record { position = g.last; rank = 0; edges = [] } ∷ []) i ≡ Some v → record { position = g.last; rank = 0; edges = [] } ≡ v
+      alone_at : (i : ℕ) (v : Node P M) → slice_get (root_alone ∷ []) i ≡ Some v → root_alone ≡ v
       alone_at zero v h = cc
       alone_at (suc i) v h = cc
 
-      one_place : (i j : ℕ) (u v : Node P M) → slice_get (record { position = g.last; rank = 0; edges = [] } ∷ []) i ≡ Some u → slice_get (record { position = g.last; rank = 0; edges = [] } ∷ []) j ≡ Some v → i ≡ j
+      one_place : (i j : ℕ) (u v : Node P M) → slice_get (root_alone ∷ []) i ≡ Some u → slice_get (root_alone ∷ []) j ≡ Some v → i ≡ j
       one_place zero zero u v a b = refl
       one_place zero (suc j) u v a b = cc
       one_place (suc i) j u v a b = cc
 
-  live_mine : (n : ℕ) → r.own g.last ≡ None → ((p : P) → Member p g.earlier → r.own p ≡ None) → (r.limit ≡ 0) ⊎ (r.counter g.last + (n + n) < r.limit) → wins r n g ≡ true → r.attacking g.last ≡ true → (s : List (Node P M)) × AreFaultless P R M (Node P M) (Edge M) r plain s g n
+  pub ended_table : (w : Bool) → r.own g.last ≡ Some w → w ≡ true → (n : ℕ) → GoodTable P R M r Written g n
+  ended_table w own won n = record { nodes = root_alone ∷ []; faultless = plan-good r plain l (root_alone ∷ []) g n (ended_plan w own won n); written = alone }
+    where
+      alone : (v : Node P M) → Member v (root_alone ∷ []) → Written v.position
+      alone v (inl e) = subst (λ (x : Node P M). Written x.position) e (writing.exact_written g.last start)
+      alone v (inr k) = absurd k
+
+  live_mine : (n : ℕ) → r.own g.last ≡ None → ((p : P) → Member p g.earlier → r.own p ≡ None) → (r.limit ≡ 0) ⊎ (r.counter g.last + (n + n) < r.limit) → wins r n g ≡ true → r.attacking g.last ≡ true → GoodTable P R M r Written g n
   live_mine n own played low h m =
       let d = double-is n in
       live_good n (double n) own played (sym (forced-attacking (of_games r) (of_games-turns r l) n g m) ∙ h)
@@ -276,7 +287,7 @@ module _ {P R M : Type 0} (r : Game P R M) (l : GameLaws P R M r) (at : P → �
       enough (inl e) = inl e
       enough (inr k) = let d = double-is n in inr (omega arith)
 
-  live_other : (n : ℕ) → r.own g.last ≡ None → ((p : P) → Member p g.earlier → r.own p ≡ None) → (r.limit ≡ 0) ⊎ (r.counter g.last + (n + n) < r.limit) → wins r n g ≡ true → r.attacking g.last ≡ false → (s : List (Node P M)) × AreFaultless P R M (Node P M) (Edge M) r plain s g n
+  live_other : (n : ℕ) → r.own g.last ≡ None → ((p : P) → Member p g.earlier → r.own p ≡ None) → (r.limit ≡ 0) ⊎ (r.counter g.last + (n + n) < r.limit) → wins r n g ≡ true → r.attacking g.last ≡ false → GoodTable P R M r Written g n
   live_other n own played low h m =
       let d = double-is n in
       live_good n (suc (double n)) own played (sym (forced-other (of_games r) (of_games-turns r l) n g m) ∙ h)
@@ -290,8 +301,8 @@ module _ {P R M : Type 0} (r : Game P R M) (l : GameLaws P R M r) (at : P → �
   ended_wins n w e h = sym (forced-ended (of_games r) n g w (rw e)) ∙ h
 
   -- what is won, where the counter does not run out, has a good strategy
-  pub exists-good : (n : ℕ) → ((p : P) → Member p g.earlier → r.own p ≡ None) → (r.limit ≡ 0) ⊎ (r.counter g.last + (n + n) < r.limit) → wins r n g ≡ true → (s : List (Node P M)) × AreFaultless P R M (Node P M) (Edge M) r plain s g n
+  pub exists-good : (n : ℕ) → ((p : P) → Member p g.earlier → r.own p ≡ None) → (r.limit ≡ 0) ⊎ (r.counter g.last + (n + n) < r.limit) → wins r n g ≡ true → GoodTable P R M r Written g n
   exists-good n played low h =
       own_cases (r.own g.last)
-      (λ w e. let p = ended_plan w e (ended_wins n w e h) n in (record { position = g.last; rank = 0; edges = [] } ∷ [], plan-good r plain l _ g n p))
+      (λ w e. ended_table w e (ended_wins n w e h) n)
       (λ e. by_cases (r.attacking g.last) (live_mine n e played low h) (live_other n e played low h))

@@ -4,7 +4,9 @@ pub mod NearLaws
 pub mod TableLaws
 pub mod GoodWins
 pub mod ClaimLaws
+pub mod RootLaws
 pub mod Plans
+pub mod Writings
 pub mod Lists
 pub mod ShortestWins
 pub mod GoodExists

@@ -23,6 +23,16 @@ in_either x (y ∷ xs) ys (inr k) = widen (in_either x xs ys k)
     widen (inl k) = inl (inr k)
     widen (inr k) = inr k
 
+-- two different numbers, each at one place
+pub two : (m n : ℕ) → (m ≡ n → ⊥) → (i j c : ℕ) → slice_get (m ∷ n ∷ []) i ≡ Some c → slice_get (m ∷ n ∷ []) j ≡ Some c → i ≡ j
+two m n d zero zero c a b = refl
+two m n d zero (suc zero) c a b = absurd (d (let e : m ≡ c = cc in let f : n ≡ c = cc in cc))
+two m n d zero (suc (suc j)) c a b = cc
+two m n d (suc zero) zero c a b = absurd (d (let e : m ≡ c = cc in let f : n ≡ c = cc in cc))
+two m n d (suc zero) (suc zero) c a b = refl
+two m n d (suc zero) (suc (suc j)) c a b = cc
+two m n d (suc (suc i)) j c a b = cc
+
 -- the lists of the elements that pass, end to end
 pub gather : {X Y : Type 0} → (Y → Bool) → (Y → List X) → List Y → List X
 gather t f [] = []

@@ -8,16 +8,17 @@ use Rattle.foundation.specs.Member.{Member}
 use Rattle.forced_wins.specs.Contests.{decided, within}
 use Rattle.forced_wins.specs.Games.{Game, GameLaws, Story, history, times, run_out, repeated, lost_if, or_end, of_positions, blocked, near_attack, near_defence, near_root}
 use Rattle.forced_wins.specs.PlainTables.{Edge, Node, plain}
-use Rattle.forced_wins.specs.Tables.{nodes_of, is_doubled, has_edge, AreFaultless}
+use Rattle.forced_wins.specs.Tables.{nodes_of, is_doubled, has_edge}
 use Rattle.forced_wins.proofs.ContestLaws.{any_mono, all_mono, within-mono, double, double-is}
-use Rattle.forced_wins.proofs.Counts.{by_cases, not_true, true_false, tests_from, below_fold, and_true, eq_from}
+use Rattle.forced_wins.proofs.Counts.{by_cases, not_true, true_false, tests_from, below_fold, and_true, eq_from, eq_to}
 use Rattle.forced_wins.proofs.ClaimLaws.{within-lower}
 use Rattle.forced_wins.proofs.NearLaws.{near-attack, near-defence}
 use Rattle.forced_wins.proofs.TableLaws.{any_member, both, neither}
-use Rattle.forced_wins.proofs.Lists.{gathered, listed, once_in, Apart, apart_once, apart_alone, mapped, map_at, map_member}
+use Rattle.forced_wins.proofs.Lists.{two, gathered, listed, once_in, Apart, apart_once, apart_alone, mapped, map_at, map_member}
 use Rattle.forced_wins.proofs.ShortestWins as S
 use Rattle.forced_wins.proofs.ShortestWins.{PlyWins, Shortest, shortest, rank_of, falls_at, doubled}
 use Rattle.forced_wins.proofs.Plans.{Fits, IsPlan, plan-good}
+use Rattle.forced_wins.proofs.Writings.{Writing, GoodTable}
 
 live_step : (o : Option Bool) (y z t : Bool) → o ≡ None → decided (or_end o (lost_if (y || z))) t ≡ true → (y ≡ false) × (z ≡ false) × (t ≡ true)
 live_step None true z t e h = cc
@@ -29,9 +30,6 @@ won_step : (o : Option Bool) (y z t w : Bool) → o ≡ Some w → decided (or_e
 won_step None y z t w e h = cc
 won_step (Some u) y z t w e h = let k : u ≡ w = cc in sym k ∙ h
 
-eq_to : (m n : ℕ) → m ≡ n → (m == n) ≡ true
-eq_to m n h = grind (arith, nat_tests)
-
 none_passes : {X : Type 0} (f : X → Bool) (xs : List X) → list_any f xs ≡ false → (x : X) → Member x xs → f x ≡ false
 none_passes f [] h x k = absurd k
 none_passes f (y ∷ ys) h x (inl e) = sym (ap f e) ∙ (neither (f y) (list_any f ys) h).0
@@ -40,15 +38,6 @@ none_passes f (y ∷ ys) h x (inr k) = none_passes f ys (neither (f y) (list_any
 or_right_of : (a b : Bool) → a ≡ false → (a || b) ≡ true → b ≡ true
 or_right_of true b h k = cc
 or_right_of false b h k = k
-
-two : (m n : ℕ) → (m ≡ n → ⊥) → (i j c : ℕ) → slice_get (m ∷ n ∷ []) i ≡ Some c → slice_get (m ∷ n ∷ []) j ≡ Some c → i ≡ j
-two m n d zero zero c a b = refl
-two m n d zero (suc zero) c a b = absurd (d (let e : m ≡ c = cc in let f : n ≡ c = cc in cc))
-two m n d zero (suc (suc j)) c a b = cc
-two m n d (suc zero) zero c a b = absurd (d (let e : m ≡ c = cc in let f : n ≡ c = cc in cc))
-two m n d (suc zero) (suc zero) c a b = refl
-two m n d (suc zero) (suc (suc j)) c a b = cc
-two m n d (suc (suc i)) j c a b = cc
 
 kept_head : {X : Type 0} (f : X → Bool) (y x : X) (ys : List X) → f y ≡ true → Member x (y ∷ filter f ys) → (Member x (filter f ys) → Member x ys × (f x ≡ true)) → Member x (y ∷ ys) × (f x ≡ true)
 kept_head f y x ys e (inl h) g = (inl h, sym (ap f h) ∙ e)
@@ -76,7 +65,7 @@ pub record Key (R : Type 0) : Type 0 where
   pub of : R
   pub count : ℕ
 
-module _ {P R M : Type 0} (r : Game P R M) (l : GameLaws P R M r) (apart : (p : P) → doubled r.same_move (r.legal p) ≡ false) (g : Story P) where
+module _ {P R M : Type 0} (r : Game P R M) (l : GameLaws P R M r) {Reached Written : P → Type 0} (writing : Writing P R M r Reached Written) (apart : (p : P) → doubled r.same_move (r.legal p) ≡ false) (g : Story P) (start : Reached g.last) where
   abbrev W : ℕ → P → Bool
   W t p = within (of_positions r (blocked r g)) t p
 
@@ -150,10 +139,17 @@ module _ {P R M : Type 0} (r : Game P R M) (l : GameLaws P R M r) (apart : (p : 
     edge = S.edge r ways g.last x
 
     node_of : P → Node P M
-    node_of p = record { position = p; rank = rank_of (r.attacking p) (budget p); edges = S.edges_at r ways g.last x p (r.own p) (r.attacking p) }
+    node_of p = record { position = writing.exact p; rank = rank_of (r.attacking p) (budget p); edges = S.edges_at r ways g.last x p (r.own p) (r.attacking p) }
 
     table : List (Node P M)
     table = map node_of all
+
+    -- a position as its node has it has the same repeat and counter
+    own-exact : (p : P) → r.own (writing.exact p) ≡ r.own p
+    own-exact p = l.same_own _ p (writing.exact_repeat p)
+
+    turn-exact : (p : P) → r.attacking (writing.exact p) ≡ r.attacking p
+    turn-exact p = l.same_turn _ p (writing.exact_repeat p)
 
     fits : (p : P) (s : S.Step r ways g.last x p) (m : M) → Member m (r.legal p) → W s.left (r.next p m) ≡ true → Fits r plain l table (node_of p) (edge p m)
     unfolding table node_of
@@ -162,41 +158,60 @@ module _ {P R M : Type 0} (r : Game P R M) (l : GameLaws P R M r) (apart : (p : 
         let is = s.is in
         let same : r.repeat y.0 ≡ r.repeat (r.next p m) = ap (λ (z : Key R). z.of) y.2 in
         let count : r.counter y.0 ≡ r.counter (r.next p m) = ap (λ (z : Key R). z.count) y.2 in
+        let here = writing.exact_counter p in
+        let there = writing.exact_counter y.0 in
+        let up = l.lower (writing.exact p) p m (writing.exact_repeat p) (omega arith) in
         let next : r.attacking y.0 ≡ not (r.attacking p) = l.same_turn y.0 (r.next p m) same ∙ l.turns p m in
         record {
           node = node_of y.0;
           stands = map_at node_of all _ y.0 y.1;
-          legal = k;
-          same = same;
+          legal = subst (Member m) (sym (l.same_legal _ p (writing.exact_repeat p))) k;
+          same = writing.exact_repeat y.0 ∙ same ∙ sym (l.same_next _ p m (writing.exact_repeat p));
           covers = omega arith;
-          falls = rw (next, is) (falls_at (r.attacking p) s.left (budget y.0) y.3);
+          falls = rw (turn-exact p, next, is) (falls_at (r.attacking p) s.left (budget y.0) y.3);
         }
 
     node_at : (i : ℕ) (v : Node P M) → slice_get table i ≡ Some v → (p : P) × (slice_get all i ≡ Some p) × (node_of p ≡ v) × Member p all
     unfolding table
     node_at i v h = let k = mapped node_of all i v h in (k.0, k.1, k.2, listed all i k.0 k.1)
 
-    ended_node : (p : P) → Member p all → (w : Bool) → r.own p ≡ Some w → (w ≡ true) × ((node_of p).edges ≡ [])
-    unfolding node_of
-    ended_node p i w e = ((S.facts r ways g.last x p i).0 w e, S.ended-edges r ways g.last x p w e)
+    written : (v : Node P M) → Member v table → Written v.position
+    unfolding table node_of
+    written v k =
+        let u = map_member node_of all v k in
+        let reached = S.all-keeps r ways g.last x Reached writing.goes_on start u.0 u.1 in
+        subst (λ y. Written y.position) u.2 (writing.exact_written u.0 reached)
 
-    counted_node : (p : P) → Member p all → r.own p ≡ None → run_out r (r.counter p) ≡ false
-    counted_node p (inl e) h = subst (λ q. run_out r (r.counter q) ≡ false) e open_count
-    counted_node p (inr k) h = let u = S.from_tail r ways g.last x p (once_in same_key key_decides key tail p k) in (W-live u.0 p h u.2).2
-
-    attack_node : (p : P) → Member p all → r.own p ≡ None → r.attacking p ≡ true → (e : Edge M) × ((node_of p).edges ≡ e ∷ []) × Fits r plain l table (node_of p) e
+    ended_node : (p : P) → Member p all → (w : Bool) → r.own (node_of p).position ≡ Some w → (w ≡ true) × ((node_of p).edges ≡ [])
     unfolding node_of
-    attack_node p i live attacking =
+    ended_node p i w e = let own = sym (own-exact p) ∙ e in ((S.facts r ways g.last x p i).0 w own, S.ended-edges r ways g.last x p w own)
+
+    counted_at : (p : P) → Member p all → r.own p ≡ None → run_out r (r.counter p) ≡ false
+    counted_at p (inl e) h = subst (λ q. run_out r (r.counter q) ≡ false) e open_count
+    counted_at p (inr k) h = let u = S.from_tail r ways g.last x p (once_in same_key key_decides key tail p k) in (W-live u.0 p h u.2).2
+
+    counted_node : (p : P) → Member p all → r.own (node_of p).position ≡ None → run_out r (r.counter (node_of p).position) ≡ false
+    unfolding node_of
+    counted_node p i h = ap (run_out r) (writing.exact_counter p) ∙ counted_at p i (sym (own-exact p) ∙ h)
+
+    attack_node : (p : P) → Member p all → r.own (node_of p).position ≡ None → r.attacking (node_of p).position ≡ true → (e : Edge M) × ((node_of p).edges ≡ e ∷ []) × Fits r plain l table (node_of p) e
+    unfolding node_of
+    attack_node p i e attacking =
+        let live = sym (own-exact p) ∙ e in
         let s = (S.facts r ways g.last x p i).1 live in
-        let u = S.attack-edge r ways g.last x p s live attacking in
+        let u = S.attack-edge r ways g.last x p s live (sym (turn-exact p) ∙ attacking) in
         (edge p u.0, u.1, fits p s u.0 u.2 u.3)
 
-    defence_node : (p : P) → Member p all → r.own p ≡ None → r.attacking p ≡ false → (is_doubled r plain (node_of p).edges ≡ false) × ((m : M) → Member m (r.legal p) → has_edge r plain (node_of p) m ≡ true) × ((e : Edge M) → Member e (node_of p).edges → Fits r plain l table (node_of p) e)
+    defence_node : (p : P) → Member p all → r.own (node_of p).position ≡ None → r.attacking (node_of p).position ≡ false → (is_doubled r plain (node_of p).edges ≡ false) × ((m : M) → Member m (r.legal (node_of p).position) → has_edge r plain (node_of p) m ≡ true) × ((e : Edge M) → Member e (node_of p).edges → Fits r plain l table (node_of p) e)
     unfolding node_of
-    defence_node p i live other =
+    defence_node p i e other =
+        let live = sym (own-exact p) ∙ e in
         let s = (S.facts r ways g.last x p i).1 live in
-        let u = S.defence-edges r ways g.last x l p s live other (apart p) (node_of p).edges refl in
-        (u.0, u.1, λ f k. let v = u.2 f k in subst (λ y. Fits r plain l table (node_of p) y) v.2 (fits p s v.0 v.1 v.3))
+        let u = S.defence-edges r ways g.last x l p s live (sym (turn-exact p) ∙ other) (apart p) (node_of p).edges refl in
+        (u.0, λ c k. u.1 c (subst (Member c) (l.same_legal _ p (writing.exact_repeat p)) k), λ f k. let v = u.2 f k in subst (λ y. Fits r plain l table (node_of p) y) v.2 (fits p s v.0 v.1 v.3))
+
+    key-exact : (p : P) → key (writing.exact p) ≡ key p
+    key-exact p i = record { of = writing.exact_repeat p i; count = writing.exact_counter p i }
 
     places : (i j : ℕ) (v w : Node P M) → slice_get table i ≡ Some v → slice_get table j ≡ Some w → r.repeat v.position ≡ r.repeat w.position → r.counter v.position ≡ r.counter w.position → i ≡ j
     unfolding node_of
@@ -204,7 +219,7 @@ module _ {P R M : Type 0} (r : Game P R M) (l : GameLaws P R M r) (apart : (p : 
         let k = node_at i v a in
         let n = node_at j w d in
         let keys : key v.position ≡ key w.position = λ i. record { of = e i; count = h i } in
-        apart_alone same_key key_decides key all (S.apart_all r ways g.last x) i j k.0 n.0 k.1 n.1 (ap (λ u. key u.position) k.2 ∙ keys ∙ sym (ap (λ u. key u.position) n.2))
+        apart_alone same_key key_decides key all (S.apart_all r ways g.last x) i j k.0 n.0 k.1 n.1 (sym (key-exact k.0) ∙ ap (λ u. key u.position) k.2 ∙ keys ∙ sym (ap (λ u. key u.position) n.2) ∙ key-exact n.0)
 
     -- a position that stands in the way of a good strategy
     stands_in_way : P → Bool
@@ -224,8 +239,8 @@ module _ {P R M : Type 0} (r : Game P R M) (l : GameLaws P R M r) (apart : (p : 
         record {
           root = node_of g.last;
           stands = refl;
-          same = refl;
-          covers = omega arith;
+          same = writing.exact_repeat g.last;
+          covers = let count = writing.exact_counter g.last in omega arith;
           rank = subst (λ y. rank_of (r.attacking g.last) y ≤ n) (sym root) rank;
           ended = λ i v h. let k = node_at i v h in subst (λ u. (w : Bool) → r.own u.position ≡ Some w → (w ≡ true) × (u.edges ≡ [])) k.2 (ended_node k.0 k.3);
           counted = λ i v h. let k = node_at i v h in subst (λ u. r.own u.position ≡ None → run_out r (r.counter u.position) ≡ false) k.2 (counted_node k.0 k.3);
@@ -235,20 +250,21 @@ module _ {P R M : Type 0} (r : Game P R M) (l : GameLaws P R M r) (apart : (p : 
           alone = λ i v h e.
               let k = node_at (suc i) v h in
               let t : r.same (r.repeat k.0) (r.repeat g.last) ≡ false = (neither _ _ (none_passes stands_in_way rest clear k.0 (listed rest i k.0 k.1))).0 in
-              let z = (l.decides (r.repeat k.0) (r.repeat g.last)).1 (ap (λ u. r.repeat u.position) k.2 ∙ e) in true_false _ z t;
+              let z = (l.decides (r.repeat k.0) (r.repeat g.last)).1 (sym (writing.exact_repeat k.0) ∙ ap (λ u. r.repeat u.position) k.2 ∙ e ∙ writing.exact_repeat g.last) in true_false _ z t;
           few = λ i v h q.
               let k = node_at (suc i) v h in
               let t = (neither _ _ (none_passes stands_in_way rest clear k.0 (listed rest i k.0 k.1))).1 in
-              subst (λ u. times r (r.repeat u.position) (history g) + nodes_of r plain (r.repeat u.position) table < r.fold) k.2 (below_fold r.fold _ t q);
+              let repeat : r.repeat k.0 ≡ r.repeat v.position = sym (writing.exact_repeat k.0) ∙ ap (λ u. r.repeat u.position) k.2 in
+              subst (λ y. times r y (history g) + nodes_of r plain y table < r.fold) repeat (below_fold r.fold _ t q);
           start = λ _. (open_game, open_count);
         }
 
     -- a good strategy, or a position of the table that stands in the way
-    good-or : (n : ℕ) → rank_of (r.attacking g.last) (suc x.left) ≤ n → AreFaultless P R M (Node P M) (Edge M) r plain table g n ⊎ ((p : P) × Member p rest × (stands_in_way p ≡ true))
+    good-or : (n : ℕ) → rank_of (r.attacking g.last) (suc x.left) ≤ n → GoodTable P R M r Written g n ⊎ ((p : P) × Member p rest × (stands_in_way p ≡ true))
     good-or n rank =
         by_cases (list_any stands_in_way rest)
         (λ h. let u = any_member stands_in_way rest h in inr (u.0, u.1, u.2))
-        (λ h. inl (plan-good r plain l table g n (plan n rank h)))
+        (λ h. inl (record { nodes = table; faultless = plan-good r plain l table g n (plan n rank h); written = written }))
 
     -- the kept repeat, with different counters at which it stands on winning lines
     pub record Evidence : Type 0 where
@@ -279,10 +295,11 @@ module _ {P R M : Type 0} (r : Game P R M) (l : GameLaws P R M r) (apart : (p : 
     unfolding nodes_of table picked node_of
     nodes_length y n =
         let f : Node P M → Bool = λ v. r.same (r.repeat v.position) y in
+        let passes : ◌≡◌ {A = P → Bool} (λ q. f (node_of q)) (λ q. r.same (r.repeat q) y) = λ i q. r.same (writing.exact_repeat q i) y in
         let a = sum_by-cons (λ v. cond (f v) 1 0) (node_of g.last) (map node_of rest) in
-        let e = not_true (r.same (r.repeat g.last) y) (λ t. n ((l.decides _ _).0 t)) in
+        let e = not_true (f (node_of g.last)) (λ t. n (sym (writing.exact_repeat g.last) ∙ (l.decides _ _).0 t)) in
         let z : ◌≡◌ {A = ℕ} (cond (f (node_of g.last)) 1 0) 0 = ap (λ c. cond c 1 0) e in
-        let b = count_map f node_of rest in
+        let b = count_map f node_of rest ∙ ap (λ t. count_by t rest) passes in
         let c = length-filter (λ q. r.same (r.repeat q) y) rest in
         let d = map_length r.counter (filter (λ q. r.same (r.repeat q) y) rest) in
         omega arith
@@ -318,10 +335,10 @@ module _ {P R M : Type 0} (r : Game P R M) (l : GameLaws P R M r) (apart : (p : 
         (λ e. root_again p k ((l.decides _ _).0 e))
         (λ e. let t = or_right_of _ _ e h in let u = tests_from r.fold _ t in too_often p k (λ s. true_false _ ((l.decides _ _).1 s) e) u.0 u.1)
 
-    good-or-evidence : (n : ℕ) → rank_of (r.attacking g.last) (suc x.left) ≤ n → AreFaultless P R M (Node P M) (Edge M) r plain table g n ⊎ Evidence
+    good-or-evidence : (n : ℕ) → rank_of (r.attacking g.last) (suc x.left) ≤ n → GoodTable P R M r Written g n ⊎ Evidence
     good-or-evidence n rank = widen (good-or n rank)
       where
-        widen : AreFaultless P R M (Node P M) (Edge M) r plain table g n ⊎ ((p : P) × Member p rest × (stands_in_way p ≡ true)) → AreFaultless P R M (Node P M) (Edge M) r plain table g n ⊎ Evidence
+        widen : GoodTable P R M r Written g n ⊎ ((p : P) × Member p rest × (stands_in_way p ≡ true)) → GoodTable P R M r Written g n ⊎ Evidence
         widen (inl h) = inl h
         widen (inr h) = inr (evidence h.0 h.1 h.2)
 
@@ -362,11 +379,11 @@ module _ {P R M : Type 0} (r : Game P R M) (l : GameLaws P R M r) (apart : (p : 
 
   -- an ongoing game that is won without history has a good strategy, or the evidence that a solver shows in its place
   pub near_root-settled : (n : ℕ) (own : r.own g.last ≡ None) (open_game : repeated r g ≡ false) (open_count : run_out r (r.counter g.last) ≡ false) → near_root r n g ≡ true →
-      ((s : List (Node P M)) × AreFaultless P R M (Node P M) (Edge M) r plain s g n) ⊎ ((x : Shortest P R M (Key R) r ways g.last) × (suc x.left ≤ plies n) × Evidence x open_game open_count)
+      GoodTable P R M r Written g n ⊎ ((x : Shortest P R M (Key R) r ways g.last) × (suc x.left ≤ plies n) × Evidence x open_game open_count)
   near_root-settled n own open_game open_count h =
       let x = shortest r ways g.last own (plies n) (root_near n own h) in
       widen x.0 x.2 (good-or-evidence x.0 open_game open_count n (rank_fits n x.0.left x.2))
     where
-      widen : (x : Shortest P R M (Key R) r ways g.last) → suc x.left ≤ plies n → AreFaultless P R M (Node P M) (Edge M) r plain (table x open_game open_count) g n ⊎ Evidence x open_game open_count → ((s : List (Node P M)) × AreFaultless P R M (Node P M) (Edge M) r plain s g n) ⊎ ((x : Shortest P R M (Key R) r ways g.last) × (suc x.left ≤ plies n) × Evidence x open_game open_count)
-      widen x low (inl h) = inl (table x open_game open_count, h)
+      widen : (x : Shortest P R M (Key R) r ways g.last) → suc x.left ≤ plies n → GoodTable P R M r Written g n ⊎ Evidence x open_game open_count → GoodTable P R M r Written g n ⊎ ((x : Shortest P R M (Key R) r ways g.last) × (suc x.left ≤ plies n) × Evidence x open_game open_count)
+      widen x low (inl h) = inl h
       widen x low (inr h) = inr (x, low, h)

@@ -140,6 +140,16 @@ module _ {P R M K : Type 0} (r : Game P R M) (s : PlyWins P R M K r) where
       let small = u.1 in
       (u.0, omega arith, u.2, λ y m. inr (gather_in (λ m. s.won t (r.next p m)) (λ m. collect t (r.next p m)) (r.legal p) a.0 y a.1 a.2 (u.3 y m)))
 
+  -- what legal moves keep holds on all lines from a position where it holds
+  collect-keeps : (Q : P → Type 0) → ((q : P) (m : M) → Q q → Member m (r.legal q) → Q (r.next q m)) → (t : ℕ) (p : P) → Q p → (x : P) → Member x (collect t p) → Q x
+  unfolding collect
+  collect-keeps Q go zero p h x (inl e) = subst Q e h
+  collect-keeps Q go zero p h x (inr k) = absurd k
+  collect-keeps Q go (suc t) p h x (inl e) = subst Q e h
+  collect-keeps Q go (suc t) p h x (inr k) =
+      let a = gathered (λ m. s.won t (r.next p m)) (λ m. collect t (r.next p m)) (r.legal p) x k in
+      collect-keeps Q go t (r.next p a.0) (go p a.0 h a.1) x a.3
+
   next-inside : (u v : ℕ) (x : P) (m : M) → v < u → Member m (r.legal x) → s.won v (r.next x m) ≡ true → Member (r.next x m) (collect u x)
   unfolding collect
   next-inside zero v x m h k w = absurd (omega arith)
@@ -188,6 +198,14 @@ module _ {P R M K : Type 0} (r : Game P R M) (s : PlyWins P R M K r) (root : P) 
       let a = gathered (λ m. s.won x.left (r.next root m)) (λ m. collect r s x.left (r.next root m)) (r.legal root) p k in
       let u = inside r s x.left (r.next root a.0) a.2 p a.3 in
       (u.0, u.1, u.2, λ y m. gather_in (λ m. s.won x.left (r.next root m)) (λ m. collect r s x.left (r.next root m)) (r.legal root) a.0 y a.1 a.2 (u.3 y m))
+
+  -- what holds at the root, and is kept by legal moves, holds of each kept position
+  pub all-keeps : (Q : P → Type 0) → ((q : P) (m : M) → Q q → Member m (r.legal q) → Q (r.next q m)) → Q root → (p : P) → Member p all → Q p
+  unfolding tail
+  all-keeps Q go h p (inl e) = subst Q e h
+  all-keeps Q go h p (inr k) =
+      let a = gathered (λ m. s.won x.left (r.next root m)) (λ m. collect r s x.left (r.next root m)) (r.legal root) p (once_in s.same s.decides s.key tail p k) in
+      collect-keeps r s Q go x.left (r.next root a.0) (go root a.0 h a.1) p a.3
 
   -- the root's key stands at the root alone
   pub not_root : (p : P) → Member p tail → s.key p ≡ s.key root → ⊥

@@ -7,15 +7,15 @@ use Rattle.foundation.specs.Member.{Member, IsEachOnce}
 use Rattle.forced_wins.specs.Contests.{decided, within}
 use Rattle.forced_wins.specs.Games.{Game, GameLaws, TableLaws, Story, IsPlayed, IsInLimit, repeated, run_out, lost_if, or_end, of_positions, wins, near, blocked, near_root}
 use Rattle.forced_wins.specs.Lines.{moves_left, IsWonAlong, behind, OnWin, IsUnsettled}
-use Rattle.forced_wins.specs.PlainTables.{Edge, Node, plain}
-use Rattle.forced_wins.specs.Tables.{IsGood, AreFaultless}
+use Rattle.forced_wins.specs.PlainTables.{Node, plain}
+use Rattle.forced_wins.specs.Tables.{IsGood}
 use Rattle.forced_wins.proofs.GoodWins.{good-wins}
 use Rattle.forced_wins.proofs.Verdicts.{verdict-faultless, faultless-verdict}
 use Rattle.forced_wins.proofs.ContestLaws.{within-mono, double, double-is, forced-attacking, forced-other}
 use Rattle.forced_wins.proofs.Counts.{by_cases, not_true, own_cases, tests_from}
 use Rattle.forced_wins.proofs.NearLaws.{near_root-wins}
-use Rattle.forced_wins.proofs.Plans.{plan-good}
-use Rattle.forced_wins.proofs.GoodExists.{ended_plan, exists-good}
+use Rattle.forced_wins.proofs.Writings.{Writing, GoodTable}
+use Rattle.forced_wins.proofs.GoodExists.{ended_table, exists-good}
 use Rattle.forced_wins.proofs.ShortestWins.{upward, doubled}
 use Rattle.forced_wins.proofs.NearLimit.{Line, near_root-settled}
 
@@ -33,7 +33,7 @@ module _ {M : Type 0} (same : M → M → Bool) (d : (a b : M) → Decides (same
   once-doubled [] o = refl
   once-doubled (m ∷ ms) o = or_no _ _ (not_again m ms o.0) (once-doubled ms o.1)
 
-module _ {P R M : Type 0} (r : Game P R M) (l : GameLaws P R M r) (apart : (p : P) → doubled r.same_move (r.legal p) ≡ false) (g : Story P) where
+module _ {P R M : Type 0} (r : Game P R M) (l : GameLaws P R M r) {Reached Written : P → Type 0} (writing : Writing P R M r Reached Written) (apart : (p : P) → doubled r.same_move (r.legal p) ≡ false) (g : Story P) (start : Reached g.last) where
   -- n moves of the attacker in plies
   abbrev plies_at : ℕ → P → ℕ
   plies_at n p = if r.attacking p then double n else suc (double n)
@@ -75,7 +75,7 @@ module _ {P R M : Type 0} (r : Game P R M) (l : GameLaws P R M r) (apart : (p : 
     won : IsWonAlong r (blocked r g) n p moves
     ends : behind r p moves ≡ x
 
-  walk : (t n : ℕ) (p x : P) → t ≤ plies_at n p → Line r l apart g t p x → Walk t n p x
+  walk : (t n : ℕ) (p x : P) → t ≤ plies_at n p → Line r l writing apart g start t p x → Walk t n p x
   walk zero n p x h e = record { moves = []; short = omega arith; won = tt; ends = e }
   walk (suc t) n p x h (inl e) = record { moves = []; short = omega arith; won = tt; ends = e }
   walk (suc t) n p x h (inr k) =
@@ -92,7 +92,7 @@ module _ {P R M : Type 0} (r : Game P R M) (l : GameLaws P R M r) (apart : (p : 
   at_most : (n : ℕ) → plies_at n g.last ≤ 2 * n + 1
   at_most n = let d = double-is n in by_cases (r.attacking g.last) (λ e. rw e (omega arith)) (λ e. rw e (omega arith))
 
-  on_win : (n t : ℕ) (x : R) (c : ℕ) → t ≤ plies_at n g.last → (q : P) × (r.repeat q ≡ x) × (r.counter q ≡ c) × Line r l apart g t g.last q → OnWin P R M r n g x c
+  on_win : (n t : ℕ) (x : R) (c : ℕ) → t ≤ plies_at n g.last → (q : P) × (r.repeat q ≡ x) × (r.counter q ≡ c) × Line r l writing apart g start t g.last q → OnWin P R M r n g x c
   on_win n t x c h k =
       let w = walk t n g.last k.0 h k.3 in
       let small = w.short in
@@ -115,23 +115,17 @@ limit_cases {C = C} a x f g = by_cases (nat_lt 0 a && nat_le a x) (λ h. let k =
     low : (a x : ℕ) → (nat_lt 0 a && nat_le a x) ≡ false → (a ≡ 0) ⊎ (x < a)
     low a x h = grind (arith, nat_tests)
 
-module _ {P R M : Type 0} (r : Game P R M) (t : TableLaws P R M r) (g : Story P) where
-  abbrev l : GameLaws P R M r
-  l = t.base
-
+module _ {P R M : Type 0} (r : Game P R M) (l : GameLaws P R M r) {Reached Written : P → Type 0} (writing : Writing P R M r Reached Written) (once : (p : P) → IsEachOnce (r.legal p)) (g : Story P) (start : Reached g.last) where
   apart : (p : P) → doubled r.same_move (r.legal p) ≡ false
-  apart p = once-doubled r.same_move l.decides_move (r.legal p) (t.once p)
-
-  abbrev HasGood : ℕ → Type 0
-  HasGood n = (s : List (Node P M)) × AreFaultless P R M (Node P M) (Edge M) r plain s g n
+  apart p = once-doubled r.same_move l.decides_move (r.legal p) (once p)
 
   -- inside the limit a win has a good strategy
-  pub win-good : (n : ℕ) → IsPlayed r g → IsInLimit r n g → wins r n g ≡ true → HasGood n
-  win-good n played low h = exists-good r l t.at t.at_repeat t.at_counter apart g n played low h
+  pub win-good : (n : ℕ) → IsPlayed r g → IsInLimit r n g → wins r n g ≡ true → GoodTable P R M r Written g n
+  win-good n played low h = exists-good r l writing apart g start n played low h
 
-  widen : (n : ℕ) (own : r.own g.last ≡ None) (y : repeated r g ≡ false) (z : run_out r (r.counter g.last) ≡ false) → near_root r n g ≡ true → 0 < r.limit → r.limit ≤ r.counter g.last + (n + n) → HasGood n ⊎ IsUnsettled P R M r n g
+  widen : (n : ℕ) (own : r.own g.last ≡ None) (y : repeated r g ≡ false) (z : run_out r (r.counter g.last) ≡ false) → near_root r n g ≡ true → 0 < r.limit → r.limit ≤ r.counter g.last + (n + n) → GoodTable P R M r Written g n ⊎ IsUnsettled P R M r n g
   widen n own y z h counted close =
-      elim (near_root-settled r l apart g n own y z h) as (λ _. HasGood n ⊎ IsUnsettled P R M r n g) [
+      elim (near_root-settled r l writing apart g start n own y z h) as (λ _. GoodTable P R M r Written g n ⊎ IsUnsettled P R M r n g) [
         | inl k ↦ inl k
         | inr k ↦ inr (record {
           near_win = h;
@@ -140,37 +134,67 @@ module _ {P R M : Type 0} (r : Game P R M) (t : TableLaws P R M r) (g : Story P)
           repeat = k.2.repeat;
           counters = k.2.counters;
           differ = k.2.differ;
-          on_lines = λ c m. on_win r l apart g n (suc k.0.left) k.2.repeat c k.1 (k.2.on_lines c m);
+          on_lines = λ c m. on_win r l writing apart g start n (suc k.0.left) k.2.repeat c k.1 (k.2.on_lines c m);
           many = k.2.many;
         })
       ]
 
-  live : (n : ℕ) → IsPlayed r g → near_root r n g ≡ true → r.own g.last ≡ None → HasGood n ⊎ IsUnsettled P R M r n g
+  live : (n : ℕ) → IsPlayed r g → near_root r n g ≡ true → r.own g.last ≡ None → GoodTable P R M r Written g n ⊎ IsUnsettled P R M r n g
   unfolding near_root
   live n played h own =
       let k = decided_none (r.own g.last) (repeated r g) (run_out r (r.counter g.last)) _ own h in
       limit_cases r.limit (r.counter g.last + (n + n)) (λ low. inl (win-good n played low (near_root-wins r l n g low h))) (widen n own k.0 k.1 h)
 
-  ended : (n : ℕ) → near_root r n g ≡ true → (w : Bool) → r.own g.last ≡ Some w → HasGood n
+  -- an ended game that is won
+  pub ended-good : (n : ℕ) → near_root r n g ≡ true → (w : Bool) → r.own g.last ≡ Some w → GoodTable P R M r Written g n
   unfolding near_root
-  ended n h w e =
-      let won = decided_some (r.own g.last) (repeated r g || run_out r (r.counter g.last)) _ w e h in
-      let p = ended_plan r l t.at t.at_repeat t.at_counter apart g w e won n in
-      (record { position = g.last; rank = 0; edges = [] } ∷ [], plan-good r plain l _ g n p)
+  ended-good n h w e = ended_table r l writing apart g start w e (decided_some (r.own g.last) (repeated r g || run_out r (r.counter g.last)) _ w e h) n
 
   -- a near win has a good strategy, or it is unsettled
-  pub near-settled : (n : ℕ) → IsPlayed r g → near_root r n g ≡ true → HasGood n ⊎ IsUnsettled P R M r n g
-  near-settled n played h = own_cases (r.own g.last) (λ w e. inl (ended n h w e)) (live n played h)
+  pub near-settled : (n : ℕ) → IsPlayed r g → near_root r n g ≡ true → GoodTable P R M r Written g n ⊎ IsUnsettled P R M r n g
+  near-settled n played h = own_cases (r.own g.last) (λ w e. inl (ended-good n h w e)) (live n played h)
 
-  -- as the verdict says it
-  judged : (n : ℕ) → HasGood n → (s : List (Node P M)) × IsGood r plain true s g n
-  judged n k = (k.0, faultless-verdict r plain k.0 g n k.1)
+-- ---- with nothing asked of the positions of nodes
 
-  pub good-exactly-wins : (n : ℕ) → IsPlayed r g → IsInLimit r n g → ((s : List (Node P M)) × IsGood r plain true s g n) ↔ (wins r n g ≡ true)
-  good-exactly-wins n played low = (λ k. good-wins r plain l k.0 g n (verdict-faultless r plain k.0 g true n k.1).1, λ h. judged n (win-good n played low h))
+module _ {P R M : Type 0} (r : Game P R M) (t : TableLaws P R M r) where
+  any : P → Type 0
+  any p = Unit {0}
 
-  pub near-good-or-unsettled : (n : ℕ) → IsPlayed r g → near_root r n g ≡ true → ((s : List (Node P M)) × IsGood r plain true s g n) ⊎ IsUnsettled P R M r n g
-  near-good-or-unsettled n played h = elim (near-settled n played h) as (λ _. ((s : List (Node P M)) × IsGood r plain true s g n) ⊎ IsUnsettled P R M r n g) [ inl k ↦ inl (judged n k) | inr k ↦ inr k ]
+  anyhow : Writing P R M r any any
+  unfolding any
+  anyhow = record {
+    goes_on = λ p m h k. tt;
+    at = t.at;
+    at_repeat = t.at_repeat;
+    at_low = λ p c. let e = t.at_counter p c in omega arith;
+    at_high = λ p c _ low. let e = t.at_counter p c in omega arith;
+    at_next = λ p q m c d less. let e = t.at_counter p c in let f = t.at_counter q d in let up = t.base.rises (t.at p c) m in omega arith;
+    at_written = λ p c _. tt;
+    exact = λ p. p;
+    exact_repeat = λ p. refl;
+    exact_counter = λ p. refl;
+    exact_written = λ p _. tt;
+  }
 
-  pub ended-good : (n : ℕ) → near_root r n g ≡ true → (w : Bool) → r.own g.last ≡ Some w → (s : List (Node P M)) × IsGood r plain true s g n
-  ended-good n h w e = judged n (ended n h w e)
+  anywhere : (p : P) → any p
+  unfolding any
+  anywhere p = tt
+
+  abbrev HasGood : Story P → ℕ → Type 0
+  HasGood g n = (s : List (Node P M)) × IsGood r plain true s g n
+
+  judged : (g : Story P) (n : ℕ) → GoodTable P R M r any g n → HasGood g n
+  judged g n k = (k.nodes, faultless-verdict r plain k.nodes g n k.faultless)
+
+  pub good-exactly-wins : (g : Story P) (n : ℕ) → IsPlayed r g → IsInLimit r n g → HasGood g n ↔ (wins r n g ≡ true)
+  good-exactly-wins g n played low = (
+    λ k. good-wins r plain t.base k.0 g n (verdict-faultless r plain k.0 g true n k.1).1,
+    λ h. judged g n (win-good r t.base anyhow t.once g (anywhere g.last) n played low h),
+  )
+
+  pub near-good-or-unsettled : (g : Story P) (n : ℕ) → IsPlayed r g → near_root r n g ≡ true → HasGood g n ⊎ IsUnsettled P R M r n g
+  near-good-or-unsettled g n played h =
+      elim (near-settled r t.base anyhow t.once g (anywhere g.last) n played h) as (λ _. HasGood g n ⊎ IsUnsettled P R M r n g) [
+        | inl k ↦ inl (judged g n k)
+        | inr k ↦ inr k
+      ]
