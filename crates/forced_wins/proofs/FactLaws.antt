@@ -32,10 +32,10 @@ larger-left m n = grind (arith, nat_tests)
 larger-right : (m n : ℕ) → n ≤ larger m n
 larger-right m n = grind (arith, nat_tests)
 
-smaller-left : (m n : ℕ) → smaller m n ≤ m
+pub smaller-left : (m n : ℕ) → smaller m n ≤ m
 smaller-left m n = grind (arith, nat_tests)
 
-smaller-right : (m n : ℕ) → smaller m n ≤ n
+pub smaller-right : (m n : ℕ) → smaller m n ≤ n
 smaller-right m n = grind (arith, nat_tests)
 
 capped : (n : ℕ) → smaller (n + 1) 65535 ≡ suc (smaller n 65534)

@@ -20,4 +20,5 @@ pub mod Blocked
 pub mod FactLaws
 pub mod Played
 pub mod StrategyLaws
+pub mod SoundStrategies
 pub mod Sentences

@@ -5,6 +5,7 @@ pub mod Lines
 pub mod Tables
 pub mod PlainTables
 pub mod Toy
+pub mod Sentences
 pub mod Views
 pub mod Wins
 pub mod Facts

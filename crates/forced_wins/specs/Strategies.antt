@@ -11,6 +11,8 @@ use Rattle.rules_model.specs.Sides.{same_side}
 use Rattle.rules_model.specs.Next.{next}
 use Rattle.rules_model.specs.Legal.{legal}
 use Rattle.rules_model.specs.Games.{Story, history, times}
+use Rattle.rules_model.specs.Sound.{is_sound}
+use Rattle.forced_wins.specs.PlainTables.{Node, plain}
 use Rattle.forced_wins.specs.Tables as Tables
 use Rattle.forced_wins.specs.Tables.{Accessors, Verdict, Wins}
 use Rattle.forced_wins.specs.Views.{seen_by, as_any}
@@ -23,6 +25,22 @@ verdict rules tb g a n of nodes = Tables.verdict (seen_by rules a) tb (same_side
 -- the strategy is good: no fault stands in it
 abbrev pub IsGood : {N E : Type 0} → Rules → Accessors Position Move N E → Story → Side → ℕ → Side → List N → Type 0
 IsGood rules tb g a n of nodes = verdict rules tb g a n of nodes ≡ Wins
+
+-- the attacker has one, of plain nodes
+abbrev pub HasGood : Rules → ℕ → Story → Side → Type 0
+HasGood rules n g a = (nodes : List (Node Position Move)) × IsGood rules plain g a n a nodes
+
+-- a position as strategies have it: sound, with the number 1
+pub record IsWritten (rules : Rules) (p : Position) : Type 0 where
+  pub sound : is_sound rules p ≡ true
+  pub number : p.number ≡ 1
+  pub counter : p.counter ≤ 9999
+
+-- a good strategy of the attacker, with such positions alone
+pub record SoundGood (rules : Rules) (n : ℕ) (g : Story) (a : Side) : Type 0 where
+  pub nodes : List (Node Position Move)
+  pub good : IsGood rules plain g a n a nodes
+  pub written : (v : Node Position Move) → Member v nodes → IsWritten rules v.position
 
 -- ---- lines
 
@@ -45,17 +63,17 @@ behind rules p [] = p
 behind rules p (m ∷ ms) = behind rules (next rules p m) ms
 
 -- at most 2n + 1 legal moves lead from the game to the repeat at the counter, by positions that are still won
-pub record OnWin (rules : Rules) (n : ℕ) (g : Story) (a : Side) (repeat : Repeat) (counter : ℕ) : Type 0 where
+pub record OnWin (rules : Rules) (n : ℕ) (g : Story) (a : Side) (r : Repeat) (c : ℕ) : Type 0 where
   pub line : List Move
   pub short : length line ≤ 2 * n + 1
   pub won : IsWonAlong rules (blocked rules g) a n g.last line
-  pub leads : repeat_of (behind rules g.last line) ≡ repeat
-  pub counted : (behind rules g.last line).counter ≡ counter
+  pub repeat : repeat_of (behind rules g.last line) ≡ r
+  pub counter : (behind rules g.last line).counter ≡ c
 
 -- what keeps a near win from having a good strategy near the move-count limit: one repeat at different counters, on winning lines
 pub record IsUnsettled (rules : Rules) (n : ℕ) (g : Story) (a : Side) : Type 0 where
   pub near_win : near_root rules n g a ≡ true
-  pub counting : rules.n_move ≡ 0 → ⊥
+  pub counted : 0 < rules.n_move
   pub close : 2 * rules.n_move ≤ g.last.counter + 2 * n
   pub repeat : Repeat
   pub counters : List ℕ
