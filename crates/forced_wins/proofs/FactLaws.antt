@@ -19,7 +19,7 @@ use Rattle.forced_wins.specs.Contests.{Contest}
 use Rattle.forced_wins.specs.Games as AnyGame
 use Rattle.forced_wins.specs.Views.{won_by, seen_by}
 use Rattle.forced_wins.specs.Wins.{near, near_end, is_in, positions}
-use Rattle.forced_wins.specs.Facts.{Says, IsTrueFact, covers, serves, ServesMove, Each, larger, smaller, greatest, least, fact_of, Derives, won_now, by_move, by_all, refuted_now, refuted_by_all, refuted_by_move, AreDerived, IsGrounded}
+use Rattle.forced_wins.specs.Facts.{Says, IsTrueFact, covers, serves, ServesMove, Each, larger, smaller, greatest, least, fact_of, EndedLost, OutOfMoves, Derives, won_now, by_move, by_all, refuted_now, refuted_by_all, refuted_by_move, AreDerived, IsGrounded}
 use Rattle.forced_wins.proofs.ContestLaws.{any_intro, all_intro}
 use Rattle.forced_wins.proofs.Counts.{by_cases, not_true, true_false}
 use Rattle.forced_wins.proofs.TableLaws.{both, le_from}
@@ -143,7 +143,7 @@ module _ (rules : Rules) (barred : List Repeat) (a : Side) (known : List Fact) (
       C.forced-mono G turns u.0.moves (greatest d.facts) (next rules p m) u.3 (served m true u.0 u.2 u.1))))
   derived-true f (refuted_now d) = now d.is
     where
-      now : ((near_end rules barred a p ≡ Some false) × (f ≡ fact_of p a 65535 None false)) ⊎ ((near_end rules barred a p ≡ None) × (same_side p.side a ≡ true) × (f ≡ fact_of p a 0 None false)) → IsTrueFact rules barred a f
+      now : EndedLost rules barred a p f ⊎ OutOfMoves rules barred a p f → IsTrueFact rules barred a f
       now (inl e) = subst (IsTrueFact rules barred a) (sym e.1) (says_lost 65535 None (C.forced-ended G 65535 p false e.0))
       now (inr e) = subst (IsTrueFact rules barred a) (sym e.2) (says_lost 0 None (C.forced-zero G p e.0 e.1))
   derived-true f (refuted_by_all d) =

@@ -17,6 +17,7 @@ use Rattle.rules_model.proofs.LegalLaws.{legal-once}
 use Rattle.rules_model.proofs.PlayLaws.{next-counter, next_counter-up}
 use Rattle.rules_model.proofs.ResultLaws.{story_from-none, story_from-more, are_legal-more}
 use Rattle.forced_wins.specs.Facts.{smaller}
+use Rattle.forced_wins.specs.RuleSentences.{WasPlayed, HasSoundStrategies}
 use Rattle.forced_wins.specs.Strategies.{IsWritten, SoundGood, IsUnsettled}
 use Rattle.forced_wins.specs.Views.{seen_by, as_any}
 use Rattle.forced_wins.specs.Wins.{wins, near_root, IsInLimit}
@@ -95,17 +96,21 @@ module _ (rules : Rules) (keeps : NextKeepsSound rules) (a : Side) where
   as_strategy n g t = record { nodes = t.nodes; good = table-good rules a g n t; written = t.written }
 
   -- inside the limit a win has such a strategy
-  pub win-sound : (n : ℕ) (start : Position) (ms : List Move) → IsGame rules start ms → IsInLimit rules n (story_of rules start ms) → wins rules n (story_of rules start ms) a ≡ true → SoundGood rules n (story_of rules start ms) a
+  win-sound : (n : ℕ) (start : Position) (ms : List Move) → IsGame rules start ms → IsInLimit rules n (story_of rules start ms) → wins rules n (story_of rules start ms) a ≡ true → SoundGood rules n (story_of rules start ms) a
   win-sound n start ms game low h =
       let g = story_of rules start ms in
       as_strategy n g
       (U.win-good (seen_by rules a) (laws rules a) writing (λ p. legal-once rules (repeat_of p)) (as_any g) (game-sound start ms game) n (game-played rules a start ms game) (in_limit rules n g a low) (sym (wins-is rules n g a) ∙ h))
 
   -- a near win has one, or it is unsettled
-  pub near-sound : (n : ℕ) (start : Position) (ms : List Move) → IsGame rules start ms → near_root rules n (story_of rules start ms) a ≡ true → SoundGood rules n (story_of rules start ms) a ⊎ IsUnsettled rules n (story_of rules start ms) a
+  near-sound : (n : ℕ) (start : Position) (ms : List Move) → IsGame rules start ms → near_root rules n (story_of rules start ms) a ≡ true → SoundGood rules n (story_of rules start ms) a ⊎ IsUnsettled rules n (story_of rules start ms) a
   near-sound n start ms game h =
       let g = story_of rules start ms in
       elim (U.near-settled (seen_by rules a) (laws rules a) writing (λ p. legal-once rules (repeat_of p)) (as_any g) (game-sound start ms game) n (game-played rules a start ms game) (sym (near_root-is rules n g a) ∙ h)) as (λ _. SoundGood rules n g a ⊎ IsUnsettled rules n g a) [
         | inl t ↦ inl (as_strategy n g t)
         | inr u ↦ inr (unsettled rules a g n u)
       ]
+
+  -- the same of a game that was played
+  pub played-sound : (n : ℕ) (g : Story) → WasPlayed rules g → HasSoundStrategies rules n g a
+  played-sound n g w = subst (λ (h : Story). HasSoundStrategies rules n h a) w.is (record { in_limit = win-sound n w.start w.moves w.game; settled = near-sound n w.start w.moves w.game })

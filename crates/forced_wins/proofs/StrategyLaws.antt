@@ -18,13 +18,14 @@ use Rattle.forced_wins.specs.Tables.{Accessors}
 use Rattle.forced_wins.specs.Views.{seen_by, as_any}
 use Rattle.forced_wins.specs.Wins.{wins, near, near_root, blocked, is_in, IsInLimit}
 use Rattle.forced_wins.specs.Strategies.{IsGood, HasGood, moves_left, IsWonAlong, behind, OnWin, IsUnsettled}
+use Rattle.forced_wins.specs.RuleSentences.{WasPlayed, HasStrategies, IsAnyGame, MeansTheSame}
 use Rattle.forced_wins.proofs.GoodWins.{good-wins}
 use Rattle.forced_wins.proofs.Verdicts.{verdict-faultless, faultless-verdict}
 use Rattle.forced_wins.proofs.ClaimLaws.{near-barred}
 use Rattle.forced_wins.proofs.Writings.{GoodTable}
 use Rattle.forced_wins.proofs.Unsettled.{good-exactly-wins, near-good-or-unsettled}
 use Rattle.forced_wins.proofs.Rules.{laws, table_laws, wins-is, near-is, times-is}
-use Rattle.forced_wins.proofs.Blocked.{in-blocked, near_root-is, in_limit}
+use Rattle.forced_wins.proofs.Blocked.{blocked-is, in-blocked, near_root-is, in_limit}
 use Rattle.forced_wins.proofs.Played.{game-played}
 
 -- a good strategy wins
@@ -93,3 +94,25 @@ module _ (rules : Rules) (a : Side) where
         | inl k ↦ inl (k.0, of_own plain g n k.0 k.1)
         | inr k ↦ inr (unsettled g n k)
       ]
+
+  -- the same of a game that was played
+  pub played-strategies : (n : ℕ) (g : Story) → WasPlayed rules g → HasStrategies rules n g a
+  played-strategies n g w = subst (λ (h : Story). HasStrategies rules n h a) w.is (record { in_limit = good-exists n w.start w.moves w.game; settled = near-settled n w.start w.moves w.game })
+
+  -- ---- the rules as any game
+
+  pub is-any-game : IsAnyGame rules a
+  is-any-game = record {
+    laws = laws rules a;
+    table_laws = table_laws rules a;
+    played = λ g w. subst (λ (h : Story). AnyGame.IsPlayed (seen_by rules a) (as_any h)) w.is (game-played rules a w.start w.moves w.game);
+  }
+
+  pub means-the-same : (n : ℕ) (g : Story) → MeansTheSame rules n g a
+  means-the-same n g = record {
+    wins = wins-is rules n g a;
+    near_root = near_root-is rules n g a;
+    near = λ p b. near-is rules n p b a;
+    blocked = blocked-is rules a g;
+    unsettled = unsettled g n;
+  }

@@ -19,7 +19,7 @@ decided (Some won) test = won
 unfoldable pub replies : {X M : Type 0} → Contest X M → (X → Bool) → X → Bool
 replies g f x = decided (g.end x) (list_all (λ m. f (g.after x m)) (g.moves x))
 
--- the attacker is to move: the state is ended as won, or he wins by n moves of his own, the one that he makes now included
+-- the attacker is to move: the state is ended as won, or he wins by n moves of his own, with the one that he makes now
 unfoldable pub attacks_by : {X M : Type 0} → Contest X M → ℕ → X → Bool
 attacks_by g zero x = decided (g.end x) false
 attacks_by g (suc n) x = decided (g.end x) (list_any (λ m. replies g (attacks_by g n) (g.after x m)) (g.moves x))
@@ -32,4 +32,6 @@ forced g n x = if g.attacking x then attacks_by g n x else replies g (attacks_by
 unfoldable pub within : {X M : Type 0} → Contest X M → ℕ → X → Bool
 within g zero x = decided (g.end x) false
 within g (suc t) x =
-    decided (g.end x) (if g.attacking x then list_any (λ m. within g t (g.after x m)) (g.moves x) else list_all (λ m. within g t (g.after x m)) (g.moves x))
+    decided (g.end x)
+    (if g.attacking x then list_any (λ m. within g t (g.after x m)) (g.moves x) else
+    list_all (λ m. within g t (g.after x m)) (g.moves x))

@@ -1,4 +1,4 @@
--- Facts on positions without their history: what they say, which queries they serve, and how they follow from one another.
+-- Facts on positions without their history: what they say, which queries they serve, and how they follow from others.
 use Rattle.std.specs.Prelude.{◌≡◌, ◌⊎◌, ℕ, ◌+◌, ◌<◌, ◌≤◌, List, [], ◌∷◌, ◌++◌, Bool, true, false, ◌&&◌, Option, Some, None, nat_le, if◌then◌else◌}
 use Rattle.foundation.specs.Member.{Member}
 use Rattle.rules_model.specs.declared.board.Position.{Position}
@@ -18,8 +18,10 @@ use Rattle.forced_wins.specs.Wins.{near, near_end}
 
 -- what a winning fact says, and what a refuting one
 abbrev pub Says : Rules → List Repeat → Side → Fact → Bool → Type 0
-Says rules barred a f true = (q : Position) → repeat_of q ≡ f.repeat → q.counter ≤ f.counter → near rules f.moves q barred a ≡ true
-Says rules barred a f false = (q : Position) → repeat_of q ≡ f.repeat → f.counter ≤ q.counter → near rules f.moves q barred a ≡ false
+Says rules barred a f true =
+    (q : Position) → repeat_of q ≡ f.repeat → q.counter ≤ f.counter → near rules f.moves q barred a ≡ true
+Says rules barred a f false =
+    (q : Position) → repeat_of q ≡ f.repeat → f.counter ≤ q.counter → near rules f.moves q barred a ≡ false
 
 -- the fact is true in the frame of the rules, the barred repeats and the attacker
 abbrev pub IsTrueFact : Rules → List Repeat → Side → Fact → Type 0
@@ -65,7 +67,14 @@ least (k ∷ ks) = smaller k.moves (least ks)
 
 -- a fact on the position at its own counter
 abbrev pub fact_of : Position → Side → ℕ → Option Move → Bool → Fact
-fact_of p a moves best wins = record { repeat = repeat_of p; attacker = a; moves = moves; counter = p.counter; best = best; wins = wins }
+fact_of p a moves best wins = record {
+  repeat = repeat_of p;
+  attacker = a;
+  moves = moves;
+  counter = p.counter;
+  best = best;
+  wins = wins;
+}
 
 -- the position is ended as won by the attacker
 pub record WonNow (rules : Rules) (barred : List Repeat) (a : Side) (p : Position) (f : Fact) : Type 0 where
@@ -92,9 +101,17 @@ pub record ByAll (rules : Rules) (barred : List Repeat) (a : Side) (known : List
   pub each : Each rules p true known (legal rules (repeat_of p)) facts
   pub is : f ≡ fact_of p a (greatest facts) None true
 
--- the position is ended otherwise; or it is ongoing, and the attacker, who is to move, has no move left
+-- the position is ended otherwise, so it is not won by any number of moves
+abbrev pub EndedLost : Rules → List Repeat → Side → Position → Fact → Type 0
+EndedLost rules barred a p f = (near_end rules barred a p ≡ Some false) × (f ≡ fact_of p a 65535 None false)
+
+-- it is ongoing, and the attacker, who is to move, has no move left
+abbrev pub OutOfMoves : Rules → List Repeat → Side → Position → Fact → Type 0
+OutOfMoves rules barred a p f =
+    (near_end rules barred a p ≡ None) × (same_side p.side a ≡ true) × (f ≡ fact_of p a 0 None false)
+
 pub record RefutedNow (rules : Rules) (barred : List Repeat) (a : Side) (p : Position) (f : Fact) : Type 0 where
-  pub is : ((near_end rules barred a p ≡ Some false) × (f ≡ fact_of p a 65535 None false)) ⊎ ((near_end rules barred a p ≡ None) × (same_side p.side a ≡ true) × (f ≡ fact_of p a 0 None false))
+  pub is : EndedLost rules barred a p f ⊎ OutOfMoves rules barred a p f
 
 -- each legal move of the attacker is refuted
 pub record RefutedByAll (rules : Rules) (barred : List Repeat) (a : Side) (known : List Fact) (p : Position) (f : Fact) : Type 0 where
@@ -127,7 +144,8 @@ pub data Derives (rules : Rules) (barred : List Repeat) (a : Side) (known : List
 -- each of the facts, the last one first, derives from the known ones and those before it
 abbrev pub AreDerived : Rules → List Repeat → Side → List Fact → List Fact → Type 0
 AreDerived rules barred a known [] = Unit {0}
-AreDerived rules barred a known (f ∷ fs) = ((p : Position) × Derives rules barred a (fs ++ known) p f) × AreDerived rules barred a known fs
+AreDerived rules barred a known (f ∷ fs) =
+    ((p : Position) × Derives rules barred a (fs ++ known) p f) × AreDerived rules barred a known fs
 
 -- the fact is the last of such a list
 abbrev pub IsGrounded : Rules → List Repeat → Side → List Fact → Fact → Type 0

@@ -36,7 +36,8 @@ pub record GameLaws (P R M : Type 0) (r : Game P R M) : Type 0 where
   -- the sides take turns
   pub turns : (p : P) (m : M) → r.attacking (r.next p m) ≡ not (r.attacking p)
   -- at one repeat and move the next counter is monotone in the counter, and at most one more
-  pub lower : (p q : P) (m : M) → r.repeat p ≡ r.repeat q → r.counter p ≤ r.counter q → r.counter (r.next p m) ≤ r.counter (r.next q m)
+  pub lower : (p q : P) (m : M) → r.repeat p ≡ r.repeat q → r.counter p ≤ r.counter q →
+      r.counter (r.next p m) ≤ r.counter (r.next q m)
   pub rises : (p : P) (m : M) → r.counter (r.next p m) ≤ r.counter p + 1
 
 -- what is asked besides, where a strategy is to be found
@@ -138,4 +139,5 @@ near_defence r barred n p = list_all (λ m. near r barred n (r.next p m)) (r.leg
 -- the game itself is looked at with its history, and what follows it without: its repeats that are used up are barred
 unfoldable pub near_root : {P R M : Type 0} → Game P R M → ℕ → Story P → Bool
 near_root r n g =
-    decided ((of_games r).end g) (if r.attacking g.last then near_attack r (blocked r g) n g.last else near_defence r (blocked r g) n g.last)
+    decided ((of_games r).end g)
+    (if r.attacking g.last then near_attack r (blocked r g) n g.last else near_defence r (blocked r g) n g.last)

@@ -10,3 +10,4 @@ pub mod Views
 pub mod Wins
 pub mod Facts
 pub mod Strategies
+pub mod RuleSentences

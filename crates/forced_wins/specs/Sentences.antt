@@ -102,12 +102,14 @@ Defends {P = P} {M = M} r barred p = IsDefence P M (of_positions r barred) p
 -- the claims on the repeat of p that what holds of its legal moves allows
 pub record ClaimsDerive (P R M : Type 0) (r : Game P R M) (b : R → Bool) (p : P) : Type 0 where
   pub won_now : (c : ℕ) → r.own p ≡ Some true → IsWon r b (r.repeat p) 0 c
-  pub by_move : (m : M) (k : ℕ) → Attacks r b p → Member m (r.legal p) → IsWonAfter P R M r b p m k → IsWonHere r b (suc k) p
+  pub by_move : (m : M) (k : ℕ) → Attacks r b p → Member m (r.legal p) →
+      IsWonAfter P R M r b p m k → IsWonHere r b (suc k) p
   pub by_all : (n : ℕ) → Defends r b p → EachIsWon r b n p → IsWonHere r b n p
   pub refuted_now : (n : ℕ) → (of_positions r b).end p ≡ Some false → IsRefutedHere r b n p
   pub refuted_zero : Attacks r b p → IsRefutedHere r b 0 p
   pub refuted_by_all : (n : ℕ) → Attacks r b p → EachIsRefuted r b n p → IsRefutedHere r b (suc n) p
-  pub refuted_by_move : (m : M) (n : ℕ) → Defends r b p → Member m (r.legal p) → IsRefutedAfter P R M r b p m n → IsRefutedHere r b n p
+  pub refuted_by_move : (m : M) (n : ℕ) → Defends r b p → Member m (r.legal p) →
+      IsRefutedAfter P R M r b p m n → IsRefutedHere r b n p
 
 -- ---- strategies
 

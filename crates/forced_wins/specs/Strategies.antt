@@ -19,7 +19,8 @@ use Rattle.forced_wins.specs.Views.{seen_by, as_any}
 use Rattle.forced_wins.specs.Wins.{near, near_root, blocked}
 
 -- the verdict on the nodes of a strategy of the attacker `of`, for a win of the game by `a` within n moves
-abbrev pub verdict : {N E : Type 0} → Rules → Accessors Position Move N E → Story → Side → ℕ → Side → List N → Verdict Move
+abbrev pub verdict : {N E : Type 0} →
+    Rules → Accessors Position Move N E → Story → Side → ℕ → Side → List N → Verdict Move
 verdict rules tb g a n of nodes = Tables.verdict (seen_by rules a) tb (same_side of a) nodes (as_any g) n
 
 -- the strategy is good: no fault stands in it
@@ -48,7 +49,7 @@ pub record SoundGood (rules : Rules) (n : ℕ) (g : Story) (a : Side) : Type 0 w
 abbrev pub moves_left : ℕ → Position → Side → ℕ
 moves_left n p a = if same_side p.side a then n - 1 else n
 
--- the moves are legal in turn, the attacker makes at most n of them, and each position behind p is still won by the moves left
+-- the moves are legal in turn, the attacker makes at most n of them, and each position after p is won by the moves left
 abbrev pub IsWonAlong : Rules → List Repeat → Side → ℕ → Position → List Move → Type 0
 IsWonAlong rules barred a n p [] = Unit {0}
 IsWonAlong rules barred a n p (m ∷ ms) =
@@ -70,7 +71,17 @@ pub record OnWin (rules : Rules) (n : ℕ) (g : Story) (a : Side) (r : Repeat) (
   pub repeat : repeat_of (behind rules g.last line) ≡ r
   pub counter : (behind rules g.last line).counter ≡ c
 
--- what keeps a near win from having a good strategy near the move-count limit: one repeat at different counters, on winning lines
+-- the root's own repeat stands twice
+abbrev pub StandsAgain : Story → Repeat → List ℕ → Type 0
+StandsAgain g x counters = (x ≡ repeat_of g.last) × (2 ≤ length counters)
+
+-- another stands so often that a table of them all has too many
+abbrev pub StandsTooOften : Rules → Story → Repeat → List ℕ → Type 0
+StandsTooOften rules g x counters =
+    (x ≡ repeat_of g.last → ⊥) × (0 < rules.n_fold) × (rules.n_fold ≤ length counters + times x (history g))
+
+-- what keeps a near win from having a good strategy near the move-count limit: one repeat at different counters, on
+-- winning lines
 pub record IsUnsettled (rules : Rules) (n : ℕ) (g : Story) (a : Side) : Type 0 where
   pub near_win : near_root rules n g a ≡ true
   pub counted : 0 < rules.n_move
@@ -79,4 +90,4 @@ pub record IsUnsettled (rules : Rules) (n : ℕ) (g : Story) (a : Side) : Type 0
   pub counters : List ℕ
   pub differ : (i j c : ℕ) → slice_get counters i ≡ Some c → slice_get counters j ≡ Some c → i ≡ j
   pub on_lines : (c : ℕ) → Member c counters → OnWin rules n g a repeat c
-  pub many : ((repeat ≡ repeat_of g.last) × (2 ≤ length counters)) ⊎ ((repeat ≡ repeat_of g.last → ⊥) × (0 < rules.n_fold) × (rules.n_fold ≤ length counters + times repeat (history g)))
+  pub many : StandsAgain g repeat counters ⊎ StandsTooOften rules g repeat counters

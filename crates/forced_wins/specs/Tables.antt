@@ -46,13 +46,17 @@ leads (Some w) f = f w
 
 -- node 0 has the repeat of the game, a counter not below the game's, and a rank of at most n
 unfoldable pub root_fits : {P R M N E : Type 0} → Game P R M → Accessors P M N E → List N → Story P → ℕ → Bool
-root_fits r tb s g n = leads (slice_get s 0) (λ v. r.same (r.repeat (tb.position v)) (r.repeat g.last) && (nat_le (r.counter g.last) (r.counter (tb.position v)) && nat_le (tb.rank v) n))
+root_fits r tb s g n =
+    leads (slice_get s 0) (λ v.
+    r.same (r.repeat (tb.position v)) (r.repeat g.last) && (nat_le (r.counter g.last) (r.counter (tb.position v)) && nat_le (tb.rank v) n))
 
 -- ---- wrong moves
 
 -- the move of the edge is legal, and its node has the repeat that follows
 abbrev pub fits_edge : {P R M N E : Type 0} → Game P R M → Accessors P M N E → List N → N → E → Bool
-fits_edge r tb s v e = list_any (r.same_move (tb.chosen e)) (r.legal (tb.position v)) && leads (slice_get s (tb.to e)) (λ w. r.same (r.repeat (tb.position w)) (r.repeat (r.next (tb.position v) (tb.chosen e))))
+fits_edge r tb s v e =
+    list_any (r.same_move (tb.chosen e)) (r.legal (tb.position v))
+    && leads (slice_get s (tb.to e)) (λ w. r.same (r.repeat (tb.position w)) (r.repeat (r.next (tb.position v) (tb.chosen e))))
 
 -- two edges have one move
 abbrev pub is_doubled : {P R M N E : Type 0} → Game P R M → Accessors P M N E → List E → Bool
@@ -66,7 +70,10 @@ fits_number None true n = n == 1
 fits_number None false n = true
 
 unfoldable pub wrong_move : {P R M N E : Type 0} → Game P R M → Accessors P M N E → List N → N → Bool
-wrong_move r tb s v = not (list_all (fits_edge r tb s v) (tb.edges v) && (not (is_doubled r tb (tb.edges v)) && fits_number (node_end r tb v) (r.attacking (tb.position v)) (length (tb.edges v))))
+wrong_move r tb s v =
+    not (list_all (fits_edge r tb s v) (tb.edges v)
+    && (not (is_doubled r tb (tb.edges v))
+    && fits_number (node_end r tb v) (r.attacking (tb.position v)) (length (tb.edges v))))
 
 -- ---- missing replies
 
@@ -95,11 +102,15 @@ fits_rank true from to = nat_lt to from
 fits_rank false from to = nat_le to from
 
 unfoldable pub bad_rank : {P R M N E : Type 0} → Game P R M → Accessors P M N E → List N → N → Bool
-bad_rank r tb s v = not (list_all (λ e. leads (slice_get s (tb.to e)) (λ w. fits_rank (r.attacking (tb.position v)) (tb.rank v) (tb.rank w))) (tb.edges v))
+bad_rank r tb s v =
+    not (list_all (λ e. leads (slice_get s (tb.to e)) (λ w.
+    fits_rank (r.attacking (tb.position v)) (tb.rank v) (tb.rank w))) (tb.edges v))
 
 -- some next counter is above that of the node that it leads to
 unfoldable pub bad_counter : {P R M N E : Type 0} → Game P R M → Accessors P M N E → List N → N → Bool
-bad_counter r tb s v = not (list_all (λ e. leads (slice_get s (tb.to e)) (λ w. nat_le (r.counter (r.next (tb.position v) (tb.chosen e))) (r.counter (tb.position w)))) (tb.edges v))
+bad_counter r tb s v =
+    not (list_all (λ e. leads (slice_get s (tb.to e)) (λ w.
+    nat_le (r.counter (r.next (tb.position v) (tb.chosen e))) (r.counter (tb.position w)))) (tb.edges v))
 
 -- ---- repeats
 
@@ -108,11 +119,15 @@ is_root_again r tb s v = leads (slice_get s 0) (λ u. r.same (r.repeat (tb.posit
 
 -- the count of its repeat in the game and the number of nodes that have it reach the fold together
 abbrev pub stands_often : {P R M N E : Type 0} → Game P R M → Accessors P M N E → List N → Story P → N → Bool
-stands_often r tb s g v = nat_lt 0 r.fold && nat_le r.fold (times r (r.repeat (tb.position v)) (history g) + nodes_of r tb (r.repeat (tb.position v)) s)
+stands_often r tb s g v =
+    nat_lt 0 r.fold
+    && nat_le r.fold (times r (r.repeat (tb.position v)) (history g) + nodes_of r tb (r.repeat (tb.position v)) s)
 
 -- an earlier node has its repeat and counter
 abbrev pub is_earlier : {P R M N E : Type 0} → Game P R M → Accessors P M N E → List N → ℕ → N → Bool
-is_earlier r tb s i v = list_any (λ u. r.same (r.repeat (tb.position u)) (r.repeat (tb.position v)) && (r.counter (tb.position u) == r.counter (tb.position v))) (take i s)
+is_earlier r tb s i v =
+    list_any (λ u.
+    r.same (r.repeat (tb.position u)) (r.repeat (tb.position v)) && (r.counter (tb.position u) == r.counter (tb.position v))) (take i s)
 
 unfoldable pub repeats_at : {P R M N E : Type 0} → Game P R M → Accessors P M N E → List N → Story P → ℕ → N → Bool
 repeats_at r tb s g i v = is_earlier r tb s i v || (nat_lt 0 i && (is_root_again r tb s v || stands_often r tb s g v))
@@ -166,7 +181,8 @@ nodes_verdict r tb s g i (v ∷ vs) = or_verdict (node_verdict r tb s g i v) (no
 -- the verdict on a table for a win of the game within n moves: the root first, then the nodes in order. `is_for` says
 -- that the strategy is one for the side that attacks.
 unfoldable pub verdict : {P R M N E : Type 0} → Game P R M → Accessors P M N E → Bool → List N → Story P → ℕ → Verdict M
-verdict r tb is_for s g n = or_verdict (fault_if (not (is_for && root_fits r tb s g n)) Root) (nodes_verdict r tb s g 0 s)
+verdict r tb is_for s g n =
+    or_verdict (fault_if (not (is_for && root_fits r tb s g n)) Root) (nodes_verdict r tb s g 0 s)
 
 abbrev pub IsGood : {P R M N E : Type 0} → Game P R M → Accessors P M N E → Bool → List N → Story P → ℕ → Type 0
 IsGood r tb is_for s g n = verdict r tb is_for s g n ≡ Wins

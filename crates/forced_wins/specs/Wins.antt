@@ -39,15 +39,18 @@ each_once (x ∷ xs) = x ∷ filter (λ y. not (same_repeat y x)) (each_once xs)
 
 -- the repeats of the game whose count plus 1 is at least the fold
 unfoldable pub blocked : Rules → Story → List Repeat
-blocked rules g = if rules.n_fold == 0 then [] else filter (λ x. nat_le rules.n_fold (times x (history g) + 1)) (each_once (map repeat_of (history g)))
+blocked rules g =
+    if rules.n_fold == 0 then [] else
+    filter (λ x. nat_le rules.n_fold (times x (history g) + 1)) (each_once (map repeat_of (history g)))
 
 abbrev pub is_in : List Repeat → Repeat → Bool
 is_in barred x = list_any (same_repeat x) barred
 
--- how a position without history is ended: by an early end or for want of a legal move; else its repeat is barred or its
+-- how a position without history is ended: by an early end or without a legal move; else its repeat is barred or its
 -- counter has run out, and it is lost to the attacker
 unfoldable pub near_end : Rules → List Repeat → Side → Position → Option Bool
-near_end rules barred a p = or_end (won_by a (own_end rules (repeat_of p))) (lost_if (is_in barred (repeat_of p) || is_run_out rules p.counter))
+near_end rules barred a p =
+    or_end (won_by a (own_end rules (repeat_of p))) (lost_if (is_in barred (repeat_of p) || is_run_out rules p.counter))
 
 abbrev pub positions : Rules → List Repeat → Side → Contest Position Move
 positions rules barred a = record {
@@ -63,7 +66,8 @@ near rules n p barred a = forced (positions rules barred a) n p
 
 abbrev pub near_attack : Rules → ℕ → Position → List Repeat → Side → Bool
 near_attack rules zero p barred a = false
-near_attack rules (suc n) p barred a = list_any (λ m. near rules n (next rules p m) barred a) (legal rules (repeat_of p))
+near_attack rules (suc n) p barred a =
+    list_any (λ m. near rules n (next rules p m) barred a) (legal rules (repeat_of p))
 
 abbrev pub near_defence : Rules → ℕ → Position → List Repeat → Side → Bool
 near_defence rules n p barred a = list_all (λ m. near rules n (next rules p m) barred a) (legal rules (repeat_of p))
@@ -71,7 +75,9 @@ near_defence rules n p barred a = list_all (λ m. near rules n (next rules p m) 
 -- the game itself is looked at with its history, so the root is not looked up among the blocked repeats
 unfoldable pub near_root : Rules → ℕ → Story → Side → Bool
 near_root rules n g a =
-    decided (won_by a (result rules g)) (if same_side g.last.side a then near_attack rules n g.last (blocked rules g) a else near_defence rules n g.last (blocked rules g) a)
+    decided (won_by a (result rules g))
+    (if same_side g.last.side a then near_attack rules n g.last (blocked rules g) a else
+    near_defence rules n g.last (blocked rules g) a)
 
 -- the counter cannot run out within n moves of the attacker
 abbrev pub IsInLimit : Rules → ℕ → Story → Type 0

@@ -1,5 +1,6 @@
-use Rattle.forced_wins.proofs.StrategyLaws.{good-exists}
+use Rattle.forced_wins.proofs.SoundStrategies.{played-sound}
+use Rattle.forced_wins.proofs.StrategyLaws.{played-strategies}
 use Rattle.forced_wins.proofs.by_rules.won_games_have_good_strategies.Goals as goal
 
 pub returns : goal.returns
-returns c = λ rules a start ms n. good-exists rules a n start ms
+returns c = record { exist = λ rules n g a. played-strategies rules a n g; sound = λ rules n g a keeps. played-sound rules keeps a n g }
