@@ -10,7 +10,6 @@ use Rattle.rules_model.specs.declared.board.Side.{Side}
 use Rattle.rules_model.specs.declared.moves.Move.{Move}
 use Rattle.rules_model.specs.declared.rules.Rules.{Rules}
 use Rattle.rules_model.specs.Repeats.{repeat_of}
-use Rattle.rules_model.specs.Sides.{same_side}
 use Rattle.rules_model.specs.Next.{next}
 use Rattle.rules_model.specs.Legal.{legal, own_end}
 use Rattle.rules_model.proofs.EqualLaws.{repeat-decides}

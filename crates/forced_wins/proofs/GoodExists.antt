@@ -7,7 +7,7 @@ use Rattle.forced_wins.specs.Games.{Game, GameLaws, Story, history, times, run_o
 use Rattle.forced_wins.specs.PlainTables.{Edge, Node, plain}
 use Rattle.forced_wins.specs.Tables.{is_doubled, has_edge}
 use Rattle.forced_wins.proofs.ContestLaws.{if_mono, any_mono, all_mono, within-mono, double, double-is, forced-attacking, forced-other}
-use Rattle.forced_wins.proofs.Counts.{by_cases, not_true, own_cases, tests_none, below_fold, times_none, times_here, times_other}
+use Rattle.forced_wins.proofs.Counts.{by_cases, own_cases, tests_none, below_fold, times_none, times_here, times_other}
 use Rattle.forced_wins.proofs.NearLaws.{uncounted, free, free-same, within-free, within-positions, of_games-turns}
 use Rattle.forced_wins.proofs.Lists.{listed, once_in, apart_alone, mapped, map_at, map_member}
 use Rattle.forced_wins.proofs.ShortestWins as S

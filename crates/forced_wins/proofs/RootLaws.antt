@@ -1,6 +1,5 @@
 -- Near wins of a game: with more moves, and where the repeat of its root is not barred.
-use Rattle.std.proofs.Common.{◌≡◌, ℕ, zero, suc, ◌+◌, ◌≤◌, Bool, true, false, Option, Some, None, ◌||◌, sym, ◌∙◌, arith}
-use Rattle.forced_wins.specs.Contests.{decided}
+use Rattle.std.proofs.Common.{◌≡◌, ℕ, zero, suc, ◌+◌, ◌≤◌, Bool, true, false, Some, None, ◌||◌, sym, ◌∙◌, arith}
 use Rattle.forced_wins.specs.Games.{Game, GameLaws, Story, history, times, run_out, repeated, lost_if, or_end, of_games, of_positions, blocked, near, near_attack, near_defence, near_root}
 use Rattle.forced_wins.proofs.ContestLaws.{decided-mono, if_mono, any_mono, all_mono}
 use Rattle.forced_wins.proofs.Counts.{by_cases, own_cases, tests_less}

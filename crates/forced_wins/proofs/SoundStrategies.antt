@@ -1,15 +1,14 @@
 -- Where soundness goes on along legal moves, strategies can be written with sound positions alone.
-use Rattle.std.proofs.Common.{◌≡◌, ◌⊎◌, inl, inr, ℕ, ◌+◌, ◌<◌, ◌≤◌, List, [], ◌∷◌, true, ◌&&◌, nat_le, refl, sym, ◌∙◌, subst, arith}
+use Rattle.std.proofs.Common.{◌≡◌, ◌⊎◌, inl, inr, ℕ, ◌<◌, ◌≤◌, List, [], ◌∷◌, true, refl, sym, ◌∙◌, subst, arith}
 use Rattle.std.proofs.lemmas.Bool.Decides.{nat_tests}
-use Rattle.foundation.specs.Member.{Member}
 use Rattle.rules_model.specs.declared.board.Position.{Position}
 use Rattle.rules_model.specs.declared.board.Repeat.{Repeat}
 use Rattle.rules_model.specs.declared.board.Side.{Side}
 use Rattle.rules_model.specs.declared.moves.Move.{Move}
 use Rattle.rules_model.specs.declared.rules.Rules.{Rules}
 use Rattle.rules_model.specs.Repeats.{repeat_of}
-use Rattle.rules_model.specs.Next.{next, next_counter, with_counts}
-use Rattle.rules_model.specs.Sound.{is_sound_repeat, is_sound}
+use Rattle.rules_model.specs.Next.{next, with_counts}
+use Rattle.rules_model.specs.Sound.{is_sound}
 use Rattle.rules_model.specs.Promised.{NextKeepsSound}
 use Rattle.rules_model.specs.Games.{Story, played, story_from, story_of, are_legal, IsGame}
 use Rattle.rules_model.proofs.GameLaws.{next_counter-range}

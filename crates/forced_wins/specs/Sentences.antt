@@ -1,5 +1,5 @@
 -- What is proved of any game, law by law.
-use Rattle.std.specs.Prelude.{◌≡◌, ◌⊎◌, ◌↔◌, ℕ, suc, ◌≤◌, List, Bool, true, false, not, Option, Some, None}
+use Rattle.std.specs.Prelude.{◌≡◌, ◌⊎◌, ◌↔◌, ℕ, suc, ◌≤◌, List, Bool, true, false, not, Some, None}
 use Rattle.std.specs.List.{list_any, list_all}
 use Rattle.foundation.specs.Member.{Member}
 use Rattle.forced_wins.specs.Contests.{Contest, forced}
