@@ -1,3 +1,4 @@
+pub mod LegLaws
 pub mod FaultLemmas
 pub mod PlaceLemmas
 pub mod ReadLemmas
