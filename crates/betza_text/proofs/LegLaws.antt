@@ -1,8 +1,7 @@
 -- The steps of the atoms are those with their legs: for each letter a test of its literal list, which computes.
-use Rattle.std.proofs.Common.{◌≡◌, ◌⊎◌, inl, inr, ◌↔◌, ℕ, zero, suc, ◌==◌, ℤ, pos, negsuc, neg_ℤ, nat_abs, min, max, Bool, true, false, not, ◌&&◌, ◌||◌, List, [], ◌∷◌, cond, refl, ap, sym, ◌∙◌, subst, arith}
+use Rattle.std.proofs.Common.{◌≡◌, ◌⊎◌, inl, inr, ℕ, ◌==◌, ℤ, pos, negsuc, neg_ℤ, nat_abs, min, max, Bool, true, false, not, ◌&&◌, ◌||◌, List, [], ◌∷◌, cond, refl, ap, sym, ◌∙◌, subst, arith}
 use Rattle.std.specs.List.{list_any, list_all, filter, AllByRecursion}
 use Rattle.std.specs.List.Sorted.{IsStrictlySortedBy}
-use Rattle.std.specs.Bool.{Decides}
 use Rattle.std.specs.Ordering.{int_eq}
 use Rattle.std.specs.declared.cmp.Ordering.{Ordering}
 use Rattle.std.specs.declared.cmp.Ordering.TheVariants.{Less, Equal, Greater}
@@ -14,7 +13,7 @@ use Rattle.foundation.proofs.Members.{member-filter, filter-member}
 use Rattle.betza_text.specs.declared.part.Part.{Part}
 use Rattle.betza_text.specs.declared.steps.Step.{Step}
 use Rattle.betza_text.specs.Steps.{step, shape_of, all_steps, picks, steps_of}
-use Rattle.betza_text.specs.Legs.{Legs, leg, legs, is_one_of, legs_of, step_cmp, AreAllSteps, IsStepOf, AreItsSteps}
+use Rattle.betza_text.specs.Legs.{Legs, legs, legs_of, step_cmp, AreAllSteps, AreItsSteps}
 
 -- ---- tests
 

@@ -7,7 +7,7 @@ use Rattle.std.specs.Ordering.{nat_cmp, int_cmp, ordering_then}
 use Rattle.foundation.specs.Member.{Member, IsEachOnce}
 use Rattle.betza_text.specs.declared.part.Part.{Part}
 use Rattle.betza_text.specs.declared.steps.Step.{Step}
-use Rattle.betza_text.specs.Steps.{shape_of, all_steps, picks, steps_of}
+use Rattle.betza_text.specs.Steps.{shape_of, picks, steps_of}
 
 -- how far a step goes along ranks and along files, without regard to which is which
 pub record Legs : Type 0 where
