@@ -1,4 +1,4 @@
--- Where soundness goes on along legal moves, strategies can be written with sound positions alone.
+-- Where the rules fit, strategies can be written with sound positions alone.
 use Rattle.std.proofs.Common.{◌≡◌, ◌⊎◌, inl, inr, ℕ, ◌<◌, ◌≤◌, List, [], ◌∷◌, true, refl, sym, ◌∙◌, subst, arith}
 use Rattle.std.proofs.lemmas.Bool.Decides.{nat_tests}
 use Rattle.rules_model.specs.declared.board.Position.{Position}
@@ -9,12 +9,14 @@ use Rattle.rules_model.specs.declared.rules.Rules.{Rules}
 use Rattle.rules_model.specs.Repeats.{repeat_of}
 use Rattle.rules_model.specs.Next.{next, with_counts}
 use Rattle.rules_model.specs.Sound.{is_sound}
-use Rattle.rules_model.specs.Promised.{NextKeepsSound}
+use Rattle.rules_model.specs.Fit.{IsFit}
 use Rattle.rules_model.specs.Games.{Story, played, story_from, story_of, are_legal, IsGame}
 use Rattle.rules_model.proofs.GameLaws.{next_counter-range}
 use Rattle.rules_model.proofs.LegalLaws.{legal-once}
 use Rattle.rules_model.proofs.PlayLaws.{next-counter, next_counter-up}
 use Rattle.rules_model.proofs.ResultLaws.{story_from-none, story_from-more, are_legal-more}
+use Rattle.sound_play.proofs.NextLaws.{next-sound}
+use Rattle.sound_play.proofs.SoundLaws.{SoundCounts, position_parts, position_of_parts, repeat_of_parts}
 use Rattle.forced_wins.specs.Facts.{smaller}
 use Rattle.forced_wins.specs.RuleSentences.{WasPlayed, HasSoundStrategies}
 use Rattle.forced_wins.specs.Strategies.{IsWritten, SoundGood, IsUnsettled}
@@ -33,21 +35,21 @@ use Rattle.forced_wins.proofs.Writings.{Writing, GoodTable}
 smaller-most : (a m n : ℕ) → a ≤ m → a ≤ n → a ≤ smaller m n
 smaller-most a m n h k = grind (arith, nat_tests)
 
--- ---- soundness of a position looks at its counts alone beside its repeat
+-- ---- soundness of a position looks at its repeat, and at its counts alone besides
 
 sound-counter : (rules : Rules) (p : Position) → is_sound rules p ≡ true → p.counter ≤ 9999
-unfolding is_sound
-sound-counter rules p h = le_from p.counter 9999 (both _ _ (both _ _ (both _ _ h).0).0).1
+sound-counter rules p h = (position_parts rules p h).1.counter
 
 sound-written : (rules : Rules) (p : Position) (c : ℕ) → is_sound rules p ≡ true → c ≤ 9999 → IsWritten rules (with_counts (repeat_of p) c 1)
-unfolding is_sound
-sound-written rules p c h low = record {
-  sound = and_true _ _ (and_true _ _ (and_true _ _ (both _ _ (both _ _ (both _ _ h).0).0).0 (le_true c 9999 low)) refl) refl;
-  number = refl;
-  counter = low;
-}
+sound-written rules p c h low =
+    let counts : SoundCounts (with_counts (repeat_of p) c 1) = record { counter = low; number_least = omega arith; number_most = omega arith } in
+    record {
+      sound = position_of_parts rules (with_counts (repeat_of p) c 1) (repeat_of_parts rules (repeat_of p) (position_parts rules p h).0) counts;
+      number = refl;
+      counter = low;
+    }
 
-module _ (rules : Rules) (keeps : NextKeepsSound rules) (a : Side) where
+module _ (rules : Rules) (fit : IsFit rules) (a : Side) where
   Sound : Position → Type 0
   Sound p = is_sound rules p ≡ true
 
@@ -68,7 +70,7 @@ module _ (rules : Rules) (keeps : NextKeepsSound rules) (a : Side) where
   writing : Writing Position Repeat Move (seen_by rules a) Sound (IsWritten rules)
   unfolding Sound at
   writing = record {
-    goes_on = keeps;
+    goes_on = λ p m h k. next-sound rules p m fit h k;
     at = at;
     at_repeat = λ p c. refl;
     at_low = λ p c. smaller-left c 9999;
@@ -86,7 +88,7 @@ module _ (rules : Rules) (keeps : NextKeepsSound rules) (a : Side) where
   sound-along [] g h k = subst (λ (s : Story). is_sound rules s.last ≡ true) (sym (story_from-none rules g)) h
   sound-along (m ∷ ms) g h k =
       let u = (are_legal-more rules g.last m ms).0 k in
-      subst (λ (s : Story). is_sound rules s.last ≡ true) (sym (story_from-more rules g m ms)) (sound-along ms (played rules g m) (keeps g.last m h u.0) u.1)
+      subst (λ (s : Story). is_sound rules s.last ≡ true) (sym (story_from-more rules g m ms)) (sound-along ms (played rules g m) (next-sound rules g.last m fit h u.0) u.1)
 
   game-sound : (start : Position) (ms : List Move) → IsGame rules start ms → Sound (story_of rules start ms).last
   game-sound start ms game = sound-along ms (record { earlier = []; last = start }) game.sound game.legal_moves

@@ -1,14 +1,15 @@
 //! Forced wins by the rules of play, over games with their whole history (`Story`) and for either side as the attacker.
 //!
-//! How a game stands is said by the laws of `rules_model`, in `game_laws`: these laws use it, and open no definition of the rules.
+//! How a game stands is said by the laws of `rules_model`, in `game_laws`, and what stays sound by `sound_play`: these laws use
+//! them, and open no definition of the rules.
 ghost use Rattle.std.specs.Prelude.{◌≡◌, ℕ, ◌≤◌, List, true};
 ghost use Rattle.rules_model.specs.declared.board.Position.{Position};
 ghost use Rattle.rules_model.specs.declared.board.Repeat.{Repeat};
 ghost use Rattle.rules_model.specs.declared.board.Side.{Side};
 ghost use Rattle.rules_model.specs.declared.moves.Move.{Move};
 ghost use Rattle.rules_model.specs.declared.rules.Rules.{Rules};
+ghost use Rattle.rules_model.specs.Fit.{IsFit};
 ghost use Rattle.rules_model.specs.Games.{Story};
-ghost use Rattle.rules_model.specs.Promised.{NextKeepsSound};
 ghost use Rattle.forced_wins.specs.declared.fact.Fact.{Fact};
 ghost use Rattle.forced_wins.specs.RuleSentences.{AreTrueFacts, GoodIsGood, GoodStrategiesWin, HasSoundStrategies, HasStrategies, IsAnyGame, IsLower, MeansTheSame, NearSentences, RootSentences, TruthFollows, TruthIsKept, WasPlayed, WinSentences, WinsAreNear, WinsGrow};
 ghost use Rattle.forced_wins.specs.Tables.{Accessors};
@@ -67,11 +68,11 @@ pub fn kept_facts_are_true()
 {}
 
 /// Where the counter cannot run out, a good strategy exists exactly where the game is won. A near win has a good strategy, or it
-/// is unsettled: the counter can run out, and some repeat stands on winning lines at too many counters. Where legal moves keep
-/// positions sound, such a strategy can be written with sound positions alone, each with the number 1.
+/// is unsettled: the counter can run out, and some repeat stands on winning lines at too many counters. Where the rules fit, such
+/// a strategy can be written with sound positions alone, each with the number 1.
 pub fn won_games_have_good_strategies()
     ensures exist { (rules : Rules) (n : ℕ) (g : Story) (a : Side) → WasPlayed rules g → HasStrategies rules n g a }
-    ensures sound { (rules : Rules) (n : ℕ) (g : Story) (a : Side) → NextKeepsSound rules → WasPlayed rules g →
+    ensures sound { (rules : Rules) (n : ℕ) (g : Story) (a : Side) → IsFit rules → WasPlayed rules g →
         HasSoundStrategies rules n g a }
 {}
 
