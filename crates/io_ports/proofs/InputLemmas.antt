@@ -10,7 +10,7 @@ use Rattle.io_ports.specs.Lines.{Line, TooLong, line_feed, carriage_return, piec
 use Rattle.io_ports.specs.Source.{Takes, got_lines}
 use Rattle.io_ports.specs.declared.source.Got.{Got}
 use Rattle.io_ports.specs.declared.source.Got.TheVariants as got
-use Rattle.io_ports.specs.Standard.{is_unended, IsWhole}
+use Rattle.io_ports.specs.Standard.{is_unended, IsWhole, Skips}
 use Rattle.io_ports.proofs.Pieces.{pieces_of-some}
 
 append-nil : (xs : List ℕ) → xs ++ [] ≡ xs
@@ -75,12 +75,6 @@ pub keeps_self : (front : List ℕ) (a : Option (List ℕ)) → Keeps (prepend_k
 keeps_self front None = tt
 keeps_self front (Some xs) = refl
 
--- bytes without LF were read
-pub record Skipped (a b : Option (List ℕ)) : Type 0 where
-  pub bytes : List ℕ
-  pub unended : is_unended bytes ≡ true
-  pub gave : Consumes a b bytes
-
 consumes_none : (a : Option (List ℕ)) → Consumes a a []
 consumes_none None = tt
 consumes_none (Some xs) = refl
@@ -91,10 +85,10 @@ consumes_more (Some ks) None c xs ys first next = absurd first
 consumes_more (Some ks) (Some ms) None xs ys first next = absurd next
 consumes_more (Some ks) (Some ms) (Some ns) xs ys first next = first ∙ ap (λ l. xs ++ l) next ∙ sym (append_assoc xs ys ns)
 
-pub skipped_none : (a : Option (List ℕ)) → Skipped a a
+pub skipped_none : (a : Option (List ℕ)) → Skips a a
 skipped_none a = record { bytes = []; unended = refl; gave = consumes_none a }
 
-pub skipped_more : (a b c : Option (List ℕ)) (byte : ℕ) → Skipped a b → Consumes b c (byte ∷ []) → byte ≢ line_feed → Skipped a c
+pub skipped_more : (a b c : Option (List ℕ)) (byte : ℕ) → Skips a b → Consumes b c (byte ∷ []) → byte ≢ line_feed → Skips a c
 skipped_more a b c byte skipped gives other = record {
   bytes = skipped.bytes ++ byte ∷ [];
   unended = unended_snoc skipped.bytes byte skipped.unended other;
@@ -105,14 +99,14 @@ skipped_at : (ks ms ns bytes : List ℕ) → is_unended bytes ≡ true → ks �
 skipped_at ks ms ns bytes unended gave drops = ap (λ (l : List ℕ). Some l) (sym drops ∙ sym (drop_unended bytes ms unended) ∙ ap (drop_through line_feed) (sym gave))
 
 -- and then LF
-pub skipped_line : (a b c : Option (List ℕ)) → Skipped a b → Consumes b c (line_feed ∷ []) → DropsThrough a c line_feed
+pub skipped_line : (a b c : Option (List ℕ)) → Skips a b → Consumes b c (line_feed ∷ []) → DropsThrough a c line_feed
 skipped_line None b c skipped gives = tt
 skipped_line (Some ks) None c skipped gives = absurd skipped.gave
 skipped_line (Some ks) (Some ms) None skipped gives = absurd gives
 skipped_line (Some ks) (Some ms) (Some ns) skipped gives = skipped_at ks ms ns skipped.bytes skipped.unended skipped.gave (ap (drop_through line_feed) gives)
 
 -- and then no byte
-pub skipped_end : (a b c : Option (List ℕ)) → Skipped a b → Keeps b c → IsAtEnd c → DropsThrough a c line_feed
+pub skipped_end : (a b c : Option (List ℕ)) → Skips a b → Keeps b c → IsAtEnd c → DropsThrough a c line_feed
 skipped_end None b c skipped kept ended = tt
 skipped_end (Some ks) None c skipped kept ended = absurd skipped.gave
 skipped_end (Some ks) (Some ms) None skipped kept ended = absurd kept

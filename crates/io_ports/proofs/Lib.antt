@@ -2,3 +2,4 @@ pub mod Asked
 pub mod Moved
 pub mod Pieces
 mod InputLemmas
+pub mod Words

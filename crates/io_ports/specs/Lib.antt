@@ -1,8 +1,10 @@
 pub mod Cause
 pub mod Clock
 pub mod Files
+pub mod Heard
 pub mod InMemory
 pub mod Lines
+pub mod Queue
 pub mod Sink
 pub mod Source
 pub mod Standard

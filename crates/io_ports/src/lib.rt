@@ -4,22 +4,40 @@
 #![tactic(auto)]
 
 mod clock;
+mod dialect;
 mod files;
+mod entry;
 mod gate;
+mod hearing;
 mod laws;
+mod limits;
 mod line;
+mod machine_clock;
+mod machine_files;
 mod memory;
+mod ports;
+mod queue;
+mod queued_input;
+mod reply;
 mod sink;
 mod source;
 mod standard;
 mod standard_input;
 
 pub use clock::Clock;
+pub use dialect::{Dialect, Heard};
 pub use files::{Files, Given, MAX_FILE};
-pub use gate::{Gate, OpenGate};
+pub use gate::{Gate, HoldingGate, OpenGate};
+pub use hearing::hear;
 pub use laws::pieces_lose_nothing;
+pub use limits::{Limits, SearchFault, Stopped};
 pub use line::{LineBuf, MAX_LINE};
-pub use memory::{File, ListClock, MemFiles, MemSink, MemSource, PollsOwed};
+pub use machine_clock::MachineClock;
+pub use machine_files::MachineFiles;
+pub use memory::{File, ListClock, MemFiles, MemSink, MemSource, PollsOwed, QuietSource};
+pub use ports::Ports;
+pub use queued_input::QueuedInput;
+pub use reply::ReplyText;
 pub use sink::{Failed, Sink};
 pub use source::{Got, Polled, Source};
 pub use standard::StandardOutput;

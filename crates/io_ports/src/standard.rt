@@ -5,7 +5,7 @@ ghost use Rattle.io_ports.specs.Sink.{AppendsFront};
 ghost use Rattle.io_ports.specs.Standard.{OutputState};
 
 use crate::{Failed, Sink};
-use std::io::{self, Write};
+use std::io::{self, ErrorKind, Write};
 use std::marker::Model;
 
 /// A sink over standard output, or over another writer. It tells nothing of what it took. A piece that it took is on its
@@ -38,11 +38,35 @@ impl<W: Write> StandardOutput<W> {
     }
 }
 
+// Writes the whole piece. After an error the writer has a front part of it.
+fn write_whole<W: Write>(writer: &mut W, piece: &[u8]) -> io::Result<()>
+    ensures ok { OnOk result (Appends (W.contents writer.old) (W.contents writer.new) piece.now) }
+    ensures err { OnErr result (AppendsFront (W.contents writer.old) (W.contents writer.new) piece.now) }
+{
+    let mut written = 0;
+    for _ in 0..u64::MAX {
+        if written == piece.len() {
+            return Ok(());
+        }
+        match writer.write(&piece[written..]) {
+            Ok(0) => return Err(io::Error::from(ErrorKind::WriteZero)),
+            Ok(count) => written += count,
+            Err(error) => {
+                if error.kind() != ErrorKind::Interrupted {
+                    return Err(error);
+                }
+            }
+        }
+    }
+    Err(io::Error::from(ErrorKind::Interrupted))
+}
+
 // Writes the whole piece, and sends it on its way.
 fn write_through<W: Write>(writer: &mut W, piece: &[u8]) -> io::Result<()>
-    ensures { OnOk result (Appends (W.contents writer.old) (W.contents writer.new) piece.now) }
+    ensures ok { OnOk result (Appends (W.contents writer.old) (W.contents writer.new) piece.now) }
+    ensures err { OnErr result (AppendsFront (W.contents writer.old) (W.contents writer.new) piece.now) }
 {
-    writer.write_all(piece)?;
+    write_whole(writer, piece)?;
     writer.flush()
 }
 
@@ -56,8 +80,9 @@ impl<W: Write> Sink for StandardOutput<W> {
         ensures err { OnErr result (AppendsFront None None piece.now) }
         ensures cause { HasCause self.old.faults self.new.faults (IsErr result) }
 
-        // The writer has the piece once, and a failure is one fault.
+        // The writer has the piece once, after a failure a front part of it and nothing else; and a failure is one fault.
         ensures wrote { OnOk result (Appends (W.contents self.old.writer) (W.contents self.new.writer) piece.now) }
+        ensures front { OnErr result (AppendsFront (W.contents self.old.writer) (W.contents self.new.writer) piece.now) }
         ensures faults { self.new.faults ≡ (if is_err result then counted self.old.faults else self.old.faults) }
     {
         match write_through(&mut self.writer, piece) {

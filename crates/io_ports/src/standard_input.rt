@@ -1,10 +1,10 @@
-ghost use Rattle.std.specs.Prelude.{◌≡◌, ◌≢◌, ◌≤◌, ◌<◌, ◌++◌, ◌∷◌, [], ⊤, ℕ, List, None, IfOk, OnOk, OnErr, false, true, length, vec_capacity};
+ghost use Rattle.std.specs.Prelude.{◌≡◌, ◌≢◌, ◌≤◌, ◌<◌, ◌++◌, ◌∷◌, [], ⊤, ℕ, List, None, IfOk, OnOk, OnErr, true, length, vec_capacity};
 ghost use Rattle.std.specs.Io.BufRead.{DropsThrough};
 ghost use Rattle.std.specs.Io.KnownBytes.{Keeps, IsAtEnd, prepend_known};
 ghost use Rattle.io_ports.specs.Cause.{HasCause, counted};
 ghost use Rattle.io_ports.specs.Lines.{line_of};
 ghost use Rattle.io_ports.specs.Source.{Takes, Owes, Untold, got_lines, polled_lines};
-ghost use Rattle.io_ports.specs.Standard.{InputState, left_of, is_unended, GivesByte, ReadsPiece};
+ghost use Rattle.io_ports.specs.Standard.{InputState, left_of, is_begun, is_unended, GivesByte, ReadsPiece, Skips, TakesLines, taken_lines};
 ghost use Rattle.io_ports.specs.declared.standard_input.TheConstants.{LONGEST};
 
 use crate::line::put_line;
@@ -63,21 +63,21 @@ impl Front {
     }
 }
 
-/// A source over standard input, or over another reader, which it reads byte by byte. It waits for each line, also where it
-/// is polled, and tells nothing of the bytes that are left; contracts name them where the reader tells its own. A line that a failure interrupts is taken up again. A line of
-/// more than 2^30 bytes is a fault.
+/// A source over standard input, or over another reader, which it reads byte by byte. It waits for each line, also where
+/// it is polled, and tells nothing of the bytes that are left; contracts name them where the reader tells its own.
+///
+/// A line that a failure interrupts is taken up again. A line of more than 2^30 bytes is a fault.
 #[derive(Drop)]
 pub struct StandardInput<R: BufRead> {
     reader: R,
     front: Front,
-    is_long: bool,
     faults: u64,
 }
 
 impl<R: BufRead> Model for StandardInput<R> {
     ghost Value = { InputState R };
 
-    ghost view = { λ input. record { reader = input.reader; front = input.front; is_long = input.is_long; faults = input.faults } };
+    ghost view = { λ input. record { reader = input.reader; front = input.front; faults = input.faults } };
 
     ghost invariant = { λ input. is_unended input.front ≡ true };
 }
@@ -147,7 +147,8 @@ fn end_line(front: &mut Front, line: &mut LineBuf) -> Got
 
 // Reads over the rest of a piece that is too long.
 fn skip_piece<R: BufRead>(reader: &mut R) -> io::Result<()>
-    ensures { OnOk result (DropsThrough (R.remaining reader.old) (R.remaining reader.new) 10) }
+    ensures ok { OnOk result (DropsThrough (R.remaining reader.old) (R.remaining reader.new) 10) }
+    ensures err { OnErr result (Skips (R.remaining reader.old) (R.remaining reader.new)) }
 {
     for _ in LONGEST..MOST {
         let Some(byte) = next_byte(reader)? else {
@@ -160,17 +161,31 @@ fn skip_piece<R: BufRead>(reader: &mut R) -> io::Result<()>
     Err(io::Error::from(ErrorKind::InvalidData))
 }
 
+// Takes the rest of a line whose longest front was read.
+fn skip_line<R: BufRead>(reader: &mut R, front: &mut Front) -> io::Result<Got>
+    requires unended { is_unended front.old ≡ true }
+    requires long { length front.old ≡ LONGEST }
+    ensures is { IfOk result (λ got. got ≡ Got.TooLong) }
+    ensures taken { OnOk result (front.new ≡ []) }
+    ensures rest { OnOk result (DropsThrough (R.remaining reader.old) (R.remaining reader.new) 10) }
+    ensures begun { OnErr result (front.new ≡ front.old) }
+    ensures skipped { OnErr result (Skips (R.remaining reader.old) (R.remaining reader.new)) }
+{
+    skip_piece(reader)?;
+    front.clear();
+    Ok(Got::TooLong)
+}
+
 impl<R: BufRead> StandardInput<R> {
     /// A source over this reader.
     pub fn new(alloc: Global, reader: R) -> Result<StandardInput<R>, Memory>
     where
         R: Drop,
-        ensures { IfOk result (λ input. input ≡ record { reader = reader; front = []; is_long = false; faults = 0 }) }
+        ensures { IfOk result (λ input. input ≡ record { reader = reader; front = []; faults = 0 }) }
     {
         Ok(StandardInput {
             reader,
             front: Front::new(alloc)?,
-            is_long: false,
             faults: 0,
         })
     }
@@ -186,37 +201,16 @@ impl<R: BufRead> StandardInput<R> {
     fn take_line(&mut self, line: &mut LineBuf) -> io::Result<Got>
         ensures works { IfOk result (λ got. got ≢ Got.Failed) }
         ensures faults { self.new.faults ≡ self.old.faults }
-        ensures whole { OnOk result (self.new.is_long ≡ false) }
-        ensures known { IfOk result (λ got. self.old.is_long ≡ false → Takes (left_of R.remaining self.old) (left_of R.remaining self.new) (got_lines got line.new)) }
+        ensures whole { OnOk result (self.new.front ≡ []) }
+        ensures lines { TakesLines (left_of R.remaining self.old) (left_of R.remaining self.new) (taken_lines result line.new) }
+        ensures known { IfOk result (λ got. is_begun self.old ≡ true → Takes (left_of R.remaining self.old) (left_of R.remaining self.new) (got_lines got line.new)) }
         ensures ended { IfOk result (λ got. got ≡ Got.End → IsAtEnd (left_of R.remaining self.new)) }
-        ensures kept { OnErr result (self.old.is_long ≡ false → self.new.is_long ≡ false → Keeps (left_of R.remaining self.old) (left_of R.remaining self.new)) }
+        ensures kept { OnErr result (is_begun self.new ≡ true → Keeps (left_of R.remaining self.old) (left_of R.remaining self.new)) }
     {
-        if self.is_long {
-            return self.skip_line();
-        }
         match read_piece(&mut self.reader, &mut self.front)? {
             Piece::Whole => Ok(end_line(&mut self.front, line)),
-            Piece::Long => {
-                self.front.clear();
-                self.is_long = true;
-                self.skip_line()
-            }
+            Piece::Long => skip_line(&mut self.reader, &mut self.front),
         }
-    }
-
-    // Takes the rest of a line whose front was dropped.
-    fn skip_line(&mut self) -> io::Result<Got>
-        requires { self.old.is_long ≡ true }
-        ensures long { IfOk result (λ got. got ≡ Got.TooLong) }
-        ensures faults { self.new.faults ≡ self.old.faults }
-        ensures front { self.new.front ≡ self.old.front }
-        ensures whole { OnOk result (self.new.is_long ≡ false) }
-        ensures begun { OnErr result (self.new.is_long ≡ true) }
-        ensures rest { OnOk result (DropsThrough (R.remaining self.old.reader) (R.remaining self.new.reader) 10) }
-    {
-        skip_piece(&mut self.reader)?;
-        self.is_long = false;
-        Ok(Got::TooLong)
     }
 }
 
@@ -233,10 +227,14 @@ impl<R: BufRead> Source for StandardInput<R> {
         ensures owed { Untold ≡ Untold }
         ensures cause { HasCause self.old.faults self.new.faults (result ≡ Got.Failed) }
 
-        // As a source that tells what is left, where its reader tells that and no front of a line was dropped.
-        ensures known { self.old.is_long ≡ false → self.new.is_long ≡ false → Takes (left_of R.remaining self.old) (left_of R.remaining self.new) (got_lines result line.new) }
+        // Where its reader tells what is left: the lines that were taken are the first of those that were left, and the
+        // others are left, also after a failure.
+        ensures lines { TakesLines (left_of R.remaining self.old) (left_of R.remaining self.new) (got_lines result line.new) }
         ensures ended { result ≡ Got.End → IsAtEnd (left_of R.remaining self.new) }
-        ensures whole { result ≢ Got.Failed → self.new.is_long ≡ false }
+
+        // Byte for byte, where nothing of a line that is too long was dropped.
+        ensures known { is_begun self.old ≡ true → is_begun self.new ≡ true → Takes (left_of R.remaining self.old) (left_of R.remaining self.new) (got_lines result line.new) }
+        ensures whole { result ≢ Got.Failed → self.new.front ≡ [] }
 
         // A failure is one fault.
         ensures counts { result ≡ Got.Failed → self.new.faults ≡ counted self.old.faults }
@@ -258,9 +256,10 @@ impl<R: BufRead> Source for StandardInput<R> {
         ensures cause { HasCause self.old.faults self.new.faults (result ≡ Polled.Failed) }
 
         // As for `next_line`.
-        ensures known { self.old.is_long ≡ false → self.new.is_long ≡ false → Takes (left_of R.remaining self.old) (left_of R.remaining self.new) (polled_lines result line.new) }
+        ensures lines { TakesLines (left_of R.remaining self.old) (left_of R.remaining self.new) (polled_lines result line.new) }
         ensures ended { result ≡ Polled.End → IsAtEnd (left_of R.remaining self.new) }
-        ensures whole { result ≢ Polled.Failed → self.new.is_long ≡ false }
+        ensures known { is_begun self.old ≡ true → is_begun self.new ≡ true → Takes (left_of R.remaining self.old) (left_of R.remaining self.new) (polled_lines result line.new) }
+        ensures whole { result ≢ Polled.Failed → self.new.front ≡ [] }
         ensures counts { result ≡ Polled.Failed → self.new.faults ≡ counted self.old.faults }
         ensures works { result ≢ Polled.Failed → self.new.faults ≡ self.old.faults }
         ensures waits { result ≢ Polled.NotYet }

@@ -1,5 +1,5 @@
-use Rattle.io_ports.proofs.InputLemmas.{Skipped}
+use Rattle.io_ports.specs.Standard.{Skips}
 use Rattle.io_ports.proofs.standard_input.skip_piece.Given as goal
 
 abbrev pub invariant-loop : goal.invariant-loop
-invariant-loop g l = Skipped (g.R.Read.remaining l.initial.reader) (g.R.Read.remaining l.reader)
+invariant-loop g l = Skips (g.R.Read.remaining l.initial.reader) (g.R.Read.remaining l.reader)
