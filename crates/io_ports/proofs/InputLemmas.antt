@@ -1,16 +1,16 @@
 -- What is read of a reader, byte by byte.
-use Rattle.std.proofs.Common.{◌≡◌, ◌≢◌, ℕ, ◌+◌, ◌<◌, ◌≤◌, Bool, true, false, ◌&&◌, not, ◌==◌, List, [], ◌∷◌, ◌++◌, length, Option, Some, None, Result, Ok, Err, IfOk, OnOk, if◌then◌else◌, refl, ap, sym, ◌∙◌, append_assoc, inl, inr, arith}
+use Rattle.std.proofs.Common.{◌≡◌, ◌≢◌, ℕ, ◌+◌, ◌<◌, ◌≤◌, Bool, true, false, ◌&&◌, not, ◌==◌, List, [], ◌∷◌, ◌++◌, length, Option, Some, None, Result, Ok, Err, IfOk, OnOk, OnErr, map, if◌then◌else◌, refl, ap, sym, ◌∙◌, append_assoc, inl, inr, arith}
 use Rattle.std.proofs.lemmas.Bool.Decides.{nat_tests}
 use Rattle.std.proofs.lemmas.Grind.{common_steps}
 use Rattle.std.specs.Io.BufRead.{take_through, drop_through, strip_last, DropsThrough}
 use Rattle.std.specs.Io.KnownBytes.{Keeps, Consumes, IsAtEnd, prepend_known}
 use Rattle.io_ports.specs.declared.standard_input.TheConstants.{LONGEST}
 use Rattle.io_ports.specs.declared.line.TheConstants.{MAX_LINE}
-use Rattle.io_ports.specs.Lines.{Line, TooLong, line_feed, carriage_return, pieces_of, text_of, line_of}
+use Rattle.io_ports.specs.Lines.{Line, TooLong, line_feed, carriage_return, pieces_of, text_of, line_of, lines_of}
 use Rattle.io_ports.specs.Source.{Takes, got_lines}
 use Rattle.io_ports.specs.declared.source.Got.{Got}
 use Rattle.io_ports.specs.declared.source.Got.TheVariants as got
-use Rattle.io_ports.specs.Standard.{is_unended, IsWhole, Skips}
+use Rattle.io_ports.specs.Standard.{is_unended, IsWhole, Skips, TakesLines, taken_lines}
 use Rattle.io_ports.proofs.Pieces.{pieces_of-some}
 
 append-nil : (xs : List ℕ) → xs ++ [] ≡ xs
@@ -201,8 +201,62 @@ ended_takes a b (x ∷ xs) line answer kept whole none some =
     let is = some (λ e. cc) in
     rw is (whole_takes a b (x ∷ xs) kept whole (λ e. cc))
 
--- the rest of a line whose front was dropped
+map_lines : (xs ys : List (List ℕ)) → map line_of (xs ++ ys) ≡ map line_of xs ++ map line_of ys
+map_lines [] ys = refl
+map_lines (x ∷ xs) ys = ap (λ (l : List Line). line_of x ∷ l) (map_lines xs ys)
+
+-- what is taken byte for byte is taken line by line
+pub takes_lines : (a b : Option (List ℕ)) (lines : List Line) → Takes a b lines → TakesLines a b lines
+takes_lines None b lines takes = tt
+takes_lines (Some xs) None lines takes = absurd takes
+takes_lines (Some xs) (Some ys) lines (pieces, are, is) = ap (map line_of) are ∙ map_lines pieces (pieces_of ys) ∙ ap (λ (l : List Line). l ++ map line_of (pieces_of ys)) is
+
+unended_append : (xs ys : List ℕ) → is_unended xs ≡ true → is_unended ys ≡ true → is_unended (xs ++ ys) ≡ true
+unended_append [] ys first last = last
+unended_append (x ∷ xs) ys first last =
+    let (byte, rest) = both (not (x == line_feed)) (is_unended xs) first in
+    rw (byte, unended_append xs ys rest last)
+
+-- the lines, where a front that is too long stands before these bytes
+lines_at : (front ys : List ℕ) → is_unended front ≡ true → LONGEST ≤ length front → lines_of (front ++ ys) ≡ TooLong ∷ lines_of (drop_through line_feed ys)
+lines_at front ys unended long =
+    let some : 0 < length front = omega (arith, long) in
+    let is : line_of (front ++ take_through line_feed ys) ≡ TooLong = too_long (front ++ take_through line_feed ys) (omega (arith, length-append-le front (take_through line_feed ys), long)) in
+    ap (map line_of) (pieces_at front ys unended (some_append front ys some)) ∙ ap (λ (l : Line). l ∷ lines_of (drop_through line_feed ys)) is
+
+-- bytes of a line that is too long were dropped: it stays that line
+skips_lines : (xs ys zs front bytes : List ℕ) → front ++ ys ≡ xs → ys ≡ bytes ++ zs → is_unended front ≡ true → is_unended bytes ≡ true → length front ≡ LONGEST → lines_of xs ≡ lines_of (front ++ zs)
+skips_lines xs ys zs front bytes kept gave unended others long =
+    let more : LONGEST ≤ length (front ++ bytes) = omega (arith, length-append-le front bytes, long) in
+    ap lines_of (sym kept) ∙ ap (λ (l : List ℕ). lines_of (front ++ l)) gave ∙ ap lines_of (sym (append_assoc front bytes zs))
+    ∙ lines_at (front ++ bytes) zs (unended_append front bytes unended others) more ∙ sym (lines_at front zs unended (omega (arith, long)))
+
+long_skips : (a b c : Option (List ℕ)) (front : List ℕ) → Keeps a (prepend_known front b) → is_unended front ≡ true → length front ≡ LONGEST → Skips b c → TakesLines a (prepend_known front c) []
+long_skips None b c front kept unended long skips = tt
+long_skips (Some xs) None c front kept unended long skips = absurd kept
+long_skips (Some xs) (Some ys) None front kept unended long skips = absurd skips.gave
+long_skips (Some xs) (Some ys) (Some zs) front kept unended long skips = skips_lines xs ys zs front skips.bytes kept skips.gave unended skips.unended long
+
+pub skips_more : (a b c : Option (List ℕ)) → Skips a b → Keeps b c → Skips a c
+skips_more None b c skips kept = record { bytes = []; unended = refl; gave = tt }
+skips_more (Some xs) None c skips kept = absurd skips.gave
+skips_more (Some xs) (Some ys) None skips kept = absurd kept
+skips_more (Some xs) (Some ys) (Some zs) skips kept = record { bytes = skips.bytes; unended = skips.unended; gave = skips.gave ∙ ap (λ (l : List ℕ). skips.bytes ++ l) (sym kept) }
+
+-- nothing was taken
+pub keeps_lines : (a b : Option (List ℕ)) → Keeps a b → TakesLines a b []
+keeps_lines a b kept = takes_lines a b [] (keeps_takes a b kept)
+
+-- the rest of a line whose longest front was read
 pub long_known : {E : Type 0} (r : Result Got E) (P : Type 0) (a b c : Option (List ℕ)) (front front' line : List ℕ) → IfOk r (λ answer. answer ≡ got.TooLong) → OnOk r (DropsThrough b c line_feed)
-    → front' ≡ [] → Keeps a (prepend_known front b) → is_unended front ≡ true → length front ≡ LONGEST → IfOk r (λ answer. P → Takes a (prepend_known front' c) (got_lines answer line))
+    → OnOk r (front' ≡ []) → Keeps a (prepend_known front b) → is_unended front ≡ true → length front ≡ LONGEST → IfOk r (λ answer. P → Takes a (prepend_known front' c) (got_lines answer line))
 long_known (Ok answer) P a b c front front' line is drops none kept unended long = λ _. rw (is, none) (long_takes a b c front kept unended long drops)
 long_known (Err error) P a b c front front' line is drops none kept unended long = tt
+
+-- the same by lines, and after a failure
+pub long_lines : {E : Type 0} (r : Result Got E) (a b c : Option (List ℕ)) (front front' line : List ℕ) → IfOk r (λ answer. answer ≡ got.TooLong) → OnOk r (DropsThrough b c line_feed)
+    → OnOk r (front' ≡ []) → OnErr r (front' ≡ front) → OnErr r (Skips b c) → Keeps a (prepend_known front b) → is_unended front ≡ true → length front ≡ LONGEST
+    → TakesLines a (prepend_known front' c) (taken_lines r line)
+long_lines (Ok answer) a b c front front' line is drops none same skips kept unended long =
+    rw (is, none) (takes_lines a (prepend_known [] c) (TooLong ∷ []) (long_takes a b c front kept unended long drops))
+long_lines (Err error) a b c front front' line is drops none same skips kept unended long = rw same (long_skips a b c front kept unended long skips)

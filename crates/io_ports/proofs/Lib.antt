@@ -3,3 +3,5 @@ pub mod Moved
 pub mod Pieces
 mod InputLemmas
 pub mod Words
+mod FileLemmas
+mod OutputLemmas

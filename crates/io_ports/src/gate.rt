@@ -20,6 +20,7 @@ impl Gate for OpenGate {
 
 /// A gate for tests. It holds worker 0 at its first pass until worker 1 has passed, for at most 100,000,000 turns, and
 /// tells whether it gave up.
+#[derive(Drop)]
 pub struct HoldingGate {
     passed: AtomicBool,
     gave_up: AtomicBool,

@@ -90,22 +90,35 @@ impl<R: Wait, I: BufRead> QueuedInput<R, I> {
         I: Send + Drop + 'static,
         ensures { IfOk result (λ input. input ≡ 0) }
     {
-        let shared = Arc::new(
-            alloc,
-            Shared {
-                input: Mutex::new(StandardInput::new(alloc, reader)?),
-                queue: Mutex::new(Queue::new(alloc)?),
-                is_filled: Condvar::new(),
-                has_room: Condvar::new(),
-            },
-        )?;
+        let mut input = QueuedInput::without_thread(rt, alloc, reader)?;
         let line = LineBuf::new(alloc)?;
-        let (theirs, handle) = (shared.clone()?, rt.clone()?);
-        let reading = thread::spawn(&rt, move || read_on(&handle, &theirs, line));
+        let (handle, shared) = (input.rt.clone()?, input.shared.clone()?);
+        let started = thread::spawn(&input.rt, move || read_on(&handle, &shared, line));
+        input.is_threaded = started.is_ok();
+        Ok(input)
+    }
+
+    // A source that reads in its caller.
+    pub(crate) fn without_thread(
+        rt: R,
+        alloc: Global,
+        reader: I,
+    ) -> Result<QueuedInput<R, I>, Memory>
+    where
+        R: Drop,
+        I: Drop,
+        ensures { IfOk result (λ input. input ≡ 0) }
+    {
+        let shared = Shared {
+            input: Mutex::new(StandardInput::new(alloc, reader)?),
+            queue: Mutex::new(Queue::new(alloc)?),
+            is_filled: Condvar::new(),
+            has_room: Condvar::new(),
+        };
         Ok(QueuedInput {
             rt,
-            shared,
-            is_threaded: reading.is_ok(),
+            shared: Arc::new(alloc, shared)?,
+            is_threaded: false,
             faults: 0,
         })
     }

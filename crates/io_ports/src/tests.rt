@@ -1,10 +1,14 @@
+mod adapters;
+
 use crate::{
-    Clock, Failed, Files, Gate, Given, Got, LineBuf, ListClock, MAX_FILE, MAX_LINE, MemFiles,
-    MemSink, MemSource, OpenGate, Polled, PollsOwed, Sink, Source, StandardInput, StandardOutput,
+    Clock, Dialect, Failed, Files, Gate, Given, Got, Heard, HoldingGate, LineBuf, ListClock,
+    MAX_FILE, MAX_LINE, MemFiles, MemSink, MemSource, OpenGate, Polled, PollsOwed, QuietSource,
+    Sink, Source, StandardInput, StandardOutput, hear,
 };
 use std::alloc::{AllocError, Global};
 use std::io::{self, BufReader, ErrorKind, Read, Write};
 use std::test::Fail;
+use std::thread::join;
 
 fn polled<S: Source + Send>(source: &mut S, line: &mut LineBuf) -> Polled {
     source.poll_line(line)
@@ -26,8 +30,66 @@ fn reading<C: Clock + Send>(clock: &mut C) -> u64 {
     clock.now()
 }
 
-fn pass<G: Gate + Sync>(gate: &G) {
-    gate.pass(1, 2);
+fn pass<G: Gate + Sync>(gate: &G, worker: u32) {
+    gate.pass(worker, 0);
+}
+
+// The reply to a line, `skip` or `stop`.
+fn heard(dialect: Dialect, line: &[u8]) -> &'static [u8] {
+    match hear(dialect, line) {
+        Heard::Reply(reply) if reply.text() == b"readyok".as_slice() => b"readyok",
+        Heard::Reply(_) => b"another reply",
+        Heard::Skip => b"skip",
+        Heard::Stop => b"stop",
+    }
+}
+
+#[test]
+fn a_line_that_is_heard_is_answered_or_skipped_or_stops(rt: HostRuntime) -> Result<(), Fail> {
+    for (line, uci, cecp) in [
+        (b"".as_slice(), b"skip".as_slice(), b"skip".as_slice()),
+        (b" \t ", b"skip", b"stop"),
+        (b"isready", b"readyok", b"stop"),
+        (b"\t joho  isready now", b"readyok", b"stop"),
+        (b"debug isready", b"skip", b"stop"),
+        (b"register later", b"skip", b"stop"),
+        (b"ISREADY", b"skip", b"stop"),
+        (b"isreadynow", b"skip", b"stop"),
+        (b"ping 1", b"skip", b"stop"),
+        (b"stop", b"stop", b"stop"),
+        (b"xquit quit", b"stop", b"stop"),
+        (b"uci", b"stop", b"stop"),
+        (b"ucinewgame", b"stop", b"stop"),
+        (b"setoption name Hash", b"stop", b"stop"),
+        (b"position startpos", b"stop", b"stop"),
+        (b"go", b"stop", b"stop"),
+        (b"ponderhit", b"stop", b"stop"),
+        (b"moves", b"stop", b"stop"),
+        (b"status", b"stop", b"stop"),
+        (b"strategy", b"stop", b"stop"),
+    ] {
+        assert_eq!(rt; (heard(Dialect::Uci, line), heard(Dialect::Cecp, line)), (uci, cecp));
+    }
+    Ok(())
+}
+
+#[test]
+fn a_quiet_source_stops_nothing(rt: HostRuntime) -> Result<(), Fail> {
+    let mut line = LineBuf::new(rt.alloc())?;
+    assert_eq!(rt; polled(&mut QuietSource, &mut line), Polled::NotYet);
+    assert_eq!(rt; next(&mut QuietSource, &mut line), Got::End);
+    Ok(())
+}
+
+#[test]
+fn worker_0_is_held_until_worker_1_has_passed(rt: HostRuntime) {
+    let gate = HoldingGate::new();
+    join(&rt, || pass(&gate, 0), || pass(&gate, 1));
+    assert!(rt; !gate.gave_up());
+    let alone = HoldingGate::new();
+    pass(&alone, 2);
+    pass(&alone, 0);
+    assert!(rt; alone.gave_up());
 }
 
 #[test]
@@ -131,7 +193,7 @@ fn the_last_reading_comes_again(rt: HostRuntime) -> Result<(), Fail> {
         reading(&mut clock),
     ];
     assert_eq!(rt; (readings, clock.count()), ([7, 5, 5], 3));
-    pass(&OpenGate);
+    pass(&OpenGate, 0);
     Ok(())
 }
 
