@@ -1,5 +1,5 @@
 -- A text is cut at its first space or tab.
-use Rattle.std.proofs.Common.{◌≡◌, ℕ, ◌+◌, ◌-◌, ◌≤◌, Bool, false, not, List, [], ◌∷◌, Option, None, Some, length, sym, ap, ◌∙◌, arith, nat_lt, ⊎_elim, length-drop, take, drop}
+use Rattle.std.proofs.Common.{◌≡◌, ℕ, ◌+◌, ◌-◌, ◌≤◌, false, not, List, [], ◌∷◌, Option, None, Some, length, sym, ap, ◌∙◌, arith, nat_lt, ⊎_elim, length-drop, take, drop}
 use Rattle.std.specs.List.{All, slice_split, position_or_len, position}
 use Rattle.std.proofs.lemmas.List.Splits.{slice_split_first, slice_split_none}
 use Rattle.std.proofs.lemmas.List.{take_all}

@@ -5,8 +5,8 @@
 
 mod clock;
 mod dialect;
-mod files;
 mod entry;
+mod files;
 mod gate;
 mod hearing;
 mod laws;

@@ -81,7 +81,13 @@ impl Queue {
         ensures gives { Gives self.old.waiting self.old.is_ended self.new.waiting result line.new }
         ensures is_ended { self.new.is_ended ≡ self.old.is_ended }
     {
-        let Some(Entry { got, line: mut buffer }) = self.waiting.pop_front() else {
+        let Some(
+            Entry {
+                got,
+                line: mut buffer,
+            },
+        ) = self.waiting.pop_front()
+        else {
             return if self.is_ended { Some(Got::End) } else { None };
         };
         mem::swap(&mut buffer, line);

@@ -74,7 +74,9 @@ impl<I: BufRead> Shared<I> {
     // Takes the first answer of the queue, and waits for it.
     fn next<R: Wait>(&self, rt: &R, line: &mut LineBuf) -> Got {
         let queue = self.queue.lock(rt);
-        let mut queue = self.is_filled.wait_while(rt, queue, |queue| queue.is_idle());
+        let mut queue = self
+            .is_filled
+            .wait_while(rt, queue, |queue| queue.is_idle());
         let got = queue.take(line);
         drop(queue);
         self.has_room.notify_one();

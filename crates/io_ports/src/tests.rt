@@ -68,7 +68,10 @@ fn a_line_that_is_heard_is_answered_or_skipped_or_stops(rt: HostRuntime) -> Resu
         (b"status", b"stop", b"stop"),
         (b"strategy", b"stop", b"stop"),
     ] {
-        assert_eq!(rt; (heard(Dialect::Uci, line), heard(Dialect::Cecp, line)), (uci, cecp));
+        assert_eq!(rt;
+            (heard(Dialect::Uci, line), heard(Dialect::Cecp, line)),
+            (uci, cecp)
+        );
     }
     Ok(())
 }

@@ -1,6 +1,8 @@
 // The adapters of the machine.
 use super::{next, polled, read, reading};
-use crate::{Given, Got, LineBuf, MAX_FILE, MAX_LINE, MachineClock, MachineFiles, Polled, QueuedInput};
+use crate::{
+    Given, Got, LineBuf, MAX_FILE, MAX_LINE, MachineClock, MachineFiles, Polled, QueuedInput,
+};
 use std::io::{self, BufReader, BufWriter, PipeWriter, Write};
 use std::test::Fail;
 use std::time::Duration;
@@ -76,9 +78,15 @@ fn files_of_the_machine_have_a_named_answer_each(rt: HostRuntime) -> Result<(), 
     }
     full.push(b'a')?;
     fs::write(&rt, path.as_str(), full.as_slice())?;
-    assert_eq!(rt; read(&mut files, path.as_bytes(), &mut out), Given::TooLarge);
+    assert_eq!(rt;
+        read(&mut files, path.as_bytes(), &mut out),
+        Given::TooLarge
+    );
     let below = format!(in alloc; "{path}/a.ini")?;
-    assert_eq!(rt; read(&mut files, below.as_bytes(), &mut out), Given::Missing);
+    assert_eq!(rt;
+        read(&mut files, below.as_bytes(), &mut out),
+        Given::Missing
+    );
     fs::remove_file(&rt, path.as_str())?;
     assert_eq!(rt; files.faults(), 0);
     assert_eq!(rt; read(&mut files, b"/", &mut out), Given::Failed);
@@ -94,6 +102,9 @@ fn the_clock_of_the_machine_counts_milliseconds(rt: HostRuntime) -> Result<(), F
     thread::sleep(&rt, Duration::from_millis(30));
     let second = reading(&mut clock);
     assert!(rt; first < 10_000, "{first} is soon after the start");
-    assert!(rt; second >= first && second - first >= 30, "{first} and {second} are 30 apart");
+    assert!(rt;
+        second >= first && second - first >= 30,
+        "{first} and {second} are 30 apart"
+    );
     Ok(())
 }

@@ -1,4 +1,4 @@
-use Rattle.std.proofs.Common.{◌≡◌, length, suc, ℕ, List, Option, None, Some, zero}
+use Rattle.std.proofs.Common.{◌≡◌, length}
 use Rattle.std.specs.List.{slice_split}
 use Rattle.std.specs.Option.{option_copied}
 use Rattle.io_ports.specs.Heard.{heard_words, is_blank, parts_after}

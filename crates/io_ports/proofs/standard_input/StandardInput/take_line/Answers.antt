@@ -1,4 +1,4 @@
-use Rattle.std.proofs.Common.{ap, ◌∙◌}
+use Rattle.std.proofs.Common.{ap}
 use Rattle.io_ports.specs.Standard.{left_of}
 use Rattle.io_ports.proofs.InputLemmas.{at_end, ended_takes, long_known, long_lines, takes_lines}
 use Rattle.io_ports.proofs.standard_input.StandardInput.take_line.Goals as goal
