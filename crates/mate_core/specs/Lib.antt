@@ -1,0 +1,4 @@
+pub mod Best
+pub mod Hash
+pub mod Steps
+pub mod Runs
