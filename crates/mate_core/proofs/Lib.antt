@@ -1,1 +1,4 @@
+pub mod AnswerLemmas
+pub mod StepLemmas
+pub mod TruthLemmas
 pub mod worked

@@ -1,5 +1,5 @@
 -- Lists of facts: the best answer to a query, and whether a fact is worth a place.
-use Rattle.std.specs.Prelude.{ℕ, nat_le, List, [], ◌∷◌, Bool, ◌&&◌, ◌||◌, Option, Some, None, length, if◌then◌else◌}
+use Rattle.std.specs.Prelude.{◌≡◌, ℕ, ◌<◌, ◌≤◌, nat_le, List, [], ◌∷◌, Bool, true, false, ◌&&◌, ◌||◌, Option, Some, None, length, slice_get, if◌then◌else◌}
 use Rattle.std.specs.List.{list_any}
 use Rattle.foundation.specs.Tests.{same_bool}
 use Rattle.rules_model.specs.declared.board.Repeat.{Repeat}
@@ -39,3 +39,23 @@ is_full capacity fs = nat_le capacity (length fs)
 -- the fact that a list takes in, if it takes this one
 abbrev pub stored : ℕ → List Fact → Fact → Option Fact
 stored capacity fs f = if has_better fs f || is_full capacity fs then None else Some f
+
+-- ---- the same in other words
+
+-- k is of the repeat and the kind of f, and serves every query that f serves
+pub record ServesAsMuch (k f : Fact) : Type 0 where
+  pub repeat : k.repeat ≡ f.repeat
+  pub kind : k.wins ≡ f.wins
+  pub serves_all : (r : Repeat) (counter moves : ℕ) → serves f r counter moves ≡ true → serves k r counter moves ≡ true
+
+-- no fact of the list serves the query
+abbrev pub NoneServes : List Fact → Repeat → ℕ → ℕ → Type 0
+NoneServes fs repeat counter moves = (i : ℕ) (g : Fact) → slice_get fs i ≡ Some g → serves g repeat counter moves ≡ false
+
+-- f stands in the list and serves the query; those that serve it have no fewer moves, and those before f have more
+pub record IsFirstOfLeast (fs : List Fact) (repeat : Repeat) (counter moves : ℕ) (f : Fact) : Type 0 where
+  pub place : ℕ
+  pub stands : slice_get fs place ≡ Some f
+  pub serves_it : serves f repeat counter moves ≡ true
+  pub least : (i : ℕ) (g : Fact) → slice_get fs i ≡ Some g → serves g repeat counter moves ≡ true → f.moves ≤ g.moves
+  pub first : (i : ℕ) (g : Fact) → i < place → slice_get fs i ≡ Some g → serves g repeat counter moves ≡ true → f.moves < g.moves

@@ -1,12 +1,11 @@
 -- The core: what each event makes of the store, and its reply.
-use Rattle.std.specs.Prelude.{ℕ, List, [], ◌∷◌, ◌++◌, map, Option, Some, None, slice_get, slice_set, if◌then◌else◌}
+use Rattle.std.specs.Prelude.{ℕ, List, [], ◌∷◌, ◌++◌, Option, Some, None, slice_get, slice_set, if◌then◌else◌}
 use Rattle.rules_model.specs.declared.board.Repeat.{Repeat}
 use Rattle.forced_wins.specs.declared.fact.Fact.{Fact}
 use Rattle.mate_core.specs.declared.event.Event.{Event}
 use Rattle.mate_core.specs.declared.event.Event.TheVariants.{Publish, Look, Hint}
 use Rattle.mate_core.specs.declared.event.Reply.{Reply}
 use Rattle.mate_core.specs.declared.event.Reply.TheVariants.{Stored, KnownBetter, Full, Found, Nothing}
-use Rattle.mate_core.specs.declared.store.Known.{Known}
 use Rattle.mate_core.specs.declared.store.Store.{Store}
 use Rattle.mate_core.specs.Best.{best, has_better, is_full, stored}
 
@@ -27,19 +26,20 @@ grown capacity fs f = fs ++ facts (stored capacity fs f)
 
 -- ---- the store
 
--- the worker knows these too
-abbrev pub learned : ℕ → List Fact → List Known
-learned worker fs = map (λ f. record { worker = worker; fact = f }) fs
+-- the worker knows this too, where there is something
+abbrev pub told : Store → ℕ → Option Fact → Store
+told s worker None = s
+told s worker (Some f) = record s { known = s.known ++ (record { worker = worker; fact = f }) ∷ [] }
 
 abbrev pub publish_at : Store → ℕ → ℕ → Fact → Option (List Fact) → Store × Reply
 publish_at s worker shard f None = (s, Nothing)
 publish_at s worker shard f (Some fs) =
-    (record s { shards = slice_set s.shards shard (grown s.capacity fs f); known = s.known ++ learned worker (f ∷ []) }, published s.capacity fs f)
+    (told (record s { shards = slice_set s.shards shard (grown s.capacity fs f) }) worker (Some f), published s.capacity fs f)
 
 abbrev pub look_at : Store → ℕ → Repeat → ℕ → ℕ → Option (List Fact) → Store × Reply
 look_at s worker repeat counter moves None = (s, Nothing)
 look_at s worker repeat counter moves (Some fs) =
-    (record s { known = s.known ++ learned worker (facts (best fs repeat counter moves)) }, Found (best fs repeat counter moves))
+    (told s worker (best fs repeat counter moves), Found (best fs repeat counter moves))
 
 -- the store behind an event, and the reply. Where there is no such shard nothing changes
 unfoldable pub step : Store → Event → Store × Reply

@@ -2,11 +2,21 @@
 //! allowed events bring into the store is true.
 #![tactic(auto)]
 
+mod answers;
+mod equal;
 mod event;
 mod frame;
+mod hash;
+mod steps;
 mod store;
 
+pub use answers::{
+    as_good_facts_serve_as_much, best, best_is_the_first_of_the_least, is_as_good, serves, sooner,
+};
+pub use equal::is_same;
 pub use event::{Event, Reply};
 pub use forced_wins::Fact;
 pub use frame::Frame;
+pub use hash::{hash_of, shard_of, shard_of_hash};
+pub use steps::step;
 pub use store::{FactList, FactLists, Known, KnownList, Store};

@@ -1,7 +1,7 @@
 -- What lists of a few facts answer, and which facts they take in.
 use Rattle.std.proofs.Common.{◌≡◌, ℕ, Bool, true, false, List, [], ◌∷◌, None, Some, refl}
 use Rattle.rules_model.specs.declared.board.Repeat.{Repeat}
-use Rattle.rules_model.specs.declared.board.Side.TheVariants.{White, Black}
+use Rattle.rules_model.specs.declared.board.Side.TheVariants.{White}
 use Rattle.rules_model.specs.Games.{same_repeat}
 use Rattle.forced_wins.specs.declared.fact.Fact.{Fact}
 use Rattle.forced_wins.specs.Facts.{serves}

@@ -1,12 +1,10 @@
 -- A run of two workers on two shards with one place each. The frame plays no part in it.
 use Rattle.std.proofs.Common.{◌≡◌, List, [], ◌∷◌, None, Some, refl}
 use Rattle.rules_model.specs.Games.{same_repeat}
-use Rattle.forced_wins.specs.declared.fact.Fact.{Fact}
 use Rattle.forced_wins.specs.Facts.{serves}
 use Rattle.mate_core.specs.declared.event.Event.{Event}
 use Rattle.mate_core.specs.declared.event.Event.TheVariants.{Publish, Look, Hint}
-use Rattle.mate_core.specs.declared.event.Reply.{Reply}
-use Rattle.mate_core.specs.declared.event.Reply.TheVariants.{Stored, KnownBetter, Full, Found, Nothing}
+use Rattle.mate_core.specs.declared.event.Reply.TheVariants.{Found, Nothing}
 use Rattle.mate_core.specs.declared.frame.Frame.{Frame}
 use Rattle.mate_core.specs.declared.store.Store.{Store}
 use Rattle.mate_core.specs.Best.{best, is_as_good}
