@@ -9,6 +9,8 @@ mod frame;
 mod hash;
 mod steps;
 mod store;
+#[cfg(test)]
+mod tests;
 
 pub use answers::{
     as_good_facts_serve_as_much, best, best_is_the_first_of_the_least, is_as_good, serves, sooner,

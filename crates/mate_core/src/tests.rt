@@ -1,0 +1,106 @@
+use crate::answers::has_better;
+use crate::{best, hash_of, is_as_good, serves, shard_of};
+use forced_wins::Fact;
+use rules_model::{Cell, Kind, Repeat, Side};
+
+fn bare() -> Repeat {
+    Repeat {
+        cells: [None; 120],
+        hands: [[0; 26]; 2],
+        gates: [0; 2],
+        rights: [[false; 2]; 2],
+        checks: [0; 2],
+        ep: None,
+        side: Side::White,
+    }
+}
+
+fn fact(wins: bool, moves: u16, counter: u16) -> Fact {
+    Fact {
+        repeat: bare(),
+        attacker: Side::White,
+        moves,
+        counter,
+        best: None,
+        wins,
+    }
+}
+
+#[test]
+fn the_least_moves_and_of_those_the_first(rt: HostRuntime) {
+    let facts = [
+        fact(true, 3, 10),
+        fact(true, 2, 5),
+        fact(false, 1, 4),
+        fact(true, 2, 7),
+    ];
+    for (counter, moves, want) in [
+        (5, 3, Some((2, 5))),
+        (6, 3, Some((2, 7))),
+        (8, 3, Some((3, 10))),
+        (4, 1, Some((1, 4))),
+        (3, 1, None),
+        (11, 9, None),
+    ] {
+        let found = best(&facts, &bare(), counter, moves);
+        let found = found.map(|fact| (fact.moves, fact.counter));
+        assert_eq!(rt; found, want, "at {counter} within {moves}");
+    }
+}
+
+#[test]
+fn every_part_of_a_repeat_counts(rt: HostRuntime) {
+    let win = fact(true, 3, 10);
+    let mut others = [bare(); 7];
+    others[0].hands[1][25] = 1;
+    others[1].checks[0] = 1;
+    others[2].side = Side::Black;
+    others[3].gates[1] = 1;
+    others[4].rights[1][1] = true;
+    others[5].ep = Some(rules_model::Square(50));
+    others[6].cells[119] = Some(Cell {
+        side: Side::White,
+        kind: Kind(10),
+        origin: None,
+    });
+    assert!(rt; serves(&win, &bare(), 10, 3));
+    assert_eq!(rt; hash_of(&bare()), hash_of(&win.repeat));
+    for (place, other) in others.iter().enumerate() {
+        assert!(rt; !serves(&win, other, 10, 3), "part {place}");
+        assert!(rt; hash_of(other) != hash_of(&bare()), "part {place}");
+    }
+}
+
+#[test]
+fn as_good_is_no_slower_at_no_lower_a_counter(rt: HostRuntime) {
+    for (known, given, want) in [
+        (fact(true, 2, 5), fact(true, 2, 5), true),
+        (fact(true, 2, 5), fact(true, 3, 4), true),
+        (fact(true, 2, 5), fact(true, 1, 5), false),
+        (fact(true, 2, 5), fact(true, 2, 6), false),
+        (fact(false, 2, 5), fact(false, 1, 6), true),
+        (fact(false, 2, 5), fact(false, 3, 5), false),
+        (fact(false, 2, 5), fact(false, 2, 4), false),
+        (fact(false, 2, 5), fact(true, 2, 5), false),
+    ] {
+        assert_eq!(rt; is_as_good(&known, &given), want);
+        assert_eq!(rt; has_better(&[fact(true, 9, 0), known], &given), want);
+    }
+}
+
+// A king on each square of the largest board: 120 repeats, of which 16 shards get some each.
+#[test]
+fn shards_share_the_repeats(rt: HostRuntime) {
+    let mut shares = [0; 16];
+    for square in 0..120 {
+        let mut repeat = bare();
+        repeat.cells[square] = Some(Cell {
+            side: Side::Black,
+            kind: Kind(10),
+            origin: None,
+        });
+        assert_eq!(rt; shard_of(&repeat, 1), 0);
+        shares[shard_of(&repeat, 16) as usize] += 1;
+    }
+    assert!(rt; shares.iter().all(|share| *share > 0), "{shares:?}");
+}

@@ -1,0 +1,6 @@
+pub mod Index
+pub mod Kept
+pub mod Shard
+pub mod Truth
+pub mod Turns
+pub mod Views

@@ -1,0 +1,9 @@
+//! The facts that workers share, each shard of them under a lock of its own. Every fact in every shard is true in the frame.
+#![tactic(auto)]
+
+mod journal;
+mod published;
+mod request;
+mod shard;
+
+pub use published::Published;

@@ -1,0 +1,139 @@
+//! What lies under the lock of one shard: its facts, all true in the frame, and an index over them.
+ghost use Rattle.std.specs.Prelude.{◌≡◌, ◌%◌, ◌<◌, ◌≤◌, [], ◌∷◌, ◌++◌, length, vec_len, vec_capacity, IfOk};
+ghost use Rattle.mate_core.specs.Best as Best;
+ghost use Rattle.mate_core.specs.Runs.{IsTrueIn, AreTrueIn};
+ghost use Rattle.mate_core.specs.Steps as Steps;
+ghost use Rattle.mate_shards.specs.Index.{IsIndex, IsLast, buckets};
+ghost use Rattle.mate_shards.specs.Truth.{AreTrueIn-prop};
+
+use crate::request::{Given, Query};
+use mate_core::{Fact, Frame, Reply, is_as_good, serves};
+use rules_model::Memory;
+use std::alloc::Global;
+use std::snapshot::Snapshot;
+
+/// A list of facts that only grows, up to its capacity. All its memory is reserved when it is made.
+///
+/// Facts of one bucket are chained, the newest first, so that a call goes over these alone.
+#[derive(Drop)]
+pub struct Shard {
+    pub frame: Snapshot<Frame>,
+    pub capacity: u32,
+    pub facts: Vec<Fact>,
+    /// For each bucket one more than the place of its newest fact, or 0.
+    pub heads: Vec<u32>,
+    /// For each fact one more than the place of the next older one of its bucket, or 0.
+    pub links: Vec<u32>,
+    ghost sized: { (0 < capacity) × (capacity ≤ 65536) },
+    ghost reserved: { (capacity ≤ vec_capacity facts) × (capacity ≤ vec_capacity links) },
+    ghost room: { (vec_len facts ≤ capacity) × (vec_len heads ≡ capacity) },
+    ghost indexed: { IsIndex (buckets capacity facts.items) heads.items links.items },
+    ghost true_facts: { AreTrueIn frame.value facts.items } by { AreTrueIn-prop frame.value facts.items },
+}
+
+impl Shard {
+    /// A shard without facts.
+    pub fn new(alloc: Global, frame: &Frame, capacity: u32) -> Result<Shard, Memory>
+        requires { (0 < capacity) × (capacity ≤ 65536) }
+        ensures frame { IfOk result (λ made. made.frame.value ≡ frame.now) }
+        ensures capacity { IfOk result (λ made. made.capacity ≡ capacity) }
+        ensures facts { IfOk result (λ made. made.facts.items ≡ []) }
+    {
+        let places = capacity as usize;
+        Ok(Shard {
+            frame: Snapshot::of(frame),
+            capacity,
+            facts: Vec::with_capacity(alloc, places)?,
+            heads: vec![in alloc; 0; places]?,
+            links: Vec::with_capacity(alloc, places)?,
+        })
+    }
+
+    // The bucket of a hash.
+    fn bucket(&self, hash: u64) -> usize
+        ensures { result ≡ hash % self.now.capacity }
+    {
+        (hash % u64::from(self.capacity)) as usize
+    }
+
+    // One more than the place of the bucket's newest fact, or 0.
+    fn head(&self, hash: u64) -> u32
+        ensures { IsLast (buckets self.now.capacity self.now.facts.items) (hash % self.now.capacity) (length self.now.facts.items) result }
+    {
+        self.heads[self.bucket(hash)]
+    }
+
+    /// Whether a fact of the list is as good as the given one.
+    pub fn has_better(&self, given: &Given) -> bool
+        ensures { result ≡ Best.has_better self.now.facts.items given.now.fact }
+    {
+        let mut at = self.head(given.hash);
+        while at > 0 {
+            let place = (at - 1) as usize;
+            if is_as_good(&self.facts[place], &given.fact) {
+                return true;
+            }
+            at = self.links[place];
+        }
+        false
+    }
+
+    /// The first of the facts with the least moves among those that answer the query.
+    pub fn best(&self, query: &Query) -> Option<Fact>
+        ensures { result ≡ Best.best self.now.facts.items query.now.repeat query.now.counter query.now.moves }
+    {
+        let mut found = None;
+        let mut at = self.head(query.hash);
+        while at > 0 {
+            let place = (at - 1) as usize;
+            found = with_older(&self.facts[place], found, query);
+            at = self.links[place];
+        }
+        found
+    }
+
+    /// Takes the fact in, unless one as good stands here or there is no place.
+    pub fn publish(&mut self, given: &Given) -> Reply
+        requires truth { IsTrueIn self.old.frame.value given.now.fact }
+        ensures frame { self.new.frame.value ≡ self.old.frame.value }
+        ensures capacity { self.new.capacity ≡ self.old.capacity }
+        ensures facts { self.new.facts.items ≡ Steps.grown self.old.capacity self.old.facts.items given.now.fact }
+        ensures reply { result ≡ Steps.published self.old.capacity self.old.facts.items given.now.fact }
+    {
+        if self.has_better(given) {
+            return Reply::KnownBetter;
+        }
+        if self.facts.len() == self.capacity as usize {
+            return Reply::Full;
+        }
+        self.push(given);
+        Reply::Stored
+    }
+
+    // Puts the fact at the end of the list and at the head of its chain.
+    fn push(&mut self, given: &Given)
+        requires room { vec_len self.old.facts < self.old.capacity }
+        requires truth { IsTrueIn self.old.frame.value given.now.fact }
+        ensures frame { self.new.frame.value ≡ self.old.frame.value }
+        ensures capacity { self.new.capacity ≡ self.old.capacity }
+        ensures facts { self.new.facts.items ≡ self.old.facts.items ++ given.now.fact ∷ [] }
+    {
+        let bucket = self.bucket(given.hash);
+        self.links.push_reserved(self.heads[bucket]);
+        self.facts.push_reserved(given.fact);
+        self.heads[bucket] = self.facts.len() as u32;
+    }
+}
+
+// Of an older fact and what was found among the newer ones, the better answer.
+fn with_older(fact: &Fact, found: Option<Fact>, query: &Query) -> Option<Fact>
+    ensures { result ≡ Best.sooner (Best.if_serves fact.now query.now.repeat query.now.counter query.now.moves) found }
+{
+    if !serves(fact, &query.repeat, query.counter, query.moves) {
+        return found;
+    }
+    match found {
+        Some(best) if best.moves < fact.moves => found,
+        _ => Some(*fact),
+    }
+}
