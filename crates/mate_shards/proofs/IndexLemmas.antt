@@ -1,7 +1,7 @@
 -- Chains pass every entry of their bucket.
 use Rattle.std.proofs.Common.{◌≡◌, ◌≢◌, ℕ, zero, suc, ◌+◌, ◌-◌, ◌<◌, ◌≤◌, ◌%◌, Bool, true, false, ◌||◌, List, [], ◌∷◌, ◌++◌, length, get_or, set, replicate, take, map, Option, None, Some, refl, ap, sym, ◌∙◌, subst, arith, length-append, length-set, if◌then◌else◌}
 use Rattle.std.specs.List.{list_any}
-use Rattle.std.proofs.lemmas.List.{get_or_append_left, get_or_push, get_or-set_same, get_or-set_other, get_or-replicate, get_or-map, take_more, take_all, length_push, length-map}
+use Rattle.std.proofs.lemmas.List.{get_or_append_left, get_or_push, get_or-set_same, get_or-set_other, get_or-replicate, get_or-map, take_more, take_all, length_push, length-map, map-append}
 use Rattle.std.proofs.lemmas.List.Folds.{list_any-append}
 use Rattle.std.proofs.lemmas.Bool.{and_parts}
 use Rattle.std.proofs.Math.Bool.{or-false, or-true}
@@ -88,12 +88,12 @@ pub empty : (n : ℕ) → IsIndex [] (replicate n 0) []
 empty n = record {
   linked = refl;
   heads_are = λ b l.
-    let at : get_or (replicate n 0) b 0 ≡ 0 = replicated n b in
+    let at : ◌≡◌ {A = ℕ} (get_or (replicate n 0) b 0) 0 = replicated n b in
     record { low = omega arith; here = λ some. absurd (omega arith); none = λ k from to same. absurd (omega arith) };
   links_are = λ i l. absurd (omega arith);
 }
   where
-    replicated : (n b : ℕ) → get_or (replicate n 0) b 0 ≡ 0
+    replicated : (n b : ℕ) → ◌≡◌ {A = ℕ} (get_or (replicate n 0) b 0) 0
     replicated zero b = refl
     replicated (suc n) zero = refl
     replicated (suc n) (suc b) = replicated n b
@@ -142,7 +142,7 @@ module _ (capacity : ℕ) (fs : List Fact) (d : Fact) where
   bucket_at i l = get_or-map (λ f. hash_of f.repeat % capacity) fs i d 0 l
 
   size : length (buckets capacity fs) ≡ length fs
-  size = length-map (λ f. hash_of f.repeat % capacity) fs
+  size = length-map fs (λ f. hash_of f.repeat % capacity)
 
   -- a fact of another bucket is of another repeat
   other_bucket : (r : Repeat) (c n i : ℕ) → i < length fs → get_or (buckets capacity fs) i 0 ≢ hash_of r % capacity → serves (get_or fs i d) r c n ≡ false
@@ -209,3 +209,97 @@ module _ (capacity : ℕ) (fs : List Fact) (d : Fact) where
       let low = chain.low in
       let P : ℕ → Type 0 = λ x. IsLast (buckets capacity fs) x (at - 1) (get_or links (at - 1) 0) in
       subst P (chain.here some) (index.links_are (at - 1) (omega arith))
+
+-- ---- the two walks
+
+-- how far a look has come: what is still ahead, and what was found
+pub record Looking (capacity : ℕ) (fs : List Fact) (h : ℕ) (r : Repeat) (c m at : ℕ) (found : Option Fact) : Type 0 where
+  pub chain : InChain (buckets capacity fs) (h % capacity) at
+  pub rest : best fs r c m ≡ sooner (best (take at fs) r c m) found
+
+-- how far a search for a fact as good has come: none was found
+pub record Comparing (capacity : ℕ) (fs : List Fact) (h : ℕ) (f : Fact) (at : ℕ) : Type 0 where
+  pub chain : InChain (buckets capacity fs) (h % capacity) at
+  pub rest : has_better fs f ≡ has_better (take at fs) f
+
+some_fact : Repeat → Fact
+some_fact r = record { repeat = r; attacker = r.side; moves = 0; counter = 0; best = None; wins = true }
+
+module _ (capacity : ℕ) (fs : List Fact) (h : ℕ) (r : Repeat) (hashed : h ≡ hash_of r) where
+  by_repeat : (n at : ℕ) → IsLast (buckets capacity fs) (h % capacity) n at → IsLast (buckets capacity fs) (hash_of r % capacity) n at
+  by_repeat n at last = let P : ℕ → Type 0 = λ x. IsLast (buckets capacity fs) (x % capacity) n at in subst P hashed last
+
+  in_chain : (n at : ℕ) → n ≤ length fs → IsLast (buckets capacity fs) (h % capacity) n at → InChain (buckets capacity fs) (h % capacity) at
+  in_chain n at l last = chained (buckets capacity fs) (h % capacity) n at (let e = size capacity fs (some_fact r) in omega arith) last
+
+  pub look-starts : (c m at : ℕ) → IsLast (buckets capacity fs) (h % capacity) (length fs) at → Looking capacity fs h r c m at None
+  look-starts c m at last = record {
+    chain = in_chain (length fs) at (omega arith) last;
+    rest =
+      ap (λ xs. best xs r c m) (sym (take_all (length fs) fs (omega arith)))
+      ∙ (best-chain capacity fs (some_fact r) r c m (length fs) at (omega arith) (by_repeat (length fs) at last)
+      ∙ sym (sooner-none (best (take at fs) r c m)));
+  }
+
+  pub look-goes-on : (heads links : List ℕ) (c m at next : ℕ) (found older : Option Fact) (x : Fact) → IsIndex (buckets capacity fs) heads links → Looking capacity fs h r c m at found → 0 < at → x ≡ get_or fs (at - 1) x → next ≡ get_or links (at - 1) 0 → older ≡ sooner (if_serves x r c m) found → Looking capacity fs h r c m next older
+  look-goes-on heads links c m at next found older x index look some read link joined =
+      let low = look.chain.low in
+      let e = size capacity fs x in
+      let P : ℕ → Type 0 = λ n. IsLast (buckets capacity fs) (h % capacity) (at - 1) n in
+      let last = subst P (sym link) (link-at capacity fs x heads links (h % capacity) at index look.chain some) in
+      record {
+        chain = in_chain (at - 1) next (omega arith) last;
+        rest =
+          look.rest
+          ∙ (best-next capacity fs x r c m at next found some (omega arith) (by_repeat (at - 1) next last)
+          ∙ (ap (λ y. sooner (best (take next fs) r c m) (sooner (if_serves y r c m) found)) (sym read)
+          ∙ ap (sooner (best (take next fs) r c m)) (sym joined)));
+      }
+
+  pub look-ends : (c m at : ℕ) (found : Option Fact) → Looking capacity fs h r c m at found → at ≡ 0 → found ≡ best fs r c m
+  unfolding best
+  look-ends c m at found look e =
+      sym (look.rest ∙ ap (λ n. sooner (best (take n fs) r c m) found) e)
+
+module _ (capacity : ℕ) (fs : List Fact) (h : ℕ) (f : Fact) (hashed : h ≡ hash_of f.repeat) where
+  pub search-starts : (at : ℕ) → IsLast (buckets capacity fs) (h % capacity) (length fs) at → Comparing capacity fs h f at
+  search-starts at last = record {
+    chain = in_chain capacity fs h f.repeat hashed (length fs) at (omega arith) last;
+    rest =
+      ap (λ xs. has_better xs f) (sym (take_all (length fs) fs (omega arith)))
+      ∙ better-chain capacity fs f f (length fs) at (omega arith) (by_repeat capacity fs h f.repeat hashed (length fs) at last);
+  }
+
+  pub search-goes-on : (heads links : List ℕ) (at next : ℕ) (x : Fact) → IsIndex (buckets capacity fs) heads links → Comparing capacity fs h f at → 0 < at → x ≡ get_or fs (at - 1) x → is_as_good x f ≡ false → next ≡ get_or links (at - 1) 0 → Comparing capacity fs h f next
+  search-goes-on heads links at next x index comparing some read fails link =
+      let low = comparing.chain.low in
+      let e = size capacity fs x in
+      let P : ℕ → Type 0 = λ n. IsLast (buckets capacity fs) (h % capacity) (at - 1) n in
+      let last = subst P (sym link) (link-at capacity fs x heads links (h % capacity) at index comparing.chain some) in
+      record {
+        chain = in_chain capacity fs h f.repeat hashed (at - 1) next (omega arith) last;
+        rest =
+          comparing.rest
+          ∙ better-next capacity fs x f at next some (omega arith) (ap (λ y. is_as_good y f) (sym read) ∙ fails) (by_repeat capacity fs h f.repeat hashed (at - 1) next last);
+      }
+
+  pub search-finds : (at : ℕ) (x : Fact) → Comparing capacity fs h f at → 0 < at → x ≡ get_or fs (at - 1) x → is_as_good x f ≡ true → has_better fs f ≡ true
+  search-finds at x comparing some read is =
+      let low = comparing.chain.low in
+      let e = size capacity fs x in
+      comparing.rest ∙ better-here capacity fs x f at some (omega arith) (ap (λ y. is_as_good y f) (sym read) ∙ is)
+
+-- a fact is put at the end of the list and at the head of its chain
+pub pushed-fact : (capacity : ℕ) (fs grown : List Fact) (heads links linked : List ℕ) (f : Fact) (h bucket head count : ℕ) → IsIndex (buckets capacity fs) heads links → h ≡ hash_of f.repeat → bucket ≡ h % capacity → bucket < length heads → head ≡ get_or heads bucket 0 → grown ≡ fs ++ f ∷ [] → count ≡ length fs + 1 → linked ≡ links ++ head ∷ [] → IsIndex (buckets capacity grown) (set heads bucket count) linked
+pushed-fact capacity fs grown heads links linked f h bucket head count index hashed of_hash l read grows counted links_grow =
+    let b = hash_of f.repeat % capacity in
+    let of : Fact → ℕ = λ g. hash_of g.repeat % capacity in
+    let is_b : bucket ≡ b = of_hash ∙ ap (λ x. x % capacity) hashed in
+    let all_buckets : buckets capacity grown ≡ buckets capacity fs ++ b ∷ [] = ap (buckets capacity) grows ∙ map-append of fs (f ∷ []) in
+    let entries : count ≡ length (buckets capacity fs) + 1 = counted ∙ ap (λ n. n + 1) (sym (size capacity fs f)) in
+    let links_are : linked ≡ links ++ get_or heads bucket 0 ∷ [] = links_grow ∙ ap (λ x. links ++ x ∷ []) read in
+    let made : IsIndex (buckets capacity fs ++ bucket ∷ []) (set heads bucket (length (buckets capacity fs) + 1)) (links ++ get_or heads bucket 0 ∷ []) = pushed (buckets capacity fs) heads links bucket index l in
+    let P : List ℕ → Type 0 = λ bs. IsIndex bs (set heads bucket count) linked in
+    let Q : ℕ → Type 0 = λ n. IsIndex (buckets capacity fs ++ bucket ∷ []) (set heads bucket n) linked in
+    let R : List ℕ → Type 0 = IsIndex (buckets capacity fs ++ bucket ∷ []) (set heads bucket (length (buckets capacity fs) + 1)) in
+    subst P (ap (λ x. buckets capacity fs ++ x ∷ []) is_b ∙ sym all_buckets) (subst Q (sym entries) (subst R (sym links_are) made))

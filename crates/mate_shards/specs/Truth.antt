@@ -1,8 +1,7 @@
 -- That facts are true is shown in one way only, so that a type may carry it.
-use Rattle.std.specs.Prelude.{List, Bool, true, false}
+use Rattle.std.specs.Prelude.{List, Bool, true, false, slice_index_or}
 use mathlib.Core.Bool.{Bool-set}
 use mathlib.Core.HLevel.{Π_prop}
-use mathlib.Core.Path.{IsProp}
 use Rattle.rules_model.specs.declared.board.Repeat.{Repeat}
 use Rattle.rules_model.specs.declared.board.Side.{Side}
 use Rattle.rules_model.specs.declared.rules.Rules.{Rules}
@@ -17,4 +16,4 @@ Says-prop rules barred a f false = Π_prop (λ q. Π_prop (λ same. Π_prop (λ 
 
 pub AreTrueIn-prop : (frame : Frame) (fs : List Fact) → IsProp (AreTrueIn frame fs)
 AreTrueIn-prop frame fs =
-    Π_prop (λ k. Π_prop (λ d. Π_prop (λ l. Says-prop frame.rules frame.blocked frame.attacker _ _)))
+    Π_prop (λ k. Π_prop (λ d. Π_prop (λ l. Says-prop frame.rules frame.blocked frame.attacker (slice_index_or fs k d) (slice_index_or fs k d).wins)))

@@ -5,11 +5,11 @@ use Rattle.rules_model.specs.declared.board.Position.{Position}
 use Rattle.rules_model.specs.declared.board.Repeat.{Repeat}
 use Rattle.rules_model.specs.Repeats.{repeat_of}
 use Rattle.forced_wins.specs.declared.fact.Fact.{Fact}
-use Rattle.fact_lock.specs.Passes.{OwnsSeen, places}
+use Rattle.fact_lock.specs.Passes.{OwnsSeen, places, entries}
 use Rattle.mate_core.specs.declared.event.Event.{Event}
 use Rattle.mate_core.specs.declared.event.Event.TheVariants as event
 use Rattle.mate_core.specs.declared.event.Reply.{Reply}
-use Rattle.mate_core.specs.declared.event.Reply.TheVariants as reply
+use Rattle.mate_core.specs.declared.event.Reply.TheVariants as replies
 use Rattle.mate_core.specs.declared.store.Store.{Store}
 use Rattle.mate_core.specs.Best.{best, stored}
 use Rattle.mate_core.specs.Hash.{shard_of}
@@ -17,13 +17,15 @@ use Rattle.mate_core.specs.Runs.{AreTrueIn}
 use Rattle.mate_core.specs.Steps.{published, grown, step}
 use Rattle.mate_shards.specs.declared.published.Published.{Published}
 use Rattle.mate_shards.specs.declared.published.Published.TheVariants.{Stored, KnownBetter, Full}
+use Rattle.mate_shards.specs.declared.request.Request.{Request}
+use Rattle.mate_shards.specs.Shard.{reply, added}
 use Rattle.mate_shards.specs.Views.{ShardsView, ShardPass}
 
 -- the answer to a published fact as a reply of the core
 abbrev pub reply_of : Published → Reply
-reply_of Stored = reply.Stored
-reply_of KnownBetter = reply.KnownBetter
-reply_of Full = reply.Full
+reply_of Stored = replies.Stored
+reply_of KnownBetter = replies.KnownBetter
+reply_of Full = replies.Full
 
 abbrev pub home_of : ShardsView → Repeat → ℕ
 home_of s repeat = shard_of repeat (length s.locks)
@@ -47,6 +49,13 @@ pub record Turn (s : ShardsView) (before after : List ShardPass) (shard : ℕ) (
   pub parts : pass.parts ≡ old.parts
   pub true_facts : AreTrueIn s.frame pass.seen
 
+-- a shard was asked
+pub record AskTurn (s : ShardsView) (before : List ShardPass) (shard : ℕ) (request : Request) (answer : Reply) (after : List ShardPass) : Type 0 where
+  pub list : List Fact
+  pub turn : Turn s before after shard list (added (s.frame, s.capacity) list request)
+  pub answered : answer ≡ reply (s.frame, s.capacity) list request
+  pub seen : turn.pass.seen ≡ list ++ entries (added (s.frame, s.capacity) list request)
+
 -- a fact was published
 pub record PublishTurn (s : ShardsView) (before : List ShardPass) (f : Fact) (answer : Published) (after : List ShardPass) : Type 0 where
   pub list : List Fact
@@ -61,4 +70,4 @@ pub record LookTurn (s : ShardsView) (before : List ShardPass) (p : Position) (m
   pub turn : Turn s before after (home_of s (repeat_of p)) list None
   pub answered : answer ≡ best list (repeat_of p) p.counter moves
   pub seen : turn.pass.seen ≡ list
-  pub core : IsStep s (home_of s (repeat_of p)) list (λ worker. event.Look worker (home_of s (repeat_of p)) (repeat_of p) p.counter moves) (reply.Found answer) turn.pass.seen
+  pub core : IsStep s (home_of s (repeat_of p)) list (λ worker. event.Look worker (home_of s (repeat_of p)) (repeat_of p) p.counter moves) (replies.Found answer) turn.pass.seen

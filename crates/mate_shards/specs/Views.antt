@@ -1,7 +1,6 @@
 -- What contracts see of the shards and of the passes for them.
-use Rattle.std.specs.Prelude.{◌≡◌, ℕ, ◌+◌, ◌≤◌, List, [], ◌++◌, length, Some, All, slice_get}
+use Rattle.std.specs.Prelude.{◌≡◌, ℕ, ◌+◌, ◌<◌, ◌≤◌, List, [], ◌++◌, length, Some, All, slice_get}
 use mathlib.Core.List.{IsPrefix}
-use Rattle.atomic_table.specs.Seated.{TableId}
 use Rattle.forced_wins.specs.declared.fact.Fact.{Fact}
 use Rattle.fact_lock.specs.Passes.{LockView, PassView, IsPassOf, OwnsSeen, AreApart, all_parts, longer}
 use Rattle.mate_core.specs.declared.frame.Frame.{Frame}
@@ -11,19 +10,16 @@ use Rattle.mate_shards.specs.Shard.{Key}
 pub record ShardsView : Type 0 where
   pub frame : Frame
   pub capacity : ℕ
-  pub locks : List TableId
+  pub locks : List (LockView Key)
 
 -- a pass for one shard
 abbrev pub ShardPass : Type 0
 ShardPass = PassView Key Fact
 
-abbrev pub lock_of : ShardsView → TableId → LockView Key
-lock_of s id = record { id = id; key = (s.frame, s.capacity) }
-
 -- one pass for each shard, all with as many parts
 pub record ArePassesOf (s : ShardsView) (passes : List ShardPass) : Type 0 where
   pub count : length passes ≡ length s.locks
-  pub each : (k : ℕ) (id : TableId) (p : ShardPass) → slice_get s.locks k ≡ Some id → slice_get passes k ≡ Some p → IsPassOf (lock_of s id) p
+  pub each : (k : ℕ) (l : LockView Key) (p : ShardPass) → slice_get s.locks k ≡ Some l → slice_get passes k ≡ Some p → IsPassOf l p
   pub parts : (n : ℕ) × All (λ p. p.parts ≡ n) passes
 
 -- ---- new passes
@@ -43,7 +39,7 @@ pub record IsHalved (p a b : ShardPass) : Type 0 where
   pub parts : (a.parts + 1 ≡ p.parts) × (b.parts ≡ 1)
 
 abbrev pub AreHalved : List ShardPass → List ShardPass → List ShardPass → Type 0
-AreHalved ps as bs = (k : ℕ) (p a b : ShardPass) → slice_get ps k ≡ Some p → slice_get as k ≡ Some a → slice_get bs k ≡ Some b → IsHalved p a b
+AreHalved ps left right = (k : ℕ) (p a b : ShardPass) → slice_get ps k ≡ Some p → slice_get left k ≡ Some a → slice_get right k ≡ Some b → IsHalved p a b
 
 -- it has seen the longer list, and owns what both did, of which no place was both's
 pub record IsJoined (a b p : ShardPass) : Type 0 where
@@ -55,4 +51,8 @@ pub record IsJoined (a b p : ShardPass) : Type 0 where
   pub parts : p.parts ≡ a.parts + b.parts
 
 abbrev pub AreJoined : List ShardPass → List ShardPass → List ShardPass → Type 0
-AreJoined as bs ps = (k : ℕ) (a b p : ShardPass) → slice_get as k ≡ Some a → slice_get bs k ≡ Some b → slice_get ps k ≡ Some p → IsJoined a b p
+AreJoined left right ps = (k : ℕ) (a b p : ShardPass) → slice_get left k ≡ Some a → slice_get right k ≡ Some b → slice_get ps k ≡ Some p → IsJoined a b p
+
+-- the locks of shards with this frame and capacity
+abbrev pub AreLocksOf : Frame → ℕ → List (LockView Key) → Type 0
+AreLocksOf frame capacity locks = (0 < length locks) × (length locks ≤ 64) × All (λ l. l.key ≡ (frame, capacity)) locks

@@ -5,5 +5,7 @@ mod journal;
 mod published;
 mod request;
 mod shard;
+mod shards;
 
 pub use published::Published;
+pub use shards::{Passes, Shards};

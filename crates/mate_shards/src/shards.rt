@@ -1,0 +1,151 @@
+//! The shards and the passes for them.
+ghost use Rattle.std.specs.Prelude.{◌≡◌, ◌<◌, ◌≤◌, [], All, IfOk, IfErr, length};
+ghost use Rattle.mate_core.specs.Runs.{IsTrueIn};
+ghost use Rattle.fact_lock.specs.Passes.{all_parts};
+ghost use Rattle.mate_shards.specs.Views.{ArePassesOf, IsFresh, AreHalved, AreJoined};
+ghost use Rattle.mate_core.specs.Hash.{shard_of_hash};
+ghost use Rattle.mate_shards.specs.Shard.{Fits};
+ghost use Rattle.mate_shards.specs.Turns.{PublishTurn, LookTurn, AskTurn};
+
+use crate::published::Published;
+use crate::request::{Given, Query, Request};
+use crate::shard::Shard;
+use fact_lock::{Lock, Pass};
+use mate_core::{Fact, Frame, Reply, hash_of, shard_of_hash};
+use rules_model::{Memory, Position, repeat_of};
+use std::alloc::Global;
+use std::marker::Model;
+use std::sync::Wait;
+
+/// Lists of facts that are true in one frame, each list under a lock of its own. A fact stands in the shard of its repeat.
+/// Contracts see the frame, the capacity of each shard and the names of the locks.
+#[derive(Drop)]
+pub struct Shards {
+    pub(crate) frame: Frame,
+    pub(crate) capacity: u32,
+    pub(crate) locks: Vec<Lock<Shard>>,
+}
+
+impl Model for Shards {
+    ghost use Rattle.mate_shards.specs.Views.{ShardsView, AreLocksOf};
+
+    ghost Value = { ShardsView };
+
+    ghost view = { λ s. record { frame = s.frame; capacity = s.capacity; locks = s.locks.items } };
+
+    ghost invariant = { λ s. AreLocksOf s.frame s.capacity s.locks.items };
+}
+
+/// The right to use the shards: one pass for each. What is known of their lists goes with it.
+#[derive(Drop)]
+pub struct Passes {
+    pub(crate) items: Vec<Pass<Shard>>,
+}
+
+impl Model for Passes {
+    ghost use Rattle.std.specs.Prelude.{List};
+    ghost use Rattle.mate_shards.specs.Views.{ShardPass};
+
+    ghost Value = { List ShardPass };
+
+    ghost view = { λ passes. passes.items.items };
+}
+
+impl Shards {
+    /// Shards without facts, and passes with all parts. All memory of the lists is taken here.
+    ///
+    /// # Errors
+    ///
+    /// `Memory` where there is none.
+    pub fn new(
+        alloc: Global,
+        frame: Frame,
+        shards: u32,
+        capacity: u32,
+    ) -> Result<(Shards, Passes), Memory>
+        requires shards { (1 ≤ shards) × (shards ≤ 64) }
+        requires capacity { (16 ≤ capacity) × (capacity ≤ 65536) }
+        ensures frame { IfOk result (λ made. made.0.frame ≡ frame) }
+        ensures sizes { IfOk result (λ made. (made.0.capacity ≡ capacity) × (length made.0.locks ≡ shards)) }
+        ensures passes { IfOk result (λ made. ArePassesOf made.0 made.1) }
+        ensures fresh { IfOk result (λ made. All (IsFresh []) made.1) }
+    {
+        let mut locks = Vec::with_capacity(alloc, shards as usize)?;
+        let mut items = Vec::with_capacity(alloc, shards as usize)?;
+        for _ in 0..shards {
+            let (lock, pass) = Lock::new(alloc, Shard::new(alloc, &frame, capacity)?)?;
+            locks.push_reserved(lock);
+            items.push_reserved(pass);
+        }
+        let shards = Shards {
+            frame,
+            capacity,
+            locks,
+        };
+        Ok((shards, Passes { items }))
+    }
+
+    /// Puts a true fact into the shard of its repeat, unless a fact as good stands there or the shard is full. It takes no
+    /// memory.
+    pub fn publish<R: Wait>(&self, rt: &R, passes: &mut Passes, fact: &Fact) -> Published
+        requires passes { ArePassesOf self.now passes.old }
+        requires truth { IsTrueIn self.now.frame fact.now }
+        ensures passes { ArePassesOf self.now passes.new }
+        ensures turn { PublishTurn self.now passes.old fact.now result passes.new }
+    {
+        let hash = hash_of(&fact.repeat);
+        let given = Given { fact: *fact, hash };
+        match self.ask(rt, passes, self.home(hash), Request::Publish(given)) {
+            Reply::Stored => Published::Stored,
+            Reply::KnownBetter => Published::KnownBetter,
+            Reply::Full => Published::Full,
+            _ => unreachable!(),
+        }
+    }
+
+    /// The first of the facts with the least moves among those that say whether the attacker wins the position within so many
+    /// moves, if there is one. It takes no memory.
+    pub fn look<R: Wait>(
+        &self,
+        rt: &R,
+        passes: &mut Passes,
+        p: &Position,
+        moves: u16,
+    ) -> Option<Fact>
+        requires passes { ArePassesOf self.now passes.old }
+        ensures passes { ArePassesOf self.now passes.new }
+        ensures turn { LookTurn self.now passes.old p.now moves result passes.new }
+    {
+        let repeat = repeat_of(p);
+        let hash = hash_of(&repeat);
+        let query = Query {
+            repeat,
+            counter: p.counter,
+            moves,
+            hash,
+        };
+        match self.ask(rt, passes, self.home(hash), Request::Look(query)) {
+            Reply::Found(found) => found,
+            _ => unreachable!(),
+        }
+    }
+
+    // The shard of a hash.
+    fn home(&self, hash: u64) -> usize
+        ensures is { result ≡ shard_of_hash hash (length self.now.locks) }
+        ensures below { result < length self.now.locks }
+    {
+        shard_of_hash(hash, self.locks.len() as u32) as usize
+    }
+
+    // One turn at one shard.
+    fn ask<R: Wait>(&self, rt: &R, passes: &mut Passes, shard: usize, request: Request) -> Reply
+        requires passes { ArePassesOf self.now passes.old }
+        requires shard { shard < length self.now.locks }
+        requires fits { Fits (self.now.frame, self.now.capacity) request }
+        ensures passes { ArePassesOf self.now passes.new }
+        ensures turn { AskTurn self.now passes.old shard request result passes.new }
+    {
+        self.locks[shard].with(rt, &mut passes.items[shard], request)
+    }
+}
