@@ -1,0 +1,40 @@
+-- A set of squares by its members: bit s of its number stands for square s.
+use Rattle.std.specs.Prelude.{◌≡◌, ℕ, zero, suc, ◌+◌, ◌-◌, ◌<◌, Bool, true, false, ◌&&◌, not, ◌==◌, if◌then◌else◌}
+use Rattle.std.specs.Int.{bit_at}
+use Rattle.square_set.specs.declared.Set.{Set}
+
+-- bit s of the number is 1
+abbrev pub bit : ℕ → ℕ → Bool
+bit n s = bit_at n s == 1
+
+-- the square is in the set
+abbrev pub has : Set → ℕ → Bool
+has set s = bit set.0 s
+
+-- how many numbers below n pass the test
+unfoldable pub count_below : (ℕ → Bool) → ℕ → ℕ
+count_below test zero = 0
+count_below test (suc n) = count_below test n + (if test n then 1 else 0)
+
+-- how many squares the set has
+abbrev pub size : Set → ℕ
+size set = count_below (has set) 128
+
+-- the square is of the set, and the lowest of it
+pub record IsFirst (set : Set) (square : ℕ) : Type 0 where
+  pub small : square < 128
+  pub member : has set square ≡ true
+  pub lowest : (s : ℕ) → s < square → has set s ≡ false
+
+-- the new set has the squares of the old one but this one
+abbrev pub IsWithout : Set → ℕ → Set → Type 0
+IsWithout old square new = (s : ℕ) → has new s ≡ (has old s && not (s == square))
+
+-- a square's place in the order of rising or of falling numbers
+abbrev pub place : Bool → ℕ → ℕ
+place true s = s
+place false s = 127 - s
+
+-- how many squares that pass the test come before the square in that order
+abbrev pub before : Bool → (ℕ → Bool) → ℕ → ℕ
+before rising test s = count_below (λ i. test (place rising i)) (place rising s)

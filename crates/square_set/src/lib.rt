@@ -1,0 +1,129 @@
+//! Sets of squares: bit s of a number stands for square s.
+#![tactic(auto)]
+
+#[cfg(test)]
+mod tests;
+
+ghost use Rattle.std.specs.Prelude.{◌≡◌, ◌<◌, ◌+◌, ℕ, true, false, ◌&&◌, ◌||◌, not, ◌==◌, IfSome, OnSome, IfNone};
+ghost use Rattle.std.specs.Bool.{OnTrue, OnFalse};
+ghost use Rattle.square_set.specs.Members as Members;
+
+/// A set of squares, each named by its number, which is below 128.
+#[derive(Clone, Copy, Debug, Default, PartialEq, Eq)]
+pub struct Set(pub u128);
+
+/// The set without a square.
+pub const EMPTY: Set = Set(0);
+
+impl Set {
+    /// Whether the square is in the set.
+    pub fn has(self, square: u8) -> bool
+        requires { square < 128 }
+        ensures { result ≡ Members.has self square }
+    {
+        (self.0 >> square) & 1 == 1
+    }
+
+    /// The set with the square.
+    pub fn with(self, square: u8) -> Set
+        requires { square < 128 }
+        ensures { (s : ℕ) → Members.has result s ≡ (Members.has self s || (s == square)) }
+    {
+        Set(self.0 | 1 << square)
+    }
+
+    /// The set without the square.
+    pub fn without(self, square: u8) -> Set
+        requires { square < 128 }
+        ensures { (s : ℕ) → Members.has result s ≡ (Members.has self s && not (s == square)) }
+    {
+        Set(self.0 & !(1 << square))
+    }
+
+    /// The squares that both sets have.
+    pub fn and(self, other: Set) -> Set
+        ensures { (s : ℕ) → Members.has result s ≡ (Members.has self s && Members.has other s) }
+    {
+        Set(self.0 & other.0)
+    }
+
+    /// The squares that one of the sets has, or both.
+    pub fn or(self, other: Set) -> Set
+        ensures { (s : ℕ) → Members.has result s ≡ (Members.has self s || Members.has other s) }
+    {
+        Set(self.0 | other.0)
+    }
+
+    /// The squares of this set that the other has not.
+    pub fn minus(self, other: Set) -> Set
+        ensures { (s : ℕ) → Members.has result s ≡ (Members.has self s && not (Members.has other s)) }
+    {
+        Set(self.0 & !other.0)
+    }
+
+    /// Whether the set has no square.
+    pub fn is_empty(self) -> bool
+        ensures empty { OnTrue result ((s : ℕ) → Members.has self s ≡ false) }
+        ensures not_empty { OnFalse result (0 < Members.size self) }
+    {
+        self.0 == 0
+    }
+
+    /// The square of the lowest number, or None where the set is empty.
+    pub fn first(self) -> Option<u8>
+        ensures some { IfSome result (λ square. Members.IsFirst self square) }
+        ensures none { IfNone result ((s : ℕ) → Members.has self s ≡ false) }
+    {
+        if self.0 == 0 {
+            None
+        } else {
+            Some(self.0.trailing_zeros() as u8)
+        }
+    }
+
+    /// Takes the square of the lowest number out of the set. Where the set is empty it stays so, and the answer is None.
+    pub fn take_first(&mut self) -> Option<u8>
+        ensures some { IfSome result (λ square. Members.IsFirst self.old square) }
+        ensures rest { IfSome result (λ square. Members.IsWithout self.old square self.new) }
+        ensures fewer { OnSome result (Members.size self.new + 1 ≡ Members.size self.old) }
+        ensures none { IfNone result ((s : ℕ) → Members.has self.old s ≡ false) }
+        ensures kept { IfNone result (self.new ≡ self.old) }
+    {
+        let first = self.first()?;
+        *self = self.without(first);
+        Some(first)
+    }
+
+    /// How many squares the set has.
+    pub fn count(self) -> u32
+        ensures { result ≡ Members.size self }
+    {
+        self.0.count_ones()
+    }
+
+    /// The squares below 128 before which the set has none, in the order of rising or of falling numbers: those up to the first of
+    /// the set, and all where it is empty.
+    pub fn cover(self, rising: bool) -> Set
+        ensures { (s : ℕ) → s < 128 → Members.has result s ≡ (Members.before rising (Members.has self) s == 0) }
+    {
+        if rising {
+            self.up_to_first()
+        } else {
+            self.from_last()
+        }
+    }
+
+    /// The squares with no lower one in the set. To take 1 off turns the lowest bit and the bits below it, and no other.
+    fn up_to_first(self) -> Set
+        ensures { (s : ℕ) → s < 128 → Members.has result s ≡ (Members.before true (Members.has self) s == 0) }
+    {
+        Set(self.0 ^ self.0.wrapping_sub(1))
+    }
+
+    /// The squares with no higher one in the set. A bit 0 that is set besides changes nothing: no square is below it.
+    fn from_last(self) -> Set
+        ensures { (s : ℕ) → s < 128 → Members.has result s ≡ (Members.before false (Members.has self) s == 0) }
+    {
+        Set(u128::MAX << (127 - (self.0 | 1).leading_zeros()))
+    }
+}

@@ -1,0 +1,79 @@
+use super::*;
+
+fn set_of(squares: &[u8]) -> Set {
+    let mut set = EMPTY;
+    for &square in squares {
+        if square < 128 {
+            set = set.with(square);
+        }
+    }
+    set
+}
+
+#[test]
+fn sets_are_joined_and_cut(rt: HostRuntime) {
+    let low = set_of(&[0, 5, 64]);
+    let high = set_of(&[5, 64, 119]);
+    let rows: [(Set, &[u8]); 6] = [
+        (low.and(high), &[5, 64]),
+        (low.or(high), &[0, 5, 64, 119]),
+        (low.minus(high), &[0]),
+        (low.with(119), &[0, 5, 64, 119]),
+        (low.without(64), &[0, 5]),
+        (low.without(119), &[0, 5, 64]),
+    ];
+    for (set, squares) in rows {
+        assert_eq!(rt; set, set_of(squares));
+        for square in 0..128 {
+            assert_eq!(rt; set.has(square), squares.contains(&square));
+        }
+    }
+}
+
+// The squares of a set, its first, and how many it has: of none, of the corners, of two side by side at the middle of the number.
+#[test]
+fn squares_are_taken_in_order(rt: HostRuntime) {
+    let rows: [(&[u8], Option<u8>, u32); 4] = [
+        (&[], None, 0),
+        (&[0, 11, 108, 119], Some(0), 4),
+        (&[63, 64], Some(63), 2),
+        (&[127], Some(127), 1),
+    ];
+    for (squares, first, count) in rows {
+        let mut rest = set_of(squares);
+        assert_eq!(rt; rest.first(), first);
+        assert_eq!(rt; rest.count(), count);
+        assert_eq!(rt; rest.is_empty(), count == 0);
+        for square in squares {
+            assert_eq!(rt; rest.take_first(), Some(*square));
+        }
+        assert_eq!(rt; rest.take_first(), None);
+        assert_eq!(rt; rest, EMPTY);
+    }
+}
+
+#[test]
+fn all_squares_of_the_largest_board_are_120(rt: HostRuntime) {
+    let mut all = EMPTY;
+    for square in 0..120 {
+        all = all.with(square);
+    }
+    assert_eq!(rt; all.count(), 120);
+    assert_eq!(rt; all.first(), Some(0));
+}
+
+// Of 40 and 90: up to 40 where numbers rise, from 90 on where they fall.
+#[test]
+fn a_cover_ends_with_the_first(rt: HostRuntime) {
+    let set = set_of(&[40, 90]);
+    for square in 0..128 {
+        assert_eq!(rt; set.cover(true).has(square), square <= 40);
+        assert_eq!(rt; set.cover(false).has(square), square >= 90);
+        assert!(rt; EMPTY.cover(true).has(square) && EMPTY.cover(false).has(square));
+        assert_eq!(rt; set_of(&[0]).cover(true).has(square), square == 0);
+        assert_eq!(rt; set_of(&[127]).cover(false).has(square), square == 127);
+        assert!(rt;
+            set_of(&[0]).cover(false).has(square) && set_of(&[127]).cover(true).has(square)
+        );
+    }
+}
