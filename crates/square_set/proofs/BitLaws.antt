@@ -7,6 +7,8 @@ use Rattle.std.proofs.lemmas.Nat.{leading_top}
 use Rattle.std.proofs.lemmas.Bool.{lt-ltb, le-ltb}
 use Rattle.std.proofs.Math.Nat.{pow-suc}
 use Rattle.std.proofs.lemmas.Nat.Bits.{bit_at_xor, bit_at-suc, bit_at_lowest, bit_at-zero, bit_at_and, bit_at_or, bit_at_not, bit_at-lt, bit_at_above, bit_at_set_same, bit_at_set_other, bit_at_clear_same, bit_at_clear_other, bit_at-trailing_zeros, bit_at_cat_high, bit_at_ones, ones_shl, bit_at_mask_inside, bit_at_mask_below}
+use Rattle.std.proofs.Math.Bool.{and-false, and-true, or-false, or-true}
+use Rattle.square_set.proofs.Cases.{by_equal, by_order}
 use Rattle.square_set.specs.Members.{bit, IsFirst}
 use Rattle.square_set.specs.declared.Set.{Set}
 
@@ -28,34 +30,12 @@ one_is x e = grind arith
 none_is : (x : ℕ) → x < 2 → (x == 1) ≡ false → x ≡ 0
 none_is x l e = grind arith
 
-pub by_order : (a b : ℕ) (P : Type 0) → (a < b → P) → (b ≤ a → P) → P
-by_order a b P f g = elim (nat_lt a b) as (λ v. nat_lt a b ≡ v → P) [ true ↦ λ e. f (grind arith) | false ↦ λ e. g (grind arith) ] refl
-
-pub by_equal : (a b : ℕ) (P : Type 0) → ((a == b) ≡ true → a ≡ b → P) → ((a == b) ≡ false → a ≢ b → P) → P
-by_equal a b P f g = elim (a == b) as (λ v. (a == b) ≡ v → P) [ true ↦ λ e. f e (grind arith) | false ↦ λ e. g e (λ h. grind arith) ] refl
-
 -- from 128 on a number has no bit
 pub bit-above : (a i : ℕ) → a < 2 ^ 128 → 128 ≤ i → bit a i ≡ false
 bit-above a i l m = ap (λ x. x == 1) (bit_at_above a 128 i l m)
 
 not_one : (x : ℕ) → x < 2 → (1 - x == 1) ≡ not (x == 1)
 not_one x l = grind arith
-
-and_false : (b : Bool) → (b && false) ≡ false
-and_false true = refl
-and_false false = refl
-
-and_true : (b : Bool) → (b && true) ≡ b
-and_true true = refl
-and_true false = refl
-
-or_true : (b : Bool) → (b || true) ≡ true
-or_true true = refl
-or_true false = refl
-
-or_false : (b : Bool) → (b || false) ≡ b
-or_false true = refl
-or_false false = refl
 
 pub bit-minus : (a o i : ℕ) → a < 2 ^ 128 → o < 2 ^ 128 → bit (bit_and a (2 ^ 128 - 1 - o)) i ≡ (bit a i && not (bit o i))
 bit-minus a o i la lo =
@@ -67,14 +47,14 @@ bit-minus a o i la lo =
 pub bit-with : (a s i : ℕ) → s < 128 → bit (bit_or a (1 * 2 ^ s % 2 ^ 128)) i ≡ (bit a i || (i == s))
 bit-with a s i l =
     by_equal i s (bit (bit_or a (1 * 2 ^ s % 2 ^ 128)) i ≡ (bit a i || (i == s)))
-    (λ e h. rw (e, or_true (bit a i)) (rw h (ap (λ x. x == 1) (bit_at_set_same w128 a s l))))
-    (λ e h. rw (e, or_false (bit a i)) (ap (λ x. x == 1) (bit_at_set_other w128 a s l i h)))
+    (λ e h. rw (e, or-true (bit a i)) (rw h (ap (λ x. x == 1) (bit_at_set_same w128 a s l))))
+    (λ e h. rw (e, or-false (bit a i)) (ap (λ x. x == 1) (bit_at_set_other w128 a s l i h)))
 
 pub bit-without : (a s i : ℕ) → a < 2 ^ 128 → s < 128 → bit (bit_and a (2 ^ 128 - 1 - 1 * 2 ^ s % 2 ^ 128)) i ≡ (bit a i && not (i == s))
 bit-without a s i la l =
     by_equal i s (bit (bit_and a (2 ^ 128 - 1 - 1 * 2 ^ s % 2 ^ 128)) i ≡ (bit a i && not (i == s)))
-    (λ e h. rw (e, and_false (bit a i)) (rw h (ap (λ x. x == 1) (bit_at_clear_same w128 a s l))))
-    (λ e h. rw (e, and_true (bit a i)) (by_order i 128 (bit (bit_and a (2 ^ 128 - 1 - 1 * 2 ^ s % 2 ^ 128)) i ≡ bit a i)
+    (λ e h. rw (e, and-false (bit a i)) (rw h (ap (λ x. x == 1) (bit_at_clear_same w128 a s l))))
+    (λ e h. rw (e, and-true (bit a i)) (by_order i 128 (bit (bit_and a (2 ^ 128 - 1 - 1 * 2 ^ s % 2 ^ 128)) i ≡ bit a i)
     (λ m. ap (λ x. x == 1) (bit_at_clear_other w128 a s l i m h))
     (λ m. bit-and a (2 ^ 128 - 1 - 1 * 2 ^ s % 2 ^ 128) i ∙ rw (bit-above a i la m))))
 
@@ -157,7 +137,7 @@ highest a p l =
 
 -- bit 0 that is set besides changes no other bit
 pub bit-odd : (a i : ℕ) → 0 < i → bit (bit_or a 1) i ≡ bit a i
-bit-odd a i p = bit-or a 1 i ∙ (let e : bit 1 i ≡ false = ap (λ x. x == 1) (bit_at_above 1 1 i (omega arith) (omega (arith, p))) in rw (e, or_false (bit a i)) refl)
+bit-odd a i p = bit-or a 1 i ∙ (let e : bit 1 i ≡ false = ap (λ x. x == 1) (bit_at_above 1 1 i (omega arith) (omega (arith, p))) in rw (e, or-false (bit a i)) refl)
 
 -- the bits from s on
 pub bit-from : (s i : ℕ) → s < 128 → i < 128 → bit ((2 ^ 128 - 1) * 2 ^ s % 2 ^ 128) i ≡ not (nat_lt i s)

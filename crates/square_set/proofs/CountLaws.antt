@@ -1,12 +1,14 @@
 -- Laws of counting the numbers that pass a test.
 use Rattle.std.proofs.Common.{◌≤◌, ◌≡◌, ◌≢◌, ℕ, zero, suc, ◌+◌, ◌-◌, ◌/◌, ◌%◌, ◌^◌, ◌<◌, nat_lt, Bool, true, false, ◌&&◌, not, ◌==◌, if◌then◌else◌, refl, ap, ◌∙◌, arith}
 use Rattle.std.specs.Int.Count.{ones, ones_step}
-use Rattle.std.proofs.lemmas.Bool.{ne_eqb, lt-ltb, le-ltb}
+use Rattle.std.proofs.lemmas.Bool.{eqb-true, ne_eqb, lt-ltb, le-ltb, false_from_ne_true}
 use Rattle.std.proofs.lemmas.Nat.{ones_le_self}
 use Rattle.std.proofs.lemmas.Nat.Bits.{bit_at-suc, bit_at_lowest}
 use Rattle.std.proofs.Math.Nat.{pow-suc}
 use Rattle.square_set.specs.declared.Set.{Set}
-use Rattle.square_set.proofs.BitLaws.{by_equal, by_order, lowest}
+use Rattle.std.proofs.Math.Bool.{and-false, and-true}
+use Rattle.square_set.proofs.BitLaws.{lowest}
+use Rattle.square_set.proofs.Cases.{by_bool, by_equal, by_order}
 use Rattle.square_set.specs.Members.{bit, has, size, before, count_below, place}
 
 pub count_below-zero : (f : ℕ → Bool) → count_below f 0 ≡ 0
@@ -40,14 +42,6 @@ pub count_below-shift : (f : ℕ → Bool) (n : ℕ) → count_below f (suc n) �
 unfolding count_below
 count_below-shift f zero = omega arith
 count_below-shift f (suc n) = let rest = count_below-shift f n in omega (arith, rest)
-
-and_false : (b : Bool) → (b && false) ≡ false
-and_false true = refl
-and_false false = refl
-
-and_true : (b : Bool) → (b && true) ≡ b
-and_true true = refl
-and_true false = refl
 
 lt_other : (s n : ℕ) → s < suc n → n ≢ s → s < n
 lt_other s n l q = omega (arith, l, q)
@@ -85,13 +79,13 @@ count_below-without f g (suc n) s h p l =
     let b = count_below-suc g n in
     by_equal n s (count_below g (suc n) + 1 ≡ count_below f (suc n))
     (λ e q.
-    let rest : count_below g n ≡ count_below f n = count_below-same g f n (λ k m. h k ∙ (let o : (k == s) ≡ false = ne_eqb k s (λ r. omega (arith, r, q, m)) in rw (o, and_true (f k)))) in
-    let here : g n ≡ false = h n ∙ rw (e, and_false (f n)) in
+    let rest : count_below g n ≡ count_below f n = count_below-same g f n (λ k m. h k ∙ (let o : (k == s) ≡ false = ne_eqb k s (λ r. omega (arith, r, q, m)) in rw (o, and-true (f k)))) in
+    let here : g n ≡ false = h n ∙ rw (e, and-false (f n)) in
     let there : f n ≡ true = rw (q, p) in
     rw (a, b, here, there) (omega (arith, rest)))
     (λ e q.
     let rest = count_below-without f g n s h p (lt_other s n l q) in
-    let here : g n ≡ f n = h n ∙ rw (e, and_true (f n)) in
+    let here : g n ≡ f n = h n ∙ rw (e, and-true (f n)) in
     rw (a, b, here) (one_less (count_below g n) (count_below f n) _ _ rest refl))
 
 -- where one passes
@@ -183,3 +177,24 @@ count_below-cut f g (suc n) m l below above =
     let u = count_below-suc f n in
     let here : f n ≡ false = above n (omega (arith, l, q)) (omega arith) in
     rw (u, here) (omega (arith, rest)))
+
+-- where some are counted, one passes
+pub count_below-found : (f : ℕ → Bool) (n : ℕ) → 0 < count_below f n → (k : ℕ) × (k < n) × (f k ≡ true)
+count_below-found f zero l = absurd (let z = count_below-zero f in omega (arith, z, l))
+count_below-found f (suc n) l =
+    by_bool (f n) ((k : ℕ) × (k < suc n) × (f k ≡ true))
+    (λ e. (n, omega arith, e))
+    (λ e. let s = count_below-suc f n ∙ ap (λ b. count_below f n + (if b then 1 else 0)) e in let h = count_below-found f n (omega (arith, s, l)) in (h.0, omega (arith, h.1), h.2))
+
+-- none comes before a square exactly where no square of a smaller place passes
+pub before-none : (rising : Bool) (f : ℕ → Bool) (t : ℕ) → t < 128 → ((u : ℕ) → u < 128 → place rising u < place rising t → f u ≡ false) → (before rising f t == 0) ≡ true
+before-none rising f t l h =
+    let m = place-lt rising t l in
+    zero_test _ (count_below-none (λ i. f (place rising i)) (place rising t) (λ k n.
+    let small : k < 128 = omega (arith, m, n) in let back = place-place rising k small in h (place rising k) (place-lt rising k small) (rw back n)))
+
+pub before-at : (rising : Bool) (f : ℕ → Bool) (t u : ℕ) → (before rising f t == 0) ≡ true → u < 128 → place rising u < place rising t → f u ≡ false
+before-at rising f t u e l m =
+    false_from_ne_true (f u) (λ h.
+    let some = count_below-some (λ i. f (place rising i)) (place rising t) (place rising u) m (ap f (place-place rising u l) ∙ h) in
+    let none = eqb-true (before rising f t) 0 e in omega (arith, some, none))

@@ -5,7 +5,8 @@ use Rattle.std.specs.Int.Count.{count_leading_zeros, count_trailing_zeros}
 use Rattle.std.proofs.lemmas.Nat.Bits.{bit_at-zero}
 use Rattle.square_set.specs.declared.Set.{Set}
 use Rattle.square_set.specs.Members.{bit, has, before}
-use Rattle.square_set.proofs.BitLaws.{by_equal, lowest, bit-turned, bit-turned_zero, odd-pos, highest, bit-odd, bit-from}
+use Rattle.square_set.proofs.Cases.{by_equal}
+use Rattle.square_set.proofs.BitLaws.{lowest, bit-turned, bit-turned_zero, odd-pos, highest, bit-odd, bit-from}
 use Rattle.square_set.proofs.CountLaws.{none-before, first-before, last-before}
 
 -- the set of no square

@@ -1,6 +1,6 @@
 use Rattle.std.proofs.Common.{◌<◌, ◌==◌, rules}
 use Rattle.std.specs.Bool.{OnFalse}
-use Rattle.square_set.proofs.BitLaws.{by_equal}
+use Rattle.square_set.proofs.Cases.{by_equal}
 use Rattle.square_set.proofs.CountLaws.{size-pos}
 use Rattle.square_set.specs.Members.{size}
 use Rattle.square_set.proofs.Set.is_empty.Goals as goal

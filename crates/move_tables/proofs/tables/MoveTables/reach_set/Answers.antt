@@ -1,0 +1,5 @@
+use Rattle.std.proofs.Common.{◌∙◌}
+use Rattle.move_tables.proofs.tables.MoveTables.reach_set.Goals as goal
+
+pub returns : goal.returns
+returns c = λ cells is t l. c.reach.ensures t l ∙ c.spot.ensures c.args.occupied cells is t l

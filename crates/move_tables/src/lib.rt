@@ -1,0 +1,25 @@
+//! What each kind of a variant reaches from each square, as sets of squares that are made once for its rules.
+#![tactic(auto)]
+
+mod add;
+mod build;
+mod copy;
+pub mod jump;
+pub mod line;
+mod make;
+
+pub mod mode;
+mod ray;
+mod region;
+pub mod spot;
+pub mod squares;
+pub mod tables;
+#[cfg(test)]
+mod tests;
+
+pub use jump::Jump;
+pub use line::{Line, Passage};
+pub use squares::{kings, men, occupied};
+pub use mode::Mode;
+pub use spot::Spot;
+pub use tables::MoveTables;

@@ -1,0 +1,88 @@
+//! The squares of a board's pieces, as sets.
+ghost use Rattle.std.specs.Prelude.{◌≡◌, ◌<◌, true, is_some, length};
+ghost use Rattle.rules_model.specs.Attacks.{is_own, is_own_king};
+ghost use Rattle.rules_model.specs.Squares.{cell_at};
+ghost use Rattle.move_tables.specs.Occupied.{IsOccupied, AreMen, AreKings};
+
+use rules_model::kinds::names;
+use rules_model::{Cell, Rules, Side};
+use square_set::{EMPTY, Set};
+
+/// A board has 120 squares.
+fn board_size(cells: &[Option<Cell>; 120])
+    ensures { length cells.now ≡ 120 }
+{
+    let _first = cells[0];
+}
+
+fn is_piece(cells: &[Option<Cell>; 120], at: u8) -> bool
+    requires { at < 120 }
+    ensures { result ≡ is_some (cell_at cells.now at) }
+{
+    match cells[at as usize] {
+        None => false,
+        Some(_) => true,
+    }
+}
+
+fn is_man(cells: &[Option<Cell>; 120], side: Side, at: u8) -> bool
+    requires { at < 120 }
+    ensures { result ≡ is_own side (λ kind. true) (cell_at cells.now at) }
+{
+    match cells[at as usize] {
+        None => false,
+        Some(cell) => cell.side.is(side),
+    }
+}
+
+fn is_king(rules: &Rules, cells: &[Option<Cell>; 120], side: Side, at: u8) -> bool
+    requires { at < 120 }
+    ensures { result ≡ is_own_king rules.now side (cell_at cells.now at) }
+{
+    match cells[at as usize] {
+        None => false,
+        Some(cell) => cell.side.is(side) && names(rules.king, cell.kind),
+    }
+}
+
+/// The squares with a piece.
+pub fn occupied(cells: &[Option<Cell>; 120]) -> Set
+    ensures { IsOccupied result cells.now }
+{
+    board_size(cells);
+    let mut set = EMPTY;
+    for at in 0..120u8 {
+        if is_piece(cells, at) {
+            set = set.with(at);
+        }
+    }
+    set
+}
+
+/// The squares with a piece of the side.
+pub fn men(cells: &[Option<Cell>; 120], side: Side) -> Set
+    ensures { AreMen side cells.now result }
+{
+    board_size(cells);
+    let mut set = EMPTY;
+    for at in 0..120u8 {
+        if is_man(cells, side, at) {
+            set = set.with(at);
+        }
+    }
+    set
+}
+
+/// The squares with a king of the side.
+pub fn kings(rules: &Rules, cells: &[Option<Cell>; 120], side: Side) -> Set
+    ensures { AreKings rules.now side cells.now result }
+{
+    board_size(cells);
+    let mut set = EMPTY;
+    for at in 0..120u8 {
+        if is_king(rules, cells, side, at) {
+            set = set.with(at);
+        }
+    }
+    set
+}
