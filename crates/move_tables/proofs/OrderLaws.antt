@@ -28,7 +28,7 @@ pub record IsAt (ray : Ray) (k s : ℕ) : Type 0 where
   pub rank : y < 10
   pub is : s ≡ 12 * y + x
 
-square_parts : (f r : Option ℕ) (s : ℕ) → square_of f r ≡ Some s → (x : ℕ) × (y : ℕ) × (f ≡ Some x) × (r ≡ Some y) × (s ≡ 12 * y + x)
+pub square_parts : (f r : Option ℕ) (s : ℕ) → square_of f r ≡ Some s → (x : ℕ) × (y : ℕ) × (f ≡ Some x) × (r ≡ Some y) × (s ≡ 12 * y + x)
 square_parts None r s e = absurd (let g : ⊥ = cc in g)
 square_parts (Some x) None s e = absurd (let g : ⊥ = cc in g)
 square_parts (Some x) (Some y) s e = (x, y, refl, refl, let g : 12 * y + x ≡ s = cc in sym g)

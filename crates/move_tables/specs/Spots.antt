@@ -45,7 +45,7 @@ IsOfTerms rules side test terms from spot =
 -- the spot reaches what the kind does
 abbrev pub IsOfKind : Rules → Side → Kind → Square → Mode → Spot → Type 0
 IsOfKind rules side kind from mode spot =
-    (occupied : Set) (cells : List (Option Cell)) → IsOccupied occupied cells → (t : ℕ) → t < 128
+    (occupied : Set) (cells : List (Option Cell)) → IsOccupied occupied cells → (t : ℕ)
     → by_spot spot occupied t ≡ reaches_as rules cells side kind from mode t
 
 -- ---- their places

@@ -1,5 +1,5 @@
 //! What a kind reaches from one square.
-ghost use Rattle.std.specs.Prelude.{◌≡◌, ℕ, ◌<◌, ◌&&◌, ◌||◌};
+ghost use Rattle.std.specs.Prelude.{◌≡◌, ℕ, ◌<◌, ◌≤◌, false, ◌&&◌, ◌||◌};
 ghost use Rattle.std.specs.List.{list_any};
 ghost use Rattle.square_set.specs.Members.{has};
 ghost use Rattle.move_tables.specs.Lines as Lines;
@@ -17,6 +17,12 @@ pub struct Spot {
     pub leaps: Set,
     pub lines: Vec<Line>,
     pub jumps: Vec<Jump>,
+}
+
+/// No set has a square from 128 on.
+fn none_beyond(set: Set)
+    ensures { (t : ℕ) → 128 ≤ t → has set t ≡ false }
+{
 }
 
 fn along(lines: &[Line], occupied: Set, leaps: Set) -> Set
@@ -42,8 +48,9 @@ fn over(jumps: &[Jump], occupied: Set, others: Set) -> Set
 impl Spot {
     /// The squares that are reached where these are occupied.
     pub fn reach(&self, occupied: Set) -> Set
-        ensures { (t : ℕ) → t < 128 → has result t ≡ Lines.by_spot self.now occupied t }
+        ensures { (t : ℕ) → has result t ≡ Lines.by_spot self.now occupied t }
     {
+        none_beyond(self.within);
         let straight = along(&self.lines, occupied, self.leaps);
         over(&self.jumps, occupied, straight).and(self.within)
     }

@@ -92,7 +92,7 @@ impl MoveTables {
     pub fn reach_set(&self, by: Side, kind: Kind, from: Square, mode: Mode, occupied: Set) -> Set
         requires kind { kind.0 < 26 }
         requires from { from.0 < 120 }
-        ensures { (cells : List (Option Cell)) → IsOccupied occupied cells → (t : ℕ) → t < 128 → has result t ≡ reaches_as self.now cells by kind from mode t }
+        ensures { (cells : List (Option Cell)) → IsOccupied occupied cells → (t : ℕ) → has result t ≡ reaches_as self.now cells by kind from mode t }
     {
         self.spot(by, kind, from, mode).reach(occupied)
     }

@@ -2,4 +2,4 @@ use Rattle.std.proofs.Common.{◌∙◌}
 use Rattle.move_tables.proofs.tables.MoveTables.reach_set.Goals as goal
 
 pub returns : goal.returns
-returns c = λ cells is t l. c.reach.ensures t l ∙ c.spot.ensures c.args.occupied cells is t l
+returns c = λ cells is t. c.reach.ensures t ∙ c.spot.ensures c.args.occupied cells is t

@@ -1,2 +1,0 @@
-pub mod PawnLemmas
-pub mod SetLemmas
