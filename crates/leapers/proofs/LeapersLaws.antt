@@ -1,12 +1,14 @@
 -- That the rules of `leapers` can be played, by computing.
 use Rattle.std.proofs.Common.{◌≡◌, true, refl, arith}
 use Rattle.foundation.specs.Count.{any_below, all_below}
-use Rattle.rules_model.specs.Attacks.{attacks_from, attacks, king_attacked_at, king_attacked}
+use Rattle.rules_model.specs.Attacks.{attacks_from, attacks, flies_to, king_attacked_at, king_attacked, king_faces, stands_between}
 use Rattle.rules_model.specs.Built.{is_built, is_plain, leaper_at}
 use Rattle.rules_model.specs.Castling.{castling_on}
 use Rattle.rules_model.specs.Ends.{pieces_of}
 use Rattle.rules_model.specs.Fit.{IsFit, chains_promotions, fits_term, gates_amiss, has_no_piece, kind_fits, mask_fits, promotes_to_pawn_or_king, region_fits_at}
+use Rattle.rules_model.specs.Movement.{kind_reaches}
 use Rattle.rules_model.specs.Reach.{blockers, passes, reaches_over}
+use Rattle.rules_model.specs.Sizes.{has_sizes}
 use Rattle.rules_model.specs.Sound.{is_sound, is_sound_repeat, is_sound_side, sound_at, sound_gate, sound_in_hand, sound_right}
 use Rattle.rules_model.specs.Squares.{step_to}
 use Rattle.leapers.specs.Leapers.{leapers}
@@ -15,6 +17,7 @@ use Rattle.leapers.specs.Parts.{ranks, start, start_cells}
 pub leapers_fit : IsFit leapers
 unfolding leapers ranks any_below all_below castling_on chains_promotions fits_term gates_amiss has_no_piece kind_fits mask_fits promotes_to_pawn_or_king region_fits_at
 leapers_fit = record {
+  letters = refl;
   files_least = omega arith;
   files_most = omega arith;
   ranks_least = omega arith;
@@ -24,6 +27,8 @@ leapers_fit = record {
   castle_far = omega arith;
   castle_rank_least = omega arith;
   castle_rank_most = omega arith;
+  soldier_rank_least = omega arith;
+  soldier_rank_most = omega arith;
   n_move = omega arith;
   n_fold_most = omega arith;
   n_fold_not_one = λ e. omega (arith, e);
@@ -36,6 +41,8 @@ leapers_fit = record {
   kinds = refl;
   king = refl;
   pawn = refl;
+  soldier = refl;
+  soldier_no_pawn = refl;
   no_doubled = refl;
   flag_kind = refl;
   promotion_kinds = refl;
@@ -54,5 +61,5 @@ unfolding leapers is_built all_below leaper_at is_plain castling_on
 leapers_built = refl
 
 pub leapers_sound : is_sound leapers leapers.start ≡ true
-unfolding leapers start start_cells is_sound is_sound_repeat is_sound_side all_below any_below sound_at sound_gate sound_in_hand sound_right pieces_of king_attacked king_attacked_at attacks attacks_from reaches_over passes blockers step_to castling_on
+unfolding leapers ranks start start_cells has_sizes flies_to king_faces stands_between kind_reaches is_sound is_sound_repeat is_sound_side all_below any_below sound_at sound_gate sound_in_hand sound_right pieces_of king_attacked king_attacked_at attacks attacks_from reaches_over passes blockers step_to castling_on
 leapers_sound = refl

@@ -23,6 +23,8 @@ leapers = record {
   ranks = 8;
   king = Some king;
   pawn = None;
+  soldier = None;
+  soldier_rank = 1;
   no_doubled = None;
   flag_kind = None;
   castle_king = 4;
@@ -51,4 +53,5 @@ leapers = record {
   gate_hand = false;
   extinct_all = false;
   check_counting = false;
+  flying = false;
 }

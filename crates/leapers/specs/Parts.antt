@@ -11,6 +11,20 @@ use Rattle.rules_model.specs.declared.rules.KindRule.{KindRule}
 use Rattle.rules_model.specs.declared.rules.Term.{Term}
 use Rattle.rules_model.specs.declared.rules.Way.TheVariants.{Leap}
 
+-- ---- regions
+
+-- a square of these ranks of the chess board, counted from 0, the last one included
+abbrev pub is_on_ranks : ℕ → ℕ → ℕ → Bool
+is_on_ranks first last s = nat_lt (s % 12) 8 && nat_le first (s / 12) && nat_le (s / 12) last
+
+-- these ranks
+unfoldable pub ranks : ℕ → ℕ → Region
+ranks first last = record { squares = map (is_on_ranks first last) (range_with_len 0 120) }
+
+-- no square
+abbrev pub nowhere : Region
+nowhere = record { squares = replicate 120 false }
+
 -- ---- pieces
 
 -- a leap to an empty square or to take
@@ -30,9 +44,9 @@ king_leaps =
     leap (pos 0) (negsuc 0) ∷ leap (negsuc 0) (pos 0) ∷ leap (pos 1) (pos 0) ∷ leap (pos 0) (pos 1)
     ∷ leap (negsuc 0) (negsuc 0) ∷ leap (pos 1) (negsuc 0) ∷ leap (negsuc 0) (pos 1) ∷ leap (pos 1) (pos 1) ∷ []
 
--- a piece that moves by these terms and is never promoted
+-- a piece that moves by these terms anywhere on the board and is never promoted
 abbrev pub piece : List Term → KindRule
-piece terms = record { terms = terms; pawn = false; promoted = None }
+piece terms = record { terms = terms; mobility = ranks 0 7 ∷ ranks 0 7 ∷ []; pawn = false; promoted = None }
 
 abbrev pub camel : Kind
 camel = record { 0 = 2 }
@@ -53,20 +67,6 @@ kinds =
 -- no kind
 abbrev pub no_kinds : List Bool
 no_kinds = replicate 26 false
-
--- ---- regions
-
--- a square of these ranks of the chess board, counted from 0, the last one included
-abbrev pub is_on_ranks : ℕ → ℕ → ℕ → Bool
-is_on_ranks first last s = nat_lt (s % 12) 8 && nat_le first (s / 12) && nat_le (s / 12) last
-
--- these ranks
-unfoldable pub ranks : ℕ → ℕ → Region
-ranks first last = record { squares = map (is_on_ranks first last) (range_with_len 0 120) }
-
--- no square
-abbrev pub nowhere : Region
-nowhere = record { squares = replicate 120 false }
 
 -- ---- the start
 

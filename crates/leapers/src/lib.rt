@@ -69,6 +69,8 @@ fn rules() -> Rules
         ranks: 8,
         king: Some(KING),
         pawn: None,
+        soldier: None,
+        soldier_rank: 1,
         no_doubled: None,
         flag_kind: None,
         castle_king: 4,
@@ -97,6 +99,7 @@ fn rules() -> Rules
         gate_hand: false,
         extinct_all: false,
         check_counting: false,
+        flying: false,
     }
 }
 

@@ -1,6 +1,7 @@
 ghost use Rattle.std.specs.Prelude.{◌≡◌, pos, negsuc, ◌≤ℤ◌, true};
 ghost use Rattle.leapers.specs.Parts as Parts;
 
+use crate::ranks::ranks;
 use arrayvec::ArrayVec;
 use rules_model::{Kind, KindRule, Term, Terms, Way};
 
@@ -60,6 +61,7 @@ fn piece(terms: Terms) -> KindRule
 {
     KindRule {
         terms,
+        mobility: [ranks(0, 7), ranks(0, 7)],
         pawn: false,
         promoted: None,
     }
