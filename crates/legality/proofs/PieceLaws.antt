@@ -1,7 +1,6 @@
 -- The ordinary moves of pieces go between squares of the largest board.
-use Rattle.std.proofs.Common.{◌≡◌, ℕ, ◌/◌, ◌%◌, ◌<◌, ◌≤◌, Bool, true, not, ◌&&◌, nat_lt, Option, Some, None, List, length, refl, arith, suc}
+use Rattle.std.proofs.Common.{◌≡◌, ℕ, ◌/◌, ◌%◌, ◌<◌, ◌≤◌, Bool, true, not, ◌&&◌, nat_lt, Option, Some, None, List, length, refl, arith}
 use Rattle.std.proofs.lemmas.Bool.Decides.{nat_tests}
-use Rattle.foundation.proofs.CountLemmas.{any_below-some}
 use Rattle.rules_model.specs.declared.board.Cell.{Cell}
 use Rattle.rules_model.specs.declared.board.Kind.{Kind}
 use Rattle.rules_model.specs.declared.board.Repeat.{Repeat}
@@ -12,17 +11,15 @@ use Rattle.rules_model.specs.declared.moves.Move.TheVariants.{Go, Castle, Drop}
 use Rattle.rules_model.specs.declared.moves.Promo.{Promo}
 use Rattle.rules_model.specs.declared.moves.Promo.TheVariants.{Stays, Pawn, Plus}
 use Rattle.rules_model.specs.declared.rules.Rules.{Rules}
-use Rattle.rules_model.specs.declared.rules.Term.{Term}
-use Rattle.rules_model.specs.Squares.{cell_at, step_to}
-use Rattle.rules_model.specs.Reach.{is_at, passes, ray_of, reaches, reaches_over}
-use Rattle.rules_model.specs.Kinds.{board_of, is_pawn, terms_of}
+use Rattle.rules_model.specs.Squares.{cell_at}
+use Rattle.rules_model.specs.Kinds.{is_pawn}
 use Rattle.rules_model.specs.Sides.{same_side}
-use Rattle.rules_model.specs.Pieces.{goes_by, may_plus, means_castling, piece_goes, piece_moves, piece_promo, serves}
+use Rattle.rules_model.specs.Pieces.{may_plus, means_castling, piece_goes, piece_moves, piece_promo, serves}
 use Rattle.rules_model.specs.Candidates.{own_piece_moves, is_piece_move}
 use Rattle.rules_model.specs.Fit.{IsFit}
 use Rattle.rules_model.specs.Moves.{IsFitMove, IsFitPromo}
-use Rattle.rules_model.proofs.CandidateLaws.{any_has, both_of}
-use Rattle.rules_model.proofs.VariantLaws.{step_board}
+use Rattle.rules_model.proofs.CandidateLaws.{both_of}
+use Rattle.rules_model.proofs.VariantLaws.{kind_reaches-board}
 use Rattle.sound_play.proofs.CountLaws.{cell_within}
 
 -- ---- the target
@@ -30,20 +27,10 @@ use Rattle.sound_play.proofs.CountLaws.{cell_within}
 small : (files ranks s : ℕ) → files ≤ 12 → ranks ≤ 10 → (nat_lt (s % 12) files && nat_lt (s / 12) ranks) ≡ true → s < 120
 small files ranks s h k e = grind (arith, nat_tests)
 
-reach_small : (rules : Rules) (cells : List (Option Cell)) (side : Side) (t : Term) (from : Square) (s : ℕ) → IsFit rules → reaches (board_of rules) cells side t from s ≡ true → s < 120
-unfolding reaches_over
-reach_small rules cells side t from s fit e =
-    let ray = ray_of (board_of rules) side t from in
-    let k = any_below-some (reaches_over cells t.way (ray_of (board_of rules) side t from) s) t.limit e in
-    small rules.files rules.ranks s fit.files_most fit.ranks_most
-    (step_board (ray_of (board_of rules) side t from) (suc k.0) s fit.files_most
-    (both_of (is_at s (step_to (ray_of (board_of rules) side t from) (suc k.0))) (passes cells t.way (ray_of (board_of rules) side t from) k.0) k.2).0)
-
 goes_small : (rules : Rules) (cells : List (Option Cell)) (side : Side) (kind : Kind) (from : Square) (s : ℕ) → IsFit rules → piece_goes rules cells side kind from s ≡ true → s < 120
 unfolding piece_goes
 goes_small rules cells side kind from s fit e =
-    let t = any_has (goes_by rules cells side from s) (terms_of rules kind) e in
-    reach_small rules cells side t.0 from s fit (both_of (serves side (cell_at cells s) t.0) (reaches (board_of rules) cells side t.0 from s) t.1).1
+    small rules.files rules.ranks s fit.files_most fit.ranks_most (kind_reaches-board rules cells side kind (serves side (cell_at cells s)) from s fit.files_most e)
 
 -- ---- the promotion
 

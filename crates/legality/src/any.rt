@@ -3,17 +3,16 @@ ghost use Rattle.std.specs.Prelude.{◌≡◌, ◌<◌, not, true};
 ghost use Rattle.foundation.specs.Count.{any_below};
 ghost use Rattle.rules_model.specs.Built.{is_built};
 ghost use Rattle.rules_model.specs.Ends.{is_of};
-ghost use Rattle.rules_model.specs.Fit.{IsFit};
 ghost use Rattle.rules_model.specs.Legal.{is_stuck};
+ghost use Rattle.rules_model.specs.Ready.{IsReady};
 ghost use Rattle.rules_model.specs.Repeats.{repeat_of};
-ghost use Rattle.rules_model.specs.Sound.{is_sound};
 ghost use Rattle.rules_model.specs.Squares.{cell_at};
 ghost use Rattle.legality.specs.Goes as Goes;
 
 use crate::check::is_legal;
-use crate::sizes::position_sizes;
 use attack_tables::{Mode, Tables};
 use piece_moves::lands;
+use rules_model::sizes::position_sizes;
 use rules_model::{Move, Position, Promo, Rules, Square};
 
 /// Whether an own piece stands on the square.
@@ -30,10 +29,8 @@ fn is_own(p: &Position, at: u8) -> bool
 /// Whether the piece on the one square has a legal move to the other.
 #[tactic(auto, unfolding(crate::specs::Goes::goes_to))]
 fn goes_to(rules: &Rules, tables: &Tables, p: &Position, from: Square, to: Square) -> bool
-    requires fit { IsFit rules.now }
+    requires ready { IsReady rules.now tables.now p.now }
     requires built { is_built rules.now ≡ true }
-    requires tables { tables.now ≡ rules.now }
-    requires sound { is_sound rules.now p.now ≡ true }
     ensures { result ≡ Goes.goes_to rules.now (repeat_of p.now) from to.0 }
 {
     let stays = Move::Go {
@@ -54,10 +51,8 @@ fn goes_to(rules: &Rules, tables: &Tables, p: &Position, from: Square, to: Squar
 /// Whether what stands on the square has a legal move.
 #[tactic(auto, using(foundation::proofs::CountLemmas::any), unfolding(crate::specs::Goes::goes_from))]
 fn goes_from(rules: &Rules, tables: &Tables, p: &Position, from: u8) -> bool
-    requires fit { IsFit rules.now }
+    requires ready { IsReady rules.now tables.now p.now }
     requires built { is_built rules.now ≡ true }
-    requires tables { tables.now ≡ rules.now }
-    requires sound { is_sound rules.now p.now ≡ true }
     requires from { from < 120 }
     ensures { result ≡ Goes.goes_from rules.now (repeat_of p.now) from }
 {
@@ -77,10 +72,8 @@ fn goes_from(rules: &Rules, tables: &Tables, p: &Position, from: u8) -> bool
 /// Whether there is a legal move. It stops at the first.
 #[tactic(auto, using(foundation::proofs::CountLemmas::any), unfolding(crate::specs::Goes::goes_somewhere))]
 pub fn any_legal(rules: &Rules, tables: &Tables, p: &Position) -> bool
-    requires fit { IsFit rules.now }
+    requires ready { IsReady rules.now tables.now p.now }
     requires built { is_built rules.now ≡ true }
-    requires tables { tables.now ≡ rules.now }
-    requires sound { is_sound rules.now p.now ≡ true }
     ensures { result ≡ not (is_stuck rules.now (repeat_of p.now)) }
 {
     position_sizes(p);

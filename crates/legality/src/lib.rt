@@ -7,7 +7,6 @@ mod list;
 mod order;
 mod play;
 mod safety;
-mod sizes;
 #[cfg(test)]
 mod tests;
 

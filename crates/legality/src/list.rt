@@ -1,10 +1,9 @@
 //! The list of the legal moves.
 ghost use Rattle.std.specs.Prelude.{◌≡◌, true, IfOk};
 ghost use Rattle.rules_model.specs.Built.{is_built};
-ghost use Rattle.rules_model.specs.Fit.{IsFit};
 ghost use Rattle.rules_model.specs.Legal.{legal};
+ghost use Rattle.rules_model.specs.Ready.{IsReady};
 ghost use Rattle.rules_model.specs.Repeats.{repeat_of};
-ghost use Rattle.rules_model.specs.Sound.{is_sound};
 
 use crate::order::sort_moves;
 use crate::safety::keep_safe;
@@ -22,10 +21,8 @@ pub fn legal_moves(
     tables: &Tables,
     p: &Position,
 ) -> Result<MoveList, Memory>
-    requires fit { IsFit rules.now }
+    requires ready { IsReady rules.now tables.now p.now }
     requires built { is_built rules.now ≡ true }
-    requires tables { tables.now ≡ rules.now }
-    requires sound { is_sound rules.now p.now ≡ true }
     ensures { IfOk result (λ ms. ms ≡ legal rules.now (repeat_of p.now)) }
 {
     let mut moves = MoveList {

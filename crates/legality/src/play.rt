@@ -2,13 +2,12 @@
 ghost use Rattle.std.specs.Prelude.{◌≡◌, true};
 ghost use Rattle.foundation.specs.Member.{Member};
 ghost use Rattle.rules_model.specs.Built.{is_built};
-ghost use Rattle.rules_model.specs.Fit.{IsFit};
 ghost use Rattle.rules_model.specs.Legal.{legal};
 ghost use Rattle.rules_model.specs.Next as Next;
+ghost use Rattle.rules_model.specs.Ready.{IsReady};
 ghost use Rattle.rules_model.specs.Repeats.{repeat_of};
 ghost use Rattle.rules_model.specs.Sound.{is_sound};
 
-use crate::sizes::{position_sizes, rules_size};
 use attack_tables::Tables;
 use next_position::{make_move, sound_positions_have_room};
 use rules_model::{Move, Position, Rules};
@@ -16,16 +15,12 @@ use sound_play::legal_moves_keep_soundness;
 
 /// Makes the legal move: the position is the one after it, and is sound again. The tables are not read.
 pub fn apply(rules: &Rules, tables: &Tables, p: &mut Position, m: &Move)
-    requires fit { IsFit rules.now }
+    requires ready { IsReady rules.now tables.now p.old }
     requires built { is_built rules.now ≡ true }
-    requires tables { tables.now ≡ rules.now }
-    requires sound { is_sound rules.now p.old ≡ true }
     requires legal { Member m.now (legal rules.now (repeat_of p.old)) }
     ensures next { p.new ≡ Next.next rules.now p.old m.now }
     ensures sound { is_sound rules.now p.new ≡ true }
 {
-    rules_size(rules);
-    position_sizes(p);
     sound_positions_have_room();
     legal_moves_keep_soundness();
     make_move(rules, p, m);

@@ -7,5 +7,5 @@ sort_moves-requires c =
 
 pub returns : goal.returns
 returns c =
-    legal-sorted_safe _ _ _ _ c.requires.fit c.requires.built (pieces-listed _ _ _ _ _ c.new.ensures.items c.moves.view_is c.in_ok-push_moves.ensures.ok)
+    legal-sorted_safe _ _ _ _ c.requires.ready.fit c.requires.built (pieces-listed _ _ _ _ _ c.new.ensures.items c.moves.view_is c.in_ok-push_moves.ensures.ok)
     (rw c.keep_safe.ensures at c.sort_moves.ensures.same) c.sort_moves.ensures.sorted
