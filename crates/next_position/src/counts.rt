@@ -34,19 +34,9 @@ fn resets(rules: &Rules, p: &Position, m: &Move, taken: Option<Cell>) -> bool
     ensures { result ≡ Next.resets rules.now (repeat_of p.now) m.now }
 {
     match *m {
-        Move::Go {
-            from,
-            to: _,
-            promo: _,
-            gate: _,
-        } => taken.is_some() || resets_by(rules, p.cells[from.0 as usize]),
-        Move::Castle {
-            from: _,
-            to: _,
-            rook: _,
-            gate: _,
-        } => false,
-        Move::Drop { kind: _, to: _ } => false,
+        Move::Go { from, .. } => taken.is_some() || resets_by(rules, p.cells[from.0 as usize]),
+        Move::Castle { .. } => false,
+        Move::Drop { .. } => false,
     }
 }
 

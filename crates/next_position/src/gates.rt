@@ -8,7 +8,7 @@ ghost use Rattle.next_position.specs.Parts as Parts;
 
 use rules_model::castling::rook_target;
 use rules_model::kinds::first_rank;
-use rules_model::{Move, Rules, Side};
+use rules_model::{Move, Rules, Side, Square};
 
 fn without_gate(gates: u16, file: u8) -> u16
     requires { file < 12 }
@@ -18,12 +18,12 @@ fn without_gate(gates: u16, file: u8) -> u16
 }
 
 /// The side's gates after the square was left or entered.
-fn closed_at(rules: &Rules, side: Side, at: u8, gates: u16) -> u16
+fn closed_at(rules: &Rules, side: Side, at: Square, gates: u16) -> u16
     requires { IsFit rules.now }
-    ensures { result ≡ Gates.closed_at rules.now side at gates }
+    ensures { result ≡ Gates.closed_at rules.now side at.0 gates }
 {
-    if at / 12 == first_rank(rules, side) {
-        without_gate(gates, at % 12)
+    if at.rank() == first_rank(rules, side) {
+        without_gate(gates, at.file())
     } else {
         gates
     }
@@ -36,27 +36,22 @@ fn side_gates(rules: &Rules, side: Side, m: &Move, gates: u16) -> u16
     ensures { result ≡ Next.side_gates_after rules.now side m.now gates }
 {
     match *m {
-        Move::Go {
-            from,
-            to,
-            promo: _,
-            gate: _,
-        } => closed_at(rules, side, to.0, closed_at(rules, side, from.0, gates)),
-        Move::Castle {
-            from,
-            to,
-            rook,
-            gate: _,
-        } => {
-            let left = closed_at(rules, side, rook.0, closed_at(rules, side, from.0, gates));
+        Move::Go { from, to, .. } => {
+            let left = closed_at(rules, side, from, gates);
+            closed_at(rules, side, to, left)
+        }
+        Move::Castle { from, to, rook, .. } => {
+            let king_left = closed_at(rules, side, from, gates);
+            let both_left = closed_at(rules, side, rook, king_left);
+            let king_entered = closed_at(rules, side, to, both_left);
             closed_at(
                 rules,
                 side,
-                rook_target(from, to, rook),
-                closed_at(rules, side, to.0, left),
+                Square(rook_target(from, to, rook)),
+                king_entered,
             )
         }
-        Move::Drop { kind: _, to } => closed_at(rules, side, to.0, gates),
+        Move::Drop { to, .. } => closed_at(rules, side, to, gates),
     }
 }
 

@@ -85,21 +85,11 @@ pub(crate) fn change(
     ensures { hands.new ≡ Parts.hands_by rules.now side taken m.now hands.old }
 {
     match *m {
-        Move::Go {
-            from: _,
-            to: _,
-            promo: _,
-            gate,
-        } => {
+        Move::Go { gate, .. } => {
             take_piece(rules, hands, side, taken);
             put_at_gate(hands, side, gate);
         }
-        Move::Castle {
-            from: _,
-            to: _,
-            rook: _,
-            gate,
-        } => put_at_gate(hands, side, placed_kind(gate)),
-        Move::Drop { kind, to: _ } => put_down(hands, side, kind),
+        Move::Castle { gate, .. } => put_at_gate(hands, side, placed_kind(gate)),
+        Move::Drop { kind, .. } => put_down(hands, side, kind),
     }
 }

@@ -40,19 +40,9 @@ pub(crate) fn is_passing(rules: &Rules, p: &Position, m: &Move) -> bool
     ensures { result ≡ Parts.is_passing rules.now (repeat_of p.now) m.now }
 {
     match *m {
-        Move::Go {
-            from,
-            to,
-            promo: _,
-            gate: _,
-        } => passes_by(rules, p, from, to),
-        Move::Castle {
-            from: _,
-            to: _,
-            rook: _,
-            gate: _,
-        } => false,
-        Move::Drop { kind: _, to: _ } => false,
+        Move::Go { from, to, .. } => passes_by(rules, p, from, to),
+        Move::Castle { .. } => false,
+        Move::Drop { .. } => false,
     }
 }
 
@@ -97,7 +87,7 @@ pub(crate) fn passed_over(rules: &Rules, p: &Position, m: &Move) -> Option<Squar
             from,
             to,
             promo,
-            gate: _,
+            ..
         } => {
             if is_double_step(rules, p, from, to, promo) {
                 square_at(ahead(board_of(rules), p.side, from, 1))
@@ -105,13 +95,8 @@ pub(crate) fn passed_over(rules: &Rules, p: &Position, m: &Move) -> Option<Squar
                 None
             }
         }
-        Move::Castle {
-            from: _,
-            to: _,
-            rook: _,
-            gate: _,
-        } => None,
-        Move::Drop { kind: _, to: _ } => None,
+        Move::Castle { .. } => None,
+        Move::Drop { .. } => None,
     }
 }
 

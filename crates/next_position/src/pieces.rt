@@ -189,18 +189,8 @@ pub(crate) fn taken(rules: &Rules, p: &Position, passing: bool, m: &Move) -> Opt
     ensures { result ≡ Parts.taken_by rules.now (repeat_of p.now) m.now }
 {
     match *m {
-        Move::Go {
-            from: _,
-            to,
-            promo: _,
-            gate: _,
-        } => taken_at(rules, p, passing, to),
-        Move::Castle {
-            from: _,
-            to: _,
-            rook: _,
-            gate: _,
-        } => None,
-        Move::Drop { kind: _, to: _ } => None,
+        Move::Go { to, .. } => taken_at(rules, p, passing, to),
+        Move::Castle { .. } => None,
+        Move::Drop { .. } => None,
     }
 }

@@ -22,19 +22,9 @@ fn leaves(m: &Move, at: Square) -> bool
     ensures { result ≡ Next.leaves m.now at.0 }
 {
     match *m {
-        Move::Go {
-            from,
-            to: _,
-            promo: _,
-            gate: _,
-        } => from.0 == at.0,
-        Move::Castle {
-            from,
-            to: _,
-            rook,
-            gate: _,
-        } => from.0 == at.0 || rook.0 == at.0,
-        Move::Drop { kind: _, to: _ } => false,
+        Move::Go { from, .. } => from.0 == at.0,
+        Move::Castle { from, rook, .. } => from.0 == at.0 || rook.0 == at.0,
+        Move::Drop { .. } => false,
     }
 }
 
@@ -44,19 +34,9 @@ fn enters(m: &Move, at: Square) -> bool
     ensures { result ≡ Next.enters m.now at.0 }
 {
     match *m {
-        Move::Go {
-            from: _,
-            to,
-            promo: _,
-            gate: _,
-        } => to.0 == at.0,
-        Move::Castle {
-            from,
-            to,
-            rook,
-            gate: _,
-        } => to.0 == at.0 || rook_target(from, to, rook) == at.0,
-        Move::Drop { kind: _, to } => to.0 == at.0,
+        Move::Go { to, .. } => to.0 == at.0,
+        Move::Castle { from, to, rook, .. } => to.0 == at.0 || rook_target(from, to, rook) == at.0,
+        Move::Drop { to, .. } => to.0 == at.0,
     }
 }
 

@@ -32,6 +32,10 @@ terms_from rules side kind from = if is_held_back rules side kind from then filt
 abbrev pub reaches_by : Rules → List (Option Cell) → Side → (Term → Bool) → Square → ℕ → Term → Bool
 reaches_by rules cells side test from to t = test t && reaches (board_of rules) cells side t from to
 
+-- by a term that takes
+abbrev pub takes_by : Rules → List (Option Cell) → Side → Square → ℕ → Term → Bool
+takes_by rules cells side from to t = reaches_by rules cells side (λ t. t.takes) from to t
+
 -- a piece of the kind reaches a square of its mobility region by one of its terms that pass the test. The pawn, a kind of its own,
 -- has no terms
 unfoldable pub kind_reaches : Rules → List (Option Cell) → Side → Kind → (Term → Bool) → Square → ℕ → Bool

@@ -47,7 +47,7 @@ pub fn is_straight(term: &Term) -> bool
 
 fn takes_to(rules: &Rules, cells: &Cells, side: Side, term: &Term, from: Square, to: Square) -> bool
     requires { IsFit rules.now }
-    ensures { result ≡ Movement.reaches_by rules.now cells.now side (λ t. t.takes) from to.0 term.now }
+    ensures { result ≡ Movement.takes_by rules.now cells.now side from to.0 term.now }
 {
     term.takes && reaches_plain(board_of(rules), cells, side, term, from, to)
 }
@@ -61,7 +61,7 @@ fn any_takes(
     to: Square,
 ) -> bool
     requires { IsFit rules.now }
-    ensures { result ≡ list_any (Movement.reaches_by rules.now cells.now side (λ t. t.takes) from to.0) terms.now }
+    ensures { result ≡ list_any (Movement.takes_by rules.now cells.now side from to.0) terms.now }
 {
     terms
         .iter()
@@ -77,7 +77,7 @@ fn any_straight_takes(
     to: Square,
 ) -> bool
     requires { IsFit rules.now }
-    ensures { result ≡ list_any (Movement.reaches_by rules.now cells.now side (λ t. t.takes) from to.0) (filter Movement.is_straight terms.now) }
+    ensures { result ≡ list_any (Movement.takes_by rules.now cells.now side from to.0) (filter Movement.is_straight terms.now) }
 {
     terms
         .iter()

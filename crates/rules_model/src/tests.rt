@@ -3,9 +3,13 @@ ghost use Rattle.std.specs.List.{list_all};
 ghost use Rattle.rules_model.specs.Fit.{IsFit, fits_term};
 
 use super::*;
-use crate::attacks::pawn_could_take;
-use crate::castling::{castling_on, castling_square, has_gate, holds_right, rook_file};
+use crate::attacks::{flies_to, pawn_could_take};
+use crate::castling::{
+    CastleSquares, castle_of, castling_on, castling_square, has_gate, holds_right, rook_file,
+};
 use crate::kinds::{has_kind, in_hand, in_region, masks, names};
+use crate::movement::{in_mobility, is_held_back, kind_takes, rank_for};
+use crate::sizes::{position_sizes, rules_letters};
 use arrayvec::ArrayVec;
 
 const KING: Kind = Kind(10);
@@ -110,7 +114,7 @@ fn position(side: Side) -> Position {
     }
 }
 
-/// Chess with kings, rooks and pawns alone, whose pawns neither step twice nor promote.
+/// Chess with kings, rooks and pawns alone, whose kings fly and whose pawns neither step twice nor promote.
 fn rules() -> Rules
     ensures { IsFit result }
 {
@@ -207,7 +211,7 @@ fn rules() -> Rules
         gate_hand: false,
         extinct_all: false,
         check_counting: false,
-        flying: false,
+        flying: true,
     }
 }
 
@@ -334,4 +338,46 @@ fn rules_are_read(rt: HostRuntime) {
     assert!(rt; built(&kings));
     kings.files = 9;
     assert!(rt; !built(&kings));
+}
+
+// a1 to a8 for a rook, and kings on e1 and e8 with a pawn on e4 between them.
+#[test]
+fn movement_is_read(rt: HostRuntime) {
+    let rules = rules();
+    let mut p = position(Side::White);
+    let e4 = Square::at(4, 3);
+    let e8 = Square::at(4, 7);
+    position_sizes(&p);
+    rules_letters(&rules);
+    assert_eq!(rt; (e4.file(), e4.rank()), (4, 3));
+    assert_eq!(rt; rank_for(&rules, Side::White, e4), 4);
+    assert_eq!(rt; rank_for(&rules, Side::Black, e4), 5);
+    assert!(rt; in_mobility(&rules, Side::White, ROOK, e4));
+    assert!(rt; !in_mobility(&rules, Side::White, ROOK, Square::at(8, 3)));
+    assert!(rt; !is_held_back(&rules, Side::White, ROOK, e4));
+    assert!(rt;
+        kind_takes(
+            &rules,
+            &p.cells,
+            Side::White,
+            ROOK,
+            Square::at(0, 0),
+            Square::at(0, 7)
+        )
+    );
+    assert!(rt; !kind_takes(&rules, &p.cells, Side::White, ROOK, Square::at(0, 0), e4));
+    assert!(rt; !flies_to(&rules, &p.cells, Side::White, e8));
+    p.cells[40] = None;
+    assert!(rt; flies_to(&rules, &p.cells, Side::White, e8));
+    if castling_on(&rules) {
+        assert_eq!(rt;
+            castle_of(&rules, &p.cells, Side::White, Wing::Queenside),
+            Some(CastleSquares {
+                king: Square::at(4, 0),
+                king_to: Square::at(2, 0),
+                rook: Square::at(0, 0),
+                rook_to: Square::at(3, 0)
+            })
+        );
+    }
 }

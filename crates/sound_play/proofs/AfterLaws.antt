@@ -58,7 +58,7 @@ goes rules r from to promo (Some k) e =
     record { piece = g.0; here = g.1; how = inl g.2; held = λ kind f. subst (λ j. holds r.hands r.side j ≡ true) (same_some k kind f) h }
 
 -- what a candidate needs of its position
-pub record IsReady (rules : Rules) (r : Repeat) (m : Move) : Type 0 where
+pub record IsLegalHere (rules : Rules) (r : Repeat) (m : Move) : Type 0 where
   pub fit : IsFit rules
   pub kinds : length rules.kinds ≡ 26
   pub cells : length r.cells ≡ 120
@@ -86,7 +86,7 @@ passed_sound : (rules : Rules) (cells : List (Option Cell)) (b : Bool) (at : Opt
 passed_sound rules cells true at h = sound_emptied rules cells at h
 passed_sound rules cells false at h = h
 
-gate_kind : (rules : Rules) (r : Repeat) (from to : Square) (promo : Promo) (gate : Option Kind) → IsReady rules r (Go from to promo gate) → Goes rules r from to promo gate → (kind : Kind) → gate ≡ Some kind → has_kind rules kind ≡ true
+gate_kind : (rules : Rules) (r : Repeat) (from to : Square) (promo : Promo) (gate : Option Kind) → IsLegalHere rules r (Go from to promo gate) → Goes rules r from to promo gate → (kind : Kind) → gate ≡ Some kind → has_kind rules kind ≡ true
 gate_kind rules r from to promo None ready g kind e = cc
 gate_kind rules r from to promo (Some k) ready g kind e =
     subst (λ j. has_kind rules j ≡ true) (same_some k kind e) (held_kind rules r k ready.sound ready.fit_move.3 (g.held k refl))
@@ -97,7 +97,7 @@ file_on rules s e = let a = and_parts (nat_lt (s % 12) rules.files) (nat_lt (s /
 on_file : (rules : Rules) (s : ℕ) → s % 12 < rules.files → s / 12 < rules.ranks → on_board rules s ≡ true
 on_file rules s h k = grind (arith, nat_tests)
 
-target_on : (rules : Rules) (r : Repeat) (from to rook : Square) (gate : Option Placed) → IsReady rules r (Castle from to rook gate) → on_board rules (rook_target from to rook) ≡ true
+target_on : (rules : Rules) (r : Repeat) (from to rook : Square) (gate : Option Placed) → IsLegalHere rules r (Castle from to rook gate) → on_board rules (rook_target from to rook) ≡ true
 target_on rules r from to rook gate ready =
     let c = castle_is rules r from to rook gate ready.candidate in
     let f = castle_files rules ready.fit r from to rook c.0.0 c.0.1 ready.fit_move.0 ready.fit_move.1 in
@@ -110,7 +110,7 @@ target_on rules r from to rook gate ready =
     let rank = f.same_rank in
     on_file rules (rook_target from to rook) (omega (arith, x, y, file)) (omega (arith, z, rank))
 
-pub cells_after-sound : (rules : Rules) (r : Repeat) (m : Move) → IsReady rules r m → AreSound rules (cells_after rules r m)
+pub cells_after-sound : (rules : Rules) (r : Repeat) (m : Move) → IsLegalHere rules r m → AreSound rules (cells_after rules r m)
 unfolding cells_after
 cells_after-sound rules r (Go from to promo gate) ready =
     let g = goes rules r from to promo gate ready.candidate in
@@ -133,12 +133,12 @@ cells_after-sound rules r (Drop kind to) ready = sound_set rules r.cells to.0 _ 
 
 -- ---- the hands
 
-taken_by : (rules : Rules) (r : Repeat) (from to : Square) (promo : Promo) (gate : Option Kind) → IsReady rules r (Go from to promo gate) → TakenSound rules (taken rules r from to)
+taken_by : (rules : Rules) (r : Repeat) (from to : Square) (promo : Promo) (gate : Option Kind) → IsLegalHere rules r (Go from to promo gate) → TakenSound rules (taken rules r from to)
 taken_by rules r from to promo gate ready =
     let g = goes rules r from to promo gate ready.candidate in
     taken_sound rules r from to ready.cells (sound_cells rules r ready.sound) (λ side. taken_no_king rules ready.fit r g.piece from to promo side ready.kinds ready.sound ready.fit_move.0 ready.fit_move.1 g.here g.how)
 
-pub hands_after-fit : (rules : Rules) (r : Repeat) (m : Move) → IsReady rules r m → FitHands rules (hands_after rules r m)
+pub hands_after-fit : (rules : Rules) (r : Repeat) (m : Move) → IsLegalHere rules r m → FitHands rules (hands_after rules r m)
 unfolding hands_after
 hands_after-fit rules r (Go from to promo gate) ready =
     fit_put_at_gate rules _ r.side gate (take_into-size rules.to_hand r.hands r.side (taken rules r from to) ready.hands).two
@@ -189,7 +189,7 @@ castle_held : (rules : Rules) (r : Repeat) (from to rook : Square) (gate : Optio
 castle_held rules r from to rook None e kind f = cc
 castle_held rules r from to rook (Some placed) e kind f = subst (λ j. holds r.hands r.side j ≡ true) (same_some placed.kind kind f) (castle_gate rules r from to rook placed e).1
 
-castle_pieces : (rules : Rules) (r : Repeat) (from to rook : Square) (gate : Option Placed) → IsReady rules r (Castle from to rook gate) → on_board_of_both (cells_after rules r (Castle from to rook gate)) ≡ on_board_of_both r.cells + one_if (is_some (gated r.side (placed_kind gate)))
+castle_pieces : (rules : Rules) (r : Repeat) (from to rook : Square) (gate : Option Placed) → IsLegalHere rules r (Castle from to rook gate) → on_board_of_both (cells_after rules r (Castle from to rook gate)) ≡ on_board_of_both r.cells + one_if (is_some (gated r.side (placed_kind gate)))
 unfolding on_board_of_both
 castle_pieces rules r from to rook gate ready =
     let c = castle_is rules r from to rook gate ready.candidate in
@@ -198,7 +198,7 @@ castle_pieces rules r from to rook gate ready =
     let w = weigh (gated r.side (placed_kind gate)) in
     omega (arith, a, b, w)
 
-drop_pieces : (rules : Rules) (r : Repeat) (kind : Kind) (to : Square) → IsReady rules r (Drop kind to) → on_board_of_both (cells_after rules r (Drop kind to)) ≡ on_board_of_both r.cells + 1
+drop_pieces : (rules : Rules) (r : Repeat) (kind : Kind) (to : Square) → IsLegalHere rules r (Drop kind to) → on_board_of_both (cells_after rules r (Drop kind to)) ≡ on_board_of_both r.cells + 1
 unfolding on_board_of_both
 drop_pieces rules r kind to ready =
     let d = drop_is rules r kind to ready.candidate in
@@ -210,7 +210,7 @@ drop_pieces rules r kind to ready =
     omega (arith, a, b, w)
 
 -- no more than before
-pub pieces_after-most : (rules : Rules) (r : Repeat) (m : Move) → IsReady rules r m → on_board_of_both (cells_after rules r m) + held_by_both (hands_after rules r m) ≤ on_board_of_both r.cells + held_by_both r.hands
+pub pieces_after-most : (rules : Rules) (r : Repeat) (m : Move) → IsLegalHere rules r m → on_board_of_both (cells_after rules r m) + held_by_both (hands_after rules r m) ≤ on_board_of_both r.cells + held_by_both r.hands
 unfolding hands_after
 pieces_after-most rules r (Go from to promo gate) ready =
     let g = goes rules r from to promo gate ready.candidate in

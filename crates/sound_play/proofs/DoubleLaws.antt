@@ -24,7 +24,7 @@ use Rattle.rules_model.specs.Pawns.{is_enemy, is_free, is_stays, may_promote, pa
 use Rattle.rules_model.specs.Next.{cells_after, ep_after, ep_where, is_double_step, square_at}
 use Rattle.rules_model.specs.Sound.{is_sound_ep, lies_in, on_board, was_passed}
 use Rattle.rules_model.proofs.CandidateLaws.{at_some, gated_go, not_both, plain_go}
-use Rattle.sound_play.proofs.AfterLaws.{IsReady}
+use Rattle.sound_play.proofs.AfterLaws.{IsLegalHere}
 use Rattle.sound_play.proofs.CellLemmas.{moved, moved-from, moved-other, moved-to}
 use Rattle.sound_play.proofs.PassingLaws.{advances, ahead_one, same_file_one, same_file_two, step_one, step_two}
 use Rattle.sound_play.proofs.TargetLaws.{other_twice}
@@ -176,7 +176,7 @@ if_sound rules q false o h = refl
 piece_is_pawn : (rules : Rules) (side : Side) (x : Cell) (c : Option Cell) → c ≡ Some x → is_own_pawn rules side c ≡ true → is_pawn rules x.kind ≡ true
 piece_is_pawn rules side x c e h = (and_parts (same_side x.side side) (is_pawn rules x.kind) (subst (λ o. is_own_pawn rules side o ≡ true) e h)).1
 
-step_sound : (rules : Rules) (r q : Repeat) (from to : Square) (promo : Promo) (passed : ℕ) → IsReady rules r (Go from to promo None) → q.cells ≡ cells_after rules r (Go from to promo None) → q.side ≡ other r.side → is_double_step rules r from to promo ≡ true → ahead (board_of rules) r.side from 1 ≡ Some passed → pawn_could_take rules q.cells (other r.side) (record { 0 = passed }) ≡ true → is_sound_ep rules q (Some (record { 0 = passed })) ≡ true
+step_sound : (rules : Rules) (r q : Repeat) (from to : Square) (promo : Promo) (passed : ℕ) → IsLegalHere rules r (Go from to promo None) → q.cells ≡ cells_after rules r (Go from to promo None) → q.side ≡ other r.side → is_double_step rules r from to promo ≡ true → ahead (board_of rules) r.side from 1 ≡ Some passed → pawn_could_take rules q.cells (other r.side) (record { 0 = passed }) ≡ true → is_sound_ep rules q (Some (record { 0 = passed })) ≡ true
 step_sound rules r q from to promo passed ready cells side e near could =
     let a = and_parts (is_own_pawn rules r.side (cell_at r.cells from.0) && is_stays promo) (is_at to.0 (ahead (board_of rules) r.side from 2)) e in
     let b = and_parts (is_own_pawn rules r.side (cell_at r.cells from.0)) (is_stays promo) a.0 in
@@ -195,14 +195,14 @@ step_sound rules r q from to promo passed ready cells side e near could =
           passed_sound rules r q g.0 from to passed few ready.of_variant.0 (omega (arith, l, size)) (omega (arith, k, size)) s plain side could
     ]
 
-gated_off : (rules : Rules) (r : Repeat) (from to : Square) (promo : Promo) (kind : Kind) → IsReady rules r (Go from to promo (Some kind)) → is_double_step rules r from to promo ≡ true → ⊥
+gated_off : (rules : Rules) (r : Repeat) (from to : Square) (promo : Promo) (kind : Kind) → IsLegalHere rules r (Go from to promo (Some kind)) → is_double_step rules r from to promo ≡ true → ⊥
 gated_off rules r from to promo kind ready e =
     let a = and_parts (is_own_pawn rules r.side (cell_at r.cells from.0) && is_stays promo) (is_at to.0 (ahead (board_of rules) r.side from 2)) e in
     let b = and_parts (is_own_pawn rules r.side (cell_at r.cells from.0)) (is_stays promo) a.0 in
     let g = gated_go rules r from to promo kind ready.candidate in
     not_both _ (piece_is_pawn rules r.side g.0 _ g.1 b.0) g.2.1
 
-pub ep_after-sound : (rules : Rules) (r q : Repeat) (m : Move) → IsReady rules r m → q.cells ≡ cells_after rules r m → q.side ≡ other r.side → is_sound_ep rules q (ep_after rules r m q.cells) ≡ true
+pub ep_after-sound : (rules : Rules) (r q : Repeat) (m : Move) → IsLegalHere rules r m → q.cells ≡ cells_after rules r m → q.side ≡ other r.side → is_sound_ep rules q (ep_after rules r m q.cells) ≡ true
 unfolding ep_after
 ep_after-sound rules r q (Go from to promo None) ready cells side =
     if_sound rules q (is_double_step rules r from to promo) _ (λ e. where_sound rules q r.side (ahead (board_of rules) r.side from 1) (λ s near could. step_sound rules r q from to promo s ready cells side e near could))

@@ -26,7 +26,7 @@ use Rattle.rules_model.proofs.LegalLaws.{legal-member}
 use Rattle.rules_model.proofs.PlayLaws.{next-is}
 use Rattle.rules_model.proofs.SizeLaws.{has_sizes-is, sizes-has}
 use Rattle.rules_model.proofs.VariantLaws.{legal_of_variant}
-use Rattle.sound_play.proofs.AfterLaws.{cells_after-sound, hands_after-fit, IsReady, on_board_of_both, pieces_after-most}
+use Rattle.sound_play.proofs.AfterLaws.{cells_after-sound, hands_after-fit, IsLegalHere, on_board_of_both, pieces_after-most}
 use Rattle.sound_play.proofs.DoubleLaws.{ep_after-sound}
 use Rattle.sound_play.proofs.FieldLaws.{next-counter_most, next-number_least, next-number_most}
 use Rattle.sound_play.proofs.HandLaws.{hand_set, held_by_both}
@@ -75,7 +75,7 @@ pub next_repeat-follows : (rules : Rules) (r : Repeat) (m : Move) → Follows ru
 unfolding next_repeat
 next_repeat-follows rules r m = record { cells = refl; hands = refl; gates = refl; rights = refl; checks = refl; ep = refl; side = refl }
 
-side_after : (rules : Rules) (r : Repeat) (m : Move) (side : Side) → IsReady rules r m → Member m (legal rules r) → SoundSide rules (next_repeat rules r m) side
+side_after : (rules : Rules) (r : Repeat) (m : Move) (side : Side) → IsLegalHere rules r m → Member m (legal rules r) → SoundSide rules (next_repeat rules r m) side
 side_after rules r m side ready h =
     let q = next_repeat rules r m in
     let f = next_repeat-follows rules r m in
@@ -95,7 +95,7 @@ pieces_by : (r : Repeat) → pieces_of r White + pieces_of r Black ≡ on_board_
 unfolding pieces_of on_board_of_both held_by_both
 pieces_by r = omega arith
 
-few_after : (rules : Rules) (r : Repeat) (m : Move) → IsReady rules r m → pieces_of (next_repeat rules r m) White + pieces_of (next_repeat rules r m) Black ≤ 240
+few_after : (rules : Rules) (r : Repeat) (m : Move) → IsLegalHere rules r m → pieces_of (next_repeat rules r m) White + pieces_of (next_repeat rules r m) Black ≤ 240
 few_after rules r m ready =
     let f = next_repeat-follows rules r m in
     let before = (repeat_parts rules r ready.sound).few in
@@ -106,7 +106,7 @@ few_after rules r m ready =
     let e = pieces_after-most rules r m ready in
     omega (arith, before, a, b, c, d, e)
 
-repeat_after : (rules : Rules) (r : Repeat) (m : Move) → IsReady rules r m → Member m (legal rules r) → SoundRepeat rules (next_repeat rules r m)
+repeat_after : (rules : Rules) (r : Repeat) (m : Move) → IsLegalHere rules r m → Member m (legal rules r) → SoundRepeat rules (next_repeat rules r m)
 repeat_after rules r m ready h =
     let q = next_repeat rules r m in
     let f = next_repeat-follows rules r m in
@@ -124,7 +124,7 @@ pub next_repeat-sound : (rules : Rules) (r : Repeat) (m : Move) → IsFit rules 
 next_repeat-sound rules r m fit sound h =
     let sizes = has_sizes-is r (repeat_parts rules r sound).sizes in
     let l = legal-member rules r m h in
-    let ready : IsReady rules r m = record {
+    let ready : IsLegalHere rules r m = record {
       fit = fit;
       kinds = fit.letters;
       cells = sizes.cells;

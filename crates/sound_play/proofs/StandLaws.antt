@@ -29,7 +29,7 @@ use Rattle.rules_model.specs.Next.{castled, cells_after, emptied, enters, gates_
 use Rattle.rules_model.specs.Sound.{sound_gate, sound_right, sound_rook}
 use Rattle.rules_model.specs.Fit.{gates_amiss, IsFit, rook_is_pawn}
 use Rattle.rules_model.proofs.CandidateLaws.{at_some, castle_gate, castle_is, drop_is, not_both, rook_file-some}
-use Rattle.sound_play.proofs.AfterLaws.{goes, IsReady}
+use Rattle.sound_play.proofs.AfterLaws.{goes, IsLegalHere}
 use Rattle.sound_play.proofs.CellLemmas.{cell_at-set_other}
 use Rattle.sound_play.proofs.CountLaws.{castle_places, dropped_free, Passes, passes_by-is}
 use Rattle.sound_play.proofs.FieldLaws.{closed_at-kept, gate_was_open, rights_after-is}
@@ -51,7 +51,7 @@ castle_stands : (cells : List (Option Cell)) (from to rook : Square) (s : ℕ) �
 castle_stands cells from to rook s a b c d = cell_at-set_other _ _ s _ d ∙ cell_at-set_other _ _ s _ c ∙ cell_at-set_other _ _ s _ b ∙ cell_at-set_other _ _ s _ a
 
 -- a piece that is no pawn stays on a square that is neither left nor entered
-pub stands : (rules : Rules) (r : Repeat) (m : Move) (s : ℕ) (z : Cell) → IsReady rules r m → cell_at r.cells s ≡ Some z → is_pawn rules z.kind ≡ false → leaves m s ≡ false → enters m s ≡ false → cell_at (cells_after rules r m) s ≡ Some z
+pub stands : (rules : Rules) (r : Repeat) (m : Move) (s : ℕ) (z : Cell) → IsLegalHere rules r m → cell_at r.cells s ≡ Some z → is_pawn rules z.kind ≡ false → leaves m s ≡ false → enters m s ≡ false → cell_at (cells_after rules r m) s ≡ Some z
 unfolding cells_after
 stands rules r (Go from to promo gate) s z ready here kind left entered =
     cell_at-set_other _ to.0 s _ (eqb-false _ _ entered) ∙ cell_at-set_other _ from.0 s _ (eqb-false _ _ left)
@@ -76,7 +76,7 @@ no_king_on_none : (rules : Rules) (side : Side) (c : Option Cell) → is_own_kin
 no_king_on_none rules side c e f = let g : is_own_king rules side None ≡ true = subst (λ o. is_own_king rules side o ≡ true) f e in cc
 
 -- no move enters a square on which a king stays
-pub king_not_entered : (rules : Rules) (r : Repeat) (m : Move) (side : Side) (s : ℕ) → IsReady rules r m → is_own_king rules side (cell_at r.cells s) ≡ true → leaves m s ≡ false → enters m s ≡ false
+pub king_not_entered : (rules : Rules) (r : Repeat) (m : Move) (side : Side) (s : ℕ) → IsLegalHere rules r m → is_own_king rules side (cell_at r.cells s) ≡ true → leaves m s ≡ false → enters m s ≡ false
 king_not_entered rules r (Go from to promo gate) side s ready king left =
     let g = goes rules r from to promo gate ready.candidate in
     ne_eqb to.0 s (λ e. not_both _ (subst (λ t. is_own_king rules side (cell_at r.cells t) ≡ true) (sym e) king) (no_king_taken rules r g.piece from to promo side ready.sound ready.fit_move.0 ready.fit_move.1 g.here g.how))
@@ -168,7 +168,7 @@ gate_before : (rules : Rules) (r : Repeat) (side : Side) (file : ℕ) → sound_
 unfolding sound_gate
 gate_before rules r side file e h = asked (has_gate r.gates side file) _ e h
 
-pub gate_after : (rules : Rules) (r q : Repeat) (m : Move) (side : Side) (file : ℕ) → IsReady rules r m → file < 16 → q.cells ≡ cells_after rules r m → q.gates ≡ gates_after rules r m → sound_gate rules q side file ≡ true
+pub gate_after : (rules : Rules) (r q : Repeat) (m : Move) (side : Side) (file : ℕ) → IsLegalHere rules r m → file < 16 → q.cells ≡ cells_after rules r m → q.gates ≡ gates_after rules r m → sound_gate rules q side file ≡ true
 unfolding sound_gate
 gate_after rules r q m side file ready l cells gates =
     answered (has_gate q.gates side file) _ (λ h.
@@ -245,7 +245,7 @@ kept_parts rules r m later side wing e =
     let b = and_parts (holds_right r.rights side wing) (not (leaves m (castling_square rules side rules.castle_king))) a.0 in
     (b.0, not-true _ b.1, a.1)
 
-pub right_after : (rules : Rules) (r q : Repeat) (m : Move) (side : Side) (wing : Wing) → IsReady rules r m → q.cells ≡ cells_after rules r m → q.gates ≡ gates_after rules r m → q.rights ≡ rights_after rules r m q.cells → sound_right rules r side wing ≡ true → sound_right rules q side wing ≡ true
+pub right_after : (rules : Rules) (r q : Repeat) (m : Move) (side : Side) (wing : Wing) → IsLegalHere rules r m → q.cells ≡ cells_after rules r m → q.gates ≡ gates_after rules r m → q.rights ≡ rights_after rules r m q.cells → sound_right rules r side wing ≡ true → sound_right rules q side wing ≡ true
 unfolding sound_right
 right_after rules r q m side wing ready cells gates rights sound =
     answered (holds_right q.rights side wing) _ (λ h.
