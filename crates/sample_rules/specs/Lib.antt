@@ -1,0 +1,9 @@
+pub mod Regions
+pub mod Pieces
+pub mod Positions
+pub mod Base
+pub mod Leapers
+pub mod Chess
+pub mod Capablanca
+pub mod Shouse
+pub mod Xiangqi

@@ -1,0 +1,6 @@
+//! The variants.
+pub mod capablanca;
+pub mod chess;
+pub mod leapers;
+pub mod shouse;
+pub mod xiangqi;
