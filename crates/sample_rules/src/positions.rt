@@ -1,5 +1,5 @@
 //! Squares and positions from short texts.
-ghost use Rattle.std.specs.Prelude.{◌≡◌, ◌<◌, length};
+ghost use Rattle.std.specs.Prelude.{◌≡◌, ◌<◌, length, IfSome};
 ghost use Rattle.sample_rules.specs.Positions as Positions;
 
 use crate::base::empty;
@@ -10,18 +10,18 @@ use rules_model::{Cell, Cells, FILES, Kind, Position, RANKS, Side, Square};
 pub fn square(text: &str) -> Square
     ensures { result.0 < 120 }
 {
-    square_of(text.as_bytes())
+    read_square(text.as_bytes()).unwrap_or(Square(0))
 }
 
-fn square_of(text: &[u8]) -> Square
-    ensures { result.0 < 120 }
+fn read_square(text: &[u8]) -> Option<Square>
+    ensures { IfSome result (λ s. s.0 < 120) }
 {
-    let file = text.first().copied().unwrap_or(b'a').saturating_sub(b'a');
-    let rank = number(text).saturating_sub(1);
+    let file = text.first()?.checked_sub(b'a')?;
+    let rank = number(text).checked_sub(1)?;
     if file < FILES && rank < RANKS {
-        Square::at(file, rank)
+        Some(Square::at(file, rank))
     } else {
-        Square(0)
+        None
     }
 }
 
@@ -56,8 +56,9 @@ fn piece_of(letter: u8) -> Option<Cell>
 pub fn position(text: &str) -> Position {
     let mut p = empty();
     for word in text.as_bytes().split(|byte| *byte == b' ') {
-        if let [letter, at @ ..] = word {
-            let to = square_of(at);
+        if let [letter, at @ ..] = word
+            && let Some(to) = read_square(at)
+        {
             p.cells[to.0 as usize] = piece_of(*letter);
         }
     }
