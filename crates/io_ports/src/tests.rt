@@ -2,8 +2,8 @@ mod adapters;
 
 use crate::{
     Clock, Dialect, Failed, Files, Gate, Given, Got, Heard, HoldingGate, LineBuf, ListClock,
-    MAX_FILE, MAX_LINE, MemFiles, MemSink, MemSource, OpenGate, Polled, PollsOwed, QuietSource,
-    Sink, Source, StandardInput, StandardOutput, hear,
+    MAX_FILE, MAX_LINE, MemFiles, MemSink, MemSource, OpenGate, Polled, PollsOwed, Ports,
+    QuietSource, Sink, Source, StandardInput, StandardOutput, hear,
 };
 use std::alloc::{AllocError, Global};
 use std::io::{self, BufReader, ErrorKind, Read, Write};
@@ -34,53 +34,66 @@ fn pass<G: Gate + Sync>(gate: &G, worker: u32) {
     gate.pass(worker, 0);
 }
 
-// The reply to a line, `skip` or `stop`.
-fn heard(dialect: Dialect, line: &[u8]) -> &'static [u8] {
-    match hear(dialect, line) {
-        Heard::Reply(reply) if reply.text() == b"readyok".as_slice() => b"readyok",
-        Heard::Reply(_) => b"another reply",
-        Heard::Skip => b"skip",
-        Heard::Stop => b"stop",
+// Whether a line is one that does nothing.
+fn is_skipped(dialect: Dialect, line: &[u8]) -> bool {
+    matches!(hear(dialect, line), Heard::Skip)
+}
+
+// Whether a line stops a search.
+fn stops(dialect: Dialect, line: &[u8]) -> bool {
+    matches!(hear(dialect, line), Heard::Stop)
+}
+
+// Whether a line is answered `readyok`.
+fn is_ready(line: &[u8]) -> bool {
+    match hear(Dialect::Uci, line) {
+        Heard::Reply(reply) => reply.text() == b"readyok".as_slice(),
+        Heard::Skip | Heard::Stop => false,
     }
 }
 
 #[test]
-fn a_line_that_is_heard_is_answered_or_skipped_or_stops(rt: HostRuntime) -> Result<(), Fail> {
-    for (line, uci, cecp) in [
-        (b"".as_slice(), b"skip".as_slice(), b"skip".as_slice()),
-        (b" \t ", b"skip", b"stop"),
-        (b"isready", b"readyok", b"stop"),
-        (b"\t joho  isready now", b"readyok", b"stop"),
-        (b"debug isready", b"skip", b"stop"),
-        (b"register later", b"skip", b"stop"),
-        (b"ISREADY", b"skip", b"stop"),
-        (b"isreadynow", b"skip", b"stop"),
-        (b"ping 1", b"skip", b"stop"),
-        (b"stop", b"stop", b"stop"),
-        (b"xquit quit", b"stop", b"stop"),
-        (b"uci", b"stop", b"stop"),
-        (b"ucinewgame", b"stop", b"stop"),
-        (b"setoption name Hash", b"stop", b"stop"),
-        (b"position startpos", b"stop", b"stop"),
-        (b"go", b"stop", b"stop"),
-        (b"ponderhit", b"stop", b"stop"),
-        (b"moves", b"stop", b"stop"),
-        (b"status", b"stop", b"stop"),
-        (b"strategy", b"stop", b"stop"),
-    ] {
-        assert_eq!(rt;
-            (heard(Dialect::Uci, line), heard(Dialect::Cecp, line)),
-            (uci, cecp)
-        );
+fn a_line_that_is_heard_is_answered_or_skipped_or_stops(rt: HostRuntime) {
+    let skipped = b"\n \t \ndebug isready\nregister later\nISREADY\nisreadynow\nping 1\nxquit";
+    for line in skipped.split(|byte| *byte == b'\n') {
+        assert!(rt; is_skipped(Dialect::Uci, line));
+        assert!(rt; line.is_empty() == is_skipped(Dialect::Cecp, line));
     }
-    Ok(())
+    let stopping =
+        b"uci\nucinewgame\nsetoption name Hash\nposition startpos\n\tgo isready\nstop\nponderhit\nmoves\nstatus\nstrategy\nx quit";
+    for line in stopping.split(|byte| *byte == b'\n') {
+        assert!(rt; stops(Dialect::Uci, line));
+    }
+    assert!(rt; is_ready(b"isready") && is_ready(b"\t joho  isready now"));
+    assert!(rt; stops(Dialect::Cecp, b"isready") && stops(Dialect::Cecp, b" "));
+}
+
+fn poll_and_put<S: Source, K: Sink, C: Clock, G: Gate>(
+    ports: &mut Ports<'_, '_, '_, '_, S, K, C, G>,
+    line: &mut LineBuf,
+) -> (Polled, Result<(), Failed>) {
+    ports.gate.pass(1, ports.clock.now());
+    (ports.source.poll_line(line), ports.sink.put(b"ok"))
 }
 
 #[test]
-fn a_quiet_source_stops_nothing(rt: HostRuntime) -> Result<(), Fail> {
-    let mut line = LineBuf::new(rt.alloc())?;
-    assert_eq!(rt; polled(&mut QuietSource, &mut line), Polled::NotYet);
-    assert_eq!(rt; next(&mut QuietSource, &mut line), Got::End);
+fn ports_are_lent_and_a_quiet_source_stops_nothing(rt: HostRuntime) -> Result<(), Fail> {
+    let alloc = rt.alloc();
+    let mut line = LineBuf::new(alloc)?;
+    let (mut sink, mut clock) = (MemSink::new(alloc, 2)?, ListClock::new(alloc, &[5])?);
+    let mut ports = Ports {
+        source: &mut QuietSource,
+        sink: &mut sink,
+        clock: &mut clock,
+        gate: &OpenGate,
+        dialect: Dialect::Uci,
+    };
+    assert_eq!(rt;
+        poll_and_put(&mut ports, &mut line),
+        (Polled::NotYet, Ok(()))
+    );
+    assert_eq!(rt; next(ports.source, &mut line), Got::End);
+    assert_eq!(rt; (sink.taken(), clock.count()), (b"ok".as_slice(), 1));
     Ok(())
 }
 
