@@ -105,7 +105,7 @@ more_items {X} P xs x i n old new k l d =
 
 -- ---- the place of a spot
 
-side_back : (side : Side) → side_of (side_index side) ≡ side
+pub side_back : (side : Side) → side_of (side_index side) ≡ side
 side_back White = refl
 side_back Black = refl
 

@@ -1,0 +1,16 @@
+use Rattle.std.proofs.Common.{◌≡◌, ◌&&◌, ◌||◌, ◌==◌, nat_lt, ap, sym, ◌∙◌, arith}
+use Rattle.attack_tables.specs.Sights.{is_below}
+use Rattle.move_tables.proofs.BuildLaws.{member_step, other_step}
+use Rattle.attack_tables.proofs.sight.squares_below.Goals as goal
+use Rattle.attack_tables.proofs.sight.squares_below.Goals.{then-is_below, else-is_below}
+
+pub loop-square-preserved : goal.loop-square-preserved
+loop-square-preserved c = λ s.
+    elim c.if-is_below.branch [
+      | then-is_below w ↦
+          rw w.set-is (w.with-set.ensures s ∙ ap (λ b. b || (s == c.loop-square.square)) (c.loop-square.invariant s) ∙ member_step (is_below c.args.at) s c.loop-square.square (sym c.is_below.ensures ∙ w.if-is_below.true))
+      | else-is_below w ↦ rw w.set-is (c.loop-square.invariant s ∙ other_step (is_below c.args.at) s c.loop-square.square (sym c.is_below.ensures ∙ w.if-is_below.false))
+    ]
+
+pub returns : goal.returns
+returns c = λ s. let e : c.loop-square.square ≡ 120 = omega arith in c.loop-square.invariant s ∙ ap (λ n. nat_lt s n && is_below c.args.at s) e

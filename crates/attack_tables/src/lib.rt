@@ -1,0 +1,11 @@
+//! What a piece reaches and what a side attacks in a position, by tables that are made once for the rules of a variant.
+#![tactic(auto)]
+
+mod masks;
+mod sight;
+pub mod tables;
+#[cfg(test)]
+mod tests;
+
+pub use move_tables::{Mode, kings, men, occupied};
+pub use tables::Tables;

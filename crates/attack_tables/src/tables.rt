@@ -1,0 +1,288 @@
+//! What a variant's pieces reach and attack.
+ghost use Rattle.std.specs.Prelude.{◌≡◌, ℕ, ◌<◌, ◌≤◌, true, false, ◌||◌, List, Option, length, IfOk};
+ghost use Rattle.foundation.specs.Count.{any_below};
+ghost use Rattle.rules_model.specs.declared.board.Cell.{Cell};
+ghost use Rattle.rules_model.specs.Attacks as Rule;
+ghost use Rattle.rules_model.specs.Fit.{IsFit};
+ghost use Rattle.rules_model.specs.Sides.{other};
+ghost use Rattle.rules_model.specs.Squares.{cell_at};
+ghost use Rattle.square_set.specs.Members.{has};
+ghost use Rattle.move_tables.specs.declared.mode.Mode.TheVariants.{Take};
+ghost use Rattle.move_tables.specs.Occupied.{IsOccupied, AreKings};
+ghost use Rattle.move_tables.specs.Reached as Reached;
+ghost use Rattle.move_tables.specs.Spots as Spots;
+ghost use Rattle.attack_tables.specs.Boards.{HoldsMen, OnSquares, IsBoardBy};
+
+use crate::masks::{masks, place_of};
+use crate::sight::{Sight, sights};
+use foundation::Memory;
+use move_tables::{Mode, MoveTables, Spot, kings, men, occupied};
+use rules_model::kinds::names;
+use rules_model::{Cell, Kind, Position, Rules, Side, Square};
+use square_set::{EMPTY, Set};
+use std::alloc::Global;
+use std::marker::Model;
+
+/// What a variant's pieces reach and attack. In a contract the tables are the rules of which they were made.
+#[derive(Drop)]
+pub struct Tables {
+    moves: MoveTables,
+    masks: Vec<Set>,
+    sights: Vec<Sight>,
+}
+
+impl Model for Tables {
+    ghost use Rattle.rules_model.specs.declared.rules.Rules.{Rules};
+    ghost use Rattle.rules_model.specs.Fit.{IsFit};
+    ghost use Rattle.attack_tables.specs.Masks.{AreMasks};
+    ghost use Rattle.attack_tables.specs.Sights.{AreSights};
+
+    ghost Value = { Rules };
+
+    ghost view = { λ t. t.moves };
+
+    ghost invariant = { λ t. IsFit t.moves × AreMasks t.moves t.masks.items × AreSights t.sights.items };
+}
+
+fn is_own_king(rules: &Rules, side: Side, cell: Option<Cell>) -> bool
+    ensures { result ≡ Rule.is_own_king rules.now side cell }
+{
+    match cell {
+        None => false,
+        Some(cell) => cell.side.is(side) && names(rules.king, cell.kind),
+    }
+}
+
+fn cell_on(cells: &[Option<Cell>; 120], at: u8) -> Option<Cell>
+    requires { at < 120 }
+    ensures { result ≡ cell_at cells.now at }
+{
+    cells[at as usize]
+}
+
+/// A board has 120 squares.
+fn board_size(cells: &[Option<Cell>; 120])
+    ensures { length cells.now ≡ 120 }
+{
+    let _first = cells[0];
+}
+
+impl Tables {
+    /// The tables of the rules, or `Memory`. They take some 1.3 MB, of which 1.2 MB hold a spot of 96 bytes for each side, kind, mode and
+    /// square of the largest board. To that come, for each spot that has them, 48 bytes a line (a direction of a slider or a hopper) and
+    /// 32 bytes a jump of a lame leaper: a queen takes 180 KB more, 24 queens some 4 MB.
+    pub fn new(alloc: Global, rules: &Rules) -> Result<Tables, Memory>
+        requires { IsFit rules.now }
+        ensures { IfOk result (λ t. t ≡ rules.now) }
+    {
+        let moves = MoveTables::new(alloc, rules)?;
+        let masks = masks(alloc, &moves)?;
+        let sights = sights(alloc)?;
+        Ok(Tables {
+            moves,
+            masks,
+            sights,
+        })
+    }
+
+    /// The rules of which the tables were made.
+    pub fn rules(&self) -> &Rules
+        ensures is { result.now ≡ self.now }
+        ensures fit { IsFit self.now }
+    {
+        self.moves.rules()
+    }
+
+    /// What the kind of the side reaches from the square in the mode, on each board.
+    pub fn spot(&self, by: Side, kind: Kind, from: Square, mode: Mode) -> &Spot
+        requires kind { kind.0 < 26 }
+        requires from { from.0 < 120 }
+        ensures { Spots.IsOfKind self.now by kind from mode result.now }
+    {
+        self.moves.spot(by, kind, from, mode)
+    }
+
+    /// The squares with a piece. No memory is taken.
+    pub fn occupied(&self, p: &Position) -> Set
+        ensures { IsOccupied result p.now.cells }
+    {
+        occupied(&p.cells)
+    }
+
+    /// The squares that a piece of the kind and the side reaches from the square by its terms of the mode, on a board whose occupied
+    /// squares are those of the set: rule Reach, and the pawn's two diagonals to take. A soldier below its rank goes along its file
+    /// alone, and no piece leaves its mobility region. No memory is taken.
+    pub fn reach_set(&self, by: Side, kind: Kind, from: Square, mode: Mode, occupied: Set) -> Set
+        requires kind { kind.0 < 26 }
+        requires from { from.0 < 120 }
+        ensures { (cells : List (Option Cell)) → IsOccupied occupied cells → (s : ℕ) → has result s ≡ Reached.reaches_as self.now cells by kind from mode s }
+    {
+        self.moves.reach_set(by, kind, from, mode, occupied)
+    }
+
+    /// The same for a piece of any kind on any square: one that the variant cannot have reaches nothing.
+    fn reach_of(&self, piece: Cell, from: Square, mode: Mode, occupied: Set) -> Set
+        requires { from.0 < 120 }
+        ensures { (cells : List (Option Cell)) → IsOccupied occupied cells → (s : ℕ) → has result s ≡ Reached.reaches_as self.now cells piece.side piece.kind from mode s }
+    {
+        let moves = &self.moves;
+        if piece.kind.0 < 26 {
+            moves.reach_set(piece.side, piece.kind, from, mode, occupied)
+        } else {
+            EMPTY
+        }
+    }
+
+    /// The squares that the piece on `from` reaches. In `Mode::Quiet` they are those of its quiet terms, in `Mode::Take` those of its
+    /// terms that take; a pawn reaches its two diagonals to take. It does not matter what stands on them. Where nothing stands on `from`
+    /// there are none. No memory is taken.
+    #[tactic(auto, unfolding(move_tables::specs::Reached::reaches_in))]
+    pub fn reaches(&self, p: &Position, from: Square, mode: Mode) -> Set
+        ensures { (s : ℕ) → has result s ≡ Reached.reaches_in self.now p.now.cells from mode s }
+    {
+        match p.cells.get(from.0 as usize) {
+            Some(Some(piece)) => self.reach_of(*piece, from, mode, occupied(&p.cells)),
+            Some(None) => EMPTY,
+            None => EMPTY,
+        }
+    }
+
+    /// Whether the square is one of those that `reaches` answers. No memory is taken.
+    pub fn reaches_square(&self, p: &Position, from: Square, mode: Mode, to: Square) -> bool
+        ensures { result ≡ Reached.reaches_in self.now p.now.cells from mode to.0 }
+    {
+        let reached = self.reaches(p, from, mode);
+        to.0 < 128 && reached.has(to.0)
+    }
+
+    /// Whether the kind takes on the square.
+    fn takes(&self, by: Side, kind: Kind, from: u8, at: Square, occupied: Set) -> bool
+        requires at { at.0 < 120 }
+        requires from { from < 120 }
+        ensures { (cells : List (Option Cell)) → IsOccupied occupied cells → result ≡ Reached.reaches_as self.now cells by kind (record { 0 = from }) Take at.0 }
+    {
+        let moves = &self.moves;
+        if kind.0 >= 26 {
+            return false;
+        }
+        let spot = moves.spot(by, kind, Square(from), Mode::Take);
+        if !spot.within.has(at.0) {
+            return false;
+        }
+        spot.reach(occupied).has(at.0)
+    }
+
+    /// Whether the side's piece on the square attacks the other.
+    fn attacks_from(&self, cells: &[Option<Cell>; 120], occupied: Set, at: Square, by: Side, from: u8) -> bool
+        requires at { at.0 < 120 }
+        requires from { from < 120 }
+        ensures { (board : List (Option Cell)) → IsOccupied occupied board → cell_at board from ≡ cell_at cells.now from → result ≡ Rule.attacks_from self.now board by at.0 from }
+    {
+        match cell_on(cells, from) {
+            None => false,
+            Some(cell) => cell.side.is(by) && self.takes(by, cell.kind, from, at, occupied),
+        }
+    }
+
+    /// Whether a piece of the side attacks the square, on each board that has its pieces on the squares `occupied` and those of the side on
+    /// the squares `men`, where the cells hold them. What else the cells hold does not matter: after an ordinary move these are still the
+    /// cells before it. The king that flies is not asked.
+    pub fn piece_attacks(&self, cells: &[Option<Cell>; 120], men: Set, occupied: Set, at: Square, by: Side) -> bool
+        requires at { at.0 < 120 }
+        requires men { HoldsMen by cells.now men }
+        ensures { (board : List (Option Cell)) → IsBoardBy by cells.now men occupied board → result ≡ any_below (Rule.attacks_from self.now board by at.0) 120 }
+    {
+        board_size(cells);
+        let mut near = self.masks[place_of(by, at.0)].and(men);
+        while let Some(from) = near.take_first() {
+            if self.attacks_from(cells, occupied, at, by, from) {
+                return true;
+            }
+        }
+        false
+    }
+
+    /// Whether a king of the side sees the square along its file, all squares between the two being empty.
+    fn king_sees(&self, cells: &[Option<Cell>; 120], men: Set, occupied: Set, at: Square, by: Side) -> bool
+        requires at { at.0 < 120 }
+        requires men { HoldsMen by cells.now men }
+        ensures { (board : List (Option Cell)) → IsBoardBy by cells.now men occupied board → Rule.is_own_king self.now (other by) (cell_at board at.0) ≡ true → result ≡ any_below (Rule.king_faces self.now board by at.0) 120 }
+    {
+        board_size(cells);
+        let rules = self.rules();
+        let mut seen = self.sights[at.0 as usize].reach(occupied).and(men);
+        while let Some(from) = seen.take_first() {
+            if is_own_king(rules, by, cell_on(cells, from)) {
+                return true;
+            }
+        }
+        false
+    }
+
+    /// Whether the side attacks the square of the other side's king, by a piece or by its own king where kings fly, on each board of
+    /// these sets as in `piece_attacks` on which that king stands there.
+    pub fn attacks_king(&self, cells: &[Option<Cell>; 120], men: Set, occupied: Set, at: Square, by: Side) -> bool
+        requires at { at.0 < 120 }
+        requires men { HoldsMen by cells.now men }
+        ensures { (board : List (Option Cell)) → IsBoardBy by cells.now men occupied board → Rule.is_own_king self.now (other by) (cell_at board at.0) ≡ true → result ≡ Rule.attacks self.now board by at.0 }
+    {
+        let rules = self.rules();
+        if self.piece_attacks(cells, men, occupied, at, by) {
+            return true;
+        }
+        if !rules.flying {
+            return false;
+        }
+        self.king_sees(cells, men, occupied, at, by)
+    }
+
+    /// Whether the side attacks the square: a piece of it reaches the square by a term that takes, or a pawn of it has the square
+    /// diagonally one step forward, or kings fly and its king faces the other side's king on the square along an open file. Otherwise it
+    /// does not matter what stands on the square. No memory is taken.
+    pub fn attacked(&self, p: &Position, at: Square, by: Side) -> bool
+        ensures { result ≡ Rule.attacks self.now p.now.cells by at.0 }
+    {
+        board_size(&p.cells);
+        let rules = self.rules();
+        if at.0 >= 120 {
+            return false;
+        }
+        let men = men(&p.cells, by);
+        let occupied = occupied(&p.cells);
+        if is_own_king(rules, by.other(), cell_on(&p.cells, at.0)) {
+            self.attacks_king(&p.cells, men, occupied, at, by)
+        } else {
+            self.piece_attacks(&p.cells, men, occupied, at, by)
+        }
+    }
+
+    /// Whether the side's king stands attacked, on each board of these sets as in `piece_attacks`, `men` being those of the other side,
+    /// on which its kings are on these squares.
+    pub fn king_attacked_by(&self, cells: &[Option<Cell>; 120], kings: Set, men: Set, occupied: Set, side: Side) -> bool
+        requires kings { OnSquares kings }
+        requires men { HoldsMen (other side) cells.now men }
+        ensures { (board : List (Option Cell)) → IsBoardBy (other side) cells.now men occupied board → AreKings self.now side board kings → result ≡ Rule.king_attacked self.now board side }
+    {
+        let by = side.other();
+        let mut rest = kings;
+        while let Some(at) = rest.take_first() {
+            if self.attacks_king(cells, men, occupied, Square(at), by) {
+                return true;
+            }
+        }
+        false
+    }
+
+    /// Whether the side's king stands attacked. In a variant without a king it never does. No memory is taken.
+    pub fn king_attacked(&self, p: &Position, side: Side) -> bool
+        ensures { result ≡ Rule.king_attacked self.now p.now.cells side }
+    {
+        board_size(&p.cells);
+        let rules = self.rules();
+        let by = side.other();
+        let kings = kings(rules, &p.cells, side);
+        let men = men(&p.cells, by);
+        let occupied = occupied(&p.cells);
+        self.king_attacked_by(&p.cells, kings, men, occupied, side)
+    }
+}
