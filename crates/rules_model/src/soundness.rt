@@ -129,7 +129,7 @@ fn total(hand: &[u8; KINDS]) -> usize
 
 /// How many pieces the side has on the board and in its hand.
 #[tactic(auto, unfolding(crate::specs::Ends::pieces_of))]
-fn pieces_of(p: &Position, side: Side) -> usize
+pub fn pieces_of(p: &Position, side: Side) -> usize
     ensures is { result ≡ Ends.pieces_of (repeat_of p.now) side }
     ensures few { result ≤ 6750 }
 {

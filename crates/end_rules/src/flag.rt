@@ -1,0 +1,51 @@
+//! The flag: a piece that reaches its region wins.
+ghost use Rattle.std.specs.Prelude.{◌≡◌, ◌<◌};
+ghost use Rattle.rules_model.specs.Attacks as Attacks;
+ghost use Rattle.rules_model.specs.Ends as Ends;
+ghost use Rattle.rules_model.specs.Kinds as Kinds;
+ghost use Rattle.rules_model.specs.Repeats.{repeat_of};
+
+use rules_model::kinds::{in_region, names};
+use rules_model::{Cause, Cell, Cells, Outcome, Position, Rules, Side};
+
+fn is_flag_piece(rules: &Rules, side: Side, cell: Option<Cell>) -> bool
+    ensures { result ≡ Attacks.is_own side (Kinds.names rules.now.flag_kind) cell }
+{
+    match cell {
+        None => false,
+        Some(cell) => cell.side.is(side) && names(rules.flag_kind, cell.kind),
+    }
+}
+
+#[tactic(auto, unfolding(rules_model::specs::Ends::flag_at))]
+fn is_flag_at(rules: &Rules, cells: &Cells, side: Side, at: u8) -> bool
+    requires { at < 120 }
+    ensures { result ≡ Ends.flag_at rules.now cells.now side at }
+{
+    is_flag_piece(rules, side, cells[at as usize]) && in_region(&rules.flag_region, side, at)
+}
+
+/// Whether a piece of the side's flag kind stands in its flag region.
+#[tactic(auto, using(foundation::proofs::CountLemmas::any), unfolding(rules_model::specs::Ends::has_flag))]
+fn has_flag(rules: &Rules, cells: &Cells, side: Side) -> bool
+    ensures { result ≡ Ends.has_flag rules.now cells.now side }
+{
+    for at in 0..120 {
+        if is_flag_at(rules, cells, side, at) {
+            return true;
+        }
+    }
+    false
+}
+
+/// The end by the flag: the side that has moved wins.
+pub(crate) fn flag_end(rules: &Rules, p: &Position) -> Outcome
+    ensures { result ≡ Ends.flag_end rules.now (repeat_of p.now) }
+{
+    let moved = p.side.other();
+    if has_flag(rules, &p.cells, moved) {
+        Outcome::Won(moved, Cause::Flag)
+    } else {
+        Outcome::Ongoing
+    }
+}

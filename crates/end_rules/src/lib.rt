@@ -1,0 +1,54 @@
+//! The ends of a game by the position itself: flag, checks and extinction, and what stands where no move is legal.
+#![tactic(auto)]
+
+mod checks;
+mod extinction;
+mod flag;
+
+ghost use Rattle.std.specs.Prelude.{◌≡◌};
+ghost use Rattle.rules_model.specs.Ends as Ends;
+ghost use Rattle.rules_model.specs.Repeats.{repeat_of};
+
+use checks::checks_end;
+use extinction::extinction_end;
+use flag::flag_end;
+use rules_model::{Cause, Outcome, Position, Rules, Side, Value};
+
+/// What a value that a rule names for the side comes to.
+pub(crate) fn valued(value: Value, side: Side, cause: Cause) -> Outcome
+    ensures { result ≡ Ends.valued value side cause }
+{
+    match value {
+        Value::Win => Outcome::Won(side, cause),
+        Value::Loss => Outcome::Won(side.other(), cause),
+        Value::Draw => Outcome::Drawn(cause),
+    }
+}
+
+/// The end that the position has by itself, before its moves are looked at; `Outcome::Ongoing` where it has none. The first of these
+/// that holds: the side that has moved has its flag piece in its flag region; a side has given all its checks; a side has died out
+/// (Fairy-Stockfish's `flagPiece`, `checkCounting`, `extinctionValue` and their kin).
+#[tactic(auto, unfolding(rules_model::specs::Ends::early_end))]
+pub fn early_end(rules: &Rules, p: &Position) -> Outcome
+    ensures { result ≡ Ends.early_end rules.now (repeat_of p.now) }
+{
+    match flag_end(rules, p) {
+        Outcome::Ongoing => match checks_end(rules, p) {
+            Outcome::Ongoing => extinction_end(rules, p),
+            end => end,
+        },
+        end => end,
+    }
+}
+
+/// The end where the side to move has no legal move: checkmate where its king is attacked, else stalemate, with the value that the
+/// variant gives to it (FIDE Laws of Chess, articles 5.1.1 and 5.2.1; Fairy-Stockfish's `checkmateValue` and `stalemateValue`).
+pub fn no_move(rules: &Rules, side: Side, attacked: bool) -> Outcome
+    ensures { result ≡ Ends.no_move rules.now side attacked }
+{
+    if attacked {
+        valued(rules.checkmate, side, Cause::Checkmate)
+    } else {
+        valued(rules.stalemate, side, Cause::Stalemate)
+    }
+}
