@@ -1,8 +1,6 @@
 -- A piece goes to the squares that it lands on.
-use Rattle.std.proofs.Common.{◌≡◌, ℕ, ◌<◌, nat_lt, Bool, true, false, ◌&&◌, not, if◌then◌else◌, Option, Some, None, List, [], ◌∷◌, refl, ap, sym, ◌∙◌}
+use Rattle.std.proofs.Common.{◌≡◌, ℕ, Bool, true, false, ◌&&◌, not, if◌then◌else◌, Option, Some, None, List, [], ◌∷◌, refl, ap, sym, ◌∙◌}
 use Rattle.std.specs.List.{list_any}
-use Rattle.std.proofs.lemmas.Bool.{lt-ltb}
-use Rattle.rules_model.specs.declared.board.Board.{Board}
 use Rattle.rules_model.specs.declared.board.Cell.{Cell}
 use Rattle.rules_model.specs.declared.board.Repeat.{Repeat}
 use Rattle.rules_model.specs.declared.board.Side.{Side}
@@ -12,16 +10,18 @@ use Rattle.rules_model.specs.declared.moves.Promo.{Promo}
 use Rattle.rules_model.specs.declared.rules.Rules.{Rules}
 use Rattle.rules_model.specs.declared.rules.Term.{Term}
 use Rattle.rules_model.specs.Candidates.{own_piece_moves}
-use Rattle.rules_model.specs.Kinds.{board_of, is_pawn, terms_of}
-use Rattle.rules_model.specs.Pieces.{goes_by, piece_goes, piece_moves}
+use Rattle.rules_model.specs.Kinds.{board_of, is_pawn}
+use Rattle.rules_model.specs.Movement.{in_mobility, kind_reaches, reaches_by, terms_from}
+use Rattle.rules_model.specs.Pieces.{piece_goes, piece_moves}
 use Rattle.rules_model.specs.Pieces as Pieces
 use Rattle.rules_model.specs.Reach.{reaches}
 use Rattle.rules_model.specs.Sides.{same_side}
 use Rattle.rules_model.specs.Squares.{cell_at}
-use Rattle.attack_tables.specs.declared.mode.Mode.{Mode}
-use Rattle.attack_tables.specs.declared.mode.Mode.TheVariants.{Quiet, Take}
-use Rattle.attack_tables.specs.Reached.{reaches_any, reaches_in, IsSetBelow}
-use Rattle.piece_moves.specs.Goals.{own_piece, lands, lands_in, makes}
+use Rattle.square_set.specs.declared.Set.{Set}
+use Rattle.move_tables.specs.declared.mode.Mode.{Mode}
+use Rattle.move_tables.specs.declared.mode.Mode.TheVariants.{Quiet, Take}
+use Rattle.move_tables.specs.Reached.{reaches_in, serves}
+use Rattle.piece_moves.specs.Goals.{own_piece, lands, lands_in, IsReached, makes}
 
 same : (a b : Side) → same_side a b ≡ true → a ≡ b
 same White White e = refl
@@ -72,39 +72,42 @@ drop_false : (a b : Bool) → (a && false && b) ≡ false
 drop_false true b = refl
 drop_false false b = refl
 
-module _ (board : Board) (cells : List (Option Cell)) (side : Side) (from : Square) (to : ℕ) where
-  onto_enemy : (ts : List Term) → list_any (λ t. t.takes && true && reaches board cells side t from to) ts ≡ reaches_any board cells side from Take ts to
+module _ (rules : Rules) (cells : List (Option Cell)) (side : Side) (from : Square) (to : ℕ) where
+  -- by one of the terms, of those of a mode
+  abbrev by_mode : Mode → List Term → Bool
+  by_mode mode ts = list_any (reaches_by rules cells side (serves mode) from to) ts
+
+  onto_enemy : (ts : List Term) → list_any (λ t. t.takes && true && reaches (board_of rules) cells side t from to) ts ≡ by_mode Take ts
   onto_enemy [] = refl
-  onto_enemy (t ∷ ts) = rw (drop_true t.takes (reaches board cells side t from to), onto_enemy ts) refl
+  onto_enemy (t ∷ ts) = rw (drop_true t.takes (reaches (board_of rules) cells side t from to), onto_enemy ts) refl
 
-  onto_own : (ts : List Term) → list_any (λ t. t.takes && false && reaches board cells side t from to) ts ≡ false
+  onto_own : (ts : List Term) → list_any (λ t. t.takes && false && reaches (board_of rules) cells side t from to) ts ≡ false
   onto_own [] = refl
-  onto_own (t ∷ ts) = rw (drop_false t.takes (reaches board cells side t from to), onto_own ts) refl
+  onto_own (t ∷ ts) = rw (drop_false t.takes (reaches (board_of rules) cells side t from to), onto_own ts) refl
 
-  onto : (ts : List Term) (b : Bool) → list_any (λ t. t.takes && not b && reaches board cells side t from to) ts ≡ (not b && reaches_any board cells side from Take ts to)
-  onto ts true = onto_own ts
-  onto ts false = onto_enemy ts
+  onto : (within : Bool) (ts : List Term) (b : Bool) → (within && list_any (λ t. t.takes && not b && reaches (board_of rules) cells side t from to) ts) ≡ (not b && (within && by_mode Take ts))
+  onto true ts true = onto_own ts
+  onto true ts false = onto_enemy ts
+  onto false ts true = refl
+  onto false ts false = refl
 
-  landing : (ts : List Term) (o : Option Cell) → list_any (λ t. Pieces.serves side o t && reaches board cells side t from to) ts ≡ lands side o (reaches_any board cells side from Quiet ts to) (reaches_any board cells side from Take ts to)
-  landing ts None = refl
-  landing ts (Some c) = onto ts (same_side c.side side)
+  landing : (within : Bool) (ts : List Term) (o : Option Cell) → (within && list_any (reaches_by rules cells side (Pieces.serves side o) from to) ts) ≡ lands side o (within && by_mode Quiet ts) (within && by_mode Take ts)
+  landing within ts None = refl
+  landing within ts (Some c) = onto within ts (same_side c.side side)
 
--- what stands on the square reaches what its terms reach
-pub own_reaches : (rules : Rules) (cells : List (Option Cell)) (side : Side) (from : Square) (mode : Mode) (to : ℕ) (c : Cell) → IsOwn rules side (cell_at cells from.0) c → reaches_in rules cells from mode to ≡ reaches_any (board_of rules) cells side from mode (terms_of rules c.kind) to
+-- what stands on the square reaches what a piece of its kind reaches
+pub own_reaches : (rules : Rules) (cells : List (Option Cell)) (side : Side) (from : Square) (mode : Mode) (to : ℕ) (c : Cell) → IsOwn rules side (cell_at cells from.0) c → reaches_in rules cells from mode to ≡ kind_reaches rules cells side c.kind (serves mode) from to
 unfolding reaches_in
 own_reaches rules cells side from mode to c h = rw (h.stands, h.piece, h.side_is) refl
 
 -- an own piece goes to the squares on which it lands
 pub goes_is : (rules : Rules) (cells : List (Option Cell)) (side : Side) (from : Square) (to : ℕ) (c : Cell) → own_piece rules side (cell_at cells from.0) ≡ Some c → piece_goes rules cells side c.kind from to ≡ lands side (cell_at cells to) (reaches_in rules cells from Quiet to) (reaches_in rules cells from Take to)
-unfolding piece_goes
+unfolding piece_goes kind_reaches
 goes_is rules cells side from to c e =
     let h = own rules side (cell_at cells from.0) c e in
-    rw (own_reaches rules cells side from Quiet to c h, own_reaches rules cells side from Take to c h) (landing (board_of rules) cells side from to (terms_of rules c.kind) (cell_at cells to))
-
-below_end : (to n : ℕ) (b : Bool) → to < n → (nat_lt to n && b) ≡ b
-below_end to n b l = rw (lt-ltb to n l) refl
+    rw (own_reaches rules cells side from Quiet to c h, own_reaches rules cells side from Take to c h)
+    (landing rules cells side from to (in_mobility rules side c.kind to) (terms_from rules side c.kind from) (cell_at cells to))
 
 -- and to those on which it lands by the sets of what it reaches
-pub lands_goes : (rules : Rules) (cells : List (Option Cell)) (side : Side) (from : Square) (quiet takes to : ℕ) (c : Cell) → own_piece rules side (cell_at cells from.0) ≡ Some c → IsSetBelow 120 (reaches_in rules cells from Quiet) quiet → IsSetBelow 120 (reaches_in rules cells from Take) takes → to < 120 → piece_goes rules cells side c.kind from to ≡ lands_in cells side quiet takes to
-lands_goes rules cells side from quiet takes to c e q t l =
-    rw (q to ∙ below_end to 120 (reaches_in rules cells from Quiet to) l, t to ∙ below_end to 120 (reaches_in rules cells from Take to) l) (goes_is rules cells side from to c e)
+pub lands_goes : (rules : Rules) (cells : List (Option Cell)) (side : Side) (from : Square) (quiet takes : Set) (to : ℕ) (c : Cell) → own_piece rules side (cell_at cells from.0) ≡ Some c → IsReached rules cells from Quiet quiet → IsReached rules cells from Take takes → piece_goes rules cells side c.kind from to ≡ lands_in cells side quiet takes to
+lands_goes rules cells side from quiet takes to c e q t = rw (q to, t to) (goes_is rules cells side from to c e)

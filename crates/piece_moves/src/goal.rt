@@ -1,7 +1,7 @@
 //! Where an own piece may land.
 ghost use Rattle.std.specs.Prelude.{◌≡◌, ◌<◌, Some};
-ghost use Rattle.attack_tables.specs.declared.mode.Mode.TheVariants.{Quiet, Take};
-ghost use Rattle.attack_tables.specs.Reached.{has_square, reaches_in};
+ghost use Rattle.move_tables.specs.declared.mode.Mode.TheVariants.{Quiet, Take};
+ghost use Rattle.move_tables.specs.Reached.{reaches_in};
 ghost use Rattle.rules_model.specs.Fit.{IsFit};
 ghost use Rattle.rules_model.specs.Pieces as Pieces;
 ghost use Rattle.rules_model.specs.Squares.{cell_at};
@@ -9,6 +9,7 @@ ghost use Rattle.piece_moves.specs.Goals as Goals;
 
 use attack_tables::{Mode, Tables};
 use rules_model::{Cell, Position, Square};
+use square_set::Set;
 
 /// Whether what stands on the square lets a piece on `from` land there.
 fn lands_on(tables: &Tables, p: &Position, from: Square, to: Square) -> bool
@@ -33,21 +34,14 @@ pub(crate) fn goes(tables: &Tables, p: &Position, piece: Cell, from: Square, to:
     lands_on(tables, p, from, to)
 }
 
-fn has(set: u128, square: u8) -> bool
-    requires { square < 128 }
-    ensures { result ≡ has_square set square }
-{
-    (set >> square) % 2 == 1
-}
-
 /// Whether a piece of the side to move may land on the square, by the sets of the squares that it reaches quietly and to take, as
-/// `Tables::reaches` answers them: on an empty square of the one set, and on an enemy's of the other. Bit s of a set is square s.
-pub fn lands(p: &Position, quiet: u128, takes: u128, to: u8) -> bool
+/// `Tables::reaches` answers them: on an empty square of the one set, and on an enemy's of the other.
+pub fn lands(p: &Position, quiet: Set, takes: Set, to: u8) -> bool
     requires { to < 120 }
     ensures { result ≡ Goals.lands_in p.now.cells p.now.side quiet takes to }
 {
     match p.cells[to as usize] {
-        None => has(quiet, to),
-        Some(target) => !target.side.is(p.side) && has(takes, to),
+        None => quiet.has(to),
+        Some(target) => !target.side.is(p.side) && takes.has(to),
     }
 }

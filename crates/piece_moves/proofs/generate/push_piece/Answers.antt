@@ -10,7 +10,7 @@ loop-to-init c = row-none _ _ _ _
 
 pub push_to-requires-clause-goes : goal.push_to-requires-clause-goes
 push_to-requires-clause-goes c =
-    lands_goes _ _ _ _ _ _ _ _ c.requires.own (rw c.requires.tables at c.reaches-quiet.ensures) (rw c.requires.tables at c.reaches-takes.ensures) c.loop-to-test.true ∙ sym c.if-lands.ensures
+    lands_goes _ _ _ _ _ _ _ _ c.requires.own (rw c.requires.tables at c.reaches-quiet.ensures) (rw c.requires.tables at c.reaches-takes.ensures) ∙ sym c.if-lands.ensures
 
 pub loop-to-preserved : goal.loop-to-preserved
 loop-to-preserved c =
@@ -18,7 +18,7 @@ loop-to-preserved c =
       | then-lands+in_ok-push_to w ↦ rw w.out-is (row-more _ _ _ _ _ _ _ c.loop-to.invariant w.in_ok-push_to.ensures.ok)
       | else-lands w ↦
           let not_there =
-          lands_goes _ _ _ _ _ _ _ _ c.requires.own (rw c.requires.tables at c.reaches-quiet.ensures) (rw c.requires.tables at c.reaches-takes.ensures) c.loop-to-test.true
+          lands_goes _ _ _ _ _ _ _ _ c.requires.own (rw c.requires.tables at c.reaches-quiet.ensures) (rw c.requires.tables at c.reaches-takes.ensures)
           ∙ sym w.if-lands.ensures
           in
           rw w.out-is (row-skip _ _ _ _ _ _ c.loop-to.invariant (goes-not _ _ _ c.args.from (record { 0 = c.loop-to.to }) c.requires.own not_there))
