@@ -1,6 +1,6 @@
 -- What the definitions come to where the rules are built: no special moves, no early ends and no rules of choice.
 use Rattle.std.proofs.Common.{◌≡◌, Bool, true, false, not, ◌&&◌, ◌||◌, Option, Some, None, List, refl, ap, is_none, ◌∙◌}
-use Rattle.std.proofs.lemmas.Bool.{and_left, and_right}
+use Rattle.std.proofs.lemmas.Bool.{and_left, and_parts, and_right, not-true}
 use Rattle.foundation.proofs.CountLemmas.{any_below-none}
 use Rattle.rules_model.specs.declared.board.Cell.{Cell}
 use Rattle.rules_model.specs.declared.board.Kind.{Kind}
@@ -27,7 +27,6 @@ use Rattle.rules_model.specs.Legal.{is_drop, is_safe, may_check, is_sane, is_all
 use Rattle.rules_model.specs.Next.{captures}
 use Rattle.rules_model.specs.Allowed.{can_capture, is_legal}
 use Rattle.rules_model.specs.Sides.{other, same_side}
-use Rattle.rules_model.proofs.CandidateLaws.{both_of, false_of_not}
 use Rattle.sound_play.proofs.TestLemmas.{none_from}
 
 -- ---- the parts of `is_plain`
@@ -47,26 +46,26 @@ record Plain (rules : Rules) : Type 0 where
 plain : (rules : Rules) → is_built rules ≡ true → Plain rules
 unfolding is_built is_plain
 plain rules e =
-    let a = both_of _ (is_none rules.flag_kind) (both_of _ (is_plain rules) e).1 in
-    let b = both_of _ (is_none rules.extinction) a.0 in
-    let c = both_of _ (not rules.check_counting) b.0 in
-    let d = both_of _ rules.checking c.0 in
-    let f = both_of _ (not rules.immobile_bad) d.0 in
-    let g = both_of _ (not rules.must_capture) f.0 in
-    let h = both_of _ (not rules.gating) g.0 in
-    let i = both_of _ (not rules.to_hand) h.0 in
-    let j = both_of _ (not rules.drops) i.0 in
-    let k = both_of _ (not (castling_on rules)) j.0 in
-    let l = both_of _ (is_none rules.pawn) k.0 in
+    let a = and_parts _ (is_none rules.flag_kind) (and_parts _ (is_plain rules) e).1 in
+    let b = and_parts _ (is_none rules.extinction) a.0 in
+    let c = and_parts _ (not rules.check_counting) b.0 in
+    let d = and_parts _ rules.checking c.0 in
+    let f = and_parts _ (not rules.immobile_bad) d.0 in
+    let g = and_parts _ (not rules.must_capture) f.0 in
+    let h = and_parts _ (not rules.gating) g.0 in
+    let i = and_parts _ (not rules.to_hand) h.0 in
+    let j = and_parts _ (not rules.drops) i.0 in
+    let k = and_parts _ (not (castling_on rules)) j.0 in
+    let l = and_parts _ (is_none rules.pawn) k.0 in
     record {
       pawn = none_from _ l.1;
-      castling = false_of_not _ k.1;
-      drops = false_of_not _ j.1;
-      gating = false_of_not _ h.1;
-      must_capture = false_of_not _ g.1;
-      immobile_bad = false_of_not _ f.1;
+      castling = not-true _ k.1;
+      drops = not-true _ j.1;
+      gating = not-true _ h.1;
+      must_capture = not-true _ g.1;
+      immobile_bad = not-true _ f.1;
       checking = d.1;
-      check_counting = false_of_not _ c.1;
+      check_counting = not-true _ c.1;
       extinction = none_from _ b.1;
       flag_kind = none_from _ a.1;
     }

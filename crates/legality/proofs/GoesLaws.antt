@@ -1,6 +1,6 @@
 -- Whether some legal move leads somewhere is whether there is one.
 use Rattle.std.proofs.Common.{◌≡◌, ℕ, ◌<◌, true, false, not, ◌&&◌, inl, inr, Option, Some, None, length, refl, ◌∙◌}
-use Rattle.std.proofs.lemmas.Bool.{or_from, or_left, or_right}
+use Rattle.std.proofs.lemmas.Bool.{and_parts, or_cases, or_from, or_left, or_right}
 use Rattle.foundation.specs.Member.{Member}
 use Rattle.foundation.proofs.CountLemmas.{any_below-none, any_below-some, any_below-true}
 use Rattle.rules_model.specs.declared.board.Cell.{Cell}
@@ -23,7 +23,7 @@ use Rattle.rules_model.specs.Pieces.{may_plus, means_castling, piece_goes, piece
 use Rattle.rules_model.specs.Kinds.{is_pawn}
 use Rattle.rules_model.specs.Sides.{same_side}
 use Rattle.rules_model.specs.Squares.{cell_at}
-use Rattle.rules_model.proofs.CandidateLaws.{both_of, not_both, one_of}
+use Rattle.rules_model.proofs.CandidateLaws.{not_both}
 use Rattle.rules_model.proofs.LegalLaws.{legal-member}
 use Rattle.attack_tables.specs.declared.mode.Mode.TheVariants.{Quiet, Take}
 use Rattle.attack_tables.specs.Reached.{reaches_in, IsSetBelow}
@@ -73,7 +73,7 @@ module _ (rules : Rules) (r : Repeat) (from to : Square) (quiet takes : ℕ) (fi
 one_goes : (rules : Rules) (r : Repeat) (from to : Square) → IsFit rules → is_built rules ≡ true → length r.cells ≡ 120 → goes_to rules r from to.0 ≡ true → (m : Move) × Member m (legal rules r)
 unfolding goes_to
 one_goes rules r from to fit built size e =
-    elim (one_of (is_legal rules r (Go from to Stays None)) (is_legal rules r (Go from to Plus None)) e) as (λ _. (m : Move) × Member m (legal rules r)) [
+    elim (or_cases (is_legal rules r (Go from to Stays None)) (is_legal rules r (Go from to Plus None)) e) as (λ _. (m : Move) × Member m (legal rules r)) [
       | inl h ↦ (Go from to Stays None, member-is rules r _ fit built size h)
       | inr h ↦ (Go from to Plus None, member-is rules r _ fit built size h)
     ]
@@ -92,9 +92,9 @@ no_pawn_promo : (rules : Rules) (r : Repeat) (from to : Square) (kind : Kind) (c
 unfolding piece_moves
 no_pawn_promo rules r from to kind None e = absurd (not_both false e refl)
 no_pawn_promo rules r from to kind (Some x) e =
-    let a = both_of (same_side x.side r.side && not (is_pawn rules x.kind)) (piece_moves rules r x from to (Pawn kind)) e in
-    let b = both_of _ (not (means_castling rules r x.kind from.0 to.0)) a.1 in
-    let d = both_of (piece_goes rules r.cells r.side x.kind from to.0) (piece_promo rules (may_plus rules r.side x.kind from.0 to.0) (Pawn kind)) b.0 in
+    let a = and_parts (same_side x.side r.side && not (is_pawn rules x.kind)) (piece_moves rules r x from to (Pawn kind)) e in
+    let b = and_parts _ (not (means_castling rules r x.kind from.0 to.0)) a.1 in
+    let d = and_parts (piece_goes rules r.cells r.side x.kind from to.0) (piece_promo rules (may_plus rules r.side x.kind from.0 to.0) (Pawn kind)) b.0 in
     not_both false d.1 refl
 
 goes_if : (rules : Rules) (r : Repeat) (from to : Square) → from.0 < 120 → to.0 < 120 → goes_to rules r from to.0 ≡ true → goes_somewhere rules r ≡ true

@@ -2,7 +2,7 @@
 use Rattle.std.proofs.Common.{◌≡◌, Bool, true, false, ◌&&◌, ◌↔◌, cond, inl, IsTrue, List, [], ◌∷◌, ◌++◌, length, refl, sym, ◌∙◌, subst, ap}
 use Rattle.std.specs.List.{filter}
 use Rattle.std.specs.List.Sorted.{IsPermutation, IsStrictlySortedBy}
-use Rattle.std.proofs.lemmas.Bool.{and_from}
+use Rattle.std.proofs.lemmas.Bool.{and_from, and_parts}
 use Rattle.std.proofs.lemmas.List.Sorted.{IsPermutation-sym}
 use Rattle.foundation.specs.Member.{Appends, Member, IsEachOnce, Lists}
 use Rattle.foundation.specs.Tests.{is_nil}
@@ -16,7 +16,6 @@ use Rattle.rules_model.specs.Fit.{IsFit}
 use Rattle.rules_model.specs.Legal.{is_safe, is_stuck, legal}
 use Rattle.rules_model.specs.MoveText.{move_cmp}
 use Rattle.rules_model.specs.Allowed.{is_legal}
-use Rattle.rules_model.proofs.CandidateLaws.{both_of}
 use Rattle.rules_model.proofs.LegalLaws.{legal-member, legal-sorted, member-legal, moves-unique}
 use Rattle.piece_moves.specs.Parts.{FitPieceMoves}
 use Rattle.legality.proofs.BuiltLaws.{legal-built}
@@ -46,7 +45,7 @@ legal_if : (rules : Rules) (r : Repeat) (m : Move) → IsFit rules → is_built 
 legal_if rules r m fit b e f = legal-built rules r m fit b ∙ and_from _ _ e f
 
 pub legal_then : (rules : Rules) (r : Repeat) (m : Move) → IsFit rules → is_built rules ≡ true → is_legal rules r m ≡ true → (is_piece_move rules r m ≡ true) × (is_safe rules r m ≡ true)
-legal_then rules r m fit b e = both_of _ _ (sym (legal-built rules r m fit b) ∙ e)
+legal_then rules r m fit b e = and_parts _ _ (sym (legal-built rules r m fit b) ∙ e)
 
 -- the safe ones of the ordinary moves, in order, are the legal list
 pub legal-sorted_safe : (rules : Rules) (r : Repeat) (xs ys : List Move) → IsFit rules → is_built rules ≡ true → Lists (FitPieceMoves rules r) xs → IsPermutation (filter (is_safe rules r) xs) ys → IsStrictlySortedBy move_cmp ys → ys ≡ legal rules r

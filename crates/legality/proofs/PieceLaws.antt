@@ -1,5 +1,6 @@
 -- The ordinary moves of pieces go between squares of the largest board.
 use Rattle.std.proofs.Common.{◌≡◌, ℕ, ◌/◌, ◌%◌, ◌<◌, ◌≤◌, Bool, true, not, ◌&&◌, nat_lt, Option, Some, None, List, length, refl, arith}
+use Rattle.std.proofs.lemmas.Bool.{and_parts}
 use Rattle.std.proofs.lemmas.Bool.Decides.{nat_tests}
 use Rattle.rules_model.specs.declared.board.Cell.{Cell}
 use Rattle.rules_model.specs.declared.board.Kind.{Kind}
@@ -18,7 +19,6 @@ use Rattle.rules_model.specs.Pieces.{may_plus, means_castling, piece_goes, piece
 use Rattle.rules_model.specs.Candidates.{own_piece_moves, is_piece_move}
 use Rattle.rules_model.specs.Fit.{IsFit}
 use Rattle.rules_model.specs.Moves.{IsFitMove, IsFitPromo}
-use Rattle.rules_model.proofs.CandidateLaws.{both_of}
 use Rattle.rules_model.proofs.VariantLaws.{kind_reaches-board}
 use Rattle.sound_play.proofs.CountLaws.{cell_within}
 
@@ -45,9 +45,9 @@ own_fit : (rules : Rules) (r : Repeat) (from to : Square) (promo : Promo) (c : O
 unfolding piece_moves
 own_fit rules r from to promo None fit size at e = cc
 own_fit rules r from to promo (Some x) fit size at e =
-    let a = both_of (same_side x.side r.side && not (is_pawn rules x.kind)) (piece_moves rules r x from to promo) e in
-    let b = both_of _ (not (means_castling rules r x.kind from.0 to.0)) a.1 in
-    let d = both_of (piece_goes rules r.cells r.side x.kind from to.0) (piece_promo rules (may_plus rules r.side x.kind from.0 to.0) promo) b.0 in
+    let a = and_parts (same_side x.side r.side && not (is_pawn rules x.kind)) (piece_moves rules r x from to promo) e in
+    let b = and_parts _ (not (means_castling rules r x.kind from.0 to.0)) a.1 in
+    let d = and_parts (piece_goes rules r.cells r.side x.kind from to.0) (piece_promo rules (may_plus rules r.side x.kind from.0 to.0) promo) b.0 in
     let l = cell_within r.cells from.0 x at in
     (omega (arith, size), goes_small rules r.cells r.side x.kind from to.0 fit d.0, promo_small rules _ promo d.1)
 

@@ -1,5 +1,6 @@
 -- How the parts of the moves grow.
 use Rattle.std.proofs.Common.{◌≡◌, ℕ, ◌+◌, ◌<◌, ◌≤◌, Bool, true, false, not, ◌&&◌, if◌then◌else◌, ◌⊎◌, inl, inr, Option, Some, None, List, [], ◌∷◌, ◌++◌, refl, arith, ap, sym, ◌∙◌, subst}
+use Rattle.std.proofs.lemmas.Bool.{and_parts, not-true}
 use Rattle.std.proofs.Math.Nat.{eq-or-lt_of_le}
 use Rattle.foundation.specs.Member.{Appends}
 use Rattle.foundation.proofs.Members.{appends-none, appends-one, appends-join, appends-same}
@@ -15,7 +16,7 @@ use Rattle.rules_model.specs.declared.rules.Rules.{Rules}
 use Rattle.rules_model.specs.Candidates.{is_piece_move}
 use Rattle.rules_model.specs.Pieces.{piece_goes, piece_moves, piece_promo, may_plus, means_castling}
 use Rattle.rules_model.specs.Squares.{cell_at}
-use Rattle.rules_model.proofs.CandidateLaws.{both_of, false_of_not, not_both}
+use Rattle.rules_model.proofs.CandidateLaws.{not_both}
 use Rattle.piece_moves.specs.Appended.{AppendsSome}
 use Rattle.piece_moves.specs.Goals.{own_piece, makes}
 use Rattle.piece_moves.specs.Parts.{IsTo, IsToBelow, IsFromBelow, IsChosen, PieceMoves, FitPieceMoves}
@@ -40,7 +41,7 @@ all_true true false c e f g = cc
 all_true false b c e f g = cc
 
 middle : (a b c : Bool) → (a && b && not c) ≡ true → b ≡ true
-middle a b c e = (both_of a b (both_of (a && b) (not c) e).0).1
+middle a b c e = (and_parts a b (and_parts (a && b) (not c) e).0).1
 
 module _ (rules : Rules) (r : Repeat) (piece : Cell) (from to : Square) where
   abbrev goes : Bool
@@ -81,12 +82,12 @@ module _ (rules : Rules) (r : Repeat) (piece : Cell) (from to : Square) where
   pub goes-not : own_piece rules r.side (cell_at r.cells from.0) ≡ Some piece → goes ≡ false → (m : Move) → Moves m → ⊥
   goes-not own e m h =
       let k = (made own m h).2 in
-      not_both goes (both_of goes (becomes (made own m h).0) (both_of (goes && becomes (made own m h).0) (not castles) k).0).0 e
+      not_both goes (and_parts goes (becomes (made own m h).0) (and_parts (goes && becomes (made own m h).0) (not castles) k).0).0 e
 
   castles-not : own_piece rules r.side (cell_at r.cells from.0) ≡ Some piece → castles ≡ true → (m : Move) → Moves m → ⊥
   castles-not own e m h =
       let k = (made own m h).2 in
-      not_both castles e (false_of_not castles (both_of (goes && becomes (made own m h).0) (not castles) k).1)
+      not_both castles e (not-true castles (and_parts (goes && becomes (made own m h).0) (not castles) k).1)
 
   pub to-none : own_piece rules r.side (cell_at r.cells from.0) ≡ Some piece → castles ≡ true → (xs : List Move) → Appends Moves xs xs
   to-none own e xs = appends-none Moves xs (castles-not own e)
