@@ -1,0 +1,4 @@
+mod Cuts
+mod NumberLemmas
+mod Parse
+mod Walks

@@ -1,0 +1,6 @@
+pub mod Asked
+pub mod Command
+pub mod Number
+pub mod Options
+pub mod Reader
+pub mod View

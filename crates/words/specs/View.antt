@@ -1,0 +1,27 @@
+-- What the code gives, as the definitions have it.
+use Rattle.std.specs.Prelude.{List, map, Option, option_map}
+use Rattle.std.specs.Borrow.{Bor}
+use Rattle.words.specs.declared.command.Command.{Command as Given}
+use Rattle.words.specs.declared.command.Command.TheVariants as given
+use Rattle.words.specs.declared.reading.Asked.{Asked as GivenAsked}
+use Rattle.words.specs.Asked.{Asked}
+use Rattle.words.specs.Command.{Command, Moves, Reach}
+use Rattle.words.specs.Options.{Text}
+
+-- the text that is referred to, where there is one, and the texts
+abbrev pub text_in : Option (Bor Text) → Option Text
+text_in = option_map (λ s. s.now)
+
+abbrev pub texts : List (Bor Text) → List Text
+texts = map (λ s. s.now)
+
+abbrev pub command_seen : Given → Command
+command_seen given.Moves = Moves
+command_seen (given.Reach word square own enemy) = Reach word.now square.now own.now enemy.now
+
+abbrev pub asked_seen : GivenAsked → Asked
+asked_seen a = record {
+  variants = text_in a.variants;
+  threads = a.threads;
+  command = command_seen a.command;
+}
