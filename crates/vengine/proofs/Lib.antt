@@ -1,5 +1,8 @@
+mod AnswerLemmas
+mod FileLemmas
+mod GameLemmas
+mod HaltLemmas
+mod HeardLemmas
+mod RunLemmas
 mod SetupLemmas
 mod ShotLemmas
-mod HeardLemmas
-mod GameLemmas
-mod WordLemmas

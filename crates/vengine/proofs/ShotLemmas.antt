@@ -1,42 +1,41 @@
 -- What a run says.
-use Rattle.std.proofs.Common.{◌≡◌, ℕ, Bool, true, false, List, [], ◌++◌, inl, inr, refl, sym, ap, subst, ◌∙◌, Option, Some, None, Ok, Err, IfOk, IsOk, IsNone, ◌≢◌, ◌↔◌, arith}
+use Rattle.std.proofs.Common.{◌≡◌, ℕ, ◌<◌, Bool, true, false, List, [], ◌++◌, inl, inr, refl, sym, ap, subst, ◌∙◌, Option, Some, None, Ok, Err, IsNone, ◌≢◌, ◌↔◌, ◌⊎◌, arith, is_some}
 use Rattle.std.proofs.lemmas.Bool.{false≢true}
-use Rattle.std.specs.Bool.{⊤}
 use Rattle.std.specs.declared.result.Result.{Result}
-use Rattle.std.specs.Io.KnownBytes.{Appends}
 use Rattle.betza_text.specs.declared.part.Part.{Part}
 use Rattle.betza_text.specs.declared.fault.BetzaFault.{BetzaFault}
-use Rattle.betza_text.specs.declared.fault.BetzaFault.TheVariants.{Memory as NoMemory}
 use Rattle.betza_text.specs.Word.{Spells, BetzaBad}
-use Rattle.foundation.specs.declared.Memory.{Memory}
-use Rattle.vengine.specs.declared.answers.Answer.{Answer}
-use Rattle.vengine.specs.declared.stop.Stop.{Stop}
-use Rattle.betza_text.specs.Fault.{fault_text}
+use Rattle.betza_text.specs.Fault.{fault_text as betza_text}
 use Rattle.betza_text.proofs.WordLaws.{word_or_fault, one_word, one_fault, not_both}
 use Rattle.betza_compile.specs.Terms.{terms}
 use Rattle.io_ports.specs.Files.{Contents}
 use Rattle.io_ports.specs.Lines.{Line}
 use Rattle.leapers.specs.Leapers.{leapers}
-use Rattle.io_ports.specs.Sink.{AppendsFront}
-use Rattle.io_ports.specs.Trace.{Moves, Reads}
-use Rattle.io_ports.proofs.Moved.{appends_none}
-use Rattle.io_ports.proofs.Asked.{reads_none}
 use Rattle.rules_model.specs.declared.board.Cell.{Cell}
 use Rattle.rules_model.specs.declared.board.Position.{Position}
 use Rattle.rules_model.specs.declared.board.Square.{Square}
 use Rattle.rules_model.specs.Legal.{legal}
 use Rattle.rules_model.specs.Repeats.{repeat_of}
-use Rattle.vengine.specs.GameText.{BadGame, game_of, bad_game_text}
-use Rattle.vengine.specs.Heard.{Heard}
+use Rattle.words.specs.Asked.{Asked, asked}
+use Rattle.words.specs.Command.{Command, Reach, Moves}
+use Rattle.words.specs.Options.{Text}
+use Rattle.vengine.specs.declared.fault.Fault.{Fault}
+use Rattle.vengine.specs.declared.fault.Fault.TheVariants as fault
+use Rattle.vengine.specs.declared.fault.FileFault.TheVariants.{Failed}
+use Rattle.vengine.specs.declared.game.GameFault.{GameFault}
+use Rattle.vengine.specs.Commands.{asks_file, asks_input, reads_input}
+use Rattle.vengine.specs.Fault.{error_line, fault_status, fault_text, game_fault_text, unplaced_text}
+use Rattle.vengine.specs.GameText.{game_of}
 use Rattle.vengine.specs.MovesText.{moves_text}
-use Rattle.vengine.specs.Words.{Command, Reach, Moves as MovesWords, command_of, reads_input}
-use Rattle.vengine.proofs.HeardLemmas.{settle}
 use Rattle.vengine.specs.ReachText.{reach_text}
+use Rattle.vengine.specs.Run.{IsDone, IsCut}
 use Rattle.vengine.specs.Setup.{Unplaced, setup_of}
-use Rattle.vengine.specs.Shot.{Shot, Says, SaysReach, SaysMoves, SaysMovesOf, reached, faulty_word, faulty_square, usage_line, error_line, unplaced_text}
-use Rattle.vengine.specs.Run.{IsTold, TellsInput, Did, DidPart, IsDone, IsCut}
+use Rattle.vengine.specs.Shot.{Shot, Says, SaysAsked, SaysCommand, SaysFault, SaysMoves, SaysMovesOf, SaysReach, reached, faulty_word, faulty_square, refused, answered, usage_line}
+use Rattle.vengine.specs.Variants.{Fails, Refuses, variants_fault}
 
--- some answer of `reach`
+-- ---- some answer
+
+-- of `reach`
 reach_at : (word square own enemy : List ℕ) (b : List Part) → Spells word b → (o : Result (Square × List (Option Cell)) Unplaced) → setup_of square own enemy ≡ o
     → (status : ℕ) × (text : List ℕ) × SaysReach word square own enemy status text
 reach_at word square own enemy b spells (Ok (from, cells)) is = (0, reach_text cells (terms b) from, reached b from cells spells is)
@@ -46,70 +45,122 @@ reach_some : (word square own enemy : List ℕ) → (status : ℕ) × (text : Li
 reach_some word square own enemy =
     elim (word_or_fault word) [
       | inl (b, spells) ↦ reach_at word square own enemy b spells (setup_of square own enemy) refl
-      | inr (fault, bad) ↦ (3, error_line (fault_text fault), faulty_word fault bad)
+      | inr (fault, bad) ↦ (3, error_line (betza_text fault), faulty_word fault bad)
     ]
 
--- some answer of `moves`
-moves_some : (r : Result Position BadGame) → (status : ℕ) × (text : List ℕ) × SaysMovesOf r status text
+-- of `moves`
+moves_some : (r : Result Position GameFault) → (status : ℕ) × (text : List ℕ) × SaysMovesOf r status text
 moves_some (Ok p) = (0, moves_text (legal leapers (repeat_of p)), (refl, refl))
-moves_some (Err fault) = (3, error_line (bad_game_text fault), (refl, refl))
+moves_some (Err fault) = (3, error_line (game_fault_text fault), (refl, refl))
 
-says_some : (c : Option Command) (files : Contents) (failed : ℕ) (input : List Line) → (status : ℕ) × (text : List ℕ) × Says c files failed input status text
+command_some : (c : Command) (input : List Line) → (status : ℕ) × (text : List ℕ) × SaysCommand c input status text
+command_some (Reach word square own enemy) input = reach_some word square own enemy
+command_some Moves input = moves_some (game_of input)
+
+asked_some : (a : Asked) (files : Contents) (failed : ℕ) (input : List Line) → (status : ℕ) × (text : List ℕ) × SaysAsked a files failed input status text
+asked_some a files failed input = go (variants_fault a.variants files) refl
+  where
+    go : (o : Option Fault) → variants_fault a.variants files ≡ o → (status : ℕ) × (text : List ℕ) × SaysAsked a files failed input status text
+    go None is = let (status, text, says) = command_some a.command input in (status, text, answered status text is says)
+    go (Some why) is = (fault_status why, error_line (fault_text why), refused why (inl is))
+
+says_some : (c : Option Asked) (files : Contents) (failed : ℕ) (input : List Line) → (status : ℕ) × (text : List ℕ) × Says c files failed input status text
 says_some None files failed input = (2, usage_line, (refl, refl))
-says_some (Some (Reach word square own enemy)) files failed input = reach_some word square own enemy
-says_some (Some MovesWords) files failed input = moves_some (game_of input)
+says_some (Some a) files failed input = asked_some a files failed input
 
 -- words have some answer
-pub shot_some : (words : List (List ℕ)) (files : Contents) (failed : ℕ) (input : List Line) → (status : ℕ) × (text : List ℕ) × Shot words files failed input status text
+pub shot_some : (words : List Text) (files : Contents) (failed : ℕ) (input : List Line) → (status : ℕ) × (text : List ℕ) × Shot words files failed input status text
 unfolding Shot
-shot_some words files failed input = says_some (command_of words) files failed input
+shot_some words files failed input = says_some (asked words) files failed input
 
-reach_done : (word square own enemy : List ℕ) (status : ℕ) (text : List ℕ) → SaysReach word square own enemy status text → IsDone status
+-- ---- answers, by equations
+
+pub says_at : (Says : ℕ → List ℕ → Type 0) (status status' : ℕ) (text text' : List ℕ) → status' ≡ status → text' ≡ text → Says status text → Says status' text'
+says_at Says status status' text text' p q says = subst (λ (x : ℕ). Says x text') (sym p) (subst (λ (x : List ℕ). Says status x) (sym q) says)
+
+pub shot_usage_line : (words : List Text) (files : Contents) (failed : ℕ) (input : List Line) → asked words ≡ None → Shot words files failed input 2 usage_line
+unfolding Shot
+shot_usage_line words files failed input none = subst (λ (c : Option Asked). Says c files failed input 2 usage_line) (sym none) (refl, refl)
+
+pub shot_asked : (words : List Text) (a : Asked) (files : Contents) (failed : ℕ) (input : List Line) (status : ℕ) (text : List ℕ) → asked words ≡ Some a → SaysAsked a files failed input status text
+    → Shot words files failed input status text
+unfolding Shot
+shot_asked words a files failed input status text is says = subst (λ (c : Option Asked). Says c files failed input status text) (sym is) says
+
+-- ---- the statuses
+
+reach_done : (word square own enemy : List ℕ) (status : ℕ) (text : List ℕ) → SaysReach word square own enemy status text → (status ≡ 0) ⊎ (status ≡ 3)
 reach_done word square own enemy status text (reached b from cells spells is) = inl refl
-reach_done word square own enemy status text (faulty_word fault bad) = inr (inr refl)
-reach_done word square own enemy status text (faulty_square b why spells is) = inr (inr refl)
+reach_done word square own enemy status text (faulty_word why bad) = inr refl
+reach_done word square own enemy status text (faulty_square b why spells is) = inr refl
 
--- an answer of `reach`, by equations
-says_at : (word square own enemy : List ℕ) (status status' : ℕ) (text text' : List ℕ) → status' ≡ status → text' ≡ text → SaysReach word square own enemy status text → SaysReach word square own enemy status' text'
-says_at word square own enemy status status' text text' p q says =
-    subst (λ (x : ℕ). SaysReach word square own enemy x text') (sym p) (subst (λ (x : List ℕ). SaysReach word square own enemy status x) (sym q) says)
-
--- the squares of a word on a board
-pub says_reached : (word square own enemy : List ℕ) (b : List Part) (from : Square) (cells : List (Option Cell)) (text : List ℕ) → Spells word b → setup_of square own enemy ≡ Ok (from, cells)
-    → text ≡ reach_text cells (terms b) from → SaysReach word square own enemy 0 text
-says_reached word square own enemy b from cells text spells set is = says_at word square own enemy 0 0 (reach_text cells (terms b) from) text refl is (reached b from cells spells set)
-
--- the fault of a word
-pub says_faulty_word : (r : Result Answer Memory) (word square own enemy : List ℕ) (fault : BetzaFault) → (fault ≢ NoMemory → BetzaBad word fault) → (IsOk r → fault ≢ NoMemory)
-    → IfOk r (λ answer. answer.status ≡ 3) → IfOk r (λ answer. answer.text ≡ error_line (fault_text fault)) → IfOk r (λ answer. SaysReach word square own enemy answer.status answer.text)
-says_faulty_word (Ok answer) word square own enemy fault bad named status text = says_at word square own enemy 3 answer.status _ answer.text status text (faulty_word fault (bad (named refl)))
-says_faulty_word (Err memory) word square own enemy fault bad named status text = tt
-
--- the fault of a square
-pub says_faulty_square : (r : Result Answer Memory) (word square own enemy : List ℕ) (b : List Part) (why : Unplaced) → Spells word b → setup_of square own enemy ≡ Err why
-    → IfOk r (λ answer. answer.status ≡ 3) → IfOk r (λ answer. answer.text ≡ error_line (unplaced_text why)) → IfOk r (λ answer. SaysReach word square own enemy answer.status answer.text)
-says_faulty_square (Ok answer) word square own enemy b why spells set status text = says_at word square own enemy 3 answer.status _ answer.text status text (faulty_square b why spells set)
-says_faulty_square (Err memory) word square own enemy b why spells set status text = tt
-
--- the usage line
-pub says_usage_line : (r : Result Answer Memory) → IfOk r (λ answer. answer.status ≡ 2) → IfOk r (λ answer. answer.text ≡ usage_line)
-    → (files : Contents) (failed : ℕ) (input : List Line) → IfOk r (λ answer. Says None files failed input answer.status answer.text)
-says_usage_line (Ok answer) status text files failed input = (status, text)
-says_usage_line (Err memory) status text files failed input = tt
-
-moves_done : (r : Result Position BadGame) (status : ℕ) (text : List ℕ) → SaysMovesOf r status text → IsDone status
+moves_done : (r : Result Position GameFault) (status : ℕ) (text : List ℕ) → SaysMovesOf r status text → (status ≡ 0) ⊎ (status ≡ 3)
 moves_done (Ok p) status text says = inl says.0
-moves_done (Err fault) status text says = inr (inr says.0)
+moves_done (Err why) status text says = inr says.0
+
+pub command_done : (c : Command) (input : List Line) (status : ℕ) (text : List ℕ) → SaysCommand c input status text → (status ≡ 0) ⊎ (status ≡ 3)
+command_done (Reach word square own enemy) input status text says = reach_done word square own enemy status text says
+command_done Moves input status text says = moves_done (game_of input) status text says
+
+fault_done : (why : Fault) → (fault_status why ≡ 3) ⊎ (fault_status why ≡ 6)
+fault_done (fault.Betza why) = inl refl
+fault_done (fault.Reach why) = inl refl
+fault_done (fault.Game why) = inl refl
+fault_done (fault.Ini why) = inl refl
+fault_done (fault.File why) = inr refl
+
+asked_done : (a : Asked) (files : Contents) (failed : ℕ) (input : List Line) (status : ℕ) (text : List ℕ) → SaysAsked a files failed input status text → (status ≡ 0) ⊎ (status ≡ 3) ⊎ (status ≡ 6)
+asked_done a files failed input status text (refused why refuses) = inr (fault_done why)
+asked_done a files failed input status text (answered s t none says) =
+    elim (command_done a.command input s t says) [ inl done ↦ inl done | inr done ↦ inr (inl done) ]
+
+says_done : (c : Option Asked) (files : Contents) (failed : ℕ) (input : List Line) (status : ℕ) (text : List ℕ) → Says c files failed input status text → IsDone status
+says_done None files failed input status text says = inr (inl says.0)
+says_done (Some a) files failed input status text says =
+    elim (asked_done a files failed input status text says) [ inl done ↦ inl done | inr done ↦ inr (inr done) ]
 
 -- what a run says has one of the statuses of a run that was not cut short
-says_done : (c : Option Command) (files : Contents) (failed : ℕ) (input : List Line) (status : ℕ) (text : List ℕ) → Says c files failed input status text → IsDone status
-says_done None files failed input status text says = inr (inl says.0)
-says_done (Some (Reach word square own enemy)) files failed input status text says = reach_done word square own enemy status text says
-says_done (Some MovesWords) files failed input status text says = moves_done (game_of input) status text says
-
-pub shot_done : (words : List (List ℕ)) (files : Contents) (failed : ℕ) (input : List Line) (status : ℕ) (text : List ℕ) → Shot words files failed input status text → IsDone status
+pub shot_done : (words : List Text) (files : Contents) (failed : ℕ) (input : List Line) (status : ℕ) (text : List ℕ) → Shot words files failed input status text → IsDone status
 unfolding Shot
-shot_done words files failed input status text shot = says_done (command_of words) files failed input status text shot
+shot_done words files failed input status text shot = says_done (asked words) files failed input status text shot
+
+-- a run that was cut short has none of these statuses
+not_cut : (status n : ℕ) → status ≡ n → (n ≡ 4 → ⊥) → (n ≡ 5 → ⊥) → (n ≡ 7 → ⊥) → IsCut status → ⊥
+not_cut status n is source sink memory cut = elim cut [
+  | inl a ↦ source (sym is ∙ a)
+  | inr more ↦ elim more [ inl a ↦ sink (sym is ∙ a) | inr a ↦ memory (sym is ∙ a) ]
+]
+
+pub done_whole : (status : ℕ) → IsDone status → IsCut status → ⊥
+done_whole status done cut = elim done [
+  | inl a ↦ not_cut status 0 a (λ e. absurd (omega (arith, e))) (λ e. absurd (omega (arith, e))) (λ e. absurd (omega (arith, e))) cut
+  | inr more ↦ elim more [
+    | inl a ↦ not_cut status 2 a (λ e. absurd (omega (arith, e))) (λ e. absurd (omega (arith, e))) (λ e. absurd (omega (arith, e))) cut
+    | inr more ↦ elim more [
+      | inl a ↦ not_cut status 3 a (λ e. absurd (omega (arith, e))) (λ e. absurd (omega (arith, e))) (λ e. absurd (omega (arith, e))) cut
+      | inr a ↦ not_cut status 6 a (λ e. absurd (omega (arith, e))) (λ e. absurd (omega (arith, e))) (λ e. absurd (omega (arith, e))) cut
+    ]
+  ]
+]
+
+-- ---- the usage line
+
+pub not_usage : (status : ℕ) → (status ≡ 0) ⊎ (status ≡ 3) ⊎ (status ≡ 6) → status ≡ 2 → ⊥
+not_usage status done is = elim done [
+  | inl a ↦ absurd (omega (arith, a, is))
+  | inr more ↦ elim more [ inl a ↦ absurd (omega (arith, a, is)) | inr a ↦ absurd (omega (arith, a, is)) ]
+]
+
+says_usage : (c : Option Asked) (files : Contents) (failed : ℕ) (input : List Line) (status : ℕ) (text : List ℕ) → Says c files failed input status text → (status ≡ 2) ↔ IsNone c
+says_usage None files failed input status text says = (λ is. refl, λ none. says.0)
+says_usage (Some a) files failed input status text says = (λ is. absurd (not_usage status (asked_done a files failed input status text says) is), λ none. cc)
+
+-- it is the answer exactly to words that are not of the command set
+pub shot_usage : (words : List Text) (files : Contents) (failed : ℕ) (input : List Line) (status : ℕ) (text : List ℕ) → Shot words files failed input status text → (status ≡ 2) ↔ IsNone (asked words)
+unfolding Shot
+shot_usage words files failed input status text shot = says_usage (asked words) files failed input status text shot
+
+-- ---- one answer
 
 -- a board is set up in one way, or not for one reason
 set_or_not : (x : Result (Square × List (Option Cell)) Unplaced) (y : Square × List (Option Cell)) (why : Unplaced) → x ≡ Ok y → x ≡ Err why → ⊥
@@ -134,7 +185,7 @@ reach_once word square own enemy s s' t t' (reached b from cells spells set) (re
 reach_once word square own enemy s s' t t' (reached b from cells spells set) (faulty_word fault bad) = absurd (not_both word b fault spells bad)
 reach_once word square own enemy s s' t t' (reached b from cells spells set) (faulty_square b' why spells' set') = absurd (set_or_not _ (from, cells) why set set')
 reach_once word square own enemy s s' t t' (faulty_word fault bad) (reached b from cells spells set) = absurd (not_both word b fault spells bad)
-reach_once word square own enemy s s' t t' (faulty_word fault bad) (faulty_word fault' bad') = (refl, ap (λ (x : BetzaFault). error_line (fault_text x)) (one_fault word fault fault' bad bad'))
+reach_once word square own enemy s s' t t' (faulty_word fault bad) (faulty_word fault' bad') = (refl, ap (λ (x : BetzaFault). error_line (betza_text x)) (one_fault word fault fault' bad bad'))
 reach_once word square own enemy s s' t t' (faulty_word fault bad) (faulty_square b why spells set) = absurd (not_both word b fault spells bad)
 reach_once word square own enemy s s' t t' (faulty_square b why spells set) (reached b' from cells spells' set') = absurd (set_or_not _ (from, cells) why set' set)
 reach_once word square own enemy s s' t t' (faulty_square b why spells set) (faulty_word fault bad) = absurd (not_both word b fault spells bad)
@@ -142,188 +193,106 @@ reach_once word square own enemy s s' t t' (faulty_square b why spells set) (fau
     (refl, ap (λ (x : Unplaced). error_line (unplaced_text x)) (one_reason _ why why' set set'))
 
 -- `moves` has one answer to its input
-moves_once : (r : Result Position BadGame) (s s' : ℕ) (t t' : List ℕ) → SaysMovesOf r s t → SaysMovesOf r s' t' → (s ≡ s') × (t ≡ t')
+moves_once : (r : Result Position GameFault) (s s' : ℕ) (t t' : List ℕ) → SaysMovesOf r s t → SaysMovesOf r s' t' → (s ≡ s') × (t ≡ t')
 moves_once (Ok p) s s' t t' says says' = (says.0 ∙ sym says'.0, says.1 ∙ sym says'.1)
 moves_once (Err fault) s s' t t' says says' = (says.0 ∙ sym says'.0, says.1 ∙ sym says'.1)
 
-says_once : (c : Option Command) (files : Contents) (failed : ℕ) (input : List Line) (s s' : ℕ) (t t' : List ℕ) → Says c files failed input s t → Says c files failed input s' t' → (s ≡ s') × (t ≡ t')
-says_once None files failed input s s' t t' says says' = (says.0 ∙ sym says'.0, says.1 ∙ sym says'.1)
-says_once (Some (Reach word square own enemy)) files failed input s s' t t' says says' = reach_once word square own enemy s s' t t' says says'
-says_once (Some MovesWords) files failed input s s' t t' says says' = moves_once (game_of input) s s' t t' says says'
+command_once : (c : Command) (input : List Line) (s s' : ℕ) (t t' : List ℕ) → SaysCommand c input s t → SaysCommand c input s' t' → (s ≡ s') × (t ≡ t')
+command_once (Reach word square own enemy) input s s' t t' says says' = reach_once word square own enemy s s' t t' says says'
+command_once Moves input s s' t t' says says' = moves_once (game_of input) s s' t t' says says'
 
--- words have one answer
-pub shot_once : (words : List (List ℕ)) (files : Contents) (failed : ℕ) (input : List Line) (s s' : ℕ) (t t' : List ℕ) → Shot words files failed input s t → Shot words files failed input s' t' → (s ≡ s') × (t ≡ t')
+-- where files do not fail, a refusal is that of their contents
+refuses_told : (name : Option Text) (files : Contents) (why : Fault) → Refuses name files 0 why → variants_fault name files ≡ Some why
+refuses_told name files why (inl is) = is
+refuses_told None files why (inr fails) = absurd fails
+refuses_told (Some name) files why (inr fails) = let above = fails.0 in absurd (omega (arith, above))
+
+same_fault : (o : Option Fault) (why why' : Fault) → o ≡ Some why → o ≡ Some why' → why ≡ why'
+same_fault o why why' p q = cc
+
+faulty_or_not : (o : Option Fault) (why : Fault) → o ≡ Some why → o ≡ None → ⊥
+faulty_or_not o why p q = cc
+
+asked_once : (a : Asked) (files : Contents) (input : List Line) (s s' : ℕ) (t t' : List ℕ) → SaysAsked a files 0 input s t → SaysAsked a files 0 input s' t' → (s ≡ s') × (t ≡ t')
+asked_once a files input s s' t t' (refused why refuses) (refused why' refuses') =
+    let same = same_fault _ why why' (refuses_told a.variants files why refuses) (refuses_told a.variants files why' refuses') in
+    (ap fault_status same, ap (λ (x : Fault). error_line (fault_text x)) same)
+asked_once a files input s s' t t' (refused why refuses) (answered status text none says) = absurd (faulty_or_not _ why (refuses_told a.variants files why refuses) none)
+asked_once a files input s s' t t' (answered status text none says) (refused why refuses) = absurd (faulty_or_not _ why (refuses_told a.variants files why refuses) none)
+asked_once a files input s s' t t' (answered status text none says) (answered status' text' none' says') = command_once a.command input _ _ _ _ says says'
+
+says_once : (c : Option Asked) (files : Contents) (input : List Line) (s s' : ℕ) (t t' : List ℕ) → Says c files 0 input s t → Says c files 0 input s' t' → (s ≡ s') × (t ≡ t')
+says_once None files input s s' t t' says says' = (says.0 ∙ sym says'.0, says.1 ∙ sym says'.1)
+says_once (Some a) files input s s' t t' says says' = asked_once a files input s s' t t' says says'
+
+-- words have one answer, where files do not fail
+pub shot_once : (words : List Text) (files : Contents) (input : List Line) (s s' : ℕ) (t t' : List ℕ) → Shot words files 0 input s t → Shot words files 0 input s' t' → (s ≡ s') × (t ≡ t')
 unfolding Shot
-shot_once words files failed input s s' t t' shot shot' = says_once (command_of words) files failed input s s' t t' shot shot'
+shot_once words files input s s' t t' shot shot' = says_once (asked words) files input s s' t t' shot shot'
 
-not_usage : (word square own enemy : List ℕ) (status : ℕ) (text : List ℕ) → SaysReach word square own enemy status text → status ≡ 2 → ⊥
-not_usage word square own enemy status text (reached b from cells spells set) is = absurd (omega (arith, is))
-not_usage word square own enemy status text (faulty_word fault bad) is = absurd (omega (arith, is))
-not_usage word square own enemy status text (faulty_square b why spells set) is = absurd (omega (arith, is))
+-- ---- files that fail
 
-not_moves : (r : Result Position BadGame) (status : ℕ) (text : List ℕ) → SaysMovesOf r status text → status ≡ 2 → ⊥
-not_moves (Ok p) status text says is = absurd (omega (arith, is, says.0))
-not_moves (Err fault) status text says is = absurd (omega (arith, is, says.0))
+fails_so : (name : Option Text) (failed : ℕ) (why : Fault) → Fails name failed why → (0 < failed) × (why ≡ fault.File Failed)
+fails_so None failed why fails = absurd fails
+fails_so (Some name) failed why fails = fails
 
--- the usage line is the answer exactly to words that are not of the command set
-says_usage : (c : Option Command) (files : Contents) (failed : ℕ) (input : List Line) (status : ℕ) (text : List ℕ) → Says c files failed input status text → status ≡ 2 ↔ IsNone c
-says_usage None files failed input status text says = (λ is. refl, λ none. says.0)
-says_usage (Some (Reach word square own enemy)) files failed input status text says = (λ is. absurd (not_usage word square own enemy status text says is), λ none. cc)
-says_usage (Some MovesWords) files failed input status text says = (λ is. absurd (not_moves (game_of input) status text says is), λ none. cc)
+asked_failing : (a : Asked) (files : Contents) (failed : ℕ) (input : List Line) (status : ℕ) (text : List ℕ) → SaysAsked a files failed input status text
+    → SaysAsked a files 0 input status text ⊎ ((0 < failed) × SaysFault (fault.File Failed) status text)
+asked_failing a files failed input status text (refused why (inl is)) = inl (refused why (inl is))
+asked_failing a files failed input status text (refused why (inr fails)) =
+    let so = fails_so a.variants failed why fails in
+    inr (so.0, (ap fault_status so.1, ap (λ (x : Fault). error_line (fault_text x)) so.1))
+asked_failing a files failed input status text (answered s t none says) = inl (answered s t none says)
 
-pub shot_usage : (words : List (List ℕ)) (files : Contents) (failed : ℕ) (input : List Line) (status : ℕ) (text : List ℕ) → Shot words files failed input status text → status ≡ 2 ↔ IsNone (command_of words)
+says_failing : (c : Option Asked) (files : Contents) (failed : ℕ) (input : List Line) (status : ℕ) (text : List ℕ) → Says c files failed input status text
+    → Says c files 0 input status text ⊎ ((0 < failed) × SaysFault (fault.File Failed) status text)
+says_failing None files failed input status text says = inl says
+says_failing (Some a) files failed input status text says = asked_failing a files failed input status text says
+
+-- an answer is one of files that do not fail, or says that they failed
+pub shot_failing : (words : List Text) (files : Contents) (failed : ℕ) (input : List Line) (status : ℕ) (text : List ℕ) → Shot words files failed input status text
+    → Shot words files 0 input status text ⊎ ((0 < failed) × SaysFault (fault.File Failed) status text)
 unfolding Shot
-shot_usage words files failed input status text shot = says_usage (command_of words) files failed input status text shot
+shot_failing words files failed input status text shot = says_failing (asked words) files failed input status text shot
 
--- `moves` alone reads its input
-pub reading_is_moves : (c : Option Command) → reads_input c ≡ true → c ≡ Some MovesWords
-reading_is_moves None reads = cc
-reading_is_moves (Some (Reach word square own enemy)) reads = cc
-reading_is_moves (Some MovesWords) reads = refl
+-- ---- words that read no input, and words that name no file
 
-says_moves : (words : List (List ℕ)) (files : Contents) (failed : ℕ) (input : List Line) (status : ℕ) (text : List ℕ) → reads_input (command_of words) ≡ true → SaysMovesOf (game_of input) status text
-    → Shot words files failed input status text
-unfolding Shot
-says_moves words files failed input status text reads says =
-    subst (λ (c : Option Command). Says c files failed input status text) (sym (reading_is_moves (command_of words) reads)) says
+command_without : (c : Command) (input input' : List Line) (status : ℕ) (text : List ℕ) → reads_input c ≡ false → SaysCommand c input status text → SaysCommand c input' status text
+command_without (Reach word square own enemy) input input' status text reads says = says
+command_without Moves input input' status text reads says = absurd (false≢true (sym reads))
 
-pub moves_are_said : (r : Result Answer Stop) (words : List (List ℕ)) (files : Contents) (failed : ℕ) (input : List Line) → reads_input (command_of words) ≡ true
-    → IfOk r (λ answer. SaysMoves input answer.status answer.text) → IfOk r (λ answer. Shot words files failed input answer.status answer.text)
-moves_are_said (Ok answer) words files failed input reads says = says_moves words files failed input answer.status answer.text reads says
-moves_are_said (Err stop) words files failed input reads says = tt
+asked_without : (a : Asked) (files : Contents) (failed : ℕ) (input input' : List Line) (status : ℕ) (text : List ℕ) → reads_input a.command ≡ false → SaysAsked a files failed input status text
+    → SaysAsked a files failed input' status text
+asked_without a files failed input input' status text reads (refused why refuses) = refused why refuses
+asked_without a files failed input input' status text reads (answered s t none says) = answered s t none (command_without a.command input input' s t reads says)
 
--- the answer to other words does not depend on the input
-says_without : (c : Option Command) (files : Contents) (failed : ℕ) (input input' : List Line) (status : ℕ) (text : List ℕ) → reads_input c ≡ false → Says c files failed input status text
+says_without : (c : Option Asked) (files : Contents) (failed : ℕ) (input input' : List Line) (status : ℕ) (text : List ℕ) → asks_input c ≡ false → Says c files failed input status text
     → Says c files failed input' status text
 says_without None files failed input input' status text reads says = says
-says_without (Some (Reach word square own enemy)) files failed input input' status text reads says = says
-says_without (Some MovesWords) files failed input input' status text reads says = absurd (false≢true (sym reads))
+says_without (Some a) files failed input input' status text reads says = asked_without a files failed input input' status text reads says
 
-pub shot_without : (words : List (List ℕ)) (files : Contents) (failed : ℕ) (input input' : List Line) (status : ℕ) (text : List ℕ) → reads_input (command_of words) ≡ false
+-- the answer to words that read no input does not depend on it
+pub shot_without : (words : List Text) (files : Contents) (failed : ℕ) (input input' : List Line) (status : ℕ) (text : List ℕ) → asks_input (asked words) ≡ false
     → Shot words files failed input status text → Shot words files failed input' status text
 unfolding Shot
-shot_without words files failed input input' status text reads shot = says_without (command_of words) files failed input input' status text reads shot
+shot_without words files failed input input' status text reads shot = says_without (asked words) files failed input input' status text reads shot
 
--- a run that was cut short has none of these statuses
-pub done_whole : (status : ℕ) → IsDone status → IsCut status → ⊥
-done_whole status done cut =
-    elim done [
-      | inl a ↦ elim cut [ inl b ↦ absurd (omega (arith, a, b)) | inr more ↦ elim more [ inl b ↦ absurd (omega (arith, a, b)) | inr b ↦ absurd (omega (arith, a, b)) ] ]
-      | inr other ↦ elim other [
-        | inl a ↦ elim cut [ inl b ↦ absurd (omega (arith, a, b)) | inr more ↦ elim more [ inl b ↦ absurd (omega (arith, a, b)) | inr b ↦ absurd (omega (arith, a, b)) ] ]
-        | inr a ↦ elim cut [ inl b ↦ absurd (omega (arith, a, b)) | inr more ↦ elim more [ inl b ↦ absurd (omega (arith, a, b)) | inr b ↦ absurd (omega (arith, a, b)) ] ]
-      ]
-    ]
+unnamed_none : (name : Option Text) (files : Contents) → is_some name ≡ false → variants_fault name files ≡ None
+unnamed_none None files none = refl
+unnamed_none (Some name) files none = absurd (false≢true (sym none))
 
-pub no_files : Contents
-no_files name = None
+asked_unnamed : (a : Asked) (files files' : Contents) (input : List Line) (status : ℕ) (text : List ℕ) → is_some a.variants ≡ false → SaysAsked a files 0 input status text
+    → SaysAsked a files' 0 input status text
+asked_unnamed a files files' input status text none (refused why refuses) =
+    absurd (faulty_or_not _ why (refuses_told a.variants files why refuses) (unnamed_none a.variants files none))
+asked_unnamed a files files' input status text none (answered s t no_fault says) = answered s t (unnamed_none a.variants files' none) says
 
--- what is told, or else this
-told_or : {A : Type 0} (o : Option A) → A → (x : A) × IsTold o x
-told_or None default = (default, tt)
-told_or (Some told) default = (told, refl)
+says_unnamed : (c : Option Asked) (files files' : Contents) (input : List Line) (status : ℕ) (text : List ℕ) → asks_file c ≡ false → Says c files 0 input status text → Says c files' 0 input status text
+says_unnamed None files files' input status text none says = says
+says_unnamed (Some a) files files' input status text none says = asked_unnamed a files files' input status text none says
 
--- the lines that were heard, and the input
-module _ {S K C F : Type 0} {left : S → Option (List ℕ)} {taken : K → Option (List ℕ)} {count last : C → ℕ} {contents : F → Option Contents} {faults : F → ℕ} where
-  -- the text of an answer was written
-  pub run_did : (s s' : S) (k k' : K) (c : C) (f : F) (words : List (List ℕ)) (status : ℕ) (text : List ℕ)
-      → ((files : Contents) (failed : ℕ) → Heard (left s) (left s') (λ input. Shot words files failed input status text)) → Appends (taken k) (taken k') text
-      → Did (Moves left taken count last s s' k k' c c) (Reads contents faults f f) (contents f) (left s) words status
-  run_did s s' k k' c f words status text says wrote =
-      let (files, told_files) = told_or (contents f) no_files in
-      let heard = says files 0 in
-      let settled = settle (left s) (left s') _ heard in
-      record {
-        lines = heard.lines;
-        rest = settled.rest;
-        readings = [];
-        reads = [];
-        files = files;
-        text = text;
-        moves = record { took = heard.took; wrote = wrote; counted = refl; read = refl };
-        asks = reads_none f;
-        told_files = told_files;
-        input = settled.input;
-        decided = settled.decided;
-        allowed = settled.holds;
-      }
-
-  -- a front part of it was
-  pub run_part : (s s' : S) (k k' : K) (c : C) (f : F) (words : List (List ℕ)) (status : ℕ) (text : List ℕ)
-      → ((files : Contents) (failed : ℕ) → Heard (left s) (left s') (λ input. Shot words files failed input status text)) → AppendsFront (taken k) (taken k') text
-      → DidPart (Moves left taken count last s s' k k' c c) (Reads contents faults f f) (contents f) (left s) words
-  run_part s s' k k' c f words status text says wrote =
-      let (files, told_files) = told_or (contents f) no_files in
-      let heard = subst (λ (x : List ℕ). Heard (left s) (left s') (λ input. Shot words files 0 input status x)) wrote.whole (says files 0) in
-      let settled = settle (left s) (left s') _ heard in
-      record {
-        lines = heard.lines;
-        rest = settled.rest;
-        readings = [];
-        reads = [];
-        files = files;
-        written = wrote.front;
-        back = wrote.back;
-        status = status;
-        moves = record { took = heard.took; wrote = wrote.took; counted = refl; read = refl };
-        asks = reads_none f;
-        told_files = told_files;
-        input = settled.input;
-        decided = inr settled.decided;
-        allowed = settled.holds;
-      }
-
-  -- nothing was
-  pub run_none : (s s' : S) (k : K) (c : C) (f : F) (words : List (List ℕ)) → Heard (left s) (left s') (λ input. ⊤)
-      → DidPart (Moves left taken count last s s' k k c c) (Reads contents faults f f) (contents f) (left s) words
-  run_none s s' k c f words heard =
-      let (files, told_files) = told_or (contents f) no_files in
-      let settled = settle (left s) (left s') _ heard in
-      let (status, text, says) = shot_some words files 0 (heard.lines ++ settled.rest) in
-      record {
-        lines = heard.lines;
-        rest = settled.rest;
-        readings = [];
-        reads = [];
-        files = files;
-        written = [];
-        back = text;
-        status = status;
-        moves = record { took = heard.took; wrote = appends_none (taken k); counted = refl; read = refl };
-        asks = reads_none f;
-        told_files = told_files;
-        input = settled.input;
-        decided = inl refl;
-        allowed = says;
-      }
-
--- where the input is told, the answer is the one to it
-complete_told : (left left' : Option (List ℕ)) (words : List (List ℕ)) (files : Contents) (input : List Line) (status : ℕ) (text : List ℕ)
-    → Heard left left' (λ input. Shot words files 0 input status text) → TellsInput left input → Shot words files 0 input status text
-complete_told None left' words files input status text heard told = absurd told
-complete_told (Some bytes) left' words files input status text heard told =
-    let settled = settle (Some bytes) left' _ heard in
-    subst (λ (x : List Line). Shot words files 0 x status text) (sym settled.input ∙ told) settled.holds
-
-complete_at : (reads : Bool) (left left' : Option (List ℕ)) (words : List (List ℕ)) (files : Contents) (input : List Line) (status : ℕ) (text : List ℕ) → reads_input (command_of words) ≡ reads
-    → Heard left left' (λ input. Shot words files 0 input status text) → (reads_input (command_of words) ≡ true → TellsInput left input) → Shot words files 0 input status text
-complete_at true left left' words files input status text is heard told = complete_told left left' words files input status text heard (told is)
-complete_at false left left' words files input status text is heard told =
-    let settled = settle left left' _ heard in
-    shot_without words files 0 _ input status text is settled.holds
-
--- the answer to what was heard is the one to the input
-pub complete : (left left' : Option (List ℕ)) (words : List (List ℕ)) (files : Contents) (input : List Line) (status : ℕ) (text : List ℕ)
-    → Heard left left' (λ input. Shot words files 0 input status text) → (reads_input (command_of words) ≡ true → TellsInput left input) → Shot words files 0 input status text
-complete left left' words files input status text heard told = complete_at (reads_input (command_of words)) left left' words files input status text refl heard told
-
--- the answer to what was heard is one to some input
-pub heard_some : (left left' : Option (List ℕ)) (words : List (List ℕ)) (files : Contents) (failed : ℕ) (status : ℕ) (text : List ℕ)
-    → Heard left left' (λ input. Shot words files failed input status text) → (input : List Line) × Shot words files failed input status text
-heard_some left left' words files failed status text heard = let settled = settle left left' _ heard in (heard.lines ++ settled.rest, settled.holds)
-
-pub heard_done : (left left' : Option (List ℕ)) (words : List (List ℕ)) (status : ℕ) (text : List ℕ) → Heard left left' (λ input. Shot words no_files 0 input status text) → IsDone status
-heard_done left left' words status text heard = let (input, shot) = heard_some left left' words no_files 0 status text heard in shot_done words no_files 0 input status text shot
-
-pub heard_usage : (left left' : Option (List ℕ)) (words : List (List ℕ)) (status : ℕ) (text : List ℕ) → Heard left left' (λ input. Shot words no_files 0 input status text) → status ≡ 2 ↔ IsNone (command_of words)
-heard_usage left left' words status text heard = let (input, shot) = heard_some left left' words no_files 0 status text heard in shot_usage words no_files 0 input status text shot
+-- the answer to words that name no file does not depend on the files
+pub shot_unnamed : (words : List Text) (files files' : Contents) (input : List Line) (status : ℕ) (text : List ℕ) → asks_file (asked words) ≡ false
+    → Shot words files 0 input status text → Shot words files' 0 input status text
+unfolding Shot
+shot_unnamed words files files' input status text none shot = says_unnamed (asked words) files files' input status text none shot

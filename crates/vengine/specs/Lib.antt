@@ -1,6 +1,10 @@
+pub mod Commands
+pub mod Fault
 pub mod GameText
 pub mod GameView
+pub mod HaltView
 pub mod Heard
+pub mod Looked
 pub mod MovesText
 pub mod ReachText
 pub mod Run
@@ -8,4 +12,4 @@ pub mod Setup
 pub mod Shot
 pub mod StopView
 pub mod UnplacedView
-pub mod Words
+pub mod Variants

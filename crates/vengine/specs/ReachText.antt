@@ -48,11 +48,11 @@ squares_where test = filter test (range_with_len 0 120)
 abbrev pub square_text : ℕ → List ℕ
 square_text s = (97 + s % 12) ∷ decimal (s / 12 + 1)
 
--- a square behind a blank
+-- a square after a blank
 abbrev pub blank_square : ℕ → List ℕ
 blank_square s = 32 ∷ square_text s
 
--- squares, each behind a blank, and a dash for none
+-- squares, each after a blank, and a dash for none
 abbrev pub listed : List ℕ → List ℕ
 listed [] = codes " -"
 listed (s ∷ squares) = flat_map blank_square (s ∷ squares)

@@ -6,7 +6,7 @@ use Rattle.rules_model.specs.declared.board.Side.{Side}
 use Rattle.rules_model.specs.declared.board.Side.TheVariants.{White, Black}
 use Rattle.rules_model.specs.declared.board.Square.{Square}
 use Rattle.rules_model.specs.Squares.{cell_at}
-use Rattle.vengine.specs.Words.{no_squares}
+use Rattle.words.specs.Command.{no_squares}
 
 -- the square of the board that a text names: a letter from a to h, and a digit from 1 to 8
 abbrev pub square_named : List ℕ → Option Square
@@ -46,7 +46,7 @@ unfoldable pub placed_all : Side → List (List ℕ) → List (Option Cell) → 
 placed_all side [] cells = Ok cells
 placed_all side (text ∷ texts) cells = and_then (placed side cells text) (placed_all side texts)
 
--- the texts of a list: the parts before, between and behind its commas, or none of them
+-- the texts of a list: the parts before, between and after its commas, or none of them
 unfoldable pub texts_of : List ℕ → List (List ℕ)
 texts_of list = if bytes_eq list no_squares then [] else slice_split (λ b. b == 44) list
 

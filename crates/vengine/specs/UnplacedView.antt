@@ -1,8 +1,8 @@
 -- The reason that the code gives, as the definitions have it.
-use Rattle.vengine.specs.declared.setup.Misplaced.{Misplaced}
-use Rattle.vengine.specs.declared.setup.Misplaced.TheVariants as misplaced
+use Rattle.vengine.specs.declared.setup.ReachFault.{ReachFault}
+use Rattle.vengine.specs.declared.setup.ReachFault.TheVariants as reach
 use Rattle.vengine.specs.Setup.{Unplaced, NoSquare, Taken}
 
-abbrev pub unplaced_of : Misplaced → Unplaced
-unplaced_of (misplaced.NoSquare text) = NoSquare text.now
-unplaced_of (misplaced.Taken text) = Taken text.now
+abbrev pub unplaced_of : ReachFault → Unplaced
+unplaced_of (reach.BadSquare text) = NoSquare text.now
+unplaced_of (reach.SquareTwice text) = Taken text.now

@@ -1,34 +1,32 @@
-//! The answers of the commands that are no sessions.
-ghost use Rattle.std.specs.Prelude.{◌≡◌, ◌≢◌, ℕ, true, false, List, IfOk, IsOk, map, string_bytes};
+//! What the words of a run are answered.
+ghost use Rattle.std.specs.Prelude.{◌≡◌, ℕ, true, false, IfOk, map, string_bytes};
 ghost use Rattle.io_ports.specs.Cause.{HasCause};
-ghost use Rattle.io_ports.specs.Files.{Contents};
-ghost use Rattle.io_ports.specs.Lines.{Line};
-ghost use Rattle.leapers.specs.Leapers.{leapers};
-ghost use Rattle.rules_model.specs.Built.{is_built};
-ghost use Rattle.rules_model.specs.Fit.{IsFit};
-ghost use Rattle.rules_model.specs.Sound.{is_sound};
-ghost use Rattle.vengine.specs.GameText.{UnknownVariant, bad_game_text};
-ghost use Rattle.vengine.specs.GameView.{IsUnreadGame, SaysGame, bad_game};
+ghost use Rattle.io_ports.specs.Trace.{Reads};
+ghost use Rattle.vengine.specs.Commands.{asks_input, lines_asked, lines_needed, reads_input};
+ghost use Rattle.vengine.specs.GameText.{lines_of_game};
+ghost use Rattle.vengine.specs.HaltView.{Answers, IsFileFault, IsUnheard, OutcomeOf};
 ghost use Rattle.vengine.specs.Heard.{Heard};
+ghost use Rattle.vengine.specs.Looked.{Looked};
+ghost use Rattle.vengine.specs.Shot.{SaysAsked, SaysCommand, SaysMoves, SaysReach, Shot, usage_line};
 ghost use Rattle.vengine.specs.StopView.{IsUnread};
-ghost use Rattle.vengine.specs.Words.{is_argument, is_reach, reach_of, command_of, reads_input};
-ghost use Rattle.vengine.specs.Shot.{Shot, Says, SaysMoves, SaysReach, error_line, unplaced_text, usage_line};
-ghost use Rattle.vengine.specs.UnplacedView.{unplaced_of};
-ghost use Rattle.betza_text.specs.Fault.{fault_text};
+ghost use Rattle.words.specs.Asked.{asked};
+ghost use Rattle.words.specs.View.{asked_seen, command_seen};
 
-use crate::game::{GameFault, NoGame, read_game};
+use crate::game::read_game;
+use crate::halt::Halt;
 use crate::moves::moves_of;
 use crate::reach::reach_text;
-use crate::setup::{Misplaced, set_up};
+use crate::setup::set_up;
 use crate::stop::Stop;
+use crate::variants::read_variants;
 use betza_compile::compile;
-use betza_text::{BetzaFault, parse};
+use betza_text::parse;
 use foundation::{Memory, Text};
-use io_ports::{LineBuf, Source};
-use rules_model::{Position, Rules};
+use io_ports::{Files, Source};
 use std::alloc::{AllocError, Global};
+use words::{Asked, Command, read_words};
 
-/// What a command answers.
+/// What the words are answered.
 #[derive(Drop)]
 pub struct Answer {
     /// The status with which the program ends.
@@ -38,239 +36,133 @@ pub struct Answer {
 
 const USAGE: &[u8] = b"usage: vengine [--variants FILE] [--threads N] [COMMAND]\n";
 
-// Whether a word can be an argument: one that begins with a dash cannot.
-fn is_argument(word: &str) -> bool
-    ensures { result ≡ is_argument word.now }
-{
-    !word.as_bytes().starts_with(b"-")
-}
-
-// The answer with this line of a fault.
-fn refusal(line: String) -> Answer
-    ensures status { result.status ≡ 3 }
-    ensures text { result.text ≡ string_bytes line }
-{
-    Answer {
-        status: 3,
-        text: Text {
-            items: line.into_bytes(),
-        },
-    }
-}
-
-// The answer to a faulty word, unless its fault is want of memory.
-fn word_refusal(alloc: Global, fault: BetzaFault) -> Result<Answer, Memory>
-    ensures named { IsOk result → fault ≢ BetzaFault.Memory }
-    ensures status { IfOk result (λ answer. answer.status ≡ 3) }
-    ensures text { IfOk result (λ answer. answer.text ≡ error_line (fault_text fault)) }
-{
-    if fault == BetzaFault::Memory {
-        return Err(Memory);
-    }
-    Ok(refusal(format!(in alloc; "error {fault}\n")?))
-}
-
-fn unplaced_line(alloc: Global, why: Misplaced) -> Result<String, AllocError>
-    ensures { IfOk result (λ line. string_bytes line ≡ error_line (unplaced_text (unplaced_of why.entry))) }
-{
-    match why {
-        Misplaced::NoSquare(text) => { format!(in alloc; "error ReachFault 1 BadSquare {text}\n") }
-        Misplaced::Taken(text) => { format!(in alloc; "error ReachFault 2 SquareTwice {text}\n") }
-    }
-}
-
-// The answer to a text that places no piece.
-fn square_refusal(alloc: Global, why: Misplaced) -> Result<Answer, Memory>
-    ensures status { IfOk result (λ answer. answer.status ≡ 3) }
-    ensures text { IfOk result (λ answer. answer.text ≡ error_line (unplaced_text (unplaced_of why.entry))) }
-{
-    Ok(refusal(unplaced_line(alloc, why)?))
-}
-
-// The answer of `reach`.
-fn reach(alloc: Global, word: &str, square: &str, own: &str, enemy: &str) -> Result<Answer, Memory>
-    ensures { IfOk result (λ answer. SaysReach word.now square.now own.now enemy.now answer.status answer.text) }
-{
-    let betza = match parse(alloc, word.as_bytes()) {
-        Ok(betza) => betza,
-        Err(fault) => return word_refusal(alloc, fault),
-    };
-    let setup = match set_up(square, own, enemy) {
-        Ok(setup) => setup,
-        Err(why) => return square_refusal(alloc, why),
-    };
-    let terms = compile(&betza);
-    let text = reach_text(alloc, &setup.cells, terms.items.as_slice(), setup.from)?;
-    Ok(Answer { status: 0, text })
-}
-
-// The line of an unknown variant.
-fn unknown_line(alloc: Global, name: &[u8]) -> Result<Vec<u8>, AllocError>
-    ensures { IfOk result (λ line. line.items ≡ error_line (bad_game_text (UnknownVariant name.now))) }
-{
-    let mut line = b"error GameFault 2 UnknownVariant ".to_vec(alloc)?;
-    line.extend_from_slice(name)?;
-    line.push(b'\n')?;
-    Ok(line)
-}
-
-// The line of a game text's fault; the name is that of an unknown variant.
-fn game_fault_line(alloc: Global, fault: GameFault, name: &[u8]) -> Result<Vec<u8>, AllocError>
-    ensures { IfOk result (λ line. line.items ≡ error_line (bad_game_text (bad_game fault name.now))) }
-{
-    Ok(match fault {
-        GameFault::Missing(line) => {
-            format!(in alloc; "error GameFault 1 Missing {line}\n")?.into_bytes()
-        }
-        GameFault::UnknownVariant => unknown_line(alloc, name)?,
-        GameFault::BadPosition(why) => {
-            format!(in alloc; "error GameFault 4 BadPosition {why}\n")?.into_bytes()
-        }
-        GameFault::LineTooLong(line) => {
-            format!(in alloc; "error GameFault 8 LineTooLong {line}\n")?.into_bytes()
-        }
-        GameFault::NotBuilt(line) => {
-            format!(in alloc; "error GameFault 9 NotBuilt {line}\n")?.into_bytes()
-        }
-    })
-}
-
-// The answer of `moves` to what was read.
-fn moves_answer(
+// The text of `reach`.
+fn reach<'a>(
     alloc: Global,
-    rules: &Rules,
-    game: Result<Position, NoGame>,
-    name: &[u8],
-) -> Result<Answer, Stop>
-    requires leapers { rules.now ≡ leapers }
-    requires fit { IsFit rules.now }
-    requires built { is_built rules.now ≡ true }
-    requires sound { IfOk game (λ p. is_sound rules.now p ≡ true) }
-    ensures says { (lines : List Line) → SaysGame game name.now lines → IfOk result (λ answer. SaysMoves lines answer.status answer.text) }
-    ensures cause { IsUnread result → IsUnreadGame game }
-{
-    match game {
-        Ok(p) => Ok(Answer {
-            status: 0,
-            text: moves_of(alloc, rules, &p)?,
-        }),
-        Err(NoGame::Faulty(fault)) => Ok(Answer {
-            status: 3,
-            text: Text {
-                items: game_fault_line(alloc, fault, name)?,
-            },
-        }),
-        Err(NoGame::Unread(stop)) => Err(stop),
-    }
-}
-
-// The answer of `moves`, whose input is a game text.
-fn moves<S: Source>(alloc: Global, source: &mut S) -> Result<Answer, Stop>
-    ensures heard { Heard (S.left source.old) (S.left source.new) (λ lines. IfOk result (λ answer. SaysMoves lines answer.status answer.text)) }
-    ensures cause { HasCause (S.faults source.old) (S.faults source.new) (IsUnread result) }
-{
-    let mut line = LineBuf::new(alloc)?;
-    let rules = leapers::leapers();
-    let game = read_game(&rules, source, &mut line);
-    moves_answer(alloc, &rules, game, line.text())
-}
-
-fn usage(alloc: Global) -> Result<Answer, Memory>
-    ensures status { IfOk result (λ answer. answer.status ≡ 2) }
-    ensures text { IfOk result (λ answer. answer.text ≡ usage_line) }
-{
-    Ok(Answer {
-        status: 2,
-        text: Text {
-            items: USAGE.to_vec(alloc)?,
-        },
-    })
-}
-
-fn is_reach(name: &str, word: &str, square: &str, own: &str, enemy: &str) -> bool
-    ensures { result ≡ is_reach name.now word.now square.now own.now enemy.now }
-{
-    name == "reach"
-        && is_argument(word)
-        && is_argument(square)
-        && is_argument(own)
-        && is_argument(enemy)
-}
-
-// The answer to a command of this name with these arguments.
-#[tactic(auto, unfolding(crate::specs::Words::reach_of))]
-fn answer_of(
-    alloc: Global,
-    name: &str,
     word: &str,
-    square: &str,
-    own: &str,
-    enemy: &str,
-) -> Result<Answer, Memory>
-    ensures { (files : Contents) (failed : ℕ) (input : List Line) → IfOk result (λ answer. Says (reach_of name.now word.now square.now own.now enemy.now) files failed input answer.status answer.text) }
+    square: &'a str,
+    own: &'a str,
+    enemy: &'a str,
+) -> Result<Text, Halt<'a>>
+    ensures answers { Answers result (SaysReach word.now square.now own.now enemy.now) }
+    ensures reads_nothing { ¬ (IsUnheard result) }
 {
-    if is_reach(name, word, square, own, enemy) {
-        reach(alloc, word, square, own, enemy)
-    } else {
-        usage(alloc)
+    let betza = parse(alloc, word.as_bytes())?;
+    let setup = set_up(square, own, enemy)?;
+    let terms = compile(&betza);
+    Ok(reach_text(alloc, &setup.cells, terms.items.as_slice(), setup.from)?)
+}
+
+// The text of `moves`, whose input is a game text.
+fn moves<S: Source>(alloc: Global, source: &mut S) -> Result<Text, Halt<'static>>
+    ensures heard { Heard (S.left source.old) (S.left source.new) lines_of_game (λ lines. Answers result (SaysMoves lines)) }
+    ensures cause { HasCause (S.faults source.old) (S.faults source.new) (IsUnheard result) }
+{
+    let rules = leapers::leapers();
+    let p = read_game(alloc, &rules, source)?;
+    Ok(moves_of(alloc, &rules, &p)?)
+}
+
+// The text of a command.
+fn command_text<'a, S: Source>(
+    alloc: Global,
+    command: Command<'a>,
+    source: &mut S,
+) -> Result<Text, Halt<'a>>
+    ensures heard { Heard (S.left source.old) (S.left source.new) (lines_needed (command_seen command.entry))
+        (λ lines. Answers result (SaysCommand (command_seen command.entry) lines)) }
+    ensures cause { HasCause (S.faults source.old) (S.faults source.new) (IsUnheard result) }
+    ensures unread { reads_input (command_seen command.entry) ≡ false → source.new ≡ source.old }
+{
+    match command {
+        Command::Moves => moves(alloc, source),
+        Command::Reach {
+            word,
+            square,
+            own,
+            enemy,
+        } => reach(alloc, word, square, own, enemy),
     }
 }
 
-// Whether the words are of a command that reads its input.
-#[tactic(auto, unfolding(crate::specs::Words::command_of))]
-fn reads_input(words: &[String]) -> bool
-    ensures { result ≡ reads_input (command_of (map string_bytes words.now)) }
+// The text that is asked for.
+fn asked_text<'a, S: Source, F: Files>(
+    alloc: Global,
+    asked: Asked<'a>,
+    source: &mut S,
+    files: &mut F,
+) -> Result<Text, Halt<'a>>
+    ensures says { Looked (F.contents files.old) (Reads F.contents F.faults files.old files.new) (λ contents failed.
+        Heard (S.left source.old) (S.left source.new) (lines_needed (asked_seen asked.entry).command)
+        (λ lines. Answers result (SaysAsked (asked_seen asked.entry) contents failed lines))) }
+    ensures cause { HasCause (S.faults source.old) (S.faults source.new) (IsUnheard result) }
+    ensures unread { reads_input (asked_seen asked.entry).command ≡ false → source.new ≡ source.old }
+    ensures unreached { IsFileFault result → source.new ≡ source.old }
 {
-    match words {
-        [name] => name.as_str() == "moves",
-        _ => false,
+    // What the sections mean is not built: the variant that is played is `leapers`.
+    let _sections = read_variants(alloc, files, asked.variants)?;
+    command_text(alloc, asked.command, source)
+}
+
+// The text that words ask for.
+fn words_text<'a, S: Source, F: Files>(
+    alloc: Global,
+    words: &'a [String],
+    source: &mut S,
+    files: &mut F,
+) -> Result<Text, Halt<'a>>
+    ensures says { Looked (F.contents files.old) (Reads F.contents F.faults files.old files.new) (λ contents failed.
+        Heard (S.left source.old) (S.left source.new) (lines_asked (asked (map string_bytes words.now)))
+        (λ lines. Answers result (Shot (map string_bytes words.now) contents failed lines))) }
+    ensures cause { HasCause (S.faults source.old) (S.faults source.new) (IsUnheard result) }
+    ensures unread { asks_input (asked (map string_bytes words.now)) ≡ false → source.new ≡ source.old }
+    ensures unreached { IsFileFault result → source.new ≡ source.old }
+{
+    match read_words(alloc, words)? {
+        None => Err(Halt::Usage),
+        Some(asked) => asked_text(alloc, asked, source, files),
     }
 }
 
-// The answer to words that are of no command that reads its input.
-#[tactic(auto, unfolding(crate::specs::Shot::Shot, crate::specs::Words::command_of))]
-fn answer_without_input(alloc: Global, words: &[String]) -> Result<Answer, Memory>
-    requires { reads_input (command_of (map string_bytes words.now)) ≡ false }
-    ensures { (files : Contents) (failed : ℕ) (input : List Line) → IfOk result (λ answer. Shot (map string_bytes words.now) files failed input answer.status answer.text) }
+fn usage(alloc: Global) -> Result<Text, AllocError>
+    ensures { IfOk result (λ text. text ≡ usage_line) }
 {
-    match words {
-        [name, word, square] => answer_of(
-            alloc,
-            name.as_str(),
-            word.as_str(),
-            square.as_str(),
-            "none",
-            "none",
-        ),
-        [name, word, square, own] => answer_of(
-            alloc,
-            name.as_str(),
-            word.as_str(),
-            square.as_str(),
-            own.as_str(),
-            "none",
-        ),
-        [name, word, square, own, enemy] => answer_of(
-            alloc,
-            name.as_str(),
-            word.as_str(),
-            square.as_str(),
-            own.as_str(),
-            enemy.as_str(),
-        ),
-        _ => usage(alloc),
+    let items = USAGE.to_vec(alloc)?;
+    Ok(Text { items })
+}
+
+// The status and the text of an outcome.
+fn answer_of<'a>(alloc: Global, outcome: Result<Text, Halt<'a>>) -> Result<Answer, Stop>
+    ensures { OutcomeOf outcome.entry result }
+{
+    match outcome {
+        Ok(text) => Ok(Answer { status: 0, text }),
+        Err(Halt::Usage) => Ok(Answer {
+            status: 2,
+            text: usage(alloc)?,
+        }),
+        Err(Halt::Fault(fault)) => Ok(Answer {
+            status: fault.status(),
+            text: fault.line(alloc)?,
+        }),
+        Err(Halt::Stop(stop)) => Err(stop),
     }
 }
 
-/// The answer to the words of a run, with what their command reads of the source.
-pub fn answer_to<S: Source>(alloc: Global, words: &[String], source: &mut S) -> Result<Answer, Stop>
-    ensures heard { (files : Contents) (failed : ℕ) → Heard (S.left source.old) (S.left source.new) (λ input. IfOk result (λ answer. Shot (map string_bytes words.now) files failed input answer.status answer.text)) }
+/// The answer to the words of a run, with what is read of the files, and then of the source.
+pub fn answer_to<S: Source, F: Files>(
+    alloc: Global,
+    words: &[String],
+    source: &mut S,
+    files: &mut F,
+) -> Result<Answer, Stop>
+    ensures says { Looked (F.contents files.old) (Reads F.contents F.faults files.old files.new) (λ contents failed.
+        Heard (S.left source.old) (S.left source.new) (lines_asked (asked (map string_bytes words.now))) (λ lines.
+        IfOk result (λ answer. Shot (map string_bytes words.now) contents failed lines answer.status answer.text))) }
     ensures cause { HasCause (S.faults source.old) (S.faults source.new) (IsUnread result) }
-    ensures unread { reads_input (command_of (map string_bytes words.now)) ≡ false → source.new ≡ source.old }
+    ensures unread { asks_input (asked (map string_bytes words.now)) ≡ false → source.new ≡ source.old }
+    ensures unreached { IfOk result (λ answer. answer.status ≡ 6 → source.new ≡ source.old) }
 {
-    if reads_input(words) {
-        moves(alloc, source)
-    } else {
-        Ok(answer_without_input(alloc, words)?)
-    }
+    let outcome = words_text(alloc, words, source, files);
+    answer_of(alloc, outcome)
 }

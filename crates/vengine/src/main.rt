@@ -2,13 +2,16 @@
 #![tactic(auto)]
 
 mod answers;
+mod fault;
 mod game;
+mod halt;
 mod laws;
 mod moves;
 mod program;
 mod reach;
 mod setup;
 mod stop;
+mod variants;
 
 use foundation::Memory;
 use io_ports::{ListClock, MemFiles, OpenGate, StandardInput, StandardOutput};
@@ -21,8 +24,8 @@ use std::sync::Wait;
 use std::thread::Threads;
 use std::{env, io};
 
-/// The words behind the program's name. Words that are no text are given as `--`, which is of no command.
-fn words(rt: &(impl Env + AllocGlobal)) -> Result<Vec<String>, Memory> {
+/// The words after the program's name. Words that are not UTF-8 are given as `--`, which is of no command.
+fn given_words(rt: &(impl Env + AllocGlobal)) -> Result<Vec<String>, Memory> {
     let alloc = rt.alloc();
     let mut words = Vec::new(alloc);
     match env::args(rt) {
@@ -43,7 +46,7 @@ where
     I: Read + Drop + Send,
 {
     let alloc = rt.alloc();
-    let words = words(rt)?;
+    let words = given_words(rt)?;
     let Ok(reader) = BufReader::new(alloc, input) else {
         return Err(Memory);
     };

@@ -4,8 +4,9 @@ ghost use Rattle.std.specs.Io.KnownBytes.{Appends};
 ghost use Rattle.io_ports.specs.Cause.{HasCause, Rose};
 ghost use Rattle.io_ports.specs.Sink.{AppendsFront};
 ghost use Rattle.io_ports.specs.Trace.{Moves, Reads};
-ghost use Rattle.vengine.specs.Words.{command_of, reads_input};
-ghost use Rattle.vengine.specs.Run.{Did, DidPart, IsDone, IsCut, Completes};
+ghost use Rattle.vengine.specs.Commands.{IsOneShot, asks_input};
+ghost use Rattle.vengine.specs.Run.{Completes, Did, DidPart, FilesFailed, HasFileCause, IsCut, IsDone};
+ghost use Rattle.words.specs.Asked.{asked};
 
 use crate::answers::answer_to;
 use crate::stop::Stop;
@@ -39,9 +40,10 @@ fn say<K: Sink>(sink: &mut K, text: &Text) -> Result<(), Failed>
 /// |---|---|
 /// | 0 | the command wrote its whole text |
 /// | 2 | the words are not of the command set, and the usage line was written |
-/// | 3 | an argument or the input has the fault that was written as a line `error FAULT` |
+/// | 3 | an argument, the file of variants or the input has the fault that was written as a line `error FAULT` |
 /// | 4 | the source's count of faults rose; nothing was written |
 /// | 5 | the sink's count of faults rose |
+/// | 6 | the file of variants is missing or too large, or the files' count of faults rose, and nothing of the source was taken; a line `error FileFault ..` was written |
 /// | 7 | there was no memory |
 pub fn run<R, S, K, F, C, G>(
     rt: &R,
@@ -62,20 +64,32 @@ where
     G: Gate + Sync,
     ensures statuses { IsDone result ⊎ IsCut result }
 
-    // The sink took exactly the text that the words, the files and the input have for an answer.
-    ensures done { IsDone result → Did (Moves S.left K.taken C.count C.last source.old source.new sink.old sink.new clock.old clock.new) (Reads F.contents F.faults files.old files.new) (F.contents files.old) (S.left source.old) (map string_bytes words.now) result }
+    // The sink took exactly a text that the words, the files and the input have for an answer.
+    ensures done { IsDone result → Did (S.owed source.old)
+        (Moves S.left K.taken C.count C.last source.old source.new sink.old sink.new clock.old clock.new)
+        (Reads F.contents F.faults files.old files.new) (F.contents files.old) (S.left source.old)
+        (map string_bytes words.now) result }
     // A front part of it.
-    ensures cut { IsCut result → DidPart (Moves S.left K.taken C.count C.last source.old source.new sink.old sink.new clock.old clock.new) (Reads F.contents F.faults files.old files.new) (F.contents files.old) (S.left source.old) (map string_bytes words.now) }
-    ensures usage { IsCut result ⊎ ((result ≡ 2) ↔ IsNone (command_of (map string_bytes words.now))) }
+    ensures cut { IsCut result → DidPart
+        (Moves S.left K.taken C.count C.last source.old source.new sink.old sink.new clock.old clock.new)
+        (Reads F.contents F.faults files.old files.new) (F.contents files.old) (S.left source.old)
+        (map string_bytes words.now) }
+    ensures usage { IsCut result ⊎ ((result ≡ 2) ↔ IsNone (asked (map string_bytes words.now))) }
     ensures source_failed { result ≡ 4 → Rose (S.faults source.old) (S.faults source.new) }
-    ensures silent { result ≡ 4 → sink.new ≡ sink.old }
+    ensures silent { IsOneShot (asked (map string_bytes words.now)) → result ≡ 4 → sink.new ≡ sink.old }
     ensures sink_failed { result ≡ 5 → Rose (K.faults sink.old) (K.faults sink.new) }
-    ensures complete { Completes (F.contents files.old) (S.left source.old) (map string_bytes words.now) result }
+    ensures file_unread { result ≡ 6
+        → HasFileCause (F.contents files.old) (F.faults files.old) (F.faults files.new) (map string_bytes words.now) }
+
+    // Then the source is as it was.
+    ensures unreached { result ≡ 6 → source.new ≡ source.old }
+    ensures complete { Completes (S.owed source.old) (F.contents files.old) (S.left source.old) (map string_bytes words.now)
+        (FilesFailed (F.faults files.old) (F.faults files.new)) result }
 
     // A command that takes no input leaves it untouched.
-    ensures unread { reads_input (command_of (map string_bytes words.now)) ≡ false → source.new ≡ source.old }
+    ensures unread { asks_input (asked (map string_bytes words.now)) ≡ false → source.new ≡ source.old }
 {
-    match answer_to(alloc, words, source) {
+    match answer_to(alloc, words, source, files) {
         Ok(answer) => match say(sink, &answer.text) {
             Ok(()) => answer.status,
             Err(_) => SINK_FAILED,

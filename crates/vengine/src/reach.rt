@@ -70,7 +70,7 @@ fn taking_targets(
         .collect(alloc)
 }
 
-// Appends a square behind a blank.
+// Appends a square after a blank.
 fn push_square(alloc: Global, text: &mut Vec<u8>, square: u8) -> Result<(), AllocError>
     ensures { OnOk result (text.new.items ≡ text.old.items ++ blank_square square) }
 {

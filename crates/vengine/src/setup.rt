@@ -6,6 +6,7 @@ ghost use Rattle.vengine.specs.Setup.{square_named, piece_of, piece_on, placed, 
 ghost use Rattle.vengine.specs.UnplacedView.{unplaced_of};
 
 use rules_model::{Cell, Kind, Side, Square};
+use std::fmt;
 
 /// What stands on each square.
 pub type Cells = [Option<Cell>; 120];
@@ -18,12 +19,27 @@ pub struct Setup {
 }
 
 /// Why no piece is put where a text says.
-#[derive(Clone, Copy)]
-pub enum Misplaced<'a> {
+#[derive(Clone, Copy, Debug, PartialEq, Eq)]
+pub enum ReachFault<'a> {
     /// The text names no square of the board.
-    NoSquare(&'a str),
+    BadSquare(&'a str),
     /// A piece stands there already.
-    Taken(&'a str),
+    SquareTwice(&'a str),
+}
+
+impl<'a> fmt::Display for ReachFault<'a> {
+    ghost use Rattle.std.specs.Prelude.{Some};
+    ghost use Rattle.vengine.specs.Fault.{unplaced_text};
+
+    ghost output = { λ fault. Some (unplaced_text (unplaced_of fault)) };
+
+    /// The type's name, the fault's number, its name and the text, as `ReachFault 1 BadSquare i9`.
+    fn fmt<W: fmt::Write>(&self, f: &mut fmt::Formatter<W>) -> fmt::Result {
+        match *self {
+            ReachFault::BadSquare(text) => write!(f, "ReachFault 1 BadSquare {text}"),
+            ReachFault::SquareTwice(text) => write!(f, "ReachFault 2 SquareTwice {text}"),
+        }
+    }
 }
 
 /// The square of the board that a text names: a letter from `a` to `h` and a digit from `1` to `8`.
@@ -71,21 +87,21 @@ pub fn cell_at(cells: &Cells, at: u8) -> Option<Cell>
 
 // Puts a piece of the side on the square that the text names.
 #[tactic(auto, unfolding(crate::specs::Setup::placed))]
-fn place<'a>(side: Side, text: &'a str, cells: &mut Cells) -> Result<(), Misplaced<'a>>
+fn place<'a>(side: Side, text: &'a str, cells: &mut Cells) -> Result<(), ReachFault<'a>>
     ensures { MatchResult result (λ _. placed side cells.old text.now ≡ Ok cells.new) (λ why. placed side cells.old text.now ≡ Err (unplaced_of why)) }
 {
     let Some(square) = square_named(text.as_bytes()) else {
-        return Err(Misplaced::NoSquare(text));
+        return Err(ReachFault::BadSquare(text));
     };
     if cell_at(cells, square.0).is_some() {
-        return Err(Misplaced::Taken(text));
+        return Err(ReachFault::SquareTwice(text));
     }
     cells[square.0 as usize] = Some(piece_of(side));
     Ok(())
 }
 
 // Puts a piece of the side on each square that the text lists between its commas.
-fn place_each<'a>(side: Side, text: &'a str, cells: &mut Cells) -> Result<(), Misplaced<'a>>
+fn place_each<'a>(side: Side, text: &'a str, cells: &mut Cells) -> Result<(), ReachFault<'a>>
     ensures { MatchResult result (λ _. placed_all side (slice_split (λ b. b == 44) text.now) cells.old ≡ Ok cells.new) (λ why. placed_all side (slice_split (λ b. b == 44) text.now) cells.old ≡ Err (unplaced_of why)) }
 {
     match text.split_once(',') {
@@ -99,7 +115,7 @@ fn place_each<'a>(side: Side, text: &'a str, cells: &mut Cells) -> Result<(), Mi
 
 // Puts a piece of the side on each square of a list.
 #[tactic(auto, unfolding(crate::specs::Setup::texts_of, crate::specs::Setup::placed_all))]
-fn place_list<'a>(side: Side, list: &'a str, cells: &mut Cells) -> Result<(), Misplaced<'a>>
+fn place_list<'a>(side: Side, list: &'a str, cells: &mut Cells) -> Result<(), ReachFault<'a>>
     ensures { MatchResult result (λ _. placed_all side (texts_of list.now) cells.old ≡ Ok cells.new) (λ why. placed_all side (texts_of list.now) cells.old ≡ Err (unplaced_of why)) }
 {
     if list == "none" {
@@ -110,15 +126,15 @@ fn place_list<'a>(side: Side, list: &'a str, cells: &mut Cells) -> Result<(), Mi
 
 /// The board with a White piece to move on its square, and pieces of both sides on the squares of two lists.
 ///
-/// A list has squares parted by commas, or is `none`. The error is the first text, from left to right, that names no
+/// A list has squares separated by commas, or is `none`. The error is the first text, from left to right, that names no
 /// square, or a square on which a piece stands already.
 #[tactic(auto, unfolding(crate::specs::Setup::setup_of))]
-pub fn set_up<'a>(square: &'a str, own: &'a str, enemy: &'a str) -> Result<Setup, Misplaced<'a>>
+pub fn set_up<'a>(square: &'a str, own: &'a str, enemy: &'a str) -> Result<Setup, ReachFault<'a>>
     ensures setup { MatchResult result (λ s. setup_of square.now own.now enemy.now ≡ Ok (s.from, s.cells)) (λ why. setup_of square.now own.now enemy.now ≡ Err (unplaced_of why)) }
     ensures on_board { IfOk result (λ s. s.from.0 < 120) }
 {
     let Some(from) = square_named(square.as_bytes()) else {
-        return Err(Misplaced::NoSquare(square));
+        return Err(ReachFault::BadSquare(square));
     };
     let mut cells = piece_on(from);
     place_list(Side::White, own, &mut cells)?;

@@ -1,8 +1,20 @@
-use Rattle.std.proofs.Common.{sym, ◌∙◌}
-use Rattle.vengine.proofs.HeardLemmas.{heard_so}
-use Rattle.vengine.proofs.ShotLemmas.{moves_are_said}
+use Rattle.std.proofs.Common.{map, string_bytes}
+use Rattle.vengine.proofs.AnswerLemmas.{outcome_answers, outcome_unheard, status_unread}
+use Rattle.vengine.proofs.FileLemmas.{looked_so}
+use Rattle.vengine.proofs.HeardLemmas.{heard_so, same_needed}
+use Rattle.vengine.specs.Shot.{Shot}
 use Rattle.vengine.proofs.answers.answer_to.Goals as goal
 
-pub returns-then-reads_input-clause-heard : goal.returns-then-reads_input-clause-heard
-returns-then-reads_input-clause-heard g c =
-    λ files failed. heard_so _ _ _ _ c.moves.ensures.heard (λ input says. moves_are_said c.moves.result _ files failed input (sym c.reads_input.ensures ∙ c.if-reads_input.true) says)
+pub returns-clause-says : goal.returns-clause-says
+returns-clause-says g c =
+    looked_so _ _ _ _ c.words_text-outcome.ensures.says (λ files failed heard.
+    heard_so _ _ _ _ _ _ heard (same_needed _) (λ lines says.
+    outcome_answers c.words_text-outcome.result c.answer_of.result (Shot (map string_bytes c.args.words.now) files failed lines) c.answer_of.ensures says))
+
+pub returns-clause-cause : goal.returns-clause-cause
+returns-clause-cause g c =
+    let cause = c.words_text-outcome.ensures.cause in
+    record { later = cause.later; failed = λ unread. cause.failed (outcome_unheard c.words_text-outcome.result c.answer_of.result c.answer_of.ensures unread) }
+
+pub returns-clause-unreached : goal.returns-clause-unreached
+returns-clause-unreached g c = status_unread c.words_text-outcome.result c.answer_of.result c.answer_of.ensures c.words_text-outcome.ensures.unreached

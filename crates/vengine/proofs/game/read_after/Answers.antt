@@ -1,9 +1,10 @@
 use Rattle.std.proofs.Common.{◌≡◌, true, false, refl, arith}
 use Rattle.io_ports.specs.Lines.{Text, TooLong}
-use Rattle.vengine.specs.GameText.{LineTooLong, NotBuilt, is_blank}
+use Rattle.vengine.specs.declared.game.GameFault.TheVariants.{LineTooLong, NotBuilt}
+use Rattle.vengine.specs.GameText.{is_blank}
 use Rattle.vengine.proofs.HeardLemmas.{blanks_none, blanks_more, blanks_end, blanks_fault, blanks_stop, blanks_so_far}
 use Rattle.vengine.proofs.GameLemmas.{word_faults}
-use Rattle.vengine.proofs.game.read_behind.Goals as goal
+use Rattle.vengine.proofs.game.read_after.Goals as goal
 
 pub loop-number-init : goal.loop-number-init
 loop-number-init g c = record { blanks = blanks_none _; later = omega arith }

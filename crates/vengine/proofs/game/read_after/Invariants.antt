@@ -1,6 +1,6 @@
 use Rattle.std.proofs.Common.{◌≤◌}
 use Rattle.vengine.proofs.HeardLemmas.{Blanks}
-use Rattle.vengine.proofs.game.read_behind.Given as goal
+use Rattle.vengine.proofs.game.read_after.Given as goal
 
 abbrev pub invariant-loop-number : goal.invariant-loop-number
 invariant-loop-number g l = record {

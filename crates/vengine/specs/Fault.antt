@@ -1,0 +1,66 @@
+-- How faults print: the type's name, the fault's number, its name and its fields, separated by single blanks. A fault inside a
+-- fault prints whole.
+use Rattle.std.specs.Prelude.{ℕ, List, ◌++◌, codes}
+use Rattle.std.specs.Fmt.{decimal}
+use Rattle.betza_text.specs.Fault as betza
+use Rattle.variant_fen.specs.Fault as fen
+use Rattle.variant_ini.specs.declared.fault.IniFault.{IniFault}
+use Rattle.variant_ini.specs.declared.fault.IniFault.TheVariants as ini
+use Rattle.vengine.specs.declared.fault.FileFault.{FileFault}
+use Rattle.vengine.specs.declared.fault.FileFault.TheVariants as file
+use Rattle.vengine.specs.declared.fault.Fault.{Fault}
+use Rattle.vengine.specs.declared.fault.Fault.TheVariants.{Betza, Reach, Game, Ini, File}
+use Rattle.vengine.specs.declared.game.GameFault.{GameFault}
+use Rattle.vengine.specs.declared.game.GameFault.TheVariants as game
+use Rattle.vengine.specs.declared.setup.ReachFault.{ReachFault}
+use Rattle.vengine.specs.Setup.{Unplaced, NoSquare, Taken}
+use Rattle.vengine.specs.UnplacedView.{unplaced_of}
+
+abbrev pub file_fault_text : FileFault → List ℕ
+file_fault_text file.Missing = codes "FileFault 1 Missing"
+file_fault_text file.TooLarge = codes "FileFault 2 TooLarge"
+file_fault_text file.Failed = codes "FileFault 3 Failed"
+
+abbrev pub ini_fault_text : IniFault → List ℕ
+ini_fault_text ini.TooLarge = codes "IniFault 1 TooLarge"
+ini_fault_text (ini.NotAscii line) = codes "IniFault 2 NotAscii " ++ decimal line
+ini_fault_text (ini.LineTooLong line) = codes "IniFault 3 LineTooLong " ++ decimal line
+ini_fault_text (ini.NoSection line) = codes "IniFault 4 NoSection " ++ decimal line
+ini_fault_text (ini.BadLine line) = codes "IniFault 5 BadLine " ++ decimal line
+ini_fault_text (ini.TooManySections line) = codes "IniFault 6 TooManySections " ++ decimal line
+ini_fault_text ini.Memory = codes "IniFault Memory"
+
+-- a text that names no square, or one on which a piece stands already
+abbrev pub unplaced_text : Unplaced → List ℕ
+unplaced_text (NoSquare text) = codes "ReachFault 1 BadSquare " ++ text
+unplaced_text (Taken text) = codes "ReachFault 2 SquareTwice " ++ text
+
+-- no variant has this name
+abbrev pub unknown_text : List ℕ → List ℕ
+unknown_text name = codes "GameFault 2 UnknownVariant " ++ name
+
+abbrev pub game_fault_text : GameFault → List ℕ
+game_fault_text (game.Missing line) = codes "GameFault 1 Missing " ++ decimal line
+game_fault_text (game.UnknownVariant name) = unknown_text name
+game_fault_text (game.BadPosition fault) = codes "GameFault 4 BadPosition " ++ fen.fault_text fault
+game_fault_text (game.LineTooLong line) = codes "GameFault 8 LineTooLong " ++ decimal line
+game_fault_text (game.NotBuilt line) = codes "GameFault 9 NotBuilt " ++ decimal line
+
+abbrev pub fault_text : Fault → List ℕ
+fault_text (Betza fault) = betza.fault_text fault
+fault_text (Reach fault) = unplaced_text (unplaced_of fault)
+fault_text (Game fault) = game_fault_text fault
+fault_text (Ini fault) = ini_fault_text fault
+fault_text (File fault) = file_fault_text fault
+
+-- the line of a fault
+abbrev pub error_line : List ℕ → List ℕ
+error_line fault = codes "error " ++ fault ++ codes "\n"
+
+-- the status of a run with this fault: a file that was not read has its own
+abbrev pub fault_status : Fault → ℕ
+fault_status (Betza fault) = 3
+fault_status (Reach fault) = 3
+fault_status (Game fault) = 3
+fault_status (Ini fault) = 3
+fault_status (File fault) = 6

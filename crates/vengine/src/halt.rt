@@ -1,0 +1,83 @@
+//! Why a command has no text.
+ghost use Rattle.std.specs.Prelude.{◌≡◌};
+ghost use Rattle.vengine.specs.declared.halt.Halt.TheVariants as halt;
+ghost use Rattle.vengine.specs.declared.fault.Fault.TheVariants as fault;
+ghost use Rattle.vengine.specs.declared.stop.Stop.TheVariants as stop;
+ghost use Rattle.vengine.specs.HaltView.{betza_halt, game_halt, ini_halt};
+
+use crate::fault::Fault;
+use crate::game::NoGame;
+use crate::setup::ReachFault;
+use crate::stop::Stop;
+use betza_text::BetzaFault;
+use foundation::Memory;
+use std::alloc::AllocError;
+use variant_ini::IniFault;
+
+/// Why a command has no text.
+#[derive(Drop)]
+pub enum Halt<'a> {
+    /// The words are not of the command set.
+    Usage,
+    /// An argument, the file of variants or the input has this fault.
+    Fault(Fault<'a>),
+    /// The run was cut short.
+    Stop(Stop),
+}
+
+impl<'a> From<Memory> for Halt<'a> {
+    ghost from_gives = { λ _ given. given ≡ halt.Stop stop.Memory };
+
+    fn from(_error: Memory) -> Self {
+        Halt::Stop(Stop::Memory)
+    }
+}
+
+impl<'a> From<AllocError> for Halt<'a> {
+    ghost from_gives = { λ _ given. given ≡ halt.Stop stop.Memory };
+
+    fn from(_error: AllocError) -> Self {
+        Halt::Stop(Stop::Memory)
+    }
+}
+
+impl<'a> From<ReachFault<'a>> for Halt<'a> {
+    ghost from_gives = { λ why given. given ≡ halt.Fault (fault.Reach why) };
+
+    fn from(why: ReachFault<'a>) -> Self {
+        Halt::Fault(Fault::Reach(why))
+    }
+}
+
+impl<'a> From<BetzaFault> for Halt<'a> {
+    ghost from_gives = { λ why given. given ≡ betza_halt why };
+
+    fn from(why: BetzaFault) -> Self {
+        match why {
+            BetzaFault::Memory => Halt::Stop(Stop::Memory),
+            why => Halt::Fault(Fault::Betza(why)),
+        }
+    }
+}
+
+impl<'a> From<IniFault> for Halt<'a> {
+    ghost from_gives = { λ why given. given ≡ ini_halt why };
+
+    fn from(why: IniFault) -> Self {
+        match why {
+            IniFault::Memory => Halt::Stop(Stop::Memory),
+            why => Halt::Fault(Fault::Ini(why)),
+        }
+    }
+}
+
+impl<'a> From<NoGame> for Halt<'a> {
+    ghost from_gives = { λ why given. given ≡ game_halt why };
+
+    fn from(why: NoGame) -> Self {
+        match why {
+            NoGame::Faulty(fault) => Halt::Fault(Fault::Game(fault)),
+            NoGame::Unread(stop) => Halt::Stop(stop),
+        }
+    }
+}
