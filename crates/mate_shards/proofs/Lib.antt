@@ -1,2 +1,3 @@
 pub mod IndexLemmas
 pub mod TurnLemmas
+pub mod PassLemmas

@@ -27,7 +27,7 @@ use Rattle.mate_shards.specs.Shard.{Key, reply, added}
 use Rattle.mate_shards.specs.Turns.{reply_of, home_of, IsStep, Turn, AskTurn, PublishTurn, LookTurn}
 use Rattle.mate_shards.specs.Views.{ShardsView, ShardPass, ArePassesOf, AreLocksOf}
 
-some_is : {Y : Type 0} {x y : Y} → ◌≡◌ {A = Option Y} (Some x) (Some y) → x ≡ y
+pub some_is : {Y : Type 0} {x y : Y} → ◌≡◌ {A = Option Y} (Some x) (Some y) → x ≡ y
 some_is e = cc
 
 module _ {X : Type 0} where

@@ -2,6 +2,7 @@
 #![tactic(auto)]
 
 mod journal;
+mod passes;
 mod published;
 mod request;
 mod shard;

@@ -1,8 +1,8 @@
 //! The shards and the passes for them.
-ghost use Rattle.std.specs.Prelude.{◌≡◌, ◌<◌, ◌≤◌, [], All, IfOk, IfErr, length};
+ghost use Rattle.std.specs.Prelude.{◌≡◌, ◌<◌, ◌≤◌, [], All, IfOk, length};
 ghost use Rattle.mate_core.specs.Runs.{IsTrueIn};
-ghost use Rattle.fact_lock.specs.Passes.{all_parts};
-ghost use Rattle.mate_shards.specs.Views.{ArePassesOf, IsFresh, AreHalved, AreJoined};
+ghost use Rattle.fact_lock.specs.Passes.{IsPassOf};
+ghost use Rattle.mate_shards.specs.Views.{ArePassesOf, IsFresh};
 ghost use Rattle.mate_core.specs.Hash.{shard_of_hash};
 ghost use Rattle.mate_shards.specs.Shard.{Fits};
 ghost use Rattle.mate_shards.specs.Turns.{PublishTurn, LookTurn, AskTurn};
@@ -70,10 +70,11 @@ impl Shards {
         ensures passes { IfOk result (λ made. ArePassesOf made.0 made.1) }
         ensures fresh { IfOk result (λ made. All (IsFresh []) made.1) }
     {
-        let mut locks = Vec::with_capacity(alloc, shards as usize)?;
-        let mut items = Vec::with_capacity(alloc, shards as usize)?;
-        for _ in 0..shards {
-            let (lock, pass) = Lock::new(alloc, Shard::new(alloc, &frame, capacity)?)?;
+        let count = shards as usize;
+        let mut locks = Vec::with_capacity(alloc, count)?;
+        let mut items = Vec::with_capacity(alloc, count)?;
+        while locks.len() < count {
+            let (lock, pass) = make(alloc, &frame, capacity)?;
             locks.push_reserved(lock);
             items.push_reserved(pass);
         }
@@ -148,4 +149,18 @@ impl Shards {
     {
         self.locks[shard].with(rt, &mut passes.items[shard], request)
     }
+}
+
+// A lock over a shard without facts, and its pass.
+fn make(
+    alloc: Global,
+    frame: &Frame,
+    capacity: u32,
+) -> Result<(Lock<Shard>, Pass<Shard>), Memory>
+    requires { (0 < capacity) × (capacity ≤ 65536) }
+    ensures key { IfOk result (λ made. made.0.key ≡ (frame.now, capacity)) }
+    ensures pass { IfOk result (λ made. IsPassOf made.0 made.1) }
+    ensures fresh { IfOk result (λ made. IsFresh [] made.1) }
+{
+    Lock::new(alloc, Shard::new(alloc, frame, capacity)?)
 }
