@@ -1,3 +1,5 @@
 pub mod IndexLemmas
 pub mod TurnLemmas
 pub mod PassLemmas
+pub mod KeptLemmas
+pub mod SameLemmas

@@ -1,4 +1,5 @@
 pub mod Index
+pub mod Keeps
 pub mod Kept
 pub mod Shard
 pub mod Truth

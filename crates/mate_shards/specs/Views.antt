@@ -4,6 +4,8 @@ use mathlib.Core.List.{IsPrefix}
 use Rattle.forced_wins.specs.declared.fact.Fact.{Fact}
 use Rattle.fact_lock.specs.Passes.{LockView, PassView, IsPassOf, OwnsSeen, AreApart, all_parts, longer}
 use Rattle.mate_core.specs.declared.frame.Frame.{Frame}
+use Rattle.mate_core.specs.Runs.{AreTrueIn}
+use Rattle.mate_shards.specs.Kept.{IsKept}
 use Rattle.mate_shards.specs.Shard.{Key}
 
 -- the frame in which all facts are true, how many a shard may have, and a lock for each shard
@@ -56,3 +58,17 @@ AreJoined left right ps = (k : ℕ) (a b p : ShardPass) → slice_get left k ≡
 -- the locks of shards with this frame and capacity
 abbrev pub AreLocksOf : Frame → ℕ → List (LockView Key) → Type 0
 AreLocksOf frame capacity locks = (0 < length locks) × (length locks ≤ 64) × All (λ l. l.key ≡ (frame, capacity)) locks
+
+-- ---- rebase
+
+-- A shard begins anew with what is kept of its list, which begins with all that the pass had seen. The pass owns nothing and has all parts.
+pub record IsRebased (old new : Frame) (before after : ShardPass) : Type 0 where
+  pub list : List Fact
+  pub begins : IsPrefix before.seen list
+  pub kept : IsKept old new list after.seen
+  pub own : after.own ≡ []
+  pub parts : after.parts ≡ all_parts
+  pub true_facts : AreTrueIn new after.seen
+
+abbrev pub AreRebased : Frame → Frame → List ShardPass → List ShardPass → Type 0
+AreRebased old new before after = (k : ℕ) (p q : ShardPass) → slice_get before k ≡ Some p → slice_get after k ≡ Some q → IsRebased old new p q

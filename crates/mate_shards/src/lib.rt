@@ -2,9 +2,12 @@
 #![tactic(auto)]
 
 mod journal;
+mod keeps;
 mod passes;
 mod published;
+mod rebase;
 mod request;
+mod same_rules;
 mod shard;
 mod shards;
 

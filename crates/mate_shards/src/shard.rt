@@ -1,13 +1,17 @@
 //! What lies under the lock of one shard: its facts, all true in the frame, and an index over them.
 ghost use Rattle.std.specs.Prelude.{◌≡◌, ◌%◌, ◌<◌, ◌≤◌, [], ◌∷◌, ◌++◌, length, vec_len, vec_capacity, IfOk};
+ghost use Rattle.std.specs.List.{filter};
 ghost use Rattle.mate_core.specs.Best as Best;
 ghost use Rattle.mate_core.specs.Runs.{IsTrueIn, AreTrueIn};
 ghost use Rattle.mate_core.specs.Steps as Steps;
 ghost use Rattle.mate_shards.specs.Index.{IsIndex, IsLast, buckets};
+ghost use Rattle.mate_shards.specs.Keeps.{AreKeeps, picks};
+ghost use Rattle.mate_shards.specs.Kept.{IsKept};
 ghost use Rattle.mate_shards.specs.Truth.{AreTrueIn-prop};
 
+use crate::keeps::Keeps;
 use crate::request::{Given, Query};
-use mate_core::{Fact, Frame, Reply, is_as_good, serves};
+use mate_core::{Fact, Frame, Reply, hash_of, is_as_good, serves};
 use rules_model::Memory;
 use std::alloc::Global;
 use std::snapshot::Snapshot;
@@ -110,6 +114,32 @@ impl Shard {
         Reply::Stored
     }
 
+    /// The shard under a new frame, with the facts that stay true.
+    pub fn rebased(self, keeps: &Keeps, old: &Frame, new: &Frame) -> Shard
+        requires frame { self.frame.value ≡ old.now }
+        requires keeps { AreKeeps old.now new.now keeps.now }
+        ensures frame { result.frame.value ≡ new.now }
+        ensures capacity { result.capacity ≡ self.capacity }
+        ensures facts { IsKept old.now new.now self.facts.items result.facts.items }
+    {
+        let Shard {
+            frame: _,
+            capacity,
+            mut facts,
+            mut heads,
+            mut links,
+        } = self;
+        pick(&mut facts, keeps);
+        chain(&facts, &mut heads, &mut links);
+        Shard {
+            frame: Snapshot::of(new),
+            capacity,
+            facts,
+            heads,
+            links,
+        }
+    }
+
     // Puts the fact at the end of the list and at the head of its chain.
     fn push(&mut self, given: &Given)
         requires room { vec_len self.old.facts < self.old.capacity }
@@ -123,6 +153,33 @@ impl Shard {
         self.facts.push_reserved(given.fact);
         self.heads[bucket] = self.facts.len() as u32;
     }
+}
+
+// Chains the facts anew.
+fn chain(facts: &[Fact], heads: &mut Vec<u32>, links: &mut Vec<u32>)
+    requires some { 0 < vec_len heads.old }
+    requires room { length facts.now ≤ vec_capacity links.old }
+    requires few { length facts.now ≤ 65536 }
+    ensures indexed { IsIndex (buckets (vec_len heads.old) facts.now) heads.new.items links.new.items }
+    ensures heads { vec_len heads.new ≡ vec_len heads.old }
+    ensures links { vec_capacity links.new ≡ vec_capacity links.old }
+{
+    links.clear();
+    heads.fill(0);
+    for i in 0..facts.len() {
+        let bucket = (hash_of(&facts[i].repeat) % heads.len() as u64) as usize;
+        links.push_reserved(heads[bucket]);
+        heads[bucket] = i as u32 + 1;
+    }
+}
+
+// Keeps the facts that the frames allow, in their order.
+fn pick(facts: &mut Vec<Fact>, keeps: &Keeps)
+    ensures facts { facts.new.items ≡ filter (picks keeps.now) facts.old.items }
+    ensures capacity { vec_capacity facts.new ≡ vec_capacity facts.old }
+    ensures len { vec_len facts.new ≤ vec_len facts.old }
+{
+    facts.retain(|fact| keeps.picks(fact));
 }
 
 // Of an older fact and what was found among the newer ones, the better answer.
