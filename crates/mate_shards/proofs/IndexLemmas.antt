@@ -5,6 +5,9 @@ use Rattle.std.proofs.lemmas.List.{get_or_append_left, get_or_push, get_or-set_s
 use Rattle.std.proofs.lemmas.List.Folds.{list_any-append}
 use Rattle.std.proofs.lemmas.Bool.{and_parts}
 use Rattle.std.proofs.Math.Bool.{or-false, or-true}
+use Rattle.std.proofs.lemmas.Grind.{get_or_default_zero}
+use Rattle.std.proofs.lemmas.Option.{get_or_from_slice_get}
+use Rattle.std.specs.Prelude.{slice_get}
 use native.Mathlib.Decide.{ℕ_discrete}
 use mathlib.Core.Logic.{dite}
 use Rattle.foundation.specs.Tests.{same_bool}
@@ -16,6 +19,11 @@ use Rattle.mate_core.specs.Best.{best, sooner, if_serves, is_as_good, has_better
 use Rattle.mate_core.specs.Hash.{hash_of}
 use Rattle.mate_core.proofs.AnswerLemmas.{served, best-push, sooner-none, sooner-assoc}
 use Rattle.mate_shards.specs.Index.{IsLast, IsIndex, buckets}
+
+some-at : {X : Type 0} (xs : List X) (k : ℕ) → k < length xs → (x : X) × (slice_get xs k ≡ Some x)
+some-at [] k l = absurd (omega arith)
+some-at (x ∷ xs) zero l = (x, refl)
+some-at (x ∷ xs) (suc k) l = some-at xs k (omega arith)
 
 -- ---- the index grows
 
@@ -303,3 +311,32 @@ pushed-fact capacity fs grown heads links linked f h bucket head count index has
     let Q : ℕ → Type 0 = λ n. IsIndex (buckets capacity fs ++ bucket ∷ []) (set heads bucket n) linked in
     let R : List ℕ → Type 0 = IsIndex (buckets capacity fs ++ bucket ∷ []) (set heads bucket (length (buckets capacity fs) + 1)) in
     subst P (ap (λ x. buckets capacity fs ++ x ∷ []) is_b ∙ sym all_buckets) (subst Q (sym entries) (subst R (sym links_are) made))
+
+-- ---- a list is chained anew
+
+pub started : (n : ℕ) (heads links : List ℕ) → heads ≡ replicate n 0 → links ≡ [] → IsIndex [] heads links
+started n heads links zeros none =
+    let P : List ℕ → Type 0 = λ hs. IsIndex [] hs links in
+    let Q : List ℕ → Type 0 = IsIndex [] (replicate n 0) in
+    subst P (sym zeros) (subst Q (sym none) (empty n))
+
+taken : {X : Type 0} (xs : List X) (i : ℕ) → i ≤ length xs → length (take i xs) ≡ i
+taken xs zero l = refl
+taken [] (suc i) l = absurd (omega arith)
+taken (x ∷ xs) (suc i) l = let e = taken xs i (omega arith) in omega arith
+
+pub chain-size : (count : ℕ) (facts : List Fact) (heads links : List ℕ) (i : ℕ) → i < length facts → IsIndex (buckets count (take i facts)) heads links → length links ≡ i
+chain-size count facts heads links i l index =
+    index.linked ∙ (length-map (take i facts) (λ f. hash_of f.repeat % count) ∙ taken facts i (omega arith))
+
+pub chain-step : (count : ℕ) (facts : List Fact) (heads links linked : List ℕ) (i bucket head : ℕ) → i < length facts → IsIndex (buckets count (take i facts)) heads links → bucket < length heads → ((f : Fact) → slice_get facts i ≡ Some f → bucket ≡ hash_of f.repeat % count) → head ≡ get_or heads bucket head → linked ≡ links ++ head ∷ [] → IsIndex (buckets count (take (i + 1) facts)) (set heads bucket (i + 1)) linked
+chain-step count facts heads links linked i bucket head l index below of read grows =
+    let f = some-at facts i l in
+    let more : take (i + 1) facts ≡ take i facts ++ f.0 ∷ [] = take_more facts i f.0 l ∙ ap (λ x. take i facts ++ x ∷ []) (get_or_from_slice_get facts i f.0 f.0 f.1) in
+    let size_of = taken facts i (omega arith) in
+    pushed-fact count (take i facts) (take (i + 1) facts) heads links linked f.0 (hash_of f.0.repeat) bucket head (i + 1) index refl (of f.0 f.1) below (read ∙ get_or_default_zero heads bucket head below) more (omega arith) grows
+
+pub chain-whole : (count i : ℕ) (facts : List Fact) (heads links : List ℕ) → i ≡ length facts → IsIndex (buckets count (take i facts)) heads links → IsIndex (buckets count facts) heads links
+chain-whole count i facts heads links e index =
+    let P : List Fact → Type 0 = λ fs. IsIndex (buckets count fs) heads links in
+    subst P (take_all i facts (omega arith)) index

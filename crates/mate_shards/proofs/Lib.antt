@@ -3,3 +3,4 @@ pub mod TurnLemmas
 pub mod PassLemmas
 pub mod KeptLemmas
 pub mod SameLemmas
+pub mod RebaseLemmas

@@ -67,7 +67,7 @@ module _ {X : Type 0} where
   put-back (x ∷ xs) zero y l = refl
   put-back (x ∷ xs) (suc k) y l = ap (λ zs. x ∷ zs) (put-back xs k y (omega arith))
 
-  some-at : (xs : List X) (k : ℕ) → k < length xs → (x : X) × (slice_get xs k ≡ Some x)
+  pub some-at : (xs : List X) (k : ℕ) → k < length xs → (x : X) × (slice_get xs k ≡ Some x)
   some-at [] k l = absurd (omega arith)
   some-at (x ∷ xs) zero l = (x, refl)
   some-at (x ∷ xs) (suc k) l = some-at xs k (omega arith)
@@ -77,10 +77,10 @@ module _ {X : Type 0} where
   read (x ∷ xs) zero d l = refl
   read (x ∷ xs) (suc k) d l = read xs k d (omega arith)
 
-  all-from : (P : X → Type 0) (xs : List X) → ((k : ℕ) (x : X) → slice_get xs k ≡ Some x → P x) → All P xs
+  pub all-from : (P : X → Type 0) (xs : List X) → ((k : ℕ) (x : X) → slice_get xs k ≡ Some x → P x) → All P xs
   all-from P xs each k d l = each k (get_or xs k d) (read xs k d l)
 
-  first_gone : (xs : List X) (j : ℕ) → slice_get (remove xs 0) j ≡ slice_get xs (suc j)
+  pub first_gone : (xs : List X) (j : ℕ) → slice_get (remove xs 0) j ≡ slice_get xs (suc j)
   first_gone [] j = refl
   first_gone (x ∷ xs) j = refl
 

@@ -16,6 +16,9 @@ pub record IsIndex (buckets heads links : List ℕ) : Type 0 where
   pub heads_are : (b : ℕ) → b < length heads → IsLast buckets b (length buckets) (slice_index heads b)
   pub links_are : (i : ℕ) → i < length buckets → IsLast buckets (slice_index buckets i) i (slice_index links i)
 
+abbrev pub fact_hash : Fact → ℕ
+fact_hash f = hash_of f.repeat
+
 -- the bucket of each fact, among as many as there are places
 abbrev pub buckets : ℕ → List Fact → List ℕ
 buckets capacity fs = map (λ f. hash_of f.repeat % capacity) fs

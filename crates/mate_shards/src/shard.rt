@@ -1,10 +1,11 @@
 //! What lies under the lock of one shard: its facts, all true in the frame, and an index over them.
-ghost use Rattle.std.specs.Prelude.{◌≡◌, ◌%◌, ◌<◌, ◌≤◌, [], ◌∷◌, ◌++◌, length, vec_len, vec_capacity, IfOk};
+ghost use Rattle.std.specs.Prelude.{◌≡◌, ◌%◌, ◌<◌, ◌≤◌, [], ◌∷◌, ◌++◌, length, vec_len, vec_capacity, IfOk, slice_get};
 ghost use Rattle.std.specs.List.{filter};
+ghost use Rattle.forced_wins.specs.declared.fact.Fact.{Fact as FactView};
 ghost use Rattle.mate_core.specs.Best as Best;
 ghost use Rattle.mate_core.specs.Runs.{IsTrueIn, AreTrueIn};
 ghost use Rattle.mate_core.specs.Steps as Steps;
-ghost use Rattle.mate_shards.specs.Index.{IsIndex, IsLast, buckets};
+ghost use Rattle.mate_shards.specs.Index.{IsIndex, IsLast, buckets, fact_hash};
 ghost use Rattle.mate_shards.specs.Keeps.{AreKeeps, picks};
 ghost use Rattle.mate_shards.specs.Kept.{IsKept};
 ghost use Rattle.mate_shards.specs.Truth.{AreTrueIn-prop};
@@ -167,10 +168,20 @@ fn chain(facts: &[Fact], heads: &mut Vec<u32>, links: &mut Vec<u32>)
     links.clear();
     heads.fill(0);
     for i in 0..facts.len() {
-        let bucket = (hash_of(&facts[i].repeat) % heads.len() as u64) as usize;
+        let bucket = bucket_at(facts, i, heads.len());
         links.push_reserved(heads[bucket]);
         heads[bucket] = i as u32 + 1;
     }
+}
+
+// The bucket of the fact at a place, among so many.
+fn bucket_at(facts: &[Fact], i: usize, count: usize) -> usize
+    requires place { i < length facts.now }
+    requires some { 0 < count }
+    ensures is { (f : FactView) → slice_get facts.now i ≡ Some f → result ≡ fact_hash f % count }
+    ensures below { result < count }
+{
+    (hash_of(&facts[i].repeat) % count as u64) as usize
 }
 
 // Keeps the facts that the frames allow, in their order.
