@@ -248,10 +248,10 @@ pub keeps_lines : (a b : Option (List ℕ)) → Keeps a b → TakesLines a b []
 keeps_lines a b kept = takes_lines a b [] (keeps_takes a b kept)
 
 -- the rest of a line whose longest front was read
-pub long_known : {E : Type 0} (r : Result Got E) (P : Type 0) (a b c : Option (List ℕ)) (front front' line : List ℕ) → IfOk r (λ answer. answer ≡ got.TooLong) → OnOk r (DropsThrough b c line_feed)
-    → OnOk r (front' ≡ []) → Keeps a (prepend_known front b) → is_unended front ≡ true → length front ≡ LONGEST → IfOk r (λ answer. P → Takes a (prepend_known front' c) (got_lines answer line))
-long_known (Ok answer) P a b c front front' line is drops none kept unended long = λ _. rw (is, none) (long_takes a b c front kept unended long drops)
-long_known (Err error) P a b c front front' line is drops none kept unended long = tt
+pub long_known : {E : Type 0} (r : Result Got E) (P Q : Type 0) (a b c : Option (List ℕ)) (front front' line : List ℕ) → IfOk r (λ answer. answer ≡ got.TooLong) → OnOk r (DropsThrough b c line_feed)
+    → OnOk r (front' ≡ []) → Keeps a (prepend_known front b) → is_unended front ≡ true → length front ≡ LONGEST → IfOk r (λ answer. P → Q → Takes a (prepend_known front' c) (got_lines answer line))
+long_known (Ok answer) P Q a b c front front' line is drops none kept unended long = λ _ _. rw (is, none) (long_takes a b c front kept unended long drops)
+long_known (Err error) P Q a b c front front' line is drops none kept unended long = tt
 
 -- the same by lines, and after a failure
 pub long_lines : {E : Type 0} (r : Result Got E) (a b c : Option (List ℕ)) (front front' line : List ℕ) → IfOk r (λ answer. answer ≡ got.TooLong) → OnOk r (DropsThrough b c line_feed)

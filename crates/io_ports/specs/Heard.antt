@@ -21,7 +21,9 @@ quiet = codes "debug" ∷ codes "register" ∷ []
 
 -- the command words that stop a search
 abbrev pub stopping : List (List ℕ)
-stopping = codes "uci" ∷ codes "ucinewgame" ∷ codes "setoption" ∷ codes "position" ∷ codes "go" ∷ codes "stop" ∷ codes "ponderhit" ∷ codes "moves" ∷ codes "status" ∷ codes "strategy" ∷ codes "quit" ∷ []
+stopping =
+    codes "uci" ∷ codes "ucinewgame" ∷ codes "setoption" ∷ codes "position" ∷ codes "go" ∷ codes "stop"
+    ∷ codes "ponderhit" ∷ codes "moves" ∷ codes "status" ∷ codes "strategy" ∷ codes "quit" ∷ []
 
 -- what a word does, where it is a command word
 abbrev pub heard_word : List ℕ → Option Heard

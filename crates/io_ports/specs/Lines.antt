@@ -20,7 +20,7 @@ abbrev pub onto_first : ℕ → List (List ℕ) → List (List ℕ)
 onto_first byte [] = (byte ∷ []) ∷ []
 onto_first byte (piece ∷ pieces) = (byte ∷ piece) ∷ pieces
 
--- the text, cut behind each LF
+-- the text, cut after each LF
 abbrev pub pieces_of : List ℕ → List (List ℕ)
 pieces_of [] = []
 pieces_of (byte ∷ bytes) = if byte == line_feed then (byte ∷ []) ∷ pieces_of bytes else onto_first byte (pieces_of bytes)

@@ -3,7 +3,7 @@ use Rattle.std.specs.Prelude.{◌≡◌, ◌⊎◌, ℕ, List, [], ◌∷◌, �
 use Rattle.std.specs.Io.KnownBytes.{Keeps, Consumes, IsAtEnd, prepend_known}
 use Rattle.io_ports.specs.Files.{Contents}
 use Rattle.io_ports.specs.Lines.{Line, line_feed, lines_of}
-use Rattle.io_ports.specs.Source.{got_lines}
+use Rattle.io_ports.specs.Source.{Takes, got_lines}
 use Rattle.io_ports.specs.declared.source.Got.{Got}
 use Rattle.io_ports.specs.declared.standard_input.TheConstants.{LONGEST}
 use Rattle.io_ports.specs.declared.standard_input.Piece.{Piece}
@@ -14,14 +14,15 @@ pub record OutputState (W : Type 0) : Type 0 where
   pub writer : W
   pub faults : ℕ
 
--- standard input: its reader, the front of the line that was begun, and how many faults there were. A front of the most bytes that are
--- kept is that of a line that is too long; what came after it may have been dropped.
+-- standard input: its reader, the front of the line that was begun, and how many faults there were. A front of the most
+-- bytes that are kept is that of a line that is too long; what came after it may have been dropped.
 pub record InputState (R : Type 0) : Type 0 where
   pub reader : R
   pub front : List ℕ
   pub faults : ℕ
 
--- the bytes that standard input has left, where its reader tells its own: all but those that were dropped of a line that is too long
+-- the bytes that standard input has left, where its reader tells its own: all but those that were dropped of a line that
+-- is too long
 abbrev pub left_of : {R : Type 0} → (R → Option (List ℕ)) → InputState R → Option (List ℕ)
 left_of remaining input = prepend_known input.front (remaining input.reader)
 
@@ -34,6 +35,15 @@ abbrev pub TakesLines : Option (List ℕ) → Option (List ℕ) → List Line �
 TakesLines None new lines = ⊤
 TakesLines (Some xs) None lines = ⊥
 TakesLines (Some xs) (Some ys) lines = lines_of xs ≡ lines ++ lines_of ys
+
+-- a call gave these lines: they are the first of those that standard input had left, and the others are left
+abbrev pub GivesLines : {R : Type 0} → (R → Option (List ℕ)) → InputState R → InputState R → List Line → Type 0
+GivesLines remaining old new lines = TakesLines (left_of remaining old) (left_of remaining new) lines
+
+-- a call gave these lines byte for byte, where nothing of a line that is too long was dropped
+abbrev pub GivesBytes : {R : Type 0} → (R → Option (List ℕ)) → InputState R → InputState R → List Line → Type 0
+GivesBytes remaining old new lines =
+    is_begun old ≡ true → is_begun new ≡ true → Takes (left_of remaining old) (left_of remaining new) lines
 
 -- the lines of a call that may fail
 abbrev pub taken_lines : {E : Type 0} → Result Got E → List ℕ → List Line

@@ -26,10 +26,10 @@ pub trait Files {
     /// The bytes of each file, by name, where they are told.
     ghost contents: { Self → Option Contents };
 
-    /// How often they have failed. A count that stands at 2^64 - 1 counts as risen in every call.
+    /// How often they have failed. A count of 2^64 - 1 counts as risen in every call.
     ghost faults: { Self → ℕ };
 
-    /// Reads the file of this name. Behind an answer other than `Bytes`, what `out` holds is not said.
+    /// Reads the file of this name. After an answer other than `Bytes`, what `out` holds is not said.
     fn read(&mut self, name: &[u8], out: &mut Vec<u8>) -> Given
         ensures finds { Finds (contents self.old) (given_reads name.now result out.new.items) }
         ensures same { contents self.new ≡ contents self.old }

@@ -89,7 +89,7 @@ fn blank_place(text: &[u8]) -> Option<usize>
     text.iter().position(|byte| is_blank(*byte))
 }
 
-// The text up to the first space or tab, and what stands after that.
+// The text up to the first space or tab, and the text after that.
 fn cut_word(text: &[u8]) -> (&[u8], Option<&[u8]>)
     ensures { slice_split is_blank text.now ≡ result.0.now ∷ parts_after (option_copied result.1) }
 {

@@ -7,8 +7,8 @@ use std::marker::Model;
 use std::rt;
 use std::time::Instant;
 
-/// The clock of the machine. Its readings are the milliseconds since it was made, and never fall. Where the machine gives
-/// no time, it gives its last reading again.
+/// The clock of the machine. Its readings are the milliseconds since it was made. Where the machine gives no time, it
+/// gives its last reading again.
 #[derive(Drop)]
 pub struct MachineClock<R: rt::Clock> {
     rt: R,

@@ -21,12 +21,12 @@ struct Shared<I: BufRead> {
     has_room: Condvar,
 }
 
-/// A source over standard input, or over another reader, which a thread of its own reads into a queue of 64 lines, so that
-/// a poll does not wait. It tells nothing of its bytes.
+/// A source over standard input, or over another reader, which a thread of its own reads into a queue of 64 lines, so
+/// that a poll does not wait. It tells nothing of its bytes.
 ///
 /// The thread waits while the queue is full, and ends at the end of the input. It is not joined: a program that is done
-/// ends while the thread still waits for input. Where no thread can be started, the source reads in its caller, and then a
-/// poll waits for its line.
+/// ends while the thread still waits for input. Where no thread can be started, the source reads in its caller, and
+/// then a poll waits for its line.
 #[derive(Drop)]
 pub struct QueuedInput<R: Wait, I: BufRead> {
     rt: R,

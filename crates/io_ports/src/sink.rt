@@ -13,7 +13,7 @@ pub trait Sink {
     /// The bytes that it took, where they are told.
     ghost taken: { Self → Option (List ℕ) };
 
-    /// How often it has failed. A count that stands at 2^64 - 1 counts as risen in every call.
+    /// How often it has failed. A count of 2^64 - 1 counts as risen in every call.
     ghost faults: { Self → ℕ };
 
     /// Gives the sink a piece of text. After `Err` it took a front part of the piece.

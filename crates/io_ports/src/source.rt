@@ -49,7 +49,7 @@ impl From<Got> for Polled {
 
 /// Bytes that are read line by line. A line ends at LF or at the end of the bytes, and a final CR is dropped.
 ///
-/// Behind an answer other than `Line`, what the buffer holds is not said.
+/// After an answer other than `Line`, what the buffer holds is not said.
 pub trait Source {
     /// The bytes that are left, where they are told.
     ghost left: { Self → Option (List ℕ) };
@@ -57,7 +57,7 @@ pub trait Source {
     /// The polls that are still answered `NotYet`.
     ghost owed: { Self → Owed };
 
-    /// How often it has failed. A count that stands at 2^64 - 1 counts as risen in every call.
+    /// How often it has failed. A count of 2^64 - 1 counts as risen in every call.
     ghost faults: { Self → ℕ };
 
     /// Takes the next line, and waits for it.

@@ -8,8 +8,8 @@ use crate::{Failed, Sink};
 use std::io::{self, ErrorKind, Write};
 use std::marker::Model;
 
-/// A sink over standard output, or over another writer. It tells nothing of what it took. A piece that it took is on its
-/// way when `put` returns.
+/// A sink over standard output, or over another writer. It tells nothing of what it took. A piece that it took is on
+/// its way when `put` returns.
 #[derive(Drop)]
 pub struct StandardOutput<W: Write> {
     writer: W,
@@ -80,9 +80,10 @@ impl<W: Write> Sink for StandardOutput<W> {
         ensures err { OnErr result (AppendsFront None None piece.now) }
         ensures cause { HasCause self.old.faults self.new.faults (IsErr result) }
 
-        // The writer has the piece once, after a failure a front part of it and nothing else; and a failure is one fault.
+        // The writer has the piece once, and after a failure a front part of it and nothing else. A failure is one fault.
         ensures wrote { OnOk result (Appends (W.contents self.old.writer) (W.contents self.new.writer) piece.now) }
-        ensures front { OnErr result (AppendsFront (W.contents self.old.writer) (W.contents self.new.writer) piece.now) }
+        ensures wrote_front { OnErr result
+            (AppendsFront (W.contents self.old.writer) (W.contents self.new.writer) piece.now) }
         ensures faults { self.new.faults ≡ (if is_err result then counted self.old.faults else self.old.faults) }
     {
         match write_through(&mut self.writer, piece) {

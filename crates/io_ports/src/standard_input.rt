@@ -4,7 +4,7 @@ ghost use Rattle.std.specs.Io.KnownBytes.{Keeps, IsAtEnd, prepend_known};
 ghost use Rattle.io_ports.specs.Cause.{HasCause, counted};
 ghost use Rattle.io_ports.specs.Lines.{line_of};
 ghost use Rattle.io_ports.specs.Source.{Takes, Owes, Untold, got_lines, polled_lines};
-ghost use Rattle.io_ports.specs.Standard.{InputState, left_of, is_begun, is_unended, GivesByte, ReadsPiece, Skips, TakesLines, taken_lines};
+ghost use Rattle.io_ports.specs.Standard.{InputState, left_of, is_begun, is_unended, GivesByte, GivesBytes, GivesLines, ReadsPiece, Skips, taken_lines};
 ghost use Rattle.io_ports.specs.declared.standard_input.TheConstants.{LONGEST};
 
 use crate::line::put_line;
@@ -63,8 +63,8 @@ impl Front {
     }
 }
 
-/// A source over standard input, or over another reader, which it reads byte by byte. It waits for each line, also where
-/// it is polled, and tells nothing of the bytes that are left; contracts name them where the reader tells its own.
+/// A source over standard input, or over another reader, which it reads byte by byte. It waits for each line, also
+/// where it is polled, and tells nothing of the bytes that are left; contracts name them where the reader tells its own.
 ///
 /// A line that a failure interrupts is taken up again. A line of more than 2^30 bytes is a fault.
 #[derive(Drop)]
@@ -113,7 +113,8 @@ fn next_byte<R: BufRead>(reader: &mut R) -> io::Result<Option<u8>>
 // Reads on to the end of a piece.
 fn read_piece<R: BufRead>(reader: &mut R, front: &mut Front) -> io::Result<Piece>
     requires { is_unended front.old ≡ true }
-    ensures kept { Keeps (prepend_known front.old (R.remaining reader.old)) (prepend_known front.new (R.remaining reader.new)) }
+    ensures kept { Keeps (prepend_known front.old (R.remaining reader.old))
+        (prepend_known front.new (R.remaining reader.new)) }
     ensures piece { IfOk result (λ piece. ReadsPiece piece front.new (R.remaining reader.new)) }
     ensures begun { OnErr result (is_unended front.new ≡ true) }
 {
@@ -202,10 +203,10 @@ impl<R: BufRead> StandardInput<R> {
         ensures works { IfOk result (λ got. got ≢ Got.Failed) }
         ensures faults { self.new.faults ≡ self.old.faults }
         ensures whole { OnOk result (self.new.front ≡ []) }
-        ensures lines { TakesLines (left_of R.remaining self.old) (left_of R.remaining self.new) (taken_lines result line.new) }
-        ensures known { IfOk result (λ got. is_begun self.old ≡ true → Takes (left_of R.remaining self.old) (left_of R.remaining self.new) (got_lines got line.new)) }
+        ensures lines { GivesLines R.remaining self.old self.new (taken_lines result line.new) }
+        ensures known { IfOk result (λ got. GivesBytes R.remaining self.old self.new (got_lines got line.new)) }
         ensures ended { IfOk result (λ got. got ≡ Got.End → IsAtEnd (left_of R.remaining self.new)) }
-        ensures kept { OnErr result (is_begun self.new ≡ true → Keeps (left_of R.remaining self.old) (left_of R.remaining self.new)) }
+        ensures kept { OnErr result (GivesBytes R.remaining self.old self.new []) }
     {
         match read_piece(&mut self.reader, &mut self.front)? {
             Piece::Whole => Ok(end_line(&mut self.front, line)),
@@ -229,11 +230,11 @@ impl<R: BufRead> Source for StandardInput<R> {
 
         // Where its reader tells what is left: the lines that were taken are the first of those that were left, and the
         // others are left, also after a failure.
-        ensures lines { TakesLines (left_of R.remaining self.old) (left_of R.remaining self.new) (got_lines result line.new) }
+        ensures lines { GivesLines R.remaining self.old self.new (got_lines result line.new) }
         ensures ended { result ≡ Got.End → IsAtEnd (left_of R.remaining self.new) }
 
         // Byte for byte, where nothing of a line that is too long was dropped.
-        ensures known { is_begun self.old ≡ true → is_begun self.new ≡ true → Takes (left_of R.remaining self.old) (left_of R.remaining self.new) (got_lines result line.new) }
+        ensures known { GivesBytes R.remaining self.old self.new (got_lines result line.new) }
         ensures whole { result ≢ Got.Failed → self.new.front ≡ [] }
 
         // A failure is one fault.
@@ -256,9 +257,9 @@ impl<R: BufRead> Source for StandardInput<R> {
         ensures cause { HasCause self.old.faults self.new.faults (result ≡ Polled.Failed) }
 
         // As for `next_line`.
-        ensures lines { TakesLines (left_of R.remaining self.old) (left_of R.remaining self.new) (polled_lines result line.new) }
+        ensures lines { GivesLines R.remaining self.old self.new (polled_lines result line.new) }
         ensures ended { result ≡ Polled.End → IsAtEnd (left_of R.remaining self.new) }
-        ensures known { is_begun self.old ≡ true → is_begun self.new ≡ true → Takes (left_of R.remaining self.old) (left_of R.remaining self.new) (polled_lines result line.new) }
+        ensures known { GivesBytes R.remaining self.old self.new (polled_lines result line.new) }
         ensures whole { result ≢ Polled.Failed → self.new.front ≡ [] }
         ensures counts { result ≡ Polled.Failed → self.new.faults ≡ counted self.old.faults }
         ensures works { result ≢ Polled.Failed → self.new.faults ≡ self.old.faults }

@@ -60,7 +60,7 @@ fn a_line_that_is_heard_is_answered_or_skipped_or_stops(rt: HostRuntime) {
         assert!(rt; line.is_empty() == is_skipped(Dialect::Cecp, line));
     }
     let stopping =
-        b"uci\nucinewgame\nsetoption name Hash\nposition startpos\n\tgo isready\nstop\nponderhit\nmoves\nstatus\nstrategy\nx quit";
+        b"uci\nucinewgame\nsetoption name\nposition\n\tgo isready\nstop\nponderhit\nmoves\nstatus\nstrategy\nx quit";
     for line in stopping.split(|byte| *byte == b'\n') {
         assert!(rt; stops(Dialect::Uci, line));
     }
@@ -135,7 +135,7 @@ fn lines_end_at_lf_or_at_the_end_and_lose_a_final_cr(rt: HostRuntime) -> Result<
     Ok(())
 }
 
-// So many bytes, and then an end of line and another line.
+// N bytes, and then an end of line and another line.
 fn long_line(alloc: Global, len: usize, end: &[u8]) -> Result<Vec<u8>, AllocError> {
     let mut text = vec![in alloc; b'a'; len]?;
     text.extend_from_slice(end)?;
@@ -213,7 +213,7 @@ fn the_last_reading_comes_again(rt: HostRuntime) -> Result<(), Fail> {
     Ok(())
 }
 
-// A writer that takes at most 3 bytes a call, has room for so many, and can be flushed so often.
+// A writer that takes at most 3 bytes a call, up to its room, and can be flushed `flushes` times.
 #[derive(Drop)]
 struct Narrow {
     written: Vec<u8>,

@@ -5,8 +5,8 @@ ghost use Rattle.io_ports.specs.Source.{Takes, Endless, Owes, got_lines, polled_
 
 use crate::{Got, LineBuf, Polled, Source};
 
-/// A source with no bytes, which answers every poll `NotYet` and never fails: a search over it is stopped by no line and
-/// by no end.
+/// A source with no bytes, which answers every poll `NotYet` and never fails: a search over it is stopped by no line
+/// and by no end.
 #[derive(Clone, Copy, Debug, PartialEq, Eq)]
 pub struct QuietSource;
 

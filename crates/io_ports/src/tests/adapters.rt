@@ -8,7 +8,7 @@ use std::test::Fail;
 use std::time::Duration;
 use std::{env, fs, process, thread};
 
-// So many lines of their numbers, then a line that is too long, and a last one with no end.
+// N lines with their numbers, then a line that is too long, and a last one with no end.
 fn write_lines(writer: PipeWriter, alloc: std::alloc::Global, lines: u32) -> io::Result<()> {
     let mut writer = BufWriter::new(alloc, writer)?;
     for number in 0..lines {
