@@ -25,9 +25,9 @@ use Rattle.rules_model.specs.Sides.{same_side}
 use Rattle.rules_model.specs.Squares.{cell_at}
 use Rattle.rules_model.proofs.CandidateLaws.{not_both}
 use Rattle.rules_model.proofs.LegalLaws.{legal-member}
-use Rattle.attack_tables.specs.declared.mode.Mode.TheVariants.{Quiet, Take}
-use Rattle.attack_tables.specs.Reached.{reaches_in, IsSetBelow}
-use Rattle.piece_moves.specs.Goals.{lands_in, makes, own_piece}
+use Rattle.square_set.specs.declared.Set.{Set}
+use Rattle.move_tables.specs.declared.mode.Mode.TheVariants.{Quiet, Take}
+use Rattle.piece_moves.specs.Goals.{lands_in, IsReached, makes, own_piece}
 use Rattle.piece_moves.proofs.GoalLemmas.{lands_goes, own_makes}
 use Rattle.legality.specs.Goes.{goes_to, goes_from, goes_somewhere}
 use Rattle.legality.proofs.ListLaws.{legal_then, member-is, not_legal, not_stuck, stuck}
@@ -56,13 +56,13 @@ unfolding piece_moves
 not_made rules r from to promo None h = refl
 not_made rules r from to promo (Some c) h = rw (h c refl) refl
 
-module _ (rules : Rules) (r : Repeat) (from to : Square) (quiet takes : ℕ) (fit : IsFit rules) (built : is_built rules ≡ true) (q : IsSetBelow 120 (reaches_in rules r.cells from Quiet) quiet) (t : IsSetBelow 120 (reaches_in rules r.cells from Take) takes) (below : to.0 < 120) (e : lands_in r.cells r.side quiet takes to.0 ≡ false) where
+module _ (rules : Rules) (r : Repeat) (from to : Square) (quiet takes : Set) (fit : IsFit rules) (built : is_built rules ≡ true) (q : IsReached rules r.cells from Quiet quiet) (t : IsReached rules r.cells from Take takes) (e : lands_in r.cells r.side quiet takes to.0 ≡ false) where
   not_landed : (promo : Promo) → is_legal rules r (Go from to promo None) ≡ false
   unfolding is_piece_move
   not_landed promo =
       not_legal rules r (Go from to promo None) fit built
       (own_makes rules r from to promo (cell_at r.cells from.0)
-      ∙ not_made rules r from to promo (own_piece rules r.side (cell_at r.cells from.0)) (λ c own. lands_goes rules r.cells r.side from quiet takes to.0 c own q t below ∙ e))
+      ∙ not_made rules r from to promo (own_piece rules r.side (cell_at r.cells from.0)) (λ c own. lands_goes rules r.cells r.side from quiet takes to.0 c own q t ∙ e))
 
   pub goes_to-not_landed : goes_to rules r from to.0 ≡ false
   unfolding goes_to

@@ -18,5 +18,5 @@ loop-to-preserved c =
       | else-lands-via-then-lands+else-goes_to w ↦ any_below-next _ _ c.loop-to.invariant (sym w.if-goes_to.ensures)
       | else-lands-via-else-lands w ↦
           any_below-next _ _ c.loop-to.invariant
-          (goes_to-not_landed _ _ _ (record { 0 = c.loop-to.to }) _ _ c.requires.ready.fit c.requires.built (rw c.requires.ready.tables at c.reaches-quiet.ensures) (rw c.requires.ready.tables at c.reaches-takes.ensures) c.loop-to-test.true (sym w.if-lands.ensures))
+          (goes_to-not_landed _ _ _ (record { 0 = c.loop-to.to }) _ _ c.requires.ready.fit c.requires.built (rw c.requires.ready.tables at c.reaches-quiet.ensures) (rw c.requires.ready.tables at c.reaches-takes.ensures) (sym w.if-lands.ensures))
     ]

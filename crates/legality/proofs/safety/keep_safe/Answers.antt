@@ -16,7 +16,7 @@ read-member {xs = xs} {ys = ys} {i = i} {x = x} f l e =
     subst (λ y. Member y xs) same (get_or-member xs i x (omega (arith, f.long)))
 
 pub is_safe-requires-clause-fit : goal.is_safe-requires-clause-fit
-is_safe-requires-clause-fit c = c.requires.ready.fit _ (read-member c.loop-i.invariant (omega (arith, c.loop-i.invariant.long)) c.index.ensures)
+is_safe-requires-clause-fit c = c.requires.fit _ (read-member c.loop-i.invariant (omega (arith, c.loop-i.invariant.long)) c.index.ensures)
 
 pub loop-i-preserved : goal.loop-i-preserved
 loop-i-preserved c =
