@@ -1,8 +1,20 @@
-use Rattle.std.proofs.Common.{refl, arith}
+use Rattle.std.proofs.Common.{◌≡◌, Bool, true, ◌&&◌, List, [], refl, arith}
+use Rattle.std.specs.List.{list_all}
+use Rattle.std.proofs.lemmas.Bool.{and_from}
+use Rattle.foundation.specs.Tests.{is_nil}
+use Rattle.rules_model.specs.declared.rules.Term.{Term}
 use Rattle.foundation.specs.Count.{any_below, all_below}
 use Rattle.rules_model.specs.Castling.{castling_on}
-use Rattle.rules_model.specs.Fit.{chains_promotions, gates_amiss, has_no_piece, kind_fits, mask_fits, promotes_to_pawn_or_king, region_fits_at}
+use Rattle.rules_model.specs.Fit.{chains_promotions, fits_term, gates_amiss, has_no_piece, kind_fits, mask_fits, promotes_to_pawn_or_king, region_fits_at}
 use Rattle.rules_model.proofs.tests.rules.Goals as goal
+
+-- a piece: its terms, its regions, and the kind that it becomes
+piece_fits : (terms regions there : Bool) → terms ≡ true → regions ≡ true → there ≡ true → (terms && regions && there) ≡ true
+piece_fits terms regions there t r h = rw (t, r, h)
+
+-- the pawn: it has no terms
+pawn_fits : (terms : List Term) (regions there : Bool) → terms ≡ [] → regions ≡ true → there ≡ true → (is_nil terms && true && list_all fits_term terms && regions && there) ≡ true
+pawn_fits terms regions there t r h = rw (t, r, h)
 
 pub returns : goal.returns
 unfolding any_below all_below castling_on chains_promotions gates_amiss has_no_piece kind_fits mask_fits promotes_to_pawn_or_king region_fits_at
@@ -28,7 +40,7 @@ returns c = record {
   double_region = refl;
   drop_region = refl;
   flag_region = refl;
-  kinds = rw (c.king.ensures, c.rook.ensures, c.none.ensures);
+  kinds = and_from _ _ (and_from _ _ (and_from _ _ (and_from _ _ (and_from _ _ (and_from _ _ (and_from _ _ (and_from _ _ (and_from _ _ (and_from _ _ (and_from _ _ (and_from _ _ (and_from _ _ (and_from _ _ (and_from _ _ (and_from _ _ refl (piece_fits _ _ _ c.king.ensures refl refl)) refl) refl) refl) refl) (pawn_fits c.none.result _ _ c.none.ensures refl refl)) refl) (piece_fits _ _ _ c.rook.ensures refl refl)) refl) refl) refl) refl) refl) refl) refl) refl;
   king = refl;
   pawn = refl;
   soldier = refl;
