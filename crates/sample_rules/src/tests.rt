@@ -1,3 +1,5 @@
+ghost use Rattle.rules_model.specs.Fit.{IsFit};
+
 use super::*;
 use rules_model::attacks::pawn_could_take;
 use rules_model::castling::{castling_on, castling_square, has_gate, holds_right, rook_file};
@@ -6,6 +8,7 @@ use rules_model::{
     Cell, Position, Rules, Side, Square, Wing, attacks_plain, built, is_attacked, king_attacked,
     reaches_plain, repeat_of, sound,
 };
+use std::process::Abort;
 
 #[test]
 fn squares_are_named(rt: HostRuntime) {
@@ -53,18 +56,19 @@ fn positions_are_placed(rt: HostRuntime) {
     assert!(rt; leapers().start == position("Kd1 Cf1 Ng1 nb8 cc8 ke8"));
 }
 
+fn has_start(rules: &Rules, pieces: usize) -> bool
+    requires { IsFit rules.now }
+{
+    sound(rules, &rules.start) && rules.start.cells.iter().flatten().count() == pieces
+}
+
 #[test]
 fn starts_are_sound(rt: HostRuntime) {
-    for (rules, pieces) in [
-        (leapers(), 6),
-        (chess(), 32),
-        (capablanca(), 40),
-        (shouse(), 32),
-        (xiangqi(), 32),
-    ] {
-        assert!(rt; sound(&rules, &rules.start));
-        assert_eq!(rt; rules.start.cells.iter().flatten().count(), pieces);
-    }
+    assert!(rt; has_start(&leapers(), 6));
+    assert!(rt; has_start(&chess(), 32));
+    assert!(rt; has_start(&capablanca(), 40));
+    assert!(rt; has_start(&shouse(), 32));
+    assert!(rt; has_start(&xiangqi(), 32));
 }
 
 /// White: king e1, rooks a1 and h1 with both rights, pawn e4. Black: king e8, pawn d5.
@@ -188,48 +192,45 @@ fn rules_are_read(rt: HostRuntime) {
 }
 
 /// Whether the kind goes from the one square to the other, to take where a piece is there.
-fn goes(rules: &Rules, p: &Position, side: Side, letter: u8, from: Square, to: Square) -> bool {
+fn goes(rules: &Rules, p: &Position, letter: u8, from: Square, to: Square) -> bool
+    requires { IsFit rules.now }
+{
+    let Some(Some(rule)) = rules.kinds.get(kind(letter).0 as usize) else {
+        return false;
+    };
+    let board = board_of(rules);
     let is_taken = p.cells.get(to.0 as usize).copied().flatten().is_some();
-    match rules.kinds.get(kind(letter).0 as usize) {
-        Some(Some(rule)) => rule.terms.items.iter().any(|term| {
-            let serves = if is_taken { term.takes } else { term.quiet };
-            serves && reaches_plain(board_of(rules), &p.cells, side, term, from, to)
-        }),
-        _ => false,
+    for term in rule.terms.items.iter() {
+        let serves = if is_taken { term.takes } else { term.quiet };
+        if serves && reaches_plain(board, &p.cells, Side::White, term, from, to) {
+            return true;
+        }
+    }
+    false
+}
+
+/// Asserts of White's piece, among the pieces of the text, that it goes to the one squares and not to the others.
+fn goes_to<R: Abort>(rt: &R, rules: &Rules, pieces: &str, letter: u8, from: &str, targets: [&str; 2])
+    requires { IsFit rules.now }
+{
+    let p = position(pieces);
+    for (near, reached) in targets.iter().zip([true, false]) {
+        for to in near.split(' ') {
+            let found = goes(rules, &p, letter, square(from), square(to));
+            assert_eq!(rt; found, reached, "{from} {to}");
+        }
     }
 }
 
 #[test]
 fn pieces_go_where_their_names_say(rt: HostRuntime) {
-    let rows: [(Rules, &str, u8, &str, &str, &str); 7] = [
-        (leapers(), "", b'c', "f1", "c2 e4 g4", "f2 e3 d4"),
-        (leapers(), "", b'k', "a1", "a2 b1 b2", "c1 a3 b3"),
-        (capablanca(), "Pe5", b'a', "c3", "e5 a5 b1 d4", "f6 c4 h8"),
-        (shouse(), "", b'e', "a1", "a8 h1 b3 c2", "b2 c3"),
-        (xiangqi(), "", b'b', "c1", "a3 e3", "b2 d2 c3"),
-        (xiangqi(), "Pd2", b'b', "c1", "a3", "e3"),
-        (
-            xiangqi(),
-            "pa4 Pa6",
-            b'c',
-            "a1",
-            "a2 a3 a6 i1",
-            "a4 a5 a7 b2",
-        ),
-    ];
-    for (rules, pieces, letter, from, near, far) in &rows {
-        let p = position(pieces);
-        for to in near.split(' ') {
-            assert!(rt;
-                goes(rules, &p, Side::White, *letter, square(from), square(to)),
-                "{from} {to}"
-            );
-        }
-        for to in far.split(' ') {
-            assert!(rt;
-                !goes(rules, &p, Side::White, *letter, square(from), square(to)),
-                "{from} {to}"
-            );
-        }
-    }
+    goes_to(&rt, &leapers(), "", b'c', "f1", ["c2 e4 g4", "f2 e3 d4"]);
+    goes_to(&rt, &leapers(), "", b'k', "a1", ["a2 b1 b2", "c1 a3 b3"]);
+    goes_to(&rt, &chess(), "", b'n', "g1", ["e2 f3 h3", "g3 f2 d1"]);
+    goes_to(&rt, &chess(), "pe5", b'q', "e1", ["e5 h4 a1 d2", "e6 f3"]);
+    goes_to(&rt, &capablanca(), "Pe5", b'a', "c3", ["e5 a5 b1 d4", "f6 c4 h8"]);
+    goes_to(&rt, &shouse(), "", b'e', "a1", ["a8 h1 b3 c2", "b2 c3"]);
+    goes_to(&rt, &xiangqi(), "", b'b', "c1", ["a3 e3", "b2 d2 c3"]);
+    goes_to(&rt, &xiangqi(), "Pd2", b'b', "c1", ["a3", "e3"]);
+    goes_to(&rt, &xiangqi(), "pa4 Pa6", b'c', "a1", ["a2 a3 a6 i1", "a4 a5 a7 b2"]);
 }
