@@ -16,8 +16,6 @@ pub mod reach;
 pub mod rules;
 pub mod sizes;
 pub mod soundness;
-#[cfg(test)]
-mod tests;
 
 pub use attacks::{attacks_plain, is_attacked, king_attacked};
 pub use board::{

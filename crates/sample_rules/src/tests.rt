@@ -1,9 +1,13 @@
 ghost use Rattle.rules_model.specs.Fit.{IsFit};
 
 use super::*;
-use rules_model::attacks::pawn_could_take;
-use rules_model::castling::{castling_on, castling_square, has_gate, holds_right, rook_file};
+use rules_model::attacks::{flies_to, pawn_could_take};
+use rules_model::castling::{
+    CastleSquares, castle_of, castling_on, castling_square, has_gate, holds_right, rook_file,
+};
 use rules_model::kinds::{board_of, has_kind, in_hand, in_region, masks, names};
+use rules_model::movement::{in_mobility, is_held_back, kind_takes, rank_for};
+use rules_model::sizes::{position_sizes, rules_letters};
 use rules_model::{
     Cell, Position, Rules, Side, Square, Wing, attacks_plain, built, is_attacked, king_attacked,
     reaches_plain, repeat_of, sound,
@@ -189,6 +193,74 @@ fn rules_are_read(rt: HostRuntime) {
     assert_eq!(rt; in_hand(&shouse().start.hands, Side::Black, kind(b'h')), 1);
     assert!(rt; built(&leapers()));
     assert!(rt; !built(&rules));
+    let mut wide = leapers();
+    wide.files = 9;
+    assert!(rt; !built(&wide));
+}
+
+#[test]
+fn movement_is_read(rt: HostRuntime) {
+    let rules = chess();
+    let p = castling_side();
+    let rook = kind(b'r');
+    let (a1, e4, e8) = (square("a1"), square("e4"), square("e8"));
+    position_sizes(&p);
+    rules_letters(&rules);
+    assert_eq!(rt; (e4.file(), e4.rank()), (4, 3));
+    assert_eq!(rt; rank_for(&rules, Side::White, e4), 4);
+    assert_eq!(rt; rank_for(&rules, Side::Black, e4), 5);
+    assert!(rt; in_mobility(&rules, Side::White, rook, e4));
+    assert!(rt; !in_mobility(&rules, Side::White, rook, square("i4")));
+    assert!(rt; !is_held_back(&rules, Side::White, rook, e4));
+    assert!(rt; kind_takes(&rules, &p.cells, Side::White, rook, a1, square("a8")));
+    assert!(rt; !kind_takes(&rules, &p.cells, Side::White, rook, a1, e4));
+    assert!(rt; !flies_to(&rules, &position("Ke1 ke8").cells, Side::White, e8));
+    if castling_on(&rules) {
+        let squares = CastleSquares {
+            king: square("e1"),
+            king_to: square("c1"),
+            rook: a1,
+            rook_to: square("d1"),
+        };
+        assert_eq!(rt;
+            castle_of(&rules, &p.cells, Side::White, Wing::Queenside),
+            Some(squares)
+        );
+    }
+}
+
+#[test]
+fn soldiers_and_palaces(rt: HostRuntime) {
+    let rules = xiangqi();
+    let (king, soldier) = (kind(b'k'), kind(b'p'));
+    for (side, at, held) in [
+        (Side::White, "e5", true),
+        (Side::White, "e6", false),
+        (Side::Black, "e6", true),
+        (Side::Black, "e5", false),
+    ] {
+        assert_eq!(rt;
+            is_held_back(&rules, side, soldier, square(at)),
+            held,
+            "{at}"
+        );
+    }
+    for (pieces, faces) in [
+        ("Ke1 ke10", true),
+        ("Ke1 Pe4 ke10", false),
+        ("Ke1 kd10", false),
+    ] {
+        let cells = position(pieces).cells;
+        assert_eq!(rt;
+            flies_to(&rules, &cells, Side::White, square("e10")),
+            faces,
+            "{pieces}"
+        );
+    }
+    assert!(rt; in_mobility(&rules, Side::White, king, square("d3")));
+    assert!(rt; !in_mobility(&rules, Side::White, king, square("d4")));
+    assert!(rt; in_mobility(&rules, Side::Black, king, square("f8")));
+    assert!(rt; !in_mobility(&rules, Side::Black, king, square("f7")));
 }
 
 /// Whether the kind goes from the one square to the other, to take where a piece is there.
@@ -210,7 +282,14 @@ fn goes(rules: &Rules, p: &Position, letter: u8, from: Square, to: Square) -> bo
 }
 
 /// Asserts of White's piece, among the pieces of the text, that it goes to the one squares and not to the others.
-fn goes_to<R: Abort>(rt: &R, rules: &Rules, pieces: &str, letter: u8, from: &str, targets: [&str; 2])
+fn goes_to<R: Abort>(
+    rt: &R,
+    rules: &Rules,
+    pieces: &str,
+    letter: u8,
+    from: &str,
+    targets: [&str; 2],
+)
     requires { IsFit rules.now }
 {
     let p = position(pieces);
@@ -228,9 +307,23 @@ fn pieces_go_where_their_names_say(rt: HostRuntime) {
     goes_to(&rt, &leapers(), "", b'k', "a1", ["a2 b1 b2", "c1 a3 b3"]);
     goes_to(&rt, &chess(), "", b'n', "g1", ["e2 f3 h3", "g3 f2 d1"]);
     goes_to(&rt, &chess(), "pe5", b'q', "e1", ["e5 h4 a1 d2", "e6 f3"]);
-    goes_to(&rt, &capablanca(), "Pe5", b'a', "c3", ["e5 a5 b1 d4", "f6 c4 h8"]);
+    goes_to(
+        &rt,
+        &capablanca(),
+        "Pe5",
+        b'a',
+        "c3",
+        ["e5 a5 b1 d4", "f6 c4 h8"],
+    );
     goes_to(&rt, &shouse(), "", b'e', "a1", ["a8 h1 b3 c2", "b2 c3"]);
     goes_to(&rt, &xiangqi(), "", b'b', "c1", ["a3 e3", "b2 d2 c3"]);
     goes_to(&rt, &xiangqi(), "Pd2", b'b', "c1", ["a3", "e3"]);
-    goes_to(&rt, &xiangqi(), "pa4 Pa6", b'c', "a1", ["a2 a3 a6 i1", "a4 a5 a7 b2"]);
+    goes_to(
+        &rt,
+        &xiangqi(),
+        "pa4 Pa6",
+        b'c',
+        "a1",
+        ["a2 a3 a6 i1", "a4 a5 a7 b2"],
+    );
 }
