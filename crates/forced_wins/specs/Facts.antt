@@ -39,7 +39,7 @@ serves f repeat counter moves = same_repeat f.repeat repeat && covers f f.wins c
 
 -- ---- how facts follow
 
--- the fact wins, or refutes, the position behind the move, at that position's counter and with its own moves
+-- the fact wins, or refutes, the position after the move, at that position's counter and with its own moves
 pub record ServesMove (rules : Rules) (p : Position) (m : Move) (wins : Bool) (k : Fact) : Type 0 where
   pub kind : k.wins ≡ wins
   pub serves : serves k (repeat_of (next rules p m)) (next rules p m).counter k.moves ≡ true

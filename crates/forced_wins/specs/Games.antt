@@ -12,7 +12,7 @@ pub record Game (P R M : Type 0) : Type 0 where
   pub same : R → R → Bool
   pub same_move : M → M → Bool
   pub counter : P → ℕ
-  -- an end by the position itself, or for want of a legal move: whether the attacker has won
+  -- an end by the position itself, or without a legal move: whether the attacker has won
   pub own : P → Option Bool
   -- the attacker is to move
   pub attacking : P → Bool

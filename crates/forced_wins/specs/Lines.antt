@@ -3,7 +3,7 @@ use Rattle.std.specs.Prelude.{◌≡◌, ◌⊎◌, ℕ, ◌+◌, ◌-◌, ◌*�
 use Rattle.foundation.specs.Member.{Member}
 use Rattle.forced_wins.specs.Games.{Game, Story, history, times, near, near_root, blocked}
 
--- how many of n moves the attacker has left behind a move from p
+-- how many of n moves the attacker has left after a move from p
 abbrev pub moves_left : {P R M : Type 0} → Game P R M → ℕ → P → ℕ
 moves_left r n p = if r.attacking p then n - 1 else n
 
@@ -16,7 +16,7 @@ IsWonAlong r barred n p (m ∷ ms) =
     × (near r barred (moves_left r n p) (r.next p m) ≡ true)
     × IsWonAlong r barred (moves_left r n p) (r.next p m) ms
 
--- the position behind the moves
+-- the position after the moves
 abbrev pub behind : {P R M : Type 0} → Game P R M → P → List M → P
 behind r p [] = p
 behind r p (m ∷ ms) = behind r (r.next p m) ms

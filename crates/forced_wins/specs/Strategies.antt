@@ -45,7 +45,7 @@ pub record SoundGood (rules : Rules) (n : ℕ) (g : Story) (a : Side) : Type 0 w
 
 -- ---- lines
 
--- how many of n moves the attacker has left behind a move from p
+-- how many of n moves the attacker has left after a move from p
 abbrev pub moves_left : ℕ → Position → Side → ℕ
 moves_left n p a = if same_side p.side a then n - 1 else n
 
@@ -58,7 +58,7 @@ IsWonAlong rules barred a n p (m ∷ ms) =
     × (near rules (moves_left n p a) (next rules p m) barred a ≡ true)
     × IsWonAlong rules barred a (moves_left n p a) (next rules p m) ms
 
--- the position behind the moves
+-- the position after the moves
 abbrev pub behind : Rules → Position → List Move → Position
 behind rules p [] = p
 behind rules p (m ∷ ms) = behind rules (next rules p m) ms

@@ -29,7 +29,7 @@ pub data Verdict (M : Type 0) : Type 0 where
 unfoldable pub nodes_of : {P R M N E : Type 0} → Game P R M → Accessors P M N E → R → List N → ℕ
 nodes_of r tb x s = count_by (λ v. r.same (r.repeat (tb.position v)) x) s
 
--- how a node is ended at its counter: by itself, for want of a legal move, or by the move count
+-- how a node is ended at its counter: by itself, without a legal move, or by the move count
 abbrev pub node_end : {P R M N E : Type 0} → Game P R M → Accessors P M N E → N → Option Bool
 node_end r tb v = or_end (r.own (tb.position v)) (lost_if (run_out r (r.counter (tb.position v))))
 

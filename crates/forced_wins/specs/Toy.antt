@@ -93,7 +93,7 @@ bad_rank_table =
     ∷ node (place false 9 3) 0 []
     ∷ []
 
--- the nodes behind the root speak for lower counters than play reaches
+-- the nodes after the root speak for lower counters than play reaches
 abbrev pub bad_counter_table : List (Node Place ℕ)
 bad_counter_table =
     node (place true 0 1) 2 (edge 1 1 ∷ [])
