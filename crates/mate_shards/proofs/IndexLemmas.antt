@@ -1,7 +1,7 @@
 -- Chains pass every entry of their bucket.
-use Rattle.std.proofs.Common.{◌≡◌, ◌≢◌, ℕ, zero, suc, ◌+◌, ◌-◌, ◌<◌, ◌≤◌, ◌%◌, Bool, true, false, ◌||◌, List, [], ◌∷◌, ◌++◌, length, get_or, set, replicate, take, map, Option, None, Some, refl, ap, sym, ◌∙◌, subst, arith, length-append, length-set, if◌then◌else◌}
+use Rattle.std.proofs.Common.{◌≡◌, ◌≢◌, ℕ, zero, suc, ◌+◌, ◌-◌, ◌<◌, ◌≤◌, ◌%◌, Bool, true, false, ◌||◌, List, [], ◌∷◌, ◌++◌, length, get_or, set, replicate, take, Option, None, Some, refl, ap, sym, ◌∙◌, subst, arith, length-set, if◌then◌else◌}
 use Rattle.std.specs.List.{list_any}
-use Rattle.std.proofs.lemmas.List.{get_or_append_left, get_or_push, get_or-set_same, get_or-set_other, get_or-replicate, get_or-map, take_more, take_all, length_push, length-map, map-append}
+use Rattle.std.proofs.lemmas.List.{get_or_append_left, get_or_push, get_or-set_same, get_or-set_other, get_or-map, take_more, take_all, length_push, length-map, map-append}
 use Rattle.std.proofs.lemmas.List.Folds.{list_any-append}
 use Rattle.std.proofs.lemmas.Bool.{and_parts}
 use Rattle.std.proofs.Math.Bool.{or-false, or-true}
@@ -48,9 +48,9 @@ passed_over bs b c at apart last = record {
   low = let low = last.low in omega arith;
   here = (longer bs (b ∷ []) c (length bs) at (omega arith) last).here;
   none = λ k from to same.
-    dite (ℕ_discrete k (length bs))
-    (λ e. apart (sym same ∙ get_or_push bs b 0 k (sym e)))
-    (λ e. (longer bs (b ∷ []) c (length bs) at (omega arith) last).none k from (omega arith) same);
+      dite (ℕ_discrete k (length bs))
+      (λ e. apart (sym same ∙ get_or_push bs b 0 k (sym e)))
+      (λ e. (longer bs (b ∷ []) c (length bs) at (omega arith) last).none k from (omega arith) same);
 }
 
 pub pushed : (bs heads links : List ℕ) (b : ℕ) → IsIndex bs heads links → b < length heads → IsIndex (bs ++ b ∷ []) (set heads b (length bs + 1)) (links ++ get_or heads b 0 ∷ [])
@@ -66,38 +66,39 @@ pushed bs heads links b index l = record {
         let size = length_push bs b in
         dite (ℕ_discrete c b)
         (λ e.
-          let at : get_or (set heads b (length bs + 1)) c 0 ≡ length bs + 1 = ap (λ x. get_or (set heads b (length bs + 1)) x 0) e ∙ get_or-set_same heads b (length bs + 1) 0 l in
-          let named = subst (λ x. P x (length bs + 1) (length bs + 1)) (sym e) (newest bs b) in
-          subst (λ n. P c n (get_or (set heads b (length bs + 1)) c 0)) (sym size) (subst (λ a. P c (length bs + 1) a) (sym at) named))
+        let at : get_or (set heads b (length bs + 1)) c 0 ≡ length bs + 1 = ap (λ x. get_or (set heads b (length bs + 1)) x 0) e ∙ get_or-set_same heads b (length bs + 1) 0 l in
+        let named = subst (λ x. P x (length bs + 1) (length bs + 1)) (sym e) (newest bs b) in
+        subst (λ n. P c n (get_or (set heads b (length bs + 1)) c 0)) (sym size) (subst (λ a. P c (length bs + 1) a) (sym at) named))
         (λ apart.
-          let at : get_or (set heads b (length bs + 1)) c 0 ≡ get_or heads c 0 = get_or-set_other heads b c (length bs + 1) 0 apart in
-          let within : c < length heads = omega (arith, length-set heads b (length bs + 1)) in
-          let old = passed_over bs b c (get_or heads c 0) apart (index.heads_are c within) in
-          subst (λ n. P c n (get_or (set heads b (length bs + 1)) c 0)) (sym size) (subst (λ a. P c (length bs + 1) a) (sym at) old))
+        let at : get_or (set heads b (length bs + 1)) c 0 ≡ get_or heads c 0 = get_or-set_other heads b c (length bs + 1) 0 apart in
+        let within : c < length heads = omega (arith, length-set heads b (length bs + 1)) in
+        let old = passed_over bs b c (get_or heads c 0) apart (index.heads_are c within) in
+        subst (λ n. P c n (get_or (set heads b (length bs + 1)) c 0)) (sym size) (subst (λ a. P c (length bs + 1) a) (sym at) old))
+
     link : (i : ℕ) → i < length (bs ++ b ∷ []) → IsLast (bs ++ b ∷ []) (get_or (bs ++ b ∷ []) i 0) i (get_or (links ++ get_or heads b 0 ∷ []) i 0)
     link i below =
         let P : ℕ → ℕ → Type 0 = λ x at. IsLast (bs ++ b ∷ []) x i at in
         let linked = index.linked in
         dite (ℕ_discrete i (length bs))
         (λ e.
-          let own : get_or (bs ++ b ∷ []) i 0 ≡ b = get_or_push bs b 0 i (sym e) in
-          let at : get_or (links ++ get_or heads b 0 ∷ []) i 0 ≡ get_or heads b 0 = get_or_push links (get_or heads b 0) 0 i (linked ∙ sym e) in
-          let last = longer bs (b ∷ []) b (length bs) (get_or heads b 0) (omega arith) (index.heads_are b l) in
-          let here : P b (get_or heads b 0) = subst (λ n. IsLast (bs ++ b ∷ []) b n (get_or heads b 0)) (sym e) last in
-          subst (λ a. P (get_or (bs ++ b ∷ []) i 0) a) (sym at) (subst (λ x. P x (get_or heads b 0)) (sym own) here))
+        let own : get_or (bs ++ b ∷ []) i 0 ≡ b = get_or_push bs b 0 i (sym e) in
+        let at : get_or (links ++ get_or heads b 0 ∷ []) i 0 ≡ get_or heads b 0 = get_or_push links (get_or heads b 0) 0 i (linked ∙ sym e) in
+        let last = longer bs (b ∷ []) b (length bs) (get_or heads b 0) (omega arith) (index.heads_are b l) in
+        let here : P b (get_or heads b 0) = subst (λ n. IsLast (bs ++ b ∷ []) b n (get_or heads b 0)) (sym e) last in
+        subst (λ a. P (get_or (bs ++ b ∷ []) i 0) a) (sym at) (subst (λ x. P x (get_or heads b 0)) (sym own) here))
         (λ apart.
-          let within : i < length bs = omega (arith, length_push bs b) in
-          let own : get_or (bs ++ b ∷ []) i 0 ≡ get_or bs i 0 = get_or_append_left bs (b ∷ []) 0 i within in
-          let at : get_or (links ++ get_or heads b 0 ∷ []) i 0 ≡ get_or links i 0 = get_or_append_left links (get_or heads b 0 ∷ []) 0 i (omega arith) in
-          let last = longer bs (b ∷ []) (get_or bs i 0) i (get_or links i 0) (omega arith) (index.links_are i within) in
-          subst (λ a. P (get_or (bs ++ b ∷ []) i 0) a) (sym at) (subst (λ x. P x (get_or links i 0)) (sym own) last))
+        let within : i < length bs = omega (arith, length_push bs b) in
+        let own : get_or (bs ++ b ∷ []) i 0 ≡ get_or bs i 0 = get_or_append_left bs (b ∷ []) 0 i within in
+        let at : get_or (links ++ get_or heads b 0 ∷ []) i 0 ≡ get_or links i 0 = get_or_append_left links (get_or heads b 0 ∷ []) 0 i (omega arith) in
+        let last = longer bs (b ∷ []) (get_or bs i 0) i (get_or links i 0) (omega arith) (index.links_are i within) in
+        subst (λ a. P (get_or (bs ++ b ∷ []) i 0) a) (sym at) (subst (λ x. P x (get_or links i 0)) (sym own) last))
 
 pub empty : (n : ℕ) → IsIndex [] (replicate n 0) []
 empty n = record {
   linked = refl;
   heads_are = λ b l.
-    let at : ◌≡◌ {A = ℕ} (get_or (replicate n 0) b 0) 0 = replicated n b in
-    record { low = omega arith; here = λ some. absurd (omega arith); none = λ k from to same. absurd (omega arith) };
+      let at : ◌≡◌ {A = ℕ} (get_or (replicate n 0) b 0) 0 = replicated n b in
+      record { low = omega arith; here = λ some. absurd (omega arith); none = λ k from to same. absurd (omega arith) };
   links_are = λ i l. absurd (omega arith);
 }
   where
@@ -174,11 +175,11 @@ module _ (capacity : ℕ) (fs : List Fact) (d : Fact) where
       ap (λ x. has_better (take x fs) f) e
       ∙ any_skips (λ k. is_as_good k f) fs d at (n - at) (omega arith)
       (λ i from to.
-        let k = get_or fs i d in
-        not_true (is_as_good k f)
-        (λ t.
-          let s : serves k f.repeat f.counter f.moves ≡ true = (and_parts (same_bool k.wins f.wins) (serves k f.repeat f.counter f.moves) t).1 in
-          last.none i from (omega arith) (bucket_at i (omega arith) ∙ ap (λ x. hash_of x % capacity) (served k f.repeat f.counter f.moves s).0)))
+      let k = get_or fs i d in
+      not_true (is_as_good k f)
+      (λ t.
+      let s : serves k f.repeat f.counter f.moves ≡ true = (and_parts (same_bool k.wins f.wins) (serves k f.repeat f.counter f.moves) t).1 in
+      last.none i from (omega arith) (bucket_at i (omega arith) ∙ ap (λ x. hash_of x % capacity) (served k f.repeat f.counter f.moves s).0)))
 
   -- the walk goes from one entry to the next
   pub best-next : (r : Repeat) (c m at next : ℕ) (found : Option Fact) → 0 < at → at ≤ length fs → IsLast (buckets capacity fs) (hash_of r % capacity) (at - 1) next → sooner (best (take at fs) r c m) found ≡ sooner (best (take next fs) r c m) (sooner (if_serves (get_or fs (at - 1) d) r c m) found)
@@ -244,9 +245,9 @@ module _ (capacity : ℕ) (fs : List Fact) (h : ℕ) (r : Repeat) (hashed : h �
   look-starts c m at last = record {
     chain = in_chain (length fs) at (omega arith) last;
     rest =
-      ap (λ xs. best xs r c m) (sym (take_all (length fs) fs (omega arith)))
-      ∙ (best-chain capacity fs (some_fact r) r c m (length fs) at (omega arith) (by_repeat (length fs) at last)
-      ∙ sym (sooner-none (best (take at fs) r c m)));
+        ap (λ xs. best xs r c m) (sym (take_all (length fs) fs (omega arith)))
+        ∙ (best-chain capacity fs (some_fact r) r c m (length fs) at (omega arith) (by_repeat (length fs) at last)
+        ∙ sym (sooner-none (best (take at fs) r c m)));
   }
 
   pub look-goes-on : (heads links : List ℕ) (c m at next : ℕ) (found older : Option Fact) (x : Fact) → IsIndex (buckets capacity fs) heads links → Looking capacity fs h r c m at found → 0 < at → x ≡ get_or fs (at - 1) x → next ≡ get_or links (at - 1) 0 → older ≡ sooner (if_serves x r c m) found → Looking capacity fs h r c m next older
@@ -258,10 +259,10 @@ module _ (capacity : ℕ) (fs : List Fact) (h : ℕ) (r : Repeat) (hashed : h �
       record {
         chain = in_chain (at - 1) next (omega arith) last;
         rest =
-          look.rest
-          ∙ (best-next capacity fs x r c m at next found some (omega arith) (by_repeat (at - 1) next last)
-          ∙ (ap (λ y. sooner (best (take next fs) r c m) (sooner (if_serves y r c m) found)) (sym read)
-          ∙ ap (sooner (best (take next fs) r c m)) (sym joined)));
+            look.rest
+            ∙ (best-next capacity fs x r c m at next found some (omega arith) (by_repeat (at - 1) next last)
+            ∙ (ap (λ y. sooner (best (take next fs) r c m) (sooner (if_serves y r c m) found)) (sym read)
+            ∙ ap (sooner (best (take next fs) r c m)) (sym joined)));
       }
 
   pub look-ends : (c m at : ℕ) (found : Option Fact) → Looking capacity fs h r c m at found → at ≡ 0 → found ≡ best fs r c m
@@ -274,8 +275,8 @@ module _ (capacity : ℕ) (fs : List Fact) (h : ℕ) (f : Fact) (hashed : h ≡ 
   search-starts at last = record {
     chain = in_chain capacity fs h f.repeat hashed (length fs) at (omega arith) last;
     rest =
-      ap (λ xs. has_better xs f) (sym (take_all (length fs) fs (omega arith)))
-      ∙ better-chain capacity fs f f (length fs) at (omega arith) (by_repeat capacity fs h f.repeat hashed (length fs) at last);
+        ap (λ xs. has_better xs f) (sym (take_all (length fs) fs (omega arith)))
+        ∙ better-chain capacity fs f f (length fs) at (omega arith) (by_repeat capacity fs h f.repeat hashed (length fs) at last);
   }
 
   pub search-goes-on : (heads links : List ℕ) (at next : ℕ) (x : Fact) → IsIndex (buckets capacity fs) heads links → Comparing capacity fs h f at → 0 < at → x ≡ get_or fs (at - 1) x → is_as_good x f ≡ false → next ≡ get_or links (at - 1) 0 → Comparing capacity fs h f next
@@ -287,8 +288,8 @@ module _ (capacity : ℕ) (fs : List Fact) (h : ℕ) (f : Fact) (hashed : h ≡ 
       record {
         chain = in_chain capacity fs h f.repeat hashed (at - 1) next (omega arith) last;
         rest =
-          comparing.rest
-          ∙ better-next capacity fs x f at next some (omega arith) (ap (λ y. is_as_good y f) (sym read) ∙ fails) (by_repeat capacity fs h f.repeat hashed (at - 1) next last);
+            comparing.rest
+            ∙ better-next capacity fs x f at next some (omega arith) (ap (λ y. is_as_good y f) (sym read) ∙ fails) (by_repeat capacity fs h f.repeat hashed (at - 1) next last);
       }
 
   pub search-finds : (at : ℕ) (x : Fact) → Comparing capacity fs h f at → 0 < at → x ≡ get_or fs (at - 1) x → is_as_good x f ≡ true → has_better fs f ≡ true

@@ -1,7 +1,6 @@
 -- What is kept is what the frames allow, and is true in the new one.
-use Rattle.std.proofs.Common.{◌≡◌, ◌⊎◌, inl, inr, ℕ, Bool, true, false, ◌&&◌, ◌||◌, List, [], ◌∷◌, refl, ap, sym, ◌∙◌, subst, if◌then◌else◌}
-use Rattle.std.specs.Prelude.{All}
-use Rattle.std.specs.List.{filter, list_all, list_any}
+use Rattle.std.proofs.Common.{◌≡◌, inl, inr, Bool, true, false, ◌||◌, List, [], ◌∷◌, refl, ap, sym, ◌∙◌, subst, if◌then◌else◌}
+use Rattle.std.specs.List.{filter}
 use Rattle.std.proofs.lemmas.Bool.{and_parts}
 use Rattle.std.proofs.lemmas.List.Elements.{All-nil, All-cons, All-head, All-tail}
 use Rattle.rules_model.specs.declared.board.Repeat.{Repeat}
@@ -12,13 +11,13 @@ use Rattle.rules_model.proofs.EqualLaws.{repeat-decides}
 use Rattle.forced_wins.specs.declared.fact.Fact.{Fact}
 use Rattle.forced_wins.specs.Facts.{IsTrueFact}
 use Rattle.forced_wins.specs.Wins.{is_in}
-use Rattle.forced_wins.proofs.Counts.{by_cases, true_false}
+use Rattle.forced_wins.proofs.Counts.{by_cases}
 use Rattle.forced_wins.proofs.FactLaws.{kept-won, kept-refuted}
 use Rattle.mate_core.specs.declared.frame.Frame.{Frame}
 use Rattle.mate_core.specs.Runs.{IsTrueIn, AreTrueIn}
 use Rattle.mate_shards.specs.declared.keeps.Keeps.{Keeps}
-use Rattle.mate_shards.specs.Keeps.{picks, IsSameGame, KeepSome, KeepNone, AreKeeps}
-use Rattle.mate_shards.specs.Kept.{are_in, stays, IsKept}
+use Rattle.mate_shards.specs.Keeps.{picks, KeepSome, AreKeeps}
+use Rattle.mate_shards.specs.Kept.{are_in, IsKept}
 
 -- lists of repeats
 in-all : (xs ys : List Repeat) → are_in xs ys ≡ true → (x : Repeat) → is_in xs x ≡ true → is_in ys x ≡ true
@@ -68,11 +67,11 @@ picked_true old new k (f ∷ fs) some all =
     let rest = picked_true old new k fs some (All-tail P f fs all) in
     by_cases (picks k f)
     (λ t.
-      let e : filter (picks k) (f ∷ fs) ≡ f ∷ filter (picks k) fs = ap (λ b. if b then f ∷ filter (picks k) fs else filter (picks k) fs) t in
-      subst (AreTrueIn new) (sym e) (All-cons (IsTrueIn new) f (filter (picks k) fs) (one_true old new k f some (All-head P f fs all) f.wins refl t) rest))
+    let e : filter (picks k) (f ∷ fs) ≡ f ∷ filter (picks k) fs = ap (λ b. if b then f ∷ filter (picks k) fs else filter (picks k) fs) t in
+    subst (AreTrueIn new) (sym e) (All-cons (IsTrueIn new) f (filter (picks k) fs) (one_true old new k f some (All-head P f fs all) f.wins refl t) rest))
     (λ t.
-      let e : filter (picks k) (f ∷ fs) ≡ filter (picks k) fs = ap (λ b. if b then f ∷ filter (picks k) fs else filter (picks k) fs) t in
-      subst (AreTrueIn new) (sym e) rest)
+    let e : filter (picks k) (f ∷ fs) ≡ filter (picks k) fs = ap (λ b. if b then f ∷ filter (picks k) fs else filter (picks k) fs) t in
+    subst (AreTrueIn new) (sym e) rest)
 
 pub kept-true : (old new : Frame) (k : Keeps) (fs : List Fact) → AreKeeps old new k → AreTrueIn old fs → AreTrueIn new (filter (picks k) fs)
 kept-true old new k fs (inl some) all = picked_true old new k fs some all

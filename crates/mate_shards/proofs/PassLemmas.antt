@@ -1,9 +1,9 @@
 -- Passes that are made, cut in two and joined, one shard after another.
-use Rattle.std.proofs.Common.{◌≡◌, ◌≢◌, ℕ, zero, suc, ◌+◌, ◌-◌, ◌<◌, ◌≤◌, List, [], ◌∷◌, ◌++◌, length, get_or, set, Option, Some, None, refl, ap, sym, ◌∙◌, subst, arith, length-set}
-use Rattle.std.specs.Prelude.{All, slice_get, slice_set}
+use Rattle.std.proofs.Common.{◌≡◌, ℕ, zero, suc, ◌+◌, ◌-◌, ◌<◌, ◌≤◌, List, [], ◌∷◌, ◌++◌, length, get_or, set, Option, Some, None, refl, ap, sym, ◌∙◌, subst, arith, length-set}
+use Rattle.std.specs.Prelude.{All, slice_get}
 use Rattle.std.specs.List.{insert, remove}
 use Rattle.std.proofs.lemmas.List.{length_push}
-use Rattle.std.proofs.lemmas.List.Elements.{All-push, All-weaker, All-set}
+use Rattle.std.proofs.lemmas.List.Elements.{All-push, All-weaker}
 use Rattle.std.proofs.lemmas.Option.{slice_get_within}
 use native.Mathlib.Decide.{ℕ_discrete}
 use mathlib.Core.Logic.{dite}
@@ -11,7 +11,7 @@ use Rattle.foundation.proofs.SetLemmas.{slice_get-set_same, slice_get-set_other}
 use Rattle.fact_lock.specs.Passes.{LockView, IsPassOf, all_parts}
 use Rattle.mate_core.specs.declared.frame.Frame.{Frame}
 use Rattle.mate_shards.specs.Shard.{Key}
-use Rattle.mate_shards.specs.Views.{ShardsView, ShardPass, ArePassesOf, AreLocksOf, IsFresh, IsHalved, AreHalved, IsJoined, AreJoined}
+use Rattle.mate_shards.specs.Views.{ShardsView, ShardPass, ArePassesOf, IsFresh, IsHalved, AreHalved, IsJoined, AreJoined}
 use Rattle.mate_shards.proofs.TurnLemmas.{some_is, read-at, all-at}
 
 module _ {X : Type 0} where
@@ -44,9 +44,9 @@ one-more frame capacity locks passes l p made key is fresh = record {
   count = let e = made.count in omega (arith, length_push locks l, length_push passes p);
   keys = All-push (λ m. m.key ≡ (frame, capacity)) locks l made.keys key;
   each = λ k m q lock pass.
-    push-at locks l k m lock
-    (λ old. push-at passes p k q pass (λ here. made.each k m q old here) (λ e same. absurd (let w = slice_get_within locks k m old in let c = made.count in omega arith)))
-    (λ e same.
+      push-at locks l k m lock
+      (λ old. push-at passes p k q pass (λ here. made.each k m q old here) (λ e same. absurd (let w = slice_get_within locks k m old in let c = made.count in omega arith)))
+      (λ e same.
       push-at passes p k q pass
       (λ here. absurd (let w = slice_get_within passes k q here in let c = made.count in omega arith))
       (λ f same_pass. subst (λ x. IsPassOf x q) same (subst (λ x. IsPassOf l x) same_pass is)));
@@ -111,21 +111,20 @@ module _ (s : ShardsView) (ps : List ShardPass) (are : ArePassesOf s ps) where
           let taken = so_far.taken in
           dite (ℕ_discrete j k)
           (λ e.
-            let same_lock : l ≡ m = some_is (sym lock ∙ (ap (slice_get s.locks) (sym e) ∙ lock_j)) in
-            let same_pass : p ≡ q = some_is (sym was ∙ (ap (slice_get ps) (sym e) ∙ was_j)) in
-            let same_a : a ≡ c = some_is (sym (slice_get-set_same items k a (omega arith)) ∙ (ap (slice_get (set items k a)) (sym e) ∙ here)) in
-            push-at given b j d part
-            (λ old. absurd (let w = slice_get_within given j d old in omega arith))
-            (λ f same_b.
-              (
-                subst (λ x. IsPassOf x c) same_lock (subst (IsPassOf l) same_a is_a),
-                subst (λ x. IsPassOf x d) same_lock (subst (IsPassOf l) same_b is_b),
-                subst (λ x. IsHalved x c d) same_pass (subst (λ x. IsHalved p x d) same_a (subst (IsHalved p a) same_b halved)),
-              )))
+          let same_lock : l ≡ m = some_is (sym lock ∙ (ap (slice_get s.locks) (sym e) ∙ lock_j)) in
+          let same_pass : p ≡ q = some_is (sym was ∙ (ap (slice_get ps) (sym e) ∙ was_j)) in
+          let same_a : a ≡ c = some_is (sym (slice_get-set_same items k a (omega arith)) ∙ (ap (slice_get (set items k a)) (sym e) ∙ here)) in
+          push-at given b j d part
+          (λ old. absurd (let w = slice_get_within given j d old in omega arith))
+          (λ f same_b. (
+            subst (λ x. IsPassOf x c) same_lock (subst (IsPassOf l) same_a is_a),
+            subst (λ x. IsPassOf x d) same_lock (subst (IsPassOf l) same_b is_b),
+            subst (λ x. IsHalved x c d) same_pass (subst (λ x. IsHalved p x d) same_a (subst (IsHalved p a) same_b halved)),
+          )))
           (λ apart.
-            push-at given b j d part
-            (λ old. so_far.cut j m q c d (omega arith) lock_j was_j (sym (slice_get-set_other items k j a (λ e. apart (sym e))) ∙ here) old)
-            (λ f same_b. absurd (apart (f ∙ taken))))
+          push-at given b j d part
+          (λ old. so_far.cut j m q c d (omega arith) lock_j was_j (sym (slice_get-set_other items k j a (λ e. apart (sym e))) ∙ here) old)
+          (λ f same_b. absurd (apart (f ∙ taken))))
 
   module _ (items given : List ShardPass) (all : Splitting s ps items given (length ps)) where
     cut_at : (j : ℕ) (l : LockView Key) (a b : ShardPass) → slice_get s.locks j ≡ Some l → slice_get items j ≡ Some a → slice_get given j ≡ Some b → (p : ShardPass) × (slice_get ps j ≡ Some p) × IsPassOf l a × IsPassOf l b × IsHalved p a b
@@ -149,46 +148,56 @@ module _ (s : ShardsView) (ps : List ShardPass) (are : ArePassesOf s ps) where
     first-passes = record {
       count = all.count ∙ are.count;
       each = λ j l a lock here.
-        let w = slice_get_within items j a here in
-        let size = all.count in
-        let b = part_for j (omega arith) in
-        (cut_at j l a b.0 lock here b.1).2;
+          let w = slice_get_within items j a here in
+          let size = all.count in
+          let b = part_for j (omega arith) in
+          (cut_at j l a b.0 lock here b.1).2;
       parts =
-        let n = are.parts.0 in
-        (
-          n - 1,
-          all-from (λ v. v.parts ≡ n - 1) items
-          (λ j a here.
-            let w = slice_get_within items j a here in
-            let size = all.count in
-            let l = lock_for j (omega arith) in
-            let b = part_for j (omega arith) in
-            let c = cut_at j l.0 a b.0 l.1 here b.1 in
-            let parts = c.4.parts.0 in
-            let was = all-at (λ v. v.parts ≡ n) ps j c.0 are.parts.1 c.1 in omega arith),
-        );
+          let n = are.parts.0 in (
+            n - 1,
+            all-from (λ v. v.parts ≡ n - 1) items
+                (λ j a here.
+                let w = slice_get_within items j a here in
+                let size = all.count in
+                let l = lock_for j (omega arith) in
+                let b = part_for j (omega arith) in
+                let c = cut_at j l.0 a b.0 l.1 here b.1 in
+                let parts = c.4.parts.0 in
+                let was = all-at (λ v. v.parts ≡ n) ps j c.0 are.parts.1 c.1 in omega arith),
+          );
     }
 
     pub second-passes : ArePassesOf s given
     second-passes = record {
       count = all.taken ∙ are.count;
       each = λ j l b lock part.
-        let w = slice_get_within given j b part in
-        let taken = all.taken in
-        let a = kept_for j (omega arith) in
-        (cut_at j l a.0 b lock a.1 part).3;
-      parts =
-        (
-          1,
-          all-from (λ v. v.parts ≡ 1) given
-          (λ j b part.
+          let w = slice_get_within given j b part in
+          let taken = all.taken in
+          let a = kept_for j (omega arith) in
+          (cut_at j l a.0 b lock a.1 part).3;
+      parts = (
+        1,
+        all-from (λ v. v.parts ≡ 1) given
+            (λ j b part.
             let w = slice_get_within given j b part in
             let taken = all.taken in
             let l = lock_for j (omega arith) in
             let a = kept_for j (omega arith) in
             let c = cut_at j l.0 a.0 b l.1 a.1 part in c.4.parts.1),
-        );
+      );
     }
+
+    pub halved-parts : (n : ℕ) → All (λ p. p.parts ≡ n + 1) ps → All (λ p. p.parts ≡ n) items
+    halved-parts n whole =
+        all-from (λ v. v.parts ≡ n) items
+        (λ j a here.
+        let w = slice_get_within items j a here in
+        let size = all.count in
+        let l = lock_for j (omega arith) in
+        let b = part_for j (omega arith) in
+        let c = cut_at j l.0 a b.0 l.1 here b.1 in
+        let parts = c.4.parts.0 in
+        let was = all-at (λ v. v.parts ≡ n + 1) ps j c.0 whole c.1 in omega arith)
 
     pub are-halved : AreHalved ps items given
     are-halved j p a b was here part =
@@ -229,14 +238,13 @@ module _ (s : ShardsView) (left right : List ShardPass) (are : ArePassesOf s lef
           let size = so_far.count in
           dite (ℕ_discrete j k)
           (λ e.
-            let same_lock : l ≡ m = some_is (sym lock ∙ (ap (slice_get s.locks) (sym e) ∙ lock_j)) in
-            let same_a : a ≡ c = some_is (sym first ∙ (ap (slice_get left) (sym e) ∙ first_j)) in
-            let same_b : b ≡ d = some_is (sym second ∙ (ap (slice_get right) (sym e) ∙ second_j)) in
-            let same : p ≡ q = some_is (sym (slice_get-set_same items k p (omega arith)) ∙ (ap (slice_get (set items k p)) (sym e) ∙ here)) in
-            (
-              subst (λ x. IsPassOf x q) same_lock (subst (IsPassOf l) same is),
-              subst (λ x. IsJoined x d q) same_a (subst (λ x. IsJoined a x q) same_b (subst (IsJoined a b) same joined)),
-            ))
+          let same_lock : l ≡ m = some_is (sym lock ∙ (ap (slice_get s.locks) (sym e) ∙ lock_j)) in
+          let same_a : a ≡ c = some_is (sym first ∙ (ap (slice_get left) (sym e) ∙ first_j)) in
+          let same_b : b ≡ d = some_is (sym second ∙ (ap (slice_get right) (sym e) ∙ second_j)) in
+          let same : p ≡ q = some_is (sym (slice_get-set_same items k p (omega arith)) ∙ (ap (slice_get (set items k p)) (sym e) ∙ here)) in (
+            subst (λ x. IsPassOf x q) same_lock (subst (IsPassOf l) same is),
+            subst (λ x. IsJoined x d q) same_a (subst (λ x. IsJoined a x q) same_b (subst (IsJoined a b) same joined)),
+          ))
           (λ apart. so_far.done j m c d q (omega arith) lock_j first_j second_j (sym (slice_get-set_other items k j p (λ e. apart (sym e))) ∙ here))
 
   module _ (items others : List ShardPass) (all : Joining s left right items others (length left)) where
@@ -245,21 +253,20 @@ module _ (s : ShardsView) (left right : List ShardPass) (are : ArePassesOf s lef
       count = all.count ∙ are.count;
       each = λ j l p lock here. (joined_at j l p lock here).3;
       parts =
-        let n = are.parts.0 in
-        let m = others_are.parts.0 in
-        (
-          n + m,
-          all-from (λ v. v.parts ≡ n + m) items
-          (λ j p here.
-            let w = slice_get_within items j p here in
-            let size = all.count in
-            let e = are.count in
-            let l = some-at s.locks j (omega arith) in
-            let c = joined_at j l.0 p l.1 here in
-            let parts = c.4.parts in
-            let x = all-at (λ v. v.parts ≡ n) left j c.0 are.parts.1 c.2.0 in
-            let y = all-at (λ v. v.parts ≡ m) right j c.1 others_are.parts.1 c.2.1 in omega arith),
-        );
+          let n = are.parts.0 in
+          let m = others_are.parts.0 in (
+            n + m,
+            all-from (λ v. v.parts ≡ n + m) items
+                (λ j p here.
+                let w = slice_get_within items j p here in
+                let size = all.count in
+                let e = are.count in
+                let l = some-at s.locks j (omega arith) in
+                let c = joined_at j l.0 p l.1 here in
+                let parts = c.4.parts in
+                let x = all-at (λ v. v.parts ≡ n) left j c.0 are.parts.1 c.2.0 in
+                let y = all-at (λ v. v.parts ≡ m) right j c.1 others_are.parts.1 c.2.1 in omega arith),
+          );
     }
       where
         joined_at : (j : ℕ) (l : LockView Key) (p : ShardPass) → slice_get s.locks j ≡ Some l → slice_get items j ≡ Some p → (a : ShardPass) × (b : ShardPass) × ((slice_get left j ≡ Some a) × (slice_get right j ≡ Some b)) × IsPassOf l p × IsJoined a b p

@@ -1,5 +1,5 @@
 -- Shards are closed and opened again one after another.
-use Rattle.std.proofs.Common.{◌≡◌, ℕ, suc, ◌+◌, ◌<◌, ◌≤◌, List, [], ◌∷◌, ◌++◌, length, get_or, Option, Some, None, refl, ap, sym, ◌∙◌, subst, arith}
+use Rattle.std.proofs.Common.{◌≡◌, ℕ, suc, ◌+◌, ◌<◌, List, [], ◌∷◌, ◌++◌, length, get_or, Option, Some, None, refl, ap, sym, ◌∙◌, subst, arith}
 use Rattle.std.specs.Prelude.{All, slice_get}
 use Rattle.std.specs.List.{remove}
 use Rattle.std.proofs.lemmas.List.{length_push}
@@ -8,7 +8,7 @@ use Rattle.std.proofs.lemmas.Option.{slice_get_within}
 use Rattle.fact_lock.specs.Passes.{LockView, IsPassOf, all_parts}
 use Rattle.mate_core.specs.declared.frame.Frame.{Frame}
 use Rattle.mate_shards.specs.Shard.{Key}
-use Rattle.mate_shards.specs.Views.{ShardsView, ShardPass, ArePassesOf, AreLocksOf, IsRebased, AreRebased}
+use Rattle.mate_shards.specs.Views.{ShardsView, ShardPass, ArePassesOf, IsRebased}
 use Rattle.mate_shards.proofs.TurnLemmas.{read-at, all-at}
 use Rattle.mate_shards.proofs.PassLemmas.{push-at, first_gone, some-at, all-from}
 
@@ -71,20 +71,20 @@ module _ (s : ShardsView) (ps : List ShardPass) (new : Frame) (are : ArePassesOf
       given_left = λ j. let e : k + suc j ≡ k + 1 + j = omega arith in first_gone given j ∙ (so_far.given_left (suc j) ∙ ap (slice_get ps) e);
       keys = All-push (λ x. x.key ≡ (new, s.capacity)) locks m so_far.keys key;
       each = λ j x y lock pass.
-        let c = so_far.count in
-        let d = so_far.items_count in
-        push-at locks m j x lock
-        (λ old.
+          let c = so_far.count in
+          let d = so_far.items_count in
+          push-at locks m j x lock
+          (λ old.
           push-at items q j y pass (λ here. so_far.each j x y old here)
           (λ e same. absurd (let w = slice_get_within locks j x old in omega arith)))
-        (λ e same_lock.
+          (λ e same_lock.
           push-at items q j y pass
           (λ here. absurd (let w = slice_get_within items j y here in omega arith))
           (λ f same_pass. subst (λ z. IsPassOf z y) same_lock (subst (IsPassOf m) same_pass is)));
       rebased = λ j x y was pass.
-        let d = so_far.items_count in
-        push-at items q j y pass (λ here. so_far.rebased j x y was here)
-        (λ e same.
+          let d = so_far.items_count in
+          push-at items q j y pass (λ here. so_far.rebased j x y was here)
+          (λ e same.
           let at : j ≡ k = e ∙ d in
           let same_was : p ≡ x = some_of (sym pass-here ∙ (ap (slice_get ps) (sym at) ∙ was)) in
           subst (λ z. IsRebased s.frame new z y) same_was (subst (IsRebased s.frame new p) same again));
@@ -97,14 +97,13 @@ module _ (s : ShardsView) (ps : List ShardPass) (new : Frame) (are : ArePassesOf
   rebased-passes made items closing given all = record {
     count = all.items_count ∙ sym all.count;
     each = all.each;
-    parts =
-      (
-        all_parts,
-        all-from (λ v. v.parts ≡ all_parts) items
-        (λ j q here.
+    parts = (
+      all_parts,
+      all-from (λ v. v.parts ≡ all_parts) items
+          (λ j q here.
           let w = slice_get_within items j q here in
           let c = all.items_count in
           let d = are.count in
           let p = some-at ps j (omega arith) in (all.rebased j p.0 q p.1 here).parts),
-      );
+    );
   }

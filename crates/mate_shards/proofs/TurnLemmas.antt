@@ -1,6 +1,6 @@
 -- From the turn of one lock to the turn of one shard, and to a step of the core.
-use Rattle.std.proofs.Common.{◌≡◌, ◌⊎◌, inl, inr, ℕ, zero, suc, ◌+◌, ◌<◌, ◌≤◌, List, [], ◌∷◌, ◌++◌, length, get_or, set, Option, Some, None, refl, ap, sym, ◌∙◌, subst, arith, append-nil, length-set}
-use Rattle.std.specs.Prelude.{All, slice_get, slice_set}
+use Rattle.std.proofs.Common.{◌≡◌, ℕ, zero, suc, ◌<◌, List, [], ◌∷◌, ◌++◌, length, get_or, set, Option, Some, None, refl, ap, sym, ◌∙◌, subst, arith, append-nil, length-set}
+use Rattle.std.specs.Prelude.{All, slice_get}
 use Rattle.std.proofs.lemmas.List.Elements.{All-set, All-get_or}
 use Rattle.std.proofs.lemmas.Option.{slice_get_within, get_or_from_slice_get}
 use native.Mathlib.Decide.{ℕ_discrete}
@@ -10,7 +10,7 @@ use Rattle.rules_model.specs.declared.board.Position.{Position}
 use Rattle.rules_model.specs.declared.board.Repeat.{Repeat}
 use Rattle.rules_model.specs.Repeats.{repeat_of}
 use Rattle.forced_wins.specs.declared.fact.Fact.{Fact}
-use Rattle.fact_lock.specs.Passes.{LockView, PassView, IsPassOf, OwnsSeen, entries, Turn as LockTurn}
+use Rattle.fact_lock.specs.Passes.{LockView, IsPassOf, OwnsSeen, entries, Turn as LockTurn}
 use Rattle.mate_core.specs.declared.event.Event.TheVariants as event
 use Rattle.mate_core.specs.declared.event.Reply.{Reply}
 use Rattle.mate_core.specs.declared.event.Reply.TheVariants as replies
@@ -24,8 +24,8 @@ use Rattle.mate_shards.specs.declared.request.Query.{Query}
 use Rattle.mate_shards.specs.declared.request.Request.{Request}
 use Rattle.mate_shards.specs.declared.request.Request.TheVariants.{Publish, Look}
 use Rattle.mate_shards.specs.Shard.{Key, reply, added}
-use Rattle.mate_shards.specs.Turns.{reply_of, home_of, IsStep, Turn, AskTurn, PublishTurn, LookTurn}
-use Rattle.mate_shards.specs.Views.{ShardsView, ShardPass, ArePassesOf, AreLocksOf}
+use Rattle.mate_shards.specs.Turns.{reply_of, home_of, AskTurn, PublishTurn, LookTurn}
+use Rattle.mate_shards.specs.Views.{ShardsView, ShardPass, ArePassesOf}
 
 pub some_is : {Y : Type 0} {x y : Y} → ◌≡◌ {A = Option Y} (Some x) (Some y) → x ≡ y
 some_is e = cc
@@ -57,18 +57,18 @@ module _ (s : ShardsView) (ps : List ShardPass) (are : ArePassesOf s ps) (k : �
     count = length-set ps k q ∙ are.count;
     each = each;
     parts =
-      let n = are.parts.0 in
-      (n, All-set (λ v. v.parts ≡ n) ps k q (parts ∙ all-at (λ v. v.parts ≡ n) ps k p are.parts.1 pass-at) are.parts.1);
+        let n = are.parts.0 in
+        (n, All-set (λ v. v.parts ≡ n) ps k q (parts ∙ all-at (λ v. v.parts ≡ n) ps k p are.parts.1 pass-at) are.parts.1);
   }
     where
       each : (j : ℕ) (m : LockView Key) (v : ShardPass) → slice_get s.locks j ≡ Some m → slice_get (set ps k q) j ≡ Some v → IsPassOf m v
       each j m v lock pass =
           dite (ℕ_discrete j k)
           (λ e.
-            let within : k < length ps = let c = are.count in omega arith in
-            let same_lock : l ≡ m = some_is (sym lock_at ∙ (ap (slice_get s.locks) (sym e) ∙ lock)) in
-            let same_pass : q ≡ v = some_is (sym (slice_get-set_same ps k q within) ∙ (ap (slice_get (set ps k q)) (sym e) ∙ pass)) in
-            subst (λ x. IsPassOf x v) same_lock (subst (λ x. IsPassOf l x) same_pass is))
+          let within : k < length ps = let c = are.count in omega arith in
+          let same_lock : l ≡ m = some_is (sym lock_at ∙ (ap (slice_get s.locks) (sym e) ∙ lock)) in
+          let same_pass : q ≡ v = some_is (sym (slice_get-set_same ps k q within) ∙ (ap (slice_get (set ps k q)) (sym e) ∙ pass)) in
+          subst (λ x. IsPassOf x v) same_lock (subst (λ x. IsPassOf l x) same_pass is))
           (λ apart. are.each j m v lock (sym (slice_get-set_other ps k j q (λ e. apart (sym e))) ∙ pass))
 
   pub asks : (keys : All (λ m. m.key ≡ (s.frame, s.capacity)) s.locks) (request : Request) (answer : Reply) (q : ShardPass) → LockTurn reply added l.key p request answer q → AreTrueIn l.key.0 q.seen → OwnsSeen q → q.parts ≡ p.parts → AskTurn s ps k request answer (set ps k q)
@@ -115,8 +115,7 @@ module _ (store : Store) (worker k : ℕ) (list : List Fact) (at : slice_get sto
 
   pub look-step : (r : Repeat) (c n : ℕ) → ((step store (event.Look worker k r c n)).1 ≡ replies.Found (best list r c n)) × (slice_get (step store (event.Look worker k r c n)).0.shards k ≡ Some list)
   look-step r c n =
-      let e = look_there r c n in
-      (
+      let e = look_there r c n in (
         ap (λ (x : Store × Reply). x.1) e,
         ap (λ (x : Store × Reply). slice_get x.0.shards k) e ∙ (ap (λ xs. slice_get xs k) (told_keeps (best list r c n)) ∙ at),
       )
@@ -137,8 +136,8 @@ publishes s ps after given answer k home ask =
       answered = a.answered;
       seen = seen;
       core = λ worker store capacity at.
-        let t = publish-step store worker (home_of s f.repeat) a.list at f in
-        (t.0 ∙ (ap (λ c. published c a.list f) capacity ∙ sym a.answered), t.1 ∙ ap (λ xs. Some xs) (ap (λ c. grown c a.list f) capacity ∙ sym seen));
+          let t = publish-step store worker (home_of s f.repeat) a.list at f in
+          (t.0 ∙ (ap (λ c. published c a.list f) capacity ∙ sym a.answered), t.1 ∙ ap (λ xs. Some xs) (ap (λ c. grown c a.list f) capacity ∙ sym seen));
     }
 
 pub looks : (s : ShardsView) (ps after : List ShardPass) (p : Position) (query : Query) (moves : ℕ) (answer : Option Fact) (k : ℕ) → query.repeat ≡ repeat_of p → query.counter ≡ p.counter → query.moves ≡ moves → k ≡ home_of s (repeat_of p) → AskTurn s ps k (Look query) (replies.Found answer) after → LookTurn s ps p moves answer after
@@ -154,8 +153,8 @@ looks s ps after p query moves answer k same_repeat same_counter same_moves home
       answered = found ∙ asked;
       seen = seen;
       core = λ worker store capacity at.
-        let t = look-step store worker (home_of s (repeat_of p)) a.list at (repeat_of p) p.counter moves in
-        (t.0 ∙ ap (λ o. replies.Found o) (sym (found ∙ asked)), t.1 ∙ ap (λ xs. Some xs) (sym seen));
+          let t = look-step store worker (home_of s (repeat_of p)) a.list at (repeat_of p) p.counter moves in
+          (t.0 ∙ ap (λ o. replies.Found o) (sym (found ∙ asked)), t.1 ∙ ap (λ xs. Some xs) (sym seen));
     }
   where
     found_is : {x y : Option Fact} → replies.Found x ≡ replies.Found y → x ≡ y

@@ -1,5 +1,5 @@
 //! Passes are handed to other threads and taken back.
-ghost use Rattle.std.specs.Prelude.{◌≡◌, ◌+◌, ◌<◌, ◌≤◌, All, IfOk, IfErr, vec_len, vec_capacity};
+ghost use Rattle.std.specs.Prelude.{◌≡◌, ℕ, ◌+◌, ◌<◌, ◌≤◌, All, IfOk, IfErr, vec_len, vec_capacity};
 ghost use Rattle.std.specs.List.{insert};
 ghost use Rattle.mate_shards.specs.Views.{ArePassesOf, AreHalved, AreJoined};
 
@@ -20,6 +20,7 @@ impl Shards {
         ensures first { IfOk result (λ halves. ArePassesOf self.now halves.0) }
         ensures second { IfOk result (λ halves. ArePassesOf self.now halves.1) }
         ensures halves { IfOk result (λ halves. AreHalved passes halves.0 halves.1) }
+        ensures parts { IfOk result (λ halves. (n : ℕ) → All (λ p. p.parts ≡ n + 1) passes → All (λ p. p.parts ≡ n) halves.0) }
         ensures back { IfErr result (λ back. back ≡ passes) }
     {
         let count = self.locks.len();

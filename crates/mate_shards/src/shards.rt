@@ -152,11 +152,7 @@ impl Shards {
 }
 
 // A lock over a shard without facts, and its pass.
-fn make(
-    alloc: Global,
-    frame: &Frame,
-    capacity: u32,
-) -> Result<(Lock<Shard>, Pass<Shard>), Memory>
+fn make(alloc: Global, frame: &Frame, capacity: u32) -> Result<(Lock<Shard>, Pass<Shard>), Memory>
     requires { (0 < capacity) × (capacity ≤ 65536) }
     ensures key { IfOk result (λ made. made.0.key ≡ (frame.now, capacity)) }
     ensures pass { IfOk result (λ made. IsPassOf made.0 made.1) }

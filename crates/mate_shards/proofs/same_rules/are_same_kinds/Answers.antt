@@ -1,4 +1,4 @@
-use Rattle.std.proofs.Common.{◌≡◌, ◌<◌, ◌≤◌, length, take, refl, sym, ◌∙◌, arith}
+use Rattle.std.proofs.Common.{◌≡◌, ◌<◌, length, refl, sym, ◌∙◌, arith}
 use Rattle.std.proofs.lemmas.List.{take_more_same, take_all}
 use Rattle.mate_shards.proofs.SameLemmas.{any_default}
 use Rattle.mate_shards.proofs.same_rules.are_same_kinds.Goals as goal

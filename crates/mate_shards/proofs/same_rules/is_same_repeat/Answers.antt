@@ -1,4 +1,4 @@
-use Rattle.std.proofs.Common.{◌≡◌, sym, ap, ◌∙◌}
+use Rattle.std.proofs.Common.{sym, ap, ◌∙◌}
 use Rattle.rules_model.specs.Games.{same_repeat}
 use Rattle.rules_model.specs.Repeats.{repeat_of}
 use Rattle.rules_model.proofs.EqualLaws.{repeat-decides}

@@ -1,16 +1,15 @@
-use Rattle.std.proofs.Common.{◌≡◌, ℕ, ◌<◌, ◌≤◌, ◌%◌, List, length, take, vec_len, ap, sym, ◌∙◌, subst, arith}
+use Rattle.std.proofs.Common.{ℕ, ◌%◌, vec_len, ap, ◌∙◌, subst, arith}
 use Rattle.mate_core.specs.Hash.{hash_of}
 use Rattle.mate_shards.specs.Index.{IsIndex, buckets}
 use Rattle.mate_shards.proofs.IndexLemmas.{started, chain-size, chain-step, chain-whole}
 use Rattle.mate_shards.proofs.shard.chain.Goals as goal
 
 pub loop-i-init : goal.loop-i-init
-loop-i-init c =
-    (
-      started _ _ _ (c.fill.ensures.items (λ y same. same)) c.clear.ensures.items,
-      omega (arith, c.fill.ensures.len),
-      omega (arith, c.clear.ensures.capacity),
-    )
+loop-i-init c = (
+  started _ _ _ (c.fill.ensures.items (λ y same. same)) c.clear.ensures.items,
+  omega (arith, c.fill.ensures.len),
+  omega (arith, c.clear.ensures.capacity),
+)
 
 pub push_reserved-requires : goal.push_reserved-requires
 push_reserved-requires c =
@@ -22,8 +21,7 @@ push_reserved-requires c =
 
 pub loop-i-preserved : goal.loop-i-preserved
 loop-i-preserved c =
-    let so_far = c.loop-i.invariant in
-    (
+    let so_far = c.loop-i.invariant in (
       chain-step (vec_len c.loop-i.heads) c.args.facts.now c.loop-i.heads.items c.loop-i.links.items c.push_reserved.new.self.items c.loop-i.i c.bucket_at-bucket.result c.index.result.now c.loop-i-test.true so_far.0 (omega (arith, c.bucket_at-bucket.ensures.below, c.len.ensures, c.loop-i.heads.ok.0)) (λ f at. c.bucket_at-bucket.ensures.is f at ∙ ap (λ n. hash_of f.repeat % n) c.len.ensures) c.index.ensures c.push_reserved.ensures.items,
       so_far.1,
       omega (arith, c.push_reserved.ensures.capacity, so_far.2),

@@ -1,4 +1,4 @@
-use Rattle.std.proofs.Common.{◌≡◌, ℕ, ◌-◌, ◌%◌, ◌<◌, ◌≤◌, get_or, length, arith, sym, ◌∙◌}
+use Rattle.std.proofs.Common.{◌-◌, ◌%◌, arith, ◌∙◌}
 use Rattle.std.proofs.lemmas.Grind.{get_or_default_zero}
 use Rattle.std.proofs.lemmas.List.{length-map}
 use Rattle.mate_core.specs.Hash.{hash_of}

@@ -1,4 +1,4 @@
-use Rattle.std.proofs.Common.{◌≡◌, ◌<◌, List, length, get_or, set, sym, ap, ◌∙◌, subst}
+use Rattle.std.proofs.Common.{List, get_or, set, sym, ap, ◌∙◌, subst}
 use Rattle.mate_shards.specs.Views.{ShardsView, ShardPass, ArePassesOf, AreLocksOf}
 use Rattle.mate_shards.specs.Turns.{AskTurn}
 use Rattle.mate_shards.proofs.TurnLemmas.{is-pass, passes-stay, asks}

@@ -1,4 +1,4 @@
-use Rattle.std.proofs.Common.{◌≡◌, ℕ, ◌+◌, ◌<◌, ◌≤◌, List, length, get_or, set, vec_len, sym, ap, ◌∙◌, subst, arith}
+use Rattle.std.proofs.Common.{◌≡◌, ◌+◌, ◌<◌, List, length, get_or, set, sym, ap, ◌∙◌, subst, arith}
 use Rattle.std.specs.List.{insert, remove}
 use Rattle.mate_shards.specs.Views.{ShardsView, ShardPass, IsJoined}
 use Rattle.mate_shards.proofs.PassLemmas.{Joining, put-back, join-starts, join-goes-on, joined-passes, are-joined, join-lock, join-first, join-second, join-is}
@@ -33,7 +33,7 @@ join-joined-requires c =
     let k = c.loop-k.k in
     let l = c.index.result.now in
     let is = join-is s c.args.a c.args.b c.loop-k.items.items c.loop-k.others.items c.requires.first c.requires.second k c.loop-k.invariant (omega (arith, c.len-k-end.ensures, c.a.inside.items.ok.0)) l c.remove.result c.remove-other.result
-      (c.index.ensures ∙ ap (λ (v : ShardsView). get_or v.locks k l) c.self.view_is) c.remove.ensures.value c.remove-other.ensures.value in
+    (c.index.ensures ∙ ap (λ (v : ShardsView). get_or v.locks k l) c.self.view_is) c.remove.ensures.value c.remove-other.ensures.value in
     record { locks = is }
 
 pub loop-k-preserved : goal.loop-k-preserved
@@ -60,10 +60,10 @@ loop-k-preserved c =
     let P : List ShardPass → Type 0 = λ v. Joining s left right v c.remove-other.new.self.items (k + 1) in
     let Q : List ShardPass → Type 0 = λ v. Joining s left right (set items k p) v (k + 1) in
     let next = join-goes-on s left right c.requires.first c.requires.second items others k l a b p so_far (omega arith) shorter
-      (join-lock s left right items others c.requires.first c.requires.second k so_far below l a b lock_read c.remove.ensures.value c.remove-other.ensures.value)
-      (join-first s left right items others c.requires.first c.requires.second k so_far below l a b lock_read c.remove.ensures.value c.remove-other.ensures.value)
-      (join-second s left right items others c.requires.first c.requires.second k so_far below l a b lock_read c.remove.ensures.value c.remove-other.ensures.value)
-      c.join-joined.ensures.lock joined in
+    (join-lock s left right items others c.requires.first c.requires.second k so_far below l a b lock_read c.remove.ensures.value c.remove-other.ensures.value)
+    (join-first s left right items others c.requires.first c.requires.second k so_far below l a b lock_read c.remove.ensures.value c.remove-other.ensures.value)
+    (join-second s left right items others c.requires.first c.requires.second k so_far below l a b lock_read c.remove.ensures.value c.remove-other.ensures.value)
+    c.join-joined.ensures.lock joined in
     subst P (sym put) (subst Q (sym c.remove-other.ensures.items) next)
 
 pub returns-clause-passes : goal.returns-clause-passes

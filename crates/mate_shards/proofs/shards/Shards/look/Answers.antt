@@ -1,4 +1,4 @@
-use Rattle.std.proofs.Common.{◌≡◌, sym, ap, ◌∙◌, refl, length}
+use Rattle.std.proofs.Common.{ap, ◌∙◌, refl, length}
 use Rattle.mate_core.specs.Hash.{hash_of, shard_of_hash}
 use Rattle.mate_shards.proofs.TurnLemmas.{looks}
 use Rattle.mate_shards.proofs.shards.Shards.look.Goals as goal

@@ -1,4 +1,4 @@
-use Rattle.std.proofs.Common.{◌≡◌, ◌≤◌, List, [], ◌∷◌, ◌++◌, vec_len, sym, ◌∙◌, subst, arith}
+use Rattle.std.proofs.Common.{◌≤◌, List, [], ◌∷◌, ◌++◌, vec_len, sym, ◌∙◌, subst, arith}
 use Rattle.fact_lock.specs.Passes.{LockView}
 use Rattle.mate_shards.specs.Shard.{Key}
 use Rattle.mate_shards.specs.Views.{ShardPass}
@@ -15,8 +15,7 @@ loop-alloc-preserved c =
     let next = one-more frame capacity locks items c.in_ok-lock.lock c.in_ok-lock.pass made.0 c.in_ok-lock.ensures.key c.in_ok-lock.ensures.pass c.in_ok-lock.ensures.fresh in
     let P : List (LockView Key) → Type 0 = λ v. AreMade frame capacity v c.push_reserved-in-loop-alloc.new.self.items in
     let Q : List ShardPass → Type 0 = λ v. AreMade frame capacity (locks ++ c.in_ok-lock.lock ∷ []) v in
-    let grew : vec_len c.push_reserved.new.self ≤ c.args.shards = omega (arith, c.push_reserved.ensures.len, c.len.ensures) in
-    (
+    let grew : vec_len c.push_reserved.new.self ≤ c.args.shards = omega (arith, c.push_reserved.ensures.len, c.len.ensures) in (
       subst P (sym c.push_reserved.ensures.items) (subst Q (sym c.push_reserved-in-loop-alloc.ensures.items) next),
       grew,
       c.push_reserved.ensures.capacity ∙ made.2,

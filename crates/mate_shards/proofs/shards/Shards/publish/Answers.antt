@@ -1,5 +1,5 @@
-use Rattle.std.proofs.Common.{◌≡◌, sym, ap, ◌∙◌, refl, length}
-use Rattle.mate_core.specs.Hash.{hash_of, shard_of_hash}
+use Rattle.std.proofs.Common.{ap, ◌∙◌, length}
+use Rattle.mate_core.specs.Hash.{shard_of_hash}
 use Rattle.mate_shards.proofs.TurnLemmas.{publishes}
 use Rattle.mate_shards.specs.declared.published.Published.TheVariants.{Stored, KnownBetter, Full}
 use Rattle.mate_shards.proofs.shards.Shards.publish.Goals as goal

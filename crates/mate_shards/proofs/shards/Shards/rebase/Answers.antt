@@ -1,4 +1,4 @@
-use Rattle.std.proofs.Common.{◌≡◌, ℕ, ◌+◌, ◌<◌, ◌≤◌, List, [], ◌∷◌, ◌++◌, length, vec_len, refl, sym, ap, ◌∙◌, subst, arith}
+use Rattle.std.proofs.Common.{◌≡◌, ℕ, ◌+◌, ◌<◌, List, [], ◌∷◌, ◌++◌, length, sym, ap, ◌∙◌, subst, arith}
 use Rattle.std.specs.List.{remove}
 use Rattle.std.specs.Prelude.{All}
 use Rattle.fact_lock.specs.Passes.{LockView, all_parts}
@@ -18,8 +18,7 @@ loop-k-init c =
     let B : List ShardPass → Type 0 = λ v. Rebasing s ps new s.locks v c.in_ok-locks.locks.items c.in_ok-items.items.items 0 in
     let C : List (LockView Key) → Type 0 = λ v. Rebasing s ps new s.locks ps v c.in_ok-items.items.items 0 in
     let D : List ShardPass → Type 0 = λ v. Rebasing s ps new s.locks ps [] v 0 in
-    let starts = subst C (sym c.in_ok-locks.ensures.items) (subst D (sym c.in_ok-items.ensures.items) (rebase-starts s ps new c.requires.passes)) in
-    (
+    let starts = subst C (sym c.in_ok-locks.ensures.items) (subst D (sym c.in_ok-items.ensures.items) (rebase-starts s ps new c.requires.passes)) in (
       subst A (sym (ap (λ (v : ShardsView). v.locks) c.self.view_is)) (subst B (sym c.passes.view_is) starts),
       c.in_ok-locks.ensures.exact,
       c.in_ok-items.ensures.exact,
@@ -96,8 +95,7 @@ loop-k-preserved c =
     let A : List (LockView Key) → Type 0 = λ v. Rebasing s ps new v c.remove-pass.new.self.items c.push_reserved.new.self.items c.push_reserved-in-loop-k.new.self.items (k + 1) in
     let B : List ShardPass → Type 0 = λ v. Rebasing s ps new (remove closing 0) v c.push_reserved.new.self.items c.push_reserved-in-loop-k.new.self.items (k + 1) in
     let C : List (LockView Key) → Type 0 = λ v. Rebasing s ps new (remove closing 0) (remove given 0) v c.push_reserved-in-loop-k.new.self.items (k + 1) in
-    let D : List ShardPass → Type 0 = λ v. Rebasing s ps new (remove closing 0) (remove given 0) (made ++ m ∷ []) v (k + 1) in
-    (
+    let D : List ShardPass → Type 0 = λ v. Rebasing s ps new (remove closing 0) (remove given 0) (made ++ m ∷ []) v (k + 1) in (
       subst A (sym c.remove.ensures.items) (subst B (sym c.remove-pass.ensures.items) (subst C (sym c.push_reserved.ensures.items) (subst D (sym c.push_reserved-in-loop-k.ensures.items) next))),
       c.push_reserved.ensures.capacity ∙ so_far.1,
       c.push_reserved-in-loop-k.ensures.capacity ∙ so_far.2,

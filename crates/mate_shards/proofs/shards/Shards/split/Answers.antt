@@ -1,8 +1,8 @@
-use Rattle.std.proofs.Common.{◌≡◌, ℕ, ◌+◌, ◌<◌, ◌≤◌, List, [], ◌∷◌, ◌++◌, length, get_or, set, vec_len, vec_capacity, sym, ap, ◌∙◌, subst, arith}
+use Rattle.std.proofs.Common.{◌≡◌, ◌+◌, ◌<◌, ◌≤◌, List, length, get_or, set, sym, ap, ◌∙◌, subst, arith}
 use Rattle.std.specs.List.{insert}
 use Rattle.mate_shards.specs.Views.{ShardsView, ShardPass}
 use Rattle.mate_shards.proofs.TurnLemmas.{all-at}
-use Rattle.mate_shards.proofs.PassLemmas.{Splitting, put-back, split-starts, split-goes-on, first-passes, second-passes, are-halved, split-lock, split-was, split-is}
+use Rattle.mate_shards.proofs.PassLemmas.{Splitting, put-back, split-starts, split-goes-on, first-passes, second-passes, are-halved, halved-parts, split-lock, split-was, split-is}
 use Rattle.mate_shards.proofs.shards.Shards.split.Goals as goal
 
 pub loop-k-init : goal.loop-k-init
@@ -66,10 +66,10 @@ loop-k-preserved c =
     let P : List ShardPass → Type 0 = λ v. Splitting s ps v c.push_reserved.new.self.items (k + 1) in
     let Q : List ShardPass → Type 0 = λ v. Splitting s ps (set items k a) v (k + 1) in
     let next = split-goes-on s ps c.requires.passes items given k l p a b so_far (omega arith)
-      (split-lock s ps items given c.requires.passes k so_far below l p lock_read c.remove.ensures.value)
-      (split-was s ps items given c.requires.passes k so_far below l p lock_read c.remove.ensures.value)
-      c.split-kept.ensures.lock.0 c.split-kept.ensures.lock.1
-      (record { seen = c.split-kept.ensures.seen; own = c.split-kept.ensures.own; parts = c.split-kept.ensures.parts }) in
+    (split-lock s ps items given c.requires.passes k so_far below l p lock_read c.remove.ensures.value)
+    (split-was s ps items given c.requires.passes k so_far below l p lock_read c.remove.ensures.value)
+    c.split-kept.ensures.lock.0 c.split-kept.ensures.lock.1
+    (record { seen = c.split-kept.ensures.seen; own = c.split-kept.ensures.own; parts = c.split-kept.ensures.parts }) in
     (subst P (sym put) (subst Q (sym c.push_reserved.ensures.items) next), c.push_reserved.ensures.capacity ∙ c.loop-k.invariant.1)
 
 pub returns-clause-first : goal.returns-clause-first
@@ -92,3 +92,10 @@ returns-clause-halves c =
     let passes = c.requires.passes.count in
     let e : c.loop-k.k ≡ length c.args.passes = omega (arith, c.len-count.ensures, c.self.inside.locks.ok.0) in
     are-halved c.args.self.now c.args.passes c.requires.passes c.loop-k.items.items c.loop-k.given.items (subst (Splitting c.args.self.now c.args.passes c.loop-k.items.items c.loop-k.given.items) e c.loop-k.invariant.0)
+
+pub returns-clause-parts : goal.returns-clause-parts
+returns-clause-parts c =
+    let locks = ap (λ (v : ShardsView). length v.locks) c.self.view_is in
+    let passes = c.requires.passes.count in
+    let e : c.loop-k.k ≡ length c.args.passes = omega (arith, c.len-count.ensures, c.self.inside.locks.ok.0) in
+    halved-parts c.args.self.now c.args.passes c.requires.passes c.loop-k.items.items c.loop-k.given.items (subst (Splitting c.args.self.now c.args.passes c.loop-k.items.items c.loop-k.given.items) e c.loop-k.invariant.0)
