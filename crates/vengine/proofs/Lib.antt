@@ -1,7 +1,6 @@
 mod AnswerLemmas
 mod FileLemmas
 mod GameLemmas
-mod HaltLemmas
 mod HeardLemmas
 mod RunLemmas
 mod SetupLemmas

@@ -28,7 +28,7 @@ abbrev pub asks_file : Option Asked → Bool
 asks_file None = false
 asks_file (Some a) = is_some a.variants
 
--- The command is a session, which answers its lines as they come. All others have one text and a status, and are one-shot
+-- The command is a session, which answers its lines as they come. All others have one text and a status: they are one-shot
 -- commands. No session is built yet.
 abbrev pub is_session : Command → Bool
 is_session command = false

@@ -18,7 +18,8 @@ is_blank text = list_all (λ b. (b == 32) || (b == 9)) text
 abbrev pub fault_after : ℕ → List Line → Option GameFault
 fault_after number [] = None
 fault_after number (TooLong ∷ lines) = Some (LineTooLong number)
-fault_after number (Text text ∷ lines) = if is_blank text then fault_after (number + 1) lines else Some (NotBuilt number)
+fault_after number (Text text ∷ lines) =
+    if is_blank text then fault_after (number + 1) lines else Some (NotBuilt number)
 
 -- the position of line 2: the variant's start, or what a FEN says
 abbrev pub position_of : Rules → List ℕ → Result Position FenFault
@@ -40,7 +41,8 @@ game_after rules (Text text ∷ lines) = unless_fault (position_of rules text) (
 unfoldable pub game_of : List Line → Result Position GameFault
 game_of [] = Err (Missing 1)
 game_of (TooLong ∷ lines) = Err (LineTooLong 1)
-game_of (Text name ∷ lines) = if bytes_eq name (codes "leapers") then game_after leapers lines else Err (UnknownVariant name)
+game_of (Text name ∷ lines) =
+    if bytes_eq name (codes "leapers") then game_after leapers lines else Err (UnknownVariant name)
 
 -- ---- how many lines tell it: all of them, or those up to the first faulty one
 

@@ -108,7 +108,8 @@ HasVariants name files failed (Err (halt.Stop stop.Memory)) = ⊤
 abbrev pub OutcomeOf : Result (List ℕ) Halt → Result Answer Stop → Type 0
 OutcomeOf (Ok said) (Ok answer) = (answer.status ≡ 0) × (answer.text ≡ said)
 OutcomeOf (Err halt.Usage) (Ok answer) = (answer.status ≡ 2) × (answer.text ≡ usage_line)
-OutcomeOf (Err (halt.Fault fault)) (Ok answer) = (answer.status ≡ fault_status fault) × (answer.text ≡ error_line (fault_text fault))
+OutcomeOf (Err (halt.Fault fault)) (Ok answer) =
+    (answer.status ≡ fault_status fault) × (answer.text ≡ error_line (fault_text fault))
 OutcomeOf (Err (halt.Stop why)) (Ok answer) = ⊥
 OutcomeOf (Err (halt.Stop why)) (Err why') = why' ≡ why
 OutcomeOf (Ok said) (Err why') = why' ≡ stop.Memory

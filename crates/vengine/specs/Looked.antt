@@ -26,9 +26,10 @@ Agrees file Fault = ⊤
 abbrev pub AgreeWith : Contents → List Read → Type 0
 AgreeWith files reads = AllByRecursion (λ read. Agrees (files read.name) read.found) reads
 
--- Some files were asked for, and this holds of contents in which what was read is, and of how often the files failed. Where
--- contents are told, it holds of these.
-pub record Looked (contents : Option Contents) (asked : List Read → Type 0) (Holds : Contents → ℕ → Type 0) : Type 0 where
+-- Some files were asked for, and this holds of contents in which what was read is, and of how often the files failed.
+-- Where contents are told, it holds of these.
+pub record Looked (contents : Option Contents) (asked : List Read → Type 0) (Holds : Contents → ℕ → Type 0)
+    : Type 0 where
   pub reads : List Read
   pub files : Contents
   pub asks : asked reads

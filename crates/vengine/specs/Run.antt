@@ -30,17 +30,17 @@ TellsFiles (Some told) files = told ≡ files
 abbrev pub Decide : List Line → List Line → (List Line → Type 0) → Type 0
 Decide lines rest Holds = (rest ≡ []) ⊎ ((more : List Line) → Holds (lines ++ more))
 
--- What a run may do that owes so many polls at its start, whose files have these contents and fail so often, and whose input has
--- these lines: take these readings of the clock, and say this. A one-shot command takes no reading. A session will have a
--- relation of its own beside `Shot`.
+-- What a run may do whose source owes so many polls at its start, whose files have these contents and fail so often, and
+-- whose input has these lines: take these readings of the clock, and say this. A one-shot command takes no reading. A session
+-- will have a relation of its own beside `Shot`.
 unfoldable pub May : Owed → List (List ℕ) → Contents → ℕ → List Line → List ℕ → ℕ → List ℕ → Type 0
 May owed words files failed input readings status text = Shot words files failed input status text × (readings ≡ [])
 
--- The whole text of what a run may say was written. `moved` says what went through the ports, `asked` what was asked of the
--- files; `contents` and `left` are what files and source told before. The lines that were taken are the first of the input, no more
+-- The whole text of what a run may say was written. `moved` says what went through the ports, `read` what was read of files;
+-- `contents` and `left` are what files and source told before. The lines that were taken are the first of the input, no more
 -- than are needed, and decide. What was read of files is in contents that are the told ones, where some are told.
-pub record Did (owed : Owed) (moved : List Line → List ℕ → List ℕ → Type 0) (read : List Read → Type 0) (contents : Option Contents)
-    (left : Option (List ℕ)) (words : List (List ℕ)) (status : ℕ) : Type 0 where
+pub record Did (owed : Owed) (moved : List Line → List ℕ → List ℕ → Type 0) (read : List Read → Type 0)
+    (contents : Option Contents) (left : Option (List ℕ)) (words : List (List ℕ)) (status : ℕ) : Type 0 where
   pub lines : List Line
   pub rest : List Line
   pub readings : List ℕ
@@ -57,8 +57,8 @@ pub record Did (owed : Owed) (moved : List Line → List ℕ → List ℕ → Ty
   pub allowed : May owed words files (faults_in reads) (lines ++ rest) readings status text
 
 -- A front part of the text of a one-shot command was written, and nothing before the lines that were taken decide it.
-pub record ShotPart (moved : List Line → List ℕ → List ℕ → Type 0) (read : List Read → Type 0) (contents : Option Contents)
-    (left : Option (List ℕ)) (words : List (List ℕ)) : Type 0 where
+pub record ShotPart (moved : List Line → List ℕ → List ℕ → Type 0) (read : List Read → Type 0)
+    (contents : Option Contents) (left : Option (List ℕ)) (words : List (List ℕ)) : Type 0 where
   pub lines : List Line
   pub rest : List Line
   pub reads : List Read
@@ -72,11 +72,12 @@ pub record ShotPart (moved : List Line → List ℕ → List ℕ → Type 0) (re
   pub agree : AgreeWith files reads
   pub input : IsInput left (lines ++ rest)
   pub few : length lines ≤ lines_asked (asked words) (lines ++ rest)
-  pub decided : (written ≡ []) ⊎ Decide lines rest (λ input. Shot words files (faults_in reads) input status (written ++ back))
+  pub decided : (written ≡ [])
+      ⊎ Decide lines rest (λ input. Shot words files (faults_in reads) input status (written ++ back))
   pub allowed : Shot words files (faults_in reads) (lines ++ rest) status (written ++ back)
 
--- A front part of what a run may say was written. Which relation says so goes by the command: that of a session will be of exactly
--- the lines that were taken, completed by their end, with polls untold.
+-- A front part of what a run may say was written. Which relation says so goes by the command: that of a session will be of
+-- exactly the lines that were taken, completed by their end, with polls untold.
 abbrev pub DidPart : (List Line → List ℕ → List ℕ → Type 0) → (List Read → Type 0) → Option Contents → Option (List ℕ)
     → List (List ℕ) → Type 0
 DidPart moved read contents left words = ShotPart moved read contents left words
@@ -103,12 +104,13 @@ NamesFile (Some a) Holds = IsSomeAnd a.variants Holds
 abbrev pub HasFileCause : Option Contents → ℕ → ℕ → List (List ℕ) → Type 0
 HasFileCause contents before now words = NamesFile (asked words) (λ name. IsUnreadable contents name ⊎ Rose before now)
 
--- Where files that do not fail and are told or not read, and the lines of an input that is told or not read, are answered by a
--- status, that is the run's, unless it was cut short or the files failed.
+-- Where files that do not fail and are told or not read, and the lines of an input that is told or not read, are answered by
+-- a status, that is the run's, unless it was cut short or the files failed.
 abbrev pub Completes : Owed → Option Contents → Option (List ℕ) → List (List ℕ) → (ℕ → Type 0) → ℕ → Type 0
 Completes owed contents left words FilesFailed result =
     (files : Contents) (input : List Line) (readings : List ℕ) (text : List ℕ) (status : ℕ)
-    → (asks_file (asked words) ≡ true → TellsFiles contents files) → (asks_input (asked words) ≡ true → TellsInput left input)
+    → (asks_file (asked words) ≡ true → TellsFiles contents files)
+    → (asks_input (asked words) ≡ true → TellsInput left input)
     → May owed words files 0 input readings status text → (result ≡ status) ⊎ IsCut result ⊎ FilesFailed result
 
 -- the files failed

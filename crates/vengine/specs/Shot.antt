@@ -28,11 +28,13 @@ use Rattle.vengine.specs.Variants.{Refuses, variants_fault}
 abbrev pub usage_line : List ℕ
 usage_line = codes "usage: vengine [--variants FILE] [--threads N] [COMMAND]\n"
 
--- `reach`: the squares that a piece of this word reaches on this board, or the fault of the word, or else the first of the squares
+-- `reach`: the squares that a piece of this word reaches on this board, or the fault of the word, or else the first of the
+-- squares
 pub data SaysReach (word square own enemy : List ℕ) : ℕ → List ℕ → Type 0 where
-  reached : (b : List Part) (from : Square) (cells : List (Option Cell)) → Spells word b → setup_of square own enemy ≡ Ok (from, cells)
-      → SaysReach word square own enemy 0 (reach_text cells (terms b) from)
-  faulty_word : (fault : BetzaFault) → BetzaBad word fault → SaysReach word square own enemy 3 (error_line (betza_text fault))
+  reached : (b : List Part) (from : Square) (cells : List (Option Cell)) → Spells word b
+      → setup_of square own enemy ≡ Ok (from, cells) → SaysReach word square own enemy 0 (reach_text cells (terms b) from)
+  faulty_word : (fault : BetzaFault) → BetzaBad word fault
+      → SaysReach word square own enemy 3 (error_line (betza_text fault))
   faulty_square : (b : List Part) (why : Unplaced) → Spells word b → setup_of square own enemy ≡ Err why
       → SaysReach word square own enemy 3 (error_line (unplaced_text why))
 
@@ -58,14 +60,14 @@ SaysFault fault status text = (status ≡ fault_status fault) × (text ≡ error
 pub data SaysAsked (a : Asked) (files : Contents) (failed : ℕ) (input : List Line) : ℕ → List ℕ → Type 0 where
   refused : (fault : Fault) → Refuses a.variants files failed fault
       → SaysAsked a files failed input (fault_status fault) (error_line (fault_text fault))
-  answered : (status : ℕ) (text : List ℕ) → variants_fault a.variants files ≡ None → SaysCommand a.command input status text
-      → SaysAsked a files failed input status text
+  answered : (status : ℕ) (text : List ℕ) → variants_fault a.variants files ≡ None
+      → SaysCommand a.command input status text → SaysAsked a files failed input status text
 
 abbrev pub Says : Option Asked → Contents → ℕ → List Line → ℕ → List ℕ → Type 0
 Says None files failed input status text = (status ≡ 2) × (text ≡ usage_line)
 Says (Some a) files failed input status text = SaysAsked a files failed input status text
 
--- What a run of these words says, where the files have these contents and failed so often, and the input has these lines. Of a
--- session, what it says before it begins.
+-- What a run of these words says, where the files have these contents and failed so often, and the input has these lines.
+-- Of a session, what it says before it begins.
 unfoldable pub Shot : List (List ℕ) → Contents → ℕ → List Line → ℕ → List ℕ → Type 0
 Shot words files failed input status text = Says (asked words) files failed input status text

@@ -55,7 +55,8 @@ fn reach<'a>(
 
 // The text of `moves`, whose input is a game text.
 fn moves<S: Source>(alloc: Global, source: &mut S) -> Result<Text, Halt<'static>>
-    ensures heard { Heard (S.left source.old) (S.left source.new) lines_of_game (λ lines. Answers result (SaysMoves lines)) }
+    ensures heard { Heard (S.left source.old) (S.left source.new) lines_of_game
+        (λ lines. Answers result (SaysMoves lines)) }
     ensures cause { HasCause (S.faults source.old) (S.faults source.new) (IsUnheard result) }
 {
     let rules = leapers::leapers();

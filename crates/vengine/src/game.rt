@@ -39,8 +39,8 @@ impl fmt::Display for GameFault {
 
     ghost output = { λ fault. Some (game_fault_text fault) };
 
-    /// The type's name, the fault's number, its name and its fields, as `GameFault 1 Missing 2`. An error where a variant's
-    /// name is not UTF-8.
+    /// The type's name, the fault's number, its name and its fields, as `GameFault 1 Missing 2`. An error where the name of
+    /// a variant is not UTF-8.
     fn fmt<W: fmt::Write>(&self, f: &mut fmt::Formatter<W>) -> fmt::Result {
         match self {
             GameFault::Missing(line) => write!(f, "GameFault 1 Missing {line}"),
@@ -153,7 +153,8 @@ fn read_position<S: Source>(
     requires fit { IsFit rules.now }
     requires built { is_built rules.now ≡ true }
     requires start { is_sound rules.now rules.now.start ≡ true }
-    ensures heard { Heard (S.left source.old) (S.left source.new) (GameText.lines_of_position rules.now) (SaysPosition rules.now result) }
+    ensures heard { Heard (S.left source.old) (S.left source.new) (GameText.lines_of_position rules.now)
+        (SaysPosition rules.now result) }
     ensures cause { HasCause (S.faults source.old) (S.faults source.new) (IsUnreadGame result) }
     ensures sound { IfOk result (λ p. is_sound rules.now p ≡ true) }
 {

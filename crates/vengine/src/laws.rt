@@ -8,8 +8,8 @@ ghost use Rattle.vengine.specs.Commands.{IsOneShot};
 ghost use Rattle.vengine.specs.Shot.{SaysFault, Shot};
 ghost use Rattle.words.specs.Asked.{asked};
 
-/// Words of a one-shot command, or of none, have exactly one answer: one status and one text, whatever files and input hold. Where
-/// files fail, that may be said in its place.
+/// Words of a one-shot command, or of none, have exactly one answer, whatever files and input hold: one status and one
+/// text. Where files fail, that may be said in its place.
 pub fn words_have_one_answer()
     ensures some { (words : List (List ℕ)) (files : Contents) (failed : ℕ) (input : List Line) → IsOneShot (asked words)
         → (status : ℕ) × (text : List ℕ) × Shot words files failed input status text }

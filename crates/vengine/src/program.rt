@@ -43,8 +43,11 @@ fn say<K: Sink>(sink: &mut K, text: &Text) -> Result<(), Failed>
 /// | 3 | an argument, the file of variants or the input has the fault that was written as a line `error FAULT` |
 /// | 4 | the source's count of faults rose; nothing was written |
 /// | 5 | the sink's count of faults rose |
-/// | 6 | the file of variants is missing or too large, or the files' count of faults rose, and nothing of the source was taken; a line `error FileFault ..` was written |
+/// | 6 | the file of variants was not read, as the line `error FileFault ..` says that was written |
 /// | 7 | there was no memory |
+///
+/// A file is not read where it is missing or has more than 1,048,576 bytes, or where the files' count of faults rose. Then
+/// nothing of the source is taken.
 pub fn run<R, S, K, F, C, G>(
     rt: &R,
     alloc: Global,
@@ -83,8 +86,8 @@ where
 
     // Then the source is as it was.
     ensures unreached { result ≡ 6 → source.new ≡ source.old }
-    ensures complete { Completes (S.owed source.old) (F.contents files.old) (S.left source.old) (map string_bytes words.now)
-        (FilesFailed (F.faults files.old) (F.faults files.new)) result }
+    ensures complete { Completes (S.owed source.old) (F.contents files.old) (S.left source.old)
+        (map string_bytes words.now) (FilesFailed (F.faults files.old) (F.faults files.new)) result }
 
     // A command that takes no input leaves it untouched.
     ensures unread { asks_input (asked (map string_bytes words.now)) ≡ false → source.new ≡ source.old }
