@@ -22,7 +22,9 @@ fn range_of_kind(moves: &MoveTables, side: Side, kind: u8, from: u8) -> Set
     requires from { from < 120 }
     ensures { (at : ℕ) → at < 120 → has result at ≡ false → Masks.NeverTakes moves.now side kind from at }
 {
-    moves.spot(side, Kind(kind), Square(from), Mode::Take).within
+    moves
+        .spot(side, Kind(kind), Square(from), Mode::Take)
+        .within
 }
 
 /// The squares on which a piece of the side, of whatever kind, may take from the square.

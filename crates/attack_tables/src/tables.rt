@@ -173,7 +173,14 @@ impl Tables {
     }
 
     /// Whether the side's piece on the square attacks the other.
-    fn attacks_from(&self, cells: &[Option<Cell>; 120], occupied: Set, at: Square, by: Side, from: u8) -> bool
+    fn attacks_from(
+        &self,
+        cells: &[Option<Cell>; 120],
+        occupied: Set,
+        at: Square,
+        by: Side,
+        from: u8,
+    ) -> bool
         requires at { at.0 < 120 }
         requires from { from < 120 }
         ensures { (board : List (Option Cell)) → IsOccupied occupied board → cell_at board from ≡ cell_at cells.now from → result ≡ Rule.attacks_from self.now board by at.0 from }
@@ -187,7 +194,14 @@ impl Tables {
     /// Whether a piece of the side attacks the square, on each board that has its pieces on the squares `occupied` and those of the side on
     /// the squares `men`, where the cells hold them. What else the cells hold does not matter: after an ordinary move these are still the
     /// cells before it. The king that flies is not asked.
-    pub fn piece_attacks(&self, cells: &[Option<Cell>; 120], men: Set, occupied: Set, at: Square, by: Side) -> bool
+    pub fn piece_attacks(
+        &self,
+        cells: &[Option<Cell>; 120],
+        men: Set,
+        occupied: Set,
+        at: Square,
+        by: Side,
+    ) -> bool
         requires at { at.0 < 120 }
         requires men { HoldsMen by cells.now men }
         ensures { (board : List (Option Cell)) → IsBoardBy by cells.now men occupied board → result ≡ any_below (Rule.attacks_from self.now board by at.0) 120 }
@@ -203,7 +217,14 @@ impl Tables {
     }
 
     /// Whether a king of the side sees the square along its file, all squares between the two being empty.
-    fn king_sees(&self, cells: &[Option<Cell>; 120], men: Set, occupied: Set, at: Square, by: Side) -> bool
+    fn king_sees(
+        &self,
+        cells: &[Option<Cell>; 120],
+        men: Set,
+        occupied: Set,
+        at: Square,
+        by: Side,
+    ) -> bool
         requires at { at.0 < 120 }
         requires men { HoldsMen by cells.now men }
         ensures { (board : List (Option Cell)) → IsBoardBy by cells.now men occupied board → Rule.is_own_king self.now (other by) (cell_at board at.0) ≡ true → result ≡ any_below (Rule.king_faces self.now board by at.0) 120 }
@@ -221,7 +242,14 @@ impl Tables {
 
     /// Whether the side attacks the square of the other side's king, by a piece or by its own king where kings fly, on each board of
     /// these sets as in `piece_attacks` on which that king stands there.
-    pub fn attacks_king(&self, cells: &[Option<Cell>; 120], men: Set, occupied: Set, at: Square, by: Side) -> bool
+    pub fn attacks_king(
+        &self,
+        cells: &[Option<Cell>; 120],
+        men: Set,
+        occupied: Set,
+        at: Square,
+        by: Side,
+    ) -> bool
         requires at { at.0 < 120 }
         requires men { HoldsMen by cells.now men }
         ensures { (board : List (Option Cell)) → IsBoardBy by cells.now men occupied board → Rule.is_own_king self.now (other by) (cell_at board at.0) ≡ true → result ≡ Rule.attacks self.now board by at.0 }
@@ -258,7 +286,14 @@ impl Tables {
 
     /// Whether the side's king stands attacked, on each board of these sets as in `piece_attacks`, `men` being those of the other side,
     /// on which its kings are on these squares.
-    pub fn king_attacked_by(&self, cells: &[Option<Cell>; 120], kings: Set, men: Set, occupied: Set, side: Side) -> bool
+    pub fn king_attacked_by(
+        &self,
+        cells: &[Option<Cell>; 120],
+        kings: Set,
+        men: Set,
+        occupied: Set,
+        side: Side,
+    ) -> bool
         requires kings { OnSquares kings }
         requires men { HoldsMen (other side) cells.now men }
         ensures { (board : List (Option Cell)) → IsBoardBy (other side) cells.now men occupied board → AreKings self.now side board kings → result ≡ Rule.king_attacked self.now board side }

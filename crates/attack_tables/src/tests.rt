@@ -1,1 +1,197 @@
+ghost use Rattle.std.specs.Prelude.{◌<◌};
+ghost use Rattle.rules_model.specs.Fit.{IsFit};
+
 use super::*;
+use foundation::Memory;
+use rules_model::{Position, Rules, Side, Square};
+use sample_rules::{chess, position, square, xiangqi};
+use square_set::{EMPTY, Set};
+use std::alloc::Global;
+use std::process::Abort;
+
+fn set_of(squares: &[&str]) -> Set {
+    let mut set = EMPTY;
+    for text in squares {
+        set = set.with(square(*text).0);
+    }
+    set
+}
+
+/// The piece on each square reaches in the mode these squares and no others.
+fn expect_reach(
+    rt: &impl Abort,
+    alloc: Global,
+    rules: &Rules,
+    pieces: &str,
+    rows: &[(&str, Mode, &[&str])],
+) -> Result<(), Memory>
+    requires { IsFit rules.now }
+{
+    let tables = Tables::new(alloc, rules)?;
+    let p = position(pieces);
+    for (from, mode, squares) in rows {
+        let reached = tables.reaches(&p, square(*from), *mode);
+        assert_eq!(rt; reached, set_of(*squares), "{from}");
+        for to in 0..120 {
+            let one = tables.reaches_square(&p, square(*from), *mode, Square(to));
+            assert_eq!(rt; one, reached.has(to));
+        }
+    }
+    assert_eq!(rt; tables.reaches(&p, Square(200), Mode::Take), EMPTY);
+    Ok(())
+}
+
+#[test]
+fn chess_pieces_reach(rt: HostRuntime) -> Result<(), Memory> {
+    let rows: [(&str, Mode, &[&str]); 9] = [
+        ("a1", Mode::Take, &["b3", "c2"]),
+        ("e1", Mode::Take, &["d1", "f1", "d2", "e2", "f2"]),
+        ("h1", Mode::Quiet, &["e1", "f1", "g1", "h2", "h3"]),
+        ("h3", Mode::Quiet, &[]),
+        ("h3", Mode::Take, &["g4"]),
+        ("e4", Mode::Take, &["d5", "f5"]),
+        ("b7", Mode::Take, &["a6", "c6"]),
+        ("e8", Mode::Quiet, &["d7", "e7", "f7", "d8", "f8"]),
+        ("d5", Mode::Take, &[]),
+    ];
+    let pieces = "Na1 Ke1 Rh1 Ph3 Pe4 pb7 ke8";
+    expect_reach(&rt, rt.alloc(), &chess(), pieces, &rows)
+}
+
+// An elephant does not cross the river, a king stays in its palace, a soldier goes sideways after the river, a cannon takes over one
+// piece, and a horse does not leap over the piece at its side.
+#[test]
+fn xiangqi_pieces_reach(rt: HostRuntime) -> Result<(), Memory> {
+    let rows: [(&str, Mode, &[&str]); 12] = [
+        ("c5", Mode::Take, &["a3", "e3"]),
+        (
+            "b3",
+            Mode::Quiet,
+            &[
+                "b1", "b2", "b4", "b5", "b6", "a3", "c3", "d3", "e3", "f3", "g3",
+            ],
+        ),
+        ("b3", Mode::Take, &["b7", "b8", "b9", "h3", "i3"]),
+        ("g3", Mode::Quiet, &["i4", "i2", "e4", "e2", "f1", "h1"]),
+        ("b9", Mode::Quiet, &["d10", "d8", "a7", "c7"]),
+        ("e1", Mode::Take, &["d1", "f1", "e2"]),
+        ("d10", Mode::Take, &["e10", "d9"]),
+        ("e5", Mode::Quiet, &["e6"]),
+        ("b6", Mode::Take, &["b7", "a6", "c6"]),
+        ("i6", Mode::Take, &["i7", "h6"]),
+        ("a6", Mode::Take, &["a5"]),
+        ("g4", Mode::Take, &["g3", "f4", "h4"]),
+    ];
+    let pieces = "Ke1 Bc5 Cb3 Pb6 nb9 kd10 Ng3 pg4 Pi6 pa6 Pe5";
+    expect_reach(&rt, rt.alloc(), &xiangqi(), pieces, &rows)
+}
+
+/// The side attacks the square, or not.
+fn expect_attacks(
+    rt: &impl Abort,
+    alloc: Global,
+    rules: &Rules,
+    rows: &[(&str, &str, Side, bool)],
+) -> Result<(), Memory>
+    requires { IsFit rules.now }
+{
+    let tables = Tables::new(alloc, rules)?;
+    for (pieces, at, by, attacked) in rows {
+        let p = position(*pieces);
+        assert_eq!(rt;
+            tables.attacked(&p, square(*at), *by),
+            *attacked,
+            "{pieces} {at}"
+        );
+        assert!(rt; !tables.attacked(&p, Square(200), *by));
+    }
+    Ok(())
+}
+
+#[test]
+fn sides_attack(rt: HostRuntime) -> Result<(), Memory> {
+    let pieces = "Na1 Ke1 Rh1 Ph3 Pe4 pb7 ke8";
+    let rows = [
+        (pieces, "e4", Side::White, false),
+        (pieces, "f5", Side::White, true),
+        (pieces, "e5", Side::White, false),
+        (pieces, "h3", Side::White, true),
+        (pieces, "h4", Side::White, false),
+        (pieces, "c6", Side::Black, true),
+        (pieces, "c6", Side::White, false),
+        ("Ke1 ke8", "e8", Side::White, false),
+    ];
+    expect_attacks(&rt, rt.alloc(), &chess(), &rows)
+}
+
+// Kings attack each other along an open file, and nothing else on it.
+#[test]
+fn kings_fly_in_xiangqi(rt: HostRuntime) -> Result<(), Memory> {
+    let river = "Ke1 Bc5 Cb3 Pb6 nb9 kd10 pa6";
+    let rows = [
+        ("Ke1 ke10", "e10", Side::White, true),
+        ("Ke1 ke10", "e1", Side::Black, true),
+        ("Ke1 ke10", "e5", Side::White, false),
+        ("Ke1 Pe5 ke10", "e10", Side::White, false),
+        ("Kd1 ke10", "e10", Side::White, false),
+        (river, "e3", Side::White, true),
+        (river, "e7", Side::White, false),
+        (river, "b8", Side::White, true),
+        (river, "a5", Side::Black, true),
+        (river, "b6", Side::Black, false),
+    ];
+    expect_attacks(&rt, rt.alloc(), &xiangqi(), &rows)
+}
+
+#[test]
+fn kings_are_attacked(rt: HostRuntime) -> Result<(), Memory> {
+    let tables = Tables::new(rt.alloc(), &chess())?;
+    for (pieces, white, black) in [
+        ("Ke1 re8 ka8", true, false),
+        ("Ke1 Re2 re8 ka8", false, false),
+        ("Ke1 Ra2 ka8", false, true),
+        ("Ra2", false, false),
+    ] {
+        let p = position(pieces);
+        assert_eq!(rt; tables.king_attacked(&p, Side::White), white, "{pieces}");
+        assert_eq!(rt; tables.king_attacked(&p, Side::Black), black, "{pieces}");
+        assert_eq!(rt;
+            tables.occupied(&p),
+            men(&p.cells, Side::White).or(men(&p.cells, Side::Black))
+        );
+    }
+    Ok(())
+}
+
+/// Whether the king on a square stands attacked once White moved a piece: by the cells before the move, and the sets after it.
+fn is_attacked_after(tables: &Tables, p: &Position, from: Square, to: Square, king: Square) -> bool
+    requires from { from.0 < 120 }
+    requires to { to.0 < 120 }
+    requires king { king.0 < 120 }
+{
+    let enemies = men(&p.cells, Side::Black).without(to.0);
+    let occupied = occupied(&p.cells).without(from.0).with(to.0);
+    tables.attacks_king(&p.cells, enemies, occupied, king, Side::Black)
+}
+
+#[test]
+fn a_move_opens_and_closes_lines(rt: HostRuntime) -> Result<(), Memory> {
+    let pinned = "Ke1 Re2 re8 ka8";
+    let rows = [
+        (chess(), pinned, "e2", "d2", "e1", true),
+        (chess(), pinned, "e2", "e5", "e1", false),
+        (chess(), pinned, "e2", "e8", "e1", false),
+        (chess(), "Ke1 re8 ka8", "e1", "e2", "e2", true),
+        (chess(), "Ke1 re8 ka8", "e1", "d1", "d1", false),
+        (xiangqi(), "Kd1 ke10", "d1", "e1", "e1", true),
+        (xiangqi(), "Kd1 pe5 ke10", "d1", "e1", "e1", false),
+        (xiangqi(), "Ke1 Pe5 ke10", "e5", "d5", "e1", true),
+    ];
+    for (rules, pieces, from, to, king, attacked) in &rows {
+        let tables = Tables::new(rt.alloc(), rules)?;
+        let p = position(*pieces);
+        let after = is_attacked_after(&tables, &p, square(*from), square(*to), square(*king));
+        assert_eq!(rt; after, *attacked, "{pieces} {to}");
+    }
+    Ok(())
+}

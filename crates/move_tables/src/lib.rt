@@ -7,7 +7,6 @@ mod copy;
 pub mod jump;
 pub mod line;
 mod make;
-
 pub mod mode;
 mod ray;
 mod region;
@@ -19,7 +18,7 @@ mod tests;
 
 pub use jump::Jump;
 pub use line::{Line, Passage};
-pub use squares::{kings, men, occupied};
 pub use mode::Mode;
 pub use spot::Spot;
+pub use squares::{kings, men, occupied};
 pub use tables::MoveTables;

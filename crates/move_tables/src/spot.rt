@@ -22,8 +22,7 @@ pub struct Spot {
 /// No set has a square from 128 on.
 fn none_beyond(set: Set)
     ensures { (t : ℕ) → 128 ≤ t → has set t ≡ false }
-{
-}
+{}
 
 fn along(lines: &[Line], occupied: Set, leaps: Set) -> Set
     ensures { (t : ℕ) → t < 128 → has result t ≡ (has leaps t || list_any (λ line. Lines.on_line line occupied t) lines.now) }
