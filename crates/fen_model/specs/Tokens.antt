@@ -3,14 +3,14 @@ use Rattle.std.specs.Prelude.{ℕ, ◌-◌, nat_le, Bool, true, false, ◌&&◌,
 use Rattle.rules_model.specs.declared.board.Kind.{Kind}
 use Rattle.rules_model.specs.declared.board.Side.{Side}
 use Rattle.rules_model.specs.declared.board.Side.TheVariants.{White, Black}
-use Rattle.variant_fen.specs.Numbers.{is_digit}
+use Rattle.fen_model.specs.Numbers.{is_digit}
 
 pub data Token : Type 0 where
   -- all digits that stand together
   run : List ℕ → Token
-  -- whether a `+` stands before it, a letter, and whether a `~` stands behind it
+  -- whether a `+` stands before it, a letter, and whether a `~` stands after it
   piece : Bool → ℕ → Bool → Token
-  -- a `~` behind no letter
+  -- a `~` after no letter
   tilde : Token
   -- a `+` before no letter, or another byte
   stray : Token
@@ -42,7 +42,7 @@ with_letter c (tilde ∷ tokens) = piece false c true ∷ tokens
 with_letter c tokens = piece false c false ∷ tokens
 
 abbrev pub with_plus : List Token → List Token
-with_plus (piece false c behind ∷ tokens) = piece true c behind ∷ tokens
+with_plus (piece false c after ∷ tokens) = piece true c after ∷ tokens
 with_plus tokens = stray ∷ tokens
 
 abbrev pub with_byte : ℕ → List Token → List Token

@@ -35,7 +35,7 @@ pub enum FenFault {
 
 impl fmt::Display for FenFault {
     ghost use Rattle.std.specs.Prelude.{Some};
-    ghost use Rattle.variant_fen.specs.Fault.{fault_text};
+    ghost use Rattle.fen_model.specs.Fault.{fault_text};
 
     ghost output = { λ fault. Some (fault_text fault) };
 

@@ -1,9 +1,9 @@
 -- How a fault prints.
 use Rattle.std.specs.Prelude.{ℕ, List, codes}
-use Rattle.variant_fen.specs.declared.fault.FenFault.{FenFault}
-use Rattle.variant_fen.specs.declared.fault.FenFault.TheVariants.{Length, Rank, Letter, Width, Pocket, Side, Rights, EnPassant, Checks, Counter, Kings, OpponentAttacked, TooMany}
+use Rattle.fen_model.specs.declared.fault.FenFault.{FenFault}
+use Rattle.fen_model.specs.declared.fault.FenFault.TheVariants.{Length, Rank, Letter, Width, Pocket, Side, Rights, EnPassant, Checks, Counter, Kings, OpponentAttacked, TooMany}
 
--- the type's name, the fault's number and its name, parted by single blanks
+-- the type's name, the fault's number and its name, separated by single blanks
 abbrev pub fault_text : FenFault → List ℕ
 fault_text Length = codes "FenFault 1 Length"
 fault_text Rank = codes "FenFault 2 Rank"

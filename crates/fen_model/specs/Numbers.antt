@@ -9,13 +9,13 @@ is_digit b = nat_le 48 b && nat_le b 57
 unfoldable pub are_digits : List ℕ → Bool
 are_digits text = nat_lt 0 (length text) && list_all is_digit text
 
--- the number that the digits write behind those of n
-unfoldable pub value_behind : ℕ → List ℕ → ℕ
-value_behind n [] = n
-value_behind n (d ∷ ds) = value_behind (10 * n + (d - 48)) ds
+-- the number that the digits write after those of n
+unfoldable pub value_after : ℕ → List ℕ → ℕ
+value_after n [] = n
+value_after n (d ∷ ds) = value_after (10 * n + (d - 48)) ds
 
 abbrev pub value_of : List ℕ → ℕ
-value_of digits = value_behind 0 digits
+value_of digits = value_after 0 digits
 
 -- the text begins with the digit 0
 abbrev pub begins_with_zero : List ℕ → Bool

@@ -6,11 +6,11 @@ use Rattle.rules_model.specs.declared.board.Kind.{Kind}
 use Rattle.rules_model.specs.declared.board.Side.{Side}
 use Rattle.rules_model.specs.declared.rules.Rules.{Rules}
 use Rattle.rules_model.specs.Kinds.{has_kind, masks, promoted_of}
-use Rattle.variant_fen.specs.declared.fault.FenFault.{FenFault}
-use Rattle.variant_fen.specs.declared.fault.FenFault.TheVariants.{Rank, Letter, Width}
-use Rattle.variant_fen.specs.Chain.{◌>>=◌}
-use Rattle.variant_fen.specs.Numbers.{value_of, begins_with_zero}
-use Rattle.variant_fen.specs.Tokens.{Token, run, piece, tilde, stray, letter_kind, letter_side, tokens_of}
+use Rattle.fen_model.specs.declared.fault.FenFault.{FenFault}
+use Rattle.fen_model.specs.declared.fault.FenFault.TheVariants.{Rank, Letter, Width}
+use Rattle.fen_model.specs.Chain.{◌>>=◌}
+use Rattle.fen_model.specs.Numbers.{value_of, begins_with_zero}
+use Rattle.fen_model.specs.Tokens.{Token, run, piece, tilde, stray, letter_kind, letter_side, tokens_of}
 
 -- ---- one piece
 
@@ -52,7 +52,7 @@ one_square (Some c) = Ok (Some c ∷ [])
 -- the squares that a token says
 abbrev pub token_squares : Rules → Token → Result (List (Option Cell)) FenFault
 token_squares rules (run digits) = run_squares digits
-token_squares rules (piece before c behind) = one_square (marked_cell rules before (letter_side c) (letter_kind c) behind)
+token_squares rules (piece before c after) = one_square (marked_cell rules before (letter_side c) (letter_kind c) after)
 token_squares rules tilde = Err Letter
 token_squares rules stray = Err Letter
 
@@ -98,7 +98,7 @@ is_slash b = b == 47
 abbrev pub ranks_of : Rules → List (List ℕ) → Result (List (List (Option Cell))) FenFault
 ranks_of rules ranks = if length ranks == rules.ranks then rows_of rules ranks else Err Rank
 
--- the cells that a placement says: its ranks, from the highest on, are parted by `/`
+-- the cells that a placement says: its ranks, from the highest on, are separated by `/`
 unfoldable pub cells_of : Rules → List ℕ → Result (List (Option Cell)) FenFault
 cells_of rules board = do
   rows ← ranks_of rules (slice_split is_slash board)

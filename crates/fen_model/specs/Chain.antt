@@ -1,6 +1,6 @@
 -- Steps of which the first fault is the answer.
 use Rattle.std.specs.Prelude.{Option, Some, None, Result, Ok, Err}
-use Rattle.variant_fen.specs.declared.fault.FenFault.{FenFault}
+use Rattle.fen_model.specs.declared.fault.FenFault.{FenFault}
 
 infixl 10 ◌>>=◌
 abbrev pub ◌>>=◌ : {A B : Type 0} → Result A FenFault → (A → Result B FenFault) → Result B FenFault

@@ -9,10 +9,10 @@ use Rattle.rules_model.specs.Kinds.{board_of}
 use Rattle.rules_model.specs.Attacks.{ahead, pawn_at, pawn_could_take}
 use Rattle.rules_model.specs.Pawns.{is_free}
 use Rattle.rules_model.specs.Sound.{lies_in, on_board}
-use Rattle.variant_fen.specs.declared.fault.FenFault.{FenFault}
-use Rattle.variant_fen.specs.declared.fault.FenFault.TheVariants.{EnPassant}
-use Rattle.variant_fen.specs.Fields.{says_none}
-use Rattle.variant_fen.specs.Numbers.{number_of}
+use Rattle.fen_model.specs.declared.fault.FenFault.{FenFault}
+use Rattle.fen_model.specs.declared.fault.FenFault.TheVariants.{EnPassant}
+use Rattle.fen_model.specs.Fields.{says_none}
+use Rattle.fen_model.specs.Numbers.{number_of}
 
 abbrev pub square_on : ℕ → Option ℕ → Option Square
 square_on file None = None

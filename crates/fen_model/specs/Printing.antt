@@ -1,7 +1,7 @@
 -- The one text that is printed for a position.
-use Rattle.std.specs.Prelude.{ℕ, zero, suc, Bool, ◌&&◌, ◌||◌, not, List, [], ◌∷◌, ◌++◌, Option, Some, None, if◌then◌else◌, map, replicate, slice_index}
+use Rattle.std.specs.Prelude.{ℕ, zero, suc, ◌-◌, nat_lt, Bool, ◌&&◌, ◌||◌, not, ◌==◌, List, [], ◌∷◌, ◌++◌, Option, Some, None, if◌then◌else◌, map, replicate, slice_index}
 use Rattle.std.specs.Fmt.{decimal}
-use Rattle.std.specs.List.{flat_map, join_with_byte, range_with_len}
+use Rattle.std.specs.List.{filter, flat_map, join_with_byte, range_with_len}
 use Rattle.rules_model.specs.declared.board.Cell.{Cell}
 use Rattle.rules_model.specs.declared.board.Kind.{Kind}
 use Rattle.rules_model.specs.declared.board.Position.{Position}
@@ -19,9 +19,9 @@ use Rattle.rules_model.specs.Kinds.{names, promoted_of}
 use Rattle.rules_model.specs.MoveText.{lower, square_text, upper}
 use Rattle.rules_model.specs.Repeats.{repeat_of}
 use Rattle.rules_model.specs.Sound.{has_hands}
-use Rattle.variant_fen.specs.Board.{rows_at}
-use Rattle.variant_fen.specs.Fields.{no_text}
-use Rattle.variant_fen.specs.Held.{gate_letter, right_gives, right_letter}
+use Rattle.fen_model.specs.Board.{rows_at}
+use Rattle.fen_model.specs.Fields.{no_text}
+use Rattle.fen_model.specs.Held.{held_letters, right_gives}
 
 -- ---- the placement
 
@@ -34,7 +34,7 @@ marked_text rules c None = kind_letter c.side c.kind ∷ []
 marked_text rules c (Some origin) =
     if names (promoted_of rules origin) c.kind then 43 ∷ kind_letter c.side origin ∷ [] else kind_letter c.side c.kind ∷ 126 ∷ []
 
--- a piece's letter: `+` and the origin's letter where it is the origin's promoted kind, else `~` behind its own for another origin
+-- a piece's letter: `+` and the origin's letter where it is the origin's promoted kind, else `~` after its own for another origin
 abbrev pub cell_text : Rules → Cell → List ℕ
 cell_text rules c = marked_text rules c c.origin
 
@@ -43,13 +43,13 @@ abbrev pub run_text : ℕ → List ℕ
 run_text zero = []
 run_text (suc n) = decimal (suc n)
 
--- the squares of a rank behind so many empty ones
+-- the squares of a rank after so many empty ones
 unfoldable pub row_text : Rules → ℕ → List (Option Cell) → List ℕ
 row_text rules empty [] = run_text empty
 row_text rules empty (None ∷ squares) = row_text rules (suc empty) squares
 row_text rules empty (Some c ∷ squares) = run_text empty ++ cell_text rules c ++ row_text rules 0 squares
 
--- the ranks from the highest on, parted by `/`
+-- the ranks from the highest on, separated by `/`
 unfoldable pub board_text : Rules → List (Option Cell) → List ℕ
 board_text rules cells = join_with_byte 47 (map (row_text rules 0) (rows_at rules cells rules.ranks))
 
@@ -70,30 +70,32 @@ abbrev pub side_text : Side → List ℕ
 side_text White = 119 ∷ []
 side_text Black = 98 ∷ []
 
-abbrev pub right_text : Repeat → Side → Wing → List ℕ
-right_text r side wing = if holds_right r.rights side wing then right_letter side wing ∷ [] else []
-
 -- the side holds the right of the wing, which gives the gate
 abbrev pub right_implies : Rules → Repeat → Side → ℕ → Wing → Bool
 right_implies rules r side file wing = holds_right r.rights side wing && right_gives rules r.cells side wing file
 
--- the letter of a gate that no held right gives
-abbrev pub gate_text : Rules → Repeat → Side → ℕ → List ℕ
-gate_text rules r side file =
-    if has_gate r.gates side file && not (right_implies rules r side file Kingside || right_implies rules r side file Queenside) then gate_letter side file ∷ [] else []
+-- the side holds the gate, and no right that it holds gives it
+abbrev pub prints_gate : Rules → Repeat → Side → ℕ → Bool
+prints_gate rules r side file =
+    has_gate r.gates side file && not (right_implies rules r side file Kingside || right_implies rules r side file Queenside)
 
--- a side's rights, and then its gates by file
-unfoldable pub side_rights_text : Rules → Repeat → Side → List ℕ
-side_rights_text rules r side =
-    right_text r side Kingside ++ right_text r side Queenside ++ flat_map (gate_text rules r side) (range_with_len 0 10)
+-- the letter of a right or of a gate is printed: White's rights, Black's, White's gates, Black's
+unfoldable pub is_printed : Rules → Repeat → ℕ → Bool
+is_printed rules r b =
+    if b == 75 then holds_right r.rights White Kingside
+    else if b == 81 then holds_right r.rights White Queenside
+    else if b == 107 then holds_right r.rights Black Kingside
+    else if b == 113 then holds_right r.rights Black Queenside
+    else if nat_lt b 97 then prints_gate rules r White (b - 65)
+    else prints_gate rules r Black (b - 97)
 
 abbrev pub or_none : List ℕ → List ℕ
 or_none [] = no_text
 or_none (b ∷ bs) = b ∷ bs
 
--- White's before Black's, or `-`
+-- White's rights and then its gates by file, before Black's, or `-`
 unfoldable pub rights_text : Rules → Repeat → List ℕ
-rights_text rules r = or_none (side_rights_text rules r White ++ side_rights_text rules r Black)
+rights_text rules r = or_none (filter (is_printed rules r) held_letters)
 
 abbrev pub ep_text : Option Square → List ℕ
 ep_text None = no_text
@@ -110,6 +112,6 @@ field_texts rules p =
     (board_text rules p.cells ++ pocket_text rules p.hands) ∷ side_text p.side ∷ rights_text rules (repeat_of p) ∷ ep_text p.ep
     ∷ (checks_texts rules p.checks ++ decimal p.counter ∷ decimal p.number ∷ [])
 
--- all fields, parted by single blanks
+-- all fields, separated by single blanks
 unfoldable pub fen_text : Rules → Position → List ℕ
 fen_text rules p = join_with_byte 32 (field_texts rules p)

@@ -4,10 +4,10 @@ use Rattle.std.specs.List.{list_all, range_with_len}
 use Rattle.rules_model.specs.declared.rules.Rules.{Rules}
 use Rattle.rules_model.specs.Kinds.{has_kind, is_king}
 use Rattle.rules_model.specs.Sound.{has_hands}
-use Rattle.variant_fen.specs.declared.fault.FenFault.{FenFault}
-use Rattle.variant_fen.specs.declared.fault.FenFault.TheVariants.{Pocket}
-use Rattle.variant_fen.specs.Fields.{says_none}
-use Rattle.variant_fen.specs.Tokens.{is_letter, letter_kind}
+use Rattle.fen_model.specs.declared.fault.FenFault.{FenFault}
+use Rattle.fen_model.specs.declared.fault.FenFault.TheVariants.{Pocket}
+use Rattle.fen_model.specs.Fields.{says_none}
+use Rattle.fen_model.specs.Tokens.{is_letter, letter_kind}
 
 -- what stands between the brackets; a pocket that is not there is empty
 abbrev pub inside_of : List ℕ → Option (List ℕ)

@@ -3,9 +3,9 @@ use Rattle.std.specs.Prelude.{ℕ, nat_le, ◌==◌, ◌&&◌, Bool, List, [], �
 use Rattle.std.specs.List.{slice_split}
 use Rattle.rules_model.specs.declared.board.Side.{Side}
 use Rattle.rules_model.specs.declared.board.Side.TheVariants.{White, Black}
-use Rattle.variant_fen.specs.declared.fault.FenFault.{FenFault}
-use Rattle.variant_fen.specs.declared.fault.FenFault.TheVariants as fault
-use Rattle.variant_fen.specs.Numbers.{number_of}
+use Rattle.fen_model.specs.declared.fault.FenFault.{FenFault}
+use Rattle.fen_model.specs.declared.fault.FenFault.TheVariants as fault
+use Rattle.fen_model.specs.Numbers.{number_of}
 
 -- `w` or `b`
 unfoldable pub side_of : List ℕ → Result Side FenFault

@@ -10,5 +10,4 @@ pub mod Passed
 pub mod Counts
 pub mod Reading
 pub mod Printing
-pub mod FieldView
-pub mod Plain
+pub mod Says

@@ -2,10 +2,10 @@
 use Rattle.std.specs.Prelude.{ℕ, nat_lt, Bool, false, ◌==◌, List, [], ◌∷◌, Option, Some, None, Result, Err, if◌then◌else◌, length, take, drop}
 use Rattle.std.specs.List.{slice_split, position_or_len}
 use Rattle.rules_model.specs.declared.rules.Rules.{Rules}
-use Rattle.variant_fen.specs.declared.fault.FenFault.{FenFault}
-use Rattle.variant_fen.specs.declared.fault.FenFault.TheVariants.{Length}
-use Rattle.variant_fen.specs.Chain.{or_fault}
-use Rattle.variant_fen.specs.Numbers.{are_digits}
+use Rattle.fen_model.specs.declared.fault.FenFault.{FenFault}
+use Rattle.fen_model.specs.declared.fault.FenFault.TheVariants.{Length}
+use Rattle.fen_model.specs.Chain.{or_fault}
+use Rattle.fen_model.specs.Numbers.{are_digits}
 
 -- a blank is one space
 abbrev pub is_blank : ℕ → Bool
@@ -78,11 +78,6 @@ counted_fields parts = None
 abbrev pub fields_in : Rules → List (List ℕ) → Option Fields
 fields_in rules parts = if rules.check_counting then counted_fields parts else plain_fields parts
 
--- the parts of a text where there is one
-abbrev pub parts_behind : ℕ → Option (List ℕ) → List (List ℕ)
-parts_behind byte None = []
-parts_behind byte (Some text) = slice_split (λ b. b == byte) text
-
--- the fields, parted by single blanks, of a text of at most 1,024 bytes
+-- the fields, separated by single blanks, of a text of at most 1,024 bytes
 unfoldable pub fields_of : Rules → List ℕ → Result Fields FenFault
 fields_of rules text = if nat_lt 1024 (length text) then Err Length else or_fault Length (fields_in rules (slice_split is_blank text))

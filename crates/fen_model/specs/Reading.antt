@@ -1,6 +1,5 @@
 -- What a text says as a whole (FEN, Forsyth-Edwards notation, as Fairy-Stockfish extends it for variants).
-use Rattle.std.specs.Prelude.{◌≡◌, ℕ, ◌+◌, max, nat_lt, ◌&&◌, not, List, Option, Result, Ok, Err, if◌then◌else◌, length, true}
-use Rattle.std.specs.List.{list_all}
+use Rattle.std.specs.Prelude.{◌≡◌, ℕ, ◌+◌, max, nat_lt, ◌&&◌, not, List, Option, Result, Ok, Err, if◌then◌else◌}
 use Rattle.rules_model.specs.declared.board.Cell.{Cell}
 use Rattle.rules_model.specs.declared.board.Position.{Position}
 use Rattle.rules_model.specs.declared.board.Side.{Side}
@@ -9,19 +8,18 @@ use Rattle.rules_model.specs.declared.board.Square.{Square}
 use Rattle.rules_model.specs.declared.rules.Rules.{Rules}
 use Rattle.rules_model.specs.Attacks.{king_attacked}
 use Rattle.rules_model.specs.Ends.{pieces_of}
-use Rattle.rules_model.specs.Promised.{HasSizes}
 use Rattle.rules_model.specs.Repeats.{repeat_of}
 use Rattle.rules_model.specs.Sides.{other}
 use Rattle.rules_model.specs.Sound.{has_its_king}
-use Rattle.variant_fen.specs.declared.fault.FenFault.{FenFault}
-use Rattle.variant_fen.specs.declared.fault.FenFault.TheVariants.{Kings, OpponentAttacked, TooMany}
-use Rattle.variant_fen.specs.Chain.{◌>>=◌}
-use Rattle.variant_fen.specs.Fields.{Fields, fields_of}
-use Rattle.variant_fen.specs.Board.{cells_of}
-use Rattle.variant_fen.specs.Pocket.{hands_of}
-use Rattle.variant_fen.specs.Held.{Held, held_of}
-use Rattle.variant_fen.specs.Passed.{passed_of}
-use Rattle.variant_fen.specs.Counts.{side_of, checks_of, count_of}
+use Rattle.fen_model.specs.declared.fault.FenFault.{FenFault}
+use Rattle.fen_model.specs.declared.fault.FenFault.TheVariants.{Kings, OpponentAttacked, TooMany}
+use Rattle.fen_model.specs.Chain.{◌>>=◌}
+use Rattle.fen_model.specs.Fields.{Fields, fields_of}
+use Rattle.fen_model.specs.Board.{cells_of}
+use Rattle.fen_model.specs.Pocket.{hands_of}
+use Rattle.fen_model.specs.Held.{Held, held_of}
+use Rattle.fen_model.specs.Passed.{passed_of}
+use Rattle.fen_model.specs.Counts.{side_of, checks_of, count_of}
 
 abbrev pub position_with : List (Option Cell) → List (List ℕ) → Side → Held → Option Square → List ℕ → ℕ → ℕ → Position
 position_with cells hands side held ep checks counter number = record {
@@ -71,9 +69,3 @@ Fen rules text p = fen_of rules text ≡ Ok p
 -- the text says none, and this is its first fault
 abbrev pub FenBad : Rules → List ℕ → FenFault → Type 0
 FenBad rules text fault = fen_of rules text ≡ Err fault
-
--- the lists of a position and of rules are as long as their fields, and a side's gates are a number of 16 bits
-pub record IsValue (rules : Rules) (p : Position) : Type 0 where
-  pub kinds : length rules.kinds ≡ 26
-  pub sizes : HasSizes (repeat_of p)
-  pub gates : list_all (λ gates. nat_lt gates 65536) p.gates ≡ true
