@@ -1,0 +1,11 @@
+pub mod ChainLaws
+pub mod NumberLemmas
+pub mod DecimalLaws
+pub mod JoinLaws
+pub mod TokenLemmas
+pub mod CellLaws
+pub mod HandLaws
+pub mod HeldLaws
+pub mod SoundParts
+pub mod SaysLaws
+pub mod SoundLaws
