@@ -46,7 +46,7 @@ first_is : (n : ℕ) → n < 2 ^ 64 → (length (decimal n) == 1 || not (begins_
 first_is zero small = let one = decimal_digit 0 (omega arith) in rw one refl
 first_is (suc n) small = let first = not-zero (suc n) (omega arith) small in rw first (or_right (length (decimal (suc n)) == 1) true refl)
 
-number-back : (n : ℕ) → n < 2 ^ 64 → number_of (decimal n) ≡ Some n
+pub number-back : (n : ℕ) → n < 2 ^ 64 → number_of (decimal n) ≡ Some n
 unfolding number_of is_number are_digits
 number-back n small =
     let w = decimal-writes n small in

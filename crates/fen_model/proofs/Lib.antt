@@ -12,3 +12,7 @@ pub mod SoundParts
 pub mod SaysLaws
 pub mod SoundLaws
 pub mod BackLaws
+pub mod HandBack
+pub mod HeldBack
+pub mod FieldBack
+pub mod GivesBack
