@@ -23,7 +23,8 @@ use Rattle.rules_model.specs.Repeats.{repeat_of}
 use Rattle.rules_model.specs.Sides.{side_index, wing_index}
 use Rattle.rules_model.specs.Sound.{sound_gate, sound_right, sound_rook}
 use Rattle.fen_model.specs.Fields.{no_text, says_none}
-use Rattle.fen_model.specs.Held.{Held, are_letters, bits_of, gate_letter, gate_said, has, held_letters, held_of, held_said, may_hold, nothing_held, right_gives, right_letter, right_says, rights_said, stands_once}
+use Rattle.fen_model.specs.declared.held.Held.{Held}
+use Rattle.fen_model.specs.Held.{are_letters, bits_of, gate_letter, gate_said, has, held_letters, held_of, held_said, may_hold, nothing_held, right_gives, right_letter, right_says, rights_said, stands_once}
 use Rattle.fen_model.specs.Numbers.{are_digits, is_digit}
 use Rattle.fen_model.specs.Printing.{is_printed, or_none, prints_gate, right_implies, rights_text}
 use Rattle.fen_model.specs.Says.{held_in}

@@ -15,7 +15,8 @@ use Rattle.rules_model.specs.declared.board.Wing.TheVariants.{Kingside, Queensid
 use Rattle.rules_model.specs.declared.rules.Rules.{Rules}
 use Rattle.rules_model.specs.Sound.{sound_gate, sound_right}
 use Rattle.fen_model.specs.Fields.{says_none}
-use Rattle.fen_model.specs.Held.{Held, are_letters, bits_of, gate_said, held_of, held_on, held_said, may_hold, nothing_held, side_may_hold}
+use Rattle.fen_model.specs.declared.held.Held.{Held}
+use Rattle.fen_model.specs.Held.{are_letters, bits_of, gate_said, held_of, held_on, held_said, may_hold, nothing_held, side_may_hold}
 
 -- ---- gates as numbers
 

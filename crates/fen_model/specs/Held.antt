@@ -14,12 +14,8 @@ use Rattle.rules_model.specs.Castling.{rook_file}
 use Rattle.rules_model.specs.Sound.{sound_gate, sound_right}
 use Rattle.fen_model.specs.declared.fault.FenFault.{FenFault}
 use Rattle.fen_model.specs.declared.fault.FenFault.TheVariants.{Rights}
+use Rattle.fen_model.specs.declared.held.Held.{Held}
 use Rattle.fen_model.specs.Fields.{says_none}
-
--- what the sides hold: rights by side and wing, and the gates of each side
-pub record Held : Type 0 where
-  pub rights : List (List Bool)
-  pub gates : List ℕ
 
 -- ---- letters
 

@@ -17,7 +17,8 @@ use Rattle.fen_model.specs.Chain.{◌>>=◌}
 use Rattle.fen_model.specs.Fields.{Fields, fields_of}
 use Rattle.fen_model.specs.Board.{cells_of}
 use Rattle.fen_model.specs.Pocket.{hands_of}
-use Rattle.fen_model.specs.Held.{Held, held_of}
+use Rattle.fen_model.specs.declared.held.Held.{Held}
+use Rattle.fen_model.specs.Held.{held_of}
 use Rattle.fen_model.specs.Passed.{passed_of}
 use Rattle.fen_model.specs.Counts.{side_of, checks_of, count_of}
 

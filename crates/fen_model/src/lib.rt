@@ -3,6 +3,8 @@
 #![tactic(auto)]
 
 mod fault;
+mod held;
 pub mod laws;
 
 pub use fault::FenFault;
+pub use held::Held;
