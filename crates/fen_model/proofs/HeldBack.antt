@@ -2,7 +2,7 @@
 use Rattle.std.proofs.Common.{◌≡◌, ◌≢◌, ◌⊎◌, inl, inr, ℕ, zero, suc, ◌+◌, ◌-◌, ◌*◌, ◌^◌, ◌<◌, ◌≤◌, nat_lt, nat_le, ◌==◌, Bool, true, false, ◌&&◌, ◌||◌, not, if◌then◌else◌, List, [], ◌∷◌, length, get_or, count_by, slice_index, Option, Some, None, Ok, refl, sym, ap, ◌∙◌, arith, subst, ⊎_elim}
 use Rattle.std.specs.Int.{bit_at}
 use Rattle.std.specs.List.{filter, list_all, list_any}
-use Rattle.std.proofs.lemmas.Bool.{cases_Bool, lt-ltb, le-ltb, ltb-true, ltb-false, leb-true, eqb-true, eqb-false, eq-eqb, ne_eqb, and_from, and_parts, or_left, or_right, not-true}
+use Rattle.std.proofs.lemmas.Bool.{cases_Bool, lt-ltb, le-leb, lt-leb, ltb-true, ltb-false, leb-true, eqb-true, eqb-false, eq-eqb, ne_eqb, and_from, and_parts, or_left, or_right, not-true}
 use Rattle.std.proofs.lemmas.List.Sums.{sum_by-append}
 use Rattle.std.proofs.lemmas.Nat.Bits.{bit_at-lt, bit_at_above, bit_at_cat_high, bit_at_cat_low, same_from_bits_below}
 use Rattle.foundation.specs.Count.{all_below}
@@ -200,9 +200,10 @@ white_printed rules r file below =
     let b = apart (65 + file) 81 (λ e. absurd (omega (arith, e, below))) in
     let c = apart (65 + file) 107 (λ e. absurd (omega (arith, e, below))) in
     let d = apart (65 + file) 113 (λ e. absurd (omega (arith, e, below))) in
-    let low : nat_lt (65 + file) 97 ≡ true = lt-ltb _ _ (omega (arith, below)) in
+    let low : nat_le 65 (65 + file) ≡ true = le-leb _ _ (omega arith) in
+    let high : nat_le (65 + file) 74 ≡ true = le-leb _ _ (omega (arith, below)) in
     let back : (65 + file) - 65 ≡ file = omega arith in
-    rw (a, b, c, d, low) (ap (prints_gate rules r White) back)
+    rw (a, b, c, d, low, high) (ap (prints_gate rules r White) back)
 
 black_printed : (rules : Rules) (r : Repeat) (file : ℕ) → file < 10 → is_printed rules r (97 + file) ≡ prints_gate rules r Black file
 unfolding is_printed
@@ -211,9 +212,11 @@ black_printed rules r file below =
     let b = apart (97 + file) 81 (λ e. absurd (omega (arith, e, below))) in
     let c = apart (97 + file) 107 (λ e. absurd (omega (arith, e, below))) in
     let d = apart (97 + file) 113 (λ e. absurd (omega (arith, e, below))) in
-    let high : nat_lt (97 + file) 97 ≡ false = le-ltb _ _ (omega (arith, below)) in
+    let upper : (nat_le 65 (97 + file) && nat_le (97 + file) 74) ≡ false = (let over : nat_le (97 + file) 74 ≡ false = lt-leb _ _ (omega arith) in rw over (and_no _)) in
+    let low : nat_le 97 (97 + file) ≡ true = le-leb _ _ (omega arith) in
+    let high : nat_le (97 + file) 106 ≡ true = le-leb _ _ (omega (arith, below)) in
     let back : (97 + file) - 97 ≡ file = omega arith in
-    rw (a, b, c, d, high) (ap (prints_gate rules r Black) back)
+    rw (a, b, c, d, upper, low, high) (ap (prints_gate rules r Black) back)
 
 picked_is : (q : ℕ → Bool) (b : ℕ) (answer : Bool) → has b held_letters ≡ true → q b ≡ answer → has b (filter q held_letters) ≡ answer
 picked_is q b answer there is = has-filter q b held_letters ∙ (rw there is)

@@ -1,5 +1,5 @@
 -- The one text that is printed for a position.
-use Rattle.std.specs.Prelude.{ℕ, zero, suc, ◌-◌, nat_lt, Bool, ◌&&◌, ◌||◌, not, ◌==◌, List, [], ◌∷◌, ◌++◌, Option, Some, None, if◌then◌else◌, map, replicate, slice_index}
+use Rattle.std.specs.Prelude.{ℕ, zero, suc, ◌-◌, nat_le, Bool, false, ◌&&◌, ◌||◌, not, ◌==◌, List, [], ◌∷◌, ◌++◌, Option, Some, None, if◌then◌else◌, map, replicate, slice_index}
 use Rattle.std.specs.Fmt.{decimal}
 use Rattle.std.specs.List.{filter, flat_map, join_with_byte, range_with_len}
 use Rattle.rules_model.specs.declared.board.Cell.{Cell}
@@ -79,15 +79,16 @@ abbrev pub prints_gate : Rules → Repeat → Side → ℕ → Bool
 prints_gate rules r side file =
     has_gate r.gates side file && not (right_implies rules r side file Kingside || right_implies rules r side file Queenside)
 
--- the letter of a right or of a gate is printed: White's rights, Black's, White's gates, Black's
+-- the byte is the letter of a right or of a gate that is printed: White's rights, Black's, White's gates, Black's
 unfoldable pub is_printed : Rules → Repeat → ℕ → Bool
 is_printed rules r b =
     if b == 75 then holds_right r.rights White Kingside
     else if b == 81 then holds_right r.rights White Queenside
     else if b == 107 then holds_right r.rights Black Kingside
     else if b == 113 then holds_right r.rights Black Queenside
-    else if nat_lt b 97 then prints_gate rules r White (b - 65)
-    else prints_gate rules r Black (b - 97)
+    else if nat_le 65 b && nat_le b 74 then prints_gate rules r White (b - 65)
+    else if nat_le 97 b && nat_le b 106 then prints_gate rules r Black (b - 97)
+    else false
 
 abbrev pub or_none : List ℕ → List ℕ
 or_none [] = no_text
@@ -107,10 +108,16 @@ checks_texts rules checks = if rules.check_counting then (decimal (slice_index c
 
 -- ---- the whole
 
+-- the side to move, the rights and the en passant square
+abbrev pub state_texts : Rules → Position → List (List ℕ)
+state_texts rules p = side_text p.side ∷ rights_text rules (repeat_of p) ∷ ep_text p.ep ∷ []
+
+-- the checks left where they are counted, the halfmoves and the number
+abbrev pub count_texts : Rules → Position → List (List ℕ)
+count_texts rules p = checks_texts rules p.checks ++ decimal p.counter ∷ decimal p.number ∷ []
+
 unfoldable pub field_texts : Rules → Position → List (List ℕ)
-field_texts rules p =
-    (board_text rules p.cells ++ pocket_text rules p.hands) ∷ side_text p.side ∷ rights_text rules (repeat_of p) ∷ ep_text p.ep
-    ∷ (checks_texts rules p.checks ++ decimal p.counter ∷ decimal p.number ∷ [])
+field_texts rules p = (board_text rules p.cells ++ pocket_text rules p.hands) ∷ (state_texts rules p ++ count_texts rules p)
 
 -- all fields, separated by single blanks
 unfoldable pub fen_text : Rules → Position → List ℕ

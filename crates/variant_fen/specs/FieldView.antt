@@ -1,8 +1,7 @@
 -- The fields as code holds them, without where their bytes lie in memory.
 use Rattle.variant_fen.specs.declared.fields.FieldTexts.{FieldTexts}
-use Rattle.variant_fen.specs.Fields.{Fields, no_checks}
+use Rattle.fen_model.specs.Fields.{Fields}
 
--- the fields of a variant that counts no checks
 abbrev pub fields_view : FieldTexts → Fields
 fields_view texts = record {
   board = texts.board.now;
@@ -10,7 +9,7 @@ fields_view texts = record {
   side = texts.side.now;
   rights = texts.rights.now;
   ep = texts.ep.now;
-  checks = no_checks;
+  checks = texts.checks.now;
   halfmoves = texts.halfmoves.now;
   number = texts.number.now;
 }

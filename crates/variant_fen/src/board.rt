@@ -1,38 +1,16 @@
 //! The placement.
-ghost use Rattle.std.specs.Prelude.{◌≡◌, ◌<◌, ◌≤◌, ◌+◌, true, count_by, length, min, replicate, IfOk, MatchResult, None, Ok, Err, OnOk, take, drop};
+ghost use Rattle.std.specs.Prelude.{◌≡◌, ◌<◌, ◌≤◌, ◌+◌, count_by, length, replicate, MatchResult, None, Ok, Err, OnOk, take, drop};
 ghost use Rattle.std.specs.List.{slice_split, prefix_len};
-ghost use Rattle.rules_model.specs.Built.{is_built};
 ghost use Rattle.rules_model.specs.Fit.{IsFit};
-ghost use Rattle.variant_fen.specs.Board as Board;
-ghost use Rattle.variant_fen.specs.Numbers as Numbers;
-ghost use Rattle.variant_fen.specs.Plain.{letter_cell, put_at, IsFreeFrom, IsSameBut};
+ghost use Rattle.fen_model.specs.Board as Board;
+ghost use Rattle.fen_model.specs.Numbers as Numbers;
+ghost use Rattle.variant_fen.specs.Cells.{put_at, IsFreeFrom, IsSameBut};
 
 use crate::cut::cut_at;
-use crate::fault::FenFault;
 use crate::number::{begins_with_zero, is_digit, value};
-use rules_model::kinds::has_kind;
-use rules_model::{Cell, Cells, Kind, Rules, Side};
-
-/// The piece of a letter: White's letters are the upper case ones.
-fn letter_cell(rules: &Rules, byte: u8) -> Option<Cell>
-    ensures { result ≡ letter_cell rules.now byte }
-{
-    let (side, letter) = match byte {
-        b'A'..=b'Z' => (Side::White, byte - b'A'),
-        b'a'..=b'z' => (Side::Black, byte - b'a'),
-        _ => return None,
-    };
-    let kind = Kind(letter);
-    if has_kind(rules, kind) {
-        Some(Cell {
-            side,
-            kind,
-            origin: None,
-        })
-    } else {
-        None
-    }
-}
+use crate::pieces::cut_piece;
+use fen_model::FenFault;
+use rules_model::{Cell, Cells, Rules};
 
 fn digit_count(text: &[u8]) -> usize
     ensures is { result ≡ prefix_len Numbers.is_digit text.now }
@@ -41,10 +19,10 @@ fn digit_count(text: &[u8]) -> usize
     text.iter().take_while(|byte| is_digit(**byte)).count()
 }
 
-/// The digits at the front, and what stands behind them.
+/// The digits at the front, and what follows them.
 fn cut_run(text: &[u8]) -> (&[u8], &[u8])
     ensures run { result.0.now ≡ take (prefix_len Numbers.is_digit text.now) text.now }
-    ensures behind { result.1.now ≡ drop (prefix_len Numbers.is_digit text.now) text.now }
+    ensures rest { result.1.now ≡ drop (prefix_len Numbers.is_digit text.now) text.now }
 {
     text.split_at(digit_count(text))
 }
@@ -61,10 +39,9 @@ fn put(rules: &Rules, cells: &mut Cells, rank: u8, file: u16, cell: Cell)
     }
 }
 
-/// Reads a rank that is empty so far. No piece is promoted, so no letter has a mark.
+/// Reads a rank that is empty so far.
 fn read_rank(rules: &Rules, text: &[u8], rank: u8, cells: &mut Cells) -> Result<(), FenFault>
     requires fit { IsFit rules.now }
-    requires built { is_built rules.now ≡ true }
     requires rank { rank < 10 }
     requires empty { IsFreeFrom cells.old rank 0 }
     ensures row { MatchResult result (λ _. Board.row_of rules.now text.now ≡ Ok (Board.row_at cells.new rank rules.now.files)) (λ fault. Board.row_of rules.now text.now ≡ Err fault) }
@@ -73,21 +50,21 @@ fn read_rank(rules: &Rules, text: &[u8], rank: u8, cells: &mut Cells) -> Result<
 {
     let mut left = text;
     let mut file: u16 = 0;
-    while let Some((first, behind)) = left.split_first() {
+    while let Some((first, _)) = left.split_first() {
         if is_digit(*first) {
-            let (run, others) = cut_run(left);
+            let (run, rest) = cut_run(left);
             if begins_with_zero(run) {
                 return Err(FenFault::Width);
             }
             file = file.saturating_add(value(run));
-            left = others;
+            left = rest;
         } else {
-            let Some(cell) = letter_cell(rules, *first) else {
+            let Some((cell, rest)) = cut_piece(rules, left) else {
                 return Err(FenFault::Letter);
             };
             put(rules, cells, rank, file, cell);
             file = file.saturating_add(1);
-            left = behind;
+            left = rest;
         }
     }
     if file == u16::from(rules.files) {
@@ -114,7 +91,6 @@ fn rank_count(board: &[u8]) -> usize
 /// Reads a placement onto an empty board.
 pub(crate) fn read_board(rules: &Rules, board: &[u8], cells: &mut Cells) -> Result<(), FenFault>
     requires fit { IsFit rules.now }
-    requires built { is_built rules.now ≡ true }
     requires empty { cells.old ≡ replicate 120 None }
     ensures { MatchResult result (λ _. Board.cells_of rules.now board.now ≡ Ok cells.new) (λ fault. Board.cells_of rules.now board.now ≡ Err fault) }
 {
@@ -124,10 +100,10 @@ pub(crate) fn read_board(rules: &Rules, board: &[u8], cells: &mut Cells) -> Resu
     let mut rank = rules.ranks;
     let mut left = Some(board);
     while let Some(text) = left {
-        let (rank_text, behind) = cut_at(text, b'/');
+        let (rank_text, rest) = cut_at(text, b'/');
         rank -= 1;
         read_rank(rules, rank_text, rank, cells)?;
-        left = behind;
+        left = rest;
     }
     Ok(())
 }

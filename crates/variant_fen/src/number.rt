@@ -1,11 +1,11 @@
 //! Numbers in decimal digits.
-ghost use Rattle.std.specs.Prelude.{◌≡◌, ◌≤◌, min};
+ghost use Rattle.std.specs.Prelude.{◌≡◌, min};
 ghost use Rattle.std.specs.List.{list_all};
 ghost use Rattle.std.specs.Option.{option_map};
-ghost use Rattle.variant_fen.specs.Numbers as Numbers;
-ghost use Rattle.variant_fen.specs.Counts.{count_of};
+ghost use Rattle.fen_model.specs.Numbers as Numbers;
+ghost use Rattle.fen_model.specs.Counts.{count_of};
 
-use crate::fault::FenFault;
+use fen_model::FenFault;
 
 /// Numbers from here on count as this one: no number of a text may be as great.
 const MOST: u32 = 10_000;
@@ -23,7 +23,7 @@ fn has_digits_alone(text: &[u8]) -> bool
 }
 
 /// Whether the text has a digit and no other byte.
-#[tactic(auto, unfolding(crate::specs::Numbers::are_digits))]
+#[tactic(auto, unfolding(fen_model::specs::Numbers::are_digits))]
 pub(crate) fn are_digits(text: &[u8]) -> bool
     ensures { result ≡ Numbers.are_digits text.now }
 {
@@ -40,7 +40,7 @@ pub(crate) fn begins_with_zero(text: &[u8]) -> bool
 }
 
 /// The number that the digits write, or 10,000 where it is greater.
-#[tactic(auto, using(crate::proofs::NumberLemmas::counting))]
+#[tactic(auto, using(fen_model::proofs::NumberLemmas::counting))]
 pub(crate) fn value(digits: &[u8]) -> u16
     ensures { result ≡ min 10000 (Numbers.value_of digits.now) }
 {
@@ -52,8 +52,8 @@ pub(crate) fn value(digits: &[u8]) -> u16
 }
 
 /// The number that a text writes, or 10,000 where it is greater.
-#[tactic(auto, unfolding(crate::specs::Numbers::number_of, crate::specs::Numbers::is_number))]
-fn read_number(text: &[u8]) -> Option<u16>
+#[tactic(auto, unfolding(fen_model::specs::Numbers::number_of, fen_model::specs::Numbers::is_number))]
+pub(crate) fn read_number(text: &[u8]) -> Option<u16>
     ensures { result ≡ option_map (min 10000) (Numbers.number_of text.now) }
 {
     if are_digits(text) && (text.len() == 1 || !begins_with_zero(text)) {
@@ -64,7 +64,7 @@ fn read_number(text: &[u8]) -> Option<u16>
 }
 
 /// Reads a number up to 9,999.
-#[tactic(auto, unfolding(crate::specs::Counts::count_of))]
+#[tactic(auto, unfolding(fen_model::specs::Counts::count_of))]
 pub(crate) fn read_count(text: &[u8]) -> Result<u16, FenFault>
     ensures { result ≡ count_of text.now }
 {

@@ -1,10 +1,9 @@
-//! Writing a position as a text.
+//! Writing a placement.
 ghost use Rattle.std.specs.Prelude.{◌≡◌, ◌≤◌, ◌<◌, ◌++◌, OnOk};
 ghost use Rattle.std.specs.Fmt.{decimal};
 ghost use Rattle.rules_model.specs.Fit.{IsFit};
-ghost use Rattle.variant_fen.specs.Board.{row_at};
-ghost use Rattle.variant_fen.specs.Plain.{bare_fields};
-ghost use Rattle.variant_fen.specs.Printing as Printing;
+ghost use Rattle.fen_model.specs.Board.{row_at};
+ghost use Rattle.fen_model.specs.Printing as Printing;
 
 use rules_model::kinds::{names, promoted_of};
 use rules_model::{Cell, Cells, Kind, Memory, Rules, Side};
@@ -20,7 +19,8 @@ pub(crate) fn push_number(text: &mut Vec<u8>, n: u16) -> Result<(), Memory>
     Ok(())
 }
 
-fn kind_letter(side: Side, kind: Kind) -> u8
+/// The letter of a kind, in upper case for White.
+pub(crate) fn kind_letter(side: Side, kind: Kind) -> u8
     ensures { result ≡ Printing.kind_letter side kind }
 {
     match side {
@@ -29,8 +29,8 @@ fn kind_letter(side: Side, kind: Kind) -> u8
     }
 }
 
-/// Appends a piece: `+` and its origin's letter where it is the origin's promoted kind, else its own letter, with `~` behind
-/// it where it has another origin.
+/// Appends a piece: `+` and its origin's letter where it is the origin's promoted kind, else its own letter, with `~` after it
+/// where it has another origin.
 fn push_cell(rules: &Rules, text: &mut Vec<u8>, cell: Cell) -> Result<(), Memory>
     ensures { OnOk result (text.new.items ≡ text.old.items ++ Printing.cell_text rules.now cell) }
 {
@@ -91,14 +91,4 @@ pub(crate) fn push_board(rules: &Rules, text: &mut Vec<u8>, cells: &Cells) -> Re
         push_rank(rules, text, cells, rules.ranks - 1 - above)?;
     }
     Ok(())
-}
-
-/// What stands between the placement and the counts: the side to move, and `-` for no right and for no square.
-pub(crate) fn bare_fields(side: Side) -> &'static [u8]
-    ensures { result.now ≡ bare_fields side }
-{
-    match side {
-        Side::White => b" w - - ",
-        Side::Black => b" b - - ",
-    }
 }

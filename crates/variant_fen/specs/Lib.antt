@@ -1,0 +1,6 @@
+pub mod Cut
+pub mod FieldView
+pub mod Pieces
+pub mod Cells
+pub mod Hands
+pub mod Blanks

@@ -1,0 +1,111 @@
+//! Whether rights and gates have their pieces in place.
+ghost use Rattle.std.specs.Prelude.{◌≡◌, ◌<◌, not, IfSome};
+ghost use Rattle.foundation.specs.Count.{all_below};
+ghost use Rattle.fen_model.specs.Held as Held;
+ghost use Rattle.fen_model.specs.Held.{held_on};
+ghost use Rattle.rules_model.specs.Attacks as Attacks;
+ghost use Rattle.rules_model.specs.Fit.{IsFit};
+ghost use Rattle.rules_model.specs.Kinds as Kinds;
+ghost use Rattle.rules_model.specs.Sound as Sound;
+
+use fen_model::Held;
+use rules_model::castling::{castling_on, castling_square, has_gate, holds_right, rook_file};
+use rules_model::kinds::{first_rank, names};
+use rules_model::{Cell, Cells, Rules, Side, Wing};
+
+pub(crate) fn is_own_king(rules: &Rules, side: Side, cell: Option<Cell>) -> bool
+    ensures { result ≡ Attacks.is_own_king rules.now side cell }
+{
+    match cell {
+        None => false,
+        Some(cell) => cell.side.is(side) && names(rules.king, cell.kind),
+    }
+}
+
+/// Whether a piece of the side that is no pawn stands there.
+fn is_own_piece(rules: &Rules, side: Side, cell: Option<Cell>) -> bool
+    ensures { result ≡ Attacks.is_own side (λ kind. not (Kinds.is_pawn rules.now kind)) cell }
+{
+    match cell {
+        None => false,
+        Some(cell) => cell.side.is(side) && !names(rules.pawn, cell.kind),
+    }
+}
+
+/// Whether the castling rook is there, and with it the gates that a right needs.
+fn is_sound_rook(rules: &Rules, gates: &[u16; 2], side: Side, file: Option<u8>) -> bool
+    requires fit { IsFit rules.now }
+    requires file { IfSome file (λ f. f < 12) }
+    ensures { result ≡ Sound.sound_rook rules.now gates.now side file }
+{
+    match file {
+        None => false,
+        Some(file) => {
+            !rules.gating
+                || (has_gate(gates, side, rules.castle_king) && has_gate(gates, side, file))
+        }
+    }
+}
+
+#[tactic(auto, unfolding(rules_model::specs::Sound::sound_right))]
+fn may_hold_right(rules: &Rules, cells: &Cells, held: &Held, side: Side, wing: Wing) -> bool
+    requires { IsFit rules.now }
+    ensures { result ≡ Sound.sound_right rules.now (held_on cells.now held.now) side wing }
+{
+    let king = castling_square(rules, side, rules.castle_king);
+    !holds_right(&held.rights, side, wing)
+        || (castling_on(rules)
+            && is_own_king(rules, side, cells[king.0 as usize])
+            && is_sound_rook(
+                rules,
+                &held.gates,
+                side,
+                rook_file(rules, cells, side, wing),
+            ))
+}
+
+#[tactic(auto, unfolding(rules_model::specs::Sound::sound_gate))]
+fn may_hold_gate(rules: &Rules, cells: &Cells, held: &Held, side: Side, file: u8) -> bool
+    requires fit { IsFit rules.now }
+    requires file { file < 16 }
+    ensures { result ≡ Sound.sound_gate rules.now (held_on cells.now held.now) side file }
+{
+    if !has_gate(&held.gates, side, file) {
+        return true;
+    }
+    if !rules.gating || file >= rules.files {
+        return false;
+    }
+    let at = 12 * first_rank(rules, side) + file;
+    is_own_piece(rules, side, cells[at as usize])
+}
+
+#[tactic(auto, using(foundation::proofs::CountLemmas::all))]
+fn may_hold_gates(rules: &Rules, cells: &Cells, held: &Held, side: Side) -> bool
+    requires { IsFit rules.now }
+    ensures { result ≡ all_below (Sound.sound_gate rules.now (held_on cells.now held.now) side) 16 }
+{
+    let mut sound = true;
+    for file in 0..16 {
+        sound = sound && may_hold_gate(rules, cells, held, side, file);
+    }
+    sound
+}
+
+fn side_may_hold(rules: &Rules, cells: &Cells, held: &Held, side: Side) -> bool
+    requires { IsFit rules.now }
+    ensures { result ≡ Held.side_may_hold rules.now (held_on cells.now held.now) side }
+{
+    may_hold_right(rules, cells, held, side, Wing::Kingside)
+        && may_hold_right(rules, cells, held, side, Wing::Queenside)
+        && may_hold_gates(rules, cells, held, side)
+}
+
+/// Whether each right has its king and its castling rook in place, and each gate an own piece that is no pawn.
+#[tactic(auto, unfolding(fen_model::specs::Held::may_hold))]
+pub(crate) fn may_hold(rules: &Rules, cells: &Cells, held: &Held) -> bool
+    requires { IsFit rules.now }
+    ensures { result ≡ Held.may_hold rules.now cells.now held.now }
+{
+    side_may_hold(rules, cells, held, Side::White) && side_may_hold(rules, cells, held, Side::Black)
+}
