@@ -1,6 +1,6 @@
 //! Castling rights and gates.
 ghost use Rattle.std.specs.Prelude.{◌≡◌, ◌<◌};
-ghost use Rattle.fen_model.specs.Held as Held;
+ghost use Rattle.fen_model.specs.Held as Said;
 ghost use Rattle.rules_model.specs.Fit.{IsFit};
 
 use crate::may_hold::may_hold;
@@ -21,13 +21,13 @@ const NOTHING_HELD: Held = Held {
 
 #[tactic(auto, unfolding(fen_model::specs::Held::has))]
 fn has(letter: u8, text: &[u8]) -> bool
-    ensures { result ≡ Held.has letter text.now }
+    ensures { result ≡ Said.has letter text.now }
 {
     text.iter().any(|byte| *byte == letter)
 }
 
 fn stands_once(text: &[u8], letter: u8) -> bool
-    ensures { result ≡ Held.stands_once text.now letter }
+    ensures { result ≡ Said.stands_once text.now letter }
 {
     text.iter().filter(|byte| **byte == letter).count() == 1
 }
@@ -35,7 +35,7 @@ fn stands_once(text: &[u8], letter: u8) -> bool
 /// Whether the text is one letter or more of rights and gates, each once.
 #[tactic(auto, unfolding(fen_model::specs::Held::are_letters))]
 fn are_letters(text: &[u8]) -> bool
-    ensures { result ≡ Held.are_letters text.now }
+    ensures { result ≡ Said.are_letters text.now }
 {
     !text.is_empty()
         && text
@@ -44,7 +44,7 @@ fn are_letters(text: &[u8]) -> bool
 }
 
 fn right_letter(side: Side, wing: Wing) -> u8
-    ensures { result ≡ Held.right_letter side wing }
+    ensures { result ≡ Said.right_letter side wing }
 {
     match (side, wing) {
         (Side::White, Wing::Kingside) => b'K',
@@ -56,7 +56,7 @@ fn right_letter(side: Side, wing: Wing) -> u8
 
 fn gate_letter(side: Side, file: u8) -> u8
     requires { file < 12 }
-    ensures { result ≡ Held.gate_letter side file }
+    ensures { result ≡ Said.gate_letter side file }
 {
     match side {
         Side::White => b'A' + file,
@@ -67,7 +67,7 @@ fn gate_letter(side: Side, file: u8) -> u8
 /// Whether the right gives the gate of the file: that of the king or that of its rook.
 pub(crate) fn right_gives(rules: &Rules, cells: &Cells, side: Side, wing: Wing, file: u8) -> bool
     requires { IsFit rules.now }
-    ensures { result ≡ Held.right_gives rules.now cells.now side wing file }
+    ensures { result ≡ Said.right_gives rules.now cells.now side wing file }
 {
     file == rules.castle_king
         || match rook_file(rules, cells, side, wing) {
@@ -78,7 +78,7 @@ pub(crate) fn right_gives(rules: &Rules, cells: &Cells, side: Side, wing: Wing, 
 
 fn right_says(rules: &Rules, cells: &Cells, text: &[u8], side: Side, file: u8, wing: Wing) -> bool
     requires { IsFit rules.now }
-    ensures { result ≡ Held.right_says rules.now cells.now text.now side file wing }
+    ensures { result ≡ Said.right_says rules.now cells.now text.now side file wing }
 {
     has(right_letter(side, wing), text) && right_gives(rules, cells, side, wing, file)
 }
@@ -87,7 +87,7 @@ fn right_says(rules: &Rules, cells: &Cells, text: &[u8], side: Side, file: u8, w
 fn gate_said(rules: &Rules, cells: &Cells, text: &[u8], side: Side, file: u8) -> bool
     requires fit { IsFit rules.now }
     requires file { file < 10 }
-    ensures { result ≡ Held.gate_said rules.now cells.now text.now side file }
+    ensures { result ≡ Said.gate_said rules.now cells.now text.now side file }
 {
     has(gate_letter(side, file), text)
         || (rules.gating
@@ -98,7 +98,7 @@ fn gate_said(rules: &Rules, cells: &Cells, text: &[u8], side: Side, file: u8) ->
 /// The gates that the letters say, as bits of their files.
 fn gates_said(rules: &Rules, cells: &Cells, text: &[u8], side: Side) -> u16
     requires { IsFit rules.now }
-    ensures { result ≡ Held.bits_of (Held.gate_said rules.now cells.now text.now side) 10 }
+    ensures { result ≡ Said.bits_of (Said.gate_said rules.now cells.now text.now side) 10 }
 {
     let mut gates = 0;
     for file in 0..GATE_FILES {
@@ -110,7 +110,7 @@ fn gates_said(rules: &Rules, cells: &Cells, text: &[u8], side: Side) -> u16
 }
 
 fn rights_said(text: &[u8], side: Side) -> [bool; 2]
-    ensures { result ≡ Held.rights_said text.now side }
+    ensures { result ≡ Said.rights_said text.now side }
 {
     [
         has(right_letter(side, Wing::Kingside), text),
@@ -120,7 +120,7 @@ fn rights_said(text: &[u8], side: Side) -> [bool; 2]
 
 fn held_said(rules: &Rules, cells: &Cells, text: &[u8]) -> Held
     requires { IsFit rules.now }
-    ensures { result ≡ Held.held_said rules.now cells.now text.now }
+    ensures { result ≡ Said.held_said rules.now cells.now text.now }
 {
     Held {
         rights: [
@@ -138,7 +138,7 @@ fn held_said(rules: &Rules, cells: &Cells, text: &[u8]) -> Held
 #[tactic(auto, unfolding(fen_model::specs::Held::held_of))]
 pub(crate) fn read_held(rules: &Rules, cells: &Cells, text: &[u8]) -> Result<Held, FenFault>
     requires { IsFit rules.now }
-    ensures { result ≡ Held.held_of rules.now cells.now text.now }
+    ensures { result ≡ Said.held_of rules.now cells.now text.now }
 {
     if says_none(text) {
         return Ok(NOTHING_HELD);

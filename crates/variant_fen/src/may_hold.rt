@@ -1,7 +1,7 @@
 //! Whether rights and gates have their pieces in place.
 ghost use Rattle.std.specs.Prelude.{◌≡◌, ◌<◌, not, IfSome};
 ghost use Rattle.foundation.specs.Count.{all_below};
-ghost use Rattle.fen_model.specs.Held as Held;
+ghost use Rattle.fen_model.specs.Held as Said;
 ghost use Rattle.fen_model.specs.Held.{held_on};
 ghost use Rattle.rules_model.specs.Attacks as Attacks;
 ghost use Rattle.rules_model.specs.Fit.{IsFit};
@@ -94,7 +94,7 @@ fn may_hold_gates(rules: &Rules, cells: &Cells, held: &Held, side: Side) -> bool
 
 fn side_may_hold(rules: &Rules, cells: &Cells, held: &Held, side: Side) -> bool
     requires { IsFit rules.now }
-    ensures { result ≡ Held.side_may_hold rules.now (held_on cells.now held.now) side }
+    ensures { result ≡ Said.side_may_hold rules.now (held_on cells.now held.now) side }
 {
     may_hold_right(rules, cells, held, side, Wing::Kingside)
         && may_hold_right(rules, cells, held, side, Wing::Queenside)
@@ -105,7 +105,7 @@ fn side_may_hold(rules: &Rules, cells: &Cells, held: &Held, side: Side) -> bool
 #[tactic(auto, unfolding(fen_model::specs::Held::may_hold))]
 pub(crate) fn may_hold(rules: &Rules, cells: &Cells, held: &Held) -> bool
     requires { IsFit rules.now }
-    ensures { result ≡ Held.may_hold rules.now cells.now held.now }
+    ensures { result ≡ Said.may_hold rules.now cells.now held.now }
 {
     side_may_hold(rules, cells, held, Side::White) && side_may_hold(rules, cells, held, Side::Black)
 }
