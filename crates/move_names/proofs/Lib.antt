@@ -1,0 +1,3 @@
+pub mod SquareLaws
+pub mod EndingLaws
+pub mod CastleLaws

@@ -1,2 +1,4 @@
 pub mod Names
 pub mod Form
+pub mod Squares
+pub mod Read

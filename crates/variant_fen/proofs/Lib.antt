@@ -1,6 +1,12 @@
+pub mod BoardLemmas
+pub mod CappedLaws
+pub mod CountLemmas
 pub mod CutLemmas
 pub mod FieldLemmas
+pub mod HeldLemmas
 pub mod PieceLemmas
+pub mod PushLemmas
 pub mod RowLemmas
-pub mod BoardLemmas
+pub mod SaidLaws
 pub mod WriteLemmas
+pub mod PocketLemmas

@@ -1,9 +1,6 @@
 //! The side to move, and the checks left.
 ghost use Rattle.std.specs.Prelude.{◌≡◌};
-ghost use Rattle.std.specs.List.{slice_split};
-ghost use Rattle.fen_model.specs.Chain.{or_fault};
 ghost use Rattle.fen_model.specs.Counts as Counts;
-ghost use Rattle.fen_model.specs.declared.fault.FenFault.TheVariants.{Checks};
 
 use crate::cut::cut_at;
 use crate::number::read_number;
@@ -21,27 +18,27 @@ pub(crate) fn read_side(text: &[u8]) -> Result<Side, FenFault>
     }
 }
 
-/// Two numbers up to 99 with a `+` between them, or else none.
-fn two_checks(text: &[u8]) -> Option<[u8; 2]>
-    ensures { Counts.checks_of text.now ≡ or_fault Checks result }
+/// The checks that two numbers say, where both are up to 99.
+fn checks(white: Option<u16>, black: Option<u16>) -> Result<[u8; 2], FenFault>
+    ensures { result ≡ Counts.two_checks white black }
 {
-    let (white, rest) = cut_at(text, b'+');
-    let (black, rest) = cut_at(rest?, b'+');
-    if rest.is_some() {
-        return None;
-    }
-    let white = read_number(white)?;
-    let black = read_number(black)?;
-    if white <= 99 && black <= 99 {
-        Some([white as u8, black as u8])
-    } else {
-        None
+    match (white, black) {
+        (Some(white), Some(black)) if white <= 99 && black <= 99 => Ok([white as u8, black as u8]),
+        _ => Err(FenFault::Checks),
     }
 }
 
-/// Reads how many checks White and then Black has still to give.
+/// Reads how many checks White and then Black has still to give: two numbers up to 99 with a `+` between them.
 pub(crate) fn read_checks(text: &[u8]) -> Result<[u8; 2], FenFault>
     ensures { result ≡ Counts.checks_of text.now }
 {
-    two_checks(text).ok_or(FenFault::Checks)
+    let (white, rest) = cut_at(text, b'+');
+    let Some(rest) = rest else {
+        return Err(FenFault::Checks);
+    };
+    let (black, rest) = cut_at(rest, b'+');
+    if rest.is_some() {
+        return Err(FenFault::Checks);
+    }
+    checks(read_number(white), read_number(black))
 }

@@ -1,5 +1,6 @@
 //! Castling rights and gates.
-ghost use Rattle.std.specs.Prelude.{◌≡◌, ◌<◌};
+ghost use Rattle.std.specs.Prelude.{◌≡◌, ◌<◌, ◌&&◌};
+ghost use Rattle.std.specs.List.{list_all};
 ghost use Rattle.fen_model.specs.Held as Said;
 ghost use Rattle.rules_model.specs.Fit.{IsFit};
 
@@ -32,15 +33,25 @@ fn stands_once(text: &[u8], letter: u8) -> bool
     text.iter().filter(|byte| **byte == letter).count() == 1
 }
 
+/// Whether the byte is a letter of a right or a gate that stands in the text once.
+fn is_letter_once(text: &[u8], letter: u8) -> bool
+    ensures { result ≡ (Said.has letter Said.held_letters && Said.stands_once text.now letter) }
+{
+    has(letter, HELD_LETTERS) && stands_once(text, letter)
+}
+
+fn has_letters_alone(text: &[u8]) -> bool
+    ensures { result ≡ list_all (λ b. Said.has b Said.held_letters && Said.stands_once text.now b) text.now }
+{
+    text.iter().all(|byte| is_letter_once(text, *byte))
+}
+
 /// Whether the text is one letter or more of rights and gates, each once.
 #[tactic(auto, unfolding(fen_model::specs::Held::are_letters))]
 fn are_letters(text: &[u8]) -> bool
     ensures { result ≡ Said.are_letters text.now }
 {
-    !text.is_empty()
-        && text
-            .iter()
-            .all(|byte| has(*byte, HELD_LETTERS) && stands_once(text, *byte))
+    !text.is_empty() && has_letters_alone(text)
 }
 
 fn right_letter(side: Side, wing: Wing) -> u8
@@ -96,6 +107,7 @@ fn gate_said(rules: &Rules, cells: &Cells, text: &[u8], side: Side, file: u8) ->
 }
 
 /// The gates that the letters say, as bits of their files.
+#[tactic(auto, using(crate::proofs::HeldLemmas::gates))]
 fn gates_said(rules: &Rules, cells: &Cells, text: &[u8], side: Side) -> u16
     requires { IsFit rules.now }
     ensures { result ≡ Said.bits_of (Said.gate_said rules.now cells.now text.now side) 10 }

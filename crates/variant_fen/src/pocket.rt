@@ -1,5 +1,6 @@
 //! The pocket.
-ghost use Rattle.std.specs.Prelude.{◌≡◌, ◌≤◌, ◌==◌, ◌+◌, count_by, min};
+ghost use Rattle.std.specs.Prelude.{◌≡◌, ◌≤◌, ◌==◌, ◌&&◌, ◌||◌, count_by, length, min};
+ghost use Rattle.std.specs.List.{list_all};
 ghost use Rattle.std.specs.Option.{option_copied};
 ghost use Rattle.fen_model.specs.Fields as Fields;
 ghost use Rattle.fen_model.specs.Pocket as Pocket;
@@ -72,19 +73,38 @@ fn hand(letters: &[u8], first: u8) -> [u8; 26]
     hand
 }
 
+fn has_hand_letters_alone(rules: &Rules, letters: &[u8]) -> bool
+    ensures { result ≡ list_all (Pocket.is_hand_letter rules.now) letters.now }
+{
+    letters.iter().all(|byte| is_hand_letter(rules, *byte))
+}
+
+/// Whether hands may hold the pieces of these letters.
+fn may_be_held(rules: &Rules, letters: &[u8]) -> bool
+    ensures { result ≡ (Sound.has_hands rules.now && list_all (Pocket.is_hand_letter rules.now) letters.now) }
+{
+    has_hands(rules) && has_hand_letters_alone(rules, letters)
+}
+
+fn holds_nothing(inside: &[u8]) -> bool
+    ensures { result ≡ (length inside.now == 0 || Fields.says_none inside.now) }
+{
+    inside.is_empty() || says_none(inside)
+}
+
 /// Reads the hands of a pocket. A number of pieces above 255 counts as 255: no sound position has so many.
-#[tactic(auto, unfolding(fen_model::specs::Pocket::hands_of))]
 pub(crate) fn read_pocket(rules: &Rules, pocket: &[u8]) -> Result<Hands, FenFault>
     ensures { result ≡ capped_result (Pocket.hands_of rules.now pocket.now) }
 {
     let Some(letters) = inside(pocket) else {
         return Err(FenFault::Pocket);
     };
-    if letters.is_empty() || says_none(letters) {
+    if holds_nothing(letters) {
         return Ok([[0; 26]; 2]);
     }
-    if !has_hands(rules) || !letters.iter().all(|byte| is_hand_letter(rules, *byte)) {
-        return Err(FenFault::Pocket);
+    if may_be_held(rules, letters) {
+        Ok([hand(letters, b'A'), hand(letters, b'a')])
+    } else {
+        Err(FenFault::Pocket)
     }
-    Ok([hand(letters, b'A'), hand(letters, b'a')])
 }

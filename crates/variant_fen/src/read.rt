@@ -16,7 +16,6 @@ use fen_model::FenFault;
 use rules_model::{Position, Rules};
 
 /// Reads the fields of a text, in their order.
-#[tactic(auto, using(crate::proofs::SaidLaws::saying))]
 pub(crate) fn read_position(rules: &Rules, texts: FieldTexts<'_>) -> Result<Position, FenFault>
     requires { IsFit rules.now }
     ensures { result ≡ said_by rules.now (fields_view texts.entry) }

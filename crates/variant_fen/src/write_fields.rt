@@ -19,13 +19,14 @@ use rules_model::{Kind, Memory, Position, Rules, Side, Square, Wing};
 fn push_letters(text: &mut Vec<u8>, letter: u8, count: u8) -> Result<(), Memory>
     ensures { OnOk result (text.new.items ≡ text.old.items ++ replicate count letter) }
 {
-    for _ in 0..count {
+    for _pushed in 0..count {
         text.push(letter)?;
     }
     Ok(())
 }
 
 /// Appends the letters of a hand in alphabetical order.
+#[tactic(auto, using(crate::proofs::PushLemmas::hands))]
 fn push_hand(text: &mut Vec<u8>, hands: &[[u8; 26]; 2], side: Side) -> Result<(), Memory>
     ensures { OnOk result (text.new.items ≡ text.old.items ++ Printing.hand_text hands.now side) }
 {
@@ -93,14 +94,13 @@ fn push_held(rules: &Rules, text: &mut Vec<u8>, p: &Position) -> Result<(), Memo
     requires { IsFit rules.now }
     ensures { OnOk result (text.new.items ≡ text.old.items ++ Printing.rights_text rules.now (repeat_of p.now)) }
 {
-    let mut held = false;
+    let start = text.len();
     for letter in HELD_LETTERS {
         if is_printed(rules, p, *letter) {
             text.push(*letter)?;
-            held = true;
         }
     }
-    if !held {
+    if text.len() == start {
         text.push(b'-')?;
     }
     Ok(())
