@@ -91,7 +91,7 @@ fn as_good_is_no_slower_at_no_lower_a_counter(rt: HostRuntime) {
 // A king on each square of the largest board: 120 repeats, of which 16 shards get some each.
 #[test]
 fn shards_share_the_repeats(rt: HostRuntime) {
-    let mut shares = [0; 16];
+    let mut filled = [false; 16];
     for square in 0..120 {
         let mut repeat = bare();
         repeat.cells[square] = Some(Cell {
@@ -100,7 +100,7 @@ fn shards_share_the_repeats(rt: HostRuntime) {
             origin: None,
         });
         assert_eq!(rt; shard_of(&repeat, 1), 0);
-        shares[shard_of(&repeat, 16) as usize] += 1;
+        filled[shard_of(&repeat, 16) as usize] = true;
     }
-    assert!(rt; shares.iter().all(|share| *share > 0), "{shares:?}");
+    assert!(rt; filled.iter().all(|is| *is));
 }
