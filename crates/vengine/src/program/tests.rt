@@ -40,362 +40,186 @@ fn ran<R: AllocGlobal + Threads + Wait + Sync, F: Files>(
 }
 
 #[test]
-fn words_and_input_have_their_answer(rt: HostRuntime) -> Result<(), Fail> {
-    let rows: [(&[&str], &str, u8, &str); 69] = [
+fn reach_says_where_a_piece_goes(rt: HostRuntime) -> Result<(), Fail> {
+    let rows: [(&str, &str, u8, &str); 25] = [
+        ("N", "b1", 0, "quiet d2 a3 c3\ntake -\n"),
+        ("WF", "a1", 0, "quiet b1 a2 b2\ntake -\n"),
+        ("G", "d4", 0, "quiet a1 g1 a7 g7\ntake -\n"),
+        ("H", "h8", 0, "quiet h5 e8\ntake -\n"),
+        ("NN", "b1", 0, "quiet d2 a3 c3 f3 h4 d5 e7\ntake -\n"),
+        ("nN", "b1", 0, "quiet d2 a3 c3\ntake -\n"),
+        ("ffN", "d4", 0, "quiet c6 e6\ntake -\n"),
+        ("fsN", "d4", 0, "quiet b5 f5\ntake -\n"),
+        ("bFfW", "d4", 0, "quiet c3 e3 d5\ntake -\n"),
         (
-            &["reach", "N", "b1"],
-            "a line\n",
-            0,
-            "quiet d2 a3 c3\ntake -\n",
-        ),
-        (
-            &["reach", "WF", "a1"],
-            "a line\n",
-            0,
-            "quiet b1 a2 b2\ntake -\n",
-        ),
-        (
-            &["reach", "G", "d4"],
-            "a line\n",
-            0,
-            "quiet a1 g1 a7 g7\ntake -\n",
-        ),
-        (
-            &["reach", "H", "h8"],
-            "a line\n",
-            0,
-            "quiet h5 e8\ntake -\n",
-        ),
-        (
-            &["reach", "NN", "b1"],
-            "a line\n",
-            0,
-            "quiet d2 a3 c3 f3 h4 d5 e7\ntake -\n",
-        ),
-        (
-            &["reach", "nN", "b1"],
-            "a line\n",
-            0,
-            "quiet d2 a3 c3\ntake -\n",
-        ),
-        (
-            &["reach", "ffN", "d4"],
-            "a line\n",
-            0,
-            "quiet c6 e6\ntake -\n",
-        ),
-        (
-            &["reach", "fsN", "d4"],
-            "a line\n",
-            0,
-            "quiet b5 f5\ntake -\n",
-        ),
-        (
-            &["reach", "bFfW", "d4"],
-            "a line\n",
-            0,
-            "quiet c3 e3 d5\ntake -\n",
-        ),
-        (
-            &["reach", "mRcpR", "a1"],
-            "a line\n",
+            "mRcpR",
+            "a1",
             0,
             "quiet b1 c1 d1 e1 f1 g1 h1 a2 a3 a4 a5 a6 a7 a8\ntake -\n",
         ),
-        (&["reach", "gQ", "d4"], "a line\n", 0, "quiet -\ntake -\n"),
+        ("gQ", "d4", 0, "quiet -\ntake -\n"),
+        ("fN", "d4", 3, "error BetzaFault 6 AmbiguousDirection 0\n"),
+        ("iN", "a1", 3, "error BetzaFault 4 UnsupportedModifier 0\n"),
+        ("nR", "a1", 3, "error BetzaFault 7 BadLame 0\n"),
+        ("pgR", "a1", 3, "error BetzaFault 8 BadHopper 1\n"),
+        ("R12", "a1", 3, "error BetzaFault 9 BadNumber 1\n"),
+        ("NLJNLJNLJ", "a1", 3, "error BetzaFault 10 TooManyTerms 8\n"),
+        ("", "b1", 3, "error BetzaFault 1 Empty 0\n"),
+        ("Né", "b1", 3, "error BetzaFault 3 UnknownAtom 1\n"),
         (
-            &["reach", "fN", "d4"],
-            "a line\n",
-            3,
-            "error BetzaFault 6 AmbiguousDirection 0\n",
-        ),
-        (
-            &["reach", "iN", "a1"],
-            "a line\n",
-            3,
-            "error BetzaFault 4 UnsupportedModifier 0\n",
-        ),
-        (
-            &["reach", "nR", "a1"],
-            "a line\n",
-            3,
-            "error BetzaFault 7 BadLame 0\n",
-        ),
-        (
-            &["reach", "pgR", "a1"],
-            "a line\n",
-            3,
-            "error BetzaFault 8 BadHopper 1\n",
-        ),
-        (
-            &["reach", "R12", "a1"],
-            "a line\n",
-            3,
-            "error BetzaFault 9 BadNumber 1\n",
-        ),
-        (
-            &["reach", "NLJNLJNLJ", "a1"],
-            "a line\n",
-            3,
-            "error BetzaFault 10 TooManyTerms 8\n",
-        ),
-        (
-            &["reach", "", "b1"],
-            "a line\n",
-            3,
-            "error BetzaFault 1 Empty 0\n",
-        ),
-        (
-            &["reach", "Né", "b1"],
-            "a line\n",
-            3,
-            "error BetzaFault 3 UnknownAtom 1\n",
-        ),
-        (
-            &[
-                "reach",
-                "WFDNAHLCWFDNAHLCWFDNAHLCWFDNAHLCWFDNAHLCWFDNAHLCWFDNAHLCWFDNAHLCW",
-                "b1",
-            ],
-            "a line\n",
+            "WFDNAHLCWFDNAHLCWFDNAHLCWFDNAHLCWFDNAHLCWFDNAHLCWFDNAHLCWFDNAHLCW",
+            "b1",
             3,
             "error BetzaFault 2 TooLong 64\n",
         ),
+        ("fN", "z9", 3, "error BetzaFault 6 AmbiguousDirection 0\n"),
+        ("N", "i9", 3, "error ReachFault 1 BadSquare i9\n"),
+        ("N", "a10", 3, "error ReachFault 1 BadSquare a10\n"),
+        ("N", "", 3, "error ReachFault 1 BadSquare \n"),
+        ("N", "é1", 3, "error ReachFault 1 BadSquare é1\n"),
+    ];
+    let mut files = MemFiles::new(rt.alloc());
+    for (word, square, status, text) in rows {
+        let words = ["reach", word, square];
+        let (answered, sink) = ran(&rt, &mut files, words.as_slice(), b"a line\n", &[], 1000)?;
+        assert_eq!(rt; answered, status, "{word} {square}");
+        assert_eq!(rt; sink.taken(), text.as_bytes(), "{word} {square}");
+    }
+    Ok(())
+}
+
+#[test]
+fn reach_takes_lists_of_own_and_enemy_squares(rt: HostRuntime) -> Result<(), Fail> {
+    let rows: [(&[&str], u8, &str); 15] = [
+        (&["nN", "b1", "b2"], 0, "quiet d2\ntake -\n"),
+        (&["gQ", "d4", "d5", "d6"], 0, "quiet -\ntake d6\n"),
         (
-            &["reach", "fN", "z9"],
-            "a line\n",
-            3,
-            "error BetzaFault 6 AmbiguousDirection 0\n",
-        ),
-        (
-            &["reach", "N", "i9"],
-            "a line\n",
-            3,
-            "error ReachFault 1 BadSquare i9\n",
-        ),
-        (
-            &["reach", "N", "a10"],
-            "a line\n",
-            3,
-            "error ReachFault 1 BadSquare a10\n",
-        ),
-        (
-            &["reach", "N", ""],
-            "a line\n",
-            3,
-            "error ReachFault 1 BadSquare \n",
-        ),
-        (
-            &["reach", "N", "é1"],
-            "a line\n",
-            3,
-            "error ReachFault 1 BadSquare é1\n",
-        ),
-        (
-            &["reach", "nN", "b1", "b2"],
-            "a line\n",
-            0,
-            "quiet d2\ntake -\n",
-        ),
-        (
-            &["reach", "gQ", "d4", "d5", "d6"],
-            "a line\n",
-            0,
-            "quiet -\ntake d6\n",
-        ),
-        (
-            &["reach", "mRcpR", "a1", "a4", "a7"],
-            "a line\n",
+            &["mRcpR", "a1", "a4", "a7"],
             0,
             "quiet b1 c1 d1 e1 f1 g1 h1 a2 a3\ntake a7\n",
         ),
+        (&["cF", "a1", "none", "b2"], 0, "quiet -\ntake b2\n"),
+        (&["R", "a1", "b1,a3"], 0, "quiet a2\ntake -\n"),
+        (&["R", "a1", "none", "b1,a3"], 0, "quiet a2\ntake b1 a3\n"),
+        (&["F", "a1", "none", "none"], 0, "quiet b2\ntake -\n"),
+        (&["R", "a1", "a1"], 3, "error ReachFault 2 SquareTwice a1\n"),
         (
-            &["reach", "cF", "a1", "none", "b2"],
-            "a line\n",
-            0,
-            "quiet -\ntake b2\n",
-        ),
-        (
-            &["reach", "R", "a1", "b1,a3"],
-            "a line\n",
-            0,
-            "quiet a2\ntake -\n",
-        ),
-        (
-            &["reach", "R", "a1", "none", "b1,a3"],
-            "a line\n",
-            0,
-            "quiet a2\ntake b1 a3\n",
-        ),
-        (
-            &["reach", "F", "a1", "none", "none"],
-            "a line\n",
-            0,
-            "quiet b2\ntake -\n",
-        ),
-        (
-            &["reach", "R", "a1", "a1"],
-            "a line\n",
-            3,
-            "error ReachFault 2 SquareTwice a1\n",
-        ),
-        (
-            &["reach", "R", "a1", "a2,a2"],
-            "a line\n",
+            &["R", "a1", "a2,a2"],
             3,
             "error ReachFault 2 SquareTwice a2\n",
         ),
         (
-            &["reach", "R", "a1", "a2", "b3,a2"],
-            "a line\n",
+            &["R", "a1", "a2", "b3,a2"],
             3,
             "error ReachFault 2 SquareTwice a2\n",
         ),
         (
-            &["reach", "R", "a1", "a2,i9", "a2"],
-            "a line\n",
+            &["R", "a1", "a2,i9", "a2"],
             3,
             "error ReachFault 1 BadSquare i9\n",
         ),
         (
-            &["reach", "R", "a1", "a2,a1", "i9"],
-            "a line\n",
+            &["R", "a1", "a2,a1", "i9"],
             3,
             "error ReachFault 2 SquareTwice a1\n",
         ),
+        (&["R", "a1", ""], 3, "error ReachFault 1 BadSquare \n"),
         (
-            &["reach", "R", "a1", ""],
-            "a line\n",
-            3,
-            "error ReachFault 1 BadSquare \n",
-        ),
-        (
-            &["reach", "R", "a1", "b2,none"],
-            "a line\n",
+            &["R", "a1", "b2,none"],
             3,
             "error ReachFault 1 BadSquare none\n",
         ),
+        (&["R12", "a1", "a1"], 3, "error BetzaFault 9 BadNumber 1\n"),
+    ];
+    let mut files = MemFiles::new(rt.alloc());
+    for (arguments, status, text) in rows {
+        let mut words = vec![in rt.alloc(); "reach"]?;
+        words.extend_from_slice(arguments)?;
+        let (answered, sink) = ran(&rt, &mut files, words.as_slice(), b"a line\n", &[], 1000)?;
+        assert_eq!(rt; answered, status, "{text}");
+        assert_eq!(rt; sink.taken(), text.as_bytes(), "{text}");
+    }
+    Ok(())
+}
+
+#[test]
+fn other_words_are_answered_by_the_usage_line(rt: HostRuntime) -> Result<(), Fail> {
+    let rows: [&[&str]; 11] = [
+        &[],
+        &["moves", "leapers"],
+        &["Moves"],
+        &["--"],
+        &["reach", "N"],
+        &["reach", "N", "b1", "-"],
+        &["--threads", "65", "moves"],
+        &["--variants", "moves"],
+        &["--variants=", "moves"],
+        &["--variants", "f", "perft", "4"],
+        &["help"],
+    ];
+    let mut files = MemFiles::new(rt.alloc());
+    for words in rows {
+        let (status, sink) = ran(&rt, &mut files, words, b"leapers\nstartpos\n", &[], 1000)?;
+        assert_eq!(rt; status, 2);
+        assert_eq!(rt; sink.taken(), USAGE_LINE.as_bytes());
+    }
+    Ok(())
+}
+
+#[test]
+fn moves_lists_the_legal_moves(rt: HostRuntime) -> Result<(), Fail> {
+    let rows = [
+        ("leapers\nstartpos\n", 0, START),
+        ("leapers\nstartpos", 0, START),
+        ("leapers\r\nstartpos\r\n\r\n", 0, START),
+        ("leapers\nstartpos\n \t\n\n", 0, START),
         (
-            &["reach", "R12", "a1", "a1"],
-            "a line\n",
-            3,
-            "error BetzaFault 9 BadNumber 1\n",
-        ),
-        (&[], "leapers\nstartpos\n", 2, USAGE_LINE),
-        (&["moves", "leapers"], "leapers\nstartpos\n", 2, USAGE_LINE),
-        (&["Moves"], "leapers\nstartpos\n", 2, USAGE_LINE),
-        (&["--"], "leapers\nstartpos\n", 2, USAGE_LINE),
-        (&["reach", "N"], "leapers\nstartpos\n", 2, USAGE_LINE),
-        (
-            &["reach", "N", "b1", "-"],
-            "leapers\nstartpos\n",
-            2,
-            USAGE_LINE,
-        ),
-        (
-            &["--threads", "65", "moves"],
-            "leapers\nstartpos\n",
-            2,
-            USAGE_LINE,
-        ),
-        (
-            &["--variants", "moves"],
-            "leapers\nstartpos\n",
-            2,
-            USAGE_LINE,
-        ),
-        (
-            &["--variants=", "moves"],
-            "leapers\nstartpos\n",
-            2,
-            USAGE_LINE,
-        ),
-        (
-            &["--variants", "f", "perft", "4"],
-            "leapers\nstartpos\n",
-            2,
-            USAGE_LINE,
-        ),
-        (&["help"], "leapers\nstartpos\n", 2, USAGE_LINE),
-        (&["moves"], "leapers\nstartpos\n", 0, START),
-        (&["moves"], "leapers\nstartpos", 0, START),
-        (&["moves"], "leapers\r\nstartpos\r\n\r\n", 0, START),
-        (&["moves"], "leapers\nstartpos\n \t\n\n", 0, START),
-        (
-            &["moves"],
             "leapers\n4k3/8/8/8/8/1n6/8/K1N5 w - - 0 1\n",
             0,
             "a1a2\na1b1\na1b2\nc1b3\nmoves 4\n",
         ),
+        ("leapers\nk7/2K5/2N5/8/8/8/8/8 b - - 0 1\n", 0, "moves 0\n"),
         (
-            &["moves"],
-            "leapers\nk7/2K5/2N5/8/8/8/8/8 b - - 0 1\n",
-            0,
-            "moves 0\n",
-        ),
-        (
-            &["moves"],
             "chess\nstartpos\n",
             3,
             "error GameFault 2 UnknownVariant chess\n",
         ),
+        ("chess", 3, "error GameFault 2 UnknownVariant chess\n"),
         (
-            &["moves"],
-            "chess",
-            3,
-            "error GameFault 2 UnknownVariant chess\n",
-        ),
-        (
-            &["moves"],
             " leapers\n",
             3,
             "error GameFault 2 UnknownVariant  leapers\n",
         ),
-        (&["moves"], "\n", 3, "error GameFault 2 UnknownVariant \n"),
-        (&["moves"], "leapers", 3, "error GameFault 1 Missing 2\n"),
-        (&["moves"], "", 3, "error GameFault 1 Missing 1\n"),
+        ("\n", 3, "error GameFault 2 UnknownVariant \n"),
+        ("leapers", 3, "error GameFault 1 Missing 2\n"),
+        ("", 3, "error GameFault 1 Missing 1\n"),
         (
-            &["moves"],
             "leapers\n\nd1c1",
             3,
             "error GameFault 4 BadPosition FenFault 1 Length\n",
         ),
         (
-            &["moves"],
             "leapers\n8/8/8/8/8/8/8/q7 w - - 0 1\n",
             3,
             "error GameFault 4 BadPosition FenFault 3 Letter\n",
         ),
         (
-            &["moves"],
             "leapers\nstartpos\nd1c1\n",
             3,
             "error GameFault 9 NotBuilt 3\n",
         ),
         (
-            &["moves"],
             "leapers\nstartpos\n\n.",
             3,
             "error GameFault 9 NotBuilt 4\n",
         ),
-        (
-            &["--threads", "4", "moves"],
-            "leapers\nstartpos\n",
-            0,
-            START,
-        ),
-        (
-            &["--threads=64", "reach", "N", "b1"],
-            "",
-            0,
-            "quiet d2 a3 c3\ntake -\n",
-        ),
     ];
-    for (words, input, status, text) in rows {
-        let mut files = MemFiles::new(rt.alloc());
+    let mut files = MemFiles::new(rt.alloc());
+    for (input, status, text) in rows {
+        let words = ["--threads", "4", "moves"].as_slice();
         let (answered, sink) = ran(&rt, &mut files, words, input.as_bytes(), &[], 1000)?;
-        assert_eq!(rt; answered, status, "{input}{text}");
-        assert_eq!(rt; sink.taken(), text.as_bytes(), "{input}{text}");
+        assert_eq!(rt; answered, status, "{input}");
+        assert_eq!(rt; sink.taken(), text.as_bytes(), "{input}");
     }
     Ok(())
 }
