@@ -1,3 +1,0 @@
-pub mod SquareLaws
-pub mod EndingLaws
-pub mod CastleLaws

@@ -1,4 +1,0 @@
-//! What the texts of moves name, in the long algebraic notation of the UCI protocol.
-#![tactic(auto)]
-
-pub mod laws;
