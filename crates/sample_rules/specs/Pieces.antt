@@ -1,8 +1,7 @@
 -- How pieces move, and rules with one piece more.
-use Rattle.std.specs.Prelude.{ℕ, ◌-◌, ℤ, true, false, List, [], ◌∷◌, ◌++◌, map, Option, Some, None, slice_index, slice_set}
+use Rattle.std.specs.Prelude.{ℕ, ◌-◌, ℤ, true, false, List, [], ◌∷◌, ◌++◌, map, Some, None, slice_index, slice_set}
 use Rattle.rules_model.specs.declared.board.Kind.{Kind}
 use Rattle.rules_model.specs.declared.board.Region.{Region}
-use Rattle.rules_model.specs.declared.rules.KindRule.{KindRule}
 use Rattle.rules_model.specs.declared.rules.Rules.{Rules}
 use Rattle.rules_model.specs.declared.rules.Term.{Term}
 use Rattle.sample_rules.specs.Regions.{area}
