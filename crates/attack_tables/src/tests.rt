@@ -37,25 +37,33 @@ fn expect_reach(
             assert_eq!(rt; one, reached.has(to));
         }
     }
-    assert_eq!(rt; tables.reaches(&p, Square(200), Mode::Take), EMPTY);
     Ok(())
 }
 
 #[test]
 fn chess_pieces_reach(rt: HostRuntime) -> Result<(), Memory> {
-    let rows: [(&str, Mode, &[&str]); 9] = [
+    let rows: [(&str, Mode, &[&str]); 7] = [
         ("a1", Mode::Take, &["b3", "c2"]),
         ("e1", Mode::Take, &["d1", "f1", "d2", "e2", "f2"]),
         ("h1", Mode::Quiet, &["e1", "f1", "g1", "h2", "h3"]),
-        ("h3", Mode::Quiet, &[]),
         ("h3", Mode::Take, &["g4"]),
         ("e4", Mode::Take, &["d5", "f5"]),
         ("b7", Mode::Take, &["a6", "c6"]),
         ("e8", Mode::Quiet, &["d7", "e7", "f7", "d8", "f8"]),
-        ("d5", Mode::Take, &[]),
     ];
     let pieces = "Na1 Ke1 Rh1 Ph3 Pe4 pb7 ke8";
     expect_reach(&rt, rt.alloc(), &chess(), pieces, &rows)
+}
+
+// A pawn reaches no square but to take, and an empty square is no piece.
+#[test]
+fn some_reach_nothing(rt: HostRuntime) -> Result<(), Memory> {
+    let tables = Tables::new(rt.alloc(), &chess())?;
+    let p = position("Ph3 ke8");
+    assert_eq!(rt; tables.reaches(&p, square("h3"), Mode::Quiet), EMPTY);
+    assert_eq!(rt; tables.reaches(&p, square("d5"), Mode::Take), EMPTY);
+    assert_eq!(rt; tables.reaches(&p, Square(200), Mode::Take), EMPTY);
+    Ok(())
 }
 
 // An elephant does not cross the river, a king stays in its palace, a soldier goes sideways after the river, a cannon takes over one
@@ -174,24 +182,39 @@ fn is_attacked_after(tables: &Tables, p: &Position, from: Square, to: Square, ki
     tables.attacks_king(&p.cells, enemies, occupied, king, Side::Black)
 }
 
-#[test]
-fn a_move_opens_and_closes_lines(rt: HostRuntime) -> Result<(), Memory> {
-    let pinned = "Ke1 Re2 re8 ka8";
-    let rows = [
-        (chess(), pinned, "e2", "d2", "e1", true),
-        (chess(), pinned, "e2", "e5", "e1", false),
-        (chess(), pinned, "e2", "e8", "e1", false),
-        (chess(), "Ke1 re8 ka8", "e1", "e2", "e2", true),
-        (chess(), "Ke1 re8 ka8", "e1", "d1", "d1", false),
-        (xiangqi(), "Kd1 ke10", "d1", "e1", "e1", true),
-        (xiangqi(), "Kd1 pe5 ke10", "d1", "e1", "e1", false),
-        (xiangqi(), "Ke1 Pe5 ke10", "e5", "d5", "e1", true),
-    ];
-    for (rules, pieces, from, to, king, attacked) in &rows {
-        let tables = Tables::new(rt.alloc(), rules)?;
+/// White's piece goes from the one square to the other, and then its king on the third is attacked, or not.
+fn expect_after(
+    rt: &impl Abort,
+    alloc: Global,
+    rules: &Rules,
+    rows: &[(&str, &str, &str, &str, bool)],
+) -> Result<(), Memory>
+    requires { IsFit rules.now }
+{
+    let tables = Tables::new(alloc, rules)?;
+    for (pieces, from, to, king, attacked) in rows {
         let p = position(*pieces);
         let after = is_attacked_after(&tables, &p, square(*from), square(*to), square(*king));
         assert_eq!(rt; after, *attacked, "{pieces} {to}");
     }
     Ok(())
+}
+
+#[test]
+fn a_move_opens_and_closes_lines(rt: HostRuntime) -> Result<(), Memory> {
+    let pinned = "Ke1 Re2 re8 ka8";
+    let chess_rows = [
+        (pinned, "e2", "d2", "e1", true),
+        (pinned, "e2", "e5", "e1", false),
+        (pinned, "e2", "e8", "e1", false),
+        ("Ke1 re8 ka8", "e1", "e2", "e2", true),
+        ("Ke1 re8 ka8", "e1", "d1", "d1", false),
+    ];
+    let xiangqi_rows = [
+        ("Kd1 ke10", "d1", "e1", "e1", true),
+        ("Kd1 pe5 ke10", "d1", "e1", "e1", false),
+        ("Ke1 Pe5 ke10", "e5", "d5", "e1", true),
+    ];
+    expect_after(&rt, rt.alloc(), &chess(), &chess_rows)?;
+    expect_after(&rt, rt.alloc(), &xiangqi(), &xiangqi_rows)
 }
