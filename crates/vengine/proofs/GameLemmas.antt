@@ -4,7 +4,7 @@ use Rattle.io_ports.specs.Lines.{Line, Text, TooLong}
 use Rattle.leapers.specs.Leapers.{leapers}
 use Rattle.rules_model.specs.declared.board.Position.{Position}
 use Rattle.rules_model.specs.declared.rules.Rules.{Rules}
-use Rattle.variant_fen.specs.declared.fault.FenFault.{FenFault}
+use Rattle.fen_model.specs.declared.fault.FenFault.{FenFault}
 use Rattle.vengine.specs.declared.game.NoGame.{NoGame}
 use Rattle.vengine.specs.declared.game.NoGame.TheVariants.{Faulty, Unread}
 use Rattle.vengine.specs.declared.game.GameFault.{GameFault}

@@ -3,7 +3,7 @@
 use Rattle.std.specs.Prelude.{ℕ, List, ◌++◌, codes}
 use Rattle.std.specs.Fmt.{decimal}
 use Rattle.betza_text.specs.Fault as betza
-use Rattle.variant_fen.specs.Fault as fen
+use Rattle.fen_model.specs.Fault as fen
 use Rattle.variant_ini.specs.declared.fault.IniFault.{IniFault}
 use Rattle.variant_ini.specs.declared.fault.IniFault.TheVariants as ini
 use Rattle.vengine.specs.declared.fault.FileFault.{FileFault}

@@ -5,8 +5,8 @@ use Rattle.io_ports.specs.Lines.{Line, Text, TooLong}
 use Rattle.leapers.specs.Leapers.{leapers}
 use Rattle.rules_model.specs.declared.board.Position.{Position}
 use Rattle.rules_model.specs.declared.rules.Rules.{Rules}
-use Rattle.variant_fen.specs.declared.fault.FenFault.{FenFault}
-use Rattle.variant_fen.specs.Reading.{fen_of}
+use Rattle.fen_model.specs.declared.fault.FenFault.{FenFault}
+use Rattle.fen_model.specs.Reading.{fen_of}
 use Rattle.vengine.specs.declared.game.GameFault.{GameFault}
 use Rattle.vengine.specs.declared.game.GameFault.TheVariants.{Missing, UnknownVariant, BadPosition, LineTooLong, NotBuilt}
 

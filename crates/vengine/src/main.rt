@@ -14,12 +14,12 @@ mod stop;
 mod variants;
 
 use foundation::Memory;
-use io_ports::{ListClock, MemFiles, OpenGate, StandardInput, StandardOutput};
+use io_ports::{MachineClock, MachineFiles, OpenGate, QueuedInput, StandardOutput};
 use program::NO_MEMORY;
 pub use program::run;
 use std::io::{BufReader, Read};
 use std::process::ExitCode;
-use std::rt::Env;
+use std::rt::{Clock, Env, Files};
 use std::sync::Wait;
 use std::thread::Threads;
 use std::{env, io};
@@ -39,23 +39,23 @@ fn given_words(rt: &(impl Env + AllocGlobal)) -> Result<Vec<String>, Memory> {
     Ok(words)
 }
 
-/// Runs the words of the command line over this input, standard output and no files.
-fn run_words<R, I>(rt: &R, input: I) -> Result<u8, Memory>
+/// Runs the words of the command line over this input, standard output, the machine's files and its clock.
+fn run_words<R, I>(rt: R, input: I) -> Result<u8, Memory>
 where
-    R: Env + Print + AllocGlobal + Threads + Wait + Sync,
-    I: Read + Drop + Send,
+    R: Env + Files + Clock + Print + AllocGlobal + Threads + Wait + Sync + Copy + Send + Drop + 'static,
+    I: Read + Drop + Send + 'static,
 {
     let alloc = rt.alloc();
-    let words = given_words(rt)?;
+    let words = given_words(&rt)?;
     let Ok(reader) = BufReader::new(alloc, input) else {
         return Err(Memory);
     };
-    let mut source = StandardInput::new(alloc, reader)?;
-    let mut sink = StandardOutput::new(io::writer(rt));
-    let mut files = MemFiles::new(alloc);
-    let mut clock = ListClock::new(alloc, &[])?;
+    let mut source = QueuedInput::start(rt, alloc, reader)?;
+    let mut sink = StandardOutput::new(io::writer(&rt));
+    let mut files = MachineFiles::new(rt);
+    let mut clock = MachineClock::new(rt);
     Ok(run(
-        rt,
+        &rt,
         alloc,
         words.as_slice(),
         &mut source,
@@ -67,5 +67,5 @@ where
 }
 
 fn main(rt: HostRuntime) -> ExitCode {
-    ExitCode::from(run_words(&rt, rt.stdin()).unwrap_or(NO_MEMORY))
+    ExitCode::from(run_words(rt, rt.stdin()).unwrap_or(NO_MEMORY))
 }
