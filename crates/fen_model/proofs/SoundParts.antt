@@ -124,8 +124,8 @@ parts rules p h =
       hand = λ side. by_side (λ s. all_below (sound_in_hand rules p.hands s) 26 ≡ true) white.hand black.hand side;
       king = λ side. by_side (λ s. has_its_king rules p.cells s ≡ true) white.king black.king side;
       right = λ side. by_side (λ s. (wing : Wing) → sound_right rules (repeat_of p) s wing ≡ true)
-      (λ wing. by_wing (λ w. sound_right rules (repeat_of p) White w ≡ true) white.kingside white.queenside wing)
-      (λ wing. by_wing (λ w. sound_right rules (repeat_of p) Black w ≡ true) black.kingside black.queenside wing) side;
+          (λ wing. by_wing (λ w. sound_right rules (repeat_of p) White w ≡ true) white.kingside white.queenside wing)
+          (λ wing. by_wing (λ w. sound_right rules (repeat_of p) Black w ≡ true) black.kingside black.queenside wing) side;
       gate = λ side. by_side (λ s. all_below (sound_gate rules (repeat_of p) s) 16 ≡ true) white.gate black.gate side;
       checks = λ side. by_side (λ s. slice_index p.checks (side_index s) ≤ 99) (leb-true _ _ white.checks) (leb-true _ _ black.checks) side;
       uncounted = λ side. by_side (λ s. (rules.check_counting || (slice_index p.checks (side_index s) == 0)) ≡ true) white.uncounted black.uncounted side;

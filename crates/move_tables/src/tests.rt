@@ -40,7 +40,14 @@ fn lines_end_by_their_passage(rt: HostRuntime) {
         assert_eq!(rt; Line { passage, ..up }.reach(EMPTY), EMPTY);
     }
     let last = set_of(&["a8"]);
-    assert_eq!(rt; Line { passage: Passage::Grass, ..up }.reach(last), EMPTY);
+    assert_eq!(rt;
+        Line {
+            passage: Passage::Grass,
+            ..up
+        }
+        .reach(last),
+        EMPTY
+    );
 }
 
 #[test]

@@ -46,13 +46,7 @@ fn each_move_of_chess_once(rt: HostRuntime) -> Result<(), Memory> {
         ("b1", "c3"),
         ("b1", "d2"),
     ];
-    expect_moves(
-        &rt,
-        rt.alloc(),
-        &chess(),
-        "Ka1 Nb1 Ra2 Pb2 na6 ka8",
-        &moves,
-    )
+    expect_moves(&rt, rt.alloc(), &chess(), "Ka1 Nb1 Ra2 Pb2 na6 ka8", &moves)
 }
 
 #[test]

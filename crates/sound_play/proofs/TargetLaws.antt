@@ -66,7 +66,7 @@ unfolding kind_reaches
 reach_more rules cells side kind p q from s wider e =
     let a = and_parts (in_mobility rules side kind s) (list_any (reaches_by rules cells side p from s) (terms_from rules side kind from)) e in
     let b = any_more (reaches_by rules cells side p from s) (reaches_by rules cells side q from s) (terms_from rules side kind from)
-        (λ t f. let c = and_parts (p t) (reaches (board_of rules) cells side t from s) f in let d = wider t c.0 in rw (d, c.1)) a.1 in
+    (λ t f. let c = and_parts (p t) (reaches (board_of rules) cells side t from s) f in let d = wider t c.0 in rw (d, c.1)) a.1 in
     rw (a.0, b)
 
 serves_onto : (side : Side) (c : Option Cell) (y : Cell) (t : Term) → c ≡ Some y → serves side c t ≡ true → (t.takes ≡ true) × (same_side y.side side ≡ false)

@@ -19,6 +19,8 @@ mod passed;
 mod pieces;
 mod pocket;
 mod read;
+#[cfg(test)]
+mod tests;
 mod write;
 mod write_fields;
 

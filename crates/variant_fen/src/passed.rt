@@ -83,7 +83,12 @@ fn is_passed(rules: &Rules, cells: &Cells, side: Side, ep: Square) -> bool
 
 /// Reads the square of a field, `-` for none. It is kept where a pawn of the side to move could take there by its movement.
 #[tactic(auto, unfolding(fen_model::specs::Passed::passed_of))]
-pub(crate) fn read_passed(rules: &Rules, cells: &Cells, side: Side, text: &[u8]) -> Result<Option<Square>, FenFault>
+pub(crate) fn read_passed(
+    rules: &Rules,
+    cells: &Cells,
+    side: Side,
+    text: &[u8],
+) -> Result<Option<Square>, FenFault>
     requires { IsFit rules.now }
     ensures { result ≡ Passed.passed_of rules.now cells.now side text.now }
 {

@@ -58,7 +58,11 @@ fn is_hand_letter(rules: &Rules, byte: u8) -> bool
 fn count(letters: &[u8], letter: u8) -> u8
     ensures { result ≡ min 255 (count_by (λ c. c == letter) letters.now) }
 {
-    letters.iter().filter(|byte| **byte == letter).count().min(255) as u8
+    letters
+        .iter()
+        .filter(|byte| **byte == letter)
+        .count()
+        .min(255) as u8
 }
 
 /// How often each of 26 letters stands there, from this one on.

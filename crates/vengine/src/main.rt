@@ -42,7 +42,18 @@ fn given_words(rt: &(impl Env + AllocGlobal)) -> Result<Vec<String>, Memory> {
 /// Runs the words of the command line over this input, standard output, the machine's files and its clock.
 fn run_words<R, I>(rt: R, input: I) -> Result<u8, Memory>
 where
-    R: Env + Files + Clock + Print + AllocGlobal + Threads + Wait + Sync + Copy + Send + Drop + 'static,
+    R: Env
+        + Files
+        + Clock
+        + Print
+        + AllocGlobal
+        + Threads
+        + Wait
+        + Sync
+        + Copy
+        + Send
+        + Drop
+        + 'static,
     I: Read + Drop + Send + 'static,
 {
     let alloc = rt.alloc();
