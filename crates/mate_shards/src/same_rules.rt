@@ -57,10 +57,12 @@ fn are_same_sizes(a: &Rules, b: &Rules) -> bool
 }
 
 fn are_same_named(a: &Rules, b: &Rules) -> bool
-    ensures { IsTrue result ↔ ((a.now.king ≡ b.now.king) × (a.now.pawn ≡ b.now.pawn) × (a.now.no_doubled ≡ b.now.no_doubled) × (a.now.flag_kind ≡ b.now.flag_kind)) }
+    ensures { IsTrue result ↔ ((a.now.king ≡ b.now.king) × (a.now.pawn ≡ b.now.pawn) × (a.now.soldier ≡ b.now.soldier) × (a.now.soldier_rank ≡ b.now.soldier_rank) × (a.now.no_doubled ≡ b.now.no_doubled) × (a.now.flag_kind ≡ b.now.flag_kind)) }
 {
     a.king == b.king
         && a.pawn == b.pawn
+        && a.soldier == b.soldier
+        && a.soldier_rank == b.soldier_rank
         && a.no_doubled == b.no_doubled
         && a.flag_kind == b.flag_kind
 }
@@ -92,7 +94,7 @@ fn are_same_moves(a: &Rules, b: &Rules) -> bool
 }
 
 fn are_same_drops(a: &Rules, b: &Rules) -> bool
-    ensures { IsTrue result ↔ ((a.now.drop_checks ≡ b.now.drop_checks) × (a.now.drops ≡ b.now.drops) × (a.now.to_hand ≡ b.now.to_hand) × (a.now.pawn_first ≡ b.now.pawn_first) × (a.now.pawn_zone ≡ b.now.pawn_zone) × (a.now.immobile_bad ≡ b.now.immobile_bad)) }
+    ensures { IsTrue result ↔ ((a.now.drop_checks ≡ b.now.drop_checks) × (a.now.drops ≡ b.now.drops) × (a.now.to_hand ≡ b.now.to_hand) × (a.now.pawn_first ≡ b.now.pawn_first) × (a.now.pawn_zone ≡ b.now.pawn_zone) × (a.now.immobile_bad ≡ b.now.immobile_bad) × (a.now.flying ≡ b.now.flying)) }
 {
     a.drop_checks == b.drop_checks
         && a.drops == b.drops
@@ -100,6 +102,7 @@ fn are_same_drops(a: &Rules, b: &Rules) -> bool
         && a.pawn_first == b.pawn_first
         && a.pawn_zone == b.pawn_zone
         && a.immobile_bad == b.immobile_bad
+        && a.flying == b.flying
 }
 
 fn are_same_kinds(a: &[Option<KindRule>; 26], b: &[Option<KindRule>; 26]) -> bool
@@ -127,6 +130,7 @@ fn is_same_rule(a: &KindRule, b: &KindRule) -> bool
     ensures { IsTrue result ↔ (a.now ≡ b.now) }
 {
     are_same_terms(a.terms.items.as_slice(), b.terms.items.as_slice())
+        && are_same_regions(&a.mobility, &b.mobility)
         && a.pawn == b.pawn
         && are_same_names(a.promoted, b.promoted)
 }
