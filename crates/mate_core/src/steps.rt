@@ -9,8 +9,8 @@ use crate::store::{FactList, Known, Store};
 use forced_wins::Fact;
 use rules_model::{Memory, Repeat};
 
-/// Takes one event: the store that follows, and the reply. Every fact of a store that allowed events have reached, from one
-/// without facts, is true in its frame.
+/// Takes one event: the store that follows, and the reply. Every fact of a store that allowed events have reached, from
+/// one without facts, is true in its frame.
 ///
 /// # Errors
 ///

@@ -61,7 +61,8 @@ AreLocksOf frame capacity locks = (0 < length locks) × (length locks ≤ 64) ×
 
 -- ---- rebase
 
--- A shard begins anew with what is kept of its list, which begins with all that the pass had seen. The pass owns nothing and has all parts.
+-- A shard begins anew with what is kept of its list, which begins with all that the pass had seen. The pass owns nothing
+-- and has all parts.
 pub record IsRebased (old new : Frame) (before after : ShardPass) : Type 0 where
   pub list : List Fact
   pub begins : IsPrefix before.seen list

@@ -1,4 +1,5 @@
-//! The facts that workers share, each shard of them under a lock of its own. Every fact in every shard is true in the frame.
+//! The facts that workers share, each shard of them under a lock of its own. Every fact in every shard is true in the
+//! frame.
 #![tactic(auto)]
 
 mod journal;

@@ -8,8 +8,8 @@ use crate::shards::{Passes, Shards};
 use fact_lock::Pass;
 
 impl Shards {
-    /// Cuts one part off each pass, for another thread. The first passes keep their entries and the other parts. Both have
-    /// seen as much.
+    /// Cuts one part off each pass, for another thread. The first passes keep their entries and the other parts. Both
+    /// have seen as much.
     ///
     /// # Errors
     ///

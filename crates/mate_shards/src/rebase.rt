@@ -13,9 +13,9 @@ use rules_model::Memory;
 use std::alloc::Global;
 
 impl Shards {
-    /// The shards for another frame. Under the same rules and attacker wins are kept if all newly blocked positions were
-    /// blocked before, and refutations if all that were blocked still are; all else is dropped. Each fact that is kept stays
-    /// in its shard, in its order.
+    /// The shards for another frame. Under the same rules and attacker wins are kept if all positions that are blocked
+    /// now were blocked before, and refutations if all that were blocked still are; all else is dropped. Each fact that
+    /// is kept stays in its shard, in its order.
     ///
     /// # Errors
     ///

@@ -17,8 +17,8 @@ use std::alloc::Global;
 use std::marker::Model;
 use std::sync::Wait;
 
-/// Lists of facts that are true in one frame, each list under a lock of its own. A fact stands in the shard of its repeat.
-/// Contracts see the frame, the capacity of each shard and the names of the locks.
+/// Lists of facts that are true in one frame, each list under a lock of its own. A fact stands in the shard of its
+/// repeat. Contracts see the frame, the capacity of each shard and the names of the locks.
 #[derive(Drop)]
 pub struct Shards {
     pub(crate) frame: Frame,
@@ -86,8 +86,8 @@ impl Shards {
         Ok((shards, Passes { items }))
     }
 
-    /// Puts a true fact into the shard of its repeat, unless a fact as good stands there or the shard is full. It takes no
-    /// memory.
+    /// Puts a true fact into the shard of its repeat, unless a fact as good stands there or the shard is full. It takes
+    /// no memory.
     pub fn publish<R: Wait>(&self, rt: &R, passes: &mut Passes, fact: &Fact) -> Published
         requires passes { ArePassesOf self.now passes.old }
         requires truth { IsTrueIn self.now.frame fact.now }
@@ -104,8 +104,8 @@ impl Shards {
         }
     }
 
-    /// The first of the facts with the least moves among those that say whether the attacker wins the position within so many
-    /// moves, if there is one. It takes no memory.
+    /// The first of the facts with the least moves among those that say whether the attacker wins the position within so
+    /// many moves, if there is one. It takes no memory.
     pub fn look<R: Wait>(
         &self,
         rt: &R,
