@@ -1,0 +1,10 @@
+-- What code cuts off the front of a text, without where its bytes lie in memory.
+use Rattle.move_names.specs.declared.squares.Cut.{Cut}
+use Rattle.move_names.specs.declared.squares.CutSquares.{CutSquares}
+use Rattle.move_names.specs.Squares.{Front, TwoSquares}
+
+abbrev pub cut_view : Cut → Front
+cut_view c = record { value = c.value; rest = c.rest.now }
+
+abbrev pub squares_view : CutSquares → TwoSquares
+squares_view c = record { from = c.from; to = c.to; ending = c.ending.now }

@@ -1,0 +1,5 @@
+pub mod Names
+pub mod Form
+pub mod Squares
+pub mod Read
+pub mod Cuts
