@@ -1,0 +1,5 @@
+pub mod NumberLemmas
+pub mod WordLaws
+pub mod ListedLemmas
+pub mod FindLemmas
+pub mod worked

@@ -1,0 +1,5 @@
+use Rattle.std.proofs.Common.{refl}
+use Rattle.variant_options.proofs.pieces.region_keys.Goals as goal
+
+pub returns : goal.returns
+returns c = record { rows = refl; count = refl }

@@ -1,0 +1,11 @@
+pub mod Letters
+pub mod Numbers
+pub mod Words
+pub mod Readings
+pub mod PieceTable
+pub mod PieceView
+pub mod PieceValueView
+pub mod Options
+pub mod OptionView
+pub mod BetzaWords
+pub mod LineFaults
