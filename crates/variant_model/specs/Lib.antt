@@ -1,0 +1,6 @@
+pub mod PieceLetters
+pub mod PieceRules
+pub mod Contradictions
+pub mod Made
+pub mod Entry
+pub mod Builtin
