@@ -1,3 +1,4 @@
 -- Small theorems on worked sections, each with its near miss.
 pub mod Inherited
 pub mod BuiltIn
+pub mod BuiltInLines
