@@ -68,9 +68,9 @@ fn board_size(cells: &[Option<Cell>; 120])
 }
 
 impl Tables {
-    /// The tables of the rules, or `Memory`. They take some 1.3 MB, of which 1.2 MB hold a spot of 96 bytes for each side, kind, mode and
-    /// square of the largest board. To that come, for each spot that has them, 48 bytes a line (a direction of a slider or a hopper) and
-    /// 32 bytes a jump of a lame leaper: a queen takes 180 KB more, 24 queens some 4 MB.
+    /// The tables of the rules, or `Memory`. They take some 1.2 MB for a spot of each side, kind, mode and square of the largest board,
+    /// and for each line of a slider or hopper from such a square, as for each jump of a lame leaper, 32 bytes more: a queen takes some
+    /// 120 KB, 24 queens some 3 MB.
     pub fn new(alloc: Global, rules: &Rules) -> Result<Tables, Memory>
         requires { IsFit rules.now }
         ensures { IfOk result (λ t. t ≡ rules.now) }
