@@ -19,7 +19,6 @@ use Rattle.rules_model.specs.declared.board.Wing.{Wing}
 use Rattle.rules_model.specs.declared.board.Wing.TheVariants.{Kingside, Queenside}
 use Rattle.rules_model.specs.declared.rules.Rules.{Rules}
 use Rattle.rules_model.specs.Attacks.{king_attacked}
-use Rattle.rules_model.specs.Built.{is_built}
 use Rattle.rules_model.specs.Ends.{pieces_of}
 use Rattle.rules_model.specs.declared.rules.KindRule.{KindRule}
 use Rattle.rules_model.specs.Fit.{IsFit, fits_rule, is_there, kind_fits}

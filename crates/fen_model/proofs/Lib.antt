@@ -16,3 +16,4 @@ pub mod HandBack
 pub mod HeldBack
 pub mod FieldBack
 pub mod GivesBack
+mod worked

@@ -1,4 +1,5 @@
 pub mod CountLemmas
 pub mod Members
+pub mod AppendedLemmas
 pub mod Ordered
 pub mod SetLemmas

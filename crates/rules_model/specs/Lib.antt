@@ -26,4 +26,3 @@ pub mod Sound
 pub mod Fit
 pub mod Ready
 pub mod Promised
-pub mod Built

@@ -174,7 +174,8 @@ pub fn attacks_plain(rules: &Rules, p: &Position, by: Side, at: Square) -> bool
     is_attacked(rules, &p.cells, by, at)
 }
 
-pub(crate) fn is_own_king(rules: &Rules, side: Side, cell: Option<Cell>) -> bool
+/// Whether the side's king stands there.
+pub fn is_own_king(rules: &Rules, side: Side, cell: Option<Cell>) -> bool
     ensures { result ≡ Attacks.is_own_king rules.now side cell }
 {
     match cell {
@@ -217,7 +218,8 @@ pub fn king_attacked(rules: &Rules, cells: &Cells, side: Side) -> bool
     false
 }
 
-pub(crate) fn pawn_at(rules: &Rules, cells: &Cells, side: Side, at: Option<u8>) -> bool
+/// Whether there is such a square, and a pawn of the side stands on it.
+pub fn pawn_at(rules: &Rules, cells: &Cells, side: Side, at: Option<u8>) -> bool
     requires { IfSome at (λ s. s < 120) }
     ensures { result ≡ Attacks.pawn_at rules.now cells.now side at }
 {

@@ -71,7 +71,8 @@ pub fn has_gate(gates: &[u16; 2], side: Side, file: u8) -> bool
     (gates[side.index()] >> file) % 2 == 1
 }
 
-fn is_rook(rules: &Rules, side: Side, cell: Option<Cell>) -> bool
+/// Whether a piece of the side that may castle as a rook stands there.
+pub fn is_rook(rules: &Rules, side: Side, cell: Option<Cell>) -> bool
     ensures { result ≡ Attacks.is_own side (Kinds.masks rules.now.castle_rooks) cell }
 {
     match cell {
@@ -150,8 +151,9 @@ pub fn king_file(rules: &Rules, wing: Wing) -> u8
     }
 }
 
+/// The file to which the rook goes when the king castles to the wing: the one beside the king's on the inner side.
 #[tactic(auto, unfolding(crate::specs::Castling::castling_on))]
-fn rook_to_file(rules: &Rules, wing: Wing) -> u8
+pub fn rook_to_file(rules: &Rules, wing: Wing) -> u8
     requires fit { IsFit rules.now }
     requires on { castling_on rules.now ≡ true }
     ensures is { result ≡ Castling.rook_to_file rules.now wing }

@@ -6,7 +6,7 @@ pub use foundation::{Memory, Text};
 pub mod attacks;
 pub mod board;
 pub mod castling;
-pub mod extent;
+pub mod equal;
 pub mod game_laws;
 pub mod kinds;
 pub mod laws;
@@ -22,7 +22,7 @@ pub use board::{
     Blocked, Board, Cell, Cells, FILES, KINDS, Kind, Position, RANKS, Region, Repeat, SQUARES,
     Side, Square, Wing, repeat_of,
 };
-pub use extent::built;
+pub use equal::{is_same_repeat, repeats};
 pub use moves::{Cause, Move, MoveList, Outcome, Placed, Promo, Value};
 pub use reach::{Ray, reaches_plain};
 pub use rules::{KindRule, Rules, Term, Terms, Way};

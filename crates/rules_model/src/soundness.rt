@@ -23,7 +23,8 @@ use crate::kinds::{board_of, first_rank, has_kind, in_hand, in_region, masks, na
 use crate::rules::Rules;
 use crate::sizes::position_sizes;
 
-fn is_on_board(rules: &Rules, at: Square) -> bool
+/// Whether the square is on the board of the variant.
+pub fn is_on_board(rules: &Rules, at: Square) -> bool
     ensures { result ≡ Sound.on_board rules.now at.0 }
 {
     at.file() < rules.files && at.rank() < rules.ranks
@@ -89,7 +90,8 @@ fn is_sound_hand(rules: &Rules, hands: &[[u8; KINDS]; 2], side: Side) -> bool
     sound
 }
 
-fn has_its_king(rules: &Rules, cells: &Cells, side: Side) -> bool
+/// Whether the side has exactly one king on the board, where the variant has kings.
+pub fn has_its_king(rules: &Rules, cells: &Cells, side: Side) -> bool
     ensures { result ≡ Sound.has_its_king rules.now cells.now side }
 {
     rules.king.is_none()
@@ -100,7 +102,8 @@ fn has_its_king(rules: &Rules, cells: &Cells, side: Side) -> bool
             == 1
 }
 
-fn is_of(side: Side, cell: Option<Cell>) -> bool
+/// Whether a piece of the side stands there.
+pub fn is_of(side: Side, cell: Option<Cell>) -> bool
     ensures { result ≡ Ends.is_of side cell }
 {
     match cell {
@@ -168,7 +171,8 @@ fn is_sound_right(rules: &Rules, p: &Position, side: Side, wing: Wing) -> bool
             ))
 }
 
-fn is_own_piece(rules: &Rules, side: Side, cell: Option<Cell>) -> bool
+/// Whether a piece of the side that is not the pawn stands there.
+pub fn is_own_piece(rules: &Rules, side: Side, cell: Option<Cell>) -> bool
     ensures { result ≡ Attacks.is_own side (λ kind. not (Kinds.is_pawn rules.now kind)) cell }
 {
     match cell {
@@ -205,7 +209,8 @@ fn are_sound_gates(rules: &Rules, p: &Position, side: Side) -> bool
     sound
 }
 
-fn is_free(cells: &Cells, at: Option<u8>) -> bool
+/// Whether there is such a square, and nothing stands on it.
+pub fn is_free(cells: &Cells, at: Option<u8>) -> bool
     requires { IfSome at (λ s. s < 120) }
     ensures { result ≡ Pawns.is_free cells.now at }
 {
@@ -215,7 +220,8 @@ fn is_free(cells: &Cells, at: Option<u8>) -> bool
     }
 }
 
-fn lies_in(regions: &[Region; 2], side: Side, at: Option<u8>) -> bool
+/// Whether there is such a square, and it lies in the side's region.
+pub fn lies_in(regions: &[Region; 2], side: Side, at: Option<u8>) -> bool
     requires { IfSome at (λ s. s < 120) }
     ensures { result ≡ Sound.lies_in regions.now side at }
 {

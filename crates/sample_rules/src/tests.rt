@@ -9,7 +9,7 @@ use rules_model::kinds::{board_of, has_kind, in_hand, in_region, masks, names};
 use rules_model::movement::{in_mobility, is_held_back, kind_takes, rank_for};
 use rules_model::sizes::{position_sizes, rules_letters};
 use rules_model::{
-    Cell, Position, Rules, Side, Square, Wing, attacks_plain, built, is_attacked, king_attacked,
+    Cell, Position, Rules, Side, Square, Wing, attacks_plain, is_attacked, king_attacked,
     reaches_plain, repeat_of, sound,
 };
 use std::process::Abort;
@@ -191,11 +191,6 @@ fn rules_are_read(rt: HostRuntime) {
     assert!(rt; !in_region(&rules.promotion, Side::Black, square("a8").0));
     assert_eq!(rt; in_hand(&p.hands, Side::White, rook), 0);
     assert_eq!(rt; in_hand(&shouse().start.hands, Side::Black, kind(b'h')), 1);
-    assert!(rt; built(&leapers()));
-    assert!(rt; !built(&rules));
-    let mut wide = leapers();
-    wide.files = 9;
-    assert!(rt; !built(&wide));
 }
 
 #[test]

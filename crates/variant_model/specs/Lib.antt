@@ -4,3 +4,4 @@ pub mod Contradictions
 pub mod Made
 pub mod Entry
 pub mod Builtin
+pub mod Fault

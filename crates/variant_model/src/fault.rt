@@ -2,6 +2,8 @@
 use betza_text::BetzaFault;
 use fen_model::FenFault;
 use rules_model::{Kind, Text};
+use std::error::Error;
+use std::{fmt, str};
 
 /// Why a section is refused: its first fault, in this order, but that `Inconsistent` comes before `BadStart`.
 #[derive(Drop)]
@@ -26,4 +28,42 @@ pub enum SectionFault {
     /// `promotedPieceType` names the pawn or the king, or has a left letter twice or on the right; 4, `seirawanGating` without
     /// `gating`; 5, `gating` with more than 10 files, or with castling on another rank than 1 or by pawns. The smallest such number.
     Inconsistent(u8),
+}
+
+impl fmt::Display for SectionFault {
+    ghost use Rattle.std.specs.Prelude.{Some};
+    ghost use Rattle.variant_model.specs.Fault.{fault_text};
+
+    ghost output = { λ fault. Some (fault_text fault) };
+
+    /// The type's name, the fault's number, its name and its fields, as `SectionFault 5 BadValue nFoldRule`. An error where a
+    /// key is not UTF-8; the keys of a variants file are ASCII.
+    fn fmt<W: fmt::Write>(&self, f: &mut fmt::Formatter<W>) -> fmt::Result {
+        match self {
+            SectionFault::DuplicateName => f.write_str("SectionFault 1 DuplicateName"),
+            SectionFault::UnknownParent => f.write_str("SectionFault 2 UnknownParent"),
+            SectionFault::RefusedParent => f.write_str("SectionFault 3 RefusedParent"),
+            SectionFault::UnsupportedOption(key) => match str::from_utf8(key.items.as_slice()) {
+                Ok(key) => write!(f, "SectionFault 4 UnsupportedOption {key}"),
+                Err(_) => Err(fmt::Error),
+            },
+            SectionFault::BadValue(key) => match str::from_utf8(key.items.as_slice()) {
+                Ok(key) => write!(f, "SectionFault 5 BadValue {key}"),
+                Err(_) => Err(fmt::Error),
+            },
+            SectionFault::BadPiece(key, fault) => match str::from_utf8(key.items.as_slice()) {
+                Ok(key) => write!(f, "SectionFault 6 BadPiece {key} {fault}"),
+                Err(_) => Err(fmt::Error),
+            },
+            SectionFault::LetterTwice(kind) => {
+                write!(
+                    f,
+                    "SectionFault 7 LetterTwice {}",
+                    (b'a' + kind.0 % 26) as char
+                )
+            }
+            SectionFault::BadStart(fault) => write!(f, "SectionFault 8 BadStart {fault}"),
+            SectionFault::Inconsistent(number) => write!(f, "SectionFault 9 Inconsistent {number}"),
+        }
+    }
 }

@@ -1,2 +1,0 @@
-pub mod Leapers
-pub mod Parts
