@@ -1,11 +1,19 @@
 -- The commands, by their names and arguments.
-use Rattle.std.specs.Prelude.{List, [], ◌∷◌, Option, Some, None, bytes_eq, codes, if◌then◌else◌}
+use Rattle.std.specs.Prelude.{ℕ, List, [], ◌∷◌, Option, Some, None, bytes_eq, codes, if◌then◌else◌}
+use Rattle.std.specs.Option.{option_map}
+use Rattle.words.specs.Number.{number_in}
 use Rattle.words.specs.Options.{Text}
 
 -- a command with its arguments
 pub data Command : Type 0 where
   -- `moves`
   Moves : Command
+  -- `status`
+  Status : Command
+  -- `perft N`: a number of plies
+  Perft : ℕ → Command
+  -- `variants`
+  Variants : Command
   -- `reach WORD SQUARE [OWN [ENEMY]]`: a Betza word, a square, and the lists of own and of enemy squares
   Reach : Text → Text → Text → Text → Command
 
@@ -13,9 +21,18 @@ pub data Command : Type 0 where
 abbrev pub no_squares : Text
 no_squares = codes "none"
 
-abbrev pub moves_in : List Text → Option Command
-moves_in [] = Some Moves
-moves_in arguments = None
+-- a command that takes no arguments
+abbrev pub without_arguments : Command → List Text → Option Command
+without_arguments command [] = Some command
+without_arguments command arguments = None
+
+-- from 1 to 9 plies
+abbrev pub perft_of : Text → Option Command
+perft_of plies = option_map Perft (number_in 1 9 plies)
+
+abbrev pub perft_in : List Text → Option Command
+perft_in (plies ∷ []) = perft_of plies
+perft_in arguments = None
 
 -- a list that is left out has no square
 abbrev pub reach_in : List Text → Option Command
@@ -27,8 +44,11 @@ reach_in arguments = None
 -- the command of this name with these arguments
 abbrev pub command_named : Text → List Text → Option Command
 command_named name arguments =
-    if bytes_eq name (codes "moves") then moves_in arguments
-    else (if bytes_eq name (codes "reach") then reach_in arguments else None)
+    if bytes_eq name (codes "moves") then without_arguments Moves arguments
+    else (if bytes_eq name (codes "status") then without_arguments Status arguments
+    else (if bytes_eq name (codes "perft") then perft_in arguments
+    else (if bytes_eq name (codes "variants") then without_arguments Variants arguments
+    else (if bytes_eq name (codes "reach") then reach_in arguments else None))))
 
 -- the command that words without options are
 abbrev pub command_in : List Text → Option Command

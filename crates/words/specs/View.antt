@@ -1,11 +1,11 @@
 -- What the code gives, as the definitions have it.
-use Rattle.std.specs.Prelude.{List, map, Option, option_map}
+use Rattle.std.specs.Prelude.{◌≤◌, List, map, Option, option_map, ⊤}
 use Rattle.std.specs.Borrow.{Bor}
 use Rattle.words.specs.declared.command.Command.{Command as Given}
 use Rattle.words.specs.declared.command.Command.TheVariants as given
 use Rattle.words.specs.declared.reading.Asked.{Asked as GivenAsked}
 use Rattle.words.specs.Asked.{Asked}
-use Rattle.words.specs.Command.{Command, Moves, Reach}
+use Rattle.words.specs.Command.{Command, Moves, Status, Perft, Variants, Reach}
 use Rattle.words.specs.Options.{Text}
 
 -- the text that is referred to, where there is one, and the texts
@@ -17,6 +17,9 @@ texts = map (λ s. s.now)
 
 abbrev pub command_seen : Given → Command
 command_seen given.Moves = Moves
+command_seen given.Status = Status
+command_seen (given.Perft plies) = Perft plies
+command_seen given.Variants = Variants
 command_seen (given.Reach word square own enemy) = Reach word.now square.now own.now enemy.now
 
 abbrev pub asked_seen : GivenAsked → Asked
@@ -25,3 +28,11 @@ asked_seen a = record {
   threads = a.threads;
   command = command_seen a.command;
 }
+
+-- a number of plies is from 1 to 9
+abbrev pub HasPlies : Given → Type 0
+HasPlies given.Moves = ⊤
+HasPlies given.Status = ⊤
+HasPlies (given.Perft plies) = (1 ≤ plies) × (plies ≤ 9)
+HasPlies given.Variants = ⊤
+HasPlies (given.Reach word square own enemy) = ⊤

@@ -1,10 +1,15 @@
 //! The commands, by their names and arguments.
-ghost use Rattle.std.specs.Prelude.{◌≡◌, option_map};
-ghost use Rattle.words.specs.Command.{Reach, command_in, command_named, moves_in, reach_in};
-ghost use Rattle.words.specs.View.{command_seen, texts};
+ghost use Rattle.std.specs.Prelude.{◌≡◌, IfSome, option_map};
+ghost use Rattle.words.specs.Command.{Reach, command_in, command_named, perft_in, perft_of, reach_in, without_arguments};
+ghost use Rattle.words.specs.View.{HasPlies, command_seen, texts};
+
+use crate::number::number_in;
 
 /// The list of no square.
 const NO_SQUARES: &str = "none";
+
+/// The most plies that `perft` counts.
+const MOST_PLIES: u64 = 9;
 
 /// A command with its arguments.
 ///
@@ -12,8 +17,14 @@ const NO_SQUARES: &str = "none";
 /// `specs/View.antt` and of `command_named` here and there, and a function of its arguments, here and there.
 #[derive(Clone, Copy, Debug, PartialEq, Eq)]
 pub enum Command<'a> {
-    /// `moves`: the legal moves of the position of the game text that is the input.
+    /// `moves`: the legal moves of the last position of the game text that is the input.
     Moves,
+    /// `status`: how the game of that text stands, and its last position.
+    Status,
+    /// `perft N`: how many lists of this many legal moves in turn, from 1 to 9, there are from that position.
+    Perft(u8),
+    /// `variants`: the variants that there are, each with its fault where it has one.
+    Variants,
     /// `reach WORD SQUARE [OWN [ENEMY]]`: where a piece of this Betza word goes from this square. The lists of squares
     /// of own and of enemy pieces are `none` where they are left out.
     Reach {
@@ -24,17 +35,39 @@ pub enum Command<'a> {
     },
 }
 
-fn moves_in<'a>(arguments: &[&'a str]) -> Option<Command<'a>>
-    ensures { option_map command_seen result ≡ moves_in (texts arguments.now) }
+// A command that takes no arguments.
+fn without_arguments<'a>(command: Command<'a>, arguments: &[&'a str]) -> Option<Command<'a>>
+    requires { HasPlies command }
+    ensures is { option_map command_seen result ≡ without_arguments (command_seen command.entry) (texts arguments.now) }
+    ensures plies { IfSome result HasPlies }
 {
     match arguments {
-        [] => Some(Command::Moves),
+        [] => Some(command),
+        _ => None,
+    }
+}
+
+fn perft_of<'a>(plies: &str) -> Option<Command<'a>>
+    ensures is { option_map command_seen result ≡ perft_of plies.now }
+    ensures plies { IfSome result HasPlies }
+{
+    let plies = number_in(1, MOST_PLIES, plies)?;
+    Some(Command::Perft(plies as u8))
+}
+
+fn perft_in<'a>(arguments: &[&'a str]) -> Option<Command<'a>>
+    ensures is { option_map command_seen result ≡ perft_in (texts arguments.now) }
+    ensures plies { IfSome result HasPlies }
+{
+    match arguments {
+        [plies] => perft_of(plies),
         _ => None,
     }
 }
 
 fn reach<'a>(word: &'a str, square: &'a str, own: &'a str, enemy: &'a str) -> Command<'a>
-    ensures { command_seen result ≡ Reach word.now square.now own.now enemy.now }
+    ensures is { command_seen result ≡ Reach word.now square.now own.now enemy.now }
+    ensures plies { HasPlies result }
 {
     Command::Reach {
         word,
@@ -45,7 +78,8 @@ fn reach<'a>(word: &'a str, square: &'a str, own: &'a str, enemy: &'a str) -> Co
 }
 
 fn reach_in<'a>(arguments: &[&'a str]) -> Option<Command<'a>>
-    ensures { option_map command_seen result ≡ reach_in (texts arguments.now) }
+    ensures is { option_map command_seen result ≡ reach_in (texts arguments.now) }
+    ensures plies { IfSome result HasPlies }
 {
     match arguments {
         [word, square] => Some(reach(word, square, NO_SQUARES, NO_SQUARES)),
@@ -56,10 +90,14 @@ fn reach_in<'a>(arguments: &[&'a str]) -> Option<Command<'a>>
 }
 
 fn command_named<'a>(name: &str, arguments: &[&'a str]) -> Option<Command<'a>>
-    ensures { option_map command_seen result ≡ command_named name.now (texts arguments.now) }
+    ensures is { option_map command_seen result ≡ command_named name.now (texts arguments.now) }
+    ensures plies { IfSome result HasPlies }
 {
     match name {
-        "moves" => moves_in(arguments),
+        "moves" => without_arguments(Command::Moves, arguments),
+        "status" => without_arguments(Command::Status, arguments),
+        "perft" => perft_in(arguments),
+        "variants" => without_arguments(Command::Variants, arguments),
         "reach" => reach_in(arguments),
         _ => None,
     }
@@ -67,7 +105,8 @@ fn command_named<'a>(name: &str, arguments: &[&'a str]) -> Option<Command<'a>>
 
 /// The command that words without options are.
 pub(crate) fn command_in<'a>(words: &[&'a str]) -> Option<Command<'a>>
-    ensures { option_map command_seen result ≡ command_in (texts words.now) }
+    ensures is { option_map command_seen result ≡ command_in (texts words.now) }
+    ensures plies { IfSome result HasPlies }
 {
     match words {
         [] => None,

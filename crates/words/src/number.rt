@@ -27,7 +27,9 @@ fn number_of(digits: &str) -> Option<u64>
 /// The number that a text writes, from `least` to `most`: decimal digits alone, at most 20 of them. Zeros may lead.
 #[tactic(auto, using(crate::proofs::NumberLemmas::same_digits))]
 pub(crate) fn number_in(least: u64, most: u64, text: &str) -> Option<u64>
-    ensures { result ≡ number_in least most text.now }
+    ensures is { result ≡ number_in least most text.now }
+    ensures least { IfSome result (λ number. least ≤ number) }
+    ensures most { IfSome result (λ number. number ≤ most) }
 {
     if text.is_empty() || text.len() > MOST_DIGITS || !has_digits_alone(text.as_bytes()) {
         return None;

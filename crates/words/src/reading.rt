@@ -1,11 +1,11 @@
 //! Reads the words of a run.
-ghost use Rattle.std.specs.Prelude.{◌≡◌, ◌<◌, ◌^◌, IfOk, length, map, option_map, string_bytes, true};
+ghost use Rattle.std.specs.Prelude.{◌≡◌, ◌<◌, ◌^◌, IfOk, IfSome, length, map, option_map, string_bytes, true};
 ghost use Rattle.std.specs.List.{list_all, list_any};
 ghost use Rattle.clap.specs.Words.{app_of, kind_of};
 ghost use Rattle.words.specs.Asked.{are_sound, asked, asked_by, is_sound, threads_in};
 ghost use Rattle.words.specs.Options.{has_no_dash, is_stray, is_value};
 ghost use Rattle.words.specs.Reader.{reader};
-ghost use Rattle.words.specs.View.{asked_seen, text_in, texts};
+ghost use Rattle.words.specs.View.{HasPlies, asked_seen, text_in, texts};
 
 use crate::command::{Command, command_in};
 use crate::number::number_in;
@@ -79,7 +79,8 @@ fn asked_by<'a>(
     threads: Option<&str>,
     words: &[&'a str],
 ) -> Option<Asked<'a>>
-    ensures { option_map asked_seen result ≡ asked_by (text_in variants.entry) (text_in threads.entry) (texts words.now) }
+    ensures is { option_map asked_seen result ≡ asked_by (text_in variants.entry) (text_in threads.entry) (texts words.now) }
+    ensures plies { IfSome result (λ a. HasPlies a.command) }
 {
     if is_sound(variants) && is_sound(threads) && all_without_dash(words) {
         let threads = threads_in(threads)?;
@@ -96,7 +97,8 @@ fn asked_by<'a>(
 
 /// What the words of a run ask, the program's name left out. None exactly where they are not of the command set.
 pub fn read_words<'a>(alloc: Global, words: &'a [String]) -> Result<Option<Asked<'a>>, Memory>
-    ensures { IfOk result (λ given. option_map asked_seen given ≡ asked (map string_bytes words.now)) }
+    ensures is { IfOk result (λ given. option_map asked_seen given ≡ asked (map string_bytes words.now)) }
+    ensures plies { IfOk result (λ given. IfSome given (λ a. HasPlies a.command)) }
 {
     if has_stray(words) {
         return Ok(None);

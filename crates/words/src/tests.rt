@@ -8,6 +8,10 @@ const MOVES: Asked<'static> = Asked {
     command: Command::Moves,
 };
 
+fn command(command: Command<'static>) -> Asked<'static> {
+    Asked { command, ..MOVES }
+}
+
 fn reach(
     word: &'static str,
     square: &'static str,
@@ -43,8 +47,15 @@ fn owned(alloc: Global, words: &[&str]) -> Result<Vec<String>, Fail> {
 
 #[test]
 fn words_of_the_set_are_read(rt: HostRuntime) -> Result<(), Fail> {
-    let rows: [(&[&str], Asked<'static>); 16] = [
+    let rows: [(&[&str], Asked<'static>); 20] = [
         (&["moves"], MOVES),
+        (&["status"], command(Command::Status)),
+        (&["perft", "1"], command(Command::Perft(1))),
+        (
+            &["perft", "00000000000000000009"],
+            command(Command::Perft(9)),
+        ),
+        (&["variants"], command(Command::Variants)),
         (&["reach", "N", "b1"], reach("N", "b1", "none", "none")),
         (&["reach", "", "", ""], reach("", "", "", "none")),
         (
@@ -92,7 +103,7 @@ fn words_of_the_set_are_read(rt: HostRuntime) -> Result<(), Fail> {
 
 #[test]
 fn other_words_ask_nothing(rt: HostRuntime) -> Result<(), Fail> {
-    let rows: [&[&str]; 45] = [
+    let rows: [&[&str]; 53] = [
         &[],
         &[""],
         &["Moves"],
@@ -105,7 +116,15 @@ fn other_words_ask_nothing(rt: HostRuntime) -> Result<(), Fail> {
         &["reach", "--", "b1"],
         &["Reach", "N", "b1"],
         &["uci"],
-        &["perft", "4"],
+        &["status", "4"],
+        &["variants", "f"],
+        &["perft"],
+        &["perft", "4", "4"],
+        &["perft", "0"],
+        &["perft", "10"],
+        &["perft", "+4"],
+        &["perft", "x"],
+        &["perft", "000000000000000000004"],
         &["help"],
         &["--help"],
         &["-h"],
