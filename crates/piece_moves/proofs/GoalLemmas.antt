@@ -17,11 +17,10 @@ use Rattle.rules_model.specs.Pieces as Pieces
 use Rattle.rules_model.specs.Reach.{reaches}
 use Rattle.rules_model.specs.Sides.{same_side}
 use Rattle.rules_model.specs.Squares.{cell_at}
-use Rattle.square_set.specs.declared.Set.{Set}
 use Rattle.move_tables.specs.declared.mode.Mode.{Mode}
 use Rattle.move_tables.specs.declared.mode.Mode.TheVariants.{Quiet, Take}
 use Rattle.move_tables.specs.Reached.{reaches_in, serves}
-use Rattle.piece_moves.specs.Goals.{own_piece, lands, lands_in, IsReached, makes}
+use Rattle.piece_moves.specs.Goals.{own_piece, lands, makes}
 
 same : (a b : Side) → same_side a b ≡ true → a ≡ b
 same White White e = refl
@@ -107,7 +106,3 @@ goes_is rules cells side from to c e =
     let h = own rules side (cell_at cells from.0) c e in
     rw (own_reaches rules cells side from Quiet to c h, own_reaches rules cells side from Take to c h)
     (landing rules cells side from to (in_mobility rules side c.kind to) (terms_from rules side c.kind from) (cell_at cells to))
-
--- and to those on which it lands by the sets of what it reaches
-pub lands_goes : (rules : Rules) (cells : List (Option Cell)) (side : Side) (from : Square) (quiet takes : Set) (to : ℕ) (c : Cell) → own_piece rules side (cell_at cells from.0) ≡ Some c → IsReached rules cells from Quiet quiet → IsReached rules cells from Take takes → piece_goes rules cells side c.kind from to ≡ lands_in cells side quiet takes to
-lands_goes rules cells side from quiet takes to c e q t = rw (q to, t to) (goes_is rules cells side from to c e)

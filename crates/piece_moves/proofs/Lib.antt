@@ -1,3 +1,3 @@
-pub mod AppendedLemmas
 pub mod GoalLemmas
 pub mod PartLemmas
+pub mod TargetLemmas

@@ -1,5 +1,5 @@
 -- Where an own piece that is not the pawn may land.
-use Rattle.std.specs.Prelude.{◌≡◌, ℕ, Bool, false, ◌&&◌, not, if◌then◌else◌, Option, Some, None, List}
+use Rattle.std.specs.Prelude.{Bool, false, ◌&&◌, not, if◌then◌else◌, Option, Some, None, List, ℕ}
 use Rattle.rules_model.specs.declared.board.Cell.{Cell}
 use Rattle.rules_model.specs.declared.board.Repeat.{Repeat}
 use Rattle.rules_model.specs.declared.board.Side.{Side}
@@ -10,9 +10,7 @@ use Rattle.rules_model.specs.Kinds.{is_pawn}
 use Rattle.rules_model.specs.Pieces.{piece_moves}
 use Rattle.rules_model.specs.Sides.{same_side}
 use Rattle.rules_model.specs.Squares.{cell_at}
-use Rattle.square_set.specs.declared.Set.{Set}
-use Rattle.square_set.specs.Members.{has}
-use Rattle.move_tables.specs.declared.mode.Mode.{Mode}
+use Rattle.move_tables.specs.declared.mode.Mode.TheVariants.{Quiet, Take}
 use Rattle.move_tables.specs.Reached.{reaches_in}
 
 -- the piece, where it is the side's and not the pawn
@@ -25,13 +23,8 @@ abbrev pub lands : Side → Option Cell → Bool → Bool → Bool
 lands side None quiet takes = quiet
 lands side (Some c) quiet takes = not (same_side c.side side) && takes
 
--- by the sets of the squares that the piece reaches
-abbrev pub lands_in : List (Option Cell) → Side → Set → Set → ℕ → Bool
-lands_in cells side quiet takes to = lands side (cell_at cells to) (has quiet to) (has takes to)
-
--- the set has the squares that the piece on `from` reaches in the mode, and no others
-abbrev pub IsReached : Rules → List (Option Cell) → Square → Mode → Set → Type 0
-IsReached rules cells from mode set = (s : ℕ) → has set s ≡ reaches_in rules cells from mode s
+abbrev pub lands_on : Rules → List (Option Cell) → Side → Square → ℕ → Bool
+lands_on rules cells side from to = lands side (cell_at cells to) (reaches_in rules cells from Quiet to) (reaches_in rules cells from Take to)
 
 -- where there is such a piece, it makes the move
 abbrev pub makes : Rules → Repeat → Option Cell → Square → Square → Promo → Bool

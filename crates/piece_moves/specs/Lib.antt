@@ -1,3 +1,4 @@
-pub mod Appended
 pub mod Goals
+pub mod Movers
 pub mod Parts
+pub mod Targets

@@ -1,37 +1,25 @@
--- The parts of the moves that are appended in turn.
-use Rattle.std.specs.Prelude.{◌≡◌, ℕ, ◌<◌, Bool, true}
+-- The parts of the moves that are given in turn.
+use Rattle.std.specs.Prelude.{◌≡◌, ◌<◌, Bool, true, Option}
+use Rattle.rules_model.specs.declared.board.Kind.{Kind}
 use Rattle.rules_model.specs.declared.board.Repeat.{Repeat}
+use Rattle.rules_model.specs.declared.board.Square.{Square}
 use Rattle.rules_model.specs.declared.moves.Move.{Move}
 use Rattle.rules_model.specs.declared.moves.Move.TheVariants.{Go, Castle, Drop}
 use Rattle.rules_model.specs.declared.rules.Rules.{Rules}
-use Rattle.rules_model.specs.Candidates.{is_piece_move}
-use Rattle.rules_model.specs.Moves.{IsFitMove}
-
--- a move from one square to another
-abbrev pub IsTo : ℕ → ℕ → Move → Type 0
-IsTo from to (Go f t promo gate) = (f.0 ≡ from) × (t.0 ≡ to)
-IsTo from to (Castle f t rook gate) = ⊥
-IsTo from to (Drop kind t) = ⊥
-
--- a move from a square to one below the end
-abbrev pub IsToBelow : ℕ → ℕ → Move → Type 0
-IsToBelow from end (Go f t promo gate) = (f.0 ≡ from) × (t.0 < end)
-IsToBelow from end (Castle f t rook gate) = ⊥
-IsToBelow from end (Drop kind t) = ⊥
-
--- a move from a square below the end
-abbrev pub IsFromBelow : ℕ → Move → Type 0
-IsFromBelow end (Go f t promo gate) = (f.0 < end) × (t.0 < 120)
-IsFromBelow end (Castle f t rook gate) = ⊥
-IsFromBelow end (Drop kind t) = ⊥
+use Rattle.rules_model.specs.Candidates.{is_piece_move, own_piece_moves}
+use Rattle.rules_model.specs.Moves.{IsFitMove, IsFitPromo}
+use Rattle.rules_model.specs.Squares.{cell_at}
 
 -- the one move, where it is wanted
 abbrev pub IsChosen : Bool → Move → Move → Type 0
 IsChosen wanted m x = (wanted ≡ true) × (m ≡ x)
 
--- a move of a piece that is of the part
-abbrev pub PieceMoves : Rules → Repeat → (Move → Type 0) → Move → Type 0
-PieceMoves rules r Part m = (is_piece_move rules r m ≡ true) × Part m
+-- an ordinary move of the own piece on the square, which places this there
+abbrev pub IsMoveFrom : Rules → Repeat → Square → Option Kind → Move → Type 0
+IsMoveFrom rules r from gate (Go f to promo g) =
+    (f ≡ from) × (g ≡ gate) × (to.0 < 120) × IsFitPromo promo × (own_piece_moves rules r from to promo (cell_at r.cells from.0) ≡ true)
+IsMoveFrom rules r from gate (Castle f to rook g) = ⊥
+IsMoveFrom rules r from gate (Drop kind to) = ⊥
 
 -- a fit move of a piece
 abbrev pub FitPieceMoves : Rules → Repeat → Move → Type 0

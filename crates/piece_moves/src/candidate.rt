@@ -52,9 +52,9 @@ fn moves(
     }
 }
 
-/// Whether the move is an ordinary one of an own piece that is not the pawn, without a gate: to an empty square that the
-/// piece reaches quietly, or to an enemy's that it reaches to take; and with a promotion where it must promote, or may.
-/// The king's move that means castling is none. Whether it leaves the king safe is not asked.
+/// Whether the move is an ordinary one of an own piece that is not the pawn, without a gate: to an empty square that it
+/// reaches quietly, or to an enemy's that it reaches to take; and with a promotion where it must promote, or may. The
+/// king's move that means castling is none. Whether it leaves the king safe is not asked.
 #[tactic(auto, unfolding(rules_model::specs::Candidates::is_piece_move))]
 pub fn is_candidate(rules: &Rules, tables: &Tables, p: &Position, m: &Move) -> bool
     requires fit { IsFit rules.now }
@@ -68,18 +68,6 @@ pub fn is_candidate(rules: &Rules, tables: &Tables, p: &Position, m: &Move) -> b
             promo,
             gate: None,
         } => moves(rules, tables, p, from, to, promo),
-        Move::Go {
-            from: _,
-            to: _,
-            promo: _,
-            gate: Some(_),
-        } => false,
-        Move::Castle {
-            from: _,
-            to: _,
-            rook: _,
-            gate: _,
-        } => false,
-        Move::Drop { kind: _, to: _ } => false,
+        Move::Go { .. } | Move::Castle { .. } | Move::Drop { .. } => false,
     }
 }

@@ -1,135 +1,169 @@
-//! The list of the moves.
-ghost use Rattle.std.specs.Prelude.{◌≡◌, ◌<◌, Some, None, true, OnOk, OnErr};
-ghost use Rattle.foundation.specs.Member.{Appends};
+//! The moves, given in turn.
+ghost use Rattle.std.specs.Prelude.{◌≡◌, ◌<◌, true, OnOk, OnErr};
+ghost use Rattle.move_sink.specs.Taking.{TakesAll, TakesSome};
 ghost use Rattle.rules_model.specs.declared.moves.Move.TheVariants.{Go};
 ghost use Rattle.rules_model.specs.Fit.{IsFit};
 ghost use Rattle.rules_model.specs.Pieces as Pieces;
 ghost use Rattle.rules_model.specs.Repeats.{repeat_of};
-ghost use Rattle.rules_model.specs.Squares.{cell_at};
-ghost use Rattle.piece_moves.specs.Appended.{AppendsSome};
-ghost use Rattle.piece_moves.specs.Goals as Goals;
-ghost use Rattle.piece_moves.specs.Parts.{IsTo, IsToBelow, PieceMoves, FitPieceMoves, IsChosen};
+ghost use Rattle.piece_moves.specs.Movers.{IsMoveOf, IsMoveTo, IsOwnMover};
+ghost use Rattle.piece_moves.specs.Parts.{FitPieceMoves, IsChosen, IsMoveFrom};
+ghost use Rattle.piece_moves.specs.Targets.{AreMenOf};
 
-use crate::goal::lands;
 use crate::piece::own_piece;
 use crate::promotion::{becomes, may_plus, means_castling};
-use attack_tables::{Mode, Tables};
-use foundation::Memory;
-use rules_model::{Cell, Move, MoveList, Position, Promo, Rules, Square};
+use crate::targets::{Men, men_of, targets};
+use attack_tables::Tables;
+use move_sink::MoveSink;
+use rules_model::{Cell, Kind, Move, Position, Promo, Rules, Square};
 
-/// Appends the move where it is wanted.
-fn push_if(wanted: bool, m: Move, out: &mut MoveList) -> Result<(), Memory>
-    ensures ok { OnOk result (Appends (IsChosen wanted m) out.old out.new) }
-    ensures err { OnErr result (out.new ≡ out.old) }
+/// An own piece that is not the pawn, the square on which it stands, and what its move places there.
+#[derive(Clone, Copy, Debug, PartialEq, Eq)]
+struct Mover {
+    piece: Cell,
+    from: Square,
+    gate: Option<Kind>,
+}
+
+impl Mover {
+    fn go(self, to: Square, promo: Promo) -> Move
+        ensures { result ≡ Go self.from to promo self.gate }
+    {
+        Move::Go {
+            from: self.from,
+            to,
+            promo,
+            gate: self.gate,
+        }
+    }
+}
+
+/// Gives the move where it is wanted.
+fn push_if<S: MoveSink>(wanted: bool, m: Move, out: &mut S) -> Result<(), S::Full>
+    ensures ok { OnOk result (TakesAll S.takes (IsChosen wanted m) out.old out.new) }
+    ensures err { OnErr result (TakesSome S.stops (IsChosen wanted m) out.old out.new) }
 {
     if wanted {
-        out.items.push(m)?;
+        out.take(m)?;
     }
     Ok(())
 }
 
-/// The move without a gate.
-pub(crate) fn go(from: Square, to: Square, promo: Promo) -> Move
-    ensures { result ≡ Go from to promo None }
-{
-    Move::Go {
-        from,
-        to,
-        promo,
-        gate: None,
-    }
-}
-
-/// Appends the moves of the own piece from the one square to the other, to which it goes.
-fn push_to(
+/// Gives the moves of the own piece to a square to which it goes.
+fn push_to<S: MoveSink>(
     rules: &Rules,
     p: &Position,
-    piece: Cell,
-    from: Square,
+    mover: Mover,
     to: Square,
-    out: &mut MoveList,
-) -> Result<(), Memory>
+    out: &mut S,
+) -> Result<(), S::Full>
     requires fit { IsFit rules.now }
-    requires own { Goals.own_piece rules.now p.now.side (cell_at p.now.cells from.0) ≡ Some piece }
-    requires goes { Pieces.piece_goes rules.now p.now.cells p.now.side piece.kind from to.0 ≡ true }
-    ensures ok { OnOk result (Appends (PieceMoves rules.now (repeat_of p.now) (IsTo from.0 to.0)) out.old out.new) }
-    ensures err { OnErr result (AppendsSome (PieceMoves rules.now (repeat_of p.now) (IsTo from.0 to.0)) out.old out.new) }
+    requires own { IsOwnMover rules.now p.now mover }
+    requires goes { Pieces.piece_goes rules.now p.now.cells p.now.side mover.piece.kind mover.from to.0 ≡ true }
+    requires to { to.0 < 120 }
+    ensures ok { OnOk result (TakesAll S.takes (IsMoveTo rules.now p.now mover to.0) out.old out.new) }
+    ensures err { OnErr result (TakesSome S.stops (IsMoveTo rules.now p.now mover to.0) out.old out.new) }
 {
-    if means_castling(rules, p, piece.kind, from, to) {
+    let kind = mover.piece.kind;
+    if means_castling(rules, p, kind, mover.from, to) {
         return Ok(());
     }
-    let may = may_plus(rules, p.side, piece.kind, from, to);
+    let may = may_plus(rules, p.side, kind, mover.from, to);
     push_if(
         becomes(rules, may, Promo::Stays),
-        go(from, to, Promo::Stays),
+        mover.go(to, Promo::Stays),
         out,
     )?;
     push_if(
         becomes(rules, may, Promo::Plus),
-        go(from, to, Promo::Plus),
+        mover.go(to, Promo::Plus),
         out,
     )
 }
 
-/// Appends the moves of the own piece on the square.
-fn push_piece(
+/// Gives the moves of the own piece.
+fn push_piece<S: MoveSink>(
     rules: &Rules,
     tables: &Tables,
     p: &Position,
-    piece: Cell,
-    from: Square,
-    out: &mut MoveList,
-) -> Result<(), Memory>
+    men: Men,
+    mover: Mover,
+    out: &mut S,
+) -> Result<(), S::Full>
     requires fit { IsFit rules.now }
     requires tables { tables.now ≡ rules.now }
-    requires own { Goals.own_piece rules.now p.now.side (cell_at p.now.cells from.0) ≡ Some piece }
-    ensures ok { OnOk result (Appends (PieceMoves rules.now (repeat_of p.now) (IsToBelow from.0 120)) out.old out.new) }
-    ensures err { OnErr result (AppendsSome (PieceMoves rules.now (repeat_of p.now) (IsToBelow from.0 120)) out.old out.new) }
+    requires men { AreMenOf p.now.side p.now.cells men }
+    requires from { mover.from.0 < 120 }
+    requires own { IsOwnMover rules.now p.now mover }
+    ensures ok { OnOk result (TakesAll S.takes (IsMoveOf rules.now p.now mover) out.old out.new) }
+    ensures err { OnErr result (TakesSome S.stops (IsMoveOf rules.now p.now mover) out.old out.new) }
 {
-    let quiet = tables.reaches(p, from, Mode::Quiet);
-    let takes = tables.reaches(p, from, Mode::Take);
-    for to in 0..120 {
-        if lands(p, quiet, takes, to) {
-            push_to(rules, p, piece, from, Square(to), out)?;
-        }
+    let mut left = targets(tables, p, men, mover.piece, mover.from);
+    while let Some(to) = left.take_first() {
+        push_to(rules, p, mover, Square(to), out)?;
     }
     Ok(())
 }
 
-/// Appends the moves from the square.
-fn push_from(
+/// Gives the moves from the square, on a board with these pieces.
+fn push_square<S: MoveSink>(
+    rules: &Rules,
+    tables: &Tables,
+    p: &Position,
+    men: Men,
+    from: Square,
+    gate: Option<Kind>,
+    out: &mut S,
+) -> Result<(), S::Full>
+    requires fit { IsFit rules.now }
+    requires tables { tables.now ≡ rules.now }
+    requires men { AreMenOf p.now.side p.now.cells men }
+    requires from { from.0 < 120 }
+    ensures ok { OnOk result (TakesAll S.takes (IsMoveFrom rules.now (repeat_of p.now) from gate) out.old out.new) }
+    ensures err { OnErr result (TakesSome S.stops (IsMoveFrom rules.now (repeat_of p.now) from gate) out.old out.new) }
+{
+    match own_piece(rules, p, from) {
+        None => Ok(()),
+        Some(piece) => push_piece(rules, tables, p, men, Mover { piece, from, gate }, out),
+    }
+}
+
+/// Gives the ordinary moves of the piece on the square, each once and in no special order, where it is an own one and
+/// not the pawn: each move places `gate` on the square, whether the piece may gate or not. Where the sink is full, it
+/// was given some of them, each at most once.
+pub fn push_from<S: MoveSink>(
     rules: &Rules,
     tables: &Tables,
     p: &Position,
     from: Square,
-    out: &mut MoveList,
-) -> Result<(), Memory>
+    gate: Option<Kind>,
+    out: &mut S,
+) -> Result<(), S::Full>
     requires fit { IsFit rules.now }
     requires tables { tables.now ≡ rules.now }
-    ensures ok { OnOk result (Appends (PieceMoves rules.now (repeat_of p.now) (IsToBelow from.0 120)) out.old out.new) }
-    ensures err { OnErr result (AppendsSome (PieceMoves rules.now (repeat_of p.now) (IsToBelow from.0 120)) out.old out.new) }
+    requires from { from.0 < 120 }
+    ensures ok { OnOk result (TakesAll S.takes (IsMoveFrom rules.now (repeat_of p.now) from gate) out.old out.new) }
+    ensures err { OnErr result (TakesSome S.stops (IsMoveFrom rules.now (repeat_of p.now) from gate) out.old out.new) }
 {
-    match own_piece(rules, p, from) {
-        None => Ok(()),
-        Some(piece) => push_piece(rules, tables, p, piece, from, out),
-    }
+    push_square(rules, tables, p, men_of(p), from, gate, out)
 }
 
-/// Appends the ordinary moves of the own pieces that are not the pawn, without a gate, each once and in no special order: those
-/// for which `is_candidate` answers yes. After `Memory` some of them were appended, each at most once.
-pub fn push_moves(
+/// Gives the ordinary moves of the own pieces that are not the pawn, without a gate, each once and in no special order:
+/// those for which `is_candidate` answers yes. Where the sink is full, it was given some of them, each at most once.
+pub fn push_moves<S: MoveSink>(
     rules: &Rules,
     tables: &Tables,
     p: &Position,
-    out: &mut MoveList,
-) -> Result<(), Memory>
+    out: &mut S,
+) -> Result<(), S::Full>
     requires fit { IsFit rules.now }
     requires tables { tables.now ≡ rules.now }
-    ensures ok { OnOk result (Appends (FitPieceMoves rules.now (repeat_of p.now)) out.old out.new) }
-    ensures err { OnErr result (AppendsSome (FitPieceMoves rules.now (repeat_of p.now)) out.old out.new) }
+    ensures ok { OnOk result (TakesAll S.takes (FitPieceMoves rules.now (repeat_of p.now)) out.old out.new) }
+    ensures err { OnErr result (TakesSome S.stops (FitPieceMoves rules.now (repeat_of p.now)) out.old out.new) }
 {
-    for from in 0..120 {
-        push_from(rules, tables, p, Square(from), out)?;
+    let men = men_of(p);
+    let mut left = men.own;
+    while let Some(from) = left.take_first() {
+        push_square(rules, tables, p, men, Square(from), None, out)?;
     }
     Ok(())
 }

@@ -6,9 +6,9 @@ pub mod generate;
 mod goal;
 mod piece;
 mod promotion;
+mod targets;
 #[cfg(test)]
 mod tests;
 
 pub use candidate::is_candidate;
-pub use generate::push_moves;
-pub use goal::lands;
+pub use generate::{push_from, push_moves};

@@ -1,13 +1,21 @@
 ghost use Rattle.rules_model.specs.Fit.{IsFit};
 
 use super::*;
-use crate::generate::go;
 use attack_tables::Tables;
 use foundation::Memory;
-use rules_model::{MoveList, Promo, Rules};
+use rules_model::{Kind, Move, MoveList, Promo, Rules};
 use sample_rules::{chess, position, square, xiangqi};
 use std::alloc::Global;
 use std::process::Abort;
+
+fn go(from: &str, to: &str, promo: Promo) -> Move {
+    Move::Go {
+        from: square(from),
+        to: square(to),
+        promo,
+        gate: None,
+    }
+}
 
 /// The moves of the pieces are those between these squares, each once, and no others.
 fn expect_moves(
@@ -26,7 +34,7 @@ fn expect_moves(
     };
     push_moves(rules, &tables, &p, &mut found)?;
     for (from, to) in moves {
-        let m = go(square(from), square(to), Promo::Stays);
+        let m = go(from, to, Promo::Stays);
         assert!(rt; found.items.contains(&m), "{m:?}");
         assert!(rt; is_candidate(rules, &tables, &p, &m), "{m:?}");
     }
@@ -99,13 +107,39 @@ fn each_move_of_xiangqi_once(rt: HostRuntime) -> Result<(), Memory> {
     expect_moves(&rt, alloc, &rules, "Pe6 Ke1 kd10", &soldier)
 }
 
+// An own piece's moves alone, each with what it places; an enemy and an empty square have none.
+#[test]
+fn moves_of_one_square_place_the_gate(rt: HostRuntime) -> Result<(), Memory> {
+    let rules = chess();
+    let tables = Tables::new(rt.alloc(), &rules)?;
+    let p = position("Ka1 Nb1 Ra2 Pb2 na6 ka8");
+    let hawk = Some(Kind(7));
+    let mut found = MoveList {
+        items: Vec::new(rt.alloc()),
+    };
+    for from in ["b1", "b2", "a6", "h4"] {
+        push_from(&rules, &tables, &p, square(from), hawk, &mut found)?;
+    }
+    for to in ["a3", "c3", "d2"] {
+        let m = Move::Go {
+            from: square("b1"),
+            to: square(to),
+            promo: Promo::Stays,
+            gate: hawk,
+        };
+        assert!(rt; found.items.contains(&m), "{to}");
+    }
+    assert_eq!(rt; found.items.len(), 3);
+    Ok(())
+}
+
 #[test]
 fn near_misses(rt: HostRuntime) -> Result<(), Memory> {
     let rules = xiangqi();
     let tables = Tables::new(rt.alloc(), &rules)?;
     let p = position("Ca1 Pa4 na7 Ke1 kd10");
-    // no own piece, an own piece on the target, a hop without taking, a take without hopping, sideways before the river,
-    // out of the palace
+    // no own piece, an own piece on the target, a hop without taking, a take without hopping, sideways before the
+    // river, out of the palace
     let rows = [
         ("b2", "b3"),
         ("a7", "b5"),
@@ -116,11 +150,11 @@ fn near_misses(rt: HostRuntime) -> Result<(), Memory> {
         ("e1", "e3"),
     ];
     for (from, to) in rows {
-        let m = go(square(from), square(to), Promo::Stays);
+        let m = go(from, to, Promo::Stays);
         assert!(rt; !is_candidate(&rules, &tables, &p, &m), "{m:?}");
     }
     // no piece of xiangqi is promoted
-    let promoted = go(square("a1"), square("a2"), Promo::Plus);
+    let promoted = go("a1", "a2", Promo::Plus);
     assert!(rt; !is_candidate(&rules, &tables, &p, &promoted));
     Ok(())
 }

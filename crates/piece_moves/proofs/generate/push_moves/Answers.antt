@@ -1,16 +1,32 @@
-use Rattle.std.proofs.Common.{arith}
-use Rattle.piece_moves.proofs.AppendedLemmas.{on_err}
-use Rattle.piece_moves.proofs.PartLemmas.{below-last, below-more, below-none, below-some, fit-all, fit-some}
+use Rattle.std.proofs.Common.{◌==◌, not, sym, ◌∙◌}
+use Rattle.std.proofs.lemmas.Bool.{and_parts}
+use Rattle.foundation.proofs.AppendedLemmas.{on_err}
+use Rattle.square_set.specs.Members.{has}
+use Rattle.move_sink.specs.InTurn.{start_of}
+use Rattle.move_sink.proofs.TurnLemmas.{turn-all, turn-more, turn-none, turn-some}
+use Rattle.piece_moves.proofs.PartLemmas.{fit-at, fit-some, from_man}
 use Rattle.piece_moves.proofs.generate.push_moves.Goals as goal
 
 pub loop-from-init : goal.loop-from-init
-loop-from-init c = below-none _ _ _
+loop-from-init g c = record {
+  small = c.men_of-men.ensures.small;
+  taken = turn-none g.met.S.MoveSink.law _ start_of _ _ (from_man _ _ _ c.men_of-men.ensures.are.own);
+}
 
 pub loop-from-preserved : goal.loop-from-preserved
-loop-from-preserved c = below-more _ _ _ _ _ _ c.loop-from.invariant c.in_ok-push_from.ensures.ok
+loop-from-preserved g c =
+    let small = c.loop-from.invariant.small c.in-Some.from c.in-Some.ensures.some.member in
+    record {
+      small = λ s e. c.loop-from.invariant.small s (and_parts (has c.loop-from.left s) (not (s == c.in-Some.from)) (sym (c.in-Some.ensures.rest s) ∙ e)).0;
+      taken = turn-more g.met.S.MoveSink.law _ start_of _ _ _ _ _ _ c.in-Some.ensures.some.member c.in-Some.ensures.rest c.loop-from.invariant.taken
+          (fit-at _ _ (record { 0 = c.in-Some.from }) small g.S.MoveSink.takes _ _ c.in_ok-push_square.ensures.ok);
+    }
 
-pub returns-in_err-push_from-clause-err : goal.returns-in_err-push_from-clause-err
-returns-in_err-push_from-clause-err c = on_err _ (fit-some _ _ _ _ (below-some _ _ _ 120 _ _ _ c.loop-from-test.true c.loop-from.invariant c.in_err-push_from.ensures.err))
+pub returns-in_err-push_square-clause-err : goal.returns-in_err-push_square-clause-err
+returns-in_err-push_square-clause-err g c =
+    let small = c.loop-from.invariant.small c.in-Some.from c.in-Some.ensures.some.member in
+    on_err _ (turn-some g.met.S.MoveSink.law _ start_of _ _ _ _ _ c.in-Some.ensures.some.member c.loop-from.invariant.taken
+    (fit-some _ _ (record { 0 = c.in-Some.from }) small g.S.MoveSink.stops _ _ c.in_err-push_square.ensures.err))
 
 pub returns-clause-ok : goal.returns-clause-ok
-returns-clause-ok c = fit-all _ _ _ _ (below-last _ _ _ _ _ _ (omega arith) c.loop-from.invariant)
+returns-clause-ok g c = turn-all g.S.MoveSink.takes _ start_of _ _ _ c.in_default.ensures.none c.loop-from.invariant.taken

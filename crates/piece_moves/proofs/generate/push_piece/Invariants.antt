@@ -1,7 +1,17 @@
-use Rattle.foundation.specs.Member.{Appends}
+use Rattle.std.proofs.Common.{◌≡◌, ℕ, true}
+use Rattle.rules_model.specs.Pieces.{piece_goes}
 use Rattle.rules_model.specs.Repeats.{repeat_of}
-use Rattle.piece_moves.specs.Parts.{IsToBelow, PieceMoves}
+use Rattle.square_set.specs.Members.{has, size}
+use Rattle.move_sink.specs.InTurn.{Outside, target_of}
+use Rattle.move_sink.specs.Taking.{TakesAll}
+use Rattle.piece_moves.specs.Parts.{IsMoveFrom}
 use Rattle.piece_moves.proofs.generate.push_piece.Given as goal
 
 abbrev pub invariant-loop-to : goal.invariant-loop-to
-invariant-loop-to l = Appends (PieceMoves l.rules (repeat_of l.p) (IsToBelow l.from.0 l.to)) l.initial.out l.out
+invariant-loop-to g l = record {
+  goes : (s : ℕ) → has l.left s ≡ true → piece_goes l.rules l.p.cells l.p.side l.mover.piece.kind l.mover.from s ≡ true;
+  taken : TakesAll g.S.MoveSink.takes (Outside (IsMoveFrom l.rules (repeat_of l.p) l.mover.from l.mover.gate) target_of l.left) l.initial.out l.out;
+}
+
+abbrev pub decreases-loop-to : goal.decreases-loop-to
+decreases-loop-to g l = size l.left

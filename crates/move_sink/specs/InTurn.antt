@@ -1,0 +1,26 @@
+-- Moves that are given square by square, over the squares of a set.
+use Rattle.std.specs.Prelude.{◌≡◌, ℕ, false}
+use Rattle.rules_model.specs.declared.moves.Move.{Move}
+use Rattle.rules_model.specs.declared.moves.Move.TheVariants.{Go, Castle, Drop}
+use Rattle.square_set.specs.declared.Set.{Set}
+use Rattle.square_set.specs.Members.{has}
+
+-- where the move's piece comes from: a drop's from its square
+abbrev pub start_of : Move → ℕ
+start_of (Go from to promo gate) = from.0
+start_of (Castle from to rook gate) = from.0
+start_of (Drop kind to) = to.0
+
+-- where it goes
+abbrev pub target_of : Move → ℕ
+target_of (Go from to promo gate) = to.0
+target_of (Castle from to rook gate) = to.0
+target_of (Drop kind to) = to.0
+
+-- those of the one square
+abbrev pub At : (Move → Type 0) → (Move → ℕ) → ℕ → Move → Type 0
+At P square s m = P m × (square m ≡ s)
+
+-- those of the squares that are not left
+abbrev pub Outside : (Move → Type 0) → (Move → ℕ) → Set → Move → Type 0
+Outside P square left m = P m × (has left (square m) ≡ false)

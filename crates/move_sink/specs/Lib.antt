@@ -1,0 +1,3 @@
+pub mod InTurn
+pub mod Listed
+pub mod Taking

@@ -1,0 +1,171 @@
+ghost use Rattle.rules_model.specs.Fit.{IsFit};
+
+use super::*;
+use crate::generate::go;
+use crate::pawn::{becomes, promotes};
+use foundation::Memory;
+use rules_model::{Move, MoveList, Position, Promo, Rules, Side};
+use sample_rules::{capablanca, chess, kind, leapers, position, shouse, square, xiangqi};
+use std::alloc::Global;
+use std::process::Abort;
+
+/// The pieces of the text, with the side to move and an en passant square, or none where its text is empty.
+fn position_of(pieces: &str, side: Side, ep: &str) -> Position {
+    let ep = if ep.is_empty() {
+        None
+    } else {
+        Some(square(ep))
+    };
+    Position {
+        side,
+        ep,
+        ..position(pieces)
+    }
+}
+
+/// What a pawn becomes: a piece of the letter, or nothing else where it is a dash.
+fn promo_of(letter: u8) -> Promo {
+    if letter == b'-' {
+        Promo::Stays
+    } else {
+        Promo::Pawn(kind(letter))
+    }
+}
+
+/// The pawns' moves are those from the one square to the others with each of the letters, each once, and no others.
+fn expect_moves(
+    rt: &impl Abort,
+    alloc: Global,
+    rules: &Rules,
+    p: &Position,
+    from: &str,
+    targets: &str,
+    letters: &str,
+) -> Result<(), Memory>
+    requires fit { IsFit rules.now }
+{
+    let mut found = MoveList {
+        items: Vec::new(alloc),
+    };
+    push_moves(rules, p, &mut found)?;
+    let mut wanted: usize = 0;
+    for to in targets.split(' ') {
+        for letter in letters.as_bytes() {
+            let m = go(square(from), square(to), promo_of(*letter));
+            assert!(rt; found.items.contains(&m), "{m:?}");
+            assert!(rt; is_candidate(rules, p, &m), "{m:?}");
+            wanted = wanted.saturating_add(1);
+        }
+    }
+    assert_eq!(rt; found.items.len(), wanted, "{from}");
+    Ok(())
+}
+
+#[test]
+fn each_move_of_chess_once(rt: HostRuntime) -> Result<(), Memory> {
+    let rules = chess();
+    let rows = [
+        ("Pe2 nd3", Side::White, "", "e2", "e3 e4 d3", "-"),
+        ("Pe2 Nd3", Side::White, "", "e2", "e3 e4", "-"),
+        // over no piece, and onto none straight forward
+        ("Pe2 ne4", Side::White, "", "e2", "e3", "-"),
+        ("Pe2 ne3", Side::White, "", "e2", "", ""),
+        // one step from another rank, to the edge of the board and no further
+        ("Pe3", Side::White, "", "e3", "e4", "-"),
+        ("Ph4 ni5", Side::White, "", "h4", "h5", "-"),
+        ("Pe8 nd9", Side::White, "", "e8", "", ""),
+        // en passant, also where an enemy is on the square
+        ("Pe5 pd5", Side::White, "d6", "e5", "e6 d6", "-"),
+        ("Pe5 nd6", Side::White, "d6", "e5", "e6 d6", "-"),
+        ("Pa5 pd5", Side::White, "d6", "a5", "a6", "-"),
+        // promotions, which a pawn may not decline
+        ("Pe7 nd8", Side::White, "", "e7", "e8 d8", "nbrq"),
+        // Black's pawns go down the board
+        ("pe7 Nf6", Side::Black, "", "e7", "e6 e5 f6", "-"),
+        ("pe6 Nf7", Side::Black, "", "e6", "e5", "-"),
+        ("pd4 Pe4", Side::Black, "e3", "d4", "d3 e3", "-"),
+        ("pa2 Nb1", Side::Black, "", "a2", "a1 b1", "nbrq"),
+    ];
+    for (pieces, side, ep, from, targets, letters) in rows {
+        let p = position_of(pieces, side, ep);
+        expect_moves(&rt, rt.alloc(), &rules, &p, from, targets, letters)?;
+    }
+    Ok(())
+}
+
+#[test]
+fn moves_in_other_variants(rt: HostRuntime) -> Result<(), Memory> {
+    let alloc = rt.alloc();
+    let rules = capablanca();
+    let p = position("Pj2 ni3");
+    expect_moves(&rt, alloc, &rules, &p, "j2", "j3 j4 i3", "-")?;
+    let p = position_of("pj2", Side::Black, "");
+    expect_moves(&rt, alloc, &rules, &p, "j2", "j1", "acnbrq")?;
+    let p = position("Pd7");
+    expect_moves(&rt, alloc, &shouse(), &p, "d7", "d8", "ehnbrq")?;
+    // variants without the chess pawn: the soldier is not one
+    let p = position("Pa4");
+    expect_moves(&rt, alloc, &xiangqi(), &p, "a4", "", "")?;
+    expect_moves(&rt, alloc, &leapers(), &p, "a4", "", "")
+}
+
+#[test]
+fn near_misses(rt: HostRuntime) {
+    let rules = chess();
+    let p = position_of("Pe2 Pb7 Pg5 pc3 nd3", Side::White, "h6");
+    let (stays, knight) = (Promo::Stays, promo_of(b'n'));
+    let rows = [
+        // an empty diagonal, a third step, backward, sideways, another's pawn, no pawn
+        go(square("e2"), square("f3"), stays),
+        go(square("e2"), square("e5"), stays),
+        go(square("e2"), square("e1"), stays),
+        go(square("e2"), square("d2"), stays),
+        go(square("c3"), square("c2"), stays),
+        go(square("a1"), square("a2"), stays),
+        // a promotion that is missing, before its rank, to the pawn, the king or a promoted piece, and by en passant
+        go(square("b7"), square("b8"), stays),
+        go(square("e2"), square("e3"), knight),
+        go(square("b7"), square("b8"), promo_of(b'p')),
+        go(square("b7"), square("b8"), promo_of(b'k')),
+        go(square("b7"), square("b8"), Promo::Plus),
+        go(square("g5"), square("h6"), knight),
+        Move::Go {
+            from: square("e2"),
+            to: square("e3"),
+            promo: stays,
+            gate: Some(kind(b'n')),
+        },
+        Move::Castle {
+            from: square("e1"),
+            to: square("g1"),
+            rook: square("h1"),
+            gate: None,
+        },
+        Move::Drop {
+            kind: kind(b'p'),
+            to: square("e4"),
+        },
+    ];
+    for m in rows {
+        assert!(rt; !is_candidate(&rules, &p, &m), "{m:?}");
+    }
+}
+
+#[test]
+fn promotions_by_the_rules(rt: HostRuntime) {
+    let mut rules = chess();
+    let (stays, knight) = (Promo::Stays, promo_of(b'n'));
+    assert!(rt; promotes(&rules, Side::White, true, square("e8")));
+    assert!(rt; !promotes(&rules, Side::White, true, square("e7")));
+    assert!(rt; !promotes(&rules, Side::Black, true, square("e8")));
+    assert!(rt; !becomes(&rules, true, true, false, stays));
+    assert!(rt; becomes(&rules, true, true, false, knight));
+    // a pawn that passes another stays one, whatever it may become by going there
+    assert!(rt; becomes(&rules, true, true, true, stays));
+    rules.must_promote_pawn = false;
+    assert!(rt; becomes(&rules, true, true, false, stays));
+    assert!(rt; becomes(&rules, true, true, false, knight));
+    rules.promotion_kinds = [false; 26];
+    assert!(rt; !promotes(&rules, Side::White, true, square("e8")));
+    assert!(rt; !becomes(&rules, true, true, false, knight));
+}

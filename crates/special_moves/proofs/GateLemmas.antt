@@ -1,0 +1,63 @@
+-- The parts of the moves with a gate.
+use Rattle.std.proofs.Common.{◌≡◌, ℕ, ◌+◌, ◌*◌, ◌%◌, ◌<◌, Bool, true, false, ◌&&◌, Option, Some, None, ap, sym, ◌∙◌, subst, arith}
+use Rattle.std.proofs.lemmas.Bool.{and_parts}
+use Rattle.rules_model.specs.declared.board.Kind.{Kind}
+use Rattle.rules_model.specs.declared.board.Repeat.{Repeat}
+use Rattle.rules_model.specs.declared.board.Square.{Square}
+use Rattle.rules_model.specs.declared.moves.Move.{Move}
+use Rattle.rules_model.specs.declared.moves.Move.TheVariants.{Go, Castle, Drop}
+use Rattle.rules_model.specs.declared.rules.Rules.{Rules}
+use Rattle.rules_model.specs.Gates.{has_gate}
+use Rattle.rules_model.specs.Gating.{gates_from}
+use Rattle.rules_model.specs.Hands.{holds}
+use Rattle.rules_model.specs.Regions.{first_rank, on_first_rank}
+use Rattle.rules_model.specs.Squares.{square_on}
+use Rattle.rules_model.proofs.CandidateLaws.{not_both}
+use Rattle.rules_model.proofs.SquareLaws.{file_of_at}
+use Rattle.special_moves.specs.Parts.{IsGateWith, IsGateFrom, kind_at}
+use Rattle.special_moves.proofs.SquareLemmas.{same_file}
+use Rattle.special_moves.proofs.BelowLemmas.{AreApart}
+
+from_of : Move → ℕ
+from_of (Go from to promo gate) = from.0
+from_of (Castle from to rook gate) = from.0
+from_of (Drop kind to) = 0
+
+number_of : Option Kind → ℕ
+number_of None = 0
+number_of (Some kind) = kind.0
+
+same_number : (i j : ℕ) (g : Option Kind) → g ≡ Some (kind_at i) → g ≡ Some (kind_at j) → i ≡ j
+unfolding number_of
+same_number i j g e f = ap number_of (sym e ∙ f)
+
+pub kinds-apart : (rules : Rules) (r : Repeat) (from : Square) → AreApart (IsGateWith rules r from)
+kinds-apart rules r from i j (Go f to promo g) h k = same_number i j g h.1.1 k.1.1
+kinds-apart rules r from i j (Castle f to rook g) h k = absurd h.1
+kinds-apart rules r from i j (Drop kind to) h k = absurd h.1
+
+pub files-apart : (rules : Rules) (r : Repeat) → AreApart (IsGateFrom rules r)
+files-apart rules r i j (Go f to promo g) h k = same_file (first_rank rules r.side) i j (ap (λ (s : Square). s.0) (sym h.is.1.0 ∙ k.is.1.0))
+files-apart rules r i j (Castle f to rook g) h k = absurd h.is.1
+files-apart rules r i j (Drop kind to) h k = absurd h.is.1
+
+-- a move without the gate's right places nothing
+pub none-with : (rules : Rules) (r : Repeat) (from : Square) (k : ℕ) → gates_from rules r from (kind_at k) ≡ false → (m : Move) → IsGateWith rules r from k m → ⊥
+none-with rules r from k none m h = not_both _ h.0 none
+
+gate_held : (rules : Rules) (r : Repeat) (from : Square) (kind : Kind) → gates_from rules r from kind ≡ true → (rules.gate_hand ≡ true) × (has_gate r.gates r.side (from.0 % 12) ≡ true)
+gate_held rules r from kind e =
+    let a = and_parts _ (holds r.hands r.side kind) e in
+    let b = and_parts (rules.gate_hand && on_first_rank rules r.side from.0) (has_gate r.gates r.side (from.0 % 12)) a.0 in
+    ((and_parts rules.gate_hand (on_first_rank rules r.side from.0) b.0).0, b.1)
+
+both : (a b : Bool) → a ≡ true → b ≡ true → (a && b) ≡ true
+both true b e f = f
+both false b e f = e
+
+pub none-from : (rules : Rules) (r : Repeat) (file : ℕ) → file < 12 → (rules.gate_hand && has_gate r.gates r.side file) ≡ false → (m : Move) → IsGateFrom rules r file m → ⊥
+none-from rules r file l none m h =
+    let from = square_on file (first_rank rules r.side) in
+    let e = gate_held rules r from (kind_at h.number) h.is.0 in
+    let g = subst (λ f. has_gate r.gates r.side f ≡ true) (file_of_at file (first_rank rules r.side) l) e.1 in
+    not_both _ (both _ _ e.0 g) none

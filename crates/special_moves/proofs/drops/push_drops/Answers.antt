@@ -1,0 +1,23 @@
+use Rattle.std.proofs.Common.{arith, sym, ◌∙◌}
+use Rattle.foundation.proofs.AppendedLemmas.{on_err}
+use Rattle.special_moves.proofs.BelowLemmas.{below-last, below-more, below-none, below-skip, below-some}
+use Rattle.special_moves.proofs.DropLemmas.{kinds-apart, none-held}
+use Rattle.special_moves.proofs.drops.push_drops.Goals as goal
+use Rattle.special_moves.proofs.drops.push_drops.Goals.{then-has_drops+in_ok-push_kind, else-has_drops}
+
+pub loop-k-init : goal.loop-k-init
+loop-k-init g c = below-none g.met.S.MoveSink.law _ _
+
+pub loop-k-preserved : goal.loop-k-preserved
+loop-k-preserved g c =
+    elim c.if-has_drops.branch [
+      | then-has_drops+in_ok-push_kind w ↦ rw w.out-is (below-more g.met.S.MoveSink.law _ (kinds-apart _ _) _ _ _ _ c.loop-k.invariant w.in_ok-push_kind.ensures.ok)
+      | else-has_drops w ↦ rw w.out-is (below-skip _ _ _ _ _ c.loop-k.invariant (none-held _ _ _ (sym c.has_drops.ensures ∙ w.if-has_drops.false)))
+    ]
+
+pub returns-in_err-push_kind-clause-err : goal.returns-in_err-push_kind-clause-err
+returns-in_err-push_kind-clause-err g c =
+    on_err _ (below-some g.met.S.MoveSink.law _ (kinds-apart _ _) _ 26 _ _ _ c.loop-k-test.true c.loop-k.invariant c.in_err-push_kind.ensures.err)
+
+pub returns-clause-ok : goal.returns-clause-ok
+returns-clause-ok g c = below-last _ _ _ _ _ _ (omega arith) c.loop-k.invariant

@@ -1,0 +1,32 @@
+use Rattle.std.proofs.Common.{arith, sym, ◌∙◌}
+use Rattle.foundation.proofs.AppendedLemmas.{on_err}
+use Rattle.rules_model.specs.Repeats.{repeat_of}
+use Rattle.special_moves.proofs.BelowLemmas.{below-last, below-more, below-none, below-skip, below-some}
+use Rattle.special_moves.proofs.GateLemmas.{files-apart, none-from}
+use Rattle.special_moves.proofs.gates.push_gates.Goals as goal
+use Rattle.special_moves.proofs.gates.push_gates.Goals.{then-is_gate+in_ok-push_gates_from, else-is_gate}
+
+pub loop-file-init : goal.loop-file-init
+loop-file-init g c = below-none g.met.S.MoveSink.law _ _
+
+pub loop-file-preserved : goal.loop-file-preserved
+loop-file-preserved g c =
+    elim c.if-is_gate.branch [
+      | then-is_gate+in_ok-push_gates_from w ↦
+          rw w.out-is
+          (below-more g.met.S.MoveSink.law _ (files-apart c.args.rules.now (repeat_of c.args.p.now)) _ _ _ _ c.loop-file.invariant
+          (rw (w.at.ensures.is, c.first_rank-rank.ensures.is) at w.in_ok-push_gates_from.ensures.ok))
+      | else-is_gate w ↦
+          rw w.out-is
+          (below-skip _ _ _ _ _ c.loop-file.invariant
+          (none-from c.args.rules.now (repeat_of c.args.p.now) c.loop-file.file c.loop-file-test.true (sym c.is_gate.ensures ∙ w.if-is_gate.false)))
+    ]
+
+pub returns-in_err-push_gates_from-clause-err : goal.returns-in_err-push_gates_from-clause-err
+returns-in_err-push_gates_from-clause-err g c =
+    on_err _
+    (below-some g.met.S.MoveSink.law _ (files-apart c.args.rules.now (repeat_of c.args.p.now)) _ 12 _ _ _ c.loop-file-test.true c.loop-file.invariant
+    (rw (c.at.ensures.is, c.first_rank-rank.ensures.is) at c.in_err-push_gates_from.ensures.err))
+
+pub returns-clause-ok : goal.returns-clause-ok
+returns-clause-ok g c = below-last _ _ _ _ _ _ (omega arith) c.loop-file.invariant

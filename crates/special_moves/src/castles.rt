@@ -1,0 +1,265 @@
+//! Castles, with a gate or without one.
+ghost use Rattle.std.specs.Prelude.{◌≡◌, ◌≢◌, ◌<◌, true, OnOk, OnErr, IfSome};
+ghost use Rattle.std.specs.Bool.{OnTrue};
+ghost use Rattle.move_sink.specs.Taking.{TakesAll, TakesSome};
+ghost use Rattle.rules_model.specs.Castling as Castling;
+ghost use Rattle.rules_model.specs.Castling.{IsFitCastle, castling_on};
+ghost use Rattle.rules_model.specs.Fit.{IsFit};
+ghost use Rattle.rules_model.specs.Gating as Gating;
+ghost use Rattle.rules_model.specs.Repeats.{repeat_of};
+ghost use Rattle.special_moves.specs.Castles as Castles;
+ghost use Rattle.special_moves.specs.Parts as Parts;
+ghost use Rattle.special_moves.specs.Parts.{IsCastle, IsCastleOf, IsCastleTo, IsGateOf, IsGateOn, IsGatedCastle};
+
+use crate::append::push_if;
+use crate::way::{holds_own_king, way_is_open};
+use attack_tables::Tables;
+use move_sink::MoveSink;
+use rules_model::castling::{CastleSquares, castle_of, castling_on, holds_right, rook_target};
+use rules_model::kinds::in_hand;
+use rules_model::{KINDS, Kind, Move, Placed, Position, Rules, Square, Wing};
+
+/// Whether the king is in place and the way is open.
+fn is_open(rules: &Rules, tables: &Tables, p: &Position, castle: &CastleSquares) -> bool
+    requires tables { tables.now ≡ rules.now }
+    requires castle { IsFitCastle castle.now }
+    ensures { result ≡ Castles.is_open rules.now (repeat_of p.now) castle.now }
+{
+    holds_own_king(rules, p, castle.king) && way_is_open(rules, tables, p, castle)
+}
+
+/// The side's castle to the wing, where the variant has castling, the side holds the right, and king, rook and way are as they
+/// must be.
+#[tactic(auto, unfolding(crate::specs::Castles::open_castle))]
+fn open_castle(rules: &Rules, tables: &Tables, p: &Position, wing: Wing) -> Option<CastleSquares>
+    requires fit { IsFit rules.now }
+    requires tables { tables.now ≡ rules.now }
+    ensures is { result ≡ Castles.open_castle rules.now (repeat_of p.now) wing }
+    ensures on_board { IfSome result IsFitCastle }
+{
+    if !(holds_right(&p.rights, p.side, wing) && castling_on(rules)) {
+        return None;
+    }
+    let castle = castle_of(rules, &p.cells, p.side, wing)?;
+    if is_open(rules, tables, p, &castle) {
+        Some(castle)
+    } else {
+        None
+    }
+}
+
+// ---- the test of one castle
+
+fn is_castle(castle: &CastleSquares, from: Square, to: Square, rook: Square) -> bool
+    ensures { result ≡ Castling.is_castle castle.now from to rook }
+{
+    from.0 == castle.king.0 && to.0 == castle.king_to.0 && rook.0 == castle.rook.0
+}
+
+/// Whether king and rook of these squares castle to the wing.
+fn castles_on(
+    rules: &Rules,
+    tables: &Tables,
+    p: &Position,
+    from: Square,
+    to: Square,
+    rook: Square,
+    wing: Wing,
+) -> bool
+    requires fit { IsFit rules.now }
+    requires tables { tables.now ≡ rules.now }
+    requires on { castling_on rules.now ≡ true }
+    ensures is { result ≡ Castling.castles_on rules.now (repeat_of p.now) from to rook wing }
+    ensures on_board { OnTrue result (to.0 < 120) }
+{
+    if !holds_right(&p.rights, p.side, wing) {
+        return false;
+    }
+    match castle_of(rules, &p.cells, p.side, wing) {
+        None => false,
+        Some(castle) => { is_castle(&castle, from, to, rook) && is_open(rules, tables, p, &castle) }
+    }
+}
+
+/// Whether king and rook of these squares castle.
+#[tactic(auto, unfolding(rules_model::specs::Castling::castles))]
+pub(crate) fn castles(
+    rules: &Rules,
+    tables: &Tables,
+    p: &Position,
+    from: Square,
+    to: Square,
+    rook: Square,
+) -> bool
+    requires fit { IsFit rules.now }
+    requires tables { tables.now ≡ rules.now }
+    ensures is { result ≡ Castling.castles rules.now (repeat_of p.now) from to rook }
+    ensures on_board { OnTrue result (to.0 < 120) }
+{
+    castling_on(rules)
+        && (castles_on(rules, tables, p, from, to, rook, Wing::Kingside)
+            || castles_on(rules, tables, p, from, to, rook, Wing::Queenside))
+}
+
+// ---- gates
+
+/// Whether a castle may place a piece of the kind, by the rules and the hand alone.
+fn has_placed(rules: &Rules, p: &Position, kind: Kind) -> bool
+    ensures { result ≡ Parts.has_placed rules.now (repeat_of p.now) kind }
+{
+    rules.gate_hand && in_hand(&p.hands, p.side, kind) > 0
+}
+
+/// Whether the castle of these squares may place so: nothing, or a hand piece on the king's or the rook's start, where that is empty
+/// after the castle.
+pub(crate) fn castle_gates(
+    rules: &Rules,
+    p: &Position,
+    from: Square,
+    to: Square,
+    rook: Square,
+    gate: Option<Placed>,
+) -> bool
+    requires { to.0 < 120 }
+    ensures { result ≡ Gating.castle_gates rules.now (repeat_of p.now) from to rook gate }
+{
+    match gate {
+        None => true,
+        Some(Placed { kind, at }) => {
+            has_placed(rules, p, kind)
+                && (at.0 == from.0 || at.0 == rook.0)
+                && at.0 != to.0
+                && at.0 != rook_target(from, to, rook)
+        }
+    }
+}
+
+fn castle_move(castle: &CastleSquares, gate: Option<Placed>) -> Move
+    ensures { result ≡ Parts.castle_move castle.now gate }
+{
+    Move::Castle {
+        from: castle.king,
+        to: castle.king_to,
+        rook: castle.rook,
+        gate,
+    }
+}
+
+/// Gives the castle that places a piece of the kind on the square, where it may.
+fn push_gate<S: MoveSink>(
+    rules: &Rules,
+    p: &Position,
+    castle: &CastleSquares,
+    placed: Placed,
+    out: &mut S,
+) -> Result<(), S::Full>
+    requires { IsFitCastle castle.now }
+    ensures ok { OnOk result
+        (TakesAll S.takes (IsGateOn rules.now (repeat_of p.now) castle.now placed.at placed.kind.0) out.old out.new) }
+    ensures err { OnErr result
+        (TakesSome S.stops (IsGateOn rules.now (repeat_of p.now) castle.now placed.at placed.kind.0) out.old out.new) }
+{
+    let gate = Some(placed);
+    let may = castle_gates(rules, p, castle.king, castle.king_to, castle.rook, gate);
+    push_if(may, castle_move(castle, gate), out)
+}
+
+/// Gives the castles that place a piece of the kind.
+fn push_gates_of<S: MoveSink>(
+    rules: &Rules,
+    p: &Position,
+    castle: &CastleSquares,
+    kind: Kind,
+    out: &mut S,
+) -> Result<(), S::Full>
+    requires castle { IsFitCastle castle.now }
+    requires apart { castle.now.king.0 ≢ castle.now.rook.0 }
+    ensures ok { OnOk result
+        (TakesAll S.takes (IsGateOf rules.now (repeat_of p.now) castle.now kind.0) out.old out.new) }
+    ensures err { OnErr result
+        (TakesSome S.stops (IsGateOf rules.now (repeat_of p.now) castle.now kind.0) out.old out.new) }
+{
+    let on_king = Placed {
+        kind,
+        at: castle.king,
+    };
+    let on_rook = Placed {
+        kind,
+        at: castle.rook,
+    };
+    push_gate(rules, p, castle, on_king, out)?;
+    push_gate(rules, p, castle, on_rook, out)
+}
+
+/// Gives the castles that place a piece.
+fn push_gates<S: MoveSink>(
+    rules: &Rules,
+    p: &Position,
+    castle: &CastleSquares,
+    out: &mut S,
+) -> Result<(), S::Full>
+    requires castle { IsFitCastle castle.now }
+    requires apart { castle.now.king.0 ≢ castle.now.rook.0 }
+    ensures ok { OnOk result (TakesAll S.takes (IsGatedCastle rules.now (repeat_of p.now) castle.now) out.old out.new) }
+    ensures err { OnErr result
+        (TakesSome S.stops (IsGatedCastle rules.now (repeat_of p.now) castle.now) out.old out.new) }
+{
+    for k in 0..KINDS as u8 {
+        let kind = Kind(k);
+        if has_placed(rules, p, kind) {
+            push_gates_of(rules, p, castle, kind, out)?;
+        }
+    }
+    Ok(())
+}
+
+/// Gives the castle of these squares, and those that place a piece besides.
+fn push_castle<S: MoveSink>(
+    rules: &Rules,
+    p: &Position,
+    castle: &CastleSquares,
+    out: &mut S,
+) -> Result<(), S::Full>
+    requires castle { IsFitCastle castle.now }
+    requires apart { castle.now.king.0 ≢ castle.now.rook.0 }
+    ensures ok { OnOk result (TakesAll S.takes (IsCastleOf rules.now (repeat_of p.now) castle.now) out.old out.new) }
+    ensures err { OnErr result (TakesSome S.stops (IsCastleOf rules.now (repeat_of p.now) castle.now) out.old out.new) }
+{
+    push_if(true, castle_move(castle, None), out)?;
+    push_gates(rules, p, castle, out)
+}
+
+/// Gives the castles to the wing.
+fn push_castles_to<S: MoveSink>(
+    rules: &Rules,
+    tables: &Tables,
+    p: &Position,
+    wing: Wing,
+    out: &mut S,
+) -> Result<(), S::Full>
+    requires fit { IsFit rules.now }
+    requires tables { tables.now ≡ rules.now }
+    ensures ok { OnOk result (TakesAll S.takes (IsCastleTo rules.now (repeat_of p.now) wing) out.old out.new) }
+    ensures err { OnErr result (TakesSome S.stops (IsCastleTo rules.now (repeat_of p.now) wing) out.old out.new) }
+{
+    match open_castle(rules, tables, p, wing) {
+        None => Ok(()),
+        Some(castle) => push_castle(rules, p, &castle, out),
+    }
+}
+
+/// Gives the castles.
+pub(crate) fn push_castles<S: MoveSink>(
+    rules: &Rules,
+    tables: &Tables,
+    p: &Position,
+    out: &mut S,
+) -> Result<(), S::Full>
+    requires fit { IsFit rules.now }
+    requires tables { tables.now ≡ rules.now }
+    ensures ok { OnOk result (TakesAll S.takes (IsCastle rules.now (repeat_of p.now)) out.old out.new) }
+    ensures err { OnErr result (TakesSome S.stops (IsCastle rules.now (repeat_of p.now)) out.old out.new) }
+{
+    push_castles_to(rules, tables, p, Wing::Kingside, out)?;
+    push_castles_to(rules, tables, p, Wing::Queenside, out)
+}

@@ -1,0 +1,134 @@
+//! Drops: a hand piece is put on an empty square.
+ghost use Rattle.std.specs.Prelude.{◌≡◌, ◌<◌, true, is_none, OnOk, OnErr};
+ghost use Rattle.foundation.specs.Count.{any_below};
+ghost use Rattle.move_sink.specs.Taking.{TakesAll, TakesSome};
+ghost use Rattle.rules_model.specs.Drops as Drops;
+ghost use Rattle.rules_model.specs.Fit.{IsFit};
+ghost use Rattle.rules_model.specs.Repeats.{repeat_of};
+ghost use Rattle.rules_model.specs.Squares.{cell_at};
+ghost use Rattle.special_moves.specs.Parts as Parts;
+ghost use Rattle.special_moves.specs.Parts.{IsDrop, IsDropOf};
+
+use crate::append::push_if;
+use move_sink::MoveSink;
+use rules_model::kinds::{first_rank, in_hand, in_region, names};
+use rules_model::{Cells, KINDS, Kind, Move, Position, RANKS, Rules, SQUARES, Side, Square};
+
+/// Where a pawn is not dropped.
+fn bars_pawn(rules: &Rules, side: Side, to: Square) -> bool
+    requires { IsFit rules.now }
+    ensures { result ≡ Drops.bars_pawn rules.now side to.0 }
+{
+    (to.rank() == first_rank(rules, side) && !rules.pawn_first)
+        || (in_region(&rules.promotion, side, to.0) && !rules.pawn_zone)
+}
+
+/// Whether a piece of the side and the kind stands on the square of a file and a rank.
+#[tactic(auto, unfolding(rules_model::specs::Drops::stands_on))]
+fn stands_on(cells: &Cells, side: Side, kind: Kind, file: u8, rank: u8) -> bool
+    requires file { file < 12 }
+    requires rank { rank < 10 }
+    ensures { result ≡ Drops.stands_on cells.now side kind file rank }
+{
+    match cells[Square::at(file, rank).0 as usize] {
+        None => false,
+        Some(cell) => cell.side.is(side) && cell.kind.0 == kind.0,
+    }
+}
+
+/// Whether the side has a piece of the kind on the file.
+#[tactic(auto, using(foundation::proofs::CountLemmas::any))]
+fn stands_on_file(cells: &Cells, side: Side, kind: Kind, file: u8) -> bool
+    requires { file < 12 }
+    ensures { result ≡ any_below (Drops.stands_on cells.now side kind file) 10 }
+{
+    for rank in 0..RANKS {
+        if stands_on(cells, side, kind, file, rank) {
+            return true;
+        }
+    }
+    false
+}
+
+/// Whether the side already has a piece of the kind on the file, and the kind may not be doubled.
+pub(crate) fn is_doubled(rules: &Rules, p: &Position, kind: Kind, to: Square) -> bool
+    ensures { result ≡ Drops.is_doubled rules.now p.now.cells p.now.side kind to.0 }
+{
+    names(rules.no_doubled, kind) && stands_on_file(&p.cells, p.side, kind, to.file())
+}
+
+fn is_empty(cells: &Cells, at: Square) -> bool
+    ensures { result ≡ is_none (cell_at cells.now at.0) }
+{
+    match cells.get(at.0 as usize) {
+        Some(cell) => cell.is_none(),
+        None => true,
+    }
+}
+
+/// Whether pieces of the kind are dropped at all: the variant has drops, and the side to move holds one.
+fn has_drops(rules: &Rules, p: &Position, kind: Kind) -> bool
+    ensures { result ≡ Parts.has_drops rules.now (repeat_of p.now) kind }
+{
+    rules.drops && in_hand(&p.hands, p.side, kind) > 0
+}
+
+/// Whether a piece of the kind, which is in hand, may be dropped on the square.
+#[tactic(auto, unfolding(rules_model::specs::Drops::drops_to))]
+fn takes_drop(rules: &Rules, p: &Position, kind: Kind, to: Square) -> bool
+    requires fit { IsFit rules.now }
+    requires held { Parts.has_drops rules.now (repeat_of p.now) kind ≡ true }
+    ensures { result ≡ Drops.drops_to rules.now (repeat_of p.now) kind to.0 }
+{
+    is_empty(&p.cells, to)
+        && in_region(&rules.drop_region, p.side, to.0)
+        && !(names(rules.pawn, kind) && bars_pawn(rules, p.side, to))
+        && !is_doubled(rules, p, kind, to)
+}
+
+/// Whether a hand piece of the kind may be put on the square.
+#[tactic(auto, unfolding(rules_model::specs::Drops::drops_to))]
+pub(crate) fn drops_to(rules: &Rules, p: &Position, kind: Kind, to: Square) -> bool
+    requires { IsFit rules.now }
+    ensures { result ≡ Drops.drops_to rules.now (repeat_of p.now) kind to.0 }
+{
+    has_drops(rules, p, kind) && takes_drop(rules, p, kind, to)
+}
+
+/// Gives the drops of a kind, of which a piece is in hand.
+fn push_kind<S: MoveSink>(
+    rules: &Rules,
+    p: &Position,
+    kind: Kind,
+    out: &mut S,
+) -> Result<(), S::Full>
+    requires fit { IsFit rules.now }
+    requires held { Parts.has_drops rules.now (repeat_of p.now) kind ≡ true }
+    ensures ok { OnOk result (TakesAll S.takes (IsDropOf rules.now (repeat_of p.now) kind.0) out.old out.new) }
+    ensures err { OnErr result (TakesSome S.stops (IsDropOf rules.now (repeat_of p.now) kind.0) out.old out.new) }
+{
+    for to in 0..SQUARES as u8 {
+        let to = Square(to);
+        push_if(takes_drop(rules, p, kind, to), Move::Drop { kind, to }, out)?;
+    }
+    Ok(())
+}
+
+/// Gives the drops.
+pub(crate) fn push_drops<S: MoveSink>(
+    rules: &Rules,
+    p: &Position,
+    out: &mut S,
+) -> Result<(), S::Full>
+    requires { IsFit rules.now }
+    ensures ok { OnOk result (TakesAll S.takes (IsDrop rules.now (repeat_of p.now)) out.old out.new) }
+    ensures err { OnErr result (TakesSome S.stops (IsDrop rules.now (repeat_of p.now)) out.old out.new) }
+{
+    for k in 0..KINDS as u8 {
+        let kind = Kind(k);
+        if has_drops(rules, p, kind) {
+            push_kind(rules, p, kind, out)?;
+        }
+    }
+    Ok(())
+}

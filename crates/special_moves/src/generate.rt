@@ -1,0 +1,32 @@
+//! The moves, given in turn.
+ghost use Rattle.std.specs.Prelude.{◌≡◌, OnOk, OnErr};
+ghost use Rattle.move_sink.specs.Taking.{TakesAll, TakesSome};
+ghost use Rattle.rules_model.specs.Fit.{IsFit};
+ghost use Rattle.rules_model.specs.Repeats.{repeat_of};
+ghost use Rattle.special_moves.specs.Parts.{FitSpecialMoves};
+
+use crate::castles::push_castles;
+use crate::drops::push_drops;
+use crate::gates::push_gates;
+use attack_tables::Tables;
+use move_sink::MoveSink;
+use rules_model::{Position, Rules};
+
+/// Gives the moves of pawns, those of other pieces with a gate, castles and drops, each once and in no special order: those for
+/// which `is_candidate` answers yes. Where the sink is full, it was given some of them, each at most once.
+pub fn push_moves<S: MoveSink>(
+    rules: &Rules,
+    tables: &Tables,
+    p: &Position,
+    out: &mut S,
+) -> Result<(), S::Full>
+    requires fit { IsFit rules.now }
+    requires tables { tables.now ≡ rules.now }
+    ensures ok { OnOk result (TakesAll S.takes (FitSpecialMoves rules.now (repeat_of p.now)) out.old out.new) }
+    ensures err { OnErr result (TakesSome S.stops (FitSpecialMoves rules.now (repeat_of p.now)) out.old out.new) }
+{
+    pawn_moves::push_moves(rules, p, out)?;
+    push_gates(rules, tables, p, out)?;
+    push_castles(rules, tables, p, out)?;
+    push_drops(rules, p, out)
+}

@@ -1,0 +1,15 @@
+//! The moves of pawns, castles, drops and the moves that place a hand piece at a gate.
+#![tactic(auto)]
+
+mod append;
+pub mod candidate;
+mod castles;
+mod drops;
+mod gates;
+pub mod generate;
+#[cfg(test)]
+mod tests;
+mod way;
+
+pub use candidate::is_candidate;
+pub use generate::push_moves;
