@@ -1,5 +1,8 @@
-pub mod BuiltLaws
-pub mod GoesLaws
+pub mod CandidateFit
+pub mod CandidateParts
+pub mod FitLaws
+pub mod KeepLaws
 pub mod ListLaws
 pub mod MemberLaws
-pub mod PieceLaws
+pub mod MobileLaws
+pub mod SeekLaws

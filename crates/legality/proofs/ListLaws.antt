@@ -1,101 +1,287 @@
--- The legal list of built rules, from a list of the ordinary moves of pieces.
-use Rattle.std.proofs.Common.{◌≡◌, Bool, true, false, ◌&&◌, ◌↔◌, cond, inl, IsTrue, List, [], ◌∷◌, ◌++◌, length, refl, sym, ◌∙◌, subst, ap}
-use Rattle.std.specs.List.{filter}
+-- The legal list, from the candidates.
+use Rattle.std.proofs.Common.{◌≡◌, ℕ, ◌+◌, ◌≤◌, Bool, true, false, not, ◌&&◌, ◌↔◌, cond, ◌⊎◌, inl, inr, IsTrue, Result, Ok, Err, List, [], ◌∷◌, ◌++◌, length, take, drop, refl, sym, ap, ◌∙◌, subst, arith}
+use Rattle.std.specs.Bool.{OnTrue}
+use Rattle.std.specs.List.{list_any, filter}
+use Rattle.std.specs.Result.{OnErr, OnOk}
+use Rattle.std.proofs.Math.Seq.{take-append_seam, drop-append_seam}
+use Rattle.move_sink.specs.Taking.{TakesAll, TakesSome}
+use Rattle.foundation.proofs.AppendedLemmas.{some-none}
 use Rattle.std.specs.List.Sorted.{IsPermutation, IsStrictlySortedBy}
-use Rattle.std.proofs.lemmas.Bool.{and_from, and_parts}
+use Rattle.std.proofs.lemmas.Bool.{and_from, and_parts, or_cases, or_left, or_right}
 use Rattle.std.proofs.lemmas.List.Sorted.{IsPermutation-sym}
-use Rattle.foundation.specs.Member.{Appends, Member, IsEachOnce, Lists}
+use Rattle.foundation.specs.Member.{Member, IsEachOnce, Lists, Appends, AppendsSome}
 use Rattle.foundation.specs.Tests.{is_nil}
-use Rattle.foundation.proofs.Members.{filter-member, member-filter, member-permutation}
+use Rattle.foundation.proofs.Members.{appends-none, filter-member, member-filter, member-permutation}
+use Rattle.square_set.proofs.Cases.{by_bool, same_both}
 use Rattle.rules_model.specs.declared.board.Repeat.{Repeat}
 use Rattle.rules_model.specs.declared.moves.Move.{Move}
 use Rattle.rules_model.specs.declared.rules.Rules.{Rules}
-use Rattle.rules_model.specs.Built.{is_built}
-use Rattle.rules_model.specs.Candidates.{is_piece_move}
-use Rattle.rules_model.specs.Fit.{IsFit}
-use Rattle.rules_model.specs.Legal.{is_safe, is_stuck, legal}
+use Rattle.rules_model.specs.Allowed.{can_capture, is_legal}
+use Rattle.rules_model.specs.Candidates.{is_candidate}
+use Rattle.rules_model.specs.Ends.{early_end, is_ongoing}
+use Rattle.rules_model.specs.Legal.{every_move, is_allowed, is_sane, is_stuck, legal}
+use Rattle.rules_model.specs.Moves.{IsFitMove}
 use Rattle.rules_model.specs.MoveText.{move_cmp}
-use Rattle.rules_model.specs.Allowed.{is_legal}
-use Rattle.rules_model.proofs.LegalLaws.{legal-member, legal-sorted, member-legal, moves-unique}
-use Rattle.piece_moves.specs.Parts.{FitPieceMoves}
-use Rattle.legality.proofs.BuiltLaws.{legal-built}
-use Rattle.legality.proofs.PieceLaws.{piece_move-fit}
+use Rattle.rules_model.specs.Next.{captures}
+use Rattle.rules_model.proofs.LegalLaws.{every-fit, every-has, legal-member, legal-once, legal-sorted, member-legal, moves-unique}
+use Rattle.legality.specs.Chosen.{FitCandidates, can_go, is_chosen, is_fit_move, is_wanted, only_captures}
+use Rattle.legality.proofs.FitLaws.{from_fit}
 
--- ---- a filter keeps each element once
+-- ---- of lists
 
-once-filter : (p : Move → Bool) (xs : List Move) → IsEachOnce xs → IsEachOnce (filter p xs)
-once-filter p [] a = tt
-once-filter p (x ∷ xs) a =
-    elim (p x) as (λ b. IsEachOnce (cond b (x ∷ filter p xs) (filter p xs))) [
-      | true ↦ (λ m. a.0 (filter-member p x xs m).0, once-filter p xs a.1)
-      | false ↦ once-filter p xs a.1
-    ]
+module _ {X : Type 0} where
+  any_member : (p : X → Bool) (xs : List X) → list_any p xs ≡ true → (x : X) × Member x xs × (p x ≡ true)
+  any_member p [] e = cc
+  any_member p (x ∷ xs) e =
+      elim (or_cases (p x) (list_any p xs) e) as (λ _. (y : X) × Member y (x ∷ xs) × (p y ≡ true)) [
+        | inl h ↦ (x, inl refl, h)
+        | inr h ↦ let k = any_member p xs h in (k.0, inr k.1, k.2)
+      ]
 
--- ---- the list
+  member_any : (p : X → Bool) (x : X) (xs : List X) → Member x xs → p x ≡ true → list_any p xs ≡ true
+  member_any p x [] m e = absurd m
+  member_any p x (y ∷ xs) (inl f) e = or_left (p y) (list_any p xs) (ap p f ∙ e)
+  member_any p x (y ∷ xs) (inr m) e = or_right (p y) (list_any p xs) (member_any p x xs m e)
+
+  -- a filter keeps each element once
+  once_filter : (p : X → Bool) (xs : List X) → IsEachOnce xs → IsEachOnce (filter p xs)
+  once_filter p [] a = tt
+  once_filter p (x ∷ xs) a =
+      elim (p x) as (λ b. IsEachOnce (cond b (x ∷ filter p xs) (filter p xs))) [
+        | true ↦ (λ m. a.0 (filter-member p x xs m).0, once_filter p xs a.1)
+        | false ↦ once_filter p xs a.1
+      ]
+
+  -- a list without one of its elements
+  record Cut (x : X) (ys : List X) : Type 0 where
+    rest : List X
+    long : length ys ≡ length rest + 1
+    others : (z : X) → Member z ys → (x ≡ z) ⊎ Member z rest
+
+  cut : (x : X) (ys : List X) → Member x ys → Cut x ys
+  cut x [] m = absurd m
+  cut x (y ∷ ys) (inl e) = record {
+    rest = ys;
+    long = omega arith;
+    others = λ z m. elim m as (λ _. (x ≡ z) ⊎ Member z ys) [ inl f ↦ inl (sym e ∙ f) | inr k ↦ inr k ];
+  }
+  cut x (y ∷ ys) (inr m) =
+      let c = cut x ys m in record {
+        rest = y ∷ c.rest;
+        long = omega (arith, c.long);
+        others = λ z k. elim k as (λ _. (x ≡ z) ⊎ Member z (y ∷ c.rest)) [
+          | inl f ↦ inr (inl f)
+          | inr l ↦ elim (c.others z l) as (λ _. (x ≡ z) ⊎ Member z (y ∷ c.rest)) [ inl g ↦ inl g | inr n ↦ inr (inr n) ]
+        ];
+      }
+
+  no_longer : (xs ys : List X) → IsEachOnce xs → ((x : X) → Member x xs → Member x ys) → length xs ≤ length ys
+  no_longer [] ys a within = omega arith
+  no_longer (x ∷ xs) ys a within =
+      let c = cut x ys (within x (inl refl)) in
+      let h = no_longer xs c.rest a.1 (λ z m. elim (c.others z (within z (inr m))) as (λ _. Member z c.rest) [ inl e ↦ absurd (a.0 (subst (λ w. Member w xs) (sym e) m)) | inr k ↦ k ]) in
+      omega (arith, c.long, h)
+
+  same_length : (xs ys : List X) → IsEachOnce xs → IsEachOnce ys → ((x : X) → Member x xs → Member x ys) → ((x : X) → Member x ys → Member x xs) → length xs ≡ length ys
+  same_length xs ys a b to from = omega (arith, no_longer xs ys a to, no_longer ys xs b from)
+
+-- ---- the choice
+
+module _ (rules : Rules) (r : Repeat) (only : Bool) where
+  chosen_parts : (m : Move) → is_chosen rules r only m ≡ true → (is_sane rules r m ≡ true) × (is_wanted rules r only m ≡ true)
+  unfolding is_chosen
+  chosen_parts m e = and_parts (is_sane rules r m) (is_wanted rules r only m) (and_parts (is_fit_move m) (is_sane rules r m && is_wanted rules r only m) e).1
+
+  from_parts : (m : Move) → IsFitMove m → is_sane rules r m ≡ true → is_wanted rules r only m ≡ true → is_chosen rules r only m ≡ true
+  unfolding is_chosen
+  from_parts m fit e f = and_from _ _ (from_fit m fit) (and_from _ _ e f)
+
+  chosen_allowed : (m : Move) → FitCandidates rules r m → is_chosen rules r only m ≡ true → (is_allowed rules r m ≡ true) × (is_wanted rules r only m ≡ true)
+  unfolding is_allowed
+  chosen_allowed m h e = let k = chosen_parts m e in (and_from _ _ h.1 k.0, k.1)
+
+  allowed_parts : (m : Move) → is_allowed rules r m ≡ true → (is_candidate rules r m ≡ true) × (is_sane rules r m ≡ true)
+  unfolding is_allowed
+  allowed_parts m e = and_parts (is_candidate rules r m) (is_sane rules r m) e
+
+  -- a move that was found is one that can be made
+  pub found_goes : (ms : List Move) → ((m : Move) → Member m ms → FitCandidates rules r m) → list_any (is_chosen rules r only) ms ≡ true → can_go rules r only ≡ true
+  unfolding can_go
+  found_goes ms sound e =
+      let k = any_member (is_chosen rules r only) ms e in
+      let h = sound k.0 k.1 in
+      let a = chosen_allowed k.0 h k.2 in
+      member_any (is_wanted rules r only) k.0 _ (member-filter (is_allowed rules r) k.0 every_move (every-has k.0 h.0) a.0) a.1
+
+  goes_found : (ms : List Move) → Lists (FitCandidates rules r) ms → can_go rules r only ≡ true → list_any (is_chosen rules r only) ms ≡ true
+  unfolding can_go
+  goes_found ms l e =
+      let k = any_member (is_wanted rules r only) _ e in
+      let f = filter-member (is_allowed rules r) k.0 every_move k.1 in
+      let fit = every-fit k.0 f.0 in
+      let p = allowed_parts k.0 f.1 in
+      member_any (is_chosen rules r only) k.0 ms (l.complete k.0 (fit, p.0)) (from_parts k.0 fit p.1 k.2)
+
+  -- among all the candidates one is found exactly where one can be made
+  pub found_is : (ms : List Move) → Lists (FitCandidates rules r) ms → list_any (is_chosen rules r only) ms ≡ can_go rules r only
+  found_is ms l = same_both _ _ (found_goes ms l.sound) (goes_found ms l)
+
+captures_go : (rules : Rules) (r : Repeat) → can_go rules r true ≡ can_capture rules r
+unfolding can_go can_capture
+captures_go rules r = refl
+
+only_is : (rules : Rules) (r : Repeat) → only_captures rules r ≡ (rules.must_capture && can_capture rules r)
+unfolding only_captures
+only_is rules r = ap (λ b. rules.must_capture && b) (captures_go rules r)
+
+module _ (rules : Rules) (r : Repeat) where
+  -- what is legal is allowed, and wanted
+  legal_is : (m : Move) → is_ongoing (early_end rules r) ≡ true → is_legal rules r m ≡ (is_allowed rules r m && is_wanted rules r (only_captures rules r) m)
+  unfolding is_legal
+  legal_is m on = rw (on, only_is rules r) refl
+
+  legal_parts : (m : Move) → Member m (legal rules r) → IsFitMove m × (is_ongoing (early_end rules r) ≡ true) × (is_allowed rules r m ≡ true) × (is_wanted rules r (only_captures rules r) m ≡ true)
+  unfolding is_legal
+  legal_parts m h =
+      let k = legal-member rules r m h in
+      let a = and_parts (is_ongoing (early_end rules r) && is_allowed rules r m) _ k.1 in
+      let b = and_parts (is_ongoing (early_end rules r)) (is_allowed rules r m) a.0 in
+      (k.0, b.0, b.1, subst (λ only. is_wanted rules r only m ≡ true) (sym (only_is rules r)) a.1)
+
+  legal_from : (m : Move) → IsFitMove m → is_ongoing (early_end rules r) ≡ true → is_allowed rules r m ≡ true → is_wanted rules r (only_captures rules r) m ≡ true → Member m (legal rules r)
+  legal_from m fit on e f = member-legal rules r m fit (legal_is m on ∙ and_from _ _ e f)
+
+  -- the chosen ones of all the candidates are the legal moves
+  pub chosen_legal : (ms : List Move) → is_ongoing (early_end rules r) ≡ true → Lists (FitCandidates rules r) ms → Lists (λ m. Member m (legal rules r)) (filter (is_chosen rules r (only_captures rules r)) ms)
+  chosen_legal ms on l =
+      let only = only_captures rules r in record {
+        once = once_filter (is_chosen rules r only) ms l.once;
+        sound = λ m h.
+            let k = filter-member (is_chosen rules r only) m ms h in
+            let f = l.sound m k.0 in
+            let a = chosen_allowed rules r only m f k.1 in
+            legal_from m f.0 on a.0 a.1;
+        complete = λ m h.
+            let k = legal_parts m h in
+            let p = allowed_parts rules r only m k.2 in
+            member-filter (is_chosen rules r only) m ms (l.complete m (k.0, p.0)) (from_parts rules r only m k.0 p.1 k.3);
+      }
+
+  pub none_legal : is_ongoing (early_end rules r) ≡ false → legal rules r ≡ []
+  unfolding legal
+  none_legal off = rw off refl
+
+  -- how many these are
+  pub chosen_count : (ms : List Move) → is_ongoing (early_end rules r) ≡ true → Lists (FitCandidates rules r) ms → length (filter (is_chosen rules r (only_captures rules r)) ms) ≡ length (legal rules r)
+  chosen_count ms on l =
+      let k = chosen_legal ms on l in same_length _ (legal rules r) k.once (legal-once rules r) k.sound k.complete
+
+  -- sorted, they are the list
+  pub sorted_legal : (xs ys : List Move) → Lists (λ m. Member m (legal rules r)) xs → IsPermutation xs ys → IsStrictlySortedBy move_cmp ys → ys ≡ legal rules r
+  sorted_legal xs ys l h s =
+      moves-unique ys (legal rules r) s (legal-sorted rules r)
+      (λ m k. l.sound m (member-permutation m ys xs (IsPermutation-sym xs ys h) k))
+      (λ m k. member-permutation m xs ys h (l.complete m k))
+
+  -- ---- no move
+
+  not_nil : (ms : List Move) (m : Move) → Member m ms → not (is_nil ms) ≡ true
+  not_nil [] m h = absurd h
+  not_nil (x ∷ ms) m h = refl
+
+  some_of : (ms : List Move) → not (is_nil ms) ≡ true → (m : Move) × Member m ms
+  some_of [] e = cc
+  some_of (m ∷ ms) e = (m, inl refl)
+
+  allowed_some : (only : Bool) → can_go rules r only ≡ true → (m : Move) × IsFitMove m × (is_allowed rules r m ≡ true) × (is_wanted rules r only m ≡ true)
+  unfolding can_go
+  allowed_some only e =
+      let k = any_member (is_wanted rules r only) _ e in
+      let f = filter-member (is_allowed rules r) k.0 every_move k.1 in
+      (k.0, every-fit k.0 f.0, f.1, k.2)
+
+  wanted_where : (only : Bool) (m : Move) → only ≡ false → is_wanted rules r only m ≡ true
+  wanted_where only m e = rw e refl
+
+  capture_wanted : (m : Move) → is_wanted rules r true m ≡ true → is_wanted rules r (only_captures rules r) m ≡ true
+  capture_wanted m e = or_right (not (only_captures rules r)) (captures rules r m) e
+
+  some_legal : is_ongoing (early_end rules r) ≡ true → can_go rules r false ≡ true → (m : Move) × Member m (legal rules r)
+  unfolding only_captures
+  some_legal on e =
+      by_bool (only_captures rules r) ((m : Move) × Member m (legal rules r))
+      (λ f.
+      let k = allowed_some true (and_parts rules.must_capture (can_go rules r true) f).1 in
+      (k.0, legal_from k.0 k.1 on k.2 (capture_wanted k.0 k.3)))
+      (λ f.
+      let k = allowed_some false e in
+      (k.0, legal_from k.0 k.1 on k.2 (wanted_where (only_captures rules r) k.0 f)))
+
+  legal_goes : (m : Move) → Member m (legal rules r) → can_go rules r false ≡ true
+  unfolding can_go
+  legal_goes m h =
+      let k = legal_parts m h in member_any (is_wanted rules r false) m _ (member-filter (is_allowed rules r) m every_move (every-has m k.0) k.2) refl
+
+  -- some move can be made exactly where one is legal
+  pub goes_not_stuck : is_ongoing (early_end rules r) ≡ true → can_go rules r false ≡ not (is_stuck rules r)
+  unfolding is_stuck
+  goes_not_stuck on =
+      same_both _ _
+      (λ e. let k = some_legal on e in not_nil (legal rules r) k.0 k.1)
+      (λ e. let k = some_of (legal rules r) e in legal_goes k.0 k.1)
+
+  pub ended_stuck : is_ongoing (early_end rules r) ≡ false → false ≡ not (is_stuck rules r)
+  unfolding is_stuck
+  ended_stuck off = rw (none_legal off) refl
+
+-- ---- by the tables' rules, which are these rules
+
+module _ (rules made : Rules) (r : Repeat) (same : made ≡ rules) where
+  pub made_found : (only : Bool) (ms : List Move) → Lists (FitCandidates rules r) ms → list_any (is_chosen made r only) ms ≡ can_go rules r only
+  made_found only ms l = subst (λ rules'. list_any (is_chosen rules' r only) ms ≡ can_go rules r only) (sym same) (found_is rules r only ms l)
+
+  pub made_goes : (only : Bool) (ms : List Move) → ((m : Move) → Member m ms → FitCandidates rules r m) → list_any (is_chosen made r only) ms ≡ true → can_go rules r only ≡ true
+  made_goes only ms sound e = found_goes rules r only ms sound (subst (λ rules'. list_any (is_chosen rules' r only) ms ≡ true) same e)
+
+  pub made_count : (only : Bool) (ms : List Move) → only ≡ only_captures rules r → is_ongoing (early_end rules r) ≡ true → Lists (FitCandidates rules r) ms → length (filter (is_chosen made r only) ms) ≡ length (legal rules r)
+  made_count only ms e on l =
+      subst (λ rules'. length (filter (is_chosen rules' r only) ms) ≡ length (legal rules r)) (sym same)
+      (subst (λ only'. length (filter (is_chosen rules r only') ms) ≡ length (legal rules r)) (sym e) (chosen_count rules r ms on l))
+
+  pub made_legal : (only : Bool) (ms : List Move) → only ≡ only_captures rules r → is_ongoing (early_end rules r) ≡ true → Lists (FitCandidates rules r) ms → Lists (λ m. Member m (legal rules r)) (filter (is_chosen made r only) ms)
+  made_legal only ms e on l =
+      subst (λ rules'. Lists (λ m. Member m (legal rules r)) (filter (is_chosen rules' r only) ms)) (sym same)
+      (subst (λ only'. Lists (λ m. Member m (legal rules r)) (filter (is_chosen rules r only') ms)) (sym e) (chosen_legal rules r ms on l))
+
+  -- the candidates that were appended, once only the chosen ones are kept
+  pub kept_legal : (only : Bool) (old all new : List Move) (k : ℕ) → k ≡ length old → only ≡ only_captures rules r → is_ongoing (early_end rules r) ≡ true → TakesAll (λ old ms new. new ≡ old ++ ms) (FitCandidates rules r) old all → new ≡ take k all ++ filter (is_chosen made r only) (drop k all) → Appends (λ m. Member m (legal rules r)) old new
+  kept_legal only old all new k size e on a is = record {
+    added = filter (is_chosen made r only) a.moves;
+    is = is ∙ ap (λ l. take k l ++ filter (is_chosen made r only) (drop k l)) a.taken
+        ∙ ap (λ l. l ++ filter (is_chosen made r only) (drop k (old ++ a.moves))) (ap (λ n. take n (old ++ a.moves)) size ∙ take-append_seam old a.moves)
+        ∙ ap (λ l. old ++ filter (is_chosen made r only) l) (ap (λ n. drop n (old ++ a.moves)) size ∙ drop-append_seam old a.moves);
+    each = made_legal only a.moves e on a.each;
+  }
+
+  -- where the list found no memory, and was cut back
+  pub cut_back : (P : Move → Type 0) (old all new : List Move) (k : ℕ) → k ≡ length old → TakesSome (λ old ms new. new ≡ old ++ ms) (FitCandidates rules r) old all → new ≡ take k all → AppendsSome P old new
+  cut_back P old all new k size a is =
+      some-none P old new (is ∙ ap (take k) a.taken ∙ ap (λ n. take n (old ++ a.moves)) size ∙ take-append_seam old a.moves)
+
+pub nothing_legal : (rules : Rules) (r : Repeat) (old : List Move) → is_ongoing (early_end rules r) ≡ false → Appends (λ m. Member m (legal rules r)) old old
+nothing_legal rules r old off = appends-none _ old (λ m h. subst (Member m) (none_legal rules r off) h)
 
 -- what was appended to nothing
-pub pieces-listed : (rules : Rules) (r : Repeat) (none out xs : List Move) → none ≡ [] → xs ≡ out → Appends (FitPieceMoves rules r) none out → Lists (FitPieceMoves rules r) xs
-pieces-listed rules r none out xs e f a = subst (Lists (FitPieceMoves rules r)) (sym (f ∙ a.is ∙ ap (λ l. l ++ a.added) e)) a.each
+pub listed : (P : Move → Type 0) (none out xs : List Move) → none ≡ [] → xs ≡ out → Appends P none out → Lists P xs
+listed P none out xs e f a = subst (Lists P) (sym (f ∙ a.is ∙ ap (λ l. l ++ a.added) e)) a.each
 
--- the safe ones stand there once each
-pub safe-once : (rules : Rules) (r : Repeat) (xs : List Move) → Lists (FitPieceMoves rules r) xs → IsEachOnce (filter (is_safe rules r) xs)
-safe-once rules r xs l = once-filter (is_safe rules r) xs l.once
-
-legal_if : (rules : Rules) (r : Repeat) (m : Move) → IsFit rules → is_built rules ≡ true → is_piece_move rules r m ≡ true → is_safe rules r m ≡ true → is_legal rules r m ≡ true
-legal_if rules r m fit b e f = legal-built rules r m fit b ∙ and_from _ _ e f
-
-pub legal_then : (rules : Rules) (r : Repeat) (m : Move) → IsFit rules → is_built rules ≡ true → is_legal rules r m ≡ true → (is_piece_move rules r m ≡ true) × (is_safe rules r m ≡ true)
-legal_then rules r m fit b e = and_parts _ _ (sym (legal-built rules r m fit b) ∙ e)
-
--- the safe ones of the ordinary moves, in order, are the legal list
-pub legal-sorted_safe : (rules : Rules) (r : Repeat) (xs ys : List Move) → IsFit rules → is_built rules ≡ true → Lists (FitPieceMoves rules r) xs → IsPermutation (filter (is_safe rules r) xs) ys → IsStrictlySortedBy move_cmp ys → ys ≡ legal rules r
-legal-sorted_safe rules r xs ys fit b l h s =
-    moves-unique ys (legal rules r) s (legal-sorted rules r)
-    (λ m k.
-    let i = filter-member (is_safe rules r) m xs (member-permutation m ys _ (IsPermutation-sym _ ys h) k) in
-    let j = l.sound m i.0 in
-    member-legal rules r m j.0 (legal_if rules r m fit b j.1 i.1))
-    (λ m k.
-    let i = legal-member rules r m k in
-    let j = legal_then rules r m fit b i.1 in
-    member-permutation m _ ys h (member-filter (is_safe rules r) m xs (l.complete m (i.0, j.0)) j.1))
-
--- ---- membership
-
--- a legal move is a member of the list: it is fit by itself
-pub member-is : (rules : Rules) (r : Repeat) (m : Move) → IsFit rules → is_built rules ≡ true → length r.cells ≡ 120 → is_legal rules r m ≡ true → Member m (legal rules r)
-member-is rules r m fit b size e = member-legal rules r m (piece_move-fit rules r m fit size (legal_then rules r m fit b e).0) e
-
--- ---- no move
-
-stuck_of : (ms : List Move) → ((m : Move) → Member m ms → ⊥) → is_nil ms ≡ true
-stuck_of [] h = refl
-stuck_of (m ∷ ms) h = absurd (h m (inl refl))
-
-not_stuck_of : (ms : List Move) (m : Move) → Member m ms → is_nil ms ≡ false
-not_stuck_of [] m h = absurd h
-not_stuck_of (x ∷ ms) m h = refl
-
-pub stuck : (rules : Rules) (r : Repeat) → ((m : Move) → Member m (legal rules r) → ⊥) → is_stuck rules r ≡ true
-unfolding is_stuck
-stuck rules r h = stuck_of (legal rules r) h
-
-pub not_stuck : (rules : Rules) (r : Repeat) (m : Move) → Member m (legal rules r) → is_stuck rules r ≡ false
-unfolding is_stuck
-not_stuck rules r m h = not_stuck_of (legal rules r) m h
+-- a call that is never refused
+pub never_refused : {T E P : Type 0} (x : Result T E) → OnOk x P → OnErr x ⊥ → P
+never_refused (Ok t) p q = p
+never_refused (Err e) p q = absurd q
 
 -- ---- a test of membership
 
-true_is : (b c : Bool) (P : Type 0) → b ≡ c → (c ≡ true → P) → (P → c ≡ true) → IsTrue b ↔ P
-true_is b c P e f g = (λ h. f (sym e ∙ h), λ p. e ∙ g p)
-
--- the answer whether a move is legal is the answer whether it is a member
-pub member_by : (rules : Rules) (r : Repeat) (m : Move) (b : Bool) → IsFit rules → is_built rules ≡ true → length r.cells ≡ 120 → b ≡ is_legal rules r m → IsTrue b ↔ Member m (legal rules r)
-member_by rules r m b fit built size e = true_is b (is_legal rules r m) _ e (member-is rules r m fit built size) (λ k. (legal-member rules r m k).1)
-
--- whether it is safe decides of an ordinary move, and no other is legal
-pub legal-safe : (rules : Rules) (r : Repeat) (m : Move) (b : Bool) → IsFit rules → is_built rules ≡ true → is_piece_move rules r m ≡ true → b ≡ is_safe rules r m → b ≡ is_legal rules r m
-legal-safe rules r m b fit built e f = f ∙ sym (legal-built rules r m fit built ∙ ap (λ x. x && is_safe rules r m) e)
-
-pub not_legal : (rules : Rules) (r : Repeat) (m : Move) → IsFit rules → is_built rules ≡ true → is_piece_move rules r m ≡ false → is_legal rules r m ≡ false
-not_legal rules r m fit built e = legal-built rules r m fit built ∙ ap (λ x. x && is_safe rules r m) e
+pub member_by : (rules : Rules) (r : Repeat) (m : Move) (b : Bool) → b ≡ is_legal rules r m → OnTrue b (IsFitMove m) → IsTrue b ↔ Member m (legal rules r)
+member_by rules r m true e fit = (λ _. member-legal rules r m fit (sym e), λ h. refl)
+member_by rules r m false e fit = (λ f. absurd (let g : ⊥ = cc in g), λ h. e ∙ (legal-member rules r m h).1)

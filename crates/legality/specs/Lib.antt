@@ -1,1 +1,3 @@
-pub mod Goes
+pub mod Choices
+pub mod Chosen
+pub mod Sinks

@@ -1,16 +1,22 @@
-//! The legal moves of a position, for the rules that the program plays so far.
+//! The legal moves of a position, for the rules of every variant.
 #![tactic(auto)]
 
-mod any;
-mod check;
+mod ask;
+mod candidates;
+mod capture;
+mod choice;
+mod count;
+mod keep;
 mod list;
+mod mobile;
 mod order;
 mod play;
-mod safety;
+mod sanity;
+mod search;
+mod seek;
 #[cfg(test)]
 mod tests;
 
-pub use any::any_legal;
-pub use check::{gives_check, is_legal};
-pub use list::legal_moves;
+pub use ask::{any_legal, count_legal, gives_check, is_legal, own_end};
+pub use list::{legal_moves, push_legal};
 pub use play::apply;

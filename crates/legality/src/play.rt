@@ -1,7 +1,6 @@
 //! The position after a legal move.
 ghost use Rattle.std.specs.Prelude.{◌≡◌, true};
 ghost use Rattle.foundation.specs.Member.{Member};
-ghost use Rattle.rules_model.specs.Built.{is_built};
 ghost use Rattle.rules_model.specs.Legal.{legal};
 ghost use Rattle.rules_model.specs.Next as Next;
 ghost use Rattle.rules_model.specs.Ready.{IsReady};
@@ -16,7 +15,6 @@ use sound_play::legal_moves_keep_soundness;
 /// Makes the legal move: the position is the one after it, and is sound again. The tables are not read.
 pub fn apply(rules: &Rules, tables: &Tables, p: &mut Position, m: &Move)
     requires ready { IsReady rules.now tables.now p.old }
-    requires built { is_built rules.now ≡ true }
     requires legal { Member m.now (legal rules.now (repeat_of p.old)) }
     ensures next { p.new ≡ Next.next rules.now p.old m.now }
     ensures sound { is_sound rules.now p.new ≡ true }

@@ -1,251 +1,250 @@
-ghost use Rattle.std.specs.Prelude.{◌≡◌, true};
-ghost use Rattle.rules_model.specs.Built.{is_built};
 ghost use Rattle.rules_model.specs.Fit.{IsFit};
 
 use super::*;
 use attack_tables::Tables;
-use leapers::leapers;
+use foundation::Memory;
 use move_text::write_move;
-use rules_model::{Cell, Kind, Move, Position, Promo, Rules, Side, Square, sound};
+use rules_model::{Cause, Move, Outcome, Position, Promo, Rules, Side, sound};
+use sample_rules::{capablanca, chess, kind, position, shouse, square, xiangqi};
 use std::alloc::Global;
 use std::process::Abort;
 use std::test::Fail;
 
-const KING: Kind = Kind(10);
-
-const KNIGHT: Kind = Kind(13);
-
-/// A position with these pieces and White to move. Squares are 12 * rank + file, both counted from 0.
-fn position(pieces: &[(Side, Kind, usize)]) -> Position {
-    let mut cells = [None; 120];
-    for (side, kind, at) in pieces {
-        if *at < 120 {
-            cells[*at] = Some(Cell {
-                side: *side,
-                kind: *kind,
-                origin: None,
-            });
-        }
-    }
-    Position {
-        cells,
-        hands: [[0; 26]; 2],
-        gates: [0; 2],
-        counter: 7,
-        number: 20,
-        rights: [[false; 2]; 2],
-        checks: [0; 2],
-        ep: None,
-        side: Side::White,
-    }
+/// Chess where a side that can capture must.
+fn forced() -> Rules
+    ensures { IsFit result }
+{
+    let mut rules = chess();
+    rules.must_capture = true;
+    rules
 }
 
-fn go(from: u8, to: u8) -> Move {
-    Move::Go {
-        from: Square(from),
-        to: Square(to),
-        promo: Promo::Stays,
-        gate: None,
-    }
+/// Chess without a king: the kings are pieces as others.
+fn kingless() -> Rules
+    ensures { IsFit result }
+{
+    let mut rules = chess();
+    rules.king = None;
+    rules
 }
 
-/// `4k3/8/8/8/8/1n6/8/K1N5`
-fn checked() -> Position {
-    position(&[
-        (Side::White, KING, 0),
-        (Side::White, KNIGHT, 2),
-        (Side::Black, KNIGHT, 25),
-        (Side::Black, KING, 88),
-    ])
+/// Chess where a pawn may stay one on the last rank, but no piece may go where it can never move again.
+fn mobile() -> Rules
+    ensures { IsFit result }
+{
+    let mut rules = chess();
+    rules.must_promote_pawn = false;
+    rules.immobile_bad = true;
+    rules
 }
 
-/// `8/8/8/8/8/8/2k5/K7`
-fn hemmed() -> Position {
-    position(&[(Side::White, KING, 0), (Side::Black, KING, 14)])
+/// Chess with drops that give no check.
+fn quiet_drops() -> Rules
+    ensures { IsFit result }
+{
+    let mut rules = shouse();
+    rules.drop_checks = false;
+    rules
 }
 
-/// `8/8/8/8/1n6/8/2k5/K7`
-fn stalemated() -> Position {
-    position(&[
-        (Side::White, KING, 0),
-        (Side::Black, KNIGHT, 37),
-        (Side::Black, KING, 14),
-    ])
-}
-
-/// `8/8/8/8/1n6/1n6/2k5/K7`
-fn checkmated() -> Position {
-    position(&[
-        (Side::White, KING, 0),
-        (Side::Black, KNIGHT, 25),
-        (Side::Black, KNIGHT, 37),
-        (Side::Black, KING, 14),
-    ])
-}
-
-/// Asserts that the position has these legal moves, in this order.
+/// Asserts that the position has these legal moves, in this order, by each of the calls.
 fn has_moves<R: Abort>(
     rt: &R,
     alloc: Global,
     rules: &Rules,
-    tables: &Tables,
     p: &Position,
-    texts: &[&str],
+    texts: &str,
 ) -> Result<(), Fail>
     requires fit { IsFit rules.now }
-    requires built { is_built rules.now ≡ true }
-    requires tables { tables.now ≡ rules.now }
 {
+    let tables = Tables::new(alloc, rules)?;
     assert!(rt; sound(rules, p));
-    let moves = legal_moves(alloc, rules, tables, p)?;
-    assert_eq!(rt; moves.items.len(), texts.len());
-    for (m, text) in moves.items.iter().zip(texts) {
-        assert_eq!(rt; write_move(m).items.as_slice(), text.as_bytes());
-        assert!(rt; is_legal(rules, tables, p, m));
+    let moves = legal_moves(alloc, rules, &tables, p)?;
+    let mut found = 0;
+    for text in texts.split(' ').filter(|text| !text.is_empty()) {
+        let listed = moves.items.get(found);
+        assert!(rt;
+            listed.is_some_and(|m| write_move(m).items.as_slice() == text.as_bytes()),
+            "{text}"
+        );
+        assert!(rt;
+            listed.is_some_and(|m| is_legal(rules, &tables, p, m)),
+            "{text}"
+        );
+        found += 1;
     }
-    assert_eq!(rt; any_legal(rules, tables, p), !texts.is_empty());
+    assert_eq!(rt; moves.items.len(), found, "{texts}");
+    assert_eq!(rt; count_legal(rules, &tables, p), found as u128);
+    assert_eq!(rt; any_legal(rules, &tables, p), found > 0);
     Ok(())
 }
 
-#[test]
-fn lists(rt: HostRuntime) -> Result<(), Fail> {
-    let rules = leapers();
-    let tables = Tables::new(rt.alloc(), &rules)?;
-    let rows: [(Position, &[&str]); 5] = [
-        (
-            rules.start,
-            &[
-                "d1c1", "d1c2", "d1d2", "d1e1", "d1e2", "f1c2", "f1e4", "f1g4", "g1e2", "g1f3",
-                "g1h3",
-            ],
-        ),
-        (checked(), &["a1a2", "a1b1", "a1b2", "c1b3"]),
-        (hemmed(), &["a1a2"]),
-        (stalemated(), &[]),
-        (checkmated(), &[]),
-    ];
-    for (p, texts) in &rows {
-        has_moves(&rt, rt.alloc(), &rules, &tables, p, texts)?;
-    }
-    Ok(())
-}
-
-#[test]
-fn near_misses(rt: HostRuntime) -> Result<(), Fail> {
-    let rules = leapers();
-    let tables = Tables::new(rt.alloc(), &rules)?;
-    let promoted = Move::Go {
-        from: Square(0),
-        to: Square(12),
-        promo: Promo::Plus,
-        gate: None,
-    };
-    let gated = Move::Go {
-        from: Square(0),
-        to: Square(12),
-        promo: Promo::Stays,
-        gate: Some(KNIGHT),
-    };
-    let castle = Move::Castle {
-        from: Square(0),
-        to: Square(12),
-        rook: Square(2),
-        gate: None,
-    };
-    let drop = Move::Drop {
-        kind: KNIGHT,
-        to: Square(12),
-    };
-    let rows = [
-        // The king stays in check.
-        (checked(), go(2, 12)),
-        (checked(), go(2, 27)),
-        // It steps over two squares, onto an own piece, off the board, and from nowhere.
-        (checked(), go(0, 24)),
-        (checked(), go(0, 2)),
-        (checked(), go(0, 120)),
-        (checked(), go(200, 12)),
-        // It is Black's piece, and no piece.
-        (checked(), go(25, 0)),
-        (checked(), go(13, 12)),
-        (checked(), promoted),
-        (checked(), gated),
-        (checked(), castle),
-        (checked(), drop),
-        // The king goes into check.
-        (hemmed(), go(0, 1)),
-        (hemmed(), go(0, 13)),
-        (stalemated(), go(0, 12)),
-        (checkmated(), go(0, 12)),
-    ];
-    for (p, m) in &rows {
-        assert!(rt; sound(&rules, p));
-        assert!(rt; !is_legal(&rules, &tables, p, m));
-    }
-    Ok(())
-}
-
-#[test]
-fn checks(rt: HostRuntime) -> Result<(), Fail> {
-    let rules = leapers();
-    let tables = Tables::new(rt.alloc(), &rules)?;
-    let p = position(&[
-        (Side::White, KING, 4),
-        (Side::White, KNIGHT, 40),
-        (Side::Black, KING, 88),
-    ]);
-    assert!(rt; sound(&rules, &p));
-    for (to, attacks) in [(63, true), (65, true), (54, false), (17, false)] {
-        let m = go(40, to);
-        assert!(rt; is_legal(&rules, &tables, &p, &m));
-        assert_eq!(rt; gives_check(&rules, &tables, &p, &m), attacks);
-    }
-    Ok(())
-}
-
-/// Plays the move and asserts the counter and the number after it.
-fn plays<R: Abort>(
+/// Asserts what `has_moves` does of the pieces of a text, with White to move.
+fn have_moves<R: Abort>(
     rt: &R,
+    alloc: Global,
     rules: &Rules,
-    tables: &Tables,
-    p: &mut Position,
-    m: &Move,
-    counts: (u16, u16),
+    rows: &[(&str, &str)],
 ) -> Result<(), Fail>
     requires fit { IsFit rules.now }
-    requires built { is_built rules.now ≡ true }
-    requires tables { tables.now ≡ rules.now }
 {
-    assert!(rt; sound(rules, p));
-    assert!(rt; is_legal(rules, tables, p, m));
-    apply(rules, tables, p, m);
-    assert_eq!(rt; (p.counter, p.number), counts);
+    for (pieces, texts) in rows {
+        has_moves(rt, alloc, rules, &position(*pieces), *texts)?;
+    }
     Ok(())
 }
 
 #[test]
-fn plies(rt: HostRuntime) -> Result<(), Fail> {
-    let rules = leapers();
+fn kings_are_kept_safe(rt: HostRuntime) -> Result<(), Fail> {
+    let rows = [
+        // checkmate and stalemate
+        ("Ka1 qb2 kc3", ""),
+        ("Ka1 qc2 kc3", ""),
+        // a check that is blocked, fled from, or ended by taking
+        ("Ka1 Nc2 ra8 kh8", "a1b1 a1b2 c2a3"),
+        ("Ka1 Nc2 ra3 kh8", "a1b1 a1b2 c2a3"),
+        // a piece between its king and a rook
+        ("Ke1 Be2 pd3 re8 ka8", "e1d1 e1d2 e1f1 e1f2"),
+    ];
+    have_moves(&rt, rt.alloc(), &chess(), &rows)?;
+    // en passant would take both pawns from the rank of the king and a rook
+    let p = Position {
+        ep: Some(square("d6")),
+        ..position("Ka5 Pe5 pd5 rh5 ke8")
+    };
+    has_moves(
+        &rt,
+        rt.alloc(),
+        &chess(),
+        &p,
+        "a5a4 a5a6 a5b4 a5b5 a5b6 e5e6",
+    )?;
+    // without a king no piece is kept safe
+    have_moves(
+        &rt,
+        rt.alloc(),
+        &kingless(),
+        &[("Ka1 ra8 kh8", "a1a2 a1b1 a1b2")],
+    )?;
+    // and where kings fly, neither leaves the other's file open
+    have_moves(
+        &rt,
+        rt.alloc(),
+        &xiangqi(),
+        &[("Ke1 Ne4 ke10", "e1d1 e1e2 e1f1")],
+    )
+}
+
+#[test]
+fn captures_are_forced(rt: HostRuntime) -> Result<(), Fail> {
+    let rows = [
+        ("Ke1 Pe4 pd5 ke8", "e4d5"),
+        ("Ka1 Pe4 kh8", "a1a2 a1b1 a1b2 e4e5"),
+        // the bishop may not take
+        ("Ke1 Be2 pd3 re8 ka8", "e1d1 e1d2 e1f1 e1f2"),
+    ];
+    have_moves(&rt, rt.alloc(), &forced(), &rows)?;
+    let p = Position {
+        ep: Some(square("d6")),
+        ..position("Ka1 Pe5 pd5 kh8")
+    };
+    has_moves(&rt, rt.alloc(), &forced(), &p, "e5d6")
+}
+
+#[test]
+fn variants_forbid_moves(rt: HostRuntime) -> Result<(), Fail> {
+    let row = [("Ka1 Pg7 kd4", "a1a2 a1b1 a1b2 g7g8b g7g8n g7g8q g7g8r")];
+    have_moves(&rt, rt.alloc(), &mobile(), &row)?;
+    let rules = quiet_drops();
     let tables = Tables::new(rt.alloc(), &rules)?;
-    let mut p = checked();
-    plays(&rt, &rules, &tables, &mut p, &go(0, 12), (8, 20))?;
-    assert_eq!(rt; p.side, Side::Black);
-    // The knight takes the knight.
-    plays(&rt, &rules, &tables, &mut p, &go(25, 2), (0, 21))?;
-    assert_eq!(rt; p.side, Side::White);
-    plays(&rt, &rules, &tables, &mut p, &go(12, 1), (1, 21))?;
-    let mut cells = [None; 120];
-    for (side, kind, at) in [
-        (Side::White, KING, 1),
-        (Side::Black, KNIGHT, 2),
-        (Side::Black, KING, 88),
-    ] {
-        cells[at] = Some(Cell {
-            side,
-            kind,
-            origin: None,
-        });
+    let mut p = position("Ka1 kh8");
+    p.hands[0][kind(b'r').0 as usize] = 1;
+    assert!(rt; sound(&rules, &p));
+    // a rook on the rank or the file of the king gives check: 14 of the 62 squares. The king has three moves
+    assert_eq!(rt; count_legal(&rules, &tables, &p), 51);
+    for (to, is_allowed) in [("a2", true), ("h7", false), ("b8", false)] {
+        let m = Move::Drop {
+            kind: kind(b'r'),
+            to: square(to),
+        };
+        assert_eq!(rt; is_legal(&rules, &tables, &p, &m), is_allowed, "{to}");
     }
-    assert_eq!(rt; p.cells, cells);
+    Ok(())
+}
+
+fn starts_with(alloc: Global, rules: &Rules, moves: u128) -> Result<bool, Memory>
+    requires { IsFit rules.now }
+{
+    let tables = Tables::new(alloc, rules)?;
+    Ok(sound(rules, &rules.start) && count_legal(rules, &tables, &rules.start) == moves)
+}
+
+#[test]
+fn starts_have_their_moves(rt: HostRuntime) -> Result<(), Fail> {
+    assert!(rt; starts_with(rt.alloc(), &chess(), 20)?);
+    assert!(rt; starts_with(rt.alloc(), &capablanca(), 28)?);
+    assert!(rt; starts_with(rt.alloc(), &xiangqi(), 44)?);
+    Ok(())
+}
+
+/// Chess where a king on the last rank wins.
+fn flagged() -> Rules
+    ensures { IsFit result }
+{
+    let mut rules = chess();
+    rules.flag_kind = rules.king;
+    let last_ranks = rules.promotion;
+    rules.flag_region = last_ranks;
+    rules
+}
+
+#[test]
+fn games_end(rt: HostRuntime) -> Result<(), Fail> {
+    let rules = flagged();
+    let tables = Tables::new(rt.alloc(), &rules)?;
+    let flag = Outcome::Won(Side::White, Cause::Flag);
+    let mate = Outcome::Won(Side::White, Cause::Checkmate);
+    let rows = [
+        ("Ka7 kh5", Outcome::Ongoing),
+        ("Ka8 kh5", flag),
+        ("Kf6 Qf7 kf8", mate),
+        ("Kf6 Qd5 kf8", Outcome::Ongoing),
+        ("Kf7 Pg6 kh8", Outcome::Drawn(Cause::Stalemate)),
+    ];
+    for (pieces, end) in &rows {
+        let mut p = position(*pieces);
+        p.side = Side::Black;
+        assert!(rt; sound(&rules, &p));
+        assert_eq!(rt; own_end(&rules, &tables, &p), *end, "{pieces}");
+        assert_eq!(rt; any_legal(&rules, &tables, &p), *end == Outcome::Ongoing);
+        let moves = legal_moves(rt.alloc(), &rules, &tables, &p)?;
+        assert_eq!(rt;
+            moves.items.is_empty(),
+            *end != Outcome::Ongoing,
+            "{pieces}"
+        );
+    }
+    Ok(())
+}
+
+#[test]
+fn a_move_is_played(rt: HostRuntime) -> Result<(), Fail> {
+    let rules = chess();
+    let tables = Tables::new(rt.alloc(), &rules)?;
+    for (to, gives) in [("f6", true), ("d6", true), ("c3", false)] {
+        let mut p = position("Ka1 Ne4 ke8");
+        let m = Move::Go {
+            from: square("e4"),
+            to: square(to),
+            promo: Promo::Stays,
+            gate: None,
+        };
+        assert!(rt; sound(&rules, &p));
+        assert!(rt; is_legal(&rules, &tables, &p, &m), "{to}");
+        assert_eq!(rt; gives_check(&rules, &tables, &p, &m), gives, "{to}");
+        apply(&rules, &tables, &mut p, &m);
+        assert_eq!(rt; (p.side, p.counter), (Side::Black, 1), "{to}");
+        assert!(rt; sound(&rules, &p));
+    }
     Ok(())
 }

@@ -1,0 +1,9 @@
+use Rattle.std.proofs.Common.{sym, ◌∙◌}
+use Rattle.legality.proofs.ListLaws.{made_found, made_goes}
+use Rattle.legality.proofs.search.can_go.Goals as goal
+
+pub returns-in-Ok : goal.returns-in-Ok
+returns-in-Ok c = let all = c.in-Ok.ensures.ok in sym all.taken.1 ∙ made_found _ _ _ c.requires.tables c.args.captures all.moves all.each
+
+pub returns-in-Err : goal.returns-in-Err
+returns-in-Err c = let some = c.in-Err.ensures.err in sym (made_goes _ _ _ c.requires.tables c.args.captures some.moves some.sound some.taken.1)

@@ -1,0 +1,14 @@
+-- What a choice chooses.
+use Rattle.std.specs.Prelude.{Bool, ◌&&◌}
+use Rattle.rules_model.specs.declared.moves.Move.{Move}
+use Rattle.rules_model.specs.Repeats.{repeat_of}
+use Rattle.legality.specs.declared.choice.Choice.{Choice}
+use Rattle.rules_model.specs.Legal.{is_sane}
+use Rattle.legality.specs.Chosen.{is_chosen, is_wanted}
+
+abbrev pub chosen_by : Choice → Move → Bool
+chosen_by choice m = is_chosen choice.tables.now (repeat_of choice.p.now) choice.captures m
+
+-- the choice suits a move that is fit: it is sane, and wanted
+abbrev pub suits : Choice → Move → Bool
+suits choice m = is_sane choice.tables.now (repeat_of choice.p.now) m && is_wanted choice.tables.now (repeat_of choice.p.now) choice.captures m

@@ -1,0 +1,63 @@
+-- What is chosen of the candidates.
+use Rattle.std.specs.Prelude.{◌≡◌, Bool, true, ◌&&◌, ◌||◌, not, nat_lt, Option, Some, None}
+use Rattle.std.specs.List.{list_any, filter}
+use Rattle.rules_model.specs.declared.board.Kind.{Kind}
+use Rattle.rules_model.specs.declared.board.Repeat.{Repeat}
+use Rattle.rules_model.specs.declared.moves.Move.{Move}
+use Rattle.rules_model.specs.declared.moves.Move.TheVariants.{Go, Castle, Drop}
+use Rattle.rules_model.specs.declared.moves.Placed.{Placed}
+use Rattle.rules_model.specs.declared.moves.Promo.{Promo}
+use Rattle.rules_model.specs.declared.moves.Promo.TheVariants.{Stays, Pawn, Plus}
+use Rattle.rules_model.specs.declared.rules.Rules.{Rules}
+use Rattle.rules_model.specs.Allowed.{can_capture}
+use Rattle.rules_model.specs.Candidates.{is_candidate}
+use Rattle.rules_model.specs.Legal.{every_move, is_allowed, is_sane}
+use Rattle.rules_model.specs.Moves.{IsFitMove}
+use Rattle.rules_model.specs.Next.{captures}
+
+-- a candidate on the largest board
+abbrev pub FitCandidates : Rules → Repeat → Move → Type 0
+FitCandidates rules r m = IsFitMove m × (is_candidate rules r m ≡ true)
+
+-- ---- the test of fit moves
+
+abbrev pub is_fit_promo : Promo → Bool
+is_fit_promo Stays = true
+is_fit_promo (Pawn kind) = nat_lt kind.0 26
+is_fit_promo Plus = true
+
+abbrev pub is_fit_gate : Option Kind → Bool
+is_fit_gate None = true
+is_fit_gate (Some kind) = nat_lt kind.0 26
+
+abbrev pub is_fit_placed : Option Placed → Bool
+is_fit_placed None = true
+is_fit_placed (Some placed) = nat_lt placed.kind.0 26 && nat_lt placed.at.0 120
+
+-- its squares are on the largest board, and its kinds are letters
+unfoldable pub is_fit_move : Move → Bool
+is_fit_move (Go from to promo gate) = nat_lt from.0 120 && nat_lt to.0 120 && is_fit_promo promo && is_fit_gate gate
+is_fit_move (Castle from to rook gate) = nat_lt from.0 120 && nat_lt to.0 120 && nat_lt rook.0 120 && is_fit_placed gate
+is_fit_move (Drop kind to) = nat_lt kind.0 26 && nat_lt to.0 120
+
+-- ---- the choice
+
+-- it captures, where only captures are wanted
+abbrev pub is_wanted : Rules → Repeat → Bool → Move → Bool
+is_wanted rules r only m = not only || captures rules r m
+
+-- of the candidates: those that are sane, and wanted
+unfoldable pub is_chosen : Rules → Repeat → Bool → Move → Bool
+is_chosen rules r only m = is_fit_move m && (is_sane rules r m && is_wanted rules r only m)
+
+-- some allowed move is wanted
+unfoldable pub can_go : Rules → Repeat → Bool → Bool
+can_go rules r only = list_any (is_wanted rules r only) (filter (is_allowed rules r) every_move)
+
+-- one must capture, and can
+unfoldable pub only_captures : Rules → Repeat → Bool
+only_captures rules r = rules.must_capture && can_go rules r true
+
+-- the move captures, or need not
+abbrev pub captures_if_forced : Rules → Repeat → Move → Bool
+captures_if_forced rules r m = not (rules.must_capture && can_capture rules r) || captures rules r m

@@ -1,0 +1,116 @@
+//! What is asked of the legal moves without a list of them.
+ghost use Rattle.std.specs.Prelude.{◌≡◌, ◌-◌, ◌^◌, ◌↔◌, min, not, true, length, IsTrue};
+ghost use Rattle.std.specs.Bool.{OnTrue};
+ghost use Rattle.foundation.specs.Member.{Member};
+ghost use Rattle.rules_model.specs.Allowed as Allowed;
+ghost use Rattle.rules_model.specs.Legal as Legal;
+ghost use Rattle.rules_model.specs.Moves.{IsFitMove};
+ghost use Rattle.rules_model.specs.Ready.{IsReady};
+ghost use Rattle.rules_model.specs.Repeats.{repeat_of};
+ghost use Rattle.legality.specs.Chosen.{captures_if_forced};
+
+use crate::candidates::{candidates_are_fit, is_candidate, push_candidates};
+use crate::capture::captures;
+use crate::choice::Choice;
+use crate::count::Counter;
+use crate::sanity::{checks_after, is_sane};
+use crate::search::{can_go, goes_on, only_captures};
+use attack_tables::Tables;
+use end_rules::{early_end, no_move};
+use rules_model::{Move, Outcome, Position, Rules};
+
+/// How many legal moves there are, up to 2^128 - 1. No memory is taken.
+pub fn count_legal(rules: &Rules, tables: &Tables, p: &Position) -> u128
+    requires ready { IsReady rules.now tables.now p.now }
+    ensures { result ≡ min (length (Legal.legal rules.now (repeat_of p.now))) (2 ^ 128 - 1) }
+{
+    if !goes_on(rules, p) {
+        return 0;
+    }
+    let captures = only_captures(rules, tables, p);
+    let choice = Choice {
+        tables,
+        p,
+        captures,
+    };
+    let mut counter = Counter { choice, count: 0 };
+    let _ = push_candidates(rules, tables, p, &mut counter);
+    counter.count
+}
+
+/// Whether there is a legal move. It stops at the first, and no memory is taken.
+pub fn any_legal(rules: &Rules, tables: &Tables, p: &Position) -> bool
+    requires ready { IsReady rules.now tables.now p.now }
+    ensures { result ≡ not (Legal.is_stuck rules.now (repeat_of p.now)) }
+{
+    goes_on(rules, p) && can_go(rules, tables, p, false)
+}
+
+/// The end that the position has by itself: an early end, or that no move is legal; `Outcome::Ongoing` where there is none. No memory
+/// is taken.
+#[tactic(auto, unfolding(rules_model::specs::Legal::own_end))]
+pub fn own_end(rules: &Rules, tables: &Tables, p: &Position) -> Outcome
+    requires ready { IsReady rules.now tables.now p.now }
+    ensures { result ≡ Legal.own_end rules.now (repeat_of p.now) }
+{
+    match early_end(rules, p) {
+        Outcome::Ongoing => {
+            if any_legal(rules, tables, p) {
+                Outcome::Ongoing
+            } else {
+                no_move(rules, p.side, tables.king_attacked(p, p.side))
+            }
+        }
+        end => end,
+    }
+}
+
+/// Whether the move is a candidate, and sane.
+#[tactic(auto, unfolding(rules_model::specs::Legal::is_allowed))]
+fn is_allowed(rules: &Rules, tables: &Tables, p: &Position, m: &Move) -> bool
+    requires ready { IsReady rules.now tables.now p.now }
+    ensures is { result ≡ Legal.is_allowed rules.now (repeat_of p.now) m.now }
+    ensures fit { OnTrue result (IsFitMove m.now) }
+{
+    candidates_are_fit(rules, p);
+    is_candidate(rules, tables, p, m) && is_sane(tables, p, m)
+}
+
+/// Whether the fit move captures, where one must capture and can.
+#[tactic(auto, unfolding(crate::specs::Chosen::can_go, rules_model::specs::Allowed::can_capture))]
+fn is_wanted(rules: &Rules, tables: &Tables, p: &Position, m: &Move) -> bool
+    requires ready { IsReady rules.now tables.now p.now }
+    requires fit { IsFitMove m.now }
+    ensures { result ≡ captures_if_forced rules.now (repeat_of p.now) m.now }
+{
+    !rules.must_capture || captures(rules, p, m) || !can_go(rules, tables, p, true)
+}
+
+/// Whether the move is legal by the rules.
+#[tactic(auto, unfolding(rules_model::specs::Allowed::is_legal))]
+fn is_lawful(rules: &Rules, tables: &Tables, p: &Position, m: &Move) -> bool
+    requires ready { IsReady rules.now tables.now p.now }
+    ensures is { result ≡ Allowed.is_legal rules.now (repeat_of p.now) m.now }
+    ensures fit { OnTrue result (IsFitMove m.now) }
+{
+    goes_on(rules, p) && is_allowed(rules, tables, p, m) && is_wanted(rules, tables, p, m)
+}
+
+/// Whether the move is legal: whether `legal_moves` lists it. Every value of `Move` may be asked for. No memory is taken, and no other
+/// move is looked at but where one must capture and this move does not.
+pub fn is_legal(rules: &Rules, tables: &Tables, p: &Position, m: &Move) -> bool
+    requires ready { IsReady rules.now tables.now p.now }
+    ensures is { result ≡ Allowed.is_legal rules.now (repeat_of p.now) m.now }
+    ensures member { IsTrue result ↔ Member m.now (Legal.legal rules.now (repeat_of p.now)) }
+{
+    is_lawful(rules, tables, p, m)
+}
+
+/// Whether the legal move attacks the other side's king.
+pub fn gives_check(rules: &Rules, tables: &Tables, p: &Position, m: &Move) -> bool
+    requires ready { IsReady rules.now tables.now p.now }
+    requires legal { Member m.now (Legal.legal rules.now (repeat_of p.now)) }
+    ensures { result ≡ Legal.gives_check rules.now (repeat_of p.now) m.now }
+{
+    checks_after(tables, p, m)
+}

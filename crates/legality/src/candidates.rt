@@ -1,0 +1,73 @@
+//! The candidates: the moves that meet the rules of movement, before the safety of kings and the rules of choice are looked at.
+ghost use Rattle.std.specs.Prelude.{◌≡◌, true, OnOk, OnErr, length, slice_index_or};
+ghost use Rattle.rules_model.specs.Regions.{no_region};
+ghost use Rattle.rules_model.specs.Sides.{side_index};
+ghost use Rattle.rules_model.specs.declared.moves.Move.{Move};
+ghost use Rattle.rules_model.specs.Moves.{IsFitMove};
+ghost use Rattle.move_sink.specs.Taking.{TakesAll, TakesSome};
+ghost use Rattle.rules_model.specs.Candidates as Candidates;
+ghost use Rattle.rules_model.specs.Fit.{IsFit};
+ghost use Rattle.rules_model.specs.Repeats.{repeat_of};
+ghost use Rattle.legality.specs.Chosen.{FitCandidates};
+
+use attack_tables::Tables;
+use move_sink::MoveSink;
+use rules_model::sizes::position_sizes;
+use rules_model::{KINDS, Move, Position, Region, Rules, Side};
+
+/// Gives the sink the candidates, each once and in no special order: those for which `is_candidate` answers yes.
+pub(crate) fn push_candidates<S: MoveSink>(
+    rules: &Rules,
+    tables: &Tables,
+    p: &Position,
+    out: &mut S,
+) -> Result<(), S::Full>
+    requires fit { IsFit rules.now }
+    requires tables { tables.now ≡ rules.now }
+    ensures ok { OnOk result (TakesAll S.takes (FitCandidates rules.now (repeat_of p.now)) out.old out.new) }
+    ensures err { OnErr result (TakesSome S.stops (FitCandidates rules.now (repeat_of p.now)) out.old out.new) }
+{
+    piece_moves::push_moves(rules, tables, p, out)?;
+    special_moves::push_moves(rules, tables, p, out)
+}
+
+/// Whether the move is a candidate.
+#[tactic(auto, unfolding(rules_model::specs::Candidates::is_candidate))]
+pub(crate) fn is_candidate(rules: &Rules, tables: &Tables, p: &Position, m: &Move) -> bool
+    requires fit { IsFit rules.now }
+    requires tables { tables.now ≡ rules.now }
+    ensures { result ≡ Candidates.is_candidate rules.now (repeat_of p.now) m.now }
+{
+    piece_moves::is_candidate(rules, tables, p, m)
+        || special_moves::is_candidate(rules, tables, p, m)
+}
+
+/// A mask has a place for each letter.
+fn mask_size(mask: &[bool; KINDS])
+    ensures { length mask.now ≡ 26 }
+{
+    let _first = mask[0];
+}
+
+fn region_size(region: &Region)
+    ensures { length region.now.squares ≡ 120 }
+{
+    let _first = region.squares[0];
+}
+
+/// The side's region has a place for each square.
+fn regions_size(regions: &[Region; 2], side: Side)
+    ensures { length (slice_index_or regions.now (side_index side) no_region).squares ≡ 120 }
+{
+    region_size(&regions[side.index()]);
+}
+
+/// The candidates are moves on the largest board.
+pub(crate) fn candidates_are_fit(rules: &Rules, p: &Position)
+    requires { IsFit rules.now }
+    ensures { (m : Move) → Candidates.is_candidate rules.now (repeat_of p.now) m ≡ true → IsFitMove m }
+{
+    mask_size(&rules.promotion_kinds);
+    regions_size(&rules.drop_region, p.side);
+    position_sizes(p);
+}
