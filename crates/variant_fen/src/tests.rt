@@ -1,8 +1,20 @@
 ghost use Rattle.rules_model.specs.Fit.{IsFit};
 
 use super::*;
-use sample_rules::{chess, shouse, xiangqi};
+use sample_rules::{chess, leapers, shouse, xiangqi};
 use std::process::Abort;
+use std::test::Fail;
+
+// The leapers on the largest board, with counted checks.
+fn wide() -> Rules
+    ensures { IsFit result }
+{
+    let mut rules = leapers();
+    rules.files = 12;
+    rules.ranks = 10;
+    rules.check_counting = true;
+    rules
+}
 
 /// The text is read, and the position prints as the second text.
 fn prints_as(
@@ -64,6 +76,25 @@ fn positions_are_read_and_printed(rt: HostRuntime) -> Result<(), Memory> {
     for (text, printed) in shouse_rows {
         prints_as(&rt, alloc, &rules, text, printed)?;
     }
+    let wide_rows = [
+        (
+            "k11/12/12/6n5/12/12/12/12/12/KCNCNCNCNCNC b - - 99+0 9999 9999",
+            "k11/12/12/6n5/12/12/12/12/12/KCNCNCNCNCNC b - - 99+0 9999 9999",
+        ),
+        // the counts are left out, and the number 0 is read as 1
+        (
+            "11k/12/12/12/12/12/12/12/12/11K w - - 0+3",
+            "11k/12/12/12/12/12/12/12/12/11K w - - 0+3 0 1",
+        ),
+        (
+            "11k/12/12/12/12/12/12/12/12/11K w - - 1+1 7 0",
+            "11k/12/12/12/12/12/12/12/12/11K w - - 1+1 7 1",
+        ),
+    ];
+    let rules = wide();
+    for (text, printed) in wide_rows {
+        prints_as(&rt, alloc, &rules, text, printed)?;
+    }
     let start = "rnbakabnr/9/1c5c1/p1p1p1p1p/9/9/P1P1P1P1P/1C5C1/9/RNBAKABNR w - - 0 1";
     prints_as(&rt, alloc, &xiangqi(), start, start)
 }
@@ -88,9 +119,63 @@ fn the_first_fault_is_answered(rt: HostRuntime) {
         ),
     ];
     for (text, fault) in rows {
-        match read_fen(&rules, text.as_bytes()) {
-            Ok(_) => assert!(&rt; false, "{text}"),
-            Err(found) => assert!(&rt; found == fault, "{text}"),
-        }
+        assert_eq!(rt; fault_of(&rules, text), Some(fault), "{text}");
     }
+}
+
+fn fault_of(rules: &Rules, text: &str) -> Option<FenFault>
+    requires { IsFit rules.now }
+{
+    read_fen(rules, text.as_bytes()).err()
+}
+
+#[test]
+fn ranks_checks_and_counts_have_bounds(rt: HostRuntime) -> Result<(), Fail> {
+    let rules = wide();
+    for (rank, last, fault) in [
+        ("11k", "- 3+2 0 1", None),
+        ("12k", "- 3+2 0 1", Some(FenFault::Width)),
+        ("10k", "- 3+2 0 1", Some(FenFault::Width)),
+        ("011k", "- 3+2 0 1", Some(FenFault::Width)),
+        ("56k", "- 3+2 0 1", Some(FenFault::Width)),
+        ("11k", "- 99+99 0 1", None),
+        ("11k", "- 100+3 0 1", Some(FenFault::Checks)),
+        ("11k", "- 3+100 0 1", Some(FenFault::Checks)),
+        ("11k", "- 3 0 1", Some(FenFault::Checks)),
+        ("11k", "- 3+ 0 1", Some(FenFault::Checks)),
+        ("11k", "- 3+2+1 0 1", Some(FenFault::Checks)),
+        ("11k", "- 03+2 0 1", Some(FenFault::Checks)),
+        ("11k", "- x 10000 1", Some(FenFault::Checks)),
+        ("11k", "- 0 1", Some(FenFault::Length)),
+        ("11k", "- 3+2 9999 9999", None),
+        ("11k", "- 3+2 10000 1", Some(FenFault::Counter)),
+        ("11k", "- 3+2 0 10000", Some(FenFault::Counter)),
+        ("11k", "- 3+2 01 1", Some(FenFault::Counter)),
+        (
+            "11k",
+            "- 3+2 0 99999999999999999999",
+            Some(FenFault::Counter),
+        ),
+    ] {
+        let text = format!(in rt.alloc(); "{rank}/12/12/12/12/12/12/12/12/11K w - {last}")?;
+        assert_eq!(rt; fault_of(&rules, &text), fault, "{text}");
+    }
+    Ok(())
+}
+
+// Two kings and so many knights in a hand: the text has 31 bytes besides.
+#[test]
+fn pieces_and_bytes_have_bounds(rt: HostRuntime) -> Result<(), Fail> {
+    let rules = shouse();
+    for (count, fault) in [
+        (238, None),
+        (239, Some(FenFault::TooMany)),
+        (993, Some(FenFault::TooMany)),
+        (994, Some(FenFault::Length)),
+    ] {
+        let knights = "n".repeat(rt.alloc(), count)?;
+        let text = format!(in rt.alloc(); "4k3/8/8/8/8/8/8/4K3[{knights}] w - - 0 1")?;
+        assert_eq!(rt; fault_of(&rules, &text), fault, "{count} knights");
+    }
+    Ok(())
 }

@@ -1,0 +1,17 @@
+use Rattle.std.proofs.Common.{sym, ◌∙◌}
+use Rattle.variant_options.specs.Letters.{kind}
+use Rattle.variant_model.specs.PieceLetters.{is_given_twice, letter_twice}
+use Rattle.section_rules.proofs.SearchLemmas.{count_own}
+use Rattle.section_rules.proofs.TableLemmas.{at_most_one, first_below-here, first_below-next, more_than_one}
+use Rattle.section_rules.proofs.lines.letter_twice.Goals as goal
+
+pub returns-then-letter_count-gt1 : goal.returns-then-letter_count-gt1
+unfolding letter_twice
+returns-then-letter_count-gt1 c =
+    let same = c.letter_count.ensures ∙ count_own c.args.lines.now c.own_letters-letters.result (kind c.loop-k.k) c.own_letters-letters.ensures in
+    sym (first_below-here (is_given_twice c.args.lines.now) 26 c.loop-k.k c.loop-k-test.true c.loop-k.invariant (more_than_one _ _ same c.if-letter_count-gt1.true))
+
+pub loop-k-preserved : goal.loop-k-preserved
+loop-k-preserved c =
+    let same = c.letter_count.ensures ∙ count_own c.args.lines.now c.own_letters-letters.result (kind c.loop-k.k) c.own_letters-letters.ensures in
+    first_below-next (is_given_twice c.args.lines.now) c.loop-k.k c.loop-k.invariant (at_most_one _ _ same c.if-letter_count-gt1.false)

@@ -1,0 +1,7 @@
+use Rattle.std.proofs.Common.{None, rules}
+use Rattle.section_rules.specs.Own.{own_value}
+use Rattle.section_rules.proofs.TableLemmas.{fill_pieces}
+use Rattle.section_rules.proofs.lines.own_letters.Goals as goal
+
+pub returns : goal.returns
+returns c = fill_pieces (λ piece. own_value c.args.lines.now piece.key) c.loop-i.letters None c.loop-i.invariant.0 (search rules)

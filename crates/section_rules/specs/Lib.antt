@@ -1,0 +1,4 @@
+pub mod Own
+pub mod Search
+pub mod Said
+pub mod Faultless

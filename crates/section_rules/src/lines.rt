@@ -1,0 +1,192 @@
+//! What the own lines of a section say, and their faults.
+ghost use Rattle.std.specs.Prelude.{◌≡◌, ◌<◌, IfOk, map, length, reverse};
+ghost use Rattle.std.specs.List.{find};
+ghost use Rattle.std.specs.Option.{option_copied};
+ghost use Rattle.std.specs.Str.{bytes_eq};
+ghost use Rattle.variant_ini.specs.Section.{last_value, section_at};
+ghost use Rattle.variant_options.specs.PieceTable.{pieces};
+ghost use Rattle.variant_options.specs.PieceView.{piece_view};
+ghost use Rattle.variant_model.specs.PieceRules.{piece_row};
+ghost use Rattle.variant_model.specs.Entry as Entry;
+ghost use Rattle.variant_model.specs.PieceLetters as PieceLetters;
+ghost use Rattle.section_rules.specs.Own.{own_value, letter_count, letter_given};
+
+use rules_model::kinds::names;
+use rules_model::{Kind, Memory, Text};
+use std::alloc::Global;
+use variant_ini::{KeyLine, Sections};
+use variant_model::SectionFault;
+use variant_options::LineFault;
+use variant_options::letters::KINDS;
+use variant_options::line::{PieceValue, line_fault, read_piece};
+use variant_options::pieces::{Piece, pieces};
+
+/// How many pieces the table has.
+pub(crate) const PIECES: usize = 56;
+
+/// What the lines of a section say of each piece of the table, in its order: None without a line for it, else the letter that its
+/// last line gives, where it gives one.
+pub(crate) type OwnLetters = [Option<Option<Kind>>; PIECES];
+
+fn has_key(line: &KeyLine, key: &[u8]) -> bool
+    ensures { result ≡ bytes_eq line.now.key key.now }
+{
+    let found = &line.key;
+    found.items.as_slice() == key
+}
+
+/// The last line with this key.
+fn last_line<'a>(lines: &'a [KeyLine], key: &[u8]) -> Option<&'a KeyLine>
+    ensures { option_copied result ≡ find (λ line. bytes_eq line.key key.now) (reverse lines.now) }
+{
+    lines.iter().rev().find(|line| has_key(line, key))
+}
+
+/// The value of the last line with this key.
+fn last_value<'a>(lines: &'a [KeyLine], key: &[u8]) -> Option<&'a [u8]>
+    ensures { option_copied result ≡ last_value lines.now key.now }
+{
+    match last_line(lines, key) {
+        Some(line) => {
+            let value = &line.value;
+            Some(value.items.as_slice())
+        }
+        None => None,
+    }
+}
+
+/// The letter that a piece's value gives.
+fn letter_in(value: &[u8]) -> Option<Kind>
+    ensures { result ≡ PieceLetters.letter_in value.now }
+{
+    match read_piece(value) {
+        Some(PieceValue::Lettered(kind)) => Some(kind),
+        Some(PieceValue::Spelled(kind, _)) => Some(kind),
+        _ => None,
+    }
+}
+
+/// What the lines say of a piece.
+fn own_value(lines: &[KeyLine], piece: &[u8]) -> Option<Option<Kind>>
+    ensures { result ≡ own_value lines.now piece.now }
+{
+    match last_value(lines, piece) {
+        Some(value) => Some(letter_in(value)),
+        None => None,
+    }
+}
+
+/// The piece at a place of the table.
+pub(crate) fn piece_at(place: usize) -> &'static Piece
+    requires { place < 56 }
+    ensures { piece_view result.now ≡ piece_row place }
+{
+    let table = pieces();
+    &table[place]
+}
+
+/// What the lines say of the piece at a place of the table.
+fn own_at(lines: &[KeyLine], place: usize) -> Option<Option<Kind>>
+    requires { place < 56 }
+    ensures { result ≡ own_value lines.now (piece_row place).key }
+{
+    let piece = piece_at(place);
+    own_value(lines, piece.0)
+}
+
+/// What the lines say of each piece.
+pub(crate) fn own_letters(lines: &[KeyLine]) -> OwnLetters
+    ensures { result ≡ map (λ piece. own_value lines.now piece.key) pieces }
+{
+    let mut letters = [None; PIECES];
+    for i in 0..PIECES {
+        letters[i] = own_at(lines, i);
+    }
+    letters
+}
+
+/// How many pieces the lines give the letter to.
+fn letter_count(letters: &OwnLetters, kind: Kind) -> usize
+    ensures { result ≡ letter_count letters.now kind }
+{
+    letters
+        .iter()
+        .filter(|letter| names(letter.flatten(), kind))
+        .count()
+}
+
+/// Whether the lines give the letter to some piece.
+pub(crate) fn letter_given(letters: &OwnLetters, kind: Kind) -> bool
+    ensures { result ≡ letter_given letters.now kind }
+{
+    letters.iter().any(|letter| names(letter.flatten(), kind))
+}
+
+/// The smallest letter that the lines give to more than one piece.
+#[tactic(auto, using(foundation::proofs::CountLemmas::first), unfolding(variant_model::specs::PieceLetters::letter_twice))]
+fn letter_twice(lines: &[KeyLine]) -> Option<u8>
+    ensures { result ≡ PieceLetters.letter_twice lines.now }
+{
+    let letters = own_letters(lines);
+    for k in 0..KINDS {
+        if letter_count(&letters, Kind(k)) > 1 {
+            return Some(k);
+        }
+    }
+    None
+}
+
+fn copy(alloc: Global, bytes: &[u8]) -> Result<Text, Memory>
+    ensures { IfOk result (λ text. text ≡ bytes.now) }
+{
+    Ok(Text {
+        items: Vec::from_slice(alloc, bytes)?,
+    })
+}
+
+/// The fault of a line, with its key.
+fn with_key(alloc: Global, key: &[u8], fault: LineFault) -> Result<SectionFault, Memory>
+    ensures { IfOk result (λ found. found ≡ Entry.with_key key.now fault) }
+{
+    let key = copy(alloc, key)?;
+    Ok(match fault {
+        LineFault::UnsupportedOption => SectionFault::UnsupportedOption(key),
+        LineFault::BadValue => SectionFault::BadValue(key),
+        LineFault::BadPiece(word) => SectionFault::BadPiece(key, word),
+    })
+}
+
+/// The fault of the first faulty line.
+#[tactic(auto, unfolding(variant_model::specs::Entry::lines_fault))]
+fn lines_fault(alloc: Global, lines: &[KeyLine]) -> Result<Option<SectionFault>, Memory>
+    ensures { IfOk result (λ fault. fault ≡ Entry.lines_fault lines.now) }
+{
+    for line in lines {
+        let key = &line.key;
+        let value = &line.value;
+        if let Some(fault) = line_fault(alloc, key.items.as_slice(), value.items.as_slice())? {
+            return Ok(Some(with_key(alloc, key.items.as_slice(), fault)?));
+        }
+    }
+    Ok(None)
+}
+
+/// The fault of a section's own lines, where they have one: that of the first faulty line, else the smallest letter that they give
+/// to two pieces.
+pub fn own_fault(
+    alloc: Global,
+    sections: &Sections,
+    place: usize,
+) -> Result<Option<SectionFault>, Memory>
+    requires { place < length sections.now }
+    ensures { IfOk result (λ fault. fault ≡ Entry.own_fault (section_at sections.now place).lines) }
+{
+    let lines = sections.lines(place);
+    if let Some(fault) = lines_fault(alloc, lines)? {
+        return Ok(Some(fault));
+    }
+    Ok(match letter_twice(lines) {
+        Some(letter) => Some(SectionFault::LetterTwice(Kind(letter))),
+        None => None,
+    })
+}

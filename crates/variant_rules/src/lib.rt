@@ -1,0 +1,18 @@
+//! The variants of a variants file: the rules of each section, or its first fault.
+#![tactic(auto)]
+
+mod built_in;
+mod found;
+pub mod laws;
+mod loading;
+mod named;
+mod variants;
+
+pub use built_in::builtin;
+pub use found::Found;
+pub use loading::load;
+pub use variant_model::SectionFault;
+pub use variants::Variants;
+
+#[cfg(test)]
+mod tests;
