@@ -1,0 +1,147 @@
+-- What a `Game` holds, when a move is played and when one is taken back.
+use Rattle.std.proofs.Common.{◌≡◌, ℕ, zero, suc, ◌+◌, ◌-◌, ◌<◌, ◌≤◌, true, List, [], ◌∷◌, ◌++◌, length, take, get_or, slice_index_or, refl, ap, sym, ◌∙◌, subst, arith}
+use Rattle.std.proofs.lemmas.List.{length-append, get_or_append_left, map-append, take_more}
+use Rattle.std.proofs.Math.Seq.{take-append_seam, get_or-append_seam, take-length}
+use Rattle.foundation.specs.Member.{Member}
+use Rattle.rules_model.specs.declared.board.Position.{Position}
+use Rattle.rules_model.specs.declared.moves.Move.{Move}
+use Rattle.rules_model.specs.declared.moves.Move.TheVariants.{Drop}
+use Rattle.rules_model.specs.declared.rules.Rules.{Rules}
+use Rattle.rules_model.specs.Fit.{IsFit}
+use Rattle.rules_model.specs.Games.{Story, history, story_from}
+use Rattle.rules_model.specs.Legal.{legal}
+use Rattle.rules_model.specs.Next.{next}
+use Rattle.rules_model.specs.Ready.{IsReady}
+use Rattle.rules_model.specs.Repeats.{repeat_of}
+use Rattle.rules_model.specs.Sound.{is_sound}
+use Rattle.rules_model.proofs.ResultLaws.{are_legal-none, story_from-none}
+use Rattle.game_play.specs.Keys.{key_of}
+use Rattle.game_play.specs.Played.{Played, story, longer, shorter, legal_in, IsPlayed, played_of, IsKept}
+use Rattle.game_play.proofs.KeyLemmas.{keys-take}
+use Rattle.game_play.proofs.StoryLemmas.{history-push, history-length, legal-push, legal-front, last-sound}
+
+-- ---- games
+
+-- the last position is sound
+pub played-last-sound : (g : Played) → IsPlayed g → is_sound g.rules (story g).last ≡ true
+played-last-sound g h = last-sound g.rules h.fit (record { earlier = []; last = g.start }) g.moves h.game.sound h.game.legal_moves
+
+pub played-new : (rules : Rules) (p : Position) → IsFit rules → is_sound rules p ≡ true → IsPlayed (record { rules = rules; start = p; moves = [] })
+played-new rules p fit s = record { fit = fit; game = record { sound = s; legal_moves = are_legal-none rules p }; few = omega arith }
+
+pub played-longer : (g : Played) (m : Move) → IsPlayed g → Member m (legal_in g) → length g.moves < 8192 → IsPlayed (longer g m)
+played-longer g m h k few = record {
+  fit = h.fit;
+  game = record { sound = h.game.sound; legal_moves = legal-push g.rules (record { earlier = []; last = g.start }) g.moves m h.game.legal_moves k };
+  few = let l = length-append g.moves (m ∷ []) in omega arith;
+}
+
+played-front : (rules : Rules) (p : Position) (ms : List Move) (m : Move) → IsPlayed (record { rules = rules; start = p; moves = ms ++ m ∷ [] }) → IsPlayed (record { rules = rules; start = p; moves = ms })
+played-front rules p ms m h = record {
+  fit = h.fit;
+  game = record { sound = h.game.sound; legal_moves = legal-front rules p ms (m ∷ []) h.game.legal_moves };
+  few = let l = length-append ms (m ∷ []) in let f = h.few in omega arith;
+}
+
+-- ---- what is held
+
+abbrev nothing : Move
+nothing = Drop (record { 0 = 0 }) (record { 0 = 0 })
+
+module _ (rules : Rules) where
+  -- as many positions as moves and one
+  pub kept-count : (ps : List Position) (ms : List Move) (ks : List ℕ) → IsKept rules ps ms ks → length ps ≡ length ms + 1
+  kept-count ps ms ks h =
+      let l = history-length rules (record { earlier = []; last = slice_index_or ps 0 rules.start }) ms in
+      ap length h.are_positions ∙ omega arith
+
+  -- the first one stays where one more is kept
+  same-start : (ps : List Position) (p : Position) → 0 < length ps → slice_index_or (ps ++ p ∷ []) 0 rules.start ≡ slice_index_or ps 0 rules.start
+  same-start ps p h = get_or_append_left ps (p ∷ []) rules.start 0 h
+
+  pub played_of-push : (ps : List Position) (ms : List Move) (p : Position) (m : Move) → 0 < length ps → played_of rules (ps ++ p ∷ []) (ms ++ m ∷ []) ≡ longer (played_of rules ps ms) m
+  played_of-push ps ms p m h i = record { rules = rules; start = same-start ps p h i; moves = ms ++ m ∷ [] }
+
+  pub kept-new : (p : Position) → IsFit rules → is_sound rules p ≡ true → IsKept rules (p ∷ []) [] (key_of (repeat_of p) ∷ [])
+  kept-new p fit s = record { by_rules = played-new rules p fit s; are_positions = sym (ap history (story_from-none rules (record { earlier = []; last = p }))); are_keys = refl }
+
+  pub kept-push : (ps : List Position) (ms : List Move) (ks : List ℕ) (m : Move) → IsKept rules ps ms ks → Member m (legal_in (played_of rules ps ms)) → length ms < 8192 →
+      let p = next rules (story (played_of rules ps ms)).last m in IsKept rules (ps ++ p ∷ []) (ms ++ m ∷ []) (ks ++ key_of (repeat_of p) ∷ [])
+  kept-push ps ms ks m h k few =
+      let p = next rules (story (played_of rules ps ms)).last m in
+      let c = kept-count ps ms ks h in
+      let e = played_of-push ps ms p m (omega arith) in
+      record {
+        by_rules = subst IsPlayed (sym e) (played-longer (played_of rules ps ms) m h.by_rules k few);
+        are_positions = ap (λ qs. qs ++ p ∷ []) h.are_positions ∙ sym (history-push rules (record { earlier = []; last = slice_index_or ps 0 rules.start }) ms m) ∙ sym (ap (λ (g : Played). history (story g)) e);
+        are_keys = ap (λ qs. qs ++ key_of (repeat_of p) ∷ []) h.are_keys ∙ sym (map-append (λ (q : Position). key_of (repeat_of q)) ps (p ∷ []));
+      }
+
+  -- ---- the last position
+
+  seam : (xs : List Position) (y : Position) (ps : List Position) (n : ℕ) (x : Position) → ps ≡ xs ++ y ∷ [] → n ≡ length ps → x ≡ get_or ps (n - 1) x → x ≡ y
+  seam xs y ps n x e l h =
+      let k = length-append xs (y ∷ []) in
+      let c = ap length e in
+      let i : n - 1 ≡ length xs = omega arith in
+      h ∙ ap (λ j. get_or ps j x) i ∙ ap (λ qs. get_or qs (length xs) x) e ∙ get_or-append_seam xs y [] x
+
+  pub kept-last : (ps : List Position) (ms : List Move) (ks : List ℕ) → IsKept rules ps ms ks → (n : ℕ) (x : Position) → n ≡ length ps → x ≡ get_or ps (n - 1) x → x ≡ (story (played_of rules ps ms)).last
+  kept-last ps ms ks h n x l e = seam (story (played_of rules ps ms)).earlier (story (played_of rules ps ms)).last ps n x h.are_positions l e
+
+  pub kept-ready : (ps : List Position) (ms : List Move) (ks : List ℕ) → IsKept rules ps ms ks → (n : ℕ) (x : Position) → n ≡ length ps → x ≡ get_or ps (n - 1) x → (r : Rules) → r ≡ rules → IsReady r rules x
+  kept-ready ps ms ks h n x l e r same = record {
+    fit = subst IsFit (sym same) h.by_rules.fit;
+    tables = sym same;
+    sound = subst (λ (s : Rules). is_sound s x ≡ true) (sym same) (subst (λ (q : Position). is_sound rules q ≡ true) (sym (kept-last ps ms ks h n x l e)) (played-last-sound (played_of rules ps ms) h.by_rules));
+  }
+
+  pub kept-few : (ps : List Position) (ms : List Move) (ks : List ℕ) → IsKept rules ps ms ks → length ps ≤ 8193
+  kept-few ps ms ks h = let c = kept-count ps ms ks h in let f = h.by_rules.few in omega arith
+
+  -- ---- a move more and a move less
+
+  -- with the names that a call has for what it found and made
+  pub kept-play : (ps : List Position) (ms : List Move) (ks : List ℕ) → IsKept rules ps ms ks → (r : Rules) (x p : Position) (m : Move) → r ≡ rules → x ≡ (story (played_of rules ps ms)).last → Member m (legal r (repeat_of x)) → length ms < 8192 → p ≡ next r x m →
+      (qs : List Position) (ns : List Move) (js : List ℕ) → qs ≡ ps ++ p ∷ [] → ns ≡ ms ++ m ∷ [] → js ≡ ks ++ key_of (repeat_of p) ∷ [] → IsKept rules qs ns js
+  kept-play ps ms ks h r x p m er ex k few ep qs ns js eq en ej =
+      let is : p ≡ next rules (story (played_of rules ps ms)).last m = ep ∙ ap (λ (s : Rules). next s x m) er ∙ ap (λ (q : Position). next rules q m) ex in
+      let there : Member m (legal_in (played_of rules ps ms)) = subst (λ (q : Position). Member m (legal rules (repeat_of q))) ex (subst (λ (s : Rules). Member m (legal s (repeat_of x))) er k) in
+      rw (eq, en, ej, is) (kept-push ps ms ks m h there few)
+
+  -- all but the last of the moves, and the last
+  whole : (ms : List Move) (n : ℕ) → n ≡ length ms → 0 < n → ms ≡ take (n - 1) ms ++ get_or ms (n - 1) nothing ∷ []
+  whole ms n e h =
+      let l : n - 1 < length ms = omega arith in
+      let s : n - 1 + 1 ≡ length ms = omega arith in
+      sym (take-length ms) ∙ ap (λ k. take k ms) (sym s) ∙ take_more ms (n - 1) nothing l
+
+  start-front : (ps : List Position) (n : ℕ) → 0 < n → slice_index_or (take n ps) 0 rules.start ≡ slice_index_or ps 0 rules.start
+  start-front [] zero h = refl
+  start-front [] (suc n) h = refl
+  start-front (p ∷ ps) zero h = absurd (omega arith)
+  start-front (p ∷ ps) (suc n) h = refl
+
+  pub played_of-front : (ps : List Position) (ms : List Move) (n : ℕ) → n ≡ length ms → 0 < n → played_of rules (take n ps) (take (n - 1) ms) ≡ shorter (played_of rules ps ms)
+  played_of-front ps ms n e h i = record { rules = rules; start = start-front ps n h i; moves = take (e i - 1) ms }
+
+  pub kept-front : (ps : List Position) (ms : List Move) (ks : List ℕ) → IsKept rules ps ms ks → (n : ℕ) → n ≡ length ms → 0 < n →
+      (qs : List Position) (ns : List Move) (js : List ℕ) → qs ≡ take n ps → ns ≡ take (n - 1) ms → js ≡ take n ks → IsKept rules qs ns js
+  kept-front ps ms ks h n e pos qs ns js eq en ej =
+      let start = slice_index_or ps 0 rules.start in
+      let front = take (n - 1) ms in
+      let m = get_or ms (n - 1) nothing in
+      let w = whole ms n e pos in
+      let s : Story = record { earlier = []; last = start } in
+      let short : IsPlayed (record { rules = rules; start = start; moves = front }) = played-front rules start front m (subst (λ (ns : List Move). IsPlayed (record { rules = rules; start = start; moves = ns })) w h.by_rules) in
+      let all : ps ≡ history (story_from rules s front) ++ next rules (story_from rules s front).last m ∷ [] = h.are_positions ∙ ap (λ (ns : List Move). history (story_from rules s ns)) w ∙ history-push rules s front m in
+      let l = history-length rules s front in
+      let f = length-append front (m ∷ []) in
+      let c = ap length w in
+      let count : n ≡ length (history (story_from rules s front)) = omega arith in
+      let part : take n ps ≡ history (story_from rules s front) = ap (take n) all ∙ ap (λ k. take k (history (story_from rules s front) ++ next rules (story_from rules s front).last m ∷ [])) count ∙ take-append_seam (history (story_from rules s front)) _ in
+      rw (eq, en, ej) (record {
+        by_rules = subst (λ (p : Position). IsPlayed (record { rules = rules; start = p; moves = front })) (sym (start-front ps n pos)) short;
+        are_positions = part ∙ ap (λ (p : Position). history (story_from rules (record { earlier = []; last = p }) front)) (sym (start-front ps n pos));
+        are_keys = ap (take n) h.are_keys ∙ keys-take n ps;
+      })

@@ -1,0 +1,6 @@
+pub mod StoryLemmas
+pub mod KeyLemmas
+pub mod KeptLemmas
+pub mod PerftLemmas
+pub mod LineLaws
+pub mod RepetitionLemmas

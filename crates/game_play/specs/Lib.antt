@@ -1,0 +1,4 @@
+pub mod Played
+pub mod Keys
+pub mod Perft
+pub mod Repetition

@@ -1,0 +1,100 @@
+//! A game that is kept: its rules, moves and positions.
+ghost use Rattle.std.specs.Prelude.{◌≡◌, true, IfOk, []};
+ghost use Rattle.rules_model.specs.Fit.{IsFit};
+ghost use Rattle.rules_model.specs.Games as Games;
+ghost use Rattle.rules_model.specs.Sound.{is_sound};
+ghost use Rattle.game_play.specs.Played.{story, IsPlayed};
+
+use crate::keys::key_of;
+use attack_tables::Tables;
+use rules_model::{Memory, Move, Position, Rules};
+use std::alloc::Global;
+use std::marker::Model;
+
+/// How many plies a game keeps at most.
+pub const MOST_PLIES: usize = 8192;
+
+/// A game: its rules, the position from which it started, and the moves that were played, each legal in its turn. A position is kept for each
+/// ply, some 600 bytes.
+#[derive(Drop)]
+pub struct Game {
+    pub(crate) tables: Tables,
+    pub(crate) positions: Vec<Position>,
+    pub(crate) moves: Vec<Move>,
+    /// A key for each position.
+    pub(crate) keys: Vec<u64>,
+}
+
+impl Model for Game {
+    ghost use Rattle.game_play.specs.Played.{Played, played_of, IsKept};
+
+    ghost Value = { Played };
+
+    ghost view = { λ g. played_of g.tables g.positions.items g.moves.items };
+
+    ghost invariant = { λ g. IsKept g.tables g.positions.items g.moves.items g.keys.items };
+}
+
+impl Game {
+    /// The game that starts from the position, with no move played, or `Memory`.
+    pub fn new(alloc: Global, rules: &Rules, start: &Position) -> Result<Game, Memory>
+        requires fit { IsFit rules.now }
+        requires sound { is_sound rules.now start.now ≡ true }
+        ensures { IfOk result (λ g. g ≡ record { rules = rules.now; start = start.now; moves = [] }) }
+    {
+        let tables = Tables::new(alloc, rules)?;
+        let mut positions = Vec::new(alloc);
+        positions.push(*start)?;
+        let mut keys = Vec::new(alloc);
+        keys.push(key_of(start))?;
+        Ok(Game {
+            tables,
+            positions,
+            moves: Vec::new(alloc),
+            keys,
+        })
+    }
+
+    /// The game was played by its rules, and has at most 8,192 plies. Nothing is done: the call tells a proof.
+    pub fn is_played(&self)
+        ensures { IsPlayed self.now }
+    {
+        let _plies = self.moves.len();
+    }
+
+    /// The rules of the game.
+    pub fn rules(&self) -> &Rules
+        ensures { result.now ≡ self.now.rules }
+    {
+        self.tables.rules()
+    }
+
+    /// The tables of the rules.
+    pub fn tables(&self) -> &Tables
+        ensures { result.now ≡ self.now.rules }
+    {
+        &self.tables
+    }
+
+    /// The position after the last move, with the other side to move.
+    pub fn position(&self) -> &Position
+        ensures is { result.now ≡ (story self.now).last }
+        ensures sound { is_sound self.now.rules result.now ≡ true }
+    {
+        &self.positions[self.positions.len() - 1]
+    }
+
+    /// All positions, from the start to the last one.
+    pub fn history(&self) -> &[Position]
+        ensures { result.now ≡ Games.history (story self.now) }
+    {
+        self.positions.as_slice()
+    }
+
+    /// The moves that were played, the first one first.
+    pub fn moves(&self) -> &[Move]
+        ensures { result.now ≡ self.now.moves }
+    {
+        self.moves.as_slice()
+    }
+}

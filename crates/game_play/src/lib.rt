@@ -1,0 +1,16 @@
+//! Games: a sound start, and legal moves each in turn (FIDE Laws of Chess, article 1), with their history and their results.
+#![tactic(auto)]
+
+pub mod faults;
+pub mod game;
+mod keys;
+pub mod laws;
+mod perft;
+mod play;
+mod repetition;
+mod results;
+#[cfg(test)]
+mod tests;
+
+pub use faults::{NothingPlayed, PlayFault};
+pub use game::{Game, MOST_PLIES};

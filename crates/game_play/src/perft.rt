@@ -1,0 +1,62 @@
+//! How many ways a game can go on.
+ghost use Rattle.std.specs.Prelude.{◌≡◌, ◌≤◌, ◌-◌, ◌^◌, min, IfOk, OnOk};
+ghost use Rattle.rules_model.specs.Ready.{IsReady};
+ghost use Rattle.game_play.specs.Perft as Perft;
+ghost use Rattle.game_play.specs.Played.{story};
+
+use crate::game::Game;
+use attack_tables::Tables;
+use legality::{apply, count_legal, push_legal};
+use rules_model::{Memory, MoveList, Position, Rules};
+use std::alloc::Global;
+
+/// How many lists of so many legal moves in turn there are from the position. The moves of each ply are put at the end of the list, and
+/// are taken off again.
+fn count_lines(
+    rules: &Rules,
+    tables: &Tables,
+    p: &Position,
+    plies: u8,
+    moves: &mut MoveList,
+) -> Result<u128, Memory>
+    requires ready { IsReady rules.now tables.now p.now }
+    requires some { 1 ≤ plies }
+    ensures count { IfOk result (λ n. n ≡ min (Perft.perft rules.now plies p.now) (2 ^ 128 - 1)) }
+    ensures kept { OnOk result (moves.new ≡ moves.old) }
+{
+    if plies == 1 {
+        return Ok(count_legal(rules, tables, p));
+    }
+    let first = moves.items.len();
+    push_legal(rules, tables, p, moves)?;
+    let mut total: u128 = 0;
+    for i in first..moves.items.len() {
+        let m = moves.items[i];
+        let mut next = *p;
+        apply(rules, tables, &mut next, &m);
+        total = total.saturating_add(count_lines(rules, tables, &next, plies - 1, moves)?);
+    }
+    moves.items.truncate(first);
+    Ok(total)
+}
+
+impl Game {
+    /// The number of lists of so many legal moves in turn after the last position: 1 to 9 moves; at most 2^128 - 1, which also stands for
+    /// more. Where the last position is ended by itself there is none; a game that is ended by repetition or move count goes on.
+    pub fn perft(&self, alloc: Global, plies: u8) -> Result<u128, Memory>
+        requires least { 1 ≤ plies }
+        requires most { plies ≤ 9 }
+        ensures { IfOk result (λ n. n ≡ min (Perft.perft self.now.rules plies (story self.now).last) (2 ^ 128 - 1)) }
+    {
+        let mut moves = MoveList {
+            items: Vec::new(alloc),
+        };
+        count_lines(
+            self.rules(),
+            &self.tables,
+            self.position(),
+            plies,
+            &mut moves,
+        )
+    }
+}

@@ -1,0 +1,61 @@
+//! The result of a game.
+ghost use Rattle.std.specs.Prelude.{◌≡◌};
+ghost use Rattle.rules_model.specs.Ends as Ends;
+ghost use Rattle.rules_model.specs.Games as Games;
+ghost use Rattle.game_play.specs.Played.{story};
+
+use crate::game::Game;
+use legality::own_end;
+use rules_model::{Cause, Outcome, Rules, Side, Value};
+
+/// What a value that a rule names for the side comes to.
+fn valued(value: Value, side: Side, cause: Cause) -> Outcome
+    ensures { result ≡ Ends.valued value side cause }
+{
+    match value {
+        Value::Win => Outcome::Won(side, cause),
+        Value::Loss => Outcome::Won(side.other(), cause),
+        Value::Draw => Outcome::Drawn(cause),
+    }
+}
+
+/// Whether the counter of plies has reached the move-count rule.
+#[tactic(auto, unfolding(rules_model::specs::Games::is_run_out))]
+fn is_run_out(rules: &Rules, counter: u16) -> bool
+    ensures { result ≡ Games.is_run_out rules.now counter }
+{
+    rules.n_move != 0 && u32::from(counter) >= 2 * u32::from(rules.n_move)
+}
+
+impl Game {
+    /// Whether the last position has stood as often as the repetition rule says.
+    #[tactic(auto, unfolding(rules_model::specs::Games::is_repeated))]
+    fn is_repeated(&self) -> bool
+        ensures { result ≡ Games.is_repeated self.now.rules (story self.now) }
+    {
+        let fold = self.tables.rules().n_fold;
+        fold != 0 && self.last_standings() >= u32::from(fold)
+    }
+
+    /// How the game stands, by the first that holds: an end by the position itself; no legal move; repetition; the move count; else it is
+    /// ongoing. A game that is ended by repetition or move count may be continued.
+    #[tactic(auto, unfolding(rules_model::specs::Games::result))]
+    pub fn outcome(&self) -> Outcome
+        ensures { result ≡ Games.result self.now.rules (story self.now) }
+    {
+        let rules = self.rules();
+        let last = self.position();
+        match own_end(rules, &self.tables, last) {
+            Outcome::Ongoing => {
+                if self.is_repeated() {
+                    valued(rules.n_fold_value, last.side, Cause::Repetition)
+                } else if is_run_out(rules, last.counter) {
+                    Outcome::Drawn(Cause::MoveCount)
+                } else {
+                    Outcome::Ongoing
+                }
+            }
+            end => end,
+        }
+    }
+}

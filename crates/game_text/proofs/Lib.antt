@@ -1,0 +1,4 @@
+pub mod FindLemmas
+pub mod PlayLemmas
+pub mod HeardLemmas
+pub mod ReadLemmas

@@ -1,0 +1,5 @@
+pub mod Playing
+pub mod GameText
+pub mod Fault
+pub mod Heard
+pub mod ReadView
