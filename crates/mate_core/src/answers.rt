@@ -7,16 +7,15 @@ ghost use Rattle.forced_wins.specs.declared.fact.Fact.{Fact};
 ghost use Rattle.forced_wins.specs.Facts as Facts;
 ghost use Rattle.mate_core.specs.Best as Best;
 
-use crate::equal::is_same;
 use forced_wins::Fact;
-use rules_model::Repeat;
+use rules_model::{Repeat, is_same_repeat};
 
 /// Whether the fact says if the attacker wins the repeat at the counter within so many of his moves.
 #[tactic(auto, unfolding(forced_wins::specs::Facts::serves))]
 pub fn serves(fact: &Fact, repeat: &Repeat, counter: u16, moves: u16) -> bool
     ensures { result ≡ Facts.serves fact.now repeat.now counter moves }
 {
-    is_same(&fact.repeat, repeat) && fact.covers(counter, moves)
+    is_same_repeat(&fact.repeat, repeat) && fact.covers(counter, moves)
 }
 
 /// Whether the first fact is of the repeat and the kind of the second, and answers all that the second answers.

@@ -3,7 +3,6 @@
 #![tactic(auto)]
 
 mod answers;
-mod equal;
 mod event;
 mod frame;
 mod hash;
@@ -15,7 +14,6 @@ mod tests;
 pub use answers::{
     as_good_facts_serve_as_much, best, best_is_the_first_of_the_least, is_as_good, serves, sooner,
 };
-pub use equal::is_same;
 pub use event::{Event, Reply};
 pub use forced_wins::Fact;
 pub use frame::Frame;

@@ -4,3 +4,6 @@ pub mod PassLemmas
 pub mod KeptLemmas
 pub mod SameLemmas
 pub mod RebaseLemmas
+pub mod DrawnRules
+pub mod PartLaws
+pub mod Crosses

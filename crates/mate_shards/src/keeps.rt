@@ -5,8 +5,8 @@ ghost use Rattle.mate_shards.specs.Kept as Kept;
 ghost use Rattle.mate_shards.specs.Keeps.{AreKeeps, picks};
 
 use crate::same_rules::are_same_rules;
-use mate_core::{Fact, Frame, is_same};
-use rules_model::Repeat;
+use mate_core::{Fact, Frame};
+use rules_model::{Repeat, is_same_repeat};
 
 /// Whether wins are kept, and whether refutations are.
 #[derive(Clone, Copy)]
@@ -55,5 +55,5 @@ fn are_in(xs: &[Repeat], ys: &[Repeat]) -> bool
 fn is_among(x: &Repeat, ys: &[Repeat]) -> bool
     ensures { result ≡ is_in ys.now x.now }
 {
-    ys.iter().any(|y| is_same(x, y))
+    ys.iter().any(|y| is_same_repeat(x, y))
 }

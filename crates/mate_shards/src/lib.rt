@@ -14,3 +14,6 @@ mod shards;
 
 pub use published::Published;
 pub use shards::{Passes, Shards};
+
+#[cfg(test)]
+mod tests;

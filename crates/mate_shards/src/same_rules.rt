@@ -2,8 +2,7 @@
 ghost use Rattle.std.specs.Prelude.{◌≡◌, ◌↔◌, IsTrue};
 ghost use Rattle.rules_model.specs.Repeats as Repeats;
 
-use mate_core::is_same;
-use rules_model::{Kind, KindRule, Position, Region, Rules, Term, repeat_of};
+use rules_model::{Kind, KindRule, Position, Region, Rules, Term, repeats};
 
 /// Whether the two are the same rules.
 pub fn are_same_rules(a: &Rules, b: &Rules) -> bool
@@ -175,7 +174,7 @@ fn is_same_position(a: &Position, b: &Position) -> bool
 fn is_same_repeat(a: &Position, b: &Position) -> bool
     ensures { IsTrue result ↔ (Repeats.repeat_of a.now ≡ Repeats.repeat_of b.now) }
 {
-    is_same(&repeat_of(a), &repeat_of(b))
+    repeats(a, b)
 }
 
 fn are_same_counts(a: &Position, b: &Position) -> bool

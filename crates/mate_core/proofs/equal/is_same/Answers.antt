@@ -1,6 +1,0 @@
-use Rattle.std.proofs.lemmas.Bool.Decides.{same_from_decides}
-use Rattle.rules_model.proofs.EqualLaws.{repeat-decides}
-use Rattle.mate_core.proofs.equal.is_same.Goals as goal
-
-pub returns : goal.returns
-returns c = same_from_decides _ _ c.are_equal.ensures (repeat-decides c.args.a.now c.args.b.now)
