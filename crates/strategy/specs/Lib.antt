@@ -1,0 +1,6 @@
+pub mod Fault
+pub mod Cut
+pub mod Said
+pub mod SaidView
+pub mod Reading
+pub mod Writing

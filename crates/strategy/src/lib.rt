@@ -1,0 +1,22 @@
+//! Strategies of forced mates, as values and as text, version 1: for each position that a forced mate can lead to, the
+//! attacker's move, or a move for each reply of the other side.
+#![tactic(auto)]
+
+mod cut;
+mod fault;
+mod header;
+pub mod laws;
+mod nodes;
+mod number;
+mod reader;
+mod reading;
+mod said;
+#[cfg(test)]
+mod tests;
+mod writing;
+
+pub use fault::StrategyFault;
+pub use nodes::{Counters, Edge, Edges, Node, Nodes, Strategy};
+pub use reader::Reader;
+pub use reading::read;
+pub use writing::write;

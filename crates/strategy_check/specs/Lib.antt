@@ -1,0 +1,5 @@
+pub mod Verdicts
+pub mod Rows
+pub mod Steps
+pub mod Buckets
+pub mod AtTable
