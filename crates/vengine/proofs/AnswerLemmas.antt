@@ -9,12 +9,17 @@ use Rattle.betza_text.specs.declared.fault.BetzaFault.{BetzaFault}
 use Rattle.betza_text.specs.declared.fault.BetzaFault.TheVariants as betza
 use Rattle.betza_text.specs.Word.{Spells, BetzaBad}
 use Rattle.betza_compile.specs.Terms.{terms}
-use Rattle.leapers.specs.Leapers.{leapers}
 use Rattle.rules_model.specs.declared.board.Cell.{Cell}
-use Rattle.rules_model.specs.declared.board.Position.{Position}
 use Rattle.rules_model.specs.declared.board.Square.{Square}
-use Rattle.rules_model.specs.Legal.{legal}
-use Rattle.rules_model.specs.Repeats.{repeat_of}
+use Rattle.variant_rules.specs.Entries.{Named}
+use Rattle.game_play.specs.Played.{Played}
+use Rattle.game_text.specs.declared.fault.GameFault.{GameFault}
+use Rattle.game_text.specs.declared.fault.NoGame.{NoGame}
+use Rattle.game_text.specs.declared.fault.NoGame.TheVariants.{Faulty, Unread, Memory}
+use Rattle.game_text.specs.Fault as game
+use Rattle.game_text.specs.GameText.{game_of, lines_of_game}
+use Rattle.game_text.specs.Heard.{Heard}
+use Rattle.game_text.specs.ReadView as read
 use Rattle.variant_ini.specs.Section.{Section}
 use Rattle.words.specs.Asked.{Asked, asked}
 use Rattle.words.specs.Command.{Command}
@@ -26,19 +31,15 @@ use Rattle.vengine.specs.declared.halt.Halt.TheVariants.{Usage, Fault, Stop}
 use Rattle.vengine.specs.declared.fault.Fault.TheVariants as fault
 use Rattle.vengine.specs.declared.stop.Stop.{Stop as Why}
 use Rattle.vengine.specs.declared.stop.Stop.TheVariants as stop
-use Rattle.vengine.specs.declared.game.GameFault.{GameFault}
-use Rattle.vengine.specs.declared.game.NoGame.{NoGame}
-use Rattle.vengine.specs.declared.game.NoGame.TheVariants.{Faulty, Unread}
-use Rattle.vengine.specs.Fault.{error_line, fault_status, fault_text, game_fault_text}
-use Rattle.vengine.specs.GameText.{game_of}
-use Rattle.vengine.specs.GameView.{IsUnreadGame, SaysGame}
+use Rattle.vengine.specs.Fault.{error_line, fault_status, fault_text}
+use Rattle.vengine.specs.GameView.{SaysGame}
 use Rattle.vengine.specs.HaltView.{Answers, HasVariants, IsFileFault, IsUnheard, OutcomeOf, betza_halt, game_halt}
-use Rattle.vengine.specs.MovesText.{moves_text}
 use Rattle.vengine.specs.ReachText.{reach_text}
 use Rattle.vengine.specs.Setup.{setup_of}
-use Rattle.vengine.specs.Shot.{Shot, SaysAsked, SaysCommand, SaysMoves, SaysMovesOf, SaysReach, reached, faulty_word, faulty_square, refused, answered}
-use Rattle.vengine.specs.StopView.{IsUnread}
-use Rattle.vengine.specs.Variants.{variants_fault}
+use Rattle.vengine.specs.Shot.{Shot, SaysAsked, SaysCommand, SaysOf, SaysReach, reached, faulty_word, faulty_square, refused, answered}
+use Rattle.vengine.specs.StopView.{IsUnread, IsUnsaid}
+use Rattle.vengine.specs.Variants.{sections_of, variants_fault}
+use Rattle.game_text.proofs.HeardLemmas.{heard_so, same_needed}
 use Rattle.vengine.proofs.ShotLemmas.{says_at, shot_asked, command_done}
 
 -- ---- the commands
@@ -60,17 +61,42 @@ word_answers word square own enemy (betza.BadHopper place) bad = faulty_word _ (
 word_answers word square own enemy (betza.BadNumber place) bad = faulty_word _ (bad (λ e. cc))
 word_answers word square own enemy (betza.TooManyTerms place) bad = faulty_word _ (bad (λ e. cc))
 
-pub moves_answers : (lines : List Line) (p : Position) (text : List ℕ) → game_of lines ≡ Ok p → text ≡ moves_text (legal leapers (repeat_of p)) → SaysMoves lines 0 text
-moves_answers lines p text game is = subst (λ (x : Result Position GameFault). SaysMovesOf x 0 text) (sym game) (refl, is)
+-- ---- games
 
-pub no_game_answers : (why : NoGame) (lines : List Line) → SaysGame (Err why) lines → Answers (Err (game_halt why)) (SaysMoves lines)
-no_game_answers (Faulty why) lines game = subst (λ (x : Result Position GameFault). SaysMovesOf x 3 (error_line (game_fault_text why))) (sym game) (refl, refl)
-no_game_answers (Unread why) lines game = tt
+-- what is printed of the game that was read
+pub game_answers : (print : Played → List ℕ) (said : Result Played GameFault) (g : Played) (text : List ℕ) → said ≡ Ok g → text ≡ print g → SaysOf print said 0 text
+game_answers print said g text is prints = subst (λ (x : Result Played GameFault). SaysOf print x 0 text) (sym is) (refl, prints)
 
-pub no_game_unheard : (why : NoGame) → IsUnheard {A = List ℕ} (Err (game_halt why)) → IsUnreadGame {A = Position} (Err why)
+-- or the fault of the game text
+pub no_game_answers : (print : Played → List ℕ) (said : Result Played GameFault) (why : Halt) → SaysGame said (Err why) → Answers (Err why) (SaysOf print said)
+no_game_answers print said Usage says = absurd says
+no_game_answers print said (Fault (fault.Betza why)) says = absurd says
+no_game_answers print said (Fault (fault.Reach why)) says = absurd says
+no_game_answers print said (Fault (fault.Game why)) says = subst (λ (x : Result Played GameFault). SaysOf print x 3 (error_line (game.fault_text why))) (sym says) (refl, refl)
+no_game_answers print said (Fault (fault.Ini why)) says = absurd says
+no_game_answers print said (Fault (fault.File why)) says = absurd says
+no_game_answers print said (Stop stop.Source) says = tt
+no_game_answers print said (Stop stop.Sink) says = absurd says
+no_game_answers print said (Stop stop.Memory) says = tt
+
+-- why no game was read
+pub no_game_says : (said : Result Played GameFault) (why : NoGame) → read.SaysGame said (Err why) → SaysGame said (Err (game_halt why))
+no_game_says said (Faulty why) says = says
+no_game_says said Unread says = tt
+no_game_says said Memory says = tt
+
+pub read_says : (said : Result Played GameFault) (r : Result Played NoGame) (g : Played) → r ≡ Ok g → read.SaysGame said r → said ≡ Ok g
+read_says said r g is says = subst (λ (x : Result Played NoGame). read.SaysGame said x) is says
+
+-- a game text of the variants of sections
+pub read_heard : (l l' : Option (List ℕ)) (variants variants' : List Named) (r : Result Played NoGame) → variants ≡ variants'
+    → Heard l l' (lines_of_game variants) (λ lines. read.SaysGame (game_of variants lines) r) → Heard l l' (lines_of_game variants') (λ lines. read.SaysGame (game_of variants' lines) r)
+read_heard l l' variants variants' r is heard = subst (λ (x : List Named). Heard l l' (lines_of_game x) (λ lines. read.SaysGame (game_of x lines) r)) is heard
+
+pub no_game_unheard : (why : NoGame) → IsUnheard {A = Played} (Err (game_halt why)) → read.IsUnread {A = Played} (Err why)
 no_game_unheard (Faulty why) unheard = absurd unheard
-no_game_unheard (Unread stop.Source) unheard = tt
-no_game_unheard (Unread stop.Memory) unheard = absurd unheard
+no_game_unheard Unread unheard = tt
+no_game_unheard Memory unheard = absurd unheard
 
 -- ---- outcomes
 
@@ -88,8 +114,22 @@ outcome_unheard (Ok said) (Err stop.Source) is unread = cc
 outcome_unheard (Err Usage) (Err stop.Source) is unread = cc
 outcome_unheard (Err (Fault why)) (Err stop.Source) is unread = cc
 outcome_unheard (Err (Stop stop.Source)) (Err stop.Source) is unread = tt
+outcome_unheard (Err (Stop stop.Sink)) (Err stop.Source) is unread = cc
 outcome_unheard (Err (Stop stop.Memory)) (Err stop.Source) is unread = cc
+outcome_unheard o (Err stop.Sink) is unread = absurd unread
 outcome_unheard o (Err stop.Memory) is unread = absurd unread
+
+-- no sink that failed is why there is none
+pub outcome_unsaid : (o : Result (List ℕ) Halt) (r : Result Answer Why) (Says : ℕ → List ℕ → Type 0) → OutcomeOf o r → Answers o Says → IsUnsaid r → ⊥
+outcome_unsaid o (Ok answer) Says is says unsaid = unsaid
+outcome_unsaid o (Err stop.Source) Says is says unsaid = unsaid
+outcome_unsaid (Ok said) (Err stop.Sink) Says is says unsaid = cc
+outcome_unsaid (Err Usage) (Err stop.Sink) Says is says unsaid = cc
+outcome_unsaid (Err (Fault why)) (Err stop.Sink) Says is says unsaid = cc
+outcome_unsaid (Err (Stop stop.Source)) (Err stop.Sink) Says is says unsaid = cc
+outcome_unsaid (Err (Stop stop.Sink)) (Err stop.Sink) Says is says unsaid = says
+outcome_unsaid (Err (Stop stop.Memory)) (Err stop.Sink) Says is says unsaid = cc
+outcome_unsaid o (Err stop.Memory) Says is says unsaid = unsaid
 
 -- status 6 is that of a file that was not read
 pub outcome_unread : (o : Result (List ℕ) Halt) (r : Result Answer Why) → OutcomeOf o r → IfOk r (λ answer. answer.status ≡ 6 → IsFileFault o)
@@ -112,35 +152,52 @@ pub answers_so : (o : Result (List ℕ) Halt) (P Q : ℕ → List ℕ → Type 0
 answers_so (Ok said) P Q so answers = so 0 said answers
 answers_so (Err Usage) P Q so answers = so 2 _ answers
 answers_so (Err (Fault why)) P Q so answers = so (fault_status why) _ answers
-answers_so (Err (Stop why)) P Q so answers = tt
+answers_so (Err (Stop stop.Source)) P Q so answers = tt
+answers_so (Err (Stop stop.Sink)) P Q so answers = answers
+answers_so (Err (Stop stop.Memory)) P Q so answers = tt
 
 -- a command is reached where the file of variants has no fault
-pub command_answers : (a : Asked) (files : Contents) (failed : ℕ) (input : List Line) (o : Result (List ℕ) Halt) → variants_fault a.variants files ≡ None → Answers o (SaysCommand a.command input)
+pub command_answers : (a : Asked) (files : Contents) (failed : ℕ) (input : List Line) (o : Result (List ℕ) Halt) → variants_fault a.variants files ≡ None → Answers o (SaysCommand (sections_of a.variants files) a.command input)
     → Answers o (SaysAsked a files failed input)
 command_answers a files failed input o none answers = answers_so o _ _ (λ status text says. answered status text none says) answers
 
+-- a command is reached for its lines where the file of variants has no fault
+reached_need : (a : Asked) (files : Contents) → variants_fault a.variants files ≡ None → (lines : List Line)
+    → lines_needed (sections_of a.variants files) a.command lines ≤ lines_asked (Some a) files lines
+reached_need a files none lines = rw none (omega arith)
+
+-- a command where the sections are those of the file
+pub command_heard : (a : Asked) (files : Contents) (failed : ℕ) (sections : List Section) (l l' : Option (List ℕ)) (o : Result (List ℕ) Halt) → HasVariants a.variants files failed (Ok sections)
+    → Heard l l' (lines_needed sections a.command) (λ lines. Answers o (SaysCommand sections a.command lines)) → Heard l l' (lines_asked (Some a) files) (λ lines. Answers o (SaysAsked a files failed lines))
+command_heard a files failed sections l l' o has heard =
+    let here = subst (λ (x : List Section). Heard l l' (lines_needed x a.command) (λ lines. Answers o (SaysCommand x a.command lines))) has.1 heard in
+    heard_so _ _ _ _ _ _ here (reached_need a files has.0) (λ lines says. command_answers a files failed lines o has.0 says)
+
 -- and no command answers by the fault of a file
-pub command_reads_no_file : (c : Command) (input : List Line) (o : Result (List ℕ) Halt) → Answers o (SaysCommand c input) → IsFileFault o → ⊥
-command_reads_no_file c input (Ok said) says file = file
-command_reads_no_file c input (Err Usage) says file = file
-command_reads_no_file c input (Err (Fault (fault.Betza why))) says file = file
-command_reads_no_file c input (Err (Fault (fault.Reach why))) says file = file
-command_reads_no_file c input (Err (Fault (fault.Game why))) says file = file
-command_reads_no_file c input (Err (Fault (fault.Ini why))) says file = file
-command_reads_no_file c input (Err (Fault (fault.File why))) says file =
-    elim (command_done c input 6 _ says) [ inl is ↦ absurd (omega (arith, is)) | inr is ↦ absurd (omega (arith, is)) ]
-command_reads_no_file c input (Err (Stop why)) says file = file
+pub command_reads_no_file : (sections : List Section) (c : Command) (input : List Line) (o : Result (List ℕ) Halt) → Answers o (SaysCommand sections c input) → IsFileFault o → ⊥
+command_reads_no_file sections c input (Ok said) says file = file
+command_reads_no_file sections c input (Err Usage) says file = file
+command_reads_no_file sections c input (Err (Fault (fault.Betza why))) says file = file
+command_reads_no_file sections c input (Err (Fault (fault.Reach why))) says file = file
+command_reads_no_file sections c input (Err (Fault (fault.Game why))) says file = file
+command_reads_no_file sections c input (Err (Fault (fault.Ini why))) says file = file
+command_reads_no_file sections c input (Err (Fault (fault.File why))) says file =
+    elim (command_done sections c input 6 _ says) [ inl is ↦ absurd (omega (arith, is)) | inr is ↦ absurd (omega (arith, is)) ]
+command_reads_no_file sections c input (Err (Stop why)) says file = file
 
 -- else the answer is its fault
 pub refusal_answers : (a : Asked) (files : Contents) (failed : ℕ) (input : List Line) (why : Halt) → HasVariants a.variants files failed (Err why) → Answers (Err why) (SaysAsked a files failed input)
 refusal_answers a files failed input Usage has = absurd has
 refusal_answers a files failed input (Fault why) has = refused why has
-refusal_answers a files failed input (Stop why) has = tt
+refusal_answers a files failed input (Stop stop.Source) has = tt
+refusal_answers a files failed input (Stop stop.Sink) has = has
+refusal_answers a files failed input (Stop stop.Memory) has = tt
 
 pub refusal_heard : (name : Option Text) (files : Contents) (failed : ℕ) (why : Halt) → HasVariants name files failed (Err why) → IsUnheard {A = List ℕ} (Err why) → ⊥
 refusal_heard name files failed Usage has unheard = unheard
 refusal_heard name files failed (Fault why) has unheard = unheard
 refusal_heard name files failed (Stop stop.Source) has unheard = has
+refusal_heard name files failed (Stop stop.Sink) has unheard = unheard
 refusal_heard name files failed (Stop stop.Memory) has unheard = unheard
 
 pub word_heard : (why : BetzaFault) → IsUnheard {A = List ℕ} (Err (betza_halt why)) → ⊥
@@ -161,5 +218,6 @@ pub words_answer : (words : List Text) (a : Asked) (files : Contents) (failed : 
     → Answers o (Shot words files failed input)
 words_answer words a files failed input o is answers = answers_so o _ _ (λ status text says. shot_asked words a files failed input status text is says) answers
 
-pub words_need : (words : List Text) (a : Asked) → asked words ≡ Some a → (lines : List Line) → lines_needed a.command lines ≤ lines_asked (asked words) lines
-words_need words a is lines = rw is (omega arith)
+pub words_need : (words : List Text) (a : Asked) (files : Contents) → asked words ≡ Some a → (lines : List Line)
+    → lines_asked (Some a) files lines ≤ lines_asked (asked words) files lines
+words_need words a files is lines = rw is (omega arith)

@@ -14,6 +14,7 @@ use Rattle.variant_ini.specs.declared.fault.IniFault.{IniFault}
 use Rattle.variant_ini.specs.declared.fault.IniFault.TheVariants as ini
 use Rattle.variant_ini.specs.Reading.{IsFaultOrMemory, fault_of, sections_in}
 use Rattle.variant_ini.specs.Section.{Section}
+use Rattle.variant_model.specs.Builtin.{builtin_sections}
 use Rattle.vengine.specs.declared.fault.FileFault.{FileFault}
 use Rattle.vengine.specs.declared.fault.FileFault.TheVariants as file_fault
 use Rattle.vengine.specs.declared.fault.Fault.TheVariants as fault
@@ -159,6 +160,7 @@ unread_refused name files failed (halt.Fault (File file_fault.Missing)) has = in
 unread_refused name files failed (halt.Fault (File file_fault.TooLarge)) has = inl (large_fault (files name) has)
 unread_refused name files failed (halt.Fault (File file_fault.Failed)) has = inr (has, refl)
 unread_refused name files failed (halt.Stop stop.Source) has = has
+unread_refused name files failed (halt.Stop stop.Sink) has = has
 unread_refused name files failed (halt.Stop stop.Memory) has = tt
 
 -- the fault of its bytes is why it is refused
@@ -174,6 +176,6 @@ faulty_refused name files failed bytes (ini.TooManySections line) has is = inl (
 
 -- else the file has its sections
 pub file_taken : (name : Text) (files : Contents) (failed : ℕ) (bytes : List ℕ) (sections : List Section) → HasFile (files name) failed (Ok bytes) → fault_of bytes ≡ None
-    → sections ≡ [] ++ sections_in bytes → HasVariants (Some name) files failed (Ok sections)
+    → sections ≡ builtin_sections ++ sections_in bytes → HasVariants (Some name) files failed (Ok sections)
 file_taken name files failed bytes sections has none are =
-    (read_fault (files name) bytes has.0 has.1 ∙ ap (option_map Ini) none, are ∙ sym (ap (λ (x : Option (List ℕ)). unwrap_or (option_map sections_in x) []) has.0))
+    (read_fault (files name) bytes has.0 has.1 ∙ ap (option_map Ini) none, are ∙ sym (ap (λ (x : Option (List ℕ)). builtin_sections ++ unwrap_or (option_map sections_in x) []) has.0))

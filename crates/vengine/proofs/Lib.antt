@@ -1,7 +1,7 @@
 mod AnswerLemmas
 mod FileLemmas
-mod GameLemmas
 mod HeardLemmas
 mod RunLemmas
 mod SetupLemmas
 mod ShotLemmas
+mod VariantLemmas

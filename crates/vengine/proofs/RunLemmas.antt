@@ -17,11 +17,11 @@ use Rattle.vengine.specs.declared.fault.FileFault.{FileFault}
 use Rattle.vengine.specs.declared.fault.FileFault.TheVariants.{Failed}
 use Rattle.vengine.specs.Commands.{asks_file, asks_input, lines_asked}
 use Rattle.vengine.specs.Fault.{fault_status}
-use Rattle.vengine.specs.Heard.{Heard}
+use Rattle.game_text.specs.Heard.{Heard}
 use Rattle.vengine.specs.Looked.{IsTold, IsTooLarge, Looked}
 use Rattle.vengine.specs.Run.{Completes, Decide, Did, DidPart, FilesFailed, HasFileCause, IsCut, IsDone, IsInput, IsUnreadable, May, NamesFile, TellsFiles, TellsInput}
 use Rattle.vengine.specs.Shot.{Shot, Says as ShotSays, SaysAsked, SaysFault, refused, answered}
-use Rattle.vengine.specs.Variants.{Refuses, variants_fault}
+use Rattle.vengine.specs.Variants.{Refuses, sections_of, variants_fault}
 use Rattle.vengine.proofs.FileLemmas.{why_unread}
 use Rattle.vengine.proofs.HeardLemmas.{settle}
 use Rattle.vengine.proofs.ShotLemmas.{command_done, shot_some, shot_done, shot_usage, shot_failing, shot_once, shot_without, shot_unnamed}
@@ -78,7 +78,7 @@ asked_since : (a : Asked) (files : Contents) (failed : ℕ) (input : List Line) 
     → IsSomeAnd a.variants (Unread files failed)
 asked_since a files failed input status text (refused why refuses) six = refused_since files failed a.variants why refuses six
 asked_since a files failed input status text (answered s t none says) six =
-    elim (command_done a.command input s t says) [ inl is ↦ absurd (omega (arith, is, six)) | inr is ↦ absurd (omega (arith, is, six)) ]
+    elim (command_done (sections_of a.variants files) a.command input s t says) [ inl is ↦ absurd (omega (arith, is, six)) | inr is ↦ absurd (omega (arith, is, six)) ]
 
 says_since : (c : Option Asked) (files : Contents) (failed : ℕ) (input : List Line) (status : ℕ) (text : List ℕ) → ShotSays c files failed input status text → status ≡ 6 → NamesFile c (Unread files failed)
 says_since None files failed input status text says six = let two = says.0 in absurd (omega (arith, two, six))
@@ -96,7 +96,7 @@ told_unread (Some has) files name told unread = subst (λ (x : Contents). (x nam
 -- files were read, and lines were heard, that have this answer
 abbrev pub Says : Option Contents → (List Read → Type 0) → Option (List ℕ) → Option (List ℕ) → List Text → ℕ → List ℕ → Type 0
 Says contents asks left left' words status text =
-    Looked contents asks (λ files failed. Heard left left' (lines_asked (asked words)) (λ input. Shot words files failed input status text))
+    Looked contents asks (λ files failed. Heard left left' (lines_asked (asked words) files) (λ input. Shot words files failed input status text))
 
 module _ {S K C F : Type 0} {left : S → Option (List ℕ)} {taken : K → Option (List ℕ)} {count last : C → ℕ} {contents : F → Option Contents} {faults : F → ℕ} where
   -- the text of an answer was written
@@ -129,7 +129,7 @@ module _ {S K C F : Type 0} {left : S → Option (List ℕ)} {taken : K → Opti
       → Says (contents f) (Reads contents faults f f') (left s) (left s') words status text → AppendsFront (taken k) (taken k') text
       → DidPart (Moves left taken count last s s' k k' c c) (Reads contents faults f f') (contents f) (left s) words
   run_part s s' k k' c f f' words status text looked wrote =
-      let heard = subst (λ (x : List ℕ). Heard (left s) (left s') (lines_asked (asked words)) (λ input. Shot words looked.files (faults_in looked.reads) input status x)) wrote.whole looked.holds in
+      let heard = subst (λ (x : List ℕ). Heard (left s) (left s') (lines_asked (asked words) looked.files) (λ input. Shot words looked.files (faults_in looked.reads) input status x)) wrote.whole looked.holds in
       let settled = settle (left s) (left s') _ _ heard in
       record {
         lines = heard.lines;
@@ -151,7 +151,7 @@ module _ {S K C F : Type 0} {left : S → Option (List ℕ)} {taken : K → Opti
 
   -- nothing was
   pub run_none : (s s' : S) (k : K) (c : C) (f f' : F) (words : List Text)
-      → Looked (contents f) (Reads contents faults f f') (λ files failed. Heard (left s) (left s') (lines_asked (asked words)) (λ input. ⊤))
+      → Looked (contents f) (Reads contents faults f f') (λ files failed. Heard (left s) (left s') (lines_asked (asked words) files) (λ input. ⊤))
       → DidPart (Moves left taken count last s s' k k c c) (Reads contents faults f f') (contents f) (left s) words
   run_none s s' k c f f' words looked =
       let heard = looked.holds in

@@ -10,28 +10,29 @@ use Rattle.betza_text.proofs.WordLaws.{word_or_fault, one_word, one_fault, not_b
 use Rattle.betza_compile.specs.Terms.{terms}
 use Rattle.io_ports.specs.Files.{Contents}
 use Rattle.io_ports.specs.Lines.{Line}
-use Rattle.leapers.specs.Leapers.{leapers}
 use Rattle.rules_model.specs.declared.board.Cell.{Cell}
-use Rattle.rules_model.specs.declared.board.Position.{Position}
 use Rattle.rules_model.specs.declared.board.Square.{Square}
-use Rattle.rules_model.specs.Legal.{legal}
-use Rattle.rules_model.specs.Repeats.{repeat_of}
+use Rattle.variant_ini.specs.Section.{Section}
+use Rattle.variant_rules.specs.Entries.{entries}
+use Rattle.game_play.specs.Played.{Played}
+use Rattle.game_text.specs.declared.fault.GameFault.{GameFault}
+use Rattle.game_text.specs.Fault as game
+use Rattle.game_text.specs.GameText.{game_of}
 use Rattle.words.specs.Asked.{Asked, asked}
-use Rattle.words.specs.Command.{Command, Reach, Moves}
+use Rattle.words.specs.Command.{Command, Reach, Moves, Status, Perft, Variants}
 use Rattle.words.specs.Options.{Text}
 use Rattle.vengine.specs.declared.fault.Fault.{Fault}
 use Rattle.vengine.specs.declared.fault.Fault.TheVariants as fault
 use Rattle.vengine.specs.declared.fault.FileFault.TheVariants.{Failed}
-use Rattle.vengine.specs.declared.game.GameFault.{GameFault}
 use Rattle.vengine.specs.Commands.{asks_file, asks_input, reads_input}
-use Rattle.vengine.specs.Fault.{error_line, fault_status, fault_text, game_fault_text, unplaced_text}
-use Rattle.vengine.specs.GameText.{game_of}
-use Rattle.vengine.specs.MovesText.{moves_text}
+use Rattle.vengine.specs.Fault.{error_line, fault_status, fault_text, unplaced_text}
+use Rattle.vengine.specs.GameTexts.{moves_of, status_of, perft_of}
 use Rattle.vengine.specs.ReachText.{reach_text}
 use Rattle.vengine.specs.Run.{IsDone, IsCut}
 use Rattle.vengine.specs.Setup.{Unplaced, setup_of}
-use Rattle.vengine.specs.Shot.{Shot, Says, SaysAsked, SaysCommand, SaysFault, SaysMoves, SaysMovesOf, SaysReach, reached, faulty_word, faulty_square, refused, answered, usage_line}
-use Rattle.vengine.specs.Variants.{Fails, Refuses, variants_fault}
+use Rattle.vengine.specs.Shot.{Shot, Says, SaysAsked, SaysCommand, SaysFault, SaysOf, SaysReach, reached, faulty_word, faulty_square, refused, answered, usage_line}
+use Rattle.vengine.specs.Variants.{Fails, Refuses, sections_of, variants_fault}
+use Rattle.vengine.specs.VariantsText.{variants_text}
 
 -- ---- some answer
 
@@ -48,20 +49,23 @@ reach_some word square own enemy =
       | inr (fault, bad) ↦ (3, error_line (betza_text fault), faulty_word fault bad)
     ]
 
--- of `moves`
-moves_some : (r : Result Position GameFault) → (status : ℕ) × (text : List ℕ) × SaysMovesOf r status text
-moves_some (Ok p) = (0, moves_text (legal leapers (repeat_of p)), (refl, refl))
-moves_some (Err fault) = (3, error_line (game_fault_text fault), (refl, refl))
+-- of a command that prints something of a game
+game_some : (print : Played → List ℕ) (r : Result Played GameFault) → (status : ℕ) × (text : List ℕ) × SaysOf print r status text
+game_some print (Ok g) = (0, print g, (refl, refl))
+game_some print (Err fault) = (3, error_line (game.fault_text fault), (refl, refl))
 
-command_some : (c : Command) (input : List Line) → (status : ℕ) × (text : List ℕ) × SaysCommand c input status text
-command_some (Reach word square own enemy) input = reach_some word square own enemy
-command_some Moves input = moves_some (game_of input)
+command_some : (sections : List Section) (c : Command) (input : List Line) → (status : ℕ) × (text : List ℕ) × SaysCommand sections c input status text
+command_some sections (Reach word square own enemy) input = reach_some word square own enemy
+command_some sections Moves input = game_some moves_of (game_of (entries sections) input)
+command_some sections Status input = game_some status_of (game_of (entries sections) input)
+command_some sections (Perft plies) input = game_some (perft_of plies) (game_of (entries sections) input)
+command_some sections Variants input = (0, variants_text (entries sections), (refl, refl))
 
 asked_some : (a : Asked) (files : Contents) (failed : ℕ) (input : List Line) → (status : ℕ) × (text : List ℕ) × SaysAsked a files failed input status text
 asked_some a files failed input = go (variants_fault a.variants files) refl
   where
     go : (o : Option Fault) → variants_fault a.variants files ≡ o → (status : ℕ) × (text : List ℕ) × SaysAsked a files failed input status text
-    go None is = let (status, text, says) = command_some a.command input in (status, text, answered status text is says)
+    go None is = let (status, text, says) = command_some (sections_of a.variants files) a.command input in (status, text, answered status text is says)
     go (Some why) is = (fault_status why, error_line (fault_text why), refused why (inl is))
 
 says_some : (c : Option Asked) (files : Contents) (failed : ℕ) (input : List Line) → (status : ℕ) × (text : List ℕ) × Says c files failed input status text
@@ -94,13 +98,16 @@ reach_done word square own enemy status text (reached b from cells spells is) = 
 reach_done word square own enemy status text (faulty_word why bad) = inr refl
 reach_done word square own enemy status text (faulty_square b why spells is) = inr refl
 
-moves_done : (r : Result Position GameFault) (status : ℕ) (text : List ℕ) → SaysMovesOf r status text → (status ≡ 0) ⊎ (status ≡ 3)
-moves_done (Ok p) status text says = inl says.0
-moves_done (Err why) status text says = inr says.0
+game_done : (print : Played → List ℕ) (r : Result Played GameFault) (status : ℕ) (text : List ℕ) → SaysOf print r status text → (status ≡ 0) ⊎ (status ≡ 3)
+game_done print (Ok g) status text says = inl says.0
+game_done print (Err why) status text says = inr says.0
 
-pub command_done : (c : Command) (input : List Line) (status : ℕ) (text : List ℕ) → SaysCommand c input status text → (status ≡ 0) ⊎ (status ≡ 3)
-command_done (Reach word square own enemy) input status text says = reach_done word square own enemy status text says
-command_done Moves input status text says = moves_done (game_of input) status text says
+pub command_done : (sections : List Section) (c : Command) (input : List Line) (status : ℕ) (text : List ℕ) → SaysCommand sections c input status text → (status ≡ 0) ⊎ (status ≡ 3)
+command_done sections (Reach word square own enemy) input status text says = reach_done word square own enemy status text says
+command_done sections Moves input status text says = game_done moves_of (game_of (entries sections) input) status text says
+command_done sections Status input status text says = game_done status_of (game_of (entries sections) input) status text says
+command_done sections (Perft plies) input status text says = game_done (perft_of plies) (game_of (entries sections) input) status text says
+command_done sections Variants input status text says = inl says.0
 
 fault_done : (why : Fault) → (fault_status why ≡ 3) ⊎ (fault_status why ≡ 6)
 fault_done (fault.Betza why) = inl refl
@@ -112,7 +119,7 @@ fault_done (fault.File why) = inr refl
 asked_done : (a : Asked) (files : Contents) (failed : ℕ) (input : List Line) (status : ℕ) (text : List ℕ) → SaysAsked a files failed input status text → (status ≡ 0) ⊎ (status ≡ 3) ⊎ (status ≡ 6)
 asked_done a files failed input status text (refused why refuses) = inr (fault_done why)
 asked_done a files failed input status text (answered s t none says) =
-    elim (command_done a.command input s t says) [ inl done ↦ inl done | inr done ↦ inr (inl done) ]
+    elim (command_done (sections_of a.variants files) a.command input s t says) [ inl done ↦ inl done | inr done ↦ inr (inl done) ]
 
 says_done : (c : Option Asked) (files : Contents) (failed : ℕ) (input : List Line) (status : ℕ) (text : List ℕ) → Says c files failed input status text → IsDone status
 says_done None files failed input status text says = inr (inl says.0)
@@ -192,14 +199,17 @@ reach_once word square own enemy s s' t t' (faulty_square b why spells set) (fau
 reach_once word square own enemy s s' t t' (faulty_square b why spells set) (faulty_square b' why' spells' set') =
     (refl, ap (λ (x : Unplaced). error_line (unplaced_text x)) (one_reason _ why why' set set'))
 
--- `moves` has one answer to its input
-moves_once : (r : Result Position GameFault) (s s' : ℕ) (t t' : List ℕ) → SaysMovesOf r s t → SaysMovesOf r s' t' → (s ≡ s') × (t ≡ t')
-moves_once (Ok p) s s' t t' says says' = (says.0 ∙ sym says'.0, says.1 ∙ sym says'.1)
-moves_once (Err fault) s s' t t' says says' = (says.0 ∙ sym says'.0, says.1 ∙ sym says'.1)
+-- a command that prints something of a game has one answer to its input
+game_once : (print : Played → List ℕ) (r : Result Played GameFault) (s s' : ℕ) (t t' : List ℕ) → SaysOf print r s t → SaysOf print r s' t' → (s ≡ s') × (t ≡ t')
+game_once print (Ok g) s s' t t' says says' = (says.0 ∙ sym says'.0, says.1 ∙ sym says'.1)
+game_once print (Err fault) s s' t t' says says' = (says.0 ∙ sym says'.0, says.1 ∙ sym says'.1)
 
-command_once : (c : Command) (input : List Line) (s s' : ℕ) (t t' : List ℕ) → SaysCommand c input s t → SaysCommand c input s' t' → (s ≡ s') × (t ≡ t')
-command_once (Reach word square own enemy) input s s' t t' says says' = reach_once word square own enemy s s' t t' says says'
-command_once Moves input s s' t t' says says' = moves_once (game_of input) s s' t t' says says'
+command_once : (sections : List Section) (c : Command) (input : List Line) (s s' : ℕ) (t t' : List ℕ) → SaysCommand sections c input s t → SaysCommand sections c input s' t' → (s ≡ s') × (t ≡ t')
+command_once sections (Reach word square own enemy) input s s' t t' says says' = reach_once word square own enemy s s' t t' says says'
+command_once sections Moves input s s' t t' says says' = game_once moves_of (game_of (entries sections) input) s s' t t' says says'
+command_once sections Status input s s' t t' says says' = game_once status_of (game_of (entries sections) input) s s' t t' says says'
+command_once sections (Perft plies) input s s' t t' says says' = game_once (perft_of plies) (game_of (entries sections) input) s s' t t' says says'
+command_once sections Variants input s s' t t' says says' = (says.0 ∙ sym says'.0, says.1 ∙ sym says'.1)
 
 -- where files do not fail, a refusal is that of their contents
 refuses_told : (name : Option Text) (files : Contents) (why : Fault) → Refuses name files 0 why → variants_fault name files ≡ Some why
@@ -219,7 +229,7 @@ asked_once a files input s s' t t' (refused why refuses) (refused why' refuses')
     (ap fault_status same, ap (λ (x : Fault). error_line (fault_text x)) same)
 asked_once a files input s s' t t' (refused why refuses) (answered status text none says) = absurd (faulty_or_not _ why (refuses_told a.variants files why refuses) none)
 asked_once a files input s s' t t' (answered status text none says) (refused why refuses) = absurd (faulty_or_not _ why (refuses_told a.variants files why refuses) none)
-asked_once a files input s s' t t' (answered status text none says) (answered status' text' none' says') = command_once a.command input _ _ _ _ says says'
+asked_once a files input s s' t t' (answered status text none says) (answered status' text' none' says') = command_once (sections_of a.variants files) a.command input _ _ _ _ says says'
 
 says_once : (c : Option Asked) (files : Contents) (input : List Line) (s s' : ℕ) (t t' : List ℕ) → Says c files 0 input s t → Says c files 0 input s' t' → (s ≡ s') × (t ≡ t')
 says_once None files input s s' t t' says says' = (says.0 ∙ sym says'.0, says.1 ∙ sym says'.1)
@@ -257,14 +267,18 @@ shot_failing words files failed input status text shot = says_failing (asked wor
 
 -- ---- words that read no input, and words that name no file
 
-command_without : (c : Command) (input input' : List Line) (status : ℕ) (text : List ℕ) → reads_input c ≡ false → SaysCommand c input status text → SaysCommand c input' status text
-command_without (Reach word square own enemy) input input' status text reads says = says
-command_without Moves input input' status text reads says = absurd (false≢true (sym reads))
+command_without : (sections : List Section) (c : Command) (input input' : List Line) (status : ℕ) (text : List ℕ) → reads_input c ≡ false → SaysCommand sections c input status text
+    → SaysCommand sections c input' status text
+command_without sections (Reach word square own enemy) input input' status text reads says = says
+command_without sections Variants input input' status text reads says = says
+command_without sections Moves input input' status text reads says = absurd (false≢true (sym reads))
+command_without sections Status input input' status text reads says = absurd (false≢true (sym reads))
+command_without sections (Perft plies) input input' status text reads says = absurd (false≢true (sym reads))
 
 asked_without : (a : Asked) (files : Contents) (failed : ℕ) (input input' : List Line) (status : ℕ) (text : List ℕ) → reads_input a.command ≡ false → SaysAsked a files failed input status text
     → SaysAsked a files failed input' status text
 asked_without a files failed input input' status text reads (refused why refuses) = refused why refuses
-asked_without a files failed input input' status text reads (answered s t none says) = answered s t none (command_without a.command input input' s t reads says)
+asked_without a files failed input input' status text reads (answered s t none says) = answered s t none (command_without (sections_of a.variants files) a.command input input' s t reads says)
 
 says_without : (c : Option Asked) (files : Contents) (failed : ℕ) (input input' : List Line) (status : ℕ) (text : List ℕ) → asks_input c ≡ false → Says c files failed input status text
     → Says c files failed input' status text
@@ -281,11 +295,17 @@ unnamed_none : (name : Option Text) (files : Contents) → is_some name ≡ fals
 unnamed_none None files none = refl
 unnamed_none (Some name) files none = absurd (false≢true (sym none))
 
+-- nor have the sections then any of a file
+unnamed_sections : (name : Option Text) (files files' : Contents) → is_some name ≡ false → sections_of name files ≡ sections_of name files'
+unnamed_sections None files files' none = refl
+unnamed_sections (Some name) files files' none = absurd (false≢true (sym none))
+
 asked_unnamed : (a : Asked) (files files' : Contents) (input : List Line) (status : ℕ) (text : List ℕ) → is_some a.variants ≡ false → SaysAsked a files 0 input status text
     → SaysAsked a files' 0 input status text
 asked_unnamed a files files' input status text none (refused why refuses) =
     absurd (faulty_or_not _ why (refuses_told a.variants files why refuses) (unnamed_none a.variants files none))
-asked_unnamed a files files' input status text none (answered s t no_fault says) = answered s t (unnamed_none a.variants files' none) says
+asked_unnamed a files files' input status text none (answered s t no_fault says) =
+    answered s t (unnamed_none a.variants files' none) (subst (λ (x : List Section). SaysCommand x a.command input s t) (unnamed_sections a.variants files files' none) says)
 
 says_unnamed : (c : Option Asked) (files files' : Contents) (input : List Line) (status : ℕ) (text : List ℕ) → asks_file c ≡ false → Says c files 0 input status text → Says c files' 0 input status text
 says_unnamed None files files' input status text none says = says

@@ -3,15 +3,13 @@
 use Rattle.std.specs.Prelude.{ℕ, List, ◌++◌, codes}
 use Rattle.std.specs.Fmt.{decimal}
 use Rattle.betza_text.specs.Fault as betza
-use Rattle.fen_model.specs.Fault as fen
+use Rattle.game_text.specs.Fault as game
 use Rattle.variant_ini.specs.declared.fault.IniFault.{IniFault}
 use Rattle.variant_ini.specs.declared.fault.IniFault.TheVariants as ini
 use Rattle.vengine.specs.declared.fault.FileFault.{FileFault}
 use Rattle.vengine.specs.declared.fault.FileFault.TheVariants as file
 use Rattle.vengine.specs.declared.fault.Fault.{Fault}
 use Rattle.vengine.specs.declared.fault.Fault.TheVariants.{Betza, Reach, Game, Ini, File}
-use Rattle.vengine.specs.declared.game.GameFault.{GameFault}
-use Rattle.vengine.specs.declared.game.GameFault.TheVariants as game
 use Rattle.vengine.specs.declared.setup.ReachFault.{ReachFault}
 use Rattle.vengine.specs.Setup.{Unplaced, NoSquare, Taken}
 use Rattle.vengine.specs.UnplacedView.{unplaced_of}
@@ -35,21 +33,10 @@ abbrev pub unplaced_text : Unplaced → List ℕ
 unplaced_text (NoSquare text) = codes "ReachFault 1 BadSquare " ++ text
 unplaced_text (Taken text) = codes "ReachFault 2 SquareTwice " ++ text
 
--- no variant has this name
-abbrev pub unknown_text : List ℕ → List ℕ
-unknown_text name = codes "GameFault 2 UnknownVariant " ++ name
-
-abbrev pub game_fault_text : GameFault → List ℕ
-game_fault_text (game.Missing line) = codes "GameFault 1 Missing " ++ decimal line
-game_fault_text (game.UnknownVariant name) = unknown_text name
-game_fault_text (game.BadPosition fault) = codes "GameFault 4 BadPosition " ++ fen.fault_text fault
-game_fault_text (game.LineTooLong line) = codes "GameFault 8 LineTooLong " ++ decimal line
-game_fault_text (game.NotBuilt line) = codes "GameFault 9 NotBuilt " ++ decimal line
-
 abbrev pub fault_text : Fault → List ℕ
 fault_text (Betza fault) = betza.fault_text fault
 fault_text (Reach fault) = unplaced_text (unplaced_of fault)
-fault_text (Game fault) = game_fault_text fault
+fault_text (Game fault) = game.fault_text fault
 fault_text (Ini fault) = ini_fault_text fault
 fault_text (File fault) = file_fault_text fault
 

@@ -1,34 +1,21 @@
--- What the code answers of a game text, as the definitions have it.
-use Rattle.std.specs.Prelude.{◌≡◌, ℕ, List, Some, None, Result, Ok, Err, ⊤}
-use Rattle.io_ports.specs.Lines.{Line}
-use Rattle.rules_model.specs.declared.board.Position.{Position}
-use Rattle.rules_model.specs.declared.rules.Rules.{Rules}
-use Rattle.vengine.specs.declared.game.NoGame.{NoGame}
-use Rattle.vengine.specs.declared.game.NoGame.TheVariants.{Faulty, Unread}
-use Rattle.vengine.specs.declared.stop.Stop.TheVariants.{Source, Memory}
-use Rattle.vengine.specs.GameText.{fault_after, game_after, game_of}
+-- What the code answers of the game text that a command reads, as the definitions have it.
+use Rattle.std.specs.Prelude.{◌≡◌, Result, Ok, Err, ⊤}
+use Rattle.game_play.specs.Played.{Played}
+use Rattle.game_text.specs.declared.fault.GameFault.{GameFault}
+use Rattle.vengine.specs.declared.fault.Fault.TheVariants.{Betza, Reach, Game, Ini, File}
+use Rattle.vengine.specs.declared.halt.Halt.{Halt}
+use Rattle.vengine.specs.declared.halt.Halt.TheVariants as halt
+use Rattle.vengine.specs.declared.stop.Stop.TheVariants as stop
 
--- no game was read since the source failed
-abbrev pub IsUnreadGame : {A : Type 0} → Result A NoGame → Type 0
-IsUnreadGame (Ok x) = ⊥
-IsUnreadGame (Err (Faulty fault)) = ⊥
-IsUnreadGame (Err (Unread Source)) = ⊤
-IsUnreadGame (Err (Unread Memory)) = ⊥
-
--- the lines from line 3 on have no fault, or this one
-abbrev pub SaysAfter : {A : Type 0} → Result A NoGame → List Line → Type 0
-SaysAfter (Ok x) lines = fault_after 3 lines ≡ None
-SaysAfter (Err (Faulty fault)) lines = fault_after 3 lines ≡ Some fault
-SaysAfter (Err (Unread stop)) lines = ⊤
-
--- the lines from line 2 on say this position, or have this fault
-abbrev pub SaysPosition : Rules → Result Position NoGame → List Line → Type 0
-SaysPosition rules (Ok p) lines = game_after rules lines ≡ Ok p
-SaysPosition rules (Err (Faulty fault)) lines = game_after rules lines ≡ Err fault
-SaysPosition rules (Err (Unread stop)) lines = ⊤
-
--- a game text of these lines says this position, or has this fault
-abbrev pub SaysGame : Result Position NoGame → List Line → Type 0
-SaysGame (Ok p) lines = game_of lines ≡ Ok p
-SaysGame (Err (Faulty fault)) lines = game_of lines ≡ Err fault
-SaysGame (Err (Unread stop)) lines = ⊤
+-- the game text says this game, or has this fault; where the run was cut short nothing is known of it
+abbrev pub SaysGame : Result Played GameFault → Result Played Halt → Type 0
+SaysGame said (Ok g) = said ≡ Ok g
+SaysGame said (Err halt.Usage) = ⊥
+SaysGame said (Err (halt.Fault (Betza fault))) = ⊥
+SaysGame said (Err (halt.Fault (Reach fault))) = ⊥
+SaysGame said (Err (halt.Fault (Game fault))) = said ≡ Err fault
+SaysGame said (Err (halt.Fault (Ini fault))) = ⊥
+SaysGame said (Err (halt.Fault (File fault))) = ⊥
+SaysGame said (Err (halt.Stop stop.Source)) = ⊤
+SaysGame said (Err (halt.Stop stop.Sink)) = ⊥
+SaysGame said (Err (halt.Stop stop.Memory)) = ⊤

@@ -11,8 +11,8 @@ use Rattle.vengine.specs.declared.fault.FileFault.{FileFault}
 use Rattle.vengine.specs.declared.fault.FileFault.TheVariants.{Missing, TooLarge, Failed}
 use Rattle.vengine.specs.declared.fault.Fault.{Fault}
 use Rattle.vengine.specs.declared.fault.Fault.TheVariants.{Betza, Reach, Game, Ini, File}
-use Rattle.vengine.specs.declared.game.NoGame.{NoGame}
-use Rattle.vengine.specs.declared.game.NoGame.TheVariants.{Faulty, Unread}
+use Rattle.game_text.specs.declared.fault.NoGame.{NoGame}
+use Rattle.game_text.specs.declared.fault.NoGame.TheVariants as no_game
 use Rattle.vengine.specs.declared.halt.Halt.{Halt}
 use Rattle.vengine.specs.declared.halt.Halt.TheVariants as halt
 use Rattle.vengine.specs.declared.answers.Answer.{Answer}
@@ -21,7 +21,7 @@ use Rattle.vengine.specs.declared.stop.Stop.TheVariants as stop
 use Rattle.vengine.specs.Fault.{error_line, fault_status, fault_text}
 use Rattle.vengine.specs.Looked.{IsTooLarge}
 use Rattle.vengine.specs.Shot.{usage_line}
-use Rattle.vengine.specs.Variants.{Refuses, variants_fault, variants_in}
+use Rattle.vengine.specs.Variants.{Refuses, sections_of, variants_fault}
 use Rattle.words.specs.Options.{Text}
 
 -- out of memory is no fault of a word
@@ -49,15 +49,19 @@ ini_halt (ini.BadLine line) = halt.Fault (Ini (ini.BadLine line))
 ini_halt (ini.TooManySections line) = halt.Fault (Ini (ini.TooManySections line))
 
 abbrev pub game_halt : NoGame → Halt
-game_halt (Faulty fault) = halt.Fault (Game fault)
-game_halt (Unread stop) = halt.Stop stop
+game_halt (no_game.Faulty fault) = halt.Fault (Game fault)
+game_halt no_game.Unread = halt.Stop stop.Source
+game_halt no_game.Memory = halt.Stop stop.Memory
 
--- the status and the text that an outcome comes to are among these; a run that was cut short has none
+-- the status and the text that an outcome comes to are among these; a run that was cut short has none, and no sink that failed
+-- cuts it short, since none was given anything yet
 abbrev pub Answers : Result (List ℕ) Halt → (ℕ → List ℕ → Type 0) → Type 0
 Answers (Ok text) Says = Says 0 text
 Answers (Err halt.Usage) Says = Says 2 usage_line
 Answers (Err (halt.Fault fault)) Says = Says (fault_status fault) (error_line (fault_text fault))
-Answers (Err (halt.Stop why)) Says = ⊤
+Answers (Err (halt.Stop stop.Source)) Says = ⊤
+Answers (Err (halt.Stop stop.Sink)) Says = ⊥
+Answers (Err (halt.Stop stop.Memory)) Says = ⊤
 
 -- the source failed
 abbrev pub IsUnheard : {A : Type 0} → Result A Halt → Type 0
@@ -65,6 +69,7 @@ IsUnheard (Ok x) = ⊥
 IsUnheard (Err halt.Usage) = ⊥
 IsUnheard (Err (halt.Fault fault)) = ⊥
 IsUnheard (Err (halt.Stop stop.Source)) = ⊤
+IsUnheard (Err (halt.Stop stop.Sink)) = ⊥
 IsUnheard (Err (halt.Stop stop.Memory)) = ⊥
 
 -- a file was not read
@@ -94,14 +99,16 @@ HasFile file failed (Err (halt.Fault (Game fault))) = ⊥
 HasFile file failed (Err (halt.Fault (Ini fault))) = ⊥
 HasFile file failed (Err (halt.Fault (File fault))) = HasFileFault file failed fault
 HasFile file failed (Err (halt.Stop stop.Source)) = ⊥
+HasFile file failed (Err (halt.Stop stop.Sink)) = ⊥
 HasFile file failed (Err (halt.Stop stop.Memory)) = ⊤
 
--- the file of variants of this name has these sections, or is refused
+-- these are the sections that there are with the file of this name, or it is refused
 abbrev pub HasVariants : Option Text → Contents → ℕ → Result (List Section) Halt → Type 0
-HasVariants name files failed (Ok sections) = (variants_fault name files ≡ None) × (sections ≡ variants_in name files)
+HasVariants name files failed (Ok sections) = (variants_fault name files ≡ None) × (sections ≡ sections_of name files)
 HasVariants name files failed (Err halt.Usage) = ⊥
 HasVariants name files failed (Err (halt.Fault fault)) = Refuses name files failed fault
 HasVariants name files failed (Err (halt.Stop stop.Source)) = ⊥
+HasVariants name files failed (Err (halt.Stop stop.Sink)) = ⊥
 HasVariants name files failed (Err (halt.Stop stop.Memory)) = ⊤
 
 -- the status and the text of an outcome; one that was cut short stays so, and there may be no memory

@@ -1,11 +1,11 @@
 pub mod Commands
 pub mod Fault
-pub mod GameText
 pub mod GameView
+pub mod GameTexts
 pub mod HaltView
-pub mod Heard
 pub mod Looked
 pub mod MovesText
+pub mod OutcomeText
 pub mod ReachText
 pub mod Run
 pub mod Setup
@@ -13,3 +13,4 @@ pub mod Shot
 pub mod StopView
 pub mod UnplacedView
 pub mod Variants
+pub mod VariantsText

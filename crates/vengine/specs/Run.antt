@@ -52,7 +52,7 @@ pub record Did (owed : Owed) (moved : List Line → List ℕ → List ℕ → Ty
   pub told_files : IsTold contents files
   pub agree : AgreeWith files reads
   pub input : IsInput left (lines ++ rest)
-  pub few : length lines ≤ lines_asked (asked words) (lines ++ rest)
+  pub few : length lines ≤ lines_asked (asked words) files (lines ++ rest)
   pub decided : Decide lines rest (λ input. May owed words files (faults_in reads) input readings status text)
   pub allowed : May owed words files (faults_in reads) (lines ++ rest) readings status text
 
@@ -71,7 +71,7 @@ pub record ShotPart (moved : List Line → List ℕ → List ℕ → Type 0) (re
   pub told_files : IsTold contents files
   pub agree : AgreeWith files reads
   pub input : IsInput left (lines ++ rest)
-  pub few : length lines ≤ lines_asked (asked words) (lines ++ rest)
+  pub few : length lines ≤ lines_asked (asked words) files (lines ++ rest)
   pub decided : (written ≡ [])
       ⊎ Decide lines rest (λ input. Shot words files (faults_in reads) input status (written ++ back))
   pub allowed : Shot words files (faults_in reads) (lines ++ rest) status (written ++ back)

@@ -1,9 +1,10 @@
 -- The file of variants, judged before the command.
-use Rattle.std.specs.Prelude.{◌≡◌, ◌⊎◌, ◌<◌, ℕ, nat_lt, List, length, Option, Some, None, option_map, if◌then◌else◌, [], unwrap_or}
+use Rattle.std.specs.Prelude.{◌≡◌, ◌⊎◌, ◌<◌, ℕ, nat_lt, List, length, Option, Some, None, option_map, if◌then◌else◌, [], ◌++◌, unwrap_or}
 use Rattle.io_ports.specs.declared.files.TheConstants.{MAX_FILE}
 use Rattle.io_ports.specs.Files.{Contents}
 use Rattle.variant_ini.specs.Reading.{fault_of, sections_in}
 use Rattle.variant_ini.specs.Section.{Section}
+use Rattle.variant_model.specs.Builtin.{builtin_sections}
 use Rattle.vengine.specs.declared.fault.FileFault.TheVariants.{Missing, TooLarge, Failed}
 use Rattle.vengine.specs.declared.fault.Fault.{Fault}
 use Rattle.vengine.specs.declared.fault.Fault.TheVariants.{Ini, File}
@@ -23,6 +24,10 @@ variants_fault (Some name) files = fault_in (files name)
 abbrev pub variants_in : Option Text → Contents → List Section
 variants_in None files = []
 variants_in (Some name) files = unwrap_or (option_map sections_in (files name)) []
+
+-- the sections that there are: those that are built in, and then those of the file
+abbrev pub sections_of : Option Text → Contents → List Section
+sections_of name files = builtin_sections ++ variants_in name files
 
 -- the files failed where one was named
 abbrev pub Fails : Option Text → ℕ → Fault → Type 0

@@ -1,29 +1,33 @@
 //! What the words of a run are answered.
-ghost use Rattle.std.specs.Prelude.{◌≡◌, ℕ, true, false, IfOk, map, string_bytes};
+ghost use Rattle.std.specs.Prelude.{◌≡◌, ◌≤◌, ℕ, true, false, IfOk, Some, map, string_bytes};
 ghost use Rattle.io_ports.specs.Cause.{HasCause};
 ghost use Rattle.io_ports.specs.Trace.{Reads};
 ghost use Rattle.vengine.specs.Commands.{asks_input, lines_asked, lines_needed, reads_input};
-ghost use Rattle.vengine.specs.GameText.{lines_of_game};
+ghost use Rattle.variant_rules.specs.Entries.{entries};
+ghost use Rattle.game_text.specs.GameText.{lines_of_game};
+ghost use Rattle.game_text.specs.Heard.{Heard};
+ghost use Rattle.vengine.specs.GameTexts as print;
 ghost use Rattle.vengine.specs.HaltView.{Answers, IsFileFault, IsUnheard, OutcomeOf};
-ghost use Rattle.vengine.specs.Heard.{Heard};
 ghost use Rattle.vengine.specs.Looked.{Looked};
-ghost use Rattle.vengine.specs.Shot.{SaysAsked, SaysCommand, SaysMoves, SaysReach, Shot, usage_line};
-ghost use Rattle.vengine.specs.StopView.{IsUnread};
+ghost use Rattle.vengine.specs.Shot.{SaysAsked, SaysCommand, SaysOfGame, SaysReach, Shot, usage_line};
+ghost use Rattle.vengine.specs.StopView.{IsUnread, IsUnsaid};
+ghost use Rattle.vengine.specs.VariantsText.{variants_text};
 ghost use Rattle.words.specs.Asked.{asked};
-ghost use Rattle.words.specs.View.{asked_seen, command_seen};
+ghost use Rattle.words.specs.View.{HasPlies, asked_seen, command_seen};
 
-use crate::game::read_game;
+use crate::game::{game_in, moves_of, perft_of, status_of};
 use crate::halt::Halt;
-use crate::moves::moves_of;
 use crate::reach::reach_text;
+use crate::sections::sections_with;
 use crate::setup::set_up;
 use crate::stop::Stop;
-use crate::variants::read_variants;
+use crate::variants::variants_of;
 use betza_compile::compile;
 use betza_text::parse;
 use foundation::{Memory, Text};
 use io_ports::{Files, Source};
 use std::alloc::{AllocError, Global};
+use variant_ini::Sections;
 use words::{Asked, Command, read_words};
 
 /// What the words are answered.
@@ -31,6 +35,7 @@ use words::{Asked, Command, read_words};
 pub struct Answer {
     /// The status with which the program ends.
     pub status: u8,
+    /// What is written: what the command prints, the line of a fault, or the usage line.
     pub text: Text,
 }
 
@@ -54,29 +59,76 @@ fn reach<'a>(
 }
 
 // The text of `moves`, whose input is a game text.
-fn moves<S: Source>(alloc: Global, source: &mut S) -> Result<Text, Halt<'static>>
-    ensures heard { Heard (S.left source.old) (S.left source.new) lines_of_game
-        (λ lines. Answers result (SaysMoves lines)) }
+fn moves<S: Source>(
+    alloc: Global,
+    sections: &Sections,
+    source: &mut S,
+) -> Result<Text, Halt<'static>>
+    ensures heard { Heard (S.left source.old) (S.left source.new) (lines_of_game (entries sections.now))
+        (λ lines. Answers result (SaysOfGame print.moves_of sections.now lines)) }
     ensures cause { HasCause (S.faults source.old) (S.faults source.new) (IsUnheard result) }
 {
-    let rules = leapers::leapers();
-    let p = read_game(alloc, &rules, source)?;
-    Ok(moves_of(alloc, &rules, &p)?)
+    let game = game_in(alloc, sections, source)?;
+    Ok(moves_of(alloc, &game)?)
 }
 
-// The text of a command.
+// The text of `status`, whose input is a game text.
+fn status<S: Source>(
+    alloc: Global,
+    sections: &Sections,
+    source: &mut S,
+) -> Result<Text, Halt<'static>>
+    ensures heard { Heard (S.left source.old) (S.left source.new) (lines_of_game (entries sections.now))
+        (λ lines. Answers result (SaysOfGame print.status_of sections.now lines)) }
+    ensures cause { HasCause (S.faults source.old) (S.faults source.new) (IsUnheard result) }
+{
+    let game = game_in(alloc, sections, source)?;
+    Ok(status_of(alloc, &game)?)
+}
+
+// The text of `perft`, whose input is a game text.
+fn perft<S: Source>(
+    alloc: Global,
+    plies: u8,
+    sections: &Sections,
+    source: &mut S,
+) -> Result<Text, Halt<'static>>
+    requires least { 1 ≤ plies }
+    requires most { plies ≤ 9 }
+    ensures heard { Heard (S.left source.old) (S.left source.new) (lines_of_game (entries sections.now))
+        (λ lines. Answers result (SaysOfGame (print.perft_of plies) sections.now lines)) }
+    ensures cause { HasCause (S.faults source.old) (S.faults source.new) (IsUnheard result) }
+{
+    let game = game_in(alloc, sections, source)?;
+    Ok(perft_of(alloc, plies, &game)?)
+}
+
+// The text of `variants`.
+fn variants(alloc: Global, sections: &Sections) -> Result<Text, Halt<'static>>
+    ensures answers { Answers result (λ status text. (status ≡ 0) × (text ≡ variants_text (entries sections.now))) }
+    ensures reads_nothing { ¬ (IsUnheard result) }
+{
+    Ok(variants_of(alloc, sections)?)
+}
+
+// The text of a command, where there are these sections.
 fn command_text<'a, S: Source>(
     alloc: Global,
     command: Command<'a>,
+    sections: &Sections,
     source: &mut S,
 ) -> Result<Text, Halt<'a>>
-    ensures heard { Heard (S.left source.old) (S.left source.new) (lines_needed (command_seen command.entry))
-        (λ lines. Answers result (SaysCommand (command_seen command.entry) lines)) }
+    requires plies { HasPlies command }
+    ensures heard { Heard (S.left source.old) (S.left source.new) (lines_needed sections.now (command_seen command.entry))
+        (λ lines. Answers result (SaysCommand sections.now (command_seen command.entry) lines)) }
     ensures cause { HasCause (S.faults source.old) (S.faults source.new) (IsUnheard result) }
     ensures unread { reads_input (command_seen command.entry) ≡ false → source.new ≡ source.old }
 {
     match command {
-        Command::Moves => moves(alloc, source),
+        Command::Moves => moves(alloc, sections, source),
+        Command::Status => status(alloc, sections, source),
+        Command::Perft(plies) => perft(alloc, plies, sections, source),
+        Command::Variants => variants(alloc, sections),
         Command::Reach {
             word,
             square,
@@ -93,16 +145,16 @@ fn asked_text<'a, S: Source, F: Files>(
     source: &mut S,
     files: &mut F,
 ) -> Result<Text, Halt<'a>>
+    requires plies { HasPlies asked.command }
     ensures says { Looked (F.contents files.old) (Reads F.contents F.faults files.old files.new) (λ contents failed.
-        Heard (S.left source.old) (S.left source.new) (lines_needed (asked_seen asked.entry).command)
+        Heard (S.left source.old) (S.left source.new) (lines_asked (Some (asked_seen asked.entry)) contents)
         (λ lines. Answers result (SaysAsked (asked_seen asked.entry) contents failed lines))) }
     ensures cause { HasCause (S.faults source.old) (S.faults source.new) (IsUnheard result) }
     ensures unread { reads_input (asked_seen asked.entry).command ≡ false → source.new ≡ source.old }
     ensures unreached { IsFileFault result → source.new ≡ source.old }
 {
-    // What the sections mean is not built: the variant that is played is `leapers`.
-    let _sections = read_variants(alloc, files, asked.variants)?;
-    command_text(alloc, asked.command, source)
+    let sections = sections_with(alloc, files, asked.variants)?;
+    command_text(alloc, asked.command, &sections, source)
 }
 
 // The text that words ask for.
@@ -113,7 +165,7 @@ fn words_text<'a, S: Source, F: Files>(
     files: &mut F,
 ) -> Result<Text, Halt<'a>>
     ensures says { Looked (F.contents files.old) (Reads F.contents F.faults files.old files.new) (λ contents failed.
-        Heard (S.left source.old) (S.left source.new) (lines_asked (asked (map string_bytes words.now)))
+        Heard (S.left source.old) (S.left source.new) (lines_asked (asked (map string_bytes words.now)) contents)
         (λ lines. Answers result (Shot (map string_bytes words.now) contents failed lines))) }
     ensures cause { HasCause (S.faults source.old) (S.faults source.new) (IsUnheard result) }
     ensures unread { asks_input (asked (map string_bytes words.now)) ≡ false → source.new ≡ source.old }
@@ -158,9 +210,10 @@ pub fn answer_to<S: Source, F: Files>(
     files: &mut F,
 ) -> Result<Answer, Stop>
     ensures says { Looked (F.contents files.old) (Reads F.contents F.faults files.old files.new) (λ contents failed.
-        Heard (S.left source.old) (S.left source.new) (lines_asked (asked (map string_bytes words.now))) (λ lines.
+        Heard (S.left source.old) (S.left source.new) (lines_asked (asked (map string_bytes words.now)) contents) (λ lines.
         IfOk result (λ answer. Shot (map string_bytes words.now) contents failed lines answer.status answer.text))) }
     ensures cause { HasCause (S.faults source.old) (S.faults source.new) (IsUnread result) }
+    ensures unsaid { ¬ (IsUnsaid result) }
     ensures unread { asks_input (asked (map string_bytes words.now)) ≡ false → source.new ≡ source.old }
     ensures unreached { IfOk result (λ answer. answer.status ≡ 6 → source.new ≡ source.old) }
 {

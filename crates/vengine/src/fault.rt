@@ -1,11 +1,12 @@
 //! What is answered in place of a text: a line `error FAULT`.
 ghost use Rattle.std.specs.Prelude.{◌≡◌, IfOk};
-ghost use Rattle.vengine.specs.Fault.{error_line, fault_status, fault_text, unknown_text};
+ghost use Rattle.game_text.specs.Fault.{fault_text as game_fault_text};
+ghost use Rattle.vengine.specs.Fault.{error_line, fault_status, fault_text};
 
-use crate::game::GameFault;
 use crate::setup::ReachFault;
 use betza_text::BetzaFault;
 use foundation::{Memory, Text};
+use game_text::{GameFault, write_fault};
 use std::alloc::{AllocError, Global};
 use std::fmt;
 use variant_ini::IniFault;
@@ -64,37 +65,25 @@ impl fmt::Display for PrintedIni {
 /// The fault of an argument, of the file of variants, or of the input.
 #[derive(Drop)]
 pub enum Fault<'a> {
+    /// The word of `reach` is not of Betza's notation.
     Betza(BetzaFault),
+    /// A square of `reach` is not on the board, or has a piece already.
     Reach(ReachFault<'a>),
+    /// The input says no game.
     Game(GameFault),
+    /// The file of variants is not of its format.
     Ini(IniFault),
+    /// The file of variants was not read.
     File(FileFault),
 }
 
-impl<'a> fmt::Display for Fault<'a> {
-    ghost use Rattle.std.specs.Prelude.{Some};
-    ghost use Rattle.vengine.specs.Fault.{fault_text};
-
-    ghost output = { λ fault. Some (fault_text fault) };
-
-    /// As the fault prints. An error where it names bytes of the input that are not UTF-8.
-    fn fmt<W: fmt::Write>(&self, f: &mut fmt::Formatter<W>) -> fmt::Result {
-        match self {
-            Fault::Betza(fault) => write!(f, "{fault}"),
-            Fault::Reach(fault) => write!(f, "{fault}"),
-            Fault::Game(fault) => write!(f, "{fault}"),
-            Fault::Ini(fault) => write!(f, "{}", PrintedIni(*fault)),
-            Fault::File(fault) => write!(f, "{fault}"),
-        }
-    }
-}
-
-// The line of an unknown variant, whose name may be any bytes.
-fn unknown_line(alloc: Global, name: &[u8]) -> Result<Vec<u8>, AllocError>
-    ensures { IfOk result (λ line. line.items ≡ error_line (unknown_text name.now)) }
+// The line of the fault of a game text, whose names and texts may be any bytes.
+fn game_line(alloc: Global, fault: &GameFault) -> Result<Vec<u8>, Memory>
+    ensures { IfOk result (λ line. line.items ≡ error_line (game_fault_text fault.now)) }
 {
-    let mut line = b"error GameFault 2 UnknownVariant ".to_vec(alloc)?;
-    line.extend_from_slice(name)?;
+    let text = write_fault(alloc, fault)?;
+    let mut line = b"error ".to_vec(alloc)?;
+    line.extend_from_slice(text.items.as_slice())?;
     line.push(b'\n')?;
     Ok(line)
 }
@@ -115,10 +104,11 @@ impl<'a> Fault<'a> {
         ensures { IfOk result (λ line. line ≡ error_line (fault_text self.now)) }
     {
         let items = match self {
-            Fault::Game(GameFault::UnknownVariant(name)) => {
-                unknown_line(alloc, name.items.as_slice())?
-            }
-            fault => format!(in alloc; "error {fault}\n")?.into_bytes(),
+            Fault::Betza(fault) => format!(in alloc; "error {fault}\n")?.into_bytes(),
+            Fault::Reach(fault) => format!(in alloc; "error {fault}\n")?.into_bytes(),
+            Fault::Game(fault) => game_line(alloc, fault)?,
+            Fault::Ini(fault) => format!(in alloc; "error {}\n", PrintedIni(*fault))?.into_bytes(),
+            Fault::File(fault) => format!(in alloc; "error {fault}\n")?.into_bytes(),
         };
         Ok(Text { items })
     }

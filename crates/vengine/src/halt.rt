@@ -6,11 +6,11 @@ ghost use Rattle.vengine.specs.declared.stop.Stop.TheVariants as stop;
 ghost use Rattle.vengine.specs.HaltView.{betza_halt, game_halt, ini_halt};
 
 use crate::fault::Fault;
-use crate::game::NoGame;
 use crate::setup::ReachFault;
 use crate::stop::Stop;
 use betza_text::BetzaFault;
 use foundation::Memory;
+use game_text::NoGame;
 use std::alloc::AllocError;
 use variant_ini::IniFault;
 
@@ -77,7 +77,8 @@ impl<'a> From<NoGame> for Halt<'a> {
     fn from(why: NoGame) -> Self {
         match why {
             NoGame::Faulty(fault) => Halt::Fault(Fault::Game(fault)),
-            NoGame::Unread(stop) => Halt::Stop(stop),
+            NoGame::Unread => Halt::Stop(Stop::Source),
+            NoGame::Memory => Halt::Stop(Stop::Memory),
         }
     }
 }

@@ -98,6 +98,7 @@ where
             Err(_) => SINK_FAILED,
         },
         Err(Stop::Source) => SOURCE_FAILED,
+        Err(Stop::Sink) => SINK_FAILED,
         Err(Stop::Memory) => NO_MEMORY,
     }
 }

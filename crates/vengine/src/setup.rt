@@ -14,7 +14,9 @@ pub type Cells = [Option<Cell>; 120];
 /// A board with a piece to move.
 #[derive(Clone, Copy)]
 pub struct Setup {
+    /// What stands on each square, the piece to move too.
     pub cells: Cells,
+    /// The square of the piece to move.
     pub from: Square,
 }
 

@@ -1,11 +1,14 @@
-//! Why a run has no answer.
+//! Why a run is cut short.
 use foundation::Memory as NoMemory;
 use std::alloc::AllocError;
 
+/// Why a run is cut short.
 #[derive(Clone, Copy, Debug, PartialEq, Eq)]
 pub enum Stop {
     /// The source failed.
     Source,
+    /// The sink failed: it did not take all that it was given.
+    Sink,
     /// There was no memory.
     Memory,
 }

@@ -1,76 +1,64 @@
-//! Reads the file of variants.
-ghost use Rattle.std.specs.Prelude.{◌≡◌, ℕ, Some};
-ghost use Rattle.io_ports.specs.Trace.{Reads};
-ghost use Rattle.vengine.specs.Looked.{Looked};
-ghost use Rattle.vengine.specs.HaltView.{HasFile, HasVariants};
-ghost use Rattle.words.specs.View.{text_in};
+//! What `variants` prints: each section with its verdict.
+ghost use Rattle.std.specs.Prelude.{◌≡◌, ◌<◌, ◌++◌, IfOk, OnOk, length};
+ghost use Rattle.variant_rules.specs.Entries.{entries};
+ghost use Rattle.variant_rules.specs.View.{lent};
+ghost use Rattle.vengine.specs.VariantsText.{line_at, variants_text, verdict_text};
 
-use crate::fault::{Fault, FileFault};
-use crate::halt::Halt;
-use crate::stop::Stop;
-use foundation::Text;
-use io_ports::{Files, Given, MAX_FILE};
-use std::alloc::Global;
+use foundation::{Memory, Text};
+use rules_model::Rules;
+use std::alloc::{AllocError, Global};
 use variant_ini::Sections;
+use variant_model::SectionFault;
+use variant_rules::{Variants, load};
 
-fn unread(why: FileFault) -> Halt<'static>
-    ensures { result ≡ Halt.Fault (Fault.File why) }
-{
-    Halt::Fault(Fault::File(why))
-}
-
-// The bytes of a file, where they are not too many. Files that do not tell what they have may give too many.
-fn within_limit(bytes: Vec<u8>) -> Result<Text, Halt<'static>>
-    ensures { (failed : ℕ) → HasFile (Some bytes.items) failed result }
-{
-    if bytes.len() <= MAX_FILE {
-        Ok(Text { items: bytes })
-    } else {
-        Err(unread(FileFault::TooLarge))
-    }
-}
-
-// The bytes of the file of this name.
-fn read_file<F: Files>(alloc: Global, files: &mut F, name: &[u8]) -> Result<Text, Halt<'static>>
-    ensures { Looked (F.contents files.old) (Reads F.contents F.faults files.old files.new)
-        (λ contents failed. HasFile (contents name.now) failed result) }
-{
-    let mut bytes = Vec::new(alloc);
-    match files.read(name, &mut bytes) {
-        Given::Bytes => within_limit(bytes),
-        Given::TooLarge => Err(unread(FileFault::TooLarge)),
-        Given::Missing => Err(unread(FileFault::Missing)),
-        Given::Failed => Err(unread(FileFault::Failed)),
-        Given::Memory => Err(Halt::Stop(Stop::Memory)),
-    }
-}
-
-// The sections of the file of this name.
-fn read_sections<F: Files>(
+// Appends whether a section is accepted, or its fault.
+fn push_verdict(
     alloc: Global,
-    files: &mut F,
-    name: &[u8],
-) -> Result<Sections, Halt<'static>>
-    ensures { Looked (F.contents files.old) (Reads F.contents F.faults files.old files.new)
-        (λ contents failed. HasVariants (Some name.now) contents failed result) }
+    text: &mut Vec<u8>,
+    entry: Result<&Rules, &SectionFault>,
+) -> Result<(), AllocError>
+    ensures { OnOk result (text.new.items ≡ text.old.items ++ verdict_text (lent entry.entry)) }
 {
-    let bytes = read_file(alloc, files, name)?;
-    let mut sections = Sections::new(alloc);
-    sections.add(bytes.items.as_slice())?;
-    Ok(sections)
+    match entry {
+        Ok(_) => text.extend_from_slice(b" ok\n"),
+        Err(fault) => {
+            let line = format!(in alloc; " {fault}\n")?;
+            text.extend_from_slice(line.as_bytes())
+        }
+    }
 }
 
-/// The sections of the file of variants of this name; none where no file is named.
-pub fn read_variants<F: Files>(
+// Appends the line of the section at a place.
+fn push_variant(
     alloc: Global,
-    files: &mut F,
-    name: Option<&str>,
-) -> Result<Sections, Halt<'static>>
-    ensures { Looked (F.contents files.old) (Reads F.contents F.faults files.old files.new)
-        (λ contents failed. HasVariants (text_in name.entry) contents failed result) }
+    text: &mut Vec<u8>,
+    variants: &Variants,
+    place: usize,
+) -> Result<(), AllocError>
+    requires { place < length variants.now }
+    ensures { OnOk result (text.new.items ≡ text.old.items ++ line_at variants.now place) }
 {
-    match name {
-        None => Ok(Sections::new(alloc)),
-        Some(name) => read_sections(alloc, files, name.as_bytes()),
+    let (name, entry) = variants.entry(place);
+    text.extend_from_slice(name)?;
+    push_verdict(alloc, text, entry)
+}
+
+// Appends a line for each section.
+fn push_variants(alloc: Global, text: &mut Vec<u8>, variants: &Variants) -> Result<(), AllocError>
+    ensures { OnOk result (text.new.items ≡ text.old.items ++ variants_text variants.now) }
+{
+    for place in 0..variants.len() {
+        push_variant(alloc, text, variants, place)?;
     }
+    Ok(())
+}
+
+/// A line for each section: its name, and `ok` or its first fault.
+pub fn variants_of(alloc: Global, sections: &Sections) -> Result<Text, Memory>
+    ensures { IfOk result (λ text. text ≡ variants_text (entries sections.now)) }
+{
+    let variants = load(alloc, sections)?;
+    let mut items = Vec::new(alloc);
+    push_variants(alloc, &mut items, &variants)?;
+    Ok(Text { items })
 }

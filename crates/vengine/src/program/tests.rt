@@ -2,12 +2,19 @@ use super::*;
 use io_ports::{
     Files, Given, ListClock, MAX_FILE, MAX_LINE, MemFiles, MemSink, MemSource, OpenGate, PollsOwed,
 };
+use std::str;
 use std::test::Fail;
 
 const USAGE_LINE: &str = "usage: vengine [--variants FILE] [--threads N] [COMMAND]\n";
 
-/// The legal moves of the start position, worked by hand.
-const START: &str = "d1c1\nd1c2\nd1d2\nd1e1\nd1e2\nf1c2\nf1e4\nf1g4\ng1e2\ng1f3\ng1h3\nmoves 11\n";
+/// The legal moves of the start of chess.
+const START: &str = "a2a3\na2a4\nb1a3\nb1c3\nb2b3\nb2b4\nc2c3\nc2c4\nd2d3\nd2d4\ne2e3\ne2e4\n\
+    f2f3\nf2f4\ng1f3\ng1h3\ng2g3\ng2g4\nh2h3\nh2h4\nmoves 20\n";
+
+/// The lines of the variants that are built in.
+const BUILTIN: &str =
+    "chess ok\ncrazyhouse ok\n3check ok\nkingofthehill ok\nantichess ok\nextinction ok\n\
+    losalamos ok\ncapablanca ok\nseirawan ok\nxiangqi ok\n";
 
 /// A run over these files: a source that fails at these calls, and a sink that has room for so many bytes.
 fn ran<R: AllocGlobal + Threads + Wait + Sync, F: Files>(
@@ -144,9 +151,9 @@ fn reach_takes_lists_of_own_and_enemy_squares(rt: HostRuntime) -> Result<(), Fai
 
 #[test]
 fn other_words_are_answered_by_the_usage_line(rt: HostRuntime) -> Result<(), Fail> {
-    let rows: [&[&str]; 11] = [
+    let rows: [&[&str]; 15] = [
         &[],
-        &["moves", "leapers"],
+        &["moves", "chess"],
         &["Moves"],
         &["--"],
         &["reach", "N"],
@@ -154,72 +161,379 @@ fn other_words_are_answered_by_the_usage_line(rt: HostRuntime) -> Result<(), Fai
         &["--threads", "65", "moves"],
         &["--variants", "moves"],
         &["--variants=", "moves"],
-        &["--variants", "f", "perft", "4"],
+        &["perft", "x"],
+        &["perft"],
+        &["perft", "0"],
+        &["perft", "10"],
+        &["status", "4"],
         &["help"],
     ];
     let mut files = MemFiles::new(rt.alloc());
     for words in rows {
-        let (status, sink) = ran(&rt, &mut files, words, b"leapers\nstartpos\n", &[], 1000)?;
+        let (status, sink) = ran(&rt, &mut files, words, b"chess\nstartpos\n", &[], 1000)?;
         assert_eq!(rt; status, 2);
         assert_eq!(rt; sink.taken(), USAGE_LINE.as_bytes());
     }
     Ok(())
 }
 
+/// Perft counts are those of the Chess Programming Wiki's positions; the others are worked by hand.
 #[test]
-fn moves_lists_the_legal_moves(rt: HostRuntime) -> Result<(), Fail> {
-    let rows = [
-        ("leapers\nstartpos\n", 0, START),
-        ("leapers\nstartpos", 0, START),
-        ("leapers\r\nstartpos\r\n\r\n", 0, START),
-        ("leapers\nstartpos\n \t\n\n", 0, START),
+fn game_texts_are_answered(rt: HostRuntime) -> Result<(), Fail> {
+    let rows: [(&[&str], &str, u8, &str); 45] = [
+        (&["moves"], "chess\nstartpos\n", 0, START),
+        (&["moves"], "chess\nstartpos", 0, START),
+        (&["moves"], "chess\r\nstartpos\r\n\r\n", 0, START),
         (
-            "leapers\n4k3/8/8/8/8/1n6/8/K1N5 w - - 0 1\n",
+            &["--threads", "4", "moves"],
+            "chess\nstartpos\n \t\n\n",
             0,
-            "a1a2\na1b1\na1b2\nc1b3\nmoves 4\n",
+            START,
         ),
-        ("leapers\nk7/2K5/2N5/8/8/8/8/8 b - - 0 1\n", 0, "moves 0\n"),
         (
-            "chess\nstartpos\n",
+            &["moves"],
+            "chess\n4k3/8/8/8/8/8/8/K7 w - - 0 1\n\n\ta1a2  e8d8\n",
+            0,
+            "a2a1\na2a3\na2b1\na2b2\na2b3\nmoves 5\n",
+        ),
+        (
+            &["moves"],
+            "chess\n7k/5Q2/6K1/8/8/8/8/8 b - - 0 1",
+            0,
+            "moves 0\n",
+        ),
+        (
+            &["status"],
+            "chess\n7k/5Q2/6K1/8/8/8/8/8 b - - 0 1",
+            0,
+            "drawn stalemate\n7k/5Q2/6K1/8/8/8/8/8 b - - 0 1\n",
+        ),
+        (
+            &["status"],
+            "chess\nstartpos\nf2f3 e7e5\ng2g4\td8h4",
+            0,
+            "won black checkmate\nrnb1kbnr/pppp1ppp/8/4p3/6Pq/5P2/PPPPP2P/RNBQKBNR w KQkq - 1 3\n",
+        ),
+        (
+            &["status"],
+            "chess\nstartpos\ng1f3 g8f6 f3g1 f6g8\ng1f3 g8f6 f3g1 f6g8",
+            0,
+            "drawn repetition\nrnbqkbnr/pppppppp/8/8/8/8/PPPPPPPP/RNBQKBNR w KQkq - 8 5\n",
+        ),
+        (
+            &["status"],
+            "chess\n4k3/8/8/8/8/8/8/K7 w - - 99 80\na1a2",
+            0,
+            "drawn movecount\n4k3/8/8/8/8/8/K7/8 b - - 100 80\n",
+        ),
+        (
+            &["status"],
+            "kingofthehill\n4k3/8/8/8/8/3K4/8/8 w - - 0 1\nd3d4",
+            0,
+            "won white flag\n4k3/8/8/8/3K4/8/8/8 b - - 1 1\n",
+        ),
+        (
+            &["status"],
+            "kingofthehill\n4k3/8/8/8/8/4K3/8/8 w - - 0 1\ne3e4",
+            0,
+            "won white flag\n4k3/8/8/8/4K3/8/8/8 b - - 1 1\n",
+        ),
+        (&["perft", "4"], "chess\nstartpos\n", 0, "197281\n"),
+        (
+            &["perft", "1"],
+            "chess\nr3k2r/p1ppqpb1/bn2pnp1/3PN3/1p2P3/2N2Q1p/PPPBBPPP/R3K2R w KQkq - 0 1\n",
+            0,
+            "48\n",
+        ),
+        (
+            &["perft", "2"],
+            "chess\nr3k2r/p1ppqpb1/bn2pnp1/3PN3/1p2P3/2N2Q1p/PPPBBPPP/R3K2R w KQkq - 0 1\n",
+            0,
+            "2039\n",
+        ),
+        (
+            &["perft", "3"],
+            "chess\nr3k2r/p1ppqpb1/bn2pnp1/3PN3/1p2P3/2N2Q1p/PPPBBPPP/R3K2R w KQkq - 0 1\n",
+            0,
+            "97862\n",
+        ),
+        (
+            &["perft", "1"],
+            "chess\n8/2p5/3p4/KP5r/1R3p1k/8/4P1P1/8 w - - 0 1",
+            0,
+            "14\n",
+        ),
+        (
+            &["perft", "2"],
+            "chess\n8/2p5/3p4/KP5r/1R3p1k/8/4P1P1/8 w - - 0 1",
+            0,
+            "191\n",
+        ),
+        (
+            &["perft", "3"],
+            "chess\n8/2p5/3p4/KP5r/1R3p1k/8/4P1P1/8 w - - 0 1",
+            0,
+            "2812\n",
+        ),
+        (
+            &["perft", "4"],
+            "chess\n8/2p5/3p4/KP5r/1R3p1k/8/4P1P1/8 w - - 0 1",
+            0,
+            "43238\n",
+        ),
+        (&["perft", "1"], "xiangqi\nstartpos", 0, "44\n"),
+        (&["perft", "2"], "xiangqi\nstartpos", 0, "1920\n"),
+        (
+            &["status"],
+            "capablanca\nstartpos",
+            0,
+            "ongoing\nrnabqkbcnr/pppppppppp/10/10/10/10/PPPPPPPPPP/RNABQKBCNR w KQkq - 0 1\n",
+        ),
+        (
+            &["status"],
+            "crazyhouse\n4k3/8/8/8/8/3q~4/4P3/4K3[] w - - 0 1\ne2d3 e8e7",
+            0,
+            "ongoing\n8/4k3/8/8/8/3P4/8/4K3[P] w - - 1 2\n",
+        ),
+        (
+            &["status"],
+            "3check\nrnbqkbnr/pppp1ppp/8/4p2Q/4P3/8/PPPP1PPP/RNB1KBNR w KQkq - 1+3 0 1\nh5e5",
+            0,
+            "won white checks\nrnbqkbnr/pppp1ppp/8/4Q3/4P3/8/PPPP1PPP/RNB1KBNR b KQkq - 0+3 0 1\n",
+        ),
+        (
+            &["moves"],
+            "3check\nrnbqkbnr/pppp1ppp/8/4p2Q/4P3/8/PPPP1PPP/RNB1KBNR w KQkq - 1+3 0 1\nh5e5",
+            0,
+            "moves 0\n",
+        ),
+        (
+            &["moves"],
+            "antichess\nstartpos\ne2e3 b7b5",
+            0,
+            "f1b5\nmoves 1\n",
+        ),
+        (
+            &["status"],
+            "antichess\n8/8/8/8/8/1p6/P7/8 b - - 0 1\nb3a2",
+            0,
+            "won white extinction\n8/8/8/8/8/8/p7/8 w - - 0 2\n",
+        ),
+        (
+            &["moves"],
+            "Chess",
             3,
-            "error GameFault 2 UnknownVariant chess\n",
+            "error GameFault 2 UnknownVariant Chess\n",
         ),
-        ("chess", 3, "error GameFault 2 UnknownVariant chess\n"),
         (
-            " leapers\n",
+            &["status"],
+            " chess\n",
             3,
-            "error GameFault 2 UnknownVariant  leapers\n",
+            "error GameFault 2 UnknownVariant  chess\n",
         ),
-        ("\n", 3, "error GameFault 2 UnknownVariant \n"),
-        ("leapers", 3, "error GameFault 1 Missing 2\n"),
-        ("", 3, "error GameFault 1 Missing 1\n"),
         (
-            "leapers\n\nd1c1",
+            &["perft", "1"],
+            "\n",
+            3,
+            "error GameFault 2 UnknownVariant \n",
+        ),
+        (&["moves"], "chess", 3, "error GameFault 1 Missing 2\n"),
+        (&["moves"], "", 3, "error GameFault 1 Missing 1\n"),
+        (
+            &["moves"],
+            "chess\n\ne2e4",
             3,
             "error GameFault 4 BadPosition FenFault 1 Length\n",
         ),
         (
-            "leapers\n8/8/8/8/8/8/8/q7 w - - 0 1\n",
+            &["moves"],
+            "chess\n8/8/8/8/8/8/8/z7 w - - 0 1\ne2e5\n",
             3,
             "error GameFault 4 BadPosition FenFault 3 Letter\n",
         ),
         (
-            "leapers\nstartpos\nd1c1\n",
+            &["moves"],
+            "chess\nstartpos\ne2e5\n",
             3,
-            "error GameFault 9 NotBuilt 3\n",
+            "error GameFault 5 BadMove 1 e2e5\n",
         ),
         (
-            "leapers\nstartpos\n\n.",
+            &["status"],
+            "chess\nstartpos\ne2e4\n\n e7e4 .\n",
             3,
-            "error GameFault 9 NotBuilt 4\n",
+            "error GameFault 5 BadMove 2 e7e4\n",
+        ),
+        (
+            &["perft", "9"],
+            "chess\nstartpos\n.",
+            3,
+            "error GameFault 5 BadMove 1 .\n",
+        ),
+        (
+            &["--variants", "f", "moves"],
+            "d\nstartpos\n",
+            3,
+            "error GameFault 3 RefusedVariant SectionFault 4 UnsupportedOption blastOnCapture\n",
+        ),
+        (
+            &["--variants", "mini", "status"],
+            "mini\nstartpos\n",
+            0,
+            "ongoing\nrbsgk/4p/5/P4/KGSBR[] w - - 0 1\n",
+        ),
+        (
+            &["--variants", "moods", "moves"],
+            "must\n7k/p7/8/8/8/8/8/R6K w - - 0 1",
+            0,
+            "a1a7\nmoves 1\n",
+        ),
+        (
+            &["--variants", "moods", "moves"],
+            "calm\n3k4/8/4P3/8/8/8/8/K7 w - - 0 1",
+            0,
+            "a1a2\na1b1\na1b2\nmoves 3\n",
+        ),
+        (&["variants"], "a line", 0, BUILTIN),
+        (&["--variants", "empty", "variants"], "", 0, BUILTIN),
+        (
+            &["--variants", "none", "status"],
+            "chess\nstartpos\n",
+            6,
+            "error FileFault 1 Missing\n",
         ),
     ];
-    let mut files = MemFiles::new(rt.alloc());
-    for (input, status, text) in rows {
-        let words = ["--threads", "4", "moves"].as_slice();
+    let mut files = some_files(rt.alloc())?;
+    for (words, input, status, text) in rows {
         let (answered, sink) = ran(&rt, &mut files, words, input.as_bytes(), &[], 1000)?;
         assert_eq!(rt; answered, status, "{input}");
         assert_eq!(rt; sink.taken(), text.as_bytes(), "{input}");
+    }
+    Ok(())
+}
+
+/// Sections of which each has a parent, and a variant on a board of 5 by 5 squares.
+const SECTIONS: &str = "[a:chess]\nnMoveRule = 40\n[b:a]\ncastling = false\n\
+    startFen = rnbqkbnr/pppppppp/8/8/8/8/PPPPPPPP/RNBQKBNR w - - 0 1\n\
+    [c:b]\nnFoldRule = 2\n[d:chess]\nblastOnCapture = true\n[e:d]\n";
+
+const UNSTARTED: &str = "[a:chess]\n[b:a]\ncastling = false\n";
+
+const MINI: &str =
+    "[mini]\nmaxRank = 5\nmaxFile = e\nking = k\nrook = r\nbishop = b\ngold = g\nsilver = s\n\
+    shogiPawn = p\ndragon = d\ndragonHorse = h\npromotedPieceType = s:g r:d b:h p:g\npieceDrops = true\n\
+    capturesToHand = true\ndropNoDoubled = p\nimmobilityIllegal = true\ncastling = false\nnMoveRule = 0\n\
+    nFoldRule = 4\npromotionRegionWhite = *5\npromotionRegionBlack = *1\nstartFen = rbsgk/4p/5/P4/KGSBR[-] w 0 1\n";
+
+/// Chess in which a capture must be made, and chess in which no move may give check.
+const MOODS: &str = "[must:chess]\nmustCapture = true\n[calm:chess]\nchecking = false\n";
+
+fn some_files(alloc: Global) -> Result<MemFiles, Fail> {
+    let mut files = MemFiles::new(alloc);
+    files.add(b"f", SECTIONS.as_bytes())?;
+    files.add(b"unstarted", UNSTARTED.as_bytes())?;
+    files.add(b"mini", MINI.as_bytes())?;
+    files.add(b"moods", MOODS.as_bytes())?;
+    files.add(b"empty", b"")?;
+    files.add(b"pair", b"castling = true\n")?;
+    Ok(files)
+}
+
+/// Rows of which only some lines, and the last one, are known by hand.
+#[test]
+fn long_answers_have_these_lines(rt: HostRuntime) -> Result<(), Fail> {
+    let rows: [(&[&str], &str, &str, &str); 13] = [
+        (&["moves"], "capablanca\nstartpos", "b1c3\n", "\nmoves 28\n"),
+        (&["moves"], "losalamos\nstartpos", "b1a3\n", "\nmoves 10\n"),
+        (&["moves"], "seirawan\nstartpos", "\nb1c3\n", "\nmoves 28\n"),
+        (
+            &["moves"],
+            "seirawan\nstartpos",
+            "\nb1c3e\n",
+            "\nmoves 28\n",
+        ),
+        (
+            &["moves"],
+            "seirawan\nstartpos",
+            "\nb1c3h\n",
+            "\nmoves 28\n",
+        ),
+        (
+            &["moves"],
+            "seirawan\n4k3/8/8/8/8/8/8/4K2R[H] w K - 0 1",
+            "\ne1g1\n",
+            "\nmoves 31\n",
+        ),
+        (
+            &["moves"],
+            "seirawan\n4k3/8/8/8/8/8/8/4K2R[H] w K - 0 1",
+            "\ne1g1h\n",
+            "\nmoves 31\n",
+        ),
+        (
+            &["moves"],
+            "seirawan\n4k3/8/8/8/8/8/8/4K2R[H] w K - 0 1",
+            "\nh1e1h\n",
+            "\nmoves 31\n",
+        ),
+        (
+            &["moves"],
+            "crazyhouse\n4k3/8/8/8/8/3q~4/4P3/4K3[] w - - 0 1\ne2d3 e8e7",
+            "P@a2\n",
+            "\nmoves 52\n",
+        ),
+        (&["moves"], "xiangqi\nstartpos", "b1a3\n", "\nmoves 44\n"),
+        (
+            &["--variants", "mini", "moves"],
+            "mini\nstartpos",
+            "a2a3\n",
+            "\nmoves 14\n",
+        ),
+        (
+            &["--variants", "f", "variants"],
+            "",
+            "\nxiangqi ok\na ok\nb ok\nc ok\n",
+            "\nd SectionFault 4 UnsupportedOption blastOnCapture\ne SectionFault 3 RefusedParent\n",
+        ),
+        (
+            &["--variants", "unstarted", "variants"],
+            "",
+            "\nxiangqi ok\na ok\n",
+            "\nb SectionFault 8 BadStart FenFault 7 Rights\n",
+        ),
+    ];
+    let mut files = some_files(rt.alloc())?;
+    for (words, input, line, end) in rows {
+        let (answered, sink) = ran(&rt, &mut files, words, input.as_bytes(), &[], 1000)?;
+        assert_eq!(rt; answered, 0, "{input}");
+        let text = str::from_utf8(sink.taken())?;
+        assert!(rt; text.contains(line), "{input}");
+        assert!(rt; text.ends_with(end), "{input}");
+    }
+    Ok(())
+}
+
+/// A game of knights that go out and back, as many plies as a game may have, and then one more.
+#[test]
+fn a_game_has_at_most_8192_plies(rt: HostRuntime) -> Result<(), Fail> {
+    let rows = [
+        (
+            "",
+            "drawn repetition\nrnbqkbnr/pppppppp/8/8/8/8/PPPPPPPP/RNBQKBNR w KQkq - 8192 4097\n",
+            0,
+        ),
+        ("g1f3\ne2e5", "error GameFault 6 TooManyMoves\n", 3),
+        ("\ne2e5", "error GameFault 5 BadMove 8193 e2e5\n", 3),
+    ];
+    for (end, text, status) in rows {
+        let mut input = b"chess\nstartpos\n".to_vec(rt.alloc())?;
+        for _ in 0..2048 {
+            input.extend_from_slice(b"g1f3 g8f6 f3g1 f6g8 ")?;
+        }
+        input.extend_from_slice(end.as_bytes())?;
+        let mut files = MemFiles::new(rt.alloc());
+        let (answered, sink) = ran(&rt, &mut files, &["status"], input.as_slice(), &[], 1000)?;
+        assert_eq!(rt; answered, status, "{text}");
+        assert_eq!(rt; sink.taken(), text.as_bytes(), "{text}");
     }
     Ok(())
 }
@@ -229,24 +543,24 @@ fn a_line_of_a_game_text_is_too_long_before_its_other_faults(rt: HostRuntime) ->
     let rows = [
         ("", MAX_LINE + 1, 3, "error GameFault 8 LineTooLong 1\n"),
         (
-            "leapers\n",
+            "chess\n",
             MAX_LINE + 1,
             3,
             "error GameFault 8 LineTooLong 2\n",
         ),
         (
-            "leapers\n",
+            "chess\n",
             MAX_LINE,
             3,
             "error GameFault 4 BadPosition FenFault 1 Length\n",
         ),
         (
-            "leapers\nstartpos\n",
+            "chess\nstartpos\n",
             MAX_LINE + 1,
             3,
             "error GameFault 8 LineTooLong 3\n",
         ),
-        ("leapers\nstartpos\n", MAX_LINE, 0, START),
+        ("chess\nstartpos\n", MAX_LINE, 0, START),
     ];
     for (front, len, status, text) in rows {
         let mut input = front.as_bytes().to_vec(rt.alloc())?;
@@ -263,15 +577,23 @@ fn a_line_of_a_game_text_is_too_long_before_its_other_faults(rt: HostRuntime) ->
 }
 
 #[test]
-fn a_variant_may_have_any_name(rt: HostRuntime) -> Result<(), Fail> {
-    let mut files = MemFiles::new(rt.alloc());
-    let input = b"le\xffpers\nstartpos\n".as_slice();
-    let (status, sink) = ran(&rt, &mut files, &["moves"], input, &[], 1000)?;
-    assert_eq!(rt; status, 3);
-    assert_eq!(rt;
-        sink.taken(),
-        b"error GameFault 2 UnknownVariant le\xffpers\n".as_slice()
-    );
+fn names_and_texts_may_have_any_bytes(rt: HostRuntime) -> Result<(), Fail> {
+    let rows: [(&[u8], &[u8]); 2] = [
+        (
+            b"ch\xffss\nstartpos\n",
+            b"error GameFault 2 UnknownVariant ch\xffss\n",
+        ),
+        (
+            b"chess\nstartpos\ne2\xff4\n",
+            b"error GameFault 5 BadMove 1 e2\xff4\n",
+        ),
+    ];
+    for (input, text) in rows {
+        let mut files = MemFiles::new(rt.alloc());
+        let (status, sink) = ran(&rt, &mut files, &["moves"], input, &[], 1000)?;
+        assert_eq!(rt; status, 3);
+        assert_eq!(rt; sink.taken(), text);
+    }
     Ok(())
 }
 
@@ -377,13 +699,13 @@ fn the_file_of_variants_is_judged_before_the_command(rt: HostRuntime) -> Result<
         ),
     ];
     for (words, status, text) in rows {
-        let (answered, sink) = ran(&rt, &mut files, words, b"leapers\n", &[0], 1000)?;
+        let (answered, sink) = ran(&rt, &mut files, words, b"chess\n", &[0], 1000)?;
         assert_eq!(rt; answered, status, "{text}");
         assert_eq!(rt; sink.taken(), text.as_bytes(), "{text}");
     }
     let mut failing = FailingFiles { faults: 0 };
     let words = ["--variants", "good", "moves"].as_slice();
-    let (status, sink) = ran(&rt, &mut failing, words, b"leapers\n", &[0], 1000)?;
+    let (status, sink) = ran(&rt, &mut failing, words, b"chess\n", &[0], 1000)?;
     assert_eq!(rt; status, 6);
     assert_eq!(rt; sink.taken(), b"error FileFault 3 Failed\n".as_slice());
     Ok(())
@@ -392,9 +714,9 @@ fn the_file_of_variants_is_judged_before_the_command(rt: HostRuntime) -> Result<
 #[test]
 fn a_run_fails_with_its_ports(rt: HostRuntime) -> Result<(), Fail> {
     let mut files = MemFiles::new(rt.alloc());
-    let input = b"leapers\n4k3/8/8/8/8/1n6/8/K1N5 w - - 0 1\n\n".as_slice();
+    let input = b"chess\n4k3/8/8/8/8/8/8/K7 b - - 0 1\ne8e7\n".as_slice();
     let rows: [(&[&str], u64, u8, &str); 4] = [
-        (&["moves"], 4, 0, "a1a2\na1b1\na1b2\nc1b3\nmoves 4\n"),
+        (&["moves"], 4, 0, "a1a2\na1b1\na1b2\nmoves 3\n"),
         (&["reach", "N", "b1"], 0, 0, "quiet d2 a3 c3\ntake -\n"),
         (
             &["reach", "N", "i9"],

@@ -1,9 +1,24 @@
 use Rattle.std.proofs.Common.{arith}
-use Rattle.vengine.proofs.HeardLemmas.{heard_nothing}
+use Rattle.game_text.proofs.HeardLemmas.{heard_nothing}
 use Rattle.vengine.proofs.answers.command_text.Goals as goal
+
+pub perft-requires : goal.perft-requires
+perft-requires g c = let plies = rw c.in-Perft.is at c.requires.plies in record { least = plies.0; most = plies.1 }
 
 pub returns-in-Moves-clause-heard : goal.returns-in-Moves-clause-heard
 returns-in-Moves-clause-heard g c = rw c.in-Moves.is c.moves.ensures.heard
+
+pub returns-in-Status-clause-heard : goal.returns-in-Status-clause-heard
+returns-in-Status-clause-heard g c = rw c.in-Status.is c.status.ensures.heard
+
+pub returns-in-Perft-clause-heard : goal.returns-in-Perft-clause-heard
+returns-in-Perft-clause-heard g c = rw c.in-Perft.is c.perft.ensures.heard
+
+pub returns-in-Variants-clause-heard : goal.returns-in-Variants-clause-heard
+returns-in-Variants-clause-heard g c = rw c.in-Variants.is (heard_nothing _ _ _ (λ lines. c.variants.ensures.answers))
+
+pub returns-in-Variants-clause-cause : goal.returns-in-Variants-clause-cause
+returns-in-Variants-clause-cause g c = record { later = omega arith; failed = λ unheard. absurd (c.variants.ensures.reads_nothing unheard) }
 
 pub returns-in-Reach-clause-heard : goal.returns-in-Reach-clause-heard
 returns-in-Reach-clause-heard g c = rw c.in-Reach.is (heard_nothing _ _ _ (λ lines. c.reach.ensures.answers))

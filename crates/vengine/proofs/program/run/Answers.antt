@@ -42,6 +42,10 @@ pub returns-in-Err-Source-clause-cut : goal.returns-in-Err-Source-clause-cut
 returns-in-Err-Source-clause-cut g c =
     λ _. run_none c.args.source.now c.answer_to.new.source c.args.sink.now c.args.clock.now c.args.files.now c.answer_to.new.files _ c.in-Err-Source.ensures.says
 
+pub returns-in-Err-Sink-clause-cut : goal.returns-in-Err-Sink-clause-cut
+returns-in-Err-Sink-clause-cut g c =
+    λ _. run_none c.args.source.now c.answer_to.new.source c.args.sink.now c.args.clock.now c.args.files.now c.answer_to.new.files _ c.in-Err-Sink.ensures.says
+
 pub returns-clause-cut : goal.returns-clause-cut
 returns-clause-cut g c =
     λ _. run_none c.args.source.now c.answer_to.new.source c.args.sink.now c.args.clock.now c.args.files.now c.answer_to.new.files _ c.in-Err-Memory.ensures.says

@@ -2,7 +2,7 @@ use Rattle.io_ports.specs.Files.{given_reads}
 use Rattle.io_ports.specs.Trace.{faults_in}
 use Rattle.io_ports.specs.declared.files.Given.TheVariants as given
 use Rattle.vengine.proofs.FileLemmas.{looked_call, read_bytes, some_failed}
-use Rattle.vengine.proofs.variants.read_file.Goals as goal
+use Rattle.vengine.proofs.sections.read_file.Goals as goal
 
 pub returns-in-Bytes : goal.returns-in-Bytes
 returns-in-Bytes g c =
