@@ -1,0 +1,99 @@
+#!/usr/bin/env python3
+"""Compares the legal moves of random games with those of Fairy-Stockfish, in all ten built-in variants.
+
+Usage: bench/moves_agree.py [POSITIONS] [SEED]     (10000 positions in all by default, and seed 1)
+
+Wants Debian's package fairy-stockfish. A game is played from the start of its variant by moves that both list, until it ends or
+has 120 plies. For each variant it prints how many positions were compared and in how many the lists differ, and for the first three
+of these what each engine lists alone. Two differences are known, where the rules are read differently: a piece that is pinned and
+gates its own blocker may move here, since the king is not attacked after the move; and `extinction` has no castling here, since its
+kings are commoners and a castle asks for a king.
+"""
+import os
+import random
+import subprocess
+import sys
+
+TOP = os.path.join(os.path.dirname(os.path.abspath(__file__)), "..")
+ENGINE = os.path.join(TOP, "vengine")
+OTHER = next((path for path in ("/usr/games/fairy-stockfish", "/usr/bin/fairy-stockfish") if os.path.exists(path)), None)
+VARIANTS = ["chess", "crazyhouse", "3check", "kingofthehill", "antichess", "extinction", "losalamos", "capablanca", "seirawan", "xiangqi"]
+LONGEST = 120
+
+
+class Other:
+    """Fairy-Stockfish, asked for its legal moves by a count of one ply."""
+
+    def __init__(self, variant):
+        self.process = subprocess.Popen([OTHER], stdin=subprocess.PIPE, stdout=subprocess.PIPE, text=True, bufsize=1)
+        self.say(f"setoption name UCI_Variant value {variant}")
+
+    def say(self, line):
+        self.process.stdin.write(line + "\n")
+        self.process.stdin.flush()
+
+    def moves(self, played):
+        self.say("position startpos" + (" moves " + " ".join(played) if played else ""))
+        self.say("go perft 1")
+        listed = set()
+        for line in self.process.stdout:
+            if line.startswith("Nodes searched"):
+                return listed
+            move, mark, count = line.strip().rpartition(": ")
+            if mark and count == "1":
+                listed.add(move)
+        sys.exit("moves_agree: Fairy-Stockfish ended")
+
+    def close(self):
+        self.say("quit")
+        self.process.wait()
+
+
+def ours(command, variant, played):
+    text = "\n".join([variant, "startpos", " ".join(played)]) + "\n"
+    done = subprocess.run([ENGINE, command], input=text, capture_output=True, text=True)
+    if done.returncode != 0:
+        sys.exit(f"moves_agree: {command} of {variant} after {' '.join(played)}: {done.stdout}")
+    return done.stdout.splitlines()
+
+
+def is_ongoing(variant, played):
+    return ours("status", variant, played)[0] == "ongoing"
+
+
+def compare(variant, positions, chance):
+    other = Other(variant)
+    same = differ = 0
+    shown = []
+    while same + differ < positions:
+        played = []
+        while len(played) < LONGEST and same + differ < positions and is_ongoing(variant, played):
+            here = set(ours("moves", variant, played)[:-1])
+            there = other.moves(played)
+            if here == there:
+                same += 1
+            else:
+                differ += 1
+                if len(shown) < 3:
+                    shown.append((played[:], sorted(here - there), sorted(there - here)))
+            both = sorted(here & there)
+            if not both:
+                break
+            played.append(chance.choice(both))
+    other.close()
+    return same, differ, shown
+
+
+def main():
+    positions = int(sys.argv[1]) if len(sys.argv) > 1 else 10000
+    chance = random.Random(int(sys.argv[2]) if len(sys.argv) > 2 else 1)
+    if OTHER is None:
+        sys.exit("moves_agree: wants Debian's package fairy-stockfish")
+    for variant in VARIANTS:
+        same, differ, shown = compare(variant, positions // len(VARIANTS), chance)
+        print(f"{variant}: {same + differ} positions, {differ} differ")
+        for played, here, there in shown:
+            print(f"    after {' '.join(played) or 'no move'}: here alone {' '.join(here) or '-'}; there alone {' '.join(there) or '-'}")
+
+
+main()

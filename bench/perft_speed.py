@@ -1,0 +1,70 @@
+#!/usr/bin/env python3
+"""How fast `perft` counts, beside Fairy-Stockfish: alternating runs of both in one call, with equal counts.
+
+Usage: bench/perft_speed.py [RUNS]      (runs of each, 3 by default; the best counts)
+
+Wants Debian's package fairy-stockfish. The time that each program takes to start and to count one ply is taken off. For each row it
+prints the count, the millions of moves a second of both, and the ratio.
+"""
+import os
+import subprocess
+import sys
+import time
+
+TOP = os.path.join(os.path.dirname(os.path.abspath(__file__)), "..")
+ENGINE = os.path.join(TOP, "vengine")
+OTHER = next((path for path in ("/usr/games/fairy-stockfish", "/usr/bin/fairy-stockfish") if os.path.exists(path)), None)
+MIDDLE = "r3k2r/p1ppqpb1/bn2pnp1/3PN3/1p2P3/2N2Q1p/PPPBBPPP/R3K2R w KQkq - 0 1"
+ENDING = "8/2p5/3p4/KP5r/1R3p1k/8/4P1P1/8 w - - 0 1"
+ROWS = [
+    ("chess", "startpos", 5),
+    ("crazyhouse", "startpos", 5),
+    ("3check", "startpos", 5),
+    ("kingofthehill", "startpos", 5),
+    ("antichess", "startpos", 5),
+    ("losalamos", "startpos", 5),
+    ("capablanca", "startpos", 4),
+    ("seirawan", "startpos", 4),
+    ("xiangqi", "startpos", 4),
+    ("chess", MIDDLE, 4),
+    ("chess", ENDING, 6),
+]
+
+
+def ours(variant, position, plies):
+    start = time.perf_counter()
+    done = subprocess.run([ENGINE, "perft", str(plies)], input=f"{variant}\n{position}\n", capture_output=True, text=True)
+    return int(done.stdout), time.perf_counter() - start
+
+
+def theirs(variant, position, plies):
+    place = position if position == "startpos" else "fen " + position
+    lines = f"setoption name UCI_Variant value {variant}\nposition {place}\ngo perft {plies}\nquit\n"
+    start = time.perf_counter()
+    done = subprocess.run([OTHER], input=lines, capture_output=True, text=True)
+    taken = time.perf_counter() - start
+    return int(done.stdout.split("Nodes searched:")[1].split()[0]), taken
+
+
+def best(count, variant, position, plies, runs):
+    made = [count(variant, position, plies) for _ in range(runs)]
+    return made[0][0], min(taken for _, taken in made)
+
+
+def main():
+    runs = int(sys.argv[1]) if len(sys.argv) > 1 else 3
+    if OTHER is None:
+        sys.exit("perft_speed: wants Debian's package fairy-stockfish")
+    for variant, position, plies in ROWS:
+        rates = []
+        counts = []
+        for count in (ours, theirs):
+            _, base = best(count, variant, position, 1, runs)
+            moves, taken = best(count, variant, position, plies, runs)
+            counts.append(moves)
+            rates.append(moves / max(taken - base, 1e-6) / 1e6)
+        note = "" if counts[0] == counts[1] else f" (there {counts[1]})"
+        print(f"{variant} {position} perft {plies}: {counts[0]}{note}, {rates[0]:.2f} and {rates[1]:.2f} M/s, ratio {rates[0] / rates[1]:.2f}")
+
+
+main()
