@@ -86,7 +86,7 @@ pub fn first_rank(rules: &Rules, side: Side) -> u8
 pub fn in_region(regions: &[Region; 2], side: Side, at: u8) -> bool
     ensures { result ≡ Regions.in_region regions.now side at }
 {
-    let region = regions[side.index()];
+    let region = &regions[side.index()];
     match region.squares.get(at as usize) {
         Some(lies) => *lies,
         None => false,
