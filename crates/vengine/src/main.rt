@@ -19,7 +19,7 @@ use foundation::Memory;
 use io_ports::{MachineClock, MachineFiles, OpenGate, QueuedInput, StandardOutput};
 use program::NO_MEMORY;
 pub use program::run;
-use std::io::{BufReader, Read};
+use std::io::{BufReader, ErrorKind, Read};
 use std::process::ExitCode;
 use std::rt::{Clock, Env, Files};
 use std::sync::Wait;
@@ -36,6 +36,7 @@ fn given_words(rt: &(impl Env + AllocGlobal)) -> Result<Vec<String>, Memory> {
                 words.push(word)?;
             }
         }
+        Err(error) if error.kind() == ErrorKind::OutOfMemory => return Err(Memory),
         Err(_) => words.push(String::from_str(alloc, "--")?)?,
     }
     Ok(words)
