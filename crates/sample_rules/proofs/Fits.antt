@@ -15,13 +15,13 @@ use Rattle.rules_model.specs.Sound.{sound_at, sound_in_hand, sound_right, sound_
 use Rattle.rules_model.specs.Squares.{step_to}
 use Rattle.rules_model.specs.Fit.{IsFit, chains_promotions, fits_term, gates_amiss, gates_nowhere, has_no_piece, is_pawn_named, is_there, kind_fits, mask_fits, promotes_to_pawn_or_king, region_fits, region_fits_at}
 use Rattle.sample_rules.specs.Base.{base}
-use Rattle.sample_rules.specs.Pieces.{with, with_bound_piece, with_piece, with_pawn}
+use Rattle.sample_rules.specs.Pieces.{with, with_bound_piece, with_piece, with_promoted_piece, with_pawn}
 use Rattle.sample_rules.specs.Positions.{cells_of, hand_of}
 use Rattle.sample_rules.specs.Regions.{area_of, mask_of}
 
 -- all that a test of a variant opens
 unfoldable pub opened : Unit {0}
-unfolding with with_bound_piece with_piece with_pawn cells_of hand_of rook_file rook_on kind_reaches stands_between king_faces flies_to has_sizes is_sound is_sound_repeat is_sound_side sound_at sound_gate sound_in_hand sound_right pieces_of king_attacked king_attacked_at attacks attacks_from is_diagonal reaches_over passes blockers step_to pawn_could_take first_below last_below any_below all_below castling_on chains_promotions fits_term gates_amiss has_no_piece kind_fits mask_fits promotes_to_pawn_or_king region_fits_at base area_of mask_of
+unfolding with with_bound_piece with_piece with_promoted_piece with_pawn cells_of hand_of rook_file rook_on kind_reaches stands_between king_faces flies_to has_sizes is_sound is_sound_repeat is_sound_side sound_at sound_gate sound_in_hand sound_right pieces_of king_attacked king_attacked_at attacks attacks_from is_diagonal reaches_over passes blockers step_to pawn_could_take first_below last_below any_below all_below castling_on chains_promotions fits_term gates_amiss has_no_piece kind_fits mask_fits promotes_to_pawn_or_king region_fits_at base area_of mask_of
 opened = tt
 
 less : (m n : ℕ) → nat_lt m n ≡ true → m < n

@@ -6,6 +6,7 @@ use Rattle.sample_rules.specs.Leapers.{leapers}
 use Rattle.sample_rules.specs.Chess.{chess}
 use Rattle.sample_rules.specs.Capablanca.{capablanca}
 use Rattle.sample_rules.specs.Shouse.{shouse}
+use Rattle.sample_rules.specs.Generals.{generals}
 use Rattle.sample_rules.specs.Xiangqi.{xiangqi}
 use Rattle.sample_rules.proofs.Fits.{fit-from, opened}
 
@@ -40,6 +41,14 @@ shouse-fit = fit-from shouse refl
 pub shouse-sound : is_sound shouse shouse.start ≡ true
 unfolding opened shouse
 shouse-sound = refl
+
+pub generals-fit : IsFit generals
+unfolding opened generals
+generals-fit = fit-from generals refl
+
+pub generals-sound : is_sound generals generals.start ≡ true
+unfolding opened generals
+generals-sound = refl
 
 pub xiangqi-fit : IsFit xiangqi
 unfolding opened xiangqi

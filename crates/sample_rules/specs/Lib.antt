@@ -6,4 +6,5 @@ pub mod Leapers
 pub mod Chess
 pub mod Capablanca
 pub mod Shouse
+pub mod Generals
 pub mod Xiangqi

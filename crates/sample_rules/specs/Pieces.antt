@@ -33,6 +33,12 @@ with_bound_piece rules letter terms mobility = record rules {
 unfoldable pub with_piece : Rules → ℕ → List Term → Rules
 with_piece rules letter terms = with_bound_piece rules letter terms (board rules ∷ board rules ∷ [])
 
+-- which becomes a piece of the kind where it is promoted
+unfoldable pub with_promoted_piece : Rules → ℕ → List Term → Kind → Rules
+with_promoted_piece rules letter terms promoted = record rules {
+  kinds = slice_set rules.kinds (letter - 97) (Some (record { terms = terms; mobility = board rules ∷ board rules ∷ []; pawn = false; promoted = Some promoted }));
+}
+
 -- the rules with the chess pawn
 unfoldable pub with_pawn : Rules → Rules
 with_pawn rules = record rules {

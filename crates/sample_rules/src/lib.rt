@@ -13,9 +13,10 @@ mod variants;
 
 pub use base::empty;
 pub use pieces::kind;
-pub use positions::{position, square};
+pub use positions::{hand_of, position, square};
 pub use variants::capablanca::capablanca;
 pub use variants::chess::chess;
+pub use variants::generals::generals;
 pub use variants::leapers::leapers;
 pub use variants::shouse::shouse;
 pub use variants::xiangqi::xiangqi;

@@ -73,6 +73,12 @@ pub const CAMEL: [(i8, i8); 8] = [
 /// Forward and sideways.
 pub const SOLDIER: [(i8, i8); 3] = [(0, 1), (1, 0), (-1, 0)];
 
+/// Forward and along the diagonals.
+pub const SILVER: [(i8, i8); 5] = [(0, 1), (1, 1), (1, -1), (-1, -1), (-1, 1)];
+
+/// Along the ranks and files, and forward along the diagonals.
+pub const GOLD: [(i8, i8); 6] = [(0, 1), (1, 0), (0, -1), (-1, 0), (1, 1), (-1, 1)];
+
 /// The kind of a small letter.
 pub fn kind(letter: u8) -> Kind
     ensures { result ≡ record { 0 = letter - 97 } }
@@ -136,6 +142,22 @@ pub fn add_bound(rules: &mut Rules, letter: u8, terms: Terms, mobility: [Region;
         mobility,
         pawn: false,
         promoted: None,
+    });
+}
+
+/// Gives the variant a piece that may go anywhere on the board, and that becomes one of the other kind where it is promoted.
+#[tactic(auto, unfolding(crate::specs::Pieces::with_promoted_piece))]
+pub fn add_promoted(rules: &mut Rules, letter: u8, terms: Terms, promoted: Kind)
+    requires small { 97 ≤ letter }
+    requires letter { letter < 123 }
+    ensures { rules.new ≡ Pieces.with_promoted_piece rules.old letter terms promoted }
+{
+    let board = board(rules);
+    rules.kinds[(letter - b'a') as usize] = Some(KindRule {
+        terms,
+        mobility: [board, board],
+        pawn: false,
+        promoted: Some(promoted),
     });
 }
 

@@ -72,6 +72,7 @@ fn starts_are_sound(rt: HostRuntime) {
     assert!(rt; has_start(&chess(), 32));
     assert!(rt; has_start(&capablanca(), 40));
     assert!(rt; has_start(&shouse(), 32));
+    assert!(rt; has_start(&generals(), 9));
     assert!(rt; has_start(&xiangqi(), 32));
 }
 
@@ -311,6 +312,22 @@ fn pieces_go_where_their_names_say(rt: HostRuntime) {
         ["e5 a5 b1 d4", "f6 c4 h8"],
     );
     goes_to(&rt, &shouse(), "", b'e', "a1", ["a8 h1 b3 c2", "b2 c3"]);
+    goes_to(
+        &rt,
+        &generals(),
+        "",
+        b's',
+        "d4",
+        ["c5 d5 e5 c3 e3", "c4 d3"],
+    );
+    goes_to(
+        &rt,
+        &generals(),
+        "",
+        b'g',
+        "d4",
+        ["c5 d5 e5 c4 d3", "c3 e3"],
+    );
     goes_to(&rt, &xiangqi(), "", b'b', "c1", ["a3 e3", "b2 d2 c3"]);
     goes_to(&rt, &xiangqi(), "Pd2", b'b', "c1", ["a3", "e3"]);
     goes_to(

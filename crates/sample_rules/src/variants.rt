@@ -1,6 +1,7 @@
 //! The variants.
 pub mod capablanca;
 pub mod chess;
+pub mod generals;
 pub mod leapers;
 pub mod shouse;
 pub mod xiangqi;
