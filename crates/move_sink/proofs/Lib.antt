@@ -1,2 +1,3 @@
+pub mod GoesLaws
 pub mod TakingLemmas
 pub mod TurnLemmas

@@ -1,7 +1,10 @@
 -- Moves that are given square by square, over the squares of a set.
-use Rattle.std.specs.Prelude.{◌≡◌, ℕ, false}
+use Rattle.std.specs.Prelude.{◌≡◌, ℕ, true, false, Option}
+use Rattle.rules_model.specs.declared.board.Kind.{Kind}
+use Rattle.rules_model.specs.declared.board.Square.{Square}
 use Rattle.rules_model.specs.declared.moves.Move.{Move}
 use Rattle.rules_model.specs.declared.moves.Move.TheVariants.{Go, Castle, Drop}
+use Rattle.rules_model.specs.declared.moves.Promo.TheVariants.{Stays}
 use Rattle.square_set.specs.declared.Set.{Set}
 use Rattle.square_set.specs.Members.{has}
 
@@ -24,3 +27,7 @@ At P square s m = P m × (square m ≡ s)
 -- those of the squares that are not left
 abbrev pub Outside : (Move → Type 0) → (Move → ℕ) → Set → Move → Type 0
 Outside P square left m = P m × (has left (square m) ≡ false)
+
+-- the moves of the piece on a square to the squares of a set, which become nothing else and place this on the square
+abbrev pub GoesTo : Square → Option Kind → Set → Move → Type 0
+GoesTo from gate targets m = (Go from (record { 0 = target_of m }) Stays gate ≡ m) × (has targets (target_of m) ≡ true)

@@ -6,11 +6,13 @@ mod tests;
 
 ghost use Rattle.std.specs.Prelude.{◌≡◌, List, [], ◌∷◌, ◌++◌, OnOk, OnErr};
 ghost use Rattle.rules_model.specs.declared.moves.Move.{Move};
-ghost use Rattle.move_sink.specs.Taking.{IsSink, TakesSome};
+ghost use Rattle.move_sink.specs.InTurn.{GoesTo};
+ghost use Rattle.move_sink.specs.Taking.{IsSink, TakesAll, TakesSome};
 ghost use Rattle.move_sink.specs.Listed.{list_is_sink};
 
 use foundation::Memory;
-use rules_model::{Move, MoveList};
+use rules_model::{Kind, Move, MoveList, Promo, Square};
+use square_set::Set;
 
 /// What takes moves. A generator gives it each move in turn, until it has no more or the sink is full.
 pub trait MoveSink {
@@ -27,6 +29,24 @@ pub trait MoveSink {
     fn take(&mut self, m: Move) -> Result<(), Self::Full>
         ensures ok { OnOk result (takes self.old (m ∷ []) self.new) }
         ensures err { OnErr result (TakesSome stops (λ x. x ≡ m) self.old self.new) };
+
+    /// Gives it the moves of the piece on a square to each of these squares, which become nothing else and place `gate` on the square.
+    /// A sink that need not see each of them may do better than to take them one by one.
+    fn take_all(&mut self, from: Square, gate: Option<Kind>, targets: Set) -> Result<(), Self::Full>
+        ensures ok { OnOk result (TakesAll takes (GoesTo from gate targets) self.old self.new) }
+        ensures err { OnErr result (TakesSome stops (GoesTo from gate targets) self.old self.new) }
+    {
+        let mut left = targets;
+        while let Some(to) = left.take_first() {
+            self.take(Move::Go {
+                from,
+                to: Square(to),
+                promo: Promo::Stays,
+                gate,
+            })?;
+        }
+        Ok(())
+    }
 
     /// What it takes in turn it takes.
     ghost law: { IsSink takes stops };
