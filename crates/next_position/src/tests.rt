@@ -52,10 +52,8 @@ fn castle(to: &str, rook: &str, gate: &str) -> Move
 
 /// The position with these pieces in place of its own.
 fn set(p: Position, pieces: &str) -> Position {
-    Position {
-        cells: position(pieces).cells,
-        ..p
-    }
+    let cells = position(pieces).cells;
+    Position { cells, ..p }
 }
 
 /// Has the piece on the square be of another kind before it was promoted.
