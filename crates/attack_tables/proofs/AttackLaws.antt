@@ -1,5 +1,5 @@
 -- Kings that face each other, and squares beyond the board.
-use Rattle.std.proofs.Common.{◌≡◌, ◌≢◌, ℕ, ◌%◌, ◌<◌, ◌≤◌, Bool, true, false, ◌&&◌, ◌||◌, not, ◌==◌, Option, Some, None, List, length, refl, ap, sym, ◌∙◌, subst, arith}
+use Rattle.std.proofs.Common.{◌≡◌, ◌≢◌, ℕ, ◌%◌, ◌<◌, ◌≤◌, Bool, true, false, ◌&&◌, ◌||◌, not, ◌==◌, Option, Some, None, List, length, refl, sym, ◌∙◌, subst, arith}
 use Rattle.std.proofs.lemmas.Bool.{and_left, and_parts, and_right}
 use Rattle.std.proofs.Math.Bool.{and-false, and-true, or-false}
 use Rattle.std.proofs.lemmas.Option.{slice_get_past}
@@ -10,7 +10,7 @@ use Rattle.rules_model.specs.declared.board.Kind.{Kind}
 use Rattle.rules_model.specs.declared.board.Side.{Side}
 use Rattle.rules_model.specs.declared.board.Side.TheVariants.{White, Black}
 use Rattle.rules_model.specs.declared.rules.Rules.{Rules}
-use Rattle.rules_model.specs.Attacks.{attacks, attacks_from, flies_to, is_own, is_own_king, king_attacked, king_attacked_at, king_faces, stands_between}
+use Rattle.rules_model.specs.Attacks.{attacks, attacks_from, flies_to, is_own, is_own_king, king_attacked_at, king_faces, stands_between}
 use Rattle.rules_model.specs.Fit.{IsFit}
 use Rattle.rules_model.specs.Kinds.{is_king}
 use Rattle.rules_model.specs.Sides.{other, same_side}

@@ -1,15 +1,15 @@
 -- What is seen along a file, and the king that faces another.
-use Rattle.std.proofs.Common.{◌≡◌, ◌≢◌, ℕ, ◌%◌, ◌<◌, ◌≤◌, min, max, nat_lt, Bool, true, false, ◌&&◌, ◌||◌, not, ◌==◌, Option, List, is_some, refl, ap, sym, ◌∙◌, arith}
-use Rattle.std.proofs.lemmas.Bool.{and_parts, and_from, and_left, eq-eqb, eqb-true, false_from_ne_true, le-ltb, lt-ltb, ltb-true}
+use Rattle.std.proofs.Common.{◌≡◌, ◌≢◌, ℕ, ◌%◌, ◌<◌, min, max, nat_lt, Bool, true, false, ◌&&◌, not, ◌==◌, Option, List, is_some, refl, sym, ◌∙◌, arith}
+use Rattle.std.proofs.lemmas.Bool.{and_parts, and_from, eq-eqb, eqb-true, false_from_ne_true, lt-ltb, ltb-true}
 use Rattle.std.proofs.Math.Bool.{or-false}
 use Rattle.foundation.specs.Count.{any_below}
-use Rattle.foundation.proofs.CountLemmas.{any_below-none, any_below-some, any_below-true}
+use Rattle.foundation.proofs.CountLemmas.{any_below-some, any_below-true}
 use Rattle.rules_model.specs.declared.board.Cell.{Cell}
 use Rattle.rules_model.specs.Attacks.{stands_between}
 use Rattle.rules_model.specs.Squares.{cell_at}
 use Rattle.square_set.specs.declared.Set.{Set}
 use Rattle.square_set.specs.Members.{before, has, place}
-use Rattle.square_set.proofs.Cases.{by_bool, by_order, same_both}
+use Rattle.square_set.proofs.Cases.{by_bool, by_order}
 use Rattle.square_set.proofs.CountLaws.{before-at, before-none}
 use Rattle.move_tables.specs.Lines.{in_both}
 use Rattle.move_tables.specs.Occupied.{IsOccupied}

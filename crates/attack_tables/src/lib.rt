@@ -2,10 +2,11 @@
 #![tactic(auto)]
 
 mod masks;
-mod sight;
+pub mod sight;
 pub mod tables;
 #[cfg(test)]
 mod tests;
 
 pub use move_tables::{Mode, kings, men, occupied};
-pub use tables::Tables;
+pub use sight::Sight;
+pub use tables::{Tables, cell_on};

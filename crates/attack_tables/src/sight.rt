@@ -10,7 +10,7 @@ use std::alloc::Global;
 
 /// The other squares of a square's file.
 #[derive(Clone, Copy, Debug, PartialEq, Eq)]
-pub(crate) struct Sight {
+pub struct Sight {
     pub above: Set,
     pub below: Set,
 }

@@ -12,12 +12,14 @@ ghost use Rattle.move_tables.specs.Occupied.{IsOccupied, AreKings};
 ghost use Rattle.move_tables.specs.Reached as Reached;
 ghost use Rattle.move_tables.specs.Spots as Spots;
 ghost use Rattle.attack_tables.specs.Boards.{HoldsMen, OnSquares, IsBoardBy};
+ghost use Rattle.attack_tables.specs.Masks.{IsMaskBelow};
+ghost use Rattle.attack_tables.specs.Sights.{IsSightOf};
 
 use crate::masks::{masks, place_of};
 use crate::sight::{Sight, sights};
 use foundation::Memory;
 use move_tables::{Mode, MoveTables, Spot, kings, men, occupied};
-use rules_model::kinds::names;
+use rules_model::attacks::is_own_king;
 use rules_model::{Cell, Kind, Position, Rules, Side, Square};
 use square_set::{EMPTY, Set};
 use std::alloc::Global;
@@ -44,16 +46,8 @@ impl Model for Tables {
     ghost invariant = { λ t. IsFit t.moves × AreMasks t.moves t.masks.items × AreSights t.sights.items };
 }
 
-fn is_own_king(rules: &Rules, side: Side, cell: Option<Cell>) -> bool
-    ensures { result ≡ Rule.is_own_king rules.now side cell }
-{
-    match cell {
-        None => false,
-        Some(cell) => cell.side.is(side) && names(rules.king, cell.kind),
-    }
-}
-
-fn cell_on(cells: &[Option<Cell>; 120], at: u8) -> Option<Cell>
+/// What stands on the square.
+pub fn cell_on(cells: &[Option<Cell>; 120], at: u8) -> Option<Cell>
     requires { at < 120 }
     ensures { result ≡ cell_at cells.now at }
 {
@@ -155,6 +149,22 @@ impl Tables {
         to.0 < 128 && reached.has(to.0)
     }
 
+    /// The squares from which a piece of the side may ever take on the square: from no other does it on any board.
+    pub fn takers(&self, by: Side, at: Square) -> Set
+        requires { at.0 < 120 }
+        ensures { IsMaskBelow self.now by 120 at.0 result }
+    {
+        self.masks[place_of(by, at.0)]
+    }
+
+    /// The other squares of the square's file, above it and below.
+    pub fn sight(&self, at: Square) -> Sight
+        requires { at.0 < 120 }
+        ensures { IsSightOf at.0 result }
+    {
+        self.sights[at.0 as usize]
+    }
+
     /// Whether the kind takes on the square.
     fn takes(&self, by: Side, kind: Kind, from: u8, at: Square, occupied: Set) -> bool
         requires at { at.0 < 120 }
@@ -207,7 +217,8 @@ impl Tables {
         ensures { (board : List (Option Cell)) → IsBoardBy by cells.now men occupied board → result ≡ any_below (Rule.attacks_from self.now board by at.0) 120 }
     {
         board_size(cells);
-        let mut near = self.masks[place_of(by, at.0)].and(men);
+        let _rules = self.rules();
+        let mut near = self.takers(by, at).and(men);
         while let Some(from) = near.take_first() {
             if self.attacks_from(cells, occupied, at, by, from) {
                 return true;
@@ -231,7 +242,7 @@ impl Tables {
     {
         board_size(cells);
         let rules = self.rules();
-        let mut seen = self.sights[at.0 as usize].reach(occupied).and(men);
+        let mut seen = self.sight(at).reach(occupied).and(men);
         while let Some(from) = seen.take_first() {
             if is_own_king(rules, by, cell_on(cells, from)) {
                 return true;

@@ -1,4 +1,4 @@
-use Rattle.std.proofs.Common.{◌≡◌, ◌||◌, true, false, refl, ap, sym, ◌∙◌}
+use Rattle.std.proofs.Common.{◌≡◌, true, false, refl, ap, sym, ◌∙◌}
 use Rattle.attack_tables.proofs.AttackLaws.{attacks_by_parts}
 use Rattle.attack_tables.proofs.tables.Tables.attacks_king.Goals as goal
 

@@ -1,31 +1,28 @@
-use Rattle.std.proofs.Common.{◌≡◌, ◌<◌, ◌==◌, ◌&&◌, ℕ, inl, inr, not, true, false, refl, ap, subst, sym, ◌∙◌, arith}
+use Rattle.std.proofs.Common.{◌≡◌, ◌==◌, inl, inr, not, true, false, refl, ap, sym, ◌∙◌, arith}
 use Rattle.std.proofs.lemmas.Bool.{and_cases, and_parts, and_right}
 use Rattle.foundation.proofs.CountLemmas.{any_below-true, any_below-none}
 use Rattle.rules_model.specs.Attacks.{is_own_king, king_faces}
 use Rattle.rules_model.specs.Squares.{cell_at}
 use Rattle.square_set.specs.Members.{has}
 use Rattle.square_set.proofs.Cases.{by_equal}
-use Rattle.attack_tables.specs.declared.sight.Sight.{Sight}
-use Rattle.attack_tables.specs.Sights.{IsSightOf, sees}
+use Rattle.attack_tables.specs.Sights.{sees}
 use Rattle.attack_tables.proofs.AttackLaws.{faces_seen, king_is_man, men_small, not_facing}
 use Rattle.attack_tables.proofs.MaskLaws.{and_not}
 use Rattle.attack_tables.proofs.tables.Tables.king_sees.Goals as goal
 
 pub loop-from-init : goal.loop-from-init
 loop-from-init c =
-    let P : Sight → Type 0 = λ s. IsSightOf c.args.at.0 s in
-    let of : P c.index.result.now = subst P (sym c.index.ensures) (c.self.invariant.2.each c.args.at.0 c.requires.at c.index.result.now) in
     record {
       inside = λ s h. (and_parts (has c.reach.result s) (has c.args.men s) (sym (c.and-seen.ensures s) ∙ h)).1;
       faces = λ board is king s l h own.
           let reach = (and_parts (has c.reach.result s) (has c.args.men s) (sym (c.and-seen.ensures s) ∙ h)).0 in
           let sight = sym (c.reach.ensures s (omega (arith, l))) ∙ reach in
-          faces_seen c.args.self.now board c.args.by c.args.at.0 c.args.occupied is.squares c.requires.at c.index.result.now of king s l ∙ rw (own, sight) refl;
+          faces_seen c.args.self.now board c.args.by c.args.at.0 c.args.occupied is.squares c.requires.at c.sight.result c.sight.ensures king s l ∙ rw (own, sight) refl;
       done = λ board is king s l h.
           elim (and_cases (has c.reach.result s) (has c.args.men s) (sym (c.and-seen.ensures s) ∙ h)) as (λ _. king_faces c.args.self.now board c.args.by c.args.at.0 s ≡ false) [
             | inl r ↦
-                faces_seen c.args.self.now board c.args.by c.args.at.0 c.args.occupied is.squares c.requires.at c.index.result.now of king s l
-                ∙ and_right (is_own_king c.args.self.now c.args.by (cell_at board s)) (sees c.index.result.now c.args.occupied s) (sym (c.reach.ensures s (omega (arith, l))) ∙ r)
+                faces_seen c.args.self.now board c.args.by c.args.at.0 c.args.occupied is.squares c.requires.at c.sight.result c.sight.ensures king s l
+                ∙ and_right (is_own_king c.args.self.now c.args.by (cell_at board s)) (sees c.sight.result c.args.occupied s) (sym (c.reach.ensures s (omega (arith, l))) ∙ r)
             | inr m ↦ not_facing c.args.self.now board c.args.by c.args.at.0 s (king_is_man c.args.self.now c.args.by (cell_at board s) (sym (is.own s) ∙ m))
           ];
     }

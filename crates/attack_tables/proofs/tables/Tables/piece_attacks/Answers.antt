@@ -1,29 +1,18 @@
-use Rattle.std.proofs.Common.{◌≡◌, ◌<◌, ◌/◌, ◌%◌, ◌==◌, ℕ, not, false, ap, sym, subst, ◌∙◌, arith}
+use Rattle.std.proofs.Common.{◌≡◌, ◌==◌, not, false, ap, sym, ◌∙◌}
 use Rattle.std.proofs.lemmas.Bool.{and_parts}
 use Rattle.foundation.proofs.CountLemmas.{any_below-true, any_below-none}
-use Rattle.rules_model.specs.declared.board.Side.{Side}
 use Rattle.rules_model.specs.Attacks.{attacks_from}
-use Rattle.rules_model.specs.Fit.{IsFit}
-use Rattle.move_tables.specs.Spots.{side_of}
-use Rattle.square_set.specs.declared.Set.{Set}
 use Rattle.square_set.specs.Members.{has}
 use Rattle.square_set.proofs.Cases.{by_equal}
-use Rattle.attack_tables.specs.Masks.{IsMaskBelow}
 use Rattle.attack_tables.proofs.AttackLaws.{men_small}
-use Rattle.attack_tables.proofs.MaskLaws.{and_not, none_there, there}
+use Rattle.attack_tables.proofs.MaskLaws.{and_not, none_there}
 use Rattle.attack_tables.proofs.tables.Tables.piece_attacks.Goals as goal
 
 pub loop-from-init : goal.loop-from-init
 loop-from-init c =
-    let fit : IsFit c.args.self.now = rw (sym c.self.view_is) c.self.invariant.0 in
-    let P : Side → ℕ → Type 0 = λ s f. IsMaskBelow c.args.self.now s 120 f c.index.result.now in
-    let Q : Set → Type 0 = λ m. IsMaskBelow c.args.self.now (side_of (c.place_of.result / 120)) 120 (c.place_of.result % 120) m in
-    let each = c.self.invariant.1.each c.place_of.result c.place_of.ensures.below c.index.result.now in
-    let mask : Q c.index.result.now = subst Q (sym c.index.ensures) (rw (sym c.self.view_is) each) in
-    let fits : IsMaskBelow c.args.self.now c.args.by 120 c.args.at.0 c.index.result.now = there P c.args.by c.args.at.0 c.place_of.result c.requires.at c.place_of.ensures.is mask in
     record {
-      inside = λ s h. (and_parts (has c.index.result.now s) (has c.args.men s) (sym (c.and-near.ensures s) ∙ h)).1;
-      done = λ board is s l h. none_there c.args.self.now fit board c.args.by c.args.at.0 c.args.occupied is.squares c.index.result.now c.args.men fits is.own s l (sym (c.and-near.ensures s) ∙ h);
+      inside = λ s h. (and_parts (has c.takers.result s) (has c.args.men s) (sym (c.and-near.ensures s) ∙ h)).1;
+      done = λ board is s l h. none_there c.args.self.now c.rules-rules.ensures.fit board c.args.by c.args.at.0 c.args.occupied is.squares c.takers.result c.args.men c.takers.ensures is.own s l (sym (c.and-near.ensures s) ∙ h);
     }
 
 pub attacks_from-requires-clause-from : goal.attacks_from-requires-clause-from

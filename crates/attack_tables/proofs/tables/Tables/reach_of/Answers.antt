@@ -1,4 +1,4 @@
-use Rattle.std.proofs.Common.{◌≡◌, ◌==◌, rules, ap, sym, ◌∙◌}
+use Rattle.std.proofs.Common.{◌==◌, rules, ap, sym, ◌∙◌}
 use Rattle.std.proofs.lemmas.Nat.Bits.{bit_at-zero}
 use Rattle.rules_model.specs.Fit.{IsFit}
 use Rattle.move_tables.proofs.ReachLaws.{no_kind}
