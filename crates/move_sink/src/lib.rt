@@ -4,8 +4,9 @@
 #[cfg(test)]
 mod tests;
 
-ghost use Rattle.std.specs.Prelude.{◌≡◌, List, [], ◌∷◌, ◌++◌, OnOk, OnErr};
+ghost use Rattle.std.specs.Prelude.{◌≡◌, ◌<◌, ℕ, true, List, [], ◌∷◌, ◌++◌, OnOk, OnErr};
 ghost use Rattle.rules_model.specs.declared.moves.Move.{Move};
+ghost use Rattle.square_set.specs.Members.{has};
 ghost use Rattle.move_sink.specs.InTurn.{GoesTo};
 ghost use Rattle.move_sink.specs.Taking.{IsSink, TakesAll, TakesSome};
 ghost use Rattle.move_sink.specs.Listed.{list_is_sink};
@@ -33,6 +34,8 @@ pub trait MoveSink {
     /// Gives it the moves of the piece on a square to each of these squares, which become nothing else and place `gate` on the square.
     /// A sink that need not see each of them may do better than to take them one by one.
     fn take_all(&mut self, from: Square, gate: Option<Kind>, targets: Set) -> Result<(), Self::Full>
+        requires from { from.0 < 120 }
+        requires targets { (s : ℕ) → has targets s ≡ true → s < 120 }
         ensures ok { OnOk result (TakesAll takes (GoesTo from gate targets) self.old self.new) }
         ensures err { OnErr result (TakesSome stops (GoesTo from gate targets) self.old self.new) }
     {
