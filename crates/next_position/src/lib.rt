@@ -20,6 +20,8 @@ mod rights;
 #[cfg(test)]
 mod tests;
 
+pub use passing::passes_by;
+pub use pieces::{behind, fresh, gated, promote};
 use rules_model::{Cells, Move, Position, Rules, Side};
 
 /// Makes of the pieces of a position those that stand there after a move.

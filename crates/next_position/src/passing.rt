@@ -21,9 +21,9 @@ fn is_ep(ep: Option<Square>, to: Square) -> bool
     }
 }
 
-/// A pawn goes diagonally forward to the en passant square.
+/// Whether a pawn goes diagonally forward to the en passant square.
 #[tactic(auto, unfolding(rules_model::specs::Pawns::passes_by))]
-fn passes_by(rules: &Rules, p: &Position, from: Square, to: Square) -> bool
+pub fn passes_by(rules: &Rules, p: &Position, from: Square, to: Square) -> bool
     requires rules { IsFit rules.now }
     requires from { from.0 < 120 }
     ensures { result ≡ Pawns.passes_by rules.now (repeat_of p.now) from to.0 }

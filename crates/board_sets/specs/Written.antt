@@ -1,0 +1,28 @@
+-- Sets of which one square is written.
+use Rattle.std.specs.Prelude.{◌≡◌, ℕ, Bool, true, ◌&&◌, ◌||◌, ◌==◌, Option}
+use Rattle.rules_model.specs.declared.board.Cell.{Cell}
+use Rattle.rules_model.specs.declared.board.Side.{Side}
+use Rattle.rules_model.specs.declared.rules.Rules.{Rules}
+use Rattle.rules_model.specs.Attacks.{is_own, is_own_king}
+use Rattle.rules_model.specs.Sides.{other}
+use Rattle.square_set.specs.declared.Set.{Set}
+use Rattle.square_set.specs.Members.{has, IsWithout}
+use Rattle.board_sets.specs.declared.sets.BoardSets.{BoardSets}
+
+-- the new set has the squares of the old one, and this one besides where it is wanted
+abbrev pub IsWith : Set → ℕ → Bool → Set → Type 0
+IsWith old at wanted new = (s : ℕ) → has new s ≡ (has old s || (wanted && (s == at)))
+
+-- the square is in each of the sets to which what stands there belongs
+pub record AreWith (rules : Rules) (side : Side) (old : BoardSets) (at : ℕ) (cell : Option Cell) (new : BoardSets) : Type 0 where
+  pub own : IsWith old.own at (is_own side (λ kind. true) cell) new.own
+  pub enemies : IsWith old.enemies at (is_own (other side) (λ kind. true) cell) new.enemies
+  pub kings : IsWith old.kings at (is_own_king rules side cell) new.kings
+  pub enemy_kings : IsWith old.enemy_kings at (is_own_king rules (other side) cell) new.enemy_kings
+
+-- the square is in none of the sets
+pub record AreWithout (old : BoardSets) (at : ℕ) (new : BoardSets) : Type 0 where
+  pub own : IsWithout old.own at new.own
+  pub enemies : IsWithout old.enemies at new.enemies
+  pub kings : IsWithout old.kings at new.kings
+  pub enemy_kings : IsWithout old.enemy_kings at new.enemy_kings

@@ -1,0 +1,9 @@
+//! The squares of the pieces and of the kings of both sides, kept through a move.
+#![tactic(auto)]
+
+mod after;
+pub mod sets;
+#[cfg(test)]
+mod tests;
+
+pub use sets::{BoardSets, sets_are_on_board, sets_of};

@@ -1,0 +1,130 @@
+//! The sets of a board's pieces, and what they become once a square is written.
+ghost use Rattle.std.specs.Prelude.{◌≡◌, ℕ, ◌<◌, true, length, slice_set, List, Option};
+ghost use Rattle.rules_model.specs.declared.board.Cell.{Cell};
+ghost use Rattle.rules_model.specs.declared.board.Side.{Side};
+ghost use Rattle.rules_model.specs.declared.rules.Rules.{Rules};
+ghost use Rattle.rules_model.specs.Attacks.{is_own};
+ghost use Rattle.rules_model.specs.Sides.{other};
+ghost use Rattle.square_set.specs.Members.{has};
+ghost use Rattle.move_tables.specs.Occupied.{IsOccupied};
+ghost use Rattle.board_sets.specs.Sets.{AreSets, AreSetsAfter, AreOnBoard};
+ghost use Rattle.board_sets.specs.Written.{IsWith, AreWith, AreWithout};
+
+use rules_model::attacks::is_own_king;
+use rules_model::{Cell, Cells, Rules, Side, Square};
+use square_set::{EMPTY, Set};
+
+/// The squares of the pieces on a board, by whose move it is.
+#[derive(Clone, Copy, Debug, PartialEq, Eq)]
+pub struct BoardSets {
+    /// Those of the side to move.
+    pub own: Set,
+    /// Those of the other side.
+    pub enemies: Set,
+    /// The kings of the side to move.
+    pub kings: Set,
+    /// The kings of the other side.
+    pub enemy_kings: Set,
+}
+
+const NONE: BoardSets = BoardSets {
+    own: EMPTY,
+    enemies: EMPTY,
+    kings: EMPTY,
+    enemy_kings: EMPTY,
+};
+
+fn is_man(side: Side, cell: Option<Cell>) -> bool
+    ensures { result ≡ is_own side (λ kind. true) cell }
+{
+    match cell {
+        None => false,
+        Some(cell) => cell.side.is(side),
+    }
+}
+
+/// The set, with the square besides where that is wanted.
+fn with_if(set: Set, at: u8, wanted: bool) -> Set
+    requires { at < 128 }
+    ensures { IsWith set at wanted result }
+{
+    if wanted { set.with(at) } else { set }
+}
+
+/// The sets of a board.
+pub fn sets_of(rules: &Rules, cells: &Cells, side: Side) -> BoardSets
+    ensures { AreSets rules.now side cells.now result }
+{
+    let _first = cells[0];
+    let mut sets = NONE;
+    for at in 0..120u8 {
+        sets = sets.with(rules, side, at, cells[at as usize]);
+    }
+    sets
+}
+
+impl BoardSets {
+    /// The squares with a piece.
+    pub fn occupied(&self) -> Set
+        ensures { (rules : Rules) (side : Side) (cells : List (Option Cell)) → AreSets rules side cells self.now → IsOccupied result cells }
+    {
+        self.own.or(self.enemies)
+    }
+
+    /// The sets of the same board for the other side.
+    pub fn turned(self) -> BoardSets
+        ensures { (rules : Rules) (side : Side) (cells : List (Option Cell)) → AreSets rules side cells self → AreSets rules (other side) cells result }
+    {
+        BoardSets {
+            own: self.enemies,
+            enemies: self.own,
+            kings: self.enemy_kings,
+            enemy_kings: self.kings,
+        }
+    }
+
+    /// The sets without the square.
+    fn without(self, at: u8) -> BoardSets
+        requires { at < 128 }
+        ensures { AreWithout self at result }
+    {
+        BoardSets {
+            own: self.own.without(at),
+            enemies: self.enemies.without(at),
+            kings: self.kings.without(at),
+            enemy_kings: self.enemy_kings.without(at),
+        }
+    }
+
+    /// The sets with the square in those to which what stands there belongs.
+    fn with(self, rules: &Rules, side: Side, at: u8, cell: Option<Cell>) -> BoardSets
+        requires { at < 128 }
+        ensures { AreWith rules.now side self at cell result }
+    {
+        if cell.is_none() {
+            return self;
+        }
+        BoardSets {
+            own: with_if(self.own, at, is_man(side, cell)),
+            enemies: with_if(self.enemies, at, is_man(side.other(), cell)),
+            kings: with_if(self.kings, at, is_own_king(rules, side, cell)),
+            enemy_kings: with_if(self.enemy_kings, at, is_own_king(rules, side.other(), cell)),
+        }
+    }
+
+    /// The sets once this stands on the square.
+    pub fn put(self, rules: &Rules, side: Side, at: Square, cell: Option<Cell>) -> BoardSets
+        ensures { AreSetsAfter rules.now side self (λ cells. slice_set cells at.0 cell) result }
+    {
+        if at.0 < 120 {
+            self.without(at.0).with(rules, side, at.0, cell)
+        } else {
+            self
+        }
+    }
+}
+
+/// The squares of the sets are squares of the largest board.
+pub fn sets_are_on_board()
+    ensures { (rules : Rules) (side : Side) (cells : List (Option Cell)) (sets : BoardSets) → length cells ≡ 120 → AreSets rules side cells sets → AreOnBoard sets }
+{}
