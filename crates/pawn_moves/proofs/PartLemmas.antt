@@ -11,7 +11,7 @@ use Rattle.rules_model.specs.declared.moves.Move.TheVariants.{Go, Castle, Drop}
 use Rattle.rules_model.specs.declared.moves.Promo.{Promo}
 use Rattle.rules_model.specs.declared.moves.Promo.TheVariants.{Stays, Pawn, Plus}
 use Rattle.rules_model.specs.declared.rules.Rules.{Rules}
-use Rattle.rules_model.specs.Attacks.{ahead, pawn_ray, right_ahead, left_ahead, is_diagonal, is_own_pawn}
+use Rattle.rules_model.specs.Attacks.{ahead, pawn_ray, right_ahead, left_ahead, is_diagonal, is_own, is_own_pawn}
 use Rattle.rules_model.specs.Candidates.{own_pawn_moves}
 use Rattle.rules_model.specs.Fit.{IsFit}
 use Rattle.rules_model.specs.Kinds.{board_of, is_pawn, masks, names}
@@ -21,8 +21,14 @@ use Rattle.rules_model.specs.Reach.{is_at}
 use Rattle.rules_model.specs.Sides.{same_side}
 use Rattle.rules_model.specs.Squares.{step_to, cell_at}
 use Rattle.rules_model.proofs.CandidateLaws.{at_some, not_both}
+use Rattle.square_set.specs.declared.Set.{Set}
+use Rattle.square_set.specs.Members.{has}
+use Rattle.move_tables.specs.Occupied.{AreMen}
+use Rattle.move_sink.specs.InTurn.{At, start_of}
+use Rattle.move_sink.specs.Taking.{TakesAll, TakesSome}
+use Rattle.move_sink.proofs.TakingLemmas.{all-same, some-within}
 use Rattle.pawn_moves.specs.declared.pawn.Flank.TheVariants.{Right, Left}
-use Rattle.pawn_moves.specs.Parts.{go, IsChosen, IsPromotion, becomes, IsMoveTo, IsMoveToSome, IsAhead, IsStep, IsAside, IsTake, IsMoveFrom, IsOwnMoveFrom, IsMoveBelow, may_step_twice}
+use Rattle.pawn_moves.specs.Parts.{go, IsChosen, IsPromotion, becomes, IsMoveTo, IsMoveToSome, IsAhead, IsStep, IsAside, IsTake, IsMoveFrom, IsOwnMoveFrom, may_step_twice}
 use Rattle.pawn_moves.specs.PawnMoves.{is_pawn_move, FitPawnMoves}
 use Rattle.pawn_moves.proofs.GoalLemmas.{fit_board, two_goes, two_passes}
 use Rattle.pawn_moves.proofs.StepLemmas.{Differ, step_below, one_two, one_right, one_left, right_left}
@@ -293,41 +299,9 @@ same_square : (a : Square) (s : ℕ) → a.0 ≡ s → a ≡ record { 0 = s }
 same_square a s e = λ i. record { 0 = e i }
 
 module _ (rules : Rules) (r : Repeat) where
-  abbrev Own : ℕ → Move → Type 0
-  Own from = IsOwnMoveFrom rules r (record { 0 = from })
-
   -- no own pawn is there
   pub own-none : (from : Square) → is_own_pawn rules r.side (cell_at r.cells from.0) ≡ false → (m : Move) → IsOwnMoveFrom rules r from m → ⊥
   own-none from e m h = not_both (is_own_pawn rules r.side (cell_at r.cells from.0)) h.0 e
-
-  pub below-none : (m : Move) → IsMoveBelow rules r 0 m → ⊥
-  below-none m h = omega (arith, h.1)
-
-  pub below-apart : (from : ℕ) (m : Move) → IsMoveBelow rules r from m → Own from m → ⊥
-  below-apart from m h k =
-      let a = h.2.1.2.3 in
-      let b = k.1.2.3 in
-      let start : Square = record { 0 = from } in
-      let same : h.0 ≡ start = cc in
-      let number : h.0.0 ≡ from = ap (λ x. x.0) same in
-      let less = h.1 in
-      omega (arith, number, less)
-
-  pub below-split : (from : ℕ) (m : Move) → IsMoveBelow rules r (from + 1) m → IsMoveBelow rules r from m ⊎ Own from m
-  below-split from m h =
-      elim (cases h.0.0 from h.1) as (λ _. IsMoveBelow rules r from m ⊎ Own from m) [
-        | inl l ↦ inl (h.0, l, h.2)
-        | inr e ↦ inr (subst (λ x. IsOwnMoveFrom rules r x m) (same_square h.0 from e) h.2)
-      ]
-
-  pub below-grow : (from end : ℕ) → from ≤ end → (m : Move) → IsMoveBelow rules r from m → IsMoveBelow rules r end m
-  below-grow from end l m h = (h.0, omega (arith, l, h.1), h.2)
-
-  pub below-gain : (from end : ℕ) → from < end → (m : Move) → Own from m → IsMoveBelow rules r end m
-  below-gain from end l m h = (record { 0 = from }, l, h)
-
-  pub below-join : (from : ℕ) (m : Move) → IsMoveBelow rules r from m ⊎ Own from m → IsMoveBelow rules r (from + 1) m
-  below-join from m s = ⊎_elim (below-grow from (from + 1) (omega arith) m) (below-gain from (from + 1) (omega arith) m) s
 
   -- ---- the fit moves
 
@@ -339,24 +313,46 @@ module _ (rules : Rules) (r : Repeat) where
   unfolding is_pawn_move
   go_is a b promo = own_moves (cell_at r.cells a.0) a b promo
 
-  pub below-fit : (m : Move) → IsMoveBelow rules r 120 m → FitPawnMoves rules r m
-  below-fit m h =
-      let from = h.0 in
-      let to = h.2.1.0 in
-      let promo = h.2.1.2.0 in
-      let own = h.2.0 in
-      let moves = h.2.1.2.2 in
-      subst (FitPawnMoves rules r) h.2.1.2.3
-      ((h.1, h.2.1.1, h.2.1.2.1, tt), go_is from to promo ∙ and_from (is_own_pawn rules r.side (cell_at r.cells from.0)) (pawn_moves rules r from to promo) own moves)
+  go_parts : (a b : Square) (promo : Promo) → is_pawn_move rules r (go a b promo) ≡ true → (is_own_pawn rules r.side (cell_at r.cells a.0) ≡ true) × (pawn_moves rules r a b promo ≡ true)
+  go_parts a b promo e = and_parts (is_own_pawn rules r.side (cell_at r.cells a.0)) (pawn_moves rules r a b promo) (sym (go_is a b promo) ∙ e)
 
-  pub fit-below : (m : Move) → FitPawnMoves rules r m → IsMoveBelow rules r 120 m
+  -- each starts from an own pawn
+  own_there : (m : Move) → FitPawnMoves rules r m → is_own_pawn rules r.side (cell_at r.cells (start_of m)) ≡ true
   unfolding is_pawn_move
-  fit-below (Go a b promo None) h =
-      let k = and_parts (is_own_pawn rules r.side (cell_at r.cells a.0)) (pawn_moves rules r a b promo) (sym (own_moves (cell_at r.cells a.0) a b promo) ∙ h.1) in
-      (a, h.0.0, (k.0, (b, h.0.1, (promo, h.0.2, k.1, refl))))
-  fit-below (Go a b promo (Some kind)) h = let e = h.1 in cc
-  fit-below (Castle a b rook gate) h = let e = h.1 in cc
-  fit-below (Drop kind b) h = let e = h.1 in cc
+  own_there (Go a b promo None) h = (go_parts a b promo h.1).0
+  own_there (Go a b promo (Some kind)) h = let e = h.1 in cc
+  own_there (Castle a b rook gate) h = let e = h.1 in cc
+  own_there (Drop kind b) h = let e = h.1 in cc
+
+  pawn_is_man : (o : Option Cell) → is_own_pawn rules r.side o ≡ true → is_own r.side (λ kind. true) o ≡ true
+  pawn_is_man None e = e
+  pawn_is_man (Some c) e = ap (λ b. b && true) (and_parts (same_side c.side r.side) (is_pawn rules c.kind) e).0
+
+  pub from_man : (men : Set) → AreMen r.side r.cells men → (m : Move) → FitPawnMoves rules r m → has men (start_of m) ≡ true
+  from_man men are m h = are (start_of m) ∙ pawn_is_man (cell_at r.cells (start_of m)) (own_there m h)
+
+  module _ (from : Square) (l : from.0 < 120) where
+    fit_there : (m : Move) → IsOwnMoveFrom rules r from m → At (FitPawnMoves rules r) start_of from.0 m
+    fit_there m h =
+        let to = h.1.0 in
+        let promo = h.1.2.0 in
+        subst (At (FitPawnMoves rules r) start_of from.0) h.1.2.3
+        (((l, h.1.1, h.1.2.1, tt), go_is from to promo ∙ and_from (is_own_pawn rules r.side (cell_at r.cells from.0)) (pawn_moves rules r from to promo) h.0 h.1.2.2), refl)
+
+    there_fit : (m : Move) → At (FitPawnMoves rules r) start_of from.0 m → IsOwnMoveFrom rules r from m
+    unfolding is_pawn_move
+    there_fit (Go a b promo None) h =
+        let k = go_parts a b promo h.0.1 in
+        subst (λ x. IsOwnMoveFrom rules r x (go a b promo)) (same_square a from.0 h.1) (k.0, (b, h.0.0.1, (promo, h.0.0.2, k.1, refl)))
+    there_fit (Go a b promo (Some kind)) h = let e = h.0.1 in cc
+    there_fit (Castle a b rook gate) h = let e = h.0.1 in cc
+    there_fit (Drop kind b) h = let e = h.0.1 in cc
+
+    pub fit-at : {S : Type 0} (takes : S → List Move → S → Type 0) (s t : S) → TakesAll takes (IsOwnMoveFrom rules r from) s t → TakesAll takes (At (FitPawnMoves rules r) start_of from.0) s t
+    fit-at takes s t a = all-same takes (IsOwnMoveFrom rules r from) (At (FitPawnMoves rules r) start_of from.0) s t a fit_there there_fit
+
+    pub fit-some : {S : Type 0} (stops : S → List Move → S → Type 0) (s t : S) → TakesSome stops (IsOwnMoveFrom rules r from) s t → TakesSome stops (At (FitPawnMoves rules r) start_of from.0) s t
+    fit-some stops s t a = some-within stops (IsOwnMoveFrom rules r from) (At (FitPawnMoves rules r) start_of from.0) s t a fit_there
 
   -- ---- without the chess pawn
 
@@ -369,6 +365,4 @@ module _ (rules : Rules) (r : Repeat) where
   not_own e (Some c) = and_right (same_side c.side r.side) (is_pawn rules c.kind) (unnamed rules.pawn e c.kind)
 
   pub pawnless : is_some rules.pawn ≡ false → (m : Move) → FitPawnMoves rules r m → ⊥
-  pawnless e m h =
-      let k = fit-below m h in
-      not_both (is_own_pawn rules r.side (cell_at r.cells k.0.0)) k.2.0 (not_own e (cell_at r.cells k.0.0))
+  pawnless e m h = not_both (is_own_pawn rules r.side (cell_at r.cells (start_of m))) (own_there m h) (not_own e (cell_at r.cells (start_of m)))

@@ -80,7 +80,3 @@ IsMoveFrom rules r from m = (to : Square) × (to.0 < 120) × IsMoveTo rules r fr
 -- an own pawn's move from the square
 abbrev pub IsOwnMoveFrom : Rules → Repeat → Square → Move → Type 0
 IsOwnMoveFrom rules r from m = (is_own_pawn rules r.side (cell_at r.cells from.0) ≡ true) × IsMoveFrom rules r from m
-
--- an own pawn's move from a square below the end
-abbrev pub IsMoveBelow : Rules → Repeat → ℕ → Move → Type 0
-IsMoveBelow rules r end m = (from : Square) × (from.0 < end) × IsOwnMoveFrom rules r from m

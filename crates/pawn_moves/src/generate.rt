@@ -6,16 +6,19 @@ ghost use Rattle.rules_model.specs.Fit.{IsFit};
 ghost use Rattle.rules_model.specs.Pawns as Pawns;
 ghost use Rattle.rules_model.specs.Repeats.{repeat_of};
 ghost use Rattle.rules_model.specs.Squares.{cell_at};
+ghost use Rattle.board_sets.specs.Sets.{AreSets};
 ghost use Rattle.pawn_moves.specs.Parts as Parts;
 ghost use Rattle.pawn_moves.specs.Parts.{IsChosen, IsPromotion, IsMoveTo, IsAhead, IsAside, IsStep, IsTake, IsMoveFrom, IsOwnMoveFrom};
 ghost use Rattle.pawn_moves.specs.PawnMoves.{FitPawnMoves};
 
 use crate::pawn::{Flank, becomes, diagonal, is_enemy_on, is_ep, may_step_twice, promotes};
+use board_sets::{BoardSets, sets_are_on_board};
 use move_sink::MoveSink;
 use rules_model::attacks::{ahead, pawn_at};
 use rules_model::kinds::{board_of, masks};
+use rules_model::sizes::position_sizes;
 use rules_model::soundness::is_free;
-use rules_model::{KINDS, Kind, Move, Position, Promo, Rules, SQUARES, Square};
+use rules_model::{KINDS, Kind, Move, Position, Promo, Rules, Square};
 
 /// Gives the sink the move where it is wanted.
 fn push_if<S: MoveSink>(wanted: bool, m: Move, out: &mut S) -> Result<(), S::Full>
@@ -220,15 +223,24 @@ fn push_from<S: MoveSink>(
 
 /// Gives the sink the moves of the own pawns, each once and in no special order: those for which `is_candidate` answers
 /// yes. After an error it took some of them, each at most once.
-pub fn push_moves<S: MoveSink>(rules: &Rules, p: &Position, out: &mut S) -> Result<(), S::Full>
+pub fn push_moves<S: MoveSink>(
+    rules: &Rules,
+    p: &Position,
+    sets: &BoardSets,
+    out: &mut S,
+) -> Result<(), S::Full>
     requires fit { IsFit rules.now }
+    requires sets { AreSets rules.now p.now.side p.now.cells sets.now }
     ensures ok { OnOk result (TakesAll S.takes (FitPawnMoves rules.now (repeat_of p.now)) out.old out.new) }
     ensures err { OnErr result (TakesSome S.stops (FitPawnMoves rules.now (repeat_of p.now)) out.old out.new) }
 {
     if rules.pawn.is_none() {
         return Ok(());
     }
-    for from in 0..SQUARES as u8 {
+    position_sizes(p);
+    sets_are_on_board();
+    let mut left = sets.own;
+    while let Some(from) = left.take_first() {
         push_from(rules, p, Square(from), out)?;
     }
     Ok(())

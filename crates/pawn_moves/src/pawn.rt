@@ -93,7 +93,7 @@ pub(crate) fn diagonal(rules: &Rules, p: &Position, flank: Flank, from: Square) 
 pub(crate) fn may_promote(rules: &Rules, side: Side, to: Square) -> bool
     ensures { result ≡ Pawns.may_promote rules.now side to.0 }
 {
-    names_any(&rules.promotion_kinds) && in_region(&rules.promotion, side, to.0)
+    in_region(&rules.promotion, side, to.0) && names_any(&rules.promotion_kinds)
 }
 
 /// Whether a pawn promotes on the square, or may, where it goes there.

@@ -1,3 +1,4 @@
 pub mod GoalLemmas
 pub mod PartLemmas
+pub mod PlainLemmas
 pub mod TargetLemmas

@@ -69,7 +69,7 @@ module _ (rules : Rules) (r : Repeat) (piece : Cell) (from to : Square) (gate : 
   abbrev go : Promo → Move
   go promo = Go from to promo gate
 
-  moves_is : own_piece rules r.side (cell_at r.cells from.0) ≡ Some piece → (promo : Promo) → own_piece_moves rules r from to promo (cell_at r.cells from.0) ≡ (goes && becomes promo && not castles)
+  pub moves_is : own_piece rules r.side (cell_at r.cells from.0) ≡ Some piece → (promo : Promo) → own_piece_moves rules r from to promo (cell_at r.cells from.0) ≡ (goes && becomes promo && not castles)
   unfolding piece_moves
   moves_is own promo = rw (own_makes rules r from to promo (cell_at r.cells from.0), own) refl
 
@@ -159,6 +159,12 @@ module _ (rules : Rules) (r : Repeat) where
   by_own : (o : Option Cell) (from to : Square) (promo : Promo) → own_piece_moves rules r from to promo o ≡ true → is_own r.side (λ kind. true) o ≡ true
   by_own None from to promo e = e
   by_own (Some c) from to promo e = ap (λ b. b && true) (own_side c from to promo e)
+
+  -- one from the square starts from an own man
+  pub man_there : (men : Set) → AreMen r.side r.cells men → (from : Square) (gate : Option Kind) (m : Move) → IsMoveFrom rules r from gate m → has men from.0 ≡ true
+  man_there men are from gate (Go f t promo g) h = are from.0 ∙ by_own (cell_at r.cells from.0) from t promo h.4
+  man_there men are from gate (Castle f t rook g) h = absurd h
+  man_there men are from gate (Drop kind t) h = absurd h
 
   -- each starts from one of the own men
   pub from_man : (men : Set) → AreMen r.side r.cells men → (m : Move) → FitPieceMoves rules r m → has men (start_of m) ≡ true

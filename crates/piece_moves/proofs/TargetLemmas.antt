@@ -1,5 +1,5 @@
 -- The targets of a piece, by sets.
-use Rattle.std.proofs.Common.{◌≡◌, ℕ, ◌<◌, ◌≤◌, Bool, true, false, ◌&&◌, ◌||◌, not, is_some, Option, Some, None, List, length, refl, sym, ◌∙◌}
+use Rattle.std.proofs.Common.{◌≡◌, ℕ, ◌<◌, ◌≤◌, Bool, true, false, ◌&&◌, ◌||◌, not, is_some, Option, Some, None, List, refl, ◌∙◌}
 use Rattle.rules_model.specs.declared.board.Cell.{Cell}
 use Rattle.rules_model.specs.declared.board.Side.{Side}
 use Rattle.rules_model.specs.declared.board.Side.TheVariants.{White, Black}
@@ -18,27 +18,8 @@ use Rattle.move_tables.specs.declared.mode.Mode.TheVariants.{Quiet, Take}
 use Rattle.move_tables.specs.Occupied.{AreMen, IsOccupied}
 use Rattle.move_tables.specs.Reached.{reaches_as, reaches_in}
 use Rattle.move_tables.proofs.ReachLaws.{no_kind, reach_beyond}
-use Rattle.attack_tables.proofs.AttackLaws.{men_small}
 use Rattle.piece_moves.specs.Goals.{own_piece, lands}
 use Rattle.piece_moves.proofs.GoalLemmas.{own, goes_is}
-
--- ---- the men of both sides
-
-of_one : (a b : Side) → ((same_side a b && true) || (same_side a (other b) && true)) ≡ true
-of_one White White = refl
-of_one White Black = refl
-of_one Black White = refl
-of_one Black Black = refl
-
-one_or_other : (side : Side) (o : Option Cell) → (is_own side (λ kind. true) o || is_own (other side) (λ kind. true) o) ≡ is_some o
-one_or_other side None = refl
-one_or_other side (Some c) = of_one c.side side
-
-pub both_occupy : (side : Side) (cells : List (Option Cell)) (own enemies : Set) → AreMen side cells own → AreMen (other side) cells enemies → (s : ℕ) → (has own s || has enemies s) ≡ is_some (cell_at cells s)
-both_occupy side cells own enemies a b s = rw (a s, b s) (one_or_other side (cell_at cells s))
-
-pub own_small : (side : Side) (cells : List (Option Cell)) (men : Set) (s : ℕ) → length cells ≡ 120 → AreMen side cells men → has men s ≡ true → s < 120
-own_small side cells men s n are e = men_small side cells men s n (λ k h. sym (are k) ∙ h) e
 
 -- ---- where a piece lands
 

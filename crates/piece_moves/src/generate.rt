@@ -5,15 +5,17 @@ ghost use Rattle.rules_model.specs.declared.moves.Move.TheVariants.{Go};
 ghost use Rattle.rules_model.specs.Fit.{IsFit};
 ghost use Rattle.rules_model.specs.Pieces as Pieces;
 ghost use Rattle.rules_model.specs.Repeats.{repeat_of};
+ghost use Rattle.board_sets.specs.Sets.{AreSets};
 ghost use Rattle.piece_moves.specs.Movers.{IsMoveOf, IsMoveTo, IsOwnMover};
 ghost use Rattle.piece_moves.specs.Parts.{FitPieceMoves, IsChosen, IsMoveFrom};
-ghost use Rattle.piece_moves.specs.Targets.{AreMenOf};
 
 use crate::piece::own_piece;
-use crate::promotion::{becomes, may_plus, means_castling};
-use crate::targets::{Men, men_of, targets};
+use crate::promotion::{becomes, is_plain, may_plus, means_castling};
+use crate::targets::targets;
 use attack_tables::Tables;
+use board_sets::{BoardSets, sets_are_on_board};
 use move_sink::MoveSink;
+use rules_model::sizes::position_sizes;
 use rules_model::{Cell, Kind, Move, Position, Promo, Rules, Square};
 
 /// An own piece that is not the pawn, the square on which it stands, and what its move places there.
@@ -80,50 +82,52 @@ fn push_to<S: MoveSink>(
     )
 }
 
-/// Gives the moves of the own piece.
-fn push_piece<S: MoveSink>(
+/// Gives the moves of the own piece one by one.
+fn push_each<S: MoveSink>(
     rules: &Rules,
     tables: &Tables,
     p: &Position,
-    men: Men,
+    sets: &BoardSets,
     mover: Mover,
     out: &mut S,
 ) -> Result<(), S::Full>
     requires fit { IsFit rules.now }
     requires tables { tables.now ≡ rules.now }
-    requires men { AreMenOf p.now.side p.now.cells men }
+    requires sets { AreSets rules.now p.now.side p.now.cells sets.now }
     requires from { mover.from.0 < 120 }
     requires own { IsOwnMover rules.now p.now mover }
     ensures ok { OnOk result (TakesAll S.takes (IsMoveOf rules.now p.now mover) out.old out.new) }
     ensures err { OnErr result (TakesSome S.stops (IsMoveOf rules.now p.now mover) out.old out.new) }
 {
-    let mut left = targets(tables, p, men, mover.piece, mover.from);
+    let mut left = targets(tables, p, sets, mover.piece, mover.from);
     while let Some(to) = left.take_first() {
         push_to(rules, p, mover, Square(to), out)?;
     }
     Ok(())
 }
 
-/// Gives the moves from the square, on a board with these pieces.
-fn push_square<S: MoveSink>(
+/// Gives the moves of the own piece: all at once, where none of them is a promotion or may mean castling.
+fn push_piece<S: MoveSink>(
     rules: &Rules,
     tables: &Tables,
     p: &Position,
-    men: Men,
-    from: Square,
-    gate: Option<Kind>,
+    sets: &BoardSets,
+    mover: Mover,
     out: &mut S,
 ) -> Result<(), S::Full>
     requires fit { IsFit rules.now }
     requires tables { tables.now ≡ rules.now }
-    requires men { AreMenOf p.now.side p.now.cells men }
-    requires from { from.0 < 120 }
-    ensures ok { OnOk result (TakesAll S.takes (IsMoveFrom rules.now (repeat_of p.now) from gate) out.old out.new) }
-    ensures err { OnErr result (TakesSome S.stops (IsMoveFrom rules.now (repeat_of p.now) from gate) out.old out.new) }
+    requires sets { AreSets rules.now p.now.side p.now.cells sets.now }
+    requires from { mover.from.0 < 120 }
+    requires own { IsOwnMover rules.now p.now mover }
+    ensures ok { OnOk result (TakesAll S.takes (IsMoveOf rules.now p.now mover) out.old out.new) }
+    ensures err { OnErr result (TakesSome S.stops (IsMoveOf rules.now p.now mover) out.old out.new) }
 {
-    match own_piece(rules, p, from) {
-        None => Ok(()),
-        Some(piece) => push_piece(rules, tables, p, men, Mover { piece, from, gate }, out),
+    if is_plain(rules, mover.piece.kind) {
+        let targets = targets(tables, p, sets, mover.piece, mover.from);
+        out.take_all(mover.from, mover.gate, targets)
+    } else {
+        push_each(rules, tables, p, sets, mover, out)
     }
 }
 
@@ -134,17 +138,22 @@ pub fn push_from<S: MoveSink>(
     rules: &Rules,
     tables: &Tables,
     p: &Position,
+    sets: &BoardSets,
     from: Square,
     gate: Option<Kind>,
     out: &mut S,
 ) -> Result<(), S::Full>
     requires fit { IsFit rules.now }
     requires tables { tables.now ≡ rules.now }
+    requires sets { AreSets rules.now p.now.side p.now.cells sets.now }
     requires from { from.0 < 120 }
     ensures ok { OnOk result (TakesAll S.takes (IsMoveFrom rules.now (repeat_of p.now) from gate) out.old out.new) }
     ensures err { OnErr result (TakesSome S.stops (IsMoveFrom rules.now (repeat_of p.now) from gate) out.old out.new) }
 {
-    push_square(rules, tables, p, men_of(p), from, gate, out)
+    match own_piece(rules, p, from) {
+        None => Ok(()),
+        Some(piece) => push_piece(rules, tables, p, sets, Mover { piece, from, gate }, out),
+    }
 }
 
 /// Gives the ordinary moves of the own pieces that are not the pawn, without a gate, each once and in no special order:
@@ -153,17 +162,20 @@ pub fn push_moves<S: MoveSink>(
     rules: &Rules,
     tables: &Tables,
     p: &Position,
+    sets: &BoardSets,
     out: &mut S,
 ) -> Result<(), S::Full>
     requires fit { IsFit rules.now }
     requires tables { tables.now ≡ rules.now }
+    requires sets { AreSets rules.now p.now.side p.now.cells sets.now }
     ensures ok { OnOk result (TakesAll S.takes (FitPieceMoves rules.now (repeat_of p.now)) out.old out.new) }
     ensures err { OnErr result (TakesSome S.stops (FitPieceMoves rules.now (repeat_of p.now)) out.old out.new) }
 {
-    let men = men_of(p);
-    let mut left = men.own;
+    position_sizes(p);
+    sets_are_on_board();
+    let mut left = sets.own;
     while let Some(from) = left.take_first() {
-        push_square(rules, tables, p, men, Square(from), None, out)?;
+        push_from(rules, tables, p, sets, Square(from), None, out)?;
     }
     Ok(())
 }

@@ -3,6 +3,7 @@ ghost use Rattle.std.specs.Prelude.{◌≡◌};
 ghost use Rattle.rules_model.specs.Fit.{IsFit};
 ghost use Rattle.rules_model.specs.Pieces as Pieces;
 ghost use Rattle.rules_model.specs.Repeats.{repeat_of};
+ghost use Rattle.piece_moves.specs.Plain as Plain;
 
 use rules_model::castling::{castling_square, holds_right, king_file};
 use rules_model::kinds::{in_region, names, promoted_of};
@@ -15,6 +16,14 @@ pub(crate) fn may_plus(rules: &Rules, side: Side, kind: Kind, from: Square, to: 
 {
     promoted_of(rules, kind).is_some()
         && (in_region(&rules.promotion, side, from.0) || in_region(&rules.promotion, side, to.0))
+}
+
+/// Whether a piece of the kind ends each move as it is, and none of its moves may mean castling: it is not the king, and has no
+/// promoted kind.
+pub(crate) fn is_plain(rules: &Rules, kind: Kind) -> bool
+    ensures { result ≡ Plain.is_plain rules.now kind }
+{
+    !names(rules.king, kind) && promoted_of(rules, kind).is_none()
 }
 
 /// Whether a piece may end its move so, where it may become its promoted kind or not.

@@ -2,6 +2,7 @@ ghost use Rattle.rules_model.specs.Fit.{IsFit};
 
 use super::*;
 use attack_tables::Tables;
+use board_sets::sets_of;
 use foundation::Memory;
 use rules_model::{Kind, Move, MoveList, Promo, Rules};
 use sample_rules::{chess, position, square, xiangqi};
@@ -32,7 +33,8 @@ fn expect_moves(
     let mut found = MoveList {
         items: Vec::new(alloc),
     };
-    push_moves(rules, &tables, &p, &mut found)?;
+    let sets = sets_of(rules, &p.cells, p.side);
+    push_moves(rules, &tables, &p, &sets, &mut found)?;
     for (from, to) in moves {
         let m = go(from, to, Promo::Stays);
         assert!(rt; found.items.contains(&m), "{m:?}");
@@ -117,8 +119,9 @@ fn moves_of_one_square_place_the_gate(rt: HostRuntime) -> Result<(), Memory> {
     let mut found = MoveList {
         items: Vec::new(rt.alloc()),
     };
+    let sets = sets_of(&rules, &p.cells, p.side);
     for from in ["b1", "b2", "a6", "h4"] {
-        push_from(&rules, &tables, &p, square(from), hawk, &mut found)?;
+        push_from(&rules, &tables, &p, &sets, square(from), hawk, &mut found)?;
     }
     for to in ["a3", "c3", "d2"] {
         let m = Move::Go {

@@ -1,5 +1,5 @@
 -- The parts of the moves with a gate.
-use Rattle.std.proofs.Common.{◌≡◌, ℕ, ◌+◌, ◌*◌, ◌%◌, ◌<◌, Bool, true, false, ◌&&◌, Option, Some, None, ap, sym, ◌∙◌, subst, arith}
+use Rattle.std.proofs.Common.{◌≡◌, ℕ, ◌%◌, ◌<◌, Bool, true, false, ◌&&◌, Option, Some, None, ap, sym, ◌∙◌, subst}
 use Rattle.std.proofs.lemmas.Bool.{and_parts}
 use Rattle.rules_model.specs.declared.board.Kind.{Kind}
 use Rattle.rules_model.specs.declared.board.Repeat.{Repeat}
@@ -14,7 +14,11 @@ use Rattle.rules_model.specs.Regions.{first_rank, on_first_rank}
 use Rattle.rules_model.specs.Squares.{square_on}
 use Rattle.rules_model.proofs.CandidateLaws.{not_both}
 use Rattle.rules_model.proofs.SquareLaws.{file_of_at}
-use Rattle.special_moves.specs.Parts.{IsGateWith, IsGateFrom, kind_at}
+use Rattle.square_set.specs.declared.Set.{Set}
+use Rattle.square_set.specs.Members.{has}
+use Rattle.move_tables.specs.Occupied.{AreMen}
+use Rattle.piece_moves.proofs.PartLemmas.{man_there}
+use Rattle.special_moves.specs.Parts.{IsGateAt, IsGateWith, IsGateFrom, kind_at}
 use Rattle.special_moves.proofs.SquareLemmas.{same_file}
 use Rattle.special_moves.proofs.BelowLemmas.{AreApart}
 
@@ -61,3 +65,7 @@ none-from rules r file l none m h =
     let e = gate_held rules r from (kind_at h.number) h.is.0 in
     let g = subst (λ f. has_gate r.gates r.side f ≡ true) (file_of_at file (first_rank rules r.side) l) e.1 in
     not_both _ (both _ _ e.0 g) none
+
+-- no own man stands there
+pub none-there : (rules : Rules) (r : Repeat) (from : Square) (men : Set) → AreMen r.side r.cells men → has men from.0 ≡ false → (m : Move) → IsGateAt rules r from m → ⊥
+none-there rules r from men are none m h = not_both (has men from.0) (man_there rules r men are from (Some (kind_at h.number)) m h.is.1) none

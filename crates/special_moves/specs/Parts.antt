@@ -1,5 +1,5 @@
 -- The parts of the moves that are appended in turn.
-use Rattle.std.specs.Prelude.{◌≡◌, ℕ, ◌<◌, Bool, true, ◌&&◌, ◌⊎◌, Option, Some, None}
+use Rattle.std.specs.Prelude.{◌≡◌, ℕ, ◌<◌, nat_lt, Bool, true, ◌&&◌, not, ◌⊎◌, is_none, Option, Some, None}
 use Rattle.rules_model.specs.declared.board.Kind.{Kind}
 use Rattle.rules_model.specs.declared.board.Repeat.{Repeat}
 use Rattle.rules_model.specs.declared.board.Square.{Square}
@@ -12,12 +12,13 @@ use Rattle.rules_model.specs.declared.moves.Placed.{Placed}
 use Rattle.rules_model.specs.declared.moves.Promo.{Promo}
 use Rattle.rules_model.specs.declared.rules.Rules.{Rules}
 use Rattle.rules_model.specs.Candidates.{is_special_move, own_piece_moves}
-use Rattle.rules_model.specs.Drops.{drops_to}
+use Rattle.rules_model.specs.Drops.{bars_pawn, drops_to, is_doubled}
 use Rattle.rules_model.specs.Gating.{castle_gates, gates_from}
 use Rattle.rules_model.specs.Gates.{has_gate}
 use Rattle.rules_model.specs.Hands.{holds}
+use Rattle.rules_model.specs.Kinds.{is_pawn}
 use Rattle.rules_model.specs.Moves.{IsFitMove}
-use Rattle.rules_model.specs.Regions.{first_rank}
+use Rattle.rules_model.specs.Regions.{first_rank, in_region}
 use Rattle.rules_model.specs.Squares.{cell_at, square_on}
 use Rattle.piece_moves.specs.Parts.{IsChosen, IsMoveFrom}
 use Rattle.special_moves.specs.Castles.{open_castle}
@@ -76,6 +77,19 @@ IsGate rules r = IsBelow (IsGateFrom rules r) 12
 -- pieces of the kind are dropped: the variant has drops, and the side holds one
 abbrev pub has_drops : Rules → Repeat → Kind → Bool
 has_drops rules r kind = rules.drops && holds r.hands r.side kind
+
+-- the square is empty, and one of the side's drop region
+abbrev pub takes_drops : Rules → Repeat → ℕ → Bool
+takes_drops rules r s = is_none (cell_at r.cells s) && in_region rules.drop_region r.side s
+
+-- and one of the largest board
+abbrev pub is_drop_square : Rules → Repeat → ℕ → Bool
+is_drop_square rules r s = nat_lt s 120 && takes_drops rules r s
+
+-- a piece of the kind may stand on the square once it was dropped there: no pawn where pawns are barred, and none beside another that
+-- may not be doubled
+abbrev pub suits : Rules → Repeat → Kind → ℕ → Bool
+suits rules r kind to = not (is_pawn rules kind && bars_pawn rules r.side to) && not (is_doubled rules r.cells r.side kind to)
 
 -- the drop of a hand piece of the kind on the square
 abbrev pub IsDropOn : Rules → Repeat → Kind → ℕ → Move → Type 0

@@ -7,6 +7,7 @@ ghost use Rattle.rules_model.specs.Castling.{IsFitCastle, castling_on};
 ghost use Rattle.rules_model.specs.Fit.{IsFit};
 ghost use Rattle.rules_model.specs.Gating as Gating;
 ghost use Rattle.rules_model.specs.Repeats.{repeat_of};
+ghost use Rattle.board_sets.specs.Sets.{AreSets};
 ghost use Rattle.special_moves.specs.Castles as Castles;
 ghost use Rattle.special_moves.specs.Parts as Parts;
 ghost use Rattle.special_moves.specs.Parts.{IsCastle, IsCastleOf, IsCastleTo, IsGateOf, IsGateOn, IsGatedCastle};
@@ -14,26 +15,41 @@ ghost use Rattle.special_moves.specs.Parts.{IsCastle, IsCastleOf, IsCastleTo, Is
 use crate::append::push_if;
 use crate::way::{holds_own_king, way_is_open};
 use attack_tables::Tables;
+use board_sets::{BoardSets, sets_of};
 use move_sink::MoveSink;
 use rules_model::castling::{CastleSquares, castle_of, castling_on, holds_right, rook_target};
 use rules_model::kinds::in_hand;
 use rules_model::{KINDS, Kind, Move, Placed, Position, Rules, Square, Wing};
 
 /// Whether the king is in place and the way is open.
-fn is_open(rules: &Rules, tables: &Tables, p: &Position, castle: &CastleSquares) -> bool
+fn is_open(
+    rules: &Rules,
+    tables: &Tables,
+    p: &Position,
+    sets: &BoardSets,
+    castle: &CastleSquares,
+) -> bool
     requires tables { tables.now ≡ rules.now }
+    requires sets { AreSets rules.now p.now.side p.now.cells sets.now }
     requires castle { IsFitCastle castle.now }
     ensures { result ≡ Castles.is_open rules.now (repeat_of p.now) castle.now }
 {
-    holds_own_king(rules, p, castle.king) && way_is_open(rules, tables, p, castle)
+    holds_own_king(rules, p, castle.king) && way_is_open(rules, tables, p, sets, castle)
 }
 
 /// The side's castle to the wing, where the variant has castling, the side holds the right, and king, rook and way are as they
 /// must be.
 #[tactic(auto, unfolding(crate::specs::Castles::open_castle))]
-fn open_castle(rules: &Rules, tables: &Tables, p: &Position, wing: Wing) -> Option<CastleSquares>
+fn open_castle(
+    rules: &Rules,
+    tables: &Tables,
+    p: &Position,
+    sets: &BoardSets,
+    wing: Wing,
+) -> Option<CastleSquares>
     requires fit { IsFit rules.now }
     requires tables { tables.now ≡ rules.now }
+    requires sets { AreSets rules.now p.now.side p.now.cells sets.now }
     ensures is { result ≡ Castles.open_castle rules.now (repeat_of p.now) wing }
     ensures on_board { IfSome result IsFitCastle }
 {
@@ -41,7 +57,7 @@ fn open_castle(rules: &Rules, tables: &Tables, p: &Position, wing: Wing) -> Opti
         return None;
     }
     let castle = castle_of(rules, &p.cells, p.side, wing)?;
-    if is_open(rules, tables, p, &castle) {
+    if is_open(rules, tables, p, sets, &castle) {
         Some(castle)
     } else {
         None
@@ -77,7 +93,10 @@ fn castles_on(
     }
     match castle_of(rules, &p.cells, p.side, wing) {
         None => false,
-        Some(castle) => { is_castle(&castle, from, to, rook) && is_open(rules, tables, p, &castle) }
+        Some(castle) => {
+            let sets = sets_of(rules, &p.cells, p.side);
+            is_castle(&castle, from, to, rook) && is_open(rules, tables, p, &sets, &castle)
+        }
     }
 }
 
@@ -234,15 +253,17 @@ fn push_castles_to<S: MoveSink>(
     rules: &Rules,
     tables: &Tables,
     p: &Position,
+    sets: &BoardSets,
     wing: Wing,
     out: &mut S,
 ) -> Result<(), S::Full>
     requires fit { IsFit rules.now }
     requires tables { tables.now ≡ rules.now }
+    requires sets { AreSets rules.now p.now.side p.now.cells sets.now }
     ensures ok { OnOk result (TakesAll S.takes (IsCastleTo rules.now (repeat_of p.now) wing) out.old out.new) }
     ensures err { OnErr result (TakesSome S.stops (IsCastleTo rules.now (repeat_of p.now) wing) out.old out.new) }
 {
-    match open_castle(rules, tables, p, wing) {
+    match open_castle(rules, tables, p, sets, wing) {
         None => Ok(()),
         Some(castle) => push_castle(rules, p, &castle, out),
     }
@@ -253,13 +274,15 @@ pub(crate) fn push_castles<S: MoveSink>(
     rules: &Rules,
     tables: &Tables,
     p: &Position,
+    sets: &BoardSets,
     out: &mut S,
 ) -> Result<(), S::Full>
     requires fit { IsFit rules.now }
     requires tables { tables.now ≡ rules.now }
+    requires sets { AreSets rules.now p.now.side p.now.cells sets.now }
     ensures ok { OnOk result (TakesAll S.takes (IsCastle rules.now (repeat_of p.now)) out.old out.new) }
     ensures err { OnErr result (TakesSome S.stops (IsCastle rules.now (repeat_of p.now)) out.old out.new) }
 {
-    push_castles_to(rules, tables, p, Wing::Kingside, out)?;
-    push_castles_to(rules, tables, p, Wing::Queenside, out)
+    push_castles_to(rules, tables, p, sets, Wing::Kingside, out)?;
+    push_castles_to(rules, tables, p, sets, Wing::Queenside, out)
 }

@@ -1,18 +1,23 @@
 //! Drops: a hand piece is put on an empty square.
-ghost use Rattle.std.specs.Prelude.{◌≡◌, ◌<◌, true, is_none, OnOk, OnErr};
+ghost use Rattle.std.specs.Prelude.{◌≡◌, ℕ, ◌<◌, true, is_none, OnOk, OnErr};
 ghost use Rattle.foundation.specs.Count.{any_below};
 ghost use Rattle.move_sink.specs.Taking.{TakesAll, TakesSome};
 ghost use Rattle.rules_model.specs.Drops as Drops;
 ghost use Rattle.rules_model.specs.Fit.{IsFit};
 ghost use Rattle.rules_model.specs.Repeats.{repeat_of};
 ghost use Rattle.rules_model.specs.Squares.{cell_at};
+ghost use Rattle.square_set.specs.Members.{has};
+ghost use Rattle.move_tables.specs.Occupied.{IsOccupied};
+ghost use Rattle.board_sets.specs.Sets.{AreSets};
 ghost use Rattle.special_moves.specs.Parts as Parts;
 ghost use Rattle.special_moves.specs.Parts.{IsDrop, IsDropOf};
 
 use crate::append::push_if;
+use board_sets::BoardSets;
 use move_sink::MoveSink;
 use rules_model::kinds::{first_rank, in_hand, in_region, names};
-use rules_model::{Cells, KINDS, Kind, Move, Position, RANKS, Rules, SQUARES, Side, Square};
+use rules_model::{Cells, KINDS, Kind, Move, Position, RANKS, Rules, Side, Square};
+use square_set::{EMPTY, Set};
 
 /// Where a pawn is not dropped.
 fn bars_pawn(rules: &Rules, side: Side, to: Square) -> bool
@@ -73,43 +78,68 @@ fn has_drops(rules: &Rules, p: &Position, kind: Kind) -> bool
     rules.drops && in_hand(&p.hands, p.side, kind) > 0
 }
 
-/// Whether a piece of the kind, which is in hand, may be dropped on the square.
-#[tactic(auto, unfolding(rules_model::specs::Drops::drops_to))]
-fn takes_drop(rules: &Rules, p: &Position, kind: Kind, to: Square) -> bool
-    requires fit { IsFit rules.now }
-    requires held { Parts.has_drops rules.now (repeat_of p.now) kind ≡ true }
-    ensures { result ≡ Drops.drops_to rules.now (repeat_of p.now) kind to.0 }
+/// Whether a piece of the kind may stand on the square once it was dropped there.
+fn suits(rules: &Rules, p: &Position, kind: Kind, to: Square) -> bool
+    requires { IsFit rules.now }
+    ensures { result ≡ Parts.suits rules.now (repeat_of p.now) kind to.0 }
 {
-    is_empty(&p.cells, to)
-        && in_region(&rules.drop_region, p.side, to.0)
-        && !(names(rules.pawn, kind) && bars_pawn(rules, p.side, to))
-        && !is_doubled(rules, p, kind, to)
+    !(names(rules.pawn, kind) && bars_pawn(rules, p.side, to)) && !is_doubled(rules, p, kind, to)
 }
 
 /// Whether a hand piece of the kind may be put on the square.
-#[tactic(auto, unfolding(rules_model::specs::Drops::drops_to))]
+#[tactic(auto, using(crate::proofs::DropLemmas::drop_parts))]
 pub(crate) fn drops_to(rules: &Rules, p: &Position, kind: Kind, to: Square) -> bool
     requires { IsFit rules.now }
     ensures { result ≡ Drops.drops_to rules.now (repeat_of p.now) kind to.0 }
 {
-    has_drops(rules, p, kind) && takes_drop(rules, p, kind, to)
+    has_drops(rules, p, kind)
+        && is_empty(&p.cells, to)
+        && in_region(&rules.drop_region, p.side, to.0)
+        && suits(rules, p, kind, to)
 }
 
-/// Gives the drops of a kind, of which a piece is in hand.
+/// Whether the square is empty, and one of the side's drop region.
+fn takes_drops(rules: &Rules, p: &Position, occupied: Set, at: u8) -> bool
+    requires at { at < 120 }
+    requires occupied { IsOccupied occupied p.now.cells }
+    ensures { result ≡ Parts.takes_drops rules.now (repeat_of p.now) at }
+{
+    !occupied.has(at) && in_region(&rules.drop_region, p.side, at)
+}
+
+/// The empty squares of the side's drop region.
+fn drop_squares(rules: &Rules, p: &Position, sets: &BoardSets) -> Set
+    requires sets { AreSets rules.now p.now.side p.now.cells sets.now }
+    ensures { (s : ℕ) → has result s ≡ Parts.is_drop_square rules.now (repeat_of p.now) s }
+{
+    let occupied = sets.occupied();
+    let mut squares = EMPTY;
+    for at in 0..120u8 {
+        if takes_drops(rules, p, occupied, at) {
+            squares = squares.with(at);
+        }
+    }
+    squares
+}
+
+/// Gives the drops of a kind, of which a piece is in hand, on these squares.
 fn push_kind<S: MoveSink>(
     rules: &Rules,
     p: &Position,
+    squares: Set,
     kind: Kind,
     out: &mut S,
 ) -> Result<(), S::Full>
     requires fit { IsFit rules.now }
+    requires squares { (s : ℕ) → has squares s ≡ Parts.is_drop_square rules.now (repeat_of p.now) s }
     requires held { Parts.has_drops rules.now (repeat_of p.now) kind ≡ true }
     ensures ok { OnOk result (TakesAll S.takes (IsDropOf rules.now (repeat_of p.now) kind.0) out.old out.new) }
     ensures err { OnErr result (TakesSome S.stops (IsDropOf rules.now (repeat_of p.now) kind.0) out.old out.new) }
 {
-    for to in 0..SQUARES as u8 {
+    let mut left = squares;
+    while let Some(to) = left.take_first() {
         let to = Square(to);
-        push_if(takes_drop(rules, p, kind, to), Move::Drop { kind, to }, out)?;
+        push_if(suits(rules, p, kind, to), Move::Drop { kind, to }, out)?;
     }
     Ok(())
 }
@@ -118,16 +148,22 @@ fn push_kind<S: MoveSink>(
 pub(crate) fn push_drops<S: MoveSink>(
     rules: &Rules,
     p: &Position,
+    sets: &BoardSets,
     out: &mut S,
 ) -> Result<(), S::Full>
-    requires { IsFit rules.now }
+    requires fit { IsFit rules.now }
+    requires sets { AreSets rules.now p.now.side p.now.cells sets.now }
     ensures ok { OnOk result (TakesAll S.takes (IsDrop rules.now (repeat_of p.now)) out.old out.new) }
     ensures err { OnErr result (TakesSome S.stops (IsDrop rules.now (repeat_of p.now)) out.old out.new) }
 {
+    if !rules.drops {
+        return Ok(());
+    }
+    let squares = drop_squares(rules, p, sets);
     for k in 0..KINDS as u8 {
         let kind = Kind(k);
         if has_drops(rules, p, kind) {
-            push_kind(rules, p, kind, out)?;
+            push_kind(rules, p, squares, kind, out)?;
         }
     }
     Ok(())

@@ -1,5 +1,6 @@
 //! Gates: an ordinary move places a hand piece on the square that it leaves.
 ghost use Rattle.std.specs.Prelude.{◌≡◌, ◌<◌, OnOk, OnErr};
+ghost use Rattle.board_sets.specs.Sets.{AreSets};
 ghost use Rattle.move_sink.specs.Taking.{TakesAll, TakesSome};
 ghost use Rattle.rules_model.specs.Fit.{IsFit};
 ghost use Rattle.rules_model.specs.Gating as Gating;
@@ -8,6 +9,7 @@ ghost use Rattle.special_moves.specs.Parts as Parts;
 ghost use Rattle.special_moves.specs.Parts.{IsGate, IsGateAt};
 
 use attack_tables::Tables;
+use board_sets::BoardSets;
 use move_sink::MoveSink;
 use piece_moves::push_from;
 use rules_model::castling::has_gate;
@@ -64,19 +66,24 @@ fn push_gates_from<S: MoveSink>(
     rules: &Rules,
     tables: &Tables,
     p: &Position,
+    sets: &BoardSets,
     from: Square,
     out: &mut S,
 ) -> Result<(), S::Full>
     requires fit { IsFit rules.now }
     requires tables { tables.now ≡ rules.now }
+    requires sets { AreSets rules.now p.now.side p.now.cells sets.now }
     requires from { from.0 < 120 }
     ensures ok { OnOk result (TakesAll S.takes (IsGateAt rules.now (repeat_of p.now) from) out.old out.new) }
     ensures err { OnErr result (TakesSome S.stops (IsGateAt rules.now (repeat_of p.now) from) out.old out.new) }
 {
+    if !sets.own.has(from.0) {
+        return Ok(());
+    }
     for k in 0..KINDS as u8 {
         let kind = Kind(k);
         if may_gate(rules, p, from, kind) {
-            push_from(rules, tables, p, from, Some(kind), out)?;
+            push_from(rules, tables, p, sets, from, Some(kind), out)?;
         }
     }
     Ok(())
@@ -87,17 +94,19 @@ pub(crate) fn push_gates<S: MoveSink>(
     rules: &Rules,
     tables: &Tables,
     p: &Position,
+    sets: &BoardSets,
     out: &mut S,
 ) -> Result<(), S::Full>
     requires fit { IsFit rules.now }
     requires tables { tables.now ≡ rules.now }
+    requires sets { AreSets rules.now p.now.side p.now.cells sets.now }
     ensures ok { OnOk result (TakesAll S.takes (IsGate rules.now (repeat_of p.now)) out.old out.new) }
     ensures err { OnErr result (TakesSome S.stops (IsGate rules.now (repeat_of p.now)) out.old out.new) }
 {
     let rank = first_rank(rules, p.side);
     for file in 0..FILES {
         if is_gate(rules, p, file) {
-            push_gates_from(rules, tables, p, Square::at(file, rank), out)?;
+            push_gates_from(rules, tables, p, sets, Square::at(file, rank), out)?;
         }
     }
     Ok(())

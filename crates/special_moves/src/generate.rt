@@ -1,5 +1,6 @@
 //! The moves, given in turn.
 ghost use Rattle.std.specs.Prelude.{◌≡◌, OnOk, OnErr};
+ghost use Rattle.board_sets.specs.Sets.{AreSets};
 ghost use Rattle.move_sink.specs.Taking.{TakesAll, TakesSome};
 ghost use Rattle.rules_model.specs.Fit.{IsFit};
 ghost use Rattle.rules_model.specs.Repeats.{repeat_of};
@@ -9,6 +10,7 @@ use crate::castles::push_castles;
 use crate::drops::push_drops;
 use crate::gates::push_gates;
 use attack_tables::Tables;
+use board_sets::BoardSets;
 use move_sink::MoveSink;
 use rules_model::{Position, Rules};
 
@@ -18,15 +20,17 @@ pub fn push_moves<S: MoveSink>(
     rules: &Rules,
     tables: &Tables,
     p: &Position,
+    sets: &BoardSets,
     out: &mut S,
 ) -> Result<(), S::Full>
     requires fit { IsFit rules.now }
     requires tables { tables.now ≡ rules.now }
+    requires sets { AreSets rules.now p.now.side p.now.cells sets.now }
     ensures ok { OnOk result (TakesAll S.takes (FitSpecialMoves rules.now (repeat_of p.now)) out.old out.new) }
     ensures err { OnErr result (TakesSome S.stops (FitSpecialMoves rules.now (repeat_of p.now)) out.old out.new) }
 {
-    pawn_moves::push_moves(rules, p, out)?;
-    push_gates(rules, tables, p, out)?;
-    push_castles(rules, tables, p, out)?;
-    push_drops(rules, p, out)
+    pawn_moves::push_moves(rules, p, sets, out)?;
+    push_gates(rules, tables, p, sets, out)?;
+    push_castles(rules, tables, p, sets, out)?;
+    push_drops(rules, p, sets, out)
 }

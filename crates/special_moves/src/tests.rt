@@ -4,6 +4,7 @@ ghost use Rattle.rules_model.specs.Fit.{IsFit};
 use super::*;
 use crate::drops::is_doubled;
 use attack_tables::Tables;
+use board_sets::sets_of;
 use foundation::Memory;
 use rules_model::{Kind, Move, MoveList, Placed, Position, Promo, Rules};
 use sample_rules::{chess, kind, position, shouse, square};
@@ -18,7 +19,8 @@ fn count(alloc: Global, rules: &Rules, tables: &Tables, p: &Position) -> Result<
     let mut found = MoveList {
         items: Vec::new(alloc),
     };
-    push_moves(rules, tables, p, &mut found)?;
+    let sets = sets_of(rules, &p.cells, p.side);
+    push_moves(rules, tables, p, &sets, &mut found)?;
     Ok(found.items.len())
 }
 

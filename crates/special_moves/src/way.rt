@@ -1,18 +1,18 @@
 //! The way of a castle.
 ghost use Rattle.std.specs.Prelude.{◌≡◌, ◌<◌, ◌≤◌, not};
 ghost use Rattle.foundation.specs.Count.{any_below};
-ghost use Rattle.move_tables.specs.Occupied.{AreMen, IsOccupied};
 ghost use Rattle.rules_model.specs.Attacks as Attacks;
 ghost use Rattle.rules_model.specs.Castling as Castling;
 ghost use Rattle.rules_model.specs.Castling.{IsFitCastle};
 ghost use Rattle.rules_model.specs.Sides.{other};
 ghost use Rattle.rules_model.specs.Squares.{cell_at};
+ghost use Rattle.board_sets.specs.Sets.{AreSets};
 
-use attack_tables::{Tables, men, occupied};
+use attack_tables::Tables;
+use board_sets::BoardSets;
 use rules_model::attacks::is_own_king;
 use rules_model::castling::CastleSquares;
 use rules_model::{Cells, Position, Rules, Square};
-use square_set::Set;
 
 /// The lowest of its four squares.
 fn lowest(castle: &CastleSquares) -> u8
@@ -73,42 +73,40 @@ pub(crate) fn holds_own_king(rules: &Rules, p: &Position, at: Square) -> bool
     is_own_king(rules, p.side, p.cells[at.0 as usize])
 }
 
-/// Whether the other side, whose pieces are on these squares, attacks the square.
-fn is_attacked(
-    rules: &Rules,
-    tables: &Tables,
-    p: &Position,
-    enemies: Set,
-    occupied: Set,
-    at: Square,
-) -> bool
+/// Whether the other side attacks the square.
+fn is_attacked(rules: &Rules, tables: &Tables, p: &Position, sets: &BoardSets, at: Square) -> bool
     requires tables { tables.now ≡ rules.now }
+    requires sets { AreSets rules.now p.now.side p.now.cells sets.now }
     requires at { at.0 < 120 }
-    requires enemies { AreMen (other p.now.side) p.now.cells enemies }
-    requires occupied { IsOccupied occupied p.now.cells }
     ensures { result ≡ Attacks.attacks rules.now p.now.cells (other p.now.side) at.0 }
 {
     let by = p.side.other();
+    let occupied = sets.occupied();
     if holds_own_king(rules, p, at) {
-        tables.attacks_king(&p.cells, enemies, occupied, at, by)
+        tables.attacks_king(&p.cells, sets.enemies, occupied, at, by)
     } else {
-        tables.piece_attacks(&p.cells, enemies, occupied, at, by)
+        tables.piece_attacks(&p.cells, sets.enemies, occupied, at, by)
     }
 }
 
 /// Whether the other side attacks no square of the king's way, its start and its target included.
 #[tactic(auto, using(foundation::proofs::CountLemmas::any))]
-fn is_safe_way(rules: &Rules, tables: &Tables, p: &Position, castle: &CastleSquares) -> bool
+fn is_safe_way(
+    rules: &Rules,
+    tables: &Tables,
+    p: &Position,
+    sets: &BoardSets,
+    castle: &CastleSquares,
+) -> bool
     requires tables { tables.now ≡ rules.now }
+    requires sets { AreSets rules.now p.now.side p.now.cells sets.now }
     requires castle { IsFitCastle castle.now }
     ensures { result ≡ not (any_below (Castling.king_passes_attack rules.now p.now.cells p.now.side castle.now) 120) }
 {
     let from = castle.king.0;
     let to = castle.king_to.0;
-    let enemies = men(&p.cells, p.side.other());
-    let occupied = occupied(&p.cells);
     for at in from.min(to)..from.max(to) + 1 {
-        if is_attacked(rules, tables, p, enemies, occupied, Square(at)) {
+        if is_attacked(rules, tables, p, sets, Square(at)) {
             return false;
         }
     }
@@ -121,11 +119,13 @@ pub(crate) fn way_is_open(
     rules: &Rules,
     tables: &Tables,
     p: &Position,
+    sets: &BoardSets,
     castle: &CastleSquares,
 ) -> bool
     requires tables { tables.now ≡ rules.now }
+    requires sets { AreSets rules.now p.now.side p.now.cells sets.now }
     requires castle { IsFitCastle castle.now }
     ensures { result ≡ Castling.way_is_open rules.now p.now.cells p.now.side castle.now }
 {
-    is_clear(&p.cells, castle) && is_safe_way(rules, tables, p, castle)
+    is_clear(&p.cells, castle) && is_safe_way(rules, tables, p, sets, castle)
 }

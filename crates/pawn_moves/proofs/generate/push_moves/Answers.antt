@@ -1,28 +1,36 @@
-use Rattle.std.proofs.Common.{not, ap, ◌∙◌, arith}
+use Rattle.std.proofs.Common.{◌==◌, not, ap, sym, ◌∙◌}
+use Rattle.std.proofs.lemmas.Bool.{and_parts}
 use Rattle.foundation.proofs.AppendedLemmas.{on_err}
-use Rattle.move_sink.proofs.TakingLemmas.{all-none, all-join, all-same, some-behind, some-within}
-use Rattle.pawn_moves.proofs.PartLemmas.{below-none, below-apart, below-split, below-join, below-grow, below-gain, below-fit, fit-below, pawnless}
+use Rattle.square_set.specs.Members.{has}
+use Rattle.move_sink.specs.InTurn.{start_of}
+use Rattle.move_sink.proofs.TakingLemmas.{all-none}
+use Rattle.move_sink.proofs.TurnLemmas.{turn-all, turn-more, turn-none, turn-some}
+use Rattle.pawn_moves.proofs.PartLemmas.{fit-at, fit-some, from_man, pawnless}
 use Rattle.pawn_moves.proofs.generate.push_moves.Goals as goal
 
 pub returns-then-is_none-clause-ok : goal.returns-then-is_none-clause-ok
 returns-then-is_none-clause-ok g c = all-none g.met.S.MoveSink.law _ _ (pawnless _ _ (c.is_none.ensures ∙ ap not c.if-is_none.true))
 
 pub loop-from-init : goal.loop-from-init
-loop-from-init g c = all-none g.met.S.MoveSink.law _ _ (below-none _ _)
+loop-from-init g c = record {
+  small = (c.sets_are_on_board.ensures _ _ _ _ c.position_sizes.ensures.cells c.requires.sets).own;
+  taken = turn-none g.met.S.MoveSink.law _ start_of _ _ (from_man _ _ _ c.requires.sets.own);
+}
 
 pub loop-from-preserved : goal.loop-from-preserved
 loop-from-preserved g c =
-    all-join g.met.S.MoveSink.law _ _ _ _ _ _ c.loop-from.invariant c.in_ok-push_from.ensures.ok (below-apart _ _ _) (below-split _ _ _) (below-join _ _ _)
+    let small = c.loop-from.invariant.small c.in-Some.from c.in-Some.ensures.some.member in
+    record {
+      small = λ s e. c.loop-from.invariant.small s (and_parts (has c.loop-from.left s) (not (s == c.in-Some.from)) (sym (c.in-Some.ensures.rest s) ∙ e)).0;
+      taken = turn-more g.met.S.MoveSink.law _ start_of _ _ _ _ _ _ c.in-Some.ensures.some.member c.in-Some.ensures.rest c.loop-from.invariant.taken
+          (fit-at _ _ (record { 0 = c.in-Some.from }) small g.S.MoveSink.takes _ _ c.in_ok-push_from.ensures.ok);
+    }
 
 pub returns-in_err-push_from-clause-err : goal.returns-in_err-push_from-clause-err
 returns-in_err-push_from-clause-err g c =
-    let some =
-    some-behind g.met.S.MoveSink.law _ _ _ _ _ _ c.loop-from.invariant c.in_err-push_from.ensures.err (below-apart _ _ _)
-    (below-grow _ _ _ 120 (omega arith)) (below-gain _ _ _ 120 (omega arith))
-    in
-    on_err _ (some-within g.S.MoveSink.stops _ _ _ _ some (below-fit _ _))
+    let small = c.loop-from.invariant.small c.in-Some.from c.in-Some.ensures.some.member in
+    on_err _ (turn-some g.met.S.MoveSink.law _ start_of _ _ _ _ _ c.in-Some.ensures.some.member c.loop-from.invariant.taken
+    (fit-some _ _ (record { 0 = c.in-Some.from }) small g.S.MoveSink.stops _ _ c.in_err-push_from.ensures.err))
 
 pub returns-clause-ok : goal.returns-clause-ok
-returns-clause-ok g c =
-    all-same g.S.MoveSink.takes _ _ _ _ c.loop-from.invariant (λ m h. below-fit _ _ m (below-grow _ _ c.loop-from.from 120 (omega arith) m h))
-    (λ m h. below-grow _ _ 120 c.loop-from.from (omega arith) m (fit-below _ _ m h))
+returns-clause-ok g c = turn-all g.S.MoveSink.takes _ start_of _ _ _ c.in_default.ensures.none c.loop-from.invariant.taken

@@ -1,7 +1,16 @@
-use Rattle.move_sink.specs.Taking.{TakesAll}
+use Rattle.std.proofs.Common.{◌≡◌, ℕ, true, ◌<◌}
 use Rattle.rules_model.specs.Repeats.{repeat_of}
-use Rattle.pawn_moves.specs.Parts.{IsMoveBelow}
+use Rattle.square_set.specs.Members.{has, size}
+use Rattle.move_sink.specs.InTurn.{Outside, start_of}
+use Rattle.move_sink.specs.Taking.{TakesAll}
+use Rattle.pawn_moves.specs.PawnMoves.{FitPawnMoves}
 use Rattle.pawn_moves.proofs.generate.push_moves.Given as goal
 
 abbrev pub invariant-loop-from : goal.invariant-loop-from
-invariant-loop-from g l = TakesAll g.S.MoveSink.takes (IsMoveBelow l.rules (repeat_of l.p) l.from) l.initial.out l.out
+invariant-loop-from g l = record {
+  small : (s : ℕ) → has l.left s ≡ true → s < 120;
+  taken : TakesAll g.S.MoveSink.takes (Outside (FitPawnMoves l.rules (repeat_of l.p)) start_of l.left) l.initial.out l.out;
+}
+
+abbrev pub decreases-loop-from : goal.decreases-loop-from
+decreases-loop-from g l = size l.left

@@ -9,8 +9,8 @@ use Rattle.piece_moves.proofs.generate.push_moves.Goals as goal
 
 pub loop-from-init : goal.loop-from-init
 loop-from-init g c = record {
-  small = c.men_of-men.ensures.small;
-  taken = turn-none g.met.S.MoveSink.law _ start_of _ _ (from_man _ _ _ c.men_of-men.ensures.are.own);
+  small = (c.sets_are_on_board.ensures _ _ _ _ c.position_sizes.ensures.cells c.requires.sets).own;
+  taken = turn-none g.met.S.MoveSink.law _ start_of _ _ (from_man _ _ _ c.requires.sets.own);
 }
 
 pub loop-from-preserved : goal.loop-from-preserved
@@ -19,14 +19,14 @@ loop-from-preserved g c =
     record {
       small = λ s e. c.loop-from.invariant.small s (and_parts (has c.loop-from.left s) (not (s == c.in-Some.from)) (sym (c.in-Some.ensures.rest s) ∙ e)).0;
       taken = turn-more g.met.S.MoveSink.law _ start_of _ _ _ _ _ _ c.in-Some.ensures.some.member c.in-Some.ensures.rest c.loop-from.invariant.taken
-          (fit-at _ _ (record { 0 = c.in-Some.from }) small g.S.MoveSink.takes _ _ c.in_ok-push_square.ensures.ok);
+          (fit-at _ _ (record { 0 = c.in-Some.from }) small g.S.MoveSink.takes _ _ c.in_ok-push_from.ensures.ok);
     }
 
-pub returns-in_err-push_square-clause-err : goal.returns-in_err-push_square-clause-err
-returns-in_err-push_square-clause-err g c =
+pub returns-in_err-push_from-clause-err : goal.returns-in_err-push_from-clause-err
+returns-in_err-push_from-clause-err g c =
     let small = c.loop-from.invariant.small c.in-Some.from c.in-Some.ensures.some.member in
     on_err _ (turn-some g.met.S.MoveSink.law _ start_of _ _ _ _ _ c.in-Some.ensures.some.member c.loop-from.invariant.taken
-    (fit-some _ _ (record { 0 = c.in-Some.from }) small g.S.MoveSink.stops _ _ c.in_err-push_square.ensures.err))
+    (fit-some _ _ (record { 0 = c.in-Some.from }) small g.S.MoveSink.stops _ _ c.in_err-push_from.ensures.err))
 
 pub returns-clause-ok : goal.returns-clause-ok
 returns-clause-ok g c = turn-all g.S.MoveSink.takes _ start_of _ _ _ c.in_default.ensures.none c.loop-from.invariant.taken

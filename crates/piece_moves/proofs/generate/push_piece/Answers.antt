@@ -1,28 +1,18 @@
-use Rattle.std.proofs.Common.{◌==◌, not, sym, ◌∙◌}
-use Rattle.std.proofs.lemmas.Bool.{and_parts}
-use Rattle.foundation.proofs.AppendedLemmas.{on_err}
-use Rattle.square_set.specs.Members.{has}
-use Rattle.move_sink.specs.InTurn.{target_of}
-use Rattle.move_sink.proofs.TurnLemmas.{turn-all, turn-more, turn-none, turn-some}
-use Rattle.piece_moves.proofs.PartLemmas.{to_target}
+use Rattle.std.proofs.Common.{sym, ◌∙◌}
+use Rattle.std.proofs.lemmas.Result.{on_ok_weaker, on_err_weaker}
+use Rattle.piece_moves.proofs.PlainLemmas.{plain-all, plain-some}
 use Rattle.piece_moves.proofs.generate.push_piece.Goals as goal
 
-pub loop-to-init : goal.loop-to-init
-loop-to-init g c =
-    let are = rw c.requires.tables at c.targets-left.ensures.are in
-    record {
-      goes = λ s e. sym (are s) ∙ e;
-      taken = turn-none g.met.S.MoveSink.law _ target_of _ _ (λ m h. are (target_of m) ∙ to_target _ _ _ _ c.args.mover.piece m c.requires.own h);
-    }
+pub returns-then-is_plain-clause-ok : goal.returns-then-is_plain-clause-ok
+returns-then-is_plain-clause-ok g c =
+    let are = rw c.requires.tables at c.targets-targets.ensures.are in
+    on_ok_weaker c.take_all.result
+    (λ all. plain-all _ _ c.args.mover.piece _ _ _ (sym c.is_plain.ensures ∙ c.if-is_plain.true) c.requires.own are _ _ _ c.targets-targets.ensures.small all)
+    c.take_all.ensures.ok
 
-pub loop-to-preserved : goal.loop-to-preserved
-loop-to-preserved g c = record {
-  goes = λ s e. c.loop-to.invariant.goes s (and_parts (has c.loop-to.left s) (not (s == c.in-Some.to)) (sym (c.in-Some.ensures.rest s) ∙ e)).0;
-  taken = turn-more g.met.S.MoveSink.law _ target_of _ _ _ _ _ _ c.in-Some.ensures.some.member c.in-Some.ensures.rest c.loop-to.invariant.taken c.in_ok-push_to.ensures.ok;
-}
-
-pub returns-in_err-push_to-clause-err : goal.returns-in_err-push_to-clause-err
-returns-in_err-push_to-clause-err g c = on_err _ (turn-some g.met.S.MoveSink.law _ target_of _ _ _ _ _ c.in-Some.ensures.some.member c.loop-to.invariant.taken c.in_err-push_to.ensures.err)
-
-pub returns-clause-ok : goal.returns-clause-ok
-returns-clause-ok g c = turn-all g.S.MoveSink.takes _ target_of _ _ _ c.in_default.ensures.none c.loop-to.invariant.taken
+pub returns-then-is_plain-clause-err : goal.returns-then-is_plain-clause-err
+returns-then-is_plain-clause-err g c =
+    let are = rw c.requires.tables at c.targets-targets.ensures.are in
+    on_err_weaker c.take_all.result
+    (λ some. plain-some _ _ c.args.mover.piece _ _ _ (sym c.is_plain.ensures ∙ c.if-is_plain.true) c.requires.own are _ _ _ c.targets-targets.ensures.small some)
+    c.take_all.ensures.err

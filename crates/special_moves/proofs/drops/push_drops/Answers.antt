@@ -1,9 +1,14 @@
 use Rattle.std.proofs.Common.{arith, sym, ◌∙◌}
 use Rattle.foundation.proofs.AppendedLemmas.{on_err}
+use Rattle.move_sink.proofs.TakingLemmas.{all-none}
+use Rattle.rules_model.specs.Repeats.{repeat_of}
 use Rattle.special_moves.proofs.BelowLemmas.{below-last, below-more, below-none, below-skip, below-some}
-use Rattle.special_moves.proofs.DropLemmas.{kinds-apart, none-held}
+use Rattle.special_moves.proofs.DropLemmas.{kinds-apart, no-drops, none-held}
 use Rattle.special_moves.proofs.drops.push_drops.Goals as goal
 use Rattle.special_moves.proofs.drops.push_drops.Goals.{then-has_drops+in_ok-push_kind, else-has_drops}
+
+pub returns-then-not-rules-clause-ok : goal.returns-then-not-rules-clause-ok
+returns-then-not-rules-clause-ok g c = all-none g.met.S.MoveSink.law _ _ (no-drops c.args.rules.now (repeat_of c.args.p.now) c.if-not-rules.true)
 
 pub loop-k-init : goal.loop-k-init
 loop-k-init g c = below-none g.met.S.MoveSink.law _ _

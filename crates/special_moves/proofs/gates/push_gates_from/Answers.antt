@@ -1,11 +1,16 @@
 use Rattle.std.proofs.Common.{arith, sym, ◌∙◌}
 use Rattle.foundation.proofs.AppendedLemmas.{on_err}
-use Rattle.move_sink.proofs.TakingLemmas.{all-same, some-within}
+use Rattle.move_sink.proofs.TakingLemmas.{all-none, all-same, some-within}
 use Rattle.rules_model.specs.Repeats.{repeat_of}
 use Rattle.special_moves.proofs.BelowLemmas.{below-last, below-more, below-none, below-skip, below-some}
-use Rattle.special_moves.proofs.GateLemmas.{kinds-apart, none-with}
+use Rattle.special_moves.proofs.GateLemmas.{kinds-apart, none-there, none-with}
 use Rattle.special_moves.proofs.gates.push_gates_from.Goals as goal
 use Rattle.special_moves.proofs.gates.push_gates_from.Goals.{then-may_gate+in_ok-push_from, else-may_gate}
+
+pub returns-then-not-has-clause-ok : goal.returns-then-not-has-clause-ok
+returns-then-not-has-clause-ok g c =
+    all-none g.met.S.MoveSink.law _ _
+    (none-there c.args.rules.now (repeat_of c.args.p.now) c.args.from c.args.sets.now.own c.requires.sets.own (sym c.has.ensures ∙ c.if-not-has.true))
 
 pub loop-k-init : goal.loop-k-init
 loop-k-init g c = below-none g.met.S.MoveSink.law _ _

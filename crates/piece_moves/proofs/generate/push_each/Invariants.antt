@@ -5,7 +5,7 @@ use Rattle.square_set.specs.Members.{has, size}
 use Rattle.move_sink.specs.InTurn.{Outside, target_of}
 use Rattle.move_sink.specs.Taking.{TakesAll}
 use Rattle.piece_moves.specs.Parts.{IsMoveFrom}
-use Rattle.piece_moves.proofs.generate.push_piece.Given as goal
+use Rattle.piece_moves.proofs.generate.push_each.Given as goal
 
 abbrev pub invariant-loop-to : goal.invariant-loop-to
 invariant-loop-to g l = record {
