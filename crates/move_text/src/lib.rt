@@ -2,10 +2,9 @@
 #![tactic(auto)]
 
 pub mod order;
-mod parts;
 #[cfg(test)]
 mod tests;
 pub mod text;
 
-pub use order::compare;
+pub use order::{keys_are_in_the_order_of_texts, move_key};
 pub use text::{MoveText, write_move};

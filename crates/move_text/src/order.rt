@@ -1,33 +1,44 @@
 //! The order of moves.
-ghost use Rattle.std.specs.Prelude.{◌≡◌};
+ghost use Rattle.std.specs.Prelude.{◌≡◌, slice_index};
 ghost use Rattle.std.specs.Ordering.{nat_cmp};
 ghost use Rattle.std.specs.Cmp.Lexicographic.{slice_cmp};
-ghost use Rattle.rules_model.specs.MoveText as Text;
+ghost use Rattle.rules_model.specs.declared.moves.Move.{Move};
+ghost use Rattle.rules_model.specs.Moves.{IsFitMove};
+ghost use Rattle.rules_model.specs.MoveText.{text_of};
+ghost use Rattle.move_text.specs.Keys.{key_of, with_digits};
 
-use crate::parts::parts_of;
 use crate::text::write_move;
 use rules_model::Move;
-use std::cmp::Ordering;
 
-fn compare_parts(a: &Move, b: &Move) -> Ordering
-    ensures { result ≡ slice_cmp nat_cmp (Text.parts_of a.now) (Text.parts_of b.now) }
+/// The byte at the place, or 0 after the last.
+fn byte_at(bytes: &[u8], i: usize) -> u64
+    ensures { result ≡ slice_index bytes.now i }
 {
-    parts_of(a).as_slice().cmp(parts_of(b).as_slice())
-}
-
-/// How the texts of the moves compare, byte by byte. Moves of one text are compared by their parts, so that only a move
-/// and itself are equal.
-#[tactic(auto, unfolding(rules_model::specs::MoveText::move_cmp))]
-pub fn compare(a: &Move, b: &Move) -> Ordering
-    ensures { result ≡ Text.move_cmp a.now b.now }
-{
-    match write_move(a)
-        .items
-        .as_slice()
-        .cmp(write_move(b).items.as_slice())
-    {
-        Ordering::Less => Ordering::Less,
-        Ordering::Greater => Ordering::Greater,
-        Ordering::Equal => compare_parts(a, b),
+    match bytes.get(i) {
+        Some(byte) => u64::from(*byte),
+        None => 0,
     }
 }
+
+/// The bytes as the highest of 8 digits of base 256. What follows the eighth does not count.
+fn number_of(bytes: &[u8]) -> u64
+    ensures { result ≡ with_digits 0 8 bytes.now }
+{
+    let mut number = 0;
+    for i in 0..8 {
+        number = number * 256 + byte_at(bytes, i);
+    }
+    number
+}
+
+/// The text of the move as a number: its bytes are the highest of 8.
+pub fn move_key(m: &Move) -> u64
+    ensures { result ≡ key_of m.now }
+{
+    number_of(write_move(m).items.as_slice())
+}
+
+/// Two moves on the largest board compare by their keys as their texts do byte by byte: a text has at most 8 bytes, and none is 0.
+pub fn keys_are_in_the_order_of_texts()
+    ensures { (a b : Move) → IsFitMove a → IsFitMove b → nat_cmp (key_of a) (key_of b) ≡ slice_cmp nat_cmp (text_of a) (text_of b) }
+{}

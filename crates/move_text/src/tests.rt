@@ -1,6 +1,5 @@
-use super::{compare, write_move};
+use super::{move_key, write_move};
 use rules_model::{Kind, Move, Placed, Promo, Square};
-use std::cmp::Ordering;
 
 fn go(from: u8, to: u8, promo: Promo, gate: Option<Kind>) -> Move {
     Move::Go {
@@ -74,7 +73,7 @@ fn texts(rt: HostRuntime) {
 }
 
 #[test]
-fn orders(rt: HostRuntime) {
+fn keys(rt: HostRuntime) {
     let drop = Move::Drop {
         kind: QUEEN,
         to: Square(0),
@@ -91,13 +90,13 @@ fn orders(rt: HostRuntime) {
             go(72, 84, Promo::Pawn(QUEEN), None),
         ),
         (drop, plain(0, 1)),
-        (plain(4, 6), castle(None)),
         (castle(None), castle(hawk_at(4))),
         (castle(hawk_at(4)), castle(hawk_at(7))),
     ];
     for (less, greater) in rows {
-        assert_eq!(rt; compare(&less, &greater), Ordering::Less);
-        assert_eq!(rt; compare(&greater, &less), Ordering::Greater);
-        assert_eq!(rt; compare(&less, &less), Ordering::Equal);
+        assert!(rt; move_key(&less) < move_key(&greater));
     }
+    // e2e4, and moves of one text
+    assert_eq!(rt; move_key(&plain(16, 40)), 0x6532_6534_0000_0000);
+    assert_eq!(rt; move_key(&plain(4, 6)), move_key(&castle(None)));
 }
