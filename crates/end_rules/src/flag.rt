@@ -25,9 +25,9 @@ fn is_flag_at(rules: &Rules, cells: &Cells, side: Side, at: u8) -> bool
     is_flag_piece(rules, side, cells[at as usize]) && in_region(&rules.flag_region, side, at)
 }
 
-/// Whether a piece of the side's flag kind stands in its flag region.
+/// Whether a piece of the side's flag kind stands in its flag region, by a look at each square.
 #[tactic(auto, using(foundation::proofs::CountLemmas::any), unfolding(rules_model::specs::Ends::has_flag))]
-fn has_flag(rules: &Rules, cells: &Cells, side: Side) -> bool
+fn finds_flag(rules: &Rules, cells: &Cells, side: Side) -> bool
     ensures { result ≡ Ends.has_flag rules.now cells.now side }
 {
     for at in 0..120 {
@@ -36,6 +36,16 @@ fn has_flag(rules: &Rules, cells: &Cells, side: Side) -> bool
         }
     }
     false
+}
+
+/// Whether a piece of the side's flag kind stands in its flag region. Where the variant has no such kind, no square is looked at.
+fn has_flag(rules: &Rules, cells: &Cells, side: Side) -> bool
+    ensures { result ≡ Ends.has_flag rules.now cells.now side }
+{
+    match rules.flag_kind {
+        None => false,
+        Some(_) => finds_flag(rules, cells, side),
+    }
 }
 
 /// The end by the flag: the side that has moved wins.
