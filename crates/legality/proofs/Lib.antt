@@ -1,8 +1,13 @@
+pub mod AllGoes
 pub mod CandidateFit
 pub mod CandidateParts
 pub mod FitLaws
+pub mod FreeLaws
+pub mod GoLaws
 pub mod KeepLaws
 pub mod ListLaws
 pub mod MemberLaws
 pub mod MobileLaws
+pub mod SafetyLaws
 pub mod SeekLaws
+pub mod TextLaws

@@ -5,11 +5,10 @@ use Rattle.std.specs.List.{list_any, filter}
 use Rattle.std.specs.Result.{OnErr, OnOk}
 use Rattle.std.proofs.Math.Seq.{take-append_seam, drop-append_seam}
 use Rattle.move_sink.specs.Taking.{TakesAll, TakesSome}
-use Rattle.foundation.proofs.AppendedLemmas.{some-none}
 use Rattle.std.specs.List.Sorted.{IsPermutation, IsStrictlySortedBy}
 use Rattle.std.proofs.lemmas.Bool.{and_from, and_parts, or_cases, or_left, or_right}
 use Rattle.std.proofs.lemmas.List.Sorted.{IsPermutation-sym}
-use Rattle.foundation.specs.Member.{Member, IsEachOnce, Lists, Appends, AppendsSome}
+use Rattle.foundation.specs.Member.{Member, IsEachOnce, Lists, Appends}
 use Rattle.foundation.specs.Tests.{is_nil}
 use Rattle.foundation.proofs.Members.{appends-none, filter-member, member-filter, member-permutation}
 use Rattle.square_set.proofs.Cases.{by_bool, same_both}
@@ -90,11 +89,12 @@ module _ {X : Type 0} where
 module _ (rules : Rules) (r : Repeat) (only : Bool) where
   chosen_parts : (m : Move) → is_chosen rules r only m ≡ true → (is_sane rules r m ≡ true) × (is_wanted rules r only m ≡ true)
   unfolding is_chosen
-  chosen_parts m e = and_parts (is_sane rules r m) (is_wanted rules r only m) (and_parts (is_fit_move m) (is_sane rules r m && is_wanted rules r only m) e).1
+  chosen_parts m e =
+      let k = and_parts (is_wanted rules r only m) (is_sane rules r m) (and_parts (is_fit_move m) (is_wanted rules r only m && is_sane rules r m) e).1 in (k.1, k.0)
 
   from_parts : (m : Move) → IsFitMove m → is_sane rules r m ≡ true → is_wanted rules r only m ≡ true → is_chosen rules r only m ≡ true
   unfolding is_chosen
-  from_parts m fit e f = and_from _ _ (from_fit m fit) (and_from _ _ e f)
+  from_parts m fit e f = and_from _ _ (from_fit m fit) (and_from _ _ f e)
 
   chosen_allowed : (m : Move) → FitCandidates rules r m → is_chosen rules r only m ≡ true → (is_allowed rules r m ≡ true) × (is_wanted rules r only m ≡ true)
   unfolding is_allowed
@@ -236,37 +236,38 @@ module _ (rules : Rules) (r : Repeat) where
 
 -- ---- by the tables' rules, which are these rules
 
-module _ (rules made : Rules) (r : Repeat) (same : made ≡ rules) where
-  pub made_found : (only : Bool) (ms : List Move) → Lists (FitCandidates rules r) ms → list_any (is_chosen made r only) ms ≡ can_go rules r only
-  made_found only ms l = subst (λ rules'. list_any (is_chosen rules' r only) ms ≡ can_go rules r only) (sym same) (found_is rules r only ms l)
+module _ (rules made : Rules) (r q : Repeat) (same : made ≡ rules) (still : q ≡ r) where
+  chosen_same : (only : Bool) → is_chosen made q only ≡ is_chosen rules r only
+  chosen_same only = ap (λ rules'. is_chosen rules' q only) same ∙ ap (λ r'. is_chosen rules r' only) still
 
-  pub made_goes : (only : Bool) (ms : List Move) → ((m : Move) → Member m ms → FitCandidates rules r m) → list_any (is_chosen made r only) ms ≡ true → can_go rules r only ≡ true
-  made_goes only ms sound e = found_goes rules r only ms sound (subst (λ rules'. list_any (is_chosen rules' r only) ms ≡ true) same e)
+  pub made_found : (only : Bool) (ms : List Move) → Lists (FitCandidates rules r) ms → list_any (is_chosen made q only) ms ≡ can_go rules r only
+  made_found only ms l = ap (λ test. list_any test ms) (chosen_same only) ∙ found_is rules r only ms l
 
-  pub made_count : (only : Bool) (ms : List Move) → only ≡ only_captures rules r → is_ongoing (early_end rules r) ≡ true → Lists (FitCandidates rules r) ms → length (filter (is_chosen made r only) ms) ≡ length (legal rules r)
-  made_count only ms e on l =
-      subst (λ rules'. length (filter (is_chosen rules' r only) ms) ≡ length (legal rules r)) (sym same)
-      (subst (λ only'. length (filter (is_chosen rules r only') ms) ≡ length (legal rules r)) (sym e) (chosen_count rules r ms on l))
+  pub made_goes : (only : Bool) (ms : List Move) → ((m : Move) → Member m ms → FitCandidates rules r m) → list_any (is_chosen made q only) ms ≡ true → can_go rules r only ≡ true
+  made_goes only ms sound e = found_goes rules r only ms sound (sym (ap (λ test. list_any test ms) (chosen_same only)) ∙ e)
 
-  pub made_legal : (only : Bool) (ms : List Move) → only ≡ only_captures rules r → is_ongoing (early_end rules r) ≡ true → Lists (FitCandidates rules r) ms → Lists (λ m. Member m (legal rules r)) (filter (is_chosen made r only) ms)
-  made_legal only ms e on l =
-      subst (λ rules'. Lists (λ m. Member m (legal rules r)) (filter (is_chosen rules' r only) ms)) (sym same)
-      (subst (λ only'. Lists (λ m. Member m (legal rules r)) (filter (is_chosen rules r only') ms)) (sym e) (chosen_legal rules r ms on l))
+  chosen_only : (only : Bool) (ms : List Move) → only ≡ only_captures rules r → filter (is_chosen made q only) ms ≡ filter (is_chosen rules r (only_captures rules r)) ms
+  chosen_only only ms e = ap (λ test. filter test ms) (chosen_same only ∙ ap (is_chosen rules r) e)
+
+  pub made_count : (only : Bool) (ms : List Move) → only ≡ only_captures rules r → is_ongoing (early_end rules r) ≡ true → Lists (FitCandidates rules r) ms → length (filter (is_chosen made q only) ms) ≡ length (legal rules r)
+  made_count only ms e on l = ap length (chosen_only only ms e) ∙ chosen_count rules r ms on l
+
+  pub made_legal : (only : Bool) (ms : List Move) → only ≡ only_captures rules r → is_ongoing (early_end rules r) ≡ true → Lists (FitCandidates rules r) ms → Lists (λ m. Member m (legal rules r)) (filter (is_chosen made q only) ms)
+  made_legal only ms e on l = subst (Lists (λ m. Member m (legal rules r))) (sym (chosen_only only ms e)) (chosen_legal rules r ms on l)
 
   -- the candidates that were appended, once only the chosen ones are kept
-  pub kept_legal : (only : Bool) (old all new : List Move) (k : ℕ) → k ≡ length old → only ≡ only_captures rules r → is_ongoing (early_end rules r) ≡ true → TakesAll (λ old ms new. new ≡ old ++ ms) (FitCandidates rules r) old all → new ≡ take k all ++ filter (is_chosen made r only) (drop k all) → Appends (λ m. Member m (legal rules r)) old new
+  pub kept_legal : (only : Bool) (old all new : List Move) (k : ℕ) → k ≡ length old → only ≡ only_captures rules r → is_ongoing (early_end rules r) ≡ true → TakesAll (λ old ms new. new ≡ old ++ ms) (FitCandidates rules r) old all → new ≡ take k all ++ filter (is_chosen made q only) (drop k all) → Appends (λ m. Member m (legal rules r)) old new
   kept_legal only old all new k size e on a is = record {
-    added = filter (is_chosen made r only) a.moves;
-    is = is ∙ ap (λ l. take k l ++ filter (is_chosen made r only) (drop k l)) a.taken
-        ∙ ap (λ l. l ++ filter (is_chosen made r only) (drop k (old ++ a.moves))) (ap (λ n. take n (old ++ a.moves)) size ∙ take-append_seam old a.moves)
-        ∙ ap (λ l. old ++ filter (is_chosen made r only) l) (ap (λ n. drop n (old ++ a.moves)) size ∙ drop-append_seam old a.moves);
+    added = filter (is_chosen made q only) a.moves;
+    is = is ∙ ap (λ l. take k l ++ filter (is_chosen made q only) (drop k l)) a.taken
+        ∙ ap (λ l. l ++ filter (is_chosen made q only) (drop k (old ++ a.moves))) (ap (λ n. take n (old ++ a.moves)) size ∙ take-append_seam old a.moves)
+        ∙ ap (λ l. old ++ filter (is_chosen made q only) l) (ap (λ n. drop n (old ++ a.moves)) size ∙ drop-append_seam old a.moves);
     each = made_legal only a.moves e on a.each;
   }
 
-  -- where the list found no memory, and was cut back
-  pub cut_back : (P : Move → Type 0) (old all new : List Move) (k : ℕ) → k ≡ length old → TakesSome (λ old ms new. new ≡ old ++ ms) (FitCandidates rules r) old all → new ≡ take k all → AppendsSome P old new
-  cut_back P old all new k size a is =
-      some-none P old new (is ∙ ap (take k) a.taken ∙ ap (λ n. take n (old ++ a.moves)) size ∙ take-append_seam old a.moves)
+-- where the list found no memory, and was cut back
+pub cut_back : (P : Move → Type 0) (old all new : List Move) (k : ℕ) → k ≡ length old → TakesSome (λ old ms new. new ≡ old ++ ms) P old all → new ≡ take k all → new ≡ old
+cut_back P old all new k size a is = is ∙ ap (take k) a.taken ∙ ap (λ n. take n (old ++ a.moves)) size ∙ take-append_seam old a.moves
 
 pub nothing_legal : (rules : Rules) (r : Repeat) (old : List Move) → is_ongoing (early_end rules r) ≡ false → Appends (λ m. Member m (legal rules r)) old old
 nothing_legal rules r old off = appends-none _ old (λ m h. subst (Member m) (none_legal rules r off) h)

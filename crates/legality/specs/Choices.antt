@@ -7,8 +7,9 @@ use Rattle.rules_model.specs.Legal.{is_sane}
 use Rattle.legality.specs.Chosen.{is_chosen, is_wanted}
 
 abbrev pub chosen_by : Choice → Move → Bool
-chosen_by choice m = is_chosen choice.tables.now (repeat_of choice.p.now) choice.captures m
+chosen_by choice m = is_chosen choice.safety.tables.now (repeat_of choice.safety.p.now) choice.captures m
 
--- the choice suits a move that is fit: it is sane, and wanted
+-- the choice suits a move that is fit: it is wanted, and sane
 abbrev pub suits : Choice → Move → Bool
-suits choice m = is_sane choice.tables.now (repeat_of choice.p.now) m && is_wanted choice.tables.now (repeat_of choice.p.now) choice.captures m
+suits choice m =
+    is_wanted choice.safety.tables.now (repeat_of choice.safety.p.now) choice.captures m && is_sane choice.safety.tables.now (repeat_of choice.safety.p.now) m

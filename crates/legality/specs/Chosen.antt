@@ -46,9 +46,9 @@ is_fit_move (Drop kind to) = nat_lt kind.0 26 && nat_lt to.0 120
 abbrev pub is_wanted : Rules → Repeat → Bool → Move → Bool
 is_wanted rules r only m = not only || captures rules r m
 
--- of the candidates: those that are sane, and wanted
+-- of the candidates: those that are wanted, and sane
 unfoldable pub is_chosen : Rules → Repeat → Bool → Move → Bool
-is_chosen rules r only m = is_fit_move m && (is_sane rules r m && is_wanted rules r only m)
+is_chosen rules r only m = is_fit_move m && (is_wanted rules r only m && is_sane rules r m)
 
 -- some allowed move is wanted
 unfoldable pub can_go : Rules → Repeat → Bool → Bool

@@ -7,35 +7,44 @@ ghost use Rattle.rules_model.specs.Legal as Legal;
 ghost use Rattle.rules_model.specs.Moves.{IsFitMove};
 ghost use Rattle.rules_model.specs.Ready.{IsReady};
 ghost use Rattle.rules_model.specs.Repeats.{repeat_of};
+ghost use Rattle.board_sets.specs.Sets.{AreSets};
 ghost use Rattle.legality.specs.Chosen.{captures_if_forced};
 
 use crate::candidates::{candidates_are_fit, is_candidate, push_candidates};
 use crate::capture::captures;
 use crate::choice::Choice;
 use crate::count::Counter;
-use crate::sanity::{checks_after, is_sane};
+use crate::safety::Safety;
 use crate::search::{can_go, goes_on, only_captures};
 use attack_tables::Tables;
+use board_sets::{BoardSets, sets_of};
 use end_rules::{early_end, no_move};
 use rules_model::{Move, Outcome, Position, Rules};
+
+/// The same as `count_legal`, by the sets of the board, which the caller has.
+pub fn count_legal_with(rules: &Rules, tables: &Tables, p: &Position, sets: &BoardSets) -> u128
+    requires ready { IsReady rules.now tables.now p.now }
+    requires sets { AreSets rules.now p.now.side p.now.cells sets.now }
+    ensures { result ≡ min (length (Legal.legal rules.now (repeat_of p.now))) (2 ^ 128 - 1) }
+{
+    if !goes_on(rules, p) {
+        return 0;
+    }
+    let safety = Safety::of_all(rules, tables, p, sets);
+    let captures = only_captures(rules, tables, p, sets);
+    let choice = Choice { safety, captures };
+    let mut counter = Counter { choice, count: 0 };
+    let _ = push_candidates(rules, tables, p, sets, &mut counter);
+    counter.count
+}
 
 /// How many legal moves there are, up to 2^128 - 1. No memory is taken.
 pub fn count_legal(rules: &Rules, tables: &Tables, p: &Position) -> u128
     requires ready { IsReady rules.now tables.now p.now }
     ensures { result ≡ min (length (Legal.legal rules.now (repeat_of p.now))) (2 ^ 128 - 1) }
 {
-    if !goes_on(rules, p) {
-        return 0;
-    }
-    let captures = only_captures(rules, tables, p);
-    let choice = Choice {
-        tables,
-        p,
-        captures,
-    };
-    let mut counter = Counter { choice, count: 0 };
-    let _ = push_candidates(rules, tables, p, &mut counter);
-    counter.count
+    let sets = sets_of(rules, &p.cells, p.side);
+    count_legal_with(rules, tables, p, &sets)
 }
 
 /// Whether there is a legal move. It stops at the first, and no memory is taken.
@@ -43,7 +52,11 @@ pub fn any_legal(rules: &Rules, tables: &Tables, p: &Position) -> bool
     requires ready { IsReady rules.now tables.now p.now }
     ensures { result ≡ not (Legal.is_stuck rules.now (repeat_of p.now)) }
 {
-    goes_on(rules, p) && can_go(rules, tables, p, false)
+    if !goes_on(rules, p) {
+        return false;
+    }
+    let sets = sets_of(rules, &p.cells, p.side);
+    can_go(rules, tables, p, &sets, false)
 }
 
 /// The end that the position has by itself: an early end, or that no move is legal; `Outcome::Ongoing` where there is none. No memory
@@ -67,33 +80,38 @@ pub fn own_end(rules: &Rules, tables: &Tables, p: &Position) -> Outcome
 
 /// Whether the move is a candidate, and sane.
 #[tactic(auto, unfolding(rules_model::specs::Legal::is_allowed))]
-fn is_allowed(rules: &Rules, tables: &Tables, p: &Position, m: &Move) -> bool
+fn is_allowed(rules: &Rules, tables: &Tables, p: &Position, sets: &BoardSets, m: &Move) -> bool
     requires ready { IsReady rules.now tables.now p.now }
+    requires sets { AreSets rules.now p.now.side p.now.cells sets.now }
     ensures is { result ≡ Legal.is_allowed rules.now (repeat_of p.now) m.now }
     ensures fit { OnTrue result (IsFitMove m.now) }
 {
     candidates_are_fit(rules, p);
-    is_candidate(rules, tables, p, m) && is_sane(tables, p, m)
+    is_candidate(rules, tables, p, m) && Safety::of_few(rules, tables, p, sets).is_sane(m)
 }
 
 /// Whether the fit move captures, where one must capture and can.
 #[tactic(auto, unfolding(crate::specs::Chosen::can_go, rules_model::specs::Allowed::can_capture))]
-fn is_wanted(rules: &Rules, tables: &Tables, p: &Position, m: &Move) -> bool
+fn is_wanted(rules: &Rules, tables: &Tables, p: &Position, sets: &BoardSets, m: &Move) -> bool
     requires ready { IsReady rules.now tables.now p.now }
+    requires sets { AreSets rules.now p.now.side p.now.cells sets.now }
     requires fit { IsFitMove m.now }
     ensures { result ≡ captures_if_forced rules.now (repeat_of p.now) m.now }
 {
-    !rules.must_capture || captures(rules, p, m) || !can_go(rules, tables, p, true)
+    !rules.must_capture || captures(rules, p, m) || !can_go(rules, tables, p, sets, true)
 }
 
 /// Whether the move is legal by the rules.
 #[tactic(auto, unfolding(rules_model::specs::Allowed::is_legal))]
-fn is_lawful(rules: &Rules, tables: &Tables, p: &Position, m: &Move) -> bool
+fn is_lawful(rules: &Rules, tables: &Tables, p: &Position, sets: &BoardSets, m: &Move) -> bool
     requires ready { IsReady rules.now tables.now p.now }
+    requires sets { AreSets rules.now p.now.side p.now.cells sets.now }
     ensures is { result ≡ Allowed.is_legal rules.now (repeat_of p.now) m.now }
     ensures fit { OnTrue result (IsFitMove m.now) }
 {
-    goes_on(rules, p) && is_allowed(rules, tables, p, m) && is_wanted(rules, tables, p, m)
+    goes_on(rules, p)
+        && is_allowed(rules, tables, p, sets, m)
+        && is_wanted(rules, tables, p, sets, m)
 }
 
 /// Whether the move is legal: whether `legal_moves` lists it. Every value of `Move` may be asked for. No memory is taken, and no other
@@ -103,7 +121,8 @@ pub fn is_legal(rules: &Rules, tables: &Tables, p: &Position, m: &Move) -> bool
     ensures is { result ≡ Allowed.is_legal rules.now (repeat_of p.now) m.now }
     ensures member { IsTrue result ↔ Member m.now (Legal.legal rules.now (repeat_of p.now)) }
 {
-    is_lawful(rules, tables, p, m)
+    let sets = sets_of(rules, &p.cells, p.side);
+    is_lawful(rules, tables, p, &sets, m)
 }
 
 /// Whether the legal move attacks the other side's king.
@@ -112,5 +131,6 @@ pub fn gives_check(rules: &Rules, tables: &Tables, p: &Position, m: &Move) -> bo
     requires legal { Member m.now (Legal.legal rules.now (repeat_of p.now)) }
     ensures { result ≡ Legal.gives_check rules.now (repeat_of p.now) m.now }
 {
-    checks_after(tables, p, m)
+    let sets = sets_of(rules, &p.cells, p.side);
+    Safety::of_few(rules, tables, p, &sets).checks_after(m)
 }

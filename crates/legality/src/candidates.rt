@@ -8,9 +8,11 @@ ghost use Rattle.move_sink.specs.Taking.{TakesAll, TakesSome};
 ghost use Rattle.rules_model.specs.Candidates as Candidates;
 ghost use Rattle.rules_model.specs.Fit.{IsFit};
 ghost use Rattle.rules_model.specs.Repeats.{repeat_of};
+ghost use Rattle.board_sets.specs.Sets.{AreSets};
 ghost use Rattle.legality.specs.Chosen.{FitCandidates};
 
 use attack_tables::Tables;
+use board_sets::BoardSets;
 use move_sink::MoveSink;
 use rules_model::sizes::position_sizes;
 use rules_model::{KINDS, Move, Position, Region, Rules, Side};
@@ -20,15 +22,17 @@ pub(crate) fn push_candidates<S: MoveSink>(
     rules: &Rules,
     tables: &Tables,
     p: &Position,
+    sets: &BoardSets,
     out: &mut S,
 ) -> Result<(), S::Full>
     requires fit { IsFit rules.now }
     requires tables { tables.now ≡ rules.now }
+    requires sets { AreSets rules.now p.now.side p.now.cells sets.now }
     ensures ok { OnOk result (TakesAll S.takes (FitCandidates rules.now (repeat_of p.now)) out.old out.new) }
     ensures err { OnErr result (TakesSome S.stops (FitCandidates rules.now (repeat_of p.now)) out.old out.new) }
 {
-    piece_moves::push_moves(rules, tables, p, out)?;
-    special_moves::push_moves(rules, tables, p, out)
+    piece_moves::push_moves(rules, tables, p, sets, out)?;
+    special_moves::push_moves(rules, tables, p, sets, out)
 }
 
 /// Whether the move is a candidate.

@@ -10,7 +10,7 @@ use rules_model::attacks::{ahead, is_diagonal, is_own_pawn};
 use rules_model::kinds::board_of;
 use rules_model::{Cells, Move, Position, Rules, Square};
 
-fn is_ep(ep: Option<Square>, to: Square) -> bool
+pub(crate) fn is_ep(ep: Option<Square>, to: Square) -> bool
     ensures { result ≡ Pawns.is_ep ep to.0 }
 {
     match ep {

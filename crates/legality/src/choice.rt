@@ -1,14 +1,18 @@
 //! The choice among the candidates.
-ghost use Rattle.std.specs.Prelude.{◌≡◌, ◌&&◌};
+ghost use Rattle.std.specs.Prelude.{◌≡◌, ◌<◌, ℕ, true};
+ghost use Rattle.std.specs.Bool.{OnTrue};
+ghost use Rattle.square_set.specs.Members.{has};
+ghost use Rattle.rules_model.specs.declared.moves.Move.{Move};
+ghost use Rattle.move_sink.specs.InTurn.{GoesTo};
 ghost use Rattle.rules_model.specs.Legal as Legal;
 ghost use Rattle.legality.specs.Chosen as Chosen;
 ghost use Rattle.rules_model.specs.Moves.{IsFitMove};
 ghost use Rattle.rules_model.specs.Repeats.{repeat_of};
 
 use crate::capture::captures;
-use crate::sanity::is_sane;
-use attack_tables::Tables;
-use rules_model::{Kind, Move, Placed, Position, Promo};
+use crate::safety::Safety;
+use rules_model::{Kind, Move, Placed, Promo, Square};
+use square_set::Set;
 
 fn is_fit_promo(promo: Promo) -> bool
     ensures { result ≡ Chosen.is_fit_promo promo }
@@ -63,8 +67,7 @@ pub(crate) fn is_fit_move(m: &Move) -> bool
 /// What is chosen of the candidates of a position: those that are sane, and perhaps only captures.
 #[derive(Drop)]
 pub(crate) struct Choice<'a> {
-    pub tables: &'a Tables,
-    pub p: &'a Position,
+    pub safety: Safety<'a>,
     /// Only captures are wanted.
     pub captures: bool,
 }
@@ -72,19 +75,34 @@ pub(crate) struct Choice<'a> {
 impl<'a> Choice<'a> {
     ghost use Rattle.legality.specs.Choices as Choices;
 
-    /// Whether the fit candidate is sane, and wanted.
+    /// Whether the fit candidate is wanted, and sane.
     fn suits(&self, m: &Move) -> bool
         requires { IsFitMove m.now }
         ensures { result ≡ Choices.suits self.now m.now }
     {
-        is_sane(self.tables, self.p, m)
-            && (!self.captures || captures(self.tables.rules(), self.p, m))
+        let safety = &self.safety;
+        (!self.captures || captures(safety.tables.rules(), safety.p, m)) && safety.is_sane(m)
+    }
+
+    /// Whether it is told at once that all moves from the square to these are chosen.
+    pub fn holds_all(&self, from: Square, gate: Option<Kind>, targets: Set) -> bool
+        requires from { from.0 < 120 }
+        requires targets { (s : ℕ) → has targets s ≡ true → s < 120 }
+        ensures { OnTrue result ((m : Move) → GoesTo from gate targets m → Choices.chosen_by self.now m ≡ true) }
+    {
+        if self.captures {
+            return false;
+        }
+        if gate.is_some() {
+            return false;
+        }
+        self.safety.lets_go(from, targets)
     }
 
     /// Whether the candidate is chosen.
     #[tactic(auto, unfolding(crate::specs::Chosen::is_chosen))]
     pub fn holds(&self, m: &Move) -> bool
-        ensures { result ≡ Chosen.is_chosen self.now.tables.now (repeat_of self.now.p.now) self.now.captures m.now }
+        ensures { result ≡ Chosen.is_chosen self.now.safety.tables.now (repeat_of self.now.safety.p.now) self.now.captures m.now }
     {
         is_fit_move(m) && self.suits(m)
     }

@@ -5,7 +5,8 @@ ghost use Rattle.legality.specs.Sinks.{Counted, Never, counter_is_sink};
 
 use crate::choice::Choice;
 use move_sink::MoveSink;
-use rules_model::Move;
+use rules_model::{Kind, Move, Promo, Square};
+use square_set::Set;
 
 /// Counts the candidates that are chosen, up to 2^128 - 1.
 #[derive(Drop)]
@@ -27,6 +28,24 @@ impl<'a> MoveSink for Counter<'a> {
     fn take(&mut self, m: Move) -> Result<(), ()> {
         if self.choice.holds(&m) {
             self.count = self.count.saturating_add(1);
+        }
+        Ok(())
+    }
+
+    /// Where all of them are chosen, they are counted at once.
+    fn take_all(&mut self, from: Square, gate: Option<Kind>, targets: Set) -> Result<(), ()> {
+        if self.choice.holds_all(from, gate, targets) {
+            self.count = self.count.saturating_add(u128::from(targets.count()));
+            return Ok(());
+        }
+        let mut left = targets;
+        while let Some(to) = left.take_first() {
+            self.take(Move::Go {
+                from,
+                to: Square(to),
+                promo: Promo::Stays,
+                gate,
+            })?;
         }
         Ok(())
     }

@@ -6,17 +6,18 @@ mod candidates;
 mod capture;
 mod choice;
 mod count;
+mod free;
 mod keep;
 mod list;
 mod mobile;
 mod order;
 mod play;
-mod sanity;
+mod safety;
 mod search;
 mod seek;
 #[cfg(test)]
 mod tests;
 
-pub use ask::{any_legal, count_legal, gives_check, is_legal, own_end};
-pub use list::{legal_moves, push_legal};
+pub use ask::{any_legal, count_legal, count_legal_with, gives_check, is_legal, own_end};
+pub use list::{legal_moves, push_legal, push_legal_with};
 pub use play::apply;

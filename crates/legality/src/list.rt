@@ -1,19 +1,54 @@
 //! The list of the legal moves.
 ghost use Rattle.std.specs.Prelude.{◌≡◌, OnOk, OnErr, IfOk};
-ghost use Rattle.foundation.specs.Member.{Member, Appends, AppendsSome};
+ghost use Rattle.foundation.specs.Member.{Member, Appends};
 ghost use Rattle.rules_model.specs.Legal.{legal};
 ghost use Rattle.rules_model.specs.Ready.{IsReady};
 ghost use Rattle.rules_model.specs.Repeats.{repeat_of};
+ghost use Rattle.board_sets.specs.Sets.{AreSets};
 
 use crate::candidates::push_candidates;
 use crate::choice::Choice;
 use crate::keep::{keep_from, length_of};
 use crate::order::sort_moves;
+use crate::safety::Safety;
 use crate::search::{goes_on, only_captures};
 use attack_tables::Tables;
+use board_sets::{BoardSets, sets_of};
 use foundation::Memory;
 use rules_model::{MoveList, Position, Rules};
 use std::alloc::Global;
+
+/// The same as `push_legal`, by the sets of the board, which the caller has.
+pub fn push_legal_with(
+    rules: &Rules,
+    tables: &Tables,
+    p: &Position,
+    sets: &BoardSets,
+    out: &mut MoveList,
+) -> Result<(), Memory>
+    requires ready { IsReady rules.now tables.now p.now }
+    requires sets { AreSets rules.now p.now.side p.now.cells sets.now }
+    ensures ok { OnOk result (Appends (λ m. Member m (legal rules.now (repeat_of p.now))) out.old out.new) }
+    ensures err { OnErr result (out.new ≡ out.old) }
+{
+    if !goes_on(rules, p) {
+        return Ok(());
+    }
+    let safety = Safety::of_all(rules, tables, p, sets);
+    let captures = only_captures(rules, tables, p, sets);
+    let choice = Choice { safety, captures };
+    let start = length_of(out);
+    match push_candidates(rules, tables, p, sets, out) {
+        Ok(()) => {
+            keep_from(&choice, start, out);
+            Ok(())
+        }
+        Err(full) => {
+            out.items.truncate(start);
+            Err(full)
+        }
+    }
+}
 
 /// Appends the legal moves, each once and in no special order. Without memory the list is as it was.
 pub fn push_legal(
@@ -24,28 +59,10 @@ pub fn push_legal(
 ) -> Result<(), Memory>
     requires ready { IsReady rules.now tables.now p.now }
     ensures ok { OnOk result (Appends (λ m. Member m (legal rules.now (repeat_of p.now))) out.old out.new) }
-    ensures err { OnErr result (AppendsSome (λ m. Member m (legal rules.now (repeat_of p.now))) out.old out.new) }
+    ensures err { OnErr result (out.new ≡ out.old) }
 {
-    if !goes_on(rules, p) {
-        return Ok(());
-    }
-    let captures = only_captures(rules, tables, p);
-    let choice = Choice {
-        tables,
-        p,
-        captures,
-    };
-    let start = length_of(out);
-    match push_candidates(rules, tables, p, out) {
-        Ok(()) => {
-            keep_from(&choice, start, out);
-            Ok(())
-        }
-        Err(full) => {
-            out.items.truncate(start);
-            Err(full)
-        }
-    }
+    let sets = sets_of(rules, &p.cells, p.side);
+    push_legal_with(rules, tables, p, &sets, out)
 }
 
 /// The legal moves, each once and in the byte order of their texts: those of the rules of movement after which the mover's king is not
@@ -65,6 +82,6 @@ pub fn legal_moves(
         items: Vec::new(alloc),
     };
     push_legal(rules, tables, p, &mut moves)?;
-    sort_moves(&mut moves.items);
+    sort_moves(&mut moves.items)?;
     Ok(moves)
 }

@@ -3,12 +3,15 @@ ghost use Rattle.std.specs.Prelude.{◌≡◌};
 ghost use Rattle.rules_model.specs.Ends as Ends;
 ghost use Rattle.rules_model.specs.Fit.{IsFit};
 ghost use Rattle.rules_model.specs.Repeats.{repeat_of};
+ghost use Rattle.board_sets.specs.Sets.{AreSets};
 ghost use Rattle.legality.specs.Chosen as Chosen;
 
 use crate::candidates::push_candidates;
 use crate::choice::Choice;
+use crate::safety::Safety;
 use crate::seek::Seeker;
 use attack_tables::Tables;
+use board_sets::BoardSets;
 use end_rules::early_end;
 use rules_model::{Outcome, Position, Rules};
 
@@ -24,18 +27,22 @@ pub(crate) fn goes_on(rules: &Rules, p: &Position) -> bool
 }
 
 /// Whether some candidate is sane and, where only captures are wanted, a capture. It stops at the first.
-pub(crate) fn can_go(rules: &Rules, tables: &Tables, p: &Position, captures: bool) -> bool
+pub(crate) fn can_go(
+    rules: &Rules,
+    tables: &Tables,
+    p: &Position,
+    sets: &BoardSets,
+    captures: bool,
+) -> bool
     requires fit { IsFit rules.now }
     requires tables { tables.now ≡ rules.now }
+    requires sets { AreSets rules.now p.now.side p.now.cells sets.now }
     ensures { result ≡ Chosen.can_go rules.now (repeat_of p.now) captures }
 {
-    let choice = Choice {
-        tables,
-        p,
-        captures,
-    };
+    let safety = Safety::of_few(rules, tables, p, sets);
+    let choice = Choice { safety, captures };
     let mut seeker = Seeker { choice };
-    match push_candidates(rules, tables, p, &mut seeker) {
+    match push_candidates(rules, tables, p, sets, &mut seeker) {
         Ok(()) => false,
         Err(_) => true,
     }
@@ -43,10 +50,11 @@ pub(crate) fn can_go(rules: &Rules, tables: &Tables, p: &Position, captures: boo
 
 /// Whether only captures are legal: one must capture, and can.
 #[tactic(auto, unfolding(crate::specs::Chosen::only_captures))]
-pub(crate) fn only_captures(rules: &Rules, tables: &Tables, p: &Position) -> bool
+pub(crate) fn only_captures(rules: &Rules, tables: &Tables, p: &Position, sets: &BoardSets) -> bool
     requires fit { IsFit rules.now }
     requires tables { tables.now ≡ rules.now }
+    requires sets { AreSets rules.now p.now.side p.now.cells sets.now }
     ensures { result ≡ Chosen.only_captures rules.now (repeat_of p.now) }
 {
-    rules.must_capture && can_go(rules, tables, p, true)
+    rules.must_capture && can_go(rules, tables, p, sets, true)
 }

@@ -47,6 +47,24 @@ fn quiet_drops() -> Rules
     rules
 }
 
+/// Chess on a board of nine ranks: the regions are still those of eight.
+fn nine_ranks() -> Rules
+    ensures { IsFit result }
+{
+    let mut rules = chess();
+    rules.ranks = 9;
+    rules
+}
+
+/// The same on ten ranks.
+fn ten_ranks() -> Rules
+    ensures { IsFit result }
+{
+    let mut rules = chess();
+    rules.ranks = 10;
+    rules
+}
+
 /// Asserts that the position has these legal moves, in this order, by each of the calls.
 fn has_moves<R: Abort>(
     rt: &R,
@@ -168,6 +186,56 @@ fn variants_forbid_moves(rt: HostRuntime) -> Result<(), Fail> {
             to: square(to),
         };
         assert_eq!(rt; is_legal(&rules, &tables, &p, &m), is_allowed, "{to}");
+    }
+    Ok(())
+}
+
+/// Asserts what `has_moves` does of the pieces of a text, with Black to move.
+fn black_has_moves<R: Abort>(
+    rt: &R,
+    alloc: Global,
+    rules: &Rules,
+    rows: &[(&str, &str)],
+) -> Result<(), Fail>
+    requires fit { IsFit rules.now }
+{
+    for (pieces, texts) in rows {
+        let mut p = position(*pieces);
+        p.side = Side::Black;
+        has_moves(rt, alloc, rules, &p, *texts)?;
+    }
+    Ok(())
+}
+
+#[test]
+fn pawns_of_black_go_down_high_boards(rt: HostRuntime) -> Result<(), Fail> {
+    let nine = [
+        ("Ka1 kh8 pe9 Nd8", "e9d8 e9e8 h8g7 h8g8 h8h7"),
+        ("Ka1 kh8 pe7", "e7e5 e7e6 h8g7 h8g8 h8h7"),
+        ("Ka4 kh8 pe2", "e2e1b e2e1n e2e1q e2e1r h8g7 h8g8 h8h7"),
+    ];
+    black_has_moves(&rt, rt.alloc(), &nine_ranks(), &nine)?;
+    let ten = [
+        ("Ka1 kh8 pe10 Nd9", "e10d9 e10e9 h8g7 h8g8 h8h7"),
+        ("Ka1 kh8 pe9", "e9e8 h8g7 h8g8 h8h7"),
+    ];
+    black_has_moves(&rt, rt.alloc(), &ten_ranks(), &ten)
+}
+
+// The castling rook stands on f1, between the king and its target. A rook of Black attacks g1, or f1 alone.
+#[test]
+fn a_rook_between_king_and_target_castles(rt: HostRuntime) -> Result<(), Fail> {
+    let rook = "f1f2 f1f3 f1f4 f1f5 f1f6 f1f7 f1f8 f1g1 f1h1";
+    let rows = [
+        ("Ke1 Rf1 ka8", "e1d1 e1d2 e1e2 e1f2 e1g1"),
+        ("Ke1 Rf1 ka8 rg8", "e1d1 e1d2 e1e2 e1f2"),
+        ("Ke1 Rf1 ka8 rf8", "e1d1 e1d2 e1e2"),
+    ];
+    for (pieces, texts) in &rows {
+        let mut p = position(*pieces);
+        p.rights[0][0] = true;
+        let texts = format!(in rt.alloc(); "{texts} {rook}")?;
+        has_moves(&rt, rt.alloc(), &chess(), &p, texts.as_str())?;
     }
     Ok(())
 }

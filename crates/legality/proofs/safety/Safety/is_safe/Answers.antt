@@ -1,0 +1,12 @@
+use Rattle.std.proofs.Common.{sym, ◌∙◌}
+use Rattle.legality.proofs.SafetyLaws.{enemies_held, free_is_safe, same_held}
+use Rattle.legality.proofs.safety.Safety.is_safe.Goals as goal
+
+pub returns-then-is_free : goal.returns-then-is_free
+returns-then-is_free c = sym (free_is_safe _ _ _ _ _ c.args.self.now.go_freely c.requires (sym c.is_free.ensures ∙ c.if-is_free.true))
+
+pub is_safe_on-requires-clause-enemies : goal.is_safe_on-requires-clause-enemies
+is_safe_on-requires-clause-enemies c = enemies_held _ _ _ (sym c.moves_own.ensures ∙ c.if-moves_own.true)
+
+pub is_safe_on-requires-2-clause-enemies : goal.is_safe_on-requires-2-clause-enemies
+is_safe_on-requires-2-clause-enemies c = same_held _ _ _ c.move_on.ensures

@@ -1,0 +1,46 @@
+-- What is known of a move before its position is made.
+use Rattle.std.specs.Prelude.{◌≡◌, ℕ, ◌<◌, Bool, true, false, ◌&&◌, ◌||◌, not, is_none, Option, None, List}
+use Rattle.rules_model.specs.declared.board.Cell.{Cell}
+use Rattle.rules_model.specs.declared.board.Repeat.{Repeat}
+use Rattle.rules_model.specs.declared.board.Side.{Side}
+use Rattle.rules_model.specs.declared.board.Square.{Square}
+use Rattle.rules_model.specs.declared.moves.Move.{Move}
+use Rattle.rules_model.specs.declared.moves.Move.TheVariants.{Go, Castle, Drop}
+use Rattle.rules_model.specs.declared.moves.Promo.TheVariants.{Stays}
+use Rattle.rules_model.specs.declared.rules.Rules.{Rules}
+use Rattle.rules_model.specs.Attacks.{is_own}
+use Rattle.rules_model.specs.Legal.{is_drop, is_safe, is_sane}
+use Rattle.rules_model.specs.Pawns.{is_ep, is_stays}
+use Rattle.rules_model.specs.Squares.{cell_at}
+use Rattle.square_set.specs.declared.Set.{Set}
+use Rattle.square_set.specs.Members.{has}
+
+-- the variant asks more of the move than that it leaves the own king safe
+abbrev pub asks_more : Rules → Move → Bool
+asks_more rules m = rules.immobile_bad || not (rules.checking && (rules.drop_checks || not (is_drop m)))
+
+-- a piece of the mover goes, or is dropped, and no other piece but one that it takes
+abbrev pub moves_own : Repeat → Move → Bool
+moves_own r (Go from to promo gate) = is_own r.side (λ kind. true) (cell_at r.cells from.0)
+moves_own r (Castle from to rook gate) = false
+moves_own r (Drop kind to) = true
+
+-- a piece of the free squares goes and stays what it is, to a square without an own piece, and not in passing
+abbrev pub is_free : Repeat → Set → Set → Move → Bool
+is_free r own free (Go from to promo gate) = is_stays promo && is_none gate && has free from.0 && not (has own to.0) && not (is_ep r.ep to.0)
+is_free r own free (Castle from to rook gate) = false
+is_free r own free (Drop kind to) = false
+
+-- the cells hold each piece of the side that is on the board
+abbrev pub HoldsMenOf : Side → List (Option Cell) → List (Option Cell) → Type 0
+HoldsMenOf side board cells = (s : ℕ) → is_own side (λ kind. true) (cell_at board s) ≡ true → cell_at board s ≡ cell_at cells s
+
+-- a piece that goes from a square of the set and stays what it is leaves its king safe, unless it takes in passing or takes its own
+abbrev pub GoFreely : Rules → Repeat → Set → Set → Type 0
+GoFreely rules r own free =
+    (from to : Square) → from.0 < 120 → to.0 < 120 → has free from.0 ≡ true → has own to.0 ≡ false → is_ep r.ep to.0 ≡ false
+    → is_safe rules r (Go from to Stays None) ≡ true
+
+-- a piece that goes from the square to any of the targets, and stays what it is, makes a sane move
+abbrev pub MayGo : Rules → Repeat → Square → Set → Type 0
+MayGo rules r from targets = (to : Square) → to.0 < 120 → has targets to.0 ≡ true → is_sane rules r (Go from to Stays None) ≡ true

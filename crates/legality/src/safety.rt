@@ -1,0 +1,269 @@
+//! What is asked of a candidate: that the own king is safe after it, that it gives check where it may, and that the piece can move on.
+ghost use Rattle.std.specs.Prelude.{◌≡◌, ◌<◌};
+ghost use Rattle.std.specs.Bool.{OnTrue};
+ghost use Rattle.rules_model.specs.Legal as Legal;
+ghost use Rattle.rules_model.specs.Moves.{IsFitMove};
+ghost use Rattle.rules_model.specs.Next as Next;
+ghost use Rattle.rules_model.specs.Pawns.{is_stays};
+ghost use Rattle.rules_model.specs.Repeats.{repeat_of};
+ghost use Rattle.rules_model.specs.Sides.{other};
+ghost use Rattle.board_sets.specs.Sets.{AreSets};
+ghost use Rattle.legality.specs.Moved as Moved;
+
+use crate::capture::is_ep;
+use crate::free::free_men;
+use crate::mobile::stays_mobile;
+use attack_tables::Tables;
+use board_sets::{BoardSets, sets_are_on_board};
+use next_position::move_pieces;
+use rules_model::sizes::position_sizes;
+use rules_model::{Cells, Move, Position, Promo, Rules, Square};
+use square_set::{EMPTY, Set};
+
+/// A position, with what is known of it for all its moves.
+#[derive(Drop)]
+pub(crate) struct Safety<'a> {
+    pub tables: &'a Tables,
+    pub p: &'a Position,
+    pub sets: BoardSets,
+    /// From these squares a piece may go anywhere: its king stays safe.
+    pub free: Set,
+    ghost are_sets: { AreSets tables.now p.now.side p.now.cells sets },
+    ghost go_freely: { Moved.GoFreely tables.now (repeat_of p.now) sets.own free },
+}
+
+fn is_drop(m: &Move) -> bool
+    ensures { result ≡ Legal.is_drop m.now }
+{
+    match *m {
+        Move::Go { .. } => false,
+        Move::Castle { .. } => false,
+        Move::Drop { .. } => true,
+    }
+}
+
+fn stays(promo: Promo) -> bool
+    ensures { result ≡ is_stays promo }
+{
+    match promo {
+        Promo::Stays => true,
+        Promo::Pawn(_) => false,
+        Promo::Plus => false,
+    }
+}
+
+impl<'a> Safety<'a> {
+    /// For all the moves of the position.
+    pub fn of_all(
+        rules: &Rules,
+        tables: &'a Tables,
+        p: &'a Position,
+        sets: &BoardSets,
+    ) -> Safety<'a>
+        requires tables { tables.now ≡ rules.now }
+        requires sets { AreSets rules.now p.now.side p.now.cells sets.now }
+        ensures tables { result.tables.now ≡ rules.now }
+        ensures p { result.p.now ≡ p.now }
+    {
+        let free = free_men(rules, tables, p, sets);
+        Safety {
+            tables,
+            p,
+            sets: *sets,
+            free,
+        }
+    }
+
+    /// For a few moves: no piece is taken to be free.
+    pub fn of_few(
+        rules: &Rules,
+        tables: &'a Tables,
+        p: &'a Position,
+        sets: &BoardSets,
+    ) -> Safety<'a>
+        requires tables { tables.now ≡ rules.now }
+        requires sets { AreSets rules.now p.now.side p.now.cells sets.now }
+        ensures tables { result.tables.now ≡ rules.now }
+        ensures p { result.p.now ≡ p.now }
+    {
+        Safety {
+            tables,
+            p,
+            sets: *sets,
+            free: EMPTY,
+        }
+    }
+
+    /// Whether the variant asks more of the move than that it leaves the own king safe.
+    fn asks_more(&self, m: &Move) -> bool
+        ensures { result ≡ Moved.asks_more self.now.tables.now m.now }
+    {
+        let rules = self.tables.rules();
+        rules.immobile_bad || !(rules.checking && (rules.drop_checks || !is_drop(m)))
+    }
+
+    /// Whether a piece of the mover goes or is dropped, and no other one with it.
+    fn moves_own(&self, m: &Move) -> bool
+        requires { IsFitMove m.now }
+        ensures { result ≡ Moved.moves_own (repeat_of self.now.p.now) m.now }
+    {
+        match *m {
+            Move::Go { from, .. } => self.sets.own.has(from.0),
+            Move::Castle { .. } => false,
+            Move::Drop { .. } => true,
+        }
+    }
+
+    /// Whether a free piece goes and stays what it is, to a square without an own piece, and not in passing.
+    fn is_free(&self, m: &Move) -> bool
+        requires { IsFitMove m.now }
+        ensures { result ≡ Moved.is_free (repeat_of self.now.p.now) self.now.sets.own self.now.free m.now }
+    {
+        match *m {
+            Move::Go {
+                from,
+                to,
+                promo,
+                gate,
+            } => {
+                stays(promo)
+                    && gate.is_none()
+                    && self.free.has(from.0)
+                    && !self.sets.own.has(to.0)
+                    && !is_ep(self.p.ep, to)
+            }
+            Move::Castle { .. } => false,
+            Move::Drop { .. } => false,
+        }
+    }
+
+    /// Whether it is told at once that a piece that goes from the square, and stays what it is, may go to each of these squares.
+    pub fn lets_go(&self, from: Square, targets: Set) -> bool
+        requires from { from.0 < 120 }
+        ensures { OnTrue result (Moved.MayGo self.now.tables.now (repeat_of self.now.p.now) from targets) }
+    {
+        let rules = self.tables.rules();
+        if rules.immobile_bad {
+            return false;
+        }
+        if !rules.checking {
+            return false;
+        }
+        if self.p.ep.is_some() {
+            return false;
+        }
+        if !self.free.has(from.0) {
+            return false;
+        }
+        targets.and(self.sets.own).is_empty()
+    }
+
+    /// The cells after the move.
+    fn move_on(&self, m: &Move, cells: &mut Cells)
+        requires fit { IsFitMove m.now }
+        requires copy { cells.old ≡ self.now.p.now.cells }
+        ensures { cells.new ≡ Next.cells_after self.now.tables.now (repeat_of self.now.p.now) m.now }
+    {
+        move_pieces(self.tables.rules(), self.p, m, cells);
+    }
+
+    /// Whether the move leaves the own king safe, by cells that hold the other side's pieces as they are after it.
+    fn is_safe_on(&self, m: &Move, cells: &Cells) -> bool
+        requires fit { IsFitMove m.now }
+        requires enemies { Moved.HoldsMenOf (other self.now.p.now.side) (Next.cells_after self.now.tables.now (repeat_of self.now.p.now) m.now) cells.now }
+        ensures { result ≡ Legal.is_safe self.now.tables.now (repeat_of self.now.p.now) m.now }
+    {
+        position_sizes(self.p);
+        sets_are_on_board();
+        let p = self.p;
+        let sets = self.sets.after(self.tables.rules(), p, m);
+        let occupied = sets.occupied();
+        !self
+            .tables
+            .king_attacked_by(cells, sets.kings, sets.enemies, occupied, p.side)
+    }
+
+    /// Whether the move leaves the own king safe.
+    fn is_safe(&self, m: &Move) -> bool
+        requires { IsFitMove m.now }
+        ensures { result ≡ Legal.is_safe self.now.tables.now (repeat_of self.now.p.now) m.now }
+    {
+        position_sizes(self.p);
+        if self.is_free(m) {
+            return true;
+        }
+        if self.moves_own(m) {
+            return self.is_safe_on(m, &self.p.cells);
+        }
+        let mut cells = self.p.cells;
+        self.move_on(m, &mut cells);
+        self.is_safe_on(m, &cells)
+    }
+
+    /// Whether the move attacks the other king. The cells are those after the move.
+    #[tactic(auto, unfolding(rules_model::specs::Legal::gives_check, rules_model::specs::Next::next_repeat))]
+    fn checks(&self, m: &Move, cells: &Cells) -> bool
+        requires fit { IsFitMove m.now }
+        requires after { cells.now ≡ Next.cells_after self.now.tables.now (repeat_of self.now.p.now) m.now }
+        ensures { result ≡ Legal.gives_check self.now.tables.now (repeat_of self.now.p.now) m.now }
+    {
+        position_sizes(self.p);
+        sets_are_on_board();
+        let p = self.p;
+        let sets = self.sets.after(self.tables.rules(), p, m).turned();
+        let occupied = sets.occupied();
+        self.tables
+            .king_attacked_by(cells, sets.kings, sets.enemies, occupied, p.side.other())
+    }
+
+    /// Whether the variant lets the move give check, or it gives none. The cells are those after the move.
+    #[tactic(auto, unfolding(rules_model::specs::Legal::may_check))]
+    fn may_check(&self, m: &Move, cells: &Cells) -> bool
+        requires fit { IsFitMove m.now }
+        requires after { cells.now ≡ Next.cells_after self.now.tables.now (repeat_of self.now.p.now) m.now }
+        ensures { result ≡ Legal.may_check self.now.tables.now (repeat_of self.now.p.now) m.now }
+    {
+        let rules = self.tables.rules();
+        if rules.checking && (rules.drop_checks || !is_drop(m)) {
+            return true;
+        }
+        !self.checks(m, cells)
+    }
+
+    /// The same as `is_sane`, by the cells after the move.
+    #[tactic(auto, unfolding(rules_model::specs::Legal::is_sane))]
+    fn is_sane_after(&self, m: &Move) -> bool
+        requires { IsFitMove m.now }
+        ensures { result ≡ Legal.is_sane self.now.tables.now (repeat_of self.now.p.now) m.now }
+    {
+        let mut cells = self.p.cells;
+        self.move_on(m, &mut cells);
+        self.is_safe_on(m, &cells)
+            && self.may_check(m, &cells)
+            && (!self.tables.rules().immobile_bad || stays_mobile(self.tables, self.p, m, &cells))
+    }
+
+    /// Whether the move leaves the own king safe, gives no check that the variant forbids, and, where the variant asks it, leaves a
+    /// piece on its target that can ever move. Whether it is a candidate is not asked. No cell is looked at or copied for a move of an
+    /// own piece that is free, and none is copied for another, where the variant asks no more than a safe king.
+    pub fn is_sane(&self, m: &Move) -> bool
+        requires { IsFitMove m.now }
+        ensures { result ≡ Legal.is_sane self.now.tables.now (repeat_of self.now.p.now) m.now }
+    {
+        if self.asks_more(m) {
+            self.is_sane_after(m)
+        } else {
+            self.is_safe(m)
+        }
+    }
+
+    /// Whether the move attacks the other king.
+    pub fn checks_after(&self, m: &Move) -> bool
+        requires { IsFitMove m.now }
+        ensures { result ≡ Legal.gives_check self.now.tables.now (repeat_of self.now.p.now) m.now }
+    {
+        let mut cells = self.p.cells;
+        self.move_on(m, &mut cells);
+        self.checks(m, &cells)
+    }
+}
