@@ -2,7 +2,6 @@
 ghost use Rattle.std.specs.Prelude.{◌≡◌, true, IfSome};
 ghost use Rattle.std.specs.Bool.{OnTrue};
 ghost use Rattle.rules_model.specs.declared.moves.Promo.TheVariants.{Stays};
-ghost use Rattle.rules_model.specs.Attacks as Attacks;
 ghost use Rattle.rules_model.specs.Castling.{IsFitCastle, castling_on, holds_right};
 ghost use Rattle.rules_model.specs.Fit.{IsFit};
 ghost use Rattle.rules_model.specs.Repeats.{repeat_of};
@@ -12,18 +11,9 @@ ghost use Rattle.move_names.specs.Read as Read;
 
 use crate::endings::{gate_ending, named_kind};
 use crate::squares::CutSquares;
+use rules_model::attacks::is_own_king;
 use rules_model::castling::{CastleSquares, castle_of, holds_right};
-use rules_model::kinds::names;
-use rules_model::{Cell, Kind, Move, Placed, Position, Promo, Rules, Side, Square, Wing};
-
-fn is_own_king(rules: &Rules, side: Side, cell: Option<Cell>) -> bool
-    ensures { result ≡ Attacks.is_own_king rules.now side cell }
-{
-    match cell {
-        None => false,
-        Some(cell) => cell.side.is(side) && names(rules.king, cell.kind),
-    }
-}
+use rules_model::{Kind, Move, Placed, Position, Promo, Rules, Side, Square, Wing};
 
 fn castle_move(castle: &CastleSquares, gate: Option<Placed>) -> Move
     ensures { result ≡ Read.castle_move castle.now gate }

@@ -1,36 +1,17 @@
 //! Whether rights and gates have their pieces in place.
-ghost use Rattle.std.specs.Prelude.{◌≡◌, ◌<◌, not, IfSome};
+ghost use Rattle.std.specs.Prelude.{◌≡◌, ◌<◌, IfSome};
 ghost use Rattle.foundation.specs.Count.{all_below};
 ghost use Rattle.fen_model.specs.Held as Said;
 ghost use Rattle.fen_model.specs.Held.{held_on};
-ghost use Rattle.rules_model.specs.Attacks as Attacks;
 ghost use Rattle.rules_model.specs.Fit.{IsFit};
-ghost use Rattle.rules_model.specs.Kinds as Kinds;
 ghost use Rattle.rules_model.specs.Sound as Sound;
 
 use fen_model::Held;
+use rules_model::attacks::is_own_king;
 use rules_model::castling::{castling_on, castling_square, has_gate, holds_right, rook_file};
-use rules_model::kinds::{first_rank, names};
-use rules_model::{Cell, Cells, Rules, Side, Wing};
-
-pub(crate) fn is_own_king(rules: &Rules, side: Side, cell: Option<Cell>) -> bool
-    ensures { result ≡ Attacks.is_own_king rules.now side cell }
-{
-    match cell {
-        None => false,
-        Some(cell) => cell.side.is(side) && names(rules.king, cell.kind),
-    }
-}
-
-/// Whether a piece of the side that is no pawn stands there.
-fn is_own_piece(rules: &Rules, side: Side, cell: Option<Cell>) -> bool
-    ensures { result ≡ Attacks.is_own side (λ kind. not (Kinds.is_pawn rules.now kind)) cell }
-{
-    match cell {
-        None => false,
-        Some(cell) => cell.side.is(side) && !names(rules.pawn, cell.kind),
-    }
-}
+use rules_model::kinds::first_rank;
+use rules_model::soundness::is_own_piece;
+use rules_model::{Cells, Rules, Side, Wing};
 
 /// Whether the castling rook is there, and with it the gates that a right needs.
 fn is_sound_rook(rules: &Rules, gates: &[u16; 2], side: Side, file: Option<u8>) -> bool

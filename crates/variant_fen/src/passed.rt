@@ -1,17 +1,15 @@
 //! The square that a pawn has passed.
 ghost use Rattle.std.specs.Prelude.{◌≡◌, ◌<◌, IfSome};
 ghost use Rattle.fen_model.specs.Passed as Passed;
-ghost use Rattle.rules_model.specs.Attacks as Attacks;
 ghost use Rattle.rules_model.specs.Fit.{IsFit};
-ghost use Rattle.rules_model.specs.Pawns as Pawns;
-ghost use Rattle.rules_model.specs.Sound as Sound;
 
 use crate::number::read_number;
 use crate::pocket::says_none;
 use fen_model::FenFault;
-use rules_model::attacks::{ahead, is_own_pawn, pawn_could_take};
-use rules_model::kinds::{board_of, in_region};
-use rules_model::{Cells, Region, Rules, Side, Square};
+use rules_model::attacks::{ahead, pawn_at, pawn_could_take};
+use rules_model::kinds::board_of;
+use rules_model::soundness::{is_free, is_on_board, lies_in};
+use rules_model::{Cells, Rules, Side, Square};
 
 /// The square that a text names: the letter of a file and the number of a rank, on the largest board.
 fn read_square(text: &[u8]) -> Option<Square>
@@ -24,42 +22,6 @@ fn read_square(text: &[u8]) -> Option<Square>
         Some(Square(12 * (rank as u8 - 1) + (*file - b'a')))
     } else {
         None
-    }
-}
-
-fn is_on_board(rules: &Rules, at: Square) -> bool
-    ensures { result ≡ Sound.on_board rules.now at.0 }
-{
-    at.0 % 12 < rules.files && at.0 / 12 < rules.ranks
-}
-
-fn is_free(cells: &Cells, at: Option<u8>) -> bool
-    requires { IfSome at (λ s. s < 120) }
-    ensures { result ≡ Pawns.is_free cells.now at }
-{
-    match at {
-        None => false,
-        Some(at) => cells[at as usize].is_none(),
-    }
-}
-
-fn lies_in(regions: &[Region; 2], side: Side, at: Option<u8>) -> bool
-    requires { IfSome at (λ s. s < 120) }
-    ensures { result ≡ Sound.lies_in regions.now side at }
-{
-    match at {
-        None => false,
-        Some(at) => in_region(regions, side, at),
-    }
-}
-
-fn pawn_at(rules: &Rules, cells: &Cells, side: Side, at: Option<u8>) -> bool
-    requires { IfSome at (λ s. s < 120) }
-    ensures { result ≡ Attacks.pawn_at rules.now cells.now side at }
-{
-    match at {
-        None => false,
-        Some(at) => is_own_pawn(rules, side, cells[at as usize]),
     }
 }
 
