@@ -30,6 +30,13 @@ def long_chain():
     return "[v0:chess]\n" + "".join(f"[v{i}:v{i - 1}]\n{lines}" for i in range(1, SECTIONS))
 
 
+def wide_chain():
+    """The same with different keys in each section, of which chess has none."""
+    keys = [f"mobilityRegion{side}CustomPiece{n}" for side in ("White", "Black") for n in range(1, 25)]
+    lines = "".join(f"{key} = -\n" for key in keys + keys[:7])
+    return "[v0:chess]\n" + "".join(f"[v{i}:v{i - 1}]\n{lines}" for i in range(1, SECTIONS))
+
+
 def custom():
     """Each section has 24 pieces with words of their own."""
     pieces = "".join(f"customPiece{n} = {chr(96 + n)}:NBRmpQ2cgB\n" for n in range(1, 25))
@@ -50,7 +57,7 @@ def best(words, runs):
 def main():
     runs = int(sys.argv[1]) if len(sys.argv) > 1 else 5
     base = best([], runs)
-    for make in (children, chain, long_chain, custom):
+    for make in (children, chain, long_chain, wide_chain, custom):
         with tempfile.NamedTemporaryFile("w", suffix=".ini") as file:
             text = make()
             file.write(text)

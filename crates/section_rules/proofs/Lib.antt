@@ -1,5 +1,5 @@
 pub mod TermLaws
 pub mod ChainLaws
 pub mod TableLemmas
-pub mod SearchLemmas
+pub mod LetterLemmas
 pub mod FitLaws

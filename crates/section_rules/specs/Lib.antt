@@ -1,4 +1,4 @@
 pub mod Own
-pub mod Search
+pub mod Letters
 pub mod Said
 pub mod Faultless

@@ -1,91 +1,66 @@
-//! The letters of pieces, along the chain of parents.
-ghost use Rattle.std.specs.Prelude.{◌≡◌, ◌<◌, length, map};
-ghost use Rattle.rules_model.specs.Kinds.{masks};
-ghost use Rattle.section_rules.specs.Own.{flat};
-ghost use Rattle.section_rules.specs.Search as Search;
+//! The letters of the pieces of sections, each by the letters of its parent.
+ghost use Rattle.std.specs.Prelude.{◌≡◌, ◌<◌, IfOk, length};
+ghost use Rattle.section_rules.specs.Letters as table;
 
 use crate::lines::{OwnLetters, PIECES, letter_given, own_letters};
-use crate::parents::parent_place;
-use rules_model::Kind;
-use rules_model::kinds::masks;
+use rules_model::{Kind, Memory};
+use std::alloc::Global;
 use variant_ini::Sections;
-use variant_options::letters::KINDS;
 
 /// The letter of each piece of the table, in its order, where the section has the piece.
 pub(crate) type Letters = [Option<Kind>; PIECES];
 
-/// A letter, unless a nearer section gives it.
-fn unless_given(given: &[bool; 26], letter: Option<Kind>) -> Option<Kind>
-    ensures { result ≡ Search.unless_given given.now letter }
+/// The letter of a piece, by what the section's lines say of it, by the letter in the parent, and by the letters that the lines give.
+fn letter_by(said: Option<Option<Kind>>, inherited: Option<Kind>, own: &OwnLetters) -> Option<Kind>
+    ensures { result ≡ table.letter_by said inherited own.now }
 {
-    match letter {
-        Some(kind) if !masks(given, kind) => Some(kind),
+    match (said, inherited) {
+        (Some(letter), _) => letter,
+        (None, Some(kind)) if !letter_given(own, kind) => Some(kind),
         _ => None,
     }
 }
 
-/// What is said of a piece after one more section.
-fn said_with(
-    said: Option<Option<Kind>>,
-    own: Option<Option<Kind>>,
-    given: &[bool; 26],
-) -> Option<Option<Kind>>
-    ensures { result ≡ Search.said_with said own given.now }
-{
-    match (said, own) {
-        (Some(letter), _) => Some(letter),
-        (None, Some(letter)) => Some(unless_given(given, letter)),
-        (None, None) => None,
-    }
-}
-
-/// What is said of the pieces after one more section.
-fn all_said(said: &OwnLetters, own: &OwnLetters, given: &[bool; 26]) -> OwnLetters
-    ensures { result ≡ Search.all_said said.now own.now given.now }
-{
-    let mut all = [None; PIECES];
-    for i in 0..PIECES {
-        all[i] = said_with(said[i], own[i], given);
-    }
-    all
-}
-
-/// The letters that are given after one more section.
-fn all_given(given: &[bool; 26], own: &OwnLetters) -> [bool; 26]
-    ensures { result ≡ Search.all_given given.now own.now }
-{
-    let mut all = [false; 26];
-    for k in 0..KINDS {
-        all[k as usize] = given[k as usize] || letter_given(own, Kind(k));
-    }
-    all
-}
-
-/// What is found where no section is left.
-fn letters_found(said: &OwnLetters) -> Letters
-    ensures { result ≡ map flat said.now }
+/// The letters of the pieces, by what a section's lines say and by the letters in its parent.
+fn letters_by(own: &OwnLetters, inherited: &Letters) -> Letters
+    ensures { result ≡ table.letters_by own.now inherited.now }
 {
     let mut letters = [None; PIECES];
     for i in 0..PIECES {
-        letters[i] = said[i].flatten();
+        letters[i] = letter_by(own[i], inherited[i], own);
     }
     letters
 }
 
-/// The letter of each piece in a section: that of the section's own last line for it, else the one in its parent, unless the section
-/// gives that letter to another piece. The nearest section is read first.
-pub(crate) fn letters(sections: &Sections, place: usize) -> Letters
-    requires { place < length sections.now }
-    ensures { result ≡ Search.letters_of sections.now place }
+/// The letters in the parent of a section, none without a parent.
+fn inherited(sections: &Sections, above: &[Letters], place: usize) -> Letters
+    requires place { place < length sections.now }
+    requires above { above.now ≡ table.letters_before sections.now place }
+    ensures { result ≡ table.inherited sections.now place }
 {
-    let mut said: OwnLetters = [None; PIECES];
-    let mut given = [false; 26];
-    let mut next = Some(place);
-    while let Some(at) = next {
-        let own = own_letters(sections.lines(at));
-        said = all_said(&said, &own, &given);
-        given = all_given(&given, &own);
-        next = parent_place(sections, at);
+    match sections.parent_place(place) {
+        Some(parent) => above[parent],
+        None => [None; PIECES],
     }
-    letters_found(&said)
+}
+
+/// The letters of a section, by those of the sections above it.
+fn letters_of(sections: &Sections, above: &[Letters], place: usize) -> Letters
+    requires place { place < length sections.now }
+    requires above { above.now ≡ table.letters_before sections.now place }
+    ensures { result ≡ table.letters_of sections.now place }
+{
+    let own = own_letters(sections.lines(place));
+    letters_by(&own, &inherited(sections, above, place))
+}
+
+/// The letters of all sections.
+pub(crate) fn all_letters(alloc: Global, sections: &Sections) -> Result<Vec<Letters>, Memory>
+    ensures { IfOk result (λ letters. letters.items ≡ table.letters_before sections.now (length sections.now)) }
+{
+    let mut letters = Vec::with_capacity(alloc, sections.len())?;
+    for place in 0..sections.len() {
+        letters.push(letters_of(sections, letters.as_slice(), place))?;
+    }
+    Ok(letters)
 }

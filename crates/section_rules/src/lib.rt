@@ -5,15 +5,16 @@
 mod contradictions;
 mod kinds;
 pub mod laws;
+mod lettered;
 mod letters;
 mod lines;
 mod options;
-mod parents;
 mod regions;
 mod resolved;
 mod rules;
 
 pub use contradictions::{contradiction, rules_fault};
+pub use lettered::LetteredSections;
 pub use lines::own_fault;
 pub use resolved::Resolved;
 pub use rules::bare_rules;

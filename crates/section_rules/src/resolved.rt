@@ -4,7 +4,8 @@ ghost use Rattle.std.specs.Option.{option_copied};
 ghost use Rattle.variant_model.specs.Made.{start_text};
 ghost use Rattle.section_rules.specs.Said.{letters_in, resolved_at};
 
-use crate::letters::{Letters, letters};
+use crate::lettered::LetteredSections;
+use crate::letters::Letters;
 use std::marker::Model;
 use variant_ini::Sections;
 
@@ -20,7 +21,7 @@ pub struct Resolved<'a> {
 impl<'a> Model for Resolved<'a> {
     ghost use Rattle.std.specs.Prelude.{◌≡◌, ◌<◌, ℕ, List, length};
     ghost use Rattle.variant_ini.specs.Section.{Section};
-    ghost use Rattle.section_rules.specs.Search.{letters_of};
+    ghost use Rattle.section_rules.specs.Letters.{letters_of};
 
     ghost Value = { List Section × ℕ };
 
@@ -29,17 +30,16 @@ impl<'a> Model for Resolved<'a> {
     ghost invariant = { λ s. (s.place < length s.sections.now) × (s.letters ≡ letters_of s.sections.now s.place) };
 }
 
-impl Resolved<'_> {
-    /// What the section at a place says. The letters of the pieces are found once, in time that grows with the lines of the chain of
-    /// parents.
-    pub fn new(sections: &Sections, place: usize) -> Resolved<'_>
+impl<'a> Resolved<'a> {
+    /// What the section at a place says.
+    pub fn new(sections: &LetteredSections<'a>, place: usize) -> Resolved<'a>
         requires { place < length sections.now }
         ensures { result ≡ (sections.now, place) }
     {
         Resolved {
-            sections,
+            sections: sections.sections(),
             place,
-            letters: letters(sections, place),
+            letters: sections.letters(place),
         }
     }
 

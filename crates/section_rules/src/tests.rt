@@ -45,7 +45,8 @@ fn judged(alloc: Global, sections: &Sections) -> Result<Seen, Memory> {
     if own.is_some() {
         return Ok(seen_in(&own));
     }
-    let section = Resolved::new(sections, place);
+    let lettered = LetteredSections::new(alloc, sections)?;
+    let section = Resolved::new(&lettered, place);
     let rules = bare_rules(alloc, &section)?;
     Ok(seen_in(&rules_fault(alloc, &section, &rules)?))
 }
@@ -113,7 +114,8 @@ startFen = x";
 fn fields(rt: HostRuntime) -> Result<(), Fail> {
     let sections = sections_of(rt.alloc(), CHAIN)?;
     assert!(rt; sections.len() == 3);
-    let section = Resolved::new(&sections, 2);
+    let lettered = LetteredSections::new(rt.alloc(), &sections).map_err(|_| "no memory")?;
+    let section = Resolved::new(&lettered, 2);
     assert!(rt; section.start_text() == b"x".as_slice());
     let rules = bare_rules(rt.alloc(), &section).map_err(|_| "no memory")?;
     assert!(rt; rules.n_move == 40 && rules.n_fold == 5 && rules.check_counting);

@@ -1,3 +1,4 @@
+pub mod ClassLaws
 pub mod IndexLaws
 pub mod LineLaws
 pub mod OptionLaws

@@ -1,5 +1,5 @@
 -- The value of an option, along the chain of parents.
-use Rattle.std.proofs.Common.{◌≡◌, ℕ, zero, suc, ◌+◌, ◌-◌, ◌<◌, List, ◌++◌, Option, None, Some, Result, Ok, Err, OnOk, OnErr, length, take, get_or, refl, sym, ap, ◌∙◌, arith, option_and_then, add-one, ⊎_elim}
+use Rattle.std.proofs.Common.{◌≡◌, ℕ, zero, suc, ◌+◌, ◌-◌, ◌<◌, List, ◌++◌, Option, None, Some, Result, Ok, Err, IfSome, OnOk, OnErr, length, take, get_or, refl, sym, ap, ◌∙◌, arith, option_and_then, add-one, ⊎_elim}
 use Rattle.std.proofs.lemmas.List.{take-append-le, get_or_append_left, get_or-append_right, get_or_read, length-take, length-append}
 use Rattle.std.proofs.lemmas.Bool.{cases_lt}
 use Rattle.std.proofs.lemmas.Option.{option_and_then_some}
@@ -131,3 +131,8 @@ parent_is_place sections place within =
 pub place_read : (sections : List Section) (places : List (Option ℕ)) (place : ℕ) (next : Option ℕ) → HasParents sections places → place < length sections → next ≡ get_or places place next → next ≡ parent_place sections place
 place_read sections places place next h within here =
     get_or_read places place next (omega (arith, within, h.counted)) here None ∙ h.placed place (omega (arith, within, h.counted))
+
+-- a parent that is found stands above its child
+pub is_above : (sections : List Section) (place : ℕ) (next : Option ℕ) → next ≡ parent_place sections place → IfSome next (λ parent. parent < place)
+is_above sections place None is = tt
+is_above sections place (Some parent) is = parent_place_above sections place parent (sym is)

@@ -2,6 +2,7 @@
 //! the inheritance of an option from a section's parents. Nothing here knows which keys a variant may have.
 #![tactic(auto)]
 
+mod class;
 mod cuts;
 mod fault;
 mod key_line;

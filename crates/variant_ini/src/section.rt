@@ -1,34 +1,38 @@
 //! A section of a variants file, as the reader fills it.
 
-ghost use Rattle.std.specs.Prelude.{◌≡◌, ◌∷◌, ◌++◌, [], IfOk, OnOk, OnErr};
+ghost use Rattle.std.specs.Prelude.{◌≡◌, ◌<◌, ◌∷◌, ◌++◌, [], IfOk, OnOk, OnErr};
 ghost use Rattle.std.specs.Option.{option_copied};
+ghost use Rattle.variant_ini.specs.Classes.{class_of};
 ghost use Rattle.variant_ini.specs.LastPlaces.{FindsLast};
 ghost use Rattle.variant_ini.specs.Section.{key_line, last_value};
 
+use crate::class::{CLASSES, class_of};
 use crate::key_line::KeyLine;
 use foundation::Text;
 use std::alloc::{AllocError, Global};
 use std::collections::BTreeMap;
 use std::marker::Model;
 
-/// A section, with the place of the last line of each of its keys.
+/// A section, with the place of the last line of each of its keys, and a mark for each class of keys that its lines have.
 #[derive(Drop)]
 pub(crate) struct IndexedSection {
     name: Text,
     parent: Option<Text>,
     lines: Vec<KeyLine>,
     last_places: BTreeMap<Vec<u8>, usize>,
+    marks: [bool; CLASSES],
 }
 
 impl Model for IndexedSection {
     ghost use Rattle.variant_ini.specs.Section.{Section};
+    ghost use Rattle.variant_ini.specs.Classes.{MarksClasses};
     ghost use Rattle.variant_ini.specs.LastPlaces.{FindsLast};
 
     ghost Value = { Section };
 
     ghost view = { λ s. record { name = s.name; parent = s.parent; lines = s.lines.items } };
 
-    ghost invariant = { λ s. FindsLast s.last_places s.lines.items };
+    ghost invariant = { λ s. FindsLast s.last_places s.lines.items × MarksClasses s.marks s.lines.items };
 }
 
 fn line_of(alloc: Global, key: &[u8], value: &[u8]) -> Result<KeyLine, AllocError>
@@ -89,6 +93,7 @@ impl IndexedSection {
             parent,
             lines: Vec::new(alloc),
             last_places: BTreeMap::new(alloc),
+            marks: [false; CLASSES],
         })
     }
 
@@ -113,10 +118,15 @@ impl IndexedSection {
         self.lines.as_slice()
     }
 
-    /// The value of the last line with this key.
-    pub(crate) fn last_value(&self, key: &[u8]) -> Option<&[u8]>
+    /// The value of the last line with this key, whose class is given.
+    pub(crate) fn last_value(&self, key: &[u8], class: usize) -> Option<&[u8]>
+        requires class { class ≡ class_of key.now }
+        requires below { class < 1024 }
         ensures { option_copied result ≡ last_value self.now.lines key.now }
     {
+        if !self.marks[class] {
+            return None;
+        }
         let place = *self.last_places.get(key)?;
         let line = &self.lines[place];
         let value = &line.value;
@@ -128,6 +138,7 @@ impl IndexedSection {
         ensures ok { OnOk result (self.new ≡ record self.old { lines = self.old.lines ++ key_line key.now value.now ∷ [] }) }
         ensures err { OnErr result (self.new ≡ self.old) }
     {
+        self.marks[class_of(key)] = true;
         push_line(alloc, &mut self.lines, &mut self.last_places, key, value)
     }
 }

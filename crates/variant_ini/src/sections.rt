@@ -1,12 +1,13 @@
 //! The sections of variants files, one file after another.
 
-ghost use Rattle.std.specs.Prelude.{◌≡◌, ◌<◌, ◌++◌, ℕ, List, None, [], length, IfErr, OnOk, OnErr};
+ghost use Rattle.std.specs.Prelude.{◌≡◌, ◌<◌, ◌++◌, ℕ, List, None, [], length, IfErr, IfSome, OnOk, OnErr};
 ghost use Rattle.std.specs.Option.{option_copied};
 ghost use Rattle.variant_ini.specs.Section.{section_at};
 ghost use Rattle.variant_ini.specs.Reading.{fault_of, sections_in, IsFaultOrMemory};
-ghost use Rattle.variant_ini.specs.OptionValue.{option_value};
+ghost use Rattle.variant_ini.specs.OptionValue.{option_value, parent_place};
 ghost use Rattle.variant_ini.specs.Parents.{HasParents};
 
+use crate::class::class_of;
 use crate::fault::IniFault;
 use crate::key_line::KeyLine;
 use crate::parents::parent_places;
@@ -110,6 +111,16 @@ impl Sections {
         section.parent()
     }
 
+    /// The place of a section's parent: the first section above it that has its parent's name. None where it names no parent, and
+    /// where no section above has that name. It was found when the section was added.
+    pub fn parent_place(&self, section: usize) -> Option<usize>
+        requires { section < length self.now }
+        ensures is { result ≡ parent_place self.now section }
+        ensures above { IfSome result (λ parent. parent < section) }
+    {
+        self.parent_places[section]
+    }
+
     /// A section's own lines, in their order.
     pub fn lines(&self, section: usize) -> &[KeyLine]
         requires { section < length self.now }
@@ -122,15 +133,17 @@ impl Sections {
     /// The value of a key in a section: that of its own last line for the key, else the value of the key in the first
     /// section above it that has its parent's name, else none. Takes no memory.
     ///
-    /// Each section of the chain of parents is asked once, in time that grows with the logarithm of its lines.
+    /// Each section of the chain of parents is asked once. Most that have no line with the key answer at once, by the class of the
+    /// key; the others take time that grows with the logarithm of their lines.
     pub fn resolve(&self, section: usize, key: &[u8]) -> Option<&[u8]>
         requires { section < length self.now }
         ensures { option_copied result ≡ option_value self.now section key.now }
     {
+        let class = class_of(key);
         let mut next = Some(section);
         while let Some(place) = next {
             let section = &self.sections[place];
-            if let Some(value) = section.last_value(key) {
+            if let Some(value) = section.last_value(key, class) {
                 return Some(value);
             }
             next = self.parent_places[place];

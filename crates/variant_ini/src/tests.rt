@@ -38,6 +38,9 @@ fn options_come_from_the_nearest_section(rt: HostRuntime) -> Result<(), Fail> {
     assert_eq!(rt; sections.name(6), b"=x".as_slice());
     assert!(rt; sections.parent(2) == Some(b"b".as_slice()));
     assert!(rt; sections.parent(5).is_none());
+    assert!(rt; sections.parent_place(6) == Some(0));
+    assert!(rt; sections.parent_place(3) == Some(1));
+    assert!(rt; sections.parent_place(4).is_none());
     assert_eq!(rt; sections.lines(0).len(), 3);
     for line in sections.lines(1) {
         assert_eq!(rt; line.key.items.as_slice(), b"X".as_slice());

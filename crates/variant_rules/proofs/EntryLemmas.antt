@@ -1,12 +1,12 @@
 -- A section's entry, by what is found of it one after another.
-use Rattle.std.proofs.Common.{◌≡◌, ℕ, ◌+◌, ◌<◌, ◌++◌, Bool, List, [], ◌∷◌, Option, Some, None, Result, Ok, Err, is_err, length, get_or, refl, sym, ap, ◌∙◌, arith, option_and_then, take}
+use Rattle.std.proofs.Common.{◌≡◌, ℕ, ◌+◌, ◌<◌, ◌++◌, Bool, List, [], ◌∷◌, Option, Some, None, Result, Ok, Err, is_err, length, get_or, refl, sym, ap, ◌∙◌, arith}
 use Rattle.std.specs.Option.{option_or}
 use Rattle.std.specs.Borrow.{Bor}
 use Rattle.std.proofs.lemmas.List.{get_or_read}
 use Rattle.std.proofs.lemmas.List.FromFn.{get_or-map-range_with_len, length-map-range_with_len, map-range_with_len_more}
 use Rattle.rules_model.specs.declared.rules.Rules.{Rules}
 use Rattle.variant_ini.specs.Section.{Section, section_at}
-use Rattle.variant_ini.specs.OptionValue.{first_named, parent_place}
+use Rattle.variant_ini.specs.OptionValue.{parent_place}
 use Rattle.variant_model.specs.declared.fault.SectionFault.{SectionFault}
 use Rattle.variant_model.specs.Entry as section
 use Rattle.variant_model.specs.Made.{resolved}
@@ -49,12 +49,9 @@ module _ (sections : List Section) (place : ℕ) (refuses : ℕ → Bool) where
   pub no_parent : None ≡ (section_at sections place).parent → None ≡ section.parent_fault sections place refuses
   no_parent e = ap (λ name. section.parent_fault_by name (parent_place sections place) refuses) e
 
-  -- a parent is named, and sought
-  pub parent_sought : (name : List ℕ) (found : Option ℕ) → Some name ≡ (section_at sections place).parent → found ≡ first_named (take place sections) name → section.parent_fault_by (Some name) found refuses ≡ section.parent_fault sections place refuses
-  unfolding parent_place
-  parent_sought name found named sought =
-      ap (λ parent. section.parent_fault_by (Some name) parent refuses) (sought ∙ ap (option_and_then (first_named (take place sections))) named)
-      ∙ ap (λ parent. section.parent_fault_by parent (parent_place sections place) refuses) named
+  -- a parent is named, and its place is known
+  pub parent_named : (name : List ℕ) (found : Option ℕ) → Some name ≡ (section_at sections place).parent → found ≡ parent_place sections place → section.parent_fault_by (Some name) found refuses ≡ section.parent_fault sections place refuses
+  parent_named name found named is = λ i. section.parent_fault_by (named i) (is i) refuses
 
 -- ---- the first fault
 

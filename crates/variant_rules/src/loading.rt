@@ -1,5 +1,5 @@
 //! Judges the sections of variants files, in their order.
-ghost use Rattle.std.specs.Prelude.{◌≡◌, ◌<◌, ◌≤◌, ◌+◌, IfOk, IfSome, None, is_err, length, take};
+ghost use Rattle.std.specs.Prelude.{◌≡◌, ◌<◌, ◌≤◌, ◌+◌, IfOk, None, is_err, length, take};
 ghost use Rattle.rules_model.specs.Fit.{IsFit};
 ghost use Rattle.fen_model.specs.Reading.{fen_of};
 ghost use Rattle.variant_ini.specs.OptionValue.{first_named};
@@ -11,7 +11,7 @@ use crate::named::{Entry, NamedEntry};
 use crate::variants::Variants;
 use foundation::Memory;
 use rules_model::Rules;
-use section_rules::{Resolved, bare_rules, own_fault, rules_fault};
+use section_rules::{LetteredSections, Resolved, bare_rules, own_fault, rules_fault};
 use std::alloc::Global;
 use variant_fen::read_fen;
 use variant_ini::Sections;
@@ -20,8 +20,7 @@ use variant_model::SectionFault;
 /// The place of the first section of a name among those above a place.
 fn first_named(sections: &Sections, place: usize, name: &[u8]) -> Option<usize>
     requires { place ≤ length sections.now }
-    ensures is { result ≡ first_named (take place sections.now) name.now }
-    ensures above { IfSome result (λ found. found < place) }
+    ensures { result ≡ first_named (take place sections.now) name.now }
 {
     for above in 0..place {
         if sections.name(above) == name {
@@ -52,8 +51,8 @@ fn parent_fault(sections: &Sections, above: &[NamedEntry], place: usize) -> Opti
     requires above { above.now ≡ entries_before sections.now place }
     ensures { result ≡ section.parent_fault sections.now place (section.is_refused sections.now) }
 {
-    let name = sections.parent(place)?;
-    match first_named(sections, place, name) {
+    sections.parent(place)?;
+    match sections.parent_place(place) {
         None => Some(SectionFault::UnknownParent),
         Some(parent) => fault_where(is_refused(above, parent), SectionFault::RefusedParent),
     }
@@ -87,12 +86,16 @@ fn started(alloc: Global, rules: Rules, text: &[u8]) -> Result<Entry, Memory>
 }
 
 /// The entry of a section whose name and parent have no fault.
-fn headed_entry(alloc: Global, sections: &Sections, place: usize) -> Result<Entry, Memory>
+fn headed_entry(
+    alloc: Global,
+    sections: &LetteredSections<'_>,
+    place: usize,
+) -> Result<Entry, Memory>
     requires place { place < length sections.now }
     requires headed { section.header_fault sections.now place (section.is_refused sections.now) ≡ None }
     ensures { IfOk result (λ entry. unboxed entry ≡ section.entry sections.now place) }
 {
-    if let Some(fault) = own_fault(alloc, sections, place)? {
+    if let Some(fault) = own_fault(alloc, sections.sections(), place)? {
         return Ok(Err(fault));
     }
     let section = Resolved::new(sections, place);
@@ -106,7 +109,7 @@ fn headed_entry(alloc: Global, sections: &Sections, place: usize) -> Result<Entr
 /// The entry of a section, by those above it.
 fn entry_of(
     alloc: Global,
-    sections: &Sections,
+    sections: &LetteredSections<'_>,
     above: &[NamedEntry],
     place: usize,
 ) -> Result<Entry, Memory>
@@ -114,7 +117,7 @@ fn entry_of(
     requires above { above.now ≡ entries_before sections.now place }
     ensures { IfOk result (λ entry. unboxed entry ≡ section.entry sections.now place) }
 {
-    match header_fault(sections, above, place) {
+    match header_fault(sections.sections(), above, place) {
         Some(fault) => Ok(Err(fault)),
         None => headed_entry(alloc, sections, place),
     }
@@ -122,13 +125,14 @@ fn entry_of(
 
 /// Judges each section, in their order. A section that is refused leaves the others as they are.
 ///
-/// The sections of a name above each are sought one by one, so the time grows with the square of how many there are.
+/// A section's name is compared with all names above it, so the time for names grows with the square of how many sections there are.
 pub fn load(alloc: Global, sections: &Sections) -> Result<Variants, Memory>
     ensures { IfOk result (λ variants. variants ≡ entries sections.now) }
 {
+    let lettered = LetteredSections::new(alloc, sections)?;
     let mut made = Vec::with_capacity(alloc, sections.len())?;
     for place in 0..sections.len() {
-        let entry = entry_of(alloc, sections, made.as_slice(), place)?;
+        let entry = entry_of(alloc, &lettered, made.as_slice(), place)?;
         made.push(NamedEntry::new(alloc, sections.name(place), entry)?)?;
     }
     Ok(Variants::new(made))

@@ -3,7 +3,7 @@ use Rattle.variant_options.specs.Options.{is_pawn_key}
 use Rattle.variant_options.specs.PieceTable.{PieceRow}
 use Rattle.variant_model.specs.PieceRules.{kind_rule_of, piece_row, piece_word, promoted_by, word_terms}
 use Rattle.section_rules.specs.Said.{resolved_at}
-use Rattle.section_rules.proofs.SearchLemmas.{mobility_is}
+use Rattle.section_rules.proofs.LetterLemmas.{mobility_is}
 use Rattle.section_rules.proofs.kinds.kind_rule.Goals as goal
 
 pub returns : goal.returns

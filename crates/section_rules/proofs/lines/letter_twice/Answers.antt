@@ -1,7 +1,7 @@
 use Rattle.std.proofs.Common.{sym, ◌∙◌}
 use Rattle.variant_options.specs.Letters.{kind}
 use Rattle.variant_model.specs.PieceLetters.{is_given_twice, letter_twice}
-use Rattle.section_rules.proofs.SearchLemmas.{count_own}
+use Rattle.section_rules.proofs.LetterLemmas.{count_own}
 use Rattle.section_rules.proofs.TableLemmas.{at_most_one, first_below-here, first_below-next, more_than_one}
 use Rattle.section_rules.proofs.lines.letter_twice.Goals as goal
 

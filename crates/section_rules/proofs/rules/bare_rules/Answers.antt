@@ -7,7 +7,7 @@ use Rattle.variant_model.specs.PieceRules.{held_letter, held_letters, said}
 use Rattle.section_rules.specs.Said.{resolved_at, value_or}
 use Rattle.std.specs.Prelude.{codes}
 use Rattle.std.proofs.Common.{refl}
-use Rattle.section_rules.proofs.SearchLemmas.{regions_are}
+use Rattle.section_rules.proofs.LetterLemmas.{regions_are}
 use Rattle.section_rules.proofs.rules.bare_rules.Goals as goal
 
 pub returns : goal.returns

@@ -8,8 +8,8 @@ pub loop-above-init : goal.loop-above-init
 unfolding first_named
 loop-above-init c = refl
 
-pub returns-then-eq-clause-is : goal.returns-then-eq-clause-is
-returns-then-eq-clause-is c =
+pub returns-then-eq : goal.returns-then-eq
+returns-then-eq c =
     sym
     (first_above c.args.sections.now c.args.name.now c.loop-above.above c.args.place (omega arith) c.requires c.loop-above.invariant
     (ap (λ n. bytes_eq n c.args.name.now) (sym c.name.ensures) ∙ sym c.eq.ensures ∙ c.if-eq.true))

@@ -1,6 +1,6 @@
 use Rattle.std.proofs.Common.{ap, ◌∙◌}
-use Rattle.section_rules.specs.Search.{letters_of}
-use Rattle.section_rules.proofs.SearchLemmas.{letters_same}
+use Rattle.section_rules.specs.Letters.{letters_of}
+use Rattle.section_rules.proofs.LetterLemmas.{letters_same}
 use Rattle.section_rules.proofs.resolved.Resolved.letters.Goals as goal
 
 pub returns : goal.returns

@@ -1,0 +1,53 @@
+//! Sections with the letters of their pieces.
+ghost use Rattle.std.specs.Prelude.{◌≡◌, ◌<◌, IfOk, length};
+ghost use Rattle.section_rules.specs.Letters as table;
+
+use crate::letters::{Letters, all_letters};
+use rules_model::Memory;
+use std::alloc::Global;
+use std::marker::Model;
+use variant_ini::Sections;
+
+/// Sections with the letters of the pieces of each, so that no chain of parents is walked for them. A contract sees the sections.
+#[derive(Drop)]
+pub struct LetteredSections<'a> {
+    sections: &'a Sections,
+    letters: Vec<Letters>,
+}
+
+impl<'a> Model for LetteredSections<'a> {
+    ghost use Rattle.std.specs.Prelude.{◌≡◌, List, length};
+    ghost use Rattle.variant_ini.specs.Section.{Section};
+    ghost use Rattle.section_rules.specs.Letters.{letters_before};
+
+    ghost Value = { List Section };
+
+    ghost view = { λ s. s.sections.now };
+
+    ghost invariant = { λ s. s.letters.items ≡ letters_before s.sections.now (length s.sections.now) };
+}
+
+impl<'a> LetteredSections<'a> {
+    /// Finds the letters of the pieces of all sections, in time that grows with the lines.
+    pub fn new(alloc: Global, sections: &'a Sections) -> Result<LetteredSections<'a>, Memory>
+        ensures { IfOk result (λ lettered. lettered ≡ sections.now) }
+    {
+        let letters = all_letters(alloc, sections)?;
+        Ok(LetteredSections { sections, letters })
+    }
+
+    /// The sections without the letters.
+    pub fn sections(&self) -> &'a Sections
+        ensures { result.now ≡ self.now }
+    {
+        self.sections
+    }
+
+    /// The letters of the pieces of a section.
+    pub(crate) fn letters(&self, place: usize) -> Letters
+        requires { place < length self.now }
+        ensures { result ≡ table.letters_of self.now place }
+    {
+        self.letters[place]
+    }
+}
