@@ -1,7 +1,13 @@
 use crate::answers::has_better;
-use crate::{best, hash_of, is_as_good, serves, shard_of};
+use crate::{
+    Event, FactList, FactLists, Frame, KnownList, Reply, Store, best, hash_of, is_as_good, serves,
+    shard_of, step,
+};
 use forced_wins::Fact;
-use rules_model::{Cell, Kind, Repeat, Side};
+use rules_model::{Blocked, Cell, Kind, Repeat, Side};
+use sample_rules::leapers;
+use std::alloc::{AllocError, Global};
+use std::test::Fail;
 
 fn bare() -> Repeat {
     Repeat {
@@ -103,4 +109,74 @@ fn shards_share_the_repeats(rt: HostRuntime) {
         filled[shard_of(&repeat, 16) as usize] = true;
     }
     assert!(rt; filled.iter().all(|is| *is));
+}
+
+// A store with one shard of sixteen places.
+fn small(alloc: Global) -> Result<Store, AllocError> {
+    let none = FactList {
+        items: Vec::new(alloc),
+    };
+    let mut items = Vec::new(alloc);
+    items.push(none)?;
+    Ok(Store {
+        frame: Frame {
+            rules: leapers(),
+            blocked: Blocked {
+                items: Vec::new(alloc),
+            },
+            attacker: Side::White,
+        },
+        capacity: 16,
+        shards: FactLists { items },
+        known: KnownList {
+            items: Vec::new(alloc),
+        },
+    })
+}
+
+// A win of the repeat with so many pieces in a hand.
+fn numbered(number: u8) -> Fact {
+    let mut win = fact(true, 3, 10);
+    win.repeat.hands[0][0] = number;
+    win
+}
+
+fn publish(number: u8) -> Event {
+    Event::Publish {
+        worker: 0,
+        shard: 0,
+        fact: numbered(number),
+    }
+}
+
+fn look(number: u8) -> Event {
+    Event::Look {
+        worker: 1,
+        shard: 0,
+        repeat: numbered(number).repeat,
+        counter: 10,
+        moves: 3,
+    }
+}
+
+#[test]
+fn a_shard_of_sixteen_places(rt: HostRuntime) -> Result<(), Fail> {
+    let mut store = small(rt.alloc())?;
+    for number in 0..16 {
+        let (next, reply) = step(store, &publish(number))?;
+        store = next;
+        assert!(rt; matches!(reply, Reply::Stored), "fact {number}");
+    }
+    let (store, reply) = step(store, &publish(16))?;
+    assert!(rt; matches!(reply, Reply::Full));
+    let (store, reply) = step(store, &publish(0))?;
+    assert!(rt; matches!(reply, Reply::KnownBetter));
+    let (store, reply) = step(store, &look(0))?;
+    assert!(rt; matches!(reply, Reply::Found(Some(found)) if found == numbered(0)));
+    let (store, reply) = step(store, &look(16))?;
+    assert!(rt; matches!(reply, Reply::Found(None)));
+    let (store, reply) = step(store, &Event::Hint { word: 3, value: 5 })?;
+    assert!(rt; matches!(reply, Reply::Nothing));
+    assert_eq!(rt; store.shards.items[0].items.len(), 16);
+    Ok(())
 }

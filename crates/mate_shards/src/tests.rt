@@ -112,16 +112,22 @@ fn joined(shards: &Shards, one: Done, other: Done) -> Done
     }
 }
 
-// Passes for two threads.
-fn in_two(shards: &Shards, passes: Passes) -> Result<(Passes, Passes), Memory>
+// Passes for four threads.
+fn in_four(shards: &Shards, passes: Passes) -> Result<(Passes, Passes, Passes, Passes), Memory>
     requires passes { ArePassesOf shards.now passes }
     requires parts { All (λ p. p.parts ≡ all_parts) passes }
-    ensures { IfOk result (λ two. ArePassesOf shards.now two.0 × ArePassesOf shards.now two.1) }
+    ensures { IfOk result (λ four. ArePassesOf shards.now four.0 × ArePassesOf shards.now four.1 × ArePassesOf shards.now four.2 × ArePassesOf shards.now four.3) }
 {
-    let Ok((a, b)) = shards.split(passes) else {
+    let Ok((passes, a)) = shards.split(passes) else {
         return Err(Memory);
     };
-    Ok((a, b))
+    let Ok((passes, b)) = shards.split(passes) else {
+        return Err(Memory);
+    };
+    let Ok((c, d)) = shards.split(passes) else {
+        return Err(Memory);
+    };
+    Ok((a, b, c, d))
 }
 
 #[test]
@@ -157,26 +163,52 @@ fn a_shard_of_all_places(rt: HostRuntime) -> Result<(), Fail> {
     Ok(())
 }
 
-// Both threads publish all the facts, and each fact is stored for one of them.
+// A thread shares half of its facts with the one before it and half with the one after it, and each fact is stored for one.
 #[test]
-fn two_threads_store_each_fact_once(rt: HostRuntime) -> Result<(), Fail> {
+fn four_threads_store_each_fact_once(rt: HostRuntime) -> Result<(), Fail> {
     let (shards, passes) = drawn_shards(rt.alloc(), Vec::new(rt.alloc()), 16, 4096)?;
     let shared = &shards;
-    let (a, b) = in_two(shared, passes)?;
-    let (one, other) = join(
+    let (a, b, c, d) = in_four(shared, passes)?;
+    let (front, back) = join(
         &rt,
         || -> Done
-            requires { ArePassesOf shared.now a × RefutesAll shared.now.frame }
+            requires { ArePassesOf shared.now a × ArePassesOf shared.now b × RefutesAll shared.now.frame }
             ensures { ArePassesOf shared.entry.now result.passes }
-        { publish_all(&rt, shared, a, 0, 10000) },
+        {
+            let (one, two) = join(
+                &rt,
+                || -> Done
+                    requires { ArePassesOf shared.now a × RefutesAll shared.now.frame }
+                    ensures { ArePassesOf shared.entry.now result.passes }
+                { publish_all(&rt, shared, a, 0, 10000) },
+                || -> Done
+                    requires { ArePassesOf shared.now b × RefutesAll shared.now.frame }
+                    ensures { ArePassesOf shared.entry.now result.passes }
+                { publish_all(&rt, shared, b, 5000, 15000) },
+            );
+            joined(shared, one, two)
+        },
         || -> Done
-            requires { ArePassesOf shared.now b × RefutesAll shared.now.frame }
+            requires { ArePassesOf shared.now c × ArePassesOf shared.now d × RefutesAll shared.now.frame }
             ensures { ArePassesOf shared.entry.now result.passes }
-        { publish_all(&rt, shared, b, 0, 10000) },
+        {
+            let (three, four) = join(
+                &rt,
+                || -> Done
+                    requires { ArePassesOf shared.now c × RefutesAll shared.now.frame }
+                    ensures { ArePassesOf shared.entry.now result.passes }
+                { publish_all(&rt, shared, c, 10000, 20000) },
+                || -> Done
+                    requires { ArePassesOf shared.now d × RefutesAll shared.now.frame }
+                    ensures { ArePassesOf shared.entry.now result.passes }
+                { publish_all(&rt, shared, d, 15000, 25000) },
+            );
+            joined(shared, three, four)
+        },
     );
-    let done = joined(shared, one, other);
-    assert_eq!(rt; (done.stored, done.lost), (10000, 0));
-    let again = publish_all(&rt, shared, done.passes, 0, 10000);
+    let done = joined(shared, front, back);
+    assert_eq!(rt; (done.stored, done.lost), (25000, 0));
+    let again = publish_all(&rt, shared, done.passes, 0, 25000);
     assert_eq!(rt; (again.stored, again.lost), (0, 0));
     Ok(())
 }
