@@ -1,5 +1,5 @@
 -- What a source's lines decide, call by call.
-use Rattle.std.proofs.Common.{◌≡◌, ◌≤◌, ℕ, ◌+◌, arith, List, [], ◌∷◌, ◌++◌, inl, inr, Option, refl, ap}
+use Rattle.std.proofs.Common.{◌≡◌, ◌≤◌, ℕ, ◌+◌, arith, length, List, [], ◌∷◌, ◌++◌, inl, inr, Option, refl, ap, sym, subst, append_assoc, length-append}
 use Rattle.std.specs.Io.KnownBytes.{IsAtEnd}
 use Rattle.io_ports.specs.Lines.{Line}
 use Rattle.io_ports.specs.Source.{Takes}
@@ -49,3 +49,34 @@ heard_more a b c needed needed' x P Q takes h adds so = record {
   few = λ more. let few = h.few more in let added = adds (h.lines ++ more) in omega (arith, few, added);
   holds = elim h.holds [ inl (ended, holds) ↦ inl (ended, so h.lines holds) | inr holds ↦ inr (λ more. so (h.lines ++ more) (holds more)) ];
 }
+
+-- ---- lines, and then others
+
+first_lines : {a b : Option (List ℕ)} {needed : List Line → ℕ} (P : List Line → Type 0) (h : Heard a b needed P) → P h.lines
+first_lines P h = elim h.holds [ inl (ended, holds) ↦ holds | inr holds ↦ subst P (sym (append-nil h.lines)) (holds []) ]
+
+-- the first lines decide by exactly k of them, and the others what follows
+pub heard_then : (a b c : Option (List ℕ)) (k : ℕ) (first then needed : List Line → ℕ) (P Q R : List Line → Type 0) → Heard a b first P → Heard b c then Q
+    → ((lines : List Line) → P lines → k ≤ length lines) → ((lines : List Line) → first lines ≤ k)
+    → ((front rest : List Line) → length front ≡ k → P front → k + then rest ≤ needed (front ++ rest))
+    → ((front rest : List Line) → length front ≡ k → P front → Q rest → R (front ++ rest)) → Heard a c needed R
+heard_then a b c k first then needed P Q R h more there few_first adds so =
+    let holds = first_lines P h in
+    let low = there h.lines holds in
+    let high = h.few [] in
+    let most = few_first (h.lines ++ []) in
+    let is : length h.lines ≡ k = omega (arith, low, high, most) in
+    record {
+      lines = h.lines ++ more.lines;
+      took = takes_more a b c h.lines more.lines h.took more.took;
+      few = λ later.
+          let few = more.few later in
+          let added = adds h.lines (more.lines ++ later) is holds in
+          let long = length-append h.lines more.lines in
+          let joined = ap needed (append_assoc h.lines more.lines later) in
+          omega (arith, few, added, long, joined, is);
+      holds = elim more.holds [
+        | inl (ended, then_holds) ↦ inl (ended, so h.lines more.lines is holds then_holds)
+        | inr then_holds ↦ inr (λ later. subst R (sym (append_assoc h.lines more.lines later)) (so h.lines (more.lines ++ later) is holds (then_holds later)))
+      ];
+    }

@@ -16,14 +16,14 @@ use Rattle.game_text.specs.declared.fault.GameFault.{GameFault}
 use Rattle.game_text.specs.declared.fault.GameFault.TheVariants.{Missing, UnknownVariant, RefusedVariant, BadPosition, LineTooLong}
 use Rattle.game_text.specs.declared.fault.NoGame.{NoGame}
 use Rattle.game_text.specs.declared.fault.NoGame.TheVariants.{Faulty, Unread, Memory}
-use Rattle.game_text.specs.GameText.{game_by, game_from, game_in, game_of, game_on, lines_by, lines_from, lines_in, lines_of_game, lines_on, position_of, started, unless_faulty}
+use Rattle.game_text.specs.GameText.{game_by, game_from, game_in, game_of, game_on, lines_by, lines_in, lines_of_game, lines_on, position_of, started, unless_faulty}
 use Rattle.game_text.specs.Heard.{Heard}
 use Rattle.game_text.specs.Playing.{and_then, play_all, words_of}
-use Rattle.game_text.specs.ReadView.{IsUnread, Plays, Says, SaysGame}
+use Rattle.game_text.specs.ReadView.{IsUnread, Plays, Says, SaysGame, Tells}
 
 -- ---- from line 3 on, line by line
 
-on-none : (number : ℕ) (g : Played) → game_on number g [] ≡ Ok g
+pub on-none : (number : ℕ) (g : Played) → game_on number g [] ≡ Ok g
 unfolding game_on
 on-none number g = refl
 
@@ -154,21 +154,17 @@ read_so_far a b start now number read = record {
   holds = inr (λ more. tt);
 }
 
--- a game that was started, by its equation
-pub started_heard : (a b : Option (List ℕ)) (g start new : Played) (why : NoGame) → g ≡ start → Heard a b (lines_on g) (λ lines. Says {A = Unit {0}} (game_on 3 g lines) new (Err why))
-    → Heard a b (lines_on start) (λ lines. Says {A = Unit {0}} (game_on 3 start lines) new (Err why))
-started_heard a b g start new why is heard = subst (λ (x : Played). Heard a b (lines_on x) (λ lines. Says {A = Unit {0}} (game_on 3 x lines) new (Err why))) is heard
+-- why a game that was started was not played to the end
+pub says_told : (said : Result Played GameFault) (now : Played) (why : NoGame) → Says {A = Unit {0}} said now (Err why) → Tells said (Err why)
+says_told said now (Faulty fault) says = says
+says_told said now Unread says = tt
+says_told said now Memory says = tt
 
--- why a game that was started was not read to its end
-pub says_no_game : (said : Result Played GameFault) (now : Played) (why : NoGame) → Says {A = Unit {0}} said now (Err why) → SaysGame said (Err why)
-says_no_game said now (Faulty fault) says = says
-says_no_game said now Unread says = tt
-says_no_game said now Memory says = tt
-
-pub no_game_unread : (why : NoGame) → IsUnread {A = Played} (Err why) → IsUnread {A = Unit {0}} (Err why)
-no_game_unread (Faulty fault) unread = unread
-no_game_unread Unread unread = unread
-no_game_unread Memory unread = unread
+-- it is the same answer to any question
+pub told_unread : (A B : Type 0) (why : NoGame) → IsUnread {A = A} (Err why) → IsUnread {A = B} (Err why)
+told_unread A B (Faulty fault) unread = unread
+told_unread A B Unread unread = unread
+told_unread A B Memory unread = unread
 
 -- ---- from line 2 on
 
@@ -184,24 +180,23 @@ pub by-bad : (rules : Rules) (text : List ℕ) (more : List Line) (why : FenFaul
 unfolding game_by
 by-bad rules text more why is = ap (λ r. game_from rules r more) is
 
-by-position : (rules : Rules) (text : List ℕ) (more : List Line) (p : Position) → position_of rules text ≡ Ok p → game_by rules (Text text ∷ more) ≡ game_on 3 (started rules p) more
+pub by-position : (rules : Rules) (text : List ℕ) (more : List Line) (p : Position) → position_of rules text ≡ Ok p → game_by rules (Text text ∷ more) ≡ game_on 3 (started rules p) more
 unfolding game_by
 by-position rules text more p is = ap (λ r. game_from rules r more) is
 
+-- a game that was started there
+pub by-started : (rules : Rules) (text : List ℕ) (p : Position) (g : Played) → position_of rules text ≡ Ok p → g ≡ started rules p → game_by rules (Text text ∷ []) ≡ Ok g
+by-started rules text p g is starts = by-position rules text [] p is ∙ on-none 3 (started rules p) ∙ ap Ok (sym starts)
+
 -- what follows of what was said
-pub says_same : (said whole : Result Played GameFault) (r : Result Played NoGame) → whole ≡ said → SaysGame said r → SaysGame whole r
-says_same said whole r is says = subst (λ (x : Result Played GameFault). SaysGame x r) (sym is) says
+pub says_same : {A : Type 0} (said whole : Result A GameFault) (r : Result A NoGame) → whole ≡ said → Tells said r → Tells whole r
+says_same {A = A} said whole r is says = subst (λ (x : Result A GameFault). Tells x r) (sym is) says
 
-pub says_from : (rules : Rules) (text : List ℕ) (p : Position) (r : Result Played NoGame) (more : List Line) → position_of rules text ≡ Ok p
-    → SaysGame (game_on 3 (started rules p) more) r → SaysGame (game_by rules (Text text ∷ more)) r
-says_from rules text p r more is says = says_same _ _ r (by-position rules text more p is) says
-
-pub needs-from : (rules : Rules) (text : List ℕ) (p : Position) → position_of rules text ≡ Ok p → (more : List Line) → lines_on (started rules p) more ≤ lines_from rules (position_of rules text) more
-needs-from rules text p is more = rw is (omega arith)
-
-pub needs-by : (rules : Rules) (text : List ℕ) (more : List Line) → 1 + lines_from rules (position_of rules text) more ≤ lines_by rules (Text text ∷ more)
-unfolding lines_by
-needs-by rules text more = omega arith
+pub says_fault : {A B : Type 0} (said : Result A GameFault) (whole : Result B GameFault) (why : NoGame) → ((fault : GameFault) → said ≡ Err fault → whole ≡ Err fault)
+    → Tells {A = A} said (Err why) → Tells {A = B} whole (Err why)
+says_fault said whole (Faulty fault) so says = so fault says
+says_fault said whole Unread so says = tt
+says_fault said whole Memory so says = tt
 
 pub some-by : (rules : Rules) (x : Line) (more : List Line) → 1 ≤ lines_by rules (x ∷ more)
 unfolding lines_by

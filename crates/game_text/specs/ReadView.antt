@@ -26,9 +26,13 @@ Says said now (Err (Faulty fault)) = said ≡ Err fault
 Says said now (Err Unread) = ⊤
 Says said now (Err Memory) = ⊤
 
--- the same where the game is the answer
+-- the same of what lines say, where it is the answer
+abbrev pub Tells : {A : Type 0} → Result A GameFault → Result A NoGame → Type 0
+Tells said (Ok x) = said ≡ Ok x
+Tells said (Err (Faulty fault)) = said ≡ Err fault
+Tells said (Err Unread) = ⊤
+Tells said (Err Memory) = ⊤
+
+-- of a game
 abbrev pub SaysGame : Result Played GameFault → Result Played NoGame → Type 0
-SaysGame said (Ok g) = said ≡ Ok g
-SaysGame said (Err (Faulty fault)) = said ≡ Err fault
-SaysGame said (Err Unread) = ⊤
-SaysGame said (Err Memory) = ⊤
+SaysGame said answer = Tells said answer

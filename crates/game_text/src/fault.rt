@@ -22,6 +22,8 @@ pub enum GameFault {
     BadMove { number: u64, text: Text },
     /// 6: a legal move stands after 8,192 plies.
     TooManyMoves,
+    /// 7: the line has not the form of a goal.
+    BadGoal(u64),
     /// 8: the line has more than 131,072 bytes.
     LineTooLong(u64),
 }
@@ -90,6 +92,9 @@ fn fault_bytes(alloc: Global, fault: &GameFault) -> Result<Vec<u8>, AllocError>
             followed(front.into_bytes(), text.items.as_slice())
         }
         GameFault::TooManyMoves => b"GameFault 6 TooManyMoves".to_vec(alloc),
+        GameFault::BadGoal(line) => {
+            Ok(format!(in alloc; "GameFault 7 BadGoal {line}")?.into_bytes())
+        }
         GameFault::LineTooLong(line) => {
             Ok(format!(in alloc; "GameFault 8 LineTooLong {line}")?.into_bytes())
         }

@@ -1,5 +1,5 @@
 //! Reads a game text from a source.
-ghost use Rattle.std.specs.Prelude.{◌≡◌, ◌∷◌, true, IfOk};
+ghost use Rattle.std.specs.Prelude.{◌≡◌, ◌∷◌, [], take, true, IfOk};
 ghost use Rattle.io_ports.specs.Cause.{HasCause};
 ghost use Rattle.io_ports.specs.Lines.{Text};
 ghost use Rattle.rules_model.specs.Fit.{IsFit};
@@ -56,46 +56,20 @@ fn position_of(rules: &Rules, text: &[u8]) -> Result<Position, FenFault>
     }
 }
 
-// Reads on after line 2, which says this position.
-fn read_from<S: Source>(
-    alloc: Global,
-    rules: &Rules,
-    p: &Position,
-    source: &mut S,
-    line: &mut LineBuf,
-) -> Result<Game, NoGame>
-    requires fit { IsFit rules.now }
-    requires sound { is_sound rules.now p.now ≡ true }
-    ensures heard { Heard (S.left source.old) (S.left source.new) (GameText.lines_on (GameText.started rules.now p.now))
-        (λ lines. SaysGame (GameText.game_on 3 (GameText.started rules.now p.now) lines) result) }
-    ensures cause { HasCause (S.faults source.old) (S.faults source.new) (IsUnread result) }
-{
-    let mut game = Game::new(alloc, rules, p)?;
-    read_moves(alloc, &mut game, source, line)?;
-    Ok(game)
-}
-
-// Reads on after line 2, which the buffer holds.
-fn read_on<S: Source>(
-    alloc: Global,
-    rules: &Rules,
-    source: &mut S,
-    line: &mut LineBuf,
-) -> Result<Game, NoGame>
+// The game that begins with the position that line 2 says.
+fn started(alloc: Global, rules: &Rules, text: &[u8]) -> Result<Game, NoGame>
     requires fit { IsFit rules.now }
     requires start { is_sound rules.now rules.now.start ≡ true }
-    ensures heard { Heard (S.left source.old) (S.left source.new)
-        (GameText.lines_from rules.now (GameText.position_of rules.now line.old))
-        (λ lines. SaysGame (GameText.game_by rules.now (Text line.old ∷ lines)) result) }
-    ensures cause { HasCause (S.faults source.old) (S.faults source.new) (IsUnread result) }
+    ensures says { SaysGame (GameText.game_by rules.now (Text text.now ∷ [])) result }
+    ensures heard { ¬ (IsUnread result) }
 {
-    match position_of(rules, line.text()) {
-        Ok(p) => read_from(alloc, rules, &p, source, line),
+    match position_of(rules, text) {
+        Ok(p) => Ok(Game::new(alloc, rules, &p)?),
         Err(fault) => Err(NoGame::Faulty(GameFault::BadPosition(fault))),
     }
 }
 
-// Reads the lines from line 2 on.
+// Reads line 2.
 fn read_position<S: Source>(
     alloc: Global,
     rules: &Rules,
@@ -104,12 +78,12 @@ fn read_position<S: Source>(
 ) -> Result<Game, NoGame>
     requires fit { IsFit rules.now }
     requires start { is_sound rules.now rules.now.start ≡ true }
-    ensures heard { Heard (S.left source.old) (S.left source.new) (GameText.lines_by rules.now)
-        (λ lines. SaysGame (GameText.game_by rules.now lines) result) }
+    ensures heard { Heard (S.left source.old) (S.left source.new) (λ lines. GameText.lines_by rules.now (take 1 lines))
+        (λ lines. SaysGame (GameText.game_by rules.now (take 1 lines)) result) }
     ensures cause { HasCause (S.faults source.old) (S.faults source.new) (IsUnread result) }
 {
     match source.next_line(line) {
-        Got::Line => read_on(alloc, rules, source, line),
+        Got::Line => started(alloc, rules, line.text()),
         Got::TooLong => Err(NoGame::Faulty(GameFault::LineTooLong(2))),
         Got::End => Err(NoGame::Faulty(GameFault::Missing(2))),
         Got::Failed => Err(NoGame::Unread),
@@ -130,21 +104,42 @@ fn refused_variant(alloc: Global, why: &SectionFault) -> Result<NoGame, AllocErr
     Ok(NoGame::Faulty(GameFault::RefusedVariant(why)))
 }
 
-// Reads on after line 1, which the buffer holds.
+// Reads line 2 after line 1, which the buffer holds.
 fn read_variant<S: Source>(
     alloc: Global,
     variants: &Variants,
     source: &mut S,
     line: &mut LineBuf,
 ) -> Result<Game, NoGame>
-    ensures heard { Heard (S.left source.old) (S.left source.new) (GameText.lines_in (found variants.now line.old))
-        (λ lines. SaysGame (GameText.game_of variants.now (Text line.old ∷ lines)) result) }
+    ensures heard { Heard (S.left source.old) (S.left source.new)
+        (λ lines. GameText.lines_in (found variants.now line.old) (take 1 lines))
+        (λ lines. SaysGame (GameText.game_of variants.now (Text line.old ∷ take 1 lines)) result) }
     ensures cause { HasCause (S.faults source.old) (S.faults source.new) (IsUnread result) }
 {
     match variants.find(line.text()) {
         Found::Rules(rules) => read_position(alloc, rules, source, line),
         Found::Refused(why) => Err(refused_variant(alloc, why)?),
         Found::Unknown => Err(unknown_variant(alloc, line.text())?),
+    }
+}
+
+/// Reads lines 1 and 2 of a game text: the game before its first move, or the first fault.
+pub(crate) fn read_start<S: Source>(
+    alloc: Global,
+    variants: &Variants,
+    source: &mut S,
+    line: &mut LineBuf,
+) -> Result<Game, NoGame>
+    ensures heard { Heard (S.left source.old) (S.left source.new)
+        (λ lines. GameText.lines_of_game variants.now (take 2 lines))
+        (λ lines. SaysGame (GameText.game_of variants.now (take 2 lines)) result) }
+    ensures cause { HasCause (S.faults source.old) (S.faults source.new) (IsUnread result) }
+{
+    match source.next_line(line) {
+        Got::Line => read_variant(alloc, variants, source, line),
+        Got::TooLong => Err(NoGame::Faulty(GameFault::LineTooLong(1))),
+        Got::End => Err(NoGame::Faulty(GameFault::Missing(1))),
+        Got::Failed => Err(NoGame::Unread),
     }
 }
 
@@ -163,10 +158,7 @@ pub fn read_game<S: Source>(
     ensures cause { HasCause (S.faults source.old) (S.faults source.new) (IsUnread result) }
 {
     let mut line = LineBuf::new(alloc)?;
-    match source.next_line(&mut line) {
-        Got::Line => read_variant(alloc, variants, source, &mut line),
-        Got::TooLong => Err(NoGame::Faulty(GameFault::LineTooLong(1))),
-        Got::End => Err(NoGame::Faulty(GameFault::Missing(1))),
-        Got::Failed => Err(NoGame::Unread),
-    }
+    let mut game = read_start(alloc, variants, source, &mut line)?;
+    read_moves(alloc, &mut game, source, &mut line)?;
+    Ok(game)
 }

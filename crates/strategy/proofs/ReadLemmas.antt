@@ -80,33 +80,33 @@ fault_first rules text b rest line after fault stands some first others faulty =
     ∙ ap (λ r. (r >>= takes_rest rules (lines_of after)) >>= finished) faulty
 
 -- where one fault is the other, so are the errors
-IsFaultOrMemory-weaker : {A B : Type 0} (r : Result A StrategyFault) (s : Result B StrategyFault) → ((e : StrategyFault) → r ≡ Err e → s ≡ Err e) → (e : StrategyFault) → IsFaultOrMemory r e → IsFaultOrMemory s e
-IsFaultOrMemory-weaker r s f Memory h = h
-IsFaultOrMemory-weaker r s f (Header line) h = f (Header line) h
-IsFaultOrMemory-weaker r s f (BadLine line) h = f (BadLine line) h
-IsFaultOrMemory-weaker r s f (BadPosition line why) h = f (BadPosition line why) h
-IsFaultOrMemory-weaker r s f (BadMove line) h = f (BadMove line) h
-IsFaultOrMemory-weaker r s f (BadNumber line) h = f (BadNumber line) h
-IsFaultOrMemory-weaker r s f (Ended line) h = f (Ended line) h
+pub fault-so : {A B : Type 0} (r : Result A StrategyFault) (s : Result B StrategyFault) → ((e : StrategyFault) → r ≡ Err e → s ≡ Err e) → (e : StrategyFault) → IsFaultOrMemory r e → IsFaultOrMemory s e
+fault-so r s f Memory h = h
+fault-so r s f (Header line) h = f (Header line) h
+fault-so r s f (BadLine line) h = f (BadLine line) h
+fault-so r s f (BadPosition line why) h = f (BadPosition line why) h
+fault-so r s f (BadMove line) h = f (BadMove line) h
+fault-so r s f (BadNumber line) h = f (BadNumber line) h
+fault-so r s f (Ended line) h = f (Ended line) h
 
 pub stands-fault : (rules : Rules) (text : List ℕ) (b : Reader) (rest line after : List ℕ) (fault : StrategyFault) → StandsAt rules text b rest → 0 < length rest
     → line ≡ text_of (take_through line_feed rest) → after ≡ drop_through line_feed rest → IsFaultOrMemory (step rules b (Text line)) fault → IsFaultOrMemory (strategy_of rules (lines_of text)) fault
 stands-fault rules text b rest line after fault stands some first others faulty =
-    IsFaultOrMemory-weaker (step rules b (Text line)) (strategy_of rules (lines_of text))
+    fault-so (step rules b (Text line)) (strategy_of rules (lines_of text))
     (λ e is. fault_first rules text b rest line after e stands some first others is) fault faulty
 
-is_fault : {A : Type 0} (r : Result A StrategyFault) (e : StrategyFault) → r ≡ Err e → IsFaultOrMemory r e
-is_fault r Memory is = tt
-is_fault r (Header line) is = is
-is_fault r (BadLine line) is = is
-is_fault r (BadPosition line why) is = is
-is_fault r (BadMove line) is = is
-is_fault r (BadNumber line) is = is
-is_fault r (Ended line) is = is
+pub fault-is : {A : Type 0} (r : Result A StrategyFault) (e : StrategyFault) → r ≡ Err e → IsFaultOrMemory r e
+fault-is r Memory is = tt
+fault-is r (Header line) is = is
+fault-is r (BadLine line) is = is
+fault-is r (BadPosition line why) is = is
+fault-is r (BadMove line) is = is
+fault-is r (BadNumber line) is = is
+fault-is r (Ended line) is = is
 
 answered : (said answer : Result Strategy StrategyFault) → said ≡ answer → MatchResult answer (λ s. said ≡ Ok s) (IsFaultOrMemory said)
 answered said (Ok s) is = is
-answered said (Err fault) is = is_fault said fault is
+answered said (Err fault) is = fault-is said fault is
 
 pub stands-last : (rules : Rules) (text : List ℕ) (b : Reader) (rest : List ℕ) (answer : Result Strategy StrategyFault) → StandsAt rules text b rest → rest ≡ [] → answer ≡ finished b
     → MatchResult answer (λ s. strategy_of rules (lines_of text) ≡ Ok s) (IsFaultOrMemory (strategy_of rules (lines_of text)))

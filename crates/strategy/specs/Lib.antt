@@ -3,4 +3,5 @@ pub mod Cut
 pub mod Said
 pub mod SaidView
 pub mod Reading
+pub mod Needed
 pub mod Writing

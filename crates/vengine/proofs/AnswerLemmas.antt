@@ -73,6 +73,8 @@ no_game_answers print said Usage says = absurd says
 no_game_answers print said (Fault (fault.Betza why)) says = absurd says
 no_game_answers print said (Fault (fault.Reach why)) says = absurd says
 no_game_answers print said (Fault (fault.Game why)) says = subst (λ (x : Result Played GameFault). SaysOf print x 3 (error_line (game.fault_text why))) (sym says) (refl, refl)
+no_game_answers print said (Fault (fault.Strategy why)) says = absurd says
+no_game_answers print said (Fault (fault.Verdict why)) says = absurd says
 no_game_answers print said (Fault (fault.Ini why)) says = absurd says
 no_game_answers print said (Fault (fault.File why)) says = absurd says
 no_game_answers print said (Stop stop.Source) says = tt
@@ -138,6 +140,8 @@ outcome_unread (Err Usage) (Ok answer) is = λ six. let two = is.0 in absurd (om
 outcome_unread (Err (Fault (fault.Betza why))) (Ok answer) is = λ six. let three = is.0 in absurd (omega (arith, six, three))
 outcome_unread (Err (Fault (fault.Reach why))) (Ok answer) is = λ six. let three = is.0 in absurd (omega (arith, six, three))
 outcome_unread (Err (Fault (fault.Game why))) (Ok answer) is = λ six. let three = is.0 in absurd (omega (arith, six, three))
+outcome_unread (Err (Fault (fault.Strategy why))) (Ok answer) is = λ six. let three = is.0 in absurd (omega (arith, six, three))
+outcome_unread (Err (Fault (fault.Verdict why))) (Ok answer) is = λ six. let three = is.0 in absurd (omega (arith, six, three))
 outcome_unread (Err (Fault (fault.Ini why))) (Ok answer) is = λ six. let three = is.0 in absurd (omega (arith, six, three))
 outcome_unread (Err (Fault (fault.File why))) (Ok answer) is = λ six. tt
 outcome_unread (Err (Stop why)) (Ok answer) is = absurd is
@@ -180,6 +184,8 @@ command_reads_no_file sections c input (Err Usage) says file = file
 command_reads_no_file sections c input (Err (Fault (fault.Betza why))) says file = file
 command_reads_no_file sections c input (Err (Fault (fault.Reach why))) says file = file
 command_reads_no_file sections c input (Err (Fault (fault.Game why))) says file = file
+command_reads_no_file sections c input (Err (Fault (fault.Strategy why))) says file = file
+command_reads_no_file sections c input (Err (Fault (fault.Verdict why))) says file = file
 command_reads_no_file sections c input (Err (Fault (fault.Ini why))) says file = file
 command_reads_no_file sections c input (Err (Fault (fault.File why))) says file =
     elim (command_done sections c input 6 _ says) [ inl is ↦ absurd (omega (arith, is)) | inr is ↦ absurd (omega (arith, is)) ]

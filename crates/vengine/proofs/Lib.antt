@@ -1,7 +1,9 @@
 mod AnswerLemmas
+mod CheckLemmas
 mod FileLemmas
 mod HeardLemmas
 mod RunLemmas
 mod SetupLemmas
 mod ShotLemmas
+mod StrategyLemmas
 mod VariantLemmas

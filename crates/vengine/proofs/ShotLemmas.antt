@@ -19,7 +19,7 @@ use Rattle.game_text.specs.declared.fault.GameFault.{GameFault}
 use Rattle.game_text.specs.Fault as game
 use Rattle.game_text.specs.GameText.{game_of}
 use Rattle.words.specs.Asked.{Asked, asked}
-use Rattle.words.specs.Command.{Command, Reach, Moves, Status, Perft, Variants}
+use Rattle.words.specs.Command.{Command, Reach, Moves, Status, Perft, Check, Variants}
 use Rattle.words.specs.Options.{Text}
 use Rattle.vengine.specs.declared.fault.Fault.{Fault}
 use Rattle.vengine.specs.declared.fault.Fault.TheVariants as fault
@@ -33,6 +33,7 @@ use Rattle.vengine.specs.Setup.{Unplaced, setup_of}
 use Rattle.vengine.specs.Shot.{Shot, Says, SaysAsked, SaysCommand, SaysFault, SaysOf, SaysReach, reached, faulty_word, faulty_square, refused, answered, usage_line}
 use Rattle.vengine.specs.Variants.{Fails, Refuses, sections_of, variants_fault}
 use Rattle.vengine.specs.VariantsText.{variants_text}
+use Rattle.vengine.proofs.CheckLemmas.{check_done, check_once, check_some}
 
 -- ---- some answer
 
@@ -59,6 +60,7 @@ command_some sections (Reach word square own enemy) input = reach_some word squa
 command_some sections Moves input = game_some moves_of (game_of (entries sections) input)
 command_some sections Status input = game_some status_of (game_of (entries sections) input)
 command_some sections (Perft plies) input = game_some (perft_of plies) (game_of (entries sections) input)
+command_some sections Check input = check_some (entries sections) input
 command_some sections Variants input = (0, variants_text (entries sections), (refl, refl))
 
 asked_some : (a : Asked) (files : Contents) (failed : ℕ) (input : List Line) → (status : ℕ) × (text : List ℕ) × SaysAsked a files failed input status text
@@ -107,12 +109,15 @@ command_done sections (Reach word square own enemy) input status text says = rea
 command_done sections Moves input status text says = game_done moves_of (game_of (entries sections) input) status text says
 command_done sections Status input status text says = game_done status_of (game_of (entries sections) input) status text says
 command_done sections (Perft plies) input status text says = game_done (perft_of plies) (game_of (entries sections) input) status text says
+command_done sections Check input status text says = check_done (entries sections) input status text says
 command_done sections Variants input status text says = inl says.0
 
 fault_done : (why : Fault) → (fault_status why ≡ 3) ⊎ (fault_status why ≡ 6)
 fault_done (fault.Betza why) = inl refl
 fault_done (fault.Reach why) = inl refl
 fault_done (fault.Game why) = inl refl
+fault_done (fault.Strategy why) = inl refl
+fault_done (fault.Verdict why) = inl refl
 fault_done (fault.Ini why) = inl refl
 fault_done (fault.File why) = inr refl
 
@@ -209,6 +214,7 @@ command_once sections (Reach word square own enemy) input s s' t t' says says' =
 command_once sections Moves input s s' t t' says says' = game_once moves_of (game_of (entries sections) input) s s' t t' says says'
 command_once sections Status input s s' t t' says says' = game_once status_of (game_of (entries sections) input) s s' t t' says says'
 command_once sections (Perft plies) input s s' t t' says says' = game_once (perft_of plies) (game_of (entries sections) input) s s' t t' says says'
+command_once sections Check input s s' t t' says says' = check_once (entries sections) input s s' t t' says says'
 command_once sections Variants input s s' t t' says says' = (says.0 ∙ sym says'.0, says.1 ∙ sym says'.1)
 
 -- where files do not fail, a refusal is that of their contents
@@ -272,6 +278,7 @@ command_without : (sections : List Section) (c : Command) (input input' : List L
 command_without sections (Reach word square own enemy) input input' status text reads says = says
 command_without sections Variants input input' status text reads says = says
 command_without sections Moves input input' status text reads says = absurd (false≢true (sym reads))
+command_without sections Check input input' status text reads says = absurd (false≢true (sym reads))
 command_without sections Status input input' status text reads says = absurd (false≢true (sym reads))
 command_without sections (Perft plies) input input' status text reads says = absurd (false≢true (sym reads))
 

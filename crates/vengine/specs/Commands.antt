@@ -6,8 +6,9 @@ use Rattle.variant_ini.specs.Section.{Section}
 use Rattle.variant_rules.specs.Entries.{entries}
 use Rattle.game_text.specs.GameText.{lines_of_game}
 use Rattle.words.specs.Asked.{Asked}
-use Rattle.words.specs.Command.{Command, Moves, Status, Perft, Variants, Reach}
+use Rattle.words.specs.Command.{Command, Moves, Status, Perft, Check, Variants, Reach}
 use Rattle.vengine.specs.declared.fault.Fault.{Fault}
+use Rattle.vengine.specs.Checking.{lines_of_check}
 use Rattle.vengine.specs.Variants.{sections_of, variants_fault}
 
 -- the command reads its input
@@ -15,6 +16,7 @@ abbrev pub reads_input : Command → Bool
 reads_input Moves = true
 reads_input Status = true
 reads_input (Perft plies) = true
+reads_input Check = true
 reads_input Variants = false
 reads_input (Reach word square own enemy) = false
 
@@ -27,6 +29,7 @@ abbrev pub lines_needed : List Section → Command → List Line → ℕ
 lines_needed sections Moves input = lines_of_game (entries sections) input
 lines_needed sections Status input = lines_of_game (entries sections) input
 lines_needed sections (Perft plies) input = lines_of_game (entries sections) input
+lines_needed sections Check input = lines_of_check (entries sections) input
 lines_needed sections Variants input = 0
 lines_needed sections (Reach word square own enemy) input = 0
 

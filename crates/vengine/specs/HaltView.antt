@@ -10,12 +10,15 @@ use Rattle.variant_ini.specs.Section.{Section}
 use Rattle.vengine.specs.declared.fault.FileFault.{FileFault}
 use Rattle.vengine.specs.declared.fault.FileFault.TheVariants.{Missing, TooLarge, Failed}
 use Rattle.vengine.specs.declared.fault.Fault.{Fault}
-use Rattle.vengine.specs.declared.fault.Fault.TheVariants.{Betza, Reach, Game, Ini, File}
+use Rattle.vengine.specs.declared.fault.Fault.TheVariants.{Betza, Reach, Game, Strategy, Verdict, Ini, File}
 use Rattle.game_text.specs.declared.fault.NoGame.{NoGame}
 use Rattle.game_text.specs.declared.fault.NoGame.TheVariants as no_game
+use Rattle.strategy.specs.declared.fault.StrategyFault.TheVariants as strategy
 use Rattle.vengine.specs.declared.halt.Halt.{Halt}
 use Rattle.vengine.specs.declared.halt.Halt.TheVariants as halt
 use Rattle.vengine.specs.declared.answers.Answer.{Answer}
+use Rattle.vengine.specs.declared.strategy_lines.NoStrategy.{NoStrategy}
+use Rattle.vengine.specs.declared.strategy_lines.NoStrategy.TheVariants as no_strategy
 use Rattle.vengine.specs.declared.stop.Stop.{Stop}
 use Rattle.vengine.specs.declared.stop.Stop.TheVariants as stop
 use Rattle.vengine.specs.Fault.{error_line, fault_status, fault_text}
@@ -53,6 +56,17 @@ game_halt (no_game.Faulty fault) = halt.Fault (Game fault)
 game_halt no_game.Unread = halt.Stop stop.Source
 game_halt no_game.Memory = halt.Stop stop.Memory
 
+-- out of memory is no fault of a strategy
+abbrev pub strategy_halt : NoStrategy → Halt
+strategy_halt no_strategy.Unread = halt.Stop stop.Source
+strategy_halt (no_strategy.Faulty strategy.Memory) = halt.Stop stop.Memory
+strategy_halt (no_strategy.Faulty (strategy.Header line)) = halt.Fault (Strategy (strategy.Header line))
+strategy_halt (no_strategy.Faulty (strategy.BadLine line)) = halt.Fault (Strategy (strategy.BadLine line))
+strategy_halt (no_strategy.Faulty (strategy.BadPosition line fault)) = halt.Fault (Strategy (strategy.BadPosition line fault))
+strategy_halt (no_strategy.Faulty (strategy.BadMove line)) = halt.Fault (Strategy (strategy.BadMove line))
+strategy_halt (no_strategy.Faulty (strategy.BadNumber line)) = halt.Fault (Strategy (strategy.BadNumber line))
+strategy_halt (no_strategy.Faulty (strategy.Ended line)) = halt.Fault (Strategy (strategy.Ended line))
+
 -- the status and the text that an outcome comes to are among these; a run that was cut short has none, and no sink that failed
 -- cuts it short, since none was given anything yet
 abbrev pub Answers : Result (List ℕ) Halt → (ℕ → List ℕ → Type 0) → Type 0
@@ -79,6 +93,8 @@ IsFileFault (Err halt.Usage) = ⊥
 IsFileFault (Err (halt.Fault (Betza fault))) = ⊥
 IsFileFault (Err (halt.Fault (Reach fault))) = ⊥
 IsFileFault (Err (halt.Fault (Game fault))) = ⊥
+IsFileFault (Err (halt.Fault (Strategy fault))) = ⊥
+IsFileFault (Err (halt.Fault (Verdict verdict))) = ⊥
 IsFileFault (Err (halt.Fault (Ini fault))) = ⊥
 IsFileFault (Err (halt.Fault (File fault))) = ⊤
 IsFileFault (Err (halt.Stop why)) = ⊥
@@ -96,6 +112,8 @@ HasFile file failed (Err halt.Usage) = ⊥
 HasFile file failed (Err (halt.Fault (Betza fault))) = ⊥
 HasFile file failed (Err (halt.Fault (Reach fault))) = ⊥
 HasFile file failed (Err (halt.Fault (Game fault))) = ⊥
+HasFile file failed (Err (halt.Fault (Strategy fault))) = ⊥
+HasFile file failed (Err (halt.Fault (Verdict verdict))) = ⊥
 HasFile file failed (Err (halt.Fault (Ini fault))) = ⊥
 HasFile file failed (Err (halt.Fault (File fault))) = HasFileFault file failed fault
 HasFile file failed (Err (halt.Stop stop.Source)) = ⊥

@@ -1,3 +1,5 @@
+pub mod Checking
+pub mod CheckView
 pub mod Commands
 pub mod Fault
 pub mod GameView

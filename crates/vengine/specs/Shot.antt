@@ -16,8 +16,9 @@ use Rattle.game_text.specs.declared.fault.GameFault.{GameFault}
 use Rattle.game_text.specs.Fault as game
 use Rattle.game_text.specs.GameText.{game_of}
 use Rattle.words.specs.Asked.{Asked, asked}
-use Rattle.words.specs.Command.{Command, Reach, Moves, Status, Perft, Variants}
+use Rattle.words.specs.Command.{Command, Reach, Moves, Status, Perft, Check, Variants}
 use Rattle.vengine.specs.declared.fault.Fault.{Fault}
+use Rattle.vengine.specs.Checking.{SaysCheck}
 use Rattle.vengine.specs.Fault.{error_line, fault_status, fault_text, unplaced_text}
 use Rattle.vengine.specs.GameTexts.{moves_of, status_of, perft_of}
 use Rattle.vengine.specs.ReachText.{reach_text}
@@ -53,6 +54,7 @@ abbrev pub SaysCommand : List Section → Command → List Line → ℕ → List
 SaysCommand sections Moves input status text = SaysOfGame moves_of sections input status text
 SaysCommand sections Status input status text = SaysOfGame status_of sections input status text
 SaysCommand sections (Perft plies) input status text = SaysOfGame (perft_of plies) sections input status text
+SaysCommand sections Check input status text = SaysCheck (entries sections) input status text
 SaysCommand sections Variants input status text = (status ≡ 0) × (text ≡ variants_text (entries sections))
 SaysCommand sections (Reach word square own enemy) input status text = SaysReach word square own enemy status text
 

@@ -15,6 +15,7 @@ ghost use Rattle.vengine.specs.VariantsText.{variants_text};
 ghost use Rattle.words.specs.Asked.{asked};
 ghost use Rattle.words.specs.View.{HasPlies, asked_seen, command_seen};
 
+use crate::checking::check_text;
 use crate::game::{game_in, moves_of, perft_of, status_of};
 use crate::halt::Halt;
 use crate::reach::reach_text;
@@ -128,6 +129,7 @@ fn command_text<'a, S: Source>(
         Command::Moves => moves(alloc, sections, source),
         Command::Status => status(alloc, sections, source),
         Command::Perft(plies) => perft(alloc, plies, sections, source),
+        Command::Check => check_text(alloc, sections, source),
         Command::Variants => variants(alloc, sections),
         Command::Reach {
             word,

@@ -9,6 +9,8 @@ use foundation::{Memory, Text};
 use game_text::{GameFault, write_fault};
 use std::alloc::{AllocError, Global};
 use std::fmt;
+use strategy::StrategyFault;
+use strategy_check::Verdict;
 use variant_ini::IniFault;
 
 /// Why a file was not read.
@@ -69,8 +71,12 @@ pub enum Fault<'a> {
     Betza(BetzaFault),
     /// A square of `reach` is not on the board, or has a piece already.
     Reach(ReachFault<'a>),
-    /// The input says no game.
+    /// The input says no game, or no goal after it.
     Game(GameFault),
+    /// The input says no strategy.
+    Strategy(StrategyFault),
+    /// The strategy of the input is not good.
+    Verdict(Verdict),
     /// The file of variants is not of its format.
     Ini(IniFault),
     /// The file of variants was not read.
@@ -107,6 +113,8 @@ impl<'a> Fault<'a> {
             Fault::Betza(fault) => format!(in alloc; "error {fault}\n")?.into_bytes(),
             Fault::Reach(fault) => format!(in alloc; "error {fault}\n")?.into_bytes(),
             Fault::Game(fault) => game_line(alloc, fault)?,
+            Fault::Strategy(fault) => format!(in alloc; "error {fault}\n")?.into_bytes(),
+            Fault::Verdict(verdict) => format!(in alloc; "error {verdict}\n")?.into_bytes(),
             Fault::Ini(fault) => format!(in alloc; "error {}\n", PrintedIni(*fault))?.into_bytes(),
             Fault::File(fault) => format!(in alloc; "error {fault}\n")?.into_bytes(),
         };

@@ -3,15 +3,17 @@ ghost use Rattle.std.specs.Prelude.{◌≡◌};
 ghost use Rattle.vengine.specs.declared.halt.Halt.TheVariants as halt;
 ghost use Rattle.vengine.specs.declared.fault.Fault.TheVariants as fault;
 ghost use Rattle.vengine.specs.declared.stop.Stop.TheVariants as stop;
-ghost use Rattle.vengine.specs.HaltView.{betza_halt, game_halt, ini_halt};
+ghost use Rattle.vengine.specs.HaltView.{betza_halt, game_halt, ini_halt, strategy_halt};
 
 use crate::fault::Fault;
 use crate::setup::ReachFault;
 use crate::stop::Stop;
+use crate::strategy_lines::NoStrategy;
 use betza_text::BetzaFault;
 use foundation::Memory;
 use game_text::NoGame;
 use std::alloc::AllocError;
+use strategy::StrategyFault;
 use variant_ini::IniFault;
 
 /// Why a command has no text.
@@ -79,6 +81,18 @@ impl<'a> From<NoGame> for Halt<'a> {
             NoGame::Faulty(fault) => Halt::Fault(Fault::Game(fault)),
             NoGame::Unread => Halt::Stop(Stop::Source),
             NoGame::Memory => Halt::Stop(Stop::Memory),
+        }
+    }
+}
+
+impl<'a> From<NoStrategy> for Halt<'a> {
+    ghost from_gives = { λ why given. given ≡ strategy_halt why };
+
+    fn from(why: NoStrategy) -> Self {
+        match why {
+            NoStrategy::Faulty(StrategyFault::Memory) => Halt::Stop(Stop::Memory),
+            NoStrategy::Faulty(fault) => Halt::Fault(Fault::Strategy(fault)),
+            NoStrategy::Unread => Halt::Stop(Stop::Source),
         }
     }
 }

@@ -2,6 +2,7 @@
 #![tactic(auto)]
 
 mod answers;
+mod checking;
 mod fault;
 mod game;
 mod halt;
@@ -13,6 +14,7 @@ mod reach;
 mod sections;
 mod setup;
 mod stop;
+mod strategy_lines;
 mod variants;
 
 use foundation::Memory;

@@ -12,6 +12,8 @@ pub data Command : Type 0 where
   Status : Command
   -- `perft N`: a number of plies
   Perft : ℕ → Command
+  -- `check`
+  Check : Command
   -- `variants`
   Variants : Command
   -- `reach WORD SQUARE [OWN [ENEMY]]`: a Betza word, a square, and the lists of own and of enemy squares
@@ -47,8 +49,9 @@ command_named name arguments =
     if bytes_eq name (codes "moves") then without_arguments Moves arguments
     else (if bytes_eq name (codes "status") then without_arguments Status arguments
     else (if bytes_eq name (codes "perft") then perft_in arguments
+    else (if bytes_eq name (codes "check") then without_arguments Check arguments
     else (if bytes_eq name (codes "variants") then without_arguments Variants arguments
-    else (if bytes_eq name (codes "reach") then reach_in arguments else None))))
+    else (if bytes_eq name (codes "reach") then reach_in arguments else None)))))
 
 -- the command that words without options are
 abbrev pub command_in : List Text → Option Command

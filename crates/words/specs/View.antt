@@ -5,7 +5,7 @@ use Rattle.words.specs.declared.command.Command.{Command as Given}
 use Rattle.words.specs.declared.command.Command.TheVariants as given
 use Rattle.words.specs.declared.reading.Asked.{Asked as GivenAsked}
 use Rattle.words.specs.Asked.{Asked}
-use Rattle.words.specs.Command.{Command, Moves, Status, Perft, Variants, Reach}
+use Rattle.words.specs.Command.{Command, Moves, Status, Perft, Check, Variants, Reach}
 use Rattle.words.specs.Options.{Text}
 
 -- the text that is referred to, where there is one, and the texts
@@ -19,6 +19,7 @@ abbrev pub command_seen : Given → Command
 command_seen given.Moves = Moves
 command_seen given.Status = Status
 command_seen (given.Perft plies) = Perft plies
+command_seen given.Check = Check
 command_seen given.Variants = Variants
 command_seen (given.Reach word square own enemy) = Reach word.now square.now own.now enemy.now
 
@@ -34,5 +35,6 @@ abbrev pub HasPlies : Given → Type 0
 HasPlies given.Moves = ⊤
 HasPlies given.Status = ⊤
 HasPlies (given.Perft plies) = (1 ≤ plies) × (plies ≤ 9)
+HasPlies given.Check = ⊤
 HasPlies given.Variants = ⊤
 HasPlies (given.Reach word square own enemy) = ⊤

@@ -23,6 +23,8 @@ pub enum Command<'a> {
     Status,
     /// `perft N`: how many lists of this many legal moves in turn, from 1 to 9, there are from that position.
     Perft(u8),
+    /// `check`: whether the strategy of the input wins the game of the input, by the goal that stands between them.
+    Check,
     /// `variants`: the variants that there are, each with its fault where it has one.
     Variants,
     /// `reach WORD SQUARE [OWN [ENEMY]]`: where a piece of this Betza word goes from this square. The lists of squares
@@ -97,6 +99,7 @@ fn command_named<'a>(name: &str, arguments: &[&'a str]) -> Option<Command<'a>>
         "moves" => without_arguments(Command::Moves, arguments),
         "status" => without_arguments(Command::Status, arguments),
         "perft" => perft_in(arguments),
+        "check" => without_arguments(Command::Check, arguments),
         "variants" => without_arguments(Command::Variants, arguments),
         "reach" => reach_in(arguments),
         _ => None,

@@ -47,7 +47,7 @@ fn owned(alloc: Global, words: &[&str]) -> Result<Vec<String>, Fail> {
 
 #[test]
 fn words_of_the_set_are_read(rt: HostRuntime) -> Result<(), Fail> {
-    let rows: [(&[&str], Asked<'static>); 20] = [
+    let rows: [(&[&str], Asked<'static>); 21] = [
         (&["moves"], MOVES),
         (&["status"], command(Command::Status)),
         (&["perft", "1"], command(Command::Perft(1))),
@@ -55,6 +55,7 @@ fn words_of_the_set_are_read(rt: HostRuntime) -> Result<(), Fail> {
             &["perft", "00000000000000000009"],
             command(Command::Perft(9)),
         ),
+        (&["check"], command(Command::Check)),
         (&["variants"], command(Command::Variants)),
         (&["reach", "N", "b1"], reach("N", "b1", "none", "none")),
         (&["reach", "", "", ""], reach("", "", "", "none")),
@@ -103,7 +104,7 @@ fn words_of_the_set_are_read(rt: HostRuntime) -> Result<(), Fail> {
 
 #[test]
 fn other_words_ask_nothing(rt: HostRuntime) -> Result<(), Fail> {
-    let rows: [&[&str]; 53] = [
+    let rows: [&[&str]; 55] = [
         &[],
         &[""],
         &["Moves"],
@@ -117,6 +118,8 @@ fn other_words_ask_nothing(rt: HostRuntime) -> Result<(), Fail> {
         &["Reach", "N", "b1"],
         &["uci"],
         &["status", "4"],
+        &["check", "f"],
+        &["Check"],
         &["variants", "f"],
         &["perft"],
         &["perft", "4", "4"],

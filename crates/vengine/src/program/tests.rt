@@ -411,6 +411,150 @@ fn game_texts_are_answered(rt: HostRuntime) -> Result<(), Fail> {
     Ok(())
 }
 
+/// King and rook against king, mate in two.
+const MATE: &str = "strategy 1
+attacker white
+nodes 4
+node 0 2 7k/R7/5K2/8/8/8/8/8 w - - 0 1
+edge f6g6 1
+node 1 1 7k/R7/6K1/8/8/8/8/8 b - - 1 1
+edge h8g8 2
+node 2 1 6k1/R7/6K1/8/8/8/8/8 w - - 2 1
+edge a7a8 3
+node 3 0 R5k1/8/6K1/8/8/8/8/8 b - - 3 1
+end
+";
+
+/// The same after seven plies without a capture.
+const LATE_MATE: &str = "strategy 1
+attacker white
+nodes 4
+node 0 2 7k/R7/5K2/8/8/8/8/8 w - - 7 1
+edge f6g6 1
+node 1 1 7k/R7/6K1/8/8/8/8/8 b - - 8 1
+edge h8g8 2
+node 2 1 6k1/R7/6K1/8/8/8/8/8 w - - 9 1
+edge a7a8 3
+node 3 0 R5k1/8/6K1/8/8/8/8/8 b - - 10 1
+end
+";
+
+/// The game of that mate, and its goal.
+const MATED: &str = "chess\n7k/R7/5K2/8/8/8/8/8 w - - 0 1\n";
+
+const IN_TWO: &str = "\nmate white 2\n";
+
+/// A game in which the position after the first move of the late mate stood twice.
+const REPEATED: &str = "chess\n7k/R7/6K1/8/8/8/8/8 b - - 0 1\n";
+
+const PLIES: &str = "h8g8 g6f6 g8h8 f6g6 h8g8 g6f6 g8h8\nmate white 2\n";
+
+/// A game, its moves and its goal, a strategy, and a part of it that is replaced.
+#[test]
+fn strategies_are_checked(rt: HostRuntime) -> Result<(), Fail> {
+    let rows = [
+        (MATED, IN_TWO, MATE, "", "", "wins\n"),
+        (
+            MATED,
+            "\nmate white 1\n",
+            MATE,
+            "",
+            "",
+            "error Verdict 1 Root\n",
+        ),
+        (
+            MATED,
+            "\nmate white 0\n",
+            MATE,
+            "",
+            "",
+            "error GameFault 7 BadGoal 4\n",
+        ),
+        (
+            MATED,
+            "\nmate white 101\n",
+            MATE,
+            "",
+            "",
+            "error GameFault 7 BadGoal 4\n",
+        ),
+        (
+            MATED,
+            "\nmate red 2\n",
+            MATE,
+            "",
+            "",
+            "error GameFault 7 BadGoal 4\n",
+        ),
+        (MATED, "\n", "", "", "", "error GameFault 1 Missing 4\n"),
+        (
+            MATED,
+            "",
+            MATE,
+            "",
+            "",
+            "error GameFault 5 BadMove 1 strategy\n",
+        ),
+        (
+            MATED,
+            IN_TWO,
+            MATE,
+            "edge h8g8 2\n",
+            "",
+            "error Verdict 3 MissingReply 1 h8g8\n",
+        ),
+        (
+            MATED,
+            IN_TWO,
+            MATE,
+            "node 0 2",
+            "node 0 1",
+            "error Verdict 4 BadRank 0\n",
+        ),
+        (
+            MATED,
+            IN_TWO,
+            MATE,
+            "b - - 1",
+            "b - - 0",
+            "error Verdict 5 BadCounter 0\n",
+        ),
+        (
+            REPEATED,
+            PLIES,
+            LATE_MATE,
+            "",
+            "",
+            "error Verdict 6 Repeats 1\n",
+        ),
+        (
+            MATED,
+            IN_TWO,
+            MATE,
+            "nodes 4",
+            "nodes 5",
+            "error StrategyFault 5 BadNumber 11\n",
+        ),
+        (
+            MATED,
+            IN_TWO,
+            MATE,
+            "end\n",
+            "end\n\n",
+            "error StrategyFault 6 Ended 12\n",
+        ),
+    ];
+    let mut files = MemFiles::new(rt.alloc());
+    for (game, goal, strategy, right, wrong, text) in rows {
+        let (before, after) = strategy.split_once(right).unwrap_or(("", strategy));
+        let input = format!(in rt.alloc(); "{game}{goal}{before}{wrong}{after}")?;
+        let (answered, sink) = ran(&rt, &mut files, &["check"], input.as_bytes(), &[], 1000)?;
+        assert_eq!(rt; sink.taken(), text.as_bytes(), "{input}");
+        assert_eq!(rt; answered, if text == "wins\n" { 0 } else { 3 }, "{input}");
+    }
+    Ok(())
+}
+
 /// Sections of which each has a parent, and a variant on a board of 5 by 5 squares.
 const SECTIONS: &str = "[a:chess]\nnMoveRule = 40\n[b:a]\ncastling = false\n\
     startFen = rnbqkbnr/pppppppp/8/8/8/8/PPPPPPPP/RNBQKBNR w - - 0 1\n\

@@ -14,6 +14,9 @@ returns-in-Status-clause-heard g c = rw c.in-Status.is c.status.ensures.heard
 pub returns-in-Perft-clause-heard : goal.returns-in-Perft-clause-heard
 returns-in-Perft-clause-heard g c = rw c.in-Perft.is c.perft.ensures.heard
 
+pub returns-in-Check-clause-heard : goal.returns-in-Check-clause-heard
+returns-in-Check-clause-heard g c = rw c.in-Check.is c.check_text.ensures.heard
+
 pub returns-in-Variants-clause-heard : goal.returns-in-Variants-clause-heard
 returns-in-Variants-clause-heard g c = rw c.in-Variants.is (heard_nothing _ _ _ (λ lines. c.variants.ensures.answers))
 

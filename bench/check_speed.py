@@ -1,0 +1,128 @@
+#!/usr/bin/env python3
+"""How many nodes of a strategy a second `check` takes, on strategies that this script writes.
+
+The variant has no king: White's commoner wins once it stands on l1, and walks there through the first two ranks. Black's wazirs walk on the other
+ranks, and can stop nothing. So a strategy has a node for each step and each way in which the wazirs may then stand.
+
+Usage: bench/check_speed.py [NODES ..]      (at least so many nodes each, 10000 and 100000 by default)
+"""
+import os
+import subprocess
+import sys
+import tempfile
+import time
+
+ENGINE = os.path.join(os.path.dirname(os.path.abspath(__file__)), "..", "vengine")
+FILES = 12
+RANKS = 10
+LETTERS = "abcdefghijkl"
+# Three wazirs in the middle of their ranks.
+WAZIRS = ((5, 5), (6, 5), (5, 6))
+VARIANT = """[race]
+maxFile = 12
+maxRank = 10
+commoner = c
+wazir = w
+castling = false
+nMoveRule = 0
+flagPiece = c
+flagRegionWhite = l1
+mobilityRegionWhiteCommoner = *1 *2
+mobilityRegionBlackWazir = *3 *4 *5 *6 *7 *8 *9 *10
+startFen = 12/12/12/5w6/5ww5/12/12/12/12/C11 w - - 0 1
+"""
+
+
+def walk():
+    """The squares of the commoner: up and down through the files, from a1 to l1."""
+    squares = []
+    for file in range(FILES):
+        squares += [(file, 0), (file, 1)] if file % 2 == 0 else [(file, 1), (file, 0)]
+    return squares
+
+
+def name(square):
+    return LETTERS[square[0]] + str(square[1] + 1)
+
+
+def replies(wazirs):
+    """The moves of Black, each with the wazirs after it."""
+    for wazir in wazirs:
+        for dx, dy in ((1, 0), (-1, 0), (0, 1), (0, -1)):
+            to = (wazir[0] + dx, wazir[1] + dy)
+            if 0 <= to[0] < FILES and 2 <= to[1] < RANKS and to not in wazirs:
+                yield name(wazir) + name(to), frozenset(wazirs - {wazir} | {to})
+
+
+def fen(commoner, wazirs, side, counter):
+    ranks = []
+    for rank in range(RANKS - 1, -1, -1):
+        row, empty = "", 0
+        for file in range(FILES):
+            piece = "C" if (file, rank) == commoner else "w" if (file, rank) in wazirs else ""
+            if piece:
+                row += (str(empty) if empty else "") + piece
+                empty = 0
+            else:
+                empty += 1
+        ranks.append(row + (str(empty) if empty else ""))
+    return "/".join(ranks) + f" {side} - - {counter} 1"
+
+
+def levels(least):
+    """The ways in which the wazirs may stand at each move of White, for at least so many nodes."""
+    found, nodes = [{frozenset(WAZIRS)}], 2
+    while nodes < least and len(found) < len(walk()) - 1:
+        found.append({after for wazirs in found[-1] for _, after in replies(wazirs)})
+        nodes += 2 * len(found[-1])
+    return found
+
+
+def strategy(least):
+    """The input of `check`, and how many nodes its strategy has."""
+    reached = levels(least)
+    moves = len(reached)
+    squares = walk()[-moves - 1:]
+    # White is to move in the first half of a level, Black in the second.
+    order = [sorted(level, key=sorted) for level in reached]
+    firsts, count = [], 0
+    for level in order:
+        firsts.append(count)
+        count += 2 * len(level)
+    places = [{wazirs: i for i, wazirs in enumerate(level)} for level in order]
+    lines = ["race", fen(squares[0], frozenset(WAZIRS), "w", 0), "", f"mate white {moves}"]
+    lines += ["strategy 1", "attacker white", f"nodes {count}"]
+    for k, level in enumerate(order):
+        step = name(squares[k]) + name(squares[k + 1])
+        for i, wazirs in enumerate(level):
+            lines.append(f"node {firsts[k] + i} {moves - k} {fen(squares[k], wazirs, 'w', 2 * k)}")
+            lines.append(f"edge {step} {firsts[k] + len(level) + i}")
+        for i, wazirs in enumerate(level):
+            number = firsts[k] + len(level) + i
+            lines.append(f"node {number} {moves - k - 1} {fen(squares[k + 1], wazirs, 'b', 2 * k + 1)}")
+            if k + 1 < moves:
+                for move, after in replies(wazirs):
+                    lines.append(f"edge {move} {firsts[k + 1] + places[k + 1][after]}")
+    lines.append("end")
+    return "\n".join(lines) + "\n", count
+
+
+def main():
+    wanted = [int(word) for word in sys.argv[1:]] or [10_000, 100_000]
+    with tempfile.NamedTemporaryFile("w", suffix=".ini") as variants:
+        variants.write(VARIANT)
+        variants.flush()
+        for least in wanted:
+            text, nodes = strategy(least)
+            start = time.perf_counter()
+            done = subprocess.run(
+                [ENGINE, "--variants", variants.name, "check"], input=text, capture_output=True, text=True
+            )
+            taken = time.perf_counter() - start
+            if done.stdout != "wins\n":
+                sys.exit("check_speed: " + done.stdout)
+            print(f"{nodes} nodes, {len(text)} bytes: {taken:.2f} s, {nodes / taken:.0f} nodes a second")
+
+
+if __name__ == "__main__":
+    main()

@@ -1,0 +1,25 @@
+-- The goal of a problem: which side is to win, and within how many of its own moves.
+use Rattle.std.specs.Prelude.{ℕ, ◌&&◌, nat_le, List, length, take, drop, Option, Some, None, bytes_eq, codes, if◌then◌else◌}
+use Rattle.rules_model.specs.declared.board.Side.{Side}
+use Rattle.rules_model.specs.declared.board.Side.TheVariants.{White, Black}
+use Rattle.fen_model.specs.Numbers.{number_of}
+use Rattle.game_text.specs.declared.goal.Goal.{Goal}
+
+-- what stands after these words, where the text begins with them
+abbrev pub after_words : List ℕ → List ℕ → Option (List ℕ)
+after_words words text = if bytes_eq (take (length words) text) words then Some (drop (length words) text) else None
+
+-- within 1 to 100 moves of the side
+abbrev pub within : Side → Option ℕ → Option Goal
+within side None = None
+within side (Some moves) = if nat_le 1 moves && nat_le moves 100 then Some (record { attacker = side; moves = moves }) else None
+
+-- by what stands after the words of White, and else by what stands after those of Black
+abbrev pub goal_by : Option (List ℕ) → Option (List ℕ) → Option Goal
+goal_by (Some number) black = within White (number_of number)
+goal_by None (Some number) = within Black (number_of number)
+goal_by None None = None
+
+-- `mate white N` or `mate black N`
+unfoldable pub goal_said : List ℕ → Option Goal
+goal_said text = goal_by (after_words (codes "mate white ") text) (after_words (codes "mate black ") text)

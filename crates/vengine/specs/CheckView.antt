@@ -1,0 +1,50 @@
+-- What the code answers of a strategy, as the definitions have it.
+use Rattle.std.specs.Prelude.{◌≡◌, ℕ, List, Result, Ok, Err, codes, ⊤}
+use Rattle.game_text.specs.declared.problem.Problem.{Problem}
+use Rattle.strategy.specs.declared.fault.StrategyFault.{StrategyFault}
+use Rattle.strategy.specs.declared.nodes.Strategy.{Strategy}
+use Rattle.strategy.specs.declared.reader.Reader.{Reader}
+use Rattle.strategy.specs.Fault.{IsFaultOrMemory}
+use Rattle.strategy_check.specs.declared.verdict.Verdict.{Verdict}
+use Rattle.strategy_check.specs.declared.verdict.Verdict.TheVariants.{Wins}
+use Rattle.strategy_check.specs.Verdicts.{verdict_text}
+use Rattle.vengine.specs.declared.strategy_lines.NoStrategy.{NoStrategy}
+use Rattle.vengine.specs.declared.strategy_lines.NoStrategy.TheVariants.{Faulty, Unread}
+use Rattle.vengine.specs.Checking.{verdict_in}
+use Rattle.vengine.specs.Fault.{error_line}
+
+-- the source failed
+abbrev pub IsUnread : {A : Type 0} → Result A NoStrategy → Type 0
+IsUnread (Ok x) = ⊥
+IsUnread (Err (Faulty fault)) = ⊥
+IsUnread (Err Unread) = ⊤
+
+-- why nothing was read: the lines have this fault, or there was no memory, or the source failed
+abbrev pub HasWhy : {A : Type 0} → Result A StrategyFault → NoStrategy → Type 0
+HasWhy said (Faulty fault) = IsFaultOrMemory said fault
+HasWhy said Unread = ⊤
+
+-- lines were taken to this reader, which the code has now, or have this fault
+abbrev pub SaysTaken : Result Reader StrategyFault → Reader → Result (Unit {0}) NoStrategy → Type 0
+SaysTaken said now (Ok x) = said ≡ Ok now
+SaysTaken said now (Err why) = HasWhy said why
+
+-- lines say this strategy, or have this fault
+abbrev pub SaysStrategy : Result Strategy StrategyFault → Result Strategy NoStrategy → Type 0
+SaysStrategy said (Ok s) = said ≡ Ok s
+SaysStrategy said (Err why) = HasWhy said why
+
+-- this is the verdict on the strategy that lines say
+pub record HasVerdict (p : Problem) (said : Result Strategy StrategyFault) (v : Verdict) : Type 0 where
+  pub s : Strategy
+  pub says : said ≡ Ok s
+  pub verdict : verdict_in p s ≡ v
+
+abbrev pub SaysVerdict : Problem → Result Strategy StrategyFault → Result Verdict NoStrategy → Type 0
+SaysVerdict p said (Ok v) = HasVerdict p said v
+SaysVerdict p said (Err why) = HasWhy said why
+
+-- what is printed of a verdict
+pub data Prints : Verdict → ℕ → List ℕ → Type 0 where
+  winning : Prints Wins 0 (codes "wins\n")
+  losing : (v : Verdict) → (v ≡ Wins → ⊥) → Prints v 3 (error_line (verdict_text v))
