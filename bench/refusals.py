@@ -40,13 +40,19 @@ __attribute__((constructor)) static void begin(void) {
     for (int i = 0; i < 3; i++) calls[i] = 0;
 }
 
-__attribute__((destructor)) static void end(void) {
+static void tell_calls(void) {
     const char *name = getenv("CALLS_FILE");
     if (!name) return;
     char text[100];
     int size = snprintf(text, sizeof text, "%ld %ld %ld\n", calls[0], calls[1], calls[2]);
     int file = syscall(SYS_openat, AT_FDCWD, name, O_WRONLY | O_CREAT | O_TRUNC, 0600);
     syscall(SYS_write, file, text, size);
+}
+
+/* the program ends so, and runs no destructors */
+void _exit(int status) {
+    tell_calls();
+    for (;;) syscall(SYS_exit_group, status);
 }
 
 static int is_refused(int kind) { long n = ++calls[kind]; return n == refused[kind]; }
