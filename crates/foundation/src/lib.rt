@@ -1,8 +1,16 @@
-//! What several crates share and what knows nothing of chess: texts as lists of bytes, and the answer for want of memory.
+//! What several crates share and what knows nothing of chess: texts as lists of bytes, how they are
+//! cut, the numbers in them, and the answer where memory ends.
 #![tactic(auto)]
 
 ghost use Rattle.std.specs.Prelude.{◌≡◌, List, ℕ};
 
+mod cuts;
+mod numbers;
+
+pub use cuts::{cut_at, cut_part, cut_word, is_blank, place_of};
+pub use numbers::{
+    are_digits, begins_with_zero, is_digit, is_number, number_within, read_number, value,
+};
 use std::alloc::{AllocError, AllocFailed};
 use std::marker::Model;
 

@@ -1,0 +1,10 @@
+use Rattle.std.proofs.Common.{sym}
+use Rattle.foundation.specs.Cuts.{is_blank}
+use Rattle.foundation.proofs.CutLemmas.{cut_some, cut_none}
+use Rattle.foundation.proofs.cuts.cut_word.Goals as goal
+
+pub returns-in-Some : goal.returns-in-Some
+returns-in-Some c = cut_some is_blank c.args.text.now c.in-Some.place (sym c.in-Some.ensures.place)
+
+pub returns-in-None : goal.returns-in-None
+returns-in-None c = cut_none is_blank c.args.text.now (sym c.in-None.ensures.place)
