@@ -5,7 +5,8 @@ use Rattle.betza_text.specs.declared.cut.Cut.{Cut}
 use Rattle.betza_text.specs.declared.part.HopKind.{HopKind}
 use Rattle.betza_text.specs.declared.part.HopKind.TheVariants.{No, Over, Behind}
 use Rattle.betza_text.specs.declared.part.Part.{Part}
-use Rattle.betza_text.specs.Letters.{is_prefix, is_digit, is_direction}
+use Rattle.foundation.specs.Numbers.{is_digit}
+use Rattle.betza_text.specs.Letters.{is_prefix, is_direction}
 
 -- how many bytes stand before the atom
 unfoldable pub modifier_count : List ℕ → ℕ

@@ -6,10 +6,6 @@ unfoldable pub is_prefix : ℕ → Bool
 is_prefix c =
     (nat_le 97 c && nat_le c 122) || c == 91 || c == 93 || c == 40 || c == 41 || c == 123 || c == 125 || c == 45
 
--- 0 to 9
-unfoldable pub is_digit : ℕ → Bool
-is_digit c = nat_le 48 c && nat_le c 57
-
 -- the letters of the atoms, W D H R, F A G B, N L C J Z, K Q
 unfoldable pub is_atom : ℕ → Bool
 is_atom c =

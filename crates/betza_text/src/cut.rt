@@ -3,7 +3,8 @@ ghost use Rattle.std.specs.Prelude.{◌≡◌, ◌≤◌, ◌+◌, length, slice
 ghost use Rattle.betza_text.specs.Cut as Cuts;
 ghost use Rattle.betza_text.specs.Cut.{IsWithin};
 
-use crate::letters::{is_digit, is_prefix};
+use crate::letters::is_prefix;
+use foundation::is_digit;
 
 /// How the text of a part is cut.
 #[derive(Clone, Copy)]

@@ -13,13 +13,6 @@ pub(crate) fn is_prefix(byte: u8) -> bool
     )
 }
 
-#[tactic(auto, unfolding(crate::specs::Letters::is_digit))]
-pub(crate) fn is_digit(byte: u8) -> bool
-    ensures { result ≡ Letters.is_digit byte }
-{
-    matches!(byte, b'0'..=b'9')
-}
-
 #[tactic(auto, unfolding(crate::specs::Letters::is_atom))]
 pub(crate) fn is_atom(byte: u8) -> bool
     ensures { result ≡ Letters.is_atom byte }

@@ -21,7 +21,7 @@ use Rattle.rules_model.specs.Kinds.{has_kind, is_pawn, kind_rule, masks, names, 
 use Rattle.rules_model.specs.Sound.{is_origin, is_sound_cell, on_board, sound_at}
 use Rattle.fen_model.specs.declared.fault.FenFault.{FenFault}
 use Rattle.fen_model.specs.Board.{cell_of, cells_of, is_slash, marked_cell, one_square, pawn_cell, promoted_cell, row_at, row_of, rows_at, rows_of, run_squares, squares_of}
-use Rattle.fen_model.specs.Numbers.{is_digit}
+use Rattle.foundation.specs.Numbers.{is_digit}
 use Rattle.fen_model.specs.Printing.{board_text, cell_text, kind_letter, marked_text, row_text, run_text}
 use Rattle.fen_model.specs.Tokens.{piece, is_letter, is_lower, is_upper, letter_kind, letter_side, tokens_of}
 use Rattle.fen_model.proofs.BoardLaws.{cells_from-rows_at, length-rows_at, IsFreeAbove, IsFreeBeside}

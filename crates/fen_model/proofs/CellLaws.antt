@@ -31,7 +31,7 @@ use Rattle.fen_model.specs.declared.fault.FenFault.{FenFault}
 use Rattle.fen_model.specs.Board.{cells_from, cells_of, is_slash, marked_cell, one_square, pawn_cell, plain_cell, promoted_cell, ranks_of, row_of, rows_of, run_squares, said_at, sized, squares_of}
 use Rattle.fen_model.specs.Chain.{◌>>=◌}
 use Rattle.fen_model.specs.Counts.{count_of, up_to_most}
-use Rattle.fen_model.specs.Numbers.{begins_with_zero, number_of, value_of}
+use Rattle.foundation.specs.Numbers.{begins_with_zero, number_of, value_of}
 use Rattle.fen_model.specs.Pocket.{no_hands}
 use Rattle.fen_model.specs.Reading.{judged}
 use Rattle.fen_model.specs.Tokens.{Token, run, piece, tilde, stray, is_letter, letter_kind, letter_side, tokens_of}

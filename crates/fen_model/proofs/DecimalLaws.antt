@@ -6,8 +6,8 @@ use Rattle.std.proofs.lemmas.Bool.{le-leb, lt-ltb, ne_eqb, and_from, or_right}
 use Rattle.std.proofs.lemmas.Fmt.{decimal_by_steps, decimal_digit, first_decimal}
 use Rattle.std.proofs.lemmas.List.Folds.{list_all-append}
 use Rattle.fen_model.specs.Counts.{count_of}
-use Rattle.fen_model.specs.Numbers.{are_digits, begins_with_zero, is_digit, is_number, number_of, value_after, value_of}
-use Rattle.fen_model.proofs.NumberLemmas.{value_after-append}
+use Rattle.foundation.specs.Numbers.{are_digits, begins_with_zero, is_digit, is_number, number_of, value_after, value_of}
+use Rattle.foundation.proofs.NumberLemmas.{value_after-append}
 
 -- digits, at least one, that write the number
 pub record Writes (n : ℕ) (ds : List ℕ) : Type 0 where

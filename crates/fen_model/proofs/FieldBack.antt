@@ -19,7 +19,7 @@ use Rattle.rules_model.specs.Sides.{other, side_index}
 use Rattle.rules_model.specs.Sound.{is_sound_ep, lies_in, on_board}
 use Rattle.fen_model.specs.Counts.{checks_in, checks_of, is_plus, side_of, two_checks}
 use Rattle.fen_model.specs.Fields.{no_text, says_none}
-use Rattle.fen_model.specs.Numbers.{are_digits, is_digit, is_number, number_of, value_after}
+use Rattle.foundation.specs.Numbers.{are_digits, is_digit, is_number, number_of, value_after}
 use Rattle.fen_model.specs.Passed.{is_passed, passed_at, passed_of, square_named}
 use Rattle.fen_model.specs.Printing.{ep_text, side_text}
 use Rattle.fen_model.proofs.DecimalLaws.{decimal-writes, number-back}

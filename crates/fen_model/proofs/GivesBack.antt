@@ -19,7 +19,7 @@ use Rattle.fen_model.specs.Chain.{or_fault}
 use Rattle.fen_model.specs.Counts.{checks_of}
 use Rattle.fen_model.specs.declared.fault.FenFault.TheVariants.{Length}
 use Rattle.fen_model.specs.Fields.{Fields, fields, fields_in, fields_of, is_blank, is_bracket, no_checks, pocket_place}
-use Rattle.fen_model.specs.Numbers.{are_digits, is_digit, is_number, number_of, value_after}
+use Rattle.foundation.specs.Numbers.{are_digits, is_digit, is_number, number_of, value_after}
 use Rattle.fen_model.specs.Printing.{board_text, checks_texts, ep_text, fen_text, field_texts, pocket_text, rights_text, side_text}
 use Rattle.fen_model.specs.Reading.{Fen}
 use Rattle.fen_model.specs.Says.{Says, TextSays}

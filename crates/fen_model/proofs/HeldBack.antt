@@ -3,10 +3,11 @@ use Rattle.std.proofs.Common.{◌≡◌, ◌≢◌, ◌⊎◌, inl, inr, ℕ, ze
 use Rattle.std.specs.Int.{bit_at}
 use Rattle.std.specs.List.{filter, list_all, list_any}
 use Rattle.std.proofs.lemmas.Bool.{cases_Bool, lt-ltb, le-leb, lt-leb, ltb-true, ltb-false, leb-true, eqb-true, eqb-false, eq-eqb, ne_eqb, and_from, and_parts, or_left, or_right, not-true}
-use Rattle.std.proofs.lemmas.List.Sums.{sum_by-append}
 use Rattle.std.proofs.lemmas.Nat.Bits.{bit_at-lt, bit_at_above, bit_at_cat_high, bit_at_cat_low, same_from_bits_below}
 use Rattle.foundation.specs.Count.{all_below}
+use Rattle.foundation.specs.Tests.{one_if}
 use Rattle.foundation.proofs.CountLemmas.{all_below-each}
+use Rattle.foundation.proofs.SetLemmas.{count_by-cons}
 use Rattle.rules_model.specs.declared.board.Cell.{Cell}
 use Rattle.rules_model.specs.declared.board.Position.{Position}
 use Rattle.rules_model.specs.declared.board.Repeat.{Repeat}
@@ -25,21 +26,13 @@ use Rattle.rules_model.specs.Sound.{sound_gate, sound_right, sound_rook}
 use Rattle.fen_model.specs.Fields.{no_text, says_none}
 use Rattle.fen_model.specs.declared.held.Held.{Held}
 use Rattle.fen_model.specs.Held.{are_letters, bits_of, gate_letter, gate_said, has, held_letters, held_of, held_said, may_hold, nothing_held, right_gives, right_letter, right_says, rights_said, stands_once}
-use Rattle.fen_model.specs.Numbers.{are_digits, is_digit}
+use Rattle.foundation.specs.Numbers.{are_digits, is_digit}
 use Rattle.fen_model.specs.Printing.{is_printed, or_none, prints_gate, right_implies, rights_text}
 use Rattle.fen_model.specs.Says.{held_in}
 use Rattle.fen_model.proofs.HeldLaws.{bits_of-small, holds_from}
 use Rattle.fen_model.proofs.SoundParts.{Parts}
 
 -- ---- letters that a test picks
-
-abbrev one_if : Bool → ℕ
-one_if b = if b then 1 else 0
-
-count-cons : (b x : ℕ) (xs : List ℕ) → count_by (λ c. c == b) (x ∷ xs) ≡ one_if (x == b) + count_by (λ c. c == b) xs
-count-cons b x xs =
-    sum_by-append (λ c. if c == b then 1 else 0) (x ∷ []) xs
-    ∙ ap (λ n. n + count_by (λ c. c == b) xs) (⊎_elim (λ (y : (x == b) ≡ true). rw y refl) (λ (n : (x == b) ≡ false). rw n refl) (cases_Bool (x == b)))
 
 kept : (q : ℕ → Bool) (x : ℕ) (xs : List ℕ) → q x ≡ true → filter q (x ∷ xs) ≡ x ∷ filter q xs
 kept q x xs h = rw h refl
@@ -82,9 +75,9 @@ count_filter : (q : ℕ → Bool) (b : ℕ) (xs : List ℕ) → count_by (λ c. 
 count_filter q b [] = omega arith
 count_filter q b (x ∷ xs) =
     let more = count_filter q b xs in
-    let whole = count-cons b x xs in
+    let whole = count_by-cons (λ c. c == b) x xs in
     ⊎_elim
-    (λ (z : q x ≡ true). let e = ap (count_by (λ c. c == b)) (kept q x xs z) in let first = count-cons b x (filter q xs) in omega (arith, more, whole, e, first))
+    (λ (z : q x ≡ true). let e = ap (count_by (λ c. c == b)) (kept q x xs z) in let first = count_by-cons (λ c. c == b) x (filter q xs) in omega (arith, more, whole, e, first))
     (λ (m : q x ≡ false). let e = ap (count_by (λ c. c == b)) (dropped q x xs m) in omega (arith, more, whole, e))
     (cases_Bool (q x))
 
@@ -92,7 +85,7 @@ count_some : (b : ℕ) (xs : List ℕ) → has b xs ≡ true → 0 < count_by (�
 unfolding has
 count_some b [] h = cc
 count_some b (x ∷ xs) h =
-    let whole = count-cons b x xs in
+    let whole = count_by-cons (λ c. c == b) x xs in
     ⊎_elim
     (λ (y : (x == b) ≡ true). let one = ap one_if y in omega (arith, whole, one))
     (λ (n : (x == b) ≡ false). let more = count_some b xs (let k = rw n at h in k) in omega (arith, whole, more))

@@ -1,5 +1,4 @@
 pub mod ChainLaws
-pub mod NumberLemmas
 pub mod DecimalLaws
 pub mod JoinLaws
 pub mod TokenLemmas

@@ -21,7 +21,7 @@ use Rattle.fen_model.specs.Chain.{or_fault}
 use Rattle.fen_model.specs.declared.fault.FenFault.TheVariants.{Length}
 use Rattle.fen_model.specs.Fields.{Fields, counted_fields, fields, fields_in, fields_of, is_blank, no_checks, plain_fields}
 use Rattle.fen_model.specs.Fields as Fields
-use Rattle.fen_model.specs.Numbers.{are_digits, is_number, number_of, value_after}
+use Rattle.foundation.specs.Numbers.{are_digits, is_number, number_of, value_after}
 use Rattle.fen_model.specs.Passed.{is_passed, passed_at, passed_of, square_named}
 use Rattle.fen_model.specs.Reading.{Fen}
 use Rattle.fen_model.proofs.CellLaws.{long_cells, sound_cells}

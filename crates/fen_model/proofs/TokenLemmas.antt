@@ -9,7 +9,7 @@ use Rattle.rules_model.specs.declared.rules.Rules.{Rules}
 use Rattle.fen_model.specs.declared.fault.FenFault.{FenFault}
 use Rattle.fen_model.specs.Board.{run_squares, squares_of, token_squares}
 use Rattle.fen_model.specs.Chain.{◌>>=◌}
-use Rattle.fen_model.specs.Numbers.{is_digit}
+use Rattle.foundation.specs.Numbers.{is_digit}
 use Rattle.fen_model.specs.Tokens.{Token, run, piece, tilde, stray, is_letter, letter_kind, with_digit, with_letter, with_plus, with_byte, tokens_of}
 
 -- ---- runs

@@ -14,7 +14,7 @@ use Rattle.fen_model.specs.Board.{row_of, squares_of}
 use Rattle.fen_model.specs.Counts.{checks_of}
 use Rattle.fen_model.specs.declared.held.Held.{Held}
 use Rattle.fen_model.specs.Held.{are_letters, bits_of, gate_said, has, held_of, may_hold}
-use Rattle.fen_model.specs.Numbers.{are_digits, is_number, number_of, value_after}
+use Rattle.foundation.specs.Numbers.{are_digits, is_number, number_of, value_after}
 use Rattle.fen_model.specs.Passed.{is_passed, passed_of}
 use Rattle.fen_model.specs.Pocket.{hands_of}
 use Rattle.fen_model.specs.Pocket as Pocket

@@ -9,7 +9,7 @@ use Rattle.rules_model.specs.Kinds.{has_kind, masks, promoted_of}
 use Rattle.fen_model.specs.declared.fault.FenFault.{FenFault}
 use Rattle.fen_model.specs.declared.fault.FenFault.TheVariants.{Rank, Letter, Width}
 use Rattle.fen_model.specs.Chain.{◌>>=◌}
-use Rattle.fen_model.specs.Numbers.{value_of, begins_with_zero}
+use Rattle.foundation.specs.Numbers.{value_of, begins_with_zero}
 use Rattle.fen_model.specs.Tokens.{Token, run, piece, tilde, stray, letter_kind, letter_side, tokens_of}
 
 -- ---- one piece

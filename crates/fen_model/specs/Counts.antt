@@ -5,7 +5,7 @@ use Rattle.rules_model.specs.declared.board.Side.{Side}
 use Rattle.rules_model.specs.declared.board.Side.TheVariants.{White, Black}
 use Rattle.fen_model.specs.declared.fault.FenFault.{FenFault}
 use Rattle.fen_model.specs.declared.fault.FenFault.TheVariants as fault
-use Rattle.fen_model.specs.Numbers.{number_of}
+use Rattle.foundation.specs.Numbers.{number_of}
 
 -- `w` or `b`
 unfoldable pub side_of : List ℕ → Result Side FenFault

@@ -5,7 +5,7 @@ use Rattle.rules_model.specs.declared.rules.Rules.{Rules}
 use Rattle.fen_model.specs.declared.fault.FenFault.{FenFault}
 use Rattle.fen_model.specs.declared.fault.FenFault.TheVariants.{Length}
 use Rattle.fen_model.specs.Chain.{or_fault}
-use Rattle.fen_model.specs.Numbers.{are_digits}
+use Rattle.foundation.specs.Numbers.{are_digits}
 
 -- a blank is one space
 abbrev pub is_blank : ℕ → Bool

@@ -1,6 +1,5 @@
 pub mod Fault
 pub mod Chain
-pub mod Numbers
 pub mod Fields
 pub mod Tokens
 pub mod Board

@@ -12,7 +12,7 @@ use Rattle.rules_model.specs.Sound.{lies_in, on_board}
 use Rattle.fen_model.specs.declared.fault.FenFault.{FenFault}
 use Rattle.fen_model.specs.declared.fault.FenFault.TheVariants.{EnPassant}
 use Rattle.fen_model.specs.Fields.{says_none}
-use Rattle.fen_model.specs.Numbers.{number_of}
+use Rattle.foundation.specs.Numbers.{number_of}
 
 abbrev pub square_on : ℕ → Option ℕ → Option Square
 square_on file None = None

@@ -3,7 +3,7 @@ use Rattle.std.specs.Prelude.{ℕ, ◌-◌, nat_le, Bool, true, false, ◌&&◌,
 use Rattle.rules_model.specs.declared.board.Kind.{Kind}
 use Rattle.rules_model.specs.declared.board.Side.{Side}
 use Rattle.rules_model.specs.declared.board.Side.TheVariants.{White, Black}
-use Rattle.fen_model.specs.Numbers.{is_digit}
+use Rattle.foundation.specs.Numbers.{is_digit}
 
 pub data Token : Type 0 where
   -- all digits that stand together

@@ -1,14 +1,11 @@
 -- What a source's lines decide, call by call.
 use Rattle.std.proofs.Common.{◌≡◌, ◌≤◌, ℕ, ◌+◌, arith, length, List, [], ◌∷◌, ◌++◌, inl, inr, Option, refl, ap, sym, subst, append_assoc, length-append}
+use Rattle.std.proofs.lemmas.List.{append-nil}
 use Rattle.std.specs.Io.KnownBytes.{IsAtEnd}
 use Rattle.io_ports.specs.Lines.{Line}
 use Rattle.io_ports.specs.Source.{Takes}
 use Rattle.io_ports.proofs.Moved.{takes_none, takes_more}
 use Rattle.game_text.specs.Heard.{Heard}
-
-pub append-nil : {A : Type 0} (xs : List A) → xs ≡ xs ++ []
-append-nil [] = refl
-append-nil (x ∷ xs) = ap (λ l. x ∷ l) (append-nil xs)
 
 -- the end was met, and nothing before it
 pub heard_end : (a b : Option (List ℕ)) (needed : List Line → ℕ) (P : List Line → Type 0) → Takes a b [] → IsAtEnd b → P [] → Heard a b needed P
@@ -53,7 +50,7 @@ heard_more a b c needed needed' x P Q takes h adds so = record {
 -- ---- lines, and then others
 
 first_lines : {a b : Option (List ℕ)} {needed : List Line → ℕ} (P : List Line → Type 0) (h : Heard a b needed P) → P h.lines
-first_lines P h = elim h.holds [ inl (ended, holds) ↦ holds | inr holds ↦ subst P (sym (append-nil h.lines)) (holds []) ]
+first_lines P h = elim h.holds [ inl (ended, holds) ↦ holds | inr holds ↦ subst P (append-nil h.lines) (holds []) ]
 
 -- the first lines decide by exactly k of them, and the others what follows
 pub heard_then : (a b c : Option (List ℕ)) (k : ℕ) (first then needed : List Line → ℕ) (P Q R : List Line → Type 0) → Heard a b first P → Heard b c then Q

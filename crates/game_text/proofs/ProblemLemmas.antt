@@ -1,7 +1,7 @@
 -- What the lines of a problem say, as they are read.
-use Rattle.std.proofs.Common.{◌≡◌, ◌≤◌, ℕ, ◌+◌, arith, length, take, drop, List, [], ◌∷◌, ◌++◌, Some, None, Result, Ok, Err, refl, sym, ap, subst, ◌∙◌, length-drop}
+use Rattle.std.proofs.Common.{◌≡◌, ◌≤◌, ℕ, ◌+◌, ◌-◌, arith, length, take, drop, List, [], ◌∷◌, ◌++◌, Some, None, Result, Ok, Err, refl, sym, ap, subst, ◌∙◌, length-drop}
 use Rattle.io_ports.specs.Lines.{Line, Text, TooLong}
-use Rattle.variant_rules.specs.Entries.{Named}
+use Rattle.variant_rules.specs.Entries.{Named, found}
 use Rattle.game_play.specs.Played.{Played}
 use Rattle.game_text.specs.declared.fault.GameFault.{GameFault}
 use Rattle.game_text.specs.declared.fault.GameFault.TheVariants.{BadGoal, Missing, LineTooLong}
@@ -9,7 +9,7 @@ use Rattle.game_text.specs.declared.fault.NoGame.{NoGame}
 use Rattle.game_text.specs.declared.fault.NoGame.TheVariants.{Faulty, Unread, Memory}
 use Rattle.game_text.specs.declared.goal.Goal.{Goal}
 use Rattle.game_text.specs.declared.problem.Problem.{Problem}
-use Rattle.game_text.specs.GameText.{game_of, lines_of_game, unless_faulty}
+use Rattle.game_text.specs.GameText.{game_of, lines_in, lines_of_game, unless_faulty}
 use Rattle.game_text.specs.Goal.{goal_said}
 use Rattle.game_text.specs.Playing.{and_then, play_all, words_of}
 use Rattle.game_text.specs.Problem.{goal_on, lines_of_problem, lines_on_problem, moves_on, or_bad, problem_of, problem_on, with_goal}
@@ -139,6 +139,38 @@ start-problem-needs variants [] more g two is = absurd (omega (arith, two))
 start-problem-needs variants (x ∷ []) more g two is = absurd (omega (arith, two))
 start-problem-needs variants (x ∷ y ∷ []) more g two is = two_needed variants x y more g is
 start-problem-needs variants (x ∷ y ∷ z ∷ front) more g two is = absurd (omega (arith, two))
+
+-- ---- line 2 after line 1
+
+module _ (variants : List Named) (name : List ℕ) where
+  in_needs : (lines : List Line) → lines_of_game variants (Text name ∷ take 1 lines) ≡ 1 + lines_in (found variants name) (take 1 lines)
+  unfolding lines_of_game
+  in_needs lines = refl
+
+  pub after-there : (lines : List Line) (g : Played) → game_of variants (Text name ∷ take 1 lines) ≡ Ok g → 1 ≤ length lines
+  after-there lines g is = let two = start-there variants (Text name ∷ lines) g is in omega (arith, two)
+
+  pub after-most : (lines : List Line) → lines_in (found variants name) (take 1 lines) ≤ 1
+  after-most lines =
+      let two = start-most variants (Text name ∷ lines) in
+      let needs = in_needs lines in
+      omega (arith, two, needs)
+
+  pub after-bad : (lines : List Line) (fault : GameFault) → game_of variants (Text name ∷ take 1 lines) ≡ Err fault → problem_of variants (Text name ∷ lines) ≡ Err fault
+  after-bad lines fault is = start-bad variants (Text name ∷ lines) fault is
+
+  pub after-first : (lines : List Line) → lines_in (found variants name) (take 1 lines) ≤ lines_of_problem variants (Text name ∷ lines) - 1
+  after-first lines =
+      let first = start-first variants (Text name ∷ lines) in
+      let needs = in_needs lines in
+      omega (arith, first, needs)
+
+  pub after-problem : (front more : List Line) (g : Played) → length front ≡ 1 → game_of variants (Text name ∷ take 1 front) ≡ Ok g → problem_of variants (Text name ∷ front ++ more) ≡ problem_on g more
+  after-problem front more g one is = start-problem variants (Text name ∷ front) more g (omega (arith, one)) is
+
+  pub after-needs : (front more : List Line) (g : Played) → length front ≡ 1 → game_of variants (Text name ∷ take 1 front) ≡ Ok g
+      → 1 + lines_on_problem g more ≤ lines_of_problem variants (Text name ∷ front ++ more) - 1
+  after-needs front more g one is = let two = start-problem-needs variants (Text name ∷ front) more g (omega (arith, one)) is in omega (arith, two)
 
 -- ---- a problem has exactly four lines
 

@@ -2,7 +2,7 @@
 use Rattle.std.specs.Prelude.{ℕ, ◌&&◌, nat_le, List, length, take, drop, Option, Some, None, bytes_eq, codes, if◌then◌else◌}
 use Rattle.rules_model.specs.declared.board.Side.{Side}
 use Rattle.rules_model.specs.declared.board.Side.TheVariants.{White, Black}
-use Rattle.fen_model.specs.Numbers.{number_of}
+use Rattle.foundation.specs.Numbers.{number_of}
 use Rattle.game_text.specs.declared.goal.Goal.{Goal}
 
 -- what stands after these words, where the text begins with them

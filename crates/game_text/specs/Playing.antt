@@ -2,7 +2,7 @@
 use Rattle.std.specs.Prelude.{ℕ, ◌+◌, nat_lt, Bool, not, List, [], ◌∷◌, Option, Some, None, Result, Ok, Err, length, filter, bytes_eq, if◌then◌else◌}
 use Rattle.std.specs.List.{find, slice_split}
 use Rattle.foundation.specs.Tests.{is_nil}
-use Rattle.io_ports.specs.Heard.{is_blank}
+use Rattle.foundation.specs.Cuts.{is_blank}
 use Rattle.rules_model.specs.declared.moves.Move.{Move}
 use Rattle.rules_model.specs.MoveText.{text_of}
 use Rattle.game_play.specs.Played.{Played, legal_in, longer}

@@ -14,7 +14,7 @@ pub(crate) fn text_of(alloc: Global, bytes: &[u8]) -> Result<Text, AllocError>
 }
 
 /// A copy of the fault of a section.
-pub(crate) fn copy_of(alloc: Global, fault: &SectionFault) -> Result<SectionFault, AllocError>
+pub fn copy_of(alloc: Global, fault: &SectionFault) -> Result<SectionFault, AllocError>
     ensures { IfOk result (λ copy. copy ≡ fault.now) }
 {
     match fault {

@@ -1,13 +1,11 @@
 //! Plays the moves of a line of a game text.
-ghost use Rattle.std.specs.Prelude.{◌≡◌, ◌+◌, ◌<◌, ◌∷◌, [], filter, length, position, IfOk, IfSome};
-ghost use Rattle.std.specs.List.{slice_split};
-ghost use Rattle.std.specs.Option.{option_copied};
-ghost use Rattle.io_ports.specs.Heard.{is_blank, parts_after};
+ghost use Rattle.std.specs.Prelude.{◌≡◌, ◌+◌, ◌∷◌, [], filter, length, IfOk};
 ghost use Rattle.game_text.specs.Playing.{is_word, play, play_all, words_of};
 ghost use Rattle.game_text.specs.ReadView.{Plays};
 
 use crate::copies::text_of;
 use crate::fault::{GameFault, NoGame};
+use foundation::cut_word;
 use game_play::{Game, PlayFault};
 use move_names::read_move;
 use std::alloc::{AllocError, Global};
@@ -22,8 +20,8 @@ fn bad_move(alloc: Global, game: &Game, text: &[u8]) -> Result<NoGame, AllocErro
     Ok(NoGame::Faulty(GameFault::BadMove { number, text }))
 }
 
-// Plays the legal move with this text.
-fn play_move(alloc: Global, game: &mut Game, text: &[u8]) -> Result<(), NoGame>
+/// Plays the legal move with this text, which is all of the text.
+pub fn play_move(alloc: Global, game: &mut Game, text: &[u8]) -> Result<(), NoGame>
     ensures { Plays (play game.old text.now) game.new result }
 {
     game.is_played();
@@ -49,31 +47,13 @@ fn play_part(alloc: Global, game: &mut Game, part: &[u8]) -> Result<(), NoGame>
     }
 }
 
-// The place of the first space or tab.
-fn blank_place(text: &[u8]) -> Option<usize>
-    ensures place { result ≡ position is_blank text.now }
-    ensures within { IfSome result (λ place. place < length text.now) }
-{
-    text.iter().position(|byte| *byte == b' ' || *byte == b'\t')
-}
-
-// The text up to the first space or tab, and the text after that.
-fn cut_part(text: &[u8]) -> (&[u8], Option<&[u8]>)
-    ensures { slice_split is_blank text.now ≡ result.0.now ∷ parts_after (option_copied result.1) }
-{
-    match blank_place(text) {
-        Some(place) => (&text[..place], Some(&text[place + 1..])),
-        None => (text, None),
-    }
-}
-
 /// Plays the moves of a line, one after another, up to the first faulty one.
 pub(crate) fn play_line(alloc: Global, game: &mut Game, text: &[u8]) -> Result<(), NoGame>
     ensures { Plays (play_all game.old (words_of text.now)) game.new result }
 {
     let mut left = Some(text);
     while let Some(rest) = left {
-        let (part, after) = cut_part(rest);
+        let (part, after) = cut_word(rest);
         play_part(alloc, game, part)?;
         left = after;
     }

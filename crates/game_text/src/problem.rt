@@ -1,6 +1,7 @@
 //! Reads a problem from a source.
-ghost use Rattle.std.specs.Prelude.{length, take};
+ghost use Rattle.std.specs.Prelude.{◌-◌, ◌∷◌, length, take};
 ghost use Rattle.io_ports.specs.Cause.{HasCause};
+ghost use Rattle.io_ports.specs.Lines.{Text};
 ghost use Rattle.game_text.specs.Heard.{Heard};
 ghost use Rattle.game_text.specs.Problem as Said;
 ghost use Rattle.game_text.specs.ReadView.{IsUnread, Says, Tells};
@@ -8,7 +9,7 @@ ghost use Rattle.game_text.specs.ReadView.{IsUnread, Says, Tells};
 use crate::fault::{GameFault, NoGame};
 use crate::goal::{Goal, read_goal};
 use crate::play::play_line;
-use crate::read::read_start;
+use crate::read::{read_start, read_variant};
 use game_play::Game;
 use io_ports::{Got, LineBuf, Source};
 use std::alloc::Global;
@@ -90,4 +91,23 @@ pub fn read_problem<S: Source>(
     let mut line = LineBuf::new(alloc)?;
     let game = read_start(alloc, variants, source, &mut line)?;
     read_on(alloc, game, source, &mut line)
+}
+
+/// Reads the rest of a problem of one of these variants whose line 1 is in the buffer: a game text whose moves stand on line 3 alone, which
+/// may be empty, and on line 4 the goal, `mate white N` or `mate black N`. What comes after line 4 is left in the source.
+///
+/// The answer is the problem, or the first fault: that of the first faulty line, and on a line that of the first faulty word. No line after
+/// it is taken. `Unread` is the answer where the source failed, and `Memory` where there was none; then nothing is known of the lines.
+pub fn read_problem_after<S: Source>(
+    alloc: Global,
+    variants: &Variants,
+    source: &mut S,
+    line: &mut LineBuf,
+) -> Result<Problem, NoGame>
+    ensures heard { Heard (S.left source.old) (S.left source.new) (λ lines. Said.lines_of_problem variants.now (Text line.old ∷ lines) - 1)
+        (λ lines. Tells (Said.problem_of variants.now (Text line.old ∷ lines)) result) }
+    ensures cause { HasCause (S.faults source.old) (S.faults source.new) (IsUnread result) }
+{
+    let game = read_variant(alloc, variants, source, line)?;
+    read_on(alloc, game, source, line)
 }

@@ -104,8 +104,8 @@ fn refused_variant(alloc: Global, why: &SectionFault) -> Result<NoGame, AllocErr
     Ok(NoGame::Faulty(GameFault::RefusedVariant(why)))
 }
 
-// Reads line 2 after line 1, which the buffer holds.
-fn read_variant<S: Source>(
+/// Reads line 2 after line 1, which the buffer holds.
+pub(crate) fn read_variant<S: Source>(
     alloc: Global,
     variants: &Variants,
     source: &mut S,

@@ -1,5 +1,6 @@
 -- Moves of a source, a sink and a clock, one after another.
 use Rattle.std.proofs.Common.{◌≡◌, ℕ, List, [], ◌∷◌, ◌++◌, refl, ap, sym, subst, ◌∙◌, append_assoc, map, Some, None}
+use Rattle.std.proofs.lemmas.List.{append-nil}
 use Rattle.std.specs.declared.option.Option.{Option}
 use Rattle.std.specs.Io.KnownBytes.{Appends}
 use Rattle.io_ports.specs.Cause.{counted}
@@ -11,10 +12,6 @@ use Rattle.io_ports.specs.Trace.{Moves}
 pub map_line-append : (xs ys : List (List ℕ)) → map line_of (xs ++ ys) ≡ map line_of xs ++ map line_of ys
 map_line-append [] ys = refl
 map_line-append (x ∷ xs) ys = ap (λ lines. line_of x ∷ lines) (map_line-append xs ys)
-
-append-nil : {A : Type 0} (xs : List A) → xs ≡ xs ++ []
-append-nil [] = refl
-append-nil (x ∷ xs) = ap (λ l. x ∷ l) (append-nil xs)
 
 pub count_after-append : (xs ys : List ℕ) (count : ℕ) → count_after count (xs ++ ys) ≡ count_after (count_after count xs) ys
 count_after-append [] ys count = refl
@@ -44,7 +41,7 @@ takes_more (Some a) (Some b) (Some c) xs ys first then =
 -- nothing was put
 pub appends_none : (taken : Option (List ℕ)) → Appends taken taken []
 appends_none None = tt
-appends_none (Some bytes) = append-nil bytes
+appends_none (Some bytes) = sym (append-nil bytes)
 
 -- a text was put, and then another
 pub appends_more : (a b c : Option (List ℕ)) (xs ys : List ℕ) → Appends a b xs → Appends b c ys → Appends a c (xs ++ ys)

@@ -2,14 +2,11 @@
 use Rattle.std.specs.Prelude.{ℕ, List, [], ◌∷◌, Bool, ◌==◌, ◌||◌, bytes_eq, if◌then◌else◌, None, Some, codes}
 use Rattle.std.specs.declared.option.Option.{Option}
 use Rattle.std.specs.List.{slice_split, list_any}
+use Rattle.foundation.specs.Cuts.{is_blank}
 use Rattle.io_ports.specs.declared.dialect.Dialect.{Dialect}
 use Rattle.io_ports.specs.declared.dialect.Dialect.TheVariants.{Uci, Cecp}
 use Rattle.io_ports.specs.declared.dialect.Heard.{Heard}
 use Rattle.io_ports.specs.declared.dialect.Heard.TheVariants.{Reply, Skip, Stop}
-
--- spaces and tabs separate words
-abbrev pub is_blank : ℕ → Bool
-is_blank byte = byte == 32 || byte == 9
 
 -- a word is one of these
 abbrev pub is_among : List (List ℕ) → List ℕ → Bool
@@ -43,12 +40,8 @@ abbrev pub heard_words : List (List ℕ) → Heard
 heard_words [] = Skip
 heard_words (word ∷ words) = or_else (heard_word word) (heard_words words)
 
+-- spaces and tabs separate words
 abbrev pub heard : Dialect → List ℕ → Heard
 heard Uci line = heard_words (slice_split is_blank line)
 heard Cecp [] = Skip
 heard Cecp (byte ∷ bytes) = Stop
-
--- the words of what is left, where anything is left
-abbrev pub parts_after : Option (List ℕ) → List (List ℕ)
-parts_after None = []
-parts_after (Some text) = slice_split is_blank text

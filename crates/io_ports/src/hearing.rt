@@ -1,10 +1,11 @@
-ghost use Rattle.std.specs.Prelude.{◌≡◌, ◌<◌, ◌∷◌, length, position, IfSome};
+ghost use Rattle.std.specs.Prelude.{◌≡◌};
 ghost use Rattle.std.specs.List.{slice_split};
-ghost use Rattle.std.specs.Option.{option_copied};
-ghost use Rattle.io_ports.specs.Heard.{is_blank, heard, heard_words, heard_word, is_among, quiet, stopping, parts_after};
+ghost use Rattle.foundation.specs.Cuts.{is_blank};
+ghost use Rattle.io_ports.specs.Heard.{heard, heard_words, heard_word, is_among, quiet, stopping};
 
 use crate::dialect::{Dialect, Heard};
 use crate::reply::ReplyText;
+use foundation::cut_word;
 
 /// What a line of at most `MAX_LINE` bytes does that is heard during a search.
 ///
@@ -73,28 +74,4 @@ fn is_stopping(word: &[u8]) -> bool
         || word == b"status".as_slice()
         || word == b"strategy".as_slice()
         || word == b"quit".as_slice()
-}
-
-fn is_blank(byte: u8) -> bool
-    ensures { result ≡ is_blank byte }
-{
-    byte == b' ' || byte == b'\t'
-}
-
-// The place of the first space or tab.
-fn blank_place(text: &[u8]) -> Option<usize>
-    ensures place { result ≡ position is_blank text.now }
-    ensures within { IfSome result (λ place. place < length text.now) }
-{
-    text.iter().position(|byte| is_blank(*byte))
-}
-
-// The text up to the first space or tab, and the text after that.
-fn cut_word(text: &[u8]) -> (&[u8], Option<&[u8]>)
-    ensures { slice_split is_blank text.now ≡ result.0.now ∷ parts_after (option_copied result.1) }
-{
-    match blank_place(text) {
-        Some(place) => (&text[..place], Some(&text[place + 1..])),
-        None => (text, None),
-    }
 }

@@ -26,7 +26,8 @@ use Rattle.variant_model.specs.Made.{resolved}
 use Rattle.variant_model.specs.PieceLetters.{gives_letter, is_given_twice, letter_in, letter_twice, letter_with, letter_within, own_letter, piece_letter, unless_given}
 use Rattle.variant_model.proofs.EntryLaws.{entry_by_fault}
 use Rattle.foundation.specs.Count.{first_below, or_else}
-use Rattle.section_rules.proofs.TableLemmas.{count-cons, one_if}
+use Rattle.foundation.specs.Tests.{one_if}
+use Rattle.foundation.proofs.SetLemmas.{count_by-cons}
 use Rattle.section_rules.proofs.TermLaws.{no_either, no_first}
 
 -- ---- letters
@@ -230,14 +231,14 @@ no_letter_twice lines k e l =
 -- the one at a place passes
 count_one : {X : Type 0} (test : X → Bool) (xs : List X) (i : ℕ) (d : X) → i < length xs → test (get_or xs i d) ≡ true → 1 ≤ count_by test xs
 count_one test [] i d l e = absurd (omega arith)
-count_one test (x ∷ xs) zero d l e = let c = count-cons test x xs in let one : one_if (test x) ≡ one_if true = ap one_if e in omega (arith, c, one)
-count_one test (x ∷ xs) (suc i) d l e = let rest = count_one test xs i d (omega arith) e in let c = count-cons test x xs in omega (arith, c, rest)
+count_one test (x ∷ xs) zero d l e = let c = count_by-cons test x xs in let one : one_if (test x) ≡ one_if true = ap one_if e in omega (arith, c, one)
+count_one test (x ∷ xs) (suc i) d l e = let rest = count_one test xs i d (omega arith) e in let c = count_by-cons test x xs in omega (arith, c, rest)
 
 -- the first and one at a later place pass
 count_two : {X : Type 0} (test : X → Bool) (x : X) (xs : List X) (i : ℕ) (d : X) → i < length xs → test x ≡ true → test (get_or xs i d) ≡ true → nat_lt 1 (count_by test (x ∷ xs)) ≡ true
 count_two test x xs i d l first e =
     let rest = count_one test xs i d l e in
-    let c = count-cons test x xs in
+    let c = count_by-cons test x xs in
     let one : one_if (test x) ≡ one_if true = ap one_if first in
     let two : 1 < count_by test (x ∷ xs) = omega (arith, c, one, rest) in
     grind (arith, nat_tests, two)

@@ -24,7 +24,7 @@ use Rattle.rules_model.specs.Kinds.{has_kind, is_king, is_pawn, kind_rule, names
 use Rattle.rules_model.specs.Castling.{castling_on}
 use Rattle.variant_ini.specs.Section.{Section, section_at}
 use Rattle.variant_options.specs.Letters.{kind, letter_of}
-use Rattle.variant_options.specs.Numbers.{number_of, number_within, within}
+use Rattle.foundation.specs.Numbers.{number_of, number_within, within}
 use Rattle.variant_options.specs.Options as option
 use Rattle.variant_options.specs.Options.{is_pawn_key}
 use Rattle.variant_options.specs.PieceTable.{PieceRow, pieces, read_piece, value_word, wordless}

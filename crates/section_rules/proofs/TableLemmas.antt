@@ -6,10 +6,11 @@ use Rattle.std.specs.Str.{bytes_eq}
 use Rattle.std.specs.Prelude.{◌-◌, ◌≤◌, if◌then◌else◌, nat_lt, reverse}
 use Rattle.std.proofs.lemmas.List.{ext_get_or, get_or-map, length-map, reverse-append}
 use Rattle.std.proofs.lemmas.List.Folds.{find-append}
-use Rattle.std.proofs.lemmas.List.Sums.{sum_by-cons}
 use Rattle.std.proofs.lemmas.Bool.Decides.{nat_tests}
 use Rattle.foundation.specs.Count.{first_below, or_else}
+use Rattle.foundation.specs.Tests.{one_if}
 use Rattle.foundation.proofs.CountLemmas.{first_below-more}
+use Rattle.foundation.proofs.SetLemmas.{count_by-cons}
 use Rattle.variant_ini.specs.declared.key_line.KeyLine.{KeyLine}
 use Rattle.variant_ini.specs.Section.{last_value, or_here}
 use Rattle.variant_options.specs.PieceTable.{PieceRow, pieces, wordless}
@@ -28,18 +29,12 @@ fill_pieces f ys d long each = fill_map f pieces ys (wordless []) d long each
 pub piece_mapped : {Y : Type 0} (f : PieceRow → Y) (ys : List Y) (d : Y) (k : ℕ) → ys ≡ map f pieces → k < 56 → get_or ys k d ≡ f (get_or pieces k (wordless []))
 piece_mapped f ys d k is l = ap (λ zs. get_or zs k d) is ∙ get_or-map f pieces k (wordless []) d l
 
-abbrev pub one_if : Bool → ℕ
-one_if b = cond b 1 0
-
-pub count-cons : {X : Type 0} (test : X → Bool) (x : X) (xs : List X) → count_by test (x ∷ xs) ≡ one_if (test x) + count_by test xs
-count-cons test x xs = sum_by-cons (λ y. one_if (test y)) x xs
-
 pub count_by-map : {X Y : Type 0} (f : X → Y) (test : Y → Bool) (xs : List X) → count_by test (map f xs) ≡ count_by (λ x. test (f x)) xs
 count_by-map f test [] = refl
 count_by-map f test (x ∷ xs) =
-    count-cons test (f x) (map f xs)
+    count_by-cons test (f x) (map f xs)
     ∙ ap (λ n. one_if (test (f x)) + n) (count_by-map f test xs)
-    ∙ sym (count-cons (λ y. test (f y)) x xs)
+    ∙ sym (count_by-cons (λ y. test (f y)) x xs)
 
 -- ---- the last line with a key
 

@@ -2,14 +2,14 @@
 ghost use Rattle.std.specs.Prelude.{◌≡◌, ◌≤◌, ◌<◌, None};
 ghost use Rattle.variant_options.specs.declared.value.Listed.TheVariants.{Only};
 ghost use Rattle.variant_options.specs.Letters.{mask_of};
-ghost use Rattle.variant_options.specs.Numbers.{number_within};
+ghost use Rattle.foundation.specs.Numbers.{number_within};
 ghost use Rattle.variant_options.specs.Readings as Readings;
 ghost use Rattle.section_rules.specs.Said.{resolved_at, value_or};
 
 use crate::resolved::Resolved;
+use foundation::number_within;
 use rules_model::{Kind, Value};
 use variant_options::Listed;
-use variant_options::numbers::number_within;
 use variant_options::readings::{
     read_file, read_flag, read_fold, read_letter, read_letters, read_letters_or_all, read_result,
     read_result_or_none,

@@ -25,7 +25,7 @@ use Rattle.strategy.specs.declared.nodes.Edge.{Edge}
 use Rattle.strategy.specs.declared.nodes.Node.{Node}
 use Rattle.strategy.specs.declared.nodes.Strategy.{Strategy}
 use Rattle.strategy.specs.declared.reader.Reader.{Reader}
-use Rattle.strategy.specs.Cut.{cut}
+use Rattle.foundation.specs.Cuts.{cut}
 use Rattle.strategy.specs.Said.{attacker_said, count_said, end_line, said}
 use Rattle.strategy.specs.Reading.{◌>>=◌, AreSound, begun, counted, edge_at, edge_from, finished, is_next, more_edges, step, strategy_of, taken, with_count, with_edge, with_last_edge, with_move, with_node, with_position, with_said, with_text}
 use Rattle.strategy.specs.Writing.{AreReadable, IsReadBack, IsReadable, attacker_text, count_text, edge_text, header_texts, node_text, nodes_texts, strategy_texts}

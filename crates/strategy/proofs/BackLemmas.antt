@@ -28,7 +28,7 @@ use Rattle.fen_model.specs.declared.fault.FenFault.TheVariants.{Length}
 use Rattle.fen_model.specs.declared.fault.FenFault.{FenFault}
 use Rattle.fen_model.specs.Chain as fen
 use Rattle.fen_model.specs.Fields.{Fields, fields_of}
-use Rattle.fen_model.specs.Numbers.{is_digit, number_of}
+use Rattle.foundation.specs.Numbers.{is_digit, number_of}
 use Rattle.fen_model.specs.Printing.{board_text, ep_text, fen_text, field_texts, pocket_text, side_text}
 use Rattle.fen_model.specs.Reading.{fen_of, said_by}
 use Rattle.fen_model.proofs.BackLaws.{board-bytes, good-board, is_board_byte}
@@ -37,7 +37,7 @@ use Rattle.fen_model.proofs.HandBack.{is_pocket_byte, pocket-bytes}
 use Rattle.fen_model.proofs.HeldBack.{rights-all}
 use Rattle.fen_model.proofs.JoinLaws.{Each, Lacks, join-all, lacks-from}
 use Rattle.fen_model.proofs.SoundParts.{Parts, parts}
-use Rattle.strategy.specs.Cut.{cut, cut_where, is_blank}
+use Rattle.foundation.specs.Cuts.{cut, cut_where}
 use Rattle.strategy.specs.Said.{count_after, count_said, edge_after, edge_line, edge_said, edge_to, node_after, node_line, node_ranked, node_said, node_with, said, said_after}
 use Rattle.strategy.specs.declared.nodes.Edge.{Edge}
 use Rattle.strategy.specs.declared.nodes.Node.{Node}
@@ -225,7 +225,10 @@ fen-short rules text p is = ltb-false 1024 (length text) (within_if rules (nat_l
 
 -- ---- words
 
-place_at : (text rest : List ℕ) → Lacks 32 text → position_or_len is_blank (text ++ 32 ∷ rest) ≡ length text
+abbrev is_space : ℕ → Bool
+is_space b = b == 32
+
+place_at : (text rest : List ℕ) → Lacks 32 text → position_or_len is_space (text ++ 32 ∷ rest) ≡ length text
 place_at [] rest lacks = refl
 place_at (b ∷ text) rest lacks =
     let both = and_parts (not (b == 32)) (list_all (λ c. not (c == 32)) text) lacks in
@@ -233,16 +236,16 @@ place_at (b ∷ text) rest lacks =
     let more = place_at text rest both.1 in
     rw here (omega (arith, more))
 
-place_is : (text : List ℕ) (n : ℕ) → position_or_len is_blank text ≡ n → n < length text → position is_blank text ≡ Some n
+place_is : (text : List ℕ) (n : ℕ) → position_or_len is_space text ≡ n → n < length text → position is_space text ≡ Some n
 place_is text n is below =
     let within : nat_lt n (length text) ≡ true = lt-ltb n (length text) below in
     rw is (rw within refl)
 
-cut_at : (text : List ℕ) (n : ℕ) → position is_blank text ≡ Some n → cut text ≡ (take n text, Some (drop (n + 1) text))
+cut_at : (text : List ℕ) (n : ℕ) → position is_space text ≡ Some n → cut 32 text ≡ (take n text, Some (drop (n + 1) text))
 unfolding cut
 cut_at text n is = ap (cut_where text) is
 
-pub cut-word : (word rest : List ℕ) → Lacks 32 word → cut (word ++ 32 ∷ rest) ≡ (word, Some rest)
+pub cut-word : (word rest : List ℕ) → Lacks 32 word → cut 32 (word ++ 32 ∷ rest) ≡ (word, Some rest)
 cut-word word rest lacks =
     let front = take-append_seam word (32 ∷ rest) in
     let back : drop (length word + 1) (word ++ 32 ∷ rest) ≡ rest = drop-append-add word (32 ∷ rest) 1 in

@@ -10,7 +10,8 @@ use Rattle.strategy.specs.declared.fault.StrategyFault.TheVariants.{BadNumber}
 use Rattle.strategy.specs.declared.nodes.Node.{Node}
 use Rattle.strategy.specs.declared.reader.Reader.{Reader}
 use Rattle.strategy.specs.Said.{Said, node_line, edge_line, end_line, said}
-use Rattle.strategy.specs.SaidView.{capped, said_capped}
+use Rattle.foundation.specs.Numbers.{capped}
+use Rattle.strategy.specs.SaidView.{said_capped}
 use Rattle.strategy.specs.Reading.{is_next, with_position, with_node, with_move, edge_from, with_edge, with_said, with_text}
 
 same_test : (s t : Bool) → (s ≡ true → t ≡ true) → (t ≡ true → s ≡ true) → s ≡ t

@@ -1,5 +1,4 @@
 pub mod Fault
-pub mod Cut
 pub mod Said
 pub mod SaidView
 pub mod Reading

@@ -2,8 +2,8 @@
 use Rattle.std.specs.Prelude.{ℕ, List, Option, None, Some, bytes_eq, codes, if◌then◌else◌}
 use Rattle.rules_model.specs.declared.board.Side.{Side}
 use Rattle.rules_model.specs.declared.board.Side.TheVariants.{White, Black}
-use Rattle.fen_model.specs.Numbers.{number_of}
-use Rattle.strategy.specs.Cut.{cut}
+use Rattle.foundation.specs.Numbers.{number_of}
+use Rattle.foundation.specs.Cuts.{cut}
 
 -- ---- the header
 
@@ -20,7 +20,7 @@ count_after word (Some number) = if bytes_eq word (codes "nodes") then number_of
 
 -- `nodes N`
 unfoldable pub count_said : List ℕ → Option ℕ
-count_said text = count_after (cut text).0 (cut text).1
+count_said text = count_after (cut 32 text).0 (cut 32 text).1
 
 -- ---- the nodes
 
@@ -43,11 +43,11 @@ node_ranked number rank (Some fen) = node_with (number_of number) (number_of ran
 
 abbrev pub node_after : List ℕ → Option (List ℕ) → Option Said
 node_after number None = None
-node_after number (Some rest) = node_ranked number (cut rest).0 (cut rest).1
+node_after number (Some rest) = node_ranked number (cut 32 rest).0 (cut 32 rest).1
 
 -- `I RANK FEN`
 unfoldable pub node_said : List ℕ → Option Said
-node_said text = node_after (cut text).0 (cut text).1
+node_said text = node_after (cut 32 text).0 (cut 32 text).1
 
 abbrev pub edge_to : List ℕ → Option ℕ → Option Said
 edge_to chosen None = None
@@ -59,7 +59,7 @@ edge_after chosen (Some to) = edge_to chosen (number_of to)
 
 -- `MOVE TO`
 unfoldable pub edge_said : List ℕ → Option Said
-edge_said text = edge_after (cut text).0 (cut text).1
+edge_said text = edge_after (cut 32 text).0 (cut 32 text).1
 
 abbrev pub said_after : List ℕ → Option (List ℕ) → Option Said
 said_after word None = if bytes_eq word (codes "end") then Some end_line else None
@@ -70,4 +70,4 @@ said_after word (Some rest) =
 
 -- `node I RANK FEN`, `edge MOVE TO` or `end`: the words are separated by single blanks
 unfoldable pub said : List ℕ → Option Said
-said text = said_after (cut text).0 (cut text).1
+said text = said_after (cut 32 text).0 (cut 32 text).1

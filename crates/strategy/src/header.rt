@@ -2,10 +2,9 @@
 ghost use Rattle.std.specs.Prelude.{◌≡◌};
 ghost use Rattle.std.specs.Option.{option_map};
 ghost use Rattle.strategy.specs.Said.{attacker_said, count_said};
-ghost use Rattle.strategy.specs.SaidView.{capped};
+ghost use Rattle.foundation.specs.Numbers.{capped};
 
-use crate::cut::cut_word;
-use crate::number::read_number;
+use foundation::{cut_at, read_number};
 use rules_model::Side;
 
 /// Reads `attacker white` or `attacker black`.
@@ -27,7 +26,7 @@ pub(crate) fn read_attacker(text: &[u8]) -> Option<Side>
 pub(crate) fn read_count(text: &[u8]) -> Option<u64>
     ensures { result ≡ option_map capped (count_said text.now) }
 {
-    let (word, number) = cut_word(text);
+    let (word, number) = cut_at(text, b' ');
     let number = number?;
     if word == b"nodes".as_slice() {
         read_number(number)

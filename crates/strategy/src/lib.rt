@@ -2,12 +2,10 @@
 //! attacker's move, or a move for each reply of the other side.
 #![tactic(auto)]
 
-mod cut;
 mod fault;
 mod header;
 pub mod laws;
 mod nodes;
-mod number;
 mod reader;
 mod reading;
 mod said;
@@ -18,5 +16,5 @@ mod writing;
 pub use fault::StrategyFault;
 pub use nodes::{Counters, Edge, Edges, Node, Nodes, Strategy};
 pub use reader::Reader;
-pub use reading::read;
+pub use reading::{cut_line, read};
 pub use writing::write;

@@ -36,7 +36,7 @@ fn stripped(text: &[u8], byte: u8) -> &[u8]
 }
 
 /// The first line, without its LF and a CR before that, and the text after it.
-fn cut_line(bytes: &[u8]) -> (&[u8], &[u8])
+pub fn cut_line(bytes: &[u8]) -> (&[u8], &[u8])
     requires { 0 < length bytes.now }
     ensures line { result.0.now ≡ text_of (take_through line_feed bytes.now) }
     ensures rest { result.1.now ≡ drop_through line_feed bytes.now }

@@ -4,8 +4,7 @@ ghost use Rattle.std.specs.Option.{option_map};
 ghost use Rattle.strategy.specs.Said.{said, node_said, edge_said};
 ghost use Rattle.strategy.specs.SaidView.{said_view, said_capped};
 
-use crate::cut::cut_word;
-use crate::number::read_number;
+use foundation::{cut_at, read_number};
 
 /// What a line says. A number above 2^64 - 1 counts as that one.
 #[derive(Clone, Copy)]
@@ -27,8 +26,8 @@ pub(crate) enum SaidText<'a> {
 fn read_node(text: &[u8]) -> Option<SaidText<'_>>
     ensures { option_map said_view result ≡ option_map said_capped (node_said text.now) }
 {
-    let (number, rest) = cut_word(text);
-    let (rank, fen) = cut_word(rest?);
+    let (number, rest) = cut_at(text, b' ');
+    let (rank, fen) = cut_at(rest?, b' ');
     let fen = fen?;
     let number = read_number(number)?;
     let rank = read_number(rank)?;
@@ -40,7 +39,7 @@ fn read_node(text: &[u8]) -> Option<SaidText<'_>>
 fn read_edge(text: &[u8]) -> Option<SaidText<'_>>
     ensures { option_map said_view result ≡ option_map said_capped (edge_said text.now) }
 {
-    let (chosen, to) = cut_word(text);
+    let (chosen, to) = cut_at(text, b' ');
     let to = read_number(to?)?;
     Some(SaidText::Edge { chosen, to })
 }
@@ -50,7 +49,7 @@ fn read_edge(text: &[u8]) -> Option<SaidText<'_>>
 pub(crate) fn read_said(text: &[u8]) -> Option<SaidText<'_>>
     ensures { option_map said_view result ≡ option_map said_capped (said text.now) }
 {
-    let (word, rest) = cut_word(text);
+    let (word, rest) = cut_at(text, b' ');
     match rest {
         None if word == b"end".as_slice() => Some(SaidText::End),
         None => None,

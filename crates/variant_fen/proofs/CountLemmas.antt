@@ -6,23 +6,23 @@ use Rattle.std.proofs.lemmas.Bool.{cases_Bool, le-leb, lt-leb, leb-true, leb-fal
 use Rattle.fen_model.specs.declared.fault.FenFault.{FenFault}
 use Rattle.fen_model.specs.declared.fault.FenFault.TheVariants.{Checks}
 use Rattle.fen_model.specs.Counts.{checks_in, checks_of, is_plus, two_checks}
-use Rattle.fen_model.specs.Numbers.{number_of}
-use Rattle.variant_fen.specs.Cut.{parts_after}
+use Rattle.foundation.specs.Numbers.{number_of}
+use Rattle.foundation.specs.Cuts.{parts_after}
 use Rattle.variant_fen.proofs.FieldLemmas.{split_first}
 
-pub checks_one : (text white : List ℕ) (rest : Option (Bor (List ℕ))) → slice_split is_plus text ≡ white ∷ parts_after 43 (option_copied rest) → rest ≡ None → checks_of text ≡ Err Checks
+pub checks_one : (text white : List ℕ) (rest : Option (Bor (List ℕ))) → slice_split is_plus text ≡ white ∷ parts_after (λ b. b == 43) (option_copied rest) → rest ≡ None → checks_of text ≡ Err Checks
 unfolding checks_of
-checks_one text white rest cut none = ap checks_in (cut ∙ ap (λ o. white ∷ parts_after 43 (option_copied o)) none)
+checks_one text white rest cut none = ap checks_in (cut ∙ ap (λ o. white ∷ parts_after (λ b. b == 43) (option_copied o)) none)
 
-checks_more : (text white black : List ℕ) (rest : Option (Bor (List ℕ))) → is_some rest ≡ true → checks_in (white ∷ black ∷ parts_after 43 (option_copied rest)) ≡ Err Checks
+checks_more : (text white black : List ℕ) (rest : Option (Bor (List ℕ))) → is_some rest ≡ true → checks_in (white ∷ black ∷ parts_after (λ b. b == 43) (option_copied rest)) ≡ Err Checks
 checks_more text white black None h = cc
 checks_more text white black (Some rest) h = let first = split_first is_plus rest.now in rw first.2 refl
 
-pub checks_three : (text white black second : List ℕ) (rest : Option (Bor (List ℕ))) → slice_split is_plus text ≡ white ∷ slice_split is_plus second → slice_split is_plus second ≡ black ∷ parts_after 43 (option_copied rest) → is_some rest ≡ true → checks_of text ≡ Err Checks
+pub checks_three : (text white black second : List ℕ) (rest : Option (Bor (List ℕ))) → slice_split is_plus text ≡ white ∷ slice_split is_plus second → slice_split is_plus second ≡ black ∷ parts_after (λ b. b == 43) (option_copied rest) → is_some rest ≡ true → checks_of text ≡ Err Checks
 unfolding checks_of
 checks_three text white black second rest cut more some = ap checks_in (cut ∙ ap (λ ps. white ∷ ps) more) ∙ checks_more text white black rest some
 
-no_more : (white black : List ℕ) (rest : Option (Bor (List ℕ))) → is_some rest ≡ false → checks_in (white ∷ black ∷ parts_after 43 (option_copied rest)) ≡ two_checks (number_of white) (number_of black)
+no_more : (white black : List ℕ) (rest : Option (Bor (List ℕ))) → is_some rest ≡ false → checks_in (white ∷ black ∷ parts_after (λ b. b == 43) (option_copied rest)) ≡ two_checks (number_of white) (number_of black)
 no_more white black None h = refl
 no_more white black (Some rest) h = cc
 
@@ -49,7 +49,7 @@ two_capped (Some white) (Some black) =
     (λ (n : (nat_le white 99 && nat_le black 99) ≡ false). rw (first, second, n) refl)
     (cases_Bool (nat_le white 99 && nat_le black 99))
 
-pub checks_two : (text white black second : List ℕ) (rest : Option (Bor (List ℕ))) → slice_split is_plus text ≡ white ∷ slice_split is_plus second → slice_split is_plus second ≡ black ∷ parts_after 43 (option_copied rest) → is_some rest ≡ false
+pub checks_two : (text white black second : List ℕ) (rest : Option (Bor (List ℕ))) → slice_split is_plus text ≡ white ∷ slice_split is_plus second → slice_split is_plus second ≡ black ∷ parts_after (λ b. b == 43) (option_copied rest) → is_some rest ≡ false
     → checks_of text ≡ two_checks (option_map (min 10000) (number_of white)) (option_map (min 10000) (number_of black))
 unfolding checks_of
 checks_two text white black second rest cut more none = ap checks_in (cut ∙ ap (λ ps. white ∷ ps) more) ∙ no_more white black rest none ∙ sym (two_capped (number_of white) (number_of black))

@@ -1,12 +1,12 @@
 -- Fields that are too many.
-use Rattle.std.proofs.Common.{◌≡◌, ℕ, ◌≤◌, Bool, true, false, not, cond, List, [], ◌∷◌, Option, Some, None, length, Bor, refl, ⊎_elim, arith}
+use Rattle.std.proofs.Common.{◌==◌, ◌≡◌, ℕ, ◌≤◌, Bool, true, false, not, cond, List, [], ◌∷◌, Option, Some, None, length, Bor, refl, ⊎_elim, arith}
 use Rattle.std.specs.List.{slice_split, onto_first, position, position_or_len}
 use Rattle.std.proofs.lemmas.Bool.{cases_Bool, ltb-false}
 use Rattle.std.proofs.lemmas.List.Sums.{prefix_len-le-length}
 use Rattle.std.proofs.lemmas.List.Splits.{slice_split-cons_yes, slice_split-cons_no}
 use Rattle.std.specs.Option.{is_some, option_copied}
 use Rattle.fen_model.specs.Fields.{counted_fields, is_blank, plain_fields}
-use Rattle.variant_fen.specs.Cut.{parts_after}
+use Rattle.foundation.specs.Cuts.{parts_after}
 
 abbrev pub HasFirst : List (List ℕ) → Type 0
 HasFirst parts = (x : List ℕ) × (xs : List (List ℕ)) × (parts ≡ x ∷ xs)
@@ -37,13 +37,13 @@ position_none p text h =
     let at_least : length text ≤ position_or_len p text = ltb-false _ _ (none_before _ _ h) in
     omega (arith, prefix_len-le-length (λ b. not (p b)) text)
 
-pub seven_after : (a b c d e f : List ℕ) (rest : Option (Bor (List ℕ))) → is_some rest ≡ true → plain_fields (a ∷ b ∷ c ∷ d ∷ e ∷ f ∷ parts_after 32 (option_copied rest)) ≡ None
+pub seven_after : (a b c d e f : List ℕ) (rest : Option (Bor (List ℕ))) → is_some rest ≡ true → plain_fields (a ∷ b ∷ c ∷ d ∷ e ∷ f ∷ parts_after (λ b. b == 32) (option_copied rest)) ≡ None
 seven_after a b c d e f None h = cc
 seven_after a b c d e f (Some rest) h = seven_fields a b c d e f rest.now
 
 pub eight_fields : (a b c d e f g rest : List ℕ) → counted_fields (a ∷ b ∷ c ∷ d ∷ e ∷ f ∷ g ∷ slice_split is_blank rest) ≡ None
 eight_fields a b c d e f g rest = let first = split_first is_blank rest in rw first.2 refl
 
-pub eight_after : (a b c d e f g : List ℕ) (rest : Option (Bor (List ℕ))) → is_some rest ≡ true → counted_fields (a ∷ b ∷ c ∷ d ∷ e ∷ f ∷ g ∷ parts_after 32 (option_copied rest)) ≡ None
+pub eight_after : (a b c d e f g : List ℕ) (rest : Option (Bor (List ℕ))) → is_some rest ≡ true → counted_fields (a ∷ b ∷ c ∷ d ∷ e ∷ f ∷ g ∷ parts_after (λ b. b == 32) (option_copied rest)) ≡ None
 eight_after a b c d e f g None h = cc
 eight_after a b c d e f g (Some rest) h = eight_fields a b c d e f g rest.now

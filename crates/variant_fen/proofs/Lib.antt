@@ -1,7 +1,6 @@
 pub mod BoardLemmas
 pub mod CappedLaws
 pub mod CountLemmas
-pub mod CutLemmas
 pub mod FieldLemmas
 pub mod HeldLemmas
 pub mod PieceLemmas

@@ -8,7 +8,7 @@ use Rattle.rules_model.specs.declared.rules.Rules.{Rules}
 use Rattle.fen_model.specs.declared.fault.FenFault.{FenFault}
 use Rattle.fen_model.specs.declared.fault.FenFault.TheVariants.{Letter}
 use Rattle.fen_model.specs.Board.{marked_cell, one_square, squares_of}
-use Rattle.fen_model.specs.Numbers.{is_digit}
+use Rattle.foundation.specs.Numbers.{is_digit}
 use Rattle.fen_model.specs.Tokens.{piece, tilde, stray, is_letter, letter_kind, letter_side, tokens_of}
 use Rattle.fen_model.proofs.TokenLemmas.{NoLetter, NoTilde, joined, mark_text, squares_of-cons, token_other, token_piece, token_stray}
 use Rattle.variant_fen.specs.Cut.{begins_with, unmarked}

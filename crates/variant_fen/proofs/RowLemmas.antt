@@ -12,7 +12,7 @@ use Rattle.fen_model.specs.declared.fault.FenFault.{FenFault}
 use Rattle.fen_model.specs.declared.fault.FenFault.TheVariants.{Letter, Width}
 use Rattle.fen_model.specs.Board.{one_square, row_at, row_of, run_squares, sized, squares_of}
 use Rattle.fen_model.specs.Chain.{◌>>=◌}
-use Rattle.fen_model.specs.Numbers.{begins_with_zero, is_digit, value_of}
+use Rattle.foundation.specs.Numbers.{begins_with_zero, is_digit, value_of}
 use Rattle.variant_fen.specs.Cells.{put_at, IsFreeFrom, IsSameBut}
 use Rattle.variant_fen.specs.Pieces.{piece_first}
 use Rattle.fen_model.specs.Tokens.{tokens_of}

@@ -2,7 +2,7 @@
 ghost use Rattle.std.specs.Prelude.{◌≡◌, ◌<◌, length, IfSome, IfNone, Err};
 ghost use Rattle.std.specs.List.{prefix_len};
 ghost use Rattle.fen_model.specs.Board as Board;
-ghost use Rattle.fen_model.specs.Numbers.{is_digit};
+ghost use Rattle.foundation.specs.Numbers.{is_digit};
 ghost use Rattle.fen_model.specs.Tokens.{tokens_of};
 ghost use Rattle.fen_model.specs.declared.fault.FenFault.TheVariants.{Letter};
 ghost use Rattle.rules_model.specs.Kinds as Kinds;

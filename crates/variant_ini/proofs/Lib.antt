@@ -4,3 +4,4 @@ pub mod LineLaws
 pub mod OptionLaws
 pub mod ParentLaws
 pub mod ReadingLaws
+pub mod LoneLemmas

@@ -4,7 +4,8 @@ use Rattle.std.specs.List.{All, slice_split, position_or_len}
 use Rattle.std.proofs.lemmas.List.Splits.{slice_split_first, slice_split_none}
 use Rattle.std.proofs.lemmas.List.Sums.{prefix_len_passes}
 use Rattle.std.proofs.lemmas.Bool.{cases_Bool, ltb-true, ltb-false}
-use Rattle.variant_ini.specs.Cuts.{cut, with_byte, lines_of}
+use Rattle.foundation.specs.Cuts.{cut}
+use Rattle.variant_ini.specs.Cuts.{with_byte, lines_of}
 
 -- the lines behind a cut, of which there are none where nothing was cut off
 abbrev pub rest_lines : Option (List ℕ) → List (List ℕ)

@@ -8,7 +8,8 @@ use Rattle.variant_ini.specs.LineKind.{LineKind, comment, foreign, header, pair,
 use Rattle.variant_ini.specs.Section.{Section, key_line}
 use Rattle.variant_ini.specs.Reading.{pairs_of, sections_of, sections_in_lines, sections_in, numbered_fault, line_fault, first_of, first_fault, fault_of, IsFaultOrMemory}
 use Rattle.variant_ini.specs.Steps.{with_line}
-use Rattle.variant_ini.specs.Cuts.{cut, lines_of}
+use Rattle.foundation.specs.Cuts.{cut}
+use Rattle.variant_ini.specs.Cuts.{lines_of}
 use Rattle.variant_ini.proofs.LineLaws.{rest_lines, lines_of-cut}
 
 module _ (key value : List ℕ) where

@@ -1,10 +1,7 @@
 -- How the bytes of a variants file are cut.
 use Rattle.std.specs.Prelude.{ℕ, Bool, ◌==◌, ◌||◌, List, [], ◌∷◌, Option, None, Some, reverse, position, take, drop, ◌+◌, if◌then◌else◌}
 use Rattle.std.specs.List.{onto_first}
-
--- a space or a tab
-abbrev pub is_blank : ℕ → Bool
-is_blank b = b == 32 || b == 9
+use Rattle.foundation.specs.Cuts.{is_blank}
 
 -- without the blanks at the front
 abbrev pub without_blanks : List ℕ → List ℕ
@@ -14,14 +11,6 @@ without_blanks (b ∷ bs) = if is_blank b then without_blanks bs else b ∷ bs
 -- without the blanks at both ends
 unfoldable pub trimmed : List ℕ → List ℕ
 trimmed bytes = reverse (without_blanks (reverse (without_blanks bytes)))
-
-abbrev pub cut_where : List ℕ → Option ℕ → List ℕ × Option (List ℕ)
-cut_where bytes None = (bytes, None)
-cut_where bytes (Some place) = (take place bytes, Some (drop (place + 1) bytes))
-
--- the bytes before the first c, and those behind it where it is there
-unfoldable pub cut : ℕ → List ℕ → List ℕ × Option (List ℕ)
-cut c bytes = cut_where bytes (position (λ b. b == c) bytes)
 
 -- the lines of a byte and of the bytes behind it: a line feed ends a line, and is in none
 abbrev pub with_byte : ℕ → List (List ℕ) → List (List ℕ)

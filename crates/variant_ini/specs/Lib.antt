@@ -3,6 +3,7 @@ pub mod Cuts
 pub mod LastPlaces
 pub mod LineKind
 pub mod LineView
+pub mod Lone
 pub mod OptionValue
 pub mod Parents
 pub mod Reading

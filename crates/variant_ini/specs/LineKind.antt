@@ -2,7 +2,8 @@
 use Rattle.std.specs.Prelude.{ℕ, Bool, true, ◌==◌, ◌||◌, ◌&&◌, not, nat_lt, nat_le, List, [], ◌∷◌, Option, None, Some, if◌then◌else◌, length, take, slice_index, ◌-◌}
 use Rattle.std.specs.List.{list_any, list_all}
 use Rattle.std.specs.Str.Lines.{strip_carriage_return}
-use Rattle.variant_ini.specs.Cuts.{trimmed, cut}
+use Rattle.foundation.specs.Cuts.{cut}
+use Rattle.variant_ini.specs.Cuts.{trimmed}
 
 pub data LineKind : Type 0 where
   comment : LineKind

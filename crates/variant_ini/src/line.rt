@@ -6,25 +6,28 @@ ghost use Rattle.std.specs.List.{list_all, list_any};
 ghost use Rattle.variant_ini.specs.LineKind.{is_comment, is_name_byte, is_name, bracketed, header_of, pair_of, kind_from, text_kind, line_kind};
 ghost use Rattle.variant_ini.specs.LineView.{header_view, pair_view, line_view};
 
-use crate::cuts::{cut_at, trim};
+use crate::cuts::trim;
+use foundation::cut_at;
 
 const LONGEST_NAME: usize = 64;
 
 /// A section's name, and its parent's where it names one.
 #[derive(Clone, Copy)]
-pub(crate) struct Header<'a> {
-    pub(crate) name: &'a [u8],
-    pub(crate) parent: Option<&'a [u8]>,
+pub struct Header<'a> {
+    pub name: &'a [u8],
+    pub parent: Option<&'a [u8]>,
 }
 
 /// A key and its value, as a line has them.
 #[derive(Clone, Copy)]
-pub(crate) struct Pair<'a> {
-    pub(crate) key: &'a [u8],
-    pub(crate) value: &'a [u8],
+pub struct Pair<'a> {
+    pub key: &'a [u8],
+    pub value: &'a [u8],
 }
 
-pub(crate) enum Line<'a> {
+/// What a line says.
+#[derive(Clone, Copy)]
+pub enum Line<'a> {
     Comment,
     /// A byte above 127 stands outside a comment.
     Foreign,
@@ -88,8 +91,9 @@ fn header_of(text: &[u8]) -> Option<Header<'_>>
     }
 }
 
+/// Reads `key = value`: the text is cut at its first `=`, blanks at the ends of both parts are left out, and the key is not empty.
 #[tactic(auto, unfolding(crate::specs::LineKind::pair_of))]
-fn pair_of(text: &[u8]) -> Option<Pair<'_>>
+pub fn pair_of(text: &[u8]) -> Option<Pair<'_>>
     ensures { option_map pair_view result ≡ pair_of text.now }
 {
     let (before, behind) = cut_at(text, b'=');
@@ -134,7 +138,7 @@ fn kind_of(text: &[u8]) -> Line<'_>
 
 /// What a line says, its line feed left out.
 #[tactic(auto, unfolding(crate::specs::LineKind::line_kind))]
-pub(crate) fn read_line(line: &[u8]) -> Line<'_>
+pub fn read_line(line: &[u8]) -> Line<'_>
     ensures { line_view result ≡ line_kind line.now }
 {
     let text = match line {

@@ -6,10 +6,10 @@ ghost use Rattle.variant_ini.specs.LineKind.{header, pair, line_kind};
 ghost use Rattle.variant_ini.specs.Reading.{kind_fault, numbered_fault, fault_of, sections_in, IsFaultOrMemory};
 ghost use Rattle.variant_ini.specs.Steps.{TakesLine};
 
-use crate::cuts::cut_at;
 use crate::fault::IniFault;
 use crate::line::{Header, Line, Pair, read_line};
 use crate::section::IndexedSection;
+use foundation::cut_at;
 use std::alloc::Global;
 
 const LARGEST_FILE: usize = 1_048_576;

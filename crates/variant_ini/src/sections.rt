@@ -1,8 +1,9 @@
 //! The sections of variants files, one file after another.
 
-ghost use Rattle.std.specs.Prelude.{◌≡◌, ◌<◌, ◌++◌, ℕ, List, None, [], length, IfErr, IfSome, OnOk, OnErr};
+ghost use Rattle.std.specs.Prelude.{◌≡◌, ◌<◌, ◌++◌, ◌∷◌, ℕ, List, None, [], length, IfErr, IfOk, IfSome, OnOk, OnErr};
 ghost use Rattle.std.specs.Option.{option_copied};
 ghost use Rattle.variant_ini.specs.Section.{section_at};
+ghost use Rattle.variant_ini.specs.Lone.{lone_section};
 ghost use Rattle.variant_ini.specs.Reading.{fault_of, sections_in, IsFaultOrMemory};
 ghost use Rattle.variant_ini.specs.OptionValue.{option_value, parent_place};
 ghost use Rattle.variant_ini.specs.Parents.{HasParents};
@@ -13,7 +14,8 @@ use crate::key_line::KeyLine;
 use crate::parents::parent_places;
 use crate::reading::read_sections;
 use crate::section::IndexedSection;
-use std::alloc::Global;
+use foundation::Memory;
+use std::alloc::{AllocError, Global};
 use std::marker::Model;
 
 /// Sections in the order in which their files have them. A contract sees the list of the sections, each with its name,
@@ -58,6 +60,19 @@ fn append_file(
     Ok(())
 }
 
+// A section without a parent, with these lines.
+fn section_with(alloc: Global, name: &[u8], lines: &[KeyLine]) -> Result<IndexedSection, AllocError>
+    ensures { IfOk result (λ section. section ≡ lone_section name.now lines.now) }
+{
+    let mut section = IndexedSection::new(alloc, name, None)?;
+    for line in lines {
+        let key = &line.key;
+        let value = &line.value;
+        section.push(alloc, key.items.as_slice(), value.items.as_slice())?;
+    }
+    Ok(section)
+}
+
 impl Sections {
     /// No sections. Takes no memory.
     pub fn new(alloc: Global) -> Sections
@@ -67,6 +82,20 @@ impl Sections {
             sections: Vec::new(alloc),
             parent_places: Vec::new(alloc),
         }
+    }
+
+    /// One section, of this name, without a parent and with these lines.
+    pub fn of_one(alloc: Global, name: &[u8], lines: &[KeyLine]) -> Result<Sections, Memory>
+        ensures { IfOk result (λ sections. sections ≡ lone_section name.now lines.now ∷ []) }
+    {
+        let mut sections = Vec::new(alloc);
+        sections.push(section_with(alloc, name, lines)?)?;
+        let mut parent_places = Vec::new(alloc);
+        parent_places.push(None)?;
+        Ok(Sections {
+            sections,
+            parent_places,
+        })
     }
 
     /// Adds the sections of a variants file behind those that are there.

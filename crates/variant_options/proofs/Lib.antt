@@ -1,4 +1,3 @@
-pub mod NumberLemmas
 pub mod WordLaws
 pub mod ListedLemmas
 pub mod FindLemmas

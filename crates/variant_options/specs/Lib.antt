@@ -1,5 +1,4 @@
 pub mod Letters
-pub mod Numbers
 pub mod Words
 pub mod Readings
 pub mod PieceTable

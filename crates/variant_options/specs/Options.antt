@@ -15,7 +15,7 @@ use Rattle.variant_options.specs.declared.value.Listed.TheVariants.{Only}
 use Rattle.variant_options.specs.declared.value.ValueKind.{ValueKind}
 use Rattle.variant_options.specs.declared.value.ValueKind.TheVariants as kind
 use Rattle.variant_options.specs.Letters.{mask_of}
-use Rattle.variant_options.specs.Numbers.{number_within}
+use Rattle.foundation.specs.Numbers.{number_within}
 use Rattle.variant_options.specs.PieceTable.{PieceRow, pieces}
 use Rattle.variant_options.specs.Readings.{region_of, all_squares, read_flag, read_fold, read_file, read_result, read_result_or_none, read_letter, read_letters, read_letters_or_all, read_pairs, read_region}
 

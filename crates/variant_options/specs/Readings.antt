@@ -12,7 +12,7 @@ use Rattle.variant_options.specs.declared.value.Area.TheVariants.{Square, Rank}
 use Rattle.variant_options.specs.declared.value.Listed.{Listed}
 use Rattle.variant_options.specs.declared.value.Listed.TheVariants.{All, Only}
 use Rattle.variant_options.specs.Letters.{is_lower, is_upper, letter_of, mask_in}
-use Rattle.variant_options.specs.Numbers.{number_within}
+use Rattle.foundation.specs.Numbers.{number_within}
 use Rattle.variant_options.specs.Words.{is_space, is_hyphen, listed}
 
 -- ---- switches and numbers

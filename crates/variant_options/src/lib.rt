@@ -4,7 +4,6 @@
 pub mod fault;
 pub mod letters;
 pub mod line;
-pub mod numbers;
 pub mod options;
 pub mod pieces;
 pub mod readings;

@@ -6,13 +6,13 @@ ghost use Rattle.std.specs.Str.{bytes_eq};
 ghost use Rattle.variant_options.specs.Options.{options, option_kind, is_skipped, read};
 ghost use Rattle.variant_options.specs.OptionView.{row_view, row_of};
 
-use crate::numbers::number_within;
 use crate::pieces::is_mobility_key;
 use crate::readings::{
     read_file, read_flag, read_fold, read_letter, read_letters, read_letters_or_all, read_pairs,
     read_region, read_result, read_result_or_none,
 };
 use crate::value::ValueKind;
+use foundation::number_within;
 use std::alloc::{AllocError, Global};
 
 /// The options, but for the regions of pieces.

@@ -7,8 +7,8 @@ ghost use Rattle.variant_options.specs.Readings as Readings;
 ghost use Rattle.variant_options.specs.Words as Words;
 
 use crate::letters::{letter, mask_in};
-use crate::numbers::number_within;
 use crate::value::{Area, Listed};
+use foundation::number_within;
 use rules_model::{Kind, Region, Value};
 use std::alloc::{AllocError, Global};
 

@@ -16,14 +16,14 @@ use Rattle.strategy.specs.declared.fault.StrategyFault.TheVariants.{Header, BadL
 use Rattle.strategy.specs.declared.nodes.Edge.{Edge}
 use Rattle.strategy.specs.declared.nodes.Node.{Node}
 use Rattle.strategy.specs.declared.nodes.Strategy.{Strategy}
-use Rattle.strategy.specs.Cut.{cut}
+use Rattle.foundation.specs.Cuts.{cut}
 use Rattle.strategy.specs.Said.{attacker_said, count_said, node_said, edge_said, said}
 use Rattle.strategy.specs.Reading.{with_node, with_edge, with_said, with_text, step, taken, strategy_of, with_last_edge}
 use Rattle.fen_model.specs.Board.{squares_of, row_of, rows_of, cells_from, cells_of}
 use Rattle.fen_model.specs.Counts.{side_of, checks_of, count_of}
 use Rattle.fen_model.specs.Fields.{pocket_place, fields_of}
 use Rattle.fen_model.specs.Held.{has, are_letters, gate_said, bits_of, may_hold, held_of}
-use Rattle.fen_model.specs.Numbers.{are_digits, value_after, is_number, number_of}
+use Rattle.foundation.specs.Numbers.{are_digits, value_after, is_number, number_of}
 use Rattle.fen_model.specs.Passed.{is_passed, passed_of}
 use Rattle.fen_model.specs.Pocket.{no_hands, hands_of}
 use Rattle.fen_model.specs.Reading.{judged, said_by, fen_of}

@@ -1,7 +1,8 @@
 -- The sections that are built in, as the text of a variants file says them.
 use Rattle.std.proofs.Common.{◌≡◌, ℕ, List, [], ◌∷◌, None, refl, map}
 use Rattle.std.specs.Prelude.{codes}
-use Rattle.variant_ini.specs.Cuts.{trimmed, cut, lines_of}
+use Rattle.variant_ini.specs.Cuts.{trimmed, lines_of}
+use Rattle.foundation.specs.Cuts.{cut}
 use Rattle.variant_ini.specs.LineKind.{header_of, pair_of, text_kind, line_kind}
 use Rattle.variant_ini.specs.Reading.{sections_of, sections_in_lines, first_fault, fault_of, sections_in}
 use Rattle.variant_ini.specs.Section.{Section}

@@ -5,7 +5,7 @@ use Rattle.foundation.specs.Count.{first_below}
 use Rattle.variant_ini.specs.declared.key_line.KeyLine.{KeyLine}
 use Rattle.variant_ini.specs.Section.{Section, key_line, last_value}
 use Rattle.variant_ini.specs.OptionValue.{first_named, parent_place, value_within, option_value}
-use Rattle.variant_options.specs.Numbers.{number_of, value_after}
+use Rattle.foundation.specs.Numbers.{are_digits, is_number, number_of, value_after}
 use Rattle.variant_model.specs.Made.{resolved}
 use Rattle.variant_model.specs.PieceRules.{said}
 use Rattle.variant_model.specs.PieceLetters.{letter_within, piece_letter, letter_twice}
@@ -24,12 +24,12 @@ chain =
     ∷ []
 
 from_the_grandparent : said (resolved chain 2) option.n_move_rule ≡ 40
-unfolding number_of value_after first_named parent_place value_within option_value last_value
+unfolding number_of is_number are_digits value_after first_named parent_place value_within option_value last_value
 from_the_grandparent = refl
 
 -- without the lines of a the default stands
 by_default : said (resolved (section (codes "a") None [] ∷ section (codes "b") (Some (codes "a")) [] ∷ []) 1) option.n_move_rule ≡ 50
-unfolding number_of value_after first_named parent_place value_within option_value last_value
+unfolding number_of is_number are_digits value_after first_named parent_place value_within option_value last_value
 by_default = refl
 
 -- b gave the letter of the rook away, and c takes it from b's piece: no piece has it then

@@ -1,7 +1,7 @@
 use Rattle.std.proofs.Common.{◌≡◌, ◌==◌, true, false, None, Some, [], ◌∷◌, refl, sym, ap, ◌∙◌, arith, take}
 use Rattle.std.proofs.lemmas.Bool.{eq-eqb, ne_eqb}
 use Rattle.std.specs.List.{prefix_len}
-use Rattle.fen_model.specs.Numbers.{is_digit, begins_with_zero}
+use Rattle.foundation.specs.Numbers.{is_digit, begins_with_zero}
 use Rattle.variant_fen.proofs.RowLemmas.{ended_none, step_run, step_zero, step_put, step_bad, step_end, free_after, same_after, no_bytes}
 use Rattle.variant_fen.proofs.board.read_rank.Goals as goal
 

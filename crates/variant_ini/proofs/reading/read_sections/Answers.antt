@@ -13,15 +13,15 @@ loop-rest-init c = record { stands = rw c.new-sections.ensures.items (stands_fir
 
 pub loop-rest-smaller : goal.loop-rest-smaller
 loop-rest-smaller c =
-    omega (arith, ap (λ r. bytes_left (option_copied r)) c.in-Some.is, bytes_left-cut c.in-Some.text.now, ap bytes_left c.cut_at.ensures.behind)
+    omega (arith, ap (λ r. bytes_left (option_copied r)) c.in-Some.is, bytes_left-cut c.in-Some.text.now, ap bytes_left c.cut_at.ensures.after)
 
 pub loop-rest-preserved : goal.loop-rest-preserved
 loop-rest-preserved c =
     let stands = rw c.in-Some.is at c.loop-rest.invariant.stands in
     let bound : c.loop-rest.number + (length c.in-Some.text.now + 1) ≤ length c.args.bytes.now + 1 = rw c.in-Some.is at c.loop-rest.invariant.bound in
     record {
-      stands = stands_next _ _ _ _ _ _ stands c.cut_at.ensures.before c.cut_at.ensures.behind _ c.in_ok-take_line.ensures;
-      bound = omega (arith, bound, bytes_left-cut c.in-Some.text.now, ap bytes_left c.cut_at.ensures.behind);
+      stands = stands_next _ _ _ _ _ _ stands c.cut_at.ensures.before c.cut_at.ensures.after _ c.in_ok-take_line.ensures;
+      bound = omega (arith, bound, bytes_left-cut c.in-Some.text.now, ap bytes_left c.cut_at.ensures.after);
     }
 
 pub returns-in_err-take_line : goal.returns-in_err-take_line
@@ -30,7 +30,7 @@ returns-in_err-take_line c =
     let p = err_from_is_err_and c.from_residual.result c.from_residual.ensures.1 in
     rw (p.1, p.2)
     (IsFaultOrMemory-weaker _ _
-    (λ e h. fault_of-fits c.args.bytes.now (omega arith) ∙ first_fault_is _ _ _ _ _ _ stands c.cut_at.ensures.before c.cut_at.ensures.behind e h)
+    (λ e h. fault_of-fits c.args.bytes.now (omega arith) ∙ first_fault_is _ _ _ _ _ _ stands c.cut_at.ensures.before c.cut_at.ensures.after e h)
     _ c.in_err-take_line.ensures)
 
 pub returns : goal.returns

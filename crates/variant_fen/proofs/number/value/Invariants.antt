@@ -1,6 +1,0 @@
-use Rattle.std.proofs.Common.{◌≡◌, min, take}
-use Rattle.fen_model.specs.Numbers.{value_of}
-use Rattle.variant_fen.proofs.number.value.Given as goal
-
-abbrev pub invariant-loop-digit : goal.invariant-loop-digit
-invariant-loop-digit l = l.value ≡ min 10000 (value_of (take l.digit-index l.digits))
