@@ -7,8 +7,9 @@ ghost use Rattle.rules_model.specs.Repeats.{repeat_of};
 ghost use Rattle.board_sets.specs.Sets.{AreSets, AreSetsAfter};
 
 use crate::sets::BoardSets;
-use next_position::{behind, fresh, gated, passes_by, promote};
+use next_position::{behind, fresh, gated, promote};
 use rules_model::castling::rook_target;
+use rules_model::passing::passes_by;
 use rules_model::sizes::position_sizes;
 use rules_model::{Cells, Move, Placed, Position, Rules, Side, Square};
 

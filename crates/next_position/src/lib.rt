@@ -20,7 +20,6 @@ mod rights;
 #[cfg(test)]
 mod tests;
 
-pub use passing::passes_by;
 pub use pieces::{behind, fresh, gated, promote};
 use rules_model::{Cells, Move, Position, Rules, Side};
 

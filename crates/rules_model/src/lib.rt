@@ -12,6 +12,7 @@ pub mod kinds;
 pub mod laws;
 pub mod movement;
 pub mod moves;
+pub mod passing;
 pub mod reach;
 pub mod rules;
 pub mod sizes;
