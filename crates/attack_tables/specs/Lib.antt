@@ -1,3 +1,4 @@
 pub mod Boards
 pub mod Masks
+pub mod PawnSpots
 pub mod Sights

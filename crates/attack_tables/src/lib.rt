@@ -2,11 +2,13 @@
 #![tactic(auto)]
 
 mod masks;
+pub mod pawns;
 pub mod sight;
 pub mod tables;
 #[cfg(test)]
 mod tests;
 
 pub use move_tables::{Mode, kings, men, occupied};
+pub use pawns::PawnSpot;
 pub use sight::Sight;
 pub use tables::{Tables, cell_on};

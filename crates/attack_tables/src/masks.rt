@@ -11,7 +11,7 @@ use rules_model::{Kind, Side, Square};
 use square_set::{EMPTY, Set};
 use std::alloc::Global;
 
-fn side_of(n: usize) -> Side
+pub(crate) fn side_of(n: usize) -> Side
     ensures { result ≡ Spots.side_of n }
 {
     if n == 0 { Side::White } else { Side::Black }

@@ -13,9 +13,11 @@ ghost use Rattle.move_tables.specs.Reached as Reached;
 ghost use Rattle.move_tables.specs.Spots as Spots;
 ghost use Rattle.attack_tables.specs.Boards.{HoldsMen, OnSquares, IsBoardBy};
 ghost use Rattle.attack_tables.specs.Masks.{IsMaskBelow};
+ghost use Rattle.attack_tables.specs.PawnSpots.{IsPawnSpot};
 ghost use Rattle.attack_tables.specs.Sights.{IsSightOf};
 
 use crate::masks::{masks, place_of};
+use crate::pawns::{PawnSpot, pawn_spots};
 use crate::sight::{Sight, sights};
 use foundation::Memory;
 use move_tables::{Mode, MoveTables, Spot, kings, men, occupied};
@@ -31,19 +33,21 @@ pub struct Tables {
     moves: MoveTables,
     masks: Vec<Set>,
     sights: Vec<Sight>,
+    pawns: Vec<PawnSpot>,
 }
 
 impl Model for Tables {
     ghost use Rattle.rules_model.specs.declared.rules.Rules.{Rules};
     ghost use Rattle.rules_model.specs.Fit.{IsFit};
     ghost use Rattle.attack_tables.specs.Masks.{AreMasks};
+    ghost use Rattle.attack_tables.specs.PawnSpots.{ArePawnSpots};
     ghost use Rattle.attack_tables.specs.Sights.{AreSights};
 
     ghost Value = { Rules };
 
     ghost view = { λ t. t.moves };
 
-    ghost invariant = { λ t. IsFit t.moves × AreMasks t.moves t.masks.items × AreSights t.sights.items };
+    ghost invariant = { λ t. IsFit t.moves × AreMasks t.moves t.masks.items × AreSights t.sights.items × ArePawnSpots t.moves t.pawns.items };
 }
 
 /// What stands on the square.
@@ -72,10 +76,12 @@ impl Tables {
         let moves = MoveTables::new(alloc, rules)?;
         let masks = masks(alloc, &moves)?;
         let sights = sights(alloc)?;
+        let pawns = pawn_spots(alloc, rules)?;
         Ok(Tables {
             moves,
             masks,
             sights,
+            pawns,
         })
     }
 
@@ -163,6 +169,14 @@ impl Tables {
         ensures { IsSightOf at.0 result }
     {
         self.sights[at.0 as usize]
+    }
+
+    /// Where a pawn of the side may go from the square.
+    pub fn pawn_spot(&self, side: Side, from: Square) -> PawnSpot
+        requires { from.0 < 120 }
+        ensures { IsPawnSpot self.now side from result }
+    {
+        self.pawns[place_of(side, from.0)]
     }
 
     /// Whether the kind takes on the square.

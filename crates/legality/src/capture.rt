@@ -3,33 +3,12 @@ ghost use Rattle.std.specs.Prelude.{◌≡◌, ◌<◌, IfSome, is_some};
 ghost use Rattle.rules_model.specs.Fit.{IsFit};
 ghost use Rattle.rules_model.specs.Moves.{IsFitMove};
 ghost use Rattle.rules_model.specs.Next as Next;
-ghost use Rattle.rules_model.specs.Pawns as Pawns;
 ghost use Rattle.rules_model.specs.Repeats.{repeat_of};
 
-use rules_model::attacks::{ahead, is_diagonal, is_own_pawn};
+use rules_model::attacks::ahead;
 use rules_model::kinds::board_of;
+use rules_model::passing::passes_by;
 use rules_model::{Cells, Move, Position, Rules, Square};
-
-pub(crate) fn is_ep(ep: Option<Square>, to: Square) -> bool
-    ensures { result ≡ Pawns.is_ep ep to.0 }
-{
-    match ep {
-        None => false,
-        Some(ep) => ep.0 == to.0,
-    }
-}
-
-/// Whether a pawn goes diagonally forward to the en passant square.
-#[tactic(auto, unfolding(rules_model::specs::Pawns::passes_by))]
-fn passes_by(rules: &Rules, p: &Position, from: Square, to: Square) -> bool
-    requires rules { IsFit rules.now }
-    requires from { from.0 < 120 }
-    ensures { result ≡ Pawns.passes_by rules.now (repeat_of p.now) from to.0 }
-{
-    is_own_pawn(rules, p.side, p.cells[from.0 as usize])
-        && is_ep(p.ep, to)
-        && is_diagonal(board_of(rules), p.side, from, to)
-}
 
 fn has_piece(cells: &Cells, at: Option<u8>) -> bool
     requires { IfSome at (λ s. s < 120) }

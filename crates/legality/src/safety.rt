@@ -10,12 +10,12 @@ ghost use Rattle.rules_model.specs.Sides.{other};
 ghost use Rattle.board_sets.specs.Sets.{AreSets};
 ghost use Rattle.legality.specs.Moved as Moved;
 
-use crate::capture::is_ep;
 use crate::free::free_men;
 use crate::mobile::stays_mobile;
 use attack_tables::Tables;
 use board_sets::{BoardSets, sets_are_on_board};
 use next_position::move_pieces;
+use rules_model::passing::is_ep;
 use rules_model::sizes::position_sizes;
 use rules_model::{Cells, Move, Position, Promo, Rules, Square};
 use square_set::{EMPTY, Set};

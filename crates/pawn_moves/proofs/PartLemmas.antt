@@ -282,6 +282,14 @@ module _ (rules : Rules) (r : Repeat) (from : Square) where
   below : IsFit rules → (dx : ℤ) (k s : ℕ) → step_to (pawn_ray (board_of rules) r.side dx from) k ≡ Some s → s < 120
   below fit dx k s e = step_below (pawn_ray (board_of rules) r.side dx from) k s (fit_board rules fit) e
 
+  -- a target is a square of the largest board
+  pub goes_small : IsFit rules → (to : ℕ) → pawn_goes rules r from to ≡ true → to < 120
+  goes_small fit to e =
+      ⊎_elim
+      (λ s. ⊎_elim (λ h. below fit (pos 0) 1 to h) (λ h. below fit (pos 0) 2 to h) s)
+      (λ s. ⊎_elim (λ h. below fit (pos 1) 1 to h) (λ h. below fit (negsuc 0) 1 to h) s)
+      (by_going to e)
+
   pub from-step : IsFit rules → (m : Move) → IsStep rules r from m → IsMoveFrom rules r from m
   from-step fit m (inl h) = some_from one (below fit (pos 0) 1) m h
   from-step fit m (inr h) = some_from two (below fit (pos 0) 2) m h

@@ -1,2 +1,3 @@
 pub mod PawnMoves
 pub mod Parts
+pub mod Targets

@@ -7,21 +7,12 @@ ghost use Rattle.rules_model.specs.Repeats.{repeat_of};
 ghost use Rattle.rules_model.specs.Squares as Squares;
 ghost use Rattle.pawn_moves.specs.PawnMoves.{is_pawn_move};
 
-use crate::pawn::{becomes, is_enemy, is_ep, may_promote, may_step_twice};
+use crate::pawn::{becomes, is_enemy, may_promote, may_step_twice};
 use rules_model::attacks::{ahead, is_diagonal, is_own_pawn};
 use rules_model::kinds::board_of;
+use rules_model::passing::{cell_at, passes_by};
 use rules_model::reach::is_target;
 use rules_model::{Cell, Cells, Move, Position, Promo, Rules, Square};
-
-/// What stands on the square.
-fn cell_at(cells: &Cells, at: Square) -> Option<Cell>
-    ensures { result ≡ Squares.cell_at cells.now at.0 }
-{
-    match cells.get(at.0 as usize) {
-        Some(cell) => *cell,
-        None => None,
-    }
-}
 
 fn steps_twice(rules: &Rules, p: &Position, from: Square, to: Square) -> bool
     requires fit { IsFit rules.now }
@@ -42,17 +33,6 @@ fn pawn_goes(rules: &Rules, p: &Position, from: Square, to: Square) -> bool
     (target.is_none()
         && (is_target(ahead(board, p.side, from, 1), to) || steps_twice(rules, p, from, to)))
         || (is_enemy(p.side, target) && is_diagonal(board, p.side, from, to))
-}
-
-/// Whether a pawn goes diagonally forward to the en passant square.
-#[tactic(auto, unfolding(rules_model::specs::Pawns::passes_by))]
-fn passes_by(rules: &Rules, p: &Position, from: Square, to: Square) -> bool
-    requires fit { IsFit rules.now }
-    ensures { result ≡ Pawns.passes_by rules.now (repeat_of p.now) from to.0 }
-{
-    is_own_pawn(rules, p.side, cell_at(&p.cells, from))
-        && is_ep(p.ep, to)
-        && is_diagonal(board_of(rules), p.side, from, to)
 }
 
 #[tactic(auto, unfolding(rules_model::specs::Pawns::pawn_moves))]

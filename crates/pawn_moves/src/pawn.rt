@@ -7,12 +7,16 @@ ghost use Rattle.rules_model.specs.Pawns as Pawns;
 ghost use Rattle.rules_model.specs.Repeats.{repeat_of};
 ghost use Rattle.rules_model.specs.Squares.{step_to, cell_at};
 ghost use Rattle.pawn_moves.specs.Parts as Parts;
+ghost use Rattle.pawn_moves.specs.Targets.{AreTargets};
 
+use attack_tables::PawnSpot;
+use board_sets::BoardSets;
 use rules_model::attacks::ahead;
 use rules_model::kinds::{board_of, in_region, masks, names_any};
 use rules_model::reach::{step, term_ray};
 use rules_model::soundness::is_free;
 use rules_model::{Cell, Position, Promo, Rules, Side, Square, Term, Way};
+use square_set::Set;
 
 /// A file beside the pawn's, as its side sees it.
 #[derive(Clone, Copy)]
@@ -37,16 +41,6 @@ pub(crate) fn is_enemy_on(p: &Position, at: u8) -> bool
     ensures { result ≡ Pawns.is_enemy p.now.side (cell_at p.now.cells at) }
 {
     is_enemy(p.side, p.cells[at as usize])
-}
-
-/// Whether the square is the one of en passant.
-pub(crate) fn is_ep(ep: Option<Square>, to: Square) -> bool
-    ensures { result ≡ Pawns.is_ep ep to.0 }
-{
-    match ep {
-        None => false,
-        Some(ep) => ep.0 == to.0,
-    }
 }
 
 /// Whether the pawn may step twice where the second square is empty: it stands in the region, and the first square is
@@ -129,4 +123,17 @@ pub(crate) fn becomes(rules: &Rules, may: bool, goes: bool, passes: bool, promo:
     ensures { result ≡ Parts.becomes rules.now may goes passes promo }
 {
     (goes && pawn_promo(rules, may, promo)) || (passes && is_stays(promo))
+}
+
+/// The squares to which the own pawn goes, which stands where the spot is.
+pub(crate) fn targets(spot: PawnSpot, sets: &BoardSets) -> Set
+    ensures { AreTargets spot sets.now result }
+{
+    let occupied = sets.occupied();
+    let one = spot.one.minus(occupied);
+    let takes = spot.aside.and(sets.enemies);
+    match one.first() {
+        None => takes,
+        Some(_) => takes.or(one).or(spot.two.minus(occupied)),
+    }
 }

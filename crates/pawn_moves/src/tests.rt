@@ -3,6 +3,7 @@ ghost use Rattle.rules_model.specs.Fit.{IsFit};
 use super::*;
 use crate::generate::go;
 use crate::pawn::{becomes, promotes};
+use attack_tables::Tables;
 use board_sets::sets_of;
 use foundation::Memory;
 use rules_model::{Move, MoveList, Position, Promo, Rules, Side};
@@ -48,8 +49,9 @@ fn expect_moves(
     let mut found = MoveList {
         items: Vec::new(alloc),
     };
+    let tables = Tables::new(alloc, rules)?;
     let sets = sets_of(rules, &p.cells, p.side);
-    push_moves(rules, p, &sets, &mut found)?;
+    push_moves(rules, &tables, p, &sets, &mut found)?;
     let mut wanted: usize = 0;
     for to in targets.split(' ') {
         for letter in letters.as_bytes() {

@@ -29,7 +29,7 @@ pub fn push_moves<S: MoveSink>(
     ensures ok { OnOk result (TakesAll S.takes (FitSpecialMoves rules.now (repeat_of p.now)) out.old out.new) }
     ensures err { OnErr result (TakesSome S.stops (FitSpecialMoves rules.now (repeat_of p.now)) out.old out.new) }
 {
-    pawn_moves::push_moves(rules, p, sets, out)?;
+    pawn_moves::push_moves(rules, tables, p, sets, out)?;
     push_gates(rules, tables, p, sets, out)?;
     push_castles(rules, tables, p, sets, out)?;
     push_drops(rules, p, sets, out)

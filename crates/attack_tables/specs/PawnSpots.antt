@@ -1,0 +1,43 @@
+-- Where a pawn may go from a square, as far as the rules alone tell.
+use Rattle.std.specs.Prelude.{◌≡◌, ℕ, ◌/◌, ◌%◌, ◌<◌, Bool, true, false, ◌&&◌, ◌||◌, List, slice_index_or, length}
+use Rattle.std.specs.Bool.{OnTrue}
+use Rattle.rules_model.specs.declared.board.Side.{Side}
+use Rattle.rules_model.specs.declared.board.Square.{Square}
+use Rattle.rules_model.specs.declared.rules.Rules.{Rules}
+use Rattle.rules_model.specs.Attacks.{ahead, is_diagonal}
+use Rattle.rules_model.specs.Kinds.{board_of}
+use Rattle.rules_model.specs.Pawns.{may_promote}
+use Rattle.rules_model.specs.Reach.{is_at}
+use Rattle.rules_model.specs.Regions.{in_region}
+use Rattle.square_set.specs.declared.Set.{Set}
+use Rattle.square_set.specs.Members.{has}
+use Rattle.move_tables.specs.Spots.{side_of}
+use Rattle.attack_tables.specs.declared.pawns.PawnSpot.{PawnSpot}
+
+-- the square of two steps, where the pawn stands in the double-step region
+abbrev pub two_ahead : Rules → Side → Square → ℕ → Bool
+two_ahead rules side from t = rules.double_step && in_region rules.double_region side from.0 && is_at t (ahead (board_of rules) side from 2)
+
+-- a pawn promotes on none of these squares
+abbrev pub PromotesNowhere : Rules → Side → Set → Type 0
+PromotesNowhere rules side squares = (t : ℕ) → t < 120 → has squares t ≡ true → may_promote rules side t ≡ false
+
+-- the square is one of the spot's
+abbrev pub is_near : PawnSpot → ℕ → Bool
+is_near spot t = has spot.one t || has spot.two t || has spot.aside t
+
+-- the sets are the squares of one step, of two and of the diagonals, and where it is plain a pawn promotes on none of them
+pub record IsPawnSpot (rules : Rules) (side : Side) (from : Square) (spot : PawnSpot) : Type 0 where
+  pub one : (t : ℕ) → has spot.one t ≡ is_at t (ahead (board_of rules) side from 1)
+  pub two : (t : ℕ) → has spot.two t ≡ two_ahead rules side from t
+  pub aside : (t : ℕ) → has spot.aside t ≡ is_diagonal (board_of rules) side from t
+  pub plain : OnTrue spot.plain ((t : ℕ) → t < 120 → is_near spot t ≡ true → may_promote rules side t ≡ false)
+
+-- the spot at a place is that of its side and square
+abbrev pub IsPawnSpotAt : Rules → ℕ → PawnSpot → Type 0
+IsPawnSpotAt rules i spot = IsPawnSpot rules (side_of (i / 120)) (record { 0 = i % 120 }) spot
+
+-- a spot for each side and square, in this order
+pub record ArePawnSpots (rules : Rules) (spots : List PawnSpot) : Type 0 where
+  pub whole : length spots ≡ 240
+  pub each : (i : ℕ) → i < 240 → (d : PawnSpot) → IsPawnSpotAt rules i (slice_index_or spots i d)
