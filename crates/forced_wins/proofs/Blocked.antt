@@ -1,6 +1,7 @@
 -- The blocked repeats as a list and as a test; near wins of games.
 use Rattle.std.proofs.Common.{◌≡◌, inl, inr, ℕ, zero, suc, ◌+◌, ◌<◌, ◌≤◌, List, [], ◌∷◌, map, Bool, true, false, Option, Some, None, not, nat_le, nat_lt, ◌==◌, ◌&&◌, ◌||◌, if◌then◌else◌, refl, ap, sym, ◌∙◌, arith}
 use Rattle.std.specs.List.{list_any, list_all, filter}
+use Rattle.std.proofs.lemmas.Bool.{or_left, or_right}
 use Rattle.std.proofs.lemmas.Bool.Decides.{nat_tests}
 use Rattle.foundation.specs.Member.{Member}
 use Rattle.foundation.proofs.Members.{member-filter, filter-member}
@@ -28,14 +29,6 @@ use Rattle.forced_wins.proofs.Rules.{laws, wins-is, near-is, end-is, times-is}
 or_cases : {C : Type 0} (a b : Bool) → (a || b) ≡ true → (a ≡ true → C) → (b ≡ true → C) → C
 or_cases true b h f g = f refl
 or_cases false b h f g = g h
-
-or_right : (a b : Bool) → b ≡ true → (a || b) ≡ true
-or_right true b h = refl
-or_right false b h = h
-
-or_left : (a b : Bool) → a ≡ true → (a || b) ≡ true
-or_left true b h = refl
-or_left false b h = cc
 
 -- ---- the list holds what the test says
 

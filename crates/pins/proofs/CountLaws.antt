@@ -2,6 +2,7 @@
 use Rattle.std.proofs.Common.{◌≡◌, ◌≢◌, ℕ, zero, suc, ◌+◌, ◌-◌, ◌<◌, ◌≤◌, nat_lt, Bool, true, false, ◌&&◌, not, ◌==◌, if◌then◌else◌, refl, ap, sym, ◌∙◌, arith}
 use Rattle.std.proofs.lemmas.Bool.{and_parts, eq-eqb, false_from_ne_true, le-ltb, lt-ltb, ne_eqb}
 use Rattle.std.proofs.Math.Bool.{and-false, and-true}
+use Rattle.foundation.specs.Tests.{one_if}
 use Rattle.square_set.specs.Members.{before, count_below, place}
 use Rattle.square_set.proofs.Cases.{by_bool, by_equal, by_order}
 use Rattle.square_set.proofs.CountLaws.{before-at, before-none, count_below-cut, count_below-same, count_below-shift, count_below-suc, count_below-without, count_below-zero, place-lt, place-place}
@@ -65,9 +66,6 @@ before-single rising f s t l m is =
     let apart : place rising s ≢ place rising t = λ z. q (place_same rising s t l m z) in
     let some = false_from_ne_true (before rising f s == 0) (λ z. let out = before-at rising f s t z m (omega (arith, n, apart)) in let here = is t ∙ eq-eqb t t refl in cc) in
     rw some refl)))
-
-abbrev one_if : Bool → ℕ
-one_if b = if b then 1 else 0
 
 count_below-reversed : (g : ℕ → Bool) (n : ℕ) → count_below (λ i. g (n - i)) (suc n) ≡ count_below g (suc n)
 count_below-reversed g zero = count_below-same (λ i. g (zero - i)) g 1 (λ k l. let e : zero - k ≡ k = omega (arith, l) in ap g e)

@@ -2,7 +2,8 @@
 use Rattle.std.proofs.Common.{◌≡◌, ◌≢◌, ℕ, ◌+◌, ◌<◌, Bool, Option, Some, None, List, length, ap, sym, ◌∙◌, arith, length-set}
 use Rattle.std.specs.Prelude.{slice_get, slice_set, count_by}
 use Rattle.std.proofs.lemmas.Option.{slice_get-get_or}
-use Rattle.foundation.proofs.SetLemmas.{count_by-set, one_if, slice_get-set_other, slice_get-set_same}
+use Rattle.foundation.specs.Tests.{one_if}
+use Rattle.foundation.proofs.SetLemmas.{count_by-set, slice_get-set_other, slice_get-set_same}
 use Rattle.rules_model.specs.declared.board.Cell.{Cell}
 use Rattle.rules_model.specs.Squares.{cell_at, flat}
 

@@ -6,7 +6,7 @@ use Rattle.std.proofs.lemmas.Bool.Decides.{Decides-eqb, nat_tests}
 use Rattle.std.proofs.lemmas.Option.{slice_get_past}
 use Rattle.foundation.specs.Count.{any_below}
 use Rattle.foundation.proofs.CountLemmas.{any_below-true}
-use Rattle.foundation.proofs.SetLemmas.{one_if}
+use Rattle.foundation.specs.Tests.{one_if}
 use Rattle.rules_model.specs.declared.board.Cell.{Cell}
 use Rattle.rules_model.specs.declared.board.Kind.{Kind}
 use Rattle.rules_model.specs.declared.board.Repeat.{Repeat}

@@ -9,7 +9,7 @@ use Rattle.foundation.specs.Count.{any_below}
 use Rattle.foundation.specs.Member.{Member}
 use Rattle.foundation.specs.Tests.{is_nil, same_bool}
 use Rattle.foundation.proofs.CountLemmas.{all_below-each, any_below-true}
-use Rattle.foundation.proofs.SetLemmas.{one_if}
+use Rattle.foundation.specs.Tests.{one_if}
 use Rattle.rules_model.specs.declared.board.Cell.{Cell}
 use Rattle.rules_model.specs.declared.board.Kind.{Kind}
 use Rattle.rules_model.specs.declared.board.Repeat.{Repeat}
