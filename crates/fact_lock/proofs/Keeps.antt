@@ -13,7 +13,8 @@ use Rattle.fact_lock.specs.declared.view.View.{View}
 use Rattle.fact_lock.specs.declared.view.Stage.{Stage}
 use Rattle.fact_lock.specs.declared.view.Stage.TheVariants.{Rests, Waits, Acts}
 use Rattle.fact_lock.specs.Rule.{held, new_places, holders, owners, opening_view, nobody, at_stage, acting, grown, kept_half, given_half, joined, settled_view, Fits, NobodyActs, IsHome, Kept, drawn, looked, raised, HasTurn, passed, settled}
-use Rattle.fact_lock.specs.Passes.{one_if, times, entries}
+use Rattle.foundation.specs.Tests.{one_if}
+use Rattle.fact_lock.specs.Passes.{times, entries}
 use Rattle.fact_lock.proofs.Sums.{total_set, total-push, total_at, total_two, one_if_same, one_if_other, times-append, new_place_here, new_place_else, new_place_past, set_at, few_entries}
 use Rattle.fact_lock.proofs.Beginnings.{whole, prefix_trans, longer_begins}
 

@@ -2,7 +2,8 @@
 use Rattle.std.proofs.Common.{◌≡◌, ◌≢◌, ℕ, zero, suc, ◌+◌, ◌<◌, ◌≤◌, eqb, List, [], ◌∷◌, ◌++◌, length, get_or, set, Option, Some, None, sym, refl, ap, arith, eq-eqb, ne_eqb}
 use mathlib.Core.Option.{some, some-injective, some-ne-none}
 use lib.ListN.{get_elem?}
-use Rattle.fact_lock.specs.Passes.{one_if, times, entries, places, AreApart}
+use Rattle.foundation.specs.Tests.{one_if}
+use Rattle.fact_lock.specs.Passes.{times, entries, places, AreApart}
 use Rattle.fact_lock.specs.Rule.{total, new_places}
 
 module _ {A : Type 0} (f : A → ℕ) where

@@ -2,6 +2,7 @@
 use Rattle.std.specs.Prelude.{◌≡◌, ℕ, ◌+◌, ◌<◌, ◌≤◌, ◌==◌, Bool, true, false, List, [], ◌∷◌, ◌++◌, length, nat_lt, if◌then◌else◌, Option, Some, None, All, Contains}
 use mathlib.Core.List.{IsPrefix}
 use Rattle.atomic_table.specs.Seated.{TableId}
+use Rattle.foundation.specs.Tests.{one_if}
 
 -- a lock: what no other lock shares with it, and the key of the value with which it was made
 pub record LockView (K : Type 0) : Type 0 where
@@ -32,10 +33,6 @@ places n (Some e) = n ∷ []
 
 abbrev pub longer : {E : Type 0} → List E → List E → List E
 longer xs ys = if nat_lt (length xs) (length ys) then ys else xs
-
-abbrev pub one_if : Bool → ℕ
-one_if true = 1
-one_if false = 0
 
 -- how often a place is named
 abbrev pub times : ℕ → List ℕ → ℕ

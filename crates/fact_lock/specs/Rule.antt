@@ -7,7 +7,8 @@ use Rattle.atomic_table.specs.Table.{State, Me, Step, rest}
 use Rattle.fact_lock.specs.declared.view.View.{View}
 use Rattle.fact_lock.specs.declared.view.Stage.{Stage}
 use Rattle.fact_lock.specs.declared.view.Stage.TheVariants.{Rests, Waits, Acts}
-use Rattle.fact_lock.specs.Passes.{one_if, times, longer}
+use Rattle.foundation.specs.Tests.{one_if}
+use Rattle.fact_lock.specs.Passes.{times, longer}
 
 -- the sum of a number of each
 abbrev pub total : {A : Type 0} → (A → ℕ) → List A → ℕ

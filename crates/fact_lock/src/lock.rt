@@ -107,7 +107,8 @@ impl<V: Journal> Lock<V> {
         reply
     }
 
-    // Draws a ticket. The last one, 2^64 - 1, is never drawn, since 0 would follow it.
+    // Draws a ticket, once the next one is the one that is served. So a thread that the system has put aside seldom
+    // holds a ticket for which others wait. The last ticket, 2^64 - 1, is never drawn, since 0 would follow it.
     fn draw<R: Wait>(&self, rt: &R, seat: &mut Seat<V>) -> u64
         requires table { seat.old.table_id ≡ self.now.id }
         requires rests { seat.old.me.0.stage ≡ Rests }
@@ -119,13 +120,10 @@ impl<V: Journal> Lock<V> {
         let backoff = Backoff::new();
         for _ in rt.forever() {
             let next = shared.peek(TICKET);
-            if next < u64::MAX {
-                if shared.compare_exchange::<Draw<V>>(seat, TICKET, next, next + 1) == next {
-                    return next;
-                }
-                backoff.spin();
-            } else {
+            if next == u64::MAX || shared.peek(SERVING) != next {
                 backoff.snooze();
+            } else if shared.compare_exchange::<Draw<V>>(seat, TICKET, next, next + 1) == next {
+                return next;
             }
         }
         unreachable!()

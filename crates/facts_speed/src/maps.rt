@@ -68,10 +68,11 @@ fn fact_of(repeat: Repeat, claim: &Claim) -> Fact {
     }
 }
 
-/// One fact of each repeat, in the map of the shard in which it would stand.
+/// One fact of each repeat, in the map of the shard in which it would stand, and at most so many in each map.
 #[derive(Drop)]
 pub struct Maps {
     maps: Vec<Mutex<HashMap<Key, Claim>>>,
+    most: usize,
     ghost count: { (0 < vec_len maps) × (vec_len maps ≤ 64) },
 }
 
@@ -81,11 +82,12 @@ impl Maps {
         requires { (1 ≤ count) × (count ≤ 64) }
     {
         let count = count as usize;
+        let most = facts as usize;
         let mut maps = Vec::with_capacity(alloc, count)?;
         while maps.len() < count {
-            maps.push(Mutex::new(HashMap::with_capacity(alloc, facts as usize)?))?;
+            maps.push(Mutex::new(HashMap::with_capacity(alloc, most)?))?;
         }
-        Ok(Maps { maps })
+        Ok(Maps { maps, most })
     }
 
     // The map of a hash.
@@ -102,7 +104,9 @@ impl Store for Maps {
     fn publish<R: Wait>(&self, rt: &R, _right: &mut (), fact: &Fact) -> bool {
         let key = key_of(&fact.repeat);
         let mut map = self.home(key.hash).lock(rt);
+        let is_full = map.len() >= self.most;
         match map.entry(key) {
+            Ok(Entry::Vacant(_)) if is_full => false,
             Ok(Entry::Vacant(place)) => {
                 place.insert(claim_of(fact));
                 true

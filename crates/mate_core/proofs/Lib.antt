@@ -1,4 +1,5 @@
 pub mod AnswerLemmas
+pub mod PackedLemmas
 pub mod StepLemmas
 pub mod TruthLemmas
 pub mod worked

@@ -22,7 +22,6 @@ use Rattle.rules_model.specs.Regions.{in_region}
 use Rattle.rules_model.specs.Ends.{is_ongoing, flag_at, has_flag, early_end, or_end, valued, no_move}
 use Rattle.rules_model.specs.Legal.{legal, is_stuck, own_end}
 use Rattle.rules_model.proofs.PlayLaws.{own_end-stuck}
-use Rattle.forced_wins.specs.declared.fact.Fact.{Fact}
 use Rattle.forced_wins.specs.Contests.{Contest, replies, attacks_by, forced}
 use Rattle.forced_wins.specs.Facts.{Says}
 use Rattle.forced_wins.specs.Views.{won_by}

@@ -1,5 +1,5 @@
 -- Chains pass every entry of their bucket.
-use Rattle.std.proofs.Common.{◌≡◌, ◌≢◌, ℕ, zero, suc, ◌+◌, ◌-◌, ◌<◌, ◌≤◌, ◌%◌, Bool, true, false, ◌||◌, List, [], ◌∷◌, ◌++◌, length, get_or, set, replicate, take, Option, None, Some, refl, ap, sym, ◌∙◌, subst, arith, length-set, if◌then◌else◌}
+use Rattle.std.proofs.Common.{◌≡◌, ◌≢◌, ℕ, zero, suc, ◌+◌, ◌-◌, ◌<◌, ◌≤◌, Bool, true, false, ◌||◌, List, [], ◌∷◌, ◌++◌, length, get_or, set, replicate, take, Option, None, Some, refl, ap, sym, ◌∙◌, subst, arith, length-set, if◌then◌else◌}
 use Rattle.std.specs.List.{list_any}
 use Rattle.std.proofs.lemmas.List.{get_or_append_left, get_or_push, get_or-set_same, get_or-set_other, get_or-map, take_more, take_all, length_push, length-map, map-append}
 use Rattle.std.proofs.lemmas.List.Folds.{list_any-append}
@@ -18,7 +18,7 @@ use Rattle.forced_wins.proofs.Counts.{not_true}
 use Rattle.mate_core.specs.Best.{best, sooner, if_serves, is_as_good, has_better}
 use Rattle.mate_core.specs.Hash.{hash_of}
 use Rattle.mate_core.proofs.AnswerLemmas.{served, best-push, sooner-none, sooner-assoc}
-use Rattle.mate_shards.specs.Index.{IsLast, IsIndex, buckets}
+use Rattle.mate_shards.specs.Index.{IsLast, IsIndex, bucket_of, buckets}
 
 some-at : {X : Type 0} (xs : List X) (k : ℕ) → k < length xs → (x : X) × (slice_get xs k ≡ Some x)
 some-at [] k l = absurd (omega arith)
@@ -147,27 +147,27 @@ best_skips r c n fs d m (suc k) l none =
 -- ---- for facts
 
 module _ (capacity : ℕ) (fs : List Fact) (d : Fact) where
-  bucket_at : (i : ℕ) → i < length fs → get_or (buckets capacity fs) i 0 ≡ hash_of (get_or fs i d).repeat % capacity
-  bucket_at i l = get_or-map (λ f. hash_of f.repeat % capacity) fs i d 0 l
+  bucket_at : (i : ℕ) → i < length fs → get_or (buckets capacity fs) i 0 ≡ bucket_of capacity (hash_of (get_or fs i d).repeat)
+  bucket_at i l = get_or-map (λ f. bucket_of capacity (hash_of f.repeat)) fs i d 0 l
 
   size : length (buckets capacity fs) ≡ length fs
-  size = length-map fs (λ f. hash_of f.repeat % capacity)
+  size = length-map fs (λ f. bucket_of capacity (hash_of f.repeat))
 
   -- a fact of another bucket is of another repeat
-  other_bucket : (r : Repeat) (c n i : ℕ) → i < length fs → get_or (buckets capacity fs) i 0 ≢ hash_of r % capacity → serves (get_or fs i d) r c n ≡ false
+  other_bucket : (r : Repeat) (c n i : ℕ) → i < length fs → get_or (buckets capacity fs) i 0 ≢ bucket_of capacity (hash_of r) → serves (get_or fs i d) r c n ≡ false
   other_bucket r c n i l apart =
       not_true (serves (get_or fs i d) r c n)
-      (λ t. apart (bucket_at i l ∙ ap (λ x. hash_of x % capacity) (served (get_or fs i d) r c n t).0))
+      (λ t. apart (bucket_at i l ∙ ap (λ x. bucket_of capacity (hash_of x)) (served (get_or fs i d) r c n t).0))
 
   -- below `n` only what `at` names can answer
-  pub best-chain : (r : Repeat) (c m n at : ℕ) → n ≤ length fs → IsLast (buckets capacity fs) (hash_of r % capacity) n at → best (take n fs) r c m ≡ best (take at fs) r c m
+  pub best-chain : (r : Repeat) (c m n at : ℕ) → n ≤ length fs → IsLast (buckets capacity fs) (bucket_of capacity (hash_of r)) n at → best (take n fs) r c m ≡ best (take at fs) r c m
   best-chain r c m n at l last =
       let low = last.low in
       let e : n ≡ at + (n - at) = omega arith in
       ap (λ x. best (take x fs) r c m) e
       ∙ best_skips r c m fs d at (n - at) (omega arith) (λ i from to. other_bucket r c m i (omega arith) (last.none i from (omega arith)))
 
-  pub better-chain : (f : Fact) (n at : ℕ) → n ≤ length fs → IsLast (buckets capacity fs) (hash_of f.repeat % capacity) n at → has_better (take n fs) f ≡ has_better (take at fs) f
+  pub better-chain : (f : Fact) (n at : ℕ) → n ≤ length fs → IsLast (buckets capacity fs) (bucket_of capacity (hash_of f.repeat)) n at → has_better (take n fs) f ≡ has_better (take at fs) f
   unfolding is_as_good
   better-chain f n at l last =
       let low = last.low in
@@ -179,10 +179,10 @@ module _ (capacity : ℕ) (fs : List Fact) (d : Fact) where
       not_true (is_as_good k f)
       (λ t.
       let s : serves k f.repeat f.counter f.moves ≡ true = (and_parts (same_bool k.wins f.wins) (serves k f.repeat f.counter f.moves) t).1 in
-      last.none i from (omega arith) (bucket_at i (omega arith) ∙ ap (λ x. hash_of x % capacity) (served k f.repeat f.counter f.moves s).0)))
+      last.none i from (omega arith) (bucket_at i (omega arith) ∙ ap (λ x. bucket_of capacity (hash_of x)) (served k f.repeat f.counter f.moves s).0)))
 
   -- the walk goes from one entry to the next
-  pub best-next : (r : Repeat) (c m at next : ℕ) (found : Option Fact) → 0 < at → at ≤ length fs → IsLast (buckets capacity fs) (hash_of r % capacity) (at - 1) next → sooner (best (take at fs) r c m) found ≡ sooner (best (take next fs) r c m) (sooner (if_serves (get_or fs (at - 1) d) r c m) found)
+  pub best-next : (r : Repeat) (c m at next : ℕ) (found : Option Fact) → 0 < at → at ≤ length fs → IsLast (buckets capacity fs) (bucket_of capacity (hash_of r)) (at - 1) next → sooner (best (take at fs) r c m) found ≡ sooner (best (take next fs) r c m) (sooner (if_serves (get_or fs (at - 1) d) r c m) found)
   best-next r c m at next found some l last =
       let e : at ≡ at - 1 + 1 = omega arith in
       let x = get_or fs (at - 1) d in
@@ -191,7 +191,7 @@ module _ (capacity : ℕ) (fs : List Fact) (d : Fact) where
       ∙ (sooner-assoc (best (take (at - 1) fs) r c m) (if_serves x r c m) found
       ∙ ap (λ o. sooner o (sooner (if_serves x r c m) found)) (best-chain r c m (at - 1) next (omega arith) last))
 
-  pub better-next : (f : Fact) (at next : ℕ) → 0 < at → at ≤ length fs → is_as_good (get_or fs (at - 1) d) f ≡ false → IsLast (buckets capacity fs) (hash_of f.repeat % capacity) (at - 1) next → has_better (take at fs) f ≡ has_better (take next fs) f
+  pub better-next : (f : Fact) (at next : ℕ) → 0 < at → at ≤ length fs → is_as_good (get_or fs (at - 1) d) f ≡ false → IsLast (buckets capacity fs) (bucket_of capacity (hash_of f.repeat)) (at - 1) next → has_better (take at fs) f ≡ has_better (take next fs) f
   better-next f at next some l fails last =
       let e : at ≡ at - 1 + 1 = omega arith in
       let q : Fact → Bool = λ k. is_as_good k f in
@@ -223,25 +223,25 @@ module _ (capacity : ℕ) (fs : List Fact) (d : Fact) where
 
 -- how far a look has come: what is still ahead, and what was found
 pub record Looking (capacity : ℕ) (fs : List Fact) (h : ℕ) (r : Repeat) (c m at : ℕ) (found : Option Fact) : Type 0 where
-  pub chain : InChain (buckets capacity fs) (h % capacity) at
+  pub chain : InChain (buckets capacity fs) (bucket_of capacity h) at
   pub rest : best fs r c m ≡ sooner (best (take at fs) r c m) found
 
 -- how far a search for a fact as good has come: none was found
 pub record Comparing (capacity : ℕ) (fs : List Fact) (h : ℕ) (f : Fact) (at : ℕ) : Type 0 where
-  pub chain : InChain (buckets capacity fs) (h % capacity) at
+  pub chain : InChain (buckets capacity fs) (bucket_of capacity h) at
   pub rest : has_better fs f ≡ has_better (take at fs) f
 
 some_fact : Repeat → Fact
 some_fact r = record { repeat = r; attacker = r.side; moves = 0; counter = 0; best = None; wins = true }
 
 module _ (capacity : ℕ) (fs : List Fact) (h : ℕ) (r : Repeat) (hashed : h ≡ hash_of r) where
-  by_repeat : (n at : ℕ) → IsLast (buckets capacity fs) (h % capacity) n at → IsLast (buckets capacity fs) (hash_of r % capacity) n at
-  by_repeat n at last = let P : ℕ → Type 0 = λ x. IsLast (buckets capacity fs) (x % capacity) n at in subst P hashed last
+  by_repeat : (n at : ℕ) → IsLast (buckets capacity fs) (bucket_of capacity h) n at → IsLast (buckets capacity fs) (bucket_of capacity (hash_of r)) n at
+  by_repeat n at last = let P : ℕ → Type 0 = λ x. IsLast (buckets capacity fs) (bucket_of capacity x) n at in subst P hashed last
 
-  in_chain : (n at : ℕ) → n ≤ length fs → IsLast (buckets capacity fs) (h % capacity) n at → InChain (buckets capacity fs) (h % capacity) at
-  in_chain n at l last = chained (buckets capacity fs) (h % capacity) n at (let e = size capacity fs (some_fact r) in omega arith) last
+  in_chain : (n at : ℕ) → n ≤ length fs → IsLast (buckets capacity fs) (bucket_of capacity h) n at → InChain (buckets capacity fs) (bucket_of capacity h) at
+  in_chain n at l last = chained (buckets capacity fs) (bucket_of capacity h) n at (let e = size capacity fs (some_fact r) in omega arith) last
 
-  pub look-starts : (c m at : ℕ) → IsLast (buckets capacity fs) (h % capacity) (length fs) at → Looking capacity fs h r c m at None
+  pub look-starts : (c m at : ℕ) → IsLast (buckets capacity fs) (bucket_of capacity h) (length fs) at → Looking capacity fs h r c m at None
   look-starts c m at last = record {
     chain = in_chain (length fs) at (omega arith) last;
     rest =
@@ -254,8 +254,8 @@ module _ (capacity : ℕ) (fs : List Fact) (h : ℕ) (r : Repeat) (hashed : h �
   look-goes-on heads links c m at next found older x index look some read link joined =
       let low = look.chain.low in
       let e = size capacity fs x in
-      let P : ℕ → Type 0 = λ n. IsLast (buckets capacity fs) (h % capacity) (at - 1) n in
-      let last = subst P (sym link) (link-at capacity fs x heads links (h % capacity) at index look.chain some) in
+      let P : ℕ → Type 0 = λ n. IsLast (buckets capacity fs) (bucket_of capacity h) (at - 1) n in
+      let last = subst P (sym link) (link-at capacity fs x heads links (bucket_of capacity h) at index look.chain some) in
       record {
         chain = in_chain (at - 1) next (omega arith) last;
         rest =
@@ -271,7 +271,7 @@ module _ (capacity : ℕ) (fs : List Fact) (h : ℕ) (r : Repeat) (hashed : h �
       sym (look.rest ∙ ap (λ n. sooner (best (take n fs) r c m) found) e)
 
 module _ (capacity : ℕ) (fs : List Fact) (h : ℕ) (f : Fact) (hashed : h ≡ hash_of f.repeat) where
-  pub search-starts : (at : ℕ) → IsLast (buckets capacity fs) (h % capacity) (length fs) at → Comparing capacity fs h f at
+  pub search-starts : (at : ℕ) → IsLast (buckets capacity fs) (bucket_of capacity h) (length fs) at → Comparing capacity fs h f at
   search-starts at last = record {
     chain = in_chain capacity fs h f.repeat hashed (length fs) at (omega arith) last;
     rest =
@@ -283,8 +283,8 @@ module _ (capacity : ℕ) (fs : List Fact) (h : ℕ) (f : Fact) (hashed : h ≡ 
   search-goes-on heads links at next x index comparing some read fails link =
       let low = comparing.chain.low in
       let e = size capacity fs x in
-      let P : ℕ → Type 0 = λ n. IsLast (buckets capacity fs) (h % capacity) (at - 1) n in
-      let last = subst P (sym link) (link-at capacity fs x heads links (h % capacity) at index comparing.chain some) in
+      let P : ℕ → Type 0 = λ n. IsLast (buckets capacity fs) (bucket_of capacity h) (at - 1) n in
+      let last = subst P (sym link) (link-at capacity fs x heads links (bucket_of capacity h) at index comparing.chain some) in
       record {
         chain = in_chain capacity fs h f.repeat hashed (at - 1) next (omega arith) last;
         rest =
@@ -299,11 +299,11 @@ module _ (capacity : ℕ) (fs : List Fact) (h : ℕ) (f : Fact) (hashed : h ≡ 
       comparing.rest ∙ better-here capacity fs x f at some (omega arith) (ap (λ y. is_as_good y f) (sym read) ∙ is)
 
 -- a fact is put at the end of the list and at the head of its chain
-pub pushed-fact : (capacity : ℕ) (fs grown : List Fact) (heads links linked : List ℕ) (f : Fact) (h bucket head count : ℕ) → IsIndex (buckets capacity fs) heads links → h ≡ hash_of f.repeat → bucket ≡ h % capacity → bucket < length heads → head ≡ get_or heads bucket 0 → grown ≡ fs ++ f ∷ [] → count ≡ length fs + 1 → linked ≡ links ++ head ∷ [] → IsIndex (buckets capacity grown) (set heads bucket count) linked
+pub pushed-fact : (capacity : ℕ) (fs grown : List Fact) (heads links linked : List ℕ) (f : Fact) (h bucket head count : ℕ) → IsIndex (buckets capacity fs) heads links → h ≡ hash_of f.repeat → bucket ≡ bucket_of capacity h → bucket < length heads → head ≡ get_or heads bucket 0 → grown ≡ fs ++ f ∷ [] → count ≡ length fs + 1 → linked ≡ links ++ head ∷ [] → IsIndex (buckets capacity grown) (set heads bucket count) linked
 pushed-fact capacity fs grown heads links linked f h bucket head count index hashed of_hash l read grows counted links_grow =
-    let b = hash_of f.repeat % capacity in
-    let of : Fact → ℕ = λ g. hash_of g.repeat % capacity in
-    let is_b : bucket ≡ b = of_hash ∙ ap (λ x. x % capacity) hashed in
+    let b = bucket_of capacity (hash_of f.repeat) in
+    let of : Fact → ℕ = λ g. bucket_of capacity (hash_of g.repeat) in
+    let is_b : bucket ≡ b = of_hash ∙ ap (λ x. bucket_of capacity x) hashed in
     let all_buckets : buckets capacity grown ≡ buckets capacity fs ++ b ∷ [] = ap (buckets capacity) grows ∙ map-append of fs (f ∷ []) in
     let entries : count ≡ length (buckets capacity fs) + 1 = counted ∙ ap (λ n. n + 1) (sym (size capacity fs f)) in
     let links_are : linked ≡ links ++ get_or heads bucket 0 ∷ [] = links_grow ∙ ap (λ x. links ++ x ∷ []) read in
@@ -328,9 +328,9 @@ taken (x ∷ xs) (suc i) l = let e = taken xs i (omega arith) in omega arith
 
 pub chain-size : (count : ℕ) (facts : List Fact) (heads links : List ℕ) (i : ℕ) → i < length facts → IsIndex (buckets count (take i facts)) heads links → length links ≡ i
 chain-size count facts heads links i l index =
-    index.linked ∙ (length-map (take i facts) (λ f. hash_of f.repeat % count) ∙ taken facts i (omega arith))
+    index.linked ∙ (length-map (take i facts) (λ f. bucket_of count (hash_of f.repeat)) ∙ taken facts i (omega arith))
 
-pub chain-step : (count : ℕ) (facts : List Fact) (heads links linked : List ℕ) (i bucket head : ℕ) → i < length facts → IsIndex (buckets count (take i facts)) heads links → bucket < length heads → ((f : Fact) → slice_get facts i ≡ Some f → bucket ≡ hash_of f.repeat % count) → head ≡ get_or heads bucket head → linked ≡ links ++ head ∷ [] → IsIndex (buckets count (take (i + 1) facts)) (set heads bucket (i + 1)) linked
+pub chain-step : (count : ℕ) (facts : List Fact) (heads links linked : List ℕ) (i bucket head : ℕ) → i < length facts → IsIndex (buckets count (take i facts)) heads links → bucket < length heads → ((f : Fact) → slice_get facts i ≡ Some f → bucket ≡ bucket_of count (hash_of f.repeat)) → head ≡ get_or heads bucket head → linked ≡ links ++ head ∷ [] → IsIndex (buckets count (take (i + 1) facts)) (set heads bucket (i + 1)) linked
 chain-step count facts heads links linked i bucket head l index below of read grows =
     let f = some-at facts i l in
     let more : take (i + 1) facts ≡ take i facts ++ f.0 ∷ [] = take_more facts i f.0 l ∙ ap (λ x. take i facts ++ x ∷ []) (get_or_from_slice_get facts i f.0 f.0 f.1) in

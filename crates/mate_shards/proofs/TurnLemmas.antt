@@ -1,5 +1,6 @@
 -- From the turn of one lock to the turn of one shard, and to a step of the core.
-use Rattle.std.proofs.Common.{◌≡◌, ℕ, zero, suc, ◌<◌, List, [], ◌∷◌, ◌++◌, length, get_or, set, Option, Some, None, refl, ap, sym, ◌∙◌, subst, arith, append-nil, length-set}
+use Rattle.std.specs.Option.{option_map}
+use Rattle.std.proofs.Common.{◌≡◌, Bool, true, false, if◌then◌else◌, ℕ, zero, suc, ◌<◌, List, [], ◌∷◌, ◌++◌, length, get_or, set, Option, Some, None, refl, ap, sym, ◌∙◌, subst, arith, append-nil, length-set}
 use Rattle.std.specs.Prelude.{All, slice_get}
 use Rattle.std.proofs.lemmas.List.Elements.{All-set, All-get_or}
 use Rattle.std.proofs.lemmas.Option.{slice_get_within, get_or_from_slice_get}
@@ -15,15 +16,20 @@ use Rattle.mate_core.specs.declared.event.Event.TheVariants as event
 use Rattle.mate_core.specs.declared.event.Reply.{Reply}
 use Rattle.mate_core.specs.declared.event.Reply.TheVariants as replies
 use Rattle.mate_core.specs.declared.store.Store.{Store}
-use Rattle.mate_core.specs.Best.{best, stored}
+use Rattle.mate_core.specs.Best.{best, has_better, is_full, stored}
+use Rattle.mate_core.proofs.AnswerLemmas.{served, best-some}
 use Rattle.mate_core.specs.Runs.{AreTrueIn}
 use Rattle.mate_core.specs.Steps.{facts, published, grown, told, publish_at, look_at, step}
 use Rattle.mate_shards.specs.declared.published.Published.{Published}
-use Rattle.mate_shards.specs.declared.request.Given.{Given}
+use Rattle.mate_core.specs.declared.packed_fact.Claim.{Claim}
+use Rattle.mate_shards.specs.declared.published.Published.TheVariants.{Stored, KnownBetter, Full}
+use Rattle.mate_shards.specs.declared.request.Answer.{Answer}
+use Rattle.mate_shards.specs.declared.request.Answer.TheVariants as answers
 use Rattle.mate_shards.specs.declared.request.Query.{Query}
 use Rattle.mate_shards.specs.declared.request.Request.{Request}
 use Rattle.mate_shards.specs.declared.request.Request.TheVariants.{Publish, Look}
-use Rattle.mate_shards.specs.Shard.{Key, reply, added}
+use Rattle.mate_core.specs.Claims.{claim_of, fact_with}
+use Rattle.mate_shards.specs.Shard.{Key, verdict, reply, added}
 use Rattle.mate_shards.specs.Turns.{reply_of, home_of, AskTurn, PublishTurn, LookTurn}
 use Rattle.mate_shards.specs.Views.{ShardsView, ShardPass, ArePassesOf}
 
@@ -71,7 +77,7 @@ module _ (s : ShardsView) (ps : List ShardPass) (are : ArePassesOf s ps) (k : �
           subst (λ x. IsPassOf x v) same_lock (subst (λ x. IsPassOf l x) same_pass is))
           (λ apart. are.each j m v lock (sym (slice_get-set_other ps k j q (λ e. apart (sym e))) ∙ pass))
 
-  pub asks : (keys : All (λ m. m.key ≡ (s.frame, s.capacity)) s.locks) (request : Request) (answer : Reply) (q : ShardPass) → LockTurn reply added l.key p request answer q → AreTrueIn l.key.0 q.seen → OwnsSeen q → q.parts ≡ p.parts → AskTurn s ps k request answer (set ps k q)
+  pub asks : (keys : All (λ m. m.key ≡ (s.frame, s.capacity)) s.locks) (request : Request) (answer : Answer) (q : ShardPass) → LockTurn reply added l.key p request answer q → AreTrueIn l.key.0 q.seen → OwnsSeen q → q.parts ≡ p.parts → AskTurn s ps k request answer (set ps k q)
   asks keys request answer q turn truth owns parts =
       let key = all-at (λ m. m.key ≡ (s.frame, s.capacity)) s.locks k l keys lock_at in
       let t = subst (λ x. LockTurn reply added x p request answer q) key turn in
@@ -124,38 +130,62 @@ entries-facts : (o : Option Fact) → entries o ≡ facts o
 entries-facts None = refl
 entries-facts (Some f) = refl
 
-pub publishes : (s : ShardsView) (ps after : List ShardPass) (given : Given) (answer : Published) (k : ℕ) → k ≡ home_of s given.fact.repeat → AskTurn s ps k (Publish given) (reply_of answer) after → PublishTurn s ps given.fact answer after
-publishes s ps after given answer k home ask =
-    let P : ℕ → Type 0 = λ j. AskTurn s ps j (Publish given) (reply_of answer) after in
+-- the verdict is the reply of the core
+verdict-reply : (capacity : ℕ) (fs : List Fact) (f : Fact) → reply_of (verdict capacity fs f) ≡ published capacity fs f
+verdict-reply capacity fs f = cases (has_better fs f) (is_full capacity fs)
+  where
+    cases : (b full : Bool) → reply_of (if b then KnownBetter else if full then Full else Stored) ≡ (if b then replies.KnownBetter else if full then replies.Full else replies.Stored)
+    cases true full = refl
+    cases false true = refl
+    cases false false = refl
+
+pub publishes : (s : ShardsView) (ps after : List ShardPass) (f : Fact) (answer : Published) (k : ℕ) → k ≡ home_of s f.repeat → AskTurn s ps k (Publish f) (answers.Published answer) after → PublishTurn s ps f answer after
+publishes s ps after f answer k home ask =
+    let P : ℕ → Type 0 = λ j. AskTurn s ps j (Publish f) (answers.Published answer) after in
     let a = subst P home ask in
-    let f = given.fact in
     let seen : a.turn.pass.seen ≡ grown s.capacity a.list f = a.seen ∙ ap (λ xs. a.list ++ xs) (entries-facts (stored s.capacity a.list f)) in
+    let answered : reply_of answer ≡ published s.capacity a.list f = ap reply_of (verdict_is a.answered) ∙ verdict-reply s.capacity a.list f in
     record {
       list = a.list;
       turn = a.turn;
-      answered = a.answered;
+      answered = answered;
       seen = seen;
       core = λ worker store capacity at.
           let t = publish-step store worker (home_of s f.repeat) a.list at f in
-          (t.0 ∙ (ap (λ c. published c a.list f) capacity ∙ sym a.answered), t.1 ∙ ap (λ xs. Some xs) (ap (λ c. grown c a.list f) capacity ∙ sym seen));
+          (t.0 ∙ (ap (λ c. published c a.list f) capacity ∙ sym answered), t.1 ∙ ap (λ xs. Some xs) (ap (λ c. grown c a.list f) capacity ∙ sym seen));
     }
+  where
+    verdict_is : {x y : Published} → answers.Published x ≡ answers.Published y → x ≡ y
+    verdict_is e = cc
 
-pub looks : (s : ShardsView) (ps after : List ShardPass) (p : Position) (query : Query) (moves : ℕ) (answer : Option Fact) (k : ℕ) → query.repeat ≡ repeat_of p → query.counter ≡ p.counter → query.moves ≡ moves → k ≡ home_of s (repeat_of p) → AskTurn s ps k (Look query) (replies.Found answer) after → LookTurn s ps p moves answer after
-looks s ps after p query moves answer k same_repeat same_counter same_moves home ask =
-    let P : ℕ → Type 0 = λ j. AskTurn s ps j (Look query) (replies.Found answer) after in
+-- the best answer is of the repeat of the query, so what it says and that repeat are the fact
+best-whole : (fs : List Fact) (r : Repeat) (c n : ℕ) → option_map (fact_with r) (option_map claim_of (best fs r c n)) ≡ best fs r c n
+best-whole fs r c n = of_found (best fs r c n) refl
+  where
+    of_found : (o : Option Fact) → best fs r c n ≡ o → option_map (fact_with r) (option_map claim_of o) ≡ o
+    of_found None e = refl
+    of_found (Some f) e =
+        let first = best-some fs r c n f e in
+        let of : f.repeat ≡ r = (served f r c n first.serves_it).0 in
+        ap (λ x. Some (fact_with x (claim_of f))) (sym of)
+
+pub looks : (s : ShardsView) (ps after : List ShardPass) (p : Position) (query : Query) (moves : ℕ) (found : Option Claim) (answer : Option Fact) (k : ℕ) → query.repeat ≡ repeat_of p → query.counter ≡ p.counter → query.moves ≡ moves → answer ≡ option_map (fact_with (repeat_of p)) found → k ≡ home_of s (repeat_of p) → AskTurn s ps k (Look query) (answers.Found found) after → LookTurn s ps p moves answer after
+looks s ps after p query moves found answer k same_repeat same_counter same_moves whole home ask =
+    let P : ℕ → Type 0 = λ j. AskTurn s ps j (Look query) (answers.Found found) after in
     let a = subst P home ask in
     let seen : a.turn.pass.seen ≡ a.list = a.seen ∙ append-nil a.list in
-    let found : answer ≡ best a.list query.repeat query.counter query.moves = found_is a.answered in
     let asked : best a.list query.repeat query.counter query.moves ≡ best a.list (repeat_of p) p.counter moves = ap (λ r. best a.list r query.counter query.moves) same_repeat ∙ (ap (λ c. best a.list (repeat_of p) c query.moves) same_counter ∙ ap (best a.list (repeat_of p) p.counter) same_moves) in
+    let said : found ≡ option_map claim_of (best a.list (repeat_of p) p.counter moves) = found_is a.answered ∙ ap (option_map claim_of) asked in
+    let answered : answer ≡ best a.list (repeat_of p) p.counter moves = whole ∙ (ap (option_map (fact_with (repeat_of p))) said ∙ best-whole a.list (repeat_of p) p.counter moves) in
     record {
       list = a.list;
       turn = a.turn;
-      answered = found ∙ asked;
+      answered = answered;
       seen = seen;
       core = λ worker store capacity at.
           let t = look-step store worker (home_of s (repeat_of p)) a.list at (repeat_of p) p.counter moves in
-          (t.0 ∙ ap (λ o. replies.Found o) (sym (found ∙ asked)), t.1 ∙ ap (λ xs. Some xs) (sym seen));
+          (t.0 ∙ ap (λ o. replies.Found o) (sym answered), t.1 ∙ ap (λ xs. Some xs) (sym seen));
     }
   where
-    found_is : {x y : Option Fact} → replies.Found x ≡ replies.Found y → x ≡ y
+    found_is : {x y : Option Claim} → answers.Found x ≡ answers.Found y → x ≡ y
     found_is e = cc

@@ -1,14 +1,17 @@
 -- What lies under the lock of one shard.
-use Rattle.std.specs.Prelude.{ℕ, List, Option, None}
+use Rattle.std.specs.Prelude.{ℕ, List, Option, None, if◌then◌else◌}
+use Rattle.std.specs.Option.{option_map}
 use Rattle.forced_wins.specs.declared.fact.Fact.{Fact}
-use Rattle.mate_core.specs.declared.event.Reply.{Reply}
-use Rattle.mate_core.specs.declared.event.Reply.TheVariants.{Found}
 use Rattle.mate_core.specs.declared.frame.Frame.{Frame}
-use Rattle.mate_core.specs.Best.{best, stored}
+use Rattle.mate_core.specs.Best.{best, has_better, is_full, stored}
 use Rattle.mate_core.specs.Runs.{IsTrueIn}
-use Rattle.mate_core.specs.Steps.{published}
+use Rattle.mate_shards.specs.declared.published.Published.{Published}
+use Rattle.mate_shards.specs.declared.published.Published.TheVariants.{Stored, KnownBetter, Full}
+use Rattle.mate_shards.specs.declared.request.Answer.{Answer}
+use Rattle.mate_shards.specs.declared.request.Answer.TheVariants as answers
 use Rattle.mate_shards.specs.declared.request.Request.{Request}
 use Rattle.mate_shards.specs.declared.request.Request.TheVariants.{Publish, Look}
+use Rattle.mate_core.specs.Claims.{claim_of}
 
 -- what a shard's lock is told apart by: the frame and the capacity
 abbrev pub Key : Type 0
@@ -16,13 +19,17 @@ Key = Frame × ℕ
 
 -- a fact that is published has to be true, and every look is allowed
 abbrev pub Fits : Key → Request → Type 0
-Fits key (Publish given) = IsTrueIn key.0 given.fact
+Fits key (Publish f) = IsTrueIn key.0 f
 Fits key (Look query) = Unit {0}
 
-abbrev pub reply : Key → List Fact → Request → Reply
-reply key facts (Publish given) = published key.1 facts given.fact
-reply key facts (Look query) = Found (best facts query.repeat query.counter query.moves)
+-- what becomes of a fact that is published in a list with so many places
+abbrev pub verdict : ℕ → List Fact → Fact → Published
+verdict capacity fs f = if has_better fs f then KnownBetter else if is_full capacity fs then Full else Stored
+
+abbrev pub reply : Key → List Fact → Request → Answer
+reply key facts (Publish f) = answers.Published (verdict key.1 facts f)
+reply key facts (Look query) = answers.Found (option_map claim_of (best facts query.repeat query.counter query.moves))
 
 abbrev pub added : Key → List Fact → Request → Option Fact
-added key facts (Publish given) = stored key.1 facts given.fact
+added key facts (Publish f) = stored key.1 facts f
 added key facts (Look query) = None

@@ -17,6 +17,7 @@ use Rattle.mate_core.specs.Runs.{AreTrueIn}
 use Rattle.mate_core.specs.Steps.{published, grown, step}
 use Rattle.mate_shards.specs.declared.published.Published.{Published}
 use Rattle.mate_shards.specs.declared.published.Published.TheVariants.{Stored, KnownBetter, Full}
+use Rattle.mate_shards.specs.declared.request.Answer.{Answer}
 use Rattle.mate_shards.specs.declared.request.Request.{Request}
 use Rattle.mate_shards.specs.Shard.{reply, added}
 use Rattle.mate_shards.specs.Views.{ShardsView, ShardPass}
@@ -50,7 +51,7 @@ pub record Turn (s : ShardsView) (before after : List ShardPass) (shard : ℕ) (
   pub true_facts : AreTrueIn s.frame pass.seen
 
 -- a shard was asked
-pub record AskTurn (s : ShardsView) (before : List ShardPass) (shard : ℕ) (request : Request) (answer : Reply) (after : List ShardPass) : Type 0 where
+pub record AskTurn (s : ShardsView) (before : List ShardPass) (shard : ℕ) (request : Request) (answer : Answer) (after : List ShardPass) : Type 0 where
   pub list : List Fact
   pub turn : Turn s before after shard list (added (s.frame, s.capacity) list request)
   pub answered : answer ≡ reply (s.frame, s.capacity) list request

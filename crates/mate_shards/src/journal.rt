@@ -3,10 +3,10 @@ ghost use Rattle.std.specs.Prelude.{◌≡◌};
 ghost use Rattle.mate_core.specs.Runs.{AreTrueIn};
 ghost use Rattle.mate_shards.specs.Shard.{Fits, reply, added};
 
-use crate::request::Request;
+use crate::request::{Answer, Request};
 use crate::shard::Shard;
 use fact_lock::Journal;
-use mate_core::{Fact, Frame, Reply};
+use mate_core::{Fact, Frame};
 
 impl Journal for Shard {
     type Key = (Frame, u32);
@@ -15,7 +15,7 @@ impl Journal for Shard {
 
     type Op = Request;
 
-    type Reply = Reply;
+    type Reply = Answer;
 
     ghost key = { λ shard. (shard.frame.value, shard.capacity) };
 
@@ -29,10 +29,10 @@ impl Journal for Shard {
 
     ghost added = { added };
 
-    fn act(&mut self, request: Request) -> Reply {
+    fn act(&mut self, request: Request) -> Answer {
         match request {
-            Request::Publish(given) => self.publish(&given),
-            Request::Look(query) => Reply::Found(self.best(&query)),
+            Request::Publish(fact) => Answer::Published(self.publish(fact)),
+            Request::Look(query) => Answer::Found(self.look(&query)),
         }
     }
 

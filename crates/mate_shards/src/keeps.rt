@@ -5,7 +5,7 @@ ghost use Rattle.mate_shards.specs.Kept as Kept;
 ghost use Rattle.mate_shards.specs.Keeps.{AreKeeps, picks};
 
 use crate::same_rules::are_same_rules;
-use mate_core::{Fact, Frame};
+use mate_core::{Frame, PackedFact};
 use rules_model::{Repeat, is_same_repeat};
 
 /// Whether wins are kept, and whether refutations are.
@@ -34,10 +34,10 @@ impl Keeps {
     }
 
     /// Whether the fact is kept.
-    pub fn picks(&self, fact: &Fact) -> bool
+    pub fn picks(&self, fact: &PackedFact) -> bool
         ensures { result ≡ picks self.now fact.now }
     {
-        if fact.wins {
+        if fact.wins() {
             self.wins
         } else {
             self.refutations

@@ -1,28 +1,24 @@
-//! What a shard is asked to do. The hash of the repeat is found before the turn, so that no other thread waits for it.
-ghost use Rattle.std.specs.Prelude.{◌≡◌};
-ghost use Rattle.mate_core.specs.Hash.{hash_of};
+//! What a shard is asked to do. The repeat is packed and hashed before the turn, so that no other thread waits for that.
+use crate::published::Published;
+use mate_core::{Claim, Packed, PackedFact};
 
-use mate_core::Fact;
-use rules_model::Repeat;
-
-#[derive(Clone, Copy)]
-pub struct Given {
-    pub fact: Fact,
-    pub hash: u64,
-    ghost hashed: { hash ≡ hash_of fact.repeat },
-}
-
-#[derive(Clone, Copy)]
+#[derive(Drop)]
 pub struct Query {
-    pub repeat: Repeat,
+    pub repeat: Packed,
     pub counter: u16,
     pub moves: u16,
-    pub hash: u64,
-    ghost hashed: { hash ≡ hash_of repeat },
 }
 
-#[derive(Clone, Copy)]
+#[derive(Drop)]
 pub enum Request {
-    Publish(Given),
+    Publish(PackedFact),
     Look(Query),
+}
+
+/// What it answers.
+#[derive(Clone, Copy)]
+pub enum Answer {
+    Published(Published),
+    /// What the fact that was found says.
+    Found(Option<Claim>),
 }

@@ -1,18 +1,22 @@
 //! What lies under the lock of one shard: its facts, all true in the frame, and an index over them.
-ghost use Rattle.std.specs.Prelude.{◌≡◌, ◌%◌, ◌<◌, ◌≤◌, [], ◌∷◌, ◌++◌, length, vec_len, vec_capacity, IfOk, slice_get};
+ghost use Rattle.std.specs.Prelude.{◌≡◌, ◌<◌, ◌≤◌, [], ◌∷◌, ◌++◌, length, vec_len, vec_capacity, IfOk, slice_get};
+ghost use Rattle.std.specs.Option.{option_copied, option_map};
 ghost use Rattle.std.specs.List.{filter};
 ghost use Rattle.forced_wins.specs.declared.fact.Fact.{Fact as FactView};
 ghost use Rattle.mate_core.specs.Best as Best;
 ghost use Rattle.mate_core.specs.Runs.{IsTrueIn, AreTrueIn};
 ghost use Rattle.mate_core.specs.Steps as Steps;
-ghost use Rattle.mate_shards.specs.Index.{IsIndex, IsLast, buckets, fact_hash};
+ghost use Rattle.mate_core.specs.Claims.{claim_of};
+ghost use Rattle.mate_shards.specs.Index.{IsIndex, IsLast, bucket_of, buckets};
 ghost use Rattle.mate_shards.specs.Keeps.{AreKeeps, picks};
 ghost use Rattle.mate_shards.specs.Kept.{IsKept};
+ghost use Rattle.mate_shards.specs.Shard.{verdict};
 ghost use Rattle.mate_shards.specs.Truth.{AreTrueIn-prop};
 
 use crate::keeps::Keeps;
-use crate::request::{Given, Query};
-use mate_core::{Fact, Frame, Reply, hash_of, is_as_good, serves};
+use crate::published::Published;
+use crate::request::Query;
+use mate_core::{Claim, Frame, PackedFact, part_of};
 use rules_model::Memory;
 use std::alloc::Global;
 use std::snapshot::Snapshot;
@@ -24,7 +28,7 @@ use std::snapshot::Snapshot;
 pub struct Shard {
     pub frame: Snapshot<Frame>,
     pub capacity: u32,
-    pub facts: Vec<Fact>,
+    pub facts: Vec<PackedFact>,
     /// For each bucket one more than the place of its newest fact, or 0.
     pub heads: Vec<u32>,
     /// For each fact one more than the place of the next older one of its bucket, or 0.
@@ -54,28 +58,21 @@ impl Shard {
         })
     }
 
-    // The bucket of a hash.
-    fn bucket(&self, hash: u64) -> usize
-        ensures { result ≡ hash % self.now.capacity }
-    {
-        (hash % u64::from(self.capacity)) as usize
-    }
-
     // One more than the place of the bucket's newest fact, or 0.
     fn head(&self, hash: u64) -> u32
-        ensures { IsLast (buckets self.now.capacity self.now.facts.items) (hash % self.now.capacity) (length self.now.facts.items) result }
+        ensures { IsLast (buckets self.now.capacity self.now.facts.items) (bucket_of self.now.capacity hash) (length self.now.facts.items) result }
     {
-        self.heads[self.bucket(hash)]
+        self.heads[bucket_of(hash, self.capacity)]
     }
 
     /// Whether a fact of the list is as good as the given one.
-    pub fn has_better(&self, given: &Given) -> bool
-        ensures { result ≡ Best.has_better self.now.facts.items given.now.fact }
+    pub fn has_better(&self, given: &PackedFact) -> bool
+        ensures { result ≡ Best.has_better self.now.facts.items given.now }
     {
-        let mut at = self.head(given.hash);
+        let mut at = self.head(given.hash());
         while at > 0 {
             let place = (at - 1) as usize;
-            if is_as_good(&self.facts[place], &given.fact) {
+            if self.facts[place].is_as_good(given) {
                 return true;
             }
             at = self.links[place];
@@ -84,11 +81,11 @@ impl Shard {
     }
 
     /// The first of the facts with the least moves among those that answer the query.
-    pub fn best(&self, query: &Query) -> Option<Fact>
-        ensures { result ≡ Best.best self.now.facts.items query.now.repeat query.now.counter query.now.moves }
+    pub fn best(&self, query: &Query) -> Option<&PackedFact>
+        ensures { option_copied result ≡ Best.best self.now.facts.items query.now.repeat query.now.counter query.now.moves }
     {
         let mut found = None;
-        let mut at = self.head(query.hash);
+        let mut at = self.head(query.repeat.hash());
         while at > 0 {
             let place = (at - 1) as usize;
             found = with_older(&self.facts[place], found, query);
@@ -97,22 +94,32 @@ impl Shard {
         found
     }
 
+    /// What the best answer to the query says.
+    pub fn look(&self, query: &Query) -> Option<Claim>
+        ensures { result ≡ option_map claim_of (Best.best self.now.facts.items query.now.repeat query.now.counter query.now.moves) }
+    {
+        match self.best(query) {
+            None => None,
+            Some(fact) => Some(fact.claim()),
+        }
+    }
+
     /// Takes the fact in, unless one as good stands here or there is no place.
-    pub fn publish(&mut self, given: &Given) -> Reply
-        requires truth { IsTrueIn self.old.frame.value given.now.fact }
+    pub fn publish(&mut self, given: PackedFact) -> Published
+        requires truth { IsTrueIn self.old.frame.value given }
         ensures frame { self.new.frame.value ≡ self.old.frame.value }
         ensures capacity { self.new.capacity ≡ self.old.capacity }
-        ensures facts { self.new.facts.items ≡ Steps.grown self.old.capacity self.old.facts.items given.now.fact }
-        ensures reply { result ≡ Steps.published self.old.capacity self.old.facts.items given.now.fact }
+        ensures facts { self.new.facts.items ≡ Steps.grown self.old.capacity self.old.facts.items given }
+        ensures answer { result ≡ verdict self.old.capacity self.old.facts.items given }
     {
-        if self.has_better(given) {
-            return Reply::KnownBetter;
+        if self.has_better(&given) {
+            return Published::KnownBetter;
         }
         if self.facts.len() == self.capacity as usize {
-            return Reply::Full;
+            return Published::Full;
         }
         self.push(given);
-        Reply::Stored
+        Published::Stored
     }
 
     /// The shard under a new frame, with the facts that stay true.
@@ -131,7 +138,7 @@ impl Shard {
             mut links,
         } = self;
         pick(&mut facts, keeps);
-        chain(&facts, &mut heads, &mut links);
+        chain(&facts, capacity, &mut heads, &mut links);
         Shard {
             frame: Snapshot::of(new),
             capacity,
@@ -142,50 +149,50 @@ impl Shard {
     }
 
     // Puts the fact at the end of the list and at the head of its chain.
-    fn push(&mut self, given: &Given)
+    fn push(&mut self, given: PackedFact)
         requires room { vec_len self.old.facts < self.old.capacity }
-        requires truth { IsTrueIn self.old.frame.value given.now.fact }
+        requires truth { IsTrueIn self.old.frame.value given }
         ensures frame { self.new.frame.value ≡ self.old.frame.value }
         ensures capacity { self.new.capacity ≡ self.old.capacity }
-        ensures facts { self.new.facts.items ≡ self.old.facts.items ++ given.now.fact ∷ [] }
+        ensures facts { self.new.facts.items ≡ self.old.facts.items ++ given ∷ [] }
     {
-        let bucket = self.bucket(given.hash);
+        let bucket = bucket_of(given.hash(), self.capacity);
         self.links.push_reserved(self.heads[bucket]);
-        self.facts.push_reserved(given.fact);
+        self.facts.push_reserved(given);
         self.heads[bucket] = self.facts.len() as u32;
     }
 }
 
+// The bucket of a hash among so many.
+#[tactic(auto, unfolding(crate::specs::Index::bucket_of))]
+fn bucket_of(hash: u64, count: u32) -> usize
+    requires some { 0 < count }
+    ensures is { result ≡ bucket_of count hash }
+    ensures below { result < count }
+{
+    part_of(hash % 0x1_0000_0000, count) as usize
+}
+
 // Chains the facts anew.
-fn chain(facts: &[Fact], heads: &mut Vec<u32>, links: &mut Vec<u32>)
-    requires some { 0 < vec_len heads.old }
+fn chain(facts: &[PackedFact], count: u32, heads: &mut Vec<u32>, links: &mut Vec<u32>)
+    requires some { (0 < count) × (vec_len heads.old ≡ count) }
     requires room { length facts.now ≤ vec_capacity links.old }
     requires few { length facts.now ≤ 65536 }
-    ensures indexed { IsIndex (buckets (vec_len heads.old) facts.now) heads.new.items links.new.items }
+    ensures indexed { IsIndex (buckets count facts.now) heads.new.items links.new.items }
     ensures heads { vec_len heads.new ≡ vec_len heads.old }
     ensures links { vec_capacity links.new ≡ vec_capacity links.old }
 {
     links.clear();
     heads.fill(0);
     for i in 0..facts.len() {
-        let bucket = bucket_at(facts, i, heads.len());
+        let bucket = bucket_of(facts[i].hash(), count);
         links.push_reserved(heads[bucket]);
         heads[bucket] = i as u32 + 1;
     }
 }
 
-// The bucket of the fact at a place, among so many.
-fn bucket_at(facts: &[Fact], i: usize, count: usize) -> usize
-    requires place { i < length facts.now }
-    requires some { 0 < count }
-    ensures is { (f : FactView) → slice_get facts.now i ≡ Some f → result ≡ fact_hash f % count }
-    ensures below { result < count }
-{
-    (hash_of(&facts[i].repeat) % count as u64) as usize
-}
-
 // Keeps the facts that the frames allow, in their order.
-fn pick(facts: &mut Vec<Fact>, keeps: &Keeps)
+fn pick(facts: &mut Vec<PackedFact>, keeps: &Keeps)
     ensures facts { facts.new.items ≡ filter (picks keeps.now) facts.old.items }
     ensures capacity { vec_capacity facts.new ≡ vec_capacity facts.old }
     ensures len { vec_len facts.new ≤ vec_len facts.old }
@@ -194,14 +201,18 @@ fn pick(facts: &mut Vec<Fact>, keeps: &Keeps)
 }
 
 // Of an older fact and what was found among the newer ones, the better answer.
-fn with_older(fact: &Fact, found: Option<Fact>, query: &Query) -> Option<Fact>
-    ensures { result ≡ Best.sooner (Best.if_serves fact.now query.now.repeat query.now.counter query.now.moves) found }
+fn with_older<'a>(
+    fact: &'a PackedFact,
+    found: Option<&'a PackedFact>,
+    query: &Query,
+) -> Option<&'a PackedFact>
+    ensures { option_copied result ≡ Best.sooner (Best.if_serves fact.now query.now.repeat query.now.counter query.now.moves) (option_copied found.entry) }
 {
-    if !serves(fact, &query.repeat, query.counter, query.moves) {
+    if !fact.serves(&query.repeat, query.counter, query.moves) {
         return found;
     }
     match found {
-        Some(best) if best.moves < fact.moves => found,
-        _ => Some(*fact),
+        Some(best) if best.moves() < fact.moves() => found,
+        _ => Some(fact),
     }
 }

@@ -1,17 +1,20 @@
 //! The shards and the passes for them.
 ghost use Rattle.std.specs.Prelude.{◌≡◌, ◌<◌, ◌≤◌, [], All, IfOk, length};
+ghost use Rattle.rules_model.specs.Repeats as Repeats;
 ghost use Rattle.mate_core.specs.Runs.{IsTrueIn};
 ghost use Rattle.fact_lock.specs.Passes.{IsPassOf};
+ghost use Rattle.std.specs.Option.{option_map};
+ghost use Rattle.mate_core.specs.Claims.{fact_with};
 ghost use Rattle.mate_shards.specs.Views.{ArePassesOf, IsFresh};
 ghost use Rattle.mate_core.specs.Hash.{shard_of_hash};
 ghost use Rattle.mate_shards.specs.Shard.{Fits};
 ghost use Rattle.mate_shards.specs.Turns.{PublishTurn, LookTurn, AskTurn};
 
 use crate::published::Published;
-use crate::request::{Given, Query, Request};
+use crate::request::{Answer, Query, Request};
 use crate::shard::Shard;
 use fact_lock::{Lock, Pass};
-use mate_core::{Fact, Frame, Reply, hash_of, shard_of_hash};
+use mate_core::{Claim, Fact, Frame, Packed, PackedFact, shard_of_hash};
 use rules_model::{Memory, Position, repeat_of};
 use std::alloc::Global;
 use std::marker::Model;
@@ -94,13 +97,11 @@ impl Shards {
         ensures passes { ArePassesOf self.now passes.new }
         ensures turn { PublishTurn self.now passes.old fact.now result passes.new }
     {
-        let hash = hash_of(&fact.repeat);
-        let given = Given { fact: *fact, hash };
-        match self.ask(rt, passes, self.home(hash), Request::Publish(given)) {
-            Reply::Stored => Published::Stored,
-            Reply::KnownBetter => Published::KnownBetter,
-            Reply::Full => Published::Full,
-            _ => unreachable!(),
+        let given = PackedFact::of(fact);
+        let shard = self.home(given.hash());
+        match self.ask(rt, passes, shard, Request::Publish(given)) {
+            Answer::Published(published) => published,
+            Answer::Found(_) => unreachable!(),
         }
     }
 
@@ -117,17 +118,15 @@ impl Shards {
         ensures passes { ArePassesOf self.now passes.new }
         ensures turn { LookTurn self.now passes.old p.now moves result passes.new }
     {
-        let repeat = repeat_of(p);
-        let hash = hash_of(&repeat);
         let query = Query {
-            repeat,
+            repeat: Packed::of_position(p),
             counter: p.counter,
             moves,
-            hash,
         };
-        match self.ask(rt, passes, self.home(hash), Request::Look(query)) {
-            Reply::Found(found) => found,
-            _ => unreachable!(),
+        let shard = self.home(query.repeat.hash());
+        match self.ask(rt, passes, shard, Request::Look(query)) {
+            Answer::Found(found) => fact_of(found, p),
+            Answer::Published(_) => unreachable!(),
         }
     }
 
@@ -140,7 +139,7 @@ impl Shards {
     }
 
     // One turn at one shard.
-    fn ask<R: Wait>(&self, rt: &R, passes: &mut Passes, shard: usize, request: Request) -> Reply
+    fn ask<R: Wait>(&self, rt: &R, passes: &mut Passes, shard: usize, request: Request) -> Answer
         requires passes { ArePassesOf self.now passes.old }
         requires shard { shard < length self.now.locks }
         requires fits { Fits (self.now.frame, self.now.capacity) request }
@@ -159,4 +158,14 @@ fn make(alloc: Global, frame: &Frame, capacity: u32) -> Result<(Lock<Shard>, Pas
     ensures fresh { IfOk result (λ made. IsFresh [] made.1) }
 {
     Lock::new(alloc, Shard::new(alloc, frame, capacity)?)
+}
+
+// The fact that says of the position what was found.
+fn fact_of(found: Option<Claim>, p: &Position) -> Option<Fact>
+    ensures { result ≡ option_map (fact_with (Repeats.repeat_of p.now)) found }
+{
+    match found {
+        None => None,
+        Some(claim) => Some(claim.with(repeat_of(p))),
+    }
 }

@@ -4,4 +4,4 @@ use Rattle.mate_shards.proofs.shard.chain.Given as goal
 
 abbrev pub invariant-loop-i : goal.invariant-loop-i
 invariant-loop-i l =
-    IsIndex (buckets (vec_len l.heads) (take l.i l.facts)) l.heads.items l.links.items × (vec_len l.heads ≡ vec_len l.fn.heads) × (vec_capacity l.links ≡ vec_capacity l.fn.links)
+    IsIndex (buckets l.count (take l.i l.facts)) l.heads.items l.links.items × (vec_len l.heads ≡ vec_len l.fn.heads) × (vec_capacity l.links ≡ vec_capacity l.fn.links)

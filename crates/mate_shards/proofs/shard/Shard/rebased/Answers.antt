@@ -1,4 +1,4 @@
-use Rattle.std.proofs.Common.{ℕ, List, vec_len, sym, subst, arith}
+use Rattle.std.proofs.Common.{ℕ, List, sym, subst, arith}
 use Rattle.forced_wins.specs.declared.fact.Fact.{Fact}
 use Rattle.mate_core.specs.declared.frame.Frame.{Frame}
 use Rattle.mate_core.specs.Runs.{AreTrueIn}
@@ -28,6 +28,6 @@ invariant_of-result c =
       sized = sized;
       reserved = (omega (arith, c.pick.ensures.capacity), omega (arith, c.chain.ensures.links));
       room = (omega (arith, c.pick.ensures.len), omega (arith, c.chain.ensures.heads));
-      indexed = subst (λ n. I n c.pick.new.facts.items) room.1 (subst (λ fs. I (vec_len s.heads) fs) c.deref.ensures.value c.chain.ensures.indexed);
+      indexed = subst (λ fs. I s.capacity fs) c.deref.ensures.value c.chain.ensures.indexed;
       true_facts = subst V (sym c.of.ensures) (subst U (sym c.pick.ensures.facts) truth);
     }

@@ -1,17 +1,16 @@
-use Rattle.std.proofs.Common.{ap, ◌∙◌, length}
-use Rattle.mate_core.specs.Hash.{shard_of_hash}
+use Rattle.std.proofs.Common.{ap, ◌∙◌, length, subst}
+use Rattle.mate_core.specs.Hash.{hash_of, shard_of_hash}
+use Rattle.forced_wins.specs.declared.fact.Fact.{Fact}
+use Rattle.mate_shards.specs.declared.request.Answer.TheVariants as answers
+use Rattle.mate_shards.specs.declared.request.Request.TheVariants.{Publish}
+use Rattle.mate_shards.specs.Turns.{AskTurn}
 use Rattle.mate_shards.proofs.TurnLemmas.{publishes}
-use Rattle.mate_shards.specs.declared.published.Published.TheVariants.{Stored, KnownBetter, Full}
 use Rattle.mate_shards.proofs.shards.Shards.publish.Goals as goal
 
-pub returns-in-Stored-clause-turn : goal.returns-in-Stored-clause-turn
-returns-in-Stored-clause-turn g c =
-    publishes c.args.self.now c.args.passes.now c.ask.new.passes _ Stored c.home.result (c.home.ensures.is ∙ ap (λ h. shard_of_hash h (length c.args.self.now.locks)) c.hash_of-hash.ensures) c.in-Stored.ensures.turn
-
-pub returns-in-KnownBetter-clause-turn : goal.returns-in-KnownBetter-clause-turn
-returns-in-KnownBetter-clause-turn g c =
-    publishes c.args.self.now c.args.passes.now c.ask.new.passes _ KnownBetter c.home.result (c.home.ensures.is ∙ ap (λ h. shard_of_hash h (length c.args.self.now.locks)) c.hash_of-hash.ensures) c.in-KnownBetter.ensures.turn
-
-pub returns-in-Full-clause-turn : goal.returns-in-Full-clause-turn
-returns-in-Full-clause-turn g c =
-    publishes c.args.self.now c.args.passes.now c.ask.new.passes _ Full c.home.result (c.home.ensures.is ∙ ap (λ h. shard_of_hash h (length c.args.self.now.locks)) c.hash_of-hash.ensures) c.in-Full.ensures.turn
+pub returns-clause-turn : goal.returns-clause-turn
+returns-clause-turn g c =
+    let s = c.args.self.now in
+    let P : Fact → Type 0 = λ f. AskTurn s c.args.passes.now c.home-shard.result (Publish f) (answers.Published c.in-Published.published) c.ask.new.passes in
+    publishes s c.args.passes.now c.ask.new.passes c.args.fact.now c.in-Published.published c.home-shard.result
+    (c.home-shard.ensures.is ∙ ap (λ h. shard_of_hash h (length s.locks)) (c.hash.ensures ∙ ap (λ (f : Fact). hash_of f.repeat) c.of-given.ensures))
+    (subst P c.of-given.ensures c.in-Published.ensures.turn)
