@@ -1,0 +1,4 @@
+-- Small theorems on worked texts, each with its near miss.
+mod Heads
+mod Pairs
+mod Sample

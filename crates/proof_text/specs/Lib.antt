@@ -1,0 +1,7 @@
+pub mod Fault
+pub mod KeptView
+pub mod Lines
+pub mod Words
+pub mod Pairs
+pub mod Reading
+pub mod TakingView
