@@ -74,6 +74,7 @@ no_game_answers print said (Fault (fault.Betza why)) says = absurd says
 no_game_answers print said (Fault (fault.Reach why)) says = absurd says
 no_game_answers print said (Fault (fault.Game why)) says = subst (λ (x : Result Played GameFault). SaysOf print x 3 (error_line (game.fault_text why))) (sym says) (refl, refl)
 no_game_answers print said (Fault (fault.Strategy why)) says = absurd says
+no_game_answers print said (Fault (fault.Proof why)) says = absurd says
 no_game_answers print said (Fault (fault.Verdict why)) says = absurd says
 no_game_answers print said (Fault (fault.Ini why)) says = absurd says
 no_game_answers print said (Fault (fault.File why)) says = absurd says
@@ -141,6 +142,7 @@ outcome_unread (Err (Fault (fault.Betza why))) (Ok answer) is = λ six. let thre
 outcome_unread (Err (Fault (fault.Reach why))) (Ok answer) is = λ six. let three = is.0 in absurd (omega (arith, six, three))
 outcome_unread (Err (Fault (fault.Game why))) (Ok answer) is = λ six. let three = is.0 in absurd (omega (arith, six, three))
 outcome_unread (Err (Fault (fault.Strategy why))) (Ok answer) is = λ six. let three = is.0 in absurd (omega (arith, six, three))
+outcome_unread (Err (Fault (fault.Proof why))) (Ok answer) is = λ six. let three = is.0 in absurd (omega (arith, six, three))
 outcome_unread (Err (Fault (fault.Verdict why))) (Ok answer) is = λ six. let three = is.0 in absurd (omega (arith, six, three))
 outcome_unread (Err (Fault (fault.Ini why))) (Ok answer) is = λ six. let three = is.0 in absurd (omega (arith, six, three))
 outcome_unread (Err (Fault (fault.File why))) (Ok answer) is = λ six. tt
@@ -185,6 +187,7 @@ command_reads_no_file sections c input (Err (Fault (fault.Betza why))) says file
 command_reads_no_file sections c input (Err (Fault (fault.Reach why))) says file = file
 command_reads_no_file sections c input (Err (Fault (fault.Game why))) says file = file
 command_reads_no_file sections c input (Err (Fault (fault.Strategy why))) says file = file
+command_reads_no_file sections c input (Err (Fault (fault.Proof why))) says file = file
 command_reads_no_file sections c input (Err (Fault (fault.Verdict why))) says file = file
 command_reads_no_file sections c input (Err (Fault (fault.Ini why))) says file = file
 command_reads_no_file sections c input (Err (Fault (fault.File why))) says file =

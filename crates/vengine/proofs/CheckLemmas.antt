@@ -1,26 +1,26 @@
--- What `check` says of the problem and the strategy that were read.
-use Rattle.std.proofs.Common.{◌≡◌, ◌≤◌, ◌⊎◌, ℕ, ◌+◌, arith, length, drop, List, ◌++◌, inl, inr, Option, Result, Ok, Err, refl, sym, ap, subst, ◌∙◌}
+-- What `check` says of what the input states.
+use Rattle.std.proofs.Common.{◌≡◌, ◌≤◌, ◌⊎◌, ℕ, ◌+◌, ◌-◌, arith, Bool, true, false, length, drop, List, [], ◌∷◌, ◌++◌, inl, inr, Option, Result, Ok, Err, refl, sym, ap, subst, ◌∙◌}
 use Rattle.std.proofs.Math.Seq.{drop-append_seam}
 use Rattle.std.specs.Prelude.{codes}
-use Rattle.io_ports.specs.Lines.{Line}
+use Rattle.io_ports.specs.Lines.{Line, Text, TooLong}
 use Rattle.forced_wins.specs.RuleSentences.{GoodStrategiesWin}
 use Rattle.variant_rules.specs.Entries.{Named}
 use Rattle.rules_model.specs.declared.rules.Rules.{Rules}
 use Rattle.game_play.specs.Played.{story}
 use Rattle.game_text.specs.declared.fault.GameFault.{GameFault}
+use Rattle.game_text.specs.declared.fault.GameFault.TheVariants.{LineTooLong, Missing}
 use Rattle.game_text.specs.declared.fault.NoGame.{NoGame}
 use Rattle.game_text.specs.declared.fault.NoGame.TheVariants as no_game
 use Rattle.game_text.specs.declared.problem.Problem.{Problem}
-use Rattle.game_text.specs.Fault as game
+use Rattle.game_text.specs.GameText.{game_of, lines_of_game}
 use Rattle.game_text.specs.Heard.{Heard}
 use Rattle.game_text.specs.Problem.{lines_of_problem, problem_of}
 use Rattle.game_text.specs.ReadView as read
-use Rattle.game_text.proofs.HeardLemmas.{heard_then}
+use Rattle.game_text.proofs.HeardLemmas.{heard_so, heard_then}
 use Rattle.game_text.proofs.ProblemLemmas.{problem-decided, problem-most, problem-needs, problem-there}
 use Rattle.strategy.specs.declared.fault.StrategyFault.{StrategyFault}
 use Rattle.strategy.specs.declared.fault.StrategyFault.TheVariants.{Header, BadLine, BadPosition, BadMove, BadNumber, Ended, Memory}
 use Rattle.strategy.specs.declared.nodes.Strategy.{Strategy}
-use Rattle.strategy.specs.Fault as strategy
 use Rattle.strategy.specs.Needed.{lines_of_strategy}
 use Rattle.strategy.specs.Reading.{strategy_of}
 use Rattle.strategy_check.specs.declared.verdict.Verdict.{Verdict}
@@ -28,44 +28,77 @@ use Rattle.strategy_check.specs.declared.verdict.Verdict.TheVariants as said
 use Rattle.strategy_check.specs.Rows.{kept}
 use Rattle.strategy_check.specs.Verdicts.{as_verdict, verdict_text}
 use Rattle.strategy_check.proofs.RowLemmas.{wins-from}
+use Rattle.proof_text.specs.declared.fault.ProofFault.{ProofFault}
+use Rattle.proof_text.specs.declared.fault.ProofFault.TheVariants as proof_fault
+use Rattle.proof_text.specs.declared.proof.Proof.{Proof}
+use Rattle.proof_text.specs.declared.taking.NoProof.{NoProof}
+use Rattle.proof_text.specs.declared.taking.NoProof.TheVariants as no_proof
+use Rattle.proof_text.specs.Reading.{is_proof_text, proof_of}
+use Rattle.proof_text.specs.TakingView as taking
+use Rattle.proof_text.specs.Lines.{line_at}
+use Rattle.proof_text.specs.Words.{is_version}
+use Rattle.vengine.specs.declared.fault.Fault.{Fault}
+use Rattle.vengine.specs.declared.fault.Fault.TheVariants as fault
+use Rattle.vengine.specs.declared.halt.Halt.{Halt}
+use Rattle.vengine.specs.declared.halt.Halt.TheVariants as halt
+use Rattle.vengine.specs.declared.stop.Stop.TheVariants as stop
 use Rattle.vengine.specs.declared.strategy_lines.NoStrategy.{NoStrategy}
 use Rattle.vengine.specs.declared.strategy_lines.NoStrategy.TheVariants.{Faulty, Unread}
-use Rattle.vengine.specs.Checking.{Good, IsWon, SaysCheck, faulty, good, lines_after, lines_of_check, no_problem, no_strategy, strategy_after, verdict_in}
-use Rattle.vengine.specs.CheckView.{HasVerdict, HasWhy, IsUnread, Prints, losing, winning}
-use Rattle.vengine.specs.Fault.{error_line}
-use Rattle.vengine.specs.HaltView.{Answers, IsUnheard, game_halt, strategy_halt}
+use Rattle.vengine.specs.Checking.{Good, IsWon, SaysCheck, SaysStated, SaysVerdict, by_problem, by_proof, faulty, good, lines_after, lines_by, lines_of_check, lines_of_stated, stated, stated_by, stated_in, verdict_in, with_strategy}
+use Rattle.vengine.specs.CheckView.{HasWhy, IsUnread, Prints, States, losing, winning}
+use Rattle.vengine.specs.Fault.{error_line, fault_status, fault_text}
+use Rattle.vengine.specs.HaltView.{Answers, IsUnheard, game_halt, proof_halt, strategy_halt}
 
--- ---- the answers
+-- ---- what was read, as halts have it
 
-pub problem_bad : (variants : List Named) (input : List Line) (why : NoGame) → read.Tells {A = Problem} (problem_of variants input) (Err why) → Answers (Err (game_halt why)) (SaysCheck variants input)
-problem_bad variants input (no_game.Faulty fault) is = no_problem fault is
-problem_bad variants input no_game.Unread is = tt
-problem_bad variants input no_game.Memory is = tt
+-- of a problem
+pub problem_bad : (input : List Line) (r : Result Problem GameFault) (why : NoGame) → read.Tells {A = Problem} r (Err why) → States (by_problem r input) (Err (game_halt why))
+problem_bad input r (no_game.Faulty bad) is = ap (λ x. by_problem x input) is
+problem_bad input r no_game.Unread is = tt
+problem_bad input r no_game.Memory is = tt
 
-pub strategy_bad : (variants : List Named) (input : List Line) (p : Problem) (why : NoStrategy) → problem_of variants input ≡ Ok p → HasWhy (strategy_after p input) why
-    → Answers (Err (strategy_halt why)) (SaysCheck variants input)
-strategy_bad variants input p Unread is says = tt
-strategy_bad variants input p (Faulty Memory) is says = tt
-strategy_bad variants input p (Faulty (Header line)) is says = no_strategy p (Header line) is says
-strategy_bad variants input p (Faulty (BadLine line)) is says = no_strategy p (BadLine line) is says
-strategy_bad variants input p (Faulty (BadPosition line why)) is says = no_strategy p (BadPosition line why) is says
-strategy_bad variants input p (Faulty (BadMove line)) is says = no_strategy p (BadMove line) is says
-strategy_bad variants input p (Faulty (BadNumber line)) is says = no_strategy p (BadNumber line) is says
-strategy_bad variants input p (Faulty (Ended line)) is says = no_strategy p (Ended line) is says
+-- of the strategy after it
+strategy_fault : (p : Problem) (r : Result Strategy StrategyFault) (bad : StrategyFault) → r ≡ Err bad → with_strategy p r ≡ Err (fault.Strategy bad)
+strategy_fault p r bad is = ap (with_strategy p) is
 
-pub printed : (variants : List Named) (input : List Line) (p : Problem) (v : Verdict) (status : ℕ) (text : List ℕ) → problem_of variants input ≡ Ok p → HasVerdict p (strategy_after p input) v
-    → Prints v status text → SaysCheck variants input status text
-printed variants input p said.Wins status text is has winning = good p has.s is has.says (wins-from _ has.verdict)
-printed variants input p v status text is has (losing w not) = faulty p has.s v is has.says has.verdict not
+pub strategy_bad : (p : Problem) (r : Result Strategy StrategyFault) (why : NoStrategy) → HasWhy r why → States (with_strategy p r) (Err (strategy_halt why))
+strategy_bad p r Unread says = tt
+strategy_bad p r (Faulty Memory) says = tt
+strategy_bad p r (Faulty (Header line)) says = strategy_fault p r (Header line) says
+strategy_bad p r (Faulty (BadLine line)) says = strategy_fault p r (BadLine line) says
+strategy_bad p r (Faulty (BadPosition line why)) says = strategy_fault p r (BadPosition line why) says
+strategy_bad p r (Faulty (BadMove line)) says = strategy_fault p r (BadMove line) says
+strategy_bad p r (Faulty (BadNumber line)) says = strategy_fault p r (BadNumber line) says
+strategy_bad p r (Faulty (Ended line)) says = strategy_fault p r (Ended line) says
+
+pub strategy_good : (p : Problem) (r : Result Strategy StrategyFault) (s : Strategy) → r ≡ Ok s → with_strategy p r ≡ Ok (stated p s)
+strategy_good p r s is = ap (with_strategy p) is
+
+-- of a proof text
+proof_faulty : (r : Result Proof ProofFault) (bad : ProofFault) → r ≡ Err bad → by_proof r ≡ Err (fault.Proof bad)
+proof_faulty r bad is = ap by_proof is
+
+pub proof_bad : (r : Result Proof ProofFault) (why : NoProof) → taking.SaysProof {A = Proof} r (Err why) → States (by_proof r) (Err (proof_halt why))
+proof_bad r no_proof.Unread says = tt
+proof_bad r (no_proof.Faulty proof_fault.Memory) says = tt
+proof_bad r (no_proof.Faulty (proof_fault.Header line)) says = proof_faulty r (proof_fault.Header line) says
+proof_bad r (no_proof.Faulty (proof_fault.BadRules line)) says = proof_faulty r (proof_fault.BadRules line) says
+proof_bad r (no_proof.Faulty (proof_fault.RefusedRules why)) says = proof_faulty r (proof_fault.RefusedRules why) says
+proof_bad r (no_proof.Faulty (proof_fault.BadStart line why)) says = proof_faulty r (proof_fault.BadStart line why) says
+proof_bad r (no_proof.Faulty (proof_fault.BadHistory line)) says = proof_faulty r (proof_fault.BadHistory line) says
+proof_bad r (no_proof.Faulty (proof_fault.BadBody why)) says = proof_faulty r (proof_fault.BadBody why) says
+
+pub proof_good : (r : Result Proof ProofFault) (p : Proof) → r ≡ Ok p → by_proof r ≡ Ok p
+proof_good r p is = ap by_proof is
 
 -- ---- why nothing was read
 
-pub problem_unheard : (why : NoGame) → IsUnheard {A = List ℕ} (Err (game_halt why)) → read.IsUnread {A = Problem} (Err why)
-problem_unheard (no_game.Faulty fault) unheard = absurd unheard
+pub problem_unheard : (why : NoGame) → IsUnheard {A = Proof} (Err (game_halt why)) → read.IsUnread {A = Problem} (Err why)
+problem_unheard (no_game.Faulty bad) unheard = absurd unheard
 problem_unheard no_game.Unread unheard = tt
 problem_unheard no_game.Memory unheard = absurd unheard
 
-pub strategy_unheard : (why : NoStrategy) → IsUnheard {A = List ℕ} (Err (strategy_halt why)) → IsUnread {A = Verdict} (Err why)
+pub strategy_unheard : (why : NoStrategy) → IsUnheard {A = Proof} (Err (strategy_halt why)) → IsUnread {A = Strategy} (Err why)
 strategy_unheard Unread unheard = tt
 strategy_unheard (Faulty Memory) unheard = absurd unheard
 strategy_unheard (Faulty (Header line)) unheard = absurd unheard
@@ -75,7 +108,17 @@ strategy_unheard (Faulty (BadMove line)) unheard = absurd unheard
 strategy_unheard (Faulty (BadNumber line)) unheard = absurd unheard
 strategy_unheard (Faulty (Ended line)) unheard = absurd unheard
 
--- ---- the lines
+pub proof_unheard : (why : NoProof) → IsUnheard {A = Proof} (Err (proof_halt why)) → taking.IsUnread {A = Proof} (Err why)
+proof_unheard no_proof.Unread unheard = tt
+proof_unheard (no_proof.Faulty proof_fault.Memory) unheard = absurd unheard
+proof_unheard (no_proof.Faulty (proof_fault.Header line)) unheard = absurd unheard
+proof_unheard (no_proof.Faulty (proof_fault.BadRules line)) unheard = absurd unheard
+proof_unheard (no_proof.Faulty (proof_fault.RefusedRules why)) unheard = absurd unheard
+proof_unheard (no_proof.Faulty (proof_fault.BadStart line why)) unheard = absurd unheard
+proof_unheard (no_proof.Faulty (proof_fault.BadHistory line)) unheard = absurd unheard
+proof_unheard (no_proof.Faulty (proof_fault.BadBody why)) unheard = absurd unheard
+
+-- ---- the lines of a problem and its strategy, after the first
 
 -- of rules, by their equation
 pub rules_heard : (a b : Option (List ℕ)) (rules rules' : Rules) (P : Result Strategy StrategyFault → Type 0) → rules ≡ rules' → Heard a b (lines_of_strategy rules) (λ lines. P (strategy_of rules lines))
@@ -83,39 +126,164 @@ pub rules_heard : (a b : Option (List ℕ)) (rules rules' : Rules) (P : Result S
 rules_heard a b rules rules' P is heard = subst (λ (r : Rules). Heard a b (lines_of_strategy r) (λ lines. P (strategy_of r lines))) is heard
 
 -- of variants, by theirs
-pub variants_heard : (a b : Option (List ℕ)) (variants variants' : List Named) (r : Result Problem NoGame) → variants ≡ variants' → Heard a b (lines_of_problem variants) (λ lines. read.Tells (problem_of variants lines) r)
-    → Heard a b (lines_of_problem variants') (λ lines. read.Tells (problem_of variants' lines) r)
-variants_heard a b variants variants' r is heard = subst (λ (x : List Named). Heard a b (lines_of_problem x) (λ lines. read.Tells (problem_of x lines) r)) is heard
+pub variants_heard : (a b : Option (List ℕ)) (variants variants' : List Named) (x : Line) (r : Result Problem NoGame) → variants ≡ variants'
+    → Heard a b (λ lines. lines_of_problem variants (x ∷ lines) - 1) (λ lines. read.Tells (problem_of variants (x ∷ lines)) r)
+    → Heard a b (λ lines. lines_of_problem variants' (x ∷ lines) - 1) (λ lines. read.Tells (problem_of variants' (x ∷ lines)) r)
+variants_heard a b variants variants' x r is heard =
+    subst (λ (v : List Named). Heard a b (λ lines. lines_of_problem v (x ∷ lines) - 1) (λ lines. read.Tells (problem_of v (x ∷ lines)) r)) is heard
 
-pub problem_first : (variants : List Named) (input : List Line) → lines_of_problem variants input ≤ lines_of_check variants input
-unfolding lines_of_check
-problem_first variants input = omega arith
+pub problem_first : (variants : List Named) (x : Line) (lines : List Line) → lines_of_problem variants (x ∷ lines) - 1 ≤ lines_of_stated variants (x ∷ lines) - 1
+unfolding lines_of_stated
+problem_first variants x lines = omega arith
 
 drop_front : {A : Type 0} (k : ℕ) (front rest : List A) → length front ≡ k → drop k (front ++ rest) ≡ rest
 drop_front k front rest is = ap (λ n. drop n (front ++ rest)) (sym is) ∙ drop-append_seam front rest
 
-lines_are : (variants : List Named) (input rest : List Line) (p : Problem) → problem_of variants input ≡ Ok p → drop 4 input ≡ rest
-    → lines_of_check variants input ≡ lines_of_problem variants input + lines_of_strategy p.game.rules rest
-unfolding lines_of_check
-lines_are variants input rest p is dropped =
-    ap (λ r. lines_of_problem variants input + lines_after r (drop 4 input)) is ∙ ap (λ (l : List Line). lines_of_problem variants input + lines_of_strategy p.game.rules l) dropped
+module _ (variants : List Named) (x : Line) (front rest : List Line) (p : Problem) (three : length front ≡ 3) (is : problem_of variants (x ∷ front) ≡ Ok p) where
+  four : length (x ∷ front) ≡ 4
+  four = omega (arith, three)
 
-check_needs : (variants : List Named) (front rest : List Line) (p : Problem) → length front ≡ 4 → problem_of variants front ≡ Ok p
-    → 4 + lines_of_strategy p.game.rules rest ≤ lines_of_check variants (front ++ rest)
-check_needs variants front rest p four is =
-    let low = problem-needs variants front rest p four is in
-    let all = lines_are variants (front ++ rest) rest p (problem-decided variants front rest p four is) (drop_front 4 front rest four) in
-    omega (arith, low, all)
+  whole : problem_of variants (x ∷ front ++ rest) ≡ Ok p
+  whole = problem-decided variants (x ∷ front) rest p four is
+
+  rest_is : drop 4 (x ∷ front ++ rest) ≡ rest
+  rest_is = drop_front 4 (x ∷ front) rest four
+
+  lines_are : lines_of_stated variants (x ∷ front ++ rest) ≡ lines_of_problem variants (x ∷ front ++ rest) + lines_of_strategy p.game.rules rest
+  unfolding lines_of_stated
+  lines_are =
+      ap (λ r. lines_of_problem variants (x ∷ front ++ rest) + lines_after r (drop 4 (x ∷ front ++ rest))) whole
+      ∙ ap (λ (l : List Line). lines_of_problem variants (x ∷ front ++ rest) + lines_of_strategy p.game.rules l) rest_is
+
+  pub stated_needs : 3 + lines_of_strategy p.game.rules rest ≤ lines_of_stated variants (x ∷ front ++ rest) - 1
+  stated_needs =
+      let low = problem-needs variants (x ∷ front) rest p four is in
+      let all = lines_are in
+      omega (arith, low, all)
+
+  pub stated_is : by_problem (problem_of variants (x ∷ front ++ rest)) (x ∷ front ++ rest) ≡ with_strategy p (strategy_of p.game.rules rest)
+  stated_is =
+      ap (λ r. by_problem r (x ∷ front ++ rest)) whole
+      ∙ ap (λ (l : List Line). with_strategy p (strategy_of p.game.rules l)) rest_is
+
+stated_there : (variants : List Named) (x : Line) (lines : List Line) (p : Problem) → problem_of variants (x ∷ lines) ≡ Ok p → 3 ≤ length lines
+stated_there variants x lines p is = let there = problem-there variants (x ∷ lines) p is in omega (arith, there)
+
+stated_most : (variants : List Named) (x : Line) (lines : List Line) → lines_of_problem variants (x ∷ lines) - 1 ≤ 3
+stated_most variants x lines = let most = problem-most variants (x ∷ lines) in omega (arith, most)
 
 -- the problem, and the strategy after it
-pub check_heard : (a b c : Option (List ℕ)) (variants : List Named) (p : Problem) (P : Result Strategy StrategyFault → Type 0) (R : List Line → Type 0)
-    → Heard a b (lines_of_problem variants) (λ lines. problem_of variants lines ≡ Ok p) → Heard b c (lines_of_strategy p.game.rules) (λ lines. P (strategy_of p.game.rules lines))
-    → ((input : List Line) → problem_of variants input ≡ Ok p → P (strategy_after p input) → R input) → Heard a c (lines_of_check variants) R
-check_heard a b c variants p P R first later so =
-    heard_then a b c 4 _ _ _ _ _ _ first later (λ lines is. problem-there variants lines p is) (problem-most variants)
-    (λ front rest four is. check_needs variants front rest p four is)
-    (λ front rest four is says.
-    so (front ++ rest) (problem-decided variants front rest p four is) (subst (λ (l : List Line). P (strategy_of p.game.rules l)) (sym (drop_front 4 front rest four)) says))
+pub stated_heard : (a b c : Option (List ℕ)) (variants : List Named) (x : Line) (p : Problem) (P : Result Strategy StrategyFault → Type 0) (R : Result Proof Fault → Type 0)
+    → Heard a b (λ lines. lines_of_problem variants (x ∷ lines) - 1) (λ lines. problem_of variants (x ∷ lines) ≡ Ok p) → Heard b c (lines_of_strategy p.game.rules) (λ lines. P (strategy_of p.game.rules lines))
+    → ((r : Result Strategy StrategyFault) → P r → R (with_strategy p r))
+    → Heard a c (λ lines. lines_of_stated variants (x ∷ lines) - 1) (λ lines. R (by_problem (problem_of variants (x ∷ lines)) (x ∷ lines)))
+stated_heard a b c variants x p P R first later so =
+    heard_then a b c 3 _ _ _ _ _ _ first later (λ lines is. stated_there variants x lines p is) (stated_most variants x)
+    (λ front rest three is. stated_needs variants x front rest p three is)
+    (λ front rest three is says. subst R (sym (stated_is variants x front rest p three is)) (so (strategy_of p.game.rules rest) says))
+
+-- ---- by the first line
+
+first_line : (text : List ℕ) (lines : List Line) → is_proof_text (Text text ∷ lines) ≡ is_version text
+unfolding line_at
+first_line text lines = refl
+
+module _ (variants : List Named) (text : List ℕ) (lines : List Line) (t : Bool) (is : is_version text ≡ t) where
+  pub states_by : stated_in variants (Text text ∷ lines) ≡ stated_by t variants (Text text ∷ lines)
+  states_by = ap (λ b. stated_by b variants (Text text ∷ lines)) (first_line text lines ∙ is)
+
+  pub lines_are_by : lines_of_check variants (Text text ∷ lines) ≡ lines_by t variants (Text text ∷ lines)
+  lines_are_by = ap (λ b. lines_by b variants (Text text ∷ lines)) (first_line text lines ∙ is)
+
+-- a proof text
+pub proof_heard : (a b : Option (List ℕ)) (variants : List Named) (text first : List ℕ) (P : Result Proof Fault → Type 0) → is_version text ≡ true → first ≡ text
+    → Heard a b length (λ lines. P (by_proof (proof_of (Text first ∷ lines))))
+    → Heard a b (λ lines. lines_of_check variants (Text text ∷ lines) - 1) (λ lines. P (stated_in variants (Text text ∷ lines)))
+proof_heard a b variants text first P is same heard =
+    heard_so a b _ _ _ _ heard (λ lines. let all = lines_are_by variants text lines true is in omega (arith, all))
+    (λ lines says. subst P (sym (states_by variants text lines true is)) (subst (λ (t : List ℕ). P (by_proof (proof_of (Text t ∷ lines)))) same says))
+
+-- a problem
+pub other_heard : (a b : Option (List ℕ)) (variants : List Named) (text : List ℕ) (P : Result Proof Fault → Type 0) → is_version text ≡ false
+    → Heard a b (λ lines. lines_of_stated variants (Text text ∷ lines) - 1) (λ lines. P (by_problem (problem_of variants (Text text ∷ lines)) (Text text ∷ lines)))
+    → Heard a b (λ lines. lines_of_check variants (Text text ∷ lines) - 1) (λ lines. P (stated_in variants (Text text ∷ lines)))
+other_heard a b variants text P is heard =
+    heard_so a b _ _ _ _ heard (λ lines. let all = lines_are_by variants text lines false is in omega (arith, all))
+    (λ lines says. subst P (sym (states_by variants text lines false is)) says)
+
+-- a line that is missing or too long
+none_first : (variants : List Named) → problem_of variants [] ≡ Err (Missing 1)
+unfolding problem_of game_of
+none_first variants = refl
+
+pub states_none : (variants : List Named) → stated_in variants [] ≡ Err (fault.Game (Missing 1))
+unfolding line_at
+states_none variants = ap (λ r. by_problem r []) (none_first variants)
+
+long_first : (variants : List Named) (lines : List Line) → problem_of variants (TooLong ∷ lines) ≡ Err (LineTooLong 1)
+unfolding problem_of game_of
+long_first variants lines = refl
+
+pub states_long : (variants : List Named) (lines : List Line) → stated_in variants (TooLong ∷ lines) ≡ Err (fault.Game (LineTooLong 1))
+unfolding line_at
+states_long variants lines = ap (λ r. by_problem r (TooLong ∷ lines)) (long_first variants lines)
+
+long_needed : (variants : List Named) (lines : List Line) → 1 ≤ lines_of_problem variants (TooLong ∷ lines)
+unfolding lines_of_problem lines_of_game
+long_needed variants lines = omega arith
+
+pub check_long : (variants : List Named) (lines : List Line) → 1 ≤ lines_of_check variants (TooLong ∷ lines)
+unfolding lines_of_stated line_at
+check_long variants lines = let one = long_needed variants lines in omega (arith, one)
+
+text_needed : (variants : List Named) (text : List ℕ) (lines : List Line) → 1 ≤ lines_of_problem variants (Text text ∷ lines)
+unfolding lines_of_problem lines_of_game
+text_needed variants text lines = omega arith
+
+by_needed : (variants : List Named) (text : List ℕ) (lines : List Line) (t : Bool) → 1 ≤ lines_by t variants (Text text ∷ lines)
+unfolding lines_of_stated
+by_needed variants text lines true = omega arith
+by_needed variants text lines false = let one = text_needed variants text lines in omega (arith, one)
+
+pub check_needed : (variants : List Named) (text : List ℕ) (lines : List Line) → 1 + (lines_of_check variants (Text text ∷ lines) - 1) ≤ lines_of_check variants (Text text ∷ lines)
+check_needed variants text lines = let one = by_needed variants text lines (is_proof_text (Text text ∷ lines)) in omega (arith, one)
+
+-- ---- the answers
+
+-- the faults of an input have the status 3
+problem_status : (r : Result Problem GameFault) (input : List Line) (why : Fault) → by_problem r input ≡ Err why → fault_status why ≡ 3
+problem_status (Err bad) input why is = let same : fault.Game bad ≡ why = cc in ap fault_status (sym same)
+problem_status (Ok p) input why is = strategy_status (strategy_of p.game.rules (drop 4 input)) is
+  where
+    strategy_status : (r : Result Strategy StrategyFault) → with_strategy p r ≡ Err why → fault_status why ≡ 3
+    strategy_status (Ok s) is = absurd (cc)
+    strategy_status (Err bad) is = let same : fault.Strategy bad ≡ why = cc in ap fault_status (sym same)
+
+proof_status : (r : Result Proof ProofFault) (why : Fault) → by_proof r ≡ Err why → fault_status why ≡ 3
+proof_status (Ok p) why is = absurd (cc)
+proof_status (Err bad) why is = let same : fault.Proof bad ≡ why = cc in ap fault_status (sym same)
+
+stated_status : (t : Bool) (variants : List Named) (input : List Line) (why : Fault) → stated_by t variants input ≡ Err why → fault_status why ≡ 3
+stated_status true variants input why is = proof_status (proof_of input) why is
+stated_status false variants input why is = problem_status (problem_of variants input) input why is
+
+-- a halt without a statement is that of the check
+pub states_bad : (variants : List Named) (input : List Line) (why : Halt) → States (stated_in variants input) (Err why) → Answers (Err why) (SaysCheck variants input)
+states_bad variants input halt.Usage is = absurd is
+states_bad variants input (halt.Fault why) is =
+    subst (λ (r : Result Proof Fault). SaysStated r (fault_status why) (error_line (fault_text why))) (sym is) (stated_status (is_proof_text input) variants input why is, refl)
+states_bad variants input (halt.Stop stop.Source) is = tt
+states_bad variants input (halt.Stop stop.Sink) is = absurd is
+states_bad variants input (halt.Stop stop.Memory) is = tt
+
+prints : (p : Proof) (v : Verdict) (status : ℕ) (text : List ℕ) → verdict_in p ≡ v → Prints v status text → SaysVerdict p status text
+prints p said.Wins status text is winning = good (wins-from _ is)
+prints p v status text is (losing w not) = faulty v is not
+
+pub printed : (variants : List Named) (input : List Line) (p : Proof) (v : Verdict) (status : ℕ) (text : List ℕ) → stated_in variants input ≡ Ok p → verdict_in p ≡ v
+    → Prints v status text → SaysCheck variants input status text
+printed variants input p v status text is verdict says =
+    subst (λ (r : Result Proof Fault). SaysStated r status text) (sym is) (prints p v status text verdict says)
 
 -- ---- exactly one answer
 
@@ -129,26 +297,23 @@ wins_or_not (said.BadCounter i) = inr (λ e. cc)
 wins_or_not (said.Repeats i) = inr (λ e. cc)
 wins_or_not (said.NotWon i) = inr (λ e. cc)
 
-strategy_some : (variants : List Named) (input : List Line) (p : Problem) (r : Result Strategy StrategyFault) → problem_of variants input ≡ Ok p → strategy_after p input ≡ r
-    → (status : ℕ) × (text : List ℕ) × SaysCheck variants input status text
-strategy_some variants input p (Err fault) is says = (3, error_line (strategy.fault_text fault), no_strategy p fault is says)
-strategy_some variants input p (Ok s) is says = elim (wins_or_not (verdict_in p s)) [
-  | inl wins ↦ (0, codes "wins\n", good p s is says (wins-from _ wins))
-  | inr not ↦ (3, error_line (verdict_text (verdict_in p s)), faulty p s (verdict_in p s) is says refl not)
+stated_some : (r : Result Proof Fault) → (status : ℕ) × (text : List ℕ) × SaysStated r status text
+stated_some (Err why) = (3, error_line (fault_text why), (refl, refl))
+stated_some (Ok p) = elim (wins_or_not (verdict_in p)) [
+  | inl wins ↦ (0, codes "wins\n", good (wins-from _ wins))
+  | inr not ↦ (3, error_line (verdict_text (verdict_in p)), faulty (verdict_in p) refl not)
 ]
 
-check_by : (variants : List Named) (input : List Line) (r : Result Problem GameFault) → problem_of variants input ≡ r → (status : ℕ) × (text : List ℕ) × SaysCheck variants input status text
-check_by variants input (Err fault) is = (3, error_line (game.fault_text fault), no_problem fault is)
-check_by variants input (Ok p) is = strategy_some variants input p (strategy_after p input) is refl
-
 pub check_some : (variants : List Named) (input : List Line) → (status : ℕ) × (text : List ℕ) × SaysCheck variants input status text
-check_some variants input = check_by variants input (problem_of variants input) refl
+check_some variants input = stated_some (stated_in variants input)
+
+stated_done : (r : Result Proof Fault) (status : ℕ) (text : List ℕ) → SaysStated r status text → (status ≡ 0) ⊎ (status ≡ 3)
+stated_done (Err why) status text says = inr says.0
+stated_done (Ok p) status text (good wins) = inl refl
+stated_done (Ok p) status text (faulty v is not) = inr refl
 
 pub check_done : (variants : List Named) (input : List Line) (status : ℕ) (text : List ℕ) → SaysCheck variants input status text → (status ≡ 0) ⊎ (status ≡ 3)
-check_done variants input status text (no_problem fault is) = inr refl
-check_done variants input status text (no_strategy p fault is says) = inr refl
-check_done variants input status text (good p s is says wins) = inl refl
-check_done variants input status text (faulty p s v is says verdict not) = inr refl
+check_done variants input status text says = stated_done (stated_in variants input) status text says
 
 -- the answer as a function
 abbrev verdict_answer : Verdict → ℕ × List ℕ
@@ -161,14 +326,6 @@ verdict_answer (said.BadCounter i) = (3, error_line (verdict_text (said.BadCount
 verdict_answer (said.Repeats i) = (3, error_line (verdict_text (said.Repeats i)))
 verdict_answer (said.NotWon i) = (3, error_line (verdict_text (said.NotWon i)))
 
-abbrev strategy_answer : Problem → Result Strategy StrategyFault → ℕ × List ℕ
-strategy_answer p (Err fault) = (3, error_line (strategy.fault_text fault))
-strategy_answer p (Ok s) = verdict_answer (verdict_in p s)
-
-abbrev problem_answer : Result Problem GameFault → List Line → ℕ × List ℕ
-problem_answer (Err fault) input = (3, error_line (game.fault_text fault))
-problem_answer (Ok p) input = strategy_answer p (strategy_after p input)
-
 losing_answer : (v : Verdict) → (v ≡ said.Wins → ⊥) → verdict_answer v ≡ (3, error_line (verdict_text v))
 losing_answer said.Wins not = absurd (not refl)
 losing_answer said.Root not = refl
@@ -179,27 +336,30 @@ losing_answer (said.BadCounter i) not = refl
 losing_answer (said.Repeats i) not = refl
 losing_answer (said.NotWon i) not = refl
 
-good_wins : (p : Problem) (s : Strategy) → Good p s → verdict_in p s ≡ said.Wins
-good_wins p s is = ap as_verdict is
+good_wins : (p : Proof) → Good p → verdict_in p ≡ said.Wins
+good_wins p is = ap as_verdict is
 
-answer_is : (variants : List Named) (input : List Line) (status : ℕ) (text : List ℕ) → SaysCheck variants input status text → problem_answer (problem_of variants input) input ≡ (status, text)
-answer_is variants input status text (no_problem fault is) = ap (λ r. problem_answer r input) is
-answer_is variants input status text (no_strategy p fault is says) = ap (λ r. problem_answer r input) is ∙ ap (strategy_answer p) says
-answer_is variants input status text (good p s is says wins) =
-    ap (λ r. problem_answer r input) is ∙ ap (strategy_answer p) says ∙ ap verdict_answer (good_wins p s wins)
-answer_is variants input status text (faulty p s v is says verdict not) =
-    ap (λ r. problem_answer r input) is ∙ ap (strategy_answer p) says ∙ ap verdict_answer verdict ∙ losing_answer v not
+verdict_is : (p : Proof) (status : ℕ) (text : List ℕ) → SaysVerdict p status text → verdict_answer (verdict_in p) ≡ (status, text)
+verdict_is p status text (good wins) = ap verdict_answer (good_wins p wins)
+verdict_is p status text (faulty v is not) = ap verdict_answer is ∙ losing_answer v not
+
+stated_once : (r : Result Proof Fault) (s s' : ℕ) (t t' : List ℕ) → SaysStated r s t → SaysStated r s' t' → (s ≡ s') × (t ≡ t')
+stated_once (Err why) s s' t t' says says' = (says.0 ∙ sym says'.0, says.1 ∙ sym says'.1)
+stated_once (Ok p) s s' t t' says says' =
+    let same = sym (verdict_is p s t says) ∙ verdict_is p s' t' says' in
+    (ap (λ (x : ℕ × List ℕ). x.0) same, ap (λ (x : ℕ × List ℕ). x.1) same)
 
 pub check_once : (variants : List Named) (input : List Line) (s s' : ℕ) (t t' : List ℕ) → SaysCheck variants input s t → SaysCheck variants input s' t' → (s ≡ s') × (t ≡ t')
-check_once variants input s s' t t' says says' =
-    let same = sym (answer_is variants input s t says) ∙ answer_is variants input s' t' says' in
-    (ap (λ (x : ℕ × List ℕ). x.0) same, ap (λ (x : ℕ × List ℕ). x.1) same)
+check_once variants input s s' t t' says says' = stated_once (stated_in variants input) s s' t t' says says'
 
 -- ---- what a good strategy comes to
 
+won_by : (variants : List Named) (input : List Line) (status : ℕ) (text : List ℕ) (r : Result Proof Fault) → ((rules : Rules) → GoodStrategiesWin rules kept) → status ≡ 0 → stated_in variants input ≡ r
+    → SaysStated r status text → IsWon variants input
+won_by variants input status text (Err why) law zero is says = let three = says.0 in absurd (omega (arith, zero, three))
+won_by variants input status text (Ok p) law zero is (good wins) =
+    record { proof = p; states = is; won = law p.game.rules (story p.game) p.attacker p.n p.strategy.attacker p.strategy.nodes wins }
+won_by variants input status text (Ok p) law zero is (faulty v verdict not) = absurd (omega (arith, zero))
+
 pub checked_won : (variants : List Named) (input : List Line) (status : ℕ) (text : List ℕ) → ((rules : Rules) → GoodStrategiesWin rules kept) → status ≡ 0 → SaysCheck variants input status text → IsWon variants input
-checked_won variants input status text law zero (no_problem fault is) = absurd (omega (arith, zero))
-checked_won variants input status text law zero (no_strategy p fault is says) = absurd (omega (arith, zero))
-checked_won variants input status text law zero (good p s is says wins) =
-    record { problem = p; says = is; won = law p.game.rules (story p.game) p.goal.attacker p.goal.moves s.attacker s.nodes wins }
-checked_won variants input status text law zero (faulty p s v is says verdict not) = absurd (omega (arith, zero))
+checked_won variants input status text law zero says = won_by variants input status text (stated_in variants input) law zero refl says

@@ -156,6 +156,7 @@ unread_refused name files failed (halt.Fault (fault.Betza why)) has = absurd has
 unread_refused name files failed (halt.Fault (fault.Reach why)) has = absurd has
 unread_refused name files failed (halt.Fault (fault.Game why)) has = absurd has
 unread_refused name files failed (halt.Fault (fault.Strategy why)) has = absurd has
+unread_refused name files failed (halt.Fault (fault.Proof why)) has = absurd has
 unread_refused name files failed (halt.Fault (fault.Verdict why)) has = absurd has
 unread_refused name files failed (halt.Fault (Ini why)) has = absurd has
 unread_refused name files failed (halt.Fault (File file_fault.Missing)) has = inl (missing_fault (files name) has)

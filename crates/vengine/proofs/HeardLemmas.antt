@@ -3,7 +3,7 @@ use Rattle.std.proofs.Common.{◌≡◌, ◌≤◌, ℕ, length, List, [], ◌++
 use Rattle.io_ports.specs.Lines.{Line, lines_of, pieces_of, line_of}
 use Rattle.io_ports.proofs.Moved.{map_line-append}
 use Rattle.game_text.specs.Heard.{Heard}
-use Rattle.game_text.proofs.HeardLemmas.{append-nil}
+use Rattle.std.proofs.lemmas.List.{append-nil}
 use Rattle.vengine.specs.Run.{IsInput, Decide}
 
 -- ---- the lines of an input
@@ -22,7 +22,7 @@ lines_of-takes xs ys pieces lines cut is =
 
 pub settle : (left left' : Option (List ℕ)) (needed : List Line → ℕ) (P : List Line → Type 0) (h : Heard left left' needed P) → Settled left h.lines needed P
 settle None left' needed P h = elim h.holds [
-  | inl (ended, holds) ↦ record { rest = []; input = tt; few = h.few []; decided = inl refl; holds = subst P (append-nil h.lines) holds }
+  | inl (ended, holds) ↦ record { rest = []; input = tt; few = h.few []; decided = inl refl; holds = subst P (sym (append-nil h.lines)) holds }
   | inr holds ↦ record { rest = []; input = tt; few = h.few []; decided = inl refl; holds = holds [] }
 ]
 settle (Some xs) None needed P h = absurd h.took
@@ -31,6 +31,6 @@ settle (Some xs) (Some ys) needed P h =
     elim h.holds [
       | inl (ended, holds) ↦
           let none : lines_of ys ≡ [] = ap lines_of ended in
-          record { rest = lines_of ys; input = is; few = h.few (lines_of ys); decided = inl none; holds = subst P (append-nil h.lines ∙ ap (λ l. h.lines ++ l) (sym none)) holds }
+          record { rest = lines_of ys; input = is; few = h.few (lines_of ys); decided = inl none; holds = subst P (sym (append-nil h.lines) ∙ ap (λ l. h.lines ++ l) (sym none)) holds }
       | inr holds ↦ record { rest = lines_of ys; input = is; few = h.few (lines_of ys); decided = inr holds; holds = holds (lines_of ys) }
     ]

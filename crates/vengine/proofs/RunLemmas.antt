@@ -72,6 +72,7 @@ refused_since files failed (Some name) (fault.Betza why) (inl is) six = absurd (
 refused_since files failed (Some name) (fault.Reach why) (inl is) six = absurd (omega (arith, six))
 refused_since files failed (Some name) (fault.Game why) (inl is) six = absurd (omega (arith, six))
 refused_since files failed (Some name) (fault.Strategy why) (inl is) six = absurd (omega (arith, six))
+refused_since files failed (Some name) (fault.Proof why) (inl is) six = absurd (omega (arith, six))
 refused_since files failed (Some name) (fault.Verdict why) (inl is) six = absurd (omega (arith, six))
 refused_since files failed (Some name) (fault.Ini why) (inl is) six = absurd (omega (arith, six))
 refused_since files failed (Some name) why (inr fails) six = inr fails.0

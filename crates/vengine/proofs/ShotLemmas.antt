@@ -117,6 +117,7 @@ fault_done (fault.Betza why) = inl refl
 fault_done (fault.Reach why) = inl refl
 fault_done (fault.Game why) = inl refl
 fault_done (fault.Strategy why) = inl refl
+fault_done (fault.Proof why) = inl refl
 fault_done (fault.Verdict why) = inl refl
 fault_done (fault.Ini why) = inl refl
 fault_done (fault.File why) = inr refl

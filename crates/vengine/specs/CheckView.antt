@@ -1,6 +1,6 @@
 -- What the code answers of a strategy, as the definitions have it.
 use Rattle.std.specs.Prelude.{◌≡◌, ℕ, List, Result, Ok, Err, codes, ⊤}
-use Rattle.game_text.specs.declared.problem.Problem.{Problem}
+use Rattle.proof_text.specs.declared.proof.Proof.{Proof}
 use Rattle.strategy.specs.declared.fault.StrategyFault.{StrategyFault}
 use Rattle.strategy.specs.declared.nodes.Strategy.{Strategy}
 use Rattle.strategy.specs.declared.reader.Reader.{Reader}
@@ -10,7 +10,10 @@ use Rattle.strategy_check.specs.declared.verdict.Verdict.TheVariants.{Wins}
 use Rattle.strategy_check.specs.Verdicts.{verdict_text}
 use Rattle.vengine.specs.declared.strategy_lines.NoStrategy.{NoStrategy}
 use Rattle.vengine.specs.declared.strategy_lines.NoStrategy.TheVariants.{Faulty, Unread}
-use Rattle.vengine.specs.Checking.{verdict_in}
+use Rattle.vengine.specs.declared.fault.Fault.{Fault}
+use Rattle.vengine.specs.declared.halt.Halt.{Halt}
+use Rattle.vengine.specs.declared.halt.Halt.TheVariants as halt
+use Rattle.vengine.specs.declared.stop.Stop.TheVariants as stop
 use Rattle.vengine.specs.Fault.{error_line}
 
 -- the source failed
@@ -34,15 +37,14 @@ abbrev pub SaysStrategy : Result Strategy StrategyFault → Result Strategy NoSt
 SaysStrategy said (Ok s) = said ≡ Ok s
 SaysStrategy said (Err why) = HasWhy said why
 
--- this is the verdict on the strategy that lines say
-pub record HasVerdict (p : Problem) (said : Result Strategy StrategyFault) (v : Verdict) : Type 0 where
-  pub s : Strategy
-  pub says : said ≡ Ok s
-  pub verdict : verdict_in p s ≡ v
-
-abbrev pub SaysVerdict : Problem → Result Strategy StrategyFault → Result Verdict NoStrategy → Type 0
-SaysVerdict p said (Ok v) = HasVerdict p said v
-SaysVerdict p said (Err why) = HasWhy said why
+-- lines state this, or have this fault; where the run was cut short nothing is known of them
+abbrev pub States : Result Proof Fault → Result Proof Halt → Type 0
+States said (Ok p) = said ≡ Ok p
+States said (Err halt.Usage) = ⊥
+States said (Err (halt.Fault fault)) = said ≡ Err fault
+States said (Err (halt.Stop stop.Source)) = ⊤
+States said (Err (halt.Stop stop.Sink)) = ⊥
+States said (Err (halt.Stop stop.Memory)) = ⊤
 
 -- what is printed of a verdict
 pub data Prints : Verdict → ℕ → List ℕ → Type 0 where

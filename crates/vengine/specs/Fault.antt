@@ -5,13 +5,14 @@ use Rattle.std.specs.Fmt.{decimal}
 use Rattle.betza_text.specs.Fault as betza
 use Rattle.game_text.specs.Fault as game
 use Rattle.strategy.specs.Fault as strategy
+use Rattle.proof_text.specs.Fault as proof
 use Rattle.strategy_check.specs.Verdicts.{verdict_text}
 use Rattle.variant_ini.specs.declared.fault.IniFault.{IniFault}
 use Rattle.variant_ini.specs.declared.fault.IniFault.TheVariants as ini
 use Rattle.vengine.specs.declared.fault.FileFault.{FileFault}
 use Rattle.vengine.specs.declared.fault.FileFault.TheVariants as file
 use Rattle.vengine.specs.declared.fault.Fault.{Fault}
-use Rattle.vengine.specs.declared.fault.Fault.TheVariants.{Betza, Reach, Game, Strategy, Verdict, Ini, File}
+use Rattle.vengine.specs.declared.fault.Fault.TheVariants.{Betza, Reach, Game, Strategy, Proof, Verdict, Ini, File}
 use Rattle.vengine.specs.declared.setup.ReachFault.{ReachFault}
 use Rattle.vengine.specs.Setup.{Unplaced, NoSquare, Taken}
 use Rattle.vengine.specs.UnplacedView.{unplaced_of}
@@ -40,6 +41,7 @@ fault_text (Betza fault) = betza.fault_text fault
 fault_text (Reach fault) = unplaced_text (unplaced_of fault)
 fault_text (Game fault) = game.fault_text fault
 fault_text (Strategy fault) = strategy.fault_text fault
+fault_text (Proof fault) = proof.fault_text fault
 fault_text (Verdict verdict) = verdict_text verdict
 fault_text (Ini fault) = ini_fault_text fault
 fault_text (File fault) = file_fault_text fault
@@ -54,6 +56,7 @@ fault_status (Betza fault) = 3
 fault_status (Reach fault) = 3
 fault_status (Game fault) = 3
 fault_status (Strategy fault) = 3
+fault_status (Proof fault) = 3
 fault_status (Verdict verdict) = 3
 fault_status (Ini fault) = 3
 fault_status (File fault) = 6

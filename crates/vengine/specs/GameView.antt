@@ -2,7 +2,7 @@
 use Rattle.std.specs.Prelude.{◌≡◌, Result, Ok, Err, ⊤}
 use Rattle.game_play.specs.Played.{Played}
 use Rattle.game_text.specs.declared.fault.GameFault.{GameFault}
-use Rattle.vengine.specs.declared.fault.Fault.TheVariants.{Betza, Reach, Game, Strategy, Verdict, Ini, File}
+use Rattle.vengine.specs.declared.fault.Fault.TheVariants.{Betza, Reach, Game, Strategy, Proof, Verdict, Ini, File}
 use Rattle.vengine.specs.declared.halt.Halt.{Halt}
 use Rattle.vengine.specs.declared.halt.Halt.TheVariants as halt
 use Rattle.vengine.specs.declared.stop.Stop.TheVariants as stop
@@ -15,6 +15,7 @@ SaysGame said (Err (halt.Fault (Betza fault))) = ⊥
 SaysGame said (Err (halt.Fault (Reach fault))) = ⊥
 SaysGame said (Err (halt.Fault (Game fault))) = said ≡ Err fault
 SaysGame said (Err (halt.Fault (Strategy fault))) = ⊥
+SaysGame said (Err (halt.Fault (Proof fault))) = ⊥
 SaysGame said (Err (halt.Fault (Verdict verdict))) = ⊥
 SaysGame said (Err (halt.Fault (Ini fault))) = ⊥
 SaysGame said (Err (halt.Fault (File fault))) = ⊥

@@ -10,10 +10,13 @@ use Rattle.variant_ini.specs.Section.{Section}
 use Rattle.vengine.specs.declared.fault.FileFault.{FileFault}
 use Rattle.vengine.specs.declared.fault.FileFault.TheVariants.{Missing, TooLarge, Failed}
 use Rattle.vengine.specs.declared.fault.Fault.{Fault}
-use Rattle.vengine.specs.declared.fault.Fault.TheVariants.{Betza, Reach, Game, Strategy, Verdict, Ini, File}
+use Rattle.vengine.specs.declared.fault.Fault.TheVariants.{Betza, Reach, Game, Strategy, Proof, Verdict, Ini, File}
 use Rattle.game_text.specs.declared.fault.NoGame.{NoGame}
 use Rattle.game_text.specs.declared.fault.NoGame.TheVariants as no_game
 use Rattle.strategy.specs.declared.fault.StrategyFault.TheVariants as strategy
+use Rattle.proof_text.specs.declared.fault.ProofFault.TheVariants as proof
+use Rattle.proof_text.specs.declared.taking.NoProof.{NoProof}
+use Rattle.proof_text.specs.declared.taking.NoProof.TheVariants as no_proof
 use Rattle.vengine.specs.declared.halt.Halt.{Halt}
 use Rattle.vengine.specs.declared.halt.Halt.TheVariants as halt
 use Rattle.vengine.specs.declared.answers.Answer.{Answer}
@@ -67,6 +70,17 @@ strategy_halt (no_strategy.Faulty (strategy.BadMove line)) = halt.Fault (Strateg
 strategy_halt (no_strategy.Faulty (strategy.BadNumber line)) = halt.Fault (Strategy (strategy.BadNumber line))
 strategy_halt (no_strategy.Faulty (strategy.Ended line)) = halt.Fault (Strategy (strategy.Ended line))
 
+-- nor of a proof text
+abbrev pub proof_halt : NoProof → Halt
+proof_halt no_proof.Unread = halt.Stop stop.Source
+proof_halt (no_proof.Faulty proof.Memory) = halt.Stop stop.Memory
+proof_halt (no_proof.Faulty (proof.Header line)) = halt.Fault (Proof (proof.Header line))
+proof_halt (no_proof.Faulty (proof.BadRules line)) = halt.Fault (Proof (proof.BadRules line))
+proof_halt (no_proof.Faulty (proof.RefusedRules why)) = halt.Fault (Proof (proof.RefusedRules why))
+proof_halt (no_proof.Faulty (proof.BadStart line why)) = halt.Fault (Proof (proof.BadStart line why))
+proof_halt (no_proof.Faulty (proof.BadHistory line)) = halt.Fault (Proof (proof.BadHistory line))
+proof_halt (no_proof.Faulty (proof.BadBody why)) = halt.Fault (Proof (proof.BadBody why))
+
 -- the status and the text that an outcome comes to are among these; a run that was cut short has none, and no sink that failed
 -- cuts it short, since none was given anything yet
 abbrev pub Answers : Result (List ℕ) Halt → (ℕ → List ℕ → Type 0) → Type 0
@@ -94,6 +108,7 @@ IsFileFault (Err (halt.Fault (Betza fault))) = ⊥
 IsFileFault (Err (halt.Fault (Reach fault))) = ⊥
 IsFileFault (Err (halt.Fault (Game fault))) = ⊥
 IsFileFault (Err (halt.Fault (Strategy fault))) = ⊥
+IsFileFault (Err (halt.Fault (Proof fault))) = ⊥
 IsFileFault (Err (halt.Fault (Verdict verdict))) = ⊥
 IsFileFault (Err (halt.Fault (Ini fault))) = ⊥
 IsFileFault (Err (halt.Fault (File fault))) = ⊤
@@ -113,6 +128,7 @@ HasFile file failed (Err (halt.Fault (Betza fault))) = ⊥
 HasFile file failed (Err (halt.Fault (Reach fault))) = ⊥
 HasFile file failed (Err (halt.Fault (Game fault))) = ⊥
 HasFile file failed (Err (halt.Fault (Strategy fault))) = ⊥
+HasFile file failed (Err (halt.Fault (Proof fault))) = ⊥
 HasFile file failed (Err (halt.Fault (Verdict verdict))) = ⊥
 HasFile file failed (Err (halt.Fault (Ini fault))) = ⊥
 HasFile file failed (Err (halt.Fault (File fault))) = HasFileFault file failed fault

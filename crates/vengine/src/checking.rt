@@ -1,40 +1,131 @@
 //! Whether the strategy of the input wins the game of the input.
-ghost use Rattle.std.specs.Prelude.{◌≡◌, IfOk, codes};
+ghost use Rattle.std.specs.Prelude.{◌≡◌, ◌-◌, ◌∷◌, IfOk, codes, length};
 ghost use Rattle.io_ports.specs.Cause.{HasCause};
+ghost use Rattle.io_ports.specs.Lines.{Text as line_text};
 ghost use Rattle.variant_rules.specs.Entries.{entries};
 ghost use Rattle.game_text.specs.Heard.{Heard};
-ghost use Rattle.strategy.specs.Needed.{lines_of_strategy};
-ghost use Rattle.strategy.specs.Reading.{strategy_of};
-ghost use Rattle.vengine.specs.Checking.{SaysCheck, lines_of_check};
-ghost use Rattle.vengine.specs.CheckView.{IsUnread, Prints, SaysVerdict};
+ghost use Rattle.game_text.specs.Problem.{problem_of};
+ghost use Rattle.strategy.specs.Reading.{AreSound};
+ghost use Rattle.proof_text.specs.Reading.{proof_of};
+ghost use Rattle.vengine.specs.Checking as Said;
+ghost use Rattle.vengine.specs.CheckView.{Prints, States};
 ghost use Rattle.vengine.specs.HaltView.{Answers, IsUnheard};
 
 use crate::fault::Fault;
 use crate::halt::Halt;
-use crate::strategy_lines::{NoStrategy, read_strategy};
-use foundation::Text;
-use game_text::{Problem, read_problem};
-use io_ports::Source;
+use crate::stop::Stop;
+use crate::strategy_lines::read_strategy;
+use foundation::{Memory, Text};
+use game_text::{GameFault, read_problem_after};
+use io_ports::{Got, LineBuf, Source};
+use proof_text::{Proof, is_version, read_proof_after};
 use std::alloc::{AllocError, Global};
 use strategy_check::{Verdict, check};
 use variant_ini::Sections;
 use variant_rules::load;
 
-// The verdict on the strategy that the lines after the problem say.
-fn verdict_on<S: Source>(
+// What a proof text states, whose first line was taken already.
+fn state_proof<S: Source>(
     alloc: Global,
-    problem: &Problem,
+    first: &[u8],
     source: &mut S,
-) -> Result<Verdict, NoStrategy>
-    ensures heard { Heard (S.left source.old) (S.left source.new) (lines_of_strategy problem.now.game.rules)
-        (λ lines. SaysVerdict problem.now (strategy_of problem.now.game.rules lines) result) }
-    ensures cause { HasCause (S.faults source.old) (S.faults source.new) (IsUnread result) }
+) -> Result<Proof, Halt<'static>>
+    ensures heard { Heard (S.left source.old) (S.left source.new) length
+        (λ lines. States (Said.by_proof (proof_of (line_text first.now ∷ lines))) result) }
+    ensures sound { IfOk result (λ p. AreSound p.game.rules p.strategy.nodes) }
+    ensures cause { HasCause (S.faults source.old) (S.faults source.new) (IsUnheard result) }
 {
+    Ok(read_proof_after(alloc, first, source)?)
+}
+
+// What a problem and the strategy after it state. The problem's first line is in the buffer; it is of a variant of these sections.
+fn state_problem<S: Source>(
+    alloc: Global,
+    sections: &Sections,
+    source: &mut S,
+    line: &mut LineBuf,
+) -> Result<Proof, Halt<'static>>
+    ensures heard { Heard (S.left source.old) (S.left source.new)
+        (λ lines. Said.lines_of_stated (entries sections.now) (line_text line.old ∷ lines) - 1)
+        (λ lines. States (Said.by_problem (problem_of (entries sections.now) (line_text line.old ∷ lines)) (line_text line.old ∷ lines)) result) }
+    ensures sound { IfOk result (λ p. AreSound p.game.rules p.strategy.nodes) }
+    ensures cause { HasCause (S.faults source.old) (S.faults source.new) (IsUnheard result) }
+{
+    let variants = load(alloc, sections)?;
+    let problem = read_problem_after(alloc, &variants, source, line)?;
     let game = &problem.game;
     game.is_played();
-    let s = read_strategy(alloc, game.rules(), source)?;
-    let verdict = check(alloc, game, problem.goal.attacker, problem.goal.moves, &s)?;
-    Ok(verdict)
+    let strategy = read_strategy(alloc, game.rules(), source)?;
+    Ok(Proof {
+        game: problem.game,
+        attacker: problem.goal.attacker,
+        n: problem.goal.moves,
+        strategy,
+    })
+}
+
+// What the input states whose first line is in the buffer.
+fn state_after<S: Source>(
+    alloc: Global,
+    sections: &Sections,
+    source: &mut S,
+    line: &mut LineBuf,
+) -> Result<Proof, Halt<'static>>
+    ensures heard { Heard (S.left source.old) (S.left source.new)
+        (λ lines. Said.lines_of_check (entries sections.now) (line_text line.old ∷ lines) - 1)
+        (λ lines. States (Said.stated_in (entries sections.now) (line_text line.old ∷ lines)) result) }
+    ensures sound { IfOk result (λ p. AreSound p.game.rules p.strategy.nodes) }
+    ensures cause { HasCause (S.faults source.old) (S.faults source.new) (IsUnheard result) }
+{
+    let first = line.text();
+    if is_version(first) {
+        state_proof(alloc, first, source)
+    } else {
+        state_problem(alloc, sections, source, line)
+    }
+}
+
+// What the input states, by a buffer for its lines.
+fn state_by<S: Source>(
+    alloc: Global,
+    sections: &Sections,
+    source: &mut S,
+    line: &mut LineBuf,
+) -> Result<Proof, Halt<'static>>
+    ensures heard { Heard (S.left source.old) (S.left source.new) (Said.lines_of_check (entries sections.now))
+        (λ lines. States (Said.stated_in (entries sections.now) lines) result) }
+    ensures sound { IfOk result (λ p. AreSound p.game.rules p.strategy.nodes) }
+    ensures cause { HasCause (S.faults source.old) (S.faults source.new) (IsUnheard result) }
+{
+    match source.next_line(line) {
+        Got::Line => state_after(alloc, sections, source, line),
+        Got::TooLong => Err(Halt::Fault(Fault::Game(GameFault::LineTooLong(1)))),
+        Got::End => Err(Halt::Fault(Fault::Game(GameFault::Missing(1)))),
+        Got::Failed => Err(Halt::Stop(Stop::Source)),
+    }
+}
+
+// What the input states.
+fn state<S: Source>(
+    alloc: Global,
+    sections: &Sections,
+    source: &mut S,
+) -> Result<Proof, Halt<'static>>
+    ensures heard { Heard (S.left source.old) (S.left source.new) (Said.lines_of_check (entries sections.now))
+        (λ lines. States (Said.stated_in (entries sections.now) lines) result) }
+    ensures sound { IfOk result (λ p. AreSound p.game.rules p.strategy.nodes) }
+    ensures cause { HasCause (S.faults source.old) (S.faults source.new) (IsUnheard result) }
+{
+    let mut line = LineBuf::new(alloc)?;
+    state_by(alloc, sections, source, &mut line)
+}
+
+// The verdict on a strategy.
+fn verdict_on(alloc: Global, proof: &Proof) -> Result<Verdict, Memory>
+    requires { AreSound proof.now.game.rules proof.now.strategy.nodes }
+    ensures { IfOk result (λ v. Said.verdict_in proof.now ≡ v) }
+{
+    check(alloc, &proof.game, proof.attacker, proof.n, &proof.strategy)
 }
 
 fn wins(alloc: Global) -> Result<Text, AllocError>
@@ -55,18 +146,18 @@ fn print(alloc: Global, verdict: Verdict) -> Result<Text, Halt<'static>>
     }
 }
 
-/// The text of `check`: whether the strategy that the input says after a problem wins it. The problem is of a variant of these sections.
+/// The text of `check`: whether the strategy that the input states wins the game that it states, in a proof text or after a problem, which is of
+/// a variant of these sections.
 pub fn check_text<S: Source>(
     alloc: Global,
     sections: &Sections,
     source: &mut S,
 ) -> Result<Text, Halt<'static>>
-    ensures heard { Heard (S.left source.old) (S.left source.new) (lines_of_check (entries sections.now))
-        (λ lines. Answers result (SaysCheck (entries sections.now) lines)) }
+    ensures heard { Heard (S.left source.old) (S.left source.new) (Said.lines_of_check (entries sections.now))
+        (λ lines. Answers result (Said.SaysCheck (entries sections.now) lines)) }
     ensures cause { HasCause (S.faults source.old) (S.faults source.new) (IsUnheard result) }
 {
-    let variants = load(alloc, sections)?;
-    let problem = read_problem(alloc, &variants, source)?;
-    let verdict = verdict_on(alloc, &problem, source)?;
+    let proof = state(alloc, sections, source)?;
+    let verdict = verdict_on(alloc, &proof)?;
     print(alloc, verdict)
 }

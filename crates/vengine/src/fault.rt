@@ -7,6 +7,7 @@ use crate::setup::ReachFault;
 use betza_text::BetzaFault;
 use foundation::{Memory, Text};
 use game_text::{GameFault, write_fault};
+use proof_text::ProofFault;
 use std::alloc::{AllocError, Global};
 use std::fmt;
 use strategy::StrategyFault;
@@ -75,6 +76,8 @@ pub enum Fault<'a> {
     Game(GameFault),
     /// The input says no strategy.
     Strategy(StrategyFault),
+    /// The input is no proof text.
+    Proof(ProofFault),
     /// The strategy of the input is not good.
     Verdict(Verdict),
     /// The file of variants is not of its format.
@@ -114,6 +117,7 @@ impl<'a> Fault<'a> {
             Fault::Reach(fault) => format!(in alloc; "error {fault}\n")?.into_bytes(),
             Fault::Game(fault) => game_line(alloc, fault)?,
             Fault::Strategy(fault) => format!(in alloc; "error {fault}\n")?.into_bytes(),
+            Fault::Proof(fault) => format!(in alloc; "error {fault}\n")?.into_bytes(),
             Fault::Verdict(verdict) => format!(in alloc; "error {verdict}\n")?.into_bytes(),
             Fault::Ini(fault) => format!(in alloc; "error {}\n", PrintedIni(*fault))?.into_bytes(),
             Fault::File(fault) => format!(in alloc; "error {fault}\n")?.into_bytes(),

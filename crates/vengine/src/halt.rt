@@ -3,7 +3,7 @@ ghost use Rattle.std.specs.Prelude.{◌≡◌};
 ghost use Rattle.vengine.specs.declared.halt.Halt.TheVariants as halt;
 ghost use Rattle.vengine.specs.declared.fault.Fault.TheVariants as fault;
 ghost use Rattle.vengine.specs.declared.stop.Stop.TheVariants as stop;
-ghost use Rattle.vengine.specs.HaltView.{betza_halt, game_halt, ini_halt, strategy_halt};
+ghost use Rattle.vengine.specs.HaltView.{betza_halt, game_halt, ini_halt, proof_halt, strategy_halt};
 
 use crate::fault::Fault;
 use crate::setup::ReachFault;
@@ -12,6 +12,7 @@ use crate::strategy_lines::NoStrategy;
 use betza_text::BetzaFault;
 use foundation::Memory;
 use game_text::NoGame;
+use proof_text::{NoProof, ProofFault};
 use std::alloc::AllocError;
 use strategy::StrategyFault;
 use variant_ini::IniFault;
@@ -93,6 +94,18 @@ impl<'a> From<NoStrategy> for Halt<'a> {
             NoStrategy::Faulty(StrategyFault::Memory) => Halt::Stop(Stop::Memory),
             NoStrategy::Faulty(fault) => Halt::Fault(Fault::Strategy(fault)),
             NoStrategy::Unread => Halt::Stop(Stop::Source),
+        }
+    }
+}
+
+impl<'a> From<NoProof> for Halt<'a> {
+    ghost from_gives = { λ why given. given ≡ proof_halt why };
+
+    fn from(why: NoProof) -> Self {
+        match why {
+            NoProof::Faulty(ProofFault::Memory) => Halt::Stop(Stop::Memory),
+            NoProof::Faulty(fault) => Halt::Fault(Fault::Proof(fault)),
+            NoProof::Unread => Halt::Stop(Stop::Source),
         }
     }
 }

@@ -1,6 +1,6 @@
-use Rattle.std.proofs.Common.{refl, ◌∙◌}
+use Rattle.std.proofs.Common.{refl, sym, ◌∙◌}
 use Rattle.std.proofs.lemmas.Result.{err_from_is_err_and}
-use Rattle.game_text.proofs.HeardLemmas.{append-nil}
+use Rattle.std.proofs.lemmas.List.{append-nil}
 use Rattle.vengine.proofs.FileLemmas.{looked_none}
 use Rattle.vengine.proofs.sections.sections_with.Goals as goal
 
@@ -10,4 +10,4 @@ returns-in_err-builtin-in-None g c =
     rw (p.1, p.2) (looked_none _ _ (λ files. tt))
 
 pub returns-in_ok-builtin-in-None : goal.returns-in_ok-builtin-in-None
-returns-in_ok-builtin-in-None g c = rw c.in-None.is (looked_none _ _ (λ files. (refl, c.in_ok-builtin-in-None.ensures ∙ append-nil _)))
+returns-in_ok-builtin-in-None g c = rw c.in-None.is (looked_none _ _ (λ files. (refl, c.in_ok-builtin-in-None.ensures ∙ sym (append-nil _))))
