@@ -1,5 +1,5 @@
 -- A text, cut at a byte.
-use Rattle.std.specs.Prelude.{ℕ, ◌+◌, ◌==◌, ◌||◌, Bool, List, [], Option, None, Some, position, take, drop}
+use Rattle.std.specs.Prelude.{ℕ, ◌+◌, ◌≡◌, ◌==◌, ◌||◌, ◌∷◌, Bool, List, [], Option, None, Some, position, take, drop}
 use Rattle.std.specs.List.{slice_split}
 
 -- a space or a tab
@@ -18,3 +18,7 @@ cut c text = cut_where text (position (λ b. b == c) text)
 abbrev pub parts_after : (ℕ → Bool) → Option (List ℕ) → List (List ℕ)
 parts_after is_between None = []
 parts_after is_between (Some text) = slice_split is_between text
+
+-- the first of the parts of the text, and the text of the other parts where there are any
+abbrev pub IsFirstPart : (ℕ → Bool) → List ℕ → List ℕ → Option (List ℕ) → Type 0
+IsFirstPart is_between text first rest = slice_split is_between text ≡ first ∷ parts_after is_between rest

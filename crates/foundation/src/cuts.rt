@@ -1,6 +1,5 @@
 //! How a text is cut at a byte.
-ghost use Rattle.std.specs.Prelude.{◌≡◌, ◌==◌, ◌<◌, ◌∷◌, length, position, IfSome};
-ghost use Rattle.std.specs.List.{slice_split};
+ghost use Rattle.std.specs.Prelude.{◌≡◌, ◌==◌, ◌<◌, length, position, IfSome};
 ghost use Rattle.std.specs.Option.{option_copied};
 ghost use Rattle.foundation.specs.Cuts as Cuts;
 
@@ -26,21 +25,13 @@ fn place_of_blank(text: &[u8]) -> Option<usize>
     text.iter().position(|byte| is_blank(*byte))
 }
 
-/// The text before the first such byte, and what follows that byte where it is there.
+/// The text before the first such byte, and what follows that byte where it is there: so also the first of the parts
+/// that such bytes separate, and the text of the others.
 #[tactic(auto, unfolding(crate::specs::Cuts::cut))]
 pub fn cut_at(text: &[u8], byte: u8) -> (&[u8], Option<&[u8]>)
     ensures before { result.0.now ≡ (Cuts.cut byte text.now).0 }
     ensures after { option_copied result.1 ≡ (Cuts.cut byte text.now).1 }
-{
-    match place_of(text, byte) {
-        Some(place) => (&text[..place], Some(&text[place + 1..])),
-        None => (text, None),
-    }
-}
-
-/// The first of the parts that such bytes separate, and the text of the others where there are any.
-pub fn cut_part(text: &[u8], byte: u8) -> (&[u8], Option<&[u8]>)
-    ensures { slice_split (λ b. b == byte) text.now ≡ result.0.now ∷ Cuts.parts_after (λ b. b == byte) (option_copied result.1) }
+    ensures parts { Cuts.IsFirstPart (λ b. b == byte) text.now result.0.now (option_copied result.1) }
 {
     match place_of(text, byte) {
         Some(place) => (&text[..place], Some(&text[place + 1..])),
@@ -50,7 +41,7 @@ pub fn cut_part(text: &[u8], byte: u8) -> (&[u8], Option<&[u8]>)
 
 /// The text up to the first space or tab, and the text after that where one is there.
 pub fn cut_word(text: &[u8]) -> (&[u8], Option<&[u8]>)
-    ensures { slice_split Cuts.is_blank text.now ≡ result.0.now ∷ Cuts.parts_after Cuts.is_blank (option_copied result.1) }
+    ensures { Cuts.IsFirstPart Cuts.is_blank text.now result.0.now (option_copied result.1) }
 {
     match place_of_blank(text) {
         Some(place) => (&text[..place], Some(&text[place + 1..])),

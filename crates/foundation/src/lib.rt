@@ -7,7 +7,7 @@ ghost use Rattle.std.specs.Prelude.{◌≡◌, List, ℕ};
 mod cuts;
 mod numbers;
 
-pub use cuts::{cut_at, cut_part, cut_word, is_blank, place_of};
+pub use cuts::{cut_at, cut_word, is_blank, place_of};
 pub use numbers::{
     are_digits, begins_with_zero, is_digit, is_number, number_within, read_number, value,
 };

@@ -9,7 +9,7 @@ ghost use Rattle.variant_fen.specs.Cells.{put_at, IsFreeFrom, IsSameBut};
 use crate::number::value;
 use crate::pieces::cut_piece;
 use fen_model::FenFault;
-use foundation::{begins_with_zero, cut_part, is_digit};
+use foundation::{begins_with_zero, cut_at, is_digit};
 use rules_model::{Cell, Cells, Rules};
 
 fn digit_count(text: &[u8]) -> usize
@@ -100,7 +100,7 @@ pub(crate) fn read_board(rules: &Rules, board: &[u8], cells: &mut Cells) -> Resu
     let mut rank = rules.ranks;
     let mut left = Some(board);
     while let Some(text) = left {
-        let (rank_text, rest) = cut_part(text, b'/');
+        let (rank_text, rest) = cut_at(text, b'/');
         rank -= 1;
         read_rank(rules, rank_text, rank, cells)?;
         left = rest;

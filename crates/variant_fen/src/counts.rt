@@ -4,7 +4,7 @@ ghost use Rattle.fen_model.specs.Counts as Counts;
 
 use crate::number::read_number;
 use fen_model::FenFault;
-use foundation::cut_part;
+use foundation::cut_at;
 use rules_model::Side;
 
 #[tactic(auto, unfolding(fen_model::specs::Counts::side_of))]
@@ -32,11 +32,11 @@ fn checks(white: Option<u16>, black: Option<u16>) -> Result<[u8; 2], FenFault>
 pub(crate) fn read_checks(text: &[u8]) -> Result<[u8; 2], FenFault>
     ensures { result ≡ Counts.checks_of text.now }
 {
-    let (white, rest) = cut_part(text, b'+');
+    let (white, rest) = cut_at(text, b'+');
     let Some(rest) = rest else {
         return Err(FenFault::Checks);
     };
-    let (black, rest) = cut_part(rest, b'+');
+    let (black, rest) = cut_at(rest, b'+');
     if rest.is_some() {
         return Err(FenFault::Checks);
     }

@@ -6,7 +6,7 @@ ghost use Rattle.variant_fen.specs.FieldView.{fields_view};
 ghost use Rattle.fen_model.specs.Fields as Fields;
 
 use fen_model::FenFault;
-use foundation::{are_digits, cut_part, place_of};
+use foundation::{are_digits, cut_at, place_of};
 use rules_model::Rules;
 
 /// The most bytes of a text.
@@ -60,10 +60,10 @@ fn cut_pocket(placement: &[u8]) -> (&[u8], &[u8])
 fn cut_plain(text: &[u8]) -> Option<FieldTexts<'_>>
     ensures { Fields.plain_fields (slice_split Fields.is_blank text.now) ≡ option_map fields_view result }
 {
-    let (placement, rest) = cut_part(text, b' ');
-    let (side, rest) = cut_part(rest?, b' ');
-    let (third, rest) = cut_part(rest?, b' ');
-    let (fourth, rest) = cut_part(rest?, b' ');
+    let (placement, rest) = cut_at(text, b' ');
+    let (side, rest) = cut_at(rest?, b' ');
+    let (third, rest) = cut_at(rest?, b' ');
+    let (fourth, rest) = cut_at(rest?, b' ');
     let left_out = are_digits(third);
     let (board, pocket) = cut_pocket(placement);
     let mut texts = FieldTexts {
@@ -85,8 +85,8 @@ fn cut_plain(text: &[u8]) -> Option<FieldTexts<'_>>
         }
         return Some(texts);
     };
-    let (halfmoves, rest) = cut_part(counts, b' ');
-    let (number, rest) = cut_part(rest?, b' ');
+    let (halfmoves, rest) = cut_at(counts, b' ');
+    let (number, rest) = cut_at(rest?, b' ');
     if left_out || rest.is_some() {
         return None;
     }
@@ -99,11 +99,11 @@ fn cut_plain(text: &[u8]) -> Option<FieldTexts<'_>>
 fn cut_counted(text: &[u8]) -> Option<FieldTexts<'_>>
     ensures { Fields.counted_fields (slice_split Fields.is_blank text.now) ≡ option_map fields_view result }
 {
-    let (placement, rest) = cut_part(text, b' ');
-    let (side, rest) = cut_part(rest?, b' ');
-    let (rights, rest) = cut_part(rest?, b' ');
-    let (ep, rest) = cut_part(rest?, b' ');
-    let (checks, rest) = cut_part(rest?, b' ');
+    let (placement, rest) = cut_at(text, b' ');
+    let (side, rest) = cut_at(rest?, b' ');
+    let (rights, rest) = cut_at(rest?, b' ');
+    let (ep, rest) = cut_at(rest?, b' ');
+    let (checks, rest) = cut_at(rest?, b' ');
     let (board, pocket) = cut_pocket(placement);
     let mut texts = FieldTexts {
         board,
@@ -118,8 +118,8 @@ fn cut_counted(text: &[u8]) -> Option<FieldTexts<'_>>
     let Some(counts) = rest else {
         return Some(texts);
     };
-    let (halfmoves, rest) = cut_part(counts, b' ');
-    let (number, rest) = cut_part(rest?, b' ');
+    let (halfmoves, rest) = cut_at(counts, b' ');
+    let (number, rest) = cut_at(rest?, b' ');
     if rest.is_some() {
         return None;
     }

@@ -31,21 +31,21 @@ pub returns-in_err-read_rank : goal.returns-in_err-read_rank
 returns-in_err-read_rank c =
     let rules = c.args.rules.now in
     let n : ℕ = rules.ranks - c.loop-left.rank in
-    let parts : List (List ℕ) = parts_after (λ b. b == 47) (option_copied c.cut_part.result.1) in
-    let cut : parts_after (λ b. b == 47) (option_copied c.loop-left.left) ≡ c.cut_part.result.0.now ∷ parts = ap (λ o. parts_after (λ b. b == 47) (option_copied o)) c.in-Some.is ∙ c.cut_part.ensures in
+    let parts : List (List ℕ) = parts_after (λ b. b == 47) (option_copied c.cut_at.result.1) in
+    let cut : parts_after (λ b. b == 47) (option_copied c.loop-left.left) ≡ c.cut_at.result.0.now ∷ parts = ap (λ o. parts_after (λ b. b == 47) (option_copied o)) c.in-Some.is ∙ c.cut_at.ensures.parts in
     let p = err_from_is_err_and c.from_residual.result c.from_residual.ensures.1 in
     rw (p.1, p.2) (row_fault rules c.args.board.now _ (sym c.rank_count.ensures ∙ c.if-rank_count-from.false ∙ c.from.ensures)
-    (c.loop-left.invariant.said ∙ ap (λ ps. after_rows rules c.loop-left.cells n (rows_of rules ps)) cut ∙ step_row_fault rules c.loop-left.cells n c.cut_part.result.0.now parts _ c.in_err-read_rank.ensures.row))
+    (c.loop-left.invariant.said ∙ ap (λ ps. after_rows rules c.loop-left.cells n (rows_of rules ps)) cut ∙ step_row_fault rules c.loop-left.cells n c.cut_at.result.0.now parts _ c.in_err-read_rank.ensures.row))
 
 pub loop-left-preserved : goal.loop-left-preserved
 loop-left-preserved c =
     let rules = c.args.rules.now in
     let rank : ℕ = c.loop-left.rank - 1 in
-    let parts : List (List ℕ) = parts_after (λ b. b == 47) (option_copied c.cut_part.result.1) in
-    let cut : parts_after (λ b. b == 47) (option_copied c.loop-left.left) ≡ c.cut_part.result.0.now ∷ parts = ap (λ o. parts_after (λ b. b == 47) (option_copied o)) c.in-Some.is ∙ c.cut_part.ensures in
+    let parts : List (List ℕ) = parts_after (λ b. b == 47) (option_copied c.cut_at.result.1) in
+    let cut : parts_after (λ b. b == 47) (option_copied c.loop-left.left) ≡ c.cut_at.result.0.now ∷ parts = ap (λ o. parts_after (λ b. b == 47) (option_copied o)) c.in-Some.is ∙ c.cut_at.ensures.parts in
     let count : 1 + length parts ≡ c.loop-left.rank = omega (arith, ap length cut, c.loop-left.invariant.left) in
     let lower : rank < rules.ranks = omega arith in
-    let said = step_row rules c.loop-left.cells c.read_rank.new.cells (rules.ranks - c.loop-left.rank) rank c.cut_part.result.0.now parts (omega arith) (omega arith) c.requires.fit.files_most c.in_ok-read_rank.ensures.others c.in_ok-read_rank.ensures.row in
+    let said = step_row rules c.loop-left.cells c.read_rank.new.cells (rules.ranks - c.loop-left.rank) rank c.cut_at.result.0.now parts (omega arith) (omega arith) c.requires.fit.files_most c.in_ok-read_rank.ensures.others c.in_ok-read_rank.ensures.row in
     record {
       said = c.loop-left.invariant.said ∙ ap (λ ps. after_rows rules c.loop-left.cells (rules.ranks - c.loop-left.rank) (rows_of rules ps)) cut ∙ said ∙ ap (λ n. after_rows rules c.read_rank.new.cells n (rows_of rules parts)) (let next : (rules.ranks - c.loop-left.rank) + 1 ≡ rules.ranks - (c.loop-left.rank - 1) = omega arith in next);
       left = omega arith;

@@ -8,15 +8,15 @@ use Rattle.variant_fen.proofs.CountLemmas.{checks_one, checks_three, checks_two}
 use Rattle.variant_fen.proofs.counts.read_checks.Goals as goal
 
 pub returns-in_default : goal.returns-in_default
-returns-in_default c = sym (checks_one c.args.text.now c.cut_part.result.0.now c.cut_part.result.1 c.cut_part.ensures c.in_default.is)
+returns-in_default c = sym (checks_one c.args.text.now c.cut_at.result.0.now c.cut_at.result.1 c.cut_at.ensures.parts c.in_default.is)
 
 pub returns-then-is_some : goal.returns-then-is_some
 returns-then-is_some c =
-    let cut : slice_split is_plus c.args.text.now ≡ c.cut_part.result.0.now ∷ slice_split is_plus c.in-Some.rest.now = c.cut_part.ensures ∙ ap (λ o. c.cut_part.result.0.now ∷ parts_after (λ b. b == 43) (option_copied o)) c.in-Some.is in
-    sym (checks_three c.args.text.now c.cut_part.result.0.now c.cut_part-2.result.0.now c.in-Some.rest.now c.cut_part-2.result.1 cut c.cut_part-2.ensures (sym c.is_some.ensures ∙ c.if-is_some.true))
+    let cut : slice_split is_plus c.args.text.now ≡ c.cut_at.result.0.now ∷ slice_split is_plus c.in-Some.rest.now = c.cut_at.ensures.parts ∙ ap (λ o. c.cut_at.result.0.now ∷ parts_after (λ b. b == 43) (option_copied o)) c.in-Some.is in
+    sym (checks_three c.args.text.now c.cut_at.result.0.now c.cut_at-2.result.0.now c.in-Some.rest.now c.cut_at-2.result.1 cut c.cut_at-2.ensures.parts (sym c.is_some.ensures ∙ c.if-is_some.true))
 
 pub returns : goal.returns
 returns c =
-    let cut : slice_split is_plus c.args.text.now ≡ c.cut_part.result.0.now ∷ slice_split is_plus c.in-Some.rest.now = c.cut_part.ensures ∙ ap (λ o. c.cut_part.result.0.now ∷ parts_after (λ b. b == 43) (option_copied o)) c.in-Some.is in
+    let cut : slice_split is_plus c.args.text.now ≡ c.cut_at.result.0.now ∷ slice_split is_plus c.in-Some.rest.now = c.cut_at.ensures.parts ∙ ap (λ o. c.cut_at.result.0.now ∷ parts_after (λ b. b == 43) (option_copied o)) c.in-Some.is in
     c.checks.ensures ∙ ap (λ o. two_checks o c.read_number-2.result) c.read_number.ensures ∙ ap (two_checks _) c.read_number-2.ensures
-    ∙ sym (checks_two c.args.text.now c.cut_part.result.0.now c.cut_part-2.result.0.now c.in-Some.rest.now c.cut_part-2.result.1 cut c.cut_part-2.ensures (sym c.is_some.ensures ∙ c.if-is_some.false))
+    ∙ sym (checks_two c.args.text.now c.cut_at.result.0.now c.cut_at-2.result.0.now c.in-Some.rest.now c.cut_at-2.result.1 cut c.cut_at-2.ensures.parts (sym c.is_some.ensures ∙ c.if-is_some.false))
