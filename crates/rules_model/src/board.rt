@@ -195,3 +195,13 @@ pub fn repeat_of(p: &Position) -> Repeat
         side: p.side,
     }
 }
+
+/// What stands on the square.
+pub fn cell_at(cells: &Cells, at: Square) -> Option<Cell>
+    ensures { result ≡ Squares.cell_at cells.now at.0 }
+{
+    match cells.get(at.0 as usize) {
+        Some(cell) => *cell,
+        None => None,
+    }
+}

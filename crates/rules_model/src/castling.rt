@@ -101,13 +101,14 @@ fn kingside_rook(rules: &Rules, cells: &Cells, side: Side) -> Option<u8>
     ensures is { result ≡ last_below (Castling.rook_beyond rules.now cells.now side Kingside) rules.now.files }
     ensures on_board { IfSome result (λ f. f < rules.now.files) }
 {
-    let mut found = None;
-    for file in 0..rules.files {
-        if file > rules.castle_king && rook_on(rules, cells, side, file) {
-            found = Some(file);
+    let mut above = rules.files;
+    while above > 0 {
+        above -= 1;
+        if above > rules.castle_king && rook_on(rules, cells, side, above) {
+            return Some(above);
         }
     }
-    found
+    None
 }
 
 /// The file of the first castling rook on the queenside.

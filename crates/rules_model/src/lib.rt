@@ -21,7 +21,7 @@ pub mod soundness;
 pub use attacks::{attacks_plain, is_attacked, king_attacked};
 pub use board::{
     Blocked, Board, Cell, Cells, FILES, KINDS, Kind, Position, RANKS, Region, Repeat, SQUARES,
-    Side, Square, Wing, repeat_of,
+    Side, Square, Wing, cell_at, repeat_of,
 };
 pub use equal::{is_same_repeat, repeats};
 pub use moves::{Cause, Move, MoveList, Outcome, Placed, Promo, Value};

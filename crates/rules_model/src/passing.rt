@@ -3,22 +3,12 @@ ghost use Rattle.std.specs.Prelude.{◌≡◌};
 ghost use Rattle.rules_model.specs.Fit.{IsFit};
 ghost use Rattle.rules_model.specs.Pawns as Pawns;
 ghost use Rattle.rules_model.specs.Repeats.{repeat_of};
-ghost use Rattle.rules_model.specs.Squares as Squares;
 
 use crate::attacks::{is_diagonal, is_own_pawn};
-use crate::board::{Cell, Cells, Position, Square};
+use crate::board::{Position, Square, cell_at};
 use crate::kinds::board_of;
+use crate::moves::Promo;
 use crate::rules::Rules;
-
-/// What stands on the square.
-pub fn cell_at(cells: &Cells, at: Square) -> Option<Cell>
-    ensures { result ≡ Squares.cell_at cells.now at.0 }
-{
-    match cells.get(at.0 as usize) {
-        Some(cell) => *cell,
-        None => None,
-    }
-}
 
 /// Whether the square is the one of en passant.
 pub fn is_ep(ep: Option<Square>, to: Square) -> bool
@@ -27,6 +17,17 @@ pub fn is_ep(ep: Option<Square>, to: Square) -> bool
     match ep {
         None => false,
         Some(ep) => ep.0 == to.0,
+    }
+}
+
+/// Whether what moves ends its move as it is.
+pub fn is_stays(promo: Promo) -> bool
+    ensures { result ≡ Pawns.is_stays promo }
+{
+    match promo {
+        Promo::Stays => true,
+        Promo::Pawn(_) => false,
+        Promo::Plus => false,
     }
 }
 

@@ -3,7 +3,7 @@ ghost use Rattle.std.specs.Prelude.{◌≡◌, ◌<◌, length, true};
 ghost use Rattle.rules_model.specs.Repeats.{repeat_of};
 ghost use Rattle.rules_model.specs.Sizes.{HasSizes, has_sizes};
 
-use crate::board::{KINDS, Position};
+use crate::board::{Cells, KINDS, Position, Region};
 use crate::rules::Rules;
 
 fn hand_size(hand: &[u8; KINDS])
@@ -30,6 +30,20 @@ pub fn position_sizes(p: &Position)
     hand_size(&p.hands[1]);
     rights_size(&p.rights[0]);
     rights_size(&p.rights[1]);
+}
+
+/// A board has 120 squares.
+pub fn board_size(cells: &Cells)
+    ensures { length cells.now ≡ 120 }
+{
+    let _first = cells[0];
+}
+
+/// A region has a place for each of the 120 squares.
+pub fn region_size(region: &Region)
+    ensures { length region.now.squares ≡ 120 }
+{
+    let _first = region.squares[0];
 }
 
 /// Rules have a place for each letter.
