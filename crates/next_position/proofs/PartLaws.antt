@@ -12,11 +12,12 @@ use Rattle.rules_model.specs.declared.moves.Move.{Move}
 use Rattle.rules_model.specs.declared.moves.Move.TheVariants.{Go, Castle, Drop}
 use Rattle.rules_model.specs.declared.rules.Rules.{Rules}
 use Rattle.rules_model.specs.Repeats.{repeat_of}
+use Rattle.rules_model.specs.Attacks.{king_attacked}
 use Rattle.rules_model.specs.Sides.{other}
 use Rattle.rules_model.specs.Regions.{castling_square}
 use Rattle.rules_model.specs.Castling.{holds_right, rook_file}
 use Rattle.rules_model.specs.Next.{cells_after, checks_after, enters, ep_after, ep_where, gates_after, hands_after, is_double_step, keeps_right, leaves, next, next_counter, next_number, next_repeat, rights_after, rook_stays}
-use Rattle.next_position.specs.Parts.{cells_by, checks_by, gates_by, hands_by, is_outermost, is_passing, passed_over, rights_by, rook_left, rooks_left, standing, taken_by}
+use Rattle.next_position.specs.Parts.{cells_by, checks_left, gates_by, hands_by, is_outermost, is_passing, passed_over, rights_by, rook_left, rooks_left, standing, taken_by}
 
 pub cells_after-by : (rules : Rules) (r : Repeat) (m : Move) → cells_after rules r m ≡ cells_by rules r.side (is_passing rules r m) m r.cells
 unfolding cells_after
@@ -33,10 +34,6 @@ hands_after-by rules r (Drop kind to) = refl
 pub gates_after-by : (rules : Rules) (r : Repeat) (m : Move) → gates_after rules r m ≡ gates_by rules m r.gates
 unfolding gates_after
 gates_after-by rules r m = refl
-
-pub checks_after-by : (rules : Rules) (r : Repeat) (later : List (Option Cell)) → checks_after rules r later ≡ checks_by rules r.side later r.checks
-unfolding checks_after
-checks_after-by rules r later = refl
 
 -- ---- the en passant square
 
@@ -79,10 +76,23 @@ rights_after-by rules r m later =
 
 -- ---- the position
 
-pub next-by : (rules : Rules) (p q : Position) (m : Move) → q.cells ≡ cells_after rules (repeat_of p) m → q.hands ≡ hands_after rules (repeat_of p) m → q.gates ≡ gates_after rules (repeat_of p) m → q.counter ≡ next_counter rules (repeat_of p) m p.counter → q.number ≡ next_number p.side p.number → q.rights ≡ rights_after rules (repeat_of p) m q.cells → q.checks ≡ checks_after rules (repeat_of p) q.cells → q.ep ≡ ep_after rules (repeat_of p) m q.cells → q.side ≡ other p.side → q ≡ next rules p m
+-- all but the checks left
+pub but_checks-by : (rules : Rules) (p q : Position) (m : Move) → q.cells ≡ cells_after rules (repeat_of p) m → q.hands ≡ hands_after rules (repeat_of p) m
+    → q.gates ≡ gates_after rules (repeat_of p) m → q.counter ≡ next_counter rules (repeat_of p) m p.counter → q.number ≡ next_number p.side p.number
+    → q.rights ≡ rights_after rules (repeat_of p) m q.cells → q.checks ≡ p.checks → q.ep ≡ ep_after rules (repeat_of p) m q.cells → q.side ≡ other p.side
+    → q ≡ record (next rules p m) { checks = p.checks }
 unfolding next next_repeat
-next-by rules p q m cells hands gates counter number rights checks ep side =
+but_checks-by rules p q m cells hands gates counter number rights checks ep side =
     let rights' : q.rights ≡ rights_after rules (repeat_of p) m (cells_after rules (repeat_of p) m) = rights ∙ ap (rights_after rules (repeat_of p) m) cells in
-    let checks' : q.checks ≡ checks_after rules (repeat_of p) (cells_after rules (repeat_of p) m) = checks ∙ ap (checks_after rules (repeat_of p)) cells in
     let ep' : q.ep ≡ ep_after rules (repeat_of p) m (cells_after rules (repeat_of p) m) = ep ∙ ap (ep_after rules (repeat_of p) m) cells in
-    λ i. record { cells = cells i; hands = hands i; gates = gates i; counter = counter i; number = number i; rights = rights' i; checks = checks' i; ep = ep' i; side = side i }
+    λ i. record { cells = cells i; hands = hands i; gates = gates i; counter = counter i; number = number i; rights = rights' i; checks = checks i; ep = ep' i; side = side i }
+
+-- the checks besides
+pub next-by : (rules : Rules) (p q : Position) (m : Move) (gives : Bool) → q ≡ record (next rules p m) { checks = p.checks }
+    → gives ≡ (rules.check_counting && king_attacked rules q.cells (other p.side)) → record q { checks = checks_left gives p.side q.checks } ≡ next rules p m
+unfolding next next_repeat checks_after
+next-by rules p q m gives same is =
+    let Counts = λ (cells : List (Option Cell)). rules.check_counting && king_attacked rules cells (other p.side) in
+    let given : gives ≡ Counts (cells_after rules (repeat_of p) m) = is ∙ ap (λ q'. Counts q'.cells) same in
+    let Left : Bool → Position → Position = λ b q'. record q' { checks = checks_left b p.side q'.checks } in
+    ap (Left gives) same ∙ ap (λ b. Left b (record (next rules p m) { checks = p.checks })) given

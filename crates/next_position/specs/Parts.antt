@@ -14,10 +14,10 @@ use Rattle.rules_model.specs.declared.rules.Rules.{Rules}
 use Rattle.next_position.specs.declared.rights.Rooks.{Rooks}
 use Rattle.rules_model.specs.Squares.{cell_at}
 use Rattle.rules_model.specs.Reach.{is_at}
-use Rattle.rules_model.specs.Sides.{other, side_index}
+use Rattle.rules_model.specs.Sides.{side_index}
 use Rattle.rules_model.specs.Kinds.{board_of}
 use Rattle.rules_model.specs.Regions.{castling_square}
-use Rattle.rules_model.specs.Attacks.{ahead, king_attacked}
+use Rattle.rules_model.specs.Attacks.{ahead}
 use Rattle.rules_model.specs.Hands.{put_down, put_at_gate}
 use Rattle.rules_model.specs.Castling.{holds_right, rook_file}
 use Rattle.rules_model.specs.Pawns.{behind, passes_by}
@@ -99,6 +99,6 @@ passed_over rules r (Go from to promo gate) =
 passed_over rules r (Castle from to rook gate) = None
 passed_over rules r (Drop kind to) = None
 
-abbrev pub checks_by : Rules → Side → List (Option Cell) → List ℕ → List ℕ
-checks_by rules side later checks =
-    if rules.check_counting && king_attacked rules later (other side) then slice_set checks (side_index side) (slice_index checks (side_index side) - 1) else checks
+-- the checks that both sides have still to give, once the side has given one that counts, or none
+abbrev pub checks_left : Bool → Side → List ℕ → List ℕ
+checks_left gives side checks = if gives then slice_set checks (side_index side) (slice_index checks (side_index side) - 1) else checks

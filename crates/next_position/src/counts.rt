@@ -1,9 +1,11 @@
 //! The counts after a move: plies, the number of the move and the checks left.
-ghost use Rattle.std.specs.Prelude.{◌≡◌};
+ghost use Rattle.std.specs.Prelude.{◌≡◌, ◌&&◌};
+ghost use Rattle.rules_model.specs.Attacks.{king_attacked};
 ghost use Rattle.rules_model.specs.Fit.{IsFit};
 ghost use Rattle.rules_model.specs.Moves.{IsFitMove};
 ghost use Rattle.rules_model.specs.Next as Next;
 ghost use Rattle.rules_model.specs.Repeats.{repeat_of};
+ghost use Rattle.rules_model.specs.Sides.{other};
 ghost use Rattle.next_position.specs.Parts as Parts;
 
 use rules_model::attacks::king_attacked;
@@ -63,12 +65,19 @@ pub(crate) fn number(side: Side, number: u16) -> u16
     }
 }
 
-/// Takes one from the checks that the side has still to give, where checks count and it attacks the other king.
-pub(crate) fn give_check(rules: &Rules, cells: &Cells, side: Side, checks: &mut [u8; 2])
+/// Whether the side gives a check that counts, by the pieces after its move.
+pub(crate) fn is_counted(rules: &Rules, cells: &Cells, side: Side) -> bool
     requires { IsFit rules.now }
-    ensures { checks.new ≡ Parts.checks_by rules.now side cells.now checks.old }
+    ensures { result ≡ (rules.now.check_counting && king_attacked rules.now cells.now (other side)) }
 {
-    if rules.check_counting && king_attacked(rules, cells, side.other()) {
-        checks[side.index()] = checks[side.index()].saturating_sub(1);
+    rules.check_counting && king_attacked(rules, cells, side.other())
+}
+
+/// Takes one from the checks that the side has still to give, if it gives one that counts.
+pub fn count_check(p: &mut Position, side: Side, gives: bool)
+    ensures { p.new ≡ record p.old { checks = Parts.checks_left gives side p.old.checks } }
+{
+    if gives {
+        p.checks[side.index()] = p.checks[side.index()].saturating_sub(1);
     }
 }

@@ -20,6 +20,7 @@ mod rights;
 #[cfg(test)]
 mod tests;
 
+pub use counts::count_check;
 pub use pieces::{behind, fresh, gated, promote};
 use rules_model::{Cells, Move, Position, Rules, Side};
 
@@ -36,13 +37,13 @@ pub fn move_pieces(rules: &Rules, p: &Position, m: &Move, cells: &mut Cells)
     pieces::write(rules, p.side, passing, m, cells);
 }
 
-/// Makes the move: pieces, hands, rights, gates, the checks left, the en passant square, both counts and the side to move
-/// are those of the position after it.
-pub fn make_move(rules: &Rules, p: &mut Position, m: &Move)
+/// Makes the move: pieces, hands, rights, gates, the en passant square, both counts and the side to move are those of the position
+/// after it. The checks left stay those before it: where the variant counts them, `count_check` does the rest.
+pub fn make_but_checks(rules: &Rules, p: &mut Position, m: &Move)
     requires rules { IsFit rules.now }
     requires fit { IsFitMove m.now }
     requires room { HasRoom p.old }
-    ensures { p.new ≡ Next.next rules.now p.old m.now }
+    ensures { p.new ≡ record (Next.next rules.now p.old m.now) { checks = p.old.checks } }
 {
     let side = p.side;
     let passing = passing::is_passing(rules, p, m);
@@ -59,9 +60,22 @@ pub fn make_move(rules: &Rules, p: &mut Position, m: &Move)
         rights::kept(rules, &p.cells, Side::White, white),
         rights::kept(rules, &p.cells, Side::Black, black),
     ];
-    counts::give_check(rules, &p.cells, side, &mut p.checks);
     p.ep = passing::ep_square(rules, &p.cells, side, passed);
     p.side = side.other();
+}
+
+/// Makes the move: pieces, hands, rights, gates, the checks left, the en passant square, both counts and the side to move
+/// are those of the position after it.
+pub fn make_move(rules: &Rules, p: &mut Position, m: &Move)
+    requires rules { IsFit rules.now }
+    requires fit { IsFitMove m.now }
+    requires room { HasRoom p.old }
+    ensures { p.new ≡ Next.next rules.now p.old m.now }
+{
+    let side = p.side;
+    make_but_checks(rules, p, m);
+    let gives = counts::is_counted(rules, &p.cells, side);
+    count_check(p, side, gives);
 }
 
 /// A sound position has room for every move.

@@ -9,7 +9,7 @@ ghost use Rattle.next_position.specs.Parts as Parts;
 
 use rules_model::attacks::{ahead, is_own_pawn, pawn_could_take};
 use rules_model::kinds::board_of;
-use rules_model::passing::passes_by;
+use rules_model::passing::{is_stays, passes_by};
 use rules_model::reach::is_target;
 use rules_model::{Cells, Move, Position, Promo, Rules, Side, Square};
 
@@ -23,16 +23,6 @@ pub(crate) fn is_passing(rules: &Rules, p: &Position, m: &Move) -> bool
         Move::Go { from, to, .. } => passes_by(rules, p, from, to),
         Move::Castle { .. } => false,
         Move::Drop { .. } => false,
-    }
-}
-
-fn is_stays(promo: Promo) -> bool
-    ensures { result ≡ Pawns.is_stays promo }
-{
-    match promo {
-        Promo::Stays => true,
-        Promo::Pawn(_) => false,
-        Promo::Plus => false,
     }
 }
 

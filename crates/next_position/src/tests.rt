@@ -83,6 +83,23 @@ fn leads_to<R: Abort>(rt: &R, rules: &Rules, p: &Position, m: &Move, next: &Posi
     assert!(rt; made == *next);
 }
 
+#[test]
+fn checks_are_counted_last(rt: HostRuntime) {
+    let rules = generals();
+    let mut p = rules.start;
+    assert!(rt; sound(&rules, &p));
+    sound_positions_have_room();
+    make_but_checks(&rules, &mut p, &quiet("a1", "a8"));
+    assert_eq!(rt; (p.side, p.checks), (Side::Black, [3, 3]));
+    count_check(&mut p, Side::White, false);
+    assert_eq!(rt; p.checks, [3, 3]);
+    count_check(&mut p, Side::White, true);
+    assert_eq!(rt; p.checks, [2, 3]);
+    p.checks = [0, 3];
+    count_check(&mut p, Side::White, true);
+    assert_eq!(rt; p.checks, [0, 3]);
+}
+
 // The gates of the rooks and of the king are those of the files a, e and h.
 const A: u16 = 1;
 

@@ -1,25 +1,7 @@
--- Each part of the position is what its function says of the position before the move.
-use Rattle.std.proofs.Common.{◌∙◌, ap, sym}
-use Rattle.rules_model.specs.Repeats.{repeat_of}
-use Rattle.rules_model.specs.Next.{ep_where}
-use Rattle.next_position.specs.Parts.{cells_by, hands_by}
-use Rattle.next_position.proofs.PartLaws.{cells_after-by, checks_after-by, ep_after-by, gates_after-by, hands_after-by, next-by, rights_after-by}
+-- The next position but for the checks left, and then these.
+use Rattle.std.proofs.Common.{◌∙◌}
+use Rattle.next_position.proofs.PartLaws.{next-by}
 use Rattle.next_position.proofs.make_move.Goals as goal
 
 pub returns : goal.returns
-returns c =
-    let rules = c.args.rules.now in
-    let p = c.args.p.now in
-    let r = repeat_of c.args.p.now in
-    let m = c.args.m.now in
-    let later = c.write.new.cells in
-    next-by rules p _ m
-    (c.write.ensures ∙ ap (λ b. cells_by rules p.side b m p.cells) c.is_passing-passing.ensures ∙ sym (cells_after-by rules r m))
-    (c.change.ensures ∙ ap (λ t. hands_by rules p.side t m p.hands) c.taken-taken.ensures ∙ sym (hands_after-by rules r m))
-    (c.close.ensures ∙ sym (gates_after-by rules r m))
-    c.counter-p.ensures
-    c.number-p.ensures
-    (rw (c.kept.ensures, c.kept-2.ensures, c.rooks_left-white.ensures, c.rooks_left-black.ensures) (sym (rights_after-by rules r m later)))
-    (c.give_check.ensures ∙ sym (checks_after-by rules r later))
-    (c.ep_square-p.ensures ∙ ap (ep_where rules p.side later) c.passed_over-passed.ensures ∙ sym (ep_after-by rules r m later))
-    c.other-p.ensures
+returns c = c.count_check.ensures ∙ next-by c.args.rules.now c.args.p.now c.make_but_checks.new.p c.args.m.now c.is_counted-gives.result c.make_but_checks.ensures c.is_counted-gives.ensures
