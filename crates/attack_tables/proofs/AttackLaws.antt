@@ -19,11 +19,11 @@ use Rattle.square_set.specs.declared.Set.{Set}
 use Rattle.square_set.specs.Members.{has}
 use Rattle.square_set.proofs.Cases.{by_bool, by_order}
 use Rattle.move_tables.specs.declared.mode.Mode.TheVariants.{Take}
-use Rattle.move_tables.specs.Occupied.{AreKings, AreMen, IsOccupied}
+use Rattle.move_tables.specs.Occupied.{AreKings, AreMen, IsOccupied, OnSquares}
 use Rattle.move_tables.specs.Reached.{reaches_as}
 use Rattle.move_tables.proofs.ReachLaws.{reach_beyond}
 use Rattle.attack_tables.specs.declared.sight.Sight.{Sight}
-use Rattle.attack_tables.specs.Boards.{HoldsMen, IsBoardBy, OnSquares}
+use Rattle.attack_tables.specs.Boards.{HoldsMen, IsBoardBy}
 use Rattle.attack_tables.specs.Sights.{IsSightOf, sees}
 use Rattle.attack_tables.proofs.MaskLaws.{from_man, from_none}
 use Rattle.attack_tables.proofs.SightLaws.{seen}

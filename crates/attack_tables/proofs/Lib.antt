@@ -1,3 +1,4 @@
+pub mod AlikeLaws
 pub mod MaskLaws
 pub mod SightLaws
 pub mod AttackLaws

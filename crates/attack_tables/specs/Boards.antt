@@ -1,5 +1,5 @@
 -- A board as it is known by its sets of squares. After a move these are no longer those of the cells from which the sets were made.
-use Rattle.std.specs.Prelude.{◌≡◌, ℕ, ◌<◌, true, Option, List}
+use Rattle.std.specs.Prelude.{◌≡◌, ℕ, true, Option, List}
 use Rattle.rules_model.specs.declared.board.Cell.{Cell}
 use Rattle.rules_model.specs.declared.board.Side.{Side}
 use Rattle.rules_model.specs.Attacks.{is_own}
@@ -11,10 +11,6 @@ use Rattle.move_tables.specs.Occupied.{IsOccupied, AreMen}
 -- on the squares of the set the cells hold pieces of the side
 abbrev pub HoldsMen : Side → List (Option Cell) → Set → Type 0
 HoldsMen side cells men = (s : ℕ) → has men s ≡ true → is_own side (λ kind. true) (cell_at cells s) ≡ true
-
--- the squares of the set are squares of the largest board
-abbrev pub OnSquares : Set → Type 0
-OnSquares set = (s : ℕ) → has set s ≡ true → s < 120
 
 -- the board has pieces on the occupied squares; those of the side are on the squares of its men, and they are the ones that the cells hold
 -- there. What stands on the other squares of the cells does not matter

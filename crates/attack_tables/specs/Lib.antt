@@ -1,4 +1,5 @@
 pub mod Boards
+pub mod Goals
 pub mod Masks
 pub mod PawnSpots
 pub mod Sights

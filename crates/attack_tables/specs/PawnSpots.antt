@@ -1,14 +1,15 @@
 -- Where a pawn may go from a square, as far as the rules alone tell.
-use Rattle.std.specs.Prelude.{◌≡◌, ℕ, ◌/◌, ◌%◌, ◌<◌, Bool, true, false, ◌&&◌, ◌||◌, List, slice_index_or, length}
+use Rattle.std.specs.Prelude.{◌≡◌, ℕ, ℤ, ◌/◌, ◌%◌, ◌<◌, Bool, true, false, ◌&&◌, ◌||◌, List, slice_index_or, length}
 use Rattle.std.specs.Bool.{OnTrue}
 use Rattle.rules_model.specs.declared.board.Side.{Side}
 use Rattle.rules_model.specs.declared.board.Square.{Square}
 use Rattle.rules_model.specs.declared.rules.Rules.{Rules}
-use Rattle.rules_model.specs.Attacks.{ahead, is_diagonal}
+use Rattle.rules_model.specs.Attacks.{ahead, is_diagonal, pawn_ray}
 use Rattle.rules_model.specs.Kinds.{board_of}
 use Rattle.rules_model.specs.Pawns.{may_promote}
 use Rattle.rules_model.specs.Reach.{is_at}
 use Rattle.rules_model.specs.Regions.{in_region}
+use Rattle.rules_model.specs.Squares.{step_to}
 use Rattle.square_set.specs.declared.Set.{Set}
 use Rattle.square_set.specs.Members.{has}
 use Rattle.move_tables.specs.Spots.{side_of}
@@ -16,7 +17,12 @@ use Rattle.attack_tables.specs.declared.pawns.PawnSpot.{PawnSpot}
 
 -- the square of two steps, where the pawn stands in the double-step region
 abbrev pub two_ahead : Rules → Side → Square → ℕ → Bool
-two_ahead rules side from t = rules.double_step && in_region rules.double_region side from.0 && is_at t (ahead (board_of rules) side from 2)
+two_ahead rules side from t =
+    rules.double_step && in_region rules.double_region side from.0 && is_at t (ahead (board_of rules) side from 2)
+
+-- the square one step forward and so many files to the right, as the side sees it
+abbrev pub one_aside : Rules → Side → ℤ → Square → ℕ → Bool
+one_aside rules side dx from t = is_at t (step_to (pawn_ray (board_of rules) side dx from) 1)
 
 -- a pawn promotes on none of these squares
 abbrev pub PromotesNowhere : Rules → Side → Set → Type 0

@@ -1,6 +1,7 @@
 //! What a piece reaches and what a side attacks in a position, by tables that are made once for the rules of a variant.
 #![tactic(auto)]
 
+mod alike;
 mod masks;
 pub mod pawns;
 pub mod sight;

@@ -5,7 +5,6 @@ ghost use Rattle.rules_model.specs.Attacks as Attacks;
 ghost use Rattle.rules_model.specs.Fit.{IsFit};
 ghost use Rattle.rules_model.specs.Kinds as Kinds;
 ghost use Rattle.rules_model.specs.Reach.{is_at};
-ghost use Rattle.rules_model.specs.Squares.{step_to};
 ghost use Rattle.square_set.specs.Members.{has};
 ghost use Rattle.attack_tables.specs.PawnSpots as Pawns;
 
@@ -57,7 +56,7 @@ fn two_ahead(rules: &Rules, side: Side, from: Square) -> Set
 /// The square one step forward and `dx` files to the right, as the side sees it.
 fn one_aside(rules: &Rules, side: Side, dx: i8, from: Square) -> Set
     requires fit { IsFit rules.now }
-    ensures { (t : ℕ) → has result t ≡ is_at t (step_to (Attacks.pawn_ray (Kinds.board_of rules.now) side dx from) 1) }
+    ensures { (t : ℕ) → has result t ≡ Pawns.one_aside rules.now side dx from t }
 {
     let diagonal = Term {
         dx,

@@ -1,27 +1,33 @@
 //! What a variant's pieces reach and attack.
-ghost use Rattle.std.specs.Prelude.{◌≡◌, ℕ, ◌<◌, ◌≤◌, true, false, ◌||◌, List, Option, length, IfOk};
+ghost use Rattle.std.specs.Prelude.{◌≡◌, ℕ, ◌<◌, ◌≤◌, true, false, ◌||◌, List, Option, IfOk};
+ghost use Rattle.std.specs.Bool.{OnTrue};
 ghost use Rattle.foundation.specs.Count.{any_below};
 ghost use Rattle.rules_model.specs.declared.board.Cell.{Cell};
 ghost use Rattle.rules_model.specs.Attacks as Rule;
+ghost use Rattle.rules_model.specs.Castling as Castling;
 ghost use Rattle.rules_model.specs.Fit.{IsFit};
 ghost use Rattle.rules_model.specs.Sides.{other};
 ghost use Rattle.rules_model.specs.Squares.{cell_at};
 ghost use Rattle.square_set.specs.Members.{has};
-ghost use Rattle.move_tables.specs.declared.mode.Mode.TheVariants.{Take};
-ghost use Rattle.move_tables.specs.Occupied.{IsOccupied, AreKings};
+ghost use Rattle.move_tables.specs.declared.mode.Mode.TheVariants.{Quiet, Take};
+ghost use Rattle.move_tables.specs.Occupied.{IsOccupied, AreKings, OnSquares};
 ghost use Rattle.move_tables.specs.Reached as Reached;
 ghost use Rattle.move_tables.specs.Spots as Spots;
-ghost use Rattle.attack_tables.specs.Boards.{HoldsMen, OnSquares, IsBoardBy};
+ghost use Rattle.attack_tables.specs.Boards.{HoldsMen, IsBoardBy};
+ghost use Rattle.attack_tables.specs.Goals as Goals;
 ghost use Rattle.attack_tables.specs.Masks.{IsMaskBelow};
 ghost use Rattle.attack_tables.specs.PawnSpots.{IsPawnSpot};
 ghost use Rattle.attack_tables.specs.Sights.{IsSightOf};
 
+use crate::alike::alike_kinds;
 use crate::masks::{masks, place_of};
 use crate::pawns::{PawnSpot, pawn_spots};
 use crate::sight::{Sight, sights};
 use foundation::Memory;
 use move_tables::{Mode, MoveTables, Spot, kings, men, occupied};
 use rules_model::attacks::is_own_king;
+use rules_model::castling::castling_on;
+use rules_model::sizes::board_size;
 use rules_model::{Cell, Kind, Position, Rules, Side, Square};
 use square_set::{EMPTY, Set};
 use std::alloc::Global;
@@ -34,11 +40,16 @@ pub struct Tables {
     masks: Vec<Set>,
     sights: Vec<Sight>,
     pawns: Vec<PawnSpot>,
+    alike: Vec<bool>,
+    castling: bool,
 }
 
 impl Model for Tables {
     ghost use Rattle.rules_model.specs.declared.rules.Rules.{Rules};
+    ghost use Rattle.std.specs.Prelude.{◌≡◌};
+    ghost use Rattle.rules_model.specs.Castling.{castling_on};
     ghost use Rattle.rules_model.specs.Fit.{IsFit};
+    ghost use Rattle.attack_tables.specs.Goals.{AreAlike};
     ghost use Rattle.attack_tables.specs.Masks.{AreMasks};
     ghost use Rattle.attack_tables.specs.PawnSpots.{ArePawnSpots};
     ghost use Rattle.attack_tables.specs.Sights.{AreSights};
@@ -47,7 +58,9 @@ impl Model for Tables {
 
     ghost view = { λ t. t.moves };
 
-    ghost invariant = { λ t. IsFit t.moves × AreMasks t.moves t.masks.items × AreSights t.sights.items × ArePawnSpots t.moves t.pawns.items };
+    ghost invariant = { λ t.
+        IsFit t.moves × AreMasks t.moves t.masks.items × AreSights t.sights.items × ArePawnSpots t.moves t.pawns.items
+        × AreAlike t.moves t.alike.items × (t.castling ≡ castling_on t.moves) };
 }
 
 /// What stands on the square.
@@ -56,13 +69,6 @@ pub fn cell_on(cells: &[Option<Cell>; 120], at: u8) -> Option<Cell>
     ensures { result ≡ cell_at cells.now at }
 {
     cells[at as usize]
-}
-
-/// A board has 120 squares.
-fn board_size(cells: &[Option<Cell>; 120])
-    ensures { length cells.now ≡ 120 }
-{
-    let _first = cells[0];
 }
 
 impl Tables {
@@ -77,11 +83,15 @@ impl Tables {
         let masks = masks(alloc, &moves)?;
         let sights = sights(alloc)?;
         let pawns = pawn_spots(alloc, rules)?;
+        let alike = alike_kinds(alloc, rules)?;
+        let castling = castling_on(rules);
         Ok(Tables {
             moves,
             masks,
             sights,
             pawns,
+            alike,
+            castling,
         })
     }
 
@@ -91,6 +101,13 @@ impl Tables {
         ensures fit { IsFit self.now }
     {
         self.moves.rules()
+    }
+
+    /// Whether the variant has castling.
+    pub fn castling_on(&self) -> bool
+        ensures { result ≡ Castling.castling_on self.now }
+    {
+        self.castling
     }
 
     /// What the kind of the side reaches from the square in the mode, on each board.
@@ -115,9 +132,44 @@ impl Tables {
     pub fn reach_set(&self, by: Side, kind: Kind, from: Square, mode: Mode, occupied: Set) -> Set
         requires kind { kind.0 < 26 }
         requires from { from.0 < 120 }
-        ensures { (cells : List (Option Cell)) → IsOccupied occupied cells → (s : ℕ) → has result s ≡ Reached.reaches_as self.now cells by kind from mode s }
+        ensures { Goals.AreReached self.now by kind from mode occupied result }
     {
         self.moves.reach_set(by, kind, from, mode, occupied)
+    }
+
+    /// Whether it is known that a piece of the kind reaches the same squares quietly and to take.
+    fn is_alike(&self, kind: Kind) -> bool
+        requires { kind.0 < 26 }
+        ensures { OnTrue result (Goals.IsAlike self.now kind) }
+    {
+        self.alike[kind.0 as usize]
+    }
+
+    /// The squares that are reached quietly, where these are the ones that are reached to take.
+    fn quiet_set(&self, by: Side, kind: Kind, from: Square, occupied: Set, takes: Set) -> Set
+        requires kind { kind.0 < 26 }
+        requires from { from.0 < 120 }
+        requires takes { Goals.AreReached self.now by kind from Take occupied takes }
+        ensures { Goals.AreReached self.now by kind from Quiet occupied result }
+    {
+        if self.is_alike(kind) {
+            takes
+        } else {
+            self.reach_set(by, kind, from, Mode::Quiet, occupied)
+        }
+    }
+
+    /// The squares to which a piece of the kind and the side goes from the square, on a board whose occupied squares are
+    /// those of the set: those that are not occupied and that it reaches quietly, and those of the enemies' that it
+    /// reaches to take. No memory is taken.
+    pub fn goals(&self, by: Side, kind: Kind, from: Square, occupied: Set, enemies: Set) -> Set
+        requires kind { kind.0 < 26 }
+        requires from { from.0 < 120 }
+        ensures { Goals.AreGoals self.now by kind from occupied enemies result }
+    {
+        let takes = self.reach_set(by, kind, from, Mode::Take, occupied);
+        let quiet = self.quiet_set(by, kind, from, occupied, takes);
+        quiet.minus(occupied).or(takes.and(enemies))
     }
 
     /// The same for a piece of any kind on any square: one that the variant cannot have reaches nothing.
@@ -155,7 +207,8 @@ impl Tables {
         to.0 < 128 && reached.has(to.0)
     }
 
-    /// The squares from which a piece of the side may ever take on the square: from no other does it on any board.
+    /// Squares outside of which no piece of the side takes on the square on any board; there may be more of them than
+    /// needed.
     pub fn takers(&self, by: Side, at: Square) -> Set
         requires { at.0 < 120 }
         ensures { IsMaskBelow self.now by 120 at.0 result }
@@ -172,11 +225,11 @@ impl Tables {
     }
 
     /// Where a pawn of the side may go from the square.
-    pub fn pawn_spot(&self, side: Side, from: Square) -> PawnSpot
+    pub fn pawn_spot(&self, side: Side, from: Square) -> &PawnSpot
         requires { from.0 < 120 }
-        ensures { IsPawnSpot self.now side from result }
+        ensures { IsPawnSpot self.now side from result.now }
     {
-        self.pawns[place_of(side, from.0)]
+        &self.pawns[place_of(side, from.0)]
     }
 
     /// Whether the kind takes on the square.

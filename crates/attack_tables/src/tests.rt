@@ -1,10 +1,10 @@
-ghost use Rattle.std.specs.Prelude.{◌<◌};
+ghost use Rattle.std.specs.Prelude.{◌≤◌, ◌<◌};
 ghost use Rattle.rules_model.specs.Fit.{IsFit};
 
 use super::*;
 use foundation::Memory;
 use rules_model::{Position, Rules, Side, Square};
-use sample_rules::{chess, position, square, xiangqi};
+use sample_rules::{chess, kind, position, square, xiangqi};
 use square_set::{EMPTY, Set};
 use std::alloc::Global;
 use std::process::Abort;
@@ -217,4 +217,60 @@ fn a_move_opens_and_closes_lines(rt: HostRuntime) -> Result<(), Memory> {
     ];
     expect_after(&rt, rt.alloc(), &chess(), &chess_rows)?;
     expect_after(&rt, rt.alloc(), &xiangqi(), &xiangqi_rows)
+}
+
+/// A piece of the kind on the square goes to these squares, where these are occupied, the last ones by enemies.
+fn expect_goals(
+    rt: &impl Abort,
+    tables: &Tables,
+    letter: u8,
+    from: &str,
+    own: &[&str],
+    enemies: &[&str],
+    goals: &[&str],
+)
+    requires low { 97 ≤ letter }
+    requires high { letter < 123 }
+{
+    let enemies = set_of(enemies);
+    let occupied = set_of(own).or(enemies);
+    let found = tables.goals(Side::White, kind(letter), square(from), occupied, enemies);
+    assert_eq!(rt; found, set_of(goals), "{from}");
+}
+
+// A rook takes the first enemy and stops before the first own piece; a pawn only takes.
+#[test]
+fn a_chess_piece_goes_where_it_takes(rt: HostRuntime) -> Result<(), Memory> {
+    let tables = Tables::new(rt.alloc(), &chess())?;
+    let goals = ["b1", "c1", "a2", "a3", "a4"];
+    expect_goals(
+        &rt,
+        &tables,
+        b'r',
+        "a1",
+        &["a1", "d1"],
+        &["a4", "a6"],
+        &goals,
+    );
+    expect_goals(&rt, &tables, b'p', "e4", &["e4"], &["d5"], &["d5"]);
+    assert!(rt; tables.castling_on());
+    Ok(())
+}
+
+// A cannon goes like a rook, and takes over one piece alone.
+#[test]
+fn a_cannon_does_not(rt: HostRuntime) -> Result<(), Memory> {
+    let tables = Tables::new(rt.alloc(), &xiangqi())?;
+    let goals = ["a2", "a3", "b1", "c1", "a7"];
+    expect_goals(
+        &rt,
+        &tables,
+        b'c',
+        "a1",
+        &["a1", "a4", "d1"],
+        &["a7", "a9"],
+        &goals,
+    );
+    assert!(rt; !tables.castling_on());
+    Ok(())
 }

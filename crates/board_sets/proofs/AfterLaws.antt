@@ -5,6 +5,7 @@ use Rattle.std.proofs.lemmas.List.{length-set}
 use Rattle.rules_model.specs.declared.board.Cell.{Cell}
 use Rattle.rules_model.specs.declared.board.Kind.{Kind}
 use Rattle.rules_model.specs.declared.board.Repeat.{Repeat}
+use Rattle.rules_model.specs.declared.board.Side.{Side}
 use Rattle.rules_model.specs.declared.board.Square.{Square}
 use Rattle.rules_model.specs.declared.moves.Move.TheVariants.{Go, Castle, Drop}
 use Rattle.rules_model.specs.declared.moves.Placed.{Placed}
@@ -37,6 +38,14 @@ passed_size rules r from to size =
 castled_size : (cells : List (Option Cell)) (from to rook : Square) → length cells ≡ 120 → length (castled cells from to rook) ≡ 120
 castled_size cells from to rook size =
     same_size _ (rook_target from to rook) (cell_at cells rook.0) (same_size _ to.0 (cell_at cells from.0) (same_size _ rook.0 None (same_size cells from.0 None size)))
+
+-- the sets after four writes
+pub four_writes : (rules : Rules) (side : Side) (cells : List (Option Cell)) (a b c d : ℕ) (u v w x : Option Cell) (old one two three four : BoardSets) → length cells ≡ 120 → AreSets rules side cells old → AreSetsAfter rules side old (λ cells. slice_set cells a u) one → AreSetsAfter rules side one (λ cells. slice_set cells b v) two → AreSetsAfter rules side two (λ cells. slice_set cells c w) three → AreSetsAfter rules side three (λ cells. slice_set cells d x) four → AreSets rules side (slice_set (slice_set (slice_set (slice_set cells a u) b v) c w) d x) four
+four_writes rules side cells a b c d u v w x old one two three four size are first second third last =
+    let k = same_size cells a u size in
+    let l = same_size (slice_set cells a u) b v k in
+    let m = same_size (slice_set (slice_set cells a u) b v) c w l in
+    last (slice_set (slice_set (slice_set cells a u) b v) c w) m (third (slice_set (slice_set cells a u) b v) l (second (slice_set cells a u) k (first cells size are)))
 
 -- ---- the moves
 

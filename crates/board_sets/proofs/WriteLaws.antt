@@ -16,7 +16,7 @@ use Rattle.square_set.specs.Members.{has}
 use Rattle.square_set.proofs.Cases.{by_bool, by_equal}
 use Rattle.move_tables.proofs.BuildLaws.{beyond, member_step, other_step}
 use Rattle.board_sets.specs.declared.sets.BoardSets.{BoardSets}
-use Rattle.board_sets.specs.Sets.{AreSets, AreSetsAfter}
+use Rattle.board_sets.specs.Sets.{AreSets, AreSetsAfter, is_any_pawn}
 use Rattle.board_sets.specs.Written.{AreWith, AreWithout}
 
 -- ---- a square is written
@@ -52,6 +52,7 @@ put_sets rules side at c old mid new l m n cells size are =
       enemies = λ s. written (is_own (other side) (λ kind. true)) cells at c s (has old.enemies s) (has mid.enemies s) (has new.enemies s) k (are.enemies s) (m.enemies s) (n.enemies s);
       kings = λ s. written (is_own_king rules side) cells at c s (has old.kings s) (has mid.kings s) (has new.kings s) k (are.kings s) (m.kings s) (n.kings s);
       enemy_kings = λ s. written (is_own_king rules (other side)) cells at c s (has old.enemy_kings s) (has mid.enemy_kings s) (has new.enemy_kings s) k (are.enemy_kings s) (m.enemy_kings s) (n.enemy_kings s);
+      pawns = λ s. written (is_any_pawn rules) cells at c s (has old.pawns s) (has mid.pawns s) (has new.pawns s) k (are.pawns s) (m.pawns s) (n.pawns s);
     }
 
 -- ---- the squares below one are read
@@ -73,6 +74,7 @@ pub record AreBelow (rules : Rules) (side : Side) (cells : List (Option Cell)) (
   pub enemies : IsBelow (is_own (other side) (λ kind. true)) cells at sets.enemies
   pub kings : IsBelow (is_own_king rules side) cells at sets.kings
   pub enemy_kings : IsBelow (is_own_king rules (other side)) cells at sets.enemy_kings
+  pub pawns : IsBelow (is_any_pawn rules) cells at sets.pawns
 
 -- one square more, of one set
 read : (f : Option Cell → Bool) (cells : List (Option Cell)) (at s : ℕ) (old new : Bool) → old ≡ (nat_lt s at && f (cell_at cells s)) → new ≡ (old || (f (cell_at cells at) && (s == at))) → new ≡ (nat_lt s (at + 1) && f (cell_at cells s))
@@ -88,6 +90,7 @@ below_more rules side cells at old new are n =
       enemies = λ s. read (is_own (other side) (λ kind. true)) cells at s (has old.enemies s) (has new.enemies s) (are.enemies s) (n.enemies s);
       kings = λ s. read (is_own_king rules side) cells at s (has old.kings s) (has new.kings s) (are.kings s) (n.kings s);
       enemy_kings = λ s. read (is_own_king rules (other side)) cells at s (has old.enemy_kings s) (has new.enemy_kings s) (are.enemy_kings s) (n.enemy_kings s);
+      pawns = λ s. read (is_any_pawn rules) cells at s (has old.pawns s) (has new.pawns s) (are.pawns s) (n.pawns s);
     }
 
 pub all_read : (rules : Rules) (side : Side) (cells : List (Option Cell)) (at : ℕ) (sets : BoardSets) → length cells ≤ at → AreBelow rules side cells at sets → AreSets rules side cells sets
@@ -97,4 +100,5 @@ all_read rules side cells at sets l are =
       enemies = λ s. are.enemies s ∙ beyond (is_own (other side) (λ kind. true)) refl cells s at l;
       kings = λ s. are.kings s ∙ beyond (is_own_king rules side) refl cells s at l;
       enemy_kings = λ s. are.enemy_kings s ∙ beyond (is_own_king rules (other side)) refl cells s at l;
+      pawns = λ s. are.pawns s ∙ beyond (is_any_pawn rules) refl cells s at l;
     }

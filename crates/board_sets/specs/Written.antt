@@ -8,6 +8,7 @@ use Rattle.rules_model.specs.Sides.{other}
 use Rattle.square_set.specs.declared.Set.{Set}
 use Rattle.square_set.specs.Members.{has, IsWithout}
 use Rattle.board_sets.specs.declared.sets.BoardSets.{BoardSets}
+use Rattle.board_sets.specs.Sets.{is_any_pawn}
 
 -- the new set has the squares of the old one, and this one besides where it is wanted
 abbrev pub IsWith : Set → ℕ → Bool → Set → Type 0
@@ -19,6 +20,7 @@ pub record AreWith (rules : Rules) (side : Side) (old : BoardSets) (at : ℕ) (c
   pub enemies : IsWith old.enemies at (is_own (other side) (λ kind. true) cell) new.enemies
   pub kings : IsWith old.kings at (is_own_king rules side cell) new.kings
   pub enemy_kings : IsWith old.enemy_kings at (is_own_king rules (other side) cell) new.enemy_kings
+  pub pawns : IsWith old.pawns at (is_any_pawn rules cell) new.pawns
 
 -- the square is in none of the sets
 pub record AreWithout (old : BoardSets) (at : ℕ) (new : BoardSets) : Type 0 where
@@ -26,3 +28,4 @@ pub record AreWithout (old : BoardSets) (at : ℕ) (new : BoardSets) : Type 0 wh
   pub enemies : IsWithout old.enemies at new.enemies
   pub kings : IsWithout old.kings at new.kings
   pub enemy_kings : IsWithout old.enemy_kings at new.enemy_kings
+  pub pawns : IsWithout old.pawns at new.pawns

@@ -1,16 +1,13 @@
 //! The sets of a board's pieces, and what they become once a square is written.
-ghost use Rattle.std.specs.Prelude.{◌≡◌, ℕ, ◌<◌, true, length, slice_set, List, Option};
-ghost use Rattle.rules_model.specs.declared.board.Cell.{Cell};
-ghost use Rattle.rules_model.specs.declared.board.Side.{Side};
-ghost use Rattle.rules_model.specs.declared.rules.Rules.{Rules};
+ghost use Rattle.std.specs.Prelude.{◌≡◌, ℕ, ◌<◌, true, slice_set};
 ghost use Rattle.rules_model.specs.Attacks.{is_own};
-ghost use Rattle.rules_model.specs.Sides.{other};
 ghost use Rattle.square_set.specs.Members.{has};
-ghost use Rattle.move_tables.specs.Occupied.{IsOccupied};
-ghost use Rattle.board_sets.specs.Sets.{AreSets, AreSetsAfter, AreOnBoard};
+ghost use Rattle.board_sets.specs.Sets.{AreSets, AreSetsAfter, AreTurned, IsOccupiedBy, SetsStayOnBoard};
+ghost use Rattle.board_sets.specs.Sets.{HoldsPawns, HoldsPieces, is_any_pawn};
 ghost use Rattle.board_sets.specs.Written.{IsWith, AreWith, AreWithout};
 
 use rules_model::attacks::is_own_king;
+use rules_model::kinds::names;
 use rules_model::{Cell, Cells, Rules, Side, Square};
 use square_set::{EMPTY, Set};
 
@@ -25,6 +22,8 @@ pub struct BoardSets {
     pub kings: Set,
     /// The kings of the other side.
     pub enemy_kings: Set,
+    /// The pawns of both sides.
+    pub pawns: Set,
 }
 
 const NONE: BoardSets = BoardSets {
@@ -32,6 +31,7 @@ const NONE: BoardSets = BoardSets {
     enemies: EMPTY,
     kings: EMPTY,
     enemy_kings: EMPTY,
+    pawns: EMPTY,
 };
 
 fn is_man(side: Side, cell: Option<Cell>) -> bool
@@ -40,6 +40,16 @@ fn is_man(side: Side, cell: Option<Cell>) -> bool
     match cell {
         None => false,
         Some(cell) => cell.side.is(side),
+    }
+}
+
+/// Whether a pawn stands there, of either side.
+fn is_pawn(rules: &Rules, cell: Option<Cell>) -> bool
+    ensures { result ≡ is_any_pawn rules.now cell }
+{
+    match cell {
+        None => false,
+        Some(cell) => names(rules.pawn, cell.kind),
     }
 }
 
@@ -66,20 +76,37 @@ pub fn sets_of(rules: &Rules, cells: &Cells, side: Side) -> BoardSets
 impl BoardSets {
     /// The squares with a piece.
     pub fn occupied(&self) -> Set
-        ensures { (rules : Rules) (side : Side) (cells : List (Option Cell)) → AreSets rules side cells self.now → IsOccupied result cells }
+        ensures { IsOccupiedBy self.now result }
     {
         self.own.or(self.enemies)
     }
 
+    /// The squares of the own pieces but the pawns.
+    pub fn own_pieces(&self) -> Set
+        ensures are { HoldsPieces self.now result }
+        ensures within { (s : ℕ) → has result s ≡ true → has self.now.own s ≡ true }
+    {
+        self.own.minus(self.pawns)
+    }
+
+    /// The squares of the own pawns.
+    pub fn own_pawns(&self) -> Set
+        ensures are { HoldsPawns self.now result }
+        ensures within { (s : ℕ) → has result s ≡ true → has self.now.own s ≡ true }
+    {
+        self.own.and(self.pawns)
+    }
+
     /// The sets of the same board for the other side.
     pub fn turned(self) -> BoardSets
-        ensures { (rules : Rules) (side : Side) (cells : List (Option Cell)) → AreSets rules side cells self → AreSets rules (other side) cells result }
+        ensures { AreTurned self result }
     {
         BoardSets {
             own: self.enemies,
             enemies: self.own,
             kings: self.enemy_kings,
             enemy_kings: self.kings,
+            pawns: self.pawns,
         }
     }
 
@@ -93,6 +120,7 @@ impl BoardSets {
             enemies: self.enemies.without(at),
             kings: self.kings.without(at),
             enemy_kings: self.enemy_kings.without(at),
+            pawns: self.pawns.without(at),
         }
     }
 
@@ -109,6 +137,7 @@ impl BoardSets {
             enemies: with_if(self.enemies, at, is_man(side.other(), cell)),
             kings: with_if(self.kings, at, is_own_king(rules, side, cell)),
             enemy_kings: with_if(self.enemy_kings, at, is_own_king(rules, side.other(), cell)),
+            pawns: with_if(self.pawns, at, is_pawn(rules, cell)),
         }
     }
 
@@ -126,5 +155,5 @@ impl BoardSets {
 
 /// The squares of the sets are squares of the largest board.
 pub fn sets_are_on_board()
-    ensures { (rules : Rules) (side : Side) (cells : List (Option Cell)) (sets : BoardSets) → length cells ≡ 120 → AreSets rules side cells sets → AreOnBoard sets }
+    ensures { SetsStayOnBoard }
 {}

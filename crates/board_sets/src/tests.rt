@@ -93,6 +93,9 @@ fn sets_are_those_of_the_board(rt: HostRuntime) {
     assert_eq!(rt; white.enemies, set_of(&["d8", "d5", "h5"]));
     assert_eq!(rt; white.kings, set_of(&["e1", "e5"]));
     assert_eq!(rt; white.enemy_kings, set_of(&["d8"]));
+    assert_eq!(rt; white.pawns, set_of(&["e4", "d5"]));
+    assert_eq!(rt; white.own_pawns(), set_of(&["e4"]));
+    assert_eq!(rt; white.own_pieces(), set_of(&["e1", "e5"]));
     assert_eq!(rt;
         white.occupied(),
         set_of(&["e1", "e4", "e5", "d8", "d5", "h5"])
@@ -143,6 +146,28 @@ fn sets_follow_a_move(rt: HostRuntime) {
         &["d8"],
         &["d2"],
     );
+}
+
+/// The pawns of both sides are on these squares after the move, where d6 is the en passant square.
+fn leaves_pawns<R: Abort>(rt: &R, pieces: &str, m: &Move, pawns: &[&str])
+    requires { IsFitMove m.now }
+{
+    let rules = shouse();
+    let p = Position {
+        ep: Some(square("d6")),
+        ..position(pieces)
+    };
+    let sets = sets_of(&rules, &p.cells, p.side).after(&rules, &p, m);
+    assert_eq!(rt; sets.pawns, set_of(pawns), "{m:?}");
+}
+
+// A pawn that is taken in passing is gone, one that promotes is none, and one that is dropped is there.
+#[test]
+fn pawns_follow_a_move(rt: HostRuntime) {
+    leaves_pawns(&rt, "Ke1 Pe5 kd8 pd5", &quiet("e5", "d6"), &["d6"]);
+    let king = go("a7", "a8", Promo::Pawn(kind(b'k')), None);
+    leaves_pawns(&rt, "Ke1 Pa7 Ph2 kd8", &king, &["h2"]);
+    leaves_pawns(&rt, "Ke1 kd8 pd5", &drop_of(b'p', "h4"), &["d5", "h4"]);
 }
 
 // A pawn becomes a king; a hand piece comes in at the king's gate, and at the rook's as it castles; a pawn is dropped.

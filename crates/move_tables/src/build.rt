@@ -72,7 +72,7 @@ fn spot_of_terms(
 }
 
 /// The terms of the kind.
-fn terms_of(rules: &Rules, kind: Kind) -> &[Term]
+pub fn terms_of(rules: &Rules, kind: Kind) -> &[Term]
     ensures { result.now ≡ Kinds.terms_of rules.now kind }
 {
     match rules.kinds.get(kind.0 as usize) {

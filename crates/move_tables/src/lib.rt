@@ -16,6 +16,7 @@ pub mod tables;
 #[cfg(test)]
 mod tests;
 
+pub use build::terms_of;
 pub use jump::Jump;
 pub use line::{Line, Passage};
 pub use mode::Mode;

@@ -1,21 +1,15 @@
 //! The mobility regions of a variant's kinds, as sets.
-ghost use Rattle.std.specs.Prelude.{◌≡◌, ℕ, ◌<◌, length, IfOk};
+ghost use Rattle.std.specs.Prelude.{◌≡◌, ℕ, ◌<◌, IfOk};
 ghost use Rattle.rules_model.specs.Movement.{in_mobility};
 ghost use Rattle.square_set.specs.Members.{has};
 ghost use Rattle.move_tables.specs.Spots as Spots;
 
 use crate::build::side_of;
 use foundation::Memory;
+use rules_model::sizes::region_size;
 use rules_model::{Kind, Region, Rules, Side};
 use square_set::{EMPTY, Set};
 use std::alloc::Global;
-
-/// A region has 120 squares.
-fn region_size(region: &Region)
-    ensures { length region.now.squares ≡ 120 }
-{
-    let _first = region.squares[0];
-}
 
 fn is_of(region: &Region, at: u8) -> bool
     requires { at < 120 }

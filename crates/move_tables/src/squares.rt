@@ -1,19 +1,13 @@
 //! The squares of a board's pieces, as sets.
-ghost use Rattle.std.specs.Prelude.{◌≡◌, ◌<◌, true, is_some, length};
+ghost use Rattle.std.specs.Prelude.{◌≡◌, ◌<◌, true, is_some};
 ghost use Rattle.rules_model.specs.Attacks.{is_own, is_own_king};
 ghost use Rattle.rules_model.specs.Squares.{cell_at};
 ghost use Rattle.move_tables.specs.Occupied.{IsOccupied, AreMen, AreKings};
 
 use rules_model::kinds::names;
+use rules_model::sizes::board_size;
 use rules_model::{Cell, Rules, Side};
 use square_set::{EMPTY, Set};
-
-/// A board has 120 squares.
-fn board_size(cells: &[Option<Cell>; 120])
-    ensures { length cells.now ≡ 120 }
-{
-    let _first = cells[0];
-}
 
 fn is_piece(cells: &[Option<Cell>; 120], at: u8) -> bool
     requires { at < 120 }

@@ -1,11 +1,6 @@
 //! The order of moves.
 ghost use Rattle.std.specs.Prelude.{◌≡◌, slice_index};
-ghost use Rattle.std.specs.Ordering.{nat_cmp};
-ghost use Rattle.std.specs.Cmp.Lexicographic.{slice_cmp};
-ghost use Rattle.rules_model.specs.declared.moves.Move.{Move};
-ghost use Rattle.rules_model.specs.Moves.{IsFitMove};
-ghost use Rattle.rules_model.specs.MoveText.{text_of};
-ghost use Rattle.move_text.specs.Keys.{key_of, with_digits};
+ghost use Rattle.move_text.specs.Keys.{KeysAreInOrder, key_of, with_digits};
 
 use crate::text::write_move;
 use rules_model::Move;
@@ -38,7 +33,8 @@ pub fn move_key(m: &Move) -> u64
     number_of(write_move(m).items.as_slice())
 }
 
-/// Two moves on the largest board compare by their keys as their texts do byte by byte: a text has at most 8 bytes, and none is 0.
+/// Two moves on the largest board compare by their keys as their texts do byte by byte: a text has at most 8 bytes, and
+/// none is 0.
 pub fn keys_are_in_the_order_of_texts()
-    ensures { (a b : Move) → IsFitMove a → IsFitMove b → nat_cmp (key_of a) (key_of b) ≡ slice_cmp nat_cmp (text_of a) (text_of b) }
+    ensures { KeysAreInOrder }
 {}

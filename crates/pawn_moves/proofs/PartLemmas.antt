@@ -11,7 +11,7 @@ use Rattle.rules_model.specs.declared.moves.Move.TheVariants.{Go, Castle, Drop}
 use Rattle.rules_model.specs.declared.moves.Promo.{Promo}
 use Rattle.rules_model.specs.declared.moves.Promo.TheVariants.{Stays, Pawn, Plus}
 use Rattle.rules_model.specs.declared.rules.Rules.{Rules}
-use Rattle.rules_model.specs.Attacks.{ahead, pawn_ray, right_ahead, left_ahead, is_diagonal, is_own, is_own_pawn}
+use Rattle.rules_model.specs.Attacks.{ahead, pawn_ray, right_ahead, left_ahead, is_diagonal, is_own_pawn}
 use Rattle.rules_model.specs.Candidates.{own_pawn_moves}
 use Rattle.rules_model.specs.Fit.{IsFit}
 use Rattle.rules_model.specs.Kinds.{board_of, is_pawn, masks, names}
@@ -23,7 +23,7 @@ use Rattle.rules_model.specs.Squares.{step_to, cell_at}
 use Rattle.rules_model.proofs.CandidateLaws.{at_some, not_both}
 use Rattle.square_set.specs.declared.Set.{Set}
 use Rattle.square_set.specs.Members.{has}
-use Rattle.move_tables.specs.Occupied.{AreMen}
+use Rattle.board_sets.specs.Sets.{AreOwnPawns}
 use Rattle.move_sink.specs.InTurn.{At, start_of}
 use Rattle.move_sink.specs.Taking.{TakesAll, TakesSome}
 use Rattle.move_sink.proofs.TakingLemmas.{all-same, some-within}
@@ -307,10 +307,6 @@ same_square : (a : Square) (s : ℕ) → a.0 ≡ s → a ≡ record { 0 = s }
 same_square a s e = λ i. record { 0 = e i }
 
 module _ (rules : Rules) (r : Repeat) where
-  -- no own pawn is there
-  pub own-none : (from : Square) → is_own_pawn rules r.side (cell_at r.cells from.0) ≡ false → (m : Move) → IsOwnMoveFrom rules r from m → ⊥
-  own-none from e m h = not_both (is_own_pawn rules r.side (cell_at r.cells from.0)) h.0 e
-
   -- ---- the fit moves
 
   own_moves : (o : Option Cell) (a b : Square) (promo : Promo) → own_pawn_moves rules r a b promo o ≡ (is_own_pawn rules r.side o && pawn_moves rules r a b promo)
@@ -332,14 +328,10 @@ module _ (rules : Rules) (r : Repeat) where
   own_there (Castle a b rook gate) h = let e = h.1 in cc
   own_there (Drop kind b) h = let e = h.1 in cc
 
-  pawn_is_man : (o : Option Cell) → is_own_pawn rules r.side o ≡ true → is_own r.side (λ kind. true) o ≡ true
-  pawn_is_man None e = e
-  pawn_is_man (Some c) e = ap (λ b. b && true) (and_parts (same_side c.side r.side) (is_pawn rules c.kind) e).0
+  pub from_pawn : (pawns : Set) → AreOwnPawns rules r.side r.cells pawns → (m : Move) → FitPawnMoves rules r m → has pawns (start_of m) ≡ true
+  from_pawn pawns are m h = are (start_of m) ∙ own_there m h
 
-  pub from_man : (men : Set) → AreMen r.side r.cells men → (m : Move) → FitPawnMoves rules r m → has men (start_of m) ≡ true
-  from_man men are m h = are (start_of m) ∙ pawn_is_man (cell_at r.cells (start_of m)) (own_there m h)
-
-  module _ (from : Square) (l : from.0 < 120) where
+  module _ (from : Square) (l : from.0 < 120) (own : is_own_pawn rules r.side (cell_at r.cells from.0) ≡ true) where
     fit_there : (m : Move) → IsOwnMoveFrom rules r from m → At (FitPawnMoves rules r) start_of from.0 m
     fit_there m h =
         let to = h.1.0 in
@@ -356,11 +348,11 @@ module _ (rules : Rules) (r : Repeat) where
     there_fit (Castle a b rook gate) h = let e = h.0.1 in cc
     there_fit (Drop kind b) h = let e = h.0.1 in cc
 
-    pub fit-at : {S : Type 0} (takes : S → List Move → S → Type 0) (s t : S) → TakesAll takes (IsOwnMoveFrom rules r from) s t → TakesAll takes (At (FitPawnMoves rules r) start_of from.0) s t
-    fit-at takes s t a = all-same takes (IsOwnMoveFrom rules r from) (At (FitPawnMoves rules r) start_of from.0) s t a fit_there there_fit
+    pub fit-at : {S : Type 0} (takes : S → List Move → S → Type 0) (s t : S) → TakesAll takes (IsMoveFrom rules r from) s t → TakesAll takes (At (FitPawnMoves rules r) start_of from.0) s t
+    fit-at takes s t a = all-same takes (IsMoveFrom rules r from) (At (FitPawnMoves rules r) start_of from.0) s t a (λ m h. fit_there m (own, h)) (λ m h. (there_fit m h).1)
 
-    pub fit-some : {S : Type 0} (stops : S → List Move → S → Type 0) (s t : S) → TakesSome stops (IsOwnMoveFrom rules r from) s t → TakesSome stops (At (FitPawnMoves rules r) start_of from.0) s t
-    fit-some stops s t a = some-within stops (IsOwnMoveFrom rules r from) (At (FitPawnMoves rules r) start_of from.0) s t a fit_there
+    pub fit-some : {S : Type 0} (stops : S → List Move → S → Type 0) (s t : S) → TakesSome stops (IsMoveFrom rules r from) s t → TakesSome stops (At (FitPawnMoves rules r) start_of from.0) s t
+    fit-some stops s t a = some-within stops (IsMoveFrom rules r from) (At (FitPawnMoves rules r) start_of from.0) s t a (λ m h. fit_there m (own, h))
 
   -- ---- without the chess pawn
 

@@ -10,9 +10,9 @@ ghost use Rattle.pawn_moves.specs.PawnMoves.{is_pawn_move};
 use crate::pawn::{becomes, is_enemy, may_promote, may_step_twice};
 use rules_model::attacks::{ahead, is_diagonal, is_own_pawn};
 use rules_model::kinds::board_of;
-use rules_model::passing::{cell_at, passes_by};
+use rules_model::passing::passes_by;
 use rules_model::reach::is_target;
-use rules_model::{Cell, Cells, Move, Position, Promo, Rules, Square};
+use rules_model::{Cell, Cells, Move, Position, Promo, Rules, Square, cell_at};
 
 fn steps_twice(rules: &Rules, p: &Position, from: Square, to: Square) -> bool
     requires fit { IsFit rules.now }

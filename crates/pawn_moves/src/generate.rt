@@ -10,14 +10,14 @@ ghost use Rattle.rules_model.specs.Repeats.{repeat_of};
 ghost use Rattle.rules_model.specs.Squares.{cell_at};
 ghost use Rattle.board_sets.specs.Sets.{AreSets};
 ghost use Rattle.pawn_moves.specs.Parts as Parts;
-ghost use Rattle.pawn_moves.specs.Parts.{IsChosen, IsPromotion, IsMoveTo, IsAhead, IsAside, IsStep, IsTake, IsMoveFrom, IsOwnMoveFrom};
+ghost use Rattle.pawn_moves.specs.Parts.{IsChosen, IsPromotion, IsMoveTo, IsAhead, IsAside, IsStep, IsTake, IsMoveFrom};
 ghost use Rattle.pawn_moves.specs.PawnMoves.{FitPawnMoves};
 
 use crate::pawn::{Flank, becomes, diagonal, is_enemy_on, may_step_twice, promotes, targets};
 use attack_tables::Tables;
 use board_sets::{BoardSets, sets_are_on_board};
 use move_sink::MoveSink;
-use rules_model::attacks::{ahead, pawn_at};
+use rules_model::attacks::ahead;
 use rules_model::kinds::{board_of, masks};
 use rules_model::passing::is_ep;
 use rules_model::sizes::position_sizes;
@@ -191,7 +191,9 @@ fn push_takes<S: MoveSink>(
     push_aside(rules, p, from, Flank::Left, out)
 }
 
-/// Gives the sink the moves of the own pawn on the square one by one.
+/// Gives the sink the moves of the own pawn on the square one by one. It is kept out of the loop over the pawns, of which few
+/// come here.
+#[inline(never)]
 fn push_each<S: MoveSink>(
     rules: &Rules,
     p: &Position,
@@ -244,29 +246,6 @@ fn push_pawn<S: MoveSink>(
     out.take_all(from, None, targets(spot, sets))
 }
 
-/// Gives the sink the moves from the square.
-fn push_from<S: MoveSink>(
-    rules: &Rules,
-    tables: &Tables,
-    p: &Position,
-    sets: &BoardSets,
-    from: Square,
-    out: &mut S,
-) -> Result<(), S::Full>
-    requires fit { IsFit rules.now }
-    requires tables { tables.now ≡ rules.now }
-    requires sets { AreSets rules.now p.now.side p.now.cells sets.now }
-    requires from { from.0 < 120 }
-    ensures ok { OnOk result (TakesAll S.takes (IsOwnMoveFrom rules.now (repeat_of p.now) from) out.old out.new) }
-    ensures err { OnErr result (TakesSome S.stops (IsOwnMoveFrom rules.now (repeat_of p.now) from) out.old out.new) }
-{
-    if pawn_at(rules, &p.cells, p.side, Some(from.0)) {
-        push_pawn(rules, tables, p, sets, from, out)
-    } else {
-        Ok(())
-    }
-}
-
 /// Gives the sink the moves of the own pawns, each once and in no special order: those for which `is_candidate` answers
 /// yes. After an error it took some of them, each at most once.
 pub fn push_moves<S: MoveSink>(
@@ -287,9 +266,9 @@ pub fn push_moves<S: MoveSink>(
     }
     position_sizes(p);
     sets_are_on_board();
-    let mut left = sets.own;
+    let mut left = sets.own_pawns();
     while let Some(from) = left.take_first() {
-        push_from(rules, tables, p, sets, Square(from), out)?;
+        push_pawn(rules, tables, p, sets, Square(from), out)?;
     }
     Ok(())
 }

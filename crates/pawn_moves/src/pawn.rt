@@ -13,6 +13,7 @@ use attack_tables::PawnSpot;
 use board_sets::BoardSets;
 use rules_model::attacks::ahead;
 use rules_model::kinds::{board_of, in_region, masks, names_any};
+use rules_model::passing::is_stays;
 use rules_model::reach::{step, term_ray};
 use rules_model::soundness::is_free;
 use rules_model::{Cell, Position, Promo, Rules, Side, Square, Term, Way};
@@ -107,16 +108,6 @@ fn pawn_promo(rules: &Rules, may: bool, promo: Promo) -> bool
     }
 }
 
-fn is_stays(promo: Promo) -> bool
-    ensures { result ≡ Pawns.is_stays promo }
-{
-    match promo {
-        Promo::Stays => true,
-        Promo::Pawn(_) => false,
-        Promo::Plus => false,
-    }
-}
-
 /// Whether a pawn may end its move so, on a square where it may promote or not, to which it goes or on which it passes
 /// another pawn.
 pub(crate) fn becomes(rules: &Rules, may: bool, goes: bool, passes: bool, promo: Promo) -> bool
@@ -126,8 +117,8 @@ pub(crate) fn becomes(rules: &Rules, may: bool, goes: bool, passes: bool, promo:
 }
 
 /// The squares to which the own pawn goes, which stands where the spot is.
-pub(crate) fn targets(spot: PawnSpot, sets: &BoardSets) -> Set
-    ensures { AreTargets spot sets.now result }
+pub(crate) fn targets(spot: &PawnSpot, sets: &BoardSets) -> Set
+    ensures { AreTargets spot.now sets.now result }
 {
     let occupied = sets.occupied();
     let one = spot.one.minus(occupied);

@@ -9,6 +9,7 @@ use Rattle.rules_model.specs.declared.board.Square.{Square}
 use Rattle.rules_model.specs.declared.moves.Promo.{Promo}
 use Rattle.rules_model.specs.declared.rules.Rules.{Rules}
 use Rattle.rules_model.specs.declared.rules.Term.{Term}
+use Rattle.rules_model.specs.Attacks.{is_own}
 use Rattle.rules_model.specs.Candidates.{own_piece_moves}
 use Rattle.rules_model.specs.Kinds.{board_of, is_pawn}
 use Rattle.rules_model.specs.Movement.{in_mobility, kind_reaches, reaches_by, terms_from}
@@ -50,6 +51,11 @@ own rules side (Some x) c e =
       side_is = sym (ap (λ y. y.side) h.2) ∙ same x.side side h.0;
       piece = sym (ap (λ y. is_pawn rules y.kind) h.2) ∙ h.1;
     }
+
+-- what stands on a square of which it is known that an own piece is there, and no pawn
+pub there : (rules : Rules) (side : Side) (o : Option Cell) (c : Cell) → o ≡ Some c → is_own side (λ kind. not (is_pawn rules kind)) o ≡ true → own_piece rules side o ≡ Some c
+there rules side None c e h = cc
+there rules side (Some x) c e h = ap (λ b. if b then Some x else None) h ∙ e
 
 chosen : (rules : Rules) (r : Repeat) (from to : Square) (promo : Promo) (c : Cell) (b d : Bool) → (b && not d && piece_moves rules r c from to promo) ≡ makes rules r (if b && not d then Some c else None) from to promo
 chosen rules r from to promo c true true = refl

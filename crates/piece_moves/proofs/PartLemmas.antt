@@ -21,6 +21,7 @@ use Rattle.rules_model.proofs.CandidateLaws.{not_both}
 use Rattle.square_set.specs.declared.Set.{Set}
 use Rattle.square_set.specs.Members.{has}
 use Rattle.move_tables.specs.Occupied.{AreMen}
+use Rattle.board_sets.specs.Sets.{AreOwnPieces}
 use Rattle.move_sink.specs.InTurn.{At, start_of, target_of}
 use Rattle.move_sink.specs.Taking.{IsSink, TakesAll, TakesSome}
 use Rattle.move_sink.proofs.TakingLemmas.{all-none, all-one, all-join, all-same, some-behind, some-within}
@@ -166,13 +167,17 @@ module _ (rules : Rules) (r : Repeat) where
   man_there men are from gate (Castle f t rook g) h = absurd h
   man_there men are from gate (Drop kind t) h = absurd h
 
-  -- each starts from one of the own men
-  pub from_man : (men : Set) → AreMen r.side r.cells men → (m : Move) → FitPieceMoves rules r m → has men (start_of m) ≡ true
+  by_piece : (o : Option Cell) (from to : Square) (promo : Promo) → own_piece_moves rules r from to promo o ≡ true → is_own r.side (λ kind. not (is_pawn rules kind)) o ≡ true
+  by_piece None from to promo e = e
+  by_piece (Some c) from to promo e = (and_parts (same_side c.side r.side && not (is_pawn rules c.kind)) (piece_moves rules r c from to promo) e).0
+
+  -- each starts from one of the own pieces that are not the pawn
+  pub from_piece : (pieces : Set) → AreOwnPieces rules r.side r.cells pieces → (m : Move) → FitPieceMoves rules r m → has pieces (start_of m) ≡ true
   unfolding is_piece_move
-  from_man men are (Go f t promo None) h = are f.0 ∙ by_own (cell_at r.cells f.0) f t promo h.1
-  from_man men are (Go f t promo (Some kind)) h = let e = h.1 in cc
-  from_man men are (Castle f t rook g) h = let e = h.1 in cc
-  from_man men are (Drop kind t) h = let e = h.1 in cc
+  from_piece pieces are (Go f t promo None) h = are f.0 ∙ by_piece (cell_at r.cells f.0) f t promo h.1
+  from_piece pieces are (Go f t promo (Some kind)) h = let e = h.1 in cc
+  from_piece pieces are (Castle f t rook g) h = let e = h.1 in cc
+  from_piece pieces are (Drop kind t) h = let e = h.1 in cc
 
   module _ (from : Square) (l : from.0 < 120) where
     fit_there : (m : Move) → IsMoveFrom rules r from None m → At (FitPieceMoves rules r) start_of from.0 m

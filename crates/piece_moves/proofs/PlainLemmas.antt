@@ -14,11 +14,12 @@ use Rattle.rules_model.specs.Candidates.{own_piece_moves}
 use Rattle.rules_model.specs.Kinds.{names, promoted_of}
 use Rattle.rules_model.specs.Pieces.{piece_goes, piece_promo, may_plus, means_castling}
 use Rattle.rules_model.specs.Squares.{cell_at}
+use Rattle.rules_model.proofs.CandidateLaws.{not_both}
 use Rattle.square_set.specs.declared.Set.{Set}
 use Rattle.square_set.specs.Members.{has}
 use Rattle.move_sink.specs.InTurn.{GoesTo, target_of}
-use Rattle.move_sink.specs.Taking.{TakesAll, TakesSome}
-use Rattle.move_sink.proofs.TakingLemmas.{all-same, some-within}
+use Rattle.move_sink.specs.Taking.{IsSink, TakesAll, TakesSome}
+use Rattle.move_sink.proofs.TakingLemmas.{all-none, all-same, some-within}
 use Rattle.piece_moves.specs.Goals.{own_piece}
 use Rattle.piece_moves.specs.Parts.{IsMoveFrom}
 use Rattle.piece_moves.specs.Plain.{is_plain}
@@ -78,6 +79,10 @@ module _ (rules : Rules) (r : Repeat) (piece : Cell) (from : Square) (gate : Opt
         moves_is rules r piece from to gate own Stays
             ∙ whole (piece_goes rules r.cells r.side piece.kind from to.0) _ (means_castling rules r piece.kind from.0 to.0) (sym (are to.0) ∙ h.1) (stays_may to.0) (castles_not to.0),
       )
+
+  -- it goes nowhere
+  pub plain-none : {S : Type 0} {takes stops : S → List Move → S → Type 0} (sink : IsSink takes stops) (s : S) → ((k : ℕ) → has targets k ≡ false) → TakesAll takes (IsMoveFrom rules r from gate) s s
+  plain-none sink s none = all-none sink (IsMoveFrom rules r from gate) s (λ m h. not_both (has targets (target_of m)) (to_goes m h).1 (none (target_of m)))
 
   pub plain-all : {S : Type 0} (takes : S → List Move → S → Type 0) (s t : S) → ((k : ℕ) → has targets k ≡ true → k < 120) → TakesAll takes (GoesTo from gate targets) s t → TakesAll takes (IsMoveFrom rules r from gate) s t
   plain-all takes s t small a = all-same takes (GoesTo from gate targets) (IsMoveFrom rules r from gate) s t a (from_goes small) to_goes

@@ -18,6 +18,7 @@ use Rattle.move_tables.specs.declared.mode.Mode.TheVariants.{Quiet, Take}
 use Rattle.move_tables.specs.Occupied.{AreMen, IsOccupied}
 use Rattle.move_tables.specs.Reached.{reaches_as, reaches_in}
 use Rattle.move_tables.proofs.ReachLaws.{no_kind, reach_beyond}
+use Rattle.attack_tables.specs.Goals.{is_goal}
 use Rattle.piece_moves.specs.Goals.{own_piece, lands}
 use Rattle.piece_moves.proofs.GoalLemmas.{own, goes_is}
 
@@ -64,9 +65,9 @@ module _ (rules : Rules) (cells : List (Option Cell)) (side : Side) (from : Squa
   goes_as : (s : ℕ) → piece_goes rules cells side c.kind from s ≡ lands side (cell_at cells s) (reaches_as rules cells side c.kind from Quiet s) (reaches_as rules cells side c.kind from Take s)
   goes_as s = goes_is rules cells side from s c is ∙ rw (reached Quiet s, reached Take s) refl
 
-  pub targets_go : (quiet takes occupied enemies : Set) (s : ℕ) → has quiet s ≡ reaches_as rules cells side c.kind from Quiet s → has takes s ≡ reaches_as rules cells side c.kind from Take s → IsOccupied occupied cells → AreMen (other side) cells enemies → ((has quiet s && not (has occupied s)) || (has takes s && has enemies s)) ≡ piece_goes rules cells side c.kind from s
-  targets_go quiet takes occupied enemies s q t all men =
-      rw (all s, men s, q, t, goes_as s)
+  pub targets_go : (occupied enemies : Set) (s : ℕ) → IsOccupied occupied cells → AreMen (other side) cells enemies → is_goal rules cells side c.kind from occupied enemies s ≡ piece_goes rules cells side c.kind from s
+  targets_go occupied enemies s all men =
+      rw (all s, men s, goes_as s)
       (landing side (cell_at cells s) (reaches_as rules cells side c.kind from Quiet s) (reaches_as rules cells side c.kind from Take s))
 
   nowhere : (o : Option Cell) → lands side o false false ≡ false

@@ -1,18 +1,22 @@
 //! The moves, given in turn.
-ghost use Rattle.std.specs.Prelude.{◌≡◌, ◌<◌, true, OnOk, OnErr};
+ghost use Rattle.std.specs.Prelude.{◌≡◌, ◌<◌, true, not, None, OnOk, OnErr};
 ghost use Rattle.move_sink.specs.Taking.{TakesAll, TakesSome};
 ghost use Rattle.rules_model.specs.declared.moves.Move.TheVariants.{Go};
+ghost use Rattle.rules_model.specs.Attacks.{is_own};
 ghost use Rattle.rules_model.specs.Fit.{IsFit};
+ghost use Rattle.rules_model.specs.Kinds.{is_pawn};
 ghost use Rattle.rules_model.specs.Pieces as Pieces;
 ghost use Rattle.rules_model.specs.Repeats.{repeat_of};
+ghost use Rattle.rules_model.specs.Squares.{cell_at};
 ghost use Rattle.board_sets.specs.Sets.{AreSets};
 ghost use Rattle.piece_moves.specs.Movers.{IsMoveOf, IsMoveTo, IsOwnMover};
 ghost use Rattle.piece_moves.specs.Parts.{FitPieceMoves, IsChosen, IsMoveFrom};
+ghost use Rattle.piece_moves.specs.Plain as Plain;
 
 use crate::piece::own_piece;
 use crate::promotion::{becomes, is_plain, may_plus, means_castling};
 use crate::targets::targets;
-use attack_tables::Tables;
+use attack_tables::{Tables, cell_on};
 use board_sets::{BoardSets, sets_are_on_board};
 use move_sink::MoveSink;
 use rules_model::sizes::position_sizes;
@@ -82,7 +86,8 @@ fn push_to<S: MoveSink>(
     )
 }
 
-/// Gives the moves of the own piece one by one.
+/// Gives the moves of the own piece one by one. It is kept out of the loop over the pieces, of which few come here.
+#[inline(never)]
 fn push_each<S: MoveSink>(
     rules: &Rules,
     tables: &Tables,
@@ -106,7 +111,33 @@ fn push_each<S: MoveSink>(
     Ok(())
 }
 
+/// Gives the moves of the own piece at once: none of them is a promotion or may mean castling.
+fn push_plain<S: MoveSink>(
+    rules: &Rules,
+    tables: &Tables,
+    p: &Position,
+    sets: &BoardSets,
+    mover: Mover,
+    out: &mut S,
+) -> Result<(), S::Full>
+    requires fit { IsFit rules.now }
+    requires tables { tables.now ≡ rules.now }
+    requires sets { AreSets rules.now p.now.side p.now.cells sets.now }
+    requires from { mover.from.0 < 120 }
+    requires own { IsOwnMover rules.now p.now mover }
+    requires plain { Plain.is_plain rules.now mover.piece.kind ≡ true }
+    ensures ok { OnOk result (TakesAll S.takes (IsMoveOf rules.now p.now mover) out.old out.new) }
+    ensures err { OnErr result (TakesSome S.stops (IsMoveOf rules.now p.now mover) out.old out.new) }
+{
+    let targets = targets(tables, p, sets, mover.piece, mover.from);
+    if targets.is_empty() {
+        return Ok(());
+    }
+    out.take_all(mover.from, mover.gate, targets)
+}
+
 /// Gives the moves of the own piece: all at once, where none of them is a promotion or may mean castling.
+#[inline(always)]
 fn push_piece<S: MoveSink>(
     rules: &Rules,
     tables: &Tables,
@@ -124,8 +155,7 @@ fn push_piece<S: MoveSink>(
     ensures err { OnErr result (TakesSome S.stops (IsMoveOf rules.now p.now mover) out.old out.new) }
 {
     if is_plain(rules, mover.piece.kind) {
-        let targets = targets(tables, p, sets, mover.piece, mover.from);
-        out.take_all(mover.from, mover.gate, targets)
+        push_plain(rules, tables, p, sets, mover, out)
     } else {
         push_each(rules, tables, p, sets, mover, out)
     }
@@ -156,6 +186,36 @@ pub fn push_from<S: MoveSink>(
     }
 }
 
+/// The same, without a gate, for a square with an own piece that is not the pawn.
+fn push_own<S: MoveSink>(
+    rules: &Rules,
+    tables: &Tables,
+    p: &Position,
+    sets: &BoardSets,
+    from: Square,
+    out: &mut S,
+) -> Result<(), S::Full>
+    requires fit { IsFit rules.now }
+    requires tables { tables.now ≡ rules.now }
+    requires sets { AreSets rules.now p.now.side p.now.cells sets.now }
+    requires from { from.0 < 120 }
+    requires own { is_own p.now.side (λ kind. not (is_pawn rules.now kind)) (cell_at p.now.cells from.0) ≡ true }
+    ensures ok { OnOk result (TakesAll S.takes (IsMoveFrom rules.now (repeat_of p.now) from None) out.old out.new) }
+    ensures err { OnErr result (TakesSome S.stops (IsMoveFrom rules.now (repeat_of p.now) from None) out.old out.new) }
+{
+    match cell_on(&p.cells, from.0) {
+        None => Ok(()),
+        Some(piece) => {
+            let mover = Mover {
+                piece,
+                from,
+                gate: None,
+            };
+            push_piece(rules, tables, p, sets, mover, out)
+        }
+    }
+}
+
 /// Gives the ordinary moves of the own pieces that are not the pawn, without a gate, each once and in no special order:
 /// those for which `is_candidate` answers yes. Where the sink is full, it was given some of them, each at most once.
 pub fn push_moves<S: MoveSink>(
@@ -173,9 +233,9 @@ pub fn push_moves<S: MoveSink>(
 {
     position_sizes(p);
     sets_are_on_board();
-    let mut left = sets.own;
+    let mut left = sets.own_pieces();
     while let Some(from) = left.take_first() {
-        push_from(rules, tables, p, sets, Square(from), None, out)?;
+        push_own(rules, tables, p, sets, Square(from), out)?;
     }
     Ok(())
 }

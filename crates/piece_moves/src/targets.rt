@@ -7,7 +7,7 @@ ghost use Rattle.board_sets.specs.Sets.{AreSets};
 ghost use Rattle.piece_moves.specs.Goals as Goals;
 ghost use Rattle.piece_moves.specs.Targets.{AreTargets};
 
-use attack_tables::{Mode, Tables};
+use attack_tables::Tables;
 use board_sets::BoardSets;
 use rules_model::{Cell, Position, Square};
 use square_set::{EMPTY, Set};
@@ -31,8 +31,5 @@ pub(crate) fn targets(
     if piece.kind.0 >= 26 {
         return EMPTY;
     }
-    let occupied = sets.occupied();
-    let quiet = tables.reach_set(p.side, piece.kind, from, Mode::Quiet, occupied);
-    let takes = tables.reach_set(p.side, piece.kind, from, Mode::Take, occupied);
-    quiet.minus(occupied).or(takes.and(sets.enemies))
+    tables.goals(p.side, piece.kind, from, sets.occupied(), sets.enemies)
 }

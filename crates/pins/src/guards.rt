@@ -15,7 +15,7 @@ pub(crate) fn all() -> Set
     Set(u128::MAX)
 }
 
-/// The set, where it has at most this many squares.
+/// The set, where it has at most this many squares; otherwise the empty set.
 fn at_most(most: u32, set: Set) -> Set
     ensures few { size set ≤ most → result ≡ set }
     ensures many { most < size set → result ≡ EMPTY }

@@ -1,9 +1,10 @@
-//! The pieces that guard their kings from nothing: they may go anywhere.
-ghost use Rattle.std.specs.Prelude.{◌≡◌, ◌<◌, true, false, length};
+//! The pieces that are not pinned: they may go anywhere.
+ghost use Rattle.std.specs.Prelude.{◌≡◌, ◌<◌, true, false};
 ghost use Rattle.rules_model.specs.Sides.{other};
 ghost use Rattle.rules_model.specs.Squares.{cell_at};
 ghost use Rattle.move_tables.specs.declared.line.Passage.TheVariants.{Slide};
-ghost use Rattle.attack_tables.specs.Boards.{HoldsMen, OnSquares};
+ghost use Rattle.attack_tables.specs.Boards.{HoldsMen};
+ghost use Rattle.move_tables.specs.Occupied.{OnSquares};
 ghost use Rattle.pins.specs.Free as Free;
 ghost use Rattle.pins.specs.Guards.{AfterLeaving};
 
@@ -11,15 +12,9 @@ use crate::guards::{all, along, guards};
 use attack_tables::{Mode, Tables, cell_on};
 use move_tables::{Line, Passage};
 use rules_model::attacks::is_own_king;
+use rules_model::sizes::board_size;
 use rules_model::{Cells, Kind, Side, Square};
 use square_set::{EMPTY, Set};
-
-/// A board has 120 squares.
-fn board_size(cells: &Cells)
-    ensures { length cells.now ≡ 120 }
-{
-    let _first = cells[0];
-}
 
 /// The squares that guard the king from a piece of the kind.
 fn guards_from_kind(

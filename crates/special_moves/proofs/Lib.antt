@@ -1,4 +1,5 @@
 pub mod BelowLemmas
+pub mod BlockLaws
 pub mod CastleLemmas
 pub mod CastlesLaws
 pub mod DropLemmas

@@ -1,11 +1,13 @@
 //! Castles, with a gate or without one.
-ghost use Rattle.std.specs.Prelude.{◌≡◌, ◌≢◌, ◌<◌, true, OnOk, OnErr, IfSome};
+ghost use Rattle.std.specs.Prelude.{◌≡◌, ◌≢◌, ◌<◌, ◌&&◌, true, not, is_some, None, OnOk, OnErr, IfSome};
 ghost use Rattle.std.specs.Bool.{OnTrue};
 ghost use Rattle.move_sink.specs.Taking.{TakesAll, TakesSome};
+ghost use Rattle.rules_model.specs.Attacks.{is_own};
 ghost use Rattle.rules_model.specs.Castling as Castling;
 ghost use Rattle.rules_model.specs.Castling.{IsFitCastle, castling_on};
 ghost use Rattle.rules_model.specs.Fit.{IsFit};
 ghost use Rattle.rules_model.specs.Gating as Gating;
+ghost use Rattle.rules_model.specs.Kinds.{masks};
 ghost use Rattle.rules_model.specs.Repeats.{repeat_of};
 ghost use Rattle.board_sets.specs.Sets.{AreSets};
 ghost use Rattle.special_moves.specs.Castles as Castles;
@@ -14,12 +16,15 @@ ghost use Rattle.special_moves.specs.Parts.{IsCastle, IsCastleOf, IsCastleTo, Is
 
 use crate::append::push_if;
 use crate::way::{holds_own_king, way_is_open};
-use attack_tables::Tables;
+use attack_tables::{Tables, cell_on};
 use board_sets::{BoardSets, sets_of};
 use move_sink::MoveSink;
-use rules_model::castling::{CastleSquares, castle_of, castling_on, holds_right, rook_target};
+use rules_model::castling::{
+    CastleSquares, castle_of, castling_on, castling_square, holds_right, is_rook, rook_target,
+    rook_to_file,
+};
 use rules_model::kinds::in_hand;
-use rules_model::{KINDS, Kind, Move, Placed, Position, Rules, Square, Wing};
+use rules_model::{Cell, KINDS, Kind, Move, Placed, Position, Rules, Side, Square, Wing};
 
 /// Whether the king is in place and the way is open.
 fn is_open(
@@ -35,6 +40,28 @@ fn is_open(
     ensures { result ≡ Castles.is_open rules.now (repeat_of p.now) castle.now }
 {
     holds_own_king(rules, p, castle.king) && way_is_open(rules, tables, p, sets, castle)
+}
+
+/// Whether a piece stands there that is no castling rook of the side.
+fn is_no_rook(rules: &Rules, side: Side, cell: Option<Cell>) -> bool
+    ensures { result ≡ (is_some cell && not (is_own side (masks rules.now.castle_rooks) cell)) }
+{
+    cell.is_some() && !is_rook(rules, side, cell)
+}
+
+/// Whether it is seen at once that the way to the wing is not open: a piece that is no castling rook stands where the rook would go.
+/// It spares the search for the rook.
+fn is_blocked(rules: &Rules, p: &Position, wing: Wing) -> bool
+    requires fit { IsFit rules.now }
+    requires on { castling_on rules.now ≡ true }
+    ensures { OnTrue result (Castles.open_castle rules.now (repeat_of p.now) wing ≡ None) }
+{
+    let file = rook_to_file(rules, wing);
+    if file == rules.castle_king {
+        return false;
+    }
+    let at = castling_square(rules, p.side, file);
+    is_no_rook(rules, p.side, cell_on(&p.cells, at.0))
 }
 
 /// The side's castle to the wing, where the variant has castling, the side holds the right, and king, rook and way are as they
@@ -53,7 +80,10 @@ fn open_castle(
     ensures is { result ≡ Castles.open_castle rules.now (repeat_of p.now) wing }
     ensures on_board { IfSome result IsFitCastle }
 {
-    if !(holds_right(&p.rights, p.side, wing) && castling_on(rules)) {
+    if !(holds_right(&p.rights, p.side, wing) && tables.castling_on()) {
+        return None;
+    }
+    if is_blocked(rules, p, wing) {
         return None;
     }
     let castle = castle_of(rules, &p.cells, p.side, wing)?;

@@ -159,11 +159,10 @@ pub(crate) fn push_drops<S: MoveSink>(
     if !rules.drops {
         return Ok(());
     }
-    let squares = drop_squares(rules, p, sets);
     for k in 0..KINDS as u8 {
         let kind = Kind(k);
         if has_drops(rules, p, kind) {
-            push_kind(rules, p, squares, kind, out)?;
+            push_kind(rules, p, drop_squares(rules, p, sets), kind, out)?;
         }
     }
     Ok(())

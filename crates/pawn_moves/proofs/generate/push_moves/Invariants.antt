@@ -1,5 +1,7 @@
 use Rattle.std.proofs.Common.{◌≡◌, ℕ, true, ◌<◌}
+use Rattle.rules_model.specs.Attacks.{is_own_pawn}
 use Rattle.rules_model.specs.Repeats.{repeat_of}
+use Rattle.rules_model.specs.Squares.{cell_at}
 use Rattle.square_set.specs.Members.{has, size}
 use Rattle.move_sink.specs.InTurn.{Outside, start_of}
 use Rattle.move_sink.specs.Taking.{TakesAll}
@@ -9,6 +11,7 @@ use Rattle.pawn_moves.proofs.generate.push_moves.Given as goal
 abbrev pub invariant-loop-from : goal.invariant-loop-from
 invariant-loop-from g l = record {
   small : (s : ℕ) → has l.left s ≡ true → s < 120;
+  own : (s : ℕ) → has l.left s ≡ true → is_own_pawn l.rules l.p.side (cell_at l.p.cells s) ≡ true;
   taken : TakesAll g.S.MoveSink.takes (Outside (FitPawnMoves l.rules (repeat_of l.p)) start_of l.left) l.initial.out l.out;
 }
 

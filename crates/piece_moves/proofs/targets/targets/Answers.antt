@@ -8,10 +8,9 @@ returns-then-piece-ge26-clause-are c = λ s. ap (λ x. x == 1) (bit_at-zero s) �
 
 pub returns-clause-are : goal.returns-clause-are
 returns-clause-are c = λ s.
-    let occupied = c.occupied-occupied.ensures _ _ _ c.requires.sets in
-    c.or.ensures s
-    ∙ rw (c.minus.ensures s, c.and.ensures s) (targets_go _ _ _ c.args.from c.args.piece c.requires.own c.reach_set-quiet.result c.reach_set-takes.result c.occupied-occupied.result c.args.sets.now.enemies s
-    (c.reach_set-quiet.ensures _ occupied s) (c.reach_set-takes.ensures _ occupied s) occupied c.requires.sets.enemies)
+    let occupied = c.occupied.ensures _ _ _ c.requires.sets in
+    c.goals.ensures _ occupied s
+    ∙ targets_go _ _ _ c.args.from c.args.piece c.requires.own c.occupied.result c.args.sets.now.enemies s occupied c.requires.sets.enemies
 
 pub returns-clause-small : goal.returns-clause-small
 returns-clause-small c = λ s e. goes_small _ _ _ c.args.from c.args.piece c.requires.own s c.requires.fit (sym (returns-clause-are c s) ∙ e)
