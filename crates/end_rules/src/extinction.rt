@@ -1,13 +1,14 @@
 //! Extinction: a side with few pieces, or few of a kind, against enough of the other side's.
-ghost use Rattle.std.specs.Prelude.{◌≡◌, ◌<◌, ◌≤◌, ◌==◌, Some, count_by};
+ghost use Rattle.std.specs.Prelude.{◌≡◌, ◌<◌, ◌≤◌, ◌==◌, Some, count_by, nat_le, nat_lt};
 ghost use Rattle.foundation.specs.Count.{any_below};
 ghost use Rattle.rules_model.specs.Attacks as Attacks;
 ghost use Rattle.rules_model.specs.Ends as Ends;
 ghost use Rattle.rules_model.specs.Repeats.{repeat_of};
+ghost use Rattle.end_rules.specs.Counted as Counted;
 
 use crate::valued;
 use rules_model::kinds::{in_hand, masks};
-use rules_model::soundness::pieces_of;
+use rules_model::soundness::{is_of, pieces_of};
 use rules_model::{Cause, Cell, Cells, Kind, Outcome, Position, Rules, Side, Value};
 
 fn is_own_of(side: Side, kind: Kind, cell: Option<Cell>) -> bool
@@ -38,11 +39,55 @@ fn pieces_of_kind(p: &Position, side: Side, kind: Kind) -> usize
     on_board_of(&p.cells, side, kind) + in_hand(&p.hands, side, kind) as usize
 }
 
-/// Whether the tested side has few enough and its opponent many enough.
-fn dies_out(rules: &Rules, tested: usize, opponent: usize) -> bool
-    ensures { result ≡ Ends.dies_out rules.now tested opponent }
+/// How many pieces the side has on the board and in its hand, of the kind, or of all.
+fn pieces(p: &Position, side: Side, kind: Option<Kind>) -> usize
+    ensures { result ≡ Counted.pieces (repeat_of p.now) side kind }
 {
-    tested <= rules.extinct_most as usize && rules.extinct_least as usize <= opponent
+    match kind {
+        None => pieces_of(p, side),
+        Some(kind) => pieces_of_kind(p, side, kind),
+    }
+}
+
+fn is_counted(side: Side, kind: Option<Kind>, cell: Option<Cell>) -> bool
+    ensures { result ≡ Counted.is_counted side kind cell }
+{
+    match kind {
+        None => is_of(side, cell),
+        Some(kind) => is_own_of(side, kind, cell),
+    }
+}
+
+/// Whether more of these pieces are on the board. It stops at the first that is too many.
+fn stand_more(cells: &Cells, side: Side, kind: Option<Kind>, most: usize) -> bool
+    ensures { result ≡ nat_lt most (count_by (Counted.is_counted side kind) cells.now) }
+{
+    let mut found: usize = 0;
+    for at in 0..120usize {
+        if is_counted(side, kind, cells[at]) {
+            found += 1;
+        }
+        if found > most {
+            return true;
+        }
+    }
+    false
+}
+
+/// Whether the side has no more of these pieces. The hand is looked at only where the board has not too many.
+fn has_at_most(p: &Position, side: Side, kind: Option<Kind>, most: usize) -> bool
+    ensures { result ≡ nat_le (Counted.pieces (repeat_of p.now) side kind) most }
+{
+    !stand_more(&p.cells, side, kind, most) && pieces(p, side, kind) <= most
+}
+
+/// Whether the side has few enough of these pieces and its opponent many enough. The opponent's are counted only where the
+/// side has few enough.
+fn dies_out(rules: &Rules, p: &Position, side: Side, kind: Option<Kind>) -> bool
+    ensures { result ≡ Counted.die_out rules.now (repeat_of p.now) side kind }
+{
+    has_at_most(p, side, kind, rules.extinct_most as usize)
+        && rules.extinct_least as usize <= pieces(p, side.other(), kind)
 }
 
 #[tactic(auto, unfolding(rules_model::specs::Ends::kind_dies_out))]
@@ -51,12 +96,7 @@ fn kind_dies_out(rules: &Rules, p: &Position, side: Side, kind: u8) -> bool
     ensures { result ≡ Ends.kind_dies_out rules.now (repeat_of p.now) side kind }
 {
     let kind = Kind(kind);
-    masks(&rules.extinct_kinds, kind)
-        && dies_out(
-            rules,
-            pieces_of_kind(p, side, kind),
-            pieces_of_kind(p, side.other(), kind),
-        )
+    masks(&rules.extinct_kinds, kind) && dies_out(rules, p, side, Some(kind))
 }
 
 #[tactic(auto, using(foundation::proofs::CountLemmas::any))]
@@ -77,7 +117,7 @@ fn is_extinct(rules: &Rules, p: &Position, side: Side) -> bool
     ensures { result ≡ Ends.is_extinct rules.now (repeat_of p.now) side }
 {
     if rules.extinct_all {
-        dies_out(rules, pieces_of(p, side), pieces_of(p, side.other()))
+        dies_out(rules, p, side, None)
     } else {
         some_kind_dies_out(rules, p, side)
     }

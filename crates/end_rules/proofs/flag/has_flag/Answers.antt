@@ -1,14 +1,12 @@
-use Rattle.std.proofs.Common.{◌≡◌, ℕ, true, false, ◌&&◌, Option, Some, None, List, refl, sym}
+use Rattle.std.proofs.Common.{◌≡◌, ℕ, false, Option, Some, None, List, refl, sym}
 use Rattle.std.proofs.lemmas.Bool.{and_right}
 use Rattle.foundation.proofs.CountLemmas.{any_below-none}
 use Rattle.rules_model.specs.declared.board.Cell.{Cell}
-use Rattle.rules_model.specs.declared.board.Kind.{Kind}
 use Rattle.rules_model.specs.declared.board.Side.{Side}
 use Rattle.rules_model.specs.declared.rules.Rules.{Rules}
 use Rattle.rules_model.specs.Attacks.{is_own}
 use Rattle.rules_model.specs.Ends.{flag_at, has_flag}
 use Rattle.rules_model.specs.Kinds.{names}
-use Rattle.rules_model.specs.Regions.{in_region}
 use Rattle.rules_model.specs.Sides.{same_side}
 use Rattle.rules_model.specs.Squares.{cell_at}
 use Rattle.end_rules.proofs.flag.has_flag.Goals as goal
