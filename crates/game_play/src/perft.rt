@@ -1,11 +1,6 @@
 //! How many ways a game can go on.
-ghost use Rattle.std.specs.Prelude.{◌≡◌, ◌≤◌, ◌-◌, ◌^◌, true, min, IfOk, OnOk};
-ghost use Rattle.foundation.specs.Member.{Member};
-ghost use Rattle.rules_model.specs.Legal.{legal};
-ghost use Rattle.rules_model.specs.Next as Next;
+ghost use Rattle.std.specs.Prelude.{◌≡◌, ◌≤◌, ◌-◌, ◌^◌, min, IfOk, OnOk};
 ghost use Rattle.rules_model.specs.Ready.{IsReady};
-ghost use Rattle.rules_model.specs.Repeats.{repeat_of};
-ghost use Rattle.rules_model.specs.Sound.{is_sound};
 ghost use Rattle.board_sets.specs.Sets.{AreSets};
 ghost use Rattle.game_play.specs.Perft as Perft;
 ghost use Rattle.game_play.specs.Played.{story};
@@ -13,29 +8,9 @@ ghost use Rattle.game_play.specs.Played.{story};
 use crate::game::Game;
 use attack_tables::Tables;
 use board_sets::{BoardSets, sets_of};
-use legality::{apply, count_legal_with, push_legal_with};
-use rules_model::{Memory, Move, MoveList, Position, Rules};
+use legality::{apply_with, count_legal_with, push_legal_with};
+use rules_model::{Memory, MoveList, Position, Rules};
 use std::alloc::Global;
-
-/// Makes the legal move. The sets, which are those of the position before it, are answered as they are after it.
-fn play_on(
-    rules: &Rules,
-    tables: &Tables,
-    p: &mut Position,
-    sets: &BoardSets,
-    m: &Move,
-) -> BoardSets
-    requires ready { IsReady rules.now tables.now p.old }
-    requires sets { AreSets rules.now p.old.side p.old.cells sets.now }
-    requires legal { Member m.now (legal rules.now (repeat_of p.old)) }
-    ensures next { p.new ≡ Next.next rules.now p.old m.now }
-    ensures sound { is_sound rules.now p.new ≡ true }
-    ensures sets { AreSets rules.now p.new.side p.new.cells result }
-{
-    let sets = sets.after(rules, p, m).turned();
-    apply(rules, tables, p, m);
-    sets
-}
 
 /// How many lists of so many legal moves in turn there are from the position, which has these sets. The moves of each ply are put at
 /// the end of the list, and are taken off again.
@@ -62,7 +37,7 @@ fn count_lines(
     for i in first..moves.items.len() {
         let m = moves.items[i];
         let mut next = *p;
-        let next_sets = play_on(rules, tables, &mut next, sets, &m);
+        let next_sets = apply_with(rules, tables, &mut next, sets, &m);
         let lines = count_lines(rules, tables, &next, &next_sets, plies - 1, moves)?;
         total = total.saturating_add(lines);
     }

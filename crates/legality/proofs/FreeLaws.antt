@@ -17,11 +17,11 @@ use Rattle.rules_model.specs.declared.board.Square.{Square}
 use Rattle.rules_model.specs.declared.moves.Move.TheVariants.{Go}
 use Rattle.rules_model.specs.declared.moves.Promo.TheVariants.{Stays}
 use Rattle.rules_model.specs.declared.rules.Rules.{Rules}
-use Rattle.rules_model.specs.Attacks.{is_diagonal, is_own, is_own_king, is_own_pawn, king_attacked}
-use Rattle.rules_model.specs.Kinds.{board_of, is_king}
+use Rattle.rules_model.specs.Attacks.{is_own, is_own_king, king_attacked}
+use Rattle.rules_model.specs.Kinds.{is_king}
 use Rattle.rules_model.specs.Legal.{is_safe}
 use Rattle.rules_model.specs.Next.{cells_after, emptied, next_repeat, promote}
-use Rattle.rules_model.specs.Pawns.{behind, is_ep, passes_by}
+use Rattle.rules_model.specs.Pawns.{behind, passes_by}
 use Rattle.rules_model.specs.Sides.{other, same_side}
 use Rattle.rules_model.specs.Squares.{cell_at, flat}
 use Rattle.move_tables.specs.Occupied.{AreKings, AreMen, IsOccupied}
@@ -47,14 +47,6 @@ first_false false b e = refl
 no_king : (rules : Rules) (side : Side) (c : Option Cell) → is_own side any_kind c ≡ false → is_own_king rules side c ≡ false
 no_king rules side None e = refl
 no_king rules side (Some x) e = first_false (same_side x.side side) (is_king rules x.kind) e
-
-middle_false : (a b c : Bool) → b ≡ false → (a && b && c) ≡ false
-middle_false true b c e = rw e refl
-middle_false false b c e = refl
-
-not_passing : (rules : Rules) (r : Repeat) (from : Square) (s : ℕ) → is_ep r.ep s ≡ false → passes_by rules r from s ≡ false
-unfolding passes_by
-not_passing rules r from s e = middle_false (is_own_pawn rules r.side (cell_at r.cells from.0)) (is_ep r.ep s) (is_diagonal (board_of rules) r.side from s) e
 
 -- ---- the board after a piece went from one square to another
 
@@ -192,21 +184,21 @@ module _ (rules : Rules) (r : Repeat) (sets : BoardSets) (occupied free : Set) (
         are_free from to (without sets.enemies to) (with_moved occupied from to) (moved r.cells from to x) h (without-is sets.enemies to low (omega (arith, m)))
         (with_moved-is occupied from to low_occupied (omega (arith, l)) (omega (arith, m))) board_there kings_there
 
-  goes : (from to : Square) (x : Cell) → cell_at r.cells from.0 ≡ Some x → is_ep r.ep to.0 ≡ false → cells_after rules r (Go from to Stays None) ≡ moved r.cells from.0 to.0 x
+  goes : (from to : Square) (x : Cell) → cell_at r.cells from.0 ≡ Some x → passes_by rules r from to.0 ≡ false → cells_after rules r (Go from to Stays None) ≡ moved r.cells from.0 to.0 x
   unfolding cells_after
-  goes from to x there no_ep =
-      ap (λ b. slice_set (slice_set (if b then emptied r.cells (behind rules r.side to) else r.cells) from.0 None) to.0 (promote rules (cell_at r.cells from.0) Stays)) (not_passing rules r from to.0 no_ep)
+  goes from to x there no_passing =
+      ap (λ b. slice_set (slice_set (if b then emptied r.cells (behind rules r.side to) else r.cells) from.0 None) to.0 (promote rules (cell_at r.cells from.0) Stays)) no_passing
       ∙ ap (λ (c : Option Cell). slice_set (slice_set r.cells from.0 None) to.0 (promote rules c Stays)) there
 
   -- those of the free squares with own pieces that are no kings
   pub go_freely : (some few : Set) → ((s : ℕ) → has some s ≡ (has free s && has sets.own s)) → ((s : ℕ) → has few s ≡ (has some s && not (has sets.kings s))) → GoFreely rules r sets.own few
   unfolding is_safe next_repeat
-  go_freely some few is_some_free is_few from to l m h target no_ep =
+  go_freely some few is_some_free is_few from to l m h target no_passing =
       let a = and_parts (has some from.0) (not (has sets.kings from.0)) (sym (is_few from.0) ∙ h) in
       let b = and_parts (has free from.0) (has sets.own from.0) (sym (is_some_free from.0) ∙ a.0) in
       let piece = some_own r.side (cell_at r.cells from.0) (sym (are.own from.0) ∙ b.1) in
-      ap (λ cells. not (king_attacked rules cells r.side)) (goes from to piece.0 piece.1 no_ep)
+      ap (λ cells. not (king_attacked rules cells r.side)) (goes from to piece.0 piece.1 no_passing)
       ∙ ap (λ k. not k) (spared from.0 to.0 piece.0 l m piece.1 b.1 (not-true _ a.1) target b.0)
 
 pub none_freely : (rules : Rules) (r : Repeat) (own : Set) → GoFreely rules r own (record { 0 = 0 })
-none_freely rules r own from to l m h target no_ep = absurd (let f : ⊥ = (let n = has-zero (record { 0 = 0 }) refl from.0 in cc) in f)
+none_freely rules r own from to l m h target no_passing = absurd (let f : ⊥ = (let n = has-zero (record { 0 = 0 }) refl from.0 in cc) in f)

@@ -19,7 +19,7 @@ use Rattle.move_sink.specs.InTurn.{GoesTo, target_of}
 use Rattle.legality.specs.Chosen.{is_chosen, is_fit_move}
 use Rattle.legality.specs.Moved.{GoFreely, MayGo, asks_more}
 use Rattle.legality.proofs.AllGoes.{goes-size, goes_below}
-use Rattle.legality.proofs.SafetyLaws.{plain_sane}
+use Rattle.legality.proofs.SafetyLaws.{not_passing, plain_sane}
 
 asks_nothing : (bad checking drops : Bool) → bad ≡ false → checking ≡ true → (bad || not (checking && (drops || true))) ≡ false
 asks_nothing true checking drops e f = cc
@@ -34,7 +34,7 @@ not_own false b e f = cc
 pub may_go : (rules : Rules) (r : Repeat) (own free : Set) (from : Square) (targets : Set) → GoFreely rules r own free → from.0 < 120 → rules.checking ≡ true → rules.immobile_bad ≡ false → r.ep ≡ None → has free from.0 ≡ true → ((s : ℕ) → (has targets s && has own s) ≡ false) → MayGo rules r from targets
 may_go rules r own free from targets freely l checking bad ep member apart to m there =
     plain_sane rules r (Go from to Stays None) (asks_nothing rules.immobile_bad rules.checking rules.drop_checks bad checking)
-    ∙ freely from to l m member (not_own (has targets to.0) (has own to.0) (apart to.0) there) (subst (λ o. is_ep o to.0 ≡ false) (sym ep) refl)
+    ∙ freely from to l m member (not_own (has targets to.0) (has own to.0) (apart to.0) there) (not_passing rules r from to.0 (subst (λ o. is_ep o to.0 ≡ false) (sym ep) refl))
 
 fit_go : (from to : Square) → from.0 < 120 → to.0 < 120 → is_fit_move (Go from to Stays None) ≡ true
 unfolding is_fit_move

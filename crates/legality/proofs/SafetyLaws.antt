@@ -17,8 +17,8 @@ use Rattle.rules_model.specs.declared.moves.Move.TheVariants.{Go, Castle, Drop}
 use Rattle.rules_model.specs.declared.moves.Promo.{Promo}
 use Rattle.rules_model.specs.declared.moves.Promo.TheVariants.{Stays, Pawn, Plus}
 use Rattle.rules_model.specs.declared.rules.Rules.{Rules}
-use Rattle.rules_model.specs.Attacks.{is_own}
-use Rattle.rules_model.specs.Kinds.{promoted_of}
+use Rattle.rules_model.specs.Attacks.{is_diagonal, is_own, is_own_pawn}
+use Rattle.rules_model.specs.Kinds.{board_of, promoted_of}
 use Rattle.rules_model.specs.Legal.{gives_check, is_drop, is_safe, is_sane, may_check, stays_mobile}
 use Rattle.rules_model.specs.Next.{after_promo, cells_after, emptied, fresh, gated, plus, promote, without_passed}
 use Rattle.rules_model.specs.Moves.{IsFitMove}
@@ -140,11 +140,19 @@ module _ (rules : Rules) (side : Side) (board cells : List (Option Cell)) (sets 
 
 -- ---- a free piece
 
+middle_false : (a b c : Bool) → b ≡ false → (a && b && c) ≡ false
+middle_false true b c e = rw e refl
+middle_false false b c e = refl
+
+pub not_passing : (rules : Rules) (r : Repeat) (from : Square) (s : ℕ) → is_ep r.ep s ≡ false → passes_by rules r from s ≡ false
+unfolding passes_by
+not_passing rules r from s e = middle_false (is_own_pawn rules r.side (cell_at r.cells from.0)) (is_ep r.ep s) (is_diagonal (board_of rules) r.side from s) e
+
 pub free_is_safe : (rules : Rules) (r : Repeat) (own free : Set) (m : Move) → GoFreely rules r own free → IsFitMove m → is_free r own free m ≡ true → is_safe rules r m ≡ true
 free_is_safe rules r own free (Go from to Stays None) freely fit e =
     let a = and_parts (has free from.0 && not (has own to.0)) (not (is_ep r.ep to.0)) e in
     let b = and_parts (has free from.0) (not (has own to.0)) a.0 in
-    freely from to fit.0 fit.1 b.0 (not-true (has own to.0) b.1) (not-true (is_ep r.ep to.0) a.1)
+    freely from to fit.0 fit.1 b.0 (not-true (has own to.0) b.1) (not_passing rules r from to.0 (not-true (is_ep r.ep to.0) a.1))
 free_is_safe rules r own free (Go from to Stays (Some kind)) freely fit e = cc
 free_is_safe rules r own free (Go from to (Pawn kind) gate) freely fit e = cc
 free_is_safe rules r own free (Go from to Plus gate) freely fit e = cc

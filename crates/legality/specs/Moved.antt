@@ -8,9 +8,11 @@ use Rattle.rules_model.specs.declared.moves.Move.{Move}
 use Rattle.rules_model.specs.declared.moves.Move.TheVariants.{Go, Castle, Drop}
 use Rattle.rules_model.specs.declared.moves.Promo.TheVariants.{Stays}
 use Rattle.rules_model.specs.declared.rules.Rules.{Rules}
-use Rattle.rules_model.specs.Attacks.{is_own}
+use Rattle.rules_model.specs.Attacks.{is_own, is_own_king}
 use Rattle.rules_model.specs.Legal.{is_drop, is_safe, is_sane}
-use Rattle.rules_model.specs.Pawns.{is_ep, is_stays}
+use Rattle.rules_model.specs.Next.{cells_after}
+use Rattle.rules_model.specs.Pawns.{is_ep, is_stays, passes_by}
+use Rattle.rules_model.specs.Sides.{other}
 use Rattle.rules_model.specs.Squares.{cell_at}
 use Rattle.square_set.specs.declared.Set.{Set}
 use Rattle.square_set.specs.Members.{has}
@@ -25,9 +27,10 @@ moves_own r (Go from to promo gate) = is_own r.side (λ kind. true) (cell_at r.c
 moves_own r (Castle from to rook gate) = false
 moves_own r (Drop kind to) = true
 
--- a piece of the free squares goes and stays what it is, to a square without an own piece, and not in passing
+-- a piece of the free squares goes and stays what it is, to a square without an own piece and not to that of en passant
 abbrev pub is_free : Repeat → Set → Set → Move → Bool
-is_free r own free (Go from to promo gate) = is_stays promo && is_none gate && has free from.0 && not (has own to.0) && not (is_ep r.ep to.0)
+is_free r own free (Go from to promo gate) =
+    is_stays promo && is_none gate && has free from.0 && not (has own to.0) && not (is_ep r.ep to.0)
 is_free r own free (Castle from to rook gate) = false
 is_free r own free (Drop kind to) = false
 
@@ -35,11 +38,31 @@ is_free r own free (Drop kind to) = false
 abbrev pub HoldsMenOf : Side → List (Option Cell) → List (Option Cell) → Type 0
 HoldsMenOf side board cells = (s : ℕ) → is_own side (λ kind. true) (cell_at board s) ≡ true → cell_at board s ≡ cell_at cells s
 
--- a piece that goes from a square of the set and stays what it is leaves its king safe, unless it takes in passing or takes its own
+-- the cells hold each piece of the other side that is on the board after the move
+abbrev pub HoldsEnemiesAfter : Rules → Repeat → Move → List (Option Cell) → Type 0
+HoldsEnemiesAfter rules r m cells = HoldsMenOf (other r.side) (cells_after rules r m) cells
+
+-- a piece that goes from a square of the set and stays what it is leaves its king safe, unless it takes in passing or
+-- takes its own
 abbrev pub GoFreely : Rules → Repeat → Set → Set → Type 0
 GoFreely rules r own free =
-    (from to : Square) → from.0 < 120 → to.0 < 120 → has free from.0 ≡ true → has own to.0 ≡ false → is_ep r.ep to.0 ≡ false
+    (from to : Square) → from.0 < 120 → to.0 < 120 → has free from.0 ≡ true → has own to.0 ≡ false
+    → passes_by rules r from to.0 ≡ false → is_safe rules r (Go from to Stays None) ≡ true
+
+-- the same, by the board alone
+abbrev pub LeaveSafely : Rules → Repeat → Set → Type 0
+LeaveSafely rules r free =
+    (from to : Square) → from.0 < 120 → to.0 < 120 → has free from.0 ≡ true
+    → is_own r.side (λ kind. true) (cell_at r.cells to.0) ≡ false → passes_by rules r from to.0 ≡ false
     → is_safe rules r (Go from to Stays None) ≡ true
+
+-- the squares of the set hold own pieces
+abbrev pub AreOwn : Repeat → Set → Type 0
+AreOwn r set = (s : ℕ) → has set s ≡ true → is_own r.side (λ kind. true) (cell_at r.cells s) ≡ true
+
+-- no square of the set holds an own king
+abbrev pub HoldNoKing : Rules → Repeat → Set → Type 0
+HoldNoKing rules r set = (s : ℕ) → has set s ≡ true → is_own_king rules r.side (cell_at r.cells s) ≡ false
 
 -- a piece that goes from the square to any of the targets, and stays what it is, makes a sane move
 abbrev pub MayGo : Rules → Repeat → Square → Set → Type 0

@@ -9,6 +9,7 @@ ghost use Rattle.rules_model.specs.Ready.{IsReady};
 ghost use Rattle.rules_model.specs.Repeats.{repeat_of};
 ghost use Rattle.board_sets.specs.Sets.{AreSets};
 ghost use Rattle.legality.specs.Chosen.{captures_if_forced};
+ghost use Rattle.legality.specs.Moved.{AreOwn, HoldNoKing, LeaveSafely};
 
 use crate::candidates::{candidates_are_fit, is_candidate, push_candidates};
 use crate::capture::captures;
@@ -16,10 +17,12 @@ use crate::choice::Choice;
 use crate::count::Counter;
 use crate::safety::Safety;
 use crate::search::{can_go, goes_on, only_captures};
+use crate::unpinned::free_men;
 use attack_tables::Tables;
 use board_sets::{BoardSets, sets_of};
 use end_rules::{early_end, no_move};
 use rules_model::{Move, Outcome, Position, Rules};
+use square_set::Set;
 
 /// The same as `count_legal`, by the sets of the board, which the caller has.
 pub fn count_legal_with(rules: &Rules, tables: &Tables, p: &Position, sets: &BoardSets) -> u128
@@ -123,6 +126,18 @@ pub fn is_legal(rules: &Rules, tables: &Tables, p: &Position, m: &Move) -> bool
 {
     let sets = sets_of(rules, &p.cells, p.side);
     is_lawful(rules, tables, p, &sets, m)
+}
+
+/// Own pieces other than kings that may go anywhere: none leaves the own king attacked by a move on which it stays what it
+/// is, takes no own piece and does not take in passing. There may be more such pieces. No memory is taken.
+pub fn free(rules: &Rules, tables: &Tables, p: &Position) -> Set
+    requires ready { IsReady rules.now tables.now p.now }
+    ensures safe { LeaveSafely rules.now (repeat_of p.now) result }
+    ensures own { AreOwn (repeat_of p.now) result }
+    ensures no_king { HoldNoKing rules.now (repeat_of p.now) result }
+{
+    let sets = sets_of(rules, &p.cells, p.side);
+    free_men(rules, tables, p, &sets)
 }
 
 /// Whether the legal move attacks the other side's king.

@@ -14,7 +14,7 @@ ghost use Rattle.legality.specs.Chosen.{FitCandidates};
 use attack_tables::Tables;
 use board_sets::BoardSets;
 use move_sink::MoveSink;
-use rules_model::sizes::position_sizes;
+use rules_model::sizes::{position_sizes, region_size};
 use rules_model::{KINDS, Move, Position, Region, Rules, Side};
 
 /// Gives the sink the candidates, each once and in no special order: those for which `is_candidate` answers yes.
@@ -51,12 +51,6 @@ fn mask_size(mask: &[bool; KINDS])
     ensures { length mask.now ≡ 26 }
 {
     let _first = mask[0];
-}
-
-fn region_size(region: &Region)
-    ensures { length region.now.squares ≡ 120 }
-{
-    let _first = region.squares[0];
 }
 
 /// The side's region has a place for each square.

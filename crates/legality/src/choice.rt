@@ -102,7 +102,7 @@ impl<'a> Choice<'a> {
     /// Whether the candidate is chosen.
     #[tactic(auto, unfolding(crate::specs::Chosen::is_chosen))]
     pub fn holds(&self, m: &Move) -> bool
-        ensures { result ≡ Chosen.is_chosen self.now.safety.tables.now (repeat_of self.now.safety.p.now) self.now.captures m.now }
+        ensures { result ≡ Choices.chosen_by self.now m.now }
     {
         is_fit_move(m) && self.suits(m)
     }

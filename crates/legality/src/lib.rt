@@ -6,7 +6,6 @@ mod candidates;
 mod capture;
 mod choice;
 mod count;
-mod free;
 mod keep;
 mod list;
 mod mobile;
@@ -17,7 +16,8 @@ mod search;
 mod seek;
 #[cfg(test)]
 mod tests;
+mod unpinned;
 
-pub use ask::{any_legal, count_legal, count_legal_with, gives_check, is_legal, own_end};
+pub use ask::{any_legal, count_legal, count_legal_with, free, gives_check, is_legal, own_end};
 pub use list::{legal_moves, push_legal, push_legal_with};
-pub use play::apply;
+pub use play::{apply, apply_with};

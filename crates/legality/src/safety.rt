@@ -4,18 +4,16 @@ ghost use Rattle.std.specs.Bool.{OnTrue};
 ghost use Rattle.rules_model.specs.Legal as Legal;
 ghost use Rattle.rules_model.specs.Moves.{IsFitMove};
 ghost use Rattle.rules_model.specs.Next as Next;
-ghost use Rattle.rules_model.specs.Pawns.{is_stays};
 ghost use Rattle.rules_model.specs.Repeats.{repeat_of};
-ghost use Rattle.rules_model.specs.Sides.{other};
 ghost use Rattle.board_sets.specs.Sets.{AreSets};
 ghost use Rattle.legality.specs.Moved as Moved;
 
-use crate::free::free_men;
 use crate::mobile::stays_mobile;
+use crate::unpinned::free_men;
 use attack_tables::Tables;
 use board_sets::{BoardSets, sets_are_on_board};
 use next_position::move_pieces;
-use rules_model::passing::is_ep;
+use rules_model::passing::{is_ep, is_stays};
 use rules_model::sizes::position_sizes;
 use rules_model::{Cells, Move, Position, Promo, Rules, Square};
 use square_set::{EMPTY, Set};
@@ -39,16 +37,6 @@ fn is_drop(m: &Move) -> bool
         Move::Go { .. } => false,
         Move::Castle { .. } => false,
         Move::Drop { .. } => true,
-    }
-}
-
-fn stays(promo: Promo) -> bool
-    ensures { result ≡ is_stays promo }
-{
-    match promo {
-        Promo::Stays => true,
-        Promo::Pawn(_) => false,
-        Promo::Plus => false,
     }
 }
 
@@ -126,7 +114,7 @@ impl<'a> Safety<'a> {
                 promo,
                 gate,
             } => {
-                stays(promo)
+                is_stays(promo)
                     && gate.is_none()
                     && self.free.has(from.0)
                     && !self.sets.own.has(to.0)
@@ -170,7 +158,7 @@ impl<'a> Safety<'a> {
     /// Whether the move leaves the own king safe, by cells that hold the other side's pieces as they are after it.
     fn is_safe_on(&self, m: &Move, cells: &Cells) -> bool
         requires fit { IsFitMove m.now }
-        requires enemies { Moved.HoldsMenOf (other self.now.p.now.side) (Next.cells_after self.now.tables.now (repeat_of self.now.p.now) m.now) cells.now }
+        requires enemies { Moved.HoldsEnemiesAfter self.now.tables.now (repeat_of self.now.p.now) m.now cells.now }
         ensures { result ≡ Legal.is_safe self.now.tables.now (repeat_of self.now.p.now) m.now }
     {
         position_sizes(self.p);
@@ -243,9 +231,9 @@ impl<'a> Safety<'a> {
             && (!self.tables.rules().immobile_bad || stays_mobile(self.tables, self.p, m, &cells))
     }
 
-    /// Whether the move leaves the own king safe, gives no check that the variant forbids, and, where the variant asks it, leaves a
-    /// piece on its target that can ever move. Whether it is a candidate is not asked. No cell is looked at or copied for a move of an
-    /// own piece that is free, and none is copied for another, where the variant asks no more than a safe king.
+    /// Whether the move leaves the own king safe, gives no check that the variant forbids, and, where the variant asks
+    /// it, leaves a piece on its target that can ever move. Whether it is a candidate is not asked. Where the variant
+    /// asks no more than a safe king, a free piece needs no look at the board, and only a castle a copy of it.
     pub fn is_sane(&self, m: &Move) -> bool
         requires { IsFitMove m.now }
         ensures { result ≡ Legal.is_sane self.now.tables.now (repeat_of self.now.p.now) m.now }

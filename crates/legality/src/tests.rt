@@ -2,6 +2,7 @@ ghost use Rattle.rules_model.specs.Fit.{IsFit};
 
 use super::*;
 use attack_tables::Tables;
+use board_sets::sets_of;
 use foundation::Memory;
 use move_text::write_move;
 use rules_model::{Cause, Move, Outcome, Position, Promo, Rules, Side, sound};
@@ -151,6 +152,26 @@ fn kings_are_kept_safe(rt: HostRuntime) -> Result<(), Fail> {
         &xiangqi(),
         &[("Ke1 Ne4 ke10", "e1d1 e1e2 e1f1")],
     )
+}
+
+#[test]
+fn pinned_pieces_are_not_free(rt: HostRuntime) -> Result<(), Fail> {
+    let rules = chess();
+    let tables = Tables::new(rt.alloc(), &rules)?;
+    // the rook stands between its king and the enemy's rook; the knight and the pawn go anywhere
+    let p = position("Ke1 Re2 Nc3 Pa2 ke8 re7");
+    assert!(rt; sound(&rules, &p));
+    let free = free(&rules, &tables, &p);
+    for (at, is_free) in [
+        ("e1", false),
+        ("e2", false),
+        ("c3", true),
+        ("a2", true),
+        ("e8", false),
+    ] {
+        assert_eq!(rt; free.has(square(at).0), is_free, "{at}");
+    }
+    Ok(())
 }
 
 #[test]
@@ -312,6 +333,41 @@ fn a_move_is_played(rt: HostRuntime) -> Result<(), Fail> {
         assert_eq!(rt; gives_check(&rules, &tables, &p, &m), gives, "{to}");
         apply(&rules, &tables, &mut p, &m);
         assert_eq!(rt; (p.side, p.counter), (Side::Black, 1), "{to}");
+        assert!(rt; sound(&rules, &p));
+    }
+    Ok(())
+}
+
+/// Chess that counts checks.
+fn checks_counted() -> Rules
+    ensures { IsFit result }
+{
+    let mut rules = chess();
+    rules.check_counting = true;
+    rules
+}
+
+#[test]
+fn a_move_is_made_with_the_sets_of_the_board(rt: HostRuntime) -> Result<(), Memory> {
+    let rules = checks_counted();
+    let tables = Tables::new(rt.alloc(), &rules)?;
+    for (to, left) in [("f6", 2), ("c3", 3)] {
+        let mut p = Position {
+            checks: [3, 3],
+            ..position("Ka1 Ne4 ke8")
+        };
+        let m = Move::Go {
+            from: square("e4"),
+            to: square(to),
+            promo: Promo::Stays,
+            gate: None,
+        };
+        assert!(rt; sound(&rules, &p));
+        assert!(rt; is_legal(&rules, &tables, &p, &m), "{to}");
+        let sets = sets_of(&rules, &p.cells, p.side);
+        let after = apply_with(&rules, &tables, &mut p, &sets, &m);
+        assert_eq!(rt; p.checks, [left, 3], "{to}");
+        assert_eq!(rt; after, sets_of(&rules, &p.cells, p.side), "{to}");
         assert!(rt; sound(&rules, &p));
     }
     Ok(())

@@ -14,8 +14,8 @@ pub returns-then-plies-eq1-clause-count : goal.returns-then-plies-eq1-clause-cou
 returns-then-plies-eq1-clause-count t c =
     c.count_legal_with.ensures ∙ ap (λ n. min n (2 ^ 128 - 1)) (sym (perft-one c.args.rules.now c.args.p.now) ∙ ap (λ k. perft c.args.rules.now k c.args.p.now) (sym c.if-plies-eq1.true))
 
-pub play_on-next_sets-requires-clause-legal : goal.play_on-next_sets-requires-clause-legal
-play_on-next_sets-requires-clause-legal t c =
+pub apply_with-next_sets-requires-clause-legal : goal.apply_with-next_sets-requires-clause-legal
+apply_with-next_sets-requires-clause-legal t c =
     let low : length c.args.moves.now ≤ c.loop-i.i = omega arith in
     let high : c.loop-i.i < length c.loop-i.moves = omega arith in
     appended-at (λ m. Member m (legal c.args.rules.now (repeat_of c.args.p.now))) c.args.moves.now c.loop-i.moves c.loop-i.invariant.listed c.loop-i.i c.index.result.now low high
@@ -27,7 +27,7 @@ loop-i-preserved t c =
     let f = λ (m : Move). perft rules (c.args.plies - 1) (next rules c.args.p.now m) in
     let same : c.count_lines.new.moves ≡ c.loop-i.moves = c.in_ok-lines.ensures.kept in
     let element : c.index.result.now ≡ get_or c.loop-i.moves c.loop-i.i c.index.result.now = c.index.ensures ∙ ap (λ ms. get_or ms c.loop-i.i c.index.result.now) c.moves-in-loop-i.view_is in
-    let lines : c.in_ok-lines.lines ≡ min (f c.index.result.now) (2 ^ 128 - 1) = c.in_ok-lines.ensures.count ∙ ap (λ q. min (perft rules (c.args.plies - 1) q) (2 ^ 128 - 1)) c.play_on-next_sets.ensures.next in
+    let lines : c.in_ok-lines.lines ≡ min (f c.index.result.now) (2 ^ 128 - 1) = c.in_ok-lines.ensures.count ∙ ap (λ q. min (perft rules (c.args.plies - 1) q) (2 ^ 128 - 1)) c.apply_with-next_sets.ensures.next in
     let low : c.len-first.result ≤ c.loop-i.i = omega arith in
     let high : c.loop-i.i < length c.loop-i.moves = omega arith in
     let total = sum-more f c.loop-i.moves c.len-first.result c.loop-i.i (2 ^ 128 - 1) c.loop-i.total c.in_ok-lines.lines c.saturating_add-total.result c.index.result.now low high element c.loop-i.invariant.total lines c.saturating_add-total.ensures in
