@@ -1,8 +1,9 @@
 //! Sections with the letters of their pieces.
-ghost use Rattle.std.specs.Prelude.{◌≡◌, ◌<◌, IfOk, length};
+ghost use Rattle.std.specs.Prelude.{◌≡◌, ◌<◌, IfOk, is_none, length, slice_index_or};
 ghost use Rattle.section_rules.specs.Letters as table;
 
 use crate::letters::{Letters, all_letters};
+use crate::lines::place_of;
 use rules_model::Memory;
 use std::alloc::Global;
 use std::marker::Model;
@@ -27,6 +28,14 @@ impl<'a> Model for LetteredSections<'a> {
     ghost invariant = { λ s. s.letters.items ≡ letters_before s.sections.now (length s.sections.now) };
 }
 
+/// Whether letters have none for the piece at a place of the table.
+fn is_absent(letters: &Letters, place: usize) -> bool
+    requires { place < 56 }
+    ensures { result ≡ is_none (slice_index_or letters.now place None) }
+{
+    letters[place].is_none()
+}
+
 impl<'a> LetteredSections<'a> {
     /// Finds the letters of the pieces of all sections, in time that grows with the lines.
     pub fn new(alloc: Global, sections: &'a Sections) -> Result<LetteredSections<'a>, Memory>
@@ -49,5 +58,16 @@ impl<'a> LetteredSections<'a> {
         ensures { result ≡ table.letters_of self.now place }
     {
         self.letters[place]
+    }
+
+    /// Whether a key is that of a piece that the section does not have.
+    pub fn lacks_piece(&self, section: usize, key: &[u8]) -> bool
+        requires { section < length self.now }
+        ensures { result ≡ table.lacks_piece self.now section key.now }
+    {
+        match place_of(key) {
+            Some(place) => is_absent(&self.letters(section), place),
+            None => false,
+        }
     }
 }

@@ -1,9 +1,10 @@
 //! What the own lines of a section say, and their faults.
-ghost use Rattle.std.specs.Prelude.{◌≡◌, ◌<◌, IfOk, map, length, reverse};
+ghost use Rattle.std.specs.Prelude.{◌≡◌, ◌<◌, IfOk, IfSome, map, length, reverse};
 ghost use Rattle.std.specs.List.{find};
-ghost use Rattle.std.specs.Option.{option_copied};
+ghost use Rattle.std.specs.Option.{option_copied, option_map};
 ghost use Rattle.std.specs.Str.{bytes_eq};
 ghost use Rattle.variant_ini.specs.Section.{last_value, section_at};
+ghost use Rattle.variant_options.specs.LineFaults.{piece_named};
 ghost use Rattle.variant_options.specs.PieceTable.{pieces};
 ghost use Rattle.variant_options.specs.PieceView.{piece_view};
 ghost use Rattle.variant_model.specs.PieceRules.{piece_row};
@@ -83,6 +84,20 @@ pub(crate) fn piece_at(place: usize) -> &'static Piece
 {
     let table = pieces();
     &table[place]
+}
+
+/// The place in the table of the piece of the key.
+pub(crate) fn place_of(key: &[u8]) -> Option<usize>
+    ensures is { option_map piece_row result ≡ piece_named key.now }
+    ensures below { IfSome result (λ place. place < 56) }
+{
+    for place in 0..PIECES {
+        let piece = piece_at(place);
+        if piece.0 == key {
+            return Some(place);
+        }
+    }
+    None
 }
 
 /// What the lines say of the piece at a place of the table.

@@ -17,4 +17,4 @@ pub use fault::StrategyFault;
 pub use nodes::{Counters, Edge, Edges, Node, Nodes, Strategy};
 pub use reader::Reader;
 pub use reading::{cut_line, read};
-pub use writing::write;
+pub use writing::{push_line, push_number, push_text, write};

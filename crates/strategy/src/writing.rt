@@ -12,7 +12,8 @@ use rules_model::{Memory, Rules, Side, Text};
 use std::alloc::Global;
 use variant_fen::{write_fen, write_move};
 
-fn push_text(text: &mut Vec<u8>, bytes: &[u8]) -> Result<(), Memory>
+/// Appends bytes.
+pub fn push_text(text: &mut Vec<u8>, bytes: &[u8]) -> Result<(), Memory>
     ensures { OnOk result (text.new.items ≡ text.old.items ++ bytes.now) }
 {
     text.extend_from_slice(bytes)?;
@@ -20,7 +21,7 @@ fn push_text(text: &mut Vec<u8>, bytes: &[u8]) -> Result<(), Memory>
 }
 
 /// Appends a number in decimal digits.
-fn push_number(text: &mut Vec<u8>, n: u64) -> Result<(), Memory>
+pub fn push_number(text: &mut Vec<u8>, n: u64) -> Result<(), Memory>
     ensures { OnOk result (text.new.items ≡ text.old.items ++ decimal n) }
 {
     if n >= 10 {
@@ -31,7 +32,7 @@ fn push_number(text: &mut Vec<u8>, n: u64) -> Result<(), Memory>
 }
 
 /// Appends a text and the end of its line.
-fn push_line(text: &mut Vec<u8>, line: &[u8]) -> Result<(), Memory>
+pub fn push_line(text: &mut Vec<u8>, line: &[u8]) -> Result<(), Memory>
     ensures { OnOk result (text.new.items ≡ text.old.items ++ Writing.ended_line line.now) }
 {
     push_text(text, line)?;

@@ -63,7 +63,7 @@ fault_of bytes = if nat_lt 1048576 (length bytes) then Some TooLarge else first_
 unfoldable pub sections_in : List ℕ → List Section
 sections_in bytes = sections_in_lines (lines_of bytes)
 
--- an error is want of memory, or the fault
+-- an error is being out of memory, or the fault
 abbrev pub IsFaultOrMemory : Option IniFault → IniFault → Type 0
 IsFaultOrMemory fault Memory = Unit {0}
 IsFaultOrMemory fault TooLarge = fault ≡ Some TooLarge

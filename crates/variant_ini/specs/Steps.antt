@@ -19,6 +19,6 @@ with_line comment sections = sections
 with_line foreign sections = sections
 with_line bad sections = sections
 
--- the line has no fault, and the sections are those after it; or the answer is its fault or want of memory
+-- the line has no fault, and the sections are those after it; or the answer is its fault, or being out of memory
 abbrev pub TakesLine : Option IniFault → LineKind → List Section → List Section → Result (Unit {0}) IniFault → Type 0
 TakesLine fault kind old new answer = MatchResult answer (λ _. (fault ≡ None) × (new ≡ with_line kind old)) (IsFaultOrMemory fault)

@@ -1,4 +1,5 @@
 pub mod WordLaws
 pub mod ListedLemmas
 pub mod FindLemmas
+pub mod KeyLemmas
 pub mod worked

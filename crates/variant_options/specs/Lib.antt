@@ -8,3 +8,4 @@ pub mod Options
 pub mod OptionView
 pub mod BetzaWords
 pub mod LineFaults
+pub mod Keys

@@ -2,6 +2,7 @@
 #![tactic(auto)]
 
 pub mod fault;
+pub mod keys;
 pub mod letters;
 pub mod line;
 pub mod options;
