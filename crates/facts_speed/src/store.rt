@@ -9,6 +9,8 @@ use mate_shards::{Passes, Published, Shards};
 use rules_model::Position;
 use std::sync::Wait;
 
+/// A store of facts on which threads work at the same time, each by a right of its own: it is given facts, and asked
+/// for the fact of a position.
 pub trait Store {
     /// What a thread needs to use the store.
     type Right: Send;
@@ -22,7 +24,7 @@ pub trait Store {
         requires kind { fact.now.wins ≡ false }
         ensures { serves self.now right.new };
 
-    /// The fact that says whether the position is won within so many moves.
+    /// A fact that says whether the position is won within this many of the attacker's moves, where one is found.
     fn look<R: Wait>(
         &self,
         rt: &R,
@@ -48,9 +50,12 @@ impl Store for Shards {
     }
 }
 
+/// Which call is measured.
 #[derive(Clone, Copy)]
 pub enum Call {
+    /// A fact of each position is put into the store.
     Publish,
+    /// A fact of each position is looked for.
     Look,
 }
 

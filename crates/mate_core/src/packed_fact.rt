@@ -21,6 +21,7 @@ pub struct Claim {
 }
 
 impl Claim {
+    /// What the fact says of its repeat.
     pub fn of(fact: &Fact) -> Claim
         ensures { result ≡ claim_of fact.now }
     {
@@ -65,6 +66,7 @@ impl Model for PackedFact {
 }
 
 impl PackedFact {
+    /// Packs the fact's repeat.
     pub fn of(fact: &Fact) -> PackedFact
         ensures { result ≡ fact.now }
     {
@@ -81,25 +83,28 @@ impl PackedFact {
         self.repeat.hash()
     }
 
+    /// What it says of its repeat.
     pub fn claim(&self) -> Claim
         ensures { result ≡ claim_of self.now }
     {
         self.claim
     }
 
+    /// Within how many of the attacker's moves.
     pub fn moves(&self) -> u16
         ensures { result ≡ self.now.moves }
     {
         self.claim.moves
     }
 
+    /// Whether it is a win, and not a refutation.
     pub fn wins(&self) -> bool
         ensures { result ≡ self.now.wins }
     {
         self.claim.wins
     }
 
-    // Whether it answers, for its own repeat, if the attacker wins at the counter within so many of his moves.
+    // Whether it answers, for its own repeat, if the attacker wins at the counter within this many of his moves.
     fn covers(&self, counter: u16, moves: u16) -> bool
         ensures { result ≡ Facts.covers self.now self.now.wins counter moves }
     {
@@ -110,7 +115,7 @@ impl PackedFact {
         }
     }
 
-    /// Whether it says if the attacker wins the repeat at the counter within so many of his moves.
+    /// Whether it says if the attacker wins the repeat at the counter within this many of his moves.
     #[tactic(auto, unfolding(forced_wins::specs::Facts::serves))]
     pub fn serves(&self, repeat: &Packed, counter: u16, moves: u16) -> bool
         ensures { result ≡ Facts.serves self.now repeat.now counter moves }

@@ -16,6 +16,7 @@ pub struct Rest {
     pub side: Side,
 }
 
+/// What a repetition compares besides the board, of a repeat.
 pub fn rest_of(r: &Repeat) -> Rest
     ensures { result ≡ Hash.rest_of r.now }
 {
@@ -29,6 +30,7 @@ pub fn rest_of(r: &Repeat) -> Rest
     }
 }
 
+/// The same of the repeat of a position.
 pub fn rest_of_position(p: &Position) -> Rest
     ensures { result ≡ Hash.rest_of (repeat_of p.now) }
 {

@@ -23,3 +23,7 @@ bucket_of count hash = part_of (hash % 2 ^ 32) count
 -- the bucket of each fact, among as many as there are places
 abbrev pub buckets : ℕ → List Fact → List ℕ
 buckets capacity fs = map (λ f. bucket_of capacity (hash_of f.repeat)) fs
+
+-- `at` names the last fact of the bucket of a hash
+abbrev pub IsHead : ℕ → List Fact → ℕ → ℕ → Type 0
+IsHead capacity fs hash at = IsLast (buckets capacity fs) (bucket_of capacity hash) (length fs) at

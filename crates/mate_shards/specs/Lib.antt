@@ -2,6 +2,7 @@ pub mod Index
 pub mod Keeps
 pub mod Kept
 pub mod Refuted
+pub mod SameRules
 pub mod Shard
 pub mod Truth
 pub mod Turns

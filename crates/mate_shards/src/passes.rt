@@ -20,7 +20,8 @@ impl Shards {
         ensures first { IfOk result (λ halves. ArePassesOf self.now halves.0) }
         ensures second { IfOk result (λ halves. ArePassesOf self.now halves.1) }
         ensures halves { IfOk result (λ halves. AreHalved passes halves.0 halves.1) }
-        ensures parts { IfOk result (λ halves. (n : ℕ) → All (λ p. p.parts ≡ n + 1) passes → All (λ p. p.parts ≡ n) halves.0) }
+        ensures parts { IfOk result (λ halves.
+            (n : ℕ) → All (λ p. p.parts ≡ n + 1) passes → All (λ p. p.parts ≡ n) halves.0) }
         ensures back { IfErr result (λ back. back ≡ passes) }
     {
         let count = self.locks.len();

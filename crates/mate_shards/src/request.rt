@@ -2,6 +2,7 @@
 use crate::published::Published;
 use mate_core::{Claim, Packed, PackedFact};
 
+/// The question whether the attacker wins the repeat at the counter, within this many of his moves.
 #[derive(Drop)]
 pub struct Query {
     pub repeat: Packed,
@@ -9,16 +10,20 @@ pub struct Query {
     pub moves: u16,
 }
 
+/// What a shard is given: a fact that is to be added to its list, or a question that a fact of the list may answer.
 #[derive(Drop)]
 pub enum Request {
+    /// The answer says whether the fact was stored.
     Publish(PackedFact),
+    /// The answer is what the best fact of the list says that serves the query, or nothing.
     Look(Query),
 }
 
-/// What it answers.
+/// What the shard answers.
 #[derive(Clone, Copy)]
 pub enum Answer {
+    /// Whether the fact was stored, or why it was not.
     Published(Published),
-    /// What the fact that was found says.
+    /// What the fact that was found says of its repeat, or that none serves.
     Found(Option<Claim>),
 }

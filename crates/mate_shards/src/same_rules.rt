@@ -1,6 +1,8 @@
 //! Whether two variants have the same rules.
 ghost use Rattle.std.specs.Prelude.{◌≡◌, ◌↔◌, IsTrue};
 ghost use Rattle.rules_model.specs.Repeats as Repeats;
+ghost use Rattle.mate_shards.specs.SameRules.{SameDrops, SameEnds, SameLists, SameMoves};
+ghost use Rattle.mate_shards.specs.SameRules.{SameNamed, SamePlaces, SameSizes};
 
 use rules_model::{Kind, KindRule, Position, Region, Rules, Term, repeats};
 
@@ -25,7 +27,7 @@ fn are_same_pieces(a: &Rules, b: &Rules) -> bool
 }
 
 fn are_same_places(a: &Rules, b: &Rules) -> bool
-    ensures { IsTrue result ↔ ((a.now.promotion ≡ b.now.promotion) × (a.now.double_region ≡ b.now.double_region) × (a.now.drop_region ≡ b.now.drop_region) × (a.now.flag_region ≡ b.now.flag_region)) }
+    ensures { IsTrue result ↔ SamePlaces a.now b.now }
 {
     are_same_regions(&a.promotion, &b.promotion)
         && are_same_regions(&a.double_region, &b.double_region)
@@ -34,7 +36,7 @@ fn are_same_places(a: &Rules, b: &Rules) -> bool
 }
 
 fn are_same_lists(a: &Rules, b: &Rules) -> bool
-    ensures { IsTrue result ↔ ((a.now.promotion_kinds ≡ b.now.promotion_kinds) × (a.now.castle_rooks ≡ b.now.castle_rooks) × (a.now.n_move_kinds ≡ b.now.n_move_kinds) × (a.now.extinct_kinds ≡ b.now.extinct_kinds)) }
+    ensures { IsTrue result ↔ SameLists a.now b.now }
 {
     are_same_flags(&a.promotion_kinds, &b.promotion_kinds)
         && are_same_flags(&a.castle_rooks, &b.castle_rooks)
@@ -43,7 +45,7 @@ fn are_same_lists(a: &Rules, b: &Rules) -> bool
 }
 
 fn are_same_sizes(a: &Rules, b: &Rules) -> bool
-    ensures { IsTrue result ↔ ((a.now.n_move ≡ b.now.n_move) × (a.now.n_fold ≡ b.now.n_fold) × (a.now.files ≡ b.now.files) × (a.now.ranks ≡ b.now.ranks) × (a.now.castle_king ≡ b.now.castle_king) × (a.now.castle_near ≡ b.now.castle_near) × (a.now.castle_far ≡ b.now.castle_far) × (a.now.castle_rank ≡ b.now.castle_rank)) }
+    ensures { IsTrue result ↔ SameSizes a.now b.now }
 {
     a.n_move == b.n_move
         && a.n_fold == b.n_fold
@@ -56,7 +58,7 @@ fn are_same_sizes(a: &Rules, b: &Rules) -> bool
 }
 
 fn are_same_named(a: &Rules, b: &Rules) -> bool
-    ensures { IsTrue result ↔ ((a.now.king ≡ b.now.king) × (a.now.pawn ≡ b.now.pawn) × (a.now.soldier ≡ b.now.soldier) × (a.now.soldier_rank ≡ b.now.soldier_rank) × (a.now.no_doubled ≡ b.now.no_doubled) × (a.now.flag_kind ≡ b.now.flag_kind)) }
+    ensures { IsTrue result ↔ SameNamed a.now b.now }
 {
     a.king == b.king
         && a.pawn == b.pawn
@@ -67,7 +69,7 @@ fn are_same_named(a: &Rules, b: &Rules) -> bool
 }
 
 fn are_same_ends(a: &Rules, b: &Rules) -> bool
-    ensures { IsTrue result ↔ ((a.now.extinct_most ≡ b.now.extinct_most) × (a.now.extinct_least ≡ b.now.extinct_least) × (a.now.extinction ≡ b.now.extinction) × (a.now.n_fold_value ≡ b.now.n_fold_value) × (a.now.stalemate ≡ b.now.stalemate) × (a.now.checkmate ≡ b.now.checkmate) × (a.now.extinct_all ≡ b.now.extinct_all) × (a.now.check_counting ≡ b.now.check_counting)) }
+    ensures { IsTrue result ↔ SameEnds a.now b.now }
 {
     a.extinct_most == b.extinct_most
         && a.extinct_least == b.extinct_least
@@ -80,7 +82,7 @@ fn are_same_ends(a: &Rules, b: &Rules) -> bool
 }
 
 fn are_same_moves(a: &Rules, b: &Rules) -> bool
-    ensures { IsTrue result ↔ ((a.now.must_promote_pawn ≡ b.now.must_promote_pawn) × (a.now.must_promote_piece ≡ b.now.must_promote_piece) × (a.now.double_step ≡ b.now.double_step) × (a.now.castling ≡ b.now.castling) × (a.now.checking ≡ b.now.checking) × (a.now.must_capture ≡ b.now.must_capture) × (a.now.gating ≡ b.now.gating) × (a.now.gate_hand ≡ b.now.gate_hand)) }
+    ensures { IsTrue result ↔ SameMoves a.now b.now }
 {
     a.must_promote_pawn == b.must_promote_pawn
         && a.must_promote_piece == b.must_promote_piece
@@ -93,7 +95,7 @@ fn are_same_moves(a: &Rules, b: &Rules) -> bool
 }
 
 fn are_same_drops(a: &Rules, b: &Rules) -> bool
-    ensures { IsTrue result ↔ ((a.now.drop_checks ≡ b.now.drop_checks) × (a.now.drops ≡ b.now.drops) × (a.now.to_hand ≡ b.now.to_hand) × (a.now.pawn_first ≡ b.now.pawn_first) × (a.now.pawn_zone ≡ b.now.pawn_zone) × (a.now.immobile_bad ≡ b.now.immobile_bad) × (a.now.flying ≡ b.now.flying)) }
+    ensures { IsTrue result ↔ SameDrops a.now b.now }
 {
     a.drop_checks == b.drop_checks
         && a.drops == b.drops

@@ -7,10 +7,10 @@ ghost use Rattle.mate_core.specs.Best as Best;
 ghost use Rattle.mate_core.specs.Runs.{IsTrueIn, AreTrueIn};
 ghost use Rattle.mate_core.specs.Steps as Steps;
 ghost use Rattle.mate_core.specs.Claims.{claim_of};
-ghost use Rattle.mate_shards.specs.Index.{IsIndex, IsLast, bucket_of, buckets};
+ghost use Rattle.mate_shards.specs.Index.{IsHead, IsIndex, bucket_of, buckets};
 ghost use Rattle.mate_shards.specs.Keeps.{AreKeeps, picks};
 ghost use Rattle.mate_shards.specs.Kept.{IsKept};
-ghost use Rattle.mate_shards.specs.Shard.{verdict};
+ghost use Rattle.mate_shards.specs.Shard.{best_for, verdict, with_older};
 ghost use Rattle.mate_shards.specs.Truth.{AreTrueIn-prop};
 
 use crate::keeps::Keeps;
@@ -60,7 +60,7 @@ impl Shard {
 
     // One more than the place of the bucket's newest fact, or 0.
     fn head(&self, hash: u64) -> u32
-        ensures { IsLast (buckets self.now.capacity self.now.facts.items) (bucket_of self.now.capacity hash) (length self.now.facts.items) result }
+        ensures { IsHead self.now.capacity self.now.facts.items hash result }
     {
         self.heads[bucket_of(hash, self.capacity)]
     }
@@ -82,7 +82,7 @@ impl Shard {
 
     /// The first of the facts with the least moves among those that answer the query.
     pub fn best(&self, query: &Query) -> Option<&PackedFact>
-        ensures { option_copied result ≡ Best.best self.now.facts.items query.now.repeat query.now.counter query.now.moves }
+        ensures { option_copied result ≡ best_for query.now self.now.facts.items }
     {
         let mut found = None;
         let mut at = self.head(query.repeat.hash());
@@ -96,7 +96,7 @@ impl Shard {
 
     /// What the best answer to the query says.
     pub fn look(&self, query: &Query) -> Option<Claim>
-        ensures { result ≡ option_map claim_of (Best.best self.now.facts.items query.now.repeat query.now.counter query.now.moves) }
+        ensures { result ≡ option_map claim_of (best_for query.now self.now.facts.items) }
     {
         match self.best(query) {
             None => None,
@@ -206,7 +206,7 @@ fn with_older<'a>(
     found: Option<&'a PackedFact>,
     query: &Query,
 ) -> Option<&'a PackedFact>
-    ensures { option_copied result ≡ Best.sooner (Best.if_serves fact.now query.now.repeat query.now.counter query.now.moves) (option_copied found.entry) }
+    ensures { option_copied result ≡ with_older fact.now (option_copied found.entry) query.now }
 {
     if !fact.serves(&query.repeat, query.counter, query.moves) {
         return found;

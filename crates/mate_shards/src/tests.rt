@@ -116,7 +116,10 @@ fn joined(shards: &Shards, one: Done, other: Done) -> Done
 fn in_four(shards: &Shards, passes: Passes) -> Result<(Passes, Passes, Passes, Passes), Memory>
     requires passes { ArePassesOf shards.now passes }
     requires parts { All (λ p. p.parts ≡ all_parts) passes }
-    ensures { IfOk result (λ four. ArePassesOf shards.now four.0 × ArePassesOf shards.now four.1 × ArePassesOf shards.now four.2 × ArePassesOf shards.now four.3) }
+    ensures first { IfOk result (λ four. ArePassesOf shards.now four.0) }
+    ensures second { IfOk result (λ four. ArePassesOf shards.now four.1) }
+    ensures third { IfOk result (λ four. ArePassesOf shards.now four.2) }
+    ensures fourth { IfOk result (λ four. ArePassesOf shards.now four.3) }
 {
     let Ok((passes, a)) = shards.split(passes) else {
         return Err(Memory);
