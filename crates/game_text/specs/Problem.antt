@@ -1,5 +1,5 @@
 -- What the lines of a problem say: a game, whose moves stand on line 3 alone, and on line 4 the goal.
-use Rattle.std.specs.Prelude.{ℕ, ◌+◌, List, [], ◌∷◌, length, take, drop, Option, Some, None, Result, Ok, Err}
+use Rattle.std.specs.Prelude.{ℕ, ◌+◌, ◌-◌, List, [], ◌∷◌, length, take, drop, Option, Some, None, Result, Ok, Err}
 use Rattle.io_ports.specs.Lines.{Line, Text, TooLong}
 use Rattle.variant_rules.specs.Entries.{Named}
 use Rattle.game_play.specs.Played.{Played}
@@ -54,3 +54,13 @@ lines_on_problem g lines = length (take 1 lines) + unless_faulty (moves_on g lin
 unfoldable pub lines_of_problem : List Named → List Line → ℕ
 lines_of_problem variants lines =
     lines_of_game variants (take 2 lines) + unless_faulty (game_of variants (take 2 lines)) (λ g. lines_on_problem g (drop 2 lines))
+
+-- ---- after line 1, which is this text
+
+-- the problem, or its first fault
+abbrev pub problem_after : List Named → List ℕ → List Line → Result Problem GameFault
+problem_after variants first lines = problem_of variants (Text first ∷ lines)
+
+-- how many more lines tell it
+abbrev pub lines_after : List Named → List ℕ → List Line → ℕ
+lines_after variants first lines = lines_of_problem variants (Text first ∷ lines) - 1

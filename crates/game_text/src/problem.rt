@@ -74,25 +74,6 @@ fn read_on<S: Source>(
     Ok(Problem { game, goal })
 }
 
-/// Reads a problem of one of these variants: a game text whose moves stand on line 3 alone, which may be empty, and on line 4 the goal,
-/// `mate white N` or `mate black N`. What comes after line 4 is left in the source.
-///
-/// The answer is the problem, or the first fault: that of the first faulty line, and on a line that of the first faulty word. No line after
-/// it is taken. `Unread` is the answer where the source failed, and `Memory` where there was none; then nothing is known of the lines.
-pub fn read_problem<S: Source>(
-    alloc: Global,
-    variants: &Variants,
-    source: &mut S,
-) -> Result<Problem, NoGame>
-    ensures heard { Heard (S.left source.old) (S.left source.new) (Said.lines_of_problem variants.now)
-        (λ lines. Tells (Said.problem_of variants.now lines) result) }
-    ensures cause { HasCause (S.faults source.old) (S.faults source.new) (IsUnread result) }
-{
-    let mut line = LineBuf::new(alloc)?;
-    let game = read_start(alloc, variants, source, &mut line)?;
-    read_on(alloc, game, source, &mut line)
-}
-
 /// Reads the rest of a problem of one of these variants whose line 1 is in the buffer: a game text whose moves stand on line 3 alone, which
 /// may be empty, and on line 4 the goal, `mate white N` or `mate black N`. What comes after line 4 is left in the source.
 ///
@@ -104,8 +85,8 @@ pub fn read_problem_after<S: Source>(
     source: &mut S,
     line: &mut LineBuf,
 ) -> Result<Problem, NoGame>
-    ensures heard { Heard (S.left source.old) (S.left source.new) (λ lines. Said.lines_of_problem variants.now (Text line.old ∷ lines) - 1)
-        (λ lines. Tells (Said.problem_of variants.now (Text line.old ∷ lines)) result) }
+    ensures heard { Heard (S.left source.old) (S.left source.new) (Said.lines_after variants.now line.old)
+        (λ lines. Tells (Said.problem_after variants.now line.old lines) result) }
     ensures cause { HasCause (S.faults source.old) (S.faults source.new) (IsUnread result) }
 {
     let game = read_variant(alloc, variants, source, line)?;

@@ -1,5 +1,5 @@
 -- How a fault prints, which one a call answers, and how one of the strategy counts its lines in the whole text.
-use Rattle.std.specs.Prelude.{◌≡◌, ℕ, ◌+◌, List, ◌++◌, codes, Result, Err, ⊤}
+use Rattle.std.specs.Prelude.{◌≡◌, ◌⊎◌, ℕ, ◌+◌, ◌^◌, ◌≤◌, List, ◌++◌, codes, Result, Err, ⊤}
 use Rattle.std.specs.Fmt.{decimal}
 use Rattle.fen_model.specs.Fault as fen
 use Rattle.strategy.specs.declared.fault.StrategyFault.{StrategyFault}
@@ -39,9 +39,19 @@ moved_down lines (body.BadNumber line) = body.BadNumber (line + lines)
 moved_down lines (body.Ended line) = body.Ended (line + lines)
 moved_down lines body.Memory = body.Memory
 
--- the fault of a text whose strategy has this fault, unless there was no memory
+-- the line that the fault names; 0 where it names none
+abbrev pub line_in : StrategyFault → ℕ
+line_in (body.Header line) = line
+line_in (body.BadLine line) = line
+line_in (body.BadPosition line why) = line
+line_in (body.BadMove line) = line
+line_in (body.BadNumber line) = line
+line_in (body.Ended line) = line
+line_in body.Memory = 0
+
+-- the fault of a text whose strategy has this fault: out of memory where that is, or where no line has so great a number
 abbrev pub HasBodyFault : ℕ → StrategyFault → ProofFault → Type 0
-HasBodyFault lines fault Memory = ⊤
+HasBodyFault lines fault Memory = (fault ≡ body.Memory) ⊎ (2 ^ 64 ≤ line_in fault + lines)
 HasBodyFault lines fault (BadBody moved) = (moved ≡ moved_down lines fault) × (fault ≡ body.Memory → ⊥)
 HasBodyFault lines fault (Header line) = ⊥
 HasBodyFault lines fault (BadRules line) = ⊥

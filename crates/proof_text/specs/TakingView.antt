@@ -1,13 +1,16 @@
 -- What the code answers of a source's lines, as the definitions have it.
-use Rattle.std.specs.Prelude.{◌≡◌, ℕ, Bool, true, false, List, [], ◌∷◌, ◌++◌, Option, Result, Ok, Err, ⊤}
+use Rattle.std.specs.Prelude.{◌≡◌, ℕ, Bool, true, false, List, [], ◌∷◌, ◌++◌, Option, Result, Ok, Err, ⊤, length}
 use Rattle.std.specs.Io.KnownBytes.{IsAtEnd}
-use Rattle.io_ports.specs.Lines.{Line}
+use Rattle.game_text.specs.Heard.{Heard}
+use Rattle.io_ports.specs.Lines.{Line, Text}
 use Rattle.io_ports.specs.Source.{Takes}
 use Rattle.proof_text.specs.declared.fault.ProofFault.{ProofFault}
 use Rattle.proof_text.specs.declared.fault.ProofFault.TheVariants.{Memory}
 use Rattle.proof_text.specs.declared.taking.NoProof.{NoProof}
 use Rattle.proof_text.specs.declared.taking.NoProof.TheVariants.{Faulty, Unread}
+use Rattle.proof_text.specs.declared.proof.Proof.{Proof}
 use Rattle.proof_text.specs.Fault.{IsFaultOrMemory}
+use Rattle.proof_text.specs.Reading.{proof_of}
 
 -- the source failed
 abbrev pub IsUnread : {A : Type 0} → Result A NoProof → Type 0
@@ -51,3 +54,11 @@ abbrev pub SaysProof : {A : Type 0} → Result A ProofFault → Result A NoProof
 SaysProof said (Ok x) = said ≡ Ok x
 SaysProof said (Err (Faulty fault)) = IsFaultOrMemory said fault
 SaysProof said (Err Unread) = ⊤
+
+-- the answer is that of the lines after a first one, which is this text
+abbrev pub SaysProofAfter : List ℕ → List Line → Result Proof NoProof → Type 0
+SaysProofAfter first lines said = SaysProof (proof_of (Text first ∷ lines)) said
+
+-- all lines that were left were taken, and have this answer
+abbrev pub HeardAll : Option (List ℕ) → Option (List ℕ) → (List Line → Type 0) → Type 0
+HeardAll left left' Has = Heard left left' length Has

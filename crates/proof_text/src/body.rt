@@ -1,8 +1,8 @@
 //! Reads the strategy.
-ghost use Rattle.std.specs.Prelude.{◌≡◌, ◌≤◌, ◌<◌, ◌^◌, IfOk, IfSome};
+ghost use Rattle.std.specs.Prelude.{◌≡◌, ◌+◌, ◌≤◌, ◌<◌, ◌^◌, IfNone, IfOk, IfSome};
 ghost use Rattle.rules_model.specs.Fit.{IsFit};
 ghost use Rattle.strategy.specs.Reading.{Answers as strategy_answers, AreSound};
-ghost use Rattle.proof_text.specs.Fault.{HasBodyFault, moved_down};
+ghost use Rattle.proof_text.specs.Fault.{HasBodyFault, line_in, moved_down};
 ghost use Rattle.proof_text.specs.Reading.{body_at};
 
 use crate::fault::ProofFault;
@@ -37,7 +37,8 @@ pub(crate) fn read_body(
 
 /// The fault, this many lines further down; none where its line would be above 2^64 - 1.
 fn moved_down(lines: u64, fault: StrategyFault) -> Option<StrategyFault>
-    ensures { IfSome result (λ moved. moved ≡ moved_down lines fault) }
+    ensures moved { IfSome result (λ moved. moved ≡ moved_down lines fault) }
+    ensures beyond { IfNone result (2 ^ 64 ≤ line_in fault + lines) }
 {
     Some(match fault {
         StrategyFault::Header(line) => StrategyFault::Header(line.checked_add(lines)?),

@@ -1,7 +1,6 @@
 //! The faults of a proof text.
 use foundation::Memory;
 use std::alloc::{AllocError, AllocFailed};
-use std::error::Error;
 use std::fmt;
 use strategy::StrategyFault;
 use variant_fen::FenFault;

@@ -47,6 +47,7 @@ fn body_on(
     ensures answer { Said.Answers (Said.body_on lines.now number game goal) result }
     ensures sound { IfOk result (λ p. AreSound p.game.rules p.strategy.nodes) }
 {
+    // Tells the prover that the game's rules are fit and that it has at most 8,192 plies. Nothing is done.
     game.is_played();
     match read_body(alloc, game.rules(), lines, number) {
         Ok(strategy) => Ok(Proof {

@@ -1,11 +1,8 @@
 //! Reads a proof text from a source.
-ghost use Rattle.std.specs.Prelude.{◌≡◌, ◌++◌, ◌∷◌, IfOk, length};
+ghost use Rattle.std.specs.Prelude.{◌≡◌, IfOk};
 ghost use Rattle.io_ports.specs.Cause.{HasCause};
-ghost use Rattle.io_ports.specs.Lines.{Text};
-ghost use Rattle.game_text.specs.Heard.{Heard};
 ghost use Rattle.strategy.specs.Reading.{AreSound};
-ghost use Rattle.proof_text.specs.Reading.{proof_of};
-ghost use Rattle.proof_text.specs.TakingView.{AreKept, IsUnread, Keeps, SaysProof};
+ghost use Rattle.proof_text.specs.TakingView.{AreKept, HeardAll, IsUnread, Keeps, SaysProofAfter};
 
 use crate::fault::ProofFault;
 use crate::lines::KeptLines;
@@ -77,7 +74,7 @@ fn take_lines<S: Source>(
     source: &mut S,
     lines: &mut KeptLines,
 ) -> Result<(), NoProof>
-    ensures heard { Heard (S.left source.old) (S.left source.new) length (λ taken. AreKept lines.old taken lines.new result) }
+    ensures heard { HeardAll (S.left source.old) (S.left source.new) (λ taken. AreKept lines.old taken lines.new result) }
     ensures cause { HasCause (S.faults source.old) (S.faults source.new) (IsUnread result) }
 {
     let Ok(mut line) = LineBuf::new(alloc) else {
@@ -103,7 +100,7 @@ pub fn read_proof_after<S: Source>(
     first: &[u8],
     source: &mut S,
 ) -> Result<Proof, NoProof>
-    ensures heard { Heard (S.left source.old) (S.left source.new) length (λ lines. SaysProof (proof_of (Text first.now ∷ lines)) result) }
+    ensures heard { HeardAll (S.left source.old) (S.left source.new) (λ lines. SaysProofAfter first.now lines result) }
     ensures sound { IfOk result (λ p. AreSound p.game.rules p.strategy.nodes) }
     ensures cause { HasCause (S.faults source.old) (S.faults source.new) (IsUnread result) }
 {

@@ -27,17 +27,17 @@ abbrev pub HasWhy : {A : Type 0} → Result A StrategyFault → NoStrategy → T
 HasWhy said (Faulty fault) = IsFaultOrMemory said fault
 HasWhy said Unread = ⊤
 
--- lines were taken to this reader, which the code has now, or have this fault
+-- the reader that the code has now is the one that the lines give, or the lines have this fault
 abbrev pub SaysTaken : Result Reader StrategyFault → Reader → Result (Unit {0}) NoStrategy → Type 0
 SaysTaken said now (Ok x) = said ≡ Ok now
 SaysTaken said now (Err why) = HasWhy said why
 
--- lines say this strategy, or have this fault
+-- the lines say this strategy, or have this fault
 abbrev pub SaysStrategy : Result Strategy StrategyFault → Result Strategy NoStrategy → Type 0
 SaysStrategy said (Ok s) = said ≡ Ok s
 SaysStrategy said (Err why) = HasWhy said why
 
--- lines state this, or have this fault; where the run was cut short nothing is known of them
+-- the lines state this, or have this fault; where the run was cut short nothing is known of them
 abbrev pub States : Result Proof Fault → Result Proof Halt → Type 0
 States said (Ok p) = said ≡ Ok p
 States said (Err halt.Usage) = ⊥

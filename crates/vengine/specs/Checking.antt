@@ -1,7 +1,7 @@
 -- What `check` says: whether the strategy of the input wins the game of the input, by its goal. The input is a proof text where line 1 is
 -- `strategy 2`, and otherwise a problem and a strategy after it.
-use Rattle.std.specs.Prelude.{◌≡◌, ℕ, ◌+◌, Bool, List, length, drop, Result, Ok, Err, codes, true, false}
-use Rattle.io_ports.specs.Lines.{Line}
+use Rattle.std.specs.Prelude.{◌≡◌, ℕ, ◌+◌, ◌-◌, Bool, List, ◌∷◌, length, drop, Result, Ok, Err, codes, true, false}
+use Rattle.io_ports.specs.Lines.{Line, Text}
 use Rattle.forced_wins.specs.Strategies.{IsGood}
 use Rattle.forced_wins.specs.Wins.{wins}
 use Rattle.variant_rules.specs.Entries.{Named}
@@ -97,3 +97,13 @@ lines_by false variants input = lines_of_stated variants input
 
 abbrev pub lines_of_check : List Named → List Line → ℕ
 lines_of_check variants input = lines_by (is_proof_text input) variants input
+
+-- ---- a problem after line 1, which is this text
+
+-- what it and the strategy after it state
+abbrev pub stated_after : List Named → List ℕ → List Line → Result Proof Fault
+stated_after variants first lines = by_problem (problem_of variants (Text first ∷ lines)) (Text first ∷ lines)
+
+-- how many more lines tell it
+abbrev pub lines_stated_after : List Named → List ℕ → List Line → ℕ
+lines_stated_after variants first lines = lines_of_stated variants (Text first ∷ lines) - 1

@@ -24,7 +24,8 @@ abbrev pub asks_input : Option Asked → Bool
 asks_input None = false
 asks_input (Some a) = reads_input a.command
 
--- how many of these lines tell the command its input, where there are these sections: all, or those up to the first faulty one
+-- how many of these lines tell the command its input, where there are these sections: all, or those up to the first
+-- faulty one
 abbrev pub lines_needed : List Section → Command → List Line → ℕ
 lines_needed sections Moves input = lines_of_game (entries sections) input
 lines_needed sections Status input = lines_of_game (entries sections) input
@@ -33,7 +34,7 @@ lines_needed sections Check input = lines_of_check (entries sections) input
 lines_needed sections Variants input = 0
 lines_needed sections (Reach word square own enemy) input = 0
 
--- none where the file of variants has a fault
+-- this number of lines, or none where the file of variants has a fault
 abbrev pub lines_reached : Option Fault → ℕ → ℕ
 lines_reached None lines = lines
 lines_reached (Some fault) lines = 0
@@ -49,8 +50,8 @@ abbrev pub asks_file : Option Asked → Bool
 asks_file None = false
 asks_file (Some a) = is_some a.variants
 
--- The command is a session, which answers its lines as they come. All others have one text and a status: they are one-shot
--- commands. No session is built yet.
+-- The command is a session, which answers its lines as they come. Every other command has one text and one status: it
+-- is a one-shot command. There is no session yet.
 abbrev pub is_session : Command → Bool
 is_session command = false
 

@@ -81,8 +81,8 @@ proof_halt (no_proof.Faulty (proof.BadStart line why)) = halt.Fault (Proof (proo
 proof_halt (no_proof.Faulty (proof.BadHistory line)) = halt.Fault (Proof (proof.BadHistory line))
 proof_halt (no_proof.Faulty (proof.BadBody why)) = halt.Fault (Proof (proof.BadBody why))
 
--- the status and the text that an outcome comes to are among these; a run that was cut short has none, and no sink that failed
--- cuts it short, since none was given anything yet
+-- this holds of the status and the text of the outcome. A run that was cut short has none. The sink has not cut it
+-- short, since it was given nothing yet
 abbrev pub Answers : Result (List ℕ) Halt → (ℕ → List ℕ → Type 0) → Type 0
 Answers (Ok text) Says = Says 0 text
 Answers (Err halt.Usage) Says = Says 2 usage_line
@@ -114,7 +114,7 @@ IsFileFault (Err (halt.Fault (Ini fault))) = ⊥
 IsFileFault (Err (halt.Fault (File fault))) = ⊤
 IsFileFault (Err (halt.Stop why)) = ⊥
 
--- why a file with these bytes, of files that failed so often, was not read
+-- why the file was not read: it is missing, it has too many bytes, or the files failed, this number of times
 abbrev pub HasFileFault : Option (List ℕ) → ℕ → FileFault → Type 0
 HasFileFault file failed Missing = file ≡ None
 HasFileFault file failed TooLarge = IsTooLarge file
@@ -136,7 +136,7 @@ HasFile file failed (Err (halt.Stop stop.Source)) = ⊥
 HasFile file failed (Err (halt.Stop stop.Sink)) = ⊥
 HasFile file failed (Err (halt.Stop stop.Memory)) = ⊤
 
--- these are the sections that there are with the file of this name, or it is refused
+-- the sections are the built-in ones and those of the file of this name, or the file is refused
 abbrev pub HasVariants : Option Text → Contents → ℕ → Result (List Section) Halt → Type 0
 HasVariants name files failed (Ok sections) = (variants_fault name files ≡ None) × (sections ≡ sections_of name files)
 HasVariants name files failed (Err halt.Usage) = ⊥
@@ -145,7 +145,8 @@ HasVariants name files failed (Err (halt.Stop stop.Source)) = ⊥
 HasVariants name files failed (Err (halt.Stop stop.Sink)) = ⊥
 HasVariants name files failed (Err (halt.Stop stop.Memory)) = ⊤
 
--- the status and the text of an outcome; one that was cut short stays so, and there may be no memory
+-- the answer has the status and the text of the outcome. A run that was cut short stays so, and any other may be out
+-- of memory
 abbrev pub OutcomeOf : Result (List ℕ) Halt → Result Answer Stop → Type 0
 OutcomeOf (Ok said) (Ok answer) = (answer.status ≡ 0) × (answer.text ≡ said)
 OutcomeOf (Err halt.Usage) (Ok answer) = (answer.status ≡ 2) × (answer.text ≡ usage_line)

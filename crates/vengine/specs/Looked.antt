@@ -5,7 +5,7 @@ use Rattle.io_ports.specs.declared.files.TheConstants.{MAX_FILE}
 use Rattle.io_ports.specs.Files.{Contents, Read, Found, Bytes, Missing, TooLarge, Fault}
 use Rattle.io_ports.specs.Trace.{faults_in}
 
--- a value that is the told one, where one is told
+-- the value is the one that is told, where one is told; any, where none is
 abbrev pub IsTold : {A : Type 0} → Option A → A → Type 0
 IsTold None value = ⊤
 IsTold (Some told) value = told ≡ value
@@ -22,12 +22,12 @@ Agrees file Missing = file ≡ None
 Agrees file TooLarge = IsTooLarge file
 Agrees file Fault = ⊤
 
--- what was read is in these contents
+-- what was read agrees with these contents
 abbrev pub AgreeWith : Contents → List Read → Type 0
 AgreeWith files reads = AllByRecursion (λ read. Agrees (files read.name) read.found) reads
 
--- Some files were asked for, and this holds of contents in which what was read is, and of how often the files failed.
--- Where contents are told, it holds of these.
+-- Some files were asked for, and this holds of some contents, with which what was read agrees, and of the number of
+-- times that the files failed. Where the files tell their contents, these are they.
 pub record Looked (contents : Option Contents) (asked : List Read → Type 0) (Holds : Contents → ℕ → Type 0)
     : Type 0 where
   pub reads : List Read

@@ -30,8 +30,8 @@ use Rattle.vengine.specs.VariantsText.{variants_text}
 abbrev pub usage_line : List ℕ
 usage_line = codes "usage: vengine [--variants FILE] [--threads N] [COMMAND]\n"
 
--- `reach`: the squares that a piece of this word reaches on this board, or the fault of the word, or else the first of the
--- squares
+-- `reach`: the squares that a piece of this word reaches on this board, or the fault of the word, or else the first of
+-- the squares
 pub data SaysReach (word square own enemy : List ℕ) : ℕ → List ℕ → Type 0 where
   reached : (b : List Part) (from : Square) (cells : List (Option Cell)) → Spells word b
       → setup_of square own enemy ≡ Ok (from, cells) → SaysReach word square own enemy 0 (reach_text cells (terms b) from)
@@ -45,7 +45,8 @@ abbrev pub SaysOf : (Played → List ℕ) → Result Played GameFault → ℕ �
 SaysOf print (Ok g) status text = (status ≡ 0) × (text ≡ print g)
 SaysOf print (Err fault) status text = (status ≡ 3) × (text ≡ error_line (game.fault_text fault))
 
--- what is printed of the game that a game text of these lines says, where there are these sections, or the text's fault
+-- what is printed of the game that a game text of these lines says, where there are these sections, or the text's
+-- fault
 abbrev pub SaysOfGame : (Played → List ℕ) → List Section → List Line → ℕ → List ℕ → Type 0
 SaysOfGame print sections input status text = SaysOf print (game_of (entries sections) input) status text
 
@@ -73,7 +74,7 @@ abbrev pub Says : Option Asked → Contents → ℕ → List Line → ℕ → Li
 Says None files failed input status text = (status ≡ 2) × (text ≡ usage_line)
 Says (Some a) files failed input status text = SaysAsked a files failed input status text
 
--- What a run of these words says, where the files have these contents and failed so often, and the input has these lines.
--- Of a session, what it says before it begins.
+-- The status and the text of a run with these words, where the files have these contents and failed this number of
+-- times, and the input has these lines. Of a session it will be what is said before the session begins.
 unfoldable pub Shot : List (List ℕ) → Contents → ℕ → List Line → ℕ → List ℕ → Type 0
 Shot words files failed input status text = Says (asked words) files failed input status text

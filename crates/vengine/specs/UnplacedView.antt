@@ -1,4 +1,4 @@
--- The reason that the code gives, as the definitions have it.
+-- Why no piece is put on a square: the fault that the code gives, as the definitions have it.
 use Rattle.vengine.specs.declared.setup.ReachFault.{ReachFault}
 use Rattle.vengine.specs.declared.setup.ReachFault.TheVariants as reach
 use Rattle.vengine.specs.Setup.{Unplaced, NoSquare, Taken}

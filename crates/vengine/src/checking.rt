@@ -38,7 +38,8 @@ fn state_proof<S: Source>(
     Ok(read_proof_after(alloc, first, source)?)
 }
 
-// What a problem and the strategy after it state. The problem's first line is in the buffer; it is of a variant of these sections.
+// What a problem and the strategy after it state. The problem's first line is in the buffer; it is of a variant of these
+// sections.
 fn state_problem<S: Source>(
     alloc: Global,
     sections: &Sections,
@@ -46,14 +47,15 @@ fn state_problem<S: Source>(
     line: &mut LineBuf,
 ) -> Result<Proof, Halt<'static>>
     ensures heard { Heard (S.left source.old) (S.left source.new)
-        (λ lines. Said.lines_of_stated (entries sections.now) (line_text line.old ∷ lines) - 1)
-        (λ lines. States (Said.by_problem (problem_of (entries sections.now) (line_text line.old ∷ lines)) (line_text line.old ∷ lines)) result) }
+        (Said.lines_stated_after (entries sections.now) line.old)
+        (λ lines. States (Said.stated_after (entries sections.now) line.old lines) result) }
     ensures sound { IfOk result (λ p. AreSound p.game.rules p.strategy.nodes) }
     ensures cause { HasCause (S.faults source.old) (S.faults source.new) (IsUnheard result) }
 {
     let variants = load(alloc, sections)?;
     let problem = read_problem_after(alloc, &variants, source, line)?;
     let game = &problem.game;
+    // Tells the prover that the game's rules are fit and that it has at most 8,192 plies. Nothing is done.
     game.is_played();
     let strategy = read_strategy(alloc, game.rules(), source)?;
     Ok(Proof {

@@ -19,8 +19,10 @@ pub fn words_have_one_answer()
     ensures some { (words : List (List ℕ)) (files : Contents) (failed : ℕ) (input : List Line) → IsOneShot (asked words)
         → (status : ℕ) × (text : List ℕ) × Shot words files failed input status text }
     ensures once { (words : List (List ℕ)) (files : Contents) (input : List Line) (s s' : ℕ) (t t' : List ℕ)
-        → IsOneShot (asked words) → Shot words files 0 input s t → Shot words files 0 input s' t' → (s ≡ s') × (t ≡ t') }
-    ensures failing { (words : List (List ℕ)) (files : Contents) (failed : ℕ) (input : List Line) (status : ℕ) (text : List ℕ)
+        → IsOneShot (asked words) → Shot words files 0 input s t → Shot words files 0 input s' t'
+        → (s ≡ s') × (t ≡ t') }
+    ensures failing { (words : List (List ℕ)) (files : Contents) (failed : ℕ) (input : List Line)
+        (status : ℕ) (text : List ℕ)
         → IsOneShot (asked words) → Shot words files failed input status text
         → Shot words files 0 input status text ⊎ ((0 < failed) × SaysFault (File Failed) status text) }
 {}
@@ -28,7 +30,8 @@ pub fn words_have_one_answer()
 /// `check` answers `wins` only where the side of the goal wins the game of the input within the moves of the goal, against every
 /// legal defence.
 pub fn checked_games_are_won()
-    ensures { (variants : List Named) (input : List Line) (text : List ℕ) → SaysCheck variants input 0 text → IsWon variants input }
+    ensures { (variants : List Named) (input : List Line) (text : List ℕ)
+        → SaysCheck variants input 0 text → IsWon variants input }
 {
     good_strategies_win::<Node, Edge>();
 }

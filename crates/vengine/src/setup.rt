@@ -90,7 +90,9 @@ pub fn cell_at(cells: &Cells, at: u8) -> Option<Cell>
 // Puts a piece of the side on the square that the text names.
 #[tactic(auto, unfolding(crate::specs::Setup::placed))]
 fn place<'a>(side: Side, text: &'a str, cells: &mut Cells) -> Result<(), ReachFault<'a>>
-    ensures { MatchResult result (λ _. placed side cells.old text.now ≡ Ok cells.new) (λ why. placed side cells.old text.now ≡ Err (unplaced_of why)) }
+    ensures { MatchResult result
+        (λ _. placed side cells.old text.now ≡ Ok cells.new)
+        (λ why. placed side cells.old text.now ≡ Err (unplaced_of why)) }
 {
     let Some(square) = square_named(text.as_bytes()) else {
         return Err(ReachFault::BadSquare(text));
@@ -104,7 +106,9 @@ fn place<'a>(side: Side, text: &'a str, cells: &mut Cells) -> Result<(), ReachFa
 
 // Puts a piece of the side on each square that the text lists between its commas.
 fn place_each<'a>(side: Side, text: &'a str, cells: &mut Cells) -> Result<(), ReachFault<'a>>
-    ensures { MatchResult result (λ _. placed_all side (slice_split (λ b. b == 44) text.now) cells.old ≡ Ok cells.new) (λ why. placed_all side (slice_split (λ b. b == 44) text.now) cells.old ≡ Err (unplaced_of why)) }
+    ensures { MatchResult result
+        (λ _. placed_all side (slice_split (λ b. b == 44) text.now) cells.old ≡ Ok cells.new)
+        (λ why. placed_all side (slice_split (λ b. b == 44) text.now) cells.old ≡ Err (unplaced_of why)) }
 {
     match text.split_once(',') {
         None => place(side, text, cells),
@@ -118,7 +122,9 @@ fn place_each<'a>(side: Side, text: &'a str, cells: &mut Cells) -> Result<(), Re
 // Puts a piece of the side on each square of a list.
 #[tactic(auto, unfolding(crate::specs::Setup::texts_of, crate::specs::Setup::placed_all))]
 fn place_list<'a>(side: Side, list: &'a str, cells: &mut Cells) -> Result<(), ReachFault<'a>>
-    ensures { MatchResult result (λ _. placed_all side (texts_of list.now) cells.old ≡ Ok cells.new) (λ why. placed_all side (texts_of list.now) cells.old ≡ Err (unplaced_of why)) }
+    ensures { MatchResult result
+        (λ _. placed_all side (texts_of list.now) cells.old ≡ Ok cells.new)
+        (λ why. placed_all side (texts_of list.now) cells.old ≡ Err (unplaced_of why)) }
 {
     if list == "none" {
         return Ok(());
@@ -132,7 +138,9 @@ fn place_list<'a>(side: Side, list: &'a str, cells: &mut Cells) -> Result<(), Re
 /// square, or a square on which a piece stands already.
 #[tactic(auto, unfolding(crate::specs::Setup::setup_of))]
 pub fn set_up<'a>(square: &'a str, own: &'a str, enemy: &'a str) -> Result<Setup, ReachFault<'a>>
-    ensures setup { MatchResult result (λ s. setup_of square.now own.now enemy.now ≡ Ok (s.from, s.cells)) (λ why. setup_of square.now own.now enemy.now ≡ Err (unplaced_of why)) }
+    ensures setup { MatchResult result
+        (λ s. setup_of square.now own.now enemy.now ≡ Ok (s.from, s.cells))
+        (λ why. setup_of square.now own.now enemy.now ≡ Err (unplaced_of why)) }
     ensures on_board { IfOk result (λ s. s.from.0 < 120) }
 {
     let Some(from) = square_named(square.as_bytes()) else {

@@ -555,6 +555,80 @@ fn strategies_are_checked(rt: HostRuntime) -> Result<(), Fail> {
     Ok(())
 }
 
+/// A text that states its own rules, and with them the mate in two.
+const PROOF: &str = "strategy 2
+rules 8
+bishop = b
+king = k
+knight = n
+pawn = p
+promotionPieceTypes = nbrq
+queen = q
+rook = r
+startFen = rnbqkbnr/pppppppp/8/8/8/8/PPPPPPPP/RNBQKBNR w KQkq - 0 1
+start 7k/R7/5K2/8/8/8/8/8 w - - 0 1
+history 0
+goal white 2
+attacker white
+nodes 4
+node 0 2 7k/R7/5K2/8/8/8/8/8 w - - 0 1
+edge f6g6 1
+node 1 1 7k/R7/6K1/8/8/8/8/8 b - - 1 1
+edge h8g8 2
+node 2 1 6k1/R7/6K1/8/8/8/8/8 w - - 2 1
+edge a7a8 3
+node 3 0 R5k1/8/6K1/8/8/8/8/8 b - - 3 1
+end
+";
+
+/// The text with one part of it replaced.
+fn replaced(alloc: Global, text: &str, right: &str, wrong: &str) -> Result<String, Fail> {
+    let (before, after) = text.split_once(right).unwrap_or((text, ""));
+    let mut whole = String::from_str(alloc, before)?;
+    whole.push_str(wrong)?;
+    whole.push_str(after)?;
+    Ok(whole)
+}
+
+/// A part of the proof text, and what is there in its place.
+#[test]
+fn proof_texts_are_checked(rt: HostRuntime) -> Result<(), Fail> {
+    let rows = [
+        ("end", "end", "wins\n"),
+        ("goal white 2", "goal white 1", "error Verdict 1 Root\n"),
+        ("goal white 2\n", "", "error ProofFault 1 Header 13\n"),
+        ("rules 8", "rules 9", "error ProofFault 2 BadRules 11\n"),
+        (
+            "rook = r",
+            "rook = q",
+            "error ProofFault 3 RefusedRules SectionFault 7 LetterTwice q\n",
+        ),
+        (
+            "start 7k/R7/5K2/8/8/8/8/8",
+            "start 7k/R7/5K2/8/8/8/8",
+            "error ProofFault 4 BadStart 11 FenFault 2 Rank\n",
+        ),
+        (
+            "history 0",
+            "history 1",
+            "error ProofFault 5 BadHistory 13\n",
+        ),
+        (
+            "edge a7a8 3",
+            "edge a7a8 4",
+            "error ProofFault 6 BadBody StrategyFault 5 BadNumber 21\n",
+        ),
+    ];
+    let mut files = MemFiles::new(rt.alloc());
+    for (right, wrong, text) in rows {
+        let input = replaced(rt.alloc(), PROOF, right, wrong)?;
+        let (answered, sink) = ran(&rt, &mut files, &["check"], input.as_bytes(), &[], 1000)?;
+        assert_eq!(rt; sink.taken(), text.as_bytes(), "{wrong}");
+        assert_eq!(rt; answered, if text == "wins\n" { 0 } else { 3 }, "{wrong}");
+    }
+    Ok(())
+}
+
 /// Sections of which each has a parent, and a variant on a board of 5 by 5 squares.
 const SECTIONS: &str = "[a:chess]\nnMoveRule = 40\n[b:a]\ncastling = false\n\
     startFen = rnbqkbnr/pppppppp/8/8/8/8/PPPPPPPP/RNBQKBNR w - - 0 1\n\
