@@ -1,6 +1,6 @@
 -- The sets of a board after the writes of a move.
-use Rattle.std.proofs.Common.{◌≡◌, ℕ, Bool, true, false, if◌then◌else◌, Option, Some, None, List, length, ◌∙◌}
-use Rattle.std.specs.Prelude.{slice_set}
+use Rattle.std.proofs.Common.{◌≡◌, ℕ, Bool, true, false, ◌&&◌, not, if◌then◌else◌, Option, Some, None, List, length, refl, ◌∙◌}
+use Rattle.std.specs.Prelude.{is_some, slice_set}
 use Rattle.std.proofs.lemmas.List.{length-set}
 use Rattle.rules_model.specs.declared.board.Cell.{Cell}
 use Rattle.rules_model.specs.declared.board.Kind.{Kind}
@@ -10,13 +10,15 @@ use Rattle.rules_model.specs.declared.board.Square.{Square}
 use Rattle.rules_model.specs.declared.moves.Move.TheVariants.{Go, Castle, Drop}
 use Rattle.rules_model.specs.declared.moves.Placed.{Placed}
 use Rattle.rules_model.specs.declared.moves.Promo.{Promo}
+use Rattle.rules_model.specs.declared.moves.Promo.TheVariants.{Stays, Pawn, Plus}
 use Rattle.rules_model.specs.declared.rules.Rules.{Rules}
 use Rattle.rules_model.specs.Castling.{rook_target}
 use Rattle.rules_model.specs.Next.{castled, cells_after, emptied, fresh, gated, placed_on, promote, without_passed}
-use Rattle.rules_model.specs.Pawns.{behind, passes_by}
+use Rattle.rules_model.specs.Pawns.{behind, is_stays, passes_by}
 use Rattle.rules_model.specs.Squares.{cell_at}
 use Rattle.board_sets.specs.declared.sets.BoardSets.{BoardSets}
 use Rattle.board_sets.specs.Sets.{AreSets, AreSetsAfter}
+use Rattle.board_sets.specs.Written.{AreCarried, carried, carries}
 
 -- ---- no write changes the size of the board
 
@@ -49,12 +51,34 @@ four_writes rules side cells a b c d u v w x old one two three four size are fir
 
 -- ---- the moves
 
+-- a piece that goes as it is
+as_it_is : (rules : Rules) (o : Option Cell) → promote rules o Stays ≡ o
+as_it_is rules None = refl
+as_it_is rules (Some c) = refl
+
+both_hold : (a b c : Bool) (P : Type 0) → (a && not b && not c) ≡ true → (a ≡ true → b ≡ false → c ≡ false → P) → P
+both_hold true false false P e k = k refl refl refl
+both_hold true false true P e k = cc
+both_hold true true c P e k = cc
+both_hold false b c P e k = cc
+
 module _ (rules : Rules) (r : Repeat) (size : length r.cells ≡ 120) where
   pub go_sets : (from to : Square) (promo : Promo) (gate : Option Kind) (passed left new : BoardSets) → AreSets rules r.side (without_passed rules r from to) passed → AreSetsAfter rules r.side passed (λ cells. slice_set cells from.0 (gated r.side gate)) left → AreSetsAfter rules r.side left (λ cells. slice_set cells to.0 (promote rules (cell_at r.cells from.0) promo)) new → AreSets rules r.side (cells_after rules r (Go from to promo gate)) new
   unfolding cells_after
   go_sets from to promo gate passed left new are l n =
       let k = passed_size rules r from to size in
       n (slice_set (without_passed rules r from to) from.0 (gated r.side gate)) (same_size (without_passed rules r from to) from.0 (gated r.side gate) k) (l (without_passed rules r from to) k are)
+
+  carried_plainly : (from to : Square) (promo : Promo) (gate : Option Kind) (new : BoardSets) → is_stays promo ≡ true → is_some gate ≡ false → passes_by rules r from to.0 ≡ false → AreSets rules r.side (carried from.0 to.0 r.cells) new → AreSets rules r.side (cells_after rules r (Go from to promo gate)) new
+  unfolding cells_after
+  carried_plainly from to Stays None new stays none passes are = rw (passes, as_it_is rules (cell_at r.cells from.0)) are
+  carried_plainly from to Stays (Some kind) new stays none passes are = cc
+  carried_plainly from to (Pawn kind) gate new stays none passes are = cc
+  carried_plainly from to Plus gate new stays none passes are = cc
+
+  pub carry_sets : (from to : Square) (promo : Promo) (gate : Option Kind) (old new : BoardSets) → carries rules r from to promo gate ≡ true → AreSets rules r.side r.cells old → AreCarried old from.0 to.0 new → AreSets rules r.side (cells_after rules r (Go from to promo gate)) new
+  carry_sets from to promo gate old new is are carried_on =
+      both_hold (is_stays promo) (is_some gate) (passes_by rules r from to.0) _ is (λ stays none passes. carried_plainly from to promo gate new stays none passes (carried_on rules r.side r.cells size are))
 
   pub castle_sets : (from to rook : Square) (gate : Option Placed) (there new : BoardSets) → AreSets rules r.side (castled r.cells from to rook) there → AreSetsAfter rules r.side there (placed_on r.side gate) new → AreSets rules r.side (cells_after rules r (Castle from to rook gate)) new
   unfolding cells_after

@@ -2,6 +2,7 @@
 use Rattle.std.proofs.Common.{◌≡◌, ℕ, ◌+◌, ◌<◌, ◌≤◌, nat_lt, Bool, true, false, ◌&&◌, ◌||◌, not, ◌==◌, Option, Some, None, List, length, get_or, refl, ap, sym, ◌∙◌, arith}
 use Rattle.std.specs.Prelude.{slice_get, slice_set}
 use Rattle.std.proofs.Math.Bool.{or-false}
+use Rattle.std.proofs.lemmas.List.{length-set}
 use Rattle.std.specs.Option.{unwrap_or}
 use Rattle.std.proofs.lemmas.Option.{unwrap_or-slice_get}
 use Rattle.foundation.proofs.SetLemmas.{slice_get-set_same, slice_get-set_other}
@@ -17,7 +18,7 @@ use Rattle.square_set.proofs.Cases.{by_bool, by_equal}
 use Rattle.move_tables.proofs.BuildLaws.{beyond, member_step, other_step}
 use Rattle.board_sets.specs.declared.sets.BoardSets.{BoardSets}
 use Rattle.board_sets.specs.Sets.{AreSets, AreSetsAfter, is_any_pawn}
-use Rattle.board_sets.specs.Written.{AreWith, AreWithout}
+use Rattle.board_sets.specs.Written.{AreCarried, AreWith, AreWithout, carried, IsCarried}
 
 -- ---- a square is written
 
@@ -53,6 +54,29 @@ put_sets rules side at c old mid new l m n cells size are =
       kings = λ s. written (is_own_king rules side) cells at c s (has old.kings s) (has mid.kings s) (has new.kings s) k (are.kings s) (m.kings s) (n.kings s);
       enemy_kings = λ s. written (is_own_king rules (other side)) cells at c s (has old.enemy_kings s) (has mid.enemy_kings s) (has new.enemy_kings s) k (are.enemy_kings s) (m.enemy_kings s) (n.enemy_kings s);
       pawns = λ s. written (is_any_pawn rules) cells at c s (has old.pawns s) (has mid.pawns s) (has new.pawns s) k (are.pawns s) (m.pawns s) (n.pawns s);
+    }
+
+-- ---- a piece goes as it is
+
+left_empty : (f : Option Cell → Bool) (cells : List (Option Cell)) (from s : ℕ) → f None ≡ false → from < length cells → f (cell_at (slice_set cells from None) s) ≡ (f (cell_at cells s) && not (s == from))
+left_empty f cells from s none l =
+    sym (cell_written f cells from None s l) ∙ ap (λ b. (f (cell_at cells s) && not (s == from)) || (b && (s == from))) none ∙ or-false (f (cell_at cells s) && not (s == from))
+
+-- of one set
+carried_one : (f : Option Cell → Bool) (cells : List (Option Cell)) (from to : ℕ) (old new : Set) → f None ≡ false → length cells ≡ 120 → from < 120 → to < 120 → ((s : ℕ) → has old s ≡ f (cell_at cells s)) → IsCarried old from to new → (s : ℕ) → has new s ≡ f (cell_at (carried from to cells) s)
+carried_one f cells from to old new none size l m are is s =
+    let k : to < length (slice_set cells from None) = omega (arith, m, length-set cells from None ∙ size) in
+    let first = left_empty f cells from s none (omega (arith, l, size)) in
+    is s ∙ rw (are s, are from, sym first) (cell_written f (slice_set cells from None) to (cell_at cells from) s k)
+
+pub carried_sets : (from to : ℕ) (old new : BoardSets) → from < 120 → to < 120 → IsCarried old.own from to new.own → IsCarried old.enemies from to new.enemies → IsCarried old.kings from to new.kings → IsCarried old.enemy_kings from to new.enemy_kings → IsCarried old.pawns from to new.pawns → AreCarried old from to new
+carried_sets from to old new l m own enemies kings enemy_kings pawns rules side cells size are =
+    record {
+      own = carried_one (is_own side (λ kind. true)) cells from to old.own new.own refl size l m are.own own;
+      enemies = carried_one (is_own (other side) (λ kind. true)) cells from to old.enemies new.enemies refl size l m are.enemies enemies;
+      kings = carried_one (is_own_king rules side) cells from to old.kings new.kings refl size l m are.kings kings;
+      enemy_kings = carried_one (is_own_king rules (other side)) cells from to old.enemy_kings new.enemy_kings refl size l m are.enemy_kings enemy_kings;
+      pawns = carried_one (is_any_pawn rules) cells from to old.pawns new.pawns refl size l m are.pawns pawns;
     }
 
 -- ---- the squares below one are read

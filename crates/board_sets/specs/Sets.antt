@@ -1,5 +1,5 @@
 -- The sets of a board's pieces, by whose move it is.
-use Rattle.std.specs.Prelude.{◌≡◌, ℕ, Bool, true, false, not, length, Option, Some, None, List}
+use Rattle.std.specs.Prelude.{◌≡◌, ℕ, Bool, false, not, length, Option, Some, None, List}
 use Rattle.rules_model.specs.declared.board.Cell.{Cell}
 use Rattle.rules_model.specs.declared.board.Side.{Side}
 use Rattle.rules_model.specs.declared.rules.Rules.{Rules}

@@ -1,14 +1,20 @@
 -- Sets of which one square is written.
-use Rattle.std.specs.Prelude.{◌≡◌, ℕ, Bool, true, ◌&&◌, ◌||◌, ◌==◌, Option}
+use Rattle.std.specs.Prelude.{◌≡◌, ℕ, Bool, true, not, ◌&&◌, ◌||◌, ◌==◌, is_some, Option, None, List, slice_set}
 use Rattle.rules_model.specs.declared.board.Cell.{Cell}
+use Rattle.rules_model.specs.declared.board.Kind.{Kind}
+use Rattle.rules_model.specs.declared.board.Repeat.{Repeat}
 use Rattle.rules_model.specs.declared.board.Side.{Side}
+use Rattle.rules_model.specs.declared.board.Square.{Square}
+use Rattle.rules_model.specs.declared.moves.Promo.{Promo}
 use Rattle.rules_model.specs.declared.rules.Rules.{Rules}
 use Rattle.rules_model.specs.Attacks.{is_own, is_own_king}
+use Rattle.rules_model.specs.Pawns.{is_stays, passes_by}
 use Rattle.rules_model.specs.Sides.{other}
+use Rattle.rules_model.specs.Squares.{cell_at}
 use Rattle.square_set.specs.declared.Set.{Set}
 use Rattle.square_set.specs.Members.{has, IsWithout}
 use Rattle.board_sets.specs.declared.sets.BoardSets.{BoardSets}
-use Rattle.board_sets.specs.Sets.{is_any_pawn}
+use Rattle.board_sets.specs.Sets.{AreSetsAfter, is_any_pawn}
 
 -- the new set has the squares of the old one, and this one besides where it is wanted
 abbrev pub IsWith : Set → ℕ → Bool → Set → Type 0
@@ -29,3 +35,22 @@ pub record AreWithout (old : BoardSets) (at : ℕ) (new : BoardSets) : Type 0 wh
   pub kings : IsWithout old.kings at new.kings
   pub enemy_kings : IsWithout old.enemy_kings at new.enemy_kings
   pub pawns : IsWithout old.pawns at new.pawns
+
+-- ---- a piece goes as it is
+
+-- the board, once what stands on a square has gone to another
+abbrev pub carried : ℕ → ℕ → List (Option Cell) → List (Option Cell)
+carried from to cells = slice_set (slice_set cells from None) to (cell_at cells from)
+
+-- the new set has the square where the piece went if the old one had the square that it left
+abbrev pub IsCarried : Set → ℕ → ℕ → Set → Type 0
+IsCarried old from to new =
+    (s : ℕ) → has new s ≡ (((has old s && not (s == from)) && not (s == to)) || (has old from && (s == to)))
+
+-- of each board whose sets the old ones are, the new ones are those once the piece has gone
+abbrev pub AreCarried : BoardSets → ℕ → ℕ → BoardSets → Type 0
+AreCarried old from to new = (rules : Rules) (side : Side) → AreSetsAfter rules side old (carried from to) new
+
+-- a move that carries a piece as it is writes no square but its two
+abbrev pub carries : Rules → Repeat → Square → Square → Promo → Option Kind → Bool
+carries rules r from to promo gate = is_stays promo && not (is_some gate) && not (passes_by rules r from to.0)

@@ -2,16 +2,34 @@
 ghost use Rattle.std.specs.Prelude.{◌≡◌, ◌<◌};
 ghost use Rattle.rules_model.specs.Fit.{IsFit};
 ghost use Rattle.rules_model.specs.Moves.{IsFitMove};
+ghost use Rattle.rules_model.specs.declared.moves.Move.TheVariants.{Go};
 ghost use Rattle.rules_model.specs.Next as Next;
 ghost use Rattle.rules_model.specs.Repeats.{repeat_of};
 ghost use Rattle.board_sets.specs.Sets.{AreSets, AreSetsAfter};
+ghost use Rattle.board_sets.specs.Written.{carries};
 
 use crate::sets::BoardSets;
 use next_position::{behind, fresh, gated, promote};
 use rules_model::castling::rook_target;
-use rules_model::passing::passes_by;
+use rules_model::passing::{is_stays, passes_by};
 use rules_model::sizes::position_sizes;
-use rules_model::{Cells, Move, Placed, Position, Rules, Side, Square};
+use rules_model::{Kind, Move, Placed, Position, Promo, Rules, Side, Square};
+
+/// Whether a piece goes as it is, and no square is written but the two of the move.
+fn carries(
+    rules: &Rules,
+    p: &Position,
+    from: Square,
+    to: Square,
+    promo: Promo,
+    gate: Option<Kind>,
+) -> bool
+    requires rules { IsFit rules.now }
+    requires from { from.0 < 120 }
+    ensures { result ≡ carries rules.now (repeat_of p.now) from to promo gate }
+{
+    is_stays(promo) && gate.is_none() && !passes_by(rules, p, from, to)
+}
 
 impl BoardSets {
     /// The sets once nothing stands on the square, where there is one.
@@ -83,6 +101,29 @@ impl BoardSets {
         }
     }
 
+    /// The sets once a piece has gone, become what the move says and taken what it takes.
+    fn gone(
+        self,
+        rules: &Rules,
+        p: &Position,
+        from: Square,
+        to: Square,
+        promo: Promo,
+        gate: Option<Kind>,
+    ) -> BoardSets
+        requires rules { IsFit rules.now }
+        requires from { from.0 < 120 }
+        requires sets { AreSets rules.now p.now.side p.now.cells self }
+        ensures { AreSets rules.now p.now.side (Next.cells_after rules.now (repeat_of p.now) (Go from to promo gate)) result }
+    {
+        position_sizes(p);
+        let side = p.side;
+        let piece = promote(rules, p.cells[from.0 as usize], promo);
+        let sets = self.without_passed(rules, p, from, to);
+        let left = sets.put(rules, side, from, gated(side, gate));
+        left.put(rules, side, to, piece)
+    }
+
     /// The sets after the move, still by the side that moved.
     pub fn after(self, rules: &Rules, p: &Position, m: &Move) -> BoardSets
         requires rules { IsFit rules.now }
@@ -99,10 +140,11 @@ impl BoardSets {
                 promo,
                 gate,
             } => {
-                let piece = promote(rules, p.cells[from.0 as usize], promo);
-                let sets = self.without_passed(rules, p, from, to);
-                let left = sets.put(rules, side, from, gated(side, gate));
-                left.put(rules, side, to, piece)
+                if carries(rules, p, from, to, promo, gate) {
+                    self.carried(from, to)
+                } else {
+                    self.gone(rules, p, from, to, promo, gate)
+                }
             }
             Move::Castle {
                 from,

@@ -4,7 +4,7 @@ ghost use Rattle.rules_model.specs.Attacks.{is_own};
 ghost use Rattle.square_set.specs.Members.{has};
 ghost use Rattle.board_sets.specs.Sets.{AreSets, AreSetsAfter, AreTurned, IsOccupiedBy, SetsStayOnBoard};
 ghost use Rattle.board_sets.specs.Sets.{HoldsPawns, HoldsPieces, is_any_pawn};
-ghost use Rattle.board_sets.specs.Written.{IsWith, AreWith, AreWithout};
+ghost use Rattle.board_sets.specs.Written.{AreCarried, AreWith, AreWithout, IsCarried, IsWith};
 
 use rules_model::attacks::is_own_king;
 use rules_model::kinds::names;
@@ -59,6 +59,16 @@ fn with_if(set: Set, at: u8, wanted: bool) -> Set
     ensures { IsWith set at wanted result }
 {
     if wanted { set.with(at) } else { set }
+}
+
+/// The set once what stands on a square has gone to another.
+fn carried(set: Set, from: u8, to: u8) -> Set
+    requires from { from < 128 }
+    requires to { to < 128 }
+    ensures { IsCarried set from to result }
+{
+    let others = set.without(from).without(to);
+    with_if(others, to, set.has(from))
 }
 
 /// The sets of a board.
@@ -138,6 +148,21 @@ impl BoardSets {
             kings: with_if(self.kings, at, is_own_king(rules, side, cell)),
             enemy_kings: with_if(self.enemy_kings, at, is_own_king(rules, side.other(), cell)),
             pawns: with_if(self.pawns, at, is_pawn(rules, cell)),
+        }
+    }
+
+    /// The sets once what stands on a square has gone to another. What it is need not be looked at.
+    pub(crate) fn carried(self, from: Square, to: Square) -> BoardSets
+        requires from { from.0 < 120 }
+        requires to { to.0 < 120 }
+        ensures { AreCarried self from.0 to.0 result }
+    {
+        BoardSets {
+            own: carried(self.own, from.0, to.0),
+            enemies: carried(self.enemies, from.0, to.0),
+            kings: carried(self.kings, from.0, to.0),
+            enemy_kings: carried(self.enemy_kings, from.0, to.0),
+            pawns: carried(self.pawns, from.0, to.0),
         }
     }
 

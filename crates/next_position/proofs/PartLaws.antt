@@ -1,5 +1,9 @@
 -- The parts make up the position after the move.
-use Rattle.std.proofs.Common.{◌≡◌, ℕ, Bool, true, false, ◌&&◌, not, if◌then◌else◌, List, [], ◌∷◌, Option, Some, None, refl, ap, ◌∙◌}
+use Rattle.std.proofs.Common.{◌≡◌, ◌≢◌, ℕ, ◌<◌, ◌≤◌, nat_lt, Bool, true, false, ◌&&◌, not, if◌then◌else◌, List, [], ◌∷◌, Option, Some, None, refl, ap, ◌∙◌, arith}
+use Rattle.std.specs.Prelude.{is_some, slice_set}
+use Rattle.std.proofs.lemmas.Bool.{not-true}
+use Rattle.foundation.proofs.CountLemmas.{first_below-same, last_below-same}
+use Rattle.foundation.proofs.SetLemmas.{slice_get-set_other}
 use Rattle.rules_model.specs.declared.board.Cell.{Cell}
 use Rattle.rules_model.specs.declared.board.Position.{Position}
 use Rattle.rules_model.specs.declared.board.Repeat.{Repeat}
@@ -12,12 +16,15 @@ use Rattle.rules_model.specs.declared.moves.Move.{Move}
 use Rattle.rules_model.specs.declared.moves.Move.TheVariants.{Go, Castle, Drop}
 use Rattle.rules_model.specs.declared.rules.Rules.{Rules}
 use Rattle.rules_model.specs.Repeats.{repeat_of}
-use Rattle.rules_model.specs.Attacks.{king_attacked}
+use Rattle.rules_model.specs.Attacks.{is_own, king_attacked}
 use Rattle.rules_model.specs.Sides.{other}
 use Rattle.rules_model.specs.Regions.{castling_square}
-use Rattle.rules_model.specs.Castling.{holds_right, rook_file}
-use Rattle.rules_model.specs.Next.{cells_after, checks_after, enters, ep_after, ep_where, gates_after, hands_after, is_double_step, keeps_right, leaves, next, next_counter, next_number, next_repeat, rights_after, rook_stays}
-use Rattle.next_position.specs.Parts.{cells_by, checks_left, gates_by, hands_by, is_outermost, is_passing, passed_over, rights_by, rook_left, rooks_left, standing, taken_by}
+use Rattle.rules_model.specs.Castling.{holds_right, rook_beyond, rook_file, rook_on}
+use Rattle.rules_model.specs.Kinds.{masks}
+use Rattle.rules_model.specs.Squares.{cell_at, flat}
+use Rattle.rules_model.specs.Next.{cells_after, checks_after, enters, ep_after, ep_where, fresh, gated, gates_after, hands_after, is_double_step, keeps_right, leaves, next, next_counter, next_number, next_repeat, promote, rights_after, rook_stays}
+use Rattle.next_position.specs.declared.rights.Rooks.{Rooks}
+use Rattle.next_position.specs.Parts.{cells_by, checks_left, gates_by, hands_by, is_apart, is_on_rank, is_outermost, is_passing, passed_over, rights_by, rights_where, rook_left, rooks_left, standing, taken_by}
 
 pub cells_after-by : (rules : Rules) (r : Repeat) (m : Move) → cells_after rules r m ≡ cells_by rules r.side (is_passing rules r m) m r.cells
 unfolding cells_after
@@ -73,6 +80,84 @@ pub rights_after-by : (rules : Rules) (r : Repeat) (m : Move) (later : List (Opt
 unfolding rights_after
 rights_after-by rules r m later =
     rw (keeps_right-by rules r m later White Kingside, keeps_right-by rules r m later White Queenside, keeps_right-by rules r m later Black Kingside, keeps_right-by rules r m later Black Queenside)
+
+-- ---- rights where the move leaves the castling rank alone
+
+off_rank : (rules : Rules) (side : Side) (s f : ℕ) → is_on_rank rules side s ≡ false → f < 12 → s ≢ castling_square rules side f
+off_rank rules side s f off l e = absurd (grind (off, e, arith))
+
+-- a square that none of the writes is on
+unwritten : (cells : List (Option Cell)) (at s : ℕ) (c : Option Cell) → at ≢ s → cell_at (slice_set cells at c) s ≡ cell_at cells s
+unwritten cells at s c apart = ap (λ o. flat o) (slice_get-set_other cells at s c apart)
+
+and3 : (a b c : Bool) (P : Type 0) → (not a && not b && not c) ≡ true → (a ≡ false → b ≡ false → c ≡ false → P) → P
+and3 false false false P e k = k refl refl refl
+and3 false false true P e k = cc
+and3 false true c P e k = cc
+and3 true b c P e k = cc
+
+as_before : (rules : Rules) (side mover : Side) (passing : Bool) (m : Move) (cells : List (Option Cell)) (f : ℕ) → is_apart rules side passing m ≡ true → f < 12
+    → cell_at (cells_by rules mover passing m cells) (castling_square rules side f) ≡ cell_at cells (castling_square rules side f)
+as_before rules side mover passing (Go from to promo gate) cells f apart l =
+    and3 passing (is_on_rank rules side from.0) (is_on_rank rules side to.0) _ apart
+    (λ none left entered.
+    rw (
+      none,
+      unwritten (slice_set cells from.0 (gated mover gate)) to.0 (castling_square rules side f) (promote rules (cell_at cells from.0) promo) (off_rank rules side to.0 f entered l),
+      unwritten cells from.0 (castling_square rules side f) (gated mover gate) (off_rank rules side from.0 f left l),
+    ))
+as_before rules side mover passing (Castle from to rook gate) cells f apart l = cc
+as_before rules side mover passing (Drop kind to) cells f apart l =
+    unwritten cells to.0 (castling_square rules side f) (Some (fresh mover kind)) (off_rank rules side to.0 f (not-true (is_on_rank rules side to.0) apart) l)
+
+same_rook : (rules : Rules) (later cells : List (Option Cell)) (side : Side) → rules.files ≤ 12 → ((f : ℕ) → f < 12 → cell_at later (castling_square rules side f) ≡ cell_at cells (castling_square rules side f))
+    → (wing : Wing) → rook_file rules later side wing ≡ rook_file rules cells side wing
+unfolding rook_file rook_on
+same_rook rules later cells side fit same Kingside =
+    last_below-same (rook_beyond rules later side Kingside) (rook_beyond rules cells side Kingside) rules.files
+    (λ f l. ap (λ o. nat_lt rules.castle_king f && is_own side (masks rules.castle_rooks) o) (same f (omega (arith, l, fit))))
+same_rook rules later cells side fit same Queenside =
+    first_below-same (rook_beyond rules later side Queenside) (rook_beyond rules cells side Queenside) rules.files
+    (λ f l. ap (λ o. nat_lt f rules.castle_king && is_own side (masks rules.castle_rooks) o) (same f (omega (arith, l, fit))))
+
+still : (b : Bool) (file : ℕ) → is_some (if b then Some file else None) ≡ is_outermost (if b then Some file else None) (Some file)
+still true file = grind arith
+still false file = refl
+
+still_standing : (rules : Rules) (side : Side) (m : Move) (file : Option ℕ) → is_some (standing rules side m file) ≡ is_outermost (standing rules side m file) file
+still_standing rules side m None = refl
+still_standing rules side m (Some file) = still (not (leaves m (castling_square rules side file)) && not (enters m (castling_square rules side file))) file
+
+where_left : (b : Bool) (rook later : Option ℕ) → is_some rook ≡ is_outermost rook later → is_some (if b then rook else None) ≡ is_outermost (if b then rook else None) later
+where_left true rook later e = e
+where_left false rook later e = refl
+
+still_left : (rules : Rules) (r : Repeat) (m : Move) (side : Side) (wing : Wing) → is_some (rook_left rules r m side wing) ≡ is_outermost (rook_left rules r m side wing) (rook_file rules r.cells side wing)
+still_left rules r m side wing =
+    where_left (holds_right r.rights side wing && not (leaves m (castling_square rules side rules.castle_king))) (standing rules side m (rook_file rules r.cells side wing)) (rook_file rules r.cells side wing)
+    (still_standing rules side m (rook_file rules r.cells side wing))
+
+by_rank : (rules : Rules) (r : Repeat) (m : Move) (later : List (Option Cell)) (side : Side) (apart : Bool)
+    → (apart ≡ true → (wing : Wing) → rook_file rules later side wing ≡ rook_file rules r.cells side wing)
+    → rights_where rules later side (rooks_left rules r m side) apart ≡ rights_by rules later side (rooks_left rules r m side)
+by_rank rules r m later side false same = refl
+by_rank rules r m later side true same =
+    rw (same refl Kingside, same refl Queenside, still_left rules r m side Kingside, still_left rules r m side Queenside)
+
+-- either way they are those by the pieces after the move
+rights_where-by : (rules : Rules) (r : Repeat) (m : Move) (passing : Bool) (side : Side) → rules.files ≤ 12
+    → rights_where rules (cells_by rules r.side passing m r.cells) side (rooks_left rules r m side) (is_apart rules side passing m)
+    ≡ rights_by rules (cells_by rules r.side passing m r.cells) side (rooks_left rules r m side)
+rights_where-by rules r m passing side fit =
+    by_rank rules r m (cells_by rules r.side passing m r.cells) side (is_apart rules side passing m)
+    (λ apart. same_rook rules (cells_by rules r.side passing m r.cells) r.cells side fit (λ f l. as_before rules side r.side passing m r.cells f apart l))
+
+-- the rights of a side as the code finds them
+pub rights_written : (rules : Rules) (r : Repeat) (m : Move) (later : List (Option Cell)) (passing : Bool) (side : Side) → rules.files ≤ 12
+    → later ≡ cells_by rules r.side passing m r.cells → {rooks : Rooks} {apart : Bool} {kept : List Bool} → rooks ≡ rooks_left rules r m side
+    → apart ≡ is_apart rules side passing m → kept ≡ rights_where rules later side rooks apart → kept ≡ rights_by rules later side (rooks_left rules r m side)
+rights_written rules r m later passing side fit cells rooks_are apart_is kept_are =
+    kept_are ∙ rw (rooks_are, apart_is, cells) (rights_where-by rules r m passing side fit)
 
 -- ---- the position
 

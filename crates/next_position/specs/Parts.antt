@@ -1,6 +1,6 @@
 -- The parts of the position after a move, each by what it takes from the position before it: what a part of the code can see
 -- while the position changes in place.
-use Rattle.std.specs.Prelude.{ℕ, ◌-◌, List, [], ◌∷◌, Bool, false, ◌&&◌, not, if◌then◌else◌, Option, Some, None, slice_index, slice_set}
+use Rattle.std.specs.Prelude.{ℕ, ◌-◌, List, [], ◌∷◌, Bool, false, ◌&&◌, not, nat_le, nat_lt, is_some, if◌then◌else◌, Option, Some, None, slice_index, slice_set}
 use Rattle.rules_model.specs.declared.board.Cell.{Cell}
 use Rattle.rules_model.specs.declared.board.Repeat.{Repeat}
 use Rattle.rules_model.specs.declared.board.Side.{Side}
@@ -83,6 +83,24 @@ is_outermost (Some file) later = is_at file later
 abbrev pub rights_by : Rules → List (Option Cell) → Side → Rooks → List Bool
 rights_by rules later side rooks =
     is_outermost rooks.kingside (rook_file rules later side Kingside) ∷ is_outermost rooks.queenside (rook_file rules later side Queenside) ∷ []
+
+-- the square is of the side's castling rank
+abbrev pub is_on_rank : Rules → Side → ℕ → Bool
+is_on_rank rules side s = nat_le (castling_square rules side 0) s && nat_lt s (castling_square rules side 12)
+
+-- the move leaves alone all squares of the side's castling rank, as is plain at once
+abbrev pub is_apart : Rules → Side → Bool → Move → Bool
+is_apart rules side passing (Go from to promo gate) = not passing && not (is_on_rank rules side from.0) && not (is_on_rank rules side to.0)
+is_apart rules side passing (Castle from to rook gate) = false
+is_apart rules side passing (Drop kind to) = not (is_on_rank rules side to.0)
+
+-- each rook that was left is the outermost one still
+abbrev pub rights_kept : Rooks → List Bool
+rights_kept rooks = is_some rooks.kingside ∷ is_some rooks.queenside ∷ []
+
+-- a side's rights after the move, by whether it leaves the castling rank alone
+abbrev pub rights_where : Rules → List (Option Cell) → Side → Rooks → Bool → List Bool
+rights_where rules later side rooks apart = if apart then rights_kept rooks else rights_by rules later side rooks
 
 -- ---- gates
 

@@ -73,7 +73,7 @@ pub(crate) fn is_counted(rules: &Rules, cells: &Cells, side: Side) -> bool
     rules.check_counting && king_attacked(rules, cells, side.other())
 }
 
-/// Takes one from the checks that the side has still to give, if it gives one that counts.
+/// Takes one from the checks that the side has still to give, where some are left and it gives one that counts.
 pub fn count_check(p: &mut Position, side: Side, gives: bool)
     ensures { p.new ≡ record p.old { checks = Parts.checks_left gives side p.old.checks } }
 {

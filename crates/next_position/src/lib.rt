@@ -56,9 +56,11 @@ pub fn make_but_checks(rules: &Rules, p: &mut Position, m: &Move)
     pieces::write(rules, side, passing, m, &mut p.cells);
     hands::change(rules, side, taken, m, &mut p.hands);
     gates::close(rules, m, &mut p.gates);
+    let white_apart = rights::is_apart(rules, Side::White, passing, m);
+    let black_apart = rights::is_apart(rules, Side::Black, passing, m);
     p.rights = [
-        rights::kept(rules, &p.cells, Side::White, white),
-        rights::kept(rules, &p.cells, Side::Black, black),
+        rights::kept(rules, &p.cells, Side::White, white, white_apart),
+        rights::kept(rules, &p.cells, Side::Black, black, black_apart),
     ];
     p.ep = passing::ep_square(rules, &p.cells, side, passed);
     p.side = side.other();

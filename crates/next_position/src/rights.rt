@@ -107,11 +107,38 @@ fn is_outermost(rules: &Rules, cells: &Cells, side: Side, wing: Wing, rook: Opti
     }
 }
 
-/// The rights that the side keeps, by the pieces after the move.
-pub(crate) fn kept(rules: &Rules, cells: &Cells, side: Side, rooks: Rooks) -> [bool; 2]
+/// Whether the square is of the side's castling rank.
+fn is_on_rank(rules: &Rules, side: Side, at: Square) -> bool
     requires { IsFit rules.now }
-    ensures { result ≡ Parts.rights_by rules.now cells.now side rooks }
+    ensures { result ≡ Parts.is_on_rank rules.now side at.0 }
 {
+    let first = castling_square(rules, side, 0).0;
+    first <= at.0 && at.0 < first + 12
+}
+
+/// Whether the move plainly leaves alone all squares of the side's castling rank. `passing` says whether it takes a pawn in passing.
+pub(crate) fn is_apart(rules: &Rules, side: Side, passing: bool, m: &Move) -> bool
+    requires { IsFit rules.now }
+    ensures { result ≡ Parts.is_apart rules.now side passing m.now }
+{
+    match *m {
+        Move::Go { from, to, .. } => {
+            !passing && !is_on_rank(rules, side, from) && !is_on_rank(rules, side, to)
+        }
+        Move::Castle { .. } => false,
+        Move::Drop { to, .. } => !is_on_rank(rules, side, to),
+    }
+}
+
+/// The rights that the side keeps, by the pieces after the move. Where the move leaves the castling rank alone, as `apart` says, they
+/// are not looked at.
+pub(crate) fn kept(rules: &Rules, cells: &Cells, side: Side, rooks: Rooks, apart: bool) -> [bool; 2]
+    requires { IsFit rules.now }
+    ensures { result ≡ Parts.rights_where rules.now cells.now side rooks apart }
+{
+    if apart {
+        return [rooks.kingside.is_some(), rooks.queenside.is_some()];
+    }
     [
         is_outermost(rules, cells, side, Wing::Kingside, rooks.kingside),
         is_outermost(rules, cells, side, Wing::Queenside, rooks.queenside),

@@ -101,11 +101,11 @@ fn kingside_rook(rules: &Rules, cells: &Cells, side: Side) -> Option<u8>
     ensures is { result ≡ last_below (Castling.rook_beyond rules.now cells.now side Kingside) rules.now.files }
     ensures on_board { IfSome result (λ f. f < rules.now.files) }
 {
-    let mut above = rules.files;
-    while above > 0 {
-        above -= 1;
-        if above > rules.castle_king && rook_on(rules, cells, side, above) {
-            return Some(above);
+    let mut file = rules.files;
+    while file > 0 {
+        file -= 1;
+        if file > rules.castle_king && rook_on(rules, cells, side, file) {
+            return Some(file);
         }
     }
     None
@@ -118,13 +118,12 @@ fn queenside_rook(rules: &Rules, cells: &Cells, side: Side) -> Option<u8>
     ensures is { result ≡ first_below (Castling.rook_beyond rules.now cells.now side Queenside) rules.now.files }
     ensures on_board { IfSome result (λ f. f < rules.now.files) }
 {
-    let mut found = None;
     for file in 0..rules.files {
-        if found.is_none() && file < rules.castle_king && rook_on(rules, cells, side, file) {
-            found = Some(file);
+        if file < rules.castle_king && rook_on(rules, cells, side, file) {
+            return Some(file);
         }
     }
-    found
+    None
 }
 
 /// The file of the side's castling rook: the outermost on that side of the king's file.

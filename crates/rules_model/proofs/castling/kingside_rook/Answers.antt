@@ -8,5 +8,5 @@ use Rattle.rules_model.proofs.castling.kingside_rook.Goals as goal
 pub returns-clause-is : goal.returns-clause-is
 returns-clause-is c =
     let rook = rook_beyond c.args.rules.now c.args.cells.now c.args.side Kingside in
-    let none : c.loop-above.above ≡ 0 = omega (arith, c.loop-above-test.false) in
-    sym (c.loop-above.invariant.inner ∙ ap (last_below rook) none ∙ last_below-zero rook)
+    let none : c.loop-file.file ≡ 0 = omega (arith, c.loop-file-test.false) in
+    sym (c.loop-file.invariant.inner ∙ ap (last_below rook) none ∙ last_below-zero rook)

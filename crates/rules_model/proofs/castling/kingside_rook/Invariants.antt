@@ -4,11 +4,11 @@ use Rattle.rules_model.specs.declared.board.Wing.TheVariants.{Kingside}
 use Rattle.rules_model.specs.Castling.{rook_beyond}
 use Rattle.rules_model.proofs.castling.kingside_rook.Given as goal
 
-abbrev pub invariant-loop-above : goal.invariant-loop-above
-invariant-loop-above l = record {
-  inner : last_below (rook_beyond l.rules l.cells l.side Kingside) l.rules.files ≡ last_below (rook_beyond l.rules l.cells l.side Kingside) l.above;
-  within : l.above ≤ l.rules.files;
+abbrev pub invariant-loop-file : goal.invariant-loop-file
+invariant-loop-file l = record {
+  inner : last_below (rook_beyond l.rules l.cells l.side Kingside) l.rules.files ≡ last_below (rook_beyond l.rules l.cells l.side Kingside) l.file;
+  within : l.file ≤ l.rules.files;
 }
 
-abbrev pub decreases-loop-above : goal.decreases-loop-above
-decreases-loop-above l = l.above
+abbrev pub decreases-loop-file : goal.decreases-loop-file
+decreases-loop-file l = l.file
