@@ -71,7 +71,7 @@ fn spot_of_terms(
     Ok(spot)
 }
 
-/// The terms of the kind.
+/// The terms of the kind: none where the variant has no such kind.
 pub fn terms_of(rules: &Rules, kind: Kind) -> &[Term]
     ensures { result.now ≡ Kinds.terms_of rules.now kind }
 {

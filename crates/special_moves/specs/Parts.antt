@@ -20,6 +20,8 @@ use Rattle.rules_model.specs.Kinds.{is_pawn}
 use Rattle.rules_model.specs.Moves.{IsFitMove}
 use Rattle.rules_model.specs.Regions.{first_rank, in_region}
 use Rattle.rules_model.specs.Squares.{cell_at, square_on}
+use Rattle.square_set.specs.declared.Set.{Set}
+use Rattle.square_set.specs.Members.{has}
 use Rattle.piece_moves.specs.Parts.{IsChosen, IsMoveFrom}
 use Rattle.special_moves.specs.Castles.{open_castle}
 
@@ -85,6 +87,10 @@ takes_drops rules r s = is_none (cell_at r.cells s) && in_region rules.drop_regi
 -- and one of the largest board
 abbrev pub is_drop_square : Rules → Repeat → ℕ → Bool
 is_drop_square rules r s = nat_lt s 120 && takes_drops rules r s
+
+-- the set is that of these squares
+abbrev pub AreDropSquares : Rules → Repeat → Set → Type 0
+AreDropSquares rules r squares = (s : ℕ) → has squares s ≡ is_drop_square rules r s
 
 -- a piece of the kind may stand on the square once it was dropped there: no pawn where pawns are barred, and none beside another that
 -- may not be doubled

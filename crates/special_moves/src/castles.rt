@@ -20,8 +20,7 @@ use attack_tables::{Tables, cell_on};
 use board_sets::{BoardSets, sets_of};
 use move_sink::MoveSink;
 use rules_model::castling::{
-    CastleSquares, castle_of, castling_on, castling_square, holds_right, is_rook, rook_target,
-    rook_to_file,
+    CastleSquares, castle_of, castling_square, holds_right, is_rook, rook_target, rook_to_file,
 };
 use rules_model::kinds::in_hand;
 use rules_model::{Cell, KINDS, Kind, Move, Placed, Position, Rules, Side, Square, Wing};
@@ -124,8 +123,11 @@ fn castles_on(
     match castle_of(rules, &p.cells, p.side, wing) {
         None => false,
         Some(castle) => {
+            if !is_castle(&castle, from, to, rook) {
+                return false;
+            }
             let sets = sets_of(rules, &p.cells, p.side);
-            is_castle(&castle, from, to, rook) && is_open(rules, tables, p, &sets, &castle)
+            is_open(rules, tables, p, &sets, &castle)
         }
     }
 }
@@ -145,7 +147,7 @@ pub(crate) fn castles(
     ensures is { result ≡ Castling.castles rules.now (repeat_of p.now) from to rook }
     ensures on_board { OnTrue result (to.0 < 120) }
 {
-    castling_on(rules)
+    tables.castling_on()
         && (castles_on(rules, tables, p, from, to, rook, Wing::Kingside)
             || castles_on(rules, tables, p, from, to, rook, Wing::Queenside))
 }

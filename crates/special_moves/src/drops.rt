@@ -1,12 +1,11 @@
 //! Drops: a hand piece is put on an empty square.
-ghost use Rattle.std.specs.Prelude.{◌≡◌, ℕ, ◌<◌, true, is_none, OnOk, OnErr};
+ghost use Rattle.std.specs.Prelude.{◌≡◌, ◌<◌, true, is_none, IfSome, OnOk, OnErr};
 ghost use Rattle.foundation.specs.Count.{any_below};
 ghost use Rattle.move_sink.specs.Taking.{TakesAll, TakesSome};
 ghost use Rattle.rules_model.specs.Drops as Drops;
 ghost use Rattle.rules_model.specs.Fit.{IsFit};
 ghost use Rattle.rules_model.specs.Repeats.{repeat_of};
 ghost use Rattle.rules_model.specs.Squares.{cell_at};
-ghost use Rattle.square_set.specs.Members.{has};
 ghost use Rattle.move_tables.specs.Occupied.{IsOccupied};
 ghost use Rattle.board_sets.specs.Sets.{AreSets};
 ghost use Rattle.special_moves.specs.Parts as Parts;
@@ -110,7 +109,7 @@ fn takes_drops(rules: &Rules, p: &Position, occupied: Set, at: u8) -> bool
 /// The empty squares of the side's drop region.
 fn drop_squares(rules: &Rules, p: &Position, sets: &BoardSets) -> Set
     requires sets { AreSets rules.now p.now.side p.now.cells sets.now }
-    ensures { (s : ℕ) → has result s ≡ Parts.is_drop_square rules.now (repeat_of p.now) s }
+    ensures { Parts.AreDropSquares rules.now (repeat_of p.now) result }
 {
     let occupied = sets.occupied();
     let mut squares = EMPTY;
@@ -122,6 +121,18 @@ fn drop_squares(rules: &Rules, p: &Position, sets: &BoardSets) -> Set
     squares
 }
 
+/// The empty squares of the side's drop region, where they were found before or are found now.
+fn once_found(rules: &Rules, p: &Position, sets: &BoardSets, found: Option<Set>) -> Set
+    requires sets { AreSets rules.now p.now.side p.now.cells sets.now }
+    requires found { IfSome found (Parts.AreDropSquares rules.now (repeat_of p.now)) }
+    ensures { Parts.AreDropSquares rules.now (repeat_of p.now) result }
+{
+    match found {
+        Some(squares) => squares,
+        None => drop_squares(rules, p, sets),
+    }
+}
+
 /// Gives the drops of a kind, of which a piece is in hand, on these squares.
 fn push_kind<S: MoveSink>(
     rules: &Rules,
@@ -131,7 +142,7 @@ fn push_kind<S: MoveSink>(
     out: &mut S,
 ) -> Result<(), S::Full>
     requires fit { IsFit rules.now }
-    requires squares { (s : ℕ) → has squares s ≡ Parts.is_drop_square rules.now (repeat_of p.now) s }
+    requires squares { Parts.AreDropSquares rules.now (repeat_of p.now) squares }
     requires held { Parts.has_drops rules.now (repeat_of p.now) kind ≡ true }
     ensures ok { OnOk result (TakesAll S.takes (IsDropOf rules.now (repeat_of p.now) kind.0) out.old out.new) }
     ensures err { OnErr result (TakesSome S.stops (IsDropOf rules.now (repeat_of p.now) kind.0) out.old out.new) }
@@ -159,10 +170,13 @@ pub(crate) fn push_drops<S: MoveSink>(
     if !rules.drops {
         return Ok(());
     }
+    let mut found: Option<Set> = None;
     for k in 0..KINDS as u8 {
         let kind = Kind(k);
         if has_drops(rules, p, kind) {
-            push_kind(rules, p, drop_squares(rules, p, sets), kind, out)?;
+            let squares = once_found(rules, p, sets, found);
+            found = Some(squares);
+            push_kind(rules, p, squares, kind, out)?;
         }
     }
     Ok(())
