@@ -49,7 +49,7 @@ def main():
     with tempfile.NamedTemporaryFile("w", suffix=".ini") as file:
         file.write(variant())
         file.flush()
-        lists = 1 + sum(perft(programs[0], file.name, plies)[0] for plies in range(1, PLIES))
+        lists = sum(perft(programs[0], file.name, plies)[0] for plies in range(1, PLIES))
         counts = set()
         for _ in range(RUNS):
             for i, program in enumerate(programs):

@@ -21,8 +21,8 @@ two_ahead rules side from t =
     rules.double_step && in_region rules.double_region side from.0 && is_at t (ahead (board_of rules) side from 2)
 
 -- the square one step forward and so many files to the right, as the side sees it
-abbrev pub one_aside : Rules → Side → ℤ → Square → ℕ → Bool
-one_aside rules side dx from t = is_at t (step_to (pawn_ray (board_of rules) side dx from) 1)
+abbrev pub one_diagonal : Rules → Side → ℤ → Square → ℕ → Bool
+one_diagonal rules side dx from t = is_at t (step_to (pawn_ray (board_of rules) side dx from) 1)
 
 -- a pawn promotes on none of these squares
 abbrev pub PromotesNowhere : Rules → Side → Set → Type 0
@@ -30,13 +30,13 @@ PromotesNowhere rules side squares = (t : ℕ) → t < 120 → has squares t ≡
 
 -- the square is one of the spot's
 abbrev pub is_near : PawnSpot → ℕ → Bool
-is_near spot t = has spot.one t || has spot.two t || has spot.aside t
+is_near spot t = has spot.one t || has spot.two t || has spot.diagonals t
 
 -- the sets are the squares of one step, of two and of the diagonals, and where it is plain a pawn promotes on none of them
 pub record IsPawnSpot (rules : Rules) (side : Side) (from : Square) (spot : PawnSpot) : Type 0 where
   pub one : (t : ℕ) → has spot.one t ≡ is_at t (ahead (board_of rules) side from 1)
   pub two : (t : ℕ) → has spot.two t ≡ two_ahead rules side from t
-  pub aside : (t : ℕ) → has spot.aside t ≡ is_diagonal (board_of rules) side from t
+  pub diagonals : (t : ℕ) → has spot.diagonals t ≡ is_diagonal (board_of rules) side from t
   pub plain : OnTrue spot.plain ((t : ℕ) → t < 120 → is_near spot t ≡ true → may_promote rules side t ≡ false)
 
 -- the spot at a place is that of its side and square

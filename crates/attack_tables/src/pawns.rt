@@ -25,8 +25,8 @@ pub struct PawnSpot {
     /// The square of two steps, where a pawn may step twice from here.
     pub two: Set,
     /// The squares diagonally one step forward.
-    pub aside: Set,
-    /// On none of these squares a pawn promotes.
+    pub diagonals: Set,
+    /// Known to be so: on none of these squares a pawn promotes.
     pub plain: bool,
 }
 
@@ -54,9 +54,9 @@ fn two_ahead(rules: &Rules, side: Side, from: Square) -> Set
 }
 
 /// The square one step forward and `dx` files to the right, as the side sees it.
-fn one_aside(rules: &Rules, side: Side, dx: i8, from: Square) -> Set
+fn one_diagonal(rules: &Rules, side: Side, dx: i8, from: Square) -> Set
     requires fit { IsFit rules.now }
-    ensures { (t : ℕ) → has result t ≡ Pawns.one_aside rules.now side dx from t }
+    ensures { (t : ℕ) → has result t ≡ Pawns.one_diagonal rules.now side dx from t }
 {
     let diagonal = Term {
         dx,
@@ -71,14 +71,14 @@ fn one_aside(rules: &Rules, side: Side, dx: i8, from: Square) -> Set
 
 /// The squares diagonally one step forward.
 #[tactic(auto, unfolding(rules_model::specs::Attacks::is_diagonal))]
-fn both_aside(rules: &Rules, side: Side, from: Square) -> Set
+fn both_diagonals(rules: &Rules, side: Side, from: Square) -> Set
     requires { IsFit rules.now }
     ensures { (t : ℕ) → has result t ≡ Attacks.is_diagonal (Kinds.board_of rules.now) side from t }
 {
-    one_aside(rules, side, 1, from).or(one_aside(rules, side, -1, from))
+    one_diagonal(rules, side, 1, from).or(one_diagonal(rules, side, -1, from))
 }
 
-/// Whether a pawn promotes on none of the squares.
+/// Whether it is known that a pawn promotes on none of the squares.
 fn promotes_nowhere(rules: &Rules, side: Side, squares: Set) -> bool
     ensures { OnTrue result (Pawns.PromotesNowhere rules.now side squares) }
 {
@@ -99,12 +99,12 @@ fn pawn_spot_of(rules: &Rules, side: Side, from: Square) -> PawnSpot
 {
     let one = only(ahead(board_of(rules), side, from, 1));
     let two = two_ahead(rules, side, from);
-    let aside = both_aside(rules, side, from);
-    let plain = promotes_nowhere(rules, side, one.or(two).or(aside));
+    let diagonals = both_diagonals(rules, side, from);
+    let plain = promotes_nowhere(rules, side, one.or(two).or(diagonals));
     PawnSpot {
         one,
         two,
-        aside,
+        diagonals,
         plain,
     }
 }

@@ -175,7 +175,7 @@ impl Tables {
     /// The same for a piece of any kind on any square: one that the variant cannot have reaches nothing.
     fn reach_of(&self, piece: Cell, from: Square, mode: Mode, occupied: Set) -> Set
         requires { from.0 < 120 }
-        ensures { (cells : List (Option Cell)) → IsOccupied occupied cells → (s : ℕ) → has result s ≡ Reached.reaches_as self.now cells piece.side piece.kind from mode s }
+        ensures { Goals.AreReached self.now piece.side piece.kind from mode occupied result }
     {
         let moves = &self.moves;
         if piece.kind.0 < 26 {

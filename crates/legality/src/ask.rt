@@ -129,7 +129,7 @@ pub fn is_legal(rules: &Rules, tables: &Tables, p: &Position, m: &Move) -> bool
 }
 
 /// Own pieces other than kings that may go anywhere: none leaves the own king attacked by a move on which it stays what it
-/// is, takes no own piece and does not take in passing. There may be more such pieces. No memory is taken.
+/// is, places nothing, takes no own piece and does not take in passing. There may be more such pieces. No memory is taken.
 pub fn free(rules: &Rules, tables: &Tables, p: &Position) -> Set
     requires ready { IsReady rules.now tables.now p.now }
     ensures safe { LeaveSafely rules.now (repeat_of p.now) result }

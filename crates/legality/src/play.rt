@@ -40,7 +40,7 @@ fn is_checked(tables: &Tables, p: &Position, sets: &BoardSets) -> bool
 }
 
 /// Whether the king of the side to move is attacked, and such a check counts.
-fn is_counted(rules: &Rules, tables: &Tables, p: &Position, sets: &BoardSets) -> bool
+fn is_check_counted(rules: &Rules, tables: &Tables, p: &Position, sets: &BoardSets) -> bool
     requires tables { tables.now ≡ rules.now }
     requires sets { AreSets rules.now p.now.side p.now.cells sets.now }
     ensures { result ≡ (rules.now.check_counting && Attacks.king_attacked rules.now p.now.cells p.now.side) }
@@ -69,7 +69,7 @@ pub fn apply_with(
     let side = p.side;
     let sets = sets.after(rules, p, m).turned();
     make_but_checks(rules, p, m);
-    let gives = is_counted(rules, tables, p, &sets);
+    let gives = is_check_counted(rules, tables, p, &sets);
     count_check(p, side, gives);
     sets
 }

@@ -105,7 +105,7 @@ free_there s n e =
 -- ---- where the pawn goes
 
 module _ (rules : Rules) (r : Repeat) (from : Square) (spot : PawnSpot) (sets : BoardSets) (occupied one takes : Set) (are : AreSets rules r.side r.cells sets) (squares : IsOccupied occupied r.cells) (of : IsPawnSpot rules r.side from spot)
-    (one_is : (t : ℕ) → has one t ≡ (has spot.one t && not (has occupied t))) (takes_is : (t : ℕ) → has takes t ≡ (has spot.aside t && has sets.enemies t)) where
+    (one_is : (t : ℕ) → has one t ≡ (has spot.one t && not (has occupied t))) (takes_is : (t : ℕ) → has takes t ≡ (has spot.diagonals t && has sets.enemies t)) where
   abbrev step : Option ℕ
   step = ahead (board_of rules) r.side from 1
 
@@ -123,7 +123,7 @@ module _ (rules : Rules) (r : Repeat) (from : Square) (spot : PawnSpot) (sets : 
   enemy_of (Some x) = enemy_is x.side r.side
 
   takes_at : (t : ℕ) → has takes t ≡ (aside t && is_enemy r.side (cell_at r.cells t))
-  takes_at t = takes_is t ∙ rw (of.aside t, are.enemies t, enemy_of (cell_at r.cells t)) refl
+  takes_at t = takes_is t ∙ rw (of.diagonals t, are.enemies t, enemy_of (cell_at r.cells t)) refl
 
   one_at : (t : ℕ) → has one t ≡ (is_at t step && is_none (cell_at r.cells t))
   one_at t = one_is t ∙ rw (of.one t, squares t, not_some (cell_at r.cells t)) refl
@@ -185,24 +185,24 @@ third_of false true c e = refl
 third_of false false c e = e
 
 module _ (rules : Rules) (r : Repeat) (from : Square) (fit : IsFit rules) (spot : PawnSpot) (of : IsPawnSpot rules r.side from spot) (targets : Set) (are : (t : ℕ) → has targets t ≡ pawn_goes rules r from t)
-    (plain : spot.plain ≡ true) (none : (t : ℕ) → t < 120 → has spot.aside t ≡ true → is_ep r.ep t ≡ false) where
-  by_straight : (t : ℕ) → (is_at t (ahead (board_of rules) r.side from 1) || steps_twice rules r from t) ≡ true → (has spot.one t || has spot.two t || has spot.aside t) ≡ true
+    (plain : spot.plain ≡ true) (none : (t : ℕ) → t < 120 → has spot.diagonals t ≡ true → is_ep r.ep t ≡ false) where
+  by_straight : (t : ℕ) → (is_at t (ahead (board_of rules) r.side from 1) || steps_twice rules r from t) ≡ true → (has spot.one t || has spot.two t || has spot.diagonals t) ≡ true
   by_straight t e =
       ⊎_elim
-      (λ h. first_of (has spot.one t) (has spot.two t) (has spot.aside t) (of.one t ∙ h))
+      (λ h. first_of (has spot.one t) (has spot.two t) (has spot.diagonals t) (of.one t ∙ h))
       (λ h.
       let a = and_parts (rules.double_step && in_region rules.double_region r.side from.0 && is_free r.cells (ahead (board_of rules) r.side from 1)) (is_at t (ahead (board_of rules) r.side from 2)) h in
       let b = and_parts (rules.double_step && in_region rules.double_region r.side from.0) (is_free r.cells (ahead (board_of rules) r.side from 1)) a.0 in
-      second_of (has spot.one t) (has spot.two t) (has spot.aside t) (of.two t ∙ rw (b.0, a.1) refl))
+      second_of (has spot.one t) (has spot.two t) (has spot.diagonals t) (of.two t ∙ rw (b.0, a.1) refl))
       (or_cases (is_at t (ahead (board_of rules) r.side from 1)) (steps_twice rules r from t) e)
 
   -- each target is one of the spot's squares
-  in_spot : (t : ℕ) → pawn_goes rules r from t ≡ true → (has spot.one t || has spot.two t || has spot.aside t) ≡ true
+  in_spot : (t : ℕ) → pawn_goes rules r from t ≡ true → (has spot.one t || has spot.two t || has spot.diagonals t) ≡ true
   unfolding pawn_goes
   in_spot t e =
       ⊎_elim
       (λ h. by_straight t (and_parts (is_none (cell_at r.cells t)) (is_at t (ahead (board_of rules) r.side from 1) || steps_twice rules r from t) h).1)
-      (λ h. third_of (has spot.one t) (has spot.two t) (has spot.aside t) (of.aside t ∙ (and_parts (is_enemy r.side (cell_at r.cells t)) (is_diagonal (board_of rules) r.side from t) h).1))
+      (λ h. third_of (has spot.one t) (has spot.two t) (has spot.diagonals t) (of.diagonals t ∙ (and_parts (is_enemy r.side (cell_at r.cells t)) (is_diagonal (board_of rules) r.side from t) h).1))
       (or_cases (is_none (cell_at r.cells t) && (is_at t (ahead (board_of rules) r.side from 1) || steps_twice rules r from t)) (is_enemy r.side (cell_at r.cells t) && is_diagonal (board_of rules) r.side from t) e)
 
   no_promotion : (t : ℕ) → t < 120 → pawn_goes rules r from t ≡ true → may_promote rules r.side t ≡ false
@@ -212,7 +212,7 @@ module _ (rules : Rules) (r : Repeat) (from : Square) (fit : IsFit rules) (spot 
   unfolding passes_by
   no_passing t l =
       by_bool (is_diagonal (board_of rules) r.side from t) (passes_by rules r from t ≡ false)
-      (λ e. rw (e, none t l (of.aside t ∙ e)) (and_left (is_own_pawn rules r.side (cell_at r.cells from.0) && false) true (and_right (is_own_pawn rules r.side (cell_at r.cells from.0)) false refl)))
+      (λ e. rw (e, none t l (of.diagonals t ∙ e)) (and_left (is_own_pawn rules r.side (cell_at r.cells from.0) && false) true (and_right (is_own_pawn rules r.side (cell_at r.cells from.0)) false refl)))
       (λ e. and_right (is_own_pawn rules r.side (cell_at r.cells from.0) && is_ep r.ep t) (is_diagonal (board_of rules) r.side from t) e)
 
   -- a pawn's move is to a target, and stays a pawn

@@ -209,7 +209,7 @@ fn push_each<S: MoveSink>(
     push_takes(rules, p, from, out)
 }
 
-/// Whether the en passant square is one of these.
+/// Whether the en passant square may be one of these: where not, none of them is.
 fn may_pass(ep: Option<Square>, squares: Set) -> bool
     ensures { OnFalse result ((t : ℕ) → t < 120 → has squares t ≡ true → Pawns.is_ep ep t ≡ false) }
 {
@@ -240,7 +240,7 @@ fn push_pawn<S: MoveSink>(
     if !spot.plain {
         return push_each(rules, p, from, out);
     }
-    if may_pass(p.ep, spot.aside) {
+    if may_pass(p.ep, spot.diagonals) {
         return push_each(rules, p, from, out);
     }
     out.take_all(from, None, targets(spot, sets))

@@ -122,7 +122,7 @@ pub(crate) fn targets(spot: &PawnSpot, sets: &BoardSets) -> Set
 {
     let occupied = sets.occupied();
     let one = spot.one.minus(occupied);
-    let takes = spot.aside.and(sets.enemies);
+    let takes = spot.diagonals.and(sets.enemies);
     match one.first() {
         None => takes,
         Some(_) => takes.or(one).or(spot.two.minus(occupied)),

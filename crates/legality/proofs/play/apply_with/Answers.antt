@@ -17,9 +17,9 @@ after-requires-clause-fit c = (legal-member _ _ _ c.requires.legal).0
 pub make_but_checks-requires-clause-fit : goal.make_but_checks-requires-clause-fit
 make_but_checks-requires-clause-fit c = (legal-member _ _ _ c.requires.legal).0
 
-pub is_counted-gives-requires-clause-sets : goal.is_counted-gives-requires-clause-sets
+pub is_check_counted-gives-requires-clause-sets : goal.is_check_counted-gives-requires-clause-sets
 unfolding next next_repeat
-is_counted-gives-requires-clause-sets c =
+is_check_counted-gives-requires-clause-sets c =
     let rules = c.args.rules.now in
     let p = c.args.p.now in
     let Sets : Position → Type 0 = λ q. AreSets rules q.side q.cells c.turned-sets.result in
@@ -33,8 +33,8 @@ returns-clause-next c =
     let p = c.args.p.now in
     let made = c.make_but_checks.new.p in
     let side : made.side ≡ other p.side = ap (λ (q : Position). q.side) c.make_but_checks.ensures in
-    let gives = c.is_counted-gives.ensures ∙ ap (λ (to_move : Side). rules.check_counting && king_attacked rules made.cells to_move) side in
-    c.count_check.ensures ∙ next-by rules p made c.args.m.now c.is_counted-gives.result c.make_but_checks.ensures gives
+    let gives = c.is_check_counted-gives.ensures ∙ ap (λ (to_move : Side). rules.check_counting && king_attacked rules made.cells to_move) side in
+    c.count_check.ensures ∙ next-by rules p made c.args.m.now c.is_check_counted-gives.result c.make_but_checks.ensures gives
 
 pub returns-clause-sound : goal.returns-clause-sound
 returns-clause-sound c =
