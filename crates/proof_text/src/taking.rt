@@ -2,7 +2,7 @@
 ghost use Rattle.std.specs.Prelude.{◌≡◌, IfOk};
 ghost use Rattle.io_ports.specs.Cause.{HasCause};
 ghost use Rattle.strategy.specs.Reading.{AreSound};
-ghost use Rattle.proof_text.specs.TakingView.{AreKept, HeardAll, IsUnread, Keeps, SaysProofAfter};
+ghost use Rattle.proof_text.specs.TakingView.{HeardAll, IsUnread, Keeps, KeepsAll, SaysProofAfter};
 
 use crate::fault::ProofFault;
 use crate::lines::KeptLines;
@@ -74,7 +74,7 @@ fn take_lines<S: Source>(
     source: &mut S,
     lines: &mut KeptLines,
 ) -> Result<(), NoProof>
-    ensures heard { HeardAll (S.left source.old) (S.left source.new) (λ taken. AreKept lines.old taken lines.new result) }
+    ensures keeps { KeepsAll (S.left source.old) (S.left source.new) lines.old lines.new result }
     ensures cause { HasCause (S.faults source.old) (S.faults source.new) (IsUnread result) }
 {
     let Ok(mut line) = LineBuf::new(alloc) else {
