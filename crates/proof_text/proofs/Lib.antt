@@ -6,4 +6,5 @@ pub mod EntryLemmas
 pub mod PairLemmas
 pub mod TakingLemmas
 pub mod HistoryLemmas
+pub mod WriteLemmas
 mod worked

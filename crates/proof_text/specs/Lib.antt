@@ -5,3 +5,4 @@ pub mod Words
 pub mod Pairs
 pub mod Reading
 pub mod TakingView
+pub mod Writing

@@ -1,5 +1,5 @@
-//! Proof texts: strategies of forced mates that stand alone. A proof text, `strategy 2`, states the rules of its variant, a game, a goal and a
-//! strategy, so that it says all that a check needs.
+//! Proof texts: strategies of forced mates that stand alone. A proof text, `strategy 2`, states the rules of its variant, a
+//! game, a goal and a strategy, so that it says all that a check needs. It is read, and written.
 #![tactic(auto)]
 
 mod body;
@@ -12,7 +12,9 @@ mod reading;
 mod taking;
 #[cfg(test)]
 mod tests;
+mod told;
 mod words;
+mod writing;
 
 pub use fault::ProofFault;
 pub use lines::KeptLines;
@@ -20,3 +22,4 @@ pub use proof::Proof;
 pub use reading::{read_lines, read_proof};
 pub use taking::{NoProof, read_proof_after};
 pub use words::is_version;
+pub use writing::write_proof;

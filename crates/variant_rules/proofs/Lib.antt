@@ -1,5 +1,5 @@
 pub mod StartLaws
 pub mod PlayableLaws
 mod NameLemmas
-mod EntryLemmas
+pub mod EntryLemmas
 pub mod BuiltInLaws

@@ -1,0 +1,81 @@
+-- The text of a proof, version 2.
+use Rattle.std.specs.Prelude.{ℕ, List, [], ◌∷◌, ◌++◌, drop, length, map, codes, Option, Some, None, if◌then◌else◌}
+use Rattle.std.specs.Fmt.{decimal}
+use Rattle.std.specs.List.{flat_map}
+use Rattle.rules_model.specs.declared.board.Position.{Position}
+use Rattle.rules_model.specs.declared.board.Side.{Side}
+use Rattle.rules_model.specs.declared.board.Side.TheVariants.{White, Black}
+use Rattle.rules_model.specs.declared.moves.Move.{Move}
+use Rattle.rules_model.specs.declared.rules.Rules.{Rules}
+use Rattle.rules_model.specs.MoveText.{text_of}
+use Rattle.fen_model.specs.Printing.{fen_text}
+use Rattle.variant_ini.specs.OptionValue.{option_value}
+use Rattle.variant_ini.specs.Section.{Section}
+use Rattle.variant_options.specs.Keys.{ordered_keys}
+use Rattle.section_rules.specs.Letters.{lacks_piece}
+use Rattle.game_play.specs.Played.{Played}
+use Rattle.strategy.specs.declared.nodes.Strategy.{Strategy}
+use Rattle.strategy.specs.Writing.{ended_lines, strategy_texts}
+
+-- ---- the rules
+
+-- the value of a key in a section, its own or inherited; none where the key is that of a piece that the section lacks
+abbrev pub told_value : List Section → ℕ → List ℕ → Option (List ℕ)
+told_value sections place key = if lacks_piece sections place key then None else option_value sections place key
+
+-- the key with its value, or nothing where it has none
+abbrev pub with_value : List ℕ → Option (List ℕ) → List (List ℕ × List ℕ)
+with_value key None = []
+with_value key (Some value) = (key, value) ∷ []
+
+-- what is told of a key
+unfoldable pub told_of : List Section → ℕ → List ℕ → List (List ℕ × List ℕ)
+told_of sections place key = with_value key (told_value sections place key)
+
+-- what a section tells: each option that has a value, and each piece that the section has, in byte order of the keys
+unfoldable pub told : List Section → ℕ → List (List ℕ × List ℕ)
+told sections place = flat_map (told_of sections place) ordered_keys
+
+-- `key = value`
+abbrev pub pair_text : List ℕ × List ℕ → List ℕ
+pair_text pair = pair.0 ++ codes " = " ++ pair.1
+
+-- `rules K`, and the K pairs
+abbrev pub rules_texts : List (List ℕ × List ℕ) → List (List ℕ)
+rules_texts pairs = (codes "rules " ++ decimal (length pairs)) ∷ map pair_text pairs
+
+-- ---- the game
+
+-- `start FEN`
+abbrev pub start_line : Rules → Position → List ℕ
+start_line rules start = codes "start " ++ fen_text rules start
+
+-- `history N`, and the N moves
+abbrev pub history_texts : List Move → List (List ℕ)
+history_texts moves = (codes "history " ++ decimal (length moves)) ∷ map text_of moves
+
+-- the lines of a game: its start and its moves
+abbrev pub game_texts : Played → List (List ℕ)
+game_texts g = start_line g.rules g.start ∷ history_texts g.moves
+
+-- `goal SIDE N`
+abbrev pub goal_text : Side → ℕ → List ℕ
+goal_text White n = codes "goal white " ++ decimal n
+goal_text Black n = codes "goal black " ++ decimal n
+
+-- ---- the whole
+
+-- the lines of a strategy after its first, `strategy 1`
+abbrev pub body_texts : Rules → Strategy → List (List ℕ)
+body_texts rules s = drop 1 (strategy_texts rules s)
+
+-- the lines of a proof text
+unfoldable pub proof_texts : List Section → ℕ → Played → ℕ → Strategy → List (List ℕ)
+proof_texts sections place g n s =
+    (codes "strategy 2" ∷ rules_texts (told sections place))
+    ++ game_texts g
+    ++ (goal_text s.attacker n ∷ body_texts g.rules s)
+
+-- the text of the rules of a section, of a game by them, of the goal to win it within N moves, and of a strategy for it
+unfoldable pub proof_text : List Section → ℕ → Played → ℕ → Strategy → List ℕ
+proof_text sections place g n s = ended_lines (proof_texts sections place g n s)
