@@ -1,10 +1,13 @@
 -- The sets of a board's pieces, by whose move it is.
 use Rattle.std.specs.Prelude.{◌≡◌, ℕ, Bool, false, not, length, Option, Some, None, List}
 use Rattle.rules_model.specs.declared.board.Cell.{Cell}
+use Rattle.rules_model.specs.declared.board.Repeat.{Repeat}
 use Rattle.rules_model.specs.declared.board.Side.{Side}
+use Rattle.rules_model.specs.declared.moves.Move.{Move}
 use Rattle.rules_model.specs.declared.rules.Rules.{Rules}
 use Rattle.rules_model.specs.Attacks.{is_own, is_own_pawn}
 use Rattle.rules_model.specs.Kinds.{is_pawn}
+use Rattle.rules_model.specs.Next.{cells_after}
 use Rattle.rules_model.specs.Sides.{other}
 use Rattle.rules_model.specs.Squares.{cell_at}
 use Rattle.square_set.specs.declared.Set.{Set}
@@ -43,6 +46,10 @@ abbrev pub AreSetsAfter : Rules → Side → BoardSets → (List (Option Cell) �
 AreSetsAfter rules side old make new =
     (cells : List (Option Cell)) → length cells ≡ 120 → AreSets rules side cells old → AreSets rules side (make cells) new
 
+-- the sets are those of the board after the move, by the side that moved
+abbrev pub AreSetsAfterMove : Rules → Repeat → Move → BoardSets → Type 0
+AreSetsAfterMove rules r m sets = AreSets rules r.side (cells_after rules r m) sets
+
 -- the squares of the sets are squares of the largest board
 pub record AreOnBoard (sets : BoardSets) : Type 0 where
   pub own : OnSquares sets.own
@@ -54,7 +61,8 @@ pub record AreOnBoard (sets : BoardSets) : Type 0 where
 -- of each board whose sets these are, the set is that of its squares with a piece
 abbrev pub IsOccupiedBy : BoardSets → Set → Type 0
 IsOccupiedBy sets occupied =
-    (rules : Rules) (side : Side) (cells : List (Option Cell)) → AreSets rules side cells sets → IsOccupied occupied cells
+    (rules : Rules) (side : Side) (cells : List (Option Cell))
+    → AreSets rules side cells sets → IsOccupied occupied cells
 
 -- of each board whose sets the old ones are, the new ones are those for the other side
 abbrev pub AreTurned : BoardSets → BoardSets → Type 0

@@ -5,7 +5,7 @@ ghost use Rattle.rules_model.specs.Moves.{IsFitMove};
 ghost use Rattle.rules_model.specs.declared.moves.Move.TheVariants.{Go};
 ghost use Rattle.rules_model.specs.Next as Next;
 ghost use Rattle.rules_model.specs.Repeats.{repeat_of};
-ghost use Rattle.board_sets.specs.Sets.{AreSets, AreSetsAfter};
+ghost use Rattle.board_sets.specs.Sets.{AreSets, AreSetsAfter, AreSetsAfterMove};
 ghost use Rattle.board_sets.specs.Written.{carries};
 
 use crate::sets::BoardSets;
@@ -24,8 +24,7 @@ fn carries(
     promo: Promo,
     gate: Option<Kind>,
 ) -> bool
-    requires rules { IsFit rules.now }
-    requires from { from.0 < 120 }
+    requires { IsFit rules.now }
     ensures { result ≡ carries rules.now (repeat_of p.now) from to promo gate }
 {
     is_stays(promo) && gate.is_none() && !passes_by(rules, p, from, to)
@@ -114,7 +113,7 @@ impl BoardSets {
         requires rules { IsFit rules.now }
         requires from { from.0 < 120 }
         requires sets { AreSets rules.now p.now.side p.now.cells self }
-        ensures { AreSets rules.now p.now.side (Next.cells_after rules.now (repeat_of p.now) (Go from to promo gate)) result }
+        ensures { AreSetsAfterMove rules.now (repeat_of p.now) (Go from to promo gate) result }
     {
         position_sizes(p);
         let side = p.side;
@@ -129,7 +128,7 @@ impl BoardSets {
         requires rules { IsFit rules.now }
         requires fit { IsFitMove m.now }
         requires sets { AreSets rules.now p.now.side p.now.cells self }
-        ensures { AreSets rules.now p.now.side (Next.cells_after rules.now (repeat_of p.now) m.now) result }
+        ensures { AreSetsAfterMove rules.now (repeat_of p.now) m.now result }
     {
         position_sizes(p);
         let side = p.side;

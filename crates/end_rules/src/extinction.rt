@@ -81,8 +81,8 @@ fn has_at_most(p: &Position, side: Side, kind: Option<Kind>, most: usize) -> boo
     !stand_more(&p.cells, side, kind, most) && pieces(p, side, kind) <= most
 }
 
-/// Whether the side has few enough of these pieces and its opponent many enough. The opponent's are counted only where the
-/// side has few enough.
+/// Whether the side has few enough of these pieces and its opponent many enough. The opponent's are counted only
+/// where the side has few enough.
 fn dies_out(rules: &Rules, p: &Position, side: Side, kind: Option<Kind>) -> bool
     ensures { result ≡ Counted.die_out rules.now (repeat_of p.now) side kind }
 {

@@ -62,5 +62,5 @@ abbrev pub problem_after : List Named → List ℕ → List Line → Result Prob
 problem_after variants first lines = problem_of variants (Text first ∷ lines)
 
 -- how many more lines tell it
-abbrev pub lines_after : List Named → List ℕ → List Line → ℕ
-lines_after variants first lines = lines_of_problem variants (Text first ∷ lines) - 1
+abbrev pub lines_of_problem_after : List Named → List ℕ → List Line → ℕ
+lines_of_problem_after variants first lines = lines_of_problem variants (Text first ∷ lines) - 1

@@ -85,7 +85,7 @@ pub fn read_problem_after<S: Source>(
     source: &mut S,
     line: &mut LineBuf,
 ) -> Result<Problem, NoGame>
-    ensures heard { Heard (S.left source.old) (S.left source.new) (Said.lines_after variants.now line.old)
+    ensures heard { Heard (S.left source.old) (S.left source.new) (Said.lines_of_problem_after variants.now line.old)
         (λ lines. Tells (Said.problem_after variants.now line.old lines) result) }
     ensures cause { HasCause (S.faults source.old) (S.faults source.new) (IsUnread result) }
 {

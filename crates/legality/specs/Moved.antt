@@ -27,8 +27,8 @@ moves_own r (Go from to promo gate) = is_own r.side (λ kind. true) (cell_at r.c
 moves_own r (Castle from to rook gate) = false
 moves_own r (Drop kind to) = true
 
--- a piece of the free squares goes without a gate and stays what it is, to a square without an own piece and not to that of
--- en passant
+-- a piece of the free squares goes without a gate and stays what it is, to a square without an own piece and not to
+-- that of en passant
 abbrev pub is_free : Repeat → Set → Set → Move → Bool
 is_free r own free (Go from to promo gate) =
     is_stays promo && is_none gate && has free from.0 && not (has own to.0) && not (is_ep r.ep to.0)
@@ -43,8 +43,8 @@ HoldsMenOf side board cells = (s : ℕ) → is_own side (λ kind. true) (cell_at
 abbrev pub HoldsEnemiesAfter : Rules → Repeat → Move → List (Option Cell) → Type 0
 HoldsEnemiesAfter rules r m cells = HoldsMenOf (other r.side) (cells_after rules r m) cells
 
--- a piece that goes from a square of the set without a gate and stays what it is leaves its king safe, unless it takes in
--- passing or takes its own
+-- a piece that goes from a square of the set without a gate and stays what it is leaves its king safe, unless it
+-- takes in passing or takes its own
 abbrev pub GoFreely : Rules → Repeat → Set → Set → Type 0
 GoFreely rules r own free =
     (from to : Square) → from.0 < 120 → to.0 < 120 → has free from.0 ≡ true → has own to.0 ≡ false

@@ -128,8 +128,9 @@ pub fn is_legal(rules: &Rules, tables: &Tables, p: &Position, m: &Move) -> bool
     is_lawful(rules, tables, p, &sets, m)
 }
 
-/// Own pieces other than kings that may go anywhere: none leaves the own king attacked by a move on which it stays what it
-/// is, places nothing, takes no own piece and does not take in passing. There may be more such pieces. No memory is taken.
+/// Own pieces other than kings that may go anywhere: none leaves the own king attacked by a move on which it stays
+/// what it is, places nothing, takes no own piece and does not take in passing. There may be more such pieces. No
+/// memory is taken.
 pub fn free(rules: &Rules, tables: &Tables, p: &Position) -> Set
     requires ready { IsReady rules.now tables.now p.now }
     ensures safe { LeaveSafely rules.now (repeat_of p.now) result }

@@ -48,8 +48,8 @@ fn is_check_counted(rules: &Rules, tables: &Tables, p: &Position, sets: &BoardSe
     rules.check_counting && is_checked(tables, p, sets)
 }
 
-/// The same as `apply`, by the sets of the board. Answered are the sets of the position after the move, for the side that is then to
-/// move. Whether the move gives check is asked, of the tables, only where the variant counts checks.
+/// The same as `apply`, by the sets of the board. Answered are the sets of the position after the move, for the side
+/// that is then to move. Whether the move gives check is asked, of the tables, only where the variant counts checks.
 pub fn apply_with(
     rules: &Rules,
     tables: &Tables,

@@ -102,7 +102,8 @@ impl<'a> Safety<'a> {
         }
     }
 
-    /// Whether a free piece goes without a gate and stays what it is, to a square without an own piece, and not to that of en passant.
+    /// Whether a free piece goes without a gate and stays what it is, to a square without an own piece, and not to
+    /// that of en passant.
     fn is_free(&self, m: &Move) -> bool
         requires { IsFitMove m.now }
         ensures { result ≡ Moved.is_free (repeat_of self.now.p.now) self.now.sets.own self.now.free m.now }

@@ -90,7 +90,8 @@ is_on_rank rules side s = nat_le (castling_square rules side 0) s && nat_lt s (c
 
 -- the move leaves alone all squares of the side's castling rank, as is plain at once
 abbrev pub is_apart : Rules → Side → Bool → Move → Bool
-is_apart rules side passing (Go from to promo gate) = not passing && not (is_on_rank rules side from.0) && not (is_on_rank rules side to.0)
+is_apart rules side passing (Go from to promo gate) =
+    not passing && not (is_on_rank rules side from.0) && not (is_on_rank rules side to.0)
 is_apart rules side passing (Castle from to rook gate) = false
 is_apart rules side passing (Drop kind to) = not (is_on_rank rules side to.0)
 
@@ -119,4 +120,5 @@ passed_over rules r (Drop kind to) = None
 
 -- the checks that both sides have still to give, once the side has given one that counts, or none
 abbrev pub checks_left : Bool → Side → List ℕ → List ℕ
-checks_left gives side checks = if gives then slice_set checks (side_index side) (slice_index checks (side_index side) - 1) else checks
+checks_left gives side checks =
+    if gives then slice_set checks (side_index side) (slice_index checks (side_index side) - 1) else checks

@@ -37,8 +37,9 @@ pub fn move_pieces(rules: &Rules, p: &Position, m: &Move, cells: &mut Cells)
     pieces::write(rules, p.side, passing, m, cells);
 }
 
-/// Makes the move: pieces, hands, rights, gates, the en passant square, both counts and the side to move are those of the position
-/// after it. The checks left stay those before it: where the variant counts them, `count_check` does the rest.
+/// Makes the move: pieces, hands, rights, gates, the en passant square, both counts and the side to move are those of
+/// the position after it. The checks left stay those before it: where the variant counts them, `count_check` does the
+/// rest.
 pub fn make_but_checks(rules: &Rules, p: &mut Position, m: &Move)
     requires rules { IsFit rules.now }
     requires fit { IsFitMove m.now }
@@ -66,8 +67,8 @@ pub fn make_but_checks(rules: &Rules, p: &mut Position, m: &Move)
     p.side = side.other();
 }
 
-/// Makes the move: pieces, hands, rights, gates, the checks left, the en passant square, both counts and the side to move
-/// are those of the position after it.
+/// Makes the move: pieces, hands, rights, gates, the checks left, the en passant square, both counts and the side to
+/// move are those of the position after it.
 pub fn make_move(rules: &Rules, p: &mut Position, m: &Move)
     requires rules { IsFit rules.now }
     requires fit { IsFitMove m.now }

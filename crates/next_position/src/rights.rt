@@ -116,7 +116,8 @@ fn is_on_rank(rules: &Rules, side: Side, at: Square) -> bool
     first <= at.0 && at.0 < first + 12
 }
 
-/// Whether the move plainly leaves alone all squares of the side's castling rank. `passing` says whether it takes a pawn in passing.
+/// Whether the move plainly leaves alone all squares of the side's castling rank. `passing` says whether it takes a
+/// pawn in passing.
 pub(crate) fn is_apart(rules: &Rules, side: Side, passing: bool, m: &Move) -> bool
     requires { IsFit rules.now }
     ensures { result ≡ Parts.is_apart rules.now side passing m.now }
@@ -130,8 +131,8 @@ pub(crate) fn is_apart(rules: &Rules, side: Side, passing: bool, m: &Move) -> bo
     }
 }
 
-/// The rights that the side keeps, by the pieces after the move. Where the move leaves the castling rank alone, as `apart` says, they
-/// are not looked at.
+/// The rights that the side keeps, by the pieces after the move. Where the move leaves the castling rank alone, as
+/// `apart` says, they are not looked at.
 pub(crate) fn kept(rules: &Rules, cells: &Cells, side: Side, rooks: Rooks, apart: bool) -> [bool; 2]
     requires { IsFit rules.now }
     ensures { result ≡ Parts.rights_where rules.now cells.now side rooks apart }

@@ -191,8 +191,8 @@ fn push_takes<S: MoveSink>(
     push_aside(rules, p, from, Flank::Left, out)
 }
 
-/// Gives the sink the moves of the own pawn on the square one by one. It is kept out of the loop over the pawns, of which few
-/// come here.
+/// Gives the sink the moves of the own pawn on the square one by one. It is kept out of the loop over the pawns, of
+/// which few come here.
 #[inline(never)]
 fn push_each<S: MoveSink>(
     rules: &Rules,

@@ -136,8 +136,8 @@ fn push_plain<S: MoveSink>(
     out.take_all(mover.from, mover.gate, targets)
 }
 
-/// Gives the moves of the own piece: all at once, where none of them is a promotion or may mean castling. It is part of the loop over
-/// the pieces, since a call for each piece costs as much as its moves.
+/// Gives the moves of the own piece: all at once, where none of them is a promotion or may mean castling. It is part
+/// of the loop over the pieces, since a call for each piece costs as much as its moves.
 #[inline(always)]
 fn push_piece<S: MoveSink>(
     rules: &Rules,

@@ -49,7 +49,8 @@ line_in (body.BadNumber line) = line
 line_in (body.Ended line) = line
 line_in body.Memory = 0
 
--- the fault of a text whose strategy has this fault: out of memory where that is, or where no line has so great a number
+-- the fault of a text whose strategy has this fault: out of memory where that is, or where no line has so great a
+-- number
 abbrev pub HasBodyFault : ℕ → StrategyFault → ProofFault → Type 0
 HasBodyFault lines fault Memory = (fault ≡ body.Memory) ⊎ (2 ^ 64 ≤ line_in fault + lines)
 HasBodyFault lines fault (BadBody moved) = (moved ≡ moved_down lines fault) × (fault ≡ body.Memory → ⊥)

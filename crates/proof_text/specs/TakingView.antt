@@ -59,10 +59,11 @@ SaysProof said (Err Unread) = ⊤
 abbrev pub SaysProofAfter : List ℕ → List Line → Result Proof NoProof → Type 0
 SaysProofAfter first lines said = SaysProof (proof_of (Text first ∷ lines)) said
 
--- all lines that were left were taken, and have this answer
-abbrev pub HeardAll : Option (List ℕ) → Option (List ℕ) → (List Line → Type 0) → Type 0
-HeardAll left left' Has = Heard left left' length Has
+-- lines were taken, and this holds of them: of these alone where the end was met, or else of these and any others
+-- after them
+abbrev pub HoldsOfTaken : Option (List ℕ) → Option (List ℕ) → (List Line → Type 0) → Type 0
+HoldsOfTaken left left' Has = Heard left left' length Has
 
 -- all lines that were left were taken and added to those that were kept, or there was no memory, or the source failed
 abbrev pub KeepsAll : Option (List ℕ) → Option (List ℕ) → List Line → List Line → Result (Unit {0}) NoProof → Type 0
-KeepsAll left left' kept now said = HeardAll left left' (λ taken. AreKept kept taken now said)
+KeepsAll left left' kept now said = HoldsOfTaken left left' (λ taken. AreKept kept taken now said)

@@ -2,7 +2,7 @@
 ghost use Rattle.std.specs.Prelude.{◌≡◌, IfOk};
 ghost use Rattle.io_ports.specs.Cause.{HasCause};
 ghost use Rattle.strategy.specs.Reading.{AreSound};
-ghost use Rattle.proof_text.specs.TakingView.{HeardAll, IsUnread, Keeps, KeepsAll, SaysProofAfter};
+ghost use Rattle.proof_text.specs.TakingView.{HoldsOfTaken, IsUnread, Keeps, KeepsAll, SaysProofAfter};
 
 use crate::fault::ProofFault;
 use crate::lines::KeptLines;
@@ -100,7 +100,7 @@ pub fn read_proof_after<S: Source>(
     first: &[u8],
     source: &mut S,
 ) -> Result<Proof, NoProof>
-    ensures heard { HeardAll (S.left source.old) (S.left source.new) (λ lines. SaysProofAfter first.now lines result) }
+    ensures heard { HoldsOfTaken (S.left source.old) (S.left source.new) (λ lines. SaysProofAfter first.now lines result) }
     ensures sound { IfOk result (λ p. AreSound p.game.rules p.strategy.nodes) }
     ensures cause { HasCause (S.faults source.old) (S.faults source.new) (IsUnread result) }
 {

@@ -78,6 +78,7 @@ fn start_of(game: &Game) -> &Position
     ensures is { result.now ≡ game.now.start }
     ensures sound { is_sound game.now.rules result.now ≡ true }
 {
+    // The start is sound, as that of each game that was played.
     game.is_played();
     first_of(game.history())
 }
@@ -168,6 +169,7 @@ fn push_game(alloc: Global, text: &mut Vec<u8>, game: &Game) -> Result<(), Memor
     ensures { let lines = Writing.game_texts game.now in
         OnOk result (text.new.items ≡ text.old.items ++ ended_lines lines) }
 {
+    // The rules are fit, and at most 8,192 moves were played.
     game.is_played();
     push_start(alloc, text, game.rules(), start_of(game))?;
     push_history(text, game.moves())?;
@@ -191,12 +193,13 @@ fn push_section(
     Ok(())
 }
 
-/// Writes the proof text, version 2, of a section's rules, of a game by them, of a goal and of a strategy. The goal is that the
-/// strategy's side mates within `n` of its own moves, 1 to 100. The section is accepted and its rules are the game's; the positions
-/// of the strategy are sound. Whether the strategy reaches the goal in the game is not asked.
+/// Writes the proof text, version 2, of a section's rules, of a game by them, of a goal and of a strategy. The goal is
+/// that the strategy's side mates within `n` of its own moves, 1 to 100. The section is accepted and its rules are the
+/// game's, and the positions of the strategy are sound: without that the text would say something else than it was
+/// made of, or nothing. Whether the strategy reaches the goal in the game is not asked.
 ///
-/// The rules are told by each key that has a value in the section or in one that it comes from, and by each piece that it has, in
-/// byte order. Each line ends with LF.
+/// The rules are told by each key that has a value in the section or in one that it comes from, and by each piece that
+/// it has, in byte order. Each line ends with LF.
 ///
 /// `Memory` is the answer where there was not enough.
 pub fn write_proof(
@@ -215,6 +218,7 @@ pub fn write_proof(
     ensures { let said = Writing.proof_text sections.now section game.now n strategy.now in
         IfOk result (λ text. text ≡ said) }
 {
+    // The rules are fit, as the strategy's positions need.
     game.is_played();
     let mut text = Vec::new(alloc);
     push_line(&mut text, b"strategy 2")?;

@@ -3,7 +3,7 @@ ghost use Rattle.std.specs.Prelude.{◌≡◌, ◌<◌, IfOk, is_none, length, s
 ghost use Rattle.section_rules.specs.Letters as table;
 
 use crate::letters::{Letters, all_letters};
-use crate::lines::place_of;
+use crate::lines::piece_place;
 use rules_model::Memory;
 use std::alloc::Global;
 use std::marker::Model;
@@ -65,7 +65,7 @@ impl<'a> LetteredSections<'a> {
         requires { section < length self.now }
         ensures { result ≡ table.lacks_piece self.now section key.now }
     {
-        match place_of(key) {
+        match piece_place(key) {
             Some(place) => is_absent(&self.letters(section), place),
             None => false,
         }

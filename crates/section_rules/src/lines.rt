@@ -87,7 +87,7 @@ pub(crate) fn piece_at(place: usize) -> &'static Piece
 }
 
 /// The place in the table of the piece of the key.
-pub(crate) fn place_of(key: &[u8]) -> Option<usize>
+pub(crate) fn piece_place(key: &[u8]) -> Option<usize>
     ensures is { option_map piece_row result ≡ piece_named key.now }
     ensures below { IfSome result (λ place. place < 56) }
 {

@@ -48,8 +48,8 @@ fn is_no_rook(rules: &Rules, side: Side, cell: Option<Cell>) -> bool
     cell.is_some() && !is_rook(rules, side, cell)
 }
 
-/// Whether it is seen at once that the way to the wing is not open: a piece that is no castling rook stands where the rook would go.
-/// It spares the search for the rook.
+/// Whether it is seen at once that the way to the wing is not open: a piece that is no castling rook stands where the
+/// rook would go. It spares the search for the rook.
 fn is_blocked(rules: &Rules, p: &Position, wing: Wing) -> bool
     requires fit { IsFit rules.now }
     requires on { castling_on rules.now ≡ true }

@@ -5,6 +5,8 @@ ghost use Rattle.variant_options.specs.Keys.{ordered_keys};
 /// How many keys there are: those of options, of regions of pieces, and of pieces.
 pub const KEYS: usize = 213;
 
+// The keys stand in four tables, since the prover computes with one of 213 texts too slowly.
+
 static FIRST: [&[u8]; 54] = [
     b"alfil",
     b"amazon",
@@ -254,7 +256,7 @@ fn fourth_keys() -> &'static [&'static [u8]]
     &FOURTH
 }
 
-/// The key at a place among them.
+/// The key at this place of the keys in byte order.
 pub fn key_at(place: usize) -> &'static [u8]
     requires { place < 213 }
     ensures { result.now ≡ slice_index_or ordered_keys place [] }

@@ -102,7 +102,7 @@ lines_of_check variants input = lines_by (is_proof_text input) variants input
 
 -- what it and the strategy after it state
 abbrev pub stated_after : List Named → List ℕ → List Line → Result Proof Fault
-stated_after variants first lines = by_problem (problem_of variants (Text first ∷ lines)) (Text first ∷ lines)
+stated_after variants first lines = stated_by false variants (Text first ∷ lines)
 
 -- how many more lines tell it
 abbrev pub lines_stated_after : List Named → List ℕ → List Line → ℕ

@@ -38,8 +38,8 @@ fn state_proof<S: Source>(
     Ok(read_proof_after(alloc, first, source)?)
 }
 
-// What a problem and the strategy after it state. The problem's first line is in the buffer; it is of a variant of these
-// sections.
+// What a problem and the strategy after it state. The problem's first line is in the buffer; it is of a variant of
+// these sections.
 fn state_problem<S: Source>(
     alloc: Global,
     sections: &Sections,

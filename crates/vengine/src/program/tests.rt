@@ -546,8 +546,8 @@ fn strategies_are_checked(rt: HostRuntime) -> Result<(), Fail> {
     ];
     let mut files = MemFiles::new(rt.alloc());
     for (game, goal, strategy, right, wrong, text) in rows {
-        let (before, after) = strategy.split_once(right).unwrap_or(("", strategy));
-        let input = format!(in rt.alloc(); "{game}{goal}{before}{wrong}{after}")?;
+        let strategy = replaced(rt.alloc(), strategy, right, wrong)?;
+        let input = format!(in rt.alloc(); "{game}{goal}{strategy}")?;
         let (answered, sink) = ran(&rt, &mut files, &["check"], input.as_bytes(), &[], 1000)?;
         assert_eq!(rt; sink.taken(), text.as_bytes(), "{input}");
         assert_eq!(rt; answered, if text == "wins\n" { 0 } else { 3 }, "{input}");
@@ -583,7 +583,7 @@ end
 
 /// The text with one part of it replaced.
 fn replaced(alloc: Global, text: &str, right: &str, wrong: &str) -> Result<String, Fail> {
-    let (before, after) = text.split_once(right).unwrap_or((text, ""));
+    let (before, after) = text.split_once(right).ok_or("a part of the text")?;
     let mut whole = String::from_str(alloc, before)?;
     whole.push_str(wrong)?;
     whole.push_str(after)?;

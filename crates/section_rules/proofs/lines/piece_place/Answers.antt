@@ -2,7 +2,7 @@ use Rattle.std.proofs.Common.{[], sym, ap, ◌∙◌, arith, below_more}
 use Rattle.std.specs.Str.{bytes_eq}
 use Rattle.variant_options.specs.PieceTable.{PieceRow, pieces, wordless}
 use Rattle.section_rules.proofs.TableLemmas.{find_first, find_none}
-use Rattle.section_rules.proofs.lines.place_of.Goals as goal
+use Rattle.section_rules.proofs.lines.piece_place.Goals as goal
 
 pub returns-then-eq-clause-is : goal.returns-then-eq-clause-is
 returns-then-eq-clause-is c =
