@@ -14,13 +14,13 @@ use Rattle.variant_ini.specs.declared.line.Pair.{Pair}
 use Rattle.variant_ini.specs.LineView.{pair_view}
 use Rattle.variant_options.specs.Keys.{ordered_keys}
 use Rattle.variant_options.proofs.KeyLemmas.{keys_long}
+use Rattle.variant_model.specs.Told.{told, told_of, told_value, with_value}
 use Rattle.game_play.specs.Played.{Played, story}
 use Rattle.game_play.proofs.StoryLemmas.{history-first, history-length}
 use Rattle.strategy.specs.declared.nodes.Strategy.{Strategy}
 use Rattle.strategy.specs.Writing.{ended_line, ended_lines, strategy_text, strategy_texts}
 use Rattle.strategy.proofs.WriteLemmas.{ended_lines-append}
 use Rattle.proof_text.specs.Writing.{body_texts, game_texts, goal_text, pair_text, proof_text, proof_texts, rules_texts}
-use Rattle.proof_text.specs.Writing.{told, told_of, told_value, with_value}
 
 -- ---- lines
 

@@ -1,7 +1,6 @@
 -- The text of a proof, version 2.
-use Rattle.std.specs.Prelude.{ℕ, List, [], ◌∷◌, ◌++◌, drop, length, map, codes, Option, Some, None, if◌then◌else◌}
+use Rattle.std.specs.Prelude.{ℕ, List, ◌∷◌, ◌++◌, drop, length, map, codes}
 use Rattle.std.specs.Fmt.{decimal}
-use Rattle.std.specs.List.{flat_map}
 use Rattle.rules_model.specs.declared.board.Position.{Position}
 use Rattle.rules_model.specs.declared.board.Side.{Side}
 use Rattle.rules_model.specs.declared.board.Side.TheVariants.{White, Black}
@@ -9,32 +8,13 @@ use Rattle.rules_model.specs.declared.moves.Move.{Move}
 use Rattle.rules_model.specs.declared.rules.Rules.{Rules}
 use Rattle.rules_model.specs.MoveText.{text_of}
 use Rattle.fen_model.specs.Printing.{fen_text}
-use Rattle.variant_ini.specs.OptionValue.{option_value}
 use Rattle.variant_ini.specs.Section.{Section}
-use Rattle.variant_options.specs.Keys.{ordered_keys}
-use Rattle.section_rules.specs.Letters.{lacks_piece}
+use Rattle.variant_model.specs.Told.{told}
 use Rattle.game_play.specs.Played.{Played}
 use Rattle.strategy.specs.declared.nodes.Strategy.{Strategy}
 use Rattle.strategy.specs.Writing.{ended_lines, strategy_texts}
 
 -- ---- the rules
-
--- the value of a key in a section, its own or inherited; none where the key is that of a piece that the section lacks
-abbrev pub told_value : List Section → ℕ → List ℕ → Option (List ℕ)
-told_value sections place key = if lacks_piece sections place key then None else option_value sections place key
-
--- the key with its value, or nothing where it has none
-abbrev pub with_value : List ℕ → Option (List ℕ) → List (List ℕ × List ℕ)
-with_value key None = []
-with_value key (Some value) = (key, value) ∷ []
-
--- what is told of a key
-unfoldable pub told_of : List Section → ℕ → List ℕ → List (List ℕ × List ℕ)
-told_of sections place key = with_value key (told_value sections place key)
-
--- what a section tells: each option that has a value, and each piece that the section has, in byte order of the keys
-unfoldable pub told : List Section → ℕ → List (List ℕ × List ℕ)
-told sections place = flat_map (told_of sections place) ordered_keys
 
 -- `key = value`
 abbrev pub pair_text : List ℕ × List ℕ → List ℕ

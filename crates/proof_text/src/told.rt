@@ -2,7 +2,7 @@
 ghost use Rattle.std.specs.Prelude.{◌≡◌, ◌++◌, ◌<◌, IfOk, OnOk, length, map};
 ghost use Rattle.std.specs.Option.{option_copied};
 ghost use Rattle.variant_ini.specs.LineView.{pair_view};
-ghost use Rattle.proof_text.specs.Writing as Writing;
+ghost use Rattle.variant_model.specs.Told as Told;
 
 use foundation::Memory;
 use section_rules::LetteredSections;
@@ -13,7 +13,7 @@ use variant_options::keys::{KEYS, key_at};
 /// The value of a key in a section; none of a piece that the section does not have.
 fn told_value<'a>(sections: &LetteredSections<'a>, section: usize, key: &[u8]) -> Option<&'a [u8]>
     requires { section < length sections.now }
-    ensures { option_copied result ≡ Writing.told_value sections.now section key.now }
+    ensures { option_copied result ≡ Told.told_value sections.now section key.now }
 {
     if sections.lacks_piece(section, key) {
         return None;
@@ -27,7 +27,7 @@ fn push_told<'a>(
     key: &'a [u8],
     value: Option<&'a [u8]>,
 ) -> Result<(), Memory>
-    ensures { let pair = Writing.with_value key.now (option_copied value.entry) in
+    ensures { let pair = Told.with_value key.now (option_copied value.entry) in
         OnOk result (map pair_view pairs.new.items ≡ map pair_view pairs.old.items ++ pair) }
 {
     if let Some(value) = value {
@@ -43,7 +43,7 @@ pub(crate) fn told<'a>(
     section: usize,
 ) -> Result<Vec<Pair<'a>>, Memory>
     requires { section < length sections.now }
-    ensures { IfOk result (λ pairs. map pair_view pairs.items ≡ Writing.told sections.now section) }
+    ensures { IfOk result (λ pairs. map pair_view pairs.items ≡ Told.told sections.now section) }
 {
     let mut pairs = Vec::new(alloc);
     for place in 0..KEYS {

@@ -6,6 +6,7 @@ ghost use Rattle.rules_model.specs.MoveText.{text_of};
 ghost use Rattle.rules_model.specs.Sound.{is_sound};
 ghost use Rattle.variant_ini.specs.LineView.{pair_view};
 ghost use Rattle.variant_model.specs.Entry.{entry};
+ghost use Rattle.variant_model.specs.Told as Told;
 ghost use Rattle.strategy.specs.Reading.{AreSound};
 ghost use Rattle.strategy.specs.Writing.{ended_line, ended_lines};
 ghost use Rattle.proof_text.specs.Writing as Writing;
@@ -184,7 +185,7 @@ fn push_section(
     section: usize,
 ) -> Result<(), Memory>
     requires { section < length sections.now }
-    ensures { let lines = Writing.rules_texts (Writing.told sections.now section) in
+    ensures { let lines = Writing.rules_texts (Told.told sections.now section) in
         OnOk result (text.new.items ≡ text.old.items ++ ended_lines lines) }
 {
     let lettered = LetteredSections::new(alloc, sections)?;

@@ -1,10 +1,9 @@
 -- The letters of pieces, by the lines of a section and by the letters of its parent.
-use Rattle.std.specs.Prelude.{ℕ, Bool, false, is_none, List, Option, Some, None, if◌then◌else◌, map, slice_index_or}
+use Rattle.std.specs.Prelude.{ℕ, List, Option, Some, None, if◌then◌else◌, map, slice_index_or}
 use Rattle.std.specs.List.{range_with_len}
 use Rattle.rules_model.specs.declared.board.Kind.{Kind}
 use Rattle.variant_ini.specs.Section.{Section}
-use Rattle.variant_options.specs.LineFaults.{piece_named}
-use Rattle.variant_options.specs.PieceTable.{PieceRow, pieces}
+use Rattle.variant_options.specs.PieceTable.{pieces}
 use Rattle.variant_model.specs.PieceLetters.{parent_letter, piece_letter}
 use Rattle.section_rules.specs.Own.{letter_given}
 
@@ -29,12 +28,3 @@ inherited sections place = map (λ piece. parent_letter sections place piece.key
 -- the letters of the sections before a place
 unfoldable pub letters_before : List Section → ℕ → List (List (Option Kind))
 letters_before sections place = map (letters_of sections) (range_with_len 0 place)
-
--- a section does not have the piece
-abbrev pub lacks_row : List Section → ℕ → Option PieceRow → Bool
-lacks_row sections place None = false
-lacks_row sections place (Some piece) = is_none (piece_letter sections place piece.key)
-
--- the key is that of a piece, and a section does not have it
-abbrev pub lacks_piece : List Section → ℕ → List ℕ → Bool
-lacks_piece sections place key = lacks_row sections place (piece_named key)

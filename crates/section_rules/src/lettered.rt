@@ -1,5 +1,6 @@
 //! Sections with the letters of their pieces.
 ghost use Rattle.std.specs.Prelude.{◌≡◌, ◌<◌, IfOk, is_none, length, slice_index_or};
+ghost use Rattle.variant_model.specs.Told.{lacks_piece};
 ghost use Rattle.section_rules.specs.Letters as table;
 
 use crate::letters::{Letters, all_letters};
@@ -63,7 +64,7 @@ impl<'a> LetteredSections<'a> {
     /// Whether a key is that of a piece that the section does not have.
     pub fn lacks_piece(&self, section: usize, key: &[u8]) -> bool
         requires { section < length self.now }
-        ensures { result ≡ table.lacks_piece self.now section key.now }
+        ensures { result ≡ lacks_piece self.now section key.now }
     {
         match piece_place(key) {
             Some(place) => is_absent(&self.letters(section), place),

@@ -5,3 +5,4 @@ pub mod Made
 pub mod Entry
 pub mod Builtin
 pub mod Fault
+pub mod Told

@@ -1,11 +1,13 @@
 //! What is known of the entries of sections, for all sections. Each law is the contract of a call that does nothing.
-ghost use Rattle.std.specs.Prelude.{◌≡◌, ℕ, List, Some, None, Err, true};
+ghost use Rattle.std.specs.Prelude.{◌≡◌, ◌≤◌, ℕ, List, [], ◌∷◌, Some, None, Ok, Err, length, true};
+ghost use Rattle.rules_model.specs.declared.rules.Rules.{Rules};
 ghost use Rattle.variant_ini.specs.Section.{Section, last_value};
 ghost use Rattle.variant_ini.specs.OptionValue.{parent_place};
 ghost use Rattle.variant_model.specs.declared.fault.SectionFault.{SectionFault};
 ghost use Rattle.variant_model.specs.Entry.{accepted, entry, first_fault, is_refused};
 ghost use Rattle.variant_model.specs.Made.{resolved};
 ghost use Rattle.variant_model.specs.PieceLetters.{letter_in, lines_of, parent_letter, piece_letter, unless_given};
+ghost use Rattle.variant_model.specs.Told.{told, told_section};
 
 /// The letter of a piece is that of the section's own last line for it, else the one in its parent, unless the section gives
 /// that letter to a piece: no chain of parents is cut off.
@@ -18,6 +20,16 @@ pub fn letters_are_inherited()
 pub fn first_faults_refuse()
     ensures faulty { (sections : List Section) (place : ℕ) (fault : SectionFault) → first_fault sections place (is_refused sections) ≡ Some fault → entry sections place ≡ Err fault }
     ensures faultless { (sections : List Section) (place : ℕ) → first_fault sections place (is_refused sections) ≡ None → entry sections place ≡ accepted (resolved sections place) }
+{}
+
+/// A section that has no parent, and the lines that an accepted section tells, has the rules of that section. It has
+/// at least one line, and at most one of each key.
+pub fn told_sections_have_the_same_rules()
+    ensures same { (sections : List Section) (place : ℕ) (name : List ℕ) (rules : Rules) → entry sections place ≡ Ok rules
+        → entry (told_section name sections place ∷ []) 0 ≡ Ok rules }
+    ensures some { (sections : List Section) (place : ℕ) (rules : Rules) → entry sections place ≡ Ok rules
+        → 1 ≤ length (told sections place) }
+    ensures few { (sections : List Section) (place : ℕ) → length (told sections place) ≤ 213 }
 {}
 
 /// A section whose parent is refused is refused.

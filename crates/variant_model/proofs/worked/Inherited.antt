@@ -9,6 +9,9 @@ use Rattle.foundation.specs.Numbers.{are_digits, is_number, number_of, value_aft
 use Rattle.variant_model.specs.Made.{resolved}
 use Rattle.variant_model.specs.PieceRules.{said}
 use Rattle.variant_model.specs.PieceLetters.{letter_within, piece_letter, letter_twice}
+use Rattle.variant_model.specs.Told.{told, told_of}
+use Rattle.variant_options.specs.Keys.{all_keys, in_order, key_inserted, ordered_keys}
+use Rattle.variant_options.specs.Options.{options}
 use Rattle.variant_options.specs.Options as option
 use Rattle.variant_options.specs.Letters.{kind}
 
@@ -40,6 +43,15 @@ letters = refl
 other_letters : map (λ place. piece_letter chain place (codes "chancellor")) (0 ∷ 1 ∷ 2 ∷ []) ≡ None ∷ Some (kind 17) ∷ Some (kind 4) ∷ []
 unfolding first_named parent_place last_value letter_within piece_letter
 other_letters = refl
+
+-- a tells its rook; b gave its letter away, and c has it no more
+tells : map (told chain) (0 ∷ 1 ∷ 2 ∷ [])
+    ≡ ((codes "nMoveRule", codes "40") ∷ (codes "rook", codes "r") ∷ [])
+    ∷ ((codes "chancellor", codes "R") ∷ (codes "nMoveRule", codes "40") ∷ [])
+    ∷ ((codes "chancellor", codes "e") ∷ (codes "nMoveRule", codes "40") ∷ [])
+    ∷ []
+unfolding options all_keys key_inserted in_order ordered_keys first_named parent_place last_value value_within option_value letter_within piece_letter told_of told
+tells = refl
 
 -- q and a are given twice: a is the smaller
 twice : letter_twice (key_line (codes "queen") (codes "q") ∷ key_line (codes "amazon") (codes "Q") ∷ key_line (codes "alfil") (codes "a") ∷ key_line (codes "archbishop") (codes "a") ∷ []) ≡ Some 0

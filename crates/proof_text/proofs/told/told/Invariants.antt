@@ -2,7 +2,7 @@ use Rattle.std.proofs.Common.{◌≡◌, map, take}
 use Rattle.std.specs.List.{flat_map}
 use Rattle.variant_ini.specs.LineView.{pair_view}
 use Rattle.variant_options.specs.Keys.{ordered_keys}
-use Rattle.proof_text.specs.Writing.{told_of}
+use Rattle.variant_model.specs.Told.{told_of}
 use Rattle.proof_text.proofs.told.told.Given as goal
 
 abbrev pub invariant-loop-place : goal.invariant-loop-place

@@ -1,8 +1,9 @@
 use Rattle.std.proofs.Common.{ℕ, ◌<◌, List, ◌++◌, length, map, sym, ap, subst, ◌∙◌}
 use Rattle.variant_ini.specs.LineView.{pair_view}
 use Rattle.variant_ini.specs.Section.{Section}
+use Rattle.variant_model.specs.Told.{told}
 use Rattle.strategy.specs.Writing.{ended_lines}
-use Rattle.proof_text.specs.Writing.{rules_texts, told}
+use Rattle.proof_text.specs.Writing.{rules_texts}
 use Rattle.proof_text.proofs.writing.push_section.Goals as goal
 
 pub told-requires : goal.told-requires

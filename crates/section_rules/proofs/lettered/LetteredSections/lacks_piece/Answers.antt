@@ -2,7 +2,8 @@ use Rattle.std.proofs.Common.{Option, None, ap, ◌∙◌}
 use Rattle.std.specs.Prelude.{is_none}
 use Rattle.rules_model.specs.declared.board.Kind.{Kind}
 use Rattle.variant_model.specs.PieceLetters.{piece_letter}
-use Rattle.section_rules.specs.Letters.{lacks_row, letters_of}
+use Rattle.variant_model.specs.Told.{lacks_row}
+use Rattle.section_rules.specs.Letters.{letters_of}
 use Rattle.section_rules.proofs.TableLemmas.{piece_mapped}
 use Rattle.section_rules.proofs.lettered.LetteredSections.lacks_piece.Goals as goal
 
