@@ -5,3 +5,4 @@ pub mod OptionLaws
 pub mod ParentLaws
 pub mod ReadingLaws
 pub mod LoneLemmas
+mod FileLaws

@@ -1,5 +1,5 @@
 -- How the bytes of a variants file are cut.
-use Rattle.std.specs.Prelude.{ℕ, Bool, ◌==◌, ◌||◌, List, [], ◌∷◌, Option, None, Some, reverse, position, take, drop, ◌+◌, if◌then◌else◌}
+use Rattle.std.specs.Prelude.{ℕ, ◌==◌, List, [], ◌∷◌, reverse, if◌then◌else◌}
 use Rattle.std.specs.List.{onto_first}
 use Rattle.foundation.specs.Cuts.{is_blank}
 

@@ -9,3 +9,4 @@ pub mod Parents
 pub mod Reading
 pub mod Section
 pub mod Steps
+pub mod FileLines
