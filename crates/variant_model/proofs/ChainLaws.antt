@@ -73,15 +73,16 @@ same_line line key value e v =
     let w : line.value ≡ value = cc in
     λ i. record { key = k i; value = w i }
 
-line_good_here : (line : KeyLine) (key value : List ℕ) (same : Bool) → bytes_eq line.key key ≡ same
-    → line_fault line ≡ None → (if same then Some line.value else None) ≡ Some value → IsGoodPair key value
-line_good_here line key value true e good v = ap line_fault (sym (same_line line key value e v)) ∙ good
-line_good_here line key value false e good v = cc
+same_here : (line : KeyLine) (key value : List ℕ) (same : Bool) → bytes_eq line.key key ≡ same
+    → (if same then Some line.value else None) ≡ Some value → line ≡ key_line key value
+same_here line key value true e v = same_line line key value e v
+same_here line key value false e v = cc
 
-line_good_or : (found : Option (List ℕ)) (line : KeyLine) (key value : List ℕ) → line_fault line ≡ None
-    → (found ≡ Some value → IsGoodPair key value) → or_here found line key ≡ Some value → IsGoodPair key value
-line_good_or (Some other) line key value good rest e = rest e
-line_good_or None line key value good rest e = line_good_here line key value (bytes_eq line.key key) refl good e
+-- a value is that of a line, or was found already
+pub found_or_here : (found : Option (List ℕ)) (line : KeyLine) (key value : List ℕ) (P : Type 0)
+    → (found ≡ Some value → P) → (line ≡ key_line key value → P) → or_here found line key ≡ Some value → P
+found_or_here (Some other) line key value P before here e = before e
+found_or_here None line key value P before here e = here (same_here line key value (bytes_eq line.key key) refl e)
 
 no_mapped : (key : List ℕ) (fault : Option LineFault) → option_map (with_key key) fault ≡ None → fault ≡ None
 no_mapped key None e = refl
@@ -94,10 +95,11 @@ unfolding lines_fault last_value
 value_line_good [] key value good e = cc
 value_line_good (line ∷ lines) key value good e =
     let parts = no_either (option_map (with_key line.key) (line_fault line)) (lines_fault lines) good in
-    line_good_or (last_value lines key) line key value (no_mapped line.key (line_fault line) parts.0)
-    (λ found. value_line_good lines key value parts.1 found) e
+    found_or_here (last_value lines key) line key value (IsGoodPair key value)
+    (λ found. value_line_good lines key value parts.1 found)
+    (λ here. ap line_fault (sym here) ∙ no_mapped line.key (line_fault line) parts.0) e
 
-own_or_inherited : (own inherited : Option (List ℕ)) (value : List ℕ) (P : Type 0) → (own ≡ Some value → P)
+pub own_or_inherited : (own inherited : Option (List ℕ)) (value : List ℕ) (P : Type 0) → (own ≡ Some value → P)
     → (inherited ≡ Some value → P) → own_or own inherited ≡ Some value → P
 own_or_inherited (Some other) inherited value P f g e = f e
 own_or_inherited None inherited value P f g e = g e

@@ -5,4 +5,10 @@ pub mod ChainLaws
 pub mod ToldLaws
 pub mod SameRules
 pub mod ToldEntry
+pub mod FileTold
+pub mod TextEnds
+pub mod OptionEnds
+pub mod WordEnds
+pub mod FenEnds
+pub mod ToldReturns
 pub mod worked

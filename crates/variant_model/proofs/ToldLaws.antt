@@ -4,10 +4,11 @@ use Rattle.std.specs.Prelude.{if◌then◌else◌}
 use Rattle.std.specs.declared.cmp.Ordering.TheVariants.{Less, Equal, Greater}
 use Rattle.std.specs.Ordering.{nat_cmp}
 use Rattle.std.specs.Cmp.Lexicographic.{slice_cmp}
-use Rattle.std.specs.List.{find, flat_map, list_any}
+use Rattle.std.specs.List.{All, find, flat_map, list_any}
 use Rattle.std.specs.Option.{option_map, option_or}
 use Rattle.std.specs.Str.{bytes_eq}
-use Rattle.std.proofs.lemmas.Bool.{or_parts, or_right}
+use Rattle.std.proofs.lemmas.Bool.{or_left, or_parts, or_right}
+use Rattle.std.proofs.lemmas.List.Elements.{All-cons, All-nil}
 use Rattle.std.proofs.lemmas.List.Folds.{list_any-append, list_any_at}
 use Rattle.std.proofs.Math.Bool.{or-false}
 use Rattle.std.proofs.lemmas.Slice.Eq.{bytes_eq-Decides}
@@ -30,7 +31,7 @@ use Rattle.variant_model.proofs.ListLemmas.{found_in, found_passes, list_any_fou
 -- ---- the keys that are told
 
 -- the key is one of some
-abbrev is_among : List ℕ → List (List ℕ) → Bool
+abbrev pub is_among : List ℕ → List (List ℕ) → Bool
 is_among wanted keys = list_any (λ key. bytes_eq key wanted) keys
 
 abbrev option_keys : List OptionRow → List (List ℕ)
@@ -125,7 +126,7 @@ module _ (wanted : List ℕ) where
       (list_any-append is (option_keys rows) (keys_of_regions table))
       ∙ (λ i. (among_options rows i || among_regions table i) || among_pieces table i)
 
-  abbrev is_option : Bool
+  abbrev pub is_option : Bool
   is_option = has_option options
 
   -- the key is that of a piece
@@ -133,7 +134,7 @@ module _ (wanted : List ℕ) where
   is_piece = is_some (piece_named wanted)
 
   -- the keys are those of the options, of the regions of pieces, and of the pieces
-  among_ordered : is_among wanted ordered_keys ≡ ((is_option || is_mobility_key wanted) || is_piece)
+  pub among_ordered : is_among wanted ordered_keys ≡ ((is_option || is_mobility_key wanted) || is_piece)
   unfolding ordered_keys all_keys
   among_ordered = among_in_order all_keys ∙ among_parts options pieces
 
@@ -208,6 +209,22 @@ module _ (said : List ℕ → Option (List ℕ)) where
   said_short [] = omega arith
   said_short (key ∷ keys) = short_before key (said key) (pairs keys) (length keys) (said_short keys)
 
+  module _ (P : List ℕ × List ℕ → Type 0) where
+    all_before : (key : List ℕ) (value : Option (List ℕ)) (rest : List (List ℕ × List ℕ))
+        → ((v : List ℕ) → value ≡ Some v → P (key, v)) → All P rest → All P (with_value key value ++ rest)
+    all_before key None rest h others = others
+    all_before key (Some v) rest h others = All-cons P (key, v) rest (h v refl) others
+
+    -- what holds of each key with its value holds of each pair
+    pub each_told : (keys : List (List ℕ))
+        → ((key value : List ℕ) → is_among key keys ≡ true → said key ≡ Some value → P (key, value))
+        → All P (pairs keys)
+    each_told [] h = All-nil P
+    each_told (key ∷ keys) h =
+        all_before key (said key) (pairs keys)
+        (λ value is. h key value (or_left _ (is_among key keys) ((bytes_eq-Decides key key).1 refl)) is)
+        (each_told keys (λ other value among is. h other value (or_right (bytes_eq key other) _ among) is))
+
 -- ---- what a section tells
 
 pub told_short : (sections : List Section) (place : ℕ) → length (told sections place) ≤ 213
@@ -230,7 +247,7 @@ found_is_piece test row e =
     sym (list_any_found (λ piece. bytes_eq piece.key row.key) pieces)
     ∙ found_in test (λ piece. bytes_eq piece.key row.key) pieces row e ((bytes_eq-Decides row.key row.key).1 refl)
 
-unless_lacking : (lacks : Bool) (value : Option (List ℕ)) (v : List ℕ) → (if lacks then None else value) ≡ Some v
+pub unless_lacking : (lacks : Bool) (value : Option (List ℕ)) (v : List ℕ) → (if lacks then None else value) ≡ Some v
     → value ≡ Some v
 unless_lacking true value v e = cc
 unless_lacking false value v e = e

@@ -1,13 +1,15 @@
 //! What is known of the entries of sections, for all sections. Each law is the contract of a call that does nothing.
-ghost use Rattle.std.specs.Prelude.{◌≡◌, ◌≤◌, ℕ, List, [], ◌∷◌, Some, None, Ok, Err, length, true};
+ghost use Rattle.std.specs.Prelude.{◌≡◌, ◌≤◌, ℕ, List, [], ◌∷◌, Some, None, Ok, Err, All, length, true, false};
+ghost use Rattle.std.specs.Io.BufRead.{ends_with_byte};
 ghost use Rattle.rules_model.specs.declared.rules.Rules.{Rules};
+ghost use Rattle.variant_ini.specs.FileLines.{AreFileLines, IsFileLine};
 ghost use Rattle.variant_ini.specs.Section.{Section, last_value};
 ghost use Rattle.variant_ini.specs.OptionValue.{parent_place};
 ghost use Rattle.variant_model.specs.declared.fault.SectionFault.{SectionFault};
 ghost use Rattle.variant_model.specs.Entry.{accepted, entry, first_fault, is_refused};
 ghost use Rattle.variant_model.specs.Made.{resolved};
 ghost use Rattle.variant_model.specs.PieceLetters.{letter_in, lines_of, parent_letter, piece_letter, unless_given};
-ghost use Rattle.variant_model.specs.Told.{told, told_section};
+ghost use Rattle.variant_model.specs.Told.{line_of, told, told_section};
 
 /// The letter of a piece is that of the section's own last line for it, else the one in its parent, unless the section gives
 /// that letter to a piece: no chain of parents is cut off.
@@ -30,6 +32,19 @@ pub fn told_sections_have_the_same_rules()
     ensures some { (sections : List Section) (place : ℕ) (rules : Rules) → entry sections place ≡ Ok rules
         → 1 ≤ length (told sections place) }
     ensures few { (sections : List Section) (place : ℕ) → length (told sections place) ≤ 213 }
+{}
+
+/// Where all sections have only lines that a file can give, so are the lines that a section tells: a value with no blanks at
+/// its ends, no line feed and no byte above 127, short enough for one line with its key.
+pub fn told_lines_are_lines_of_files()
+    ensures { (sections : List Section) (place : ℕ) → AreFileLines sections
+        → All (λ pair. IsFileLine (line_of pair)) (told sections place) }
+{}
+
+/// No value that an accepted section tells ends in a carriage return, the byte 13.
+pub fn told_values_end_in_no_return()
+    ensures { (sections : List Section) (place : ℕ) (rules : Rules) → entry sections place ≡ Ok rules
+        → All (λ pair. ends_with_byte 13 pair.1 ≡ false) (told sections place) }
 {}
 
 /// A section whose parent is refused is refused.
