@@ -7,4 +7,11 @@ pub mod PairLemmas
 pub mod TakingLemmas
 pub mod HistoryLemmas
 pub mod WriteLemmas
+pub mod TrimLemmas
+pub mod PairBackLemmas
+pub mod FollowLemmas
+pub mod ToldBackLemmas
+pub mod WordBackLemmas
+pub mod MoveBackLemmas
+pub mod ProofBackLemmas
 mod worked

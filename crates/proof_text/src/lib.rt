@@ -5,6 +5,7 @@
 mod body;
 mod fault;
 mod history;
+pub mod laws;
 mod lines;
 mod pairs;
 mod proof;

@@ -4,7 +4,7 @@ use Rattle.std.specs.Prelude.{Result, codes, position}
 use Rattle.std.specs.Fmt.{decimal}
 use Rattle.std.specs.List.{list_all, position_or_len}
 use Rattle.std.proofs.Math.Seq.{drop-append-add, take-append_seam}
-use Rattle.std.proofs.lemmas.Bool.{and_from, and_parts, leb-true, lt-ltb, ltb-false, ltb-true}
+use Rattle.std.proofs.lemmas.Bool.{and_from, and_parts, eq-eqb, leb-true, lt-ltb, ltb-false, ltb-true}
 use Rattle.std.proofs.lemmas.Fmt.{length-decimal-le}
 use Rattle.std.proofs.lemmas.List.Folds.{list_all-append}
 use Rattle.foundation.specs.Count.{all_below}
@@ -225,33 +225,37 @@ fen-short rules text p is = ltb-false 1024 (length text) (within_if rules (nat_l
 
 -- ---- words
 
-abbrev is_space : ℕ → Bool
-is_space b = b == 32
+abbrev is_byte : ℕ → ℕ → Bool
+is_byte byte b = b == byte
 
-place_at : (text rest : List ℕ) → Lacks 32 text → position_or_len is_space (text ++ 32 ∷ rest) ≡ length text
-place_at [] rest lacks = refl
-place_at (b ∷ text) rest lacks =
-    let both = and_parts (not (b == 32)) (list_all (λ c. not (c == 32)) text) lacks in
-    let here = both.0 in
-    let more = place_at text rest both.1 in
-    rw here (omega (arith, more))
+module _ (byte : ℕ) where
+  place_at : (text rest : List ℕ) → Lacks byte text → position_or_len (is_byte byte) (text ++ byte ∷ rest) ≡ length text
+  place_at [] rest lacks =
+      let here : (byte == byte) ≡ true = eq-eqb byte byte refl in
+      rw here refl
+  place_at (b ∷ text) rest lacks =
+      let both = and_parts (not (b == byte)) (list_all (λ c. not (c == byte)) text) lacks in
+      let here = both.0 in
+      let more = place_at text rest both.1 in
+      rw here (omega (arith, more))
 
-place_is : (text : List ℕ) (n : ℕ) → position_or_len is_space text ≡ n → n < length text → position is_space text ≡ Some n
-place_is text n is below =
-    let within : nat_lt n (length text) ≡ true = lt-ltb n (length text) below in
-    rw is (rw within refl)
+  place_is : (text : List ℕ) (n : ℕ) → position_or_len (is_byte byte) text ≡ n → n < length text → position (is_byte byte) text ≡ Some n
+  place_is text n is below =
+      let within : nat_lt n (length text) ≡ true = lt-ltb n (length text) below in
+      rw is (rw within refl)
 
-cut_at : (text : List ℕ) (n : ℕ) → position is_space text ≡ Some n → cut 32 text ≡ (take n text, Some (drop (n + 1) text))
-unfolding cut
-cut_at text n is = ap (cut_where text) is
+  cut_at : (text : List ℕ) (n : ℕ) → position (is_byte byte) text ≡ Some n → cut byte text ≡ (take n text, Some (drop (n + 1) text))
+  unfolding cut
+  cut_at text n is = ap (cut_where text) is
 
-pub cut-word : (word rest : List ℕ) → Lacks 32 word → cut 32 (word ++ 32 ∷ rest) ≡ (word, Some rest)
-cut-word word rest lacks =
-    let front = take-append_seam word (32 ∷ rest) in
-    let back : drop (length word + 1) (word ++ 32 ∷ rest) ≡ rest = drop-append-add word (32 ∷ rest) 1 in
-    cut_at (word ++ 32 ∷ rest) (length word) (place_is (word ++ 32 ∷ rest) (length word) (place_at word rest lacks) (omega (arith, length-append word (32 ∷ rest))))
-    ∙ ap (λ w. (w, Some (drop (length word + 1) (word ++ 32 ∷ rest)))) front
-    ∙ ap (λ r. (word, Some r)) back
+  -- a text is cut after a word without the byte
+  pub cut-word : (word rest : List ℕ) → Lacks byte word → cut byte (word ++ byte ∷ rest) ≡ (word, Some rest)
+  cut-word word rest lacks =
+      let front = take-append_seam word (byte ∷ rest) in
+      let back : drop (length word + 1) (word ++ byte ∷ rest) ≡ rest = drop-append-add word (byte ∷ rest) 1 in
+      cut_at (word ++ byte ∷ rest) (length word) (place_is (word ++ byte ∷ rest) (length word) (place_at word rest lacks) (omega (arith, length-append word (byte ∷ rest))))
+      ∙ ap (λ w. (w, Some (drop (length word + 1) (word ++ byte ∷ rest)))) front
+      ∙ ap (λ r. (word, Some r)) back
 
 -- ---- lines
 
@@ -272,11 +276,11 @@ edge_words a b =
 
 said_node : (rest : List ℕ) → said (codes "node" ++ 32 ∷ rest) ≡ node_said rest
 unfolding said
-said_node rest = ap (λ c. said_after c.0 c.1) (cut-word (codes "node") rest refl)
+said_node rest = ap (λ c. said_after c.0 c.1) (cut-word 32 (codes "node") rest refl)
 
 said_edge : (rest : List ℕ) → said (codes "edge" ++ 32 ∷ rest) ≡ edge_said rest
 unfolding said
-said_edge rest = ap (λ c. said_after c.0 c.1) (cut-word (codes "edge") rest refl)
+said_edge rest = ap (λ c. said_after c.0 c.1) (cut-word 32 (codes "edge") rest refl)
 
 decimal_lacks : (n : ℕ) → n < 2 ^ 64 → Lacks 32 (decimal n)
 decimal_lacks n small = above-lacks 32 32 (decimal n) refl (decimal-above n small)
@@ -289,8 +293,8 @@ node_with-back number rank fen n r =
 node_said-back : (number rank : ℕ) (fen : List ℕ) → number < 2 ^ 64 → rank < 2 ^ 64 → node_said (words_of (decimal number) (decimal rank) fen) ≡ Some (node_line number rank fen)
 unfolding node_said
 node_said-back number rank fen n r =
-    ap (λ c. node_after c.0 c.1) (cut-word (decimal number) (decimal rank ++ 32 ∷ fen) (decimal_lacks number n))
-    ∙ ap (λ c. node_ranked (decimal number) c.0 c.1) (cut-word (decimal rank) fen (decimal_lacks rank r))
+    ap (λ c. node_after c.0 c.1) (cut-word 32 (decimal number) (decimal rank ++ 32 ∷ fen) (decimal_lacks number n))
+    ∙ ap (λ c. node_ranked (decimal number) c.0 c.1) (cut-word 32 (decimal rank) fen (decimal_lacks rank r))
     ∙ node_with-back number rank fen n r
 
 pub node-said : (rules : Rules) (number : ℕ) (v : Node) → number < 2 ^ 64 → v.rank < 2 ^ 64 → said (node_text rules number v) ≡ Some (node_line number v.rank (fen_text rules v.position))
@@ -303,7 +307,7 @@ node-said rules number v n r =
 edge_said-back : (chosen : List ℕ) (to : ℕ) → Lacks 32 chosen → to < 2 ^ 64 → edge_said (chosen ++ 32 ∷ decimal to) ≡ Some (edge_line chosen to)
 unfolding edge_said
 edge_said-back chosen to lacks small =
-    ap (λ c. edge_after c.0 c.1) (cut-word chosen (decimal to) lacks)
+    ap (λ c. edge_after c.0 c.1) (cut-word 32 chosen (decimal to) lacks)
     ∙ ap (edge_to chosen) (number-back to small)
 
 pub edge-said : (e : Edge) → e.to < 2 ^ 64 → said (edge_text e) ≡ Some (edge_line (text_of e.chosen) e.to)
@@ -315,7 +319,7 @@ edge-said e small =
 
 pub count-said : (n : ℕ) → n < 2 ^ 64 → count_said (count_text n) ≡ Some n
 unfolding count_said
-count-said n small = ap (λ c. count_after c.0 c.1) (cut-word (codes "nodes") (decimal n) refl) ∙ number-back n small
+count-said n small = ap (λ c. count_after c.0 c.1) (cut-word 32 (codes "nodes") (decimal n) refl) ∙ number-back n small
 
 -- ---- how long the lines are, and their bytes
 

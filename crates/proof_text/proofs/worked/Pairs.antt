@@ -1,5 +1,5 @@
 -- Lines of the rules and lines that are nearly such lines.
-use Rattle.std.proofs.Common.{◌≡◌, [], ◌∷◌, ◌++◌, Some, None, replicate, refl}
+use Rattle.std.proofs.Common.{◌≡◌, true, [], ◌∷◌, ◌++◌, Some, None, replicate, refl}
 use Rattle.std.specs.Prelude.{codes}
 use Rattle.foundation.specs.Cuts.{cut}
 use Rattle.variant_ini.specs.Cuts.{trimmed}
@@ -59,3 +59,8 @@ longest = refl
 too_long : pair_said (codes "rook=" ++ replicate 1020 120) ≡ None
 unfolding trimmed cut header_of pair_of text_kind line_kind is_read_back pair_said
 too_long = refl
+
+-- a line feed in a value passes, though a text is cut there: the pairs that are told back have none
+feed : is_read_back (codes "rook", codes "r\nk") ≡ true
+unfolding trimmed cut header_of pair_of text_kind line_kind is_read_back
+feed = refl

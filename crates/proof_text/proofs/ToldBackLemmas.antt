@@ -1,0 +1,83 @@
+-- The pairs that a section tells are read back from their lines.
+use Rattle.std.proofs.Common.{◌≡◌, ℕ, ◌+◌, true, List, [], ◌∷◌, ◌++◌, Option, Some, None, Result, Ok, length, map, refl, sym, ap, ◌∙◌, append_assoc, append-nil}
+use Rattle.std.specs.Prelude.{option_and_then}
+use Rattle.std.specs.List.{flat_map, list_all}
+use Rattle.std.proofs.lemmas.Bool.{and_parts}
+use Rattle.fen_model.proofs.JoinLaws.{Each}
+use Rattle.io_ports.specs.Lines.{Line}
+use Rattle.strategy.proofs.BackLaws.{all_first, all_others}
+use Rattle.strategy.proofs.LineLaws.{IsLine, each-append}
+use Rattle.variant_ini.specs.declared.key_line.KeyLine.{KeyLine}
+use Rattle.variant_ini.specs.Cuts.{trimmed}
+use Rattle.variant_ini.specs.Section.{Section}
+use Rattle.variant_options.specs.Keys.{all_keys, in_order, key_inserted, ordered_keys}
+use Rattle.variant_options.specs.Options.{options}
+use Rattle.variant_model.specs.Told.{line_of, told, told_of, told_value, with_value}
+use Rattle.proof_text.specs.declared.fault.ProofFault.{ProofFault}
+use Rattle.proof_text.specs.Pairs.{AreToldBack, IsToldBack, pair_said}
+use Rattle.proof_text.specs.Reading.{paired, pairs_after}
+use Rattle.proof_text.specs.Writing.{pair_text}
+use Rattle.proof_text.proofs.FollowLemmas.{Follow, follow-here, follow-next}
+use Rattle.proof_text.proofs.PairBackLemmas.{is_plain, pair-back, pair-line}
+
+-- ---- the keys
+
+keys-plain : list_all is_plain ordered_keys ≡ true
+unfolding all_keys in_order key_inserted ordered_keys options trimmed
+keys-plain = refl
+
+abbrev HasPlainKey : List ℕ × List ℕ → Type 0
+HasPlainKey pair = is_plain pair.0 ≡ true
+
+value-plain : (key : List ℕ) (value : Option (List ℕ)) → is_plain key ≡ true → Each HasPlainKey (with_value key value)
+value-plain key None plain = tt
+value-plain key (Some value) plain = (plain, tt)
+
+told_of-plain : (sections : List Section) (place : ℕ) (keys : List (List ℕ)) → list_all is_plain keys ≡ true
+    → Each HasPlainKey (flat_map (told_of sections place) keys)
+unfolding told_of
+told_of-plain sections place [] plain = tt
+told_of-plain sections place (key ∷ keys) plain =
+    let both = and_parts (is_plain key) (list_all is_plain keys) plain in
+    each-append HasPlainKey (told_of sections place key) (flat_map (told_of sections place) keys)
+    (value-plain key (told_value sections place key) both.0)
+    (told_of-plain sections place keys both.1)
+
+-- ---- the pairs
+
+-- the key of the pair is plain, and the pair is told back
+pub record IsTold (pair : List ℕ × List ℕ) : Type 0 where
+  pub plain : is_plain pair.0 ≡ true
+  pub back : IsToldBack pair
+
+each-told : (pairs : List (List ℕ × List ℕ)) → Each HasPlainKey pairs → AreToldBack pairs → Each IsTold pairs
+each-told [] plain back = tt
+each-told (pair ∷ pairs) plain back =
+    let here : IsTold pair = record { plain = plain.0; back = all_first IsToldBack pair pairs back } in
+    (here, each-told pairs plain.1 (all_others IsToldBack pair pairs back))
+
+pub told-each : (sections : List Section) (place : ℕ) → AreToldBack (told sections place)
+    → Each IsTold (told sections place)
+unfolding told
+told-each sections place back =
+    each-told (told sections place) (told_of-plain sections place ordered_keys keys-plain) back
+
+-- ---- their lines
+
+pub pairs-lines : (pairs : List (List ℕ × List ℕ)) → Each IsTold pairs → Each IsLine (map pair_text pairs)
+pairs-lines [] each = tt
+pairs-lines (pair ∷ pairs) each = (pair-line pair each.0.plain each.0.back, pairs-lines pairs each.1)
+
+-- the lines say the pairs, after those that were read before
+pub pairs-follow : (lines : List Line) (read : List KeyLine) (pairs : List (List ℕ × List ℕ)) (number : ℕ)
+    (rest : List (List ℕ)) → Each IsTold pairs → Follow lines number (map pair_text pairs ++ rest)
+    → pairs_after read lines (length pairs) number ≡ Ok (read ++ map line_of pairs)
+unfolding pairs_after
+pairs-follow lines read [] number rest each follow = ap Ok (sym (append-nil read))
+pairs-follow lines read (pair ∷ pairs) number rest each follow =
+    let goes_on : KeyLine → Result (List KeyLine) ProofFault =
+    λ line. pairs_after (read ++ line ∷ []) lines (length pairs) (number + 1) in
+    ap (λ text. paired number (option_and_then pair_said text) goes_on) (follow-here follow)
+    ∙ ap (λ said. paired number said goes_on) (pair-back pair each.0.plain each.0.back)
+    ∙ pairs-follow lines (read ++ line_of pair ∷ []) pairs (number + 1) rest each.1 (follow-next follow)
+    ∙ ap Ok (append_assoc read (line_of pair ∷ []) (map line_of pairs))
