@@ -1,8 +1,9 @@
 -- Pieces that may go anywhere.
-use Rattle.std.proofs.Common.{◌≡◌, ◌≢◌, ℕ, ◌+◌, ◌-◌, ◌*◌, ◌%◌, ◌^◌, ◌<◌, Bool, true, false, not, ◌&&◌, ◌||◌, ◌==◌, if◌then◌else◌, Option, Some, None, List, length, is_some, refl, sym, ap, ◌∙◌, subst, arith}
+use Rattle.std.proofs.Common.{◌≡◌, ◌≢◌, ℕ, ◌-◌, ◌*◌, ◌%◌, ◌^◌, ◌<◌, Bool, true, false, not, ◌&&◌, ◌||◌, ◌==◌, if◌then◌else◌, Option, Some, None, List, length, is_some, refl, sym, ap, ◌∙◌, subst, arith}
 use Rattle.std.specs.Prelude.{bit_and, bit_or, slice_set}
-use Rattle.std.proofs.lemmas.Bool.{and_parts, and_right, eq-eqb, not-true}
+use Rattle.std.proofs.lemmas.Bool.{and_parts, eq-eqb, not-true}
 use Rattle.std.proofs.lemmas.Nat.Bits.{bit_at_ones}
+use Rattle.std.proofs.lemmas.List.{length-set}
 use Rattle.std.proofs.lemmas.Option.{slice_get_past}
 use Rattle.square_set.proofs.BitLaws.{bit-and, bit-with, bit-without}
 use Rattle.square_set.proofs.Cases.{by_equal, by_order}
@@ -14,13 +15,14 @@ use Rattle.rules_model.specs.declared.board.Kind.{Kind}
 use Rattle.rules_model.specs.declared.board.Repeat.{Repeat}
 use Rattle.rules_model.specs.declared.board.Side.{Side}
 use Rattle.rules_model.specs.declared.board.Square.{Square}
+use Rattle.rules_model.specs.declared.board.Side.TheVariants.{White, Black}
 use Rattle.rules_model.specs.declared.moves.Move.TheVariants.{Go}
 use Rattle.rules_model.specs.declared.moves.Promo.TheVariants.{Stays}
 use Rattle.rules_model.specs.declared.rules.Rules.{Rules}
 use Rattle.rules_model.specs.Attacks.{is_own, is_own_king, king_attacked}
 use Rattle.rules_model.specs.Kinds.{is_king}
 use Rattle.rules_model.specs.Legal.{is_safe}
-use Rattle.rules_model.specs.Next.{cells_after, emptied, next_repeat, promote}
+use Rattle.rules_model.specs.Next.{cells_after, emptied, fresh, next_repeat, promote}
 use Rattle.rules_model.specs.Pawns.{behind, passes_by}
 use Rattle.rules_model.specs.Sides.{other, same_side}
 use Rattle.rules_model.specs.Squares.{cell_at, flat}
@@ -30,8 +32,8 @@ use Rattle.board_sets.specs.declared.sets.BoardSets.{BoardSets}
 use Rattle.board_sets.specs.Sets.{AreSets}
 use Rattle.pins.specs.Free.{IsFree}
 use Rattle.pins.specs.Guards.{IsMoved}
-use Rattle.sound_play.proofs.CellLemmas.{moved, moved-from, moved-other, moved-to}
-use Rattle.legality.specs.Moved.{GoFreely}
+use Rattle.sound_play.proofs.CellLemmas.{cell_at-set_other, cell_at-set_same, moved, moved-from, moved-other, moved-to}
+use Rattle.legality.specs.Moved.{DropFreely, GateAtOnce, GateFreely, GoAtOnce, GoFreely}
 use Rattle.legality.proofs.SafetyLaws.{any_kind, own_apart}
 
 -- ---- pieces of a side
@@ -86,6 +88,14 @@ dropped_there false c e = refl
 stays_there : (b c : Bool) → c ≡ false → (b && not c) ≡ b
 stays_there true c e = rw e refl
 stays_there false c e = refl
+
+fresh_own : (side : Side) → (same_side side side && true) ≡ true
+fresh_own White = refl
+fresh_own Black = refl
+
+fresh_no_king : (side : Side) (b : Bool) → b ≡ false → (same_side side side && b) ≡ false
+fresh_no_king White b e = e
+fresh_no_king Black b e = e
 
 -- ---- a free piece
 
@@ -200,5 +210,119 @@ module _ (rules : Rules) (r : Repeat) (sets : BoardSets) (occupied free : Set) (
       ap (λ cells. not (king_attacked rules cells r.side)) (goes from to piece.0 piece.1 no_passing)
       ∙ ap (λ k. not k) (spared from.0 to.0 piece.0 l m piece.1 b.1 (not-true _ a.1) target b.0)
 
+  -- ---- a piece comes in
+
+  -- to a square of a board that has pieces, other men and own kings where this one has
+  module _ (base : List (Option Cell)) (to : ℕ) (x : Cell) (m : to < 120) (long : length base ≡ 120) (man : is_own r.side any_kind (Some x) ≡ true) (no : is_own_king rules r.side (Some x) ≡ false) (target : has sets.own to ≡ false)
+      (some_same : (s : ℕ) → is_some (cell_at base s) ≡ is_some (cell_at r.cells s)) (men_same : (s : ℕ) → is_own (other r.side) any_kind (cell_at base s) ≡ is_own (other r.side) any_kind (cell_at r.cells s))
+      (cell_same : (s : ℕ) → has sets.enemies s ≡ true → cell_at base s ≡ cell_at r.cells s) (king_same : (s : ℕ) → is_own_king rules r.side (cell_at base s) ≡ is_own_king rules r.side (cell_at r.cells s)) where
+    abbrev come : List (Option Cell)
+    come = slice_set base to (Some x)
+
+    -- what holds of its square and of the others holds of each
+    by_come : (P : ℕ → Option Cell → Type 0) → P to (Some x) → ((s : ℕ) → (s == to) ≡ false → P s (cell_at base s)) → (s : ℕ) → P s (cell_at come s)
+    by_come P at_to other s =
+        by_equal s to (P s (cell_at come s))
+        (λ q e. subst (λ t. P t (cell_at come t)) (sym e) (subst (P to) (sym (cell_at-set_same base to (Some x) (omega (arith, long, m)))) at_to))
+        (λ q e. subst (P s) (sym (cell_at-set_other base to s (Some x) (λ g. e (sym g)))) (other s q))
+
+    come_board : IsBoardBy (other r.side) r.cells (without sets.enemies to) (with_moved occupied to to) come
+    come_board = record {
+      squares = λ s. with_moved-is occupied to to low_occupied (omega (arith, m)) (omega (arith, m)) s ∙
+          by_come (λ t c. ((has occupied t && not (t == to)) || (t == to)) ≡ is_some c)
+          (taken_there (has occupied to) (not (to == to)) (to == to) (itself_equal to))
+          (λ t e. kept_there (has occupied t) (t == to) (t == to) e e ∙ are_occupied t ∙ sym (some_same t)) s;
+      own = λ s. without-is sets.enemies to low (omega (arith, m)) s ∙
+          by_come (λ t c. (has sets.enemies t && not (t == to)) ≡ is_own (other r.side) any_kind c)
+          (dropped_there (has sets.enemies to) (to == to) (itself_equal to) ∙ sym (own_apart r.side (Some x) man))
+          (λ t e. stays_there (has sets.enemies t) (t == to) e ∙ are.enemies t ∙ sym (men_same t)) s;
+      same = λ s h. by_come (λ t c. (has sets.enemies t && not (t == to)) ≡ true → c ≡ cell_at r.cells t)
+          (λ g. absurd (let f : ⊥ = (let n = dropped_there (has sets.enemies to) (to == to) (itself_equal to) in cc) in f))
+          (λ t e g. cell_same t (and_parts (has sets.enemies t) (not (t == to)) g).0) s (sym (without-is sets.enemies to low (omega (arith, m)) s) ∙ h);
+    }
+
+    come_kings : AreKings rules r.side come sets.kings
+    come_kings =
+        by_come (λ t c. has sets.kings t ≡ is_own_king rules r.side c)
+        (are.kings to ∙ no_king rules r.side (cell_at r.cells to) (sym (are.own to) ∙ target) ∙ sym no)
+        (λ t e. are.kings t ∙ sym (king_same t))
+
+    come_spared : has free to ≡ true → king_attacked rules come r.side ≡ false
+    come_spared h =
+        are_free to to (without sets.enemies to) (with_moved occupied to to) come h (without-is sets.enemies to low (omega (arith, m)))
+        (with_moved-is occupied to to low_occupied (omega (arith, m)) (omega (arith, m))) come_board come_kings
+
+  -- to the free squares without own pieces it is dropped
+  pub drop_freely : (enter : Set) → ((s : ℕ) → has enter s ≡ (has free s && not (has sets.own s))) → DropFreely rules r enter
+  unfolding is_safe next_repeat cells_after
+  drop_freely enter is_open kind to m h mere =
+      let a = and_parts (has free to.0) (not (has sets.own to.0)) (sym (is_open to.0) ∙ h) in
+      ap (λ k. not k)
+      (come_spared r.cells to.0 (fresh r.side kind) m size (fresh_own r.side) (fresh_no_king r.side (is_king rules kind) mere) (not-true _ a.1)
+      (λ s. refl) (λ s. refl) (λ s e. refl) (λ s. refl) a.0)
+
+  -- or goes there while another comes in behind it
+  module _ (from : ℕ) (x y : Cell) (l : from < 120) (there : cell_at r.cells from ≡ Some x) (own : has sets.own from ≡ true) (king : has sets.kings from ≡ false) (man : is_own r.side any_kind (Some y) ≡ true) (no : is_own_king rules r.side (Some y) ≡ false) where
+    abbrev behind_it : List (Option Cell)
+    behind_it = slice_set r.cells from (Some y)
+
+    by_gate : (P : ℕ → Option Cell → Type 0) → P from (Some y) → ((s : ℕ) → P s (cell_at r.cells s)) → (s : ℕ) → P s (cell_at behind_it s)
+    by_gate P at_from other s =
+        by_equal s from (P s (cell_at behind_it s))
+        (λ q e. subst (λ t. P t (cell_at behind_it t)) (sym e) (subst (P from) (sym (cell_at-set_same r.cells from (Some y) (omega (arith, size, l)))) at_from))
+        (λ q e. subst (P s) (sym (cell_at-set_other r.cells from s (Some y) (λ g. e (sym g)))) (other s))
+
+    gate_some : (s : ℕ) → is_some (cell_at behind_it s) ≡ is_some (cell_at r.cells s)
+    gate_some = by_gate (λ t c. is_some c ≡ is_some (cell_at r.cells t)) (sym (ap (λ c. is_some c) there)) (λ t. refl)
+
+    no_man : has sets.enemies from ≡ false
+    no_man = are.enemies from ∙ own_apart r.side (cell_at r.cells from) (sym (are.own from) ∙ own)
+
+    gate_men : (s : ℕ) → is_own (other r.side) any_kind (cell_at behind_it s) ≡ is_own (other r.side) any_kind (cell_at r.cells s)
+    gate_men =
+        by_gate (λ t c. is_own (other r.side) any_kind c ≡ is_own (other r.side) any_kind (cell_at r.cells t))
+        (own_apart r.side (Some y) man ∙ sym no_man ∙ are.enemies from) (λ t. refl)
+
+    gate_cells : (s : ℕ) → has sets.enemies s ≡ true → cell_at behind_it s ≡ cell_at r.cells s
+    gate_cells =
+        by_gate (λ t c. has sets.enemies t ≡ true → c ≡ cell_at r.cells t)
+        (λ g. absurd (let f : ⊥ = (let n = no_man in cc) in f)) (λ t g. refl)
+
+    gate_kings : (s : ℕ) → is_own_king rules r.side (cell_at behind_it s) ≡ is_own_king rules r.side (cell_at r.cells s)
+    gate_kings =
+        by_gate (λ t c. is_own_king rules r.side c ≡ is_own_king rules r.side (cell_at r.cells t))
+        (no ∙ sym king ∙ are.kings from) (λ t. refl)
+
+    gate_spared : (to : ℕ) → to < 120 → has sets.own to ≡ false → has free to ≡ true → king_attacked rules (slice_set behind_it to (Some x)) r.side ≡ false
+    gate_spared to m target h =
+        come_spared behind_it to x m (length-set r.cells from (Some y) ∙ size) (ap (is_own r.side any_kind) (sym there) ∙ sym (are.own from) ∙ own)
+        (ap (is_own_king rules r.side) (sym there) ∙ sym (are.kings from) ∙ king) target gate_some gate_men gate_cells gate_kings h
+
+  gated_cells : (from to : Square) (x : Cell) (kind : Kind) → cell_at r.cells from.0 ≡ Some x → passes_by rules r from to.0 ≡ false → cells_after rules r (Go from to Stays (Some kind)) ≡ slice_set (slice_set r.cells from.0 (Some (fresh r.side kind))) to.0 (Some x)
+  unfolding cells_after
+  gated_cells from to x kind there no_passing =
+      ap (λ b. slice_set (slice_set (if b then emptied r.cells (behind rules r.side to) else r.cells) from.0 (Some (fresh r.side kind))) to.0 (promote rules (cell_at r.cells from.0) Stays)) no_passing
+      ∙ ap (λ (c : Option Cell). slice_set (slice_set r.cells from.0 (Some (fresh r.side kind))) to.0 (promote rules c Stays)) there
+
+  pub gate_freely : (enter : Set) → ((s : ℕ) → has enter s ≡ (has free s && not (has sets.own s))) → GateFreely rules r sets.own sets.kings enter
+  unfolding is_safe next_repeat
+  gate_freely enter is_open kind from to l m own king h mere no_passing =
+      let a = and_parts (has free to.0) (not (has sets.own to.0)) (sym (is_open to.0) ∙ h) in
+      let piece = some_own r.side (cell_at r.cells from.0) (sym (are.own from.0) ∙ own) in
+      ap (λ cells. not (king_attacked rules cells r.side)) (gated_cells from to piece.0 kind piece.1 no_passing)
+      ∙ ap (λ k. not k)
+      (gate_spared from.0 piece.0 (fresh r.side kind) l piece.1 own king (fresh_own r.side) (fresh_no_king r.side (is_king rules kind) mere) to.0 m
+      (not-true _ a.1) a.0)
+
 pub none_freely : (rules : Rules) (r : Repeat) (own : Set) → GoFreely rules r own (record { 0 = 0 })
 none_freely rules r own from to l m h target no_passing = absurd (let f : ⊥ = (let n = has-zero (record { 0 = 0 }) refl from.0 in cc) in f)
+
+pub none_dropped : (rules : Rules) (r : Repeat) → DropFreely rules r (record { 0 = 0 })
+none_dropped rules r kind to m h mere = absurd (let f : ⊥ = (let n = has-zero (record { 0 = 0 }) refl to.0 in cc) in f)
+
+pub none_going : (rules : Rules) (r : Repeat) (own : Set) → GoAtOnce rules r own (record { 0 = 0 })
+none_going rules r own from to l m h target = absurd (let f : ⊥ = (let n = has-zero (record { 0 = 0 }) refl from.0 in cc) in f)
+
+pub none_gating : (rules : Rules) (r : Repeat) (own kings : Set) → GateAtOnce rules r own kings (record { 0 = 0 })
+none_gating rules r own kings kind from to l m h king enter mere =
+    absurd (let f : ⊥ = (let n = has-zero (record { 0 = 0 }) refl to.0 in cc) in f)

@@ -1,8 +1,8 @@
 -- Pieces that go to many squares, each of which is known to be safe.
-use Rattle.std.proofs.Common.{◌≡◌, ℕ, ◌+◌, ◌<◌, min, Bool, true, false, not, ◌&&◌, ◌||◌, is_some, Option, Some, None, List, [], ◌∷◌, length, inl, inr, refl, sym, ap, ◌∙◌, subst, arith}
+use Rattle.std.proofs.Common.{◌≡◌, ℕ, ◌+◌, ◌<◌, min, Bool, true, false, not, ◌&&◌, ◌||◌, is_none, Option, Some, None, List, [], ◌∷◌, length, inl, inr, refl, sym, ap, ◌∙◌, subst}
 use Rattle.std.specs.Bool.{OnTrue}
 use Rattle.std.specs.List.{filter}
-use Rattle.std.proofs.lemmas.Bool.{and_from, lt-ltb}
+use Rattle.std.proofs.lemmas.Bool.{and_from, and_parts, lt-ltb, not-true}
 use Rattle.foundation.specs.Member.{Member}
 use Rattle.rules_model.specs.declared.board.Kind.{Kind}
 use Rattle.rules_model.specs.declared.board.Repeat.{Repeat}
@@ -12,12 +12,12 @@ use Rattle.rules_model.specs.declared.moves.Move.TheVariants.{Go}
 use Rattle.rules_model.specs.declared.moves.Promo.TheVariants.{Stays}
 use Rattle.rules_model.specs.declared.rules.Rules.{Rules}
 use Rattle.rules_model.specs.Legal.{is_sane}
-use Rattle.rules_model.specs.Pawns.{is_ep}
+use Rattle.rules_model.specs.Pawns.{is_ep, passes_by}
 use Rattle.square_set.specs.declared.Set.{Set}
 use Rattle.square_set.specs.Members.{has, size}
 use Rattle.move_sink.specs.InTurn.{GoesTo, target_of}
 use Rattle.legality.specs.Chosen.{is_chosen, is_fit_move}
-use Rattle.legality.specs.Moved.{GoFreely, MayGo, asks_more}
+use Rattle.legality.specs.Moved.{GateAtOnce, GateFreely, GoAtOnce, GoFreely, MayGate, MayGo, asks_only_safety}
 use Rattle.legality.proofs.AllGoes.{goes-size, goes_below}
 use Rattle.legality.proofs.SafetyLaws.{not_passing, plain_sane}
 
@@ -27,14 +27,30 @@ asks_nothing false true true e f = refl
 asks_nothing false true false e f = refl
 asks_nothing false false drops e f = cc
 
-not_own : (a b : Bool) → (a && b) ≡ false → a ≡ true → b ≡ false
-not_own true b e f = e
-not_own false b e f = cc
+no_ep : (o : Option Square) (s : ℕ) → is_none o ≡ true → is_ep o s ≡ false
+no_ep None s e = refl
+no_ep (Some at) s e = cc
 
-pub may_go : (rules : Rules) (r : Repeat) (own free : Set) (from : Square) (targets : Set) → GoFreely rules r own free → from.0 < 120 → rules.checking ≡ true → rules.immobile_bad ≡ false → r.ep ≡ None → has free from.0 ≡ true → ((s : ℕ) → (has targets s && has own s) ≡ false) → MayGo rules r from targets
-may_go rules r own free from targets freely l checking bad ep member apart to m there =
-    plain_sane rules r (Go from to Stays None) (asks_nothing rules.immobile_bad rules.checking rules.drop_checks bad checking)
-    ∙ freely from to l m member (not_own (has targets to.0) (has own to.0) (apart to.0) there) (not_passing rules r from to.0 (subst (λ o. is_ep o to.0 ≡ false) (sym ep) refl))
+-- where only safety is asked, what is safe is sane
+module _ (rules : Rules) (r : Repeat) (only : asks_only_safety rules r ≡ true) where
+  nothing_more : (rules.immobile_bad || not (rules.checking && (rules.drop_checks || true))) ≡ false
+  nothing_more =
+      let a = and_parts (not rules.immobile_bad && rules.checking) (is_none r.ep) only in
+      let b = and_parts (not rules.immobile_bad) rules.checking a.0 in
+      asks_nothing rules.immobile_bad rules.checking rules.drop_checks (not-true rules.immobile_bad b.0) b.1
+
+  nothing_passed : (from : Square) (s : ℕ) → passes_by rules r from s ≡ false
+  nothing_passed from s =
+      not_passing rules r from s (no_ep r.ep s (and_parts (not rules.immobile_bad && rules.checking) (is_none r.ep) only).1)
+
+  pub go_at_once : (own leave : Set) → GoFreely rules r own leave → GoAtOnce rules r own leave
+  go_at_once own leave freely from to l m h target =
+      plain_sane rules r (Go from to Stays None) nothing_more ∙ freely from to l m h target (nothing_passed from to.0)
+
+  pub gate_at_once : (own kings enter : Set) → GateFreely rules r own kings enter → GateAtOnce rules r own kings enter
+  gate_at_once own kings enter freely kind from to l m member king h mere =
+      plain_sane rules r (Go from to Stays (Some kind)) nothing_more
+      ∙ freely kind from to l m member king h mere (nothing_passed from to.0)
 
 fit_go : (from to : Square) → from.0 < 120 → to.0 < 120 → is_fit_move (Go from to Stays None) ≡ true
 unfolding is_fit_move
@@ -49,19 +65,24 @@ all_chosen rules r captures from gate targets only l small none may m h =
     let n = small (target_of m) h.1 in
     rw only (subst (λ x. (is_fit_move x && is_sane rules r x) ≡ true) is (and_from _ _ (fit_go from to l n) (may to n h.1)))
 
+-- ---- with a piece that comes in behind
+
+fit_gate : (from to : Square) (kind : Kind) → from.0 < 120 → to.0 < 120 → kind.0 < 26 → is_fit_move (Go from to Stays (Some kind)) ≡ true
+unfolding is_fit_move
+fit_gate from to kind l m k = rw (lt-ltb from.0 120 l, lt-ltb to.0 120 m, lt-ltb kind.0 26 k) refl
+
+pub all_gated : (rules : Rules) (r : Repeat) (captures : Bool) (from : Square) (kind : Kind) (targets : Set) → captures ≡ false → from.0 < 120 → kind.0 < 26 → ((s : ℕ) → has targets s ≡ true → s < 120) → MayGate rules r from kind targets → (m : Move) → GoesTo from (Some kind) targets m → is_chosen rules r captures m ≡ true
+unfolding is_chosen
+all_gated rules r captures from kind targets only l k small may m h =
+    let to : Square = record { 0 = target_of m } in
+    let n = small (target_of m) h.1 in
+    rw only (subst (λ x. (is_fit_move x && is_sane rules r x) ≡ true) h.0 (and_from _ _ (fit_gate from to kind l n k) (may to n h.1)))
+
 -- ---- as many as are counted
 
 pub all_kept : (p : Move → Bool) (xs : List Move) → ((x : Move) → Member x xs → p x ≡ true) → filter p xs ≡ xs
 all_kept p [] h = refl
 all_kept p (x ∷ xs) h = rw (h x (inl refl)) (ap (λ ys. x ∷ ys) (all_kept p xs (λ y k. h y (inr k))))
-
-pub none_of : {A : Type 0} (o : Option A) → is_some o ≡ false → o ≡ None
-none_of None e = refl
-none_of (Some x) e = cc
-
-pub on_empty : {P : Type 0} (b : Bool) (all targets own : Set) → ((s : ℕ) → has all s ≡ (has targets s && has own s)) → OnTrue b ((s : ℕ) → has all s ≡ false) → (((s : ℕ) → (has targets s && has own s) ≡ false) → P) → OnTrue b P
-on_empty true all targets own is none f = f (λ s. sym (is s) ∙ none s)
-on_empty false all targets own is none f = tt
 
 pub on_true : {P Q : Type 0} (b : Bool) → OnTrue b P → (P → Q) → OnTrue b Q
 on_true true p f = f p

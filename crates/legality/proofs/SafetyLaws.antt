@@ -1,5 +1,5 @@
 -- Moves that leave the own king safe, by the sets of the board.
-use Rattle.std.proofs.Common.{◌≡◌, ℕ, ◌<◌, Bool, true, false, not, ◌&&◌, ◌||◌, ◌==◌, if◌then◌else◌, Option, Some, None, List, length, refl, sym, ap, ◌∙◌, subst, arith, length-set}
+use Rattle.std.proofs.Common.{◌≡◌, ℕ, Bool, true, false, not, ◌&&◌, ◌||◌, if◌then◌else◌, Option, Some, None, List, length, refl, sym, ap, ◌∙◌, subst, arith, length-set}
 use Rattle.std.specs.Prelude.{slice_set}
 use Rattle.std.proofs.lemmas.Bool.{and_parts, not-true}
 use Rattle.std.proofs.lemmas.Option.{slice_get_past}
@@ -18,9 +18,9 @@ use Rattle.rules_model.specs.declared.moves.Promo.{Promo}
 use Rattle.rules_model.specs.declared.moves.Promo.TheVariants.{Stays, Pawn, Plus}
 use Rattle.rules_model.specs.declared.rules.Rules.{Rules}
 use Rattle.rules_model.specs.Attacks.{is_diagonal, is_own, is_own_pawn}
-use Rattle.rules_model.specs.Kinds.{board_of, promoted_of}
+use Rattle.rules_model.specs.Kinds.{board_of, is_king, promoted_of}
 use Rattle.rules_model.specs.Legal.{gives_check, is_drop, is_safe, is_sane, may_check, stays_mobile}
-use Rattle.rules_model.specs.Next.{after_promo, cells_after, emptied, fresh, gated, plus, promote, without_passed}
+use Rattle.rules_model.specs.Next.{cells_after, emptied, fresh, gated, plus, promote, without_passed}
 use Rattle.rules_model.specs.Moves.{IsFitMove}
 use Rattle.rules_model.specs.Pawns.{behind, is_ep, passes_by}
 use Rattle.rules_model.specs.Sides.{other, same_side}
@@ -30,7 +30,7 @@ use Rattle.attack_tables.specs.Boards.{HoldsMen, IsBoardBy}
 use Rattle.board_sets.specs.declared.sets.BoardSets.{BoardSets}
 use Rattle.board_sets.specs.Sets.{AreSets}
 use Rattle.sound_play.proofs.CellLemmas.{cell_at-set_other, cell_at-set_same}
-use Rattle.legality.specs.Moved.{GoFreely, HoldsMenOf, asks_more, is_free, moves_own}
+use Rattle.legality.specs.Moved.{DropFreely, GoFreely, HoldsMenOf, asks_more, is_free, is_free_drop, moves_own}
 
 -- ---- where the variant asks no more than a safe king
 
@@ -158,3 +158,10 @@ free_is_safe rules r own free (Go from to (Pawn kind) gate) freely fit e = cc
 free_is_safe rules r own free (Go from to Plus gate) freely fit e = cc
 free_is_safe rules r own free (Castle from to rook gate) freely fit e = cc
 free_is_safe rules r own free (Drop kind to) freely fit e = cc
+
+pub free_drop_is_safe : (rules : Rules) (r : Repeat) (enter : Set) (m : Move) → DropFreely rules r enter → IsFitMove m → is_free_drop rules enter m ≡ true → is_safe rules r m ≡ true
+free_drop_is_safe rules r enter (Go from to promo gate) freely fit e = cc
+free_drop_is_safe rules r enter (Castle from to rook gate) freely fit e = cc
+free_drop_is_safe rules r enter (Drop kind to) freely fit e =
+    let a = and_parts (has enter to.0) (not (is_king rules kind)) e in
+    freely kind to fit.1 a.0 (not-true (is_king rules kind) a.1)

@@ -1,6 +1,7 @@
 -- What is known of a move before its position is made.
-use Rattle.std.specs.Prelude.{◌≡◌, ℕ, ◌<◌, Bool, true, false, ◌&&◌, ◌||◌, not, is_none, Option, None, List}
+use Rattle.std.specs.Prelude.{◌≡◌, ℕ, ◌<◌, Bool, true, false, ◌&&◌, ◌||◌, not, is_none, Option, Some, None, List}
 use Rattle.rules_model.specs.declared.board.Cell.{Cell}
+use Rattle.rules_model.specs.declared.board.Kind.{Kind}
 use Rattle.rules_model.specs.declared.board.Repeat.{Repeat}
 use Rattle.rules_model.specs.declared.board.Side.{Side}
 use Rattle.rules_model.specs.declared.board.Square.{Square}
@@ -9,6 +10,7 @@ use Rattle.rules_model.specs.declared.moves.Move.TheVariants.{Go, Castle, Drop}
 use Rattle.rules_model.specs.declared.moves.Promo.TheVariants.{Stays}
 use Rattle.rules_model.specs.declared.rules.Rules.{Rules}
 use Rattle.rules_model.specs.Attacks.{is_own, is_own_king}
+use Rattle.rules_model.specs.Kinds.{is_king}
 use Rattle.rules_model.specs.Legal.{is_drop, is_safe, is_sane}
 use Rattle.rules_model.specs.Next.{cells_after}
 use Rattle.rules_model.specs.Pawns.{is_ep, is_stays, passes_by}
@@ -35,6 +37,12 @@ is_free r own free (Go from to promo gate) =
 is_free r own free (Castle from to rook gate) = false
 is_free r own free (Drop kind to) = false
 
+-- a piece other than a king is dropped on one of the squares that are free to enter
+abbrev pub is_free_drop : Rules → Set → Move → Bool
+is_free_drop rules enter (Go from to promo gate) = false
+is_free_drop rules enter (Castle from to rook gate) = false
+is_free_drop rules enter (Drop kind to) = has enter to.0 && not (is_king rules kind)
+
 -- the cells hold each piece of the side that is on the board
 abbrev pub HoldsMenOf : Side → List (Option Cell) → List (Option Cell) → Type 0
 HoldsMenOf side board cells = (s : ℕ) → is_own side (λ kind. true) (cell_at board s) ≡ true → cell_at board s ≡ cell_at cells s
@@ -57,6 +65,20 @@ LeaveSafely rules r free =
     → is_own r.side (λ kind. true) (cell_at r.cells to.0) ≡ false → passes_by rules r from to.0 ≡ false
     → is_safe rules r (Go from to Stays None) ≡ true
 
+-- a piece other than a king that is dropped on a square of the set leaves its king safe
+abbrev pub DropFreely : Rules → Repeat → Set → Type 0
+DropFreely rules r enter =
+    (kind : Kind) (to : Square) → to.0 < 120 → has enter to.0 ≡ true → is_king rules kind ≡ false
+    → is_safe rules r (Drop kind to) ≡ true
+
+-- so does an own piece other than a king that goes there, stays what it is and leaves a piece other than a king
+-- behind, unless it takes in passing
+abbrev pub GateFreely : Rules → Repeat → Set → Set → Set → Type 0
+GateFreely rules r own kings enter =
+    (kind : Kind) (from to : Square) → from.0 < 120 → to.0 < 120 → has own from.0 ≡ true → has kings from.0 ≡ false
+    → has enter to.0 ≡ true → is_king rules kind ≡ false → passes_by rules r from to.0 ≡ false
+    → is_safe rules r (Go from to Stays (Some kind)) ≡ true
+
 -- the squares of the set hold own pieces
 abbrev pub AreOwn : Repeat → Set → Type 0
 AreOwn r set = (s : ℕ) → has set s ≡ true → is_own r.side (λ kind. true) (cell_at r.cells s) ≡ true
@@ -65,6 +87,32 @@ AreOwn r set = (s : ℕ) → has set s ≡ true → is_own r.side (λ kind. true
 abbrev pub HoldNoKing : Rules → Repeat → Set → Type 0
 HoldNoKing rules r set = (s : ℕ) → has set s ≡ true → is_own_king rules r.side (cell_at r.cells s) ≡ false
 
+-- ---- told at once
+
+-- of a piece that goes and stays what it is nothing is asked but that it leaves the own king safe: the variant asks
+-- no more, and nothing can be taken in passing
+abbrev pub asks_only_safety : Rules → Repeat → Bool
+asks_only_safety rules r = not rules.immobile_bad && rules.checking && is_none r.ep
+
+-- a piece that goes from a square of the set without a gate and stays what it is makes a sane move, unless it takes
+-- its own
+abbrev pub GoAtOnce : Rules → Repeat → Set → Set → Type 0
+GoAtOnce rules r own leave =
+    (from to : Square) → from.0 < 120 → to.0 < 120 → has leave from.0 ≡ true → has own to.0 ≡ false
+    → is_sane rules r (Go from to Stays None) ≡ true
+
+-- so does an own piece other than a king that goes to a square of the set, stays what it is and leaves a piece other
+-- than a king behind
+abbrev pub GateAtOnce : Rules → Repeat → Set → Set → Set → Type 0
+GateAtOnce rules r own kings enter =
+    (kind : Kind) (from to : Square) → from.0 < 120 → to.0 < 120 → has own from.0 ≡ true → has kings from.0 ≡ false
+    → has enter to.0 ≡ true → is_king rules kind ≡ false → is_sane rules r (Go from to Stays (Some kind)) ≡ true
+
 -- a piece that goes from the square to any of the targets, and stays what it is, makes a sane move
 abbrev pub MayGo : Rules → Repeat → Square → Set → Type 0
 MayGo rules r from targets = (to : Square) → to.0 < 120 → has targets to.0 ≡ true → is_sane rules r (Go from to Stays None) ≡ true
+
+-- and one that leaves a piece of the kind behind
+abbrev pub MayGate : Rules → Repeat → Square → Kind → Set → Type 0
+MayGate rules r from kind targets =
+    (to : Square) → to.0 < 120 → has targets to.0 ≡ true → is_sane rules r (Go from to Stays (Some kind)) ≡ true

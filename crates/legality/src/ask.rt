@@ -17,7 +17,7 @@ use crate::choice::Choice;
 use crate::count::Counter;
 use crate::safety::Safety;
 use crate::search::{can_go, goes_on, only_captures};
-use crate::unpinned::free_men;
+use crate::unpinned::free_squares;
 use attack_tables::Tables;
 use board_sets::{BoardSets, sets_of};
 use end_rules::{early_end, no_move};
@@ -138,7 +138,7 @@ pub fn free(rules: &Rules, tables: &Tables, p: &Position) -> Set
     ensures no_king { HoldNoKing rules.now (repeat_of p.now) result }
 {
     let sets = sets_of(rules, &p.cells, p.side);
-    free_men(rules, tables, p, &sets)
+    free_squares(rules, tables, p, &sets).to_leave
 }
 
 /// Whether the legal move attacks the other side's king.

@@ -93,10 +93,10 @@ impl<'a> Choice<'a> {
         if self.captures {
             return false;
         }
-        if gate.is_some() {
-            return false;
+        match gate {
+            None => self.safety.lets_go(from, targets),
+            Some(kind) => kind.0 < 26 && self.safety.lets_gate(from, kind, targets),
         }
-        self.safety.lets_go(from, targets)
     }
 
     /// Whether the candidate is chosen.

@@ -9,14 +9,15 @@ ghost use Rattle.board_sets.specs.Sets.{AreSets};
 ghost use Rattle.legality.specs.Moved as Moved;
 
 use crate::mobile::stays_mobile;
-use crate::unpinned::free_men;
+use crate::unpinned::{FreeSquares, NONE_FREE, free_at_once, free_squares};
 use attack_tables::Tables;
 use board_sets::{BoardSets, sets_are_on_board};
 use next_position::move_pieces;
+use rules_model::kinds::names;
 use rules_model::passing::{is_ep, is_stays};
 use rules_model::sizes::position_sizes;
-use rules_model::{Cells, Move, Position, Promo, Rules, Square};
-use square_set::{EMPTY, Set};
+use rules_model::{Cells, Kind, Move, Position, Promo, Rules, Square};
+use square_set::Set;
 
 /// A position, with what is known of it for all its moves.
 #[derive(Drop)]
@@ -24,10 +25,15 @@ pub(crate) struct Safety<'a> {
     pub tables: &'a Tables,
     pub p: &'a Position,
     pub sets: BoardSets,
-    /// From these squares a piece may go anywhere: its king stays safe.
-    pub free: Set,
+    /// The squares that a piece may leave or enter, and its king stays safe.
+    pub free: FreeSquares,
+    /// Those of them where that is all that is asked.
+    pub at_once: FreeSquares,
     ghost are_sets: { AreSets tables.now p.now.side p.now.cells sets },
-    ghost go_freely: { Moved.GoFreely tables.now (repeat_of p.now) sets.own free },
+    ghost go_freely: { Moved.GoFreely tables.now (repeat_of p.now) sets.own free.to_leave },
+    ghost drop_freely: { Moved.DropFreely tables.now (repeat_of p.now) free.to_enter },
+    ghost go_at_once: { Moved.GoAtOnce tables.now (repeat_of p.now) sets.own at_once.to_leave },
+    ghost gate_at_once: { Moved.GateAtOnce tables.now (repeat_of p.now) sets.own sets.kings at_once.to_enter },
 }
 
 fn is_drop(m: &Move) -> bool
@@ -53,16 +59,18 @@ impl<'a> Safety<'a> {
         ensures tables { result.tables.now ≡ rules.now }
         ensures p { result.p.now ≡ p.now }
     {
-        let free = free_men(rules, tables, p, sets);
+        let free = free_squares(rules, tables, p, sets);
+        let at_once = free_at_once(rules, p, sets, free);
         Safety {
             tables,
             p,
             sets: *sets,
             free,
+            at_once,
         }
     }
 
-    /// For a few moves: no piece is taken to be free.
+    /// For a few moves: no square is taken to be free.
     pub fn of_few(
         rules: &Rules,
         tables: &'a Tables,
@@ -78,7 +86,8 @@ impl<'a> Safety<'a> {
             tables,
             p,
             sets: *sets,
-            free: EMPTY,
+            free: NONE_FREE,
+            at_once: NONE_FREE,
         }
     }
 
@@ -106,7 +115,7 @@ impl<'a> Safety<'a> {
     /// that of en passant.
     fn is_free(&self, m: &Move) -> bool
         requires { IsFitMove m.now }
-        ensures { result ≡ Moved.is_free (repeat_of self.now.p.now) self.now.sets.own self.now.free m.now }
+        ensures { result ≡ Moved.is_free (repeat_of self.now.p.now) self.now.sets.own self.now.free.to_leave m.now }
     {
         match *m {
             Move::Go {
@@ -117,7 +126,7 @@ impl<'a> Safety<'a> {
             } => {
                 is_stays(promo)
                     && gate.is_none()
-                    && self.free.has(from.0)
+                    && self.free.to_leave.has(from.0)
                     && !self.sets.own.has(to.0)
                     && !is_ep(self.p.ep, to)
             }
@@ -126,25 +135,39 @@ impl<'a> Safety<'a> {
         }
     }
 
-    /// Whether it is told at once that a piece that goes from the square, and stays what it is, may go to each of these squares.
+    /// Whether a piece other than a king is dropped on a free square.
+    fn is_free_drop(&self, m: &Move) -> bool
+        requires { IsFitMove m.now }
+        ensures { result ≡ Moved.is_free_drop self.now.tables.now self.now.free.to_enter m.now }
+    {
+        match *m {
+            Move::Go { .. } => false,
+            Move::Castle { .. } => false,
+            Move::Drop { kind, to } => {
+                self.free.to_enter.has(to.0) && !names(self.tables.rules().king, kind)
+            }
+        }
+    }
+
+    /// Whether it is told at once that a piece that goes from the square, and stays what it is, may go to each of these
+    /// squares.
     pub fn lets_go(&self, from: Square, targets: Set) -> bool
         requires from { from.0 < 120 }
         ensures { OnTrue result (Moved.MayGo self.now.tables.now (repeat_of self.now.p.now) from targets) }
     {
-        let rules = self.tables.rules();
-        if rules.immobile_bad {
-            return false;
-        }
-        if !rules.checking {
-            return false;
-        }
-        if self.p.ep.is_some() {
-            return false;
-        }
-        if !self.free.has(from.0) {
-            return false;
-        }
-        targets.and(self.sets.own).is_empty()
+        self.at_once.to_leave.has(from.0) && targets.and(self.sets.own).is_empty()
+    }
+
+    /// Whether it is told at once that a piece that goes from the square, stays what it is and leaves a piece of the
+    /// kind behind, may go to each of these squares.
+    pub fn lets_gate(&self, from: Square, kind: Kind, targets: Set) -> bool
+        requires from { from.0 < 120 }
+        ensures { OnTrue result (Moved.MayGate self.now.tables.now (repeat_of self.now.p.now) from kind targets) }
+    {
+        !names(self.tables.rules().king, kind)
+            && self.sets.own.has(from.0)
+            && !self.sets.kings.has(from.0)
+            && targets.minus(self.at_once.to_enter).is_empty()
     }
 
     /// The cells after the move.
@@ -179,6 +202,9 @@ impl<'a> Safety<'a> {
     {
         position_sizes(self.p);
         if self.is_free(m) {
+            return true;
+        }
+        if self.is_free_drop(m) {
             return true;
         }
         if self.moves_own(m) {

@@ -1,27 +1,81 @@
-//! The pieces that may go anywhere without leaving their king attacked.
+//! The squares that a piece may leave, and those that one may enter, without leaving its king attacked.
 ghost use Rattle.std.specs.Prelude.{◌≡◌};
 ghost use Rattle.rules_model.specs.Repeats.{repeat_of};
 ghost use Rattle.board_sets.specs.Sets.{AreSets};
-ghost use Rattle.legality.specs.Moved.{AreOwn, GoFreely, HoldNoKing};
+ghost use Rattle.legality.specs.Moved as Moved;
+ghost use Rattle.legality.specs.Moved.{AreOwn, DropFreely, GateAtOnce, GateFreely, GoAtOnce, GoFreely, HoldNoKing};
 
 use attack_tables::Tables;
 use board_sets::{BoardSets, sets_are_on_board};
 use pins::free;
 use rules_model::sizes::position_sizes;
 use rules_model::{Position, Rules};
-use square_set::Set;
+use square_set::{EMPTY, Set};
 
-/// The own pieces but the kings that may go anywhere.
-pub(crate) fn free_men(rules: &Rules, tables: &Tables, p: &Position, sets: &BoardSets) -> Set
+/// Squares at which a change opens no attack on a king of the mover.
+#[derive(Clone, Copy)]
+pub(crate) struct FreeSquares {
+    /// Those of own pieces other than kings, which may go from there to any square without an own piece.
+    pub to_leave: Set,
+    /// Those without an own piece, to which a piece other than a king may come that leaves no square empty: it is dropped
+    /// there, or goes there and leaves another piece behind.
+    pub to_enter: Set,
+}
+
+/// None is known to be free.
+pub(crate) const NONE_FREE: FreeSquares = FreeSquares {
+    to_leave: EMPTY,
+    to_enter: EMPTY,
+};
+
+/// The squares that are free for the side to move.
+pub(crate) fn free_squares(
+    rules: &Rules,
+    tables: &Tables,
+    p: &Position,
+    sets: &BoardSets,
+) -> FreeSquares
     requires tables { tables.now ≡ rules.now }
     requires sets { AreSets rules.now p.now.side p.now.cells sets.now }
-    ensures safe { GoFreely rules.now (repeat_of p.now) sets.now.own result }
-    ensures own { AreOwn (repeat_of p.now) result }
-    ensures no_king { HoldNoKing rules.now (repeat_of p.now) result }
+    ensures safe { GoFreely rules.now (repeat_of p.now) sets.now.own result.to_leave }
+    ensures own { AreOwn (repeat_of p.now) result.to_leave }
+    ensures no_king { HoldNoKing rules.now (repeat_of p.now) result.to_leave }
+    ensures drops { DropFreely rules.now (repeat_of p.now) result.to_enter }
+    ensures gates { GateFreely rules.now (repeat_of p.now) sets.now.own sets.now.kings result.to_enter }
 {
     position_sizes(p);
     sets_are_on_board();
     let occupied = sets.occupied();
     let anywhere = free(tables, &p.cells, sets.kings, sets.enemies, occupied, p.side);
-    anywhere.and(sets.own).minus(sets.kings)
+    let own = anywhere.and(sets.own);
+    let to_leave = own.minus(sets.kings);
+    let to_enter = anywhere.minus(sets.own);
+    FreeSquares { to_leave, to_enter }
+}
+
+/// Whether nothing is asked of a piece that goes and stays what it is but that it leaves the own king safe: the variant
+/// asks no more, and nothing can be taken in passing.
+fn asks_only_safety(rules: &Rules, p: &Position) -> bool
+    ensures { result ≡ Moved.asks_only_safety rules.now (repeat_of p.now) }
+{
+    !rules.immobile_bad && rules.checking && p.ep.is_none()
+}
+
+/// The free squares, where a piece that leaves or enters one is asked nothing else; else none.
+pub(crate) fn free_at_once(
+    rules: &Rules,
+    p: &Position,
+    sets: &BoardSets,
+    free: FreeSquares,
+) -> FreeSquares
+    requires goes { GoFreely rules.now (repeat_of p.now) sets.now.own free.to_leave }
+    requires gates { GateFreely rules.now (repeat_of p.now) sets.now.own sets.now.kings free.to_enter }
+    ensures goes { GoAtOnce rules.now (repeat_of p.now) sets.now.own result.to_leave }
+    ensures gates { GateAtOnce rules.now (repeat_of p.now) sets.now.own sets.now.kings result.to_enter }
+{
+    if asks_only_safety(rules, p) {
+        free
+    } else {
+        NONE_FREE
+    }
 }

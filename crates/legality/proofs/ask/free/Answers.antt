@@ -3,4 +3,4 @@ use Rattle.legality.proofs.ask.free.Goals as goal
 
 pub returns-clause-safe : goal.returns-clause-safe
 returns-clause-safe c from to l m h target no_passing =
-    c.free_men.ensures.safe from to l m h (c.sets_of-sets.ensures.own to.0 ∙ target) no_passing
+    c.free_squares.ensures.safe from to l m h (c.sets_of-sets.ensures.own to.0 ∙ target) no_passing

@@ -1,11 +1,10 @@
-use Rattle.std.proofs.Common.{◌≡◌, sym, ap, subst, ◌∙◌}
+use Rattle.std.proofs.Common.{sym, ap, subst, ◌∙◌}
 use Rattle.rules_model.specs.declared.board.Side.{Side}
 use Rattle.rules_model.specs.declared.rules.Rules.{Rules}
 use Rattle.rules_model.specs.Attacks.{king_attacked}
 use Rattle.rules_model.specs.Legal.{gives_check}
 use Rattle.rules_model.specs.Next.{cells_after, next_repeat}
 use Rattle.rules_model.specs.Repeats.{repeat_of}
-use Rattle.rules_model.specs.Sides.{other}
 use Rattle.board_sets.specs.Sets.{AreSets}
 use Rattle.sound_play.proofs.SizeLaws.{cells_after-size}
 use Rattle.legality.proofs.SafetyLaws.{board_by, holds_men, same_held}

@@ -1,4 +1,4 @@
-use Rattle.std.proofs.Common.{◌≡◌, not, sym, ap, subst, ◌∙◌}
+use Rattle.std.proofs.Common.{not, ap, subst, ◌∙◌}
 use Rattle.rules_model.specs.declared.rules.Rules.{Rules}
 use Rattle.rules_model.specs.Legal.{is_safe}
 use Rattle.rules_model.specs.Next.{cells_after, next_repeat}
