@@ -1,6 +1,7 @@
 -- The parts of the moves with a gate.
 use Rattle.std.proofs.Common.{◌≡◌, ℕ, ◌%◌, ◌<◌, Bool, true, false, ◌&&◌, Option, Some, None, ap, sym, ◌∙◌, subst}
 use Rattle.std.proofs.lemmas.Bool.{and_parts}
+use Rattle.foundation.proofs.CountLemmas.{any_below-true}
 use Rattle.rules_model.specs.declared.board.Kind.{Kind}
 use Rattle.rules_model.specs.declared.board.Repeat.{Repeat}
 use Rattle.rules_model.specs.declared.board.Square.{Square}
@@ -18,7 +19,7 @@ use Rattle.square_set.specs.declared.Set.{Set}
 use Rattle.square_set.specs.Members.{has}
 use Rattle.move_tables.specs.Occupied.{AreMen}
 use Rattle.piece_moves.proofs.PartLemmas.{man_there}
-use Rattle.special_moves.specs.Parts.{IsGateAt, IsGateWith, IsGateFrom, kind_at}
+use Rattle.special_moves.specs.Parts.{IsGate, IsGateAt, IsGateFrom, IsGateWith, holds_kind, kind_at, may_place}
 use Rattle.special_moves.proofs.SquareLemmas.{same_file}
 use Rattle.special_moves.proofs.BelowLemmas.{AreApart}
 
@@ -65,6 +66,14 @@ none-from rules r file l none m h =
     let e = gate_held rules r from (kind_at h.number) h.is.0 in
     let g = subst (λ f. has_gate r.gates r.side f ≡ true) (file_of_at file (first_rank rules r.side) l) e.1 in
     not_both _ (both _ _ e.0 g) none
+
+-- nor does any where none may be placed
+pub no-gates : (rules : Rules) (r : Repeat) → may_place rules r ≡ false → (m : Move) → IsGate rules r m → ⊥
+no-gates rules r none m h =
+    let from = square_on h.number (first_rank rules r.side) in
+    let held = and_parts _ (holds_kind r h.is.number) h.is.is.0 in
+    let some = any_below-true (holds_kind r) 26 h.is.number h.is.below held.1 in
+    not_both _ (both rules.gate_hand _ (gate_held rules r from (kind_at h.is.number) h.is.is.0).0 some) none
 
 -- no own man stands there
 pub none-there : (rules : Rules) (r : Repeat) (from : Square) (men : Set) → AreMen r.side r.cells men → has men from.0 ≡ false → (m : Move) → IsGateAt rules r from m → ⊥

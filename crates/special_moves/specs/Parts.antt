@@ -1,5 +1,6 @@
 -- The parts of the moves that are appended in turn.
 use Rattle.std.specs.Prelude.{◌≡◌, ℕ, ◌<◌, nat_lt, Bool, true, ◌&&◌, not, ◌⊎◌, is_none, Option, Some, None}
+use Rattle.foundation.specs.Count.{any_below}
 use Rattle.rules_model.specs.declared.board.Kind.{Kind}
 use Rattle.rules_model.specs.declared.board.Repeat.{Repeat}
 use Rattle.rules_model.specs.declared.board.Square.{Square}
@@ -52,6 +53,14 @@ square_at s = record { 0 = s }
 -- hand pieces come in on the file's square of the side's first rank
 abbrev pub is_gate : Rules → Repeat → ℕ → Bool
 is_gate rules r file = rules.gate_hand && has_gate r.gates r.side file
+
+-- the side to move holds a piece of the kind, by its letter
+abbrev pub holds_kind : Repeat → ℕ → Bool
+holds_kind r k = holds r.hands r.side (kind_at k)
+
+-- a move may place a hand piece at all: hand pieces come in by gates, and the side to move holds one
+abbrev pub may_place : Rules → Repeat → Bool
+may_place rules r = rules.gate_hand && any_below (holds_kind r) 26
 
 -- an ordinary move that may place a hand piece of the kind on the square that it leaves
 abbrev pub moves_and_gates : Rules → Repeat → Square → Square → Promo → Kind → Bool

@@ -1,5 +1,6 @@
 //! Gates: an ordinary move places a hand piece on the square that it leaves.
 ghost use Rattle.std.specs.Prelude.{◌≡◌, ◌<◌, OnOk, OnErr};
+ghost use Rattle.foundation.specs.Count.{any_below};
 ghost use Rattle.board_sets.specs.Sets.{AreSets};
 ghost use Rattle.move_sink.specs.Taking.{TakesAll, TakesSome};
 ghost use Rattle.rules_model.specs.Fit.{IsFit};
@@ -21,10 +22,30 @@ fn may_gate(rules: &Rules, p: &Position, from: Square, kind: Kind) -> bool
     requires { IsFit rules.now }
     ensures { result ≡ Gating.gates_from rules.now (repeat_of p.now) from kind }
 {
-    rules.gate_hand
+    in_hand(&p.hands, p.side, kind) > 0
+        && rules.gate_hand
         && from.rank() == first_rank(rules, p.side)
         && has_gate(&p.gates, p.side, from.file())
-        && in_hand(&p.hands, p.side, kind) > 0
+}
+
+/// Whether the side to move has a piece of any kind in its hand.
+#[tactic(auto, using(foundation::proofs::CountLemmas::any))]
+fn holds_any(p: &Position) -> bool
+    ensures { result ≡ any_below (Parts.holds_kind (repeat_of p.now)) 26 }
+{
+    for k in 0..KINDS as u8 {
+        if in_hand(&p.hands, p.side, Kind(k)) > 0 {
+            return true;
+        }
+    }
+    false
+}
+
+/// Whether a move may place a hand piece at all: the variant has gates, and the side to move has a hand piece.
+fn may_place(rules: &Rules, p: &Position) -> bool
+    ensures { result ≡ Parts.may_place rules.now (repeat_of p.now) }
+{
+    rules.gate_hand && holds_any(p)
 }
 
 /// Whether hand pieces may come in on the file's square of the side's first rank.
@@ -103,6 +124,9 @@ pub(crate) fn push_gates<S: MoveSink>(
     ensures ok { OnOk result (TakesAll S.takes (IsGate rules.now (repeat_of p.now)) out.old out.new) }
     ensures err { OnErr result (TakesSome S.stops (IsGate rules.now (repeat_of p.now)) out.old out.new) }
 {
+    if !may_place(rules, p) {
+        return Ok(());
+    }
     let rank = first_rank(rules, p.side);
     for file in 0..FILES {
         if is_gate(rules, p, file) {
