@@ -320,8 +320,8 @@ none_freely rules r own from to l m h target no_passing = absurd (let f : ⊥ = 
 pub none_dropped : (rules : Rules) (r : Repeat) → DropFreely rules r (record { 0 = 0 })
 none_dropped rules r kind to m h mere = absurd (let f : ⊥ = (let n = has-zero (record { 0 = 0 }) refl to.0 in cc) in f)
 
-pub none_going : (rules : Rules) (r : Repeat) (own : Set) → GoAtOnce rules r own (record { 0 = 0 })
-none_going rules r own from to l m h target = absurd (let f : ⊥ = (let n = has-zero (record { 0 = 0 }) refl from.0 in cc) in f)
+pub none_going : (rules : Rules) (r : Repeat) (barred : Set) → GoAtOnce rules r (record { 0 = 0 }) barred
+none_going rules r barred from to l m h target = absurd (let f : ⊥ = (let n = has-zero (record { 0 = 0 }) refl from.0 in cc) in f)
 
 pub none_gating : (rules : Rules) (r : Repeat) (own kings : Set) → GateAtOnce rules r own kings (record { 0 = 0 })
 none_gating rules r own kings kind from to l m h king enter mere =

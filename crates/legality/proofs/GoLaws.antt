@@ -1,5 +1,5 @@
 -- Pieces that go to many squares, each of which is known to be safe.
-use Rattle.std.proofs.Common.{◌≡◌, ℕ, ◌+◌, ◌<◌, min, Bool, true, false, not, ◌&&◌, ◌||◌, is_none, Option, Some, None, List, [], ◌∷◌, length, inl, inr, refl, sym, ap, ◌∙◌, subst}
+use Rattle.std.proofs.Common.{◌≡◌, ℕ, ◌+◌, ◌<◌, min, Bool, true, false, not, ◌&&◌, ◌||◌, Option, Some, None, List, [], ◌∷◌, length, inl, inr, refl, sym, ap, ◌∙◌, subst}
 use Rattle.std.specs.Bool.{OnTrue}
 use Rattle.std.specs.List.{filter}
 use Rattle.std.proofs.lemmas.Bool.{and_from, and_parts, lt-ltb, not-true}
@@ -12,12 +12,11 @@ use Rattle.rules_model.specs.declared.moves.Move.TheVariants.{Go}
 use Rattle.rules_model.specs.declared.moves.Promo.TheVariants.{Stays}
 use Rattle.rules_model.specs.declared.rules.Rules.{Rules}
 use Rattle.rules_model.specs.Legal.{is_sane}
-use Rattle.rules_model.specs.Pawns.{is_ep, passes_by}
 use Rattle.square_set.specs.declared.Set.{Set}
 use Rattle.square_set.specs.Members.{has, size}
 use Rattle.move_sink.specs.InTurn.{GoesTo, target_of}
 use Rattle.legality.specs.Chosen.{is_chosen, is_fit_move}
-use Rattle.legality.specs.Moved.{GateAtOnce, GateFreely, GoAtOnce, GoFreely, MayGate, MayGo, asks_only_safety}
+use Rattle.legality.specs.Moved.{GateAtOnce, GateFreely, GoAtOnce, GoFreely, IsBarred, MayGate, MayGo, asks_only_safety}
 use Rattle.legality.proofs.AllGoes.{goes-size, goes_below}
 use Rattle.legality.proofs.SafetyLaws.{not_passing, plain_sane}
 
@@ -27,30 +26,27 @@ asks_nothing false true true e f = refl
 asks_nothing false true false e f = refl
 asks_nothing false false drops e f = cc
 
-no_ep : (o : Option Square) (s : ℕ) → is_none o ≡ true → is_ep o s ≡ false
-no_ep None s e = refl
-no_ep (Some at) s e = cc
-
 -- where only safety is asked, what is safe is sane
-module _ (rules : Rules) (r : Repeat) (only : asks_only_safety rules r ≡ true) where
+module _ (rules : Rules) (r : Repeat) (only : asks_only_safety rules ≡ true) where
   nothing_more : (rules.immobile_bad || not (rules.checking && (rules.drop_checks || true))) ≡ false
   nothing_more =
-      let a = and_parts (not rules.immobile_bad && rules.checking) (is_none r.ep) only in
-      let b = and_parts (not rules.immobile_bad) rules.checking a.0 in
+      let b = and_parts (not rules.immobile_bad) rules.checking only in
       asks_nothing rules.immobile_bad rules.checking rules.drop_checks (not-true rules.immobile_bad b.0) b.1
 
-  nothing_passed : (from : Square) (s : ℕ) → passes_by rules r from s ≡ false
-  nothing_passed from s =
-      not_passing rules r from s (no_ep r.ep s (and_parts (not rules.immobile_bad && rules.checking) (is_none r.ep) only).1)
+  module _ (own barred : Set) (bars : IsBarred r own barred) where
+    pub go_at_once : (leave : Set) → GoFreely rules r own leave → GoAtOnce rules r leave barred
+    go_at_once leave freely from to l m h target =
+        let apart = bars to.0 m target in
+        plain_sane rules r (Go from to Stays None) nothing_more
+        ∙ freely from to l m h apart.0 (not_passing rules r from to.0 apart.1)
 
-  pub go_at_once : (own leave : Set) → GoFreely rules r own leave → GoAtOnce rules r own leave
-  go_at_once own leave freely from to l m h target =
-      plain_sane rules r (Go from to Stays None) nothing_more ∙ freely from to l m h target (nothing_passed from to.0)
-
-  pub gate_at_once : (own kings enter : Set) → GateFreely rules r own kings enter → GateAtOnce rules r own kings enter
-  gate_at_once own kings enter freely kind from to l m member king h mere =
-      plain_sane rules r (Go from to Stays (Some kind)) nothing_more
-      ∙ freely kind from to l m member king h mere (nothing_passed from to.0)
+    pub gate_at_once : (kings enter not_barred : Set) → ((s : ℕ) → has not_barred s ≡ (has enter s && not (has barred s)))
+        → GateFreely rules r own kings enter → GateAtOnce rules r own kings not_barred
+    gate_at_once kings enter not_barred is freely kind from to l m member king h mere =
+        let both = and_parts (has enter to.0) (not (has barred to.0)) (sym (is to.0) ∙ h) in
+        let apart = bars to.0 m (not-true (has barred to.0) both.1) in
+        plain_sane rules r (Go from to Stays (Some kind)) nothing_more
+        ∙ freely kind from to l m member king both.0 mere (not_passing rules r from to.0 apart.1)
 
 fit_go : (from to : Square) → from.0 < 120 → to.0 < 120 → is_fit_move (Go from to Stays None) ≡ true
 unfolding is_fit_move

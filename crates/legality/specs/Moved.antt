@@ -89,16 +89,19 @@ HoldNoKing rules r set = (s : ℕ) → has set s ≡ true → is_own_king rules 
 
 -- ---- told at once
 
--- of a piece that goes and stays what it is nothing is asked but that it leaves the own king safe: the variant asks
--- no more, and nothing can be taken in passing
-abbrev pub asks_only_safety : Rules → Repeat → Bool
-asks_only_safety rules r = not rules.immobile_bad && rules.checking && is_none r.ep
+-- the variant asks no more of a piece that goes and stays what it is than that it leaves the own king safe
+abbrev pub asks_only_safety : Rules → Bool
+asks_only_safety rules = not rules.immobile_bad && rules.checking
 
--- a piece that goes from a square of the set without a gate and stays what it is makes a sane move, unless it takes
--- its own
+-- outside the set no own piece is taken, and none in passing
+abbrev pub IsBarred : Repeat → Set → Set → Type 0
+IsBarred r own barred = (s : ℕ) → s < 120 → has barred s ≡ false → (has own s ≡ false) × (is_ep r.ep s ≡ false)
+
+-- a piece that goes from a square of the first set without a gate, and stays what it is, makes a sane move, unless it
+-- goes to one of the second
 abbrev pub GoAtOnce : Rules → Repeat → Set → Set → Type 0
-GoAtOnce rules r own leave =
-    (from to : Square) → from.0 < 120 → to.0 < 120 → has leave from.0 ≡ true → has own to.0 ≡ false
+GoAtOnce rules r leave barred =
+    (from to : Square) → from.0 < 120 → to.0 < 120 → has leave from.0 ≡ true → has barred to.0 ≡ false
     → is_sane rules r (Go from to Stays None) ≡ true
 
 -- so does an own piece other than a king that goes to a square of the set, stays what it is and leaves a piece other

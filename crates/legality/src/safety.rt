@@ -9,7 +9,7 @@ ghost use Rattle.board_sets.specs.Sets.{AreSets};
 ghost use Rattle.legality.specs.Moved as Moved;
 
 use crate::mobile::stays_mobile;
-use crate::unpinned::{FreeSquares, NONE_FREE, free_at_once, free_squares};
+use crate::unpinned::{FreeSquares, NONE_FREE, barred_at_once, free_at_once, free_squares};
 use attack_tables::Tables;
 use board_sets::{BoardSets, sets_are_on_board};
 use next_position::move_pieces;
@@ -27,12 +27,13 @@ pub(crate) struct Safety<'a> {
     pub sets: BoardSets,
     /// The squares that a piece may leave or enter, and its king stays safe.
     pub free: FreeSquares,
-    /// Those of them where that is all that is asked.
+    /// Those of them where that is all that is asked, unless a piece goes to a barred square.
     pub at_once: FreeSquares,
+    pub barred: Set,
     ghost are_sets: { AreSets tables.now p.now.side p.now.cells sets },
     ghost go_freely: { Moved.GoFreely tables.now (repeat_of p.now) sets.own free.to_leave },
     ghost drop_freely: { Moved.DropFreely tables.now (repeat_of p.now) free.to_enter },
-    ghost go_at_once: { Moved.GoAtOnce tables.now (repeat_of p.now) sets.own at_once.to_leave },
+    ghost go_at_once: { Moved.GoAtOnce tables.now (repeat_of p.now) at_once.to_leave barred },
     ghost gate_at_once: { Moved.GateAtOnce tables.now (repeat_of p.now) sets.own sets.kings at_once.to_enter },
 }
 
@@ -60,13 +61,15 @@ impl<'a> Safety<'a> {
         ensures p { result.p.now ≡ p.now }
     {
         let free = free_squares(rules, tables, p, sets);
-        let at_once = free_at_once(rules, p, sets, free);
+        let barred = barred_at_once(p, sets.own);
+        let at_once = free_at_once(rules, p, sets, barred, free);
         Safety {
             tables,
             p,
             sets: *sets,
             free,
             at_once,
+            barred,
         }
     }
 
@@ -88,6 +91,7 @@ impl<'a> Safety<'a> {
             sets: *sets,
             free: NONE_FREE,
             at_once: NONE_FREE,
+            barred: sets.own,
         }
     }
 
@@ -155,7 +159,7 @@ impl<'a> Safety<'a> {
         requires from { from.0 < 120 }
         ensures { OnTrue result (Moved.MayGo self.now.tables.now (repeat_of self.now.p.now) from targets) }
     {
-        self.at_once.to_leave.has(from.0) && targets.and(self.sets.own).is_empty()
+        self.at_once.to_leave.has(from.0) && targets.and(self.barred).is_empty()
     }
 
     /// Whether it is told at once that a piece that goes from the square, stays what it is and leaves a piece of the

@@ -3,7 +3,7 @@ ghost use Rattle.std.specs.Prelude.{◌≡◌};
 ghost use Rattle.rules_model.specs.Repeats.{repeat_of};
 ghost use Rattle.board_sets.specs.Sets.{AreSets};
 ghost use Rattle.legality.specs.Moved as Moved;
-ghost use Rattle.legality.specs.Moved.{AreOwn, DropFreely, GateAtOnce, GateFreely, GoAtOnce, GoFreely, HoldNoKing};
+ghost use Rattle.legality.specs.Moved.{AreOwn, DropFreely, GateAtOnce, GateFreely, GoAtOnce, GoFreely, HoldNoKing, IsBarred};
 
 use attack_tables::Tables;
 use board_sets::{BoardSets, sets_are_on_board};
@@ -53,29 +53,43 @@ pub(crate) fn free_squares(
     FreeSquares { to_leave, to_enter }
 }
 
-/// Whether nothing is asked of a piece that goes and stays what it is but that it leaves the own king safe: the variant
-/// asks no more, and nothing can be taken in passing.
-fn asks_only_safety(rules: &Rules, p: &Position) -> bool
-    ensures { result ≡ Moved.asks_only_safety rules.now (repeat_of p.now) }
+/// The squares on which a piece would take one of its own, or one in passing.
+pub(crate) fn barred_at_once(p: &Position, own: Set) -> Set
+    ensures { IsBarred (repeat_of p.now) own result }
 {
-    !rules.immobile_bad && rules.checking && p.ep.is_none()
+    match p.ep {
+        Some(at) if at.0 < 120 => own.with(at.0),
+        _ => own,
+    }
 }
 
-/// The free squares, where a piece that leaves or enters one is asked nothing else; else none.
+/// Whether the variant asks no more of a piece that goes and stays what it is than that it leaves the own king safe.
+fn asks_only_safety(rules: &Rules) -> bool
+    ensures { result ≡ Moved.asks_only_safety rules.now }
+{
+    !rules.immobile_bad && rules.checking
+}
+
+/// The free squares, but for the barred ones to enter, where a piece that leaves or enters one is asked nothing else;
+/// else none.
 pub(crate) fn free_at_once(
     rules: &Rules,
     p: &Position,
     sets: &BoardSets,
+    barred: Set,
     free: FreeSquares,
 ) -> FreeSquares
     requires goes { GoFreely rules.now (repeat_of p.now) sets.now.own free.to_leave }
     requires gates { GateFreely rules.now (repeat_of p.now) sets.now.own sets.now.kings free.to_enter }
-    ensures goes { GoAtOnce rules.now (repeat_of p.now) sets.now.own result.to_leave }
+    requires barred { IsBarred (repeat_of p.now) sets.now.own barred }
+    ensures goes { GoAtOnce rules.now (repeat_of p.now) result.to_leave barred }
     ensures gates { GateAtOnce rules.now (repeat_of p.now) sets.now.own sets.now.kings result.to_enter }
 {
-    if asks_only_safety(rules, p) {
-        free
-    } else {
-        NONE_FREE
+    if !asks_only_safety(rules) {
+        return NONE_FREE;
+    }
+    FreeSquares {
+        to_leave: free.to_leave,
+        to_enter: free.to_enter.minus(barred),
     }
 }

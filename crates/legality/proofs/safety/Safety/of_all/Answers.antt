@@ -15,7 +15,7 @@ invariant_of-result c =
     let Sets : Rules → Type 0 = λ rules. AreSets rules c.args.p.now.side c.args.p.now.cells sets in
     let Goes : Rules → Type 0 = λ rules. GoFreely rules r sets.own free.to_leave in
     let Drops : Rules → Type 0 = λ rules. DropFreely rules r free.to_enter in
-    let GoesAtOnce : Rules → Type 0 = λ rules. GoAtOnce rules r sets.own at_once.to_leave in
+    let GoesAtOnce : Rules → Type 0 = λ rules. GoAtOnce rules r at_once.to_leave c.barred_at_once-barred.result in
     let GatesAtOnce : Rules → Type 0 = λ rules. GateAtOnce rules r sets.own sets.kings at_once.to_enter in
     record {
       are_sets = subst Sets same c.requires.sets;
