@@ -2,7 +2,9 @@
 use Rattle.std.specs.Prelude.{◌≡◌, ℕ, true, Option, List}
 use Rattle.rules_model.specs.declared.board.Cell.{Cell}
 use Rattle.rules_model.specs.declared.board.Side.{Side}
-use Rattle.rules_model.specs.Attacks.{is_own}
+use Rattle.rules_model.specs.declared.rules.Rules.{Rules}
+use Rattle.rules_model.specs.Attacks.{is_own, is_own_king}
+use Rattle.rules_model.specs.Sides.{other}
 use Rattle.rules_model.specs.Squares.{cell_at}
 use Rattle.square_set.specs.declared.Set.{Set}
 use Rattle.square_set.specs.Members.{has}
@@ -18,3 +20,12 @@ pub record IsBoardBy (side : Side) (cells : List (Option Cell)) (men occupied : 
   pub squares : IsOccupied occupied board
   pub own : AreMen side board men
   pub same : (s : ℕ) → has men s ≡ true → cell_at board s ≡ cell_at cells s
+
+-- this holds of each board that is so known
+abbrev pub OnEachBoard : Side → List (Option Cell) → Set → Set → (List (Option Cell) → Type 0) → Type 0
+OnEachBoard side cells men occupied Holds = (board : List (Option Cell)) → IsBoardBy side cells men occupied board → Holds board
+
+-- this holds of each of them on which a king of the other side stands on the square
+abbrev pub OnEachWithKing : Rules → Side → List (Option Cell) → Set → Set → ℕ → (List (Option Cell) → Type 0) → Type 0
+OnEachWithKing rules side cells men occupied at Holds =
+    OnEachBoard side cells men occupied (λ board. is_own_king rules (other side) (cell_at board at) ≡ true → Holds board)

@@ -14,19 +14,14 @@ use Rattle.move_tables.specs.declared.mode.Mode.TheVariants.{Quiet, Take}
 use Rattle.move_tables.specs.Occupied.{IsOccupied}
 use Rattle.move_tables.specs.Reached.{reaches_as}
 
--- to a square that is not occupied and is reached quietly, or to one of the enemies' that is reached to take
+-- to a square that is not occupied and is reached quietly, or to one of the enemies' that is reached to take; of a pawn the captures
+-- alone
 abbrev pub is_goal : Rules → List (Option Cell) → Side → Kind → Square → Set → Set → ℕ → Bool
 is_goal rules cells side kind from occupied enemies t =
     (reaches_as rules cells side kind from Quiet t && not (has occupied t))
     || (reaches_as rules cells side kind from Take t && has enemies t)
 
--- on each board with these occupied squares, the set is that of the squares that are reached in the mode
-abbrev pub AreReached : Rules → Side → Kind → Square → Mode → Set → Set → Type 0
-AreReached rules side kind from mode occupied set =
-    (cells : List (Option Cell)) → IsOccupied occupied cells
-    → (t : ℕ) → has set t ≡ reaches_as rules cells side kind from mode t
-
--- on each such board, the set is that of the goals
+-- on each board with these occupied squares, the set is that of the goals
 abbrev pub AreGoals : Rules → Side → Kind → Square → Set → Set → Set → Type 0
 AreGoals rules side kind from occupied enemies set =
     (cells : List (Option Cell)) → IsOccupied occupied cells

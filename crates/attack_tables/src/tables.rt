@@ -13,9 +13,9 @@ ghost use Rattle.move_tables.specs.declared.mode.Mode.TheVariants.{Quiet, Take};
 ghost use Rattle.move_tables.specs.Occupied.{IsOccupied, AreKings, OnSquares};
 ghost use Rattle.move_tables.specs.Reached as Reached;
 ghost use Rattle.move_tables.specs.Spots as Spots;
-ghost use Rattle.attack_tables.specs.Boards.{HoldsMen, IsBoardBy};
+ghost use Rattle.attack_tables.specs.Boards.{HoldsMen, OnEachBoard, OnEachWithKing};
 ghost use Rattle.attack_tables.specs.Goals as Goals;
-ghost use Rattle.attack_tables.specs.Masks.{IsMaskBelow};
+ghost use Rattle.attack_tables.specs.Masks.{IsMask};
 ghost use Rattle.attack_tables.specs.PawnSpots.{IsPawnSpot};
 ghost use Rattle.attack_tables.specs.Sights.{IsSightOf};
 
@@ -132,7 +132,7 @@ impl Tables {
     pub fn reach_set(&self, by: Side, kind: Kind, from: Square, mode: Mode, occupied: Set) -> Set
         requires kind { kind.0 < 26 }
         requires from { from.0 < 120 }
-        ensures { Goals.AreReached self.now by kind from mode occupied result }
+        ensures { Reached.AreReached self.now by kind from mode occupied result }
     {
         self.moves.reach_set(by, kind, from, mode, occupied)
     }
@@ -149,8 +149,8 @@ impl Tables {
     fn quiet_set(&self, by: Side, kind: Kind, from: Square, occupied: Set, takes: Set) -> Set
         requires kind { kind.0 < 26 }
         requires from { from.0 < 120 }
-        requires takes { Goals.AreReached self.now by kind from Take occupied takes }
-        ensures { Goals.AreReached self.now by kind from Quiet occupied result }
+        requires takes { Reached.AreReached self.now by kind from Take occupied takes }
+        ensures { Reached.AreReached self.now by kind from Quiet occupied result }
     {
         if self.is_alike(kind) {
             takes
@@ -161,7 +161,7 @@ impl Tables {
 
     /// The squares to which a piece of the kind and the side goes from the square, on a board whose occupied squares
     /// are those of the set: those that are not occupied and that it reaches quietly, and those of the enemies' that
-    /// it reaches to take. No memory is taken.
+    /// it reaches to take. Of a pawn they are its captures alone. No memory is taken.
     pub fn goals(&self, by: Side, kind: Kind, from: Square, occupied: Set, enemies: Set) -> Set
         requires kind { kind.0 < 26 }
         requires from { from.0 < 120 }
@@ -175,7 +175,7 @@ impl Tables {
     /// The same for a piece of any kind on any square: one that the variant cannot have reaches nothing.
     fn reach_of(&self, piece: Cell, from: Square, mode: Mode, occupied: Set) -> Set
         requires { from.0 < 120 }
-        ensures { Goals.AreReached self.now piece.side piece.kind from mode occupied result }
+        ensures { Reached.AreReached self.now piece.side piece.kind from mode occupied result }
     {
         let moves = &self.moves;
         if piece.kind.0 < 26 {
@@ -211,7 +211,7 @@ impl Tables {
     /// needed.
     pub fn takers(&self, by: Side, at: Square) -> Set
         requires { at.0 < 120 }
-        ensures { IsMaskBelow self.now by 120 at.0 result }
+        ensures { IsMask self.now by at.0 result }
     {
         self.masks[place_of(by, at.0)]
     }
@@ -236,7 +236,8 @@ impl Tables {
     fn takes(&self, by: Side, kind: Kind, from: u8, at: Square, occupied: Set) -> bool
         requires at { at.0 < 120 }
         requires from { from < 120 }
-        ensures { (cells : List (Option Cell)) → IsOccupied occupied cells → result ≡ Reached.reaches_as self.now cells by kind (record { 0 = from }) Take at.0 }
+        ensures { (cells : List (Option Cell)) → IsOccupied occupied cells
+            → result ≡ Reached.reaches_as self.now cells by kind (record { 0 = from }) Take at.0 }
     {
         let moves = &self.moves;
         if kind.0 >= 26 {
@@ -260,7 +261,8 @@ impl Tables {
     ) -> bool
         requires at { at.0 < 120 }
         requires from { from < 120 }
-        ensures { (board : List (Option Cell)) → IsOccupied occupied board → cell_at board from ≡ cell_at cells.now from → result ≡ Rule.attacks_from self.now board by at.0 from }
+        ensures { (board : List (Option Cell)) → IsOccupied occupied board → cell_at board from ≡ cell_at cells.now from
+            → result ≡ Rule.attacks_from self.now board by at.0 from }
     {
         match cell_on(cells, from) {
             None => false,
@@ -268,9 +270,9 @@ impl Tables {
         }
     }
 
-    /// Whether a piece of the side attacks the square, on each board that has its pieces on the squares `occupied` and those of the side on
-    /// the squares `men`, where the cells hold them. What else the cells hold does not matter: after an ordinary move these are still the
-    /// cells before it. The king that flies is not asked.
+    /// Whether a piece of the side attacks the square, on each board that has its pieces on the squares `occupied` and
+    /// those of the side on the squares `men`, where the cells hold them. What else the cells hold does not matter:
+    /// after an ordinary move these are still the cells before it. The king that flies is not asked.
     pub fn piece_attacks(
         &self,
         cells: &[Option<Cell>; 120],
@@ -281,7 +283,8 @@ impl Tables {
     ) -> bool
         requires at { at.0 < 120 }
         requires men { HoldsMen by cells.now men }
-        ensures { (board : List (Option Cell)) → IsBoardBy by cells.now men occupied board → result ≡ any_below (Rule.attacks_from self.now board by at.0) 120 }
+        ensures { OnEachBoard by cells.now men occupied
+            (λ board. result ≡ any_below (Rule.attacks_from self.now board by at.0) 120) }
     {
         board_size(cells);
         let _rules = self.rules();
@@ -305,7 +308,8 @@ impl Tables {
     ) -> bool
         requires at { at.0 < 120 }
         requires men { HoldsMen by cells.now men }
-        ensures { (board : List (Option Cell)) → IsBoardBy by cells.now men occupied board → Rule.is_own_king self.now (other by) (cell_at board at.0) ≡ true → result ≡ any_below (Rule.king_faces self.now board by at.0) 120 }
+        ensures { OnEachWithKing self.now by cells.now men occupied at.0
+            (λ board. result ≡ any_below (Rule.king_faces self.now board by at.0) 120) }
     {
         board_size(cells);
         let rules = self.rules();
@@ -318,8 +322,8 @@ impl Tables {
         false
     }
 
-    /// Whether the side attacks the square of the other side's king, by a piece or by its own king where kings fly, on each board of
-    /// these sets as in `piece_attacks` on which that king stands there.
+    /// Whether the side attacks the square of the other side's king, by a piece or by its own king where kings fly, on
+    /// each board of these sets as in `piece_attacks` on which that king stands there.
     pub fn attacks_king(
         &self,
         cells: &[Option<Cell>; 120],
@@ -330,7 +334,8 @@ impl Tables {
     ) -> bool
         requires at { at.0 < 120 }
         requires men { HoldsMen by cells.now men }
-        ensures { (board : List (Option Cell)) → IsBoardBy by cells.now men occupied board → Rule.is_own_king self.now (other by) (cell_at board at.0) ≡ true → result ≡ Rule.attacks self.now board by at.0 }
+        ensures { OnEachWithKing self.now by cells.now men occupied at.0
+            (λ board. result ≡ Rule.attacks self.now board by at.0) }
     {
         let rules = self.rules();
         if self.piece_attacks(cells, men, occupied, at, by) {
@@ -342,9 +347,9 @@ impl Tables {
         self.king_sees(cells, men, occupied, at, by)
     }
 
-    /// Whether the side attacks the square: a piece of it reaches the square by a term that takes, or a pawn of it has the square
-    /// diagonally one step forward, or kings fly and its king faces the other side's king on the square along an open file. Otherwise it
-    /// does not matter what stands on the square. No memory is taken.
+    /// Whether the side attacks the square: a piece of it reaches the square by a term that takes, or a pawn of it has
+    /// the square diagonally one step forward, or kings fly and its king faces the other side's king on the square
+    /// along an open file. Otherwise it does not matter what stands on the square. No memory is taken.
     pub fn attacked(&self, p: &Position, at: Square, by: Side) -> bool
         ensures { result ≡ Rule.attacks self.now p.now.cells by at.0 }
     {
@@ -362,8 +367,8 @@ impl Tables {
         }
     }
 
-    /// Whether the side's king stands attacked, on each board of these sets as in `piece_attacks`, `men` being those of the other side,
-    /// on which its kings are on these squares.
+    /// Whether the side's king stands attacked, on each board of these sets as in `piece_attacks`, `men` being those of
+    /// the other side, on which its kings are on these squares.
     pub fn king_attacked_by(
         &self,
         cells: &[Option<Cell>; 120],
@@ -374,7 +379,8 @@ impl Tables {
     ) -> bool
         requires kings { OnSquares kings }
         requires men { HoldsMen (other side) cells.now men }
-        ensures { (board : List (Option Cell)) → IsBoardBy (other side) cells.now men occupied board → AreKings self.now side board kings → result ≡ Rule.king_attacked self.now board side }
+        ensures { OnEachBoard (other side) cells.now men occupied
+            (λ board. AreKings self.now side board kings → result ≡ Rule.king_attacked self.now board side) }
     {
         let by = side.other();
         let mut rest = kings;

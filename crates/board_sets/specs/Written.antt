@@ -1,4 +1,4 @@
--- Sets of which one square is written.
+-- The sets of a board of which a square is written, or two where a piece goes as it is.
 use Rattle.std.specs.Prelude.{◌≡◌, ℕ, Bool, true, not, ◌&&◌, ◌||◌, ◌==◌, is_some, Option, None, List, slice_set}
 use Rattle.rules_model.specs.declared.board.Cell.{Cell}
 use Rattle.rules_model.specs.declared.board.Kind.{Kind}
@@ -42,7 +42,7 @@ pub record AreWithout (old : BoardSets) (at : ℕ) (new : BoardSets) : Type 0 wh
 abbrev pub carried : ℕ → ℕ → List (Option Cell) → List (Option Cell)
 carried from to cells = slice_set (slice_set cells from None) to (cell_at cells from)
 
--- the new set has the square where the piece went if the old one had the square that it left
+-- the new set has the square where the piece went if the old one had the square that it left, and not that square; the others stay
 abbrev pub IsCarried : Set → ℕ → ℕ → Set → Type 0
 IsCarried old from to new =
     (s : ℕ) → has new s ≡ (((has old s && not (s == from)) && not (s == to)) || (has old from && (s == to)))

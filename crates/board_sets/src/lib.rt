@@ -1,4 +1,4 @@
-//! The squares of the pieces and of the kings of both sides, kept through a move.
+//! The squares of the pieces and of the kings of both sides, and of the pawns, kept through a move.
 #![tactic(auto)]
 
 mod after;

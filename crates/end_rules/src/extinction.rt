@@ -58,7 +58,7 @@ fn is_counted(side: Side, kind: Option<Kind>, cell: Option<Cell>) -> bool
     }
 }
 
-/// Whether more of these pieces are on the board. It stops at the first that is too many.
+/// Whether more than `most` of these pieces are on the board. It stops at the first that is too many.
 fn stand_more(cells: &Cells, side: Side, kind: Option<Kind>, most: usize) -> bool
     ensures { result ≡ nat_lt most (count_by (Counted.is_counted side kind) cells.now) }
 {
@@ -74,7 +74,7 @@ fn stand_more(cells: &Cells, side: Side, kind: Option<Kind>, most: usize) -> boo
     false
 }
 
-/// Whether the side has no more of these pieces. The hand is looked at only where the board has not too many.
+/// Whether the side has at most `most` of these pieces. The hand is looked at only where the board has not too many.
 fn has_at_most(p: &Position, side: Side, kind: Option<Kind>, most: usize) -> bool
     ensures { result ≡ nat_le (Counted.pieces (repeat_of p.now) side kind) most }
 {

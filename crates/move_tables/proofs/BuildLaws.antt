@@ -1,5 +1,5 @@
 -- The spots of terms and kinds.
-use Rattle.std.proofs.Common.{◌≡◌, ◌≢◌, ℕ, ◌+◌, ◌*◌, ◌/◌, ◌%◌, ◌==◌, nat_lt, ◌<◌, ◌≤◌, Bool, true, false, ◌&&◌, ◌||◌, not, Option, Some, None, List, [], ◌∷◌, ◌++◌, length, take, get_or, is_some, pos, negsuc, refl, ap, sym, ◌∙◌, subst, arith}
+use Rattle.std.proofs.Common.{◌≡◌, ◌≢◌, ℕ, ◌+◌, ◌*◌, ◌/◌, ◌%◌, ◌==◌, nat_lt, ◌<◌, ◌≤◌, Bool, true, false, ◌&&◌, ◌||◌, Option, Some, None, List, [], ◌∷◌, ◌++◌, length, take, get_or, pos, negsuc, refl, ap, sym, ◌∙◌, subst, arith}
 use Rattle.std.specs.List.{list_all, list_any, filter}
 use Rattle.std.proofs.lemmas.List.Folds.{list_any_more}
 use Rattle.std.proofs.Math.Bool.{and-false, and-true, or-false, or-true}
@@ -8,7 +8,6 @@ use Rattle.std.proofs.Math.Seq.{get_or-append_seam}
 use Rattle.std.proofs.lemmas.Bool.{lt-ltb, le-ltb}
 use Rattle.std.proofs.lemmas.List.{get_or_past}
 use Rattle.std.proofs.lemmas.Option.{slice_get_past}
-use Rattle.foundation.specs.Count.{any_below}
 use Rattle.foundation.proofs.CountLemmas.{all_below-each}
 use Rattle.rules_model.specs.declared.board.Board.{Board}
 use Rattle.rules_model.specs.declared.board.Cell.{Cell}
@@ -16,18 +15,16 @@ use Rattle.rules_model.specs.declared.board.Kind.{Kind}
 use Rattle.rules_model.specs.declared.board.Side.{Side}
 use Rattle.rules_model.specs.declared.board.Side.TheVariants.{White, Black}
 use Rattle.rules_model.specs.declared.board.Square.{Square}
-use Rattle.rules_model.specs.declared.reach.Ray.{Ray}
 use Rattle.rules_model.specs.declared.rules.KindRule.{KindRule}
 use Rattle.rules_model.specs.declared.rules.Rules.{Rules}
 use Rattle.rules_model.specs.declared.rules.Term.{Term}
-use Rattle.rules_model.specs.declared.rules.Way.TheVariants.{Leap}
 use Rattle.rules_model.specs.Attacks.{is_diagonal, left_ahead, pawn_ray, right_ahead}
 use Rattle.rules_model.specs.Fit.{IsFit, fits_rule, fits_term, kind_fits}
 use Rattle.rules_model.specs.Kinds.{board_of, kind_rule, rule_terms, terms_of}
 use Rattle.rules_model.specs.Movement.{is_held_back, is_straight, reaches_by, terms_from}
-use Rattle.rules_model.specs.Reach.{is_at, reaches, reaches_over}
+use Rattle.rules_model.specs.Reach.{is_at, reaches}
 use Rattle.rules_model.specs.Sides.{side_index}
-use Rattle.rules_model.specs.Squares.{cell_at, step_to}
+use Rattle.rules_model.specs.Squares.{cell_at}
 use Rattle.square_set.proofs.Cases.{by_bool, by_equal, by_order}
 use Rattle.move_tables.specs.declared.mode.Mode.{Mode}
 use Rattle.move_tables.specs.declared.mode.Mode.TheVariants.{Quiet, Take}

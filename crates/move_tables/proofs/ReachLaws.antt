@@ -1,5 +1,5 @@
 -- What a kind reaches lies on the largest board, and only the kinds that a variant may have reach something.
-use Rattle.std.proofs.Common.{◌≡◌, ℕ, ◌<◌, ◌≤◌, ◌/◌, ◌%◌, nat_lt, Bool, true, false, ◌||◌, Option, Some, None, List, inl, inr, pos, negsuc, refl, arith}
+use Rattle.std.proofs.Common.{◌≡◌, ℕ, ◌<◌, ◌≤◌, ◌/◌, ◌%◌, nat_lt, true, false, Option, Some, None, List, inl, inr, pos, negsuc, refl, arith}
 use Rattle.std.proofs.lemmas.Bool.{and_parts, false_from_ne_true, ltb-true, or_cases, ne_eqb}
 use Rattle.std.proofs.lemmas.Option.{slice_get_past}
 use Rattle.rules_model.specs.declared.board.Board.{Board}
@@ -9,11 +9,10 @@ use Rattle.rules_model.specs.declared.board.Side.{Side}
 use Rattle.rules_model.specs.declared.board.Square.{Square}
 use Rattle.rules_model.specs.declared.reach.Ray.{Ray}
 use Rattle.rules_model.specs.declared.rules.Rules.{Rules}
-use Rattle.rules_model.specs.declared.rules.Term.{Term}
 use Rattle.rules_model.specs.Attacks.{is_diagonal, left_ahead, pawn_ray, right_ahead}
 use Rattle.rules_model.specs.Fit.{IsFit, is_there}
 use Rattle.rules_model.specs.Kinds.{board_of, has_kind, is_pawn, kind_rule, names}
-use Rattle.rules_model.specs.Movement.{kind_reaches, in_mobility, terms_from}
+use Rattle.rules_model.specs.Movement.{kind_reaches}
 use Rattle.rules_model.specs.Reach.{IsOnBoard, is_at}
 use Rattle.rules_model.specs.Sound.{on_board}
 use Rattle.rules_model.specs.Squares.{step_to}

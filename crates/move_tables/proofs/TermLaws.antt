@@ -1,5 +1,5 @@
 -- What each way reaches, by sets.
-use Rattle.std.proofs.Common.{◌≡◌, ℕ, zero, suc, ◌+◌, ◌-◌, ◌<◌, ◌≤◌, nat_lt, Bool, true, false, ◌&&◌, not, ◌==◌, Option, List, ℤ, pos, negsuc, nat_abs, refl, ap, sym, ◌∙◌, arith}
+use Rattle.std.proofs.Common.{◌≡◌, ℕ, zero, suc, ◌+◌, ◌<◌, ◌≤◌, nat_lt, Bool, true, ◌&&◌, not, ◌==◌, Option, List, ℤ, pos, negsuc, nat_abs, refl, ap, sym, ◌∙◌, arith}
 use Rattle.std.proofs.lemmas.Bool.{eq-eqb, ne_eqb, lt-ltb, le-ltb, false_from_ne_true}
 use Rattle.std.proofs.Math.Bool.{and-true, and_comm}
 use Rattle.foundation.specs.Count.{any_below}

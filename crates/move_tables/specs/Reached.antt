@@ -1,5 +1,5 @@
 -- The squares that a piece reaches in a position by its terms of a mode.
-use Rattle.std.specs.Prelude.{ℕ, Bool, false, if◌then◌else◌, Option, Some, None, List, [], ◌∷◌, ℤ, pos, negsuc, true}
+use Rattle.std.specs.Prelude.{◌≡◌, ℕ, Bool, false, if◌then◌else◌, Option, Some, None, List}
 use Rattle.rules_model.specs.declared.board.Board.{Board}
 use Rattle.rules_model.specs.declared.board.Cell.{Cell}
 use Rattle.rules_model.specs.declared.board.Kind.{Kind}
@@ -11,8 +11,11 @@ use Rattle.rules_model.specs.Attacks.{is_diagonal}
 use Rattle.rules_model.specs.Kinds.{board_of, is_pawn}
 use Rattle.rules_model.specs.Movement.{kind_reaches}
 use Rattle.rules_model.specs.Squares.{cell_at}
+use Rattle.square_set.specs.declared.Set.{Set}
+use Rattle.square_set.specs.Members.{has}
 use Rattle.move_tables.specs.declared.mode.Mode.{Mode}
 use Rattle.move_tables.specs.declared.mode.Mode.TheVariants.{Quiet, Take}
+use Rattle.move_tables.specs.Occupied.{IsOccupied}
 
 -- the term is one of the mode
 abbrev pub serves : Mode → Term → Bool
@@ -32,6 +35,12 @@ reaches_as rules cells side kind from mode to =
 abbrev pub piece_reaches : Rules → List (Option Cell) → Square → Mode → ℕ → Option Cell → Bool
 piece_reaches rules cells from mode to None = false
 piece_reaches rules cells from mode to (Some c) = reaches_as rules cells c.side c.kind from mode to
+
+-- on each board with these occupied squares, the set is that of the squares that are reached in the mode
+abbrev pub AreReached : Rules → Side → Kind → Square → Mode → Set → Set → Type 0
+AreReached rules side kind from mode occupied set =
+    (cells : List (Option Cell)) → IsOccupied occupied cells
+    → (t : ℕ) → has set t ≡ reaches_as rules cells side kind from mode t
 
 -- what stands on `from` reaches `to` in the mode; where nothing stands it is no square
 unfoldable pub reaches_in : Rules → List (Option Cell) → Square → Mode → ℕ → Bool

@@ -5,7 +5,7 @@ ghost use Rattle.rules_model.specs.Fit.{IsFit};
 ghost use Rattle.rules_model.specs.Sides.{side_index};
 ghost use Rattle.square_set.specs.Members.{has};
 ghost use Rattle.move_tables.specs.Occupied.{IsOccupied};
-ghost use Rattle.move_tables.specs.Reached.{reaches_as};
+ghost use Rattle.move_tables.specs.Reached.{AreReached};
 ghost use Rattle.move_tables.specs.Spots as Spots;
 
 use crate::build::spots_of;
@@ -92,7 +92,7 @@ impl MoveTables {
     pub fn reach_set(&self, by: Side, kind: Kind, from: Square, mode: Mode, occupied: Set) -> Set
         requires kind { kind.0 < 26 }
         requires from { from.0 < 120 }
-        ensures { (cells : List (Option Cell)) → IsOccupied occupied cells → (t : ℕ) → has result t ≡ reaches_as self.now cells by kind from mode t }
+        ensures { AreReached self.now by kind from mode occupied result }
     {
         self.spot(by, kind, from, mode).reach(occupied)
     }

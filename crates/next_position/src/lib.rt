@@ -26,7 +26,7 @@ use rules_model::{Cells, Move, Position, Rules, Side};
 
 /// Makes of the pieces of a position those that stand there after a move.
 ///
-/// It writes one to five squares, so a scratch board serves for the moves of a position one after another.
+/// It writes one to five squares, and reads the old pieces alone.
 pub fn move_pieces(rules: &Rules, p: &Position, m: &Move, cells: &mut Cells)
     requires rules { IsFit rules.now }
     requires fit { IsFitMove m.now }

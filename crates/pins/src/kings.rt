@@ -157,7 +157,8 @@ fn guards_of_king(
     pieces.or(guards_from_kings(tables, cells, enemies, occupied, king, by))
 }
 
-/// The squares from which a piece may go anywhere without leaving its king attacked: none where it is attacked now.
+/// The squares from which a piece other than a king may go anywhere without leaving a king of its side attacked: none
+/// where one is attacked now. `kings` are all those of the side.
 pub fn free(
     tables: &Tables,
     cells: &Cells,

@@ -1,4 +1,4 @@
--- The parts of the moves that are appended in turn.
+-- The parts of the moves that are given in turn.
 use Rattle.std.specs.Prelude.{◌≡◌, ℕ, ◌<◌, nat_lt, Bool, true, ◌&&◌, not, ◌⊎◌, is_none, Option, Some, None}
 use Rattle.foundation.specs.Count.{any_below}
 use Rattle.rules_model.specs.declared.board.Kind.{Kind}

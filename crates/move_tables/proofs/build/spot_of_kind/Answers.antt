@@ -1,7 +1,7 @@
 use Rattle.std.proofs.Common.{◌≡◌, ◌<◌, ◌==◌, true, false, ◌&&◌, rules, sym, ap, ◌∙◌, arith}
 use Rattle.std.proofs.lemmas.Nat.Bits.{bit_at_ones}
 use Rattle.rules_model.specs.Kinds.{board_of, is_pawn, terms_of}
-use Rattle.rules_model.specs.Movement.{in_mobility, is_held_back, kind_reaches, reaches_by}
+use Rattle.rules_model.specs.Movement.{in_mobility, kind_reaches, reaches_by}
 use Rattle.std.specs.List.{list_any}
 use Rattle.std.proofs.lemmas.Bool.{and_right}
 use Rattle.square_set.specs.Members.{has}

@@ -1,4 +1,4 @@
-use Rattle.std.proofs.Common.{◌||◌, ◌==◌, ap, refl, sym, ◌∙◌, arith}
+use Rattle.std.proofs.Common.{◌||◌, ◌==◌, ap, sym, ◌∙◌, arith}
 use Rattle.move_tables.specs.Spots.{lies_in}
 use Rattle.move_tables.proofs.BuildLaws.{region_beyond, member_step, other_step}
 use Rattle.move_tables.proofs.region.set_of.Goals as goal
