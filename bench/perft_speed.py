@@ -1,10 +1,10 @@
 #!/usr/bin/env python3
-"""How fast `perft` counts, beside Fairy-Stockfish: alternating runs of both in one call, with equal counts.
+"""How fast `perft` counts, beside Fairy-Stockfish: alternating runs of both in one call.
 
 Usage: bench/perft_speed.py [RUNS]      (runs of each, 3 by default; the best counts)
 
 Wants Debian's package fairy-stockfish. The time that each program takes to start and to count one ply is taken off. For each row it
-prints the count, the millions of moves a second of both, and the ratio.
+prints the count, the millions of moves a second of both, and the ratio. Ends with an error where the counts of a row differ.
 """
 import os
 import subprocess
@@ -22,7 +22,7 @@ ROWS = [
     ("3check", "startpos", 5),
     ("kingofthehill", "startpos", 5),
     ("antichess", "startpos", 5),
-    ("losalamos", "startpos", 5),
+    ("losalamos", "startpos", 6),
     ("capablanca", "startpos", 4),
     ("seirawan", "startpos", 4),
     ("xiangqi", "startpos", 4),
@@ -46,25 +46,31 @@ def theirs(variant, position, plies):
     return int(done.stdout.split("Nodes searched:")[1].split()[0]), taken
 
 
-def best(count, variant, position, plies, runs):
-    made = [count(variant, position, plies) for _ in range(runs)]
-    return made[0][0], min(taken for _, taken in made)
+def alternating(variant, position, plies, runs):
+    """Both counts of the row, and the least time that each program took, over runs of one after the other."""
+    counts = [0, 0]
+    least = [float("inf"), float("inf")]
+    for _ in range(runs):
+        for place, count in enumerate((ours, theirs)):
+            counts[place], taken = count(variant, position, plies)
+            least[place] = min(least[place], taken)
+    return counts, least
 
 
 def main():
     runs = int(sys.argv[1]) if len(sys.argv) > 1 else 3
     if OTHER is None:
         sys.exit("perft_speed: wants Debian's package fairy-stockfish")
+    differ = False
     for variant, position, plies in ROWS:
-        rates = []
-        counts = []
-        for count in (ours, theirs):
-            _, base = best(count, variant, position, 1, runs)
-            moves, taken = best(count, variant, position, plies, runs)
-            counts.append(moves)
-            rates.append(moves / max(taken - base, 1e-6) / 1e6)
+        _, bases = alternating(variant, position, 1, runs)
+        counts, least = alternating(variant, position, plies, runs)
+        rates = [count / max(taken - base, 1e-6) / 1e6 for count, taken, base in zip(counts, least, bases)]
         note = "" if counts[0] == counts[1] else f" (there {counts[1]})"
+        differ = differ or counts[0] != counts[1]
         print(f"{variant} {position} perft {plies}: {counts[0]}{note}, {rates[0]:.2f} and {rates[1]:.2f} M/s, ratio {rates[0] / rates[1]:.2f}")
+    if differ:
+        sys.exit("perft_speed: the counts differ")
 
 
 main()
