@@ -9,6 +9,7 @@ pub mod HistoryLemmas
 pub mod WriteLemmas
 pub mod TrimLemmas
 pub mod PairBackLemmas
+pub mod FileBackLemmas
 pub mod FollowLemmas
 pub mod ToldBackLemmas
 pub mod WordBackLemmas

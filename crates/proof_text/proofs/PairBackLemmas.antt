@@ -1,6 +1,6 @@
 -- The line of a pair that is told says the pair, and is one line.
 use Rattle.std.proofs.Common.{◌≡◌, ℕ, ◌+◌, ◌-◌, ◌<◌, ◌≤◌, ◌==◌, nat_lt, nat_le, ◌&&◌, Bool, true, false, not, List, [], ◌∷◌, ◌++◌, Option, Some, None, length, take, slice_index, if◌then◌else◌, refl, sym, ap, subst, ◌∙◌, arith, append_assoc, append-nil, length-append, length-drop, ⊎_elim}
-use Rattle.std.specs.Prelude.{codes, option_and_then}
+use Rattle.std.specs.Prelude.{All, codes, option_and_then}
 use Rattle.std.specs.List.{list_all, list_any, position_or_len}
 use Rattle.std.specs.Str.{bytes_eq}
 use Rattle.std.specs.Str.Lines.{strip_carriage_return}
@@ -11,12 +11,13 @@ use Rattle.std.proofs.lemmas.List.Folds.{list_all-append}
 use Rattle.std.proofs.lemmas.Slice.Eq.{bytes_eq-Decides}
 use Rattle.foundation.specs.Cuts.{cut}
 use Rattle.fen_model.proofs.JoinLaws.{Lacks}
+use Rattle.io_ports.specs.Lines.{line_feed}
 use Rattle.strategy.proofs.BackLemmas.{cut-word}
 use Rattle.strategy.proofs.LineLaws.{IsLine}
 use Rattle.variant_ini.specs.Cuts.{trimmed}
 use Rattle.variant_ini.specs.LineKind.{comment, foreign, header_of, is_comment, kind_from, line_kind, pair_from, pair_of, text_kind}
 use Rattle.variant_ini.specs.Section.{key_line}
-use Rattle.proof_text.specs.Pairs.{IsToldBack, compact, if_read_back, is_pair, is_read_back, pair_said}
+use Rattle.proof_text.specs.Pairs.{compact, if_read_back, is_pair, is_read_back, pair_said}
 use Rattle.proof_text.specs.Writing.{pair_text}
 use Rattle.proof_text.proofs.TrimLemmas.{IsBare, bare-trimmed, blank-after, blank-before, trimmed-bare, trimmed-short}
 
@@ -28,13 +29,13 @@ is_plain key =
     bytes_eq (trimmed key) key
     && (nat_lt 0 (length key) && (list_all (λ b. not (b == 61)) key && list_all (λ b. not (b == 10)) key))
 
-record IsPlain (key : List ℕ) : Type 0 where
-  bare : IsBare key
-  some : 0 < length key
-  no_sign : Lacks 61 key
-  no_feed : Lacks 10 key
+pub record IsPlain (key : List ℕ) : Type 0 where
+  pub bare : IsBare key
+  pub some : 0 < length key
+  pub no_sign : Lacks 61 key
+  pub no_feed : Lacks 10 key
 
-plain-parts : (key : List ℕ) → is_plain key ≡ true → IsPlain key
+pub plain-parts : (key : List ℕ) → is_plain key ≡ true → IsPlain key
 plain-parts key is =
     let sign = list_all (λ b. not (b == 61)) key in
     let feed = list_all (λ b. not (b == 10)) key in
@@ -47,6 +48,17 @@ plain-parts key is =
       no_sign = three.0;
       no_feed = three.1;
     }
+
+-- ---- pairs that are told back
+
+-- the compact line of the pair is read back, and its value has no line feed
+pub record IsToldBack (pair : List ℕ × List ℕ) : Type 0 where
+  pub read_back : is_read_back pair ≡ true
+  pub no_feed : Lacks line_feed pair.1
+
+-- each of the pairs is told back
+abbrev pub AreToldBack : List (List ℕ × List ℕ) → Type 0
+AreToldBack pairs = All IsToldBack pairs
 
 -- ---- a text that says a pair
 
@@ -149,10 +161,10 @@ read-back pair is =
     )
 
 -- the last byte of a text
-abbrev last_of : List ℕ → ℕ
+abbrev pub last_of : List ℕ → ℕ
 last_of text = slice_index text (length text - 1)
 
-compact-long : (pair : List ℕ × List ℕ) → length (compact pair) ≡ length pair.0 + 1 + length pair.1
+pub compact-long : (pair : List ℕ × List ℕ) → length (compact pair) ≡ length pair.0 + 1 + length pair.1
 compact-long pair = omega (arith, length-append pair.0 (codes "="), length-append (pair.0 ++ codes "=") pair.1)
 
 -- its compact line does not end in a carriage return, which would be no part of the value
@@ -203,7 +215,7 @@ pair-back pair plain back =
 
 -- ---- the line is one line
 
-last-append : (xs : List ℕ) (y : ℕ) (ys : List ℕ) → last_of (xs ++ y ∷ ys) ≡ last_of (y ∷ ys)
+pub last-append : (xs : List ℕ) (y : ℕ) (ys : List ℕ) → last_of (xs ++ y ∷ ys) ≡ last_of (y ∷ ys)
 last-append xs y ys =
     let place : length (xs ++ y ∷ ys) - 1 ≡ length xs + (length (y ∷ ys) - 1) =
     omega (arith, length-append xs (y ∷ ys)) in

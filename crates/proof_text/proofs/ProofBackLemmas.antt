@@ -27,12 +27,12 @@ use Rattle.strategy.proofs.BackLemmas.{Above, above-append, decimal-above, decim
 use Rattle.strategy.proofs.LineLaws.{IsLine, each-append, high-line, lines-back, strategy-lines}
 use Rattle.proof_text.specs.declared.fault.ProofFault.{ProofFault}
 use Rattle.proof_text.specs.declared.proof.Proof.{Proof}
-use Rattle.proof_text.specs.Pairs.{AreToldBack}
 use Rattle.proof_text.specs.Reading.{and_then, body_on, by_version, goal_on, headed, history_on, is_version_in, moves_on, pairs_on, proof_of, rules_of, rules_on, start_on, with_rules, with_start, with_strategy}
 use Rattle.proof_text.specs.Words.{goal_said, history_said, rules_said, start_said}
 use Rattle.proof_text.specs.Writing.{body_texts, game_texts, goal_text, history_texts, pair_text, proof_text, proof_texts, start_line}
 use Rattle.proof_text.proofs.FollowLemmas.{Follow, follow-all, follow-here, follow-next, follow-past}
 use Rattle.proof_text.proofs.MoveBackLemmas.{moves-follow}
+use Rattle.proof_text.proofs.PairBackLemmas.{AreToldBack}
 use Rattle.proof_text.proofs.ToldBackLemmas.{IsTold, pairs-follow, pairs-lines, told-each}
 use Rattle.proof_text.proofs.WordBackLemmas.{goal-said, history-said, rules-said, start-said}
 

@@ -1,5 +1,5 @@
 -- The pairs that a section tells are read back from their lines.
-use Rattle.std.proofs.Common.{◌≡◌, ℕ, ◌+◌, true, List, [], ◌∷◌, ◌++◌, Option, Some, None, Result, Ok, length, map, refl, sym, ap, ◌∙◌, append_assoc, append-nil}
+use Rattle.std.proofs.Common.{◌≡◌, ℕ, ◌+◌, Bool, true, List, [], ◌∷◌, ◌++◌, Option, Some, None, Result, Ok, length, map, refl, sym, ap, ◌∙◌, append_assoc, append-nil}
 use Rattle.std.specs.Prelude.{option_and_then}
 use Rattle.std.specs.List.{flat_map, list_all}
 use Rattle.std.proofs.lemmas.Bool.{and_parts}
@@ -14,34 +14,41 @@ use Rattle.variant_options.specs.Keys.{all_keys, in_order, key_inserted, ordered
 use Rattle.variant_options.specs.Options.{options}
 use Rattle.variant_model.specs.Told.{line_of, told, told_of, told_value, with_value}
 use Rattle.proof_text.specs.declared.fault.ProofFault.{ProofFault}
-use Rattle.proof_text.specs.Pairs.{AreToldBack, IsToldBack, pair_said}
+use Rattle.proof_text.specs.Pairs.{pair_said}
 use Rattle.proof_text.specs.Reading.{paired, pairs_after}
 use Rattle.proof_text.specs.Writing.{pair_text}
 use Rattle.proof_text.proofs.FollowLemmas.{Follow, follow-here, follow-next}
-use Rattle.proof_text.proofs.PairBackLemmas.{is_plain, pair-back, pair-line}
+use Rattle.proof_text.proofs.PairBackLemmas.{AreToldBack, IsToldBack, is_plain, pair-back, pair-line}
 
 -- ---- the keys
 
-keys-plain : list_all is_plain ordered_keys ≡ true
+pub keys-plain : list_all is_plain ordered_keys ≡ true
 unfolding all_keys in_order key_inserted ordered_keys options trimmed
 keys-plain = refl
 
-abbrev HasPlainKey : List ℕ × List ℕ → Type 0
-HasPlainKey pair = is_plain pair.0 ≡ true
+-- a test that all keys pass, the keys of all pairs pass that are told
+module _ (test : List ℕ → Bool) where
+  abbrev pub KeyPasses : List ℕ × List ℕ → Type 0
+  KeyPasses pair = test pair.0 ≡ true
 
-value-plain : (key : List ℕ) (value : Option (List ℕ)) → is_plain key ≡ true → Each HasPlainKey (with_value key value)
-value-plain key None plain = tt
-value-plain key (Some value) plain = (plain, tt)
+  value-passes : (key : List ℕ) (value : Option (List ℕ)) → test key ≡ true → Each KeyPasses (with_value key value)
+  value-passes key None passes = tt
+  value-passes key (Some value) passes = (passes, tt)
 
-told_of-plain : (sections : List Section) (place : ℕ) (keys : List (List ℕ)) → list_all is_plain keys ≡ true
-    → Each HasPlainKey (flat_map (told_of sections place) keys)
-unfolding told_of
-told_of-plain sections place [] plain = tt
-told_of-plain sections place (key ∷ keys) plain =
-    let both = and_parts (is_plain key) (list_all is_plain keys) plain in
-    each-append HasPlainKey (told_of sections place key) (flat_map (told_of sections place) keys)
-    (value-plain key (told_value sections place key) both.0)
-    (told_of-plain sections place keys both.1)
+  told_of-passes : (sections : List Section) (place : ℕ) (keys : List (List ℕ)) → list_all test keys ≡ true
+      → Each KeyPasses (flat_map (told_of sections place) keys)
+  unfolding told_of
+  told_of-passes sections place [] passes = tt
+  told_of-passes sections place (key ∷ keys) passes =
+      let both = and_parts (test key) (list_all test keys) passes in
+      each-append KeyPasses (told_of sections place key) (flat_map (told_of sections place) keys)
+      (value-passes key (told_value sections place key) both.0)
+      (told_of-passes sections place keys both.1)
+
+  pub told-passes : (sections : List Section) (place : ℕ) → list_all test ordered_keys ≡ true
+      → Each KeyPasses (told sections place)
+  unfolding told
+  told-passes sections place passes = told_of-passes sections place ordered_keys passes
 
 -- ---- the pairs
 
@@ -50,7 +57,7 @@ pub record IsTold (pair : List ℕ × List ℕ) : Type 0 where
   pub plain : is_plain pair.0 ≡ true
   pub back : IsToldBack pair
 
-each-told : (pairs : List (List ℕ × List ℕ)) → Each HasPlainKey pairs → AreToldBack pairs → Each IsTold pairs
+each-told : (pairs : List (List ℕ × List ℕ)) → Each (KeyPasses is_plain) pairs → AreToldBack pairs → Each IsTold pairs
 each-told [] plain back = tt
 each-told (pair ∷ pairs) plain back =
     let here : IsTold pair = record { plain = plain.0; back = all_first IsToldBack pair pairs back } in
@@ -58,9 +65,8 @@ each-told (pair ∷ pairs) plain back =
 
 pub told-each : (sections : List Section) (place : ℕ) → AreToldBack (told sections place)
     → Each IsTold (told sections place)
-unfolding told
 told-each sections place back =
-    each-told (told sections place) (told_of-plain sections place ordered_keys keys-plain) back
+    each-told (told sections place) (told-passes is_plain sections place keys-plain) back
 
 -- ---- their lines
 

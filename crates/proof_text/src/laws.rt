@@ -1,28 +1,32 @@
 //! What is known of proof texts. The law is the contract of a call that does nothing.
 ghost use Rattle.std.specs.Prelude.{◌≡◌, ◌<◌, ◌≤◌, ◌^◌, ℕ, List, length, Ok};
 ghost use Rattle.io_ports.specs.Lines.{lines_of};
+ghost use Rattle.variant_ini.specs.FileLines.{AreFileLines};
 ghost use Rattle.variant_ini.specs.Section.{Section};
 ghost use Rattle.variant_model.specs.Entry.{entry};
-ghost use Rattle.variant_model.specs.Told.{told};
 ghost use Rattle.game_play.specs.Played.{IsPlayed, Played};
 ghost use Rattle.strategy.specs.declared.nodes.Strategy.{Strategy};
 ghost use Rattle.strategy.specs.Reading.{AreSound};
 ghost use Rattle.strategy.specs.Writing.{AreReadable};
-ghost use Rattle.proof_text.specs.Pairs.{AreToldBack};
 ghost use Rattle.proof_text.specs.Reading.{proof_of};
 ghost use Rattle.proof_text.specs.Writing.{proof_text};
 
-use variant_model::laws::told_sections_have_the_same_rules;
+use variant_model::laws::{
+    told_lines_are_lines_of_files, told_sections_have_the_same_rules, told_values_end_in_no_return,
+};
 
-/// Reading a written proof text gives back the game, the goal and the strategy, where the section is accepted and what
-/// it tells is read back from lines, the game is by its rules, the goal is within 1 to 100 moves, and the strategy is
-/// one that is read back itself.
+/// Reading a written proof text gives back the game, the goal and the strategy: of an accepted section among sections of
+/// files, a game that was played by its rules, a goal within 1 to 100 moves, and a strategy whose positions are sound and
+/// have the number 1, whose ranks are at most 65,535, whose edges lead to its nodes and whose moves are read back as
+/// themselves.
 pub fn written_proofs_are_read_back()
     ensures { (sections : List Section) (place : ℕ) (g : Played) (n : ℕ) (s : Strategy)
-        → entry sections place ≡ Ok g.rules → AreToldBack (told sections place) → IsPlayed g → 1 ≤ n → n ≤ 100
+        → AreFileLines sections → entry sections place ≡ Ok g.rules → IsPlayed g → 1 ≤ n → n ≤ 100
         → AreSound g.rules s.nodes → AreReadable g.rules s.nodes → length s.nodes < 2 ^ 64
         → proof_of (lines_of (proof_text sections place g n s))
         ≡ Ok (record { game = g; attacker = s.attacker; n = n; strategy = s }) }
 {
     told_sections_have_the_same_rules();
+    told_lines_are_lines_of_files();
+    told_values_end_in_no_return();
 }
