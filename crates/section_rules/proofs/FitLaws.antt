@@ -1,12 +1,13 @@
 -- The rules of a section without a fault fit.
-use Rattle.std.proofs.Common.{◌≡◌, ◌≢◌, ℕ, zero, suc, ◌-◌, ◌<◌, ◌≤◌, Bool, true, false, not, ◌&&◌, ◌||◌, ◌==◌, cond, nat_lt, nat_le, List, [], ◌∷◌, Option, Some, None, Result, Ok, Err, IfSome, is_some, is_none, length, get_or, drop, map, filter, refl, sym, ap, subst, ◌∙◌, arith, option_and_then, unwrap_or}
+use Rattle.std.proofs.Common.{◌≡◌, ◌≢◌, ℕ, ◌-◌, ◌<◌, ◌≤◌, Bool, true, false, not, ◌&&◌, ◌||◌, ◌==◌, cond, nat_lt, nat_le, List, [], ◌∷◌, Option, Some, None, Result, Ok, Err, IfSome, is_some, is_none, get_or, drop, map, filter, refl, sym, ap, subst, ◌∙◌, arith, option_and_then, unwrap_or}
 use Rattle.std.specs.Prelude.{if◌then◌else◌, codes, slice_get}
 use Rattle.std.specs.List.{find, list_all, range_with_len}
 use Rattle.std.specs.Option.{option_map, option_or}
 use Rattle.std.proofs.lemmas.Bool.{and_parts, and_from, or_left}
-use Rattle.std.proofs.lemmas.Bool.Decides.{nat_tests, Decides-eqb}
+use Rattle.std.proofs.lemmas.Bool.Decides.{nat_tests}
 use Rattle.std.proofs.lemmas.Option.{slice_get-get_or}
 use Rattle.std.proofs.lemmas.List.FromFn.{get_or-map-range_with_len, length-map-range_with_len}
+use Rattle.std.proofs.lemmas.List.Folds.{list_any_at}
 use Rattle.std.proofs.lemmas.Slice.Eq.{bytes_eq-Decides}
 use Rattle.foundation.specs.Tests.{is_nil, same_bool}
 use Rattle.foundation.specs.Count.{all_below, any_below}
@@ -22,7 +23,7 @@ use Rattle.rules_model.specs.declared.rules.Rules.{Rules}
 use Rattle.rules_model.specs.Fit.{IsFit, bad_promotion, chains_promotions, fits_pawn, fits_rule, gates_amiss, gates_nowhere, has_no_piece, is_pawn_named, is_pawn_or_king, is_there, kind_fits, mask_fits, promotes_to_pawn_or_king, region_fits, region_fits_at}
 use Rattle.rules_model.specs.Kinds.{has_kind, is_king, is_pawn, kind_rule, names, promoted_of, rule_of, rule_promoted}
 use Rattle.rules_model.specs.Castling.{castling_on}
-use Rattle.variant_ini.specs.Section.{Section, section_at}
+use Rattle.variant_ini.specs.Section.{Section}
 use Rattle.variant_options.specs.Letters.{kind, letter_of}
 use Rattle.foundation.specs.Numbers.{number_of, number_within, within}
 use Rattle.variant_options.specs.Options as option
@@ -32,12 +33,14 @@ use Rattle.variant_options.specs.Readings.{file_named, lettered_file, read_file,
 use Rattle.variant_model.specs.declared.fault.SectionFault.{SectionFault}
 use Rattle.variant_model.specs.declared.fault.SectionFault.TheVariants.{Inconsistent}
 use Rattle.variant_model.specs.Contradictions.{contradiction, has_left_twice}
-use Rattle.variant_model.specs.Entry.{accepted, bare_rules, entry, first_fault, header_fault, is_refused, own_fault, rules_fault, started_by, unless_fault}
+use Rattle.variant_model.specs.Entry.{accepted, bare_rules, entry, first_fault, is_refused, started_by, unless_fault}
 use Rattle.variant_model.specs.Made.{listed_kinds, resolved, rules_from, start_text}
 use Rattle.variant_model.specs.PieceRules.{Resolved, both_sides, has_piece, held_letter, held_letters, held_pairs, holder, is_on_board, kind_at, kind_rule_of, mobility, on_the_board, piece_row, piece_word, promoted_by, right_of, said, word_terms}
 use Rattle.variant_model.proofs.EntryLaws.{entry_by_fault}
-use Rattle.section_rules.proofs.TermLaws.{no_either, no_first, word_terms_fit}
-use Rattle.section_rules.proofs.ChainLaws.{IsGoodChain, IsLetter, chain_is_good, is_letter, pawn_apart, pawn_has_no_word, piece_letter_below}
+use Rattle.variant_model.proofs.ChainLaws.{IsFaultless, named, named_itself, rules_faultless}
+use Rattle.variant_model.proofs.ListLemmas.{found_passes, list_any_found, none_mapped}
+use Rattle.section_rules.proofs.TermLaws.{no_first, word_terms_fit}
+use Rattle.section_rules.proofs.ChainLaws.{IsLetter, is_letter, pawn_apart, pawn_has_no_word, piece_letter_below}
 
 -- ---- numbers
 
@@ -127,25 +130,6 @@ slice_get-range f k l =
     slice_get-get_or (map f (range_with_len 0 26)) k (f k) (omega (arith, l, length-map-range_with_len f 0 26))
     ∙ ap (λ y. Some y) (get_or-map-range_with_len f 0 26 k k (f k) l (omega arith))
 
--- what is found passes the test
-found_if : {X : Type 0} (test : X → Bool) (x : X) (found : Option X) (y : X) (b : Bool) → test x ≡ b → (found ≡ Some y → test y ≡ true) → cond b (Some x) found ≡ Some y → test y ≡ true
-found_if test x found y true e h f = let same : x ≡ y = cc in ap test (sym same) ∙ e
-found_if test x found y false e h f = h f
-
-found_passes : {X : Type 0} (test : X → Bool) (xs : List X) (y : X) → find test xs ≡ Some y → test y ≡ true
-found_passes test [] y e = cc
-found_passes test (x ∷ xs) y e = found_if test x (find test xs) y (test x) refl (found_passes test xs y) e
-
--- what passes is found
-finds_if : {X : Type 0} (b : Bool) (x : X) (found : Option X) → is_some found ≡ true → is_some (cond b (Some x) found) ≡ true
-finds_if true x found h = refl
-finds_if false x found h = h
-
-finds : {X : Type 0} (test : X → Bool) (xs : List X) (i : ℕ) (d : X) → i < length xs → test (get_or xs i d) ≡ true → is_some (find test xs) ≡ true
-finds test [] i d l e = absurd (omega arith)
-finds test (x ∷ xs) zero d l e = ap (λ b. is_some (cond b (Some x) (find test xs))) e
-finds test (x ∷ xs) (suc i) d l e = finds_if (test x) x (find test xs) (finds test xs i d (omega arith) e)
-
 -- what is found among those that are kept was kept
 kept_first : {X : Type 0} (keep : X → Bool) (test : X → Bool) (x y : X) (rest : List X) (b : Bool) → keep x ≡ true → (find test rest ≡ Some y → keep y ≡ true) → cond b (Some x) (find test rest) ≡ Some y → keep y ≡ true
 kept_first keep test x y rest true e h f = let same : x ≡ y = cc in ap keep (sym same) ∙ e
@@ -193,18 +177,6 @@ record IsTidy (section : Resolved) : Type 0 where
   no_word : value_word (option_and_then read_piece (section.value (codes "pawn"))) ≡ None
   king_apart : (k : Kind) → section.letter (codes "pawn") ≡ Some k → names (section.letter (codes "king")) k ≡ false
   soldier_apart : (k : Kind) → section.letter (codes "pawn") ≡ Some k → names (section.letter (codes "soldier")) k ≡ false
-
-abbrev number_of_letter : Option Kind → ℕ
-number_of_letter None = 0
-number_of_letter (Some k) = k.0
-
-named_letter : (letter : Option Kind) (k : Kind) → names letter k ≡ true → letter ≡ Some k
-named_letter None k e = cc
-named_letter (Some j) k e = ap (λ n. Some (kind n)) ((Decides-eqb j.0 k.0).0 e)
-
-named_itself : (letter : Option Kind) (k : Kind) → letter ≡ Some k → names letter k ≡ true
-named_itself None k e = cc
-named_itself (Some j) k e = let same : j.0 ≡ k.0 = ap number_of_letter e in (Decides-eqb j.0 k.0).1 same
 
 none_or : (value word : Option (List ℕ)) → value ≡ None → option_or value word ≡ word
 none_or None word e = refl
@@ -258,7 +230,7 @@ module _ (section : Resolved) (start : Position) (tidy : IsTidy section) where
   held_below_by k None h e = cc
   held_below_by k (Some piece) h e =
       let passes = found_passes (λ row. names (section.letter row.key) k) pieces piece h in
-      is_letter (section.letter piece.key) k (named_letter (section.letter piece.key) k passes) (tidy.letters piece.key)
+      is_letter (section.letter piece.key) k (named (section.letter piece.key) k passes) (tidy.letters piece.key)
 
   -- a letter that a piece has is one of the rules
   held_kind : (k : Kind) → has_piece section k ≡ true → has_kind rules k ≡ true
@@ -268,7 +240,9 @@ module _ (section : Resolved) (start : Position) (tidy : IsTidy section) where
   piece_there_by : (i : ℕ) (letter : Option Kind) → i < 56 → section.letter (piece_row i).key ≡ letter → is_there rules letter ≡ true
   piece_there_by i None l e = refl
   piece_there_by i (Some k) l e =
-      held_kind k (finds (λ piece. names (section.letter piece.key) k) pieces i (wordless []) l (named_itself (section.letter (piece_row i).key) k e))
+      let has : PieceRow → Bool = λ piece. names (section.letter piece.key) k in
+      let itself = named_itself (section.letter (piece_row i).key) k e in
+      held_kind k (sym (list_any_found has pieces) ∙ list_any_at has pieces i (wordless []) l itself)
 
   piece_there : (i : ℕ) → i < 56 → is_there rules (section.letter (piece_row i).key) ≡ true
   piece_there i l = piece_there_by i (section.letter (piece_row i).key) l refl
@@ -319,7 +293,7 @@ module _ (section : Resolved) (start : Position) (tidy : IsTidy section) where
   pawn_fits k piece true n h bad =
       let row : Some piece ≡ Some (wordless (codes "pawn")) = sym h ∙ pawn_first section k n in
       let same : piece ≡ wordless (codes "pawn") = cc in
-      let apart : is_king rules k ≡ false = tidy.king_apart k (named_letter (section.letter (codes "pawn")) k n) in
+      let apart : is_king rules k ≡ false = tidy.king_apart k (named (section.letter (codes "pawn")) k n) in
       and_from _ _ (and_from _ _ (ap not apart) (pawn_terms piece same)) (no_promotion k (promoted_by (held_pairs section) k) n bad)
 
   same_itself : (b : Bool) → same_bool b b ≡ true
@@ -417,7 +391,7 @@ any_start : (section : Resolved) (start : Position) → contradiction (rules_fro
 unfolding contradiction has_no_piece promotes_to_pawn_or_king chains_promotions gates_amiss castling_on rules_from
 any_start section start = refl
 
-chain_is_tidy : (sections : List Section) (place : ℕ) → ((n : ℕ) → IsGoodChain n sections place) → IsTidy (resolved sections place)
+chain_is_tidy : (sections : List Section) (place : ℕ) → IsFaultless sections place → IsTidy (resolved sections place)
 chain_is_tidy sections place good = record {
   letters = λ piece. piece_letter_below sections place piece;
   no_word = pawn_has_no_word sections place good;
@@ -425,17 +399,15 @@ chain_is_tidy sections place good = record {
   soldier_apart = λ k e. pawn_apart sections place 25 k (omega arith) good e;
 }
 
-no_rules_fault : (found : Option ℕ) → option_map (λ number. Inconsistent number) found ≡ None → found ≡ None
-no_rules_fault None e = refl
-no_rules_fault (Some number) e = cc
-
 -- the rules of a section without a fault before its start fit, with any start
-pub faultless_fits : (sections : List Section) (place : ℕ) (start : Position) → first_fault sections place (is_refused sections) ≡ None → IsFit (rules_from (resolved sections place) start)
-faultless_fits sections place start e =
-    let own = (no_either (header_fault sections place (is_refused sections)) _ e).1 in
-    let rules = (no_either (own_fault (section_at sections place).lines) (rules_fault (resolved sections place)) own).1 in
-    no_contradiction (resolved sections place) start (chain_is_tidy sections place (λ n. chain_is_good n sections place e))
-    (any_start (resolved sections place) start ∙ no_rules_fault (contradiction (bare_rules (resolved sections place)) (held_pairs (resolved sections place))) rules)
+pub faultless_fits : (sections : List Section) (place : ℕ) (start : Position) → IsFaultless sections place
+    → IsFit (rules_from (resolved sections place) start)
+faultless_fits sections place start good =
+    let section = resolved sections place in
+    no_contradiction section start (chain_is_tidy sections place good)
+    (any_start section start
+    ∙ none_mapped Inconsistent (contradiction (bare_rules section) (held_pairs section))
+    (rules_faultless sections place good))
 
 abbrev rules_in : Rules → Result Rules SectionFault → Rules
 rules_in other (Ok found) = found

@@ -2,7 +2,6 @@
 use Rattle.std.proofs.Common.{◌≡◌, ℕ, zero, suc, ◌+◌, ◌<◌, ◌≤◌, min, max, Bool, true, false, not, ◌&&◌, ◌||◌, ◌==◌, nat_lt, nat_le, nat_abs, pos, List, [], ◌∷◌, Option, Some, None, Result, Ok, Err, is_some, map, filter, length, refl, sym, subst, ◌∙◌, arith, inl, inr}
 use Rattle.std.specs.Prelude.{if◌then◌else◌, slice_index}
 use Rattle.std.specs.List.{list_all}
-use Rattle.std.specs.Option.{option_or}
 use Rattle.std.proofs.lemmas.Bool.{and_parts, and_from, or_cases}
 use Rattle.std.proofs.lemmas.Bool.Decides.{nat_tests, Decides-eqb}
 use Rattle.std.proofs.lemmas.List.Folds.{list_all-append}
@@ -25,6 +24,7 @@ use Rattle.betza_text.specs.Word.{first_length, first_part, first_terms, rest_of
 use Rattle.betza_compile.specs.Terms.{limit_of, limit_with, term_of, terms, terms_of_part, way_of, way_with}
 use Rattle.variant_options.specs.BetzaWords.{parts_from, parts_of, terms_of_parts, unless_bad, with_part}
 use Rattle.variant_model.specs.PieceRules.{or_no_terms, word_terms}
+use Rattle.variant_model.proofs.ListLemmas.{no_either, not_some}
 
 -- ---- choices
 
@@ -35,10 +35,6 @@ either_way P false x y p q = q
 pub no_first : {X : Type 0} (b : Bool) (x : X) (rest : Option X) → (if b then Some x else rest) ≡ None → (b ≡ false) × (rest ≡ None)
 no_first true x rest e = cc
 no_first false x rest e = (refl, e)
-
-pub no_either : {X : Type 0} (a b : Option X) → option_or a b ≡ None → (a ≡ None) × (b ≡ None)
-no_either None b e = (refl, e)
-no_either (Some x) b e = cc
 
 pub all_filtered : {X : Type 0} (p q : X → Bool) (xs : List X) → list_all p xs ≡ true → list_all p (filter q xs) ≡ true
 all_filtered p q [] h = refl
@@ -121,9 +117,9 @@ not_far false true numbered a b c = cc
 not_far false false true a b c = cc
 not_far true doubled numbered a b c = cc
 
-not_some : (b : Bool) → not b ≡ true → b ≡ false
-not_some true e = cc
-not_some false e = refl
+not_so : (b : Bool) → not b ≡ true → b ≡ false
+not_so true e = cc
+not_so false e = refl
 
 lame_is : (part : Part) → can_be_lame part ≡ true → IsLame part
 unfolding can_be_lame is_far
@@ -133,7 +129,7 @@ lame_is part e =
     let atom = lame_atom_fits part.atom rest.0 in
     record {
       steps = atom.0;
-      number = not_some (is_some part.number) first.1;
+      number = not_so (is_some part.number) first.1;
       far = not_far (is_rider part.atom) part.doubled (is_some part.number) atom.1 rest.1 first.1;
     }
 
@@ -151,10 +147,6 @@ far_by_number true doubled number e = cc
 far_by_number false true number e = cc
 far_by_number false false None e = refl
 far_by_number false false (Some n) e = cc
-
-no_number : (number : Option ℕ) → is_some number ≡ false → number ≡ None
-no_number None e = refl
-no_number (Some n) e = cc
 
 way_fits : (lame : Bool) (hop : HopKind) (number : Option ℕ) (far : Bool) (long short : ℕ) → (lame ≡ true → (number ≡ None) × (far ≡ false) × (is_lame_step long short ≡ true)) → (far ≡ false → number ≡ None) → fits_way (if lame then Lame else way_with hop far) (limit_with number far) long short ≡ true
 way_fits true hop number far long short h n = let l = h refl in rw (l.0, l.1) l.2
@@ -176,7 +168,7 @@ term_fits part s good fits lame =
     let limit = limit_fits part.number (is_far part) good.number in
     let way =
     way_fits part.lame part.hop part.number (is_far part) (max (nat_abs s.dx) (nat_abs s.dy)) (min (nat_abs s.dx) (nat_abs s.dy))
-    (λ e. let l = lame_is part (good.lame e) in (no_number part.number l.number, l.far, lame e)) (far_none part) in
+    (λ e. let l = lame_is part (good.lame e) in (not_some part.number l.number, l.far, lame e)) (far_none part) in
     and_from _ _ (and_from _ _ (and_from _ _ (and_from _ _ fits (le_true _ _ limit.0)) (le_true _ _ limit.1)) way) good.purpose
 
 terms_fit : (part : Part) (steps : List Step) → IsGoodPart part → list_all step_fits steps ≡ true → (part.lame ≡ true → list_all lame_fits steps ≡ true) → list_all fits_term (map (term_of part) steps) ≡ true

@@ -1,10 +1,10 @@
--- What the chain of parents of an accepted section says: none of its lines has a fault, a piece's letter is that of its
--- value, and no two pieces have one letter.
+-- What the chain of parents of a section says where the section has no fault before its start: none of its lines has a
+-- fault, a piece's letter is that of its value, and no two pieces have one letter.
 use Rattle.std.proofs.Common.{◌≡◌, ℕ, zero, suc, ◌+◌, ◌<◌, ◌≤◌, Bool, true, false, not, ◌&&◌, ◌||◌, List, [], ◌∷◌, Option, Some, None, Result, is_err, refl, sym, ap, ◌∙◌, arith, inl, inr, option_and_then, count_by}
 use Rattle.std.specs.Prelude.{if◌then◌else◌}
 use Rattle.std.specs.Option.{option_map, option_or}
 use Rattle.std.specs.Str.{bytes_eq}
-use Rattle.std.proofs.lemmas.Bool.{and_from, both_ways, eq-eqb, cases_eq, eqb-true, false_from_ne_true, ltb-false, or_left}
+use Rattle.std.proofs.lemmas.Bool.{and_from, eq-eqb, cases_eq, eqb-true, false_from_ne_true, ltb-false, or_left}
 use Rattle.std.proofs.lemmas.Option.{option_and_then_some}
 use Rattle.std.proofs.lemmas.Slice.Eq.{bytes_eq-Decides}
 use Rattle.foundation.specs.Count.{first_below, or_else}
@@ -14,34 +14,38 @@ use Rattle.rules_model.specs.Kinds.{names}
 use Rattle.variant_ini.specs.declared.key_line.KeyLine.{KeyLine}
 use Rattle.variant_ini.specs.Section.{Section, key_line, last_value, or_here}
 use Rattle.variant_ini.specs.OptionValue.{option_value, own_or, parent_place, value_within}
-use Rattle.variant_options.specs.declared.fault.LineFault.{LineFault}
 use Rattle.variant_options.specs.Letters.{kind}
 use Rattle.variant_options.specs.LineFaults.{line_fault}
 use Rattle.variant_options.specs.PieceTable.{PieceRow, pieces}
 use Rattle.variant_model.specs.declared.fault.SectionFault.{SectionFault}
-use Rattle.variant_model.specs.declared.fault.SectionFault.TheVariants.{LetterTwice}
-use Rattle.variant_model.specs.Entry.{accepted, entry, first_fault, header_fault, is_refused, letter_fault, lines_fault, own_fault, rules_fault, unless_fault, with_key}
+use Rattle.variant_model.specs.declared.fault.SectionFault.TheVariants.{DuplicateName, LetterTwice, RefusedParent}
+use Rattle.variant_model.specs.Entry.{accepted, entry, fault_where, first_fault, header_fault, is_duplicate, is_refused, letter_fault, lines_fault, own_fault, parent_fault, rules_fault, unless_fault, with_key}
 use Rattle.variant_model.specs.Made.{resolved}
 use Rattle.variant_model.specs.PieceLetters.{gives_letter, is_given_twice, letter_in, letter_twice, letter_with, letter_within, lines_of, own_letter, piece_letter, unless_given}
-use Rattle.variant_model.proofs.EntryLaws.{entry_by_fault, refused_below}
-use Rattle.variant_model.proofs.ListLemmas.{count_by-never, count_by-none, count_by-or, no_either}
+use Rattle.variant_model.proofs.EntryLaws.{entry_by_fault, parent_refused}
+use Rattle.variant_model.proofs.ListLemmas.{count_by-never, count_by-none, count_by-or, no_either, none_mapped}
 
--- ---- accepted sections
+-- ---- sections without a fault
+
+-- a section has no fault, but perhaps one of its start
+abbrev pub IsFaultless : List Section → ℕ → Type 0
+IsFaultless sections place = first_fault sections place (is_refused sections) ≡ None
 
 faultless_by : (fault : Option SectionFault) (rules answer : Result Rules SectionFault)
     → answer ≡ unless_fault fault rules → is_err answer ≡ false → fault ≡ None
 faultless_by None rules answer e h = refl
 faultless_by (Some fault) rules answer e h = let bad : is_err answer ≡ true = ap is_err e in cc
 
-module _ (sections : List Section) (place : ℕ) (accepts : is_refused sections place ≡ false) where
-  pub faultless : first_fault sections place (is_refused sections) ≡ None
-  faultless =
-      faultless_by (first_fault sections place (is_refused sections)) (accepted (resolved sections place))
-      (entry sections place)
-      (entry_by_fault sections place (first_fault sections place (is_refused sections)) refl) accepts
+-- an accepted section has no fault
+pub faultless : (sections : List Section) (place : ℕ) → is_refused sections place ≡ false → IsFaultless sections place
+faultless sections place accepts =
+    faultless_by (first_fault sections place (is_refused sections)) (accepted (resolved sections place))
+    (entry sections place)
+    (entry_by_fault sections place (first_fault sections place (is_refused sections)) refl) accepts
 
+module _ (sections : List Section) (place : ℕ) (good : IsFaultless sections place) where
   below_header : option_or (own_fault (lines_of sections place)) (rules_fault (resolved sections place)) ≡ None
-  below_header = (no_either (header_fault sections place (is_refused sections)) _ faultless).1
+  below_header = (no_either (header_fault sections place (is_refused sections)) _ good).1
 
   own_faultless : own_fault (lines_of sections place) ≡ None
   own_faultless = (no_either (own_fault (lines_of sections place)) _ below_header).0
@@ -55,10 +59,19 @@ module _ (sections : List Section) (place : ℕ) (accepts : is_refused sections 
   letters_faultless : letter_fault (lines_of sections place) ≡ None
   letters_faultless = (no_either (lines_fault (lines_of sections place)) _ own_faultless).1
 
-  parent_accepted : (parent : ℕ) → parent_place sections place ≡ Some parent → is_refused sections parent ≡ false
-  parent_accepted parent is =
-      false_from_ne_true (is_refused sections parent)
-      (λ refused. both_ways (is_refused sections place) accepts (refused_below sections place parent is refused))
+  no_parent_fault : parent_fault sections place (is_refused sections) ≡ None
+  no_parent_fault =
+      (no_either (fault_where (is_duplicate sections place) DuplicateName) _
+      (no_either (header_fault sections place (is_refused sections)) _ good).0).1
+
+  -- nor has its parent
+  parent_faultless : (parent : ℕ) → parent_place sections place ≡ Some parent → IsFaultless sections parent
+  parent_faultless parent is =
+      faultless sections parent
+      (false_from_ne_true (is_refused sections parent)
+      (λ refused.
+      let bad : Some RefusedParent ≡ None = sym (parent_refused sections place parent is refused) ∙ no_parent_fault in
+      cc))
 
 -- ---- the lines along the chain
 
@@ -84,10 +97,6 @@ pub found_or_here : (found : Option (List ℕ)) (line : KeyLine) (key value : Li
 found_or_here (Some other) line key value P before here e = before e
 found_or_here None line key value P before here e = here (same_here line key value (bytes_eq line.key key) refl e)
 
-no_mapped : (key : List ℕ) (fault : Option LineFault) → option_map (with_key key) fault ≡ None → fault ≡ None
-no_mapped key None e = refl
-no_mapped key (Some fault) e = cc
-
 -- the last line with a key has no fault where none has
 value_line_good : (lines : List KeyLine) (key value : List ℕ) → lines_fault lines ≡ None
     → last_value lines key ≡ Some value → IsGoodPair key value
@@ -97,7 +106,7 @@ value_line_good (line ∷ lines) key value good e =
     let parts = no_either (option_map (with_key line.key) (line_fault line)) (lines_fault lines) good in
     found_or_here (last_value lines key) line key value (IsGoodPair key value)
     (λ found. value_line_good lines key value parts.1 found)
-    (λ here. ap line_fault (sym here) ∙ no_mapped line.key (line_fault line) parts.0) e
+    (λ here. ap line_fault (sym here) ∙ none_mapped (with_key line.key) (line_fault line) parts.0) e
 
 pub own_or_inherited : (own inherited : Option (List ℕ)) (value : List ℕ) (P : Type 0) → (own ≡ Some value → P)
     → (inherited ≡ Some value → P) → own_or own inherited ≡ Some value → P
@@ -105,25 +114,25 @@ own_or_inherited (Some other) inherited value P f g e = f e
 own_or_inherited None inherited value P f g e = g e
 
 module _ (sections : List Section) (key value : List ℕ) where
-  value_within_good : (n place : ℕ) → is_refused sections place ≡ false → value_within n sections key place ≡ Some value
+  value_within_good : (n place : ℕ) → IsFaultless sections place → value_within n sections key place ≡ Some value
       → IsGoodPair key value
   unfolding value_within
-  value_within_good zero place accepts e = cc
-  value_within_good (suc n) place accepts e =
+  value_within_good zero place good e = cc
+  value_within_good (suc n) place good e =
       own_or_inherited (last_value (lines_of sections place) key)
       (option_and_then (value_within n sections key) (parent_place sections place))
       value (IsGoodPair key value)
-      (λ own. value_line_good (lines_of sections place) key value (lines_faultless sections place accepts) own)
+      (λ own. value_line_good (lines_of sections place) key value (lines_faultless sections place good) own)
       (λ inherited.
       option_and_then_some (value_within n sections key) (parent_place sections place) value inherited
-      (λ parent is found. value_within_good n parent (parent_accepted sections place accepts parent is) found))
+      (λ parent is found. value_within_good n parent (parent_faultless sections place good parent is) found))
       e
 
-  -- a value of an accepted section is one of its key
-  pub value_good : (place : ℕ) → is_refused sections place ≡ false → option_value sections place key ≡ Some value
+  -- a value of a section without a fault is one of its key
+  pub value_good : (place : ℕ) → IsFaultless sections place → option_value sections place key ≡ Some value
       → IsGoodPair key value
   unfolding option_value
-  value_good place accepts e = value_within_good (place + 1) place accepts e
+  value_good place good e = value_within_good (place + 1) place good e
 
 -- ---- a piece's letter is that of its value
 
@@ -172,7 +181,7 @@ pub named : (letter : Option Kind) (k : Kind) → names letter k ≡ true → le
 named None k e = cc
 named (Some j) k e = ap (λ n. Some (kind n)) (eqb-true j.0 k.0 e)
 
-named_itself : (letter : Option Kind) (k : Kind) → letter ≡ Some k → names letter k ≡ true
+pub named_itself : (letter : Option Kind) (k : Kind) → letter ≡ Some k → names letter k ≡ true
 named_itself letter k e = ap (λ o. names o k) e ∙ eq-eqb k.0 k.0 refl
 
 -- a letter that is inherited and not given away
@@ -244,15 +253,11 @@ none_below f (suc n) k e l =
       | inr other ↦ none_below f n k parts.0 (omega (arith, l, other))
     ]
 
-no_letter_fault : (letter : Option ℕ) → option_map (λ k. LetterTwice (kind k)) letter ≡ None → letter ≡ None
-no_letter_fault None e = refl
-no_letter_fault (Some k) e = cc
-
 own_once : (lines : List KeyLine) (k : ℕ) → letter_fault lines ≡ None → k < 26 → IsOnce (own_letter lines) (kind k)
 unfolding letter_twice
 own_once lines k e below =
     ltb-false 1 (count_by (λ piece. names (own_letter lines piece.key) (kind k)) pieces)
-    (none_below (is_given_twice lines) 26 k (no_letter_fault (letter_twice lines) e) below)
+    (none_below (is_given_twice lines) 26 k (none_mapped (λ k. LetterTwice (kind k)) (letter_twice lines) e) below)
 
 parent_once : (letter : List ℕ → ℕ → Option Kind) (parent : Option ℕ) (k : Kind)
     → ((place : ℕ) → parent ≡ Some place → IsOnce (λ piece. letter piece place) k)
@@ -261,18 +266,18 @@ parent_once letter None k above = none_has k
 parent_once letter (Some place) k above = above place refl
 
 module _ (sections : List Section) (k : ℕ) (below : k < 26) where
-  within_once : (n place : ℕ) → is_refused sections place ≡ false
+  within_once : (n place : ℕ) → IsFaultless sections place
       → IsOnce (λ piece. letter_within n sections piece place) (kind k)
   unfolding letter_within
-  within_once zero place accepts = none_has (kind k)
-  within_once (suc n) place accepts =
+  within_once zero place good = none_has (kind k)
+  within_once (suc n) place good =
       letter_once (lines_of sections place)
       (λ piece. option_and_then (letter_within n sections piece) (parent_place sections place)) (kind k)
-      (own_once (lines_of sections place) k (letters_faultless sections place accepts) below)
+      (own_once (lines_of sections place) k (letters_faultless sections place good) below)
       (parent_once (letter_within n sections) (parent_place sections place) (kind k)
-      (λ parent is. within_once n parent (parent_accepted sections place accepts parent is)))
+      (λ parent is. within_once n parent (parent_faultless sections place good parent is)))
 
-  -- no two pieces of an accepted section have one letter
-  pub letters_once : (place : ℕ) → is_refused sections place ≡ false → IsOnce (piece_letter sections place) (kind k)
+  -- no two pieces of a section without a fault have one letter
+  pub letters_once : (place : ℕ) → IsFaultless sections place → IsOnce (piece_letter sections place) (kind k)
   unfolding piece_letter
-  letters_once place accepts = within_once (place + 1) place accepts
+  letters_once place good = within_once (place + 1) place good

@@ -54,7 +54,8 @@ module _ (sections : List Section) where
   pub entry_by_fault : (place : ℕ) (fault : Option SectionFault) → first_fault sections place (is_refused sections) ≡ fault → entry sections place ≡ unless_fault fault (accepted (resolved sections place))
   entry_by_fault place fault e = entry_is place ∙ ap (λ first. unless_fault first (accepted (resolved sections place))) e
 
-  parent_refused : (place parent : ℕ) → parent_place sections place ≡ Some parent → is_refused sections parent ≡ true → parent_fault sections place (is_refused sections) ≡ Some RefusedParent
+  pub parent_refused : (place parent : ℕ) → parent_place sections place ≡ Some parent
+      → is_refused sections parent ≡ true → parent_fault sections place (is_refused sections) ≡ Some RefusedParent
   unfolding parent_place
   parent_refused place parent e refused =
       ap (λ found. parent_fault_by (section_at sections place).parent found (is_refused sections)) e

@@ -17,6 +17,10 @@ pub not_some : {X : Type 0} (o : Option X) → is_some o ≡ false → o ≡ Non
 not_some None e = refl
 not_some (Some x) e = cc
 
+pub none_mapped : {X Y : Type 0} (f : X → Y) (o : Option X) → option_map f o ≡ None → o ≡ None
+none_mapped f None e = refl
+none_mapped f (Some x) e = cc
+
 pub option_map-same : {X Y : Type 0} (f g : X → Y) (o : Option X) → ((x : X) → o ≡ Some x → f x ≡ g x)
     → option_map f o ≡ option_map g o
 option_map-same f g None same = refl

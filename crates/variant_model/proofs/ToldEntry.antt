@@ -93,7 +93,7 @@ module _ (sections : List Section) (place : ℕ) (accepts : is_refused sections 
       let row = get_or pieces i (wordless []) in
       ap (λ o. names o (kind k)) (told_letter sections place row.key (row_is_piece i l)))
       in
-      let once = letters_once sections k below place accepts in
+      let once = letters_once sections k below place (faultless sections place accepts) in
       le-ltb 1 (count_by own pieces) (omega (arith, same, once))
 
   told_letters : letter_fault (told_lines sections place) ≡ None
@@ -128,7 +128,8 @@ module _ (sections : List Section) (place : ℕ) (accepts : is_refused sections 
     }
 
     retold_rules : rules_fault retold ≡ None
-    retold_rules = rules_fault_same retold teller says_same ∙ rules_faultless sections place accepts
+    retold_rules =
+        rules_fault_same retold teller says_same ∙ rules_faultless sections place (faultless sections place accepts)
 
     retold_faultless : first_fault again 0 (is_refused again) ≡ None
     retold_faultless =

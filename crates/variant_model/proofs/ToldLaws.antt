@@ -25,7 +25,7 @@ use Rattle.variant_options.proofs.KeyLemmas.{keys_long}
 use Rattle.variant_model.specs.Entry.{is_refused, lines_fault, with_key}
 use Rattle.variant_model.specs.PieceLetters.{letter_in, own_letter, piece_letter}
 use Rattle.variant_model.specs.Told.{lacks_piece, lacks_row, line_of, told, told_of, told_value, with_value}
-use Rattle.variant_model.proofs.ChainLaws.{IsGoodPair, letter_of_value, value_good}
+use Rattle.variant_model.proofs.ChainLaws.{IsGoodPair, faultless, letter_of_value, value_good}
 use Rattle.variant_model.proofs.ListLemmas.{found_in, found_passes, list_any_found, not_some}
 
 -- ---- the keys that are told
@@ -327,7 +327,7 @@ module _ (sections : List Section) (place : ℕ) where
     told_good =
         said_good (told_value sections place) ordered_keys
         (λ key value e.
-        value_good sections key value place accepts
+        value_good sections key value place (faultless sections place accepts)
         (unless_lacking (lacks_piece sections place key) (option_value sections place key) value e))
 
     option_step : (key : List ℕ) (among : Bool) → is_among key ordered_keys ≡ among → is_piece key ≡ false
@@ -341,7 +341,8 @@ module _ (sections : List Section) (place : ℕ) where
         let parts = or_parts (is_option key) (is_mobility_key key) (or_parts _ (is_piece key) none).0 in
         nothing_said (option_value sections place key)
         (λ value e.
-        unsupported key value no_piece parts.0 parts.1 unread (value_good sections key value place accepts e))
+        unsupported key value no_piece parts.0 parts.1 unread
+        (value_good sections key value place (faultless sections place accepts) e))
 
     -- the value of a key that is not a piece's is told, where it is not read over
     pub told_option : (key : List ℕ) → is_piece key ≡ false → is_skipped key ≡ false

@@ -141,7 +141,7 @@ module _ (sections : List Section) (place : ℕ) (accepts : is_refused sections 
       ends_alike text
       ∙ value_ends (piece_named key) (option_kind key) (is_skipped key) text (kind_of_told key among)
       (λ position. start_ends text (ap (option_value sections place) (sym (position_key key position)) ∙ is))
-      (value_good sections key text place accepts is)
+      (value_good sections key text place (faultless sections place accepts) is)
 
   pub told_ends : All (λ (pair : List ℕ × List ℕ). ends_with_byte 13 pair.1 ≡ false) (told sections place)
   unfolding told told_of
