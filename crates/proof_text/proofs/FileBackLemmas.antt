@@ -17,13 +17,13 @@ use Rattle.variant_ini.specs.Cuts.{trimmed, without_blanks}
 use Rattle.variant_ini.specs.FileLines.{IsFileLine, is_feed}
 use Rattle.variant_ini.specs.LineKind.{LineKind, comment, foreign, header_of, inside_header, is_comment, kind_from, line_kind, pair, pair_from, pair_of, text_kind}
 use Rattle.variant_ini.specs.Section.{Section}
+use Rattle.variant_ini.proofs.TrimLemmas.{BeginsBare, IsBare, bare-first, bare-trimmed, trimmed-bare}
 use Rattle.variant_options.specs.Keys.{all_keys, in_order, key_inserted, ordered_keys}
 use Rattle.variant_options.specs.Options.{options}
 use Rattle.variant_model.specs.Told.{line_of, told}
 use Rattle.proof_text.specs.Pairs.{compact, is_pair, is_read_back}
 use Rattle.proof_text.proofs.PairBackLemmas.{AreToldBack, IsPlain, IsToldBack, compact-long, is_plain, last-append, last_of, plain-parts}
 use Rattle.proof_text.proofs.ToldBackLemmas.{KeyPasses, keys-plain, told-passes}
-use Rattle.proof_text.proofs.TrimLemmas.{BeginsBare, IsBare, bare-first, bare-trimmed, trimmed-bare}
 
 -- the key begins no comment and no header, and has no byte above 127
 abbrev pub is_firm : List ℕ → Bool

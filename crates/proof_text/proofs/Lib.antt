@@ -7,7 +7,6 @@ pub mod PairLemmas
 pub mod TakingLemmas
 pub mod HistoryLemmas
 pub mod WriteLemmas
-pub mod TrimLemmas
 pub mod PairBackLemmas
 pub mod FileBackLemmas
 pub mod FollowLemmas

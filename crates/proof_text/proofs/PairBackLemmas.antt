@@ -17,9 +17,9 @@ use Rattle.strategy.proofs.LineLaws.{IsLine}
 use Rattle.variant_ini.specs.Cuts.{trimmed}
 use Rattle.variant_ini.specs.LineKind.{comment, foreign, header_of, is_comment, kind_from, line_kind, pair_from, pair_of, text_kind}
 use Rattle.variant_ini.specs.Section.{key_line}
+use Rattle.variant_ini.proofs.TrimLemmas.{IsBare, bare-trimmed, blank-after, blank-before, trimmed-bare, trimmed-short}
 use Rattle.proof_text.specs.Pairs.{compact, if_read_back, is_pair, is_read_back, pair_said}
 use Rattle.proof_text.specs.Writing.{pair_text}
-use Rattle.proof_text.proofs.TrimLemmas.{IsBare, bare-trimmed, blank-after, blank-before, trimmed-bare, trimmed-short}
 
 -- ---- keys
 

@@ -1,10 +1,10 @@
 -- The lines that a file gives to its sections.
-use Rattle.std.proofs.Common.{◌≡◌, ℕ, zero, suc, ◌+◌, ◌-◌, ◌<◌, ◌≤◌, ◌==◌, nat_lt, nat_le, Bool, true, false, List, [], ◌∷◌, ◌++◌, Option, None, Some, length, map, take, drop, reverse, slice_index, refl, sym, ap, ◌∙◌, subst, arith, if◌then◌else◌, position}
+use Rattle.std.proofs.Common.{◌≡◌, ℕ, zero, suc, ◌+◌, ◌-◌, ◌<◌, ◌≤◌, ◌==◌, nat_lt, nat_le, Bool, true, false, List, [], ◌∷◌, ◌++◌, Option, None, Some, length, map, take, drop, reverse, slice_index, refl, ap, ◌∙◌, subst, arith, if◌then◌else◌, position}
 use Rattle.std.specs.List.{All, list_any, onto_first}
 use Rattle.std.specs.Str.Lines.{strip_carriage_return}
 use Rattle.std.proofs.lemmas.Bool.{ltb-false, or_from, or_parts}
 use Rattle.std.proofs.lemmas.Grind.{reverse_onto}
-use Rattle.std.proofs.lemmas.List.{length-drop, length-reverse, length-take, reverse-reverse}
+use Rattle.std.proofs.lemmas.List.{length-drop, length-take}
 use Rattle.std.proofs.lemmas.List.Elements.{All-cons, All-head, All-tail}
 use Rattle.std.proofs.lemmas.List.Folds.{list_any-append}
 use Rattle.std.proofs.lemmas.List.Quantifiers.{position-Some}
@@ -15,6 +15,7 @@ use Rattle.variant_ini.specs.FileLines.{AreFileLines, IsFileLine, is_feed}
 use Rattle.variant_ini.specs.LineKind.{LineKind, bad, comment, foreign, header, is_comment, kind_from, line_kind, pair, pair_from, pair_of, header_of, text_kind}
 use Rattle.variant_ini.specs.Reading.{fault_of, first_fault, first_of, line_fault, pairs_of, sections_in, sections_in_lines, sections_of}
 use Rattle.variant_ini.specs.Section.{Section, key_line}
+use Rattle.variant_ini.proofs.TrimLemmas.{bare-trimmed, trimmed-bare, trimmed-short}
 
 -- ---- what no byte of a text is, no byte of a part of it is
 
@@ -63,84 +64,12 @@ module _ (test : ℕ → Bool) where
 
 -- ---- lengths
 
-shorter-without_blanks : (text : List ℕ) → length (without_blanks text) ≤ length text
-shorter-without_blanks [] = omega arith
-shorter-without_blanks (b ∷ bs) = shorter_where (is_blank b) (shorter-without_blanks bs)
-  where
-    shorter_where : (blank : Bool) → length (without_blanks bs) ≤ length bs
-        → length (if blank then without_blanks bs else b ∷ bs) ≤ suc (length bs)
-    shorter_where true less = omega (arith, less)
-    shorter_where false less = omega arith
-
-shorter-trimmed : (text : List ℕ) → length (trimmed text) ≤ length text
-unfolding trimmed
-shorter-trimmed text =
-    let outer = shorter-without_blanks (reverse (without_blanks text)) in
-    let inner = shorter-without_blanks text in
-    omega (
-      arith,
-      outer,
-      inner,
-      length-reverse (without_blanks text),
-      length-reverse (without_blanks (reverse (without_blanks text))),
-    )
-
 shorter-strip : (text : List ℕ) → length (strip_carriage_return text) ≤ length text
 shorter-strip text = shorter_where (slice_index text (length text - 1) == 13)
   where
     shorter_where : (ends : Bool) → length (if ends then take (length text - 1) text else text) ≤ length text
     shorter_where true = omega (arith, length-take (length text - 1) text)
     shorter_where false = omega arith
-
--- ---- a text that is trimmed is trimmed once
-
--- without blanks, nothing more is left out
-once : (text : List ℕ) → without_blanks (without_blanks text) ≡ without_blanks text
-once [] = refl
-once (b ∷ bs) = once_where (is_blank b) refl (once bs)
-  where
-    once_where : (blank : Bool) → is_blank b ≡ blank → without_blanks (without_blanks bs) ≡ without_blanks bs
-        → without_blanks (if blank then without_blanks bs else b ∷ bs) ≡ (if blank then without_blanks bs else b ∷ bs)
-    once_where true is others = others
-    once_where false is others = ap (λ c. if c then without_blanks bs else b ∷ bs) is
-
--- a text that begins with no blank, and loses its last byte, begins with none
-begins : (front : List ℕ) (b : ℕ) → without_blanks (front ++ b ∷ []) ≡ front ++ b ∷ [] → without_blanks front ≡ front
-begins [] b is = refl
-begins (a ∷ rest) b is = begins_where (is_blank a) refl is
-  where
-    begins_where : (blank : Bool) → is_blank a ≡ blank
-        → (if blank then without_blanks (rest ++ b ∷ []) else a ∷ rest ++ b ∷ []) ≡ a ∷ rest ++ b ∷ []
-        → without_blanks (a ∷ rest) ≡ a ∷ rest
-    begins_where true is whole =
-        let less = shorter-without_blanks (rest ++ b ∷ []) in
-        let same : length (without_blanks (rest ++ b ∷ [])) ≡ suc (length (rest ++ b ∷ [])) = ap length whole in
-        absurd (omega (arith, less, same))
-    begins_where false is whole = ap (λ c. if c then without_blanks rest else a ∷ rest) is
-
-keeps_its_front : (back : List ℕ) → without_blanks (reverse back) ≡ reverse back
-    → without_blanks (reverse (without_blanks back)) ≡ reverse (without_blanks back)
-keeps_its_front [] is = is
-keeps_its_front (b ∷ bs) is =
-    keeps_where (is_blank b)
-    (keeps_its_front bs (begins (reverse bs) b (subst (λ text. without_blanks text ≡ text) (reverse_onto bs b []) is)))
-  where
-    keeps_where : (blank : Bool) → without_blanks (reverse (without_blanks bs)) ≡ reverse (without_blanks bs)
-        → without_blanks (reverse (if blank then without_blanks bs else b ∷ bs))
-        ≡ reverse (if blank then without_blanks bs else b ∷ bs)
-    keeps_where true others = others
-    keeps_where false others = is
-
-pub trimmed_once : (text : List ℕ) → trimmed (trimmed text) ≡ trimmed text
-unfolding trimmed
-trimmed_once text =
-    let front = without_blanks text in
-    let back = without_blanks (reverse front) in
-    let begin : without_blanks (reverse back) ≡ reverse back =
-    keeps_its_front (reverse front) (ap without_blanks (reverse-reverse front) ∙ once text ∙ sym (reverse-reverse front)) in
-    ap (λ t. reverse (without_blanks (reverse t))) begin
-    ∙ ap (λ t. reverse (without_blanks t)) (reverse-reverse back)
-    ∙ ap reverse (once (reverse front))
 
 -- ---- a pair that a line says
 
@@ -171,15 +100,17 @@ module _ (text : List ℕ) (short : length text ≤ 1024) (one_line : list_any i
           → IsFileLine (key_line key value)
       from_where true is = absurd (cc)
       from_where false is =
-          let words : (trimmed before, trimmed behind) ≡ (key, value) = cc in
+          let read : List ℕ × List ℕ = (trimmed before, trimmed behind) in
+          let wanted : List ℕ × List ℕ = (key, value) in
+          let words : read ≡ wanted = cc in
           let is_key : trimmed before ≡ key = ap (λ (w : List ℕ × List ℕ). w.0) words in
           let is_value : trimmed behind ≡ value = ap (λ (w : List ℕ × List ℕ). w.1) words in
-          let key_shorter = shorter-trimmed before in
-          let value_shorter = shorter-trimmed behind in
+          let key_shorter = trimmed-short before in
+          let value_shorter = trimmed-short behind in
           let room : length (trimmed before) + length (trimmed behind) < 1024 =
           omega (arith, less, short, key_shorter, value_shorter) in
           record {
-            trim = subst (λ v. trimmed v ≡ v) is_value (trimmed_once behind);
+            trim = subst (λ v. trimmed v ≡ v) is_value (bare-trimmed (trimmed behind) (trimmed-bare behind));
             one_line = subst (λ v. list_any is_feed v ≡ false) is_value (none-trimmed is_feed behind feeds);
             ascii = subst (λ v. list_any (nat_le 128) v ≡ false) is_value (none-trimmed (nat_le 128) behind high);
             short = subst (λ k. length k + length value < 1024) is_key
@@ -204,7 +135,7 @@ unfolding line_kind text_kind
 line_pair line key value good is =
     let text = trimmed (strip_carriage_return line) in
     let said = kind_pair (is_comment text) (list_any (nat_le 128) text) (header_of text) (pair_of text) key value is in
-    let shorter = shorter-trimmed (strip_carriage_return line) in
+    let shorter = trimmed-short (strip_carriage_return line) in
     let stripped = shorter-strip line in
     from_text text (let short = good.short in omega (arith, shorter, stripped, short))
     (none-trimmed is_feed _ (none-strip is_feed line good.one_line)) said.0 key value said.1

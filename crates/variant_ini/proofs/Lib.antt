@@ -5,4 +5,5 @@ pub mod OptionLaws
 pub mod ParentLaws
 pub mod ReadingLaws
 pub mod LoneLemmas
+pub mod TrimLemmas
 mod FileLaws
