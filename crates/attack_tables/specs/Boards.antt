@@ -23,9 +23,11 @@ pub record IsBoardBy (side : Side) (cells : List (Option Cell)) (men occupied : 
 
 -- this holds of each board that is so known
 abbrev pub OnEachBoard : Side → List (Option Cell) → Set → Set → (List (Option Cell) → Type 0) → Type 0
-OnEachBoard side cells men occupied Holds = (board : List (Option Cell)) → IsBoardBy side cells men occupied board → Holds board
+OnEachBoard side cells men occupied Holds =
+    (board : List (Option Cell)) → IsBoardBy side cells men occupied board → Holds board
 
 -- this holds of each of them on which a king of the other side stands on the square
-abbrev pub OnEachWithKing : Rules → Side → List (Option Cell) → Set → Set → ℕ → (List (Option Cell) → Type 0) → Type 0
+abbrev pub OnEachWithKing : Rules → Side → List (Option Cell) → Set → Set → ℕ → (List (Option Cell) → Type 0)
+    → Type 0
 OnEachWithKing rules side cells men occupied at Holds =
     OnEachBoard side cells men occupied (λ board. is_own_king rules (other side) (cell_at board at) ≡ true → Holds board)

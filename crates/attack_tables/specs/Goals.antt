@@ -14,8 +14,8 @@ use Rattle.move_tables.specs.declared.mode.Mode.TheVariants.{Quiet, Take}
 use Rattle.move_tables.specs.Occupied.{IsOccupied}
 use Rattle.move_tables.specs.Reached.{reaches_as}
 
--- to a square that is not occupied and is reached quietly, or to one of the enemies' that is reached to take; of a pawn the captures
--- alone
+-- to a square that is not occupied and is reached quietly, or to one of the enemies' that is reached to take; of a
+-- pawn the enemies' squares on its two diagonals alone
 abbrev pub is_goal : Rules → List (Option Cell) → Side → Kind → Square → Set → Set → ℕ → Bool
 is_goal rules cells side kind from occupied enemies t =
     (reaches_as rules cells side kind from Quiet t && not (has occupied t))

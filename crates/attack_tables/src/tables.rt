@@ -161,7 +161,7 @@ impl Tables {
 
     /// The squares to which a piece of the kind and the side goes from the square, on a board whose occupied squares
     /// are those of the set: those that are not occupied and that it reaches quietly, and those of the enemies' that
-    /// it reaches to take. Of a pawn they are its captures alone. No memory is taken.
+    /// it reaches to take. Of a pawn they are the enemies' squares on its two diagonals alone. No memory is taken.
     pub fn goals(&self, by: Side, kind: Kind, from: Square, occupied: Set, enemies: Set) -> Set
         requires kind { kind.0 < 26 }
         requires from { from.0 < 120 }

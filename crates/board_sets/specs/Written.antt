@@ -42,7 +42,8 @@ pub record AreWithout (old : BoardSets) (at : ℕ) (new : BoardSets) : Type 0 wh
 abbrev pub carried : ℕ → ℕ → List (Option Cell) → List (Option Cell)
 carried from to cells = slice_set (slice_set cells from None) to (cell_at cells from)
 
--- the new set has the square where the piece went if the old one had the square that it left, and not that square; the others stay
+-- the square where the piece went is in the new set exactly if the one that it left was in the old one; that one, if it
+-- is another, is out; the others stay
 abbrev pub IsCarried : Set → ℕ → ℕ → Set → Type 0
 IsCarried old from to new =
     (s : ℕ) → has new s ≡ (((has old s && not (s == from)) && not (s == to)) || (has old from && (s == to)))

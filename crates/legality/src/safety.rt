@@ -27,8 +27,9 @@ pub(crate) struct Safety<'a> {
     pub sets: BoardSets,
     /// The squares that a piece may leave or enter, and its king stays safe.
     pub free: FreeSquares,
-    /// Those of them where that is all that is asked, unless a piece goes to a barred square.
+    /// The free squares, where the variant asks of a move no more than a safe king; else none.
     pub at_once: FreeSquares,
+    /// The squares of own pieces, and that of en passant: what goes there is not told at once.
     pub barred: Set,
     ghost are_sets: { AreSets tables.now p.now.side p.now.cells sets },
     ghost go_freely: { Moved.GoFreely tables.now (repeat_of p.now) sets.own free.to_leave },
@@ -264,7 +265,8 @@ impl<'a> Safety<'a> {
 
     /// Whether the move leaves the own king safe, gives no check that the variant forbids, and, where the variant asks
     /// it, leaves a piece on its target that can ever move. Whether it is a candidate is not asked. Where the variant
-    /// asks no more than a safe king, a free piece needs no look at the board, and only a castle a copy of it.
+    /// asks no more than a safe king, a free piece and a drop on a free square need no look at the board, and only a
+    /// castle a copy of it.
     pub fn is_sane(&self, m: &Move) -> bool
         requires { IsFitMove m.now }
         ensures { result ≡ Legal.is_sane self.now.tables.now (repeat_of self.now.p.now) m.now }

@@ -3,7 +3,8 @@ ghost use Rattle.std.specs.Prelude.{◌≡◌};
 ghost use Rattle.rules_model.specs.Repeats.{repeat_of};
 ghost use Rattle.board_sets.specs.Sets.{AreSets};
 ghost use Rattle.legality.specs.Moved as Moved;
-ghost use Rattle.legality.specs.Moved.{AreOwn, DropFreely, GateAtOnce, GateFreely, GoAtOnce, GoFreely, HoldNoKing, IsBarred};
+ghost use Rattle.legality.specs.Moved.{AreOwn, DropFreely, GateAtOnce, GateFreely, GoAtOnce, GoFreely};
+ghost use Rattle.legality.specs.Moved.{HoldNoKing, IsBarred};
 
 use attack_tables::Tables;
 use board_sets::{BoardSets, sets_are_on_board};
@@ -17,8 +18,8 @@ use square_set::{EMPTY, Set};
 pub(crate) struct FreeSquares {
     /// Those of own pieces other than kings, which may go from there to any square without an own piece.
     pub to_leave: Set,
-    /// Those without an own piece, to which a piece other than a king may come that leaves no square empty: it is dropped
-    /// there, or goes there and leaves another piece behind.
+    /// Those without an own piece, to which a piece other than a king may come that leaves no square empty: it is
+    /// dropped there, or goes there and leaves another piece behind.
     pub to_enter: Set,
 }
 
@@ -49,11 +50,12 @@ pub(crate) fn free_squares(
     let anywhere = free(tables, &p.cells, sets.kings, sets.enemies, occupied, p.side);
     let own = anywhere.and(sets.own);
     let to_leave = own.minus(sets.kings);
+    // A piece that comes to a square changes the board as one would that goes from there to itself.
     let to_enter = anywhere.minus(sets.own);
     FreeSquares { to_leave, to_enter }
 }
 
-/// The squares on which a piece would take one of its own, or one in passing.
+/// The squares of own pieces, and that of en passant: on the others no own piece is taken, and none in passing.
 pub(crate) fn barred_at_once(p: &Position, own: Set) -> Set
     ensures { IsBarred (repeat_of p.now) own result }
 {

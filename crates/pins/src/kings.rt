@@ -158,7 +158,8 @@ fn guards_of_king(
 }
 
 /// The squares from which a piece other than a king may go anywhere without leaving a king of its side attacked: none
-/// where one is attacked now. `kings` are all those of the side.
+/// where one is attacked now. A piece that is dropped on such a square leaves them safe as well, as one would that goes
+/// from there to itself. `kings` are all those of the side.
 pub fn free(
     tables: &Tables,
     cells: &Cells,

@@ -13,8 +13,8 @@ use Rattle.std.proofs.lemmas.Slice.Eq.{bytes_eq-Decides}
 use Rattle.foundation.specs.Cuts.{cut}
 use Rattle.fen_model.proofs.JoinLaws.{Each}
 use Rattle.strategy.proofs.BackLemmas.{cut-word}
-use Rattle.variant_ini.specs.Cuts.{trimmed, without_blanks}
-use Rattle.variant_ini.specs.FileLines.{IsFileLine, is_feed}
+use Rattle.variant_ini.specs.Cuts.{is_feed, trimmed, without_blanks}
+use Rattle.variant_ini.specs.FileLines.{IsFileLine}
 use Rattle.variant_ini.specs.LineKind.{LineKind, comment, foreign, header_of, inside_header, is_comment, kind_from, line_kind, pair, pair_from, pair_of, text_kind}
 use Rattle.variant_ini.specs.Section.{Section}
 use Rattle.variant_ini.proofs.TrimLemmas.{BeginsBare, IsBare, bare-first, bare-trimmed, trimmed-bare}

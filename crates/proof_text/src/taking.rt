@@ -100,7 +100,8 @@ pub fn read_proof_after<S: Source>(
     first: &[u8],
     source: &mut S,
 ) -> Result<Proof, NoProof>
-    ensures heard { HoldsOfTaken (S.left source.old) (S.left source.new) (λ lines. SaysProofAfter first.now lines result) }
+    ensures heard { HoldsOfTaken (S.left source.old) (S.left source.new)
+        (λ lines. SaysProofAfter first.now lines result) }
     ensures sound { IfOk result (λ p. AreSound p.game.rules p.strategy.nodes) }
     ensures cause { HasCause (S.faults source.old) (S.faults source.new) (IsUnread result) }
 {

@@ -1,17 +1,17 @@
 -- The lines that a file gives to its sections.
-use Rattle.std.proofs.Common.{◌≡◌, ℕ, zero, suc, ◌+◌, ◌-◌, ◌<◌, ◌≤◌, ◌==◌, nat_lt, nat_le, Bool, true, false, List, [], ◌∷◌, ◌++◌, Option, None, Some, length, map, take, drop, reverse, slice_index, refl, ap, ◌∙◌, subst, arith, if◌then◌else◌, position}
+use Rattle.std.proofs.Common.{◌≡◌, ℕ, zero, suc, ◌+◌, ◌-◌, ◌<◌, ◌≤◌, ◌==◌, nat_lt, nat_le, Bool, true, false, List, [], ◌∷◌, ◌++◌, Option, None, Some, length, map, take, drop, reverse, slice_index, refl, sym, ap, ◌∙◌, subst, arith, if◌then◌else◌, position, Result, Ok, Err, OnOk}
 use Rattle.std.specs.List.{All, list_any, onto_first}
 use Rattle.std.specs.Str.Lines.{strip_carriage_return}
 use Rattle.std.proofs.lemmas.Bool.{ltb-false, or_from, or_parts}
 use Rattle.std.proofs.lemmas.Grind.{reverse_onto}
 use Rattle.std.proofs.lemmas.List.{length-drop, length-take}
-use Rattle.std.proofs.lemmas.List.Elements.{All-cons, All-head, All-tail}
+use Rattle.std.proofs.lemmas.List.Elements.{All-append, All-cons, All-head, All-tail}
 use Rattle.std.proofs.lemmas.List.Folds.{list_any-append}
 use Rattle.std.proofs.lemmas.List.Quantifiers.{position-Some}
 use Rattle.foundation.specs.Cuts.{cut, cut_where, is_blank}
 use Rattle.variant_ini.specs.declared.fault.IniFault.{IniFault}
-use Rattle.variant_ini.specs.Cuts.{lines_of, trimmed, without_blanks}
-use Rattle.variant_ini.specs.FileLines.{AreFileLines, IsFileLine, is_feed}
+use Rattle.variant_ini.specs.Cuts.{is_feed, lines_of, trimmed, without_blanks}
+use Rattle.variant_ini.specs.FileLines.{AreFileLines, IsFileLine}
 use Rattle.variant_ini.specs.LineKind.{LineKind, bad, comment, foreign, header, is_comment, kind_from, line_kind, pair, pair_from, pair_of, header_of, text_kind}
 use Rattle.variant_ini.specs.Reading.{fault_of, first_fault, first_of, line_fault, pairs_of, sections_in, sections_in_lines, sections_of}
 use Rattle.variant_ini.specs.Section.{Section, key_line}
@@ -219,3 +219,12 @@ unfolding fault_of sections_in sections_in_lines
 file_lines bytes is =
     let short = short_lines [] (lines_of bytes) (not_above (nat_lt 1048576 (length bytes)) _ _ is).1 in
     sections_are (lines_of bytes) (λ k d below. record { short = short k d below; one_line = no_feed bytes k d below })
+
+-- sections stay such where a file's are added
+pub lines_added : (answer : Result (Unit {0}) IniFault) (old new : List Section) (bytes : List ℕ)
+    → OnOk answer (new ≡ old ++ sections_in bytes) → OnOk answer (fault_of bytes ≡ None)
+    → AreFileLines old → OnOk answer (AreFileLines new)
+lines_added (Ok x) old new bytes added none are =
+    subst AreFileLines (sym added)
+    (All-append (λ (section : Section). All IsFileLine section.lines) old (sections_in bytes) are (file_lines bytes none))
+lines_added (Err fault) old new bytes added none are = tt

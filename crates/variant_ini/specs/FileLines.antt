@@ -1,14 +1,12 @@
 -- What each line has that a file gives to a section.
-use Rattle.std.specs.Prelude.{◌≡◌, ℕ, ◌+◌, ◌<◌, ◌==◌, nat_le, Bool, false, List, length}
+use Rattle.std.specs.Prelude.{◌≡◌, ◌+◌, ◌<◌, nat_le, false, List, length}
 use Rattle.std.specs.List.{All, list_any}
 use Rattle.variant_ini.specs.declared.key_line.KeyLine.{KeyLine}
-use Rattle.variant_ini.specs.Cuts.{trimmed}
+use Rattle.variant_ini.specs.Cuts.{is_feed, trimmed}
 use Rattle.variant_ini.specs.Section.{Section}
 
-abbrev pub is_feed : ℕ → Bool
-is_feed b = b == 10
-
--- the value has no blanks at its ends, no line feed and no byte above 127, and there is room for it in one line with its key
+-- the value has no blanks at its ends, no line feed and no byte above 127, and there is room for it in one line with its
+-- key and the sign between them
 pub record IsFileLine (line : KeyLine) : Type 0 where
   pub trim : trimmed line.value ≡ line.value
   pub one_line : list_any is_feed line.value ≡ false

@@ -18,7 +18,7 @@ pub fn later_sections_change_no_option()
 {}
 
 /// Of the sections of a file without a fault, each value has no blanks at its ends, no line feed and no byte above 127,
-/// and is shorter than a line with its key.
+/// and has fewer than 1,024 bytes with its key.
 pub fn files_give_lines()
     ensures { (bytes : List ℕ) → fault_of bytes ≡ None → AreFileLines (sections_in bytes) }
 {}

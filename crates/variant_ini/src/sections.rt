@@ -3,6 +3,7 @@
 ghost use Rattle.std.specs.Prelude.{◌≡◌, ◌<◌, ◌++◌, ◌∷◌, ℕ, List, None, [], length, IfErr, IfOk, IfSome, OnOk, OnErr};
 ghost use Rattle.std.specs.Option.{option_copied};
 ghost use Rattle.variant_ini.specs.Section.{section_at};
+ghost use Rattle.variant_ini.specs.FileLines.{AreFileLines};
 ghost use Rattle.variant_ini.specs.Lone.{lone_section};
 ghost use Rattle.variant_ini.specs.Reading.{fault_of, sections_in, IsFaultOrMemory};
 ghost use Rattle.variant_ini.specs.OptionValue.{option_value, parent_place};
@@ -106,6 +107,7 @@ impl Sections {
     pub fn add(&mut self, bytes: &[u8]) -> Result<(), IniFault>
         ensures added { OnOk result (self.new ≡ self.old ++ sections_in bytes.now) }
         ensures accepted { OnOk result (fault_of bytes.now ≡ None) }
+        ensures lines { AreFileLines self.old → OnOk result (AreFileLines self.new) }
         ensures fault { IfErr result (IsFaultOrMemory (fault_of bytes.now)) }
         ensures err { OnErr result (self.new ≡ self.old) }
 

@@ -25,17 +25,17 @@ pub fn first_faults_refuse()
 {}
 
 /// A section that has no parent, and the lines that an accepted section tells, has the rules of that section. It has
-/// at least one line, and at most one of each key.
+/// at least one line, and at most 213, as many as there are keys.
 pub fn told_sections_have_the_same_rules()
-    ensures same { (sections : List Section) (place : ℕ) (name : List ℕ) (rules : Rules) → entry sections place ≡ Ok rules
-        → entry (told_section name sections place ∷ []) 0 ≡ Ok rules }
+    ensures same { (sections : List Section) (place : ℕ) (name : List ℕ) (rules : Rules)
+        → entry sections place ≡ Ok rules → entry (told_section name sections place ∷ []) 0 ≡ Ok rules }
     ensures some { (sections : List Section) (place : ℕ) (rules : Rules) → entry sections place ≡ Ok rules
         → 1 ≤ length (told sections place) }
     ensures few { (sections : List Section) (place : ℕ) → length (told sections place) ≤ 213 }
 {}
 
-/// Where all sections have only lines that a file can give, so are the lines that a section tells: a value with no blanks at
-/// its ends, no line feed and no byte above 127, short enough for one line with its key.
+/// Where all sections have only lines that a file can give, so are the lines that a section tells: a value with no
+/// blanks at its ends, no line feed and no byte above 127, and fewer than 1,024 bytes with its key.
 pub fn told_lines_are_lines_of_files()
     ensures { (sections : List Section) (place : ℕ) → AreFileLines sections
         → All (λ pair. IsFileLine (line_of pair)) (told sections place) }

@@ -1,5 +1,6 @@
 //! The variants that are built in.
 ghost use Rattle.std.specs.Prelude.{◌≡◌, IfOk};
+ghost use Rattle.variant_ini.specs.FileLines.{AreFileLines};
 ghost use Rattle.variant_model.specs.Builtin.{builtin_sections, builtin_text};
 
 use foundation::Memory;
@@ -102,7 +103,8 @@ fn builtin_bytes() -> &'static [u8]
 
 /// The sections of the ten variants that are built in, chess first.
 pub fn builtin(alloc: Global) -> Result<Sections, Memory>
-    ensures { IfOk result (λ sections. sections ≡ builtin_sections) }
+    ensures are { IfOk result (λ sections. sections ≡ builtin_sections) }
+    ensures lines { IfOk result (λ sections. AreFileLines sections) }
 {
     let mut sections = Sections::new(alloc);
     match sections.add(builtin_bytes()) {

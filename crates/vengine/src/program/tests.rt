@@ -283,6 +283,8 @@ fn game_texts_are_answered(rt: HostRuntime) -> Result<(), Fail> {
         ),
         (&["perft", "1"], "xiangqi\nstartpos", 0, "44\n"),
         (&["perft", "2"], "xiangqi\nstartpos", 0, "1920\n"),
+        (&["perft", "2"], "seirawan\nstartpos", 0, "784\n"),
+        (&["perft", "3"], "seirawan\nstartpos", 0, "24830\n"),
         (
             &["status"],
             "capablanca\nstartpos",

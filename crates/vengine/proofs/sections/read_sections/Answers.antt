@@ -23,4 +23,4 @@ pub returns : goal.returns
 returns g c =
     let same : c.as_slice.result.now ≡ c.in_ok-bytes.bytes = search rules in
     looked_so _ _ _ _ c.in_ok-bytes.ensures
-    (λ files failed has. file_taken c.args.name.now files failed c.in_ok-bytes.bytes _ has (rw same at c.in_ok-add.ensures.accepted) (rw (same, c.in_ok-sections.ensures) at c.in_ok-add.ensures.added))
+    (λ files failed has. file_taken c.args.name.now files failed c.in_ok-bytes.bytes _ has (rw same at c.in_ok-add.ensures.accepted) (rw (same, c.in_ok-sections.ensures.are) at c.in_ok-add.ensures.added))

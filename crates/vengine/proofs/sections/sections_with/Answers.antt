@@ -10,4 +10,4 @@ returns-in_err-builtin-in-None g c =
     rw (p.1, p.2) (looked_none _ _ (λ files. tt))
 
 pub returns-in_ok-builtin-in-None : goal.returns-in_ok-builtin-in-None
-returns-in_ok-builtin-in-None g c = rw c.in-None.is (looked_none _ _ (λ files. (refl, c.in_ok-builtin-in-None.ensures ∙ sym (append-nil _))))
+returns-in_ok-builtin-in-None g c = rw c.in-None.is (looked_none _ _ (λ files. (refl, c.in_ok-builtin-in-None.ensures.are ∙ sym (append-nil _))))
