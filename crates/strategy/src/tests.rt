@@ -25,6 +25,33 @@ fn a_text_is_read_and_written(rt: HostRuntime) -> Result<(), Fail> {
     Ok(())
 }
 
+/// The sample, cut after each of its lines, and with a line more.
+#[test]
+fn a_text_ends_with_its_last_line(rt: HostRuntime) -> Result<(), Fail> {
+    let rules = chess();
+    let mut text = Vec::new(rt.alloc());
+    let mut rest = SAMPLE;
+    for line in 1..12u64 {
+        match read(rt.alloc(), &rules, text.as_slice()) {
+            Err(StrategyFault::Ended(at)) => assert!(&rt; at == line, "{line}"),
+            _ => assert!(&rt; false, "{line}"),
+        }
+        if !rest.is_empty() {
+            let (next, after) = cut_line(rest);
+            text.extend_from_slice(next)?;
+            text.push(b'\n')?;
+            rest = after;
+        }
+    }
+    assert!(&rt; text.as_slice() == SAMPLE);
+    text.extend_from_slice(b"end\n")?;
+    match read(rt.alloc(), &rules, text.as_slice()) {
+        Err(StrategyFault::Ended(at)) => assert!(&rt; at == 12),
+        _ => assert!(&rt; false),
+    }
+    Ok(())
+}
+
 #[test]
 fn the_first_fault_is_the_answer(rt: HostRuntime) -> Result<(), Fail> {
     let rules = chess();
