@@ -34,8 +34,8 @@ pub fn told_sections_have_the_same_rules()
     ensures few { (sections : List Section) (place : ℕ) → length (told sections place) ≤ 213 }
 {}
 
-/// Where all sections have only lines that a file can give, so are the lines that a section tells: a value with no
-/// blanks at its ends, no line feed and no byte above 127, and fewer than 1,024 bytes with its key.
+/// The lines that a section tells are lines of files where those of all sections are: no value has blanks at its ends, a
+/// line feed or a byte above 127, and each has fewer than 1,024 bytes with its key.
 pub fn told_lines_are_lines_of_files()
     ensures { (sections : List Section) (place : ℕ) → AreFileLines sections
         → All (λ pair. IsFileLine (line_of pair)) (told sections place) }
