@@ -39,6 +39,13 @@ module _ (rising : Bool) (f g : ℕ → Bool) (t : ℕ) (small : t < 128) where
       count_below-le (λ i. f (place rising i)) (λ i. g (place rising i)) (place rising t) (λ k l e.
       let low : k < 128 = omega (arith, m, l) in let back = place-place rising k low in h (place rising k) (place-lt rising k low) (rw back l) e)
 
+  -- tests that agree at the squares that come before
+  pub before-alike : ((u : ℕ) → u < 128 → place rising u < place rising t → f u ≡ g u) → before rising f t ≡ before rising g t
+  before-alike h =
+      let m = place-lt rising t small in
+      count_below-same (λ i. f (place rising i)) (λ i. g (place rising i)) (place rising t) (λ k l.
+      let low : k < 128 = omega (arith, m, l) in let back = place-place rising k low in h (place rising k) (place-lt rising k low) (rw back l))
+
   pub before-one_less : (p : ℕ) → p < 128 → ((u : ℕ) → u ≢ p → f u ≡ true → g u ≡ true) → before rising f t ≤ before rising g t + 1
   before-one_less p lp h =
       let m = place-lt rising t small in

@@ -1,2 +1,6 @@
 pub mod CountLaws
 pub mod GuardLaws
+pub mod TargetLaws
+pub mod DependLaws
+pub mod EvasionLaws
+pub mod DangerLaws

@@ -1,2 +1,4 @@
 pub mod Guards
 pub mod Free
+pub mod Danger
+pub mod Evasion

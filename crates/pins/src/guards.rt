@@ -23,13 +23,21 @@ fn at_most(most: u32, set: Set) -> Set
     if set.count() <= most { set } else { EMPTY }
 }
 
+/// The squares of a line before the target.
+pub(crate) fn squares_before(line: Line, target: u8) -> Set
+    requires { target < 128 }
+    ensures { AreBefore line.rising (has line.squares) target result }
+{
+    let near = EMPTY.with(target).cover(line.rising).without(target);
+    line.squares.and(near)
+}
+
 /// The occupied squares of a line before the target.
 fn blockers(line: Line, occupied: Set, target: u8) -> Set
     requires { target < 128 }
     ensures { AreBefore line.rising (in_both line.squares occupied) target result }
 {
-    let near = EMPTY.with(target).cover(line.rising).without(target);
-    line.squares.and(occupied).and(near)
+    squares_before(line, target).and(occupied)
 }
 
 /// A hopper needs one piece before its target: without one any that comes may open the way, and of three two stay.

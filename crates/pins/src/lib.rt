@@ -1,6 +1,9 @@
-//! The pieces that may go anywhere without leaving their king attacked, found without a move being made.
+//! The pieces that may go anywhere without leaving their king attacked, the squares on which a king would stand
+//! attacked, and those that a move has to leave or enter to end a check, found without a move being made.
 #![tactic(auto)]
 
+pub mod danger;
+pub mod evasion;
 pub mod guards;
 pub mod kings;
 #[cfg(test)]

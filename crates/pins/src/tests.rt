@@ -2,11 +2,14 @@ ghost use Rattle.std.specs.Prelude.{◌<◌};
 ghost use Rattle.rules_model.specs.Fit.{IsFit};
 
 use super::*;
+use crate::danger::danger;
+use crate::evasion::{EvasionSquares, evasions};
+use crate::guards::all;
 use attack_tables::{Tables, kings, men, occupied};
 use foundation::Memory;
-use rules_model::{Position, Rules, Side};
-use sample_rules::{chess, position, xiangqi};
-use square_set::Set;
+use rules_model::{Position, Rules, Side, Square};
+use sample_rules::{chess, position, square, xiangqi};
+use square_set::{EMPTY, Set};
 use std::alloc::Global;
 use std::process::Abort;
 
@@ -106,4 +109,148 @@ fn flying_kings_pin(rt: HostRuntime) -> Result<(), Memory> {
     let still = [("Ke1 Pe5 ke8", "Pe5"), ("Ke1 Ra1 ke8", "Ra1")];
     expect_free(&rt, rt.alloc(), &xiangqi(), &rows)?;
     expect_free(&rt, rt.alloc(), &chess(), &still)
+}
+
+/// The squares on which White's king, which is on this one, would stand attacked.
+fn danger_of(tables: &Tables, p: &Position, king: Square) -> Set
+    requires { king.0 < 120 }
+{
+    let _first = p.cells[0];
+    let side = Side::White;
+    let enemies = men(&p.cells, side.other());
+    danger(tables, &p.cells, king, enemies, occupied(&p.cells), side)
+}
+
+/// They are those of the last text.
+fn expect_danger(
+    rt: &impl Abort,
+    alloc: Global,
+    rules: &Rules,
+    rows: &[(&str, &str, &str)],
+) -> Result<(), Memory>
+    requires { IsFit rules.now }
+{
+    let tables = Tables::new(alloc, rules)?;
+    for (pieces, king, wanted) in rows {
+        let danger = danger_of(&tables, &position(*pieces), square(*king));
+        assert_eq!(rt; danger, occupied(&position(*wanted).cells), "{pieces}");
+    }
+    Ok(())
+}
+
+// A king does not shade the squares after it, and a piece that another one guards is no target.
+#[test]
+fn kings_shade_nothing(rt: HostRuntime) -> Result<(), Memory> {
+    let rows = [
+        (
+            "Kb2 rb4 kh8",
+            "b2",
+            "Pb1 Pb2 Pb3 Pb5 Pb6 Pb7 Pb8 Pa4 Pc4 Pd4 Pe4 Pf4 Pg4 Ph4 Pg8 Pg7 Ph7",
+        ),
+        ("Ka1 pd4 kh8", "a1", "Pc3 Pe3 Pg8 Pg7 Ph7"),
+        (
+            "Ke2 nd3 bf5 kh8",
+            "e2",
+            "Pe4 Pd3 Pg6 Ph7 Pe6 Pd7 Pc8 Pg4 Ph3 Pb2 Pb4 Pc1 Pc5 Pe1 Pe5 Pf2 Pf4 Pg8 Pg7",
+        ),
+    ];
+    expect_danger(&rt, rt.alloc(), &chess(), &rows)
+}
+
+// A cannon takes over the one piece before its target, and a king that leaves is none.
+#[test]
+fn kings_are_no_screens(rt: HostRuntime) -> Result<(), Memory> {
+    let rows = [
+        ("Ke1 Pe3 ce5 kd10", "e1", "Pe2 Pe1 Pd9 Pe10"),
+        ("Kd2 Pd1 cd6 kf10", "d2", "Pe10 Pf9"),
+    ];
+    expect_danger(&rt, rt.alloc(), &xiangqi(), &rows)
+}
+
+/// The squares of White's evasions.
+fn evasions_of(tables: &Tables, p: &Position) -> EvasionSquares {
+    let _first = p.cells[0];
+    let side = Side::White;
+    let kings = kings(tables.rules(), &p.cells, side);
+    let enemies = men(&p.cells, side.other());
+    let occupied = occupied(&p.cells);
+    evasions(tables, &p.cells, kings, enemies, occupied, side)
+}
+
+/// They are left where the second text says so, and entered where the last does.
+fn expect_evasions(
+    rt: &impl Abort,
+    alloc: Global,
+    rules: &Rules,
+    rows: &[(&str, &str, &str)],
+) -> Result<(), Memory>
+    requires { IsFit rules.now }
+{
+    let tables = Tables::new(alloc, rules)?;
+    for (pieces, leave, enter) in rows {
+        let found = evasions_of(&tables, &position(*pieces));
+        assert_eq!(rt; found.leave, occupied(&position(*leave).cells), "{pieces}");
+        assert_eq!(rt; found.enter, occupied(&position(*enter).cells), "{pieces}");
+    }
+    Ok(())
+}
+
+/// Where no piece attacks White's kings, each square may be entered.
+fn expect_no_check(
+    rt: &impl Abort,
+    alloc: Global,
+    rules: &Rules,
+    rows: &[&str],
+) -> Result<(), Memory>
+    requires { IsFit rules.now }
+{
+    let tables = Tables::new(alloc, rules)?;
+    for pieces in rows {
+        let found = evasions_of(&tables, &position(*pieces));
+        assert_eq!(rt; found.leave, EMPTY, "{pieces}");
+        assert_eq!(rt; found.enter, all(), "{pieces}");
+    }
+    Ok(())
+}
+
+// A slider is taken, or a piece comes between; a leaper is taken. Of two attacks, on one king or on two, a move has to
+// end both.
+#[test]
+fn checks_are_met(rt: HostRuntime) -> Result<(), Memory> {
+    let rows = [
+        (
+            "Ke1 Ra2 re8 ka8",
+            "Pe2 Pe3 Pe4 Pe5 Pe6 Pe7",
+            "Pe2 Pe3 Pe4 Pe5 Pe6 Pe7 Pe8",
+        ),
+        ("Ka1 bd4 kh8", "Pb2 Pc3", "Pb2 Pc3 Pd4"),
+        ("Ke1 qe2 kh8", "", "Pe2"),
+        ("Ke1 nd3 ka8", "", "Pd3"),
+        ("Ke4 pd5 ka8", "", "Pd5"),
+        ("Ke1 re4 nd3 ka8", "Pe2 Pe3", ""),
+        ("Ke1 re4 bb4 ka8", "Pe2 Pe3 Pd2 Pc3", ""),
+        ("Ke1 Ka1 re4 kh8", "Pe2 Pe3", "Pe2 Pe3 Pe4"),
+        ("Ke1 Ka1 re4 ra3 kh8", "Pe2 Pe3 Pa2", ""),
+        ("Ka1 Kc1 nb3 kh8", "", "Pb3"),
+    ];
+    let no_check = ["Ke1 Pe2 re8 ka8", "Ke1 rd8 ka8", "Ke1 ke8"];
+    expect_evasions(&rt, rt.alloc(), &chess(), &rows)?;
+    expect_no_check(&rt, rt.alloc(), &chess(), &no_check)
+}
+
+// A cannon's screen leaves, or a piece comes between, or the cannon is taken. A horse is taken, or a piece keeps it from
+// its leap; one may keep two of them from theirs. The king that flies is not asked.
+#[test]
+fn cannons_and_horses_are_met(rt: HostRuntime) -> Result<(), Memory> {
+    let rows = [
+        ("Ke1 Pe4 ce6 kd10", "Pe2 Pe3 Pe4 Pe5", "Pe2 Pe3 Pe4 Pe5 Pe6"),
+        ("Ke1 re4 ce6 kd10", "Pe2 Pe3 Pe4 Pe5", "Pe2 Pe3 Pe4"),
+        ("Ke1 nd3 kd10", "Pd2", "Pd2 Pd3"),
+        ("Ke1 nc2 nd3 kd10", "Pd2", "Pd2"),
+        ("Ke1 nd3 nf3 kd10", "Pd2 Pf2", ""),
+        ("Ke1 pe2 kd10", "", "Pe2"),
+    ];
+    let no_check = ["Ke1 ce6 kd10", "Ke1 Ad2 nd3 kd10", "Ke1 ke10"];
+    expect_evasions(&rt, rt.alloc(), &xiangqi(), &rows)?;
+    expect_no_check(&rt, rt.alloc(), &xiangqi(), &no_check)
 }
