@@ -1,6 +1,6 @@
 -- A plain piece's moves are those to its targets, as it is.
-use Rattle.std.proofs.Common.{◌≡◌, ℕ, ◌<◌, Bool, true, false, not, ◌&&◌, is_none, Option, Some, None, List, refl, sym, ◌∙◌, subst}
-use Rattle.std.proofs.lemmas.Bool.{and_parts, not-true}
+use Rattle.std.proofs.Common.{◌≡◌, ℕ, ◌<◌, Bool, true, false, not, ◌&&◌, ◌||◌, is_none, Option, Some, None, List, refl, sym, ◌∙◌, subst}
+use Rattle.std.proofs.lemmas.Bool.{and_parts}
 use Rattle.rules_model.specs.declared.board.Cell.{Cell}
 use Rattle.rules_model.specs.declared.board.Kind.{Kind}
 use Rattle.rules_model.specs.declared.board.Repeat.{Repeat}
@@ -10,7 +10,9 @@ use Rattle.rules_model.specs.declared.moves.Move.TheVariants.{Go, Castle, Drop}
 use Rattle.rules_model.specs.declared.moves.Promo.{Promo}
 use Rattle.rules_model.specs.declared.moves.Promo.TheVariants.{Stays, Pawn, Plus}
 use Rattle.rules_model.specs.declared.rules.Rules.{Rules}
+use Rattle.rules_model.specs.declared.board.Wing.TheVariants.{Kingside, Queenside}
 use Rattle.rules_model.specs.Candidates.{own_piece_moves}
+use Rattle.rules_model.specs.Castling.{holds_right}
 use Rattle.rules_model.specs.Kinds.{names, promoted_of}
 use Rattle.rules_model.specs.Pieces.{piece_goes, piece_promo, may_plus, means_castling}
 use Rattle.rules_model.specs.Squares.{cell_at}
@@ -22,7 +24,7 @@ use Rattle.move_sink.specs.Taking.{IsSink, TakesAll, TakesSome}
 use Rattle.move_sink.proofs.TakingLemmas.{all-none, all-same, some-within}
 use Rattle.piece_moves.specs.Goals.{own_piece}
 use Rattle.piece_moves.specs.Parts.{IsMoveFrom}
-use Rattle.piece_moves.specs.Plain.{is_plain}
+use Rattle.piece_moves.specs.Plain.{holds_a_right, is_plain}
 use Rattle.piece_moves.specs.Targets.{AreTargets}
 use Rattle.piece_moves.proofs.PartLemmas.{moves_is}
 
@@ -39,12 +41,23 @@ whole true true false e f g = refl
 whole true false c e f g = cc
 whole false b c e f g = cc
 
-module _ (rules : Rules) (r : Repeat) (piece : Cell) (from : Square) (gate : Option Kind) (targets : Set) (plain : is_plain rules piece.kind ≡ true) (own : own_piece rules r.side (cell_at r.cells from.0) ≡ Some piece) (are : AreTargets rules r.cells r.side piece.kind from targets) where
+no_castle : (king near far a b c d : Bool) → not (king && (near || far)) ≡ true → (king && ((near && a && b) || (far && c && d))) ≡ false
+no_castle true true far a b c d e = cc
+no_castle true false true a b c d e = cc
+no_castle true false false a b c d e = refl
+no_castle false near far a b c d e = refl
+
+module _ (rules : Rules) (r : Repeat) (piece : Cell) (from : Square) (gate : Option Kind) (targets : Set) (plain : is_plain rules r piece.kind ≡ true) (own : own_piece rules r.side (cell_at r.cells from.0) ≡ Some piece) (are : AreTargets rules r.cells r.side piece.kind from targets) where
+  abbrev may_castle : Bool
+  may_castle = names rules.king piece.kind && holds_a_right r
+
   may_not : (to : ℕ) → may_plus rules r.side piece.kind from.0 to ≡ false
-  may_not to = rw (none_of (promoted_of rules piece.kind) (and_parts (not (names rules.king piece.kind)) (is_none (promoted_of rules piece.kind)) plain).1) refl
+  may_not to = rw (none_of (promoted_of rules piece.kind) (and_parts (not may_castle) (is_none (promoted_of rules piece.kind)) plain).1) refl
 
   castles_not : (to : ℕ) → means_castling rules r piece.kind from.0 to ≡ false
-  castles_not to = rw (not-true (names rules.king piece.kind) (and_parts (not (names rules.king piece.kind)) (is_none (promoted_of rules piece.kind)) plain).0) refl
+  castles_not to =
+      no_castle (names rules.king piece.kind) (holds_right r.rights r.side Kingside) (holds_right r.rights r.side Queenside) _ _ _ _
+      (and_parts (not may_castle) (is_none (promoted_of rules piece.kind)) plain).0
 
   -- it becomes nothing else
   stays_only : (to : ℕ) (promo : Promo) → piece_promo rules (may_plus rules r.side piece.kind from.0 to) promo ≡ true → promo ≡ Stays

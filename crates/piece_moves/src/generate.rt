@@ -125,7 +125,7 @@ fn push_plain<S: MoveSink>(
     requires sets { AreSets rules.now p.now.side p.now.cells sets.now }
     requires from { mover.from.0 < 120 }
     requires own { IsOwnMover rules.now p.now mover }
-    requires plain { Plain.is_plain rules.now mover.piece.kind ≡ true }
+    requires plain { Plain.is_plain rules.now (repeat_of p.now) mover.piece.kind ≡ true }
     ensures ok { OnOk result (TakesAll S.takes (IsMoveOf rules.now p.now mover) out.old out.new) }
     ensures err { OnErr result (TakesSome S.stops (IsMoveOf rules.now p.now mover) out.old out.new) }
 {
@@ -155,7 +155,7 @@ fn push_piece<S: MoveSink>(
     ensures ok { OnOk result (TakesAll S.takes (IsMoveOf rules.now p.now mover) out.old out.new) }
     ensures err { OnErr result (TakesSome S.stops (IsMoveOf rules.now p.now mover) out.old out.new) }
 {
-    if is_plain(rules, mover.piece.kind) {
+    if is_plain(rules, p, mover.piece.kind) {
         push_plain(rules, tables, p, sets, mover, out)
     } else {
         push_each(rules, tables, p, sets, mover, out)

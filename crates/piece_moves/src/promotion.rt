@@ -18,12 +18,20 @@ pub(crate) fn may_plus(rules: &Rules, side: Side, kind: Kind, from: Square, to: 
         && (in_region(&rules.promotion, side, from.0) || in_region(&rules.promotion, side, to.0))
 }
 
-/// Whether a piece of the kind ends each move as it is, and none of its moves may mean castling: it is not the king, and has no
-/// promoted kind.
-pub(crate) fn is_plain(rules: &Rules, kind: Kind) -> bool
-    ensures { result ≡ Plain.is_plain rules.now kind }
+/// Whether the mover holds a castling right.
+fn holds_a_right(p: &Position) -> bool
+    ensures { result ≡ Plain.holds_a_right (repeat_of p.now) }
 {
-    !names(rules.king, kind) && promoted_of(rules, kind).is_none()
+    holds_right(&p.rights, p.side, Wing::Kingside)
+        || holds_right(&p.rights, p.side, Wing::Queenside)
+}
+
+/// Whether a piece of the kind ends each move as it is, and none of its moves may mean castling: it is not the king, or
+/// the mover holds no castling right; and it has no promoted kind.
+pub(crate) fn is_plain(rules: &Rules, p: &Position, kind: Kind) -> bool
+    ensures { result ≡ Plain.is_plain rules.now (repeat_of p.now) kind }
+{
+    !(names(rules.king, kind) && holds_a_right(p)) && promoted_of(rules, kind).is_none()
 }
 
 /// Whether a piece may end its move so, where it may become its promoted kind or not.
