@@ -1,5 +1,6 @@
--- All moves of a piece to the squares of a set, as a list, and how many are counted at once.
-use Rattle.std.proofs.Common.{◌≡◌, ℕ, zero, suc, ◌+◌, ◌<◌, Bool, true, false, if◌then◌else◌, Option, List, [], ◌∷◌, length, inl, inr, refl, sym, ap, ◌∙◌, subst, arith}
+-- All moves of a piece to the squares of a set, as a list, and how many of them pass a test.
+use Rattle.std.proofs.Common.{◌≡◌, ℕ, zero, suc, ◌+◌, ◌<◌, Bool, true, false, ◌&&◌, if◌then◌else◌, Option, List, [], ◌∷◌, length, inl, inr, refl, sym, ap, ◌∙◌, subst, arith}
+use Rattle.std.specs.List.{filter}
 use Rattle.foundation.specs.Member.{Member, IsEachOnce, Lists}
 use Rattle.rules_model.specs.declared.board.Kind.{Kind}
 use Rattle.rules_model.specs.declared.board.Square.{Square}
@@ -11,6 +12,7 @@ use Rattle.square_set.specs.Members.{has, count_below, size}
 use Rattle.square_set.proofs.Cases.{by_equal}
 use Rattle.square_set.proofs.CountLaws.{count_below-zero, count_below-suc}
 use Rattle.move_sink.specs.InTurn.{GoesTo, target_of}
+use Rattle.legality.specs.Chosen.{AreThose}
 
 module _ (from : Square) (gate : Option Kind) (targets : Set) where
   abbrev pub go : ℕ → Move
@@ -27,17 +29,6 @@ module _ (from : Square) (gate : Option Kind) (targets : Set) where
 
   later : (n : ℕ) (m : Move) → GoesBelow n m → GoesBelow (suc n) m
   later n m h = (h.0, omega (arith, h.1))
-
-  -- ---- how many there are
-
-  counted : (b : Bool) (x : Move) (xs : List Move) (k : ℕ) → length xs ≡ k → length (if b then x ∷ xs else xs) ≡ k + (if b then 1 else 0)
-  counted true x xs k e = omega (arith, e)
-  counted false x xs k e = omega (arith, e)
-
-  goes-count : (n : ℕ) → length (goes_below n) ≡ count_below (has targets) n
-  unfolding goes_below
-  goes-count zero = sym (count_below-zero (has targets))
-  goes-count (suc n) = counted (has targets n) (go n) (goes_below n) (count_below (has targets) n) (goes-count n) ∙ sym (count_below-suc (has targets) n)
 
   -- ---- which they are
 
@@ -85,5 +76,20 @@ module _ (from : Square) (gate : Option Kind) (targets : Set) where
     complete = λ m h. goes-complete 128 m (h, small (target_of m) h.1);
   }
 
-  pub goes-size : length (goes_below 128) ≡ size targets
-  goes-size = goes-count 128
+  -- ---- those that pass a test
+
+  passed : (test : Move → Bool) (b q : Bool) (x : Move) (xs : List Move) (k : ℕ) → test x ≡ q → length (filter test xs) ≡ k → length (filter test (if b then x ∷ xs else xs)) ≡ k + (if b && q then 1 else 0)
+  passed test true true x xs k e f = rw e (omega (arith, f))
+  passed test true false x xs k e f = rw e (omega (arith, f))
+  passed test false q x xs k e f = omega (arith, f)
+
+  goes-passed : (test : Move → Bool) (those : Set) → AreThose test from gate targets those → (n : ℕ) → length (filter test (goes_below n)) ≡ count_below (has those) n
+  unfolding goes_below
+  goes-passed test those are zero = sym (count_below-zero (has those))
+  goes-passed test those are (suc n) =
+      passed test (has targets n) (test (go n)) (go n) (goes_below n) (count_below (has those) n) refl (goes-passed test those are n)
+      ∙ ap (λ b. count_below (has those) n + (if b then 1 else 0)) (sym (are (record { 0 = n })))
+      ∙ sym (count_below-suc (has those) n)
+
+  pub goes-those : (test : Move → Bool) (those : Set) → AreThose test from gate targets those → length (filter test (goes_below 128)) ≡ size those
+  goes-those test those are = goes-passed test those are 128

@@ -1,318 +1,59 @@
 -- Pieces that may go anywhere.
-use Rattle.std.proofs.Common.{◌≡◌, ◌≢◌, ℕ, ◌-◌, ◌*◌, ◌%◌, ◌^◌, ◌<◌, Bool, true, false, not, ◌&&◌, ◌||◌, ◌==◌, if◌then◌else◌, Option, Some, None, List, length, is_some, refl, sym, ap, ◌∙◌, subst, arith}
-use Rattle.std.specs.Prelude.{bit_and, bit_or, slice_set}
-use Rattle.std.proofs.lemmas.Bool.{and_parts, eq-eqb, not-true}
-use Rattle.std.proofs.lemmas.Nat.Bits.{bit_at_ones}
-use Rattle.std.proofs.lemmas.List.{length-set}
-use Rattle.std.proofs.lemmas.Option.{slice_get_past}
-use Rattle.square_set.proofs.BitLaws.{bit-and, bit-with, bit-without}
-use Rattle.square_set.proofs.Cases.{by_equal, by_order}
+use Rattle.std.proofs.Common.{◌≡◌, ℕ, ◌<◌, true, false, not, ◌&&◌, None, Some, length, refl, sym, ap, ◌∙◌}
+use Rattle.std.proofs.lemmas.Bool.{and_parts, not-true}
 use Rattle.square_set.proofs.CoverLaws.{has-zero}
 use Rattle.square_set.specs.declared.Set.{Set}
-use Rattle.square_set.specs.Members.{bit, has, IsWithout}
-use Rattle.rules_model.specs.declared.board.Cell.{Cell}
-use Rattle.rules_model.specs.declared.board.Kind.{Kind}
+use Rattle.square_set.specs.Members.{has}
 use Rattle.rules_model.specs.declared.board.Repeat.{Repeat}
-use Rattle.rules_model.specs.declared.board.Side.{Side}
 use Rattle.rules_model.specs.declared.board.Square.{Square}
-use Rattle.rules_model.specs.declared.board.Side.TheVariants.{White, Black}
-use Rattle.rules_model.specs.declared.moves.Move.TheVariants.{Go}
+use Rattle.rules_model.specs.declared.moves.Move.{Move}
+use Rattle.rules_model.specs.declared.moves.Move.TheVariants.{Drop, Go}
 use Rattle.rules_model.specs.declared.moves.Promo.TheVariants.{Stays}
 use Rattle.rules_model.specs.declared.rules.Rules.{Rules}
-use Rattle.rules_model.specs.Attacks.{is_own, is_own_king, king_attacked}
-use Rattle.rules_model.specs.Kinds.{is_king}
 use Rattle.rules_model.specs.Legal.{is_safe}
-use Rattle.rules_model.specs.Next.{cells_after, emptied, fresh, next_repeat, promote}
-use Rattle.rules_model.specs.Pawns.{behind, passes_by}
-use Rattle.rules_model.specs.Sides.{other, same_side}
-use Rattle.rules_model.specs.Squares.{cell_at, flat}
-use Rattle.move_tables.specs.Occupied.{AreKings, AreMen, IsOccupied}
-use Rattle.attack_tables.specs.Boards.{IsBoardBy}
+use Rattle.rules_model.specs.Pawns.{passes_by}
+use Rattle.move_tables.specs.Occupied.{IsOccupied}
 use Rattle.board_sets.specs.declared.sets.BoardSets.{BoardSets}
 use Rattle.board_sets.specs.Sets.{AreSets}
+use Rattle.pins.specs.Danger.{AreDangers}
 use Rattle.pins.specs.Free.{IsFree}
-use Rattle.pins.specs.Guards.{IsMoved}
-use Rattle.sound_play.proofs.CellLemmas.{cell_at-set_other, cell_at-set_same, moved, moved-from, moved-other, moved-to}
-use Rattle.legality.specs.Moved.{DropFreely, GateAtOnce, GateFreely, GoAtOnce, GoFreely}
-use Rattle.legality.proofs.SafetyLaws.{any_kind, own_apart}
+use Rattle.pins.proofs.DangerLaws.{king_by_pieces}
+use Rattle.legality.specs.Moved.{DropFreely, GateAtOnce, GateFreely, GoAtOnce, GoFreely, IsOnly}
+use Rattle.legality.proofs.BoardLaws.{BoardAfter, KeepsKings, drop_board, gate_board, go_board, king_board}
 
--- ---- pieces of a side
+module _ (rules : Rules) (r : Repeat) (sets : BoardSets) (occupied : Set) (are : AreSets rules r.side r.cells sets) (are_occupied : IsOccupied occupied r.cells) (size : length r.cells ≡ 120) where
+  -- the only king is safe where it is not in danger
+  pub king_is_safe : (danger : Set) (from to : Square) → from.0 < 120 → to.0 < 120 → AreDangers rules r.side r.cells from.0 sets.enemies occupied danger → IsOnly sets.kings from.0 → has sets.own to.0 ≡ false
+      → rules.flying ≡ false → passes_by rules r from to.0 ≡ false → is_safe rules r (Go from to Stays None) ≡ not (has danger to.0)
+  king_is_safe danger from to l m are_dangers only target still no_passing =
+      let after = king_board rules r sets occupied are are_occupied size from to l m only target no_passing in
+      let by_pieces = king_by_pieces rules after.board r.side to.0 m after.has_kings still in
+      after.told
+      ∙ ap (λ k. not k) (by_pieces ∙ sym (are_dangers to.0 after.men after.now after.board after.are_men after.is_now after.is_board))
 
-some_own : (side : Side) (c : Option Cell) → is_own side any_kind c ≡ true → (x : Cell) × (c ≡ Some x)
-some_own side None e = cc
-some_own side (Some x) e = (x, refl)
+  module _ (free : Set) (are_free : IsFree rules r.side r.cells sets.kings sets.enemies occupied free) where
+    spared : (from to : ℕ) (m : Move) → has free from ≡ true → BoardAfter rules r sets occupied from to m (KeepsKings rules r sets) → is_safe rules r m ≡ true
+    spared from to m h after =
+        after.told ∙ ap (λ k. not k) (are_free from to after.men after.now after.board h after.are_men after.is_now after.is_board after.has_kings)
 
-first_false : (a b : Bool) → (a && true) ≡ false → (a && b) ≡ false
-first_false true b e = cc
-first_false false b e = refl
+    -- those of the free squares with own pieces that are no kings
+    pub go_freely : (some few : Set) → ((s : ℕ) → has some s ≡ (has free s && has sets.own s)) → ((s : ℕ) → has few s ≡ (has some s && not (has sets.kings s))) → GoFreely rules r sets.own few
+    go_freely some few is_some_free is_few from to l m h target no_passing =
+        let a = and_parts (has some from.0) (not (has sets.kings from.0)) (sym (is_few from.0) ∙ h) in
+        let b = and_parts (has free from.0) (has sets.own from.0) (sym (is_some_free from.0) ∙ a.0) in
+        spared from.0 to.0 (Go from to Stays None) b.0 (go_board rules r sets occupied are are_occupied size from to l m b.1 (not-true _ a.1) target no_passing)
 
-no_king : (rules : Rules) (side : Side) (c : Option Cell) → is_own side any_kind c ≡ false → is_own_king rules side c ≡ false
-no_king rules side None e = refl
-no_king rules side (Some x) e = first_false (same_side x.side side) (is_king rules x.kind) e
+    -- to the free squares without own pieces it is dropped
+    pub drop_freely : (enter : Set) → ((s : ℕ) → has enter s ≡ (has free s && not (has sets.own s))) → DropFreely rules r enter
+    drop_freely enter is_open kind to m h mere =
+        let a = and_parts (has free to.0) (not (has sets.own to.0)) (sym (is_open to.0) ∙ h) in
+        spared to.0 to.0 (Drop kind to) a.0 (drop_board rules r sets occupied are are_occupied size kind to m (not-true _ a.1) mere)
 
--- ---- the board after a piece went from one square to another
-
-module _ (cells : List (Option Cell)) (from to : ℕ) (x : Cell) (size : length cells ≡ 120) (l : from < 120) (m : to < 120) (differ : to ≢ from) where
-  -- what holds of the target, of the start and of the other squares holds of each
-  by_place : (P : ℕ → Option Cell → Type 0) → P to (Some x) → P from None → ((s : ℕ) → (s == from) ≡ false → (s == to) ≡ false → P s (cell_at cells s)) → (s : ℕ) → P s (cell_at (moved cells from to x) s)
-  by_place P at_to at_from other s =
-      by_equal s to (P s (cell_at (moved cells from to x) s))
-      (λ q e. subst (λ t. P t (cell_at (moved cells from to x) t)) (sym e) (subst (P to) (sym (moved-to cells from to x (omega (arith, size, m)))) at_to))
-      (λ q e. by_equal s from (P s (cell_at (moved cells from to x) s))
-      (λ w f. subst (λ t. P t (cell_at (moved cells from to x) t)) (sym f) (subst (P from) (sym (moved-from cells from to x (omega (arith, size, l)) differ)) at_from))
-      (λ w f. subst (P s) (sym (moved-other cells from to s x (λ g. f (sym g)) (λ g. e (sym g)))) (other s w q)))
-
-itself_equal : (s : ℕ) → (s == s) ≡ true
-itself_equal s = eq-eqb s s refl
-
-not_equal : (s t : ℕ) → t ≢ s → (s == t) ≡ false
-not_equal s t h = by_equal s t ((s == t) ≡ false) (λ q e. absurd (h (sym e))) (λ q e. q)
-
-taken_there : (b c d : Bool) → d ≡ true → ((b && c) || d) ≡ true
-taken_there true true d e = refl
-taken_there true false d e = e
-taken_there false c d e = e
-
-left_there : (b c d : Bool) → c ≡ true → d ≡ false → ((b && not c) || d) ≡ false
-left_there true c d e f = rw (e, f) refl
-left_there false c d e f = f
-
-kept_there : (b c d : Bool) → c ≡ false → d ≡ false → ((b && not c) || d) ≡ b
-kept_there true c d e f = rw e refl
-kept_there false c d e f = f
-
-dropped_there : (b c : Bool) → c ≡ true → (b && not c) ≡ false
-dropped_there true c e = rw e refl
-dropped_there false c e = refl
-
-stays_there : (b c : Bool) → c ≡ false → (b && not c) ≡ b
-stays_there true c e = rw e refl
-stays_there false c e = refl
-
-fresh_own : (side : Side) → (same_side side side && true) ≡ true
-fresh_own White = refl
-fresh_own Black = refl
-
-fresh_no_king : (side : Side) (b : Bool) → b ≡ false → (same_side side side && b) ≡ false
-fresh_no_king White b e = e
-fresh_no_king Black b e = e
-
--- ---- a free piece
-
-ones : (t : ℕ) → t < 128 → bit (2 ^ 128 - 1) t ≡ true
-ones t l = ap (λ x. x == 1) (bit_at_ones 128 t l)
-
-kept_by : (a b c : Bool) → (a ≡ true → b ≡ true) → (a && (b && c)) ≡ (a && c)
-kept_by true b c h = ap (λ x. x && c) (h refl)
-kept_by false b c h = refl
-
--- all squares but this one
-but : ℕ → ℕ
-but s = bit_and (2 ^ 128 - 1) (2 ^ 128 - 1 - 1 * 2 ^ s % 2 ^ 128)
-
-but-is : (s t : ℕ) → s < 128 → bit (but s) t ≡ (bit (2 ^ 128 - 1) t && not (t == s))
-unfolding but
-but-is s t l = bit-without (2 ^ 128 - 1) s t (omega arith) l
-
--- a set without a square, and that with another one besides
-without : Set → ℕ → Set
-without set s = record { 0 = bit_and set.0 (but s) }
-
-without-is : (set : Set) (s : ℕ) → ((t : ℕ) → has set t ≡ true → t < 128) → s < 128 → IsWithout set s (without set s)
-unfolding without
-without-is set s small l t =
-    bit-and set.0 (but s) t ∙ ap (λ b. has set t && b) (but-is s t l) ∙ kept_by (has set t) (bit (2 ^ 128 - 1) t) (not (t == s)) (λ e. ones t (small t e))
-
-with_moved : Set → ℕ → ℕ → Set
-with_moved set from to = record { 0 = bit_or (without set from).0 (1 * 2 ^ to % 2 ^ 128) }
-
-with_moved-is : (set : Set) (from to : ℕ) → ((t : ℕ) → has set t ≡ true → t < 128) → from < 128 → to < 128 → IsMoved set from to (with_moved set from to)
-unfolding with_moved
-with_moved-is set from to small l m t =
-    bit-with (without set from).0 to t m ∙ ap (λ b. b || (t == to)) (without-is set from small l t)
-
--- what passes a test that an empty square does not is on the board
-on_squares : (f : Option Cell → Bool) (cells : List (Option Cell)) (s : ℕ) → length cells ≡ 120 → f None ≡ false → f (cell_at cells s) ≡ true → s < 128
-on_squares f cells s size none e =
-    by_order s 120 (s < 128) (λ l. omega (arith, l))
-    (λ l. absurd (let past = ap (λ o. f (flat o)) (slice_get_past cells s (omega (arith, l, size))) in let no : ⊥ = cc in no))
-
-module _ (rules : Rules) (r : Repeat) (sets : BoardSets) (occupied free : Set) (are : AreSets rules r.side r.cells sets) (are_occupied : IsOccupied occupied r.cells)
-    (are_free : IsFree rules r.side r.cells sets.kings sets.enemies occupied free) (size : length r.cells ≡ 120) where
-  low : (s : ℕ) → has sets.enemies s ≡ true → s < 128
-  low s e = on_squares (is_own (other r.side) any_kind) r.cells s size refl (sym (are.enemies s) ∙ e)
-
-  low_occupied : (s : ℕ) → has occupied s ≡ true → s < 128
-  low_occupied s e = on_squares (λ c. is_some c) r.cells s size refl (sym (are_occupied s) ∙ e)
-
-  module _ (from to : ℕ) (x : Cell) (l : from < 120) (m : to < 120) (there : cell_at r.cells from ≡ Some x) (own : has sets.own from ≡ true) (king : has sets.kings from ≡ false) (target : has sets.own to ≡ false) where
-    differ : to ≢ from
-    differ e = let f : ⊥ = (let g = subst (λ s. has sets.own s ≡ false) e target in cc) in f
-
-    is_own_man : is_own r.side any_kind (Some x) ≡ true
-    is_own_man = ap (is_own r.side any_kind) (sym there) ∙ sym (are.own from) ∙ own
-
-    no_enemy : has sets.enemies from ≡ false
-    no_enemy = are.enemies from ∙ own_apart r.side (cell_at r.cells from) (sym (are.own from) ∙ own)
-
-    squares_there : IsOccupied (with_moved occupied from to) (moved r.cells from to x)
-    squares_there s =
-        with_moved-is occupied from to low_occupied (omega (arith, l)) (omega (arith, m)) s ∙
-        by_place r.cells from to x size l m differ (λ t c. ((has occupied t && not (t == from)) || (t == to)) ≡ is_some c)
-        (taken_there (has occupied to) (not (to == from)) (to == to) (itself_equal to))
-        (left_there (has occupied from) (from == from) (from == to) (itself_equal from) (not_equal from to differ))
-        (λ t e f. kept_there (has occupied t) (t == from) (t == to) e f ∙ are_occupied t) s
-
-    enemies_there : AreMen (other r.side) (moved r.cells from to x) (without sets.enemies to)
-    enemies_there s =
-        without-is sets.enemies to low (omega (arith, m)) s ∙
-        by_place r.cells from to x size l m differ (λ t c. (has sets.enemies t && not (t == to)) ≡ is_own (other r.side) any_kind c)
-        (dropped_there (has sets.enemies to) (to == to) (itself_equal to) ∙ sym (own_apart r.side (Some x) is_own_man))
-        (ap (λ b. b && not (from == to)) no_enemy)
-        (λ t e f. stays_there (has sets.enemies t) (t == to) f ∙ are.enemies t) s
-
-    same_there : (s : ℕ) → has (without sets.enemies to) s ≡ true → cell_at (moved r.cells from to x) s ≡ cell_at r.cells s
-    same_there s h =
-        let k = sym (without-is sets.enemies to low (omega (arith, m)) s) ∙ h in
-        by_place r.cells from to x size l m differ (λ t c. (has sets.enemies t && not (t == to)) ≡ true → c ≡ cell_at r.cells t)
-        (λ g. absurd (let f : ⊥ = (let n = dropped_there (has sets.enemies to) (to == to) (itself_equal to) in cc) in f))
-        (λ g. absurd (let f : ⊥ = (let n = ap (λ b. b && not (from == to)) no_enemy in cc) in f))
-        (λ t e f g. refl) s k
-
-    kings_there : AreKings rules r.side (moved r.cells from to x) sets.kings
-    kings_there =
-        by_place r.cells from to x size l m differ (λ t c. has sets.kings t ≡ is_own_king rules r.side c)
-        (are.kings to ∙ no_king rules r.side (cell_at r.cells to) (sym (are.own to) ∙ target) ∙ sym (ap (is_own_king rules r.side) (sym there) ∙ sym (are.kings from) ∙ king))
-        king
-        (λ t e f. are.kings t)
-
-    board_there : IsBoardBy (other r.side) r.cells (without sets.enemies to) (with_moved occupied from to) (moved r.cells from to x)
-    board_there = record { squares = squares_there; own = enemies_there; same = same_there }
-
-    spared : has free from ≡ true → king_attacked rules (moved r.cells from to x) r.side ≡ false
-    spared h =
-        are_free from to (without sets.enemies to) (with_moved occupied from to) (moved r.cells from to x) h (without-is sets.enemies to low (omega (arith, m)))
-        (with_moved-is occupied from to low_occupied (omega (arith, l)) (omega (arith, m))) board_there kings_there
-
-  goes : (from to : Square) (x : Cell) → cell_at r.cells from.0 ≡ Some x → passes_by rules r from to.0 ≡ false → cells_after rules r (Go from to Stays None) ≡ moved r.cells from.0 to.0 x
-  unfolding cells_after
-  goes from to x there no_passing =
-      ap (λ b. slice_set (slice_set (if b then emptied r.cells (behind rules r.side to) else r.cells) from.0 None) to.0 (promote rules (cell_at r.cells from.0) Stays)) no_passing
-      ∙ ap (λ (c : Option Cell). slice_set (slice_set r.cells from.0 None) to.0 (promote rules c Stays)) there
-
-  -- those of the free squares with own pieces that are no kings
-  pub go_freely : (some few : Set) → ((s : ℕ) → has some s ≡ (has free s && has sets.own s)) → ((s : ℕ) → has few s ≡ (has some s && not (has sets.kings s))) → GoFreely rules r sets.own few
-  unfolding is_safe next_repeat
-  go_freely some few is_some_free is_few from to l m h target no_passing =
-      let a = and_parts (has some from.0) (not (has sets.kings from.0)) (sym (is_few from.0) ∙ h) in
-      let b = and_parts (has free from.0) (has sets.own from.0) (sym (is_some_free from.0) ∙ a.0) in
-      let piece = some_own r.side (cell_at r.cells from.0) (sym (are.own from.0) ∙ b.1) in
-      ap (λ cells. not (king_attacked rules cells r.side)) (goes from to piece.0 piece.1 no_passing)
-      ∙ ap (λ k. not k) (spared from.0 to.0 piece.0 l m piece.1 b.1 (not-true _ a.1) target b.0)
-
-  -- ---- a piece comes in
-
-  -- to a square of a board that has pieces, other men and own kings where this one has
-  module _ (base : List (Option Cell)) (to : ℕ) (x : Cell) (m : to < 120) (long : length base ≡ 120) (man : is_own r.side any_kind (Some x) ≡ true) (no : is_own_king rules r.side (Some x) ≡ false) (target : has sets.own to ≡ false)
-      (some_same : (s : ℕ) → is_some (cell_at base s) ≡ is_some (cell_at r.cells s)) (men_same : (s : ℕ) → is_own (other r.side) any_kind (cell_at base s) ≡ is_own (other r.side) any_kind (cell_at r.cells s))
-      (cell_same : (s : ℕ) → has sets.enemies s ≡ true → cell_at base s ≡ cell_at r.cells s) (king_same : (s : ℕ) → is_own_king rules r.side (cell_at base s) ≡ is_own_king rules r.side (cell_at r.cells s)) where
-    abbrev come : List (Option Cell)
-    come = slice_set base to (Some x)
-
-    -- what holds of its square and of the others holds of each
-    by_come : (P : ℕ → Option Cell → Type 0) → P to (Some x) → ((s : ℕ) → (s == to) ≡ false → P s (cell_at base s)) → (s : ℕ) → P s (cell_at come s)
-    by_come P at_to other s =
-        by_equal s to (P s (cell_at come s))
-        (λ q e. subst (λ t. P t (cell_at come t)) (sym e) (subst (P to) (sym (cell_at-set_same base to (Some x) (omega (arith, long, m)))) at_to))
-        (λ q e. subst (P s) (sym (cell_at-set_other base to s (Some x) (λ g. e (sym g)))) (other s q))
-
-    come_board : IsBoardBy (other r.side) r.cells (without sets.enemies to) (with_moved occupied to to) come
-    come_board = record {
-      squares = λ s. with_moved-is occupied to to low_occupied (omega (arith, m)) (omega (arith, m)) s ∙
-          by_come (λ t c. ((has occupied t && not (t == to)) || (t == to)) ≡ is_some c)
-          (taken_there (has occupied to) (not (to == to)) (to == to) (itself_equal to))
-          (λ t e. kept_there (has occupied t) (t == to) (t == to) e e ∙ are_occupied t ∙ sym (some_same t)) s;
-      own = λ s. without-is sets.enemies to low (omega (arith, m)) s ∙
-          by_come (λ t c. (has sets.enemies t && not (t == to)) ≡ is_own (other r.side) any_kind c)
-          (dropped_there (has sets.enemies to) (to == to) (itself_equal to) ∙ sym (own_apart r.side (Some x) man))
-          (λ t e. stays_there (has sets.enemies t) (t == to) e ∙ are.enemies t ∙ sym (men_same t)) s;
-      same = λ s h. by_come (λ t c. (has sets.enemies t && not (t == to)) ≡ true → c ≡ cell_at r.cells t)
-          (λ g. absurd (let f : ⊥ = (let n = dropped_there (has sets.enemies to) (to == to) (itself_equal to) in cc) in f))
-          (λ t e g. cell_same t (and_parts (has sets.enemies t) (not (t == to)) g).0) s (sym (without-is sets.enemies to low (omega (arith, m)) s) ∙ h);
-    }
-
-    come_kings : AreKings rules r.side come sets.kings
-    come_kings =
-        by_come (λ t c. has sets.kings t ≡ is_own_king rules r.side c)
-        (are.kings to ∙ no_king rules r.side (cell_at r.cells to) (sym (are.own to) ∙ target) ∙ sym no)
-        (λ t e. are.kings t ∙ sym (king_same t))
-
-    come_spared : has free to ≡ true → king_attacked rules come r.side ≡ false
-    come_spared h =
-        are_free to to (without sets.enemies to) (with_moved occupied to to) come h (without-is sets.enemies to low (omega (arith, m)))
-        (with_moved-is occupied to to low_occupied (omega (arith, m)) (omega (arith, m))) come_board come_kings
-
-  -- to the free squares without own pieces it is dropped
-  pub drop_freely : (enter : Set) → ((s : ℕ) → has enter s ≡ (has free s && not (has sets.own s))) → DropFreely rules r enter
-  unfolding is_safe next_repeat cells_after
-  drop_freely enter is_open kind to m h mere =
-      let a = and_parts (has free to.0) (not (has sets.own to.0)) (sym (is_open to.0) ∙ h) in
-      ap (λ k. not k)
-      (come_spared r.cells to.0 (fresh r.side kind) m size (fresh_own r.side) (fresh_no_king r.side (is_king rules kind) mere) (not-true _ a.1)
-      (λ s. refl) (λ s. refl) (λ s e. refl) (λ s. refl) a.0)
-
-  -- or goes there while another comes in behind it
-  module _ (from : ℕ) (x y : Cell) (l : from < 120) (there : cell_at r.cells from ≡ Some x) (own : has sets.own from ≡ true) (king : has sets.kings from ≡ false) (man : is_own r.side any_kind (Some y) ≡ true) (no : is_own_king rules r.side (Some y) ≡ false) where
-    abbrev behind_it : List (Option Cell)
-    behind_it = slice_set r.cells from (Some y)
-
-    by_gate : (P : ℕ → Option Cell → Type 0) → P from (Some y) → ((s : ℕ) → P s (cell_at r.cells s)) → (s : ℕ) → P s (cell_at behind_it s)
-    by_gate P at_from other s =
-        by_equal s from (P s (cell_at behind_it s))
-        (λ q e. subst (λ t. P t (cell_at behind_it t)) (sym e) (subst (P from) (sym (cell_at-set_same r.cells from (Some y) (omega (arith, size, l)))) at_from))
-        (λ q e. subst (P s) (sym (cell_at-set_other r.cells from s (Some y) (λ g. e (sym g)))) (other s))
-
-    gate_some : (s : ℕ) → is_some (cell_at behind_it s) ≡ is_some (cell_at r.cells s)
-    gate_some = by_gate (λ t c. is_some c ≡ is_some (cell_at r.cells t)) (sym (ap (λ c. is_some c) there)) (λ t. refl)
-
-    no_man : has sets.enemies from ≡ false
-    no_man = are.enemies from ∙ own_apart r.side (cell_at r.cells from) (sym (are.own from) ∙ own)
-
-    gate_men : (s : ℕ) → is_own (other r.side) any_kind (cell_at behind_it s) ≡ is_own (other r.side) any_kind (cell_at r.cells s)
-    gate_men =
-        by_gate (λ t c. is_own (other r.side) any_kind c ≡ is_own (other r.side) any_kind (cell_at r.cells t))
-        (own_apart r.side (Some y) man ∙ sym no_man ∙ are.enemies from) (λ t. refl)
-
-    gate_cells : (s : ℕ) → has sets.enemies s ≡ true → cell_at behind_it s ≡ cell_at r.cells s
-    gate_cells =
-        by_gate (λ t c. has sets.enemies t ≡ true → c ≡ cell_at r.cells t)
-        (λ g. absurd (let f : ⊥ = (let n = no_man in cc) in f)) (λ t g. refl)
-
-    gate_kings : (s : ℕ) → is_own_king rules r.side (cell_at behind_it s) ≡ is_own_king rules r.side (cell_at r.cells s)
-    gate_kings =
-        by_gate (λ t c. is_own_king rules r.side c ≡ is_own_king rules r.side (cell_at r.cells t))
-        (no ∙ sym king ∙ are.kings from) (λ t. refl)
-
-    gate_spared : (to : ℕ) → to < 120 → has sets.own to ≡ false → has free to ≡ true → king_attacked rules (slice_set behind_it to (Some x)) r.side ≡ false
-    gate_spared to m target h =
-        come_spared behind_it to x m (length-set r.cells from (Some y) ∙ size) (ap (is_own r.side any_kind) (sym there) ∙ sym (are.own from) ∙ own)
-        (ap (is_own_king rules r.side) (sym there) ∙ sym (are.kings from) ∙ king) target gate_some gate_men gate_cells gate_kings h
-
-  gated_cells : (from to : Square) (x : Cell) (kind : Kind) → cell_at r.cells from.0 ≡ Some x → passes_by rules r from to.0 ≡ false → cells_after rules r (Go from to Stays (Some kind)) ≡ slice_set (slice_set r.cells from.0 (Some (fresh r.side kind))) to.0 (Some x)
-  unfolding cells_after
-  gated_cells from to x kind there no_passing =
-      ap (λ b. slice_set (slice_set (if b then emptied r.cells (behind rules r.side to) else r.cells) from.0 (Some (fresh r.side kind))) to.0 (promote rules (cell_at r.cells from.0) Stays)) no_passing
-      ∙ ap (λ (c : Option Cell). slice_set (slice_set r.cells from.0 (Some (fresh r.side kind))) to.0 (promote rules c Stays)) there
-
-  pub gate_freely : (enter : Set) → ((s : ℕ) → has enter s ≡ (has free s && not (has sets.own s))) → GateFreely rules r sets.own sets.kings enter
-  unfolding is_safe next_repeat
-  gate_freely enter is_open kind from to l m own king h mere no_passing =
-      let a = and_parts (has free to.0) (not (has sets.own to.0)) (sym (is_open to.0) ∙ h) in
-      let piece = some_own r.side (cell_at r.cells from.0) (sym (are.own from.0) ∙ own) in
-      ap (λ cells. not (king_attacked rules cells r.side)) (gated_cells from to piece.0 kind piece.1 no_passing)
-      ∙ ap (λ k. not k)
-      (gate_spared from.0 piece.0 (fresh r.side kind) l piece.1 own king (fresh_own r.side) (fresh_no_king r.side (is_king rules kind) mere) to.0 m
-      (not-true _ a.1) a.0)
+    -- or goes there while another comes in behind it
+    pub gate_freely : (enter : Set) → ((s : ℕ) → has enter s ≡ (has free s && not (has sets.own s))) → GateFreely rules r sets.own sets.kings enter
+    gate_freely enter is_open kind from to l m own king h mere no_passing =
+        let a = and_parts (has free to.0) (not (has sets.own to.0)) (sym (is_open to.0) ∙ h) in
+        spared to.0 to.0 (Go from to Stays (Some kind)) a.0 (gate_board rules r sets occupied are are_occupied size kind from to l m own king (not-true _ a.1) mere no_passing)
 
 pub none_freely : (rules : Rules) (r : Repeat) (own : Set) → GoFreely rules r own (record { 0 = 0 })
 none_freely rules r own from to l m h target no_passing = absurd (let f : ⊥ = (let n = has-zero (record { 0 = 0 }) refl from.0 in cc) in f)

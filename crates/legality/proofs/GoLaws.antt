@@ -1,9 +1,9 @@
 -- Pieces that go to many squares, each of which is known to be safe.
-use Rattle.std.proofs.Common.{◌≡◌, ℕ, ◌+◌, ◌<◌, min, Bool, true, false, not, ◌&&◌, ◌||◌, Option, Some, None, List, [], ◌∷◌, length, inl, inr, refl, sym, ap, ◌∙◌, subst}
+use Rattle.std.proofs.Common.{◌≡◌, ℕ, ◌+◌, ◌<◌, min, Bool, true, false, not, ◌&&◌, ◌||◌, Option, Some, None, length, refl, sym, ap, ◌∙◌, subst}
 use Rattle.std.specs.Bool.{OnTrue}
+use Rattle.std.specs.Prelude.{IfSome}
 use Rattle.std.specs.List.{filter}
 use Rattle.std.proofs.lemmas.Bool.{and_from, and_parts, lt-ltb, not-true}
-use Rattle.foundation.specs.Member.{Member}
 use Rattle.rules_model.specs.declared.board.Kind.{Kind}
 use Rattle.rules_model.specs.declared.board.Repeat.{Repeat}
 use Rattle.rules_model.specs.declared.board.Square.{Square}
@@ -11,13 +11,15 @@ use Rattle.rules_model.specs.declared.moves.Move.{Move}
 use Rattle.rules_model.specs.declared.moves.Move.TheVariants.{Go}
 use Rattle.rules_model.specs.declared.moves.Promo.TheVariants.{Stays}
 use Rattle.rules_model.specs.declared.rules.Rules.{Rules}
-use Rattle.rules_model.specs.Legal.{is_sane}
+use Rattle.rules_model.specs.Legal.{is_safe, is_sane}
+use Rattle.rules_model.specs.Pawns.{passes_by}
 use Rattle.square_set.specs.declared.Set.{Set}
 use Rattle.square_set.specs.Members.{has, size}
+use Rattle.square_set.proofs.Cases.{by_bool}
 use Rattle.move_sink.specs.InTurn.{GoesTo, target_of}
-use Rattle.legality.specs.Chosen.{is_chosen, is_fit_move}
-use Rattle.legality.specs.Moved.{GateAtOnce, GateFreely, GoAtOnce, GoFreely, IsBarred, MayGate, MayGo, asks_only_safety}
-use Rattle.legality.proofs.AllGoes.{goes-size, goes_below}
+use Rattle.legality.specs.Chosen.{AreThose, is_chosen, is_fit_move, is_wanted}
+use Rattle.legality.specs.Moved.{AreSane, GateAtOnce, GateFreely, GoAtOnce, GoFreely, IsBarred, MayGate, MayGo, MayNotGate, MayNotGo, asks_only_safety}
+use Rattle.legality.proofs.AllGoes.{goes-those, goes_below}
 use Rattle.legality.proofs.SafetyLaws.{not_passing, plain_sane}
 
 asks_nothing : (bad checking drops : Bool) → bad ≡ false → checking ≡ true → (bad || not (checking && (drops || true))) ≡ false
@@ -48,6 +50,20 @@ module _ (rules : Rules) (r : Repeat) (only : asks_only_safety rules ≡ true) w
         plain_sane rules r (Go from to Stays (Some kind)) nothing_more
         ∙ freely kind from to l m member king both.0 mere (not_passing rules r from to.0 apart.1)
 
+    -- the targets of a king that goes where it is safe
+    pub king_goes : (from : Square) (targets danger sane : Set)
+        → ((to : Square) → to.0 < 120 → has own to.0 ≡ false → passes_by rules r from to.0 ≡ false → is_safe rules r (Go from to Stays None) ≡ not (has danger to.0))
+        → ((s : ℕ) → has targets s ≡ true → s < 120) → ((s : ℕ) → (has targets s && has barred s) ≡ false)
+        → ((s : ℕ) → has sane s ≡ (has targets s && not (has danger s))) → AreSane rules r from targets sane
+    king_goes from targets danger sane safe small apart is to =
+        by_bool (has targets to.0) (has sane to.0 ≡ (has targets to.0 && is_sane rules r (Go from to Stays None)))
+        (λ e.
+        let m = small to.0 e in
+        let bar = bars to.0 m (sym (ap (λ b. b && has barred to.0) e) ∙ apart to.0) in
+        let told = plain_sane rules r (Go from to Stays None) nothing_more ∙ safe to m bar.0 (not_passing rules r from to.0 bar.1) in
+        is to.0 ∙ ap (λ b. has targets to.0 && b) (sym told))
+        (λ e. is to.0 ∙ rw e refl)
+
 fit_go : (from to : Square) → from.0 < 120 → to.0 < 120 → is_fit_move (Go from to Stays None) ≡ true
 unfolding is_fit_move
 fit_go from to l m = rw (lt-ltb from.0 120 l, lt-ltb to.0 120 m) refl
@@ -60,6 +76,19 @@ all_chosen rules r captures from gate targets only l small none may m h =
     let is : Go from to Stays None ≡ m = ap (Go from to Stays) (sym none) ∙ h.0 in
     let n = small (target_of m) h.1 in
     rw only (subst (λ x. (is_fit_move x && is_sane rules r x) ≡ true) is (and_from _ _ (fit_go from to l n) (may to n h.1)))
+
+-- where any move is wanted, those are chosen that are sane
+pub chosen_is_sane : (rules : Rules) (r : Repeat) (captures : Bool) (from to : Square) → captures ≡ false → from.0 < 120 → to.0 < 120 → is_chosen rules r captures (Go from to Stays None) ≡ is_sane rules r (Go from to Stays None)
+unfolding is_chosen
+chosen_is_sane rules r captures from to only l m = rw (only, fit_go from to l m) refl
+
+pub sane_chosen : (rules : Rules) (r : Repeat) (captures : Bool) (from : Square) (gate : Option Kind) (targets sane : Set) → captures ≡ false → from.0 < 120 → ((s : ℕ) → has targets s ≡ true → s < 120) → gate ≡ None → AreSane rules r from targets sane → AreThose (is_chosen rules r captures) from gate targets sane
+sane_chosen rules r captures from gate targets sane only l small none are to =
+    by_bool (has targets to.0) (has sane to.0 ≡ (has targets to.0 && is_chosen rules r captures (Go from to Stays gate)))
+    (λ e.
+    are to ∙ ap (λ b. has targets to.0 && b)
+    (sym (chosen_is_sane rules r captures from to only l (small to.0 e)) ∙ ap (λ g. is_chosen rules r captures (Go from to Stays g)) (sym none)))
+    (λ e. are to ∙ rw e refl)
 
 -- ---- with a piece that comes in behind
 
@@ -74,18 +103,40 @@ all_gated rules r captures from kind targets only l k small may m h =
     let n = small (target_of m) h.1 in
     rw only (subst (λ x. (is_fit_move x && is_sane rules r x) ≡ true) h.0 (and_from _ _ (fit_gate from to kind l n k) (may to n h.1)))
 
--- ---- as many as are counted
+-- ---- of which none is sane
 
-pub all_kept : (p : Move → Bool) (xs : List Move) → ((x : Move) → Member x xs → p x ≡ true) → filter p xs ≡ xs
-all_kept p [] h = refl
-all_kept p (x ∷ xs) h = rw (h x (inl refl)) (ap (λ ys. x ∷ ys) (all_kept p xs (λ y k. h y (inr k))))
+last_false : (a b c : Bool) → c ≡ false → (a && (b && c)) ≡ false
+last_false true true c e = e
+last_false true false c e = refl
+last_false false b c e = refl
+
+not_chosen : (rules : Rules) (r : Repeat) (captures : Bool) (m : Move) → is_sane rules r m ≡ false → is_chosen rules r captures m ≡ false
+unfolding is_chosen
+not_chosen rules r captures m e = last_false (is_fit_move m) (is_wanted rules r captures m) (is_sane rules r m) e
+
+pub none_chosen : (rules : Rules) (r : Repeat) (captures : Bool) (from : Square) (gate : Option Kind) (targets : Set) → ((s : ℕ) → has targets s ≡ true → s < 120) → gate ≡ None → MayNotGo rules r from targets → (m : Move) → GoesTo from gate targets m → is_chosen rules r captures m ≡ false
+none_chosen rules r captures from gate targets small none barred m h =
+    let to : Square = record { 0 = target_of m } in
+    let is : Go from to Stays None ≡ m = ap (Go from to Stays) (sym none) ∙ h.0 in
+    subst (λ x. is_chosen rules r captures x ≡ false) is (not_chosen rules r captures (Go from to Stays None) (barred to (small (target_of m) h.1) h.1))
+
+pub none_gated : (rules : Rules) (r : Repeat) (captures : Bool) (from : Square) (kind : Kind) (targets : Set) → ((s : ℕ) → has targets s ≡ true → s < 120) → MayNotGate rules r from kind targets → (m : Move) → GoesTo from (Some kind) targets m → is_chosen rules r captures m ≡ false
+none_gated rules r captures from kind targets small barred m h =
+    let to : Square = record { 0 = target_of m } in
+    subst (λ x. is_chosen rules r captures x ≡ false) h.0 (not_chosen rules r captures (Go from to Stays (Some kind)) (barred to (small (target_of m) h.1) h.1))
+
+-- ---- as many as are counted
 
 pub on_true : {P Q : Type 0} (b : Bool) → OnTrue b P → (P → Q) → OnTrue b Q
 on_true true p f = f p
 on_true false p f = tt
 
--- all that are counted at once are as many as the squares
-pub counted_all : (p : Move → Bool) (from : Square) (gate : Option Kind) (targets : Set) (top old more new : ℕ) → more ≡ size targets → ((m : Move) → Member m (goes_below from gate targets 128) → p m ≡ true) → new ≡ min (old + more) top → new ≡ min (old + length (filter p (goes_below from gate targets 128))) top
-counted_all p from gate targets top old more new e all is =
-    let many : length (filter p (goes_below from gate targets 128)) ≡ more = ap length (all_kept p (goes_below from gate targets 128) all) ∙ goes-size from gate targets ∙ sym e in
+pub in_some : {X : Type 0} {P Q : X → Type 0} (o : Option X) → IfSome o P → ((x : X) → P x → Q x) → IfSome o Q
+in_some None h f = tt
+in_some (Some x) h f = f x h
+
+-- those that are counted at once are as many as the squares
+pub counted_those : (test : Move → Bool) (from : Square) (gate : Option Kind) (targets those : Set) (top old more new : ℕ) → more ≡ size those → AreThose test from gate targets those → new ≡ min (old + more) top → new ≡ min (old + length (filter test (goes_below from gate targets 128))) top
+counted_those test from gate targets those top old more new e are is =
+    let many : length (filter test (goes_below from gate targets 128)) ≡ more = goes-those from gate targets test those are ∙ sym e in
     is ∙ ap (λ n. min (old + n) top) (sym many)

@@ -1,4 +1,5 @@
 pub mod AllGoes
+pub mod BoardLaws
 pub mod CandidateFit
 pub mod CandidateParts
 pub mod FitLaws
@@ -11,3 +12,4 @@ pub mod MobileLaws
 pub mod SafetyLaws
 pub mod SeekLaws
 pub mod TextLaws
+pub mod VainLaws

@@ -3,6 +3,7 @@ use Rattle.std.specs.Prelude.{◌≡◌, Bool, true, ◌&&◌, ◌||◌, not, na
 use Rattle.std.specs.List.{list_any, filter}
 use Rattle.rules_model.specs.declared.board.Kind.{Kind}
 use Rattle.rules_model.specs.declared.board.Repeat.{Repeat}
+use Rattle.rules_model.specs.declared.board.Square.{Square}
 use Rattle.rules_model.specs.declared.moves.Move.{Move}
 use Rattle.rules_model.specs.declared.moves.Move.TheVariants.{Go, Castle, Drop}
 use Rattle.rules_model.specs.declared.moves.Placed.{Placed}
@@ -14,6 +15,8 @@ use Rattle.rules_model.specs.Candidates.{is_candidate}
 use Rattle.rules_model.specs.Legal.{every_move, is_allowed, is_sane}
 use Rattle.rules_model.specs.Moves.{IsFitMove}
 use Rattle.rules_model.specs.Next.{captures}
+use Rattle.square_set.specs.declared.Set.{Set}
+use Rattle.square_set.specs.Members.{has}
 
 -- a candidate on the largest board
 abbrev pub FitCandidates : Rules → Repeat → Move → Type 0
@@ -61,3 +64,9 @@ only_captures rules r = rules.must_capture && can_go rules r true
 -- the move captures, or need not
 abbrev pub captures_if_forced : Rules → Repeat → Move → Bool
 captures_if_forced rules r m = not (rules.must_capture && can_capture rules r) || captures rules r m
+
+-- the set has those of the targets to which the move of the piece on the square, which stays what it is and leaves this
+-- behind, passes the test
+abbrev pub AreThose : (Move → Bool) → Square → Option Kind → Set → Set → Type 0
+AreThose test from gate targets those =
+    (to : Square) → has those to.0 ≡ (has targets to.0 && test (Go from to Stays gate))

@@ -1,5 +1,5 @@
 -- What is known of a move before its position is made.
-use Rattle.std.specs.Prelude.{◌≡◌, ℕ, ◌<◌, Bool, true, false, ◌&&◌, ◌||◌, not, is_none, Option, Some, None, List}
+use Rattle.std.specs.Prelude.{◌≡◌, ℕ, ◌<◌, Bool, true, false, ◌&&◌, ◌||◌, not, ◌==◌, is_none, Option, Some, None, List}
 use Rattle.rules_model.specs.declared.board.Cell.{Cell}
 use Rattle.rules_model.specs.declared.board.Kind.{Kind}
 use Rattle.rules_model.specs.declared.board.Repeat.{Repeat}
@@ -87,6 +87,43 @@ AreOwn r set = (s : ℕ) → has set s ≡ true → is_own r.side (λ kind. true
 abbrev pub HoldNoKing : Rules → Repeat → Set → Type 0
 HoldNoKing rules r set = (s : ℕ) → has set s ≡ true → is_own_king rules r.side (cell_at r.cells s) ≡ false
 
+-- ---- in vain
+
+-- a piece that goes from a square of the first set to one of the second without a gate, and stays what it is, leaves
+-- its king attacked
+abbrev pub GoInVain : Rules → Repeat → Set → Set → Type 0
+GoInVain rules r leave enter =
+    (from to : Square) → from.0 < 120 → to.0 < 120 → has leave from.0 ≡ true → has enter to.0 ≡ true
+    → is_safe rules r (Go from to Stays None) ≡ false
+
+-- so does a piece other than a king that is dropped on a square of the set
+abbrev pub DropInVain : Rules → Repeat → Set → Type 0
+DropInVain rules r enter =
+    (kind : Kind) (to : Square) → to.0 < 120 → has enter to.0 ≡ true → is_king rules kind ≡ false
+    → is_safe rules r (Drop kind to) ≡ false
+
+-- and an own piece other than a king that goes there, stays what it is and leaves a piece other than a king behind
+abbrev pub GateInVain : Rules → Repeat → Set → Set → Set → Type 0
+GateInVain rules r own kings enter =
+    (kind : Kind) (from to : Square) → from.0 < 120 → to.0 < 120 → has own from.0 ≡ true → has kings from.0 ≡ false
+    → has enter to.0 ≡ true → is_king rules kind ≡ false → is_safe rules r (Go from to Stays (Some kind)) ≡ false
+
+-- an own piece other than a king goes from the square and leaves a piece other than a king behind
+abbrev pub leaves_another : Rules → Set → Set → Square → Kind → Bool
+leaves_another rules own kings from kind = has own from.0 && not (has kings from.0) && not (is_king rules kind)
+
+-- it leaves such a piece behind, or goes from a square of the set
+abbrev pub leaves_in_vain : Rules → Set → Set → Set → Square → Option Kind → Bool
+leaves_in_vain rules own kings leave from None = has leave from.0
+leaves_in_vain rules own kings leave from (Some kind) = leaves_another rules own kings from kind
+
+-- a piece goes so to a square of the second set, and stays what it is, or one other than a king is dropped on one
+abbrev pub is_in_vain : Rules → Set → Set → Set → Set → Move → Bool
+is_in_vain rules own kings leave enter (Go from to promo gate) =
+    is_stays promo && has enter to.0 && leaves_in_vain rules own kings leave from gate
+is_in_vain rules own kings leave enter (Castle from to rook gate) = false
+is_in_vain rules own kings leave enter (Drop kind to) = has enter to.0 && not (is_king rules kind)
+
 -- ---- told at once
 
 -- the variant asks no more of a piece that goes and stays what it is than that it leaves the own king safe
@@ -119,3 +156,22 @@ MayGo rules r from targets = (to : Square) → to.0 < 120 → has targets to.0 �
 abbrev pub MayGate : Rules → Repeat → Square → Kind → Set → Type 0
 MayGate rules r from kind targets =
     (to : Square) → to.0 < 120 → has targets to.0 ≡ true → is_sane rules r (Go from to Stays (Some kind)) ≡ true
+
+-- to none of the targets a piece that goes from the square, and stays what it is, makes a sane move
+abbrev pub MayNotGo : Rules → Repeat → Square → Set → Type 0
+MayNotGo rules r from targets =
+    (to : Square) → to.0 < 120 → has targets to.0 ≡ true → is_sane rules r (Go from to Stays None) ≡ false
+
+-- nor one that leaves a piece of the kind behind
+abbrev pub MayNotGate : Rules → Repeat → Square → Kind → Set → Type 0
+MayNotGate rules r from kind targets =
+    (to : Square) → to.0 < 120 → has targets to.0 ≡ true → is_sane rules r (Go from to Stays (Some kind)) ≡ false
+
+-- the set has those of the targets to which a piece that goes from the square, and stays what it is, makes a sane move
+abbrev pub AreSane : Rules → Repeat → Square → Set → Set → Type 0
+AreSane rules r from targets sane =
+    (to : Square) → has sane to.0 ≡ (has targets to.0 && is_sane rules r (Go from to Stays None))
+
+-- the set has the square and no other
+abbrev pub IsOnly : Set → ℕ → Type 0
+IsOnly set square = (s : ℕ) → has set s ≡ (s == square)

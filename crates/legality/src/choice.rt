@@ -1,5 +1,5 @@
 //! The choice among the candidates.
-ghost use Rattle.std.specs.Prelude.{◌≡◌, ◌<◌, ℕ, true};
+ghost use Rattle.std.specs.Prelude.{◌≡◌, ◌<◌, ℕ, true, false, IfSome};
 ghost use Rattle.std.specs.Bool.{OnTrue};
 ghost use Rattle.square_set.specs.Members.{has};
 ghost use Rattle.rules_model.specs.declared.moves.Move.{Move};
@@ -12,7 +12,7 @@ ghost use Rattle.rules_model.specs.Repeats.{repeat_of};
 use crate::capture::captures;
 use crate::safety::Safety;
 use rules_model::{Kind, Move, Placed, Promo, Square};
-use square_set::Set;
+use square_set::{EMPTY, Set};
 
 fn is_fit_promo(promo: Promo) -> bool
     ensures { result ≡ Chosen.is_fit_promo promo }
@@ -85,7 +85,7 @@ impl<'a> Choice<'a> {
     }
 
     /// Whether it is told at once that all moves from the square to these are chosen.
-    pub fn holds_all(&self, from: Square, gate: Option<Kind>, targets: Set) -> bool
+    fn holds_all(&self, from: Square, gate: Option<Kind>, targets: Set) -> bool
         requires from { from.0 < 120 }
         requires targets { (s : ℕ) → has targets s ≡ true → s < 120 }
         ensures { OnTrue result ((m : Move) → GoesTo from gate targets m → Choices.chosen_by self.now m ≡ true) }
@@ -96,6 +96,39 @@ impl<'a> Choice<'a> {
         match gate {
             None => self.safety.lets_go(from, targets),
             Some(kind) => kind.0 < 26 && self.safety.lets_gate(from, kind, targets),
+        }
+    }
+
+    /// Whether it is told at once that no move from the square to these is chosen.
+    fn holds_none(&self, from: Square, gate: Option<Kind>, targets: Set) -> bool
+        requires from { from.0 < 120 }
+        requires targets { (s : ℕ) → has targets s ≡ true → s < 120 }
+        ensures { OnTrue result ((m : Move) → GoesTo from gate targets m → Choices.chosen_by self.now m ≡ false) }
+    {
+        match gate {
+            None => self.safety.bars_go(from, targets),
+            Some(kind) => self.safety.bars_gate(from, kind, targets),
+        }
+    }
+
+    /// Of the targets, those to which the moves from the square are chosen, where this is told at once.
+    pub fn holds_at_once(&self, from: Square, gate: Option<Kind>, targets: Set) -> Option<Set>
+        requires from { from.0 < 120 }
+        requires targets { (s : ℕ) → has targets s ≡ true → s < 120 }
+        ensures { IfSome result (λ those. Chosen.AreThose (Choices.chosen_by self.now) from gate targets those) }
+    {
+        if self.holds_all(from, gate, targets) {
+            return Some(targets);
+        }
+        if self.holds_none(from, gate, targets) {
+            return Some(EMPTY);
+        }
+        if self.captures {
+            return None;
+        }
+        match gate {
+            None => self.safety.lets_king(from, targets),
+            Some(_) => None,
         }
     }
 

@@ -32,10 +32,10 @@ impl<'a> MoveSink for Counter<'a> {
         Ok(())
     }
 
-    /// Where all of them are chosen, they are counted at once.
+    /// Where it is told at once which of them are chosen, these are counted at once.
     fn take_all(&mut self, from: Square, gate: Option<Kind>, targets: Set) -> Result<(), ()> {
-        if self.choice.holds_all(from, gate, targets) {
-            self.count = self.count.saturating_add(u128::from(targets.count()));
+        if let Some(chosen) = self.choice.holds_at_once(from, gate, targets) {
+            self.count = self.count.saturating_add(u128::from(chosen.count()));
             return Ok(());
         }
         let mut left = targets;

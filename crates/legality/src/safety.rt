@@ -1,6 +1,8 @@
-//! What is asked of a candidate: that the own king is safe after it, that it gives check where it may, and that the piece can move on.
-ghost use Rattle.std.specs.Prelude.{◌≡◌, ◌<◌};
+//! What is asked of a candidate: that the own king is safe after it, that it gives no check that the variant forbids, and
+//! that the piece can move on.
+ghost use Rattle.std.specs.Prelude.{◌≡◌, ℕ, ◌<◌, true, IfSome};
 ghost use Rattle.std.specs.Bool.{OnTrue};
+ghost use Rattle.square_set.specs.Members.{has};
 ghost use Rattle.rules_model.specs.Legal as Legal;
 ghost use Rattle.rules_model.specs.Moves.{IsFitMove};
 ghost use Rattle.rules_model.specs.Next as Next;
@@ -9,7 +11,10 @@ ghost use Rattle.board_sets.specs.Sets.{AreSets};
 ghost use Rattle.legality.specs.Moved as Moved;
 
 use crate::mobile::stays_mobile;
-use crate::unpinned::{FreeSquares, NONE_FREE, barred_at_once, free_at_once, free_squares};
+use crate::unpinned::{
+    FreeSquares, NONE_FREE, NONE_VAIN, VainSquares, barred_at_once, free_at_once, free_squares,
+    king_at_once, vain_unless_free,
+};
 use attack_tables::Tables;
 use board_sets::{BoardSets, sets_are_on_board};
 use next_position::move_pieces;
@@ -31,12 +36,20 @@ pub(crate) struct Safety<'a> {
     pub at_once: FreeSquares,
     /// The squares of own pieces, and that of en passant: what goes there is not told at once.
     pub barred: Set,
+    /// The squares from which and to which pieces go in vain, where a piece attacks a king; else none.
+    pub vain: VainSquares,
     ghost are_sets: { AreSets tables.now p.now.side p.now.cells sets },
     ghost go_freely: { Moved.GoFreely tables.now (repeat_of p.now) sets.own free.to_leave },
     ghost drop_freely: { Moved.DropFreely tables.now (repeat_of p.now) free.to_enter },
     ghost go_at_once: { Moved.GoAtOnce tables.now (repeat_of p.now) at_once.to_leave barred },
     ghost gate_at_once: { Moved.GateAtOnce tables.now (repeat_of p.now) sets.own sets.kings at_once.to_enter },
+    ghost go_in_vain: { Moved.GoInVain tables.now (repeat_of p.now) vain.to_leave vain.to_enter },
+    ghost drop_in_vain: { Moved.DropInVain tables.now (repeat_of p.now) vain.to_enter },
+    ghost gate_in_vain: { Moved.GateInVain tables.now (repeat_of p.now) sets.own sets.kings vain.to_enter },
 }
+
+/// From so many targets of a king on, one set of the squares in danger is found sooner than each target is looked at.
+const MANY_TARGETS: u32 = 3;
 
 fn is_drop(m: &Move) -> bool
     ensures { result ≡ Legal.is_drop m.now }
@@ -64,6 +77,7 @@ impl<'a> Safety<'a> {
         let free = free_squares(rules, tables, p, sets);
         let barred = barred_at_once(p, sets.own);
         let at_once = free_at_once(rules, p, sets, barred, free);
+        let vain = vain_unless_free(tables, p, sets, barred, free);
         Safety {
             tables,
             p,
@@ -71,10 +85,11 @@ impl<'a> Safety<'a> {
             free,
             at_once,
             barred,
+            vain,
         }
     }
 
-    /// For a few moves: no square is taken to be free.
+    /// For a few moves: no square is taken to be free, or in vain.
     pub fn of_few(
         rules: &Rules,
         tables: &'a Tables,
@@ -93,6 +108,7 @@ impl<'a> Safety<'a> {
             free: NONE_FREE,
             at_once: NONE_FREE,
             barred: sets.own,
+            vain: NONE_VAIN,
         }
     }
 
@@ -154,6 +170,51 @@ impl<'a> Safety<'a> {
         }
     }
 
+    /// Whether an own piece other than a king goes from the square and leaves a piece of the kind behind, which is no
+    /// king.
+    fn leaves_another(&self, from: Square, kind: Kind) -> bool
+        requires { from.0 < 120 }
+        ensures { result ≡ Moved.leaves_another self.now.tables.now self.now.sets.own self.now.sets.kings from kind }
+    {
+        self.sets.own.has(from.0)
+            && !self.sets.kings.has(from.0)
+            && !names(self.tables.rules().king, kind)
+    }
+
+    /// Whether it does so, or goes from a square that is left in vain.
+    fn leaves_in_vain(&self, from: Square, gate: Option<Kind>) -> bool
+        requires { from.0 < 120 }
+        ensures { result ≡ Moved.leaves_in_vain self.now.tables.now self.now.sets.own self.now.sets.kings
+            self.now.vain.to_leave from gate }
+    {
+        match gate {
+            None => self.vain.to_leave.has(from.0),
+            Some(kind) => self.leaves_another(from, kind),
+        }
+    }
+
+    /// Whether a piece goes in vain and stays what it is, or one other than a king is dropped in vain.
+    fn is_in_vain(&self, m: &Move) -> bool
+        requires { IsFitMove m.now }
+        ensures { result ≡ Moved.is_in_vain self.now.tables.now self.now.sets.own self.now.sets.kings
+            self.now.vain.to_leave self.now.vain.to_enter m.now }
+    {
+        match *m {
+            Move::Go {
+                from,
+                to,
+                promo,
+                gate,
+            } => {
+                is_stays(promo) && self.vain.to_enter.has(to.0) && self.leaves_in_vain(from, gate)
+            }
+            Move::Castle { .. } => false,
+            Move::Drop { kind, to } => {
+                self.vain.to_enter.has(to.0) && !names(self.tables.rules().king, kind)
+            }
+        }
+    }
+
     /// Whether it is told at once that a piece that goes from the square, and stays what it is, may go to each of these
     /// squares.
     pub fn lets_go(&self, from: Square, targets: Set) -> bool
@@ -163,16 +224,45 @@ impl<'a> Safety<'a> {
         self.at_once.to_leave.has(from.0) && targets.and(self.barred).is_empty()
     }
 
+    /// Whether it is told at once that a piece that goes from the square, and stays what it is, may go to none of these
+    /// squares.
+    #[tactic(auto, using(crate::proofs::SafetyLaws::not_safe_not_sane))]
+    pub fn bars_go(&self, from: Square, targets: Set) -> bool
+        requires from { from.0 < 120 }
+        ensures { OnTrue result (Moved.MayNotGo self.now.tables.now (repeat_of self.now.p.now) from targets) }
+    {
+        self.vain.to_leave.has(from.0) && targets.minus(self.vain.to_enter).is_empty()
+    }
+
+    /// Of the targets, those to which the king on the square may go, where this is told at once.
+    pub fn lets_king(&self, from: Square, targets: Set) -> Option<Set>
+        requires from { from.0 < 120 }
+        requires targets { (s : ℕ) → has targets s ≡ true → s < 120 }
+        ensures { IfSome result
+            (λ sane. Moved.AreSane self.now.tables.now (repeat_of self.now.p.now) from targets sane) }
+    {
+        if targets.count() < MANY_TARGETS {
+            return None;
+        }
+        king_at_once(self.tables, self.p, &self.sets, from, targets)
+    }
+
     /// Whether it is told at once that a piece that goes from the square, stays what it is and leaves a piece of the
     /// kind behind, may go to each of these squares.
     pub fn lets_gate(&self, from: Square, kind: Kind, targets: Set) -> bool
         requires from { from.0 < 120 }
         ensures { OnTrue result (Moved.MayGate self.now.tables.now (repeat_of self.now.p.now) from kind targets) }
     {
-        !names(self.tables.rules().king, kind)
-            && self.sets.own.has(from.0)
-            && !self.sets.kings.has(from.0)
-            && targets.minus(self.at_once.to_enter).is_empty()
+        self.leaves_another(from, kind) && targets.minus(self.at_once.to_enter).is_empty()
+    }
+
+    /// Whether it is told at once that a piece that goes from the square, stays what it is and leaves a piece of the
+    /// kind behind, may go to none of these squares.
+    pub fn bars_gate(&self, from: Square, kind: Kind, targets: Set) -> bool
+        requires from { from.0 < 120 }
+        ensures { OnTrue result (Moved.MayNotGate self.now.tables.now (repeat_of self.now.p.now) from kind targets) }
+    {
+        self.leaves_another(from, kind) && targets.minus(self.vain.to_enter).is_empty()
     }
 
     /// The cells after the move.
@@ -265,12 +355,15 @@ impl<'a> Safety<'a> {
 
     /// Whether the move leaves the own king safe, gives no check that the variant forbids, and, where the variant asks
     /// it, leaves a piece on its target that can ever move. Whether it is a candidate is not asked. Where the variant
-    /// asks no more than a safe king, a free piece and a drop on a free square need no look at the board, and only a
-    /// castle a copy of it.
+    /// asks no more than a safe king, a free piece, a drop on a free square and what is in vain need no look at the
+    /// board, and only a castle a copy of it.
     pub fn is_sane(&self, m: &Move) -> bool
         requires { IsFitMove m.now }
         ensures { result ≡ Legal.is_sane self.now.tables.now (repeat_of self.now.p.now) m.now }
     {
+        if self.is_in_vain(m) {
+            return false;
+        }
         if self.asks_more(m) {
             self.is_sane_after(m)
         } else {

@@ -6,7 +6,7 @@ use board_sets::sets_of;
 use foundation::Memory;
 use move_text::write_move;
 use rules_model::{Cause, Move, Outcome, Position, Promo, Rules, Side, sound};
-use sample_rules::{capablanca, chess, kind, position, shouse, square, xiangqi};
+use sample_rules::{capablanca, chess, hand_of, kind, position, shouse, square, xiangqi};
 use std::alloc::Global;
 use std::process::Abort;
 use std::test::Fail;
@@ -124,6 +124,9 @@ fn kings_are_kept_safe(rt: HostRuntime) -> Result<(), Fail> {
         ("Ka1 Nc2 ra3 kh8", "a1b1 a1b2 c2a3"),
         // a piece between its king and a rook
         ("Ke1 Be2 pd3 re8 ka8", "e1d1 e1d2 e1f1 e1f2"),
+        // the rook attacks the squares after the king too, and the bishop guards the knight
+        ("Ke4 re8 ka1", "e4d3 e4d4 e4d5 e4f3 e4f4 e4f5"),
+        ("Ke2 nd3 bf5 kh8", "e2d1 e2d2 e2e3 e2f1 e2f3"),
     ];
     have_moves(&rt, rt.alloc(), &chess(), &rows)?;
     // en passant would take both pawns from the rank of the king and a rook
@@ -175,12 +178,106 @@ fn pinned_pieces_are_not_free(rt: HostRuntime) -> Result<(), Fail> {
 }
 
 #[test]
+fn checks_of_chess_are_ended(rt: HostRuntime) -> Result<(), Fail> {
+    let rows = [
+        // a rook's is blocked on its file, and the bishop takes it
+        (
+            "Ke1 Nc3 Bg6 Ph2 re8 ka8",
+            "c3e2 c3e4 e1d1 e1d2 e1f1 e1f2 g6e4 g6e8",
+        ),
+        // no piece gets between a knight and the king
+        ("Ke1 Ra3 Bh6 nd3 kh8", "a3d3 e1d1 e1d2 e1e2 e1f1"),
+        // of two pieces the rook and the queen would take one, or block one
+        ("Ke1 Rd8 Qh4 re8 nf3 ka7", "e1d1 e1f1 e1f2"),
+        // pawns that become pieces block the rook, or take it
+        (
+            "Ka8 Pc2 Pd7 Pg7 rh8 kh1",
+            "a8a7 a8b7 d7d8b d7d8n d7d8q d7d8r g7g8b g7g8n g7g8q g7g8r g7h8b g7h8n g7h8q g7h8r",
+        ),
+    ];
+    have_moves(&rt, rt.alloc(), &chess(), &rows)?;
+    // the pawn that gives check is taken in passing; a rook's check is not ended so
+    let passing = [
+        (
+            "Ke4 Pc5 pd5 kh8",
+            "c5d6 e4d3 e4d4 e4d5 e4e3 e4e5 e4f3 e4f4 e4f5",
+        ),
+        ("Ka1 Pe5 pd5 ra8 kh8", "a1b1 a1b2"),
+    ];
+    for (pieces, texts) in &passing {
+        let p = Position {
+            ep: Some(square("d6")),
+            ..position(*pieces)
+        };
+        has_moves(&rt, rt.alloc(), &chess(), &p, *texts)?;
+    }
+    Ok(())
+}
+
+#[test]
+fn checks_of_cannons_and_horses_are_ended(rt: HostRuntime) -> Result<(), Fail> {
+    let rows = [
+        // the horse over which the cannon attacks goes away, or the rook comes between. On the d file kings would face
+        (
+            "Ke1 Ne4 Ra5 ce7 kd10",
+            "a5e5 e1f1 e4c3 e4c5 e4d2 e4d6 e4f2 e4f6 e4g3 e4g5",
+        ),
+        // where the rook takes the soldier the cannon attacks over the rook
+        ("Ke1 Ra4 Rh7 ce7 pe4 kd10", "e1f1 h7e7"),
+        // the rook and the cannon after it attack: one piece blocks both, and to take the rook is in vain
+        ("Ke1 Ra5 Rh8 re8 ce9 kd10", "a5e5 e1f1"),
+        // the horse goes over d2
+        ("Ke1 Ra2 Ae2 nd3 kf10", "a2d2 e1d1 e2d3"),
+    ];
+    have_moves(&rt, rt.alloc(), &xiangqi(), &rows)
+}
+
+// Drops on the squares between, and pieces that come in where one leaves.
+#[test]
+fn checks_are_ended_from_the_hand(rt: HostRuntime) -> Result<(), Fail> {
+    // pieces, those in White's hand, and its gates
+    let rows: [(&str, &[u8], u16, &str); 4] = [
+        (
+            "Ka1 ra8 kh8",
+            b"np",
+            0,
+            "N@a2 N@a3 N@a4 N@a5 N@a6 N@a7 P@a2 P@a3 P@a4 P@a5 P@a6 P@a7 a1b1 a1b2",
+        ),
+        ("Ka1 nc2 kh8", b"r", 0, "a1a2 a1b1 a1b2"),
+        // the gate of g1 is open: the elephant may come in there
+        (
+            "Ke1 Ng1 re8 ka8",
+            b"e",
+            0x40,
+            "E@e2 E@e3 E@e4 E@e5 E@e6 E@e7 e1d1 e1d2 e1f1 e1f2 g1e2 g1e2e",
+        ),
+        // on c1 it has to, where the knight would leave the king to the other rook
+        (
+            "Ke1 Nc1 ra1 re8 ka8",
+            b"e",
+            4,
+            "E@e2 E@e3 E@e4 E@e5 E@e6 E@e7 c1e2e e1d1 e1d2 e1f1 e1f2",
+        ),
+    ];
+    for (pieces, hand, gates, texts) in rows {
+        let mut p = position(pieces);
+        p.hands[0] = hand_of(hand);
+        p.gates[0] = gates;
+        has_moves(&rt, rt.alloc(), &shouse(), &p, texts)?;
+    }
+    Ok(())
+}
+
+#[test]
 fn captures_are_forced(rt: HostRuntime) -> Result<(), Fail> {
     let rows = [
         ("Ke1 Pe4 pd5 ke8", "e4d5"),
         ("Ka1 Pe4 kh8", "a1a2 a1b1 a1b2 e4e5"),
         // the bishop may not take
         ("Ke1 Be2 pd3 re8 ka8", "e1d1 e1d2 e1f1 e1f2"),
+        // in check: the pawn takes in vain, and the knight has to take the rook
+        ("Ka1 Pe4 pd5 ra8 kh8", "a1b1 a1b2"),
+        ("Ka1 Nb6 pd5 ra8 kh8", "b6a8"),
     ];
     have_moves(&rt, rt.alloc(), &forced(), &rows)?;
     let p = Position {

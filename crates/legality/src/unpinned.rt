@@ -1,16 +1,20 @@
-//! The squares that a piece may leave, and those that one may enter, without leaving its king attacked.
-ghost use Rattle.std.specs.Prelude.{◌≡◌};
+//! What is known of moves before they are made: which leave the own king safe, and which leave it attacked.
+ghost use Rattle.std.specs.Prelude.{◌≡◌, ℕ, ◌<◌, true, IfSome};
+ghost use Rattle.std.specs.Bool.{OnTrue};
+ghost use Rattle.square_set.specs.Members.{has};
 ghost use Rattle.rules_model.specs.Repeats.{repeat_of};
 ghost use Rattle.board_sets.specs.Sets.{AreSets};
 ghost use Rattle.legality.specs.Moved as Moved;
 ghost use Rattle.legality.specs.Moved.{AreOwn, DropFreely, GateAtOnce, GateFreely, GoAtOnce, GoFreely};
-ghost use Rattle.legality.specs.Moved.{HoldNoKing, IsBarred};
+ghost use Rattle.legality.specs.Moved.{DropInVain, GateInVain, GoInVain, HoldNoKing, IsBarred};
 
 use attack_tables::Tables;
 use board_sets::{BoardSets, sets_are_on_board};
+use pins::danger::danger;
+use pins::evasion::evasions;
 use pins::free;
 use rules_model::sizes::position_sizes;
-use rules_model::{Position, Rules};
+use rules_model::{Position, Rules, Square};
 use square_set::{EMPTY, Set};
 
 /// Squares at which a change opens no attack on a king of the mover.
@@ -25,6 +29,25 @@ pub(crate) struct FreeSquares {
 
 /// None is known to be free.
 pub(crate) const NONE_FREE: FreeSquares = FreeSquares {
+    to_leave: EMPTY,
+    to_enter: EMPTY,
+};
+
+/// Squares from which and to which a piece goes in vain: a king of the mover is attacked, and stays so.
+#[derive(Clone, Copy)]
+pub(crate) struct VainSquares {
+    /// Those of own pieces other than kings, which go from there in vain to each square of `to_enter`.
+    pub to_leave: Set,
+    /// Those to which a piece other than a king that leaves no square empty comes in vain. None holds an own piece, or
+    /// is that of en passant.
+    pub to_enter: Set,
+}
+
+/// Every square.
+const EVERYWHERE: Set = Set(u128::MAX);
+
+/// None is known to be in vain.
+pub(crate) const NONE_VAIN: VainSquares = VainSquares {
     to_leave: EMPTY,
     to_enter: EMPTY,
 };
@@ -55,6 +78,46 @@ pub(crate) fn free_squares(
     FreeSquares { to_leave, to_enter }
 }
 
+/// The squares from which and to which pieces go in vain: none where no piece attacks a king of the mover. `barred` are
+/// those of own pieces and that of en passant.
+fn vain_squares(tables: &Tables, p: &Position, sets: &BoardSets, barred: Set) -> VainSquares
+    requires sets { AreSets tables.now p.now.side p.now.cells sets.now }
+    requires barred { IsBarred (repeat_of p.now) sets.now.own barred }
+    ensures go { GoInVain tables.now (repeat_of p.now) result.to_leave result.to_enter }
+    ensures drop { DropInVain tables.now (repeat_of p.now) result.to_enter }
+    ensures gate { GateInVain tables.now (repeat_of p.now) sets.now.own sets.now.kings result.to_enter }
+{
+    position_sizes(p);
+    sets_are_on_board();
+    let occupied = sets.occupied();
+    let evasions = evasions(tables, &p.cells, sets.kings, sets.enemies, occupied, p.side);
+    VainSquares {
+        to_leave: sets.own.minus(sets.kings).minus(evasions.leave),
+        to_enter: EVERYWHERE.minus(barred).minus(evasions.enter),
+    }
+}
+
+/// The same, but none where a square is free: no king is attacked then.
+pub(crate) fn vain_unless_free(
+    tables: &Tables,
+    p: &Position,
+    sets: &BoardSets,
+    barred: Set,
+    free: FreeSquares,
+) -> VainSquares
+    requires sets { AreSets tables.now p.now.side p.now.cells sets.now }
+    requires barred { IsBarred (repeat_of p.now) sets.now.own barred }
+    ensures go { GoInVain tables.now (repeat_of p.now) result.to_leave result.to_enter }
+    ensures drop { DropInVain tables.now (repeat_of p.now) result.to_enter }
+    ensures gate { GateInVain tables.now (repeat_of p.now) sets.now.own sets.now.kings result.to_enter }
+{
+    if free.to_leave.is_empty() && free.to_enter.is_empty() {
+        vain_squares(tables, p, sets, barred)
+    } else {
+        NONE_VAIN
+    }
+}
+
 /// The squares of own pieces, and that of en passant: on the others no own piece is taken, and none in passing.
 pub(crate) fn barred_at_once(p: &Position, own: Set) -> Set
     ensures { IsBarred (repeat_of p.now) own result }
@@ -70,6 +133,48 @@ fn asks_only_safety(rules: &Rules) -> bool
     ensures { result ≡ Moved.asks_only_safety rules.now }
 {
     !rules.immobile_bad && rules.checking
+}
+
+/// Whether the set has the square and no other.
+fn is_only(set: Set, square: u8) -> bool
+    requires { square < 128 }
+    ensures { OnTrue result (Moved.IsOnly set square) }
+{
+    set.has(square) && set.without(square).is_empty()
+}
+
+/// Of the targets, those to which the mover's king may go from the square. Not told where it is not the only king, where
+/// kings fly, where the variant asks more of a move than a safe king, or where a target is barred.
+pub(crate) fn king_at_once(
+    tables: &Tables,
+    p: &Position,
+    sets: &BoardSets,
+    from: Square,
+    targets: Set,
+) -> Option<Set>
+    requires sets { AreSets tables.now p.now.side p.now.cells sets.now }
+    requires from { from.0 < 120 }
+    requires targets { (s : ℕ) → has targets s ≡ true → s < 120 }
+    ensures { IfSome result (λ sane. Moved.AreSane tables.now (repeat_of p.now) from targets sane) }
+{
+    position_sizes(p);
+    let rules = tables.rules();
+    if rules.flying || !asks_only_safety(rules) || !is_only(sets.kings, from.0) {
+        return None;
+    }
+    let barred = barred_at_once(p, sets.own);
+    if !targets.and(barred).is_empty() {
+        return None;
+    }
+    let danger = danger(
+        tables,
+        &p.cells,
+        from,
+        sets.enemies,
+        sets.occupied(),
+        p.side,
+    );
+    Some(targets.minus(danger))
 }
 
 /// The free squares, but for the barred ones to enter, where a piece that leaves or enters one is asked nothing else;

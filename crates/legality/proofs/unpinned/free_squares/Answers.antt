@@ -9,8 +9,8 @@ use Rattle.legality.proofs.unpinned.free_squares.Goals as goal
 pub returns-clause-safe : goal.returns-clause-safe
 returns-clause-safe c =
     let Free : Rules → Type 0 = λ rules'. IsFree rules' c.args.p.now.side c.args.p.now.cells c.args.sets.now.kings c.args.sets.now.enemies c.occupied-occupied.result c.free-anywhere.result in
-    go_freely c.args.rules.now (repeat_of c.args.p.now) c.args.sets.now c.occupied-occupied.result c.free-anywhere.result c.requires.sets (c.occupied-occupied.ensures _ _ _ c.requires.sets)
-    (subst Free c.requires.tables c.free-anywhere.ensures) c.position_sizes.ensures.cells c.and-own.result c.minus-to_leave.result c.and-own.ensures c.minus-to_leave.ensures
+    go_freely c.args.rules.now (repeat_of c.args.p.now) c.args.sets.now c.occupied-occupied.result c.requires.sets (c.occupied-occupied.ensures _ _ _ c.requires.sets) c.position_sizes.ensures.cells
+    c.free-anywhere.result (subst Free c.requires.tables c.free-anywhere.ensures) c.and-own.result c.minus-to_leave.result c.and-own.ensures c.minus-to_leave.ensures
 
 pub returns-clause-own : goal.returns-clause-own
 returns-clause-own c s h =
@@ -26,11 +26,11 @@ returns-clause-no_king c s h =
 pub returns-clause-drops : goal.returns-clause-drops
 returns-clause-drops c =
     let Free : Rules → Type 0 = λ rules'. IsFree rules' c.args.p.now.side c.args.p.now.cells c.args.sets.now.kings c.args.sets.now.enemies c.occupied-occupied.result c.free-anywhere.result in
-    drop_freely c.args.rules.now (repeat_of c.args.p.now) c.args.sets.now c.occupied-occupied.result c.free-anywhere.result c.requires.sets (c.occupied-occupied.ensures _ _ _ c.requires.sets)
-    (subst Free c.requires.tables c.free-anywhere.ensures) c.position_sizes.ensures.cells c.minus-to_enter.result c.minus-to_enter.ensures
+    drop_freely c.args.rules.now (repeat_of c.args.p.now) c.args.sets.now c.occupied-occupied.result c.requires.sets (c.occupied-occupied.ensures _ _ _ c.requires.sets) c.position_sizes.ensures.cells
+    c.free-anywhere.result (subst Free c.requires.tables c.free-anywhere.ensures) c.minus-to_enter.result c.minus-to_enter.ensures
 
 pub returns-clause-gates : goal.returns-clause-gates
 returns-clause-gates c =
     let Free : Rules → Type 0 = λ rules'. IsFree rules' c.args.p.now.side c.args.p.now.cells c.args.sets.now.kings c.args.sets.now.enemies c.occupied-occupied.result c.free-anywhere.result in
-    gate_freely c.args.rules.now (repeat_of c.args.p.now) c.args.sets.now c.occupied-occupied.result c.free-anywhere.result c.requires.sets (c.occupied-occupied.ensures _ _ _ c.requires.sets)
-    (subst Free c.requires.tables c.free-anywhere.ensures) c.position_sizes.ensures.cells c.minus-to_enter.result c.minus-to_enter.ensures
+    gate_freely c.args.rules.now (repeat_of c.args.p.now) c.args.sets.now c.occupied-occupied.result c.requires.sets (c.occupied-occupied.ensures _ _ _ c.requires.sets) c.position_sizes.ensures.cells
+    c.free-anywhere.result (subst Free c.requires.tables c.free-anywhere.ensures) c.minus-to_enter.result c.minus-to_enter.ensures
