@@ -13,6 +13,7 @@ use Rattle.variant_model.specs.Told.{told}
 use Rattle.game_play.specs.Played.{Played}
 use Rattle.strategy.specs.declared.nodes.Strategy.{Strategy}
 use Rattle.strategy.specs.Writing.{ended_lines, strategy_texts}
+use Rattle.proof_text.specs.declared.proof.Proof.{Proof}
 
 -- ---- the rules
 
@@ -59,3 +60,7 @@ proof_texts sections place g n s =
 -- the text of the rules of a section, of a game by them, of the goal to win it within N moves, and of a strategy for it
 unfoldable pub proof_text : List Section → ℕ → Played → ℕ → Strategy → List ℕ
 proof_text sections place g n s = ended_lines (proof_texts sections place g n s)
+
+-- what such a text states
+abbrev pub proof_with : Played → ℕ → Strategy → Proof
+proof_with g n s = record { game = g; attacker = s.attacker; n = n; strategy = s }

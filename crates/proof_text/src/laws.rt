@@ -9,7 +9,7 @@ ghost use Rattle.strategy.specs.declared.nodes.Strategy.{Strategy};
 ghost use Rattle.strategy.specs.Reading.{AreSound};
 ghost use Rattle.strategy.specs.Writing.{AreReadable};
 ghost use Rattle.proof_text.specs.Reading.{proof_of};
-ghost use Rattle.proof_text.specs.Writing.{proof_text};
+ghost use Rattle.proof_text.specs.Writing.{proof_text, proof_with};
 
 use variant_model::laws::{
     told_lines_are_lines_of_files, told_sections_have_the_same_rules, told_values_end_in_no_return,
@@ -24,7 +24,7 @@ pub fn written_proofs_are_read_back()
         → AreFileLines sections → entry sections place ≡ Ok g.rules → IsPlayed g → 1 ≤ n → n ≤ 100
         → AreSound g.rules s.nodes → AreReadable g.rules s.nodes → length s.nodes < 2 ^ 64
         → proof_of (lines_of (proof_text sections place g n s))
-        ≡ Ok (record { game = g; attacker = s.attacker; n = n; strategy = s }) }
+        ≡ Ok (proof_with g n s) }
 {
     told_sections_have_the_same_rules();
     told_lines_are_lines_of_files();

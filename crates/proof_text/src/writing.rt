@@ -1,16 +1,20 @@
 //! Writes a proof text.
-ghost use Rattle.std.specs.Prelude.{◌≡◌, ◌++◌, ◌<◌, ◌≤◌, drop, IfOk, Ok, OnOk, length, map, slice_index_or, true};
+ghost use Rattle.std.specs.Prelude.{◌≡◌, ◌++◌, ◌<◌, ◌≤◌, ◌^◌, drop, IfOk, Ok, OnOk, length, map, slice_index_or, true};
 ghost use Rattle.std.specs.Fmt.{decimal};
 ghost use Rattle.rules_model.specs.Fit.{IsFit};
 ghost use Rattle.rules_model.specs.MoveText.{text_of};
 ghost use Rattle.rules_model.specs.Sound.{is_sound};
+ghost use Rattle.io_ports.specs.Lines.{lines_of};
+ghost use Rattle.variant_ini.specs.FileLines.{AreFileLines};
 ghost use Rattle.variant_ini.specs.LineView.{pair_view};
 ghost use Rattle.variant_model.specs.Entry.{entry};
 ghost use Rattle.variant_model.specs.Told as Told;
 ghost use Rattle.strategy.specs.Reading.{AreSound};
-ghost use Rattle.strategy.specs.Writing.{ended_line, ended_lines};
+ghost use Rattle.strategy.specs.Writing.{AreReadable, ended_line, ended_lines};
+ghost use Rattle.proof_text.specs.Reading.{proof_of};
 ghost use Rattle.proof_text.specs.Writing as Writing;
 
+use crate::laws::written_proofs_are_read_back;
 use crate::told::told;
 use foundation::{Memory, Text};
 use game_play::Game;
@@ -194,13 +198,21 @@ fn push_section(
     Ok(())
 }
 
+/// A strategy has fewer nodes than there are addresses.
+fn nodes_fit(strategy: &Strategy)
+    ensures { length strategy.now.nodes < 2 ^ 64 }
+{
+    let _nodes = strategy.nodes.items.len();
+}
+
 /// Writes the proof text, version 2, of a section's rules, of a game by them, of a goal and of a strategy. The goal is
 /// that the strategy's side mates within `n` of its own moves, 1 to 100. The section is accepted and its rules are the
 /// game's, and the positions of the strategy are sound: without that the text would say something else than it was
 /// made of, or nothing. Whether the strategy reaches the goal in the game is not asked.
 ///
 /// The rules are told by each key that has a value in the section or in one that it comes from, and by each piece that
-/// it has, in byte order. Each line ends with LF.
+/// it has, in byte order. Each line ends with LF. `read_proof` gives back the game, the goal and the strategy, where the
+/// sections are of files and the strategy's own text would be read back.
 ///
 /// `Memory` is the answer where there was not enough.
 pub fn write_proof(
@@ -216,11 +228,16 @@ pub fn write_proof(
     requires some { 1 ≤ n }
     requires few { n ≤ 100 }
     requires sound { AreSound game.now.rules strategy.now.nodes }
-    ensures { let said = Writing.proof_text sections.now section game.now n strategy.now in
+    ensures is { let said = Writing.proof_text sections.now section game.now n strategy.now in
         IfOk result (λ text. text ≡ said) }
+    ensures back { AreFileLines sections.now → AreReadable game.now.rules strategy.now.nodes
+        → let proof = Writing.proof_with game.now n strategy.now in
+        IfOk result (λ text. proof_of (lines_of text) ≡ Ok proof) }
 {
     // The rules are fit, as the strategy's positions need.
     game.is_played();
+    nodes_fit(strategy);
+    written_proofs_are_read_back();
     let mut text = Vec::new(alloc);
     push_line(&mut text, b"strategy 2")?;
     push_section(alloc, &mut text, sections, section)?;
