@@ -39,7 +39,7 @@ pub(crate) fn can_go(
     requires sets { AreSets rules.now p.now.side p.now.cells sets.now }
     ensures { result ≡ Chosen.can_go rules.now (repeat_of p.now) captures }
 {
-    let safety = Safety::of_few(rules, tables, p, sets);
+    let safety = Safety::of_all(rules, tables, p, sets);
     let choice = Choice { safety, captures };
     let mut seeker = Seeker { choice };
     match push_candidates(rules, tables, p, sets, &mut seeker) {

@@ -5,8 +5,8 @@ use Rattle.legality.proofs.search.can_go.Goals as goal
 
 pub returns-in-Ok : goal.returns-in-Ok
 returns-in-Ok c =
-    let all = c.in-Ok.ensures.ok in sym all.taken.1 ∙ made_found _ _ _ _ c.of_few-safety.ensures.tables (ap repeat_of c.of_few-safety.ensures.p) c.args.captures all.moves all.each
+    let all = c.in-Ok.ensures.ok in sym all.taken.1 ∙ made_found _ _ _ _ c.of_all-safety.ensures.tables (ap repeat_of c.of_all-safety.ensures.p) c.args.captures all.moves all.each
 
 pub returns-in-Err : goal.returns-in-Err
 returns-in-Err c =
-    let some = c.in-Err.ensures.err in sym (made_goes _ _ _ _ c.of_few-safety.ensures.tables (ap repeat_of c.of_few-safety.ensures.p) c.args.captures some.moves some.sound some.taken.1)
+    let some = c.in-Err.ensures.err in sym (made_goes _ _ _ _ c.of_all-safety.ensures.tables (ap repeat_of c.of_all-safety.ensures.p) c.args.captures some.moves some.sound some.taken.1)
