@@ -1,7 +1,7 @@
 #!/usr/bin/env python3
 """How fast `perft` counts, beside Fairy-Stockfish: alternating runs of both in one call.
 
-Usage: bench/perft_speed.py [RUNS]      (runs of each, 3 by default; the best counts)
+Usage: bench/perft_speed.py [RUNS]      (runs of each, 3 by default; the best counts: some five minutes for each)
 
 Wants Debian's package fairy-stockfish. The time that each program takes to start and to count one ply is taken off. For each row it
 prints the count, the millions of moves a second of both, and the ratio. Ends with an error where the counts of a row differ.
@@ -15,19 +15,21 @@ TOP = os.path.join(os.path.dirname(os.path.abspath(__file__)), "..")
 ENGINE = os.path.join(TOP, "vengine")
 OTHER = next((path for path in ("/usr/games/fairy-stockfish", "/usr/bin/fairy-stockfish") if os.path.exists(path)), None)
 MIDDLE = "r3k2r/p1ppqpb1/bn2pnp1/3PN3/1p2P3/2N2Q1p/PPPBBPPP/R3K2R w KQkq - 0 1"
+OTHER_MIDDLE = "r4rk1/1pp1qppp/p1np1n2/2b1p1B1/2B1P1b1/P1NP1N2/1PP1QPPP/R4RK1 w - - 0 10"
 ENDING = "8/2p5/3p4/KP5r/1R3p1k/8/4P1P1/8 w - - 0 1"
 ROWS = [
-    ("chess", "startpos", 5),
-    ("crazyhouse", "startpos", 5),
-    ("3check", "startpos", 5),
-    ("kingofthehill", "startpos", 5),
-    ("antichess", "startpos", 5),
-    ("losalamos", "startpos", 6),
-    ("capablanca", "startpos", 4),
-    ("seirawan", "startpos", 4),
-    ("xiangqi", "startpos", 4),
-    ("chess", MIDDLE, 4),
-    ("chess", ENDING, 6),
+    ("chess", "startpos", 6),
+    ("crazyhouse", "startpos", 6),
+    ("3check", "startpos", 6),
+    ("kingofthehill", "startpos", 6),
+    ("antichess", "startpos", 6),
+    ("losalamos", "startpos", 7),
+    ("capablanca", "startpos", 5),
+    ("seirawan", "startpos", 5),
+    ("xiangqi", "startpos", 5),
+    ("chess", MIDDLE, 5),
+    ("chess", OTHER_MIDDLE, 5),
+    ("chess", ENDING, 7),
 ]
 
 
