@@ -11,7 +11,7 @@ ghost use Rattle.board_sets.specs.Sets.{AreSets};
 
 use attack_tables::Tables;
 use board_sets::{BoardSets, sets_are_on_board};
-use next_position::{count_check, make_but_checks, make_move, sound_positions_have_room};
+use next_position::{count_check, make_but_checks, make_move, sound_positions_take_moves};
 use rules_model::sizes::position_sizes;
 use rules_model::{Move, Position, Rules};
 use sound_play::legal_moves_keep_soundness;
@@ -23,7 +23,7 @@ pub fn apply(rules: &Rules, tables: &Tables, p: &mut Position, m: &Move)
     ensures next { p.new ≡ Next.next rules.now p.old m.now }
     ensures sound { is_sound rules.now p.new ≡ true }
 {
-    sound_positions_have_room();
+    sound_positions_take_moves();
     legal_moves_keep_soundness();
     make_move(rules, p, m);
 }
@@ -64,7 +64,7 @@ pub fn apply_with(
     ensures sound { is_sound rules.now p.new ≡ true }
     ensures sets { AreSets rules.now p.new.side p.new.cells result }
 {
-    sound_positions_have_room();
+    sound_positions_take_moves();
     legal_moves_keep_soundness();
     let side = p.side;
     let sets = sets.after(rules, p, m).turned();

@@ -1,7 +1,7 @@
 -- The parts make up the position after the move.
-use Rattle.std.proofs.Common.{◌≡◌, ◌≢◌, ℕ, ◌<◌, ◌≤◌, nat_lt, Bool, true, false, ◌&&◌, not, if◌then◌else◌, List, [], ◌∷◌, Option, Some, None, refl, ap, ◌∙◌, arith}
+use Rattle.std.proofs.Common.{◌≡◌, ◌≢◌, ℕ, ◌<◌, ◌≤◌, nat_lt, Bool, true, false, ◌&&◌, ◌||◌, not, if◌then◌else◌, List, [], ◌∷◌, Option, Some, None, refl, ap, ◌∙◌, arith}
 use Rattle.std.specs.Prelude.{is_some, slice_set}
-use Rattle.std.proofs.lemmas.Bool.{not-true}
+use Rattle.std.proofs.lemmas.Bool.{ne_eqb, not-true}
 use Rattle.foundation.proofs.CountLemmas.{first_below-same, last_below-same}
 use Rattle.foundation.proofs.SetLemmas.{slice_get-set_other}
 use Rattle.rules_model.specs.declared.board.Cell.{Cell}
@@ -15,6 +15,7 @@ use Rattle.rules_model.specs.declared.board.Wing.TheVariants.{Kingside, Queensid
 use Rattle.rules_model.specs.declared.moves.Move.{Move}
 use Rattle.rules_model.specs.declared.moves.Move.TheVariants.{Go, Castle, Drop}
 use Rattle.rules_model.specs.declared.rules.Rules.{Rules}
+use Rattle.rules_model.specs.Fit.{IsFit}
 use Rattle.rules_model.specs.Repeats.{repeat_of}
 use Rattle.rules_model.specs.Attacks.{is_own, king_attacked}
 use Rattle.rules_model.specs.Sides.{other}
@@ -23,8 +24,11 @@ use Rattle.rules_model.specs.Castling.{holds_right, rook_beyond, rook_file, rook
 use Rattle.rules_model.specs.Kinds.{masks}
 use Rattle.rules_model.specs.Squares.{cell_at, flat}
 use Rattle.rules_model.specs.Next.{cells_after, checks_after, enters, ep_after, ep_where, fresh, gated, gates_after, hands_after, is_double_step, keeps_right, leaves, next, next_counter, next_number, next_repeat, promote, rights_after, rook_stays}
+use Rattle.rules_model.proofs.CandidateLaws.{first_below-some, last_below-some}
+use Rattle.next_position.specs.declared.rights.Left.{Left}
+use Rattle.next_position.specs.declared.rights.Left.TheVariants.{All, Of}
 use Rattle.next_position.specs.declared.rights.Rooks.{Rooks}
-use Rattle.next_position.specs.Parts.{cells_by, checks_left, gates_by, hands_by, is_apart, is_on_rank, is_outermost, is_passing, passed_over, rights_by, rights_where, rook_left, rooks_left, standing, taken_by}
+use Rattle.next_position.specs.Parts.{cells_by, checks_left, gates_by, hands_by, held, holds_any, is_apart, is_on_rank, is_outermost, is_passing, passed_over, rights_by, rights_kept, rights_left, rook_left, rooks_left, standing, taken_by}
 
 pub cells_after-by : (rules : Rules) (r : Repeat) (m : Move) → cells_after rules r m ≡ cells_by rules r.side (is_passing rules r m) m r.cells
 unfolding cells_after
@@ -83,7 +87,7 @@ rights_after-by rules r m later =
 
 -- ---- rights where the move leaves the castling rank alone
 
-off_rank : (rules : Rules) (side : Side) (s f : ℕ) → is_on_rank rules side s ≡ false → f < 12 → s ≢ castling_square rules side f
+off_rank : (rules : Rules) (side : Side) (s f : ℕ) → is_on_rank (castling_square rules side 0) s ≡ false → f < 12 → s ≢ castling_square rules side f
 off_rank rules side s f off l e = absurd (grind (off, e, arith))
 
 -- a square that none of the writes is on
@@ -99,7 +103,7 @@ and3 true b c P e k = cc
 as_before : (rules : Rules) (side mover : Side) (passing : Bool) (m : Move) (cells : List (Option Cell)) (f : ℕ) → is_apart rules side passing m ≡ true → f < 12
     → cell_at (cells_by rules mover passing m cells) (castling_square rules side f) ≡ cell_at cells (castling_square rules side f)
 as_before rules side mover passing (Go from to promo gate) cells f apart l =
-    and3 passing (is_on_rank rules side from.0) (is_on_rank rules side to.0) _ apart
+    and3 passing (is_on_rank (castling_square rules side 0) from.0) (is_on_rank (castling_square rules side 0) to.0) _ apart
     (λ none left entered.
     rw (
       none,
@@ -108,7 +112,7 @@ as_before rules side mover passing (Go from to promo gate) cells f apart l =
     ))
 as_before rules side mover passing (Castle from to rook gate) cells f apart l = cc
 as_before rules side mover passing (Drop kind to) cells f apart l =
-    unwritten cells to.0 (castling_square rules side f) (Some (fresh mover kind)) (off_rank rules side to.0 f (not-true (is_on_rank rules side to.0) apart) l)
+    unwritten cells to.0 (castling_square rules side f) (Some (fresh mover kind)) (off_rank rules side to.0 f (not-true (is_on_rank (castling_square rules side 0) to.0) apart) l)
 
 same_rook : (rules : Rules) (later cells : List (Option Cell)) (side : Side) → rules.files ≤ 12 → ((f : ℕ) → f < 12 → cell_at later (castling_square rules side f) ≡ cell_at cells (castling_square rules side f))
     → (wing : Wing) → rook_file rules later side wing ≡ rook_file rules cells side wing
@@ -120,44 +124,86 @@ same_rook rules later cells side fit same Queenside =
     first_below-same (rook_beyond rules later side Queenside) (rook_beyond rules cells side Queenside) rules.files
     (λ f l. ap (λ o. nat_lt f rules.castle_king && is_own side (masks rules.castle_rooks) o) (same f (omega (arith, l, fit))))
 
-still : (b : Bool) (file : ℕ) → is_some (if b then Some file else None) ≡ is_outermost (if b then Some file else None) (Some file)
-still true file = grind arith
-still false file = refl
+-- ---- rights that are kept without a look at the rooks
 
-still_standing : (rules : Rules) (side : Side) (m : Move) (file : Option ℕ) → is_some (standing rules side m file) ≡ is_outermost (standing rules side m file) file
-still_standing rules side m None = refl
-still_standing rules side m (Some file) = still (not (leaves m (castling_square rules side file)) && not (enters m (castling_square rules side file))) file
+not_left : (rules : Rules) (side : Side) (passing : Bool) (m : Move) (f : ℕ) → is_apart rules side passing m ≡ true → f < 12 → leaves m (castling_square rules side f) ≡ false
+not_left rules side passing (Go from to promo gate) f apart l =
+    and3 passing (is_on_rank (castling_square rules side 0) from.0) (is_on_rank (castling_square rules side 0) to.0) _ apart
+    (λ none left entered. ne_eqb from.0 (castling_square rules side f) (off_rank rules side from.0 f left l))
+not_left rules side passing (Castle from to rook gate) f apart l = cc
+not_left rules side passing (Drop kind to) f apart l = refl
 
-where_left : (b : Bool) (rook later : Option ℕ) → is_some rook ≡ is_outermost rook later → is_some (if b then rook else None) ≡ is_outermost (if b then rook else None) later
-where_left true rook later e = e
-where_left false rook later e = refl
+not_entered : (rules : Rules) (side : Side) (passing : Bool) (m : Move) (f : ℕ) → is_apart rules side passing m ≡ true → f < 12 → enters m (castling_square rules side f) ≡ false
+not_entered rules side passing (Go from to promo gate) f apart l =
+    and3 passing (is_on_rank (castling_square rules side 0) from.0) (is_on_rank (castling_square rules side 0) to.0) _ apart
+    (λ none left entered. ne_eqb to.0 (castling_square rules side f) (off_rank rules side to.0 f entered l))
+not_entered rules side passing (Castle from to rook gate) f apart l = cc
+not_entered rules side passing (Drop kind to) f apart l =
+    ne_eqb to.0 (castling_square rules side f) (off_rank rules side to.0 f (not-true (is_on_rank (castling_square rules side 0) to.0) apart) l)
 
-still_left : (rules : Rules) (r : Repeat) (m : Move) (side : Side) (wing : Wing) → is_some (rook_left rules r m side wing) ≡ is_outermost (rook_left rules r m side wing) (rook_file rules r.cells side wing)
-still_left rules r m side wing =
-    where_left (holds_right r.rights side wing && not (leaves m (castling_square rules side rules.castle_king))) (standing rules side m (rook_file rules r.cells side wing)) (rook_file rules r.cells side wing)
-    (still_standing rules side m (rook_file rules r.cells side wing))
+rook_within : (rules : Rules) (cells : List (Option Cell)) (side : Side) (wing : Wing) (file : ℕ) → rook_file rules cells side wing ≡ Some file → file < rules.files
+unfolding rook_file
+rook_within rules cells side Kingside file e = (last_below-some (rook_beyond rules cells side Kingside) rules.files file e).0
+rook_within rules cells side Queenside file e = (first_below-some (rook_beyond rules cells side Queenside) rules.files file e).0
 
-by_rank : (rules : Rules) (r : Repeat) (m : Move) (later : List (Option Cell)) (side : Side) (apart : Bool)
-    → (apart ≡ true → (wing : Wing) → rook_file rules later side wing ≡ rook_file rules r.cells side wing)
-    → rights_where rules later side (rooks_left rules r m side) apart ≡ rights_by rules later side (rooks_left rules r m side)
-by_rank rules r m later side false same = refl
-by_rank rules r m later side true same =
-    rw (same refl Kingside, same refl Queenside, still_left rules r m side Kingside, still_left rules r m side Queenside)
+is_at-same : (file : ℕ) → is_outermost (Some file) (Some file) ≡ true
+is_at-same file = grind arith
 
--- either way they are those by the pieces after the move
-rights_where-by : (rules : Rules) (r : Repeat) (m : Move) (passing : Bool) (side : Side) → rules.files ≤ 12
-    → rights_where rules (cells_by rules r.side passing m r.cells) side (rooks_left rules r m side) (is_apart rules side passing m)
-    ≡ rights_by rules (cells_by rules r.side passing m r.cells) side (rooks_left rules r m side)
-rights_where-by rules r m passing side fit =
-    by_rank rules r m (cells_by rules r.side passing m r.cells) side (is_apart rules side passing m)
-    (λ apart. same_rook rules (cells_by rules r.side passing m r.cells) r.cells side fit (λ f l. as_before rules side r.side passing m r.cells f apart l))
+-- a rook that neither moves nor is moved to is the outermost one still
+still_outermost : (rules : Rules) (side : Side) (passing : Bool) (m : Move) (rook : Option ℕ) → is_apart rules side passing m ≡ true → is_some rook ≡ true
+    → ((file : ℕ) → rook ≡ Some file → file < 12) → is_outermost (standing rules side m rook) rook ≡ true
+still_outermost rules side passing m None apart stands within = cc
+still_outermost rules side passing m (Some file) apart stands within =
+    let l = within file refl in
+    rw (not_left rules side passing m file apart l, not_entered rules side passing m file apart l) (is_at-same file)
+
+where_kept : (b king : Bool) (rook later : Option ℕ) → (b ≡ true → king ≡ false) → (b ≡ true → is_outermost rook later ≡ true) → b ≡ is_outermost (if b && not king then rook else None) later
+where_kept false king rook later still stays = refl
+where_kept true king rook later still stays = rw (still refl, stays refl) refl
+
+right_kept : (rules : Rules) (r : Repeat) (m : Move) (passing : Bool) (side : Side) (wing : Wing) → IsFit rules
+    → (holds_right r.rights side wing ≡ true → is_some (rook_file rules r.cells side wing) ≡ true)
+    → (holds_right r.rights side wing ≡ true → is_apart rules side passing m ≡ true)
+    → holds_right r.rights side wing ≡ is_outermost (rook_left rules r m side wing) (rook_file rules (cells_by rules r.side passing m r.cells) side wing)
+right_kept rules r m passing side wing fit stands apart =
+    let later = cells_by rules r.side passing m r.cells in
+    let rook = rook_file rules r.cells side wing in
+    where_kept (holds_right r.rights side wing) (leaves m (castling_square rules side rules.castle_king)) (standing rules side m rook) (rook_file rules later side wing)
+    (λ h. not_left rules side passing m rules.castle_king (apart h) fit.castle_king)
+    (λ h.
+    rw (same_rook rules later r.cells side fit.files_most (λ f l. as_before rules side r.side passing m r.cells f (apart h) l) wing)
+    (still_outermost rules side passing m rook (apart h) (stands h) (λ file e. let l = rook_within rules r.cells side wing file e in omega (arith, l, fit.files_most))))
+
+apart_or_none : (a b apart : Bool) → (not (a || b) || apart) ≡ true → (a ≡ true → apart ≡ true) × (b ≡ true → apart ≡ true)
+apart_or_none true b apart e = ((λ h. e), (λ h. e))
+apart_or_none false true apart e = ((λ h. e), (λ h. e))
+apart_or_none false false apart e = ((λ h. cc), (λ h. cc))
+
+-- where the side holds no right or the move is apart from its castling rank, it keeps the rights that it has
+all_kept : (rules : Rules) (r : Repeat) (m : Move) (passing : Bool) (side : Side) → IsFit rules
+    → ((wing : Wing) → holds_right r.rights side wing ≡ true → is_some (rook_file rules r.cells side wing) ≡ true)
+    → (not (holds_any r.rights side) || is_apart rules side passing m) ≡ true
+    → held r.rights side ≡ rights_by rules (cells_by rules r.side passing m r.cells) side (rooks_left rules r m side)
+all_kept rules r m passing side fit stands e =
+    let apart = apart_or_none (holds_right r.rights side Kingside) (holds_right r.rights side Queenside) (is_apart rules side passing m) e in
+    let kingside = right_kept rules r m passing side Kingside fit (stands Kingside) apart.0 in
+    let queenside = right_kept rules r m passing side Queenside fit (stands Queenside) apart.1 in
+    λ i. kingside i ∷ queenside i ∷ []
+
+by_left : (rules : Rules) (later : List (Option Cell)) (rights : List (List Bool)) (side : Side) (rooks : Rooks) (all : Bool)
+    → (all ≡ true → held rights side ≡ rights_by rules later side rooks) → rights_kept rules later rights side (if all then All else Of rooks) ≡ rights_by rules later side rooks
+by_left rules later rights side rooks true same = same refl
+by_left rules later rights side rooks false same = refl
 
 -- the rights of a side as the code finds them
-pub rights_written : (rules : Rules) (r : Repeat) (m : Move) (later : List (Option Cell)) (passing : Bool) (side : Side) → rules.files ≤ 12
-    → later ≡ cells_by rules r.side passing m r.cells → {rooks : Rooks} {apart : Bool} {kept : List Bool} → rooks ≡ rooks_left rules r m side
-    → apart ≡ is_apart rules side passing m → kept ≡ rights_where rules later side rooks apart → kept ≡ rights_by rules later side (rooks_left rules r m side)
-rights_written rules r m later passing side fit cells rooks_are apart_is kept_are =
-    kept_are ∙ rw (rooks_are, apart_is, cells) (rights_where-by rules r m passing side fit)
+pub rights_written : (rules : Rules) (r : Repeat) (m : Move) (later : List (Option Cell)) (passing : Bool) (side : Side) → IsFit rules
+    → ((wing : Wing) → holds_right r.rights side wing ≡ true → is_some (rook_file rules r.cells side wing) ≡ true)
+    → later ≡ cells_by rules r.side passing m r.cells → {rest : Left} {kept : List Bool} → rest ≡ rights_left rules r passing m side
+    → kept ≡ rights_kept rules later r.rights side rest → kept ≡ rights_by rules later side (rooks_left rules r m side)
+rights_written rules r m later passing side fit stands cells rest_is kept_is =
+    kept_is ∙ rw (rest_is, cells)
+    (by_left rules (cells_by rules r.side passing m r.cells) r.rights side (rooks_left rules r m side) (not (holds_any r.rights side) || is_apart rules side passing m)
+    (all_kept rules r m passing side fit stands))
 
 -- ---- the position
 

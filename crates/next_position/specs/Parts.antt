@@ -1,6 +1,6 @@
 -- The parts of the position after a move, each by what it takes from the position before it: what a part of the code can see
 -- while the position changes in place.
-use Rattle.std.specs.Prelude.{ℕ, ◌-◌, List, [], ◌∷◌, Bool, false, ◌&&◌, not, nat_le, nat_lt, is_some, if◌then◌else◌, Option, Some, None, slice_index, slice_set}
+use Rattle.std.specs.Prelude.{ℕ, ◌+◌, ◌-◌, List, [], ◌∷◌, Bool, false, ◌&&◌, ◌||◌, not, nat_le, nat_lt, if◌then◌else◌, Option, Some, None, slice_index, slice_set}
 use Rattle.rules_model.specs.declared.board.Cell.{Cell}
 use Rattle.rules_model.specs.declared.board.Repeat.{Repeat}
 use Rattle.rules_model.specs.declared.board.Side.{Side}
@@ -11,6 +11,8 @@ use Rattle.rules_model.specs.declared.board.Wing.TheVariants.{Kingside, Queensid
 use Rattle.rules_model.specs.declared.moves.Move.{Move}
 use Rattle.rules_model.specs.declared.moves.Move.TheVariants.{Go, Castle, Drop}
 use Rattle.rules_model.specs.declared.rules.Rules.{Rules}
+use Rattle.next_position.specs.declared.rights.Left.{Left}
+use Rattle.next_position.specs.declared.rights.Left.TheVariants.{All, Of}
 use Rattle.next_position.specs.declared.rights.Rooks.{Rooks}
 use Rattle.rules_model.specs.Squares.{cell_at}
 use Rattle.rules_model.specs.Reach.{is_at}
@@ -84,24 +86,32 @@ abbrev pub rights_by : Rules → List (Option Cell) → Side → Rooks → List 
 rights_by rules later side rooks =
     is_outermost rooks.kingside (rook_file rules later side Kingside) ∷ is_outermost rooks.queenside (rook_file rules later side Queenside) ∷ []
 
--- the square is of the side's castling rank
-abbrev pub is_on_rank : Rules → Side → ℕ → Bool
-is_on_rank rules side s = nat_le (castling_square rules side 0) s && nat_lt s (castling_square rules side 12)
+-- the square is of the rank that begins with the square first
+abbrev pub is_on_rank : ℕ → ℕ → Bool
+is_on_rank first s = nat_le first s && nat_lt s (first + 12)
 
 -- the move leaves alone all squares of the side's castling rank, as is plain at once
 abbrev pub is_apart : Rules → Side → Bool → Move → Bool
 is_apart rules side passing (Go from to promo gate) =
-    not passing && not (is_on_rank rules side from.0) && not (is_on_rank rules side to.0)
+    not passing && not (is_on_rank (castling_square rules side 0) from.0) && not (is_on_rank (castling_square rules side 0) to.0)
 is_apart rules side passing (Castle from to rook gate) = false
-is_apart rules side passing (Drop kind to) = not (is_on_rank rules side to.0)
+is_apart rules side passing (Drop kind to) = not (is_on_rank (castling_square rules side 0) to.0)
 
--- each rook that was left is the outermost one still
-abbrev pub rights_kept : Rooks → List Bool
-rights_kept rooks = is_some rooks.kingside ∷ is_some rooks.queenside ∷ []
+abbrev pub holds_any : List (List Bool) → Side → Bool
+holds_any rights side = holds_right rights side Kingside || holds_right rights side Queenside
 
--- a side's rights after the move, by whether it leaves the castling rank alone
-abbrev pub rights_where : Rules → List (Option Cell) → Side → Rooks → Bool → List Bool
-rights_where rules later side rooks apart = if apart then rights_kept rooks else rights_by rules later side rooks
+-- what rights the move leaves to the side: all that it has, where it has none or the move is apart from its castling rank
+abbrev pub rights_left : Rules → Repeat → Bool → Move → Side → Left
+rights_left rules r passing m side = if not (holds_any r.rights side) || is_apart rules side passing m then All else Of (rooks_left rules r m side)
+
+-- the rights that the side holds
+abbrev pub held : List (List Bool) → Side → List Bool
+held rights side = holds_right rights side Kingside ∷ holds_right rights side Queenside ∷ []
+
+-- a side's rights after the move, by those before it and by what it left
+abbrev pub rights_kept : Rules → List (Option Cell) → List (List Bool) → Side → Left → List Bool
+rights_kept rules later rights side All = held rights side
+rights_kept rules later rights side (Of rooks) = rights_by rules later side rooks
 
 -- ---- gates
 

@@ -35,6 +35,9 @@ fn side_gates(rules: &Rules, side: Side, m: &Move, gates: u16) -> u16
     requires fit { IsFitMove m.now }
     ensures { result ≡ Next.side_gates_after rules.now side m.now gates }
 {
+    if gates == 0 {
+        return 0;
+    }
     match *m {
         Move::Go { from, to, .. } => {
             let left = closed_at(rules, side, from, gates);

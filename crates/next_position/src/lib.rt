@@ -9,7 +9,7 @@ ghost use Rattle.rules_model.specs.Moves.{IsFitMove};
 ghost use Rattle.rules_model.specs.Next as Next;
 ghost use Rattle.rules_model.specs.Repeats.{repeat_of};
 ghost use Rattle.rules_model.specs.Sound.{is_sound};
-ghost use Rattle.next_position.specs.Room.{HasRoom};
+ghost use Rattle.next_position.specs.Room.{HasRoom, HoldsRooks};
 
 mod counts;
 mod gates;
@@ -44,24 +44,23 @@ pub fn make_but_checks(rules: &Rules, p: &mut Position, m: &Move)
     requires rules { IsFit rules.now }
     requires fit { IsFitMove m.now }
     requires room { HasRoom p.old }
+    requires rooks { HoldsRooks rules.now p.old }
     ensures { p.new ≡ record (Next.next rules.now p.old m.now) { checks = p.old.checks } }
 {
     let side = p.side;
     let passing = passing::is_passing(rules, p, m);
     let taken = pieces::taken(rules, p, passing, m);
     let passed = passing::passed_over(rules, p, m);
-    let white = rights::rooks_left(rules, p, m, Side::White);
-    let black = rights::rooks_left(rules, p, m, Side::Black);
+    let white = rights::rights_left(rules, p, passing, m, Side::White);
+    let black = rights::rights_left(rules, p, passing, m, Side::Black);
     p.counter = counts::counter(rules, p, m, taken);
     p.number = counts::number(side, p.number);
     pieces::write(rules, side, passing, m, &mut p.cells);
     hands::change(rules, side, taken, m, &mut p.hands);
     gates::close(rules, m, &mut p.gates);
-    let white_apart = rights::is_apart(rules, Side::White, passing, m);
-    let black_apart = rights::is_apart(rules, Side::Black, passing, m);
     p.rights = [
-        rights::kept(rules, &p.cells, Side::White, white, white_apart),
-        rights::kept(rules, &p.cells, Side::Black, black, black_apart),
+        rights::rights_kept(rules, &p.cells, &p.rights, Side::White, white),
+        rights::rights_kept(rules, &p.cells, &p.rights, Side::Black, black),
     ];
     p.ep = passing::ep_square(rules, &p.cells, side, passed);
     p.side = side.other();
@@ -73,6 +72,7 @@ pub fn make_move(rules: &Rules, p: &mut Position, m: &Move)
     requires rules { IsFit rules.now }
     requires fit { IsFitMove m.now }
     requires room { HasRoom p.old }
+    requires rooks { HoldsRooks rules.now p.old }
     ensures { p.new ≡ Next.next rules.now p.old m.now }
 {
     let side = p.side;
@@ -81,7 +81,8 @@ pub fn make_move(rules: &Rules, p: &mut Position, m: &Move)
     count_check(p, side, gives);
 }
 
-/// A sound position has room for every move.
-pub fn sound_positions_have_room()
-    ensures { (rules : Rules) (p : Position) → is_sound rules p ≡ true → HasRoom p }
+/// A sound position meets what a move asks of it: there is room in the hand, and a rook stands where there is a right.
+pub fn sound_positions_take_moves()
+    ensures room { (rules : Rules) (p : Position) → is_sound rules p ≡ true → HasRoom p }
+    ensures rooks { (rules : Rules) (p : Position) → is_sound rules p ≡ true → HoldsRooks rules p }
 {}

@@ -17,6 +17,14 @@ pub(crate) struct Rooks {
     pub queenside: Option<u8>,
 }
 
+/// The rights that a move leaves to a side: all that it has, or those of these rooks, where they still are the
+/// outermost ones.
+#[derive(Clone, Copy)]
+pub(crate) enum Left {
+    All,
+    Of(Rooks),
+}
+
 /// Whether the move leaves the square.
 fn leaves(m: &Move, at: Square) -> bool
     ensures { result ≡ Next.leaves m.now at.0 }
@@ -75,16 +83,49 @@ fn rook_left(rules: &Rules, p: &Position, m: &Move, side: Side, wing: Wing) -> O
     }
 }
 
-/// The rooks of the side that the move leaves to castle with.
-pub(crate) fn rooks_left(rules: &Rules, p: &Position, m: &Move, side: Side) -> Rooks
+/// Whether the square is of the rank that begins with the square `first`.
+fn is_on_rank(first: u8, at: Square) -> bool
+    requires { first < 120 }
+    ensures { result ≡ Parts.is_on_rank first at.0 }
+{
+    first <= at.0 && at.0 < first + 12
+}
+
+/// Whether the move plainly leaves alone all squares of the side's castling rank. `passing` says whether it takes a
+/// pawn in passing.
+fn is_apart(rules: &Rules, side: Side, passing: bool, m: &Move) -> bool
+    requires { IsFit rules.now }
+    ensures { result ≡ Parts.is_apart rules.now side passing m.now }
+{
+    let first = castling_square(rules, side, 0).0;
+    match *m {
+        Move::Go { from, to, .. } => !passing && !is_on_rank(first, from) && !is_on_rank(first, to),
+        Move::Castle { .. } => false,
+        Move::Drop { to, .. } => !is_on_rank(first, to),
+    }
+}
+
+/// Whether the side holds a castling right.
+fn holds_any(rights: &[[bool; 2]; 2], side: Side) -> bool
+    ensures { result ≡ Parts.holds_any rights.now side }
+{
+    holds_right(rights, side, Wing::Kingside) || holds_right(rights, side, Wing::Queenside)
+}
+
+/// What rights the move leaves to the side. Rooks are looked for only where the side holds a right, and the move is not
+/// apart from its castling rank. `passing` says whether it takes a pawn in passing.
+pub(crate) fn rights_left(rules: &Rules, p: &Position, passing: bool, m: &Move, side: Side) -> Left
     requires rules { IsFit rules.now }
     requires fit { IsFitMove m.now }
-    ensures { result ≡ Parts.rooks_left rules.now (repeat_of p.now) m.now side }
+    ensures { result ≡ Parts.rights_left rules.now (repeat_of p.now) passing m.now side }
 {
-    Rooks {
+    if !holds_any(&p.rights, side) || is_apart(rules, side, passing, m) {
+        return Left::All;
+    }
+    Left::Of(Rooks {
         kingside: rook_left(rules, p, m, side, Wing::Kingside),
         queenside: rook_left(rules, p, m, side, Wing::Queenside),
-    }
+    })
 }
 
 fn is_file(file: u8, outermost: Option<u8>) -> bool
@@ -107,41 +148,25 @@ fn is_outermost(rules: &Rules, cells: &Cells, side: Side, wing: Wing, rook: Opti
     }
 }
 
-/// Whether the square is of the side's castling rank.
-fn is_on_rank(rules: &Rules, side: Side, at: Square) -> bool
+/// The rights that the side keeps, of those before the move and by the pieces after it.
+pub(crate) fn rights_kept(
+    rules: &Rules,
+    cells: &Cells,
+    rights: &[[bool; 2]; 2],
+    side: Side,
+    left: Left,
+) -> [bool; 2]
     requires { IsFit rules.now }
-    ensures { result ≡ Parts.is_on_rank rules.now side at.0 }
+    ensures { result ≡ Parts.rights_kept rules.now cells.now rights.now side left }
 {
-    let first = castling_square(rules, side, 0).0;
-    first <= at.0 && at.0 < first + 12
-}
-
-/// Whether the move plainly leaves alone all squares of the side's castling rank. `passing` says whether it takes a
-/// pawn in passing.
-pub(crate) fn is_apart(rules: &Rules, side: Side, passing: bool, m: &Move) -> bool
-    requires { IsFit rules.now }
-    ensures { result ≡ Parts.is_apart rules.now side passing m.now }
-{
-    match *m {
-        Move::Go { from, to, .. } => {
-            !passing && !is_on_rank(rules, side, from) && !is_on_rank(rules, side, to)
-        }
-        Move::Castle { .. } => false,
-        Move::Drop { to, .. } => !is_on_rank(rules, side, to),
+    match left {
+        Left::All => [
+            holds_right(rights, side, Wing::Kingside),
+            holds_right(rights, side, Wing::Queenside),
+        ],
+        Left::Of(rooks) => [
+            is_outermost(rules, cells, side, Wing::Kingside, rooks.kingside),
+            is_outermost(rules, cells, side, Wing::Queenside, rooks.queenside),
+        ],
     }
-}
-
-/// The rights that the side keeps, by the pieces after the move. Where the move leaves the castling rank alone, as
-/// `apart` says, they are not looked at.
-pub(crate) fn kept(rules: &Rules, cells: &Cells, side: Side, rooks: Rooks, apart: bool) -> [bool; 2]
-    requires { IsFit rules.now }
-    ensures { result ≡ Parts.rights_where rules.now cells.now side rooks apart }
-{
-    if apart {
-        return [rooks.kingside.is_some(), rooks.queenside.is_some()];
-    }
-    [
-        is_outermost(rules, cells, side, Wing::Kingside, rooks.kingside),
-        is_outermost(rules, cells, side, Wing::Queenside, rooks.queenside),
-    ]
 }

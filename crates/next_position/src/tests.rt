@@ -1,3 +1,4 @@
+ghost use Rattle.std.specs.Prelude.{◌<◌};
 ghost use Rattle.rules_model.specs.Fit.{IsFit};
 ghost use Rattle.rules_model.specs.Moves.{IsFitGate, IsFitMove, IsFitPromo};
 
@@ -50,6 +51,17 @@ fn castle(to: &str, rook: &str, gate: &str) -> Move
     }
 }
 
+/// A drop.
+fn drop(kind: Kind, to: &str) -> Move
+    requires { kind.0 < 26 }
+    ensures { IsFitMove result }
+{
+    Move::Drop {
+        kind,
+        to: square(to),
+    }
+}
+
 /// The position with these pieces in place of its own.
 fn set(p: Position, pieces: &str) -> Position {
     let cells = position(pieces).cells;
@@ -69,7 +81,7 @@ fn leads_to<R: Abort>(rt: &R, rules: &Rules, p: &Position, m: &Move, next: &Posi
     requires fit { IsFitMove m.now }
 {
     assert!(rt; sound(rules, p));
-    sound_positions_have_room();
+    sound_positions_take_moves();
     let mut cells = p.cells;
     move_pieces(rules, p, m, &mut cells);
     assert!(rt; cells == next.cells);
@@ -88,7 +100,7 @@ fn checks_are_counted_last(rt: HostRuntime) {
     let rules = generals();
     let mut p = rules.start;
     assert!(rt; sound(&rules, &p));
-    sound_positions_have_room();
+    sound_positions_take_moves();
     make_but_checks(&rules, &mut p, &quiet("a1", "a8"));
     assert_eq!(rt; (p.side, p.checks), (Side::Black, [3, 3]));
     count_check(&mut p, Side::White, false);
@@ -100,10 +112,14 @@ fn checks_are_counted_last(rt: HostRuntime) {
     assert_eq!(rt; p.checks, [0, 3]);
 }
 
-// The gates of the rooks and of the king are those of the files a, e and h.
+// The gates of the king are those of the file e, and of the rooks those of the files a and h, or b and g.
 const A: u16 = 1;
 
+const B: u16 = 2;
+
 const E: u16 = 16;
+
+const G: u16 = 64;
 
 const H: u16 = 128;
 
@@ -172,11 +188,7 @@ fn from_the_start(rt: HostRuntime) {
     };
     leads_to(&rt, &rules, &start, &castle("c1", "a1", "a1"), &next);
     next = set(placed, "Ra1 Ke1 Rh1 Pe2 Sb3 Sc3 pd4 ra8 ke8 rh8");
-    let drop = Move::Drop {
-        kind: kind(b's'),
-        to: square("c3"),
-    };
-    leads_to(&rt, &rules, &start, &drop, &next);
+    leads_to(&rt, &rules, &start, &drop(kind(b's'), "c3"), &next);
 }
 
 #[test]
@@ -246,4 +258,54 @@ fn from_elsewhere(rt: HostRuntime) {
     };
     let taking = go("b7", "a8", rook, None);
     leads_to(&rt, &without_prisoners(), &p, &taking, &next);
+}
+
+#[test]
+fn rights_of_inner_rooks(rt: HostRuntime) {
+    let rules = generals();
+    let p = Position {
+        hands: [hand_of(b"r"), hand_of(b"")],
+        gates: [B | E | G, A | E | H],
+        ..set(rules.start, "Rb1 Ke1 Rg1 Sc2 ra8 ke8 rh8")
+    };
+    let risen = Position {
+        side: Side::Black,
+        counter: 1,
+        ..p
+    };
+    // a silver moves onto the rank, between the rooks
+    let mut next = set(risen, "Rb1 Ke1 Rg1 Sd1 ra8 ke8 rh8");
+    leads_to(&rt, &rules, &p, &quiet("c2", "d1"), &next);
+    // a rook comes in further out: at either end of the rank, and one square above it
+    let placed = Position {
+        hands: [[0; 26]; 2],
+        ..risen
+    };
+    next = set(placed, "Ra1 Rb1 Ke1 Rg1 Sc2 ra8 ke8 rh8");
+    next.rights[0] = [true, false];
+    leads_to(&rt, &rules, &p, &drop(kind(b'r'), "a1"), &next);
+    next = set(placed, "Rb1 Ke1 Rg1 Rh1 Sc2 ra8 ke8 rh8");
+    next.rights[0] = [false, true];
+    leads_to(&rt, &rules, &p, &drop(kind(b'r'), "h1"), &next);
+    next = set(placed, "Rb1 Ke1 Rg1 Ra2 Sc2 ra8 ke8 rh8");
+    leads_to(&rt, &rules, &p, &drop(kind(b'r'), "a2"), &next);
+}
+
+#[test]
+fn no_right_held(rt: HostRuntime) {
+    let rules = generals();
+    let p = Position {
+        rights: [[false, false], [true, true]],
+        ..rules.start
+    };
+    let moved = Position {
+        side: Side::Black,
+        counter: 1,
+        ..p
+    };
+    let mut next = set(moved, "Ra1 Kd1 Rh1 Pe2 Sb3 pd4 ra8 ke8 rh8");
+    next.gates[0] = A | H;
+    leads_to(&rt, &rules, &p, &quiet("e1", "d1"), &next);
+    next = set(moved, "Ra1 Ke1 Rh1 Pe2 Sb4 pd4 ra8 ke8 rh8");
+    leads_to(&rt, &rules, &p, &quiet("b3", "b4"), &next);
 }
