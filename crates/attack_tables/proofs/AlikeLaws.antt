@@ -1,5 +1,5 @@
 -- A kind of which all terms are of both modes reaches the same squares in each.
-use Rattle.std.proofs.Common.{◌≡◌, ℕ, Bool, true, false, ◌&&◌, not, Option, List, [], ◌∷◌, refl, ap}
+use Rattle.std.proofs.Common.{◌≡◌, ℕ, Bool, true, false, ◌&&◌, Option, List, [], ◌∷◌, refl, ap}
 use Rattle.std.specs.Bool.{OnTrue}
 use Rattle.std.specs.List.{list_all, list_any, filter}
 use Rattle.std.proofs.lemmas.Bool.{and_from, and_parts}
@@ -12,7 +12,6 @@ use Rattle.rules_model.specs.declared.rules.Term.{Term}
 use Rattle.rules_model.specs.Kinds.{is_pawn, terms_of}
 use Rattle.rules_model.specs.Movement.{in_mobility, is_held_back, is_straight, kind_reaches, reaches_by, terms_from}
 use Rattle.square_set.proofs.Cases.{by_bool}
-use Rattle.move_tables.specs.declared.mode.Mode.{Mode}
 use Rattle.move_tables.specs.declared.mode.Mode.TheVariants.{Quiet, Take}
 use Rattle.move_tables.specs.Reached.{serves}
 use Rattle.attack_tables.specs.Goals.{IsAlike, has_both}

@@ -9,7 +9,6 @@ use Rattle.rules_model.specs.declared.rules.Rules.{Rules}
 use Rattle.rules_model.specs.declared.rules.Term.{Term}
 use Rattle.square_set.specs.declared.Set.{Set}
 use Rattle.square_set.specs.Members.{has}
-use Rattle.move_tables.specs.declared.mode.Mode.{Mode}
 use Rattle.move_tables.specs.declared.mode.Mode.TheVariants.{Quiet, Take}
 use Rattle.move_tables.specs.Occupied.{IsOccupied}
 use Rattle.move_tables.specs.Reached.{reaches_as}

@@ -1,5 +1,7 @@
 pub mod Boards
 pub mod Goals
 pub mod Masks
+pub mod PawnMasks
 pub mod PawnSpots
+pub mod RegionSets
 pub mod Sights

@@ -1,5 +1,5 @@
 -- Where a pawn may go from a square, as far as the rules alone tell.
-use Rattle.std.specs.Prelude.{◌≡◌, ℕ, ℤ, ◌/◌, ◌%◌, ◌<◌, Bool, true, false, ◌&&◌, ◌||◌, List, slice_index_or, length}
+use Rattle.std.specs.Prelude.{◌≡◌, ℕ, ℤ, ◌<◌, Bool, true, false, ◌&&◌, ◌||◌}
 use Rattle.std.specs.Bool.{OnTrue}
 use Rattle.rules_model.specs.declared.board.Side.{Side}
 use Rattle.rules_model.specs.declared.board.Square.{Square}
@@ -12,7 +12,6 @@ use Rattle.rules_model.specs.Regions.{in_region}
 use Rattle.rules_model.specs.Squares.{step_to}
 use Rattle.square_set.specs.declared.Set.{Set}
 use Rattle.square_set.specs.Members.{has}
-use Rattle.move_tables.specs.Spots.{side_of}
 use Rattle.attack_tables.specs.declared.pawns.PawnSpot.{PawnSpot}
 
 -- the square of two steps, where the pawn stands in the double-step region
@@ -38,12 +37,3 @@ pub record IsPawnSpot (rules : Rules) (side : Side) (from : Square) (spot : Pawn
   pub two : (t : ℕ) → has spot.two t ≡ two_ahead rules side from t
   pub diagonals : (t : ℕ) → has spot.diagonals t ≡ is_diagonal (board_of rules) side from t
   pub plain : OnTrue spot.plain ((t : ℕ) → t < 120 → is_near spot t ≡ true → may_promote rules side t ≡ false)
-
--- the spot at a place is that of its side and square
-abbrev pub IsPawnSpotAt : Rules → ℕ → PawnSpot → Type 0
-IsPawnSpotAt rules i spot = IsPawnSpot rules (side_of (i / 120)) (record { 0 = i % 120 }) spot
-
--- a spot for each side and square, in this order
-pub record ArePawnSpots (rules : Rules) (spots : List PawnSpot) : Type 0 where
-  pub whole : length spots ≡ 240
-  pub each : (i : ℕ) → i < 240 → (d : PawnSpot) → IsPawnSpotAt rules i (slice_index_or spots i d)

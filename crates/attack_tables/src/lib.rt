@@ -4,12 +4,13 @@
 mod alike;
 mod masks;
 pub mod pawns;
+mod regions;
 pub mod sight;
 pub mod tables;
 #[cfg(test)]
 mod tests;
 
 pub use move_tables::{Mode, kings, men, occupied};
-pub use pawns::PawnSpot;
+pub use pawns::PawnMasks;
 pub use sight::Sight;
 pub use tables::{Tables, cell_on};

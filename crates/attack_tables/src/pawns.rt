@@ -1,33 +1,52 @@
 //! Where a pawn may go from each square.
-ghost use Rattle.std.specs.Prelude.{◌≡◌, ℕ, ◌<◌, IfOk, IfSome};
+ghost use Rattle.std.specs.Prelude.{◌≡◌, ℕ, ◌<◌, true, ◌&&◌, IfSome};
 ghost use Rattle.std.specs.Bool.{OnTrue};
 ghost use Rattle.rules_model.specs.Attacks as Attacks;
 ghost use Rattle.rules_model.specs.Fit.{IsFit};
 ghost use Rattle.rules_model.specs.Kinds as Kinds;
 ghost use Rattle.rules_model.specs.Reach.{is_at};
-ghost use Rattle.square_set.specs.Members.{has};
+ghost use Rattle.square_set.specs.Members.{has, leads, length_of};
+ghost use Rattle.attack_tables.specs.PawnMasks as Masks;
 ghost use Rattle.attack_tables.specs.PawnSpots as Pawns;
 
-use crate::masks::side_of;
-use foundation::Memory;
 use rules_model::attacks::ahead;
 use rules_model::kinds::{board_of, in_region, names_any};
 use rules_model::reach::{step, term_ray};
-use rules_model::{Rules, Side, Square, Term, Way};
-use square_set::{EMPTY, Set};
-use std::alloc::Global;
+use rules_model::{FILES, Rules, Side, Square, Term, Way};
+use square_set::{EMPTY, Set, Shift};
 
 /// Where a pawn of a side may go from a square, as far as the rules alone tell.
-#[derive(Clone, Copy, Debug, PartialEq, Eq)]
-pub struct PawnSpot {
+#[derive(Clone, Copy)]
+pub(crate) struct PawnSpot {
     /// The square of one step.
-    pub one: Set,
+    one: Set,
     /// The square of two steps, where a pawn may step twice from here.
-    pub two: Set,
+    two: Set,
     /// The squares diagonally one step forward.
-    pub diagonals: Set,
+    diagonals: Set,
     /// Known to be so: on none of these squares a pawn promotes.
-    pub plain: bool,
+    plain: bool,
+}
+
+/// Where the pawns of a side may go from many squares at once, as far as the rules alone tell.
+#[derive(Clone, Copy, Debug, PartialEq, Eq)]
+pub struct PawnMasks {
+    /// Known to be so: from these squares a pawn promotes nowhere, and goes where the rest tells.
+    pub plain: Set,
+    /// The squares from which it may step once.
+    pub once: Set,
+    /// Those from which it may step twice.
+    pub twice: Set,
+    /// Those from which it may take to the left.
+    pub left: Set,
+    /// Those from which it may take to the right.
+    pub right: Set,
+    /// One step straight forward.
+    pub ahead: Shift,
+    /// Diagonally one step forward to the left, as the side sees it.
+    pub leftward: Shift,
+    /// The same to the right.
+    pub rightward: Shift,
 }
 
 /// The square, where there is one.
@@ -109,14 +128,127 @@ fn pawn_spot_of(rules: &Rules, side: Side, from: Square) -> PawnSpot
     }
 }
 
-/// The spots of each side and square, in this order.
-pub(crate) fn pawn_spots(alloc: Global, rules: &Rules) -> Result<Vec<PawnSpot>, Memory>
-    requires { IsFit rules.now }
-    ensures { IfOk result (λ spots. Pawns.ArePawnSpots rules.now spots.items) }
+/// The shift made twice.
+pub fn twice(shift: Shift) -> Shift
+    requires { length_of shift < 64 }
+    ensures is { result ≡ Masks.twice shift }
+    ensures short { length_of result < 128 }
 {
-    let mut spots = Vec::with_capacity(alloc, 240)?;
-    for i in 0..240usize {
-        spots.push(pawn_spot_of(rules, side_of(i / 120), Square((i % 120) as u8)))?;
+    match shift {
+        Shift::Up(by) => Shift::Up(by + by),
+        Shift::Down(by) => Shift::Down(by + by),
     }
-    Ok(spots)
+}
+
+/// No square, and the shifts of the side's pawns. The square above one has a number that is greater by `FILES`.
+fn no_masks(side: Side) -> PawnMasks
+    ensures { Masks.HasPawnShifts result }
+{
+    let (ahead, leftward, rightward) = match side {
+        Side::White => (Shift::Up(FILES), Shift::Up(FILES - 1), Shift::Up(FILES + 1)),
+        Side::Black => (
+            Shift::Down(FILES),
+            Shift::Down(FILES - 1),
+            Shift::Down(FILES + 1),
+        ),
+    };
+    PawnMasks {
+        plain: EMPTY,
+        once: EMPTY,
+        twice: EMPTY,
+        left: EMPTY,
+        right: EMPTY,
+        ahead,
+        leftward,
+        rightward,
+    }
+}
+
+/// The set, where there are such squares; else none.
+fn where_any(set: Set, squares: Set) -> Set {
+    if squares.is_empty() { EMPTY } else { set }
+}
+
+/// The masks with the square in each set that fits the spot. No proof rests on the sets: `is_told` tests what they say.
+fn with_spot(masks: &PawnMasks, spot: &PawnSpot, from: u8) -> PawnMasks
+    requires from { from < 120 }
+    requires shifts { Masks.HasPawnShifts masks.now }
+    ensures { Masks.HasPawnShifts result }
+{
+    let here = EMPTY.with(from);
+    let left = spot.diagonals.and(here.shifted(masks.leftward));
+    let right = spot.diagonals.and(here.shifted(masks.rightward));
+    PawnMasks {
+        once: masks.once.or(where_any(here, spot.one)),
+        twice: masks.twice.or(where_any(here, spot.two)),
+        left: masks.left.or(where_any(here, left)),
+        right: masks.right.or(where_any(here, right)),
+        ..*masks
+    }
+}
+
+/// The masks by the spots of all squares, none of them known to be plain yet.
+fn spotted_masks(rules: &Rules, side: Side) -> PawnMasks
+    requires { IsFit rules.now }
+    ensures { Masks.HasPawnShifts result }
+{
+    let mut masks = no_masks(side);
+    for from in 0..120u8 {
+        masks = with_spot(&masks, &pawn_spot_of(rules, side, Square(from)), from);
+    }
+    masks
+}
+
+/// The square to which the shift leads from this one, where the pawn goes by it.
+fn led(from: u8, shift: Shift, goes: bool) -> Set
+    requires from { from < 120 }
+    requires short { length_of shift < 128 }
+    ensures { (t : ℕ) → t < 128 → has result t ≡ (goes && leads shift from t) }
+{
+    if goes {
+        EMPTY.with(from).shifted(shift)
+    } else {
+        EMPTY
+    }
+}
+
+/// Whether it is known that from the square a pawn promotes nowhere, and goes where the masks tell.
+fn is_told(rules: &Rules, side: Side, masks: &PawnMasks, from: u8) -> bool
+    requires fit { IsFit rules.now }
+    requires from { from < 120 }
+    requires shifts { Masks.HasPawnShifts masks.now }
+    ensures { OnTrue result (Masks.IsTold rules.now side masks.now from) }
+{
+    let spot = pawn_spot_of(rules, side, Square(from));
+    let one = led(from, masks.ahead, masks.once.has(from));
+    let two = led(from, twice(masks.ahead), masks.twice.has(from));
+    let left = led(from, masks.leftward, masks.left.has(from));
+    let right = led(from, masks.rightward, masks.right.has(from));
+    spot.plain && spot.one == one && spot.two == two && spot.diagonals == left.or(right)
+}
+
+/// The squares from which the masks are known to tell where a pawn goes.
+fn plain_squares(rules: &Rules, side: Side, masks: &PawnMasks) -> Set
+    requires fit { IsFit rules.now }
+    requires shifts { Masks.HasPawnShifts masks.now }
+    ensures board { (s : ℕ) → has result s ≡ true → s < 120 }
+    ensures told { (s : ℕ) → has result s ≡ true → Masks.IsTold rules.now side masks.now s }
+{
+    let mut plain = EMPTY;
+    for from in 0..120u8 {
+        if is_told(rules, side, masks, from) {
+            plain = plain.with(from);
+        }
+    }
+    plain
+}
+
+/// Where the pawns of the side go from many squares at once.
+pub(crate) fn pawn_masks(rules: &Rules, side: Side) -> PawnMasks
+    requires { IsFit rules.now }
+    ensures { Masks.ArePawnMasks rules.now side result }
+{
+    let masks = spotted_masks(rules, side);
+    let plain = plain_squares(rules, side, &masks);
+    PawnMasks { plain, ..masks }
 }

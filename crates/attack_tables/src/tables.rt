@@ -6,6 +6,7 @@ ghost use Rattle.rules_model.specs.declared.board.Cell.{Cell};
 ghost use Rattle.rules_model.specs.Attacks as Rule;
 ghost use Rattle.rules_model.specs.Castling as Castling;
 ghost use Rattle.rules_model.specs.Fit.{IsFit};
+ghost use Rattle.rules_model.specs.Regions.{in_region};
 ghost use Rattle.rules_model.specs.Sides.{other};
 ghost use Rattle.rules_model.specs.Squares.{cell_at};
 ghost use Rattle.square_set.specs.Members.{has};
@@ -16,12 +17,13 @@ ghost use Rattle.move_tables.specs.Spots as Spots;
 ghost use Rattle.attack_tables.specs.Boards.{HoldsMen, OnEachBoard, OnEachWithKing};
 ghost use Rattle.attack_tables.specs.Goals as Goals;
 ghost use Rattle.attack_tables.specs.Masks.{IsMask};
-ghost use Rattle.attack_tables.specs.PawnSpots.{IsPawnSpot};
+ghost use Rattle.attack_tables.specs.PawnMasks.{ArePawnMasks};
 ghost use Rattle.attack_tables.specs.Sights.{IsSightOf};
 
 use crate::alike::alike_kinds;
 use crate::masks::{masks, place_of};
-use crate::pawns::{PawnSpot, pawn_spots};
+use crate::pawns::{PawnMasks, pawn_masks};
+use crate::regions::RegionSets;
 use crate::sight::{Sight, sights};
 use foundation::Memory;
 use move_tables::{Mode, MoveTables, Spot, kings, men, occupied};
@@ -39,8 +41,11 @@ pub struct Tables {
     moves: MoveTables,
     masks: Vec<Set>,
     sights: Vec<Sight>,
-    pawns: Vec<PawnSpot>,
     alike: Vec<bool>,
+    white_pawns: PawnMasks,
+    black_pawns: PawnMasks,
+    flag_regions: RegionSets,
+    drop_regions: RegionSets,
     castling: bool,
 }
 
@@ -51,7 +56,9 @@ impl Model for Tables {
     ghost use Rattle.rules_model.specs.Fit.{IsFit};
     ghost use Rattle.attack_tables.specs.Goals.{AreAlike};
     ghost use Rattle.attack_tables.specs.Masks.{AreMasks};
-    ghost use Rattle.attack_tables.specs.PawnSpots.{ArePawnSpots};
+    ghost use Rattle.rules_model.specs.declared.board.Side.TheVariants.{White, Black};
+    ghost use Rattle.attack_tables.specs.PawnMasks.{ArePawnMasks};
+    ghost use Rattle.attack_tables.specs.RegionSets.{AreRegions};
     ghost use Rattle.attack_tables.specs.Sights.{AreSights};
 
     ghost Value = { Rules };
@@ -59,8 +66,10 @@ impl Model for Tables {
     ghost view = { λ t. t.moves };
 
     ghost invariant = { λ t.
-        IsFit t.moves × AreMasks t.moves t.masks.items × AreSights t.sights.items × ArePawnSpots t.moves t.pawns.items
-        × AreAlike t.moves t.alike.items × (t.castling ≡ castling_on t.moves) };
+        IsFit t.moves × AreMasks t.moves t.masks.items × AreSights t.sights.items × AreAlike t.moves t.alike.items
+        × ArePawnMasks t.moves White t.white_pawns × ArePawnMasks t.moves Black t.black_pawns
+        × AreRegions t.moves.flag_region t.flag_regions × AreRegions t.moves.drop_region t.drop_regions
+        × (t.castling ≡ castling_on t.moves) };
 }
 
 /// What stands on the square.
@@ -82,15 +91,21 @@ impl Tables {
         let moves = MoveTables::new(alloc, rules)?;
         let masks = masks(alloc, &moves)?;
         let sights = sights(alloc)?;
-        let pawns = pawn_spots(alloc, rules)?;
         let alike = alike_kinds(alloc, rules)?;
+        let white_pawns = pawn_masks(rules, Side::White);
+        let black_pawns = pawn_masks(rules, Side::Black);
+        let flag_regions = RegionSets::new(&rules.flag_region);
+        let drop_regions = RegionSets::new(&rules.drop_region);
         let castling = castling_on(rules);
         Ok(Tables {
             moves,
             masks,
             sights,
-            pawns,
             alike,
+            white_pawns,
+            black_pawns,
+            flag_regions,
+            drop_regions,
             castling,
         })
     }
@@ -172,8 +187,9 @@ impl Tables {
         quiet.minus(occupied).or(takes.and(enemies))
     }
 
-    /// The same for a piece of any kind on any square: one that the variant cannot have reaches nothing.
-    fn reach_of(&self, piece: Cell, from: Square, mode: Mode, occupied: Set) -> Set
+    /// The squares that the piece reaches from the square in the mode, where these are occupied: one of a kind that no
+    /// variant has reaches none.
+    pub fn reach_of(&self, piece: Cell, from: Square, mode: Mode, occupied: Set) -> Set
         requires { from.0 < 120 }
         ensures { Reached.AreReached self.now piece.side piece.kind from mode occupied result }
     {
@@ -224,12 +240,30 @@ impl Tables {
         self.sights[at.0 as usize]
     }
 
-    /// Where a pawn of the side may go from the square.
-    pub fn pawn_spot(&self, side: Side, from: Square) -> &PawnSpot
-        requires { from.0 < 120 }
-        ensures { IsPawnSpot self.now side from result.now }
+    /// Where the pawns of the side go from many squares at once.
+    pub fn pawn_masks(&self, side: Side) -> &PawnMasks
+        ensures { ArePawnMasks self.now side result.now }
     {
-        &self.pawns[place_of(side, from.0)]
+        match side {
+            Side::White => &self.white_pawns,
+            Side::Black => &self.black_pawns,
+        }
+    }
+
+    /// Where the side's flag piece wins.
+    pub fn flag_region(&self, side: Side) -> Set
+        ensures is { (t : ℕ) → has result t ≡ in_region self.now.flag_region side t }
+        ensures on_board { (t : ℕ) → has result t ≡ true → t < 120 }
+    {
+        self.flag_regions.of(side)
+    }
+
+    /// Where the side's hand pieces are put.
+    pub fn drop_region(&self, side: Side) -> Set
+        ensures is { (t : ℕ) → has result t ≡ in_region self.now.drop_region side t }
+        ensures on_board { (t : ℕ) → has result t ≡ true → t < 120 }
+    {
+        self.drop_regions.of(side)
     }
 
     /// Whether the kind takes on the square.

@@ -4,8 +4,8 @@ ghost use Rattle.rules_model.specs.Fit.{IsFit};
 use super::*;
 use foundation::Memory;
 use rules_model::{Position, Rules, Side, Square};
-use sample_rules::{chess, kind, position, square, xiangqi};
-use square_set::{EMPTY, Set};
+use sample_rules::{chess, generals, kind, position, square, xiangqi};
+use square_set::{EMPTY, Set, Shift};
 use std::alloc::Global;
 use std::process::Abort;
 
@@ -13,6 +13,31 @@ fn set_of(squares: &[&str]) -> Set {
     let mut set = EMPTY;
     for text in squares {
         set = set.with(square(*text).0);
+    }
+    set
+}
+
+/// The squares of the files and ranks from those of the one corner to those of the other.
+fn block(low: &str, high: &str) -> Set {
+    let (low, high) = (square(low), square(high));
+    let mut set = EMPTY;
+    for at in 0..120u8 {
+        let here = Square(at);
+        let on_files = low.file() <= here.file() && here.file() <= high.file();
+        if on_files && low.rank() <= here.rank() && here.rank() <= high.rank() {
+            set = set.with(at);
+        }
+    }
+    set
+}
+
+/// Blocks of squares, each by its two corners.
+type Blocks<'a> = &'a [(&'a str, &'a str)];
+
+fn set_of_blocks(blocks: Blocks) -> Set {
+    let mut set = EMPTY;
+    for (low, high) in blocks {
+        set = set.or(block(*low, *high));
     }
     set
 }
@@ -272,5 +297,184 @@ fn a_cannon_does_not(rt: HostRuntime) -> Result<(), Memory> {
         &goals,
     );
     assert!(rt; !tables.castling_on());
+    Ok(())
+}
+
+/// From where a pawn goes on a board.
+#[derive(Drop)]
+struct Goers<'a> {
+    board: (&'a str, &'a str),
+    side: Side,
+    plain: Blocks<'a>,
+    once: Blocks<'a>,
+    twice: Blocks<'a>,
+    left: Blocks<'a>,
+    right: Blocks<'a>,
+}
+
+/// These squares of the board are plain, and of these a pawn goes from the others.
+fn expect_masks(rt: &impl Abort, tables: &Tables, row: &Goers) {
+    let masks = tables.pawn_masks(row.side);
+    let plain = masks.plain.and(block(row.board.0, row.board.1));
+    assert_eq!(rt; plain, set_of_blocks(row.plain), "plain");
+    assert_eq!(rt; plain.and(masks.once), set_of_blocks(row.once), "once");
+    assert_eq!(rt; plain.and(masks.twice), set_of_blocks(row.twice), "twice");
+    assert_eq!(rt; plain.and(masks.left), set_of_blocks(row.left), "left");
+    assert_eq!(rt; plain.and(masks.right), set_of_blocks(row.right), "right");
+}
+
+#[test]
+fn pawns_shift(rt: HostRuntime) -> Result<(), Memory> {
+    let tables = Tables::new(rt.alloc(), &chess())?;
+    let white = tables.pawn_masks(Side::White);
+    assert_eq!(rt; white.ahead, Shift::Up(12));
+    assert_eq!(rt; white.leftward, Shift::Up(11));
+    assert_eq!(rt; white.rightward, Shift::Up(13));
+    let black = tables.pawn_masks(Side::Black);
+    assert_eq!(rt; black.ahead, Shift::Down(12));
+    assert_eq!(rt; black.leftward, Shift::Down(11));
+    assert_eq!(rt; black.rightward, Shift::Down(13));
+    Ok(())
+}
+
+// A pawn promotes from its last rank but one; on the last rank it goes nowhere.
+#[test]
+fn chess_pawns_go(rt: HostRuntime) -> Result<(), Memory> {
+    let tables = Tables::new(rt.alloc(), &chess())?;
+    let white = Goers {
+        board: ("a1", "h8"),
+        side: Side::White,
+        plain: &[("a1", "h6"), ("a8", "h8")],
+        once: &[("a1", "h6")],
+        twice: &[("a2", "h2")],
+        left: &[("b1", "h6")],
+        right: &[("a1", "g6")],
+    };
+    let black = Goers {
+        board: ("a1", "h8"),
+        side: Side::Black,
+        plain: &[("a3", "h8"), ("a1", "h1")],
+        once: &[("a3", "h8")],
+        twice: &[("a7", "h7")],
+        left: &[("a3", "g8")],
+        right: &[("b3", "h8")],
+    };
+    expect_masks(&rt, &tables, &white);
+    expect_masks(&rt, &tables, &black);
+    Ok(())
+}
+
+// A pawn promotes on the last three ranks.
+#[test]
+fn generals_pawns_go(rt: HostRuntime) -> Result<(), Memory> {
+    let tables = Tables::new(rt.alloc(), &generals())?;
+    let white = Goers {
+        board: ("a1", "h8"),
+        side: Side::White,
+        plain: &[("a1", "h4"), ("a8", "h8")],
+        once: &[("a1", "h4")],
+        twice: &[("a2", "h2")],
+        left: &[("b1", "h4")],
+        right: &[("a1", "g4")],
+    };
+    let black = Goers {
+        board: ("a1", "h8"),
+        side: Side::Black,
+        plain: &[("a5", "h8"), ("a1", "h1")],
+        once: &[("a5", "h8")],
+        twice: &[("a7", "h7")],
+        left: &[("a5", "g8")],
+        right: &[("b5", "h8")],
+    };
+    expect_masks(&rt, &tables, &white);
+    expect_masks(&rt, &tables, &black);
+    Ok(())
+}
+
+// With soldiers and no pawn nothing promotes, on nine files and ten ranks; a pawn would go as ever.
+#[test]
+fn xiangqi_pawns_would_go(rt: HostRuntime) -> Result<(), Memory> {
+    let tables = Tables::new(rt.alloc(), &xiangqi())?;
+    let white = Goers {
+        board: ("a1", "i10"),
+        side: Side::White,
+        plain: &[("a1", "i10")],
+        once: &[("a1", "i9")],
+        twice: &[("a2", "i2")],
+        left: &[("b1", "i9")],
+        right: &[("a1", "h9")],
+    };
+    let black = Goers {
+        board: ("a1", "i10"),
+        side: Side::Black,
+        plain: &[("a1", "i10")],
+        once: &[("a2", "i10")],
+        twice: &[("a9", "i9")],
+        left: &[("a2", "h10")],
+        right: &[("b2", "i10")],
+    };
+    expect_masks(&rt, &tables, &white);
+    expect_masks(&rt, &tables, &black);
+    Ok(())
+}
+
+/// Chess on twelve files, with regions of eight: from a7 to h7 a pawn promotes, and from i7 where it takes.
+fn wide() -> Rules
+    ensures { IsFit result }
+{
+    let mut rules = chess();
+    rules.files = 12;
+    rules
+}
+
+// On the largest board the number after that of a file l is of a file a: no pawn takes over the edge.
+#[test]
+fn wide_pawns_go(rt: HostRuntime) -> Result<(), Memory> {
+    let tables = Tables::new(rt.alloc(), &wide())?;
+    let white = Goers {
+        board: ("a1", "l8"),
+        side: Side::White,
+        plain: &[("a1", "l6"), ("j7", "l7"), ("a8", "l8")],
+        once: &[("a1", "l6"), ("j7", "l7")],
+        twice: &[("a2", "h2")],
+        left: &[("b1", "l6"), ("j7", "l7")],
+        right: &[("a1", "k6"), ("j7", "k7")],
+    };
+    let black = Goers {
+        board: ("a1", "l8"),
+        side: Side::Black,
+        plain: &[("a3", "l8"), ("j2", "l2"), ("a1", "l1")],
+        once: &[("a3", "l8"), ("j2", "l2")],
+        twice: &[("a7", "h7")],
+        left: &[("a3", "k8"), ("j2", "k2")],
+        right: &[("b3", "l8"), ("j2", "l2")],
+    };
+    expect_masks(&rt, &tables, &white);
+    expect_masks(&rt, &tables, &black);
+    Ok(())
+}
+
+/// Chess where a flag piece would win on the last rank, and hand pieces would be put on the second.
+fn zoned() -> Rules
+    ensures { IsFit result }
+{
+    let mut rules = chess();
+    let last_ranks = rules.promotion;
+    let second_ranks = rules.double_region;
+    rules.flag_region = last_ranks;
+    rules.drop_region = second_ranks;
+    rules
+}
+
+#[test]
+fn regions_are_sets(rt: HostRuntime) -> Result<(), Memory> {
+    let tables = Tables::new(rt.alloc(), &zoned())?;
+    for (side, flag, drop) in [
+        (Side::White, ("a8", "h8"), ("a2", "h2")),
+        (Side::Black, ("a1", "h1"), ("a7", "h7")),
+    ] {
+        assert_eq!(rt; tables.flag_region(side), block(flag.0, flag.1));
+        assert_eq!(rt; tables.drop_region(side), block(drop.0, drop.1));
+    }
     Ok(())
 }

@@ -15,10 +15,8 @@ use foundation::Memory;
 use rules_model::kinds::{board_of, names};
 use rules_model::movement::{is_held_back, is_straight};
 use rules_model::{Kind, Rules, Side, Square, Term, Way};
-use square_set::{EMPTY, Set};
+use square_set::{ALL, EMPTY, Set};
 use std::alloc::Global;
-
-const EVERYWHERE: Set = Set(u128::MAX);
 
 /// Whether a piece goes by the term in the mode: where it is held back, by those along its file alone.
 fn is_used(mode: Mode, held: bool, term: &Term) -> bool
@@ -102,7 +100,7 @@ fn spot_of_kind(
 {
     if names(rules.pawn, kind) {
         let spot = spot_of_terms(alloc, rules, side, &diagonals(), from, mode, false)?;
-        return Ok(spot.cut(EVERYWHERE));
+        return Ok(spot.cut(ALL));
     }
     let held = is_held_back(rules, side, kind, from);
     let spot = spot_of_terms(alloc, rules, side, terms_of(rules, kind), from, mode, held)?;

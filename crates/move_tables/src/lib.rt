@@ -20,6 +20,7 @@ pub use build::terms_of;
 pub use jump::Jump;
 pub use line::{Line, Passage};
 pub use mode::Mode;
+pub use region::region_set;
 pub use spot::Spot;
 pub use squares::{kings, men, occupied};
 pub use tables::MoveTables;

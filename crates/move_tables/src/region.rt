@@ -1,4 +1,4 @@
-//! The mobility regions of a variant's kinds, as sets.
+//! The regions of a variant, as sets.
 ghost use Rattle.std.specs.Prelude.{◌≡◌, ℕ, ◌<◌, IfOk};
 ghost use Rattle.rules_model.specs.Movement.{in_mobility};
 ghost use Rattle.square_set.specs.Members.{has};
@@ -18,7 +18,8 @@ fn is_of(region: &Region, at: u8) -> bool
     region.squares[at as usize]
 }
 
-fn set_of(region: &Region) -> Set
+/// The squares of the region.
+pub fn region_set(region: &Region) -> Set
     ensures { (t : ℕ) → has result t ≡ Spots.lies_in region.now t }
 {
     region_size(region);
@@ -36,7 +37,7 @@ fn mobility_set(rules: &Rules, side: Side, kind: Kind) -> Set
     ensures { (t : ℕ) → has result t ≡ in_mobility rules.now side kind t }
 {
     match rules.kinds.get(kind.0 as usize) {
-        Some(Some(rule)) => set_of(&rule.mobility[side.index()]),
+        Some(Some(rule)) => region_set(&rule.mobility[side.index()]),
         Some(None) => EMPTY,
         None => EMPTY,
     }

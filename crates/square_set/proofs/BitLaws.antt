@@ -1,12 +1,12 @@
 -- Laws of the bits of numbers.
-use Rattle.std.proofs.Common.{◌≡◌, ◌≢◌, ℕ, zero, suc, if◌then◌else◌, sym, ◌+◌, ◌-◌, ◌*◌, ◌/◌, ◌%◌, ◌^◌, ◌<◌, ◌≤◌, min, max, nat_lt, Bool, true, false, ◌&&◌, ◌||◌, not, ◌==◌, refl, ap, ◌∙◌, arith}
+use Rattle.std.proofs.Common.{◌≡◌, ℕ, zero, suc, if◌then◌else◌, sym, ◌+◌, ◌-◌, ◌*◌, ◌/◌, ◌%◌, ◌^◌, ◌<◌, ◌≤◌, min, max, nat_le, nat_lt, true, false, ◌&&◌, ◌||◌, not, ◌==◌, refl, ap, ◌∙◌, arith}
 use Rattle.std.specs.Prelude.{bit_and, bit_or, bit_xor}
 use Rattle.std.specs.Int.{w128, bit_at}
 use Rattle.std.specs.Int.Count.{count_leading_zeros, count_trailing_zeros}
-use Rattle.std.proofs.lemmas.Nat.{leading_top}
-use Rattle.std.proofs.lemmas.Bool.{lt-ltb, le-ltb}
-use Rattle.std.proofs.Math.Nat.{pow-suc}
-use Rattle.std.proofs.lemmas.Nat.Bits.{bit_at_xor, bit_at-suc, bit_at_lowest, bit_at-zero, bit_at_and, bit_at_or, bit_at_not, bit_at-lt, bit_at_above, bit_at_set_same, bit_at_set_other, bit_at_clear_same, bit_at_clear_other, bit_at-trailing_zeros, bit_at_cat_high, bit_at_ones, ones_shl, bit_at_mask_inside, bit_at_mask_below}
+use Rattle.std.proofs.lemmas.Nat.{leading_top, div-add-mod', pow_pos}
+use Rattle.std.proofs.lemmas.Bool.{lt-ltb, le-ltb, lt-leb, le-leb}
+use Rattle.std.proofs.Math.Nat.{pow-suc, mod-lt}
+use Rattle.std.proofs.lemmas.Nat.Bits.{bit_at_xor, bit_at-suc, bit_at_lowest, bit_at-zero, bit_at_and, bit_at_or, bit_at_not, bit_at-lt, bit_at_above, bit_at_set_same, bit_at_set_other, bit_at_clear_same, bit_at_clear_other, bit_at-trailing_zeros, bit_at_cat_low, bit_at_cat_high, bit_at_ones, ones_shl, bit_at_mask_inside, bit_at_mask_below}
 use Rattle.std.proofs.Math.Bool.{and-false, and-true, or-false, or-true}
 use Rattle.square_set.proofs.Cases.{by_equal, by_order}
 use Rattle.square_set.specs.Members.{bit, IsFirst}
@@ -95,6 +95,10 @@ turned (suc s) x (suc i) p one none =
     let e = turned s (x / 2) i (omega (arith, a, z, p)) (sym (bit_at-suc x s) ∙ one) (λ k l. sym (bit_at-suc x k) ∙ none (suc k) (omega (arith, l))) in
     rw (b, c, lt-suc s i) e
 
+some_bit : (x s : ℕ) → bit_at x s ≡ 1 → 0 < x
+some_bit zero s e = absurd (omega (arith, e, bit_at-zero s))
+some_bit (suc x) s e = omega arith
+
 one_or_zero : (s i : ℕ) → ((if nat_lt s i then 0 else 1) == 1) ≡ not (nat_lt s i)
 one_or_zero s i = grind arith
 
@@ -105,6 +109,37 @@ bit-turned x s i p l one none =
     let is_one : bit_at x s ≡ 1 = one_is (bit_at x s) one in
     let are_none : (k : ℕ) → k < s → bit_at x k ≡ 0 = λ k m. none_is (bit_at x k) (bit_at-lt x k) (none k m) in
     ap (λ n. n == 1) (ap (λ y. bit_at (bit_xor x y) i) before ∙ bit_at_xor x (x - 1) i ∙ turned s x i p is_one are_none) ∙ one_or_zero s i
+
+even_both : (a b : ℕ) → a < 2 → b < 2 → (a + b) % 2 ≡ 0 → ((a == 1) && (b == 1)) ≡ ((a == 1) && true)
+even_both a b l m e = let same : a ≡ b = omega (arith, l, m, e) in rw same grind arith
+
+odd_both : (a b : ℕ) → a < 2 → b < 2 → (a + b) % 2 ≡ 1 → ((a == 1) && (b == 1)) ≡ false
+odd_both a b l m e = grind arith
+
+-- a number and the one before it have the same bits above its lowest one, and no other in common
+off : (x s i : ℕ) → bit x s ≡ true → ((k : ℕ) → k < s → bit x k ≡ false) → (bit_at x i + bit_at (x - 1) i) % 2 ≡ (if nat_lt s i then 0 else 1)
+    → (bit x i && bit (x - 1) i) ≡ (bit x i && not (i == s))
+off x s i one none e =
+    by_order s i ((bit x i && bit (x - 1) i) ≡ (bit x i && not (i == s)))
+    (λ l.
+    let apart : (i == s) ≡ false = grind (arith, l) in
+    let even = e ∙ ap (λ b. if b then 0 else 1) (lt-ltb s i l) in
+    rw apart (even_both (bit_at x i) (bit_at (x - 1) i) (bit_at-lt x i) (bit_at-lt (x - 1) i) even))
+    (λ l.
+    let odd = odd_both (bit_at x i) (bit_at (x - 1) i) (bit_at-lt x i) (bit_at-lt (x - 1) i) (e ∙ ap (λ b. if b then 0 else 1) (le-ltb s i l)) in
+    by_equal i s ((bit x i && bit (x - 1) i) ≡ (bit x i && not (i == s)))
+    (λ t h. rw t (odd ∙ sym (and-false (bit x i))))
+    (λ t h. rw (none i (omega (arith, l, h)))))
+
+-- without its lowest bit
+pub bit-off : (x s i : ℕ) → x < 2 ^ 128 → bit x s ≡ true → ((k : ℕ) → k < s → bit x k ≡ false)
+    → bit (bit_and x ((x + (2 ^ 128 - 1)) % 2 ^ 128)) i ≡ (bit x i && not (i == s))
+bit-off x s i l one none =
+    let is_one : bit_at x s ≡ 1 = one_is (bit_at x s) one in
+    let are_none : (k : ℕ) → k < s → bit_at x k ≡ 0 = λ k m. none_is (bit_at x k) (bit_at-lt x k) (none k m) in
+    let p = some_bit x s is_one in
+    let before : (x + (2 ^ 128 - 1)) % 2 ^ 128 ≡ x - 1 = omega (arith, p, l) in
+    bit-and x ((x + (2 ^ 128 - 1)) % 2 ^ 128) i ∙ ap (λ y. bit x i && bit y i) before ∙ off x s i one none (turned s x i p is_one are_none)
 
 -- 0 turned by the greatest number is that number
 pub bit-turned_zero : (i : ℕ) → i < 128 → bit (bit_xor 0 ((0 + (2 ^ 128 - 1)) % 2 ^ 128)) i ≡ true
@@ -146,3 +181,27 @@ bit-from s i l m =
     by_order i s (bit (2 ^ 128 - 2 ^ s) i ≡ not (nat_lt i s))
     (λ n. ap (λ x. x == 1) (bit_at_mask_below s 128 i n) ∙ grind arith)
     (λ n. ap (λ x. x == 1) (bit_at_mask_inside s 128 i n m) ∙ grind arith)
+
+-- a number's bits below 128 are those of its rest
+bit-rest : (n i : ℕ) → i < 128 → bit (n % 2 ^ 128) i ≡ bit n i
+bit-rest n i l =
+    ap (λ x. x == 1) (sym (bit_at_cat_low (n / 2 ^ 128) 128 (n % 2 ^ 128) i l) ∙ ap (λ m. bit_at m i) (div-add-mod' n (2 ^ 128)))
+
+cat_none : (a k i : ℕ) → bit (a * 2 ^ k) i ≡ bit (a * 2 ^ k + 0) i
+cat_none a k i = ap (λ n. bit n i) (omega arith)
+
+-- a shift to higher numbers
+pub bit-up : (a k i : ℕ) → i < 128 → bit (a * 2 ^ k % 2 ^ 128) i ≡ (nat_le k i && bit a (i - k))
+bit-up a k i l =
+    bit-rest (a * 2 ^ k) i l ∙ cat_none a k i ∙
+    by_order i k (bit (a * 2 ^ k + 0) i ≡ (nat_le k i && bit a (i - k)))
+    (λ m. rw (lt-leb k i m) (ap (λ x. x == 1) (bit_at_cat_low a k 0 i m ∙ bit_at-zero i)))
+    (λ m. rw (le-leb k i m) (ap (λ x. x == 1) (bit_at_cat_high a k 0 i (pow_pos k) m)))
+
+-- a shift to lower numbers
+pub bit-down : (a k i : ℕ) → bit (a / 2 ^ k) i ≡ bit a (i + k)
+bit-down a k i =
+    ap (λ x. x == 1) (sym (
+    ap (λ m. bit_at m (i + k)) (sym (div-add-mod' a (2 ^ k)))
+    ∙ bit_at_cat_high (a / 2 ^ k) k (a % 2 ^ k) (i + k) (mod-lt a (pow_pos k)) (omega arith)
+    ∙ ap (bit_at (a / 2 ^ k)) (omega arith)))

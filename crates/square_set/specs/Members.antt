@@ -1,7 +1,9 @@
 -- A set of squares by its members: bit s of its number stands for square s.
-use Rattle.std.specs.Prelude.{◌≡◌, ℕ, zero, suc, ◌+◌, ◌-◌, ◌<◌, Bool, true, false, ◌&&◌, not, ◌==◌, if◌then◌else◌}
+use Rattle.std.specs.Prelude.{◌≡◌, ℕ, zero, suc, ◌+◌, ◌-◌, ◌<◌, ◌≤◌, Bool, true, false, ◌&&◌, ◌||◌, not, ◌==◌, nat_le, if◌then◌else◌}
 use Rattle.std.specs.Int.{bit_at}
 use Rattle.square_set.specs.declared.Set.{Set}
+use Rattle.square_set.specs.declared.Shift.{Shift}
+use Rattle.square_set.specs.declared.Shift.TheVariants.{Up, Down}
 
 -- bit s of the number is 1
 abbrev pub bit : ℕ → ℕ → Bool
@@ -26,6 +28,10 @@ pub record IsFirst (set : Set) (square : ℕ) : Type 0 where
   pub member : has set square ≡ true
   pub lowest : (s : ℕ) → s < square → has set s ≡ false
 
+-- the new set has the squares of the old one and this one
+abbrev pub IsWith : Set → ℕ → Set → Type 0
+IsWith old square new = (s : ℕ) → has new s ≡ (has old s || (s == square))
+
 -- the new set has the squares of the old one but this one
 abbrev pub IsWithout : Set → ℕ → Set → Type 0
 IsWithout old square new = (s : ℕ) → has new s ≡ (has old s && not (s == square))
@@ -38,3 +44,28 @@ place false s = 127 - s
 -- how many squares that pass the test come before the square in that order
 abbrev pub before : Bool → (ℕ → Bool) → ℕ → ℕ
 before rising test s = count_below (λ i. test (place rising i)) (place rising s)
+
+-- by how many squares a shift leads
+abbrev pub length_of : Shift → ℕ
+length_of (Up n) = n
+length_of (Down n) = n
+
+-- the shift leads from the first square to the second
+abbrev pub leads : Shift → ℕ → ℕ → Bool
+leads (Up n) s t = s + n == t
+leads (Down n) s t = t + n == s
+
+-- the square from which the shift leads to this one
+abbrev pub origin : Shift → ℕ → ℕ
+origin (Up n) t = t - n
+origin (Down n) t = t + n
+
+-- there is such a square, and it is below the end
+abbrev pub HasOrigin : Shift → ℕ → ℕ → Type 0
+HasOrigin (Up n) end t = (n ≤ t) × (t - n < end)
+HasOrigin (Down n) end t = t + n < end
+
+-- the shift leads from a square of the set to this one
+abbrev pub is_led : Shift → Set → ℕ → Bool
+is_led (Up n) set t = nat_le n t && has set (t - n)
+is_led (Down n) set t = has set (t + n)

@@ -12,8 +12,33 @@ ghost use Rattle.square_set.specs.Members as Members;
 #[derive(Clone, Copy, Debug, Default, PartialEq, Eq)]
 pub struct Set(pub u128);
 
+/// A change of the numbers of squares, the same for each square of a set.
+#[derive(Clone, Copy, Debug, PartialEq, Eq)]
+pub enum Shift {
+    /// To the number that is greater by this.
+    Up(u8),
+    /// To the number that is less by this.
+    Down(u8),
+}
+
+impl Shift {
+    /// The square from which the shift leads to this one.
+    pub fn origin(self, to: u8) -> u8
+        requires { Members.HasOrigin self 128 to }
+        ensures { result ≡ Members.origin self to }
+    {
+        match self {
+            Shift::Up(by) => to - by,
+            Shift::Down(by) => to + by,
+        }
+    }
+}
+
 /// The set without a square.
 pub const EMPTY: Set = Set(0);
+
+/// The set of every square.
+pub const ALL: Set = Set(u128::MAX);
 
 impl Set {
     /// Whether the square is in the set.
@@ -61,6 +86,17 @@ impl Set {
         Set(self.0 & !other.0)
     }
 
+    /// The squares below 128 to which the shift leads from those of the set.
+    pub fn shifted(self, shift: Shift) -> Set
+        requires { Members.length_of shift < 128 }
+        ensures { (t : ℕ) → t < 128 → Members.has result t ≡ Members.is_led shift self t }
+    {
+        match shift {
+            Shift::Up(by) => Set(self.0 << by),
+            Shift::Down(by) => Set(self.0 >> by),
+        }
+    }
+
     /// Whether the set has no square.
     pub fn is_empty(self) -> bool
         ensures empty { OnTrue result ((s : ℕ) → Members.has self s ≡ false) }
@@ -81,6 +117,13 @@ impl Set {
         }
     }
 
+    /// The set without its square of the lowest number. To take 1 off turns the lowest bit and the bits below it, and no other.
+    fn without_first(self) -> Set
+        ensures { (first : ℕ) → Members.IsFirst self first → Members.IsWithout self first result }
+    {
+        Set(self.0 & self.0.wrapping_sub(1))
+    }
+
     /// Takes the square of the lowest number out of the set. Where the set is empty it stays so, and the answer is None.
     pub fn take_first(&mut self) -> Option<u8>
         ensures some { IfSome result (λ square. Members.IsFirst self.old square) }
@@ -90,7 +133,7 @@ impl Set {
         ensures kept { IfNone result (self.new ≡ self.old) }
     {
         let first = self.first()?;
-        *self = self.without(first);
+        *self = self.without_first();
         Some(first)
     }
 

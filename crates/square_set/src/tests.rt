@@ -52,6 +52,23 @@ fn squares_are_taken_in_order(rt: HostRuntime) {
     }
 }
 
+// A rank up, a rank down, no change, and down by all but one square: what would lie beyond the number falls off.
+#[test]
+fn a_shift_leads_each_square_on(rt: HostRuntime) {
+    let set = set_of(&[0, 11, 64, 119]);
+    let rows: [(Set, &[u8]); 4] = [
+        (set.shifted(Shift::Up(12)), &[12, 23, 76]),
+        (set.shifted(Shift::Down(12)), &[52, 107]),
+        (set.shifted(Shift::Up(0)), &[0, 11, 64, 119]),
+        (set.shifted(Shift::Down(119)), &[0]),
+    ];
+    for (shifted, squares) in rows {
+        assert_eq!(rt; shifted, set_of(squares));
+    }
+    assert_eq!(rt; Shift::Up(12).origin(23), 11);
+    assert_eq!(rt; Shift::Down(12).origin(52), 64);
+}
+
 #[test]
 fn all_squares_of_the_largest_board_are_120(rt: HostRuntime) {
     let mut all = EMPTY;

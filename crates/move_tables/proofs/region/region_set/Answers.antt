@@ -1,8 +1,8 @@
 use Rattle.std.proofs.Common.{◌||◌, ◌==◌, ap, sym, ◌∙◌, arith}
 use Rattle.move_tables.specs.Spots.{lies_in}
 use Rattle.move_tables.proofs.BuildLaws.{region_beyond, member_step, other_step}
-use Rattle.move_tables.proofs.region.set_of.Goals as goal
-use Rattle.move_tables.proofs.region.set_of.Goals.{then-is_of, else-is_of}
+use Rattle.move_tables.proofs.region.region_set.Goals as goal
+use Rattle.move_tables.proofs.region.region_set.Goals.{then-is_of, else-is_of}
 
 pub loop-at-preserved : goal.loop-at-preserved
 loop-at-preserved c = λ t.

@@ -1,0 +1,48 @@
+//! The regions of the sides, as sets.
+ghost use Rattle.std.specs.Prelude.{◌≡◌, ℕ, ◌<◌, true, List};
+ghost use Rattle.rules_model.specs.declared.board.Region.{Region};
+ghost use Rattle.rules_model.specs.Regions.{in_region};
+ghost use Rattle.square_set.specs.Members.{has};
+ghost use Rattle.attack_tables.specs.RegionSets.{AreRegions, IsRegion};
+
+use move_tables::region_set;
+use rules_model::sizes::region_size;
+use rules_model::{Region, Side};
+use square_set::Set;
+
+/// A region of each side.
+#[derive(Clone, Copy)]
+pub(crate) struct RegionSets {
+    white: Set,
+    black: Set,
+}
+
+fn side_region(regions: &[Region; 2], side: Side) -> Set
+    ensures is { (t : ℕ) → has result t ≡ in_region regions.now side t }
+    ensures on_board { (t : ℕ) → has result t ≡ true → t < 120 }
+{
+    let region = &regions[side.index()];
+    region_size(region);
+    region_set(region)
+}
+
+impl RegionSets {
+    pub(crate) fn new(regions: &[Region; 2]) -> RegionSets
+        ensures { AreRegions regions.now result }
+    {
+        RegionSets {
+            white: side_region(regions, Side::White),
+            black: side_region(regions, Side::Black),
+        }
+    }
+
+    /// The region of the side.
+    pub(crate) fn of(&self, side: Side) -> Set
+        ensures { (regions : List Region) → AreRegions regions self.now → IsRegion regions side result }
+    {
+        match side {
+            Side::White => self.white,
+            Side::Black => self.black,
+        }
+    }
+}
