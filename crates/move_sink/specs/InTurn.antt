@@ -1,12 +1,13 @@
 -- Moves that are given square by square, over the squares of a set.
-use Rattle.std.specs.Prelude.{◌≡◌, ℕ, true, false, Option}
+use Rattle.std.specs.Prelude.{◌≡◌, ℕ, true, false, Option, None}
 use Rattle.rules_model.specs.declared.board.Kind.{Kind}
 use Rattle.rules_model.specs.declared.board.Square.{Square}
 use Rattle.rules_model.specs.declared.moves.Move.{Move}
 use Rattle.rules_model.specs.declared.moves.Move.TheVariants.{Go, Castle, Drop}
 use Rattle.rules_model.specs.declared.moves.Promo.TheVariants.{Stays}
 use Rattle.square_set.specs.declared.Set.{Set}
-use Rattle.square_set.specs.Members.{has}
+use Rattle.square_set.specs.declared.Shift.{Shift}
+use Rattle.square_set.specs.Members.{has, origin}
 
 -- where the move's piece comes from: a drop's from its square
 abbrev pub start_of : Move → ℕ
@@ -28,6 +29,15 @@ At P square s m = P m × (square m ≡ s)
 abbrev pub Outside : (Move → Type 0) → (Move → ℕ) → Set → Move → Type 0
 Outside P square left m = P m × (has left (square m) ≡ false)
 
--- the moves of the piece on a square to the squares of a set, which become nothing else and place this on the square
+-- the moves to the squares of a set, each of the piece on the square at which it starts, which become nothing else and place this there
+abbrev pub Goes : (ℕ → Square) → Option Kind → Set → Move → Type 0
+Goes start gate targets m =
+    (Go (start (target_of m)) (record { 0 = target_of m }) Stays gate ≡ m) × (has targets (target_of m) ≡ true)
+
+-- the moves of the piece on a square to the squares of a set
 abbrev pub GoesTo : Square → Option Kind → Set → Move → Type 0
-GoesTo from gate targets m = (Go from (record { 0 = target_of m }) Stays gate ≡ m) × (has targets (target_of m) ≡ true)
+GoesTo from gate = Goes (λ to. from) gate
+
+-- the moves by a shift to the squares of a set, which place nothing
+abbrev pub GoesBy : Shift → Set → Move → Type 0
+GoesBy shift = Goes (λ to. record { 0 = origin shift to }) None

@@ -6,14 +6,14 @@ mod tests;
 
 ghost use Rattle.std.specs.Prelude.{◌≡◌, ◌<◌, ℕ, true, List, [], ◌∷◌, ◌++◌, OnOk, OnErr};
 ghost use Rattle.rules_model.specs.declared.moves.Move.{Move};
-ghost use Rattle.square_set.specs.Members.{has};
-ghost use Rattle.move_sink.specs.InTurn.{GoesTo};
+ghost use Rattle.square_set.specs.Members.{has, length_of, HasOrigin};
+ghost use Rattle.move_sink.specs.InTurn.{GoesTo, GoesBy};
 ghost use Rattle.move_sink.specs.Taking.{IsSink, TakesAll, TakesSome};
 ghost use Rattle.move_sink.specs.Listed.{list_is_sink};
 
 use foundation::Memory;
 use rules_model::{Kind, Move, MoveList, Promo, Square};
-use square_set::Set;
+use square_set::{Set, Shift};
 
 /// What takes moves. A generator gives it each move in turn, until it has no more or the sink is full.
 pub trait MoveSink {
@@ -46,6 +46,27 @@ pub trait MoveSink {
                 to: Square(to),
                 promo: Promo::Stays,
                 gate,
+            })?;
+        }
+        Ok(())
+    }
+
+    /// Gives it the moves by the shift to each of these squares: each is of the piece on the square from which the shift leads there, which
+    /// becomes nothing else and places nothing. A sink that need not see each of them may do better than to take them one by one.
+    fn take_shifted(&mut self, shift: Shift, targets: Set) -> Result<(), Self::Full>
+        requires length { length_of shift < 128 }
+        requires targets { (s : ℕ) → has targets s ≡ true → s < 120 }
+        requires starts { (s : ℕ) → has targets s ≡ true → HasOrigin shift 120 s }
+        ensures ok { OnOk result (TakesAll takes (GoesBy shift targets) self.old self.new) }
+        ensures err { OnErr result (TakesSome stops (GoesBy shift targets) self.old self.new) }
+    {
+        let mut left = targets;
+        while let Some(to) = left.take_first() {
+            self.take(Move::Go {
+                from: Square(shift.origin(to)),
+                to: Square(to),
+                promo: Promo::Stays,
+                gate: None,
             })?;
         }
         Ok(())

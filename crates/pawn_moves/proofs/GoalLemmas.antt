@@ -20,7 +20,7 @@ use Rattle.pawn_moves.proofs.StepLemmas.{Differ, one_two, one_right, one_left}
 pub fit_board : (rules : Rules) → IsFit rules → IsOnBoard (board_of rules)
 fit_board rules fit = record { files = fit.files_most; ranks = fit.ranks_most }
 
-some_at : (s : ℕ) (o : Option ℕ) → o ≡ Some s → is_at s o ≡ true
+pub some_at : (s : ℕ) (o : Option ℕ) → o ≡ Some s → is_at s o ≡ true
 some_at s o e = ap (is_at s) e ∙ (Decides-eqb s s).1 refl
 
 other_at : (s : ℕ) (a b : Option ℕ) → Differ a b → a ≡ Some s → is_at s b ≡ false

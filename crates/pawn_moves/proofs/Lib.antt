@@ -1,4 +1,6 @@
 pub mod StepLemmas
 pub mod GoalLemmas
 pub mod PartLemmas
-pub mod TargetLaws
+pub mod ShiftLemmas
+pub mod SetLemmas
+pub mod ShiftedLaws

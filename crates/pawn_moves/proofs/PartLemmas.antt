@@ -282,14 +282,6 @@ module _ (rules : Rules) (r : Repeat) (from : Square) where
   below : IsFit rules → (dx : ℤ) (k s : ℕ) → step_to (pawn_ray (board_of rules) r.side dx from) k ≡ Some s → s < 120
   below fit dx k s e = step_below (pawn_ray (board_of rules) r.side dx from) k s (fit_board rules fit) e
 
-  -- a target is a square of the largest board
-  pub goes_small : IsFit rules → (to : ℕ) → pawn_goes rules r from to ≡ true → to < 120
-  goes_small fit to e =
-      ⊎_elim
-      (λ s. ⊎_elim (λ h. below fit (pos 0) 1 to h) (λ h. below fit (pos 0) 2 to h) s)
-      (λ s. ⊎_elim (λ h. below fit (pos 1) 1 to h) (λ h. below fit (negsuc 0) 1 to h) s)
-      (by_going to e)
-
   pub from-step : IsFit rules → (m : Move) → IsStep rules r from m → IsMoveFrom rules r from m
   from-step fit m (inl h) = some_from one (below fit (pos 0) 1) m h
   from-step fit m (inr h) = some_from two (below fit (pos 0) 2) m h
@@ -313,11 +305,11 @@ module _ (rules : Rules) (r : Repeat) where
   own_moves None a b promo = refl
   own_moves (Some c) a b promo = refl
 
-  go_is : (a b : Square) (promo : Promo) → is_pawn_move rules r (go a b promo) ≡ (is_own_pawn rules r.side (cell_at r.cells a.0) && pawn_moves rules r a b promo)
+  pub go_is : (a b : Square) (promo : Promo) → is_pawn_move rules r (go a b promo) ≡ (is_own_pawn rules r.side (cell_at r.cells a.0) && pawn_moves rules r a b promo)
   unfolding is_pawn_move
   go_is a b promo = own_moves (cell_at r.cells a.0) a b promo
 
-  go_parts : (a b : Square) (promo : Promo) → is_pawn_move rules r (go a b promo) ≡ true → (is_own_pawn rules r.side (cell_at r.cells a.0) ≡ true) × (pawn_moves rules r a b promo ≡ true)
+  pub go_parts : (a b : Square) (promo : Promo) → is_pawn_move rules r (go a b promo) ≡ true → (is_own_pawn rules r.side (cell_at r.cells a.0) ≡ true) × (pawn_moves rules r a b promo ≡ true)
   go_parts a b promo e = and_parts (is_own_pawn rules r.side (cell_at r.cells a.0)) (pawn_moves rules r a b promo) (sym (go_is a b promo) ∙ e)
 
   -- each starts from an own pawn

@@ -1,3 +1,3 @@
-pub mod PawnMoves
 pub mod Parts
-pub mod Targets
+pub mod PawnMoves
+pub mod Shifted

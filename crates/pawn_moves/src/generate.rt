@@ -1,7 +1,5 @@
 //! All moves of the own pawns.
-ghost use Rattle.std.specs.Prelude.{◌≡◌, ◌<◌, ℕ, true, false, OnOk, OnErr};
-ghost use Rattle.std.specs.Bool.{OnFalse};
-ghost use Rattle.square_set.specs.Members.{has};
+ghost use Rattle.std.specs.Prelude.{◌≡◌, true, OnOk, OnErr};
 ghost use Rattle.move_sink.specs.Taking.{TakesAll, TakesSome};
 ghost use Rattle.rules_model.specs.Attacks as Attacks;
 ghost use Rattle.rules_model.specs.Fit.{IsFit};
@@ -13,17 +11,16 @@ ghost use Rattle.pawn_moves.specs.Parts as Parts;
 ghost use Rattle.pawn_moves.specs.Parts.{IsChosen, IsPromotion, IsMoveTo, IsAhead, IsAside, IsStep, IsTake, IsMoveFrom};
 ghost use Rattle.pawn_moves.specs.PawnMoves.{FitPawnMoves};
 
-use crate::pawn::{Flank, becomes, diagonal, is_enemy_on, may_step_twice, promotes, targets};
+use crate::pawn::{Flank, becomes, diagonal, is_enemy_on, may_step_twice, promotes};
+use crate::shifted::push_shifted;
 use attack_tables::Tables;
-use board_sets::{BoardSets, sets_are_on_board};
+use board_sets::BoardSets;
 use move_sink::MoveSink;
 use rules_model::attacks::ahead;
 use rules_model::kinds::{board_of, masks};
 use rules_model::passing::is_ep;
-use rules_model::sizes::position_sizes;
 use rules_model::soundness::is_free;
 use rules_model::{KINDS, Kind, Move, Position, Promo, Rules, Square};
-use square_set::Set;
 
 /// Gives the sink the move where it is wanted.
 fn push_if<S: MoveSink>(wanted: bool, m: Move, out: &mut S) -> Result<(), S::Full>
@@ -209,43 +206,6 @@ fn push_each<S: MoveSink>(
     push_takes(rules, p, from, out)
 }
 
-/// Whether the en passant square may be one of these: where not, none of them is.
-fn may_pass(ep: Option<Square>, squares: Set) -> bool
-    ensures { OnFalse result ((t : ℕ) → t < 120 → has squares t ≡ true → Pawns.is_ep ep t ≡ false) }
-{
-    match ep {
-        None => false,
-        Some(ep) => ep.0 < 120 && squares.has(ep.0),
-    }
-}
-
-/// Gives the sink the moves of the own pawn on the square: all at once, where it neither promotes nor passes another.
-fn push_pawn<S: MoveSink>(
-    rules: &Rules,
-    tables: &Tables,
-    p: &Position,
-    sets: &BoardSets,
-    from: Square,
-    out: &mut S,
-) -> Result<(), S::Full>
-    requires fit { IsFit rules.now }
-    requires tables { tables.now ≡ rules.now }
-    requires sets { AreSets rules.now p.now.side p.now.cells sets.now }
-    requires from { from.0 < 120 }
-    requires own { Attacks.is_own_pawn rules.now p.now.side (cell_at p.now.cells from.0) ≡ true }
-    ensures ok { OnOk result (TakesAll S.takes (IsMoveFrom rules.now (repeat_of p.now) from) out.old out.new) }
-    ensures err { OnErr result (TakesSome S.stops (IsMoveFrom rules.now (repeat_of p.now) from) out.old out.new) }
-{
-    let spot = tables.pawn_spot(p.side, from);
-    if !spot.plain {
-        return push_each(rules, p, from, out);
-    }
-    if may_pass(p.ep, spot.diagonals) {
-        return push_each(rules, p, from, out);
-    }
-    out.take_all(from, None, targets(spot, sets))
-}
-
 /// Gives the sink the moves of the own pawns, each once and in no special order: those for which `is_candidate` answers
 /// yes. After an error it took some of them, each at most once.
 pub fn push_moves<S: MoveSink>(
@@ -264,11 +224,9 @@ pub fn push_moves<S: MoveSink>(
     if rules.pawn.is_none() {
         return Ok(());
     }
-    position_sizes(p);
-    sets_are_on_board();
-    let mut left = sets.own_pawns();
+    let mut left = push_shifted(tables, p, sets, out)?;
     while let Some(from) = left.take_first() {
-        push_pawn(rules, tables, p, sets, Square(from), out)?;
+        push_each(rules, p, Square(from), out)?;
     }
     Ok(())
 }

@@ -5,6 +5,7 @@
 pub mod candidate;
 pub mod generate;
 mod pawn;
+mod shifted;
 #[cfg(test)]
 mod tests;
 

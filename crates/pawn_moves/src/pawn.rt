@@ -7,17 +7,13 @@ ghost use Rattle.rules_model.specs.Pawns as Pawns;
 ghost use Rattle.rules_model.specs.Repeats.{repeat_of};
 ghost use Rattle.rules_model.specs.Squares.{step_to, cell_at};
 ghost use Rattle.pawn_moves.specs.Parts as Parts;
-ghost use Rattle.pawn_moves.specs.Targets.{AreTargets};
 
-use attack_tables::PawnSpot;
-use board_sets::BoardSets;
 use rules_model::attacks::ahead;
 use rules_model::kinds::{board_of, in_region, masks, names_any};
 use rules_model::passing::is_stays;
 use rules_model::reach::{step, term_ray};
 use rules_model::soundness::is_free;
 use rules_model::{Cell, Position, Promo, Rules, Side, Square, Term, Way};
-use square_set::Set;
 
 /// A file beside the pawn's, as its side sees it.
 #[derive(Clone, Copy)]
@@ -114,17 +110,4 @@ pub(crate) fn becomes(rules: &Rules, may: bool, goes: bool, passes: bool, promo:
     ensures { result ≡ Parts.becomes rules.now may goes passes promo }
 {
     (goes && pawn_promo(rules, may, promo)) || (passes && is_stays(promo))
-}
-
-/// The squares to which the own pawn goes, which stands where the spot is.
-pub(crate) fn targets(spot: &PawnSpot, sets: &BoardSets) -> Set
-    ensures { AreTargets spot.now sets.now result }
-{
-    let occupied = sets.occupied();
-    let one = spot.one.minus(occupied);
-    let takes = spot.diagonals.and(sets.enemies);
-    match one.first() {
-        None => takes,
-        Some(_) => takes.or(one).or(spot.two.minus(occupied)),
-    }
 }

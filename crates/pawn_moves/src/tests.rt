@@ -34,6 +34,19 @@ fn promo_of(letter: u8) -> Promo {
     }
 }
 
+/// The pawns' moves, as they are generated.
+fn moves_of(alloc: Global, rules: &Rules, p: &Position) -> Result<MoveList, Memory>
+    requires fit { IsFit rules.now }
+{
+    let mut found = MoveList {
+        items: Vec::new(alloc),
+    };
+    let tables = Tables::new(alloc, rules)?;
+    let sets = sets_of(rules, &p.cells, p.side);
+    push_moves(rules, &tables, p, &sets, &mut found)?;
+    Ok(found)
+}
+
 /// The pawns' moves are those from the one square to the others with each of the letters, each once, and no others.
 fn expect_moves(
     rt: &impl Abort,
@@ -46,12 +59,7 @@ fn expect_moves(
 ) -> Result<(), Memory>
     requires fit { IsFit rules.now }
 {
-    let mut found = MoveList {
-        items: Vec::new(alloc),
-    };
-    let tables = Tables::new(alloc, rules)?;
-    let sets = sets_of(rules, &p.cells, p.side);
-    push_moves(rules, &tables, p, &sets, &mut found)?;
+    let found = moves_of(alloc, rules, p)?;
     let mut wanted: usize = 0;
     for to in targets.split(' ') {
         for letter in letters.as_bytes() {
@@ -63,6 +71,50 @@ fn expect_moves(
     }
     assert_eq!(rt; found.items.len(), wanted, "{from}");
     Ok(())
+}
+
+/// The move that a text as "a7-b8-q" tells, or "a7-a8" where the pawn becomes nothing else.
+fn move_of(text: &str) -> Move {
+    let mut parts = text.split('-');
+    let from = parts.next().unwrap_or("");
+    let to = parts.next().unwrap_or("");
+    let letter = parts.next().unwrap_or("-");
+    let promo = match letter.as_bytes().first() {
+        None => Promo::Stays,
+        Some(letter) => promo_of(*letter),
+    };
+    go(square(from), square(to), promo)
+}
+
+/// The pawns' moves are these, each once, and no others.
+fn expect_all(
+    rt: &impl Abort,
+    alloc: Global,
+    rules: &Rules,
+    p: &Position,
+    moves: &str,
+) -> Result<(), Memory>
+    requires fit { IsFit rules.now }
+{
+    let found = moves_of(alloc, rules, p)?;
+    let mut wanted: usize = 0;
+    for text in moves.split(' ') {
+        let m = move_of(text);
+        assert!(rt; found.items.contains(&m), "{text}");
+        assert!(rt; is_candidate(rules, p, &m), "{text}");
+        wanted = wanted.saturating_add(1);
+    }
+    assert_eq!(rt; found.items.len(), wanted, "{moves}");
+    Ok(())
+}
+
+/// Capablanca chess on twelve files, of which the last two have no double step.
+fn wide() -> Rules
+    ensures { IsFit result }
+{
+    let mut rules = capablanca();
+    rules.files = 12;
+    rules
 }
 
 #[test]
@@ -95,6 +147,87 @@ fn each_move_of_chess_once(rt: HostRuntime) -> Result<(), Memory> {
         expect_moves(&rt, rt.alloc(), &rules, &p, from, targets, letters)?;
     }
     Ok(())
+}
+
+#[test]
+fn moves_of_many_pawns(rt: HostRuntime) -> Result<(), Memory> {
+    let rules = chess();
+    let rows = [
+        // on the edge files, with pieces where a shift from there would lead beyond the edge
+        (
+            "Pa2 Ph2 nl2 ni3",
+            Side::White,
+            "",
+            "a2-a3 a2-a4 h2-h3 h2-h4",
+        ),
+        (
+            "pa7 ph7 Nl5 Ni7",
+            Side::Black,
+            "",
+            "a7-a6 a7-a5 h7-h6 h7-h5",
+        ),
+        // the second square of a double step is not free, or the first
+        ("Pd2 Pe2 nd4 ne3", Side::White, "", "d2-d3 d2-e3"),
+        ("pd7 pe7 Nd5 Ne6", Side::Black, "", "d7-d6 d7-e6"),
+        // takes to both sides, and onto no own piece
+        (
+            "Pc4 Pe4 nd5 Nf5",
+            Side::White,
+            "",
+            "c4-c5 c4-d5 e4-e5 e4-d5",
+        ),
+        (
+            "pc5 pe5 Nd4 nb4",
+            Side::Black,
+            "",
+            "c5-c4 c5-d4 e5-e4 e5-d4",
+        ),
+        // en passant from both sides, beside pawns that do not pass
+        (
+            "Pa2 Pd5 Pf5 pe5",
+            Side::White,
+            "e6",
+            "a2-a3 a2-a4 d5-d6 d5-e6 f5-f6 f5-e6",
+        ),
+        (
+            "ph7 pd4 pf4 Pe4",
+            Side::Black,
+            "e3",
+            "h7-h6 h7-h5 d4-d3 d4-e3 f4-f3 f4-e3",
+        ),
+        // a pawn that promotes, and those before
+        (
+            "Pa7 Pb6 Pc5",
+            Side::White,
+            "",
+            "a7-a8-n a7-a8-b a7-a8-r a7-a8-q b6-b7 c5-c6",
+        ),
+        (
+            "pa2 pb3 pc4",
+            Side::Black,
+            "",
+            "a2-a1-n a2-a1-b a2-a1-r a2-a1-q b3-b2 c4-c3",
+        ),
+    ];
+    for (pieces, side, ep, moves) in rows {
+        expect_all(
+            &rt,
+            rt.alloc(),
+            &rules,
+            &position_of(pieces, side, ep),
+            moves,
+        )?;
+    }
+    Ok(())
+}
+
+#[test]
+fn no_move_around_the_edge(rt: HostRuntime) -> Result<(), Memory> {
+    let rules = wide();
+    let p = position("Pa6 Pl3 na5 nl6");
+    expect_all(&rt, rt.alloc(), &rules, &p, "a6-a7 l3-l4")?;
+    let p = position_of("pl6 pa7 Na4 Nl7", Side::Black, "");
+    expect_all(&rt, rt.alloc(), &rules, &p, "l6-l5 a7-a6 a7-a5")
 }
 
 #[test]

@@ -12,7 +12,7 @@ abbrev pub invariant-loop-from : goal.invariant-loop-from
 invariant-loop-from g l = record {
   small : (s : ℕ) → has l.left s ≡ true → s < 120;
   own : (s : ℕ) → has l.left s ≡ true → is_own_pawn l.rules l.p.side (cell_at l.p.cells s) ≡ true;
-  taken : TakesAll g.S.MoveSink.takes (Outside (FitPawnMoves l.rules (repeat_of l.p)) start_of l.left) l.initial.out l.out;
+  taken : TakesAll g.S.MoveSink.takes (Outside (FitPawnMoves l.rules (repeat_of l.p)) start_of l.left) l.fn.out l.out;
 }
 
 abbrev pub decreases-loop-from : goal.decreases-loop-from

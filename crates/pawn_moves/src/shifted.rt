@@ -1,0 +1,139 @@
+//! The moves of many own pawns at once, by shifts of their squares.
+ghost use Rattle.std.specs.Prelude.{◌≡◌, ◌≢◌, ◌<◌, ℕ, true, false, IfOk, OnOk, OnErr};
+ghost use Rattle.square_set.specs.Members.{has, length_of};
+ghost use Rattle.move_sink.specs.InTurn.{Outside, start_of};
+ghost use Rattle.move_sink.specs.Taking.{TakesAll, TakesSome};
+ghost use Rattle.move_tables.specs.Occupied.{OnSquares};
+ghost use Rattle.rules_model.specs.Attacks as Attacks;
+ghost use Rattle.rules_model.specs.Fit.{IsFit};
+ghost use Rattle.rules_model.specs.Repeats.{repeat_of};
+ghost use Rattle.rules_model.specs.Squares.{cell_at};
+ghost use Rattle.board_sets.specs.Sets.{AreSets};
+ghost use Rattle.pawn_moves.specs.PawnMoves.{FitPawnMoves};
+ghost use Rattle.pawn_moves.specs.Shifted.{AreFreeBy, AreOrigins, HasPassers, IsAcross, IsBy, IsForward, IsShifted};
+
+use attack_tables::pawns::twice;
+use attack_tables::{PawnMasks, Tables};
+use board_sets::{BoardSets, sets_are_on_board};
+use move_sink::MoveSink;
+use rules_model::sizes::position_sizes;
+use rules_model::{Position, Square};
+use square_set::{EMPTY, Set, Shift};
+
+/// The squares of the largest board.
+const BOARD: Set = Set((1 << 120) - 1);
+
+/// The squares with no piece.
+fn free(sets: &BoardSets) -> Set
+    ensures { AreFreeBy sets.now result }
+{
+    BOARD.minus(sets.occupied())
+}
+
+/// The squares from which the shift leads to one of the set.
+fn origins(shift: Shift, set: Set) -> Set
+    requires { length_of shift < 128 }
+    ensures { AreOrigins shift set result }
+{
+    match shift {
+        Shift::Up(by) => set.shifted(Shift::Down(by)),
+        Shift::Down(by) => set.shifted(Shift::Up(by)),
+    }
+}
+
+/// The squares from which a pawn may pass another: those from which a shift to a side leads to the en passant square.
+fn passers(masks: &PawnMasks, ep: Option<Square>) -> Set
+    requires left { length_of masks.now.leftward < 128 }
+    requires right { length_of masks.now.rightward < 128 }
+    ensures { HasPassers masks.now ep result }
+{
+    match ep {
+        None => EMPTY,
+        Some(ep) => {
+            if ep.0 >= 120 {
+                return EMPTY;
+            }
+            let at = EMPTY.with(ep.0);
+            origins(masks.leftward, at).or(origins(masks.rightward, at))
+        }
+    }
+}
+
+/// Gives the sink the moves by the shift from squares of the one set to squares of the other.
+fn push_by<S: MoveSink>(shift: Shift, starts: Set, ends: Set, out: &mut S) -> Result<(), S::Full>
+    requires length { length_of shift < 128 }
+    requires starts { OnSquares starts }
+    requires ends { OnSquares ends }
+    ensures ok { OnOk result (TakesAll S.takes (IsBy shift (has starts) (has ends)) out.old out.new) }
+    ensures err { OnErr result (TakesSome S.stops (IsBy shift (has starts) (has ends)) out.old out.new) }
+{
+    let targets = starts.shifted(shift).and(ends);
+    if targets.is_empty() {
+        return Ok(());
+    }
+    out.take_shifted(shift, targets)
+}
+
+/// Gives the sink the moves of these pawns straight forward, one step and two.
+fn push_forward<S: MoveSink>(
+    masks: &PawnMasks,
+    pawns: Set,
+    free: Set,
+    out: &mut S,
+) -> Result<(), S::Full>
+    requires short { length_of masks.now.ahead < 64 }
+    requires some { 0 < length_of masks.now.ahead }
+    requires pawns { OnSquares pawns }
+    requires free { OnSquares free }
+    ensures ok { OnOk result (TakesAll S.takes (IsForward masks.now pawns free) out.old out.new) }
+    ensures err { OnErr result (TakesSome S.stops (IsForward masks.now pawns free) out.old out.new) }
+{
+    let once = pawns.and(masks.once);
+    push_by(masks.ahead, once, free, out)?;
+    let again = once.and(masks.twice).and(origins(masks.ahead, free));
+    push_by(twice(masks.ahead), again, free, out)
+}
+
+/// Gives the sink the moves of these pawns onto enemies.
+fn push_across<S: MoveSink>(
+    masks: &PawnMasks,
+    pawns: Set,
+    enemies: Set,
+    out: &mut S,
+) -> Result<(), S::Full>
+    requires left { length_of masks.now.leftward < 128 }
+    requires right { length_of masks.now.rightward < 128 }
+    requires apart { length_of masks.now.leftward ≢ length_of masks.now.rightward }
+    requires pawns { OnSquares pawns }
+    requires enemies { OnSquares enemies }
+    ensures ok { OnOk result (TakesAll S.takes (IsAcross masks.now pawns enemies) out.old out.new) }
+    ensures err { OnErr result (TakesSome S.stops (IsAcross masks.now pawns enemies) out.old out.new) }
+{
+    push_by(masks.leftward, pawns.and(masks.left), enemies, out)?;
+    push_by(masks.rightward, pawns.and(masks.right), enemies, out)
+}
+
+/// Gives the sink the moves of the own pawns that go together, by shifts: those that neither promote nor pass another. The
+/// squares of the others are the answer.
+pub(crate) fn push_shifted<S: MoveSink>(
+    tables: &Tables,
+    p: &Position,
+    sets: &BoardSets,
+    out: &mut S,
+) -> Result<Set, S::Full>
+    requires fit { IsFit tables.now }
+    requires sets { AreSets tables.now p.now.side p.now.cells sets.now }
+    ensures ok { IfOk result (λ left. TakesAll S.takes (Outside (FitPawnMoves tables.now (repeat_of p.now)) start_of left) out.old out.new) }
+    ensures on_board { IfOk result (λ left. OnSquares left) }
+    ensures own { IfOk result (λ left. (s : ℕ) → has left s ≡ true → Attacks.is_own_pawn tables.now p.now.side (cell_at p.now.cells s) ≡ true) }
+    ensures err { OnErr result (TakesSome S.stops (FitPawnMoves tables.now (repeat_of p.now)) out.old out.new) }
+{
+    position_sizes(p);
+    sets_are_on_board();
+    let masks = tables.pawn_masks(p.side);
+    let own = sets.own_pawns();
+    let pawns = own.and(masks.plain).minus(passers(masks, p.ep));
+    push_forward(masks, pawns, free(sets), out)?;
+    push_across(masks, pawns, sets.enemies, out)?;
+    Ok(own.minus(pawns))
+}
