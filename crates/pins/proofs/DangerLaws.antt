@@ -19,7 +19,7 @@ use Rattle.rules_model.specs.Fit.{IsFit}
 use Rattle.rules_model.specs.Sides.{other, same_side}
 use Rattle.rules_model.specs.Squares.{cell_at, flat}
 use Rattle.square_set.specs.declared.Set.{Set}
-use Rattle.square_set.specs.Members.{has, IsWithout}
+use Rattle.square_set.specs.Members.{has, IsWith, IsWithout}
 use Rattle.square_set.proofs.Cases.{by_bool, by_equal, by_order, same_both}
 use Rattle.move_tables.specs.declared.mode.Mode.TheVariants.{Take}
 use Rattle.move_tables.specs.Occupied.{IsOccupied}
@@ -27,8 +27,14 @@ use Rattle.move_tables.specs.Reached.{AreReached, piece_reaches, reaches_as}
 use Rattle.attack_tables.specs.Boards.{IsBoardBy}
 use Rattle.attack_tables.proofs.AttackLaws.{attacks_by_parts, king_at, no_king_at, other_other}
 use Rattle.attack_tables.proofs.MaskLaws.{from_man, from_none}
-use Rattle.pins.specs.Danger.{IsEntered}
 use Rattle.pins.proofs.TargetLaws.{not_itself, reach_of_both}
+
+-- what holds of each board, as it is known by its sets, once a piece of the other side has come to a square and has
+-- taken what stood there
+abbrev pub AfterEntering : Side → List (Option Cell) → Set → Set → (List (Option Cell) → ℕ → Type 0) → Type 0
+AfterEntering by cells enemies left Holds =
+    (to : ℕ) (men entered : Set) (board : List (Option Cell)) → IsWithout enemies to men → IsWith left to entered
+    → IsBoardBy by cells men entered board → Holds board to
 
 -- ---- a board whose one square is emptied
 
@@ -41,7 +47,7 @@ emptied_there board to =
 emptied_other : (board : List (Option Cell)) (to s : ℕ) → s ≢ to → cell_at (slice_set board to None) s ≡ cell_at board s
 emptied_other board to s apart = ap flat (slice_get-set_other board to s None (λ e. apart (sym e)))
 
-module _ (left entered : Set) (to : ℕ) (board : List (Option Cell)) (is : IsEntered left to entered) (on : IsOccupied entered board) where
+module _ (left entered : Set) (to : ℕ) (board : List (Option Cell)) (is : IsWith left to entered) (on : IsOccupied entered board) where
   was_there : has left to ≡ true → IsOccupied left board
   was_there e s =
       let same : (has left s || (s == to)) ≡ has left s = by_equal s to ((has left s || (s == to)) ≡ has left s) (λ q v. let h = ap (has left) v ∙ e in rw h refl) (λ q v. rw q (or-false (has left s))) in

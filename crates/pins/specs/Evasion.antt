@@ -38,8 +38,8 @@ AttackDependsOn rules by cells occupied king from way =
     (later : Set) (board : List (Option Cell)) → IsOccupied later board → AgreeOn way occupied later
     → cell_at board from ≡ cell_at cells from → attacks_from rules board by king from ≡ true
 
--- what holds of each board, as it is known by its sets, once a piece left a square outside the first set for one
--- outside the second, and took what stood there. Where `from` is `to` it came from elsewhere, and left no square
+-- what holds of each board, as it is known by its sets, once a piece went from a square outside `leave` to one
+-- outside `enter`, and took what stood there. Where `from` is `to` it came from elsewhere, and left no square
 abbrev pub AfterVainMoves : Side → List (Option Cell) → Set → Set → Set → Set → (List (Option Cell) → Type 0)
     → Type 0
 AfterVainMoves by cells enemies occupied leave enter Holds =
@@ -55,8 +55,8 @@ PiecesAttack rules by king board = any_below (attacks_from rules board by king) 
 abbrev pub StaysAttacked : Rules → Side → Set → List (Option Cell) → Type 0
 StaysAttacked rules side kings board = AreKings rules side board kings → king_attacked rules board side ≡ true
 
--- on each board that is this one after the move of a piece other than a king, which left no square of the first set,
--- entered none of the second and took what stood there, a king of the side is attacked
+-- on each board that is this one after a piece other than a king left no square of `leave`, entered none of `enter`, and
+-- took nothing but what stood there, a king of the side is attacked
 abbrev pub AreEvasions : Rules → Side → List (Option Cell) → Set → Set → Set → Set → Set → Type 0
 AreEvasions rules side cells kings enemies occupied leave enter =
     AfterVainMoves (other side) cells enemies occupied leave enter (StaysAttacked rules side kings)

@@ -17,7 +17,8 @@ use rules_model::sizes::board_size;
 use rules_model::{Cells, Kind, Side, Square};
 use square_set::{EMPTY, Set};
 
-/// Squares of which a move of a piece other than a king leaves or enters one, if it leaves no king of its side attacked.
+/// Squares for the moves of pieces other than kings: one that leaves no king of its side attacked leaves one of `leave`
+/// or enters one of `enter`, unless it takes in passing.
 #[derive(Clone, Copy, Debug, PartialEq, Eq)]
 pub struct EvasionSquares {
     /// Those on which some attack depends: a piece that leaves one may end it.
@@ -129,7 +130,7 @@ fn attack_way(
 }
 
 /// The evasions of the attacks on one king.
-fn attacks_of(
+fn king_evasions(
     tables: &Tables,
     cells: &Cells,
     enemies: Set,
@@ -156,9 +157,9 @@ fn attacks_of(
 }
 
 /// The squares by which pieces other than kings may end the attacks of the other side's pieces on the side's kings: a
-/// move that leaves none of `leave` and enters none of `enter` leaves at least one of the attacks as it is. Where there
-/// is no attack, `enter` is every square. A piece that is dropped, or that leaves another one behind, leaves no square.
-/// `kings` are all those of the side.
+/// move that leaves none of `leave` and enters none of `enter` leaves at least one of the attacks as it is, unless it
+/// takes in passing, which empties a third square. Where there is no attack, `enter` is every square. A piece that is
+/// dropped, or that leaves another one behind, leaves no square. `kings` are all those of the side.
 pub fn evasions(
     tables: &Tables,
     cells: &Cells,
@@ -176,9 +177,9 @@ pub fn evasions(
     let mut enter = all();
     let mut rest = kings;
     while let Some(king) = rest.take_first() {
-        let attacks = attacks_of(tables, cells, enemies, occupied, Square(king), by);
-        leave = leave.or(attacks.leave);
-        enter = enter.and(attacks.enter);
+        let found = king_evasions(tables, cells, enemies, occupied, Square(king), by);
+        leave = leave.or(found.leave);
+        enter = enter.and(found.enter);
     }
     EvasionSquares { leave, enter }
 }

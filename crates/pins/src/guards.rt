@@ -6,13 +6,13 @@ ghost use Rattle.move_tables.specs.Lines.{by_jump, by_spot, in_both, on_line};
 ghost use Rattle.pins.specs.Guards.{AreBefore, Guards, IsAll, IsScreened};
 
 use move_tables::{Jump, Line, Passage, Spot};
-use square_set::{EMPTY, Set};
+use square_set::{ALL, EMPTY, Set};
 
 /// Every square.
 pub(crate) fn all() -> Set
     ensures { IsAll result }
 {
-    Set(u128::MAX)
+    ALL
 }
 
 /// The set, where it has at most this many squares; otherwise the empty set.

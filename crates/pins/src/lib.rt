@@ -1,5 +1,5 @@
-//! The pieces that may go anywhere without leaving their king attacked, the squares on which a king would stand
-//! attacked, and those that a move has to leave or enter to end a check, found without a move being made.
+//! The pieces that may go anywhere without leaving their king attacked, the squares on which pieces would attack a
+//! king, and those that a move has to leave or enter to end a check, found without a move being made.
 #![tactic(auto)]
 
 pub mod danger;

@@ -1,5 +1,6 @@
 ghost use Rattle.std.specs.Prelude.{◌<◌};
 ghost use Rattle.rules_model.specs.Fit.{IsFit};
+ghost use Rattle.move_tables.specs.Occupied.{OnSquares};
 
 use super::*;
 use crate::danger::danger;
@@ -111,17 +112,38 @@ fn flying_kings_pin(rt: HostRuntime) -> Result<(), Memory> {
     expect_free(&rt, rt.alloc(), &chess(), &still)
 }
 
-/// The squares on which White's king, which is on this one, would stand attacked.
-fn danger_of(tables: &Tables, p: &Position, king: Square) -> Set
-    requires { king.0 < 120 }
+/// Every square of the largest board.
+fn everywhere() -> Set
+    ensures { OnSquares result }
+{
+    let mut squares = EMPTY;
+    for at in 0..120u8 {
+        squares = squares.with(at);
+    }
+    squares
+}
+
+/// The square alone.
+fn only(at: u8) -> Set
+    requires { at < 120 }
+    ensures { OnSquares result }
+{
+    EMPTY.with(at)
+}
+
+/// The squares on which White's king, which is on this one, would stand attacked; those of the targets at least.
+fn danger_of(tables: &Tables, p: &Position, king: Square, targets: Set) -> Set
+    requires king { king.0 < 120 }
+    requires targets { OnSquares targets }
 {
     let _first = p.cells[0];
     let side = Side::White;
     let enemies = men(&p.cells, side.other());
-    danger(tables, &p.cells, king, enemies, occupied(&p.cells), side)
+    let occupied = occupied(&p.cells);
+    danger(tables, &p.cells, king, enemies, occupied, side, targets)
 }
 
-/// They are those of the last text.
+/// The squares on which White's king would stand attacked are those of the last text, as for each target alone.
 fn expect_danger(
     rt: &impl Abort,
     alloc: Global,
@@ -132,8 +154,13 @@ fn expect_danger(
 {
     let tables = Tables::new(alloc, rules)?;
     for (pieces, king, wanted) in rows {
-        let danger = danger_of(&tables, &position(*pieces), square(*king));
+        let p = position(*pieces);
+        let danger = danger_of(&tables, &p, square(*king), everywhere());
         assert_eq!(rt; danger, occupied(&position(*wanted).cells), "{pieces}");
+        for to in 0..120u8 {
+            let alone = danger_of(&tables, &p, square(*king), only(to));
+            assert_eq!(rt; alone.has(to), danger.has(to), "{pieces} {to}");
+        }
     }
     Ok(())
 }
@@ -177,7 +204,7 @@ fn evasions_of(tables: &Tables, p: &Position) -> EvasionSquares {
     evasions(tables, &p.cells, kings, enemies, occupied, side)
 }
 
-/// They are left where the second text says so, and entered where the last does.
+/// White's evasions are left on the squares of the second text, and entered on those of the last.
 fn expect_evasions(
     rt: &impl Abort,
     alloc: Global,

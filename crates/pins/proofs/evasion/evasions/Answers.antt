@@ -11,9 +11,9 @@ pub loop-king-preserved : goal.loop-king-preserved
 loop-king-preserved c =
     let by = other c.args.side in
     let member = c.loop-king.invariant.inside c.in-Some.king c.in-Some.ensures.some.member in
-    let attacks = c.attacks_of-attacks.result in
+    let attacks = c.king_evasions-found.result in
     let Vain : Side → Type 0 = λ side. AfterVainMoves side c.args.cells.now c.args.enemies c.args.occupied attacks.leave attacks.enter (PiecesAttack c.args.tables.now side c.in-Some.king) in
-    let attacked = subst Vain c.other-by.ensures c.attacks_of-attacks.ensures in
+    let attacked = subst Vain c.other-by.ensures c.king_evasions-found.ensures in
     record {
       inside = λ s h. c.loop-king.invariant.inside s (and_parts (has c.loop-king.rest s) (not (s == c.in-Some.king)) (sym (c.in-Some.ensures.rest s) ∙ h)).0;
       done =

@@ -1,7 +1,7 @@
 use Rattle.std.proofs.Common.{◌≡◌, ℕ, true}
 use Rattle.square_set.specs.Members.{has, size}
 use Rattle.pins.specs.Evasion.{AfterVainMoves, PiecesAttack}
-use Rattle.pins.proofs.evasion.attacks_of.Given as goal
+use Rattle.pins.proofs.evasion.king_evasions.Given as goal
 
 abbrev pub invariant-loop-from : goal.invariant-loop-from
 invariant-loop-from l = record {

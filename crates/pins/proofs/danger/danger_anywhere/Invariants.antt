@@ -3,8 +3,8 @@ use Rattle.foundation.specs.Count.{any_below}
 use Rattle.rules_model.specs.Attacks.{attacks_from}
 use Rattle.rules_model.specs.Sides.{other}
 use Rattle.square_set.specs.Members.{has, size}
-use Rattle.pins.specs.Danger.{AfterEntering}
-use Rattle.pins.proofs.danger.danger.Given as goal
+use Rattle.pins.proofs.DangerLaws.{AfterEntering}
+use Rattle.pins.proofs.danger.danger_anywhere.Given as goal
 
 abbrev pub invariant-loop-from : goal.invariant-loop-from
 invariant-loop-from l = record {

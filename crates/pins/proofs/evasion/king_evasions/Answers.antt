@@ -4,7 +4,7 @@ use Rattle.square_set.specs.Members.{has}
 use Rattle.attack_tables.proofs.AttackLaws.{men_small}
 use Rattle.pins.specs.Evasion.{PiecesAttack}
 use Rattle.pins.proofs.EvasionLaws.{still_attacks, vain_by_either}
-use Rattle.pins.proofs.evasion.attacks_of.Goals as goal
+use Rattle.pins.proofs.evasion.king_evasions.Goals as goal
 
 pub loop-from-preserved-in-Some-attack_way : goal.loop-from-preserved-in-Some-attack_way
 loop-from-preserved-in-Some-attack_way c =
