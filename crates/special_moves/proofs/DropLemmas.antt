@@ -14,11 +14,14 @@ use Rattle.rules_model.specs.Kinds.{is_pawn}
 use Rattle.rules_model.specs.Regions.{in_region}
 use Rattle.rules_model.specs.Squares.{cell_at}
 use Rattle.rules_model.proofs.CandidateLaws.{not_both}
+use Rattle.square_set.specs.declared.Set.{Set}
+use Rattle.square_set.specs.Members.{has}
+use Rattle.move_tables.specs.Occupied.{IsOccupied}
 use Rattle.move_sink.specs.InTurn.{At, target_of}
 use Rattle.move_sink.specs.Taking.{TakesAll, TakesSome}
 use Rattle.move_sink.proofs.TakingLemmas.{all-same, some-within}
 use Rattle.piece_moves.specs.Parts.{IsChosen}
-use Rattle.special_moves.specs.Parts.{IsDrop, IsDropOn, IsDropOf, has_drops, is_drop_square, kind_at, square_at, suits, takes_drops}
+use Rattle.special_moves.specs.Parts.{AreDropSquares, IsDrop, IsDropOn, IsDropOf, has_drops, is_drop_square, kind_at, square_at, suits, takes_drops}
 use Rattle.special_moves.proofs.BelowLemmas.{AreApart}
 
 -- the kind of a drop
@@ -31,7 +34,7 @@ pub kinds-apart : (rules : Rules) (r : Repeat) → AreApart (IsDropOf rules r)
 unfolding kind_of
 kinds-apart rules r i j m h k = ap kind_of (h.is.1 ∙ sym k.is.1)
 
-pub empty_is : (o : Option Cell) → not (is_some o) ≡ is_none o
+empty_is : (o : Option Cell) → not (is_some o) ≡ is_none o
 empty_is None = refl
 empty_is (Some c) = refl
 
@@ -103,3 +106,23 @@ module _ (rules : Rules) (r : Repeat) (kind : Kind) where
 
     pub drop-some : {S : Type 0} (stops : S → List Move → S → Type 0) (s t : S) → TakesSome stops (IsChosen (suits rules r kind to) (Drop kind (square_at to))) s t → TakesSome stops (At (IsDropOf rules r kind.0) target_of to) s t
     drop-some stops s t a = some-within stops (IsChosen (suits rules r kind to) (Drop kind (square_at to))) (At (IsDropOf rules r kind.0) target_of to) s t a drop_there
+
+-- ---- where pieces are dropped
+
+in_order : (b c : Bool) (l : Bool) → (c ≡ true → l ≡ true) → (c && not b) ≡ (l && (not b && c))
+in_order true true l h = rw (h refl) refl
+in_order false true l h = rw (h refl) refl
+in_order true false true h = refl
+in_order true false false h = refl
+in_order false false true h = refl
+in_order false false false h = refl
+
+-- the squares of the region that are not occupied
+pub empty_region : (rules : Rules) (r : Repeat) (region occupied squares : Set) → ((s : ℕ) → has region s ≡ in_region rules.drop_region r.side s) → ((s : ℕ) → has region s ≡ true → s < 120)
+    → IsOccupied occupied r.cells → ((s : ℕ) → has squares s ≡ (has region s && not (has occupied s))) → AreDropSquares rules r squares
+empty_region rules r region occupied squares is on_board are both s =
+    both s
+    ∙ in_order (has occupied s) (has region s) (nat_lt s 120) (λ e. lt-ltb s 120 (on_board s e))
+    ∙ ap (λ b. nat_lt s 120 && (not b && has region s)) (are s)
+    ∙ ap (λ b. nat_lt s 120 && (b && has region s)) (empty_is (cell_at r.cells s))
+    ∙ ap (λ b. nat_lt s 120 && (is_none (cell_at r.cells s) && b)) (is s)

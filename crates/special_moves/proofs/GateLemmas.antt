@@ -1,7 +1,6 @@
 -- The parts of the moves with a gate.
-use Rattle.std.proofs.Common.{◌≡◌, ℕ, ◌%◌, ◌<◌, Bool, true, false, ◌&&◌, Option, Some, None, ap, sym, ◌∙◌, subst}
-use Rattle.std.proofs.lemmas.Bool.{and_parts}
-use Rattle.foundation.proofs.CountLemmas.{any_below-true}
+use Rattle.std.proofs.Common.{◌≡◌, ℕ, ◌%◌, ◌<◌, Bool, true, false, ◌&&◌, Option, Some, None, refl, ap, sym, ◌∙◌, subst}
+use Rattle.std.proofs.lemmas.Bool.{and_parts, lt-ltb}
 use Rattle.rules_model.specs.declared.board.Kind.{Kind}
 use Rattle.rules_model.specs.declared.board.Repeat.{Repeat}
 use Rattle.rules_model.specs.declared.board.Square.{Square}
@@ -17,9 +16,11 @@ use Rattle.rules_model.proofs.CandidateLaws.{not_both}
 use Rattle.rules_model.proofs.SquareLaws.{file_of_at}
 use Rattle.square_set.specs.declared.Set.{Set}
 use Rattle.square_set.specs.Members.{has}
+use Rattle.move_sink.specs.InTurn.{At}
 use Rattle.move_tables.specs.Occupied.{AreMen}
+use Rattle.piece_moves.specs.Parts.{IsMoveFrom}
 use Rattle.piece_moves.proofs.PartLemmas.{man_there}
-use Rattle.special_moves.specs.Parts.{IsGate, IsGateAt, IsGateFrom, IsGateWith, holds_kind, kind_at, may_place}
+use Rattle.special_moves.specs.Parts.{IsGate, IsGateAt, IsGateFrom, IsGateWith, AreHeld, holds_kind, kind_at, left_by, number_of}
 use Rattle.special_moves.proofs.SquareLemmas.{same_file}
 use Rattle.special_moves.proofs.BelowLemmas.{AreApart}
 
@@ -28,12 +29,7 @@ from_of (Go from to promo gate) = from.0
 from_of (Castle from to rook gate) = from.0
 from_of (Drop kind to) = 0
 
-number_of : Option Kind → ℕ
-number_of None = 0
-number_of (Some kind) = kind.0
-
 same_number : (i j : ℕ) (g : Option Kind) → g ≡ Some (kind_at i) → g ≡ Some (kind_at j) → i ≡ j
-unfolding number_of
 same_number i j g e f = ap number_of (sym e ∙ f)
 
 pub kinds-apart : (rules : Rules) (r : Repeat) (from : Square) → AreApart (IsGateWith rules r from)
@@ -45,10 +41,6 @@ pub files-apart : (rules : Rules) (r : Repeat) → AreApart (IsGateFrom rules r)
 files-apart rules r i j (Go f to promo g) h k = same_file (first_rank rules r.side) i j (ap (λ (s : Square). s.0) (sym h.is.1.0 ∙ k.is.1.0))
 files-apart rules r i j (Castle f to rook g) h k = absurd h.is.1
 files-apart rules r i j (Drop kind to) h k = absurd h.is.1
-
--- a move without the gate's right places nothing
-pub none-with : (rules : Rules) (r : Repeat) (from : Square) (k : ℕ) → gates_from rules r from (kind_at k) ≡ false → (m : Move) → IsGateWith rules r from k m → ⊥
-none-with rules r from k none m h = not_both _ h.0 none
 
 gate_held : (rules : Rules) (r : Repeat) (from : Square) (kind : Kind) → gates_from rules r from kind ≡ true → (rules.gate_hand ≡ true) × (has_gate r.gates r.side (from.0 % 12) ≡ true)
 gate_held rules r from kind e =
@@ -67,13 +59,42 @@ none-from rules r file l none m h =
     let g = subst (λ f. has_gate r.gates r.side f ≡ true) (file_of_at file (first_rank rules r.side) l) e.1 in
     not_both _ (both _ _ e.0 g) none
 
--- nor does any where none may be placed
-pub no-gates : (rules : Rules) (r : Repeat) → may_place rules r ≡ false → (m : Move) → IsGate rules r m → ⊥
+-- ---- kind by kind
+
+left-is : (rules : Rules) (r : Repeat) (from : Square) (k : ℕ) (m : Move) → IsGateWith rules r from k m → left_by m ≡ k
+left-is rules r from k (Go f to promo g) h = ap number_of h.1.1
+left-is rules r from k (Castle f to rook g) h = absurd h.1
+left-is rules r from k (Drop kind to) h = absurd h.1
+
+-- a piece of the kind that is placed is held
+pub placed-held : (rules : Rules) (r : Repeat) (from : Square) (held : Set) → AreHeld r held → (m : Move) → IsGateAt rules r from m → has held (left_by m) ≡ true
+placed-held rules r from held are m h =
+    let some = (and_parts _ (holds_kind r h.number) h.is.0).1 in
+    ap (has held) (left-is rules r from h.number m h.is) ∙ are h.number ∙ rw (lt-ltb h.number 26 h.below, some) refl
+
+-- nothing is placed where pieces do not come in by gates, nor where none is held
+pub no-gates : (rules : Rules) (r : Repeat) → rules.gate_hand ≡ false → (m : Move) → IsGate rules r m → ⊥
 no-gates rules r none m h =
     let from = square_on h.number (first_rank rules r.side) in
-    let held = and_parts _ (holds_kind r h.is.number) h.is.is.0 in
-    let some = any_below-true (holds_kind r) 26 h.is.number h.is.below held.1 in
-    not_both _ (both rules.gate_hand _ (gate_held rules r from (kind_at h.is.number) h.is.is.0).0 some) none
+    not_both _ (gate_held rules r from (kind_at h.is.number) h.is.is.0).0 none
+
+pub none-held : (rules : Rules) (r : Repeat) (held : Set) → AreHeld r held → ((s : ℕ) → has held s ≡ false) → (m : Move) → IsGate rules r m → ⊥
+none-held rules r held are none m h =
+    not_both _ (placed-held rules r (square_on h.number (first_rank rules r.side)) held are m h.is) (none (left_by m))
+
+module _ (rules : Rules) (r : Repeat) (from : Square) (k : ℕ) where
+  pub placed-there : k < 26 → gates_from rules r from (kind_at k) ≡ true → (m : Move) → IsMoveFrom rules r from (Some (kind_at k)) m → At (IsGateAt rules r from) left_by k m
+  placed-there l gates m h = (record { number = k; below = l; is = (gates, h) }, left-is rules r from k m (gates, h))
+
+  with-it : (m : Move) → At (IsGateAt rules r from) left_by k m → IsGateWith rules r from k m
+  with-it m h = subst (λ n. IsGateWith rules r from n m) (sym (left-is rules r from h.0.number m h.0.is) ∙ h.1) h.0.is
+
+  pub there-placed : (m : Move) → At (IsGateAt rules r from) left_by k m → IsMoveFrom rules r from (Some (kind_at k)) m
+  there-placed m h = (with-it m h).1
+
+  -- a move without the gate's right places nothing
+  pub none-placed : gates_from rules r from (kind_at k) ≡ false → (m : Move) → At (IsGateAt rules r from) left_by k m → ⊥
+  none-placed none m h = not_both _ (with-it m h).0 none
 
 -- no own man stands there
 pub none-there : (rules : Rules) (r : Repeat) (from : Square) (men : Set) → AreMen r.side r.cells men → has men from.0 ≡ false → (m : Move) → IsGateAt rules r from m → ⊥

@@ -8,7 +8,7 @@ use Rattle.rules_model.specs.declared.board.Wing.{Wing}
 use Rattle.rules_model.specs.declared.board.Wing.TheVariants.{Kingside, Queenside}
 use Rattle.rules_model.specs.declared.castling.CastleSquares.{CastleSquares}
 use Rattle.rules_model.specs.declared.moves.Move.{Move}
-use Rattle.rules_model.specs.declared.moves.Move.TheVariants.{Castle, Drop}
+use Rattle.rules_model.specs.declared.moves.Move.TheVariants.{Go, Castle, Drop}
 use Rattle.rules_model.specs.declared.moves.Placed.{Placed}
 use Rattle.rules_model.specs.declared.moves.Promo.{Promo}
 use Rattle.rules_model.specs.declared.rules.Rules.{Rules}
@@ -58,9 +58,19 @@ is_gate rules r file = rules.gate_hand && has_gate r.gates r.side file
 abbrev pub holds_kind : Repeat → ℕ → Bool
 holds_kind r k = holds r.hands r.side (kind_at k)
 
--- a move may place a hand piece at all: hand pieces come in by gates, and the side to move holds one
-abbrev pub may_place : Rules → Repeat → Bool
-may_place rules r = rules.gate_hand && any_below (holds_kind r) 26
+-- the set has the numbers of these kinds
+abbrev pub AreHeld : Repeat → Set → Type 0
+AreHeld r held = (k : ℕ) → has held k ≡ (nat_lt k 26 && holds_kind r k)
+
+abbrev pub number_of : Option Kind → ℕ
+number_of None = 0
+number_of (Some kind) = kind.0
+
+-- the number of the kind that an ordinary move places on the square that it leaves
+abbrev pub left_by : Move → ℕ
+left_by (Go from to promo gate) = number_of gate
+left_by (Castle from to rook gate) = 0
+left_by (Drop kind to) = 0
 
 -- an ordinary move that may place a hand piece of the kind on the square that it leaves
 abbrev pub moves_and_gates : Rules → Repeat → Square → Square → Promo → Kind → Bool

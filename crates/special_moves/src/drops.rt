@@ -1,22 +1,22 @@
 //! Drops: a hand piece is put on an empty square.
-ghost use Rattle.std.specs.Prelude.{◌≡◌, ◌<◌, true, is_none, IfSome, OnOk, OnErr};
+ghost use Rattle.std.specs.Prelude.{◌≡◌, ◌<◌, true, is_none, OnOk, OnErr};
 ghost use Rattle.foundation.specs.Count.{any_below};
 ghost use Rattle.move_sink.specs.Taking.{TakesAll, TakesSome};
 ghost use Rattle.rules_model.specs.Drops as Drops;
 ghost use Rattle.rules_model.specs.Fit.{IsFit};
 ghost use Rattle.rules_model.specs.Repeats.{repeat_of};
 ghost use Rattle.rules_model.specs.Squares.{cell_at};
-ghost use Rattle.move_tables.specs.Occupied.{IsOccupied};
 ghost use Rattle.board_sets.specs.Sets.{AreSets};
 ghost use Rattle.special_moves.specs.Parts as Parts;
 ghost use Rattle.special_moves.specs.Parts.{IsDrop, IsDropOf};
 
 use crate::append::push_if;
+use attack_tables::Tables;
 use board_sets::BoardSets;
 use move_sink::MoveSink;
 use rules_model::kinds::{first_rank, in_hand, in_region, names};
 use rules_model::{Cells, KINDS, Kind, Move, Position, RANKS, Rules, Side, Square};
-use square_set::{EMPTY, Set};
+use square_set::Set;
 
 /// Where a pawn is not dropped.
 fn bars_pawn(rules: &Rules, side: Side, to: Square) -> bool
@@ -97,40 +97,12 @@ pub(crate) fn drops_to(rules: &Rules, p: &Position, kind: Kind, to: Square) -> b
         && suits(rules, p, kind, to)
 }
 
-/// Whether the square is empty, and one of the side's drop region.
-fn takes_drops(rules: &Rules, p: &Position, occupied: Set, at: u8) -> bool
-    requires at { at < 120 }
-    requires occupied { IsOccupied occupied p.now.cells }
-    ensures { result ≡ Parts.takes_drops rules.now (repeat_of p.now) at }
-{
-    !occupied.has(at) && in_region(&rules.drop_region, p.side, at)
-}
-
 /// The empty squares of the side's drop region.
-fn drop_squares(rules: &Rules, p: &Position, sets: &BoardSets) -> Set
-    requires sets { AreSets rules.now p.now.side p.now.cells sets.now }
-    ensures { Parts.AreDropSquares rules.now (repeat_of p.now) result }
+fn drop_squares(tables: &Tables, p: &Position, sets: &BoardSets) -> Set
+    requires sets { AreSets tables.now p.now.side p.now.cells sets.now }
+    ensures { Parts.AreDropSquares tables.now (repeat_of p.now) result }
 {
-    let occupied = sets.occupied();
-    let mut squares = EMPTY;
-    for at in 0..120u8 {
-        if takes_drops(rules, p, occupied, at) {
-            squares = squares.with(at);
-        }
-    }
-    squares
-}
-
-/// The empty squares of the side's drop region, where they were found before or are found now.
-fn once_found(rules: &Rules, p: &Position, sets: &BoardSets, found: Option<Set>) -> Set
-    requires sets { AreSets rules.now p.now.side p.now.cells sets.now }
-    requires found { IfSome found (Parts.AreDropSquares rules.now (repeat_of p.now)) }
-    ensures { Parts.AreDropSquares rules.now (repeat_of p.now) result }
-{
-    match found {
-        Some(squares) => squares,
-        None => drop_squares(rules, p, sets),
-    }
+    tables.drop_region(p.side).minus(sets.occupied())
 }
 
 /// Gives the drops of a kind, of which a piece is in hand, on these squares.
@@ -158,11 +130,13 @@ fn push_kind<S: MoveSink>(
 /// Gives the drops.
 pub(crate) fn push_drops<S: MoveSink>(
     rules: &Rules,
+    tables: &Tables,
     p: &Position,
     sets: &BoardSets,
     out: &mut S,
 ) -> Result<(), S::Full>
     requires fit { IsFit rules.now }
+    requires tables { tables.now ≡ rules.now }
     requires sets { AreSets rules.now p.now.side p.now.cells sets.now }
     ensures ok { OnOk result (TakesAll S.takes (IsDrop rules.now (repeat_of p.now)) out.old out.new) }
     ensures err { OnErr result (TakesSome S.stops (IsDrop rules.now (repeat_of p.now)) out.old out.new) }
@@ -170,12 +144,10 @@ pub(crate) fn push_drops<S: MoveSink>(
     if !rules.drops {
         return Ok(());
     }
-    let mut found: Option<Set> = None;
+    let squares = drop_squares(tables, p, sets);
     for k in 0..KINDS as u8 {
         let kind = Kind(k);
         if has_drops(rules, p, kind) {
-            let squares = once_found(rules, p, sets, found);
-            found = Some(squares);
             push_kind(rules, p, squares, kind, out)?;
         }
     }

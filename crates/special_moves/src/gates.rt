@@ -1,6 +1,5 @@
 //! Gates: an ordinary move places a hand piece on the square that it leaves.
 ghost use Rattle.std.specs.Prelude.{◌≡◌, ◌<◌, OnOk, OnErr};
-ghost use Rattle.foundation.specs.Count.{any_below};
 ghost use Rattle.board_sets.specs.Sets.{AreSets};
 ghost use Rattle.move_sink.specs.Taking.{TakesAll, TakesSome};
 ghost use Rattle.rules_model.specs.Fit.{IsFit};
@@ -16,6 +15,7 @@ use piece_moves::push_from;
 use rules_model::castling::has_gate;
 use rules_model::kinds::{first_rank, in_hand};
 use rules_model::{FILES, KINDS, Kind, Move, Position, Promo, Rules, Square};
+use square_set::{EMPTY, Set};
 
 /// Whether an ordinary move from the square may place a hand piece of the kind there.
 fn may_gate(rules: &Rules, p: &Position, from: Square, kind: Kind) -> bool
@@ -28,24 +28,24 @@ fn may_gate(rules: &Rules, p: &Position, from: Square, kind: Kind) -> bool
         && has_gate(&p.gates, p.side, from.file())
 }
 
-/// Whether the side to move has a piece of any kind in its hand.
-#[tactic(auto, using(foundation::proofs::CountLemmas::any))]
-fn holds_any(p: &Position) -> bool
-    ensures { result ≡ any_below (Parts.holds_kind (repeat_of p.now)) 26 }
+/// Whether the side to move has a piece of the kind in its hand.
+fn holds_kind(p: &Position, k: u8) -> bool
+    ensures { result ≡ Parts.holds_kind (repeat_of p.now) k }
 {
-    for k in 0..KINDS as u8 {
-        if in_hand(&p.hands, p.side, Kind(k)) > 0 {
-            return true;
-        }
-    }
-    false
+    in_hand(&p.hands, p.side, Kind(k)) > 0
 }
 
-/// Whether a move may place a hand piece at all: the variant has gates, and the side to move has a hand piece.
-fn may_place(rules: &Rules, p: &Position) -> bool
-    ensures { result ≡ Parts.may_place rules.now (repeat_of p.now) }
+/// The kinds of which the side to move has a piece in its hand, by their numbers.
+fn held_kinds(p: &Position) -> Set
+    ensures { Parts.AreHeld (repeat_of p.now) result }
 {
-    rules.gate_hand && holds_any(p)
+    let mut held = EMPTY;
+    for k in 0..KINDS as u8 {
+        if holds_kind(p, k) {
+            held = held.with(k);
+        }
+    }
+    held
 }
 
 /// Whether hand pieces may come in on the file's square of the side's first rank.
@@ -82,26 +82,29 @@ pub(crate) fn moves_and_gates(
     may && piece_moves::is_candidate(rules, tables, p, &plain)
 }
 
-/// Gives the moves from the square that place a piece there.
+/// Gives the moves from the square that place a piece of these kinds there.
 fn push_gates_from<S: MoveSink>(
     rules: &Rules,
     tables: &Tables,
     p: &Position,
     sets: &BoardSets,
     from: Square,
+    held: Set,
     out: &mut S,
 ) -> Result<(), S::Full>
     requires fit { IsFit rules.now }
     requires tables { tables.now ≡ rules.now }
     requires sets { AreSets rules.now p.now.side p.now.cells sets.now }
     requires from { from.0 < 120 }
+    requires held { Parts.AreHeld (repeat_of p.now) held }
     ensures ok { OnOk result (TakesAll S.takes (IsGateAt rules.now (repeat_of p.now) from) out.old out.new) }
     ensures err { OnErr result (TakesSome S.stops (IsGateAt rules.now (repeat_of p.now) from) out.old out.new) }
 {
     if !sets.own.has(from.0) {
         return Ok(());
     }
-    for k in 0..KINDS as u8 {
+    let mut left = held;
+    while let Some(k) = left.take_first() {
         let kind = Kind(k);
         if may_gate(rules, p, from, kind) {
             push_from(rules, tables, p, sets, from, Some(kind), out)?;
@@ -124,13 +127,17 @@ pub(crate) fn push_gates<S: MoveSink>(
     ensures ok { OnOk result (TakesAll S.takes (IsGate rules.now (repeat_of p.now)) out.old out.new) }
     ensures err { OnErr result (TakesSome S.stops (IsGate rules.now (repeat_of p.now)) out.old out.new) }
 {
-    if !may_place(rules, p) {
+    if !rules.gate_hand {
+        return Ok(());
+    }
+    let held = held_kinds(p);
+    if held.is_empty() {
         return Ok(());
     }
     let rank = first_rank(rules, p.side);
     for file in 0..FILES {
         if is_gate(rules, p, file) {
-            push_gates_from(rules, tables, p, sets, Square::at(file, rank), out)?;
+            push_gates_from(rules, tables, p, sets, Square::at(file, rank), held, out)?;
         }
     }
     Ok(())

@@ -32,5 +32,5 @@ pub fn push_moves<S: MoveSink>(
     pawn_moves::push_moves(rules, tables, p, sets, out)?;
     push_gates(rules, tables, p, sets, out)?;
     push_castles(rules, tables, p, sets, out)?;
-    push_drops(rules, p, sets, out)
+    push_drops(rules, tables, p, sets, out)
 }

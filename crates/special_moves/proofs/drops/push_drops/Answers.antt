@@ -11,26 +11,20 @@ pub returns-then-not-rules-clause-ok : goal.returns-then-not-rules-clause-ok
 returns-then-not-rules-clause-ok g c = all-none g.met.S.MoveSink.law _ _ (no-drops c.args.rules.now (repeat_of c.args.p.now) c.if-not-rules.true)
 
 pub loop-k-init : goal.loop-k-init
-loop-k-init g c = record { taken = below-none g.met.S.MoveSink.law _ _; found = _ }
+loop-k-init g c = below-none g.met.S.MoveSink.law _ _
 
 pub loop-k-preserved : goal.loop-k-preserved
 loop-k-preserved g c =
     elim c.if-has_drops.branch [
       | then-has_drops+in_ok-push_kind w ↦
-          record {
-            taken = rw w.out-is (below-more g.met.S.MoveSink.law _ (kinds-apart _ _) _ _ _ _ c.loop-k.invariant.taken w.in_ok-push_kind.ensures.ok);
-            found = rw w.found-is w.once_found-squares.ensures;
-          }
+          rw w.out-is (below-more g.met.S.MoveSink.law _ (kinds-apart _ _) _ _ _ _ c.loop-k.invariant w.in_ok-push_kind.ensures.ok)
       | else-has_drops w ↦
-          record {
-            taken = rw w.out-is (below-skip _ _ _ _ _ c.loop-k.invariant.taken (none-held _ _ _ (sym c.has_drops.ensures ∙ w.if-has_drops.false)));
-            found = rw w.found-is c.loop-k.invariant.found;
-          }
+          rw w.out-is (below-skip _ _ _ _ _ c.loop-k.invariant (none-held _ _ _ (sym c.has_drops.ensures ∙ w.if-has_drops.false)))
     ]
 
 pub returns-in_err-push_kind-clause-err : goal.returns-in_err-push_kind-clause-err
 returns-in_err-push_kind-clause-err g c =
-    on_err _ (below-some g.met.S.MoveSink.law _ (kinds-apart _ _) _ 26 _ _ _ c.loop-k-test.true c.loop-k.invariant.taken c.in_err-push_kind.ensures.err)
+    on_err _ (below-some g.met.S.MoveSink.law _ (kinds-apart _ _) _ 26 _ _ _ c.loop-k-test.true c.loop-k.invariant c.in_err-push_kind.ensures.err)
 
 pub returns-clause-ok : goal.returns-clause-ok
-returns-clause-ok g c = below-last _ _ _ _ _ _ (omega arith) c.loop-k.invariant.taken
+returns-clause-ok g c = below-last _ _ _ _ _ _ (omega arith) c.loop-k.invariant

@@ -1,11 +1,7 @@
-use Rattle.std.proofs.Common.{IfSome}
 use Rattle.move_sink.specs.Taking.{TakesAll}
 use Rattle.rules_model.specs.Repeats.{repeat_of}
-use Rattle.special_moves.specs.Parts.{AreDropSquares, IsBelow, IsDropOf}
+use Rattle.special_moves.specs.Parts.{IsBelow, IsDropOf}
 use Rattle.special_moves.proofs.drops.push_drops.Given as goal
 
 abbrev pub invariant-loop-k : goal.invariant-loop-k
-invariant-loop-k g l = record {
-  taken : TakesAll g.S.MoveSink.takes (IsBelow (IsDropOf l.rules (repeat_of l.p)) l.k) l.initial.out l.out;
-  found : IfSome l.found (AreDropSquares l.rules (repeat_of l.p));
-}
+invariant-loop-k g l = TakesAll g.S.MoveSink.takes (IsBelow (IsDropOf l.rules (repeat_of l.p)) l.k) l.initial.out l.out

@@ -2,14 +2,20 @@ use Rattle.std.proofs.Common.{arith, sym, ◌∙◌}
 use Rattle.foundation.proofs.AppendedLemmas.{on_err}
 use Rattle.move_sink.proofs.TakingLemmas.{all-none}
 use Rattle.rules_model.specs.Repeats.{repeat_of}
+use Rattle.attack_tables.proofs.AlikeLaws.{holds}
 use Rattle.special_moves.proofs.BelowLemmas.{below-last, below-more, below-none, below-skip, below-some}
-use Rattle.special_moves.proofs.GateLemmas.{files-apart, no-gates, none-from}
+use Rattle.special_moves.proofs.GateLemmas.{files-apart, no-gates, none-from, none-held}
 use Rattle.special_moves.proofs.gates.push_gates.Goals as goal
 use Rattle.special_moves.proofs.gates.push_gates.Goals.{then-is_gate+in_ok-push_gates_from, else-is_gate}
 
-pub returns-then-not-may_place-clause-ok : goal.returns-then-not-may_place-clause-ok
-returns-then-not-may_place-clause-ok g c =
-    all-none g.met.S.MoveSink.law _ _ (no-gates c.args.rules.now (repeat_of c.args.p.now) (sym c.may_place.ensures ∙ c.if-not-may_place.true))
+pub returns-then-not-rules-clause-ok : goal.returns-then-not-rules-clause-ok
+returns-then-not-rules-clause-ok g c =
+    all-none g.met.S.MoveSink.law _ _ (no-gates c.args.rules.now (repeat_of c.args.p.now) c.if-not-rules.true)
+
+pub returns-then-is_empty-clause-ok : goal.returns-then-is_empty-clause-ok
+returns-then-is_empty-clause-ok g c =
+    all-none g.met.S.MoveSink.law _ _
+    (none-held c.args.rules.now (repeat_of c.args.p.now) c.held_kinds-held.result c.held_kinds-held.ensures (holds c.is_empty.result c.if-is_empty.true c.is_empty.ensures.empty))
 
 pub loop-file-init : goal.loop-file-init
 loop-file-init g c = below-none g.met.S.MoveSink.law _ _

@@ -1,7 +1,16 @@
+use Rattle.std.proofs.Common.{◌≡◌, ℕ, true}
+use Rattle.move_sink.specs.InTurn.{Outside}
 use Rattle.move_sink.specs.Taking.{TakesAll}
 use Rattle.rules_model.specs.Repeats.{repeat_of}
-use Rattle.special_moves.specs.Parts.{IsBelow, IsGateWith}
+use Rattle.square_set.specs.Members.{has, size}
+use Rattle.special_moves.specs.Parts.{IsGateAt, left_by}
 use Rattle.special_moves.proofs.gates.push_gates_from.Given as goal
 
 abbrev pub invariant-loop-k : goal.invariant-loop-k
-invariant-loop-k g l = TakesAll g.S.MoveSink.takes (IsBelow (IsGateWith l.rules (repeat_of l.p) l.from) l.k) l.initial.out l.out
+invariant-loop-k g l = record {
+  inside : (s : ℕ) → has l.left s ≡ true → has l.fn.held s ≡ true;
+  taken : TakesAll g.S.MoveSink.takes (Outside (IsGateAt l.rules (repeat_of l.p) l.from) left_by l.left) l.initial.out l.out;
+}
+
+abbrev pub decreases-loop-k : goal.decreases-loop-k
+decreases-loop-k g l = size l.left
