@@ -3,10 +3,9 @@ ghost use Rattle.std.specs.Prelude.{◌≡◌, ◌<◌};
 ghost use Rattle.rules_model.specs.Attacks as Attacks;
 ghost use Rattle.rules_model.specs.Ends as Ends;
 ghost use Rattle.rules_model.specs.Kinds as Kinds;
-ghost use Rattle.rules_model.specs.Repeats.{repeat_of};
 
 use rules_model::kinds::{in_region, names};
-use rules_model::{Cause, Cell, Cells, Outcome, Position, Rules, Side};
+use rules_model::{Cell, Cells, Rules, Side};
 
 fn is_flag_piece(rules: &Rules, side: Side, cell: Option<Cell>) -> bool
     ensures { result ≡ Attacks.is_own side (Kinds.names rules.now.flag_kind) cell }
@@ -39,23 +38,11 @@ fn finds_flag(rules: &Rules, cells: &Cells, side: Side) -> bool
 }
 
 /// Whether a piece of the side's flag kind stands in its flag region. Where the variant has no such kind, no square is looked at.
-fn has_flag(rules: &Rules, cells: &Cells, side: Side) -> bool
+pub(crate) fn has_flag(rules: &Rules, cells: &Cells, side: Side) -> bool
     ensures { result ≡ Ends.has_flag rules.now cells.now side }
 {
     match rules.flag_kind {
         None => false,
         Some(_) => finds_flag(rules, cells, side),
-    }
-}
-
-/// The end by the flag: the side that has moved wins.
-pub(crate) fn flag_end(rules: &Rules, p: &Position) -> Outcome
-    ensures { result ≡ Ends.flag_end rules.now (repeat_of p.now) }
-{
-    let moved = p.side.other();
-    if has_flag(rules, &p.cells, moved) {
-        Outcome::Won(moved, Cause::Flag)
-    } else {
-        Outcome::Ongoing
     }
 }

@@ -10,10 +10,11 @@ mod tests;
 ghost use Rattle.std.specs.Prelude.{◌≡◌};
 ghost use Rattle.rules_model.specs.Ends as Ends;
 ghost use Rattle.rules_model.specs.Repeats.{repeat_of};
+ghost use Rattle.rules_model.specs.Sides.{other};
 
 use checks::checks_end;
 use extinction::extinction_end;
-use flag::flag_end;
+use flag::has_flag;
 use rules_model::{Cause, Outcome, Position, Rules, Side, Value};
 
 /// What a value that a rule names for the side comes to.
@@ -27,20 +28,28 @@ pub(crate) fn valued(value: Value, side: Side, cause: Cause) -> Outcome
     }
 }
 
+/// The same as `early_end`, for a caller who knows whether the side that has moved has its flag piece in its flag region.
+#[tactic(auto, unfolding(rules_model::specs::Ends::early_end))]
+pub fn early_end_by(rules: &Rules, p: &Position, flag: bool) -> Outcome
+    requires { flag ≡ Ends.has_flag rules.now p.now.cells (other p.now.side) }
+    ensures { result ≡ Ends.early_end rules.now (repeat_of p.now) }
+{
+    if flag {
+        return Outcome::Won(p.side.other(), Cause::Flag);
+    }
+    match checks_end(rules, p) {
+        Outcome::Ongoing => extinction_end(rules, p),
+        end => end,
+    }
+}
+
 /// The end that the position has by itself, before its moves are looked at; `Outcome::Ongoing` where it has none. The first of these
 /// that holds: the side that has moved has its flag piece in its flag region; a side has given all its checks; a side has died out
 /// (Fairy-Stockfish's `flagPiece`, `checkCounting`, `extinctionValue` and their kin).
-#[tactic(auto, unfolding(rules_model::specs::Ends::early_end))]
 pub fn early_end(rules: &Rules, p: &Position) -> Outcome
     ensures { result ≡ Ends.early_end rules.now (repeat_of p.now) }
 {
-    match flag_end(rules, p) {
-        Outcome::Ongoing => match checks_end(rules, p) {
-            Outcome::Ongoing => extinction_end(rules, p),
-            end => end,
-        },
-        end => end,
-    }
+    early_end_by(rules, p, has_flag(rules, &p.cells, p.side.other()))
 }
 
 /// The end where the side to move has no legal move: checkmate where its king is attacked, else stalemate, with the value that the

@@ -146,7 +146,8 @@ abbrev pub KeepsKings : Rules → Repeat → BoardSets → List (Option Cell) �
 KeepsKings rules r sets board = AreKings rules r.side board sets.kings
 
 -- what is known of the board after a move: a piece left the one square for the other, or came there from elsewhere where
--- both are one; it took what stood there, the kings are as is said, and the move is safe where this board attacks none
+-- both are one; it took what stood there, the kings are as is said, and the move is safe exactly where no king of the
+-- mover is attacked on this board
 pub record BoardAfter (rules : Rules) (r : Repeat) (sets : BoardSets) (occupied : Set) (from to : ℕ) (m : Move) (HasKings : List (Option Cell) → Type 0) : Type 0 where
   pub men : Set
   pub now : Set

@@ -1,4 +1,4 @@
--- Pieces that may go anywhere.
+-- Pieces that may go anywhere, and the only king out of danger.
 use Rattle.std.proofs.Common.{◌≡◌, ℕ, ◌<◌, true, false, not, ◌&&◌, None, Some, length, refl, sym, ap, ◌∙◌}
 use Rattle.std.proofs.lemmas.Bool.{and_parts, not-true}
 use Rattle.square_set.proofs.CoverLaws.{has-zero}
@@ -15,7 +15,7 @@ use Rattle.rules_model.specs.Pawns.{passes_by}
 use Rattle.move_tables.specs.Occupied.{IsOccupied}
 use Rattle.board_sets.specs.declared.sets.BoardSets.{BoardSets}
 use Rattle.board_sets.specs.Sets.{AreSets}
-use Rattle.pins.specs.Danger.{AreDangers}
+use Rattle.pins.specs.Danger.{AreDangersAmong}
 use Rattle.pins.specs.Free.{IsFree}
 use Rattle.pins.proofs.DangerLaws.{king_by_pieces}
 use Rattle.legality.specs.Moved.{DropFreely, GateAtOnce, GateFreely, GoAtOnce, GoFreely, IsOnly}
@@ -23,13 +23,13 @@ use Rattle.legality.proofs.BoardLaws.{BoardAfter, KeepsKings, drop_board, gate_b
 
 module _ (rules : Rules) (r : Repeat) (sets : BoardSets) (occupied : Set) (are : AreSets rules r.side r.cells sets) (are_occupied : IsOccupied occupied r.cells) (size : length r.cells ≡ 120) where
   -- the only king is safe where it is not in danger
-  pub king_is_safe : (danger : Set) (from to : Square) → from.0 < 120 → to.0 < 120 → AreDangers rules r.side r.cells from.0 sets.enemies occupied danger → IsOnly sets.kings from.0 → has sets.own to.0 ≡ false
+  pub king_is_safe : (targets danger : Set) (from to : Square) → from.0 < 120 → to.0 < 120 → AreDangersAmong rules r.side r.cells from.0 sets.enemies occupied targets danger → has targets to.0 ≡ true → IsOnly sets.kings from.0 → has sets.own to.0 ≡ false
       → rules.flying ≡ false → passes_by rules r from to.0 ≡ false → is_safe rules r (Go from to Stays None) ≡ not (has danger to.0)
-  king_is_safe danger from to l m are_dangers only target still no_passing =
+  king_is_safe targets danger from to l m are_dangers among only target still no_passing =
       let after = king_board rules r sets occupied are are_occupied size from to l m only target no_passing in
       let by_pieces = king_by_pieces rules after.board r.side to.0 m after.has_kings still in
       after.told
-      ∙ ap (λ k. not k) (by_pieces ∙ sym (are_dangers to.0 after.men after.now after.board after.are_men after.is_now after.is_board))
+      ∙ ap (λ k. not k) (by_pieces ∙ sym (are_dangers to.0 among after.men after.now after.board after.are_men after.is_now after.is_board))
 
   module _ (free : Set) (are_free : IsFree rules r.side r.cells sets.kings sets.enemies occupied free) where
     spared : (from to : ℕ) (m : Move) → has free from ≡ true → BoardAfter rules r sets occupied from to m (KeepsKings rules r sets) → is_safe rules r m ≡ true

@@ -1,4 +1,4 @@
--- Pieces that go to many squares, each of which is known to be safe.
+-- Moves of a piece to many squares, of which it is told at once which are chosen.
 use Rattle.std.proofs.Common.{◌≡◌, ℕ, ◌+◌, ◌<◌, min, Bool, true, false, not, ◌&&◌, ◌||◌, Option, Some, None, length, refl, sym, ap, ◌∙◌, subst}
 use Rattle.std.specs.Bool.{OnTrue}
 use Rattle.std.specs.Prelude.{IfSome}
@@ -17,7 +17,7 @@ use Rattle.square_set.specs.declared.Set.{Set}
 use Rattle.square_set.specs.Members.{has, size}
 use Rattle.square_set.proofs.Cases.{by_bool}
 use Rattle.move_sink.specs.InTurn.{GoesTo, target_of}
-use Rattle.legality.specs.Chosen.{AreThose, is_chosen, is_fit_move, is_wanted}
+use Rattle.legality.specs.Chosen.{ArePassing, ArePassingFrom, is_chosen, is_fit_move, is_wanted}
 use Rattle.legality.specs.Moved.{AreSane, GateAtOnce, GateFreely, GoAtOnce, GoFreely, IsBarred, MayGate, MayGo, MayNotGate, MayNotGo, asks_only_safety}
 use Rattle.legality.proofs.AllGoes.{goes-those, goes_below}
 use Rattle.legality.proofs.SafetyLaws.{not_passing, plain_sane}
@@ -52,7 +52,8 @@ module _ (rules : Rules) (r : Repeat) (only : asks_only_safety rules ≡ true) w
 
     -- the targets of a king that goes where it is safe
     pub king_goes : (from : Square) (targets danger sane : Set)
-        → ((to : Square) → to.0 < 120 → has own to.0 ≡ false → passes_by rules r from to.0 ≡ false → is_safe rules r (Go from to Stays None) ≡ not (has danger to.0))
+        → ((to : Square) → to.0 < 120 → has targets to.0 ≡ true → has own to.0 ≡ false → passes_by rules r from to.0 ≡ false
+        → is_safe rules r (Go from to Stays None) ≡ not (has danger to.0))
         → ((s : ℕ) → has targets s ≡ true → s < 120) → ((s : ℕ) → (has targets s && has barred s) ≡ false)
         → ((s : ℕ) → has sane s ≡ (has targets s && not (has danger s))) → AreSane rules r from targets sane
     king_goes from targets danger sane safe small apart is to =
@@ -60,7 +61,7 @@ module _ (rules : Rules) (r : Repeat) (only : asks_only_safety rules ≡ true) w
         (λ e.
         let m = small to.0 e in
         let bar = bars to.0 m (sym (ap (λ b. b && has barred to.0) e) ∙ apart to.0) in
-        let told = plain_sane rules r (Go from to Stays None) nothing_more ∙ safe to m bar.0 (not_passing rules r from to.0 bar.1) in
+        let told = plain_sane rules r (Go from to Stays None) nothing_more ∙ safe to m e bar.0 (not_passing rules r from to.0 bar.1) in
         is to.0 ∙ ap (λ b. has targets to.0 && b) (sym told))
         (λ e. is to.0 ∙ rw e refl)
 
@@ -82,7 +83,7 @@ pub chosen_is_sane : (rules : Rules) (r : Repeat) (captures : Bool) (from to : S
 unfolding is_chosen
 chosen_is_sane rules r captures from to only l m = rw (only, fit_go from to l m) refl
 
-pub sane_chosen : (rules : Rules) (r : Repeat) (captures : Bool) (from : Square) (gate : Option Kind) (targets sane : Set) → captures ≡ false → from.0 < 120 → ((s : ℕ) → has targets s ≡ true → s < 120) → gate ≡ None → AreSane rules r from targets sane → AreThose (is_chosen rules r captures) from gate targets sane
+pub sane_chosen : (rules : Rules) (r : Repeat) (captures : Bool) (from : Square) (gate : Option Kind) (targets sane : Set) → captures ≡ false → from.0 < 120 → ((s : ℕ) → has targets s ≡ true → s < 120) → gate ≡ None → AreSane rules r from targets sane → ArePassing (is_chosen rules r captures) from gate targets sane
 sane_chosen rules r captures from gate targets sane only l small none are to =
     by_bool (has targets to.0) (has sane to.0 ≡ (has targets to.0 && is_chosen rules r captures (Go from to Stays gate)))
     (λ e.
@@ -110,7 +111,7 @@ last_false true true c e = e
 last_false true false c e = refl
 last_false false b c e = refl
 
-not_chosen : (rules : Rules) (r : Repeat) (captures : Bool) (m : Move) → is_sane rules r m ≡ false → is_chosen rules r captures m ≡ false
+pub not_chosen : (rules : Rules) (r : Repeat) (captures : Bool) (m : Move) → is_sane rules r m ≡ false → is_chosen rules r captures m ≡ false
 unfolding is_chosen
 not_chosen rules r captures m e = last_false (is_fit_move m) (is_wanted rules r captures m) (is_sane rules r m) e
 
@@ -136,7 +137,7 @@ in_some None h f = tt
 in_some (Some x) h f = f x h
 
 -- those that are counted at once are as many as the squares
-pub counted_those : (test : Move → Bool) (from : Square) (gate : Option Kind) (targets those : Set) (top old more new : ℕ) → more ≡ size those → AreThose test from gate targets those → new ≡ min (old + more) top → new ≡ min (old + length (filter test (goes_below from gate targets 128))) top
-counted_those test from gate targets those top old more new e are is =
-    let many : length (filter test (goes_below from gate targets 128)) ≡ more = goes-those from gate targets test those are ∙ sym e in
+pub counted_those : (test : Move → Bool) (start : ℕ → Square) (gate : Option Kind) (targets those : Set) (top old more new : ℕ) → more ≡ size those → ArePassingFrom test start gate targets those → new ≡ min (old + more) top → new ≡ min (old + length (filter test (goes_below start gate targets 128))) top
+counted_those test start gate targets those top old more new e are is =
+    let many : length (filter test (goes_below start gate targets 128)) ≡ more = goes-those start gate targets test those are ∙ sym e in
     is ∙ ap (λ n. min (old + n) top) (sym many)

@@ -3,6 +3,7 @@ pub mod BoardLaws
 pub mod CandidateFit
 pub mod CandidateParts
 pub mod FitLaws
+pub mod FlagLaws
 pub mod FreeLaws
 pub mod GoLaws
 pub mod KeepLaws
@@ -11,5 +12,6 @@ pub mod MemberLaws
 pub mod MobileLaws
 pub mod SafetyLaws
 pub mod SeekLaws
+pub mod ShiftLaws
 pub mod TextLaws
 pub mod VainLaws

@@ -1,5 +1,5 @@
 -- What is chosen of the candidates.
-use Rattle.std.specs.Prelude.{◌≡◌, Bool, true, ◌&&◌, ◌||◌, not, nat_lt, Option, Some, None}
+use Rattle.std.specs.Prelude.{◌≡◌, ℕ, Bool, true, ◌&&◌, ◌||◌, not, nat_lt, Option, Some, None}
 use Rattle.std.specs.List.{list_any, filter}
 use Rattle.rules_model.specs.declared.board.Kind.{Kind}
 use Rattle.rules_model.specs.declared.board.Repeat.{Repeat}
@@ -16,7 +16,8 @@ use Rattle.rules_model.specs.Legal.{every_move, is_allowed, is_sane}
 use Rattle.rules_model.specs.Moves.{IsFitMove}
 use Rattle.rules_model.specs.Next.{captures}
 use Rattle.square_set.specs.declared.Set.{Set}
-use Rattle.square_set.specs.Members.{has}
+use Rattle.square_set.specs.declared.Shift.{Shift}
+use Rattle.square_set.specs.Members.{has, origin}
 
 -- a candidate on the largest board
 abbrev pub FitCandidates : Rules → Repeat → Move → Type 0
@@ -65,8 +66,16 @@ only_captures rules r = rules.must_capture && can_go rules r true
 abbrev pub captures_if_forced : Rules → Repeat → Move → Bool
 captures_if_forced rules r m = not (rules.must_capture && can_capture rules r) || captures rules r m
 
--- the set has those of the targets to which the move of the piece on the square, which stays what it is and leaves this
--- behind, passes the test
-abbrev pub AreThose : (Move → Bool) → Square → Option Kind → Set → Set → Type 0
-AreThose test from gate targets those =
-    (to : Square) → has those to.0 ≡ (has targets to.0 && test (Go from to Stays gate))
+-- the set has those of the targets for which the move passes the test: the piece starts where `start` says, stays what it
+-- is, and leaves behind what `gate` names
+abbrev pub ArePassingFrom : (Move → Bool) → (ℕ → Square) → Option Kind → Set → Set → Type 0
+ArePassingFrom test start gate targets those =
+    (to : Square) → has those to.0 ≡ (has targets to.0 && test (Go (start to.0) to Stays gate))
+
+-- where the piece goes from the one square
+abbrev pub ArePassing : (Move → Bool) → Square → Option Kind → Set → Set → Type 0
+ArePassing test from = ArePassingFrom test (λ to. from)
+
+-- where the piece goes by the shift
+abbrev pub ArePassingBy : (Move → Bool) → Shift → Set → Set → Type 0
+ArePassingBy test shift = ArePassingFrom test (λ to. record { 0 = origin shift to }) None

@@ -17,7 +17,8 @@ use Rattle.rules_model.specs.Pawns.{is_ep, is_stays, passes_by}
 use Rattle.rules_model.specs.Sides.{other}
 use Rattle.rules_model.specs.Squares.{cell_at}
 use Rattle.square_set.specs.declared.Set.{Set}
-use Rattle.square_set.specs.Members.{has}
+use Rattle.square_set.specs.declared.Shift.{Shift}
+use Rattle.square_set.specs.Members.{has, origin}
 
 -- the variant asks more of the move than that it leaves the own king safe
 abbrev pub asks_more : Rules → Move → Bool
@@ -112,12 +113,12 @@ GateInVain rules r own kings enter =
 abbrev pub leaves_another : Rules → Set → Set → Square → Kind → Bool
 leaves_another rules own kings from kind = has own from.0 && not (has kings from.0) && not (is_king rules kind)
 
--- it leaves such a piece behind, or goes from a square of the set
+-- a piece goes from a square of `leave` without a gate, or an own one other than a king leaves such a piece behind
 abbrev pub leaves_in_vain : Rules → Set → Set → Set → Square → Option Kind → Bool
 leaves_in_vain rules own kings leave from None = has leave from.0
 leaves_in_vain rules own kings leave from (Some kind) = leaves_another rules own kings from kind
 
--- a piece goes so to a square of the second set, and stays what it is, or one other than a king is dropped on one
+-- one that does so goes to a square of `enter` and stays what it is, or a piece other than a king is dropped on one
 abbrev pub is_in_vain : Rules → Set → Set → Set → Set → Move → Bool
 is_in_vain rules own kings leave enter (Go from to promo gate) =
     is_stays promo && has enter to.0 && leaves_in_vain rules own kings leave from gate
@@ -152,7 +153,12 @@ GateAtOnce rules r own kings enter =
 abbrev pub MayGo : Rules → Repeat → Square → Set → Type 0
 MayGo rules r from targets = (to : Square) → to.0 < 120 → has targets to.0 ≡ true → is_sane rules r (Go from to Stays None) ≡ true
 
--- and one that leaves a piece of the kind behind
+-- to each of the targets a piece that goes by the shift, and stays what it is, makes a sane move
+abbrev pub MayGoBy : Rules → Repeat → Shift → Set → Type 0
+MayGoBy rules r shift targets =
+    (to : Square) → to.0 < 120 → has targets to.0 ≡ true → is_sane rules r (Go (record { 0 = origin shift to.0 }) to Stays None) ≡ true
+
+-- and one that goes from the square and leaves a piece of the kind behind
 abbrev pub MayGate : Rules → Repeat → Square → Kind → Set → Type 0
 MayGate rules r from kind targets =
     (to : Square) → to.0 < 120 → has targets to.0 ≡ true → is_sane rules r (Go from to Stays (Some kind)) ≡ true
@@ -162,7 +168,12 @@ abbrev pub MayNotGo : Rules → Repeat → Square → Set → Type 0
 MayNotGo rules r from targets =
     (to : Square) → to.0 < 120 → has targets to.0 ≡ true → is_sane rules r (Go from to Stays None) ≡ false
 
--- nor one that leaves a piece of the kind behind
+-- nor does one that goes by the shift
+abbrev pub MayNotGoBy : Rules → Repeat → Shift → Set → Type 0
+MayNotGoBy rules r shift targets =
+    (to : Square) → to.0 < 120 → has targets to.0 ≡ true → is_sane rules r (Go (record { 0 = origin shift to.0 }) to Stays None) ≡ false
+
+-- nor one that goes from the square and leaves a piece of the kind behind
 abbrev pub MayNotGate : Rules → Repeat → Square → Kind → Set → Type 0
 MayNotGate rules r from kind targets =
     (to : Square) → to.0 < 120 → has targets to.0 ≡ true → is_sane rules r (Go from to Stays (Some kind)) ≡ false

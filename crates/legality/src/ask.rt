@@ -30,7 +30,7 @@ pub fn count_legal_with(rules: &Rules, tables: &Tables, p: &Position, sets: &Boa
     requires sets { AreSets rules.now p.now.side p.now.cells sets.now }
     ensures { result ≡ min (length (Legal.legal rules.now (repeat_of p.now))) (2 ^ 128 - 1) }
 {
-    if !goes_on(rules, p) {
+    if !goes_on(rules, tables, p, sets) {
         return 0;
     }
     let safety = Safety::of_all(rules, tables, p, sets);
@@ -55,10 +55,10 @@ pub fn any_legal(rules: &Rules, tables: &Tables, p: &Position) -> bool
     requires ready { IsReady rules.now tables.now p.now }
     ensures { result ≡ not (Legal.is_stuck rules.now (repeat_of p.now)) }
 {
-    if !goes_on(rules, p) {
+    let sets = sets_of(rules, &p.cells, p.side);
+    if !goes_on(rules, tables, p, &sets) {
         return false;
     }
-    let sets = sets_of(rules, &p.cells, p.side);
     can_go(rules, tables, p, &sets, false)
 }
 
@@ -112,7 +112,7 @@ fn is_lawful(rules: &Rules, tables: &Tables, p: &Position, sets: &BoardSets, m: 
     ensures is { result ≡ Allowed.is_legal rules.now (repeat_of p.now) m.now }
     ensures fit { OnTrue result (IsFitMove m.now) }
 {
-    goes_on(rules, p)
+    goes_on(rules, tables, p, sets)
         && is_allowed(rules, tables, p, sets, m)
         && is_wanted(rules, tables, p, sets, m)
 }

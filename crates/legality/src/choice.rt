@@ -1,7 +1,7 @@
 //! The choice among the candidates.
 ghost use Rattle.std.specs.Prelude.{◌≡◌, ◌<◌, ℕ, true, false, IfSome};
 ghost use Rattle.std.specs.Bool.{OnTrue};
-ghost use Rattle.square_set.specs.Members.{has};
+ghost use Rattle.square_set.specs.Members.{has, length_of, HasOrigin};
 ghost use Rattle.rules_model.specs.declared.moves.Move.{Move};
 ghost use Rattle.move_sink.specs.InTurn.{GoesTo};
 ghost use Rattle.rules_model.specs.Legal as Legal;
@@ -12,7 +12,7 @@ ghost use Rattle.rules_model.specs.Repeats.{repeat_of};
 use crate::capture::captures;
 use crate::safety::Safety;
 use rules_model::{Kind, Move, Placed, Promo, Square};
-use square_set::{EMPTY, Set};
+use square_set::{EMPTY, Set, Shift};
 
 fn is_fit_promo(promo: Promo) -> bool
     ensures { result ≡ Chosen.is_fit_promo promo }
@@ -64,6 +64,14 @@ pub(crate) fn is_fit_move(m: &Move) -> bool
     }
 }
 
+/// Of the targets of moves by a shift, those of which it is told at once whether the moves are chosen.
+#[derive(Clone, Copy)]
+pub(crate) struct Told {
+    pub targets: Set,
+    /// Those to which the moves are chosen.
+    pub chosen: Set,
+}
+
 /// What is chosen of the candidates of a position: those that are sane, and perhaps only captures.
 #[derive(Drop)]
 pub(crate) struct Choice<'a> {
@@ -112,10 +120,10 @@ impl<'a> Choice<'a> {
     }
 
     /// Of the targets, those to which the moves from the square are chosen, where this is told at once.
-    pub fn holds_at_once(&self, from: Square, gate: Option<Kind>, targets: Set) -> Option<Set>
+    pub fn chosen_at_once(&self, from: Square, gate: Option<Kind>, targets: Set) -> Option<Set>
         requires from { from.0 < 120 }
         requires targets { (s : ℕ) → has targets s ≡ true → s < 120 }
-        ensures { IfSome result (λ those. Chosen.AreThose (Choices.chosen_by self.now) from gate targets those) }
+        ensures { IfSome result (λ those. Chosen.ArePassing (Choices.chosen_by self.now) from gate targets those) }
     {
         if self.holds_all(from, gate, targets) {
             return Some(targets);
@@ -129,6 +137,28 @@ impl<'a> Choice<'a> {
         match gate {
             None => self.safety.lets_king(from, targets),
             Some(_) => None,
+        }
+    }
+
+    /// Which of the moves by the shift to the targets are chosen, as far as this is told at once.
+    pub fn told_by(&self, shift: Shift, targets: Set) -> Told
+        requires length { length_of shift < 128 }
+        requires targets { (s : ℕ) → has targets s ≡ true → s < 120 }
+        requires starts { (s : ℕ) → has targets s ≡ true → HasOrigin shift 120 s }
+        ensures within { (s : ℕ) → has result.targets s ≡ true → has targets s ≡ true }
+        ensures chosen { Chosen.ArePassingBy (Choices.chosen_by self.now) shift result.targets result.chosen }
+    {
+        if self.captures {
+            return Told {
+                targets: EMPTY,
+                chosen: EMPTY,
+            };
+        }
+        let chosen = self.safety.lets_shift(shift, targets);
+        let barred = self.safety.bars_shift(shift, targets);
+        Told {
+            targets: chosen.or(barred),
+            chosen,
         }
     }
 

@@ -6,6 +6,7 @@ mod candidates;
 mod capture;
 mod choice;
 mod count;
+mod flag;
 mod keep;
 mod list;
 mod mobile;

@@ -31,7 +31,7 @@ pub fn push_legal_with(
     ensures ok { OnOk result (Appends (λ m. Member m (legal rules.now (repeat_of p.now))) out.old out.new) }
     ensures err { OnErr result (out.new ≡ out.old) }
 {
-    if !goes_on(rules, p) {
+    if !goes_on(rules, tables, p, sets) {
         return Ok(());
     }
     let safety = Safety::of_all(rules, tables, p, sets);

@@ -2,7 +2,7 @@
 //! that the piece can move on.
 ghost use Rattle.std.specs.Prelude.{◌≡◌, ℕ, ◌<◌, true, IfSome};
 ghost use Rattle.std.specs.Bool.{OnTrue};
-ghost use Rattle.square_set.specs.Members.{has};
+ghost use Rattle.square_set.specs.Members.{has, length_of, HasOrigin};
 ghost use Rattle.rules_model.specs.Legal as Legal;
 ghost use Rattle.rules_model.specs.Moves.{IsFitMove};
 ghost use Rattle.rules_model.specs.Next as Next;
@@ -22,7 +22,7 @@ use rules_model::kinds::names;
 use rules_model::passing::{is_ep, is_stays};
 use rules_model::sizes::position_sizes;
 use rules_model::{Cells, Kind, Move, Position, Promo, Rules, Square};
-use square_set::Set;
+use square_set::{Set, Shift};
 
 /// A position, with what is known of it for all its moves.
 #[derive(Drop)]
@@ -36,7 +36,7 @@ pub(crate) struct Safety<'a> {
     pub at_once: FreeSquares,
     /// The squares of own pieces, and that of en passant: what goes there is not told at once.
     pub barred: Set,
-    /// The squares from which and to which pieces go in vain, where a piece attacks a king; else none.
+    /// The squares from which and to which pieces are known to go in vain: to none where no piece attacks a king.
     pub vain: VainSquares,
     ghost are_sets: { AreSets tables.now p.now.side p.now.cells sets },
     ghost go_freely: { Moved.GoFreely tables.now (repeat_of p.now) sets.own free.to_leave },
@@ -47,9 +47,6 @@ pub(crate) struct Safety<'a> {
     ghost drop_in_vain: { Moved.DropInVain tables.now (repeat_of p.now) vain.to_enter },
     ghost gate_in_vain: { Moved.GateInVain tables.now (repeat_of p.now) sets.own sets.kings vain.to_enter },
 }
-
-/// From so many targets of a king on, one set of the squares in danger is found sooner than each target is looked at.
-const MANY_TARGETS: u32 = 3;
 
 fn is_drop(m: &Move) -> bool
     ensures { result ≡ Legal.is_drop m.now }
@@ -181,7 +178,8 @@ impl<'a> Safety<'a> {
             && !names(self.tables.rules().king, kind)
     }
 
-    /// Whether it does so, or goes from a square that is left in vain.
+    /// Whether what goes from the square goes in vain to each square of `vain.to_enter`: from one of `vain.to_leave`, or
+    /// where it leaves another piece behind.
     fn leaves_in_vain(&self, from: Square, gate: Option<Kind>) -> bool
         requires { from.0 < 120 }
         ensures { result ≡ Moved.leaves_in_vain self.now.tables.now self.now.sets.own self.now.sets.kings
@@ -193,7 +191,8 @@ impl<'a> Safety<'a> {
         }
     }
 
-    /// Whether a piece goes in vain and stays what it is, or one other than a king is dropped in vain.
+    /// Whether it is told at once that the move is in vain: a piece goes so and stays what it is, or one other than a
+    /// king is dropped.
     fn is_in_vain(&self, m: &Move) -> bool
         requires { IsFitMove m.now }
         ensures { result ≡ Moved.is_in_vain self.now.tables.now self.now.sets.own self.now.sets.kings
@@ -234,6 +233,28 @@ impl<'a> Safety<'a> {
         self.vain.to_leave.has(from.0) && targets.minus(self.vain.to_enter).is_empty()
     }
 
+    /// Of the targets, those to which a piece that goes by the shift, and stays what it is, may go, as is told at once.
+    pub fn lets_shift(&self, shift: Shift, targets: Set) -> Set
+        requires length { length_of shift < 128 }
+        requires starts { (s : ℕ) → has targets s ≡ true → HasOrigin shift 120 s }
+        ensures within { (s : ℕ) → has result s ≡ true → has targets s ≡ true }
+        ensures sane { Moved.MayGoBy self.now.tables.now (repeat_of self.now.p.now) shift result }
+    {
+        let led = self.at_once.to_leave.shifted(shift);
+        targets.and(led).minus(self.barred)
+    }
+
+    /// Of the targets, those to which a piece that goes by the shift, and stays what it is, may not go, as is told at once.
+    pub fn bars_shift(&self, shift: Shift, targets: Set) -> Set
+        requires length { length_of shift < 128 }
+        requires starts { (s : ℕ) → has targets s ≡ true → HasOrigin shift 120 s }
+        ensures within { (s : ℕ) → has result s ≡ true → has targets s ≡ true }
+        ensures sane { Moved.MayNotGoBy self.now.tables.now (repeat_of self.now.p.now) shift result }
+    {
+        let led = self.vain.to_leave.shifted(shift);
+        targets.and(self.vain.to_enter).and(led)
+    }
+
     /// Of the targets, those to which the king on the square may go, where this is told at once.
     pub fn lets_king(&self, from: Square, targets: Set) -> Option<Set>
         requires from { from.0 < 120 }
@@ -241,9 +262,6 @@ impl<'a> Safety<'a> {
         ensures { IfSome result
             (λ sane. Moved.AreSane self.now.tables.now (repeat_of self.now.p.now) from targets sane) }
     {
-        if targets.count() < MANY_TARGETS {
-            return None;
-        }
         king_at_once(self.tables, self.p, &self.sets, from, targets)
     }
 

@@ -8,18 +8,22 @@ ghost use Rattle.legality.specs.Chosen as Chosen;
 
 use crate::candidates::push_candidates;
 use crate::choice::Choice;
+use crate::flag::has_flag;
 use crate::safety::Safety;
 use crate::seek::Seeker;
 use attack_tables::Tables;
 use board_sets::BoardSets;
-use end_rules::early_end;
+use end_rules::early_end_by;
 use rules_model::{Outcome, Position, Rules};
 
 /// Whether the position has no end by itself before its moves are looked at.
-pub(crate) fn goes_on(rules: &Rules, p: &Position) -> bool
+pub(crate) fn goes_on(rules: &Rules, tables: &Tables, p: &Position, sets: &BoardSets) -> bool
+    requires tables { tables.now ≡ rules.now }
+    requires sets { AreSets rules.now p.now.side p.now.cells sets.now }
     ensures { result ≡ Ends.is_ongoing (Ends.early_end rules.now (repeat_of p.now)) }
 {
-    match early_end(rules, p) {
+    let flag = has_flag(rules, tables, p, sets);
+    match early_end_by(rules, p, flag) {
         Outcome::Ongoing => true,
         Outcome::Won(_, _) => false,
         Outcome::Drawn(_) => false,

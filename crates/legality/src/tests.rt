@@ -222,7 +222,7 @@ fn checks_of_cannons_and_horses_are_ended(rt: HostRuntime) -> Result<(), Fail> {
             "Ke1 Ne4 Ra5 ce7 kd10",
             "a5e5 e1f1 e4c3 e4c5 e4d2 e4d6 e4f2 e4f6 e4g3 e4g5",
         ),
-        // where the rook takes the soldier the cannon attacks over the rook
+        // the rook takes the soldier in vain: the cannon then attacks over the rook
         ("Ke1 Ra4 Rh7 ce7 pe4 kd10", "e1f1 h7e7"),
         // the rook and the cannon after it attack: one piece blocks both, and to take the rook is in vain
         ("Ke1 Ra5 Rh8 re8 ce9 kd10", "a5e5 e1f1"),

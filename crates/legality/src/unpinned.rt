@@ -15,7 +15,7 @@ use pins::evasion::evasions;
 use pins::free;
 use rules_model::sizes::position_sizes;
 use rules_model::{Position, Rules, Square};
-use square_set::{EMPTY, Set};
+use square_set::{ALL, EMPTY, Set};
 
 /// Squares at which a change opens no attack on a king of the mover.
 #[derive(Clone, Copy)]
@@ -42,9 +42,6 @@ pub(crate) struct VainSquares {
     /// is that of en passant.
     pub to_enter: Set,
 }
-
-/// Every square.
-const EVERYWHERE: Set = Set(u128::MAX);
 
 /// None is known to be in vain.
 pub(crate) const NONE_VAIN: VainSquares = VainSquares {
@@ -78,8 +75,8 @@ pub(crate) fn free_squares(
     FreeSquares { to_leave, to_enter }
 }
 
-/// The squares from which and to which pieces go in vain: none where no piece attacks a king of the mover. `barred` are
-/// those of own pieces and that of en passant.
+/// The squares from which and to which pieces go in vain. Where no piece attacks a king of the mover, `to_enter` is none.
+/// `barred` are those of own pieces and that of en passant.
 fn vain_squares(tables: &Tables, p: &Position, sets: &BoardSets, barred: Set) -> VainSquares
     requires sets { AreSets tables.now p.now.side p.now.cells sets.now }
     requires barred { IsBarred (repeat_of p.now) sets.now.own barred }
@@ -93,7 +90,7 @@ fn vain_squares(tables: &Tables, p: &Position, sets: &BoardSets, barred: Set) ->
     let evasions = evasions(tables, &p.cells, sets.kings, sets.enemies, occupied, p.side);
     VainSquares {
         to_leave: sets.own.minus(sets.kings).minus(evasions.leave),
-        to_enter: EVERYWHERE.minus(barred).minus(evasions.enter),
+        to_enter: ALL.minus(barred).minus(evasions.enter),
     }
 }
 
@@ -173,6 +170,7 @@ pub(crate) fn king_at_once(
         sets.enemies,
         sets.occupied(),
         p.side,
+        targets,
     );
     Some(targets.minus(danger))
 }

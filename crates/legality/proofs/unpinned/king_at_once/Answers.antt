@@ -14,7 +14,7 @@ returns c =
     let still : rules.flying ≡ false = sym (ap (λ x. x.flying) c.rules-rules.ensures.is) ∙ c.if-rules.false in
     let only : asks_only_safety rules ≡ true = ap asks_only_safety (sym c.rules-rules.ensures.is) ∙ sym c.asks_only_safety.ensures ∙ c.if-not-asks_only_safety.false in
     king_goes rules r only sets.own c.barred_at_once-barred.result c.barred_at_once-barred.ensures c.args.from c.args.targets danger c.minus.result
-    (λ to m target no_passing.
-    king_is_safe rules r sets c.occupied.result c.requires.sets (c.occupied.ensures _ _ _ c.requires.sets) c.position_sizes.ensures.cells danger c.args.from to
-    c.requires.from m c.danger-danger.ensures c.if-not-is_only.ensures target still no_passing)
+    (λ to m among target no_passing.
+    king_is_safe rules r sets c.occupied.result c.requires.sets (c.occupied.ensures _ _ _ c.requires.sets) c.position_sizes.ensures.cells c.args.targets danger c.args.from to
+    c.requires.from m c.danger-danger.ensures among c.if-not-is_only.ensures target still no_passing)
     c.requires.targets (λ s. sym (c.and.ensures s) ∙ c.if-not-is_empty.ensures.empty s) c.minus.ensures

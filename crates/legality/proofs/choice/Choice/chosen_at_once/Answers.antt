@@ -1,6 +1,6 @@
 use Rattle.rules_model.specs.Repeats.{repeat_of}
 use Rattle.legality.proofs.GoLaws.{in_some, sane_chosen}
-use Rattle.legality.proofs.choice.Choice.holds_at_once.Goals as goal
+use Rattle.legality.proofs.choice.Choice.chosen_at_once.Goals as goal
 
 pub returns-in-None : goal.returns-in-None
 returns-in-None c =
