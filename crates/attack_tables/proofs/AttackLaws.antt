@@ -16,10 +16,10 @@ use Rattle.rules_model.specs.Kinds.{is_king}
 use Rattle.rules_model.specs.Sides.{other, same_side}
 use Rattle.rules_model.specs.Squares.{cell_at}
 use Rattle.square_set.specs.declared.Set.{Set}
-use Rattle.square_set.specs.Members.{has}
+use Rattle.square_set.specs.Members.{has, OnSquares}
 use Rattle.square_set.proofs.Cases.{by_bool, by_order}
 use Rattle.move_tables.specs.declared.mode.Mode.TheVariants.{Take}
-use Rattle.move_tables.specs.Occupied.{AreKings, AreMen, IsOccupied, OnSquares}
+use Rattle.move_tables.specs.Occupied.{AreKings, AreMen, IsOccupied}
 use Rattle.move_tables.specs.Reached.{reaches_as}
 use Rattle.move_tables.proofs.ReachLaws.{reach_beyond}
 use Rattle.attack_tables.specs.declared.sight.Sight.{Sight}

@@ -1,4 +1,5 @@
--- A board as it is known by its sets of squares. After a move these are no longer those of the cells from which the sets were made.
+-- A board as it is known by its sets of squares. After a move these are no longer those of the cells from which the
+-- sets were made.
 use Rattle.std.specs.Prelude.{◌≡◌, ℕ, true, Option, List}
 use Rattle.rules_model.specs.declared.board.Cell.{Cell}
 use Rattle.rules_model.specs.declared.board.Side.{Side}
@@ -14,8 +15,8 @@ use Rattle.move_tables.specs.Occupied.{IsOccupied, AreMen}
 abbrev pub HoldsMen : Side → List (Option Cell) → Set → Type 0
 HoldsMen side cells men = (s : ℕ) → has men s ≡ true → is_own side (λ kind. true) (cell_at cells s) ≡ true
 
--- the board has pieces on the occupied squares; those of the side are on the squares of its men, and they are the ones that the cells hold
--- there. What stands on the other squares of the cells does not matter
+-- the board has pieces on the occupied squares; those of the side are on the squares of its men, and they are the ones
+-- that the cells hold there. What stands on the other squares of the cells does not matter
 pub record IsBoardBy (side : Side) (cells : List (Option Cell)) (men occupied : Set) (board : List (Option Cell)) : Type 0 where
   pub squares : IsOccupied occupied board
   pub own : AreMen side board men

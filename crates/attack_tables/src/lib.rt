@@ -3,7 +3,7 @@
 
 mod alike;
 mod masks;
-pub mod pawns;
+mod pawns;
 mod regions;
 pub mod sight;
 pub mod tables;

@@ -5,7 +5,7 @@ ghost use Rattle.rules_model.specs.Attacks as Attacks;
 ghost use Rattle.rules_model.specs.Fit.{IsFit};
 ghost use Rattle.rules_model.specs.Kinds as Kinds;
 ghost use Rattle.rules_model.specs.Reach.{is_at};
-ghost use Rattle.square_set.specs.Members.{has, leads, length_of};
+ghost use Rattle.square_set.specs.Members.{has, leads, length_of, OnSquares};
 ghost use Rattle.attack_tables.specs.PawnMasks as Masks;
 ghost use Rattle.attack_tables.specs.PawnSpots as Pawns;
 
@@ -17,7 +17,7 @@ use square_set::{EMPTY, Set, Shift};
 
 /// Where a pawn of a side may go from a square, as far as the rules alone tell.
 #[derive(Clone, Copy)]
-pub(crate) struct PawnSpot {
+struct PawnSpot {
     /// The square of one step.
     one: Set,
     /// The square of two steps, where a pawn may step twice from here.
@@ -31,15 +31,16 @@ pub(crate) struct PawnSpot {
 /// Where the pawns of a side may go from many squares at once, as far as the rules alone tell.
 #[derive(Clone, Copy, Debug, PartialEq, Eq)]
 pub struct PawnMasks {
-    /// Known to be so: from these squares a pawn promotes nowhere, and goes where the rest tells.
+    /// From these squares a pawn is known to promote nowhere, and to go where the rest tells. There may be more such
+    /// squares.
     pub plain: Set,
-    /// The squares from which it may step once.
+    /// Of the plain squares, those from which it may step once. Of others in it nothing is said, here and below.
     pub once: Set,
-    /// Those from which it may step twice.
+    /// Of the plain squares, those from which it may step twice.
     pub twice: Set,
-    /// Those from which it may take to the left.
+    /// Of the plain squares, those from which it may take to the left.
     pub left: Set,
-    /// Those from which it may take to the right.
+    /// Of the plain squares, those from which it may take to the right.
     pub right: Set,
     /// One step straight forward.
     pub ahead: Shift,
@@ -128,18 +129,6 @@ fn pawn_spot_of(rules: &Rules, side: Side, from: Square) -> PawnSpot
     }
 }
 
-/// The shift made twice.
-pub fn twice(shift: Shift) -> Shift
-    requires { length_of shift < 64 }
-    ensures is { result ≡ Masks.twice shift }
-    ensures short { length_of result < 128 }
-{
-    match shift {
-        Shift::Up(by) => Shift::Up(by + by),
-        Shift::Down(by) => Shift::Down(by + by),
-    }
-}
-
 /// No square, and the shifts of the side's pawns. The square above one has a number that is greater by `FILES`.
 fn no_masks(side: Side) -> PawnMasks
     ensures { Masks.HasPawnShifts result }
@@ -164,12 +153,12 @@ fn no_masks(side: Side) -> PawnMasks
     }
 }
 
-/// The set, where there are such squares; else none.
+/// The set where `squares` has a square, else the empty set.
 fn where_any(set: Set, squares: Set) -> Set {
     if squares.is_empty() { EMPTY } else { set }
 }
 
-/// The masks with the square in each set that fits the spot. No proof rests on the sets: `is_told` tests what they say.
+/// The masks with the square in each set that fits the spot. No proof rests on the sets: `tells` tests what they say.
 fn with_spot(masks: &PawnMasks, spot: &PawnSpot, from: u8) -> PawnMasks
     requires from { from < 120 }
     requires shifts { Masks.HasPawnShifts masks.now }
@@ -213,15 +202,15 @@ fn led(from: u8, shift: Shift, goes: bool) -> Set
 }
 
 /// Whether it is known that from the square a pawn promotes nowhere, and goes where the masks tell.
-fn is_told(rules: &Rules, side: Side, masks: &PawnMasks, from: u8) -> bool
+fn tells(rules: &Rules, side: Side, masks: &PawnMasks, from: u8) -> bool
     requires fit { IsFit rules.now }
     requires from { from < 120 }
     requires shifts { Masks.HasPawnShifts masks.now }
-    ensures { OnTrue result (Masks.IsTold rules.now side masks.now from) }
+    ensures { OnTrue result (Masks.Tells rules.now side masks.now from) }
 {
     let spot = pawn_spot_of(rules, side, Square(from));
     let one = led(from, masks.ahead, masks.once.has(from));
-    let two = led(from, twice(masks.ahead), masks.twice.has(from));
+    let two = led(from, masks.ahead.twice(), masks.twice.has(from));
     let left = led(from, masks.leftward, masks.left.has(from));
     let right = led(from, masks.rightward, masks.right.has(from));
     spot.plain && spot.one == one && spot.two == two && spot.diagonals == left.or(right)
@@ -231,12 +220,12 @@ fn is_told(rules: &Rules, side: Side, masks: &PawnMasks, from: u8) -> bool
 fn plain_squares(rules: &Rules, side: Side, masks: &PawnMasks) -> Set
     requires fit { IsFit rules.now }
     requires shifts { Masks.HasPawnShifts masks.now }
-    ensures board { (s : ℕ) → has result s ≡ true → s < 120 }
-    ensures told { (s : ℕ) → has result s ≡ true → Masks.IsTold rules.now side masks.now s }
+    ensures board { OnSquares result }
+    ensures tells { (s : ℕ) → has result s ≡ true → Masks.Tells rules.now side masks.now s }
 {
     let mut plain = EMPTY;
     for from in 0..120u8 {
-        if is_told(rules, side, masks, from) {
+        if tells(rules, side, masks, from) {
             plain = plain.with(from);
         }
     }

@@ -1,9 +1,7 @@
 //! The regions of the sides, as sets.
-ghost use Rattle.std.specs.Prelude.{◌≡◌, ℕ, ◌<◌, true, List};
+ghost use Rattle.std.specs.Prelude.{List};
 ghost use Rattle.rules_model.specs.declared.board.Region.{Region};
-ghost use Rattle.rules_model.specs.Regions.{in_region};
-ghost use Rattle.square_set.specs.Members.{has};
-ghost use Rattle.attack_tables.specs.RegionSets.{AreRegions, IsRegion};
+ghost use Rattle.attack_tables.specs.RegionSets.{AreSideRegions, IsSideRegion};
 
 use move_tables::region_set;
 use rules_model::sizes::region_size;
@@ -18,8 +16,7 @@ pub(crate) struct RegionSets {
 }
 
 fn side_region(regions: &[Region; 2], side: Side) -> Set
-    ensures is { (t : ℕ) → has result t ≡ in_region regions.now side t }
-    ensures on_board { (t : ℕ) → has result t ≡ true → t < 120 }
+    ensures { IsSideRegion regions.now side result }
 {
     let region = &regions[side.index()];
     region_size(region);
@@ -28,7 +25,7 @@ fn side_region(regions: &[Region; 2], side: Side) -> Set
 
 impl RegionSets {
     pub(crate) fn new(regions: &[Region; 2]) -> RegionSets
-        ensures { AreRegions regions.now result }
+        ensures { AreSideRegions regions.now result }
     {
         RegionSets {
             white: side_region(regions, Side::White),
@@ -38,7 +35,7 @@ impl RegionSets {
 
     /// The region of the side.
     pub(crate) fn of(&self, side: Side) -> Set
-        ensures { (regions : List Region) → AreRegions regions self.now → IsRegion regions side result }
+        ensures { (regions : List Region) → AreSideRegions regions self.now → IsSideRegion regions side result }
     {
         match side {
             Side::White => self.white,

@@ -6,18 +6,18 @@ ghost use Rattle.rules_model.specs.declared.board.Cell.{Cell};
 ghost use Rattle.rules_model.specs.Attacks as Rule;
 ghost use Rattle.rules_model.specs.Castling as Castling;
 ghost use Rattle.rules_model.specs.Fit.{IsFit};
-ghost use Rattle.rules_model.specs.Regions.{in_region};
 ghost use Rattle.rules_model.specs.Sides.{other};
 ghost use Rattle.rules_model.specs.Squares.{cell_at};
-ghost use Rattle.square_set.specs.Members.{has};
+ghost use Rattle.square_set.specs.Members.{has, OnSquares};
 ghost use Rattle.move_tables.specs.declared.mode.Mode.TheVariants.{Quiet, Take};
-ghost use Rattle.move_tables.specs.Occupied.{IsOccupied, AreKings, OnSquares};
+ghost use Rattle.move_tables.specs.Occupied.{IsOccupied, AreKings};
 ghost use Rattle.move_tables.specs.Reached as Reached;
 ghost use Rattle.move_tables.specs.Spots as Spots;
 ghost use Rattle.attack_tables.specs.Boards.{HoldsMen, OnEachBoard, OnEachWithKing};
 ghost use Rattle.attack_tables.specs.Goals as Goals;
 ghost use Rattle.attack_tables.specs.Masks.{IsMask};
 ghost use Rattle.attack_tables.specs.PawnMasks.{ArePawnMasks};
+ghost use Rattle.attack_tables.specs.RegionSets.{IsSideRegion};
 ghost use Rattle.attack_tables.specs.Sights.{IsSightOf};
 
 use crate::alike::alike_kinds;
@@ -58,7 +58,7 @@ impl Model for Tables {
     ghost use Rattle.attack_tables.specs.Masks.{AreMasks};
     ghost use Rattle.rules_model.specs.declared.board.Side.TheVariants.{White, Black};
     ghost use Rattle.attack_tables.specs.PawnMasks.{ArePawnMasks};
-    ghost use Rattle.attack_tables.specs.RegionSets.{AreRegions};
+    ghost use Rattle.attack_tables.specs.RegionSets.{AreSideRegions};
     ghost use Rattle.attack_tables.specs.Sights.{AreSights};
 
     ghost Value = { Rules };
@@ -68,7 +68,7 @@ impl Model for Tables {
     ghost invariant = { λ t.
         IsFit t.moves × AreMasks t.moves t.masks.items × AreSights t.sights.items × AreAlike t.moves t.alike.items
         × ArePawnMasks t.moves White t.white_pawns × ArePawnMasks t.moves Black t.black_pawns
-        × AreRegions t.moves.flag_region t.flag_regions × AreRegions t.moves.drop_region t.drop_regions
+        × AreSideRegions t.moves.flag_region t.flag_regions × AreSideRegions t.moves.drop_region t.drop_regions
         × (t.castling ≡ castling_on t.moves) };
 }
 
@@ -81,9 +81,9 @@ pub fn cell_on(cells: &[Option<Cell>; 120], at: u8) -> Option<Cell>
 }
 
 impl Tables {
-    /// The tables of the rules, or `Memory`. They take some 1.2 MB for a spot of each side, kind, mode and square of the largest board,
-    /// and for each line of a slider or hopper from such a square, as for each jump of a lame leaper, 32 bytes more: a queen takes some
-    /// 120 KB, 24 queens some 3 MB.
+    /// The tables of the rules, or `Memory`. They take some 1.2 MB for a spot of each side, kind, mode and square of
+    /// the largest board, and for each line of a slider or hopper from such a square, as for each jump of a lame
+    /// leaper, 32 bytes more: a queen takes some 120 KB, 24 queens some 3 MB.
     pub fn new(alloc: Global, rules: &Rules) -> Result<Tables, Memory>
         requires { IsFit rules.now }
         ensures { IfOk result (λ t. t ≡ rules.now) }
@@ -141,9 +141,9 @@ impl Tables {
         occupied(&p.cells)
     }
 
-    /// The squares that a piece of the kind and the side reaches from the square by its terms of the mode, on a board whose occupied
-    /// squares are those of the set: rule Reach, and the pawn's two diagonals to take. A soldier below its rank goes along its file
-    /// alone, and no piece leaves its mobility region. No memory is taken.
+    /// The squares that a piece of the kind and the side reaches from the square by its terms of the mode, on a board
+    /// whose occupied squares are those of the set: rule Reach, and the pawn's two diagonals to take. A soldier below
+    /// its rank goes along its file alone, and no piece leaves its mobility region. No memory is taken.
     pub fn reach_set(&self, by: Side, kind: Kind, from: Square, mode: Mode, occupied: Set) -> Set
         requires kind { kind.0 < 26 }
         requires from { from.0 < 120 }
@@ -187,8 +187,8 @@ impl Tables {
         quiet.minus(occupied).or(takes.and(enemies))
     }
 
-    /// The squares that the piece reaches from the square in the mode, where these are occupied: one of a kind that no
-    /// variant has reaches none.
+    /// The squares that the piece reaches from the square in the mode, on a board whose occupied squares are those of
+    /// the set. A piece of a kind that no variant has reaches none.
     pub fn reach_of(&self, piece: Cell, from: Square, mode: Mode, occupied: Set) -> Set
         requires { from.0 < 120 }
         ensures { Reached.AreReached self.now piece.side piece.kind from mode occupied result }
@@ -201,9 +201,9 @@ impl Tables {
         }
     }
 
-    /// The squares that the piece on `from` reaches. In `Mode::Quiet` they are those of its quiet terms, in `Mode::Take` those of its
-    /// terms that take; a pawn reaches its two diagonals to take. It does not matter what stands on them. Where nothing stands on `from`
-    /// there are none. No memory is taken.
+    /// The squares that the piece on `from` reaches. In `Mode::Quiet` they are those of its quiet terms, in
+    /// `Mode::Take` those of its terms that take; a pawn reaches its two diagonals to take. It does not matter what
+    /// stands on them. Where nothing stands on `from` there are none. No memory is taken.
     #[tactic(auto, unfolding(move_tables::specs::Reached::reaches_in))]
     pub fn reaches(&self, p: &Position, from: Square, mode: Mode) -> Set
         ensures { (s : ℕ) → has result s ≡ Reached.reaches_in self.now p.now.cells from mode s }
@@ -240,7 +240,8 @@ impl Tables {
         self.sights[at.0 as usize]
     }
 
-    /// Where the pawns of the side go from many squares at once.
+    /// Where the pawns of the side go from many squares at once: from the plain ones, of which no clause says how many
+    /// there are.
     pub fn pawn_masks(&self, side: Side) -> &PawnMasks
         ensures { ArePawnMasks self.now side result.now }
     {
@@ -252,16 +253,14 @@ impl Tables {
 
     /// Where the side's flag piece wins.
     pub fn flag_region(&self, side: Side) -> Set
-        ensures is { (t : ℕ) → has result t ≡ in_region self.now.flag_region side t }
-        ensures on_board { (t : ℕ) → has result t ≡ true → t < 120 }
+        ensures { IsSideRegion self.now.flag_region side result }
     {
         self.flag_regions.of(side)
     }
 
-    /// Where the side's hand pieces are put.
+    /// Where the side's hand pieces may be put.
     pub fn drop_region(&self, side: Side) -> Set
-        ensures is { (t : ℕ) → has result t ≡ in_region self.now.drop_region side t }
-        ensures on_board { (t : ℕ) → has result t ≡ true → t < 120 }
+        ensures { IsSideRegion self.now.drop_region side result }
     {
         self.drop_regions.of(side)
     }

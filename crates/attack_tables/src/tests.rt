@@ -4,7 +4,7 @@ ghost use Rattle.rules_model.specs.Fit.{IsFit};
 use super::*;
 use foundation::Memory;
 use rules_model::{Position, Rules, Side, Square};
-use sample_rules::{chess, generals, kind, position, square, xiangqi};
+use sample_rules::{chess, generals, kind, position, square, wide_chess, xiangqi};
 use square_set::{EMPTY, Set, Shift};
 use std::alloc::Global;
 use std::process::Abort;
@@ -91,8 +91,8 @@ fn some_reach_nothing(rt: HostRuntime) -> Result<(), Memory> {
     Ok(())
 }
 
-// An elephant does not cross the river, a king stays in its palace, a soldier goes sideways after the river, a cannon takes over one
-// piece, and a horse does not leap over the piece at its side.
+// An elephant does not cross the river, a king stays in its palace, a soldier goes sideways after the river, a cannon
+// takes over one piece, and a horse does not leap over the piece at its side.
 #[test]
 fn xiangqi_pieces_reach(rt: HostRuntime) -> Result<(), Memory> {
     let rows: [(&str, Mode, &[&str]); 12] = [
@@ -196,7 +196,8 @@ fn kings_are_attacked(rt: HostRuntime) -> Result<(), Memory> {
     Ok(())
 }
 
-/// Whether the king on a square stands attacked once White moved a piece: by the cells before the move, and the sets after it.
+/// Whether the king on a square stands attacked once White moved a piece: by the cells before the move, and the sets
+/// after it.
 fn is_attacked_after(tables: &Tables, p: &Position, from: Square, to: Square, king: Square) -> bool
     requires from { from.0 < 120 }
     requires to { to.0 < 120 }
@@ -364,6 +365,27 @@ fn chess_pawns_go(rt: HostRuntime) -> Result<(), Memory> {
     Ok(())
 }
 
+/// Chess where no pawn steps twice at once.
+fn single_steps() -> Rules
+    ensures { IsFit result }
+{
+    let mut rules = chess();
+    rules.double_step = false;
+    rules
+}
+
+#[test]
+fn pawns_step_once(rt: HostRuntime) -> Result<(), Memory> {
+    let tables = Tables::new(rt.alloc(), &single_steps())?;
+    for side in [Side::White, Side::Black] {
+        let masks = tables.pawn_masks(side);
+        let plain = masks.plain.and(block("a1", "h8"));
+        assert_eq!(rt; plain.and(masks.twice), EMPTY);
+        assert_eq!(rt; plain.and(masks.once).count(), 48);
+    }
+    Ok(())
+}
+
 // A pawn promotes on the last three ranks.
 #[test]
 fn generals_pawns_go(rt: HostRuntime) -> Result<(), Memory> {
@@ -418,19 +440,10 @@ fn xiangqi_pawns_would_go(rt: HostRuntime) -> Result<(), Memory> {
     Ok(())
 }
 
-/// Chess on twelve files, with regions of eight: from a7 to h7 a pawn promotes, and from i7 where it takes.
-fn wide() -> Rules
-    ensures { IsFit result }
-{
-    let mut rules = chess();
-    rules.files = 12;
-    rules
-}
-
 // On the largest board the number after that of a file l is of a file a: no pawn takes over the edge.
 #[test]
 fn wide_pawns_go(rt: HostRuntime) -> Result<(), Memory> {
-    let tables = Tables::new(rt.alloc(), &wide())?;
+    let tables = Tables::new(rt.alloc(), &wide_chess())?;
     let white = Goers {
         board: ("a1", "l8"),
         side: Side::White,

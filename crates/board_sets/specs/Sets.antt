@@ -11,8 +11,8 @@ use Rattle.rules_model.specs.Next.{cells_after}
 use Rattle.rules_model.specs.Sides.{other}
 use Rattle.rules_model.specs.Squares.{cell_at}
 use Rattle.square_set.specs.declared.Set.{Set}
-use Rattle.square_set.specs.Members.{has}
-use Rattle.move_tables.specs.Occupied.{AreKings, AreMen, IsOccupied, OnSquares}
+use Rattle.square_set.specs.Members.{has, OnSquares}
+use Rattle.move_tables.specs.Occupied.{AreKings, AreMen, IsOccupied}
 use Rattle.board_sets.specs.declared.sets.BoardSets.{BoardSets}
 
 -- a pawn of either side

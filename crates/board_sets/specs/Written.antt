@@ -17,16 +17,16 @@ use Rattle.board_sets.specs.declared.sets.BoardSets.{BoardSets}
 use Rattle.board_sets.specs.Sets.{AreSetsAfter, is_any_pawn}
 
 -- the new set has the squares of the old one, and this one besides where it is wanted
-abbrev pub IsWith : Set → ℕ → Bool → Set → Type 0
-IsWith old at wanted new = (s : ℕ) → has new s ≡ (has old s || (wanted && (s == at)))
+abbrev pub IsWithIf : Set → ℕ → Bool → Set → Type 0
+IsWithIf old at wanted new = (s : ℕ) → has new s ≡ (has old s || (wanted && (s == at)))
 
 -- the square is in each of the sets to which what stands there belongs
 pub record AreWith (rules : Rules) (side : Side) (old : BoardSets) (at : ℕ) (cell : Option Cell) (new : BoardSets) : Type 0 where
-  pub own : IsWith old.own at (is_own side (λ kind. true) cell) new.own
-  pub enemies : IsWith old.enemies at (is_own (other side) (λ kind. true) cell) new.enemies
-  pub kings : IsWith old.kings at (is_own_king rules side cell) new.kings
-  pub enemy_kings : IsWith old.enemy_kings at (is_own_king rules (other side) cell) new.enemy_kings
-  pub pawns : IsWith old.pawns at (is_any_pawn rules cell) new.pawns
+  pub own : IsWithIf old.own at (is_own side (λ kind. true) cell) new.own
+  pub enemies : IsWithIf old.enemies at (is_own (other side) (λ kind. true) cell) new.enemies
+  pub kings : IsWithIf old.kings at (is_own_king rules side cell) new.kings
+  pub enemy_kings : IsWithIf old.enemy_kings at (is_own_king rules (other side) cell) new.enemy_kings
+  pub pawns : IsWithIf old.pawns at (is_any_pawn rules cell) new.pawns
 
 -- the square is in none of the sets
 pub record AreWithout (old : BoardSets) (at : ℕ) (new : BoardSets) : Type 0 where

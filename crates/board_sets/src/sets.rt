@@ -4,7 +4,7 @@ ghost use Rattle.rules_model.specs.Attacks.{is_own};
 ghost use Rattle.square_set.specs.Members.{has};
 ghost use Rattle.board_sets.specs.Sets.{AreSets, AreSetsAfter, AreTurned, IsOccupiedBy, SetsStayOnBoard};
 ghost use Rattle.board_sets.specs.Sets.{HoldsPawns, HoldsPieces, is_any_pawn};
-ghost use Rattle.board_sets.specs.Written.{AreCarried, AreWith, AreWithout, IsCarried, IsWith};
+ghost use Rattle.board_sets.specs.Written.{AreCarried, AreWith, AreWithout, IsCarried, IsWithIf};
 
 use rules_model::attacks::is_own_king;
 use rules_model::kinds::names;
@@ -56,7 +56,7 @@ fn is_pawn(rules: &Rules, cell: Option<Cell>) -> bool
 /// The set, with the square besides where that is wanted.
 fn with_if(set: Set, at: u8, wanted: bool) -> Set
     requires { at < 128 }
-    ensures { IsWith set at wanted result }
+    ensures { IsWithIf set at wanted result }
 {
     if wanted { set.with(at) } else { set }
 }

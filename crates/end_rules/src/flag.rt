@@ -7,7 +7,8 @@ ghost use Rattle.rules_model.specs.Kinds as Kinds;
 use rules_model::kinds::{in_region, names};
 use rules_model::{Cell, Cells, Rules, Side};
 
-fn is_flag_piece(rules: &Rules, side: Side, cell: Option<Cell>) -> bool
+/// Whether the cell holds a piece of the side's flag kind.
+pub fn is_flag_piece(rules: &Rules, side: Side, cell: Option<Cell>) -> bool
     ensures { result ≡ Attacks.is_own side (Kinds.names rules.now.flag_kind) cell }
 {
     match cell {
@@ -37,7 +38,8 @@ fn finds_flag(rules: &Rules, cells: &Cells, side: Side) -> bool
     false
 }
 
-/// Whether a piece of the side's flag kind stands in its flag region. Where the variant has no such kind, no square is looked at.
+/// Whether a piece of the side's flag kind stands in its flag region. Where the variant has no such kind, no square is
+/// looked at.
 pub(crate) fn has_flag(rules: &Rules, cells: &Cells, side: Side) -> bool
     ensures { result ≡ Ends.has_flag rules.now cells.now side }
 {

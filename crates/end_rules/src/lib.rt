@@ -15,6 +15,7 @@ ghost use Rattle.rules_model.specs.Sides.{other};
 use checks::checks_end;
 use extinction::extinction_end;
 use flag::has_flag;
+pub use flag::is_flag_piece;
 use rules_model::{Cause, Outcome, Position, Rules, Side, Value};
 
 /// What a value that a rule names for the side comes to.
@@ -28,7 +29,8 @@ pub(crate) fn valued(value: Value, side: Side, cause: Cause) -> Outcome
     }
 }
 
-/// The same as `early_end`, for a caller who knows whether the side that has moved has its flag piece in its flag region.
+/// The same as `early_end`, for a caller who knows whether the side that has moved has its flag piece in its flag
+/// region.
 #[tactic(auto, unfolding(rules_model::specs::Ends::early_end))]
 pub fn early_end_by(rules: &Rules, p: &Position, flag: bool) -> Outcome
     requires { flag ≡ Ends.has_flag rules.now p.now.cells (other p.now.side) }
@@ -43,17 +45,18 @@ pub fn early_end_by(rules: &Rules, p: &Position, flag: bool) -> Outcome
     }
 }
 
-/// The end that the position has by itself, before its moves are looked at; `Outcome::Ongoing` where it has none. The first of these
-/// that holds: the side that has moved has its flag piece in its flag region; a side has given all its checks; a side has died out
-/// (Fairy-Stockfish's `flagPiece`, `checkCounting`, `extinctionValue` and their kin).
+/// The end that the position has by itself, before its moves are looked at; `Outcome::Ongoing` where it has none. The
+/// first of these that holds: the side that has moved has its flag piece in its flag region; a side has given all its
+/// checks; a side has died out (Fairy-Stockfish's `flagPiece`, `checkCounting`, `extinctionValue` and their kin).
 pub fn early_end(rules: &Rules, p: &Position) -> Outcome
     ensures { result ≡ Ends.early_end rules.now (repeat_of p.now) }
 {
     early_end_by(rules, p, has_flag(rules, &p.cells, p.side.other()))
 }
 
-/// The end where the side to move has no legal move: checkmate where its king is attacked, else stalemate, with the value that the
-/// variant gives to it (FIDE Laws of Chess, articles 5.1.1 and 5.2.1; Fairy-Stockfish's `checkmateValue` and `stalemateValue`).
+/// The end where the side to move has no legal move: checkmate where its king is attacked, else stalemate, with the
+/// value that the variant gives to it (FIDE Laws of Chess, articles 5.1.1 and 5.2.1; Fairy-Stockfish's `checkmateValue`
+/// and `stalemateValue`).
 pub fn no_move(rules: &Rules, side: Side, attacked: bool) -> Outcome
     ensures { result ≡ Ends.no_move rules.now side attacked }
 {

@@ -11,8 +11,8 @@ use Rattle.square_set.specs.declared.Set.{Set}
 use Rattle.square_set.specs.Members.{has, count_below, size}
 use Rattle.square_set.proofs.Cases.{by_equal}
 use Rattle.square_set.proofs.CountLaws.{count_below-zero, count_below-suc}
-use Rattle.move_sink.specs.InTurn.{Goes, target_of}
-use Rattle.legality.specs.Chosen.{ArePassingFrom}
+use Rattle.move_sink.specs.InTurn.{GoesFrom, target_of}
+use Rattle.legality.specs.Chosen.{AreTargetsWhere}
 
 module _ (start : ℕ → Square) (gate : Option Kind) (targets : Set) where
   abbrev pub go : ℕ → Move
@@ -25,7 +25,7 @@ module _ (start : ℕ → Square) (gate : Option Kind) (targets : Set) where
 
   -- a move to a square of the set, below n
   abbrev GoesBelow : ℕ → Move → Type 0
-  GoesBelow n m = Goes start gate targets m × (target_of m < n)
+  GoesBelow n m = GoesFrom start gate targets m × (target_of m < n)
 
   later : (n : ℕ) (m : Move) → GoesBelow n m → GoesBelow (suc n) m
   later n m h = (h.0, omega (arith, h.1))
@@ -69,7 +69,7 @@ module _ (start : ℕ → Square) (gate : Option Kind) (targets : Set) where
 
   -- ---- all of them
 
-  pub goes-lists : ((s : ℕ) → has targets s ≡ true → s < 128) → Lists (Goes start gate targets) (goes_below 128)
+  pub goes-lists : ((s : ℕ) → has targets s ≡ true → s < 128) → Lists (GoesFrom start gate targets) (goes_below 128)
   goes-lists small = record {
     once = goes-once 128;
     sound = λ m h. (goes-sound 128 m h).0;
@@ -83,7 +83,7 @@ module _ (start : ℕ → Square) (gate : Option Kind) (targets : Set) where
   passed test true false x xs k e f = rw e (omega (arith, f))
   passed test false q x xs k e f = omega (arith, f)
 
-  goes-passed : (test : Move → Bool) (those : Set) → ArePassingFrom test start gate targets those → (n : ℕ) → length (filter test (goes_below n)) ≡ count_below (has those) n
+  goes-passed : (test : Move → Bool) (those : Set) → AreTargetsWhere test start gate targets those → (n : ℕ) → length (filter test (goes_below n)) ≡ count_below (has those) n
   unfolding goes_below
   goes-passed test those are zero = sym (count_below-zero (has those))
   goes-passed test those are (suc n) =
@@ -91,5 +91,5 @@ module _ (start : ℕ → Square) (gate : Option Kind) (targets : Set) where
       ∙ ap (λ b. count_below (has those) n + (if b then 1 else 0)) (sym (are (record { 0 = n })))
       ∙ sym (count_below-suc (has those) n)
 
-  pub goes-those : (test : Move → Bool) (those : Set) → ArePassingFrom test start gate targets those → length (filter test (goes_below 128)) ≡ size those
+  pub goes-those : (test : Move → Bool) (those : Set) → AreTargetsWhere test start gate targets those → length (filter test (goes_below 128)) ≡ size those
   goes-those test those are = goes-passed test those are 128

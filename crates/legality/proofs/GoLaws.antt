@@ -17,7 +17,7 @@ use Rattle.square_set.specs.declared.Set.{Set}
 use Rattle.square_set.specs.Members.{has, size}
 use Rattle.square_set.proofs.Cases.{by_bool}
 use Rattle.move_sink.specs.InTurn.{GoesTo, target_of}
-use Rattle.legality.specs.Chosen.{ArePassing, ArePassingFrom, is_chosen, is_fit_move, is_wanted}
+use Rattle.legality.specs.Chosen.{AreTargetsFrom, AreTargetsWhere, is_chosen, is_fit_move, is_wanted}
 use Rattle.legality.specs.Moved.{AreSane, GateAtOnce, GateFreely, GoAtOnce, GoFreely, IsBarred, MayGate, MayGo, MayNotGate, MayNotGo, asks_only_safety}
 use Rattle.legality.proofs.AllGoes.{goes-those, goes_below}
 use Rattle.legality.proofs.SafetyLaws.{not_passing, plain_sane}
@@ -83,7 +83,7 @@ pub chosen_is_sane : (rules : Rules) (r : Repeat) (captures : Bool) (from to : S
 unfolding is_chosen
 chosen_is_sane rules r captures from to only l m = rw (only, fit_go from to l m) refl
 
-pub sane_chosen : (rules : Rules) (r : Repeat) (captures : Bool) (from : Square) (gate : Option Kind) (targets sane : Set) → captures ≡ false → from.0 < 120 → ((s : ℕ) → has targets s ≡ true → s < 120) → gate ≡ None → AreSane rules r from targets sane → ArePassing (is_chosen rules r captures) from gate targets sane
+pub sane_chosen : (rules : Rules) (r : Repeat) (captures : Bool) (from : Square) (gate : Option Kind) (targets sane : Set) → captures ≡ false → from.0 < 120 → ((s : ℕ) → has targets s ≡ true → s < 120) → gate ≡ None → AreSane rules r from targets sane → AreTargetsFrom (is_chosen rules r captures) from gate targets sane
 sane_chosen rules r captures from gate targets sane only l small none are to =
     by_bool (has targets to.0) (has sane to.0 ≡ (has targets to.0 && is_chosen rules r captures (Go from to Stays gate)))
     (λ e.
@@ -137,7 +137,7 @@ in_some None h f = tt
 in_some (Some x) h f = f x h
 
 -- those that are counted at once are as many as the squares
-pub counted_those : (test : Move → Bool) (start : ℕ → Square) (gate : Option Kind) (targets those : Set) (top old more new : ℕ) → more ≡ size those → ArePassingFrom test start gate targets those → new ≡ min (old + more) top → new ≡ min (old + length (filter test (goes_below start gate targets 128))) top
+pub counted_those : (test : Move → Bool) (start : ℕ → Square) (gate : Option Kind) (targets those : Set) (top old more new : ℕ) → more ≡ size those → AreTargetsWhere test start gate targets those → new ≡ min (old + more) top → new ≡ min (old + length (filter test (goes_below start gate targets 128))) top
 counted_those test start gate targets those top old more new e are is =
     let many : length (filter test (goes_below start gate targets 128)) ≡ more = goes-those start gate targets test those are ∙ sym e in
     is ∙ ap (λ n. min (old + n) top) (sym many)

@@ -1,25 +1,22 @@
 -- Moves by a shift, of which it is told at once whether they are sane, and chosen.
-use Rattle.std.proofs.Common.{◌≡◌, ℕ, ◌+◌, ◌-◌, ◌<◌, Bool, true, false, ◌&&◌, ◌||◌, not, nat_le, ◌^◌, ◌⊎◌, inl, inr, None, refl, sym, ap, ◌∙◌, arith}
+use Rattle.std.proofs.Common.{◌≡◌, ℕ, ◌-◌, ◌<◌, Bool, true, false, ◌&&◌, ◌||◌, not, nat_le, ◌^◌, ◌⊎◌, inl, inr, None, refl, sym, ap, ◌∙◌, arith}
 use Rattle.std.proofs.lemmas.Bool.{and_parts, not-true}
 use Rattle.rules_model.specs.declared.board.Repeat.{Repeat}
 use Rattle.rules_model.specs.declared.board.Square.{Square}
-use Rattle.rules_model.specs.declared.moves.Move.{Move}
 use Rattle.rules_model.specs.declared.moves.Move.TheVariants.{Go}
 use Rattle.rules_model.specs.declared.moves.Promo.TheVariants.{Stays}
 use Rattle.rules_model.specs.declared.rules.Rules.{Rules}
-use Rattle.rules_model.specs.Legal.{is_sane}
 use Rattle.square_set.specs.declared.Set.{Set}
 use Rattle.square_set.specs.declared.Shift.{Shift}
 use Rattle.square_set.specs.declared.Shift.TheVariants.{Up, Down}
 use Rattle.square_set.specs.Members.{has, HasOrigin, is_led, origin}
-use Rattle.square_set.proofs.Cases.{by_bool}
 use Rattle.move_sink.specs.InTurn.{GoesBy, target_of}
 use Rattle.move_sink.proofs.TakingLemmas.{all-join}
 use Rattle.legality.specs.declared.count.Counter.{Counter}
 use Rattle.legality.specs.Choices.{chosen_by}
 use Rattle.legality.specs.Counts.{CountsAll}
 use Rattle.legality.specs.Sinks.{counter_is_sink}
-use Rattle.legality.specs.Chosen.{ArePassingBy, is_chosen}
+use Rattle.legality.specs.Chosen.{AreTargetsBy, is_chosen}
 use Rattle.legality.specs.Moved.{GoAtOnce, GoInVain, MayGoBy, MayNotGoBy}
 use Rattle.legality.proofs.GoLaws.{chosen_is_sane, not_chosen}
 use Rattle.legality.proofs.SafetyLaws.{not_safe_not_sane}
@@ -58,7 +55,7 @@ either_way false false t f g = refl
 
 pub told_chosen : (rules : Rules) (r : Repeat) (captures : Bool) (shift : Shift) (targets chosen barred told : Set) → captures ≡ false → ((s : ℕ) → has targets s ≡ true → s < 120)
     → ((s : ℕ) → has targets s ≡ true → HasOrigin shift 120 s) → ((s : ℕ) → has chosen s ≡ true → has targets s ≡ true) → ((s : ℕ) → has barred s ≡ true → has targets s ≡ true)
-    → MayGoBy rules r shift chosen → MayNotGoBy rules r shift barred → ((s : ℕ) → has told s ≡ (has chosen s || has barred s)) → ArePassingBy (is_chosen rules r captures) shift told chosen
+    → MayGoBy rules r shift chosen → MayNotGoBy rules r shift barred → ((s : ℕ) → has told s ≡ (has chosen s || has barred s)) → AreTargetsBy (is_chosen rules r captures) shift told chosen
 told_chosen rules r captures shift targets chosen barred told only small starts of_chosen of_barred may may_not is to =
     let from : Square = record { 0 = origin shift to.0 } in
     either_way (has chosen to.0) (has barred to.0) (is_chosen rules r captures (Go from to Stays None))

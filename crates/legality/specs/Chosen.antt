@@ -66,16 +66,16 @@ only_captures rules r = rules.must_capture && can_go rules r true
 abbrev pub captures_if_forced : Rules → Repeat → Move → Bool
 captures_if_forced rules r m = not (rules.must_capture && can_capture rules r) || captures rules r m
 
--- the set has those of the targets for which the move passes the test: the piece starts where `start` says, stays what it
--- is, and leaves behind what `gate` names
-abbrev pub ArePassingFrom : (Move → Bool) → (ℕ → Square) → Option Kind → Set → Set → Type 0
-ArePassingFrom test start gate targets those =
+-- the set has those of the targets for which the move passes the test: the piece starts where `start` says, stays what
+-- it is, and leaves behind what `gate` names
+abbrev pub AreTargetsWhere : (Move → Bool) → (ℕ → Square) → Option Kind → Set → Set → Type 0
+AreTargetsWhere test start gate targets those =
     (to : Square) → has those to.0 ≡ (has targets to.0 && test (Go (start to.0) to Stays gate))
 
 -- where the piece goes from the one square
-abbrev pub ArePassing : (Move → Bool) → Square → Option Kind → Set → Set → Type 0
-ArePassing test from = ArePassingFrom test (λ to. from)
+abbrev pub AreTargetsFrom : (Move → Bool) → Square → Option Kind → Set → Set → Type 0
+AreTargetsFrom test from = AreTargetsWhere test (λ to. from)
 
 -- where the piece goes by the shift
-abbrev pub ArePassingBy : (Move → Bool) → Shift → Set → Set → Type 0
-ArePassingBy test shift = ArePassingFrom test (λ to. record { 0 = origin shift to }) None
+abbrev pub AreTargetsBy : (Move → Bool) → Shift → Set → Set → Type 0
+AreTargetsBy test shift = AreTargetsWhere test (λ to. record { 0 = origin shift to }) None

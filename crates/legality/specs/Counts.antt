@@ -10,6 +10,6 @@ use Rattle.legality.specs.Sinks.{Counted, Never}
 abbrev pub CountsAll : (Move → Type 0) → Counter → Counter → Type 0
 CountsAll = TakesAll (Counted (λ counter. counter.choice) (λ counter. counter.count) chosen_by (2 ^ 128 - 1))
 
--- it was full, which it never is
+-- holds never: this sink is never full
 abbrev pub IsFull : (Move → Type 0) → Counter → Counter → Type 0
 IsFull = TakesSome Never

@@ -113,7 +113,8 @@ GateInVain rules r own kings enter =
 abbrev pub leaves_another : Rules → Set → Set → Square → Kind → Bool
 leaves_another rules own kings from kind = has own from.0 && not (has kings from.0) && not (is_king rules kind)
 
--- a piece goes from a square of `leave` without a gate, or an own one other than a king leaves such a piece behind
+-- without a gate a piece goes from a square of 'leave'; with one, an own piece other than a king leaves one other than a
+-- king behind
 abbrev pub leaves_in_vain : Rules → Set → Set → Set → Square → Option Kind → Bool
 leaves_in_vain rules own kings leave from None = has leave from.0
 leaves_in_vain rules own kings leave from (Some kind) = leaves_another rules own kings from kind
@@ -156,7 +157,8 @@ MayGo rules r from targets = (to : Square) → to.0 < 120 → has targets to.0 �
 -- to each of the targets a piece that goes by the shift, and stays what it is, makes a sane move
 abbrev pub MayGoBy : Rules → Repeat → Shift → Set → Type 0
 MayGoBy rules r shift targets =
-    (to : Square) → to.0 < 120 → has targets to.0 ≡ true → is_sane rules r (Go (record { 0 = origin shift to.0 }) to Stays None) ≡ true
+    (to : Square) → to.0 < 120 → has targets to.0 ≡ true
+    → is_sane rules r (Go (record { 0 = origin shift to.0 }) to Stays None) ≡ true
 
 -- and one that goes from the square and leaves a piece of the kind behind
 abbrev pub MayGate : Rules → Repeat → Square → Kind → Set → Type 0
@@ -171,7 +173,8 @@ MayNotGo rules r from targets =
 -- nor does one that goes by the shift
 abbrev pub MayNotGoBy : Rules → Repeat → Shift → Set → Type 0
 MayNotGoBy rules r shift targets =
-    (to : Square) → to.0 < 120 → has targets to.0 ≡ true → is_sane rules r (Go (record { 0 = origin shift to.0 }) to Stays None) ≡ false
+    (to : Square) → to.0 < 120 → has targets to.0 ≡ true
+    → is_sane rules r (Go (record { 0 = origin shift to.0 }) to Stays None) ≡ false
 
 -- nor one that goes from the square and leaves a piece of the kind behind
 abbrev pub MayNotGate : Rules → Repeat → Square → Kind → Set → Type 0

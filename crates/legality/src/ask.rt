@@ -62,8 +62,8 @@ pub fn any_legal(rules: &Rules, tables: &Tables, p: &Position) -> bool
     can_go(rules, tables, p, &sets, false)
 }
 
-/// The end that the position has by itself: an early end, or that no move is legal; `Outcome::Ongoing` where there is none. No memory
-/// is taken.
+/// The end that the position has by itself: an early end, or that no move is legal; `Outcome::Ongoing` where there is
+/// none. No memory is taken.
 #[tactic(auto, unfolding(rules_model::specs::Legal::own_end))]
 pub fn own_end(rules: &Rules, tables: &Tables, p: &Position) -> Outcome
     requires ready { IsReady rules.now tables.now p.now }
@@ -117,8 +117,8 @@ fn is_lawful(rules: &Rules, tables: &Tables, p: &Position, sets: &BoardSets, m: 
         && is_wanted(rules, tables, p, sets, m)
 }
 
-/// Whether the move is legal: whether `legal_moves` lists it. Every value of `Move` may be asked for. No memory is taken, and no other
-/// move is looked at but where one must capture and this move does not.
+/// Whether the move is legal: whether `legal_moves` lists it. Every value of `Move` may be asked for. No memory is
+/// taken, and no other move is looked at but where one must capture and this move does not.
 pub fn is_legal(rules: &Rules, tables: &Tables, p: &Position, m: &Move) -> bool
     requires ready { IsReady rules.now tables.now p.now }
     ensures is { result ≡ Allowed.is_legal rules.now (repeat_of p.now) m.now }

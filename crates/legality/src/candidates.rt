@@ -1,4 +1,5 @@
-//! The candidates: the moves that meet the rules of movement, before the safety of kings and the rules of choice are looked at.
+//! The candidates: the moves that meet the rules of movement, before the safety of kings and the rules of choice are
+//! looked at.
 ghost use Rattle.std.specs.Prelude.{◌≡◌, true, OnOk, OnErr, length, slice_index_or};
 ghost use Rattle.rules_model.specs.Regions.{no_region};
 ghost use Rattle.rules_model.specs.Sides.{side_index};

@@ -4,10 +4,8 @@ ghost use Rattle.std.specs.Bool.{OnTrue};
 ghost use Rattle.square_set.specs.Members.{has, length_of, HasOrigin};
 ghost use Rattle.rules_model.specs.declared.moves.Move.{Move};
 ghost use Rattle.move_sink.specs.InTurn.{GoesTo};
-ghost use Rattle.rules_model.specs.Legal as Legal;
 ghost use Rattle.legality.specs.Chosen as Chosen;
 ghost use Rattle.rules_model.specs.Moves.{IsFitMove};
-ghost use Rattle.rules_model.specs.Repeats.{repeat_of};
 
 use crate::capture::captures;
 use crate::safety::Safety;
@@ -66,7 +64,7 @@ pub(crate) fn is_fit_move(m: &Move) -> bool
 
 /// Of the targets of moves by a shift, those of which it is told at once whether the moves are chosen.
 #[derive(Clone, Copy)]
-pub(crate) struct Told {
+pub(crate) struct ToldTargets {
     pub targets: Set,
     /// Those to which the moves are chosen.
     pub chosen: Set,
@@ -123,7 +121,7 @@ impl<'a> Choice<'a> {
     pub fn chosen_at_once(&self, from: Square, gate: Option<Kind>, targets: Set) -> Option<Set>
         requires from { from.0 < 120 }
         requires targets { (s : ℕ) → has targets s ≡ true → s < 120 }
-        ensures { IfSome result (λ those. Chosen.ArePassing (Choices.chosen_by self.now) from gate targets those) }
+        ensures { IfSome result (λ those. Chosen.AreTargetsFrom (Choices.chosen_by self.now) from gate targets those) }
     {
         if self.holds_all(from, gate, targets) {
             return Some(targets);
@@ -141,22 +139,22 @@ impl<'a> Choice<'a> {
     }
 
     /// Which of the moves by the shift to the targets are chosen, as far as this is told at once.
-    pub fn told_by(&self, shift: Shift, targets: Set) -> Told
+    pub fn told_by(&self, shift: Shift, targets: Set) -> ToldTargets
         requires length { length_of shift < 128 }
         requires targets { (s : ℕ) → has targets s ≡ true → s < 120 }
         requires starts { (s : ℕ) → has targets s ≡ true → HasOrigin shift 120 s }
         ensures within { (s : ℕ) → has result.targets s ≡ true → has targets s ≡ true }
-        ensures chosen { Chosen.ArePassingBy (Choices.chosen_by self.now) shift result.targets result.chosen }
+        ensures chosen { Chosen.AreTargetsBy (Choices.chosen_by self.now) shift result.targets result.chosen }
     {
         if self.captures {
-            return Told {
+            return ToldTargets {
                 targets: EMPTY,
                 chosen: EMPTY,
             };
         }
         let chosen = self.safety.lets_shift(shift, targets);
         let barred = self.safety.bars_shift(shift, targets);
-        Told {
+        ToldTargets {
             targets: chosen.or(barred),
             chosen,
         }

@@ -3,11 +3,11 @@ ghost use Rattle.std.specs.Prelude.{◌≡◌, ◌<◌, ◌^◌, ◌-◌, ℕ, t
 ghost use Rattle.square_set.specs.Members.{has, HasOrigin};
 ghost use Rattle.move_sink.specs.InTurn.{GoesBy};
 ghost use Rattle.legality.specs.Choices.{chosen_by};
-ghost use Rattle.legality.specs.Chosen.{ArePassingBy};
+ghost use Rattle.legality.specs.Chosen.{AreTargetsBy};
 ghost use Rattle.legality.specs.Counts.{CountsAll, IsFull};
 ghost use Rattle.legality.specs.Sinks.{Counted, Never, counter_is_sink};
 
-use crate::choice::{Choice, Told};
+use crate::choice::{Choice, ToldTargets};
 use move_sink::MoveSink;
 use rules_model::{Kind, Move, Promo, Square};
 use square_set::{Set, Shift};
@@ -21,9 +21,9 @@ pub(crate) struct Counter<'a> {
 
 impl<'a> Counter<'a> {
     /// Counts the moves by the shift to the squares of which it is told which are chosen.
-    fn count_told(&mut self, shift: Shift, told: Told)
+    fn count_told(&mut self, shift: Shift, told: ToldTargets)
         requires targets { (s : ℕ) → has told.targets s ≡ true → s < 120 }
-        requires chosen { ArePassingBy (chosen_by self.old.choice) shift told.targets told.chosen }
+        requires chosen { AreTargetsBy (chosen_by self.old.choice) shift told.targets told.chosen }
         ensures { CountsAll (GoesBy shift told.targets) self.old self.new }
     {
         self.count = self.count.saturating_add(u128::from(told.chosen.count()));

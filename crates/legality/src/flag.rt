@@ -1,29 +1,18 @@
 //! Whether the side that has moved has its flag piece in its flag region, by the sets of the board.
 ghost use Rattle.std.specs.Prelude.{◌≡◌};
-ghost use Rattle.rules_model.specs.Attacks.{is_own};
 ghost use Rattle.rules_model.specs.Ends as Ends;
-ghost use Rattle.rules_model.specs.Kinds as Kinds;
 ghost use Rattle.rules_model.specs.Sides.{other};
 ghost use Rattle.board_sets.specs.Sets.{AreSets};
 ghost use Rattle.legality.specs.Flags.{MayHoldFlag};
 
 use attack_tables::{Tables, cell_on};
 use board_sets::BoardSets;
-use rules_model::kinds::names;
-use rules_model::{Cell, Cells, Position, Rules, Side};
+use end_rules::is_flag_piece;
+use rules_model::{Cells, Position, Rules, Side};
 use square_set::Set;
 
-fn is_flag_piece(rules: &Rules, side: Side, cell: Option<Cell>) -> bool
-    ensures { result ≡ is_own side (Kinds.names rules.now.flag_kind) cell }
-{
-    match cell {
-        None => false,
-        Some(cell) => cell.side.is(side) && names(rules.flag_kind, cell.kind),
-    }
-}
-
 /// The squares of its flag region on which the side that has moved has pieces.
-fn reached(tables: &Tables, p: &Position, sets: &BoardSets) -> Set
+fn men_in_flag_region(tables: &Tables, p: &Position, sets: &BoardSets) -> Set
     requires { AreSets tables.now p.now.side p.now.cells sets.now }
     ensures { MayHoldFlag tables.now p.now.cells (other p.now.side) result }
 {
@@ -44,7 +33,8 @@ fn finds_flag(rules: &Rules, cells: &Cells, side: Side, squares: Set) -> bool
     false
 }
 
-/// Whether the side that has moved has its flag piece in its flag region. Where the variant has no such kind, no square is looked at.
+/// Whether the side that has moved has its flag piece in its flag region. Where the variant has no such kind, no square
+/// is looked at.
 pub(crate) fn has_flag(rules: &Rules, tables: &Tables, p: &Position, sets: &BoardSets) -> bool
     requires tables { tables.now ≡ rules.now }
     requires sets { AreSets rules.now p.now.side p.now.cells sets.now }
@@ -52,6 +42,9 @@ pub(crate) fn has_flag(rules: &Rules, tables: &Tables, p: &Position, sets: &Boar
 {
     match rules.flag_kind {
         None => false,
-        Some(_) => finds_flag(rules, &p.cells, p.side.other(), reached(tables, p, sets)),
+        Some(_) => {
+            let men = men_in_flag_region(tables, p, sets);
+            finds_flag(rules, &p.cells, p.side.other(), men)
+        }
     }
 }

@@ -24,7 +24,8 @@ fn keep(choice: &Choice<'_>, moves: &mut [Move]) -> usize
 
 fn keep_items(choice: &Choice<'_>, start: usize, moves: &mut Vec<Move>)
     requires { start ≤ vec_len moves.old }
-    ensures { moves.new.items ≡ take start moves.old.items ++ filter (chosen_by choice.now) (drop start moves.old.items) }
+    ensures { moves.new.items ≡
+        take start moves.old.items ++ filter (chosen_by choice.now) (drop start moves.old.items) }
 {
     let kept = keep(choice, &mut moves[start..]);
     moves.truncate(start + kept);

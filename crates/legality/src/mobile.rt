@@ -7,7 +7,6 @@ ghost use Rattle.rules_model.specs.Legal as Legal;
 ghost use Rattle.rules_model.specs.Moves.{IsFitMove};
 ghost use Rattle.rules_model.specs.Next as Next;
 ghost use Rattle.rules_model.specs.Repeats.{repeat_of};
-ghost use Rattle.rules_model.specs.Squares.{cell_at};
 
 use attack_tables::{Mode, Tables};
 use rules_model::attacks::ahead;
@@ -33,8 +32,8 @@ fn roams(tables: &Tables, side: Side, kind: Kind, from: Square) -> bool
     }
 }
 
-/// Whether a piece of the kind reaches some square of the otherwise empty board, by any term; a pawn, whether there is a square in
-/// front of it.
+/// Whether a piece of the kind reaches some square of the otherwise empty board, by any term; a pawn, whether there is
+/// a square in front of it.
 #[tactic(auto, unfolding(rules_model::specs::Legal::is_mobile))]
 fn is_mobile(tables: &Tables, side: Side, kind: Kind, from: Square) -> bool
     requires { from.0 < 120 }

@@ -1,5 +1,5 @@
 //! The order of a list of moves.
-ghost use Rattle.std.specs.Prelude.{◌≡◌, OnOk};
+ghost use Rattle.std.specs.Prelude.{OnOk};
 ghost use Rattle.std.specs.List.Sorted.{IsPermutation, IsStrictlySortedBy};
 ghost use Rattle.foundation.specs.Member.{IsEachOnce};
 ghost use Rattle.rules_model.specs.MoveText.{move_cmp};

@@ -1,5 +1,5 @@
-//! What is asked of a candidate: that the own king is safe after it, that it gives no check that the variant forbids, and
-//! that the piece can move on.
+//! What is asked of a candidate: that the own king is safe after it, that it gives no check that the variant forbids,
+//! and that the piece can move on.
 ghost use Rattle.std.specs.Prelude.{◌≡◌, ℕ, ◌<◌, true, IfSome};
 ghost use Rattle.std.specs.Bool.{OnTrue};
 ghost use Rattle.square_set.specs.Members.{has, length_of, HasOrigin};
@@ -21,7 +21,7 @@ use next_position::move_pieces;
 use rules_model::kinds::names;
 use rules_model::passing::{is_ep, is_stays};
 use rules_model::sizes::position_sizes;
-use rules_model::{Cells, Kind, Move, Position, Promo, Rules, Square};
+use rules_model::{Cells, Kind, Move, Position, Rules, Square};
 use square_set::{Set, Shift};
 
 /// A position, with what is known of it for all its moves.
@@ -178,8 +178,8 @@ impl<'a> Safety<'a> {
             && !names(self.tables.rules().king, kind)
     }
 
-    /// Whether what goes from the square goes in vain to each square of `vain.to_enter`: from one of `vain.to_leave`, or
-    /// where it leaves another piece behind.
+    /// Whether what goes from the square goes in vain to each square of `vain.to_enter`: from one of `vain.to_leave`,
+    /// or where it leaves another piece behind.
     fn leaves_in_vain(&self, from: Square, gate: Option<Kind>) -> bool
         requires { from.0 < 120 }
         ensures { result ≡ Moved.leaves_in_vain self.now.tables.now self.now.sets.own self.now.sets.kings
@@ -233,7 +233,8 @@ impl<'a> Safety<'a> {
         self.vain.to_leave.has(from.0) && targets.minus(self.vain.to_enter).is_empty()
     }
 
-    /// Of the targets, those to which a piece that goes by the shift, and stays what it is, may go, as is told at once.
+    /// Some of the targets, as far as is told at once: a piece that goes to one of them by the shift, and stays what it
+    /// is, makes a sane move.
     pub fn lets_shift(&self, shift: Shift, targets: Set) -> Set
         requires length { length_of shift < 128 }
         requires starts { (s : ℕ) → has targets s ≡ true → HasOrigin shift 120 s }
@@ -244,7 +245,8 @@ impl<'a> Safety<'a> {
         targets.and(led).minus(self.barred)
     }
 
-    /// Of the targets, those to which a piece that goes by the shift, and stays what it is, may not go, as is told at once.
+    /// Some of the targets, as far as is told at once: a piece that goes to one of them by the shift, and stays what it
+    /// is, makes no sane move.
     pub fn bars_shift(&self, shift: Shift, targets: Set) -> Set
         requires length { length_of shift < 128 }
         requires starts { (s : ℕ) → has targets s ≡ true → HasOrigin shift 120 s }

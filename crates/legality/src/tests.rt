@@ -127,6 +127,8 @@ fn kings_are_kept_safe(rt: HostRuntime) -> Result<(), Fail> {
         // the rook attacks the squares after the king too, and the bishop guards the knight
         ("Ke4 re8 ka1", "e4d3 e4d4 e4d5 e4f3 e4f4 e4f5"),
         ("Ke2 nd3 bf5 kh8", "e2d1 e2d2 e2e3 e2f1 e2f3"),
+        // of two pinned pawns, one goes along its line
+        ("Ke1 Pd2 Pe2 re8 ba5 kh8", "e1d1 e1f1 e1f2 e2e3 e2e4"),
     ];
     have_moves(&rt, rt.alloc(), &chess(), &rows)?;
     // en passant would take both pawns from the rank of the king and a rook
@@ -193,6 +195,11 @@ fn checks_of_chess_are_ended(rt: HostRuntime) -> Result<(), Fail> {
         (
             "Ka8 Pc2 Pd7 Pg7 rh8 kh1",
             "a8a7 a8b7 d7d8b d7d8n d7d8q d7d8r g7g8b g7g8n g7g8q g7g8r g7h8b g7h8n g7h8q g7h8r",
+        ),
+        // other pawns block it by one step and by two, or take it
+        (
+            "Ka4 Pc3 Pe2 Pg3 rh4 kh8",
+            "a4a3 a4a5 a4b3 a4b5 c3c4 e2e4 g3g4 g3h4",
         ),
     ];
     have_moves(&rt, rt.alloc(), &chess(), &rows)?;
@@ -393,6 +400,10 @@ fn games_end(rt: HostRuntime) -> Result<(), Fail> {
     let rows = [
         ("Ka7 kh5", Outcome::Ongoing),
         ("Ka8 kh5", flag),
+        // another piece wins nothing there, alone or beside the king, and no piece on the region of the other side
+        ("Ka7 Rc8 kh5", Outcome::Ongoing),
+        ("Ra8 Kb8 kh5", flag),
+        ("Ka7 kh1", Outcome::Ongoing),
         ("Kf6 Qf7 kf8", mate),
         ("Kf6 Qd5 kf8", Outcome::Ongoing),
         ("Kf7 Pg6 kh8", Outcome::Drawn(Cause::Stalemate)),

@@ -75,8 +75,8 @@ pub(crate) fn free_squares(
     FreeSquares { to_leave, to_enter }
 }
 
-/// The squares from which and to which pieces go in vain. Where no piece attacks a king of the mover, `to_enter` is none.
-/// `barred` are those of own pieces and that of en passant.
+/// The squares from which and to which pieces go in vain. Where no piece attacks a king of the mover, `to_enter` is
+/// empty. `barred` are those of own pieces and that of en passant.
 fn vain_squares(tables: &Tables, p: &Position, sets: &BoardSets, barred: Set) -> VainSquares
     requires sets { AreSets tables.now p.now.side p.now.cells sets.now }
     requires barred { IsBarred (repeat_of p.now) sets.now.own barred }
@@ -140,8 +140,8 @@ fn is_only(set: Set, square: u8) -> bool
     set.has(square) && set.without(square).is_empty()
 }
 
-/// Of the targets, those to which the mover's king may go from the square. Not told where it is not the only king, where
-/// kings fly, where the variant asks more of a move than a safe king, or where a target is barred.
+/// Of the targets, those to which the mover's king may go from the square. Not told where it is not the only king,
+/// where kings fly, where the variant asks more of a move than a safe king, or where a target is barred.
 pub(crate) fn king_at_once(
     tables: &Tables,
     p: &Position,

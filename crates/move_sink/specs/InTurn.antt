@@ -29,15 +29,20 @@ At P square s m = P m × (square m ≡ s)
 abbrev pub Outside : (Move → Type 0) → (Move → ℕ) → Set → Move → Type 0
 Outside P square left m = P m × (has left (square m) ≡ false)
 
--- the moves to the squares of a set, each of the piece on the square at which it starts, which become nothing else and place this there
-abbrev pub Goes : (ℕ → Square) → Option Kind → Set → Move → Type 0
-Goes start gate targets m =
+-- the move by a shift to a square, which becomes nothing else and places nothing
+abbrev pub go_by : Shift → Square → Move
+go_by shift to = Go (record { 0 = origin shift to.0 }) to Stays None
+
+-- the moves to the squares of a set, each of the piece on the square at which it starts, which become nothing else and
+-- place this there
+abbrev pub GoesFrom : (ℕ → Square) → Option Kind → Set → Move → Type 0
+GoesFrom start gate targets m =
     (Go (start (target_of m)) (record { 0 = target_of m }) Stays gate ≡ m) × (has targets (target_of m) ≡ true)
 
 -- the moves of the piece on a square to the squares of a set
 abbrev pub GoesTo : Square → Option Kind → Set → Move → Type 0
-GoesTo from gate = Goes (λ to. from) gate
+GoesTo from gate = GoesFrom (λ to. from) gate
 
 -- the moves by a shift to the squares of a set, which place nothing
 abbrev pub GoesBy : Shift → Set → Move → Type 0
-GoesBy shift = Goes (λ to. record { 0 = origin shift to }) None
+GoesBy shift = GoesFrom (λ to. record { 0 = origin shift to }) None

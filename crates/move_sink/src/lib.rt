@@ -6,7 +6,7 @@ mod tests;
 
 ghost use Rattle.std.specs.Prelude.{◌≡◌, ◌<◌, ℕ, true, List, [], ◌∷◌, ◌++◌, OnOk, OnErr};
 ghost use Rattle.rules_model.specs.declared.moves.Move.{Move};
-ghost use Rattle.square_set.specs.Members.{has, length_of, HasOrigin};
+ghost use Rattle.square_set.specs.Members.{has, length_of, HasOrigin, OnSquares};
 ghost use Rattle.move_sink.specs.InTurn.{GoesTo, GoesBy};
 ghost use Rattle.move_sink.specs.Taking.{IsSink, TakesAll, TakesSome};
 ghost use Rattle.move_sink.specs.Listed.{list_is_sink};
@@ -31,11 +31,11 @@ pub trait MoveSink {
         ensures ok { OnOk result (takes self.old (m ∷ []) self.new) }
         ensures err { OnErr result (TakesSome stops (λ x. x ≡ m) self.old self.new) };
 
-    /// Gives it the moves of the piece on a square to each of these squares, which become nothing else and place `gate` on the square.
-    /// A sink that need not see each of them may do better than to take them one by one.
+    /// Gives it the moves of the piece on a square to each of these squares, which become nothing else and place `gate`
+    /// on the square. A sink that need not see each of them may do better than to take them one by one.
     fn take_all(&mut self, from: Square, gate: Option<Kind>, targets: Set) -> Result<(), Self::Full>
         requires from { from.0 < 120 }
-        requires targets { (s : ℕ) → has targets s ≡ true → s < 120 }
+        requires targets { OnSquares targets }
         ensures ok { OnOk result (TakesAll takes (GoesTo from gate targets) self.old self.new) }
         ensures err { OnErr result (TakesSome stops (GoesTo from gate targets) self.old self.new) }
     {
@@ -51,11 +51,12 @@ pub trait MoveSink {
         Ok(())
     }
 
-    /// Gives it the moves by the shift to each of these squares: each is of the piece on the square from which the shift leads there, which
-    /// becomes nothing else and places nothing. A sink that need not see each of them may do better than to take them one by one.
+    /// Gives it the moves by the shift to each of these squares: each is of the piece on the square from which the
+    /// shift leads there, which becomes nothing else and places nothing. A sink that need not see each of them may do
+    /// better than to take them one by one.
     fn take_shifted(&mut self, shift: Shift, targets: Set) -> Result<(), Self::Full>
         requires length { length_of shift < 128 }
-        requires targets { (s : ℕ) → has targets s ≡ true → s < 120 }
+        requires targets { OnSquares targets }
         requires starts { (s : ℕ) → has targets s ≡ true → HasOrigin shift 120 s }
         ensures ok { OnOk result (TakesAll takes (GoesBy shift targets) self.old self.new) }
         ensures err { OnErr result (TakesSome stops (GoesBy shift targets) self.old self.new) }

@@ -1,5 +1,5 @@
 -- Sets of squares of a board: the occupied ones, those of a side's pieces, and those of its kings.
-use Rattle.std.specs.Prelude.{◌≡◌, ℕ, ◌<◌, true, is_some, Option, List}
+use Rattle.std.specs.Prelude.{◌≡◌, ℕ, true, is_some, Option, List}
 use Rattle.rules_model.specs.declared.board.Cell.{Cell}
 use Rattle.rules_model.specs.declared.board.Side.{Side}
 use Rattle.rules_model.specs.declared.rules.Rules.{Rules}
@@ -19,7 +19,3 @@ AreMen side cells men = (s : ℕ) → has men s ≡ is_own side (λ kind. true) 
 -- the set is that of the squares with a king of the side
 abbrev pub AreKings : Rules → Side → List (Option Cell) → Set → Type 0
 AreKings rules side cells kings = (s : ℕ) → has kings s ≡ is_own_king rules side (cell_at cells s)
-
--- the squares of the set are squares of the largest board
-abbrev pub OnSquares : Set → Type 0
-OnSquares set = (s : ℕ) → has set s ≡ true → s < 120

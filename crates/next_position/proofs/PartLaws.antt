@@ -25,10 +25,10 @@ use Rattle.rules_model.specs.Kinds.{masks}
 use Rattle.rules_model.specs.Squares.{cell_at, flat}
 use Rattle.rules_model.specs.Next.{cells_after, checks_after, enters, ep_after, ep_where, fresh, gated, gates_after, hands_after, is_double_step, keeps_right, leaves, next, next_counter, next_number, next_repeat, promote, rights_after, rook_stays}
 use Rattle.rules_model.proofs.CandidateLaws.{first_below-some, last_below-some}
-use Rattle.next_position.specs.declared.rights.Left.{Left}
-use Rattle.next_position.specs.declared.rights.Left.TheVariants.{All, Of}
+use Rattle.next_position.specs.declared.rights.RightsLeft.{RightsLeft}
+use Rattle.next_position.specs.declared.rights.RightsLeft.TheVariants.{All, OfRooks}
 use Rattle.next_position.specs.declared.rights.Rooks.{Rooks}
-use Rattle.next_position.specs.Parts.{cells_by, checks_left, gates_by, hands_by, held, holds_any, is_apart, is_on_rank, is_outermost, is_passing, passed_over, rights_by, rights_kept, rights_left, rook_left, rooks_left, standing, taken_by}
+use Rattle.next_position.specs.Parts.{cells_by, checks_left, gates_by, hands_by, held, holds_any_right, is_apart, is_on_castling_rank, is_on_rank, is_outermost, is_passing, passed_over, rights_by, rights_kept, rights_left, rook_left, rooks_left, standing, taken_by}
 
 pub cells_after-by : (rules : Rules) (r : Repeat) (m : Move) → cells_after rules r m ≡ cells_by rules r.side (is_passing rules r m) m r.cells
 unfolding cells_after
@@ -103,7 +103,7 @@ and3 true b c P e k = cc
 as_before : (rules : Rules) (side mover : Side) (passing : Bool) (m : Move) (cells : List (Option Cell)) (f : ℕ) → is_apart rules side passing m ≡ true → f < 12
     → cell_at (cells_by rules mover passing m cells) (castling_square rules side f) ≡ cell_at cells (castling_square rules side f)
 as_before rules side mover passing (Go from to promo gate) cells f apart l =
-    and3 passing (is_on_rank (castling_square rules side 0) from.0) (is_on_rank (castling_square rules side 0) to.0) _ apart
+    and3 passing (is_on_castling_rank rules side from.0) (is_on_castling_rank rules side to.0) _ apart
     (λ none left entered.
     rw (
       none,
@@ -112,7 +112,7 @@ as_before rules side mover passing (Go from to promo gate) cells f apart l =
     ))
 as_before rules side mover passing (Castle from to rook gate) cells f apart l = cc
 as_before rules side mover passing (Drop kind to) cells f apart l =
-    unwritten cells to.0 (castling_square rules side f) (Some (fresh mover kind)) (off_rank rules side to.0 f (not-true (is_on_rank (castling_square rules side 0) to.0) apart) l)
+    unwritten cells to.0 (castling_square rules side f) (Some (fresh mover kind)) (off_rank rules side to.0 f (not-true (is_on_castling_rank rules side to.0) apart) l)
 
 same_rook : (rules : Rules) (later cells : List (Option Cell)) (side : Side) → rules.files ≤ 12 → ((f : ℕ) → f < 12 → cell_at later (castling_square rules side f) ≡ cell_at cells (castling_square rules side f))
     → (wing : Wing) → rook_file rules later side wing ≡ rook_file rules cells side wing
@@ -128,18 +128,18 @@ same_rook rules later cells side fit same Queenside =
 
 not_left : (rules : Rules) (side : Side) (passing : Bool) (m : Move) (f : ℕ) → is_apart rules side passing m ≡ true → f < 12 → leaves m (castling_square rules side f) ≡ false
 not_left rules side passing (Go from to promo gate) f apart l =
-    and3 passing (is_on_rank (castling_square rules side 0) from.0) (is_on_rank (castling_square rules side 0) to.0) _ apart
+    and3 passing (is_on_castling_rank rules side from.0) (is_on_castling_rank rules side to.0) _ apart
     (λ none left entered. ne_eqb from.0 (castling_square rules side f) (off_rank rules side from.0 f left l))
 not_left rules side passing (Castle from to rook gate) f apart l = cc
 not_left rules side passing (Drop kind to) f apart l = refl
 
 not_entered : (rules : Rules) (side : Side) (passing : Bool) (m : Move) (f : ℕ) → is_apart rules side passing m ≡ true → f < 12 → enters m (castling_square rules side f) ≡ false
 not_entered rules side passing (Go from to promo gate) f apart l =
-    and3 passing (is_on_rank (castling_square rules side 0) from.0) (is_on_rank (castling_square rules side 0) to.0) _ apart
+    and3 passing (is_on_castling_rank rules side from.0) (is_on_castling_rank rules side to.0) _ apart
     (λ none left entered. ne_eqb to.0 (castling_square rules side f) (off_rank rules side to.0 f entered l))
 not_entered rules side passing (Castle from to rook gate) f apart l = cc
 not_entered rules side passing (Drop kind to) f apart l =
-    ne_eqb to.0 (castling_square rules side f) (off_rank rules side to.0 f (not-true (is_on_rank (castling_square rules side 0) to.0) apart) l)
+    ne_eqb to.0 (castling_square rules side f) (off_rank rules side to.0 f (not-true (is_on_castling_rank rules side to.0) apart) l)
 
 rook_within : (rules : Rules) (cells : List (Option Cell)) (side : Side) (wing : Wing) (file : ℕ) → rook_file rules cells side wing ≡ Some file → file < rules.files
 unfolding rook_file
@@ -182,7 +182,7 @@ apart_or_none false false apart e = ((λ h. cc), (λ h. cc))
 -- where the side holds no right or the move is apart from its castling rank, it keeps the rights that it has
 all_kept : (rules : Rules) (r : Repeat) (m : Move) (passing : Bool) (side : Side) → IsFit rules
     → ((wing : Wing) → holds_right r.rights side wing ≡ true → is_some (rook_file rules r.cells side wing) ≡ true)
-    → (not (holds_any r.rights side) || is_apart rules side passing m) ≡ true
+    → (not (holds_any_right r.rights side) || is_apart rules side passing m) ≡ true
     → held r.rights side ≡ rights_by rules (cells_by rules r.side passing m r.cells) side (rooks_left rules r m side)
 all_kept rules r m passing side fit stands e =
     let apart = apart_or_none (holds_right r.rights side Kingside) (holds_right r.rights side Queenside) (is_apart rules side passing m) e in
@@ -191,18 +191,18 @@ all_kept rules r m passing side fit stands e =
     λ i. kingside i ∷ queenside i ∷ []
 
 by_left : (rules : Rules) (later : List (Option Cell)) (rights : List (List Bool)) (side : Side) (rooks : Rooks) (all : Bool)
-    → (all ≡ true → held rights side ≡ rights_by rules later side rooks) → rights_kept rules later rights side (if all then All else Of rooks) ≡ rights_by rules later side rooks
+    → (all ≡ true → held rights side ≡ rights_by rules later side rooks) → rights_kept rules later rights side (if all then All else OfRooks rooks) ≡ rights_by rules later side rooks
 by_left rules later rights side rooks true same = same refl
 by_left rules later rights side rooks false same = refl
 
 -- the rights of a side as the code finds them
 pub rights_written : (rules : Rules) (r : Repeat) (m : Move) (later : List (Option Cell)) (passing : Bool) (side : Side) → IsFit rules
     → ((wing : Wing) → holds_right r.rights side wing ≡ true → is_some (rook_file rules r.cells side wing) ≡ true)
-    → later ≡ cells_by rules r.side passing m r.cells → {rest : Left} {kept : List Bool} → rest ≡ rights_left rules r passing m side
+    → later ≡ cells_by rules r.side passing m r.cells → {rest : RightsLeft} {kept : List Bool} → rest ≡ rights_left rules r passing m side
     → kept ≡ rights_kept rules later r.rights side rest → kept ≡ rights_by rules later side (rooks_left rules r m side)
 rights_written rules r m later passing side fit stands cells rest_is kept_is =
     kept_is ∙ rw (rest_is, cells)
-    (by_left rules (cells_by rules r.side passing m r.cells) r.rights side (rooks_left rules r m side) (not (holds_any r.rights side) || is_apart rules side passing m)
+    (by_left rules (cells_by rules r.side passing m r.cells) r.rights side (rooks_left rules r m side) (not (holds_any_right r.rights side) || is_apart rules side passing m)
     (all_kept rules r m passing side fit stands))
 
 -- ---- the position

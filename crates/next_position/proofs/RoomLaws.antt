@@ -17,7 +17,7 @@ use Rattle.rules_model.specs.Hands.{hand_of, in_hand}
 use Rattle.rules_model.specs.Ends.{pieces_of}
 use Rattle.rules_model.specs.Castling.{holds_right, rook_file}
 use Rattle.rules_model.specs.Sound.{is_sound, is_sound_repeat, is_sound_side, sound_right, sound_rook}
-use Rattle.next_position.specs.Room.{HasRoom, HoldsRooks}
+use Rattle.next_position.specs.Room.{HasRoom, RightsHaveRooks}
 
 within_sum : (xs : List ℕ) (k : ℕ) → slice_index xs k ≤ sum xs
 within_sum xs k =
@@ -90,7 +90,7 @@ rook_stands : (rules : Rules) (r : Repeat) (side : Side) (wing : Wing) → sound
 unfolding sound_right
 rook_stands rules r side wing e h = a_rook rules r.gates side (rook_file rules r.cells side wing) (and_parts _ _ (where_held (holds_right r.rights side wing) _ e h)).1
 
-pub sound_holds_rooks : (rules : Rules) (p : Position) → is_sound rules p ≡ true → HoldsRooks rules p
+pub sound_holds_rooks : (rules : Rules) (p : Position) → is_sound rules p ≡ true → RightsHaveRooks rules p
 unfolding is_sound
 sound_holds_rooks rules p e =
     let r = repeat_of p in

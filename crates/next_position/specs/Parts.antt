@@ -1,6 +1,7 @@
 -- The parts of the position after a move, each by what it takes from the position before it: what a part of the code can see
 -- while the position changes in place.
-use Rattle.std.specs.Prelude.{ℕ, ◌+◌, ◌-◌, List, [], ◌∷◌, Bool, false, ◌&&◌, ◌||◌, not, nat_le, nat_lt, if◌then◌else◌, Option, Some, None, slice_index, slice_set}
+use Rattle.std.specs.Prelude.{ℕ, ◌+◌, ◌-◌, List, [], ◌∷◌, Bool, false, ◌&&◌, ◌||◌, not, nat_le, nat_lt}
+use Rattle.std.specs.Prelude.{if◌then◌else◌, Option, Some, None, slice_index, slice_set}
 use Rattle.rules_model.specs.declared.board.Cell.{Cell}
 use Rattle.rules_model.specs.declared.board.Repeat.{Repeat}
 use Rattle.rules_model.specs.declared.board.Side.{Side}
@@ -11,8 +12,8 @@ use Rattle.rules_model.specs.declared.board.Wing.TheVariants.{Kingside, Queensid
 use Rattle.rules_model.specs.declared.moves.Move.{Move}
 use Rattle.rules_model.specs.declared.moves.Move.TheVariants.{Go, Castle, Drop}
 use Rattle.rules_model.specs.declared.rules.Rules.{Rules}
-use Rattle.next_position.specs.declared.rights.Left.{Left}
-use Rattle.next_position.specs.declared.rights.Left.TheVariants.{All, Of}
+use Rattle.next_position.specs.declared.rights.RightsLeft.{RightsLeft}
+use Rattle.next_position.specs.declared.rights.RightsLeft.TheVariants.{All, OfRooks}
 use Rattle.next_position.specs.declared.rights.Rooks.{Rooks}
 use Rattle.rules_model.specs.Squares.{cell_at}
 use Rattle.rules_model.specs.Reach.{is_at}
@@ -86,32 +87,39 @@ abbrev pub rights_by : Rules → List (Option Cell) → Side → Rooks → List 
 rights_by rules later side rooks =
     is_outermost rooks.kingside (rook_file rules later side Kingside) ∷ is_outermost rooks.queenside (rook_file rules later side Queenside) ∷ []
 
--- the square is of the rank that begins with the square first
+-- the square is of the rank that begins with the square 'first'
 abbrev pub is_on_rank : ℕ → ℕ → Bool
 is_on_rank first s = nat_le first s && nat_lt s (first + 12)
+
+-- the square is of the side's castling rank
+abbrev pub is_on_castling_rank : Rules → Side → ℕ → Bool
+is_on_castling_rank rules side s = is_on_rank (castling_square rules side 0) s
 
 -- the move leaves alone all squares of the side's castling rank, as is plain at once
 abbrev pub is_apart : Rules → Side → Bool → Move → Bool
 is_apart rules side passing (Go from to promo gate) =
-    not passing && not (is_on_rank (castling_square rules side 0) from.0) && not (is_on_rank (castling_square rules side 0) to.0)
+    not passing && not (is_on_castling_rank rules side from.0) && not (is_on_castling_rank rules side to.0)
 is_apart rules side passing (Castle from to rook gate) = false
-is_apart rules side passing (Drop kind to) = not (is_on_rank (castling_square rules side 0) to.0)
+is_apart rules side passing (Drop kind to) = not (is_on_castling_rank rules side to.0)
 
-abbrev pub holds_any : List (List Bool) → Side → Bool
-holds_any rights side = holds_right rights side Kingside || holds_right rights side Queenside
+-- the side holds a castling right
+abbrev pub holds_any_right : List (List Bool) → Side → Bool
+holds_any_right rights side = holds_right rights side Kingside || holds_right rights side Queenside
 
--- what rights the move leaves to the side: all that it has, where it has none or the move is apart from its castling rank
-abbrev pub rights_left : Rules → Repeat → Bool → Move → Side → Left
-rights_left rules r passing m side = if not (holds_any r.rights side) || is_apart rules side passing m then All else Of (rooks_left rules r m side)
+-- what rights the move leaves to the side: all that it has, where it has none or the move is apart from its castling
+-- rank
+abbrev pub rights_left : Rules → Repeat → Bool → Move → Side → RightsLeft
+rights_left rules r passing m side =
+    if not (holds_any_right r.rights side) || is_apart rules side passing m then All else OfRooks (rooks_left rules r m side)
 
 -- the rights that the side holds
 abbrev pub held : List (List Bool) → Side → List Bool
 held rights side = holds_right rights side Kingside ∷ holds_right rights side Queenside ∷ []
 
 -- a side's rights after the move, by those before it and by what it left
-abbrev pub rights_kept : Rules → List (Option Cell) → List (List Bool) → Side → Left → List Bool
+abbrev pub rights_kept : Rules → List (Option Cell) → List (List Bool) → Side → RightsLeft → List Bool
 rights_kept rules later rights side All = held rights side
-rights_kept rules later rights side (Of rooks) = rights_by rules later side rooks
+rights_kept rules later rights side (OfRooks rooks) = rights_by rules later side rooks
 
 -- ---- gates
 

@@ -1,4 +1,5 @@
--- What a move asks of a position: that the position after it is one that the machine can write, and that rights are of rooks.
+-- What a move asks of a position: that the position after it is one that the machine can write, and that rights are of
+-- rooks.
 use Rattle.std.specs.Prelude.{◌≡◌, ◌<◌, true, is_some}
 use Rattle.rules_model.specs.declared.board.Kind.{Kind}
 use Rattle.rules_model.specs.declared.board.Position.{Position}
@@ -13,5 +14,6 @@ pub record HasRoom (p : Position) : Type 0 where
   pub hands : (kind : Kind) → in_hand p.hands p.side kind < 255
 
 -- each castling right is of a rook that stands
-pub record HoldsRooks (rules : Rules) (p : Position) : Type 0 where
-  pub stands : (side : Side) (wing : Wing) → holds_right p.rights side wing ≡ true → is_some (rook_file rules p.cells side wing) ≡ true
+pub record RightsHaveRooks (rules : Rules) (p : Position) : Type 0 where
+  pub stands : (side : Side) (wing : Wing)
+      → holds_right p.rights side wing ≡ true → is_some (rook_file rules p.cells side wing) ≡ true

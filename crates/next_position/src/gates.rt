@@ -1,5 +1,5 @@
 //! The gates after a move.
-ghost use Rattle.std.specs.Prelude.{◌≡◌, ◌<◌, ◌≤◌};
+ghost use Rattle.std.specs.Prelude.{◌≡◌, ◌<◌};
 ghost use Rattle.rules_model.specs.Fit.{IsFit};
 ghost use Rattle.rules_model.specs.Gates as Gates;
 ghost use Rattle.rules_model.specs.Moves.{IsFitMove};

@@ -9,7 +9,7 @@ ghost use Rattle.rules_model.specs.Moves.{IsFitMove};
 ghost use Rattle.rules_model.specs.Next as Next;
 ghost use Rattle.rules_model.specs.Repeats.{repeat_of};
 ghost use Rattle.rules_model.specs.Sound.{is_sound};
-ghost use Rattle.next_position.specs.Room.{HasRoom, HoldsRooks};
+ghost use Rattle.next_position.specs.Room.{HasRoom, RightsHaveRooks};
 
 mod counts;
 mod gates;
@@ -44,7 +44,7 @@ pub fn make_but_checks(rules: &Rules, p: &mut Position, m: &Move)
     requires rules { IsFit rules.now }
     requires fit { IsFitMove m.now }
     requires room { HasRoom p.old }
-    requires rooks { HoldsRooks rules.now p.old }
+    requires rooks { RightsHaveRooks rules.now p.old }
     ensures { p.new ≡ record (Next.next rules.now p.old m.now) { checks = p.old.checks } }
 {
     let side = p.side;
@@ -72,7 +72,7 @@ pub fn make_move(rules: &Rules, p: &mut Position, m: &Move)
     requires rules { IsFit rules.now }
     requires fit { IsFitMove m.now }
     requires room { HasRoom p.old }
-    requires rooks { HoldsRooks rules.now p.old }
+    requires rooks { RightsHaveRooks rules.now p.old }
     ensures { p.new ≡ Next.next rules.now p.old m.now }
 {
     let side = p.side;
@@ -84,5 +84,5 @@ pub fn make_move(rules: &Rules, p: &mut Position, m: &Move)
 /// A sound position meets what a move asks of it: there is room in the hand, and a rook stands where there is a right.
 pub fn sound_positions_take_moves()
     ensures room { (rules : Rules) (p : Position) → is_sound rules p ≡ true → HasRoom p }
-    ensures rooks { (rules : Rules) (p : Position) → is_sound rules p ≡ true → HoldsRooks rules p }
+    ensures rooks { (rules : Rules) (p : Position) → is_sound rules p ≡ true → RightsHaveRooks rules p }
 {}

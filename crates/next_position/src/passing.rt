@@ -3,7 +3,6 @@ ghost use Rattle.std.specs.Prelude.{◌≡◌, ◌<◌};
 ghost use Rattle.rules_model.specs.Fit.{IsFit};
 ghost use Rattle.rules_model.specs.Moves.{IsFitMove};
 ghost use Rattle.rules_model.specs.Next as Next;
-ghost use Rattle.rules_model.specs.Pawns as Pawns;
 ghost use Rattle.rules_model.specs.Repeats.{repeat_of};
 ghost use Rattle.next_position.specs.Parts as Parts;
 

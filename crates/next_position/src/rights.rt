@@ -8,7 +8,7 @@ ghost use Rattle.rules_model.specs.Repeats.{repeat_of};
 ghost use Rattle.next_position.specs.Parts as Parts;
 
 use rules_model::castling::{castling_square, holds_right, rook_file, rook_target};
-use rules_model::{Cells, Move, Position, Rules, Side, Square, Wing};
+use rules_model::{Cells, FILES, Move, Position, Rules, Side, Square, Wing};
 
 /// The files of the rooks with which a side may still castle, as far as what it had before the move tells.
 #[derive(Clone, Copy)]
@@ -20,9 +20,9 @@ pub(crate) struct Rooks {
 /// The rights that a move leaves to a side: all that it has, or those of these rooks, where they still are the
 /// outermost ones.
 #[derive(Clone, Copy)]
-pub(crate) enum Left {
+pub(crate) enum RightsLeft {
     All,
-    Of(Rooks),
+    OfRooks(Rooks),
 }
 
 /// Whether the move leaves the square.
@@ -88,7 +88,7 @@ fn is_on_rank(first: u8, at: Square) -> bool
     requires { first < 120 }
     ensures { result ≡ Parts.is_on_rank first at.0 }
 {
-    first <= at.0 && at.0 < first + 12
+    first <= at.0 && at.0 < first + FILES
 }
 
 /// Whether the move plainly leaves alone all squares of the side's castling rank. `passing` says whether it takes a
@@ -106,23 +106,29 @@ fn is_apart(rules: &Rules, side: Side, passing: bool, m: &Move) -> bool
 }
 
 /// Whether the side holds a castling right.
-fn holds_any(rights: &[[bool; 2]; 2], side: Side) -> bool
-    ensures { result ≡ Parts.holds_any rights.now side }
+fn holds_any_right(rights: &[[bool; 2]; 2], side: Side) -> bool
+    ensures { result ≡ Parts.holds_any_right rights.now side }
 {
     holds_right(rights, side, Wing::Kingside) || holds_right(rights, side, Wing::Queenside)
 }
 
 /// What rights the move leaves to the side. Rooks are looked for only where the side holds a right, and the move is not
 /// apart from its castling rank. `passing` says whether it takes a pawn in passing.
-pub(crate) fn rights_left(rules: &Rules, p: &Position, passing: bool, m: &Move, side: Side) -> Left
+pub(crate) fn rights_left(
+    rules: &Rules,
+    p: &Position,
+    passing: bool,
+    m: &Move,
+    side: Side,
+) -> RightsLeft
     requires rules { IsFit rules.now }
     requires fit { IsFitMove m.now }
     ensures { result ≡ Parts.rights_left rules.now (repeat_of p.now) passing m.now side }
 {
-    if !holds_any(&p.rights, side) || is_apart(rules, side, passing, m) {
-        return Left::All;
+    if !holds_any_right(&p.rights, side) || is_apart(rules, side, passing, m) {
+        return RightsLeft::All;
     }
-    Left::Of(Rooks {
+    RightsLeft::OfRooks(Rooks {
         kingside: rook_left(rules, p, m, side, Wing::Kingside),
         queenside: rook_left(rules, p, m, side, Wing::Queenside),
     })
@@ -154,17 +160,17 @@ pub(crate) fn rights_kept(
     cells: &Cells,
     rights: &[[bool; 2]; 2],
     side: Side,
-    left: Left,
+    left: RightsLeft,
 ) -> [bool; 2]
     requires { IsFit rules.now }
     ensures { result ≡ Parts.rights_kept rules.now cells.now rights.now side left }
 {
     match left {
-        Left::All => [
+        RightsLeft::All => [
             holds_right(rights, side, Wing::Kingside),
             holds_right(rights, side, Wing::Queenside),
         ],
-        Left::Of(rooks) => [
+        RightsLeft::OfRooks(rooks) => [
             is_outermost(rules, cells, side, Wing::Kingside, rooks.kingside),
             is_outermost(rules, cells, side, Wing::Queenside, rooks.queenside),
         ],

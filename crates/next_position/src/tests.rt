@@ -289,6 +289,9 @@ fn rights_of_inner_rooks(rt: HostRuntime) {
     leads_to(&rt, &rules, &p, &drop(kind(b'r'), "h1"), &next);
     next = set(placed, "Rb1 Ke1 Rg1 Ra2 Sc2 ra8 ke8 rh8");
     leads_to(&rt, &rules, &p, &drop(kind(b'r'), "a2"), &next);
+    // and further in, where no right is of the rook
+    next = set(placed, "Rb1 Rc1 Ke1 Rg1 Sc2 ra8 ke8 rh8");
+    leads_to(&rt, &rules, &p, &drop(kind(b'r'), "c1"), &next);
 }
 
 #[test]

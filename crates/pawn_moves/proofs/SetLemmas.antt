@@ -1,22 +1,22 @@
 -- The moves by shifts between sets of squares.
-use Rattle.std.proofs.Common.{◌≡◌, ◌≢◌, ℕ, ◌-◌, ◌^◌, ◌<◌, ◌==◌, nat_lt, Bool, true, ◌&&◌, not, Option, Some, None, List, is_none, is_some, refl, ap, sym, ◌∙◌, subst, arith}
-use Rattle.std.proofs.lemmas.Bool.{and_from, and_parts, le-ltb, lt-ltb, ltb-true}
+use Rattle.std.proofs.Common.{◌≡◌, ◌≢◌, ℕ, ◌-◌, ◌^◌, ◌<◌, ◌==◌, nat_lt, Bool, true, ◌&&◌, ◌||◌, not, ⊎_elim, Option, Some, None, List, is_none, is_some, refl, ap, sym, ◌∙◌, subst, arith}
+use Rattle.std.proofs.lemmas.Bool.{and_from, and_parts, le-ltb, lt-ltb, ltb-true, or_cases, or_left, or_right}
 use Rattle.std.proofs.lemmas.Nat.Bits.{bit_at_above, bit_at_ones}
 use Rattle.rules_model.specs.declared.board.Cell.{Cell}
+use Rattle.rules_model.specs.declared.board.Square.{Square}
 use Rattle.rules_model.specs.declared.moves.Move.{Move}
 use Rattle.rules_model.specs.declared.moves.Promo.TheVariants.{Stays}
+use Rattle.rules_model.specs.Pawns.{is_ep}
 use Rattle.rules_model.specs.Squares.{cell_at}
 use Rattle.square_set.specs.declared.Set.{Set}
 use Rattle.square_set.specs.declared.Shift.{Shift}
-use Rattle.square_set.specs.Members.{bit, has, is_led, leads, length_of, origin, HasOrigin}
+use Rattle.square_set.specs.Members.{bit, has, is_led, leads, length_of, origin, twice, HasOrigin, IsWith, OnSquares}
 use Rattle.square_set.proofs.Cases.{by_order}
-use Rattle.move_tables.specs.Occupied.{OnSquares}
 use Rattle.attack_tables.specs.declared.pawns.PawnMasks.{PawnMasks}
-use Rattle.attack_tables.specs.PawnMasks.{twice}
 use Rattle.move_sink.specs.InTurn.{GoesBy, start_of, target_of}
 use Rattle.pawn_moves.specs.Parts.{go}
-use Rattle.pawn_moves.specs.Shifted.{AreFree, AreOrigins, IsBy, IsOnce, IsTwiceOver, IsLeft, IsRight}
-use Rattle.pawn_moves.proofs.ShiftLemmas.{halves, has_origin, led_from, led_to, lengths_differ, once_or_twice, origin_is}
+use Rattle.pawn_moves.specs.Shifted.{AreFree, HasPassers, IsBy, IsOnce, IsTwiceOver, IsLeft, IsRight}
+use Rattle.pawn_moves.proofs.ShiftLemmas.{halves, has_origin, led_from, led_to, lengths_differ, once_or_twice, origin_is, AreOrigins}
 
 -- ---- the squares with no piece
 
@@ -67,6 +67,20 @@ module _ (shift : Shift) (starts ends led targets : Set) (led_is : (t : ℕ) →
       let l : t < 120 = on_ends t h.3 in
       let led_to_it = led_is t (omega (arith, l)) ∙ led_to shift starts (start_of m) t h.1 h.2 in
       (subst (λ s. go (record { 0 = s }) (record { 0 = t }) Stays ≡ m) (sym (origin_is shift (start_of m) t h.1)) h.0, both t ∙ and_from (has led t) (has ends t) led_to_it h.3)
+
+-- ---- the squares from which a pawn may pass another
+
+-- the one square of the set is that of en passant
+ep_there : (ep : Square) (none at : Set) → IsWith none ep.0 at → (t : ℕ) → is_ep (Some ep) t ≡ true → has at t ≡ true
+ep_there ep none at is t e = is t ∙ or_right (has none t) (t == ep.0) (grind arith)
+
+pub passers_are : (masks : PawnMasks) (ep : Square) (none at left right passers : Set) → IsWith none ep.0 at → AreOrigins masks.leftward at left → AreOrigins masks.rightward at right
+    → ((s : ℕ) → has passers s ≡ (has left s || has right s)) → HasPassers masks (Some ep) passers
+passers_are masks ep none at left right passers is lefts rights are s t l m e f =
+    are s ∙ ⊎_elim
+    (λ h. or_left (has left s) (has right s) (lefts s t (omega (arith, l)) h ∙ ep_there ep none at is t e))
+    (λ h. or_right (has left s) (has right s) (rights s t (omega (arith, l)) h ∙ ep_there ep none at is t e))
+    (or_cases (leads masks.leftward s t) (leads masks.rightward s t) f)
 
 -- ---- moves by a shift from the squares that pass another test
 

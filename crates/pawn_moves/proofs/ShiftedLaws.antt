@@ -1,5 +1,5 @@
 -- The moves of the pawns that go together are all moves of these pawns.
-use Rattle.std.proofs.Common.{◌≡◌, ℕ, ◌<◌, nat_lt, Bool, true, false, not, ◌&&◌, ◌||◌, inl, inr, ⊎_elim, Option, Some, None, is_none, pos, refl, ap, sym, ◌∙◌, subst}
+use Rattle.std.proofs.Common.{◌≡◌, ℕ, ◌<◌, nat_lt, Bool, true, false, not, ◌&&◌, ◌||◌, ◌⊎◌, inl, inr, ⊎_elim, Option, Some, None, is_none, pos, refl, ap, sym, ◌∙◌, subst}
 use Rattle.std.proofs.lemmas.Bool.{and_from, and_parts, false_from_ne_true, lt-ltb, ltb-true, or_cases, or_left, or_right}
 use Rattle.rules_model.specs.declared.board.Cell.{Cell}
 use Rattle.rules_model.specs.declared.board.Repeat.{Repeat}
@@ -21,17 +21,17 @@ use Rattle.rules_model.specs.Sides.{other, same_side}
 use Rattle.rules_model.specs.Squares.{cell_at}
 use Rattle.rules_model.proofs.CandidateLaws.{at_some, not_both}
 use Rattle.square_set.specs.declared.Set.{Set}
-use Rattle.square_set.specs.Members.{has, leads, origin}
-use Rattle.move_tables.specs.Occupied.{AreMen, OnSquares}
+use Rattle.square_set.specs.Members.{has, leads, origin, twice, OnSquares}
+use Rattle.move_tables.specs.Occupied.{AreMen}
 use Rattle.attack_tables.specs.declared.pawns.PawnMasks.{PawnMasks}
-use Rattle.attack_tables.specs.PawnMasks.{ArePawnMasks, is_aside, is_near, one_ahead, twice}
-use Rattle.attack_tables.specs.PawnSpots.{two_ahead}
+use Rattle.attack_tables.specs.PawnMasks.{ArePawnMasks, is_aside, is_near}
+use Rattle.attack_tables.specs.PawnSpots.{one_ahead, two_ahead}
 use Rattle.board_sets.specs.declared.sets.BoardSets.{BoardSets}
 use Rattle.board_sets.specs.Sets.{AreOnBoard, AreOwnPawns, AreSets}
-use Rattle.move_sink.specs.InTurn.{Outside, start_of, target_of}
+use Rattle.move_sink.specs.InTurn.{start_of, target_of}
 use Rattle.pawn_moves.specs.Parts.{go}
 use Rattle.pawn_moves.specs.PawnMoves.{FitPawnMoves, is_pawn_move}
-use Rattle.pawn_moves.specs.Shifted.{AreFree, HasPassers, IsAcross, IsForward, IsOnce, IsShifted, IsTwiceOver, leads_aside}
+use Rattle.pawn_moves.specs.Shifted.{AreFree, HasPassers, IsAcross, IsForward, IsOnce, IsTwiceOver, OfOtherPawns, leads_aside}
 use Rattle.pawn_moves.proofs.GoalLemmas.{fit_board, some_at}
 use Rattle.pawn_moves.proofs.PartLemmas.{go_is, go_parts}
 use Rattle.pawn_moves.proofs.ShiftLemmas.{halves, same_end}
@@ -105,15 +105,15 @@ module _ (rules : Rules) (r : Repeat) (s : ℕ) where
   unfolding pawn_goes
   near t e =
       ⊎_elim
-      (λ h. or_left (one_ahead rules r.side s t || two_ahead rules r.side from t) (is_aside rules r.side s t)
+      (λ h. or_left (one_ahead rules r.side from t || two_ahead rules r.side from t) (is_aside rules r.side s t)
       (⊎_elim
-      (λ k. or_left (one_ahead rules r.side s t) (two_ahead rules r.side from t) k)
-      (λ k. or_right (one_ahead rules r.side s t) (two_ahead rules r.side from t) (two_from t k).0)
+      (λ k. or_left (one_ahead rules r.side from t) (two_ahead rules r.side from t) k)
+      (λ k. or_right (one_ahead rules r.side from t) (two_ahead rules r.side from t) (two_from t k).0)
       (or_cases (is_at t one) (steps_twice rules r from t) (and_parts (is_none (cell_at r.cells t)) (is_at t one || steps_twice rules r from t) h).1)))
-      (λ h. or_right (one_ahead rules r.side s t || two_ahead rules r.side from t) (is_aside rules r.side s t) (and_parts (is_enemy r.side (cell_at r.cells t)) (is_diagonal (board_of rules) r.side from t) h).1)
+      (λ h. or_right (one_ahead rules r.side from t || two_ahead rules r.side from t) (is_aside rules r.side s t) (and_parts (is_enemy r.side (cell_at r.cells t)) (is_diagonal (board_of rules) r.side from t) h).1)
       (or_cases (is_none (cell_at r.cells t) && (is_at t one || steps_twice rules r from t)) (is_enemy r.side (cell_at r.cells t) && is_diagonal (board_of rules) r.side from t) e)
 
-  goes_ahead : (t : ℕ) → is_none (cell_at r.cells t) ≡ true → (one_ahead rules r.side s t || steps_twice rules r from t) ≡ true → pawn_goes rules r from t ≡ true
+  goes_ahead : (t : ℕ) → is_none (cell_at r.cells t) ≡ true → (one_ahead rules r.side from t || steps_twice rules r from t) ≡ true → pawn_goes rules r from t ≡ true
   unfolding pawn_goes
   goes_ahead t e f =
       or_left (is_none (cell_at r.cells t) && (is_at t one || steps_twice rules r from t)) (is_enemy r.side (cell_at r.cells t) && is_diagonal (board_of rules) r.side from t)
@@ -126,7 +126,7 @@ module _ (rules : Rules) (r : Repeat) (s : ℕ) where
       (and_from (is_enemy r.side (cell_at r.cells t)) (is_diagonal (board_of rules) r.side from t) e f)
 
   -- by which of its ways it goes
-  goes_cases : (P : Type 0) (t : ℕ) → pawn_goes rules r from t ≡ true → (is_none (cell_at r.cells t) ≡ true → one_ahead rules r.side s t ≡ true → P) → (is_none (cell_at r.cells t) ≡ true → two_ahead rules r.side from t ≡ true → is_free r.cells one ≡ true → P) → (is_enemy r.side (cell_at r.cells t) ≡ true → is_aside rules r.side s t ≡ true → P) → P
+  goes_cases : (P : Type 0) (t : ℕ) → pawn_goes rules r from t ≡ true → (is_none (cell_at r.cells t) ≡ true → one_ahead rules r.side from t ≡ true → P) → (is_none (cell_at r.cells t) ≡ true → two_ahead rules r.side from t ≡ true → is_free r.cells one ≡ true → P) → (is_enemy r.side (cell_at r.cells t) ≡ true → is_aside rules r.side s t ≡ true → P) → P
   unfolding pawn_goes
   goes_cases P t e f g h =
       ⊎_elim
@@ -137,6 +137,10 @@ module _ (rules : Rules) (r : Repeat) (s : ℕ) where
       (or_cases (is_none (cell_at r.cells t) && (is_at t one || steps_twice rules r from t)) (is_enemy r.side (cell_at r.cells t) && is_diagonal (board_of rules) r.side from t) e)
 
 -- ---- the pawns that go together
+
+-- a move of one of them
+abbrev IsShifted : PawnMasks → Set → Set → Set → Move → Type 0
+IsShifted masks pawns free enemies m = IsForward masks pawns free m ⊎ IsAcross masks pawns enemies m
 
 -- they are own pawns on plain squares that pass no other, with the free squares and those of the enemies
 pub record AreTogether (rules : Rules) (r : Repeat) (masks : PawnMasks) (pawns free enemies : Set) : Type 0 where
@@ -194,24 +198,24 @@ module _ (rules : Rules) (r : Repeat) (fit : IsFit rules) (masks : PawnMasks) (p
     is_plain : has masks.plain s ≡ true
     is_plain = all.plain s pawn
 
-    one_is : (t : ℕ) → t < 120 → one_ahead rules r.side s t ≡ (has masks.once s && leads masks.ahead s t)
-    one_is = all.masks_are.one s is_plain
+    one_is : (t : ℕ) → t < 120 → one_ahead rules r.side start t ≡ (has masks.once s && leads masks.ahead s t)
+    one_is = (all.masks_are.tells s is_plain).one
 
     two_is : (t : ℕ) → t < 120 → two_ahead rules r.side start t ≡ (has masks.twice s && leads (twice masks.ahead) s t)
-    two_is = all.masks_are.two s is_plain
+    two_is = (all.masks_are.tells s is_plain).two
 
     aside_is : (t : ℕ) → t < 120 → is_aside rules r.side s t ≡ ((has masks.left s && leads masks.leftward s t) || (has masks.right s && leads masks.rightward s t))
-    aside_is = all.masks_are.aside s is_plain
+    aside_is = (all.masks_are.tells s is_plain).aside
 
     -- ---- where the sets and shifts tell, it goes
 
-    one_to : (t : ℕ) → t < 120 → has masks.once s ≡ true → leads masks.ahead s t ≡ true → one_ahead rules r.side s t ≡ true
+    one_to : (t : ℕ) → t < 120 → has masks.once s ≡ true → leads masks.ahead s t ≡ true → one_ahead rules r.side start t ≡ true
     one_to t l e f = one_is t l ∙ and_from (has masks.once s) (leads masks.ahead s t) e f
 
     once_goes : (t : ℕ) → has masks.once s ≡ true → leads masks.ahead s t ≡ true → has free t ≡ true → pawn_goes rules r start t ≡ true
     once_goes t e f g =
         let h = free_at t g in
-        goes_ahead rules r s t h.1 (or_left (one_ahead rules r.side s t) (steps_twice rules r start t) (one_to t h.0 e f))
+        goes_ahead rules r s t h.1 (or_left (one_ahead rules r.side start t) (steps_twice rules r start t) (one_to t h.0 e f))
 
     first_free : (u : ℕ) → has masks.once s ≡ true → leads masks.ahead s u ≡ true → has free u ≡ true → is_free r.cells (ahead (board_of rules) r.side start 1) ≡ true
     first_free u e f g =
@@ -223,7 +227,7 @@ module _ (rules : Rules) (r : Repeat) (fit : IsFit rules) (masks : PawnMasks) (p
         let a = free_at t h in
         let two = two_is t a.0 ∙ and_from (has masks.twice s) (leads (twice masks.ahead) s t) f g in
         let free_first = first_free (origin masks.ahead t) e (halves masks.ahead s t g).0 k in
-        goes_ahead rules r s t a.1 (or_right (one_ahead rules r.side s t) (steps_twice rules r start t) (two_to rules r s t two free_first))
+        goes_ahead rules r s t a.1 (or_right (one_ahead rules r.side start t) (steps_twice rules r start t) (two_to rules r s t two free_first))
 
     across_goes : (t : ℕ) → ((has masks.left s && leads masks.leftward s t) || (has masks.right s && leads masks.rightward s t)) ≡ true → has enemies t ≡ true → pawn_goes rules r start t ≡ true
     across_goes t e f = goes_aside rules r s t (sym (enemies_are t) ∙ f) (aside_is t (all.on_board t f) ∙ e)
@@ -241,7 +245,7 @@ module _ (rules : Rules) (r : Repeat) (fit : IsFit rules) (masks : PawnMasks) (p
         let starts = and_from (has pawns s && has masks.once s) (has masks.twice s) (and_from (has pawns s) (has masks.once s) pawn first.0) two.0 in
         ((refl, two.1, starts, free_to t l e), ap (has free) (sym same) ∙ free_to u below none))
 
-    one_told : (t : ℕ) → t < 120 → is_none (cell_at r.cells t) ≡ true → one_ahead rules r.side s t ≡ true → IsOnce masks pawns free (go start (record { 0 = t }) Stays)
+    one_told : (t : ℕ) → t < 120 → is_none (cell_at r.cells t) ≡ true → one_ahead rules r.side start t ≡ true → IsOnce masks pawns free (go start (record { 0 = t }) Stays)
     one_told t l e f =
         let h = and_parts (has masks.once s) (leads masks.ahead s t) (sym (one_is t l) ∙ f) in
         (refl, h.1, and_from (has pawns s) (has masks.once s) pawn h.0, free_to t l e)
@@ -263,7 +267,7 @@ module _ (rules : Rules) (r : Repeat) (fit : IsFit rules) (masks : PawnMasks) (p
     -- ---- all its moves are plain ones
 
     no_promotion : (t : ℕ) → t < 120 → pawn_goes rules r start t ≡ true → may_promote rules r.side t ≡ false
-    no_promotion t l e = all.masks_are.promotes_nowhere s is_plain t l (near rules r s t e)
+    no_promotion t l e = (all.masks_are.tells s is_plain).promotes_nowhere t l (near rules r s t e)
 
     leads_there : (t : ℕ) → t < 120 → is_aside rules r.side s t ≡ true → leads_aside masks s t ≡ true
     leads_there t l e =
@@ -345,7 +349,7 @@ module _ (rules : Rules) (r : Repeat) (fit : IsFit rules) (masks : PawnMasks) (p
 
   module _ (owns left : Set) (left_is : (s : ℕ) → has left s ≡ (has owns s && not (has pawns s))) (owned : (m : Move) → FitPawnMoves rules r m → has owns (start_of m) ≡ true) where
     abbrev IsGiven : Move → Type 0
-    IsGiven = Outside (FitPawnMoves rules r) start_of left
+    IsGiven = OfOtherPawns rules r left
 
     given : (m : Move) → IsTheirs m → IsGiven m
     given m h = (h.0, left_is (start_of m) ∙ out (has owns (start_of m)) (has pawns (start_of m)) h.1)

@@ -56,9 +56,9 @@ fn own_pawn_moves(rules: &Rules, p: &Position, from: Square, to: Square, promo: 
     is_own_pawn(rules, p.side, cell_at(&p.cells, from)) && pawn_moves(rules, p, from, to, promo)
 }
 
-/// Whether the move is one of an own pawn: a step forward to an empty square, two steps from the double-step region over
-/// an empty square, or a diagonal step onto an enemy or to the en passant square; with a promotion where it must promote,
-/// or may. Whether it leaves the king safe is not asked.
+/// Whether the move is one of an own pawn: a step forward to an empty square, two steps from the double-step region
+/// over an empty square, or a diagonal step onto an enemy or to the en passant square; with a promotion where it must
+/// promote, or may. Whether it leaves the king safe is not asked.
 #[tactic(auto, unfolding(crate::specs::PawnMoves::is_pawn_move))]
 pub fn is_candidate(rules: &Rules, p: &Position, m: &Move) -> bool
     requires fit { IsFit rules.now }

@@ -1,27 +1,20 @@
 //! The moves of many own pawns at once, by shifts of their squares.
-ghost use Rattle.std.specs.Prelude.{◌≡◌, ◌≢◌, ◌<◌, ℕ, true, false, IfOk, OnOk, OnErr};
-ghost use Rattle.square_set.specs.Members.{has, length_of};
-ghost use Rattle.move_sink.specs.InTurn.{Outside, start_of};
+ghost use Rattle.std.specs.Prelude.{◌<◌, IfOk, OnOk, OnErr};
+ghost use Rattle.square_set.specs.Members.{has, length_of, OnSquares};
 ghost use Rattle.move_sink.specs.Taking.{TakesAll, TakesSome};
-ghost use Rattle.move_tables.specs.Occupied.{OnSquares};
-ghost use Rattle.rules_model.specs.Attacks as Attacks;
 ghost use Rattle.rules_model.specs.Fit.{IsFit};
 ghost use Rattle.rules_model.specs.Repeats.{repeat_of};
-ghost use Rattle.rules_model.specs.Squares.{cell_at};
+ghost use Rattle.attack_tables.specs.PawnMasks.{HasPawnShifts};
 ghost use Rattle.board_sets.specs.Sets.{AreSets};
 ghost use Rattle.pawn_moves.specs.PawnMoves.{FitPawnMoves};
-ghost use Rattle.pawn_moves.specs.Shifted.{AreFreeBy, AreOrigins, HasPassers, IsAcross, IsBy, IsForward, IsShifted};
+ghost use Rattle.pawn_moves.specs.Shifted.{AreFreeBy, HasPassers, IsAcross, IsBy, IsForward, OfOtherPawns, OnOwnPawns};
 
-use attack_tables::pawns::twice;
 use attack_tables::{PawnMasks, Tables};
 use board_sets::{BoardSets, sets_are_on_board};
 use move_sink::MoveSink;
 use rules_model::sizes::position_sizes;
 use rules_model::{Position, Square};
-use square_set::{EMPTY, Set, Shift};
-
-/// The squares of the largest board.
-const BOARD: Set = Set((1 << 120) - 1);
+use square_set::{BOARD, EMPTY, Set, Shift};
 
 /// The squares with no piece.
 fn free(sets: &BoardSets) -> Set
@@ -30,21 +23,10 @@ fn free(sets: &BoardSets) -> Set
     BOARD.minus(sets.occupied())
 }
 
-/// The squares from which the shift leads to one of the set.
-fn origins(shift: Shift, set: Set) -> Set
-    requires { length_of shift < 128 }
-    ensures { AreOrigins shift set result }
-{
-    match shift {
-        Shift::Up(by) => set.shifted(Shift::Down(by)),
-        Shift::Down(by) => set.shifted(Shift::Up(by)),
-    }
-}
-
-/// The squares from which a pawn may pass another: those from which a shift to a side leads to the en passant square.
+/// Squares outside of which no pawn passes another: at least those from which a shift to a side leads to the en passant
+/// square.
 fn passers(masks: &PawnMasks, ep: Option<Square>) -> Set
-    requires left { length_of masks.now.leftward < 128 }
-    requires right { length_of masks.now.rightward < 128 }
+    requires { HasPawnShifts masks.now }
     ensures { HasPassers masks.now ep result }
 {
     match ep {
@@ -54,7 +36,8 @@ fn passers(masks: &PawnMasks, ep: Option<Square>) -> Set
                 return EMPTY;
             }
             let at = EMPTY.with(ep.0);
-            origins(masks.leftward, at).or(origins(masks.rightward, at))
+            at.shifted(masks.leftward.back())
+                .or(at.shifted(masks.rightward.back()))
         }
     }
 }
@@ -81,8 +64,7 @@ fn push_forward<S: MoveSink>(
     free: Set,
     out: &mut S,
 ) -> Result<(), S::Full>
-    requires short { length_of masks.now.ahead < 64 }
-    requires some { 0 < length_of masks.now.ahead }
+    requires shifts { HasPawnShifts masks.now }
     requires pawns { OnSquares pawns }
     requires free { OnSquares free }
     ensures ok { OnOk result (TakesAll S.takes (IsForward masks.now pawns free) out.old out.new) }
@@ -90,8 +72,8 @@ fn push_forward<S: MoveSink>(
 {
     let once = pawns.and(masks.once);
     push_by(masks.ahead, once, free, out)?;
-    let again = once.and(masks.twice).and(origins(masks.ahead, free));
-    push_by(twice(masks.ahead), again, free, out)
+    let again = once.and(masks.twice).and(free.shifted(masks.ahead.back()));
+    push_by(masks.ahead.twice(), again, free, out)
 }
 
 /// Gives the sink the moves of these pawns onto enemies.
@@ -101,9 +83,7 @@ fn push_across<S: MoveSink>(
     enemies: Set,
     out: &mut S,
 ) -> Result<(), S::Full>
-    requires left { length_of masks.now.leftward < 128 }
-    requires right { length_of masks.now.rightward < 128 }
-    requires apart { length_of masks.now.leftward ≢ length_of masks.now.rightward }
+    requires shifts { HasPawnShifts masks.now }
     requires pawns { OnSquares pawns }
     requires enemies { OnSquares enemies }
     ensures ok { OnOk result (TakesAll S.takes (IsAcross masks.now pawns enemies) out.old out.new) }
@@ -113,8 +93,8 @@ fn push_across<S: MoveSink>(
     push_by(masks.rightward, pawns.and(masks.right), enemies, out)
 }
 
-/// Gives the sink the moves of the own pawns that go together, by shifts: those that neither promote nor pass another. The
-/// squares of the others are the answer.
+/// Gives the sink, by shifts, the moves of the own pawns that are known neither to promote nor to pass another. The
+/// answer is the squares of the other own pawns.
 pub(crate) fn push_shifted<S: MoveSink>(
     tables: &Tables,
     p: &Position,
@@ -123,9 +103,9 @@ pub(crate) fn push_shifted<S: MoveSink>(
 ) -> Result<Set, S::Full>
     requires fit { IsFit tables.now }
     requires sets { AreSets tables.now p.now.side p.now.cells sets.now }
-    ensures ok { IfOk result (λ left. TakesAll S.takes (Outside (FitPawnMoves tables.now (repeat_of p.now)) start_of left) out.old out.new) }
+    ensures ok { IfOk result (λ left. TakesAll S.takes (OfOtherPawns tables.now (repeat_of p.now) left) out.old out.new) }
     ensures on_board { IfOk result (λ left. OnSquares left) }
-    ensures own { IfOk result (λ left. (s : ℕ) → has left s ≡ true → Attacks.is_own_pawn tables.now p.now.side (cell_at p.now.cells s) ≡ true) }
+    ensures own { IfOk result (λ left. OnOwnPawns tables.now (repeat_of p.now) left) }
     ensures err { OnErr result (TakesSome S.stops (FitPawnMoves tables.now (repeat_of p.now)) out.old out.new) }
 {
     position_sizes(p);

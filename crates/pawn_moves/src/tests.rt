@@ -7,7 +7,9 @@ use attack_tables::Tables;
 use board_sets::sets_of;
 use foundation::Memory;
 use rules_model::{Move, MoveList, Position, Promo, Rules, Side};
-use sample_rules::{capablanca, chess, kind, leapers, position, shouse, square, xiangqi};
+use sample_rules::{
+    capablanca, chess, kind, leapers, position, shouse, square, wide_chess, xiangqi,
+};
 use std::alloc::Global;
 use std::process::Abort;
 
@@ -108,15 +110,6 @@ fn expect_all(
     Ok(())
 }
 
-/// Capablanca chess on twelve files, of which the last two have no double step.
-fn wide() -> Rules
-    ensures { IsFit result }
-{
-    let mut rules = capablanca();
-    rules.files = 12;
-    rules
-}
-
 #[test]
 fn each_move_of_chess_once(rt: HostRuntime) -> Result<(), Memory> {
     let rules = chess();
@@ -161,7 +154,7 @@ fn moves_of_many_pawns(rt: HostRuntime) -> Result<(), Memory> {
             "a2-a3 a2-a4 h2-h3 h2-h4",
         ),
         (
-            "pa7 ph7 Nl5 Ni7",
+            "pa7 ph7 Nl5 Ni6",
             Side::Black,
             "",
             "a7-a6 a7-a5 h7-h6 h7-h5",
@@ -221,13 +214,20 @@ fn moves_of_many_pawns(rt: HostRuntime) -> Result<(), Memory> {
     Ok(())
 }
 
+// With pieces, and a square behind a double step, to which a shift from the edge would lead on.
 #[test]
 fn no_move_around_the_edge(rt: HostRuntime) -> Result<(), Memory> {
-    let rules = wide();
-    let p = position("Pa6 Pl3 na5 nl6");
-    expect_all(&rt, rt.alloc(), &rules, &p, "a6-a7 l3-l4")?;
-    let p = position_of("pl6 pa7 Na4 Nl7", Side::Black, "");
-    expect_all(&rt, rt.alloc(), &rules, &p, "l6-l5 a7-a6 a7-a5")
+    let rules = wide_chess();
+    let rows = [
+        ("Pa6 Pl3 na5 nl6", Side::White, "", "a6-a7 l3-l4"),
+        ("Pb5 Pl4 pa5", Side::White, "a6", "b5-b6 b5-a6 l4-l5"),
+        ("pa7 pl4 Nl5 Na4", Side::Black, "", "a7-a6 a7-a5 l4-l3"),
+    ];
+    for (pieces, side, ep, moves) in rows {
+        let p = position_of(pieces, side, ep);
+        expect_all(&rt, rt.alloc(), &rules, &p, moves)?;
+    }
+    Ok(())
 }
 
 #[test]

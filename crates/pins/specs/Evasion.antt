@@ -55,8 +55,8 @@ PiecesAttack rules by king board = any_below (attacks_from rules board by king) 
 abbrev pub StaysAttacked : Rules → Side → Set → List (Option Cell) → Type 0
 StaysAttacked rules side kings board = AreKings rules side board kings → king_attacked rules board side ≡ true
 
--- on each board that is this one after a piece other than a king left no square of `leave`, entered none of `enter`, and
--- took nothing but what stood there, a king of the side is attacked
+-- on each board that is this one after a piece other than a king left no square of `leave`, entered none of `enter`,
+-- and took nothing but what stood there, a king of the side is attacked
 abbrev pub AreEvasions : Rules → Side → List (Option Cell) → Set → Set → Set → Set → Set → Type 0
 AreEvasions rules side cells kings enemies occupied leave enter =
     AfterVainMoves (other side) cells enemies occupied leave enter (StaysAttacked rules side kings)

@@ -1,17 +1,17 @@
 //! The squares on which a king would stand attacked by pieces.
-ghost use Rattle.std.specs.Prelude.{◌≡◌, ◌<◌, Some};
+ghost use Rattle.std.specs.Prelude.{◌<◌, Some};
 ghost use Rattle.rules_model.specs.Sides.{other};
 ghost use Rattle.rules_model.specs.Squares.{cell_at};
 ghost use Rattle.attack_tables.specs.Boards.{HoldsMen};
-ghost use Rattle.move_tables.specs.Occupied.{OnSquares};
+ghost use Rattle.square_set.specs.Members.{OnSquares};
 ghost use Rattle.pins.specs.Danger as Danger;
 
 use attack_tables::{Mode, Tables, cell_on};
 use rules_model::sizes::board_size;
-use rules_model::{Cell, Cells, Side, Square};
+use rules_model::{Cells, Side, Square};
 use square_set::{EMPTY, Set};
 
-/// From so many targets on, one set of all squares in danger is found sooner than each target is looked at.
+/// From this number of targets on, one set of all squares in danger is found sooner than each target is looked at.
 const MANY_TARGETS: u32 = 3;
 
 /// The squares that the piece on the square reaches to take, whatever stands on them.
@@ -71,7 +71,7 @@ fn is_danger_at(
     tables.piece_attacks(cells, men, moved, Square(to), side.other())
 }
 
-/// Those of the targets, looked at one by one.
+/// The targets on which a king would be attacked, each looked at alone.
 fn danger_at_each(
     tables: &Tables,
     cells: &Cells,
@@ -96,9 +96,9 @@ fn danger_at_each(
     danger
 }
 
-/// Of the targets, those on which pieces of the other side would attack a king of the side once it has gone there from its
-/// square and taken what stood there. The set may have other squares besides. `enemies` are the squares of the other
-/// side's pieces. Whether a king that flies would face it is not asked.
+/// Of the targets, those on which pieces of the other side would attack a king of the side once it has gone there from
+/// its square and taken what stood there. The set may have other squares besides. `enemies` are the squares of the
+/// other side's pieces. Whether a king that flies would face it is not asked.
 pub fn danger(
     tables: &Tables,
     cells: &Cells,

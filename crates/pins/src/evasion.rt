@@ -6,7 +6,7 @@ ghost use Rattle.rules_model.specs.Sides.{other};
 ghost use Rattle.rules_model.specs.Squares.{cell_at};
 ghost use Rattle.attack_tables.specs.Boards.{HoldsMen};
 ghost use Rattle.move_tables.specs.Lines.{by_jump, by_spot, on_line};
-ghost use Rattle.move_tables.specs.Occupied.{OnSquares};
+ghost use Rattle.square_set.specs.Members.{OnSquares};
 ghost use Rattle.pins.specs.Evasion as Evasion;
 ghost use Rattle.pins.specs.Evasion.{AttackDependsOn, DependsOn};
 

@@ -4,7 +4,7 @@ ghost use Rattle.rules_model.specs.Sides.{other};
 ghost use Rattle.rules_model.specs.Squares.{cell_at};
 ghost use Rattle.move_tables.specs.declared.line.Passage.TheVariants.{Slide};
 ghost use Rattle.attack_tables.specs.Boards.{HoldsMen};
-ghost use Rattle.move_tables.specs.Occupied.{OnSquares};
+ghost use Rattle.square_set.specs.Members.{OnSquares};
 ghost use Rattle.pins.specs.Free as Free;
 ghost use Rattle.pins.specs.Guards.{AfterLeaving};
 

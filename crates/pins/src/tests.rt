@@ -1,6 +1,6 @@
 ghost use Rattle.std.specs.Prelude.{◌<◌};
 ghost use Rattle.rules_model.specs.Fit.{IsFit};
-ghost use Rattle.move_tables.specs.Occupied.{OnSquares};
+ghost use Rattle.square_set.specs.Members.{OnSquares};
 
 use super::*;
 use crate::danger::danger;
@@ -123,12 +123,11 @@ fn everywhere() -> Set
     squares
 }
 
-/// The square alone.
-fn only(at: u8) -> Set
-    requires { at < 120 }
+/// Those of the squares that are on the largest board.
+fn on_board(squares: Set) -> Set
     ensures { OnSquares result }
 {
-    EMPTY.with(at)
+    everywhere().and(squares)
 }
 
 /// The squares on which White's king, which is on this one, would stand attacked; those of the targets at least.
@@ -143,7 +142,7 @@ fn danger_of(tables: &Tables, p: &Position, king: Square, targets: Set) -> Set
     danger(tables, &p.cells, king, enemies, occupied, side, targets)
 }
 
-/// The squares on which White's king would stand attacked are those of the last text, as for each target alone.
+/// The squares on which White's king would stand attacked are those of the last text, as for one, two or three targets.
 fn expect_danger(
     rt: &impl Abort,
     alloc: Global,
@@ -158,8 +157,12 @@ fn expect_danger(
         let danger = danger_of(&tables, &p, square(*king), everywhere());
         assert_eq!(rt; danger, occupied(&position(*wanted).cells), "{pieces}");
         for to in 0..120u8 {
-            let alone = danger_of(&tables, &p, square(*king), only(to));
-            assert_eq!(rt; alone.has(to), danger.has(to), "{pieces} {to}");
+            let mut targets = EMPTY;
+            for beside in [to, 119 - to, to / 2] {
+                targets = targets.with(beside);
+                let among = danger_of(&tables, &p, square(*king), on_board(targets));
+                assert_eq!(rt; among.and(targets), danger.and(targets), "{pieces} {to}");
+            }
         }
     }
     Ok(())

@@ -1,5 +1,6 @@
 -- That the variants are fit, and that their starts are sound: by computing.
 use Rattle.std.proofs.Common.{◌≡◌, true, refl}
+use Rattle.rules_model.specs.declared.rules.Rules.{Rules}
 use Rattle.rules_model.specs.Fit.{IsFit}
 use Rattle.rules_model.specs.Sound.{is_sound}
 use Rattle.sample_rules.specs.Leapers.{leapers}
@@ -25,6 +26,18 @@ chess-fit = fit-from chess refl
 pub chess-sound : is_sound chess chess.start ≡ true
 unfolding opened chess
 chess-sound = refl
+
+-- chess on twelve files
+abbrev wide_chess : Rules
+wide_chess = record chess { files = 12 }
+
+pub wide_chess-fit : IsFit wide_chess
+unfolding opened chess
+wide_chess-fit = fit-from wide_chess refl
+
+pub wide_chess-sound : is_sound wide_chess wide_chess.start ≡ true
+unfolding opened chess
+wide_chess-sound = refl
 
 pub capablanca-fit : IsFit capablanca
 unfolding opened capablanca

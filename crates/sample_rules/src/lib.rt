@@ -19,4 +19,5 @@ pub use variants::chess::chess;
 pub use variants::generals::generals;
 pub use variants::leapers::leapers;
 pub use variants::shouse::shouse;
+pub use variants::wide_chess::wide_chess;
 pub use variants::xiangqi::xiangqi;

@@ -1,5 +1,6 @@
 -- A set of squares by its members: bit s of its number stands for square s.
-use Rattle.std.specs.Prelude.{◌≡◌, ℕ, zero, suc, ◌+◌, ◌-◌, ◌<◌, ◌≤◌, Bool, true, false, ◌&&◌, ◌||◌, not, ◌==◌, nat_le, if◌then◌else◌}
+use Rattle.std.specs.Prelude.{◌≡◌, ℕ, zero, suc, ◌+◌, ◌-◌, ◌<◌, ◌≤◌, nat_le}
+use Rattle.std.specs.Prelude.{Bool, true, false, ◌&&◌, ◌||◌, not, ◌==◌, if◌then◌else◌}
 use Rattle.std.specs.Int.{bit_at}
 use Rattle.square_set.specs.declared.Set.{Set}
 use Rattle.square_set.specs.declared.Shift.{Shift}
@@ -21,6 +22,10 @@ count_below test (suc n) = count_below test n + (if test n then 1 else 0)
 -- how many squares the set has
 abbrev pub size : Set → ℕ
 size set = count_below (has set) 128
+
+-- the squares of the set are squares of the largest board
+abbrev pub OnSquares : Set → Type 0
+OnSquares set = (s : ℕ) → has set s ≡ true → s < 120
 
 -- the square is of the set, and the lowest of it
 pub record IsFirst (set : Set) (square : ℕ) : Type 0 where
@@ -55,7 +60,17 @@ abbrev pub leads : Shift → ℕ → ℕ → Bool
 leads (Up n) s t = s + n == t
 leads (Down n) s t = t + n == s
 
--- the square from which the shift leads to this one
+-- the shift that leads back
+abbrev pub back : Shift → Shift
+back (Up n) = Down n
+back (Down n) = Up n
+
+-- the shift made twice
+abbrev pub twice : Shift → Shift
+twice (Up n) = Up (n + n)
+twice (Down n) = Down (n + n)
+
+-- the square from which the shift leads to this one, where there is one
 abbrev pub origin : Shift → ℕ → ℕ
 origin (Up n) t = t - n
 origin (Down n) t = t + n

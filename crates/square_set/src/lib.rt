@@ -22,7 +22,7 @@ pub enum Shift {
 }
 
 impl Shift {
-    /// The square from which the shift leads to this one.
+    /// The square from which the shift leads to this one, where there is one.
     pub fn origin(self, to: u8) -> u8
         requires { Members.HasOrigin self 128 to }
         ensures { result ≡ Members.origin self to }
@@ -32,6 +32,29 @@ impl Shift {
             Shift::Down(by) => to + by,
         }
     }
+
+    /// The shift that leads back.
+    pub fn back(self) -> Shift
+        ensures is { result ≡ Members.back self }
+        ensures as_long { Members.length_of result ≡ Members.length_of self }
+    {
+        match self {
+            Shift::Up(by) => Shift::Down(by),
+            Shift::Down(by) => Shift::Up(by),
+        }
+    }
+
+    /// The shift made twice.
+    pub fn twice(self) -> Shift
+        requires { Members.length_of self < 64 }
+        ensures is { result ≡ Members.twice self }
+        ensures short { Members.length_of result < 128 }
+    {
+        match self {
+            Shift::Up(by) => Shift::Up(by + by),
+            Shift::Down(by) => Shift::Down(by + by),
+        }
+    }
 }
 
 /// The set without a square.
@@ -39,6 +62,9 @@ pub const EMPTY: Set = Set(0);
 
 /// The set of every square.
 pub const ALL: Set = Set(u128::MAX);
+
+/// The squares of the largest board.
+pub const BOARD: Set = Set((1 << 120) - 1);
 
 impl Set {
     /// Whether the square is in the set.
@@ -52,7 +78,7 @@ impl Set {
     /// The set with the square.
     pub fn with(self, square: u8) -> Set
         requires { square < 128 }
-        ensures { (s : ℕ) → Members.has result s ≡ (Members.has self s || (s == square)) }
+        ensures { Members.IsWith self square result }
     {
         Set(self.0 | 1 << square)
     }
@@ -60,7 +86,7 @@ impl Set {
     /// The set without the square.
     pub fn without(self, square: u8) -> Set
         requires { square < 128 }
-        ensures { (s : ℕ) → Members.has result s ≡ (Members.has self s && not (s == square)) }
+        ensures { Members.IsWithout self square result }
     {
         Set(self.0 & !(1 << square))
     }
@@ -117,14 +143,16 @@ impl Set {
         }
     }
 
-    /// The set without its square of the lowest number. To take 1 off turns the lowest bit and the bits below it, and no other.
+    /// The set without its square of the lowest number. To take 1 off turns the lowest bit and the bits below it, and
+    /// no other.
     fn without_first(self) -> Set
         ensures { (first : ℕ) → Members.IsFirst self first → Members.IsWithout self first result }
     {
         Set(self.0 & self.0.wrapping_sub(1))
     }
 
-    /// Takes the square of the lowest number out of the set. Where the set is empty it stays so, and the answer is None.
+    /// Takes the square of the lowest number out of the set. Where the set is empty it stays so, and the answer is
+    /// None.
     pub fn take_first(&mut self) -> Option<u8>
         ensures some { IfSome result (λ square. Members.IsFirst self.old square) }
         ensures rest { IfSome result (λ square. Members.IsWithout self.old square self.new) }
@@ -144,8 +172,8 @@ impl Set {
         self.0.count_ones()
     }
 
-    /// The squares below 128 before which the set has none, in the order of rising or of falling numbers: those up to the first of
-    /// the set, and all where it is empty.
+    /// The squares below 128 before which the set has none, in the order of rising or of falling numbers: those up to
+    /// the first of the set, and all where it is empty.
     pub fn cover(self, rising: bool) -> Set
         ensures { (s : ℕ) → s < 128 → Members.has result s ≡ (Members.before rising (Members.has self) s == 0) }
     {
@@ -156,7 +184,8 @@ impl Set {
         }
     }
 
-    /// The squares with no lower one in the set. To take 1 off turns the lowest bit and the bits below it, and no other.
+    /// The squares with no lower one in the set. To take 1 off turns the lowest bit and the bits below it, and no
+    /// other.
     fn up_to_first(self) -> Set
         ensures { (s : ℕ) → s < 128 → Members.has result s ≡ (Members.before true (Members.has self) s == 0) }
     {

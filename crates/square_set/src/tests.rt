@@ -30,7 +30,8 @@ fn sets_are_joined_and_cut(rt: HostRuntime) {
     }
 }
 
-// The squares of a set, its first, and how many it has: of none, of the corners, of two side by side at the middle of the number.
+// The squares of a set, its first, and how many it has: of none, of the corners, of two side by side at the middle of
+// the number.
 #[test]
 fn squares_are_taken_in_order(rt: HostRuntime) {
     let rows: [(&[u8], Option<u8>, u32); 4] = [
@@ -52,14 +53,15 @@ fn squares_are_taken_in_order(rt: HostRuntime) {
     }
 }
 
-// A rank up, a rank down, no change, and down by all but one square: what would lie beyond the number falls off.
+// A rank up, a rank down, no change, and down by all but one square: what would lie beyond the number falls off, as
+// 116 does and 115 does not, 11 and not 12.
 #[test]
 fn a_shift_leads_each_square_on(rt: HostRuntime) {
-    let set = set_of(&[0, 11, 64, 119]);
+    let set = set_of(&[0, 11, 12, 64, 115, 116, 119]);
     let rows: [(Set, &[u8]); 4] = [
-        (set.shifted(Shift::Up(12)), &[12, 23, 76]),
-        (set.shifted(Shift::Down(12)), &[52, 107]),
-        (set.shifted(Shift::Up(0)), &[0, 11, 64, 119]),
+        (set.shifted(Shift::Up(12)), &[12, 23, 24, 76, 127]),
+        (set.shifted(Shift::Down(12)), &[0, 52, 103, 104, 107]),
+        (set.shifted(Shift::Up(0)), &[0, 11, 12, 64, 115, 116, 119]),
         (set.shifted(Shift::Down(119)), &[0]),
     ];
     for (shifted, squares) in rows {
@@ -67,6 +69,8 @@ fn a_shift_leads_each_square_on(rt: HostRuntime) {
     }
     assert_eq!(rt; Shift::Up(12).origin(23), 11);
     assert_eq!(rt; Shift::Down(12).origin(52), 64);
+    assert_eq!(rt; Shift::Up(12).back(), Shift::Down(12));
+    assert_eq!(rt; Shift::Down(12).twice(), Shift::Down(24));
 }
 
 #[test]
@@ -75,6 +79,7 @@ fn all_squares_of_the_largest_board_are_120(rt: HostRuntime) {
     for square in 0..120 {
         all = all.with(square);
     }
+    assert_eq!(rt; all, BOARD);
     assert_eq!(rt; all.count(), 120);
     assert_eq!(rt; all.first(), Some(0));
 }

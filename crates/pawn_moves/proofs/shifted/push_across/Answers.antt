@@ -17,7 +17,7 @@ returns-clause-ok g c =
     on_ok_weaker c.push_by-2.result
     (λ all.
     let right = all-same g.S.MoveSink.takes _ _ _ _ all (right_from masks pawns enemies _ c.and-2.ensures) (right_to masks pawns enemies _ c.and-2.ensures) in
-    all-join g.met.S.MoveSink.law _ _ _ _ _ _ left right (across_apart masks pawns enemies c.requires.apart) (λ m h. h) (λ m h. h))
+    all-join g.met.S.MoveSink.law _ _ _ _ _ _ left right (across_apart masks pawns enemies c.requires.shifts.aside_apart) (λ m h. h) (λ m h. h))
     c.push_by-2.ensures.ok
 
 pub returns-clause-err : goal.returns-clause-err
@@ -29,5 +29,5 @@ returns-clause-err g c =
     on_err_weaker c.push_by-2.result
     (λ some.
     let right = some-within g.S.MoveSink.stops _ _ _ _ some (right_from masks pawns enemies _ c.and-2.ensures) in
-    some-behind g.met.S.MoveSink.law _ _ _ _ _ _ left right (across_apart masks pawns enemies c.requires.apart) (λ m h. inl h) (λ m h. inr h))
+    some-behind g.met.S.MoveSink.law _ _ _ _ _ _ left right (across_apart masks pawns enemies c.requires.shifts.aside_apart) (λ m h. inl h) (λ m h. inr h))
     c.push_by-2.ensures.err

@@ -3,6 +3,7 @@ use Rattle.std.proofs.lemmas.Result.{on_ok_weaker, on_err_weaker}
 use Rattle.foundation.proofs.AppendedLemmas.{on_err}
 use Rattle.move_sink.proofs.TakingLemmas.{all-join, all-same, some-behind, some-within}
 use Rattle.pawn_moves.proofs.SetLemmas.{forward_apart, once_from, once_to, twice_from, twice_to}
+use Rattle.pawn_moves.proofs.ShiftLemmas.{origins_are}
 use Rattle.pawn_moves.proofs.shifted.push_forward.Goals as goal
 
 pub returns-in_err-push_by-clause-err : goal.returns-in_err-push_by-clause-err
@@ -18,9 +19,9 @@ returns-clause-ok g c =
     on_ok_weaker c.push_by-2.result
     (λ all.
     let twice = all-same g.S.MoveSink.takes _ _ _ _ all
-    (twice_from masks pawns free _ once_is _ _ _ _ c.twice.ensures.is c.requires.pawns c.and.ensures c.origins.ensures c.and-again.ensures)
-    (twice_to masks pawns free _ once_is _ _ _ _ c.twice.ensures.is c.requires.pawns c.and.ensures c.origins.ensures c.and-again.ensures) in
-    all-join g.met.S.MoveSink.law _ _ _ _ _ _ once twice (forward_apart masks pawns free _ once_is c.requires.some) (λ m h. h) (λ m h. h))
+    (twice_from masks pawns free _ once_is _ _ _ _ c.twice.ensures.is c.requires.pawns c.and.ensures (origins_are _ _ _ _ c.back.ensures.is c.shifted.ensures) c.and-again.ensures)
+    (twice_to masks pawns free _ once_is _ _ _ _ c.twice.ensures.is c.requires.pawns c.and.ensures (origins_are _ _ _ _ c.back.ensures.is c.shifted.ensures) c.and-again.ensures) in
+    all-join g.met.S.MoveSink.law _ _ _ _ _ _ once twice (forward_apart masks pawns free _ once_is c.requires.shifts.ahead_some) (λ m h. h) (λ m h. h))
     c.push_by-2.ensures.ok
 
 pub returns-clause-err : goal.returns-clause-err
@@ -33,6 +34,6 @@ returns-clause-err g c =
     on_err_weaker c.push_by-2.result
     (λ some.
     let twice = some-within g.S.MoveSink.stops _ _ _ _ some
-    (twice_from masks pawns free _ once_is _ _ _ _ c.twice.ensures.is c.requires.pawns c.and.ensures c.origins.ensures c.and-again.ensures) in
-    some-behind g.met.S.MoveSink.law _ _ _ _ _ _ once twice (forward_apart masks pawns free _ once_is c.requires.some) (λ m h. inl h) (λ m h. inr h))
+    (twice_from masks pawns free _ once_is _ _ _ _ c.twice.ensures.is c.requires.pawns c.and.ensures (origins_are _ _ _ _ c.back.ensures.is c.shifted.ensures) c.and-again.ensures) in
+    some-behind g.met.S.MoveSink.law _ _ _ _ _ _ once twice (forward_apart masks pawns free _ once_is c.requires.shifts.ahead_some) (λ m h. inl h) (λ m h. inr h))
     c.push_by-2.ensures.err

@@ -1,4 +1,4 @@
-use Rattle.move_tables.specs.Occupied.{OnSquares}
+use Rattle.square_set.specs.Members.{OnSquares}
 use Rattle.pins.proofs.tests.everywhere.Given as goal
 
 abbrev pub invariant-loop-at : goal.invariant-loop-at

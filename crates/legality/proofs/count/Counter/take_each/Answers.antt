@@ -1,4 +1,4 @@
-use Rattle.std.proofs.Common.{◌-◌, ◌^◌, ◌==◌, ◌&&◌, not, None, ap, sym, ◌∙◌}
+use Rattle.std.proofs.Common.{◌-◌, ◌^◌, ◌==◌, not, None, ap, sym, ◌∙◌}
 use Rattle.std.proofs.lemmas.Bool.{and_parts}
 use Rattle.rules_model.specs.declared.moves.Move.TheVariants.{Go}
 use Rattle.rules_model.specs.declared.moves.Promo.TheVariants.{Stays}

@@ -1,5 +1,4 @@
 use Rattle.std.proofs.Common.{ap, ◌∙◌, ◌&&◌}
-use Rattle.rules_model.specs.Repeats.{repeat_of}
 use Rattle.square_set.specs.Members.{has}
 use Rattle.legality.proofs.ShiftLaws.{may_not_go_by}
 use Rattle.legality.proofs.safety.Safety.bars_shift.Goals as goal

@@ -1,4 +1,4 @@
-use Rattle.std.proofs.Common.{◌&&◌, not, ap, sym, ◌∙◌}
+use Rattle.std.proofs.Common.{◌&&◌, not, sym, ◌∙◌}
 use Rattle.std.proofs.lemmas.Bool.{and_parts, not-true}
 use Rattle.rules_model.specs.Kinds.{is_king}
 use Rattle.square_set.specs.Members.{has}

@@ -1,5 +1,4 @@
 use Rattle.std.proofs.Common.{ap, ◌∙◌, ◌&&◌, not}
-use Rattle.rules_model.specs.Repeats.{repeat_of}
 use Rattle.square_set.specs.Members.{has}
 use Rattle.legality.proofs.ShiftLaws.{of_first, may_go_by}
 use Rattle.legality.proofs.safety.Safety.lets_shift.Goals as goal

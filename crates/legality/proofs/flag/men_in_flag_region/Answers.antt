@@ -1,7 +1,7 @@
 use Rattle.std.proofs.Common.{ap, ◌∙◌}
 use Rattle.rules_model.specs.Regions.{in_region}
 use Rattle.legality.proofs.FlagLaws.{flag_among}
-use Rattle.legality.proofs.flag.reached.Goals as goal
+use Rattle.legality.proofs.flag.men_in_flag_region.Goals as goal
 
 pub returns : goal.returns
 returns c =
