@@ -139,14 +139,14 @@ module _ (rules : Rules) (r : Repeat) (from : Square) (gate : Option Kind) where
   to_target piece (Castle f t rook g) own h = absurd h
   to_target piece (Drop kind t) own h = absurd h
 
-  no_piece : own_piece rules r.side (cell_at r.cells from.0) ≡ None → (m : Move) → IsMoveFrom rules r from gate m → ⊥
+  -- no own piece stands there, so none leaves
+  pub no_piece : own_piece rules r.side (cell_at r.cells from.0) ≡ None → (m : Move) → IsMoveFrom rules r from gate m → ⊥
   no_piece none (Go f t promo g) h =
       not_both (own_piece_moves rules r from t promo (cell_at r.cells from.0)) h.4
       (own_makes rules r from t promo (cell_at r.cells from.0) ∙ ap (λ o. makes rules r o from t promo) none)
   no_piece none (Castle f t rook g) h = h
   no_piece none (Drop kind t) h = h
 
-  -- no own piece stands there
   pub from-none : {S : Type 0} {takes stops : S → List Move → S → Type 0} (sink : IsSink takes stops) (s : S) → own_piece rules r.side (cell_at r.cells from.0) ≡ None → TakesAll takes (IsMoveFrom rules r from gate) s s
   from-none sink s none = all-none sink (IsMoveFrom rules r from gate) s (no_piece none)
 

@@ -11,7 +11,6 @@ use Rattle.rules_model.specs.Pieces.{piece_goes}
 use Rattle.rules_model.specs.Sides.{other, same_side}
 use Rattle.rules_model.specs.Squares.{cell_at}
 use Rattle.square_set.specs.declared.Set.{Set}
-use Rattle.square_set.specs.Members.{has}
 use Rattle.square_set.proofs.Cases.{by_order}
 use Rattle.move_tables.specs.declared.mode.Mode.{Mode}
 use Rattle.move_tables.specs.declared.mode.Mode.TheVariants.{Quiet, Take}

@@ -1,15 +1,16 @@
 //! The moves, given in turn.
-ghost use Rattle.std.specs.Prelude.{◌≡◌, ◌<◌, true, not, None, OnOk, OnErr};
+ghost use Rattle.std.specs.Prelude.{◌≡◌, ◌<◌, true, not, None, OnOk, OnErr, IfSome, IfNone};
 ghost use Rattle.move_sink.specs.Taking.{TakesAll, TakesSome};
 ghost use Rattle.rules_model.specs.declared.moves.Move.TheVariants.{Go};
 ghost use Rattle.rules_model.specs.Attacks.{is_own};
 ghost use Rattle.rules_model.specs.Fit.{IsFit};
 ghost use Rattle.rules_model.specs.Kinds.{is_pawn};
-ghost use Rattle.rules_model.specs.Pieces as Pieces;
 ghost use Rattle.rules_model.specs.Repeats.{repeat_of};
 ghost use Rattle.rules_model.specs.Squares.{cell_at};
+ghost use Rattle.square_set.specs.Members.{has};
 ghost use Rattle.board_sets.specs.Sets.{AreSets};
-ghost use Rattle.piece_moves.specs.Movers.{IsMoveOf, IsMoveTo, IsOwnMover};
+ghost use Rattle.piece_moves.specs.Goals.{own_piece};
+ghost use Rattle.piece_moves.specs.Movers.{IsMoveOf, IsMoveTo, IsMover};
 ghost use Rattle.piece_moves.specs.Parts.{FitPieceMoves, IsChosen, IsMoveFrom};
 ghost use Rattle.piece_moves.specs.Plain as Plain;
 
@@ -21,24 +22,25 @@ use board_sets::{BoardSets, sets_are_on_board};
 use move_sink::MoveSink;
 use rules_model::sizes::position_sizes;
 use rules_model::{Cell, Kind, Move, Position, Promo, Rules, Square};
+use square_set::Set;
 
-/// An own piece that is not the pawn, the square on which it stands, and what its move places there.
+/// An own piece that is not the pawn, the square on which it stands, and those to which it goes.
 #[derive(Clone, Copy, Debug, PartialEq, Eq)]
-struct Mover {
-    piece: Cell,
-    from: Square,
-    gate: Option<Kind>,
+pub struct Mover {
+    pub piece: Cell,
+    pub from: Square,
+    pub targets: Set,
 }
 
 impl Mover {
-    fn go(self, to: Square, promo: Promo) -> Move
-        ensures { result ≡ Go self.from to promo self.gate }
+    fn go(self, to: Square, promo: Promo, gate: Option<Kind>) -> Move
+        ensures { result ≡ Go self.from to promo gate }
     {
         Move::Go {
             from: self.from,
             to,
             promo,
-            gate: self.gate,
+            gate,
         }
     }
 }
@@ -54,20 +56,20 @@ fn push_if<S: MoveSink>(wanted: bool, m: Move, out: &mut S) -> Result<(), S::Ful
     Ok(())
 }
 
-/// Gives the moves of the own piece to a square to which it goes.
+/// Gives the moves of the own piece to a square to which it goes, which place `gate` on the square that it leaves.
 fn push_to<S: MoveSink>(
     rules: &Rules,
     p: &Position,
     mover: Mover,
+    gate: Option<Kind>,
     to: Square,
     out: &mut S,
 ) -> Result<(), S::Full>
     requires fit { IsFit rules.now }
-    requires own { IsOwnMover rules.now p.now mover }
-    requires goes { Pieces.piece_goes rules.now p.now.cells p.now.side mover.piece.kind mover.from to.0 ≡ true }
-    requires to { to.0 < 120 }
-    ensures ok { OnOk result (TakesAll S.takes (IsMoveTo rules.now p.now mover to.0) out.old out.new) }
-    ensures err { OnErr result (TakesSome S.stops (IsMoveTo rules.now p.now mover to.0) out.old out.new) }
+    requires mover { IsMover rules.now p.now mover }
+    requires goes { has mover.targets to.0 ≡ true }
+    ensures ok { OnOk result (TakesAll S.takes (IsMoveTo rules.now p.now mover gate to.0) out.old out.new) }
+    ensures err { OnErr result (TakesSome S.stops (IsMoveTo rules.now p.now mover gate to.0) out.old out.new) }
 {
     let kind = mover.piece.kind;
     if means_castling(rules, p, kind, mover.from, to) {
@@ -76,12 +78,12 @@ fn push_to<S: MoveSink>(
     let may = may_plus(rules, p.side, kind, mover.from, to);
     push_if(
         becomes(rules, may, Promo::Stays),
-        mover.go(to, Promo::Stays),
+        mover.go(to, Promo::Stays, gate),
         out,
     )?;
     push_if(
         becomes(rules, may, Promo::Plus),
-        mover.go(to, Promo::Plus),
+        mover.go(to, Promo::Plus, gate),
         out,
     )
 }
@@ -90,23 +92,19 @@ fn push_to<S: MoveSink>(
 #[inline(never)]
 fn push_each<S: MoveSink>(
     rules: &Rules,
-    tables: &Tables,
     p: &Position,
-    sets: &BoardSets,
     mover: Mover,
+    gate: Option<Kind>,
     out: &mut S,
 ) -> Result<(), S::Full>
     requires fit { IsFit rules.now }
-    requires tables { tables.now ≡ rules.now }
-    requires sets { AreSets rules.now p.now.side p.now.cells sets.now }
-    requires from { mover.from.0 < 120 }
-    requires own { IsOwnMover rules.now p.now mover }
-    ensures ok { OnOk result (TakesAll S.takes (IsMoveOf rules.now p.now mover) out.old out.new) }
-    ensures err { OnErr result (TakesSome S.stops (IsMoveOf rules.now p.now mover) out.old out.new) }
+    requires mover { IsMover rules.now p.now mover }
+    ensures ok { OnOk result (TakesAll S.takes (IsMoveOf rules.now p.now mover gate) out.old out.new) }
+    ensures err { OnErr result (TakesSome S.stops (IsMoveOf rules.now p.now mover gate) out.old out.new) }
 {
-    let mut left = targets(tables, p, sets, mover.piece, mover.from);
+    let mut left = mover.targets;
     while let Some(to) = left.take_first() {
-        push_to(rules, p, mover, Square(to), out)?;
+        push_to(rules, p, mover, gate, Square(to), out)?;
     }
     Ok(())
 }
@@ -114,77 +112,69 @@ fn push_each<S: MoveSink>(
 /// Gives the moves of the own piece at once: none of them is a promotion or may mean castling.
 fn push_plain<S: MoveSink>(
     rules: &Rules,
-    tables: &Tables,
     p: &Position,
-    sets: &BoardSets,
     mover: Mover,
+    gate: Option<Kind>,
     out: &mut S,
 ) -> Result<(), S::Full>
-    requires fit { IsFit rules.now }
-    requires tables { tables.now ≡ rules.now }
-    requires sets { AreSets rules.now p.now.side p.now.cells sets.now }
-    requires from { mover.from.0 < 120 }
-    requires own { IsOwnMover rules.now p.now mover }
+    requires mover { IsMover rules.now p.now mover }
     requires plain { Plain.is_plain rules.now (repeat_of p.now) mover.piece.kind ≡ true }
-    ensures ok { OnOk result (TakesAll S.takes (IsMoveOf rules.now p.now mover) out.old out.new) }
-    ensures err { OnErr result (TakesSome S.stops (IsMoveOf rules.now p.now mover) out.old out.new) }
+    ensures ok { OnOk result (TakesAll S.takes (IsMoveOf rules.now p.now mover gate) out.old out.new) }
+    ensures err { OnErr result (TakesSome S.stops (IsMoveOf rules.now p.now mover gate) out.old out.new) }
 {
-    let targets = targets(tables, p, sets, mover.piece, mover.from);
-    if targets.is_empty() {
+    if mover.targets.is_empty() {
         return Ok(());
     }
-    out.take_all(mover.from, mover.gate, targets)
+    out.take_all(mover.from, gate, mover.targets)
 }
 
-/// Gives the moves of the own piece: all at once, where none of them is a promotion or may mean castling. It is part
-/// of the loop over the pieces, since a call for each piece costs as much as its moves.
+/// Gives the ordinary moves of the own piece, each once and in no special order: all at once, where none of them is a
+/// promotion or may mean castling. Each places `gate` on the square that it leaves, whether the piece may gate or not.
+/// Where the sink is full, it was given some of them, each at most once. It is part of the loop over the pieces, since a
+/// call for each piece costs as much as its moves.
 #[inline(always)]
-fn push_piece<S: MoveSink>(
+pub fn push_mover<S: MoveSink>(
     rules: &Rules,
-    tables: &Tables,
     p: &Position,
-    sets: &BoardSets,
     mover: Mover,
+    gate: Option<Kind>,
     out: &mut S,
 ) -> Result<(), S::Full>
     requires fit { IsFit rules.now }
-    requires tables { tables.now ≡ rules.now }
-    requires sets { AreSets rules.now p.now.side p.now.cells sets.now }
-    requires from { mover.from.0 < 120 }
-    requires own { IsOwnMover rules.now p.now mover }
-    ensures ok { OnOk result (TakesAll S.takes (IsMoveOf rules.now p.now mover) out.old out.new) }
-    ensures err { OnErr result (TakesSome S.stops (IsMoveOf rules.now p.now mover) out.old out.new) }
+    requires mover { IsMover rules.now p.now mover }
+    ensures ok { OnOk result (TakesAll S.takes (IsMoveOf rules.now p.now mover gate) out.old out.new) }
+    ensures err { OnErr result (TakesSome S.stops (IsMoveOf rules.now p.now mover gate) out.old out.new) }
 {
     if is_plain(rules, p, mover.piece.kind) {
-        push_plain(rules, tables, p, sets, mover, out)
+        push_plain(rules, p, mover, gate, out)
     } else {
-        push_each(rules, tables, p, sets, mover, out)
+        push_each(rules, p, mover, gate, out)
     }
 }
 
-/// Gives the ordinary moves of the piece on the square, each once and in no special order, where it is an own one and
-/// not the pawn: each move places `gate` on the square, whether the piece may gate or not. Where the sink is full, it
-/// was given some of them, each at most once.
-pub fn push_from<S: MoveSink>(
+/// The own piece on the square and where it goes; None where there is none, or it is the pawn.
+pub fn mover_on(
     rules: &Rules,
     tables: &Tables,
     p: &Position,
     sets: &BoardSets,
     from: Square,
-    gate: Option<Kind>,
-    out: &mut S,
-) -> Result<(), S::Full>
+) -> Option<Mover>
     requires fit { IsFit rules.now }
     requires tables { tables.now ≡ rules.now }
     requires sets { AreSets rules.now p.now.side p.now.cells sets.now }
     requires from { from.0 < 120 }
-    ensures ok { OnOk result (TakesAll S.takes (IsMoveFrom rules.now (repeat_of p.now) from gate) out.old out.new) }
-    ensures err { OnErr result (TakesSome S.stops (IsMoveFrom rules.now (repeat_of p.now) from gate) out.old out.new) }
+    ensures mover { IfSome result (IsMover rules.now p.now) }
+    ensures from { IfSome result (λ mover. mover.from ≡ from) }
+    ensures none { IfNone result (own_piece rules.now p.now.side (cell_at p.now.cells from.0) ≡ None) }
 {
-    match own_piece(rules, p, from) {
-        None => Ok(()),
-        Some(piece) => push_piece(rules, tables, p, sets, Mover { piece, from, gate }, out),
-    }
+    let piece = own_piece(rules, p, from)?;
+    let targets = targets(tables, p, sets, piece, from);
+    Some(Mover {
+        piece,
+        from,
+        targets,
+    })
 }
 
 /// The same, without a gate, for a square with an own piece that is not the pawn.
@@ -207,12 +197,13 @@ fn push_own<S: MoveSink>(
     match cell_on(&p.cells, from.0) {
         None => Ok(()),
         Some(piece) => {
+            let targets = targets(tables, p, sets, piece, from);
             let mover = Mover {
                 piece,
                 from,
-                gate: None,
+                targets,
             };
-            push_piece(rules, tables, p, sets, mover, out)
+            push_mover(rules, p, mover, None, out)
         }
     }
 }

@@ -11,4 +11,4 @@ mod targets;
 mod tests;
 
 pub use candidate::is_candidate;
-pub use generate::{push_from, push_moves};
+pub use generate::{Mover, mover_on, push_mover, push_moves};

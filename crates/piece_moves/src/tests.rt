@@ -121,7 +121,9 @@ fn moves_of_one_square_place_the_gate(rt: HostRuntime) -> Result<(), Memory> {
     };
     let sets = sets_of(&rules, &p.cells, p.side);
     for from in ["b1", "b2", "a6", "h4"] {
-        push_from(&rules, &tables, &p, &sets, square(from), hawk, &mut found)?;
+        if let Some(mover) = mover_on(&rules, &tables, &p, &sets, square(from)) {
+            push_mover(&rules, &p, mover, hawk, &mut found)?;
+        }
     }
     for to in ["a3", "c3", "d2"] {
         let m = Move::Go {

@@ -1,5 +1,5 @@
 -- A castle is not open where a piece that is no castling rook stands on the rook's target.
-use Rattle.std.proofs.Common.{◌≡◌, ◌≢◌, ℕ, ◌+◌, ◌*◌, ◌<◌, ◌≤◌, nat_le, nat_lt, min, max, Bool, true, false, not, ◌&&◌, ◌==◌, if◌then◌else◌, is_some, Option, Some, None, refl, ap, sym, arith, subst}
+use Rattle.std.proofs.Common.{◌≡◌, ◌≢◌, ℕ, ◌<◌, ◌≤◌, nat_le, nat_lt, min, max, Bool, true, false, not, ◌&&◌, ◌==◌, if◌then◌else◌, is_some, Option, Some, None, refl, sym, arith, subst}
 use Rattle.std.proofs.lemmas.Bool.{and_parts, ne_eqb}
 use Rattle.std.proofs.lemmas.Bool.Decides.{nat_tests}
 use Rattle.std.proofs.Math.Nat.{min-le_right, le-max_right}
@@ -7,7 +7,6 @@ use Rattle.foundation.proofs.CountLemmas.{any_below-true}
 use Rattle.rules_model.specs.declared.board.Repeat.{Repeat}
 use Rattle.rules_model.specs.declared.board.Wing.{Wing}
 use Rattle.rules_model.specs.declared.board.Wing.TheVariants.{Kingside, Queenside}
-use Rattle.rules_model.specs.declared.castling.CastleSquares.{CastleSquares}
 use Rattle.rules_model.specs.declared.rules.Rules.{Rules}
 use Rattle.rules_model.specs.Attacks.{is_own, is_own_king}
 use Rattle.rules_model.specs.Castling.{castle_by, castle_with, castling_on, highest, holds_right, in_the_way, lowest, rook_beyond, rook_file, rook_on, rook_to_file, way_is_open}

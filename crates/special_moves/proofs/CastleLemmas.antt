@@ -20,7 +20,7 @@ use Rattle.rules_model.specs.Regions.{castling_rank, castling_square}
 use Rattle.rules_model.proofs.CandidateLaws.{castle_gate, not_both, rook_file-some}
 use Rattle.special_moves.specs.Castles.{is_open, open_castle, where_open}
 use Rattle.piece_moves.specs.Parts.{IsChosen}
-use Rattle.special_moves.specs.Parts.{castle_move, IsCastleOf, IsCastleOfSome, IsCastleTo, IsGatedCastle, IsGateOf, IsGateOn, kind_at, placed_on}
+use Rattle.special_moves.specs.Parts.{castle_move, IsCastle, IsCastleOf, IsCastleOfSome, IsCastleTo, IsGatedCastle, IsGateOf, IsGateOn, kind_at, placed_on}
 use Rattle.special_moves.proofs.SquareLemmas.{same_file, same_square}
 use Rattle.special_moves.proofs.BelowLemmas.{AreApart}
 
@@ -144,6 +144,15 @@ open-is rules r wing castle e =
     let c = opened rules r (castle_of rules r.cells r.side wing) castle a.1 in
     let d = with_rook rules r.side wing (rook_file rules r.cells r.side wing) castle c.0 in
     record { on = b.0; held = b.1; file = d.0; rook = d.1; is = d.2; castle_is = c.0; open_way = c.1 }
+
+-- where the variant has no castling there is none
+none_open : (rules : Rules) (r : Repeat) (wing : Wing) (o : Option CastleSquares) (m : Move) → open_castle rules r wing ≡ o → castling_on rules ≡ false → IsCastleOfSome rules r o m → ⊥
+none_open rules r wing None m e off h = h
+none_open rules r wing (Some castle) m e off h = let on = (open-is rules r wing castle e).on in cc
+
+pub no-castles : (rules : Rules) (r : Repeat) → castling_on rules ≡ false → (m : Move) → IsCastle rules r m → ⊥
+no-castles rules r off m (inl h) = none_open rules r Kingside (open_castle rules r Kingside) m refl off h
+no-castles rules r off m (inr h) = none_open rules r Queenside (open_castle rules r Queenside) m refl off h
 
 pub lt-is : (a b : ℕ) → nat_lt a b ≡ true → a < b
 lt-is a b e = grind (arith, nat_tests)

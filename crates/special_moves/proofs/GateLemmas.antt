@@ -11,16 +11,16 @@ use Rattle.rules_model.specs.Gates.{has_gate}
 use Rattle.rules_model.specs.Gating.{gates_from}
 use Rattle.rules_model.specs.Hands.{holds}
 use Rattle.rules_model.specs.Regions.{first_rank, on_first_rank}
-use Rattle.rules_model.specs.Squares.{square_on}
+use Rattle.rules_model.specs.Squares.{cell_at, square_on}
 use Rattle.rules_model.proofs.CandidateLaws.{not_both}
 use Rattle.rules_model.proofs.SquareLaws.{file_of_at}
 use Rattle.square_set.specs.declared.Set.{Set}
 use Rattle.square_set.specs.Members.{has}
 use Rattle.move_sink.specs.InTurn.{At}
-use Rattle.move_tables.specs.Occupied.{AreMen}
+use Rattle.piece_moves.specs.Goals.{own_piece}
 use Rattle.piece_moves.specs.Parts.{IsMoveFrom}
-use Rattle.piece_moves.proofs.PartLemmas.{man_there}
-use Rattle.special_moves.specs.Parts.{IsGate, IsGateAt, IsGateFrom, IsGateWith, AreHeld, holds_kind, kind_at, left_by, number_of}
+use Rattle.piece_moves.proofs.PartLemmas.{no_piece}
+use Rattle.special_moves.specs.Parts.{IsGate, IsGateAt, IsGateFrom, IsGateWith, AreHeld, holds_kind, kind_at}
 use Rattle.special_moves.proofs.SquareLemmas.{same_file}
 use Rattle.special_moves.proofs.BelowLemmas.{AreApart}
 
@@ -29,8 +29,18 @@ from_of (Go from to promo gate) = from.0
 from_of (Castle from to rook gate) = from.0
 from_of (Drop kind to) = 0
 
+abbrev kind_number : Option Kind → ℕ
+kind_number None = 0
+kind_number (Some kind) = kind.0
+
+-- the number of the kind that an ordinary move places on the square that it leaves; 0 where it places none
+abbrev pub placed_number : Move → ℕ
+placed_number (Go from to promo gate) = kind_number gate
+placed_number (Castle from to rook gate) = 0
+placed_number (Drop kind to) = 0
+
 same_number : (i j : ℕ) (g : Option Kind) → g ≡ Some (kind_at i) → g ≡ Some (kind_at j) → i ≡ j
-same_number i j g e f = ap number_of (sym e ∙ f)
+same_number i j g e f = ap kind_number (sym e ∙ f)
 
 pub kinds-apart : (rules : Rules) (r : Repeat) (from : Square) → AreApart (IsGateWith rules r from)
 kinds-apart rules r from i j (Go f to promo g) h k = same_number i j g h.1.1 k.1.1
@@ -61,13 +71,13 @@ none-from rules r file l none m h =
 
 -- ---- kind by kind
 
-left-is : (rules : Rules) (r : Repeat) (from : Square) (k : ℕ) (m : Move) → IsGateWith rules r from k m → left_by m ≡ k
-left-is rules r from k (Go f to promo g) h = ap number_of h.1.1
+left-is : (rules : Rules) (r : Repeat) (from : Square) (k : ℕ) (m : Move) → IsGateWith rules r from k m → placed_number m ≡ k
+left-is rules r from k (Go f to promo g) h = ap kind_number h.1.1
 left-is rules r from k (Castle f to rook g) h = absurd h.1
 left-is rules r from k (Drop kind to) h = absurd h.1
 
 -- a piece of the kind that is placed is held
-pub placed-held : (rules : Rules) (r : Repeat) (from : Square) (held : Set) → AreHeld r held → (m : Move) → IsGateAt rules r from m → has held (left_by m) ≡ true
+pub placed-held : (rules : Rules) (r : Repeat) (from : Square) (held : Set) → AreHeld r held → (m : Move) → IsGateAt rules r from m → has held (placed_number m) ≡ true
 placed-held rules r from held are m h =
     let some = (and_parts _ (holds_kind r h.number) h.is.0).1 in
     ap (has held) (left-is rules r from h.number m h.is) ∙ are h.number ∙ rw (lt-ltb h.number 26 h.below, some) refl
@@ -80,22 +90,22 @@ no-gates rules r none m h =
 
 pub none-held : (rules : Rules) (r : Repeat) (held : Set) → AreHeld r held → ((s : ℕ) → has held s ≡ false) → (m : Move) → IsGate rules r m → ⊥
 none-held rules r held are none m h =
-    not_both _ (placed-held rules r (square_on h.number (first_rank rules r.side)) held are m h.is) (none (left_by m))
+    not_both _ (placed-held rules r (square_on h.number (first_rank rules r.side)) held are m h.is) (none (placed_number m))
 
 module _ (rules : Rules) (r : Repeat) (from : Square) (k : ℕ) where
-  pub placed-there : k < 26 → gates_from rules r from (kind_at k) ≡ true → (m : Move) → IsMoveFrom rules r from (Some (kind_at k)) m → At (IsGateAt rules r from) left_by k m
+  pub placed-there : k < 26 → gates_from rules r from (kind_at k) ≡ true → (m : Move) → IsMoveFrom rules r from (Some (kind_at k)) m → At (IsGateAt rules r from) placed_number k m
   placed-there l gates m h = (record { number = k; below = l; is = (gates, h) }, left-is rules r from k m (gates, h))
 
-  with-it : (m : Move) → At (IsGateAt rules r from) left_by k m → IsGateWith rules r from k m
+  with-it : (m : Move) → At (IsGateAt rules r from) placed_number k m → IsGateWith rules r from k m
   with-it m h = subst (λ n. IsGateWith rules r from n m) (sym (left-is rules r from h.0.number m h.0.is) ∙ h.1) h.0.is
 
-  pub there-placed : (m : Move) → At (IsGateAt rules r from) left_by k m → IsMoveFrom rules r from (Some (kind_at k)) m
+  pub there-placed : (m : Move) → At (IsGateAt rules r from) placed_number k m → IsMoveFrom rules r from (Some (kind_at k)) m
   there-placed m h = (with-it m h).1
 
   -- a move without the gate's right places nothing
-  pub none-placed : gates_from rules r from (kind_at k) ≡ false → (m : Move) → At (IsGateAt rules r from) left_by k m → ⊥
+  pub none-placed : gates_from rules r from (kind_at k) ≡ false → (m : Move) → At (IsGateAt rules r from) placed_number k m → ⊥
   none-placed none m h = not_both _ (with-it m h).0 none
 
--- no own man stands there
-pub none-there : (rules : Rules) (r : Repeat) (from : Square) (men : Set) → AreMen r.side r.cells men → has men from.0 ≡ false → (m : Move) → IsGateAt rules r from m → ⊥
-none-there rules r from men are none m h = not_both (has men from.0) (man_there rules r men are from (Some (kind_at h.number)) m h.is.1) none
+-- no own piece stands there
+pub none-there : (rules : Rules) (r : Repeat) (from : Square) → own_piece rules r.side (cell_at r.cells from.0) ≡ None → (m : Move) → IsGateAt rules r from m → ⊥
+none-there rules r from none m h = no_piece rules r from (Some (kind_at h.number)) none m h.is.1

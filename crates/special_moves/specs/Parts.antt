@@ -1,6 +1,5 @@
 -- The parts of the moves that are given in turn.
 use Rattle.std.specs.Prelude.{◌≡◌, ℕ, ◌<◌, nat_lt, Bool, true, ◌&&◌, not, ◌⊎◌, is_none, Option, Some, None}
-use Rattle.foundation.specs.Count.{any_below}
 use Rattle.rules_model.specs.declared.board.Kind.{Kind}
 use Rattle.rules_model.specs.declared.board.Repeat.{Repeat}
 use Rattle.rules_model.specs.declared.board.Square.{Square}
@@ -8,7 +7,7 @@ use Rattle.rules_model.specs.declared.board.Wing.{Wing}
 use Rattle.rules_model.specs.declared.board.Wing.TheVariants.{Kingside, Queenside}
 use Rattle.rules_model.specs.declared.castling.CastleSquares.{CastleSquares}
 use Rattle.rules_model.specs.declared.moves.Move.{Move}
-use Rattle.rules_model.specs.declared.moves.Move.TheVariants.{Go, Castle, Drop}
+use Rattle.rules_model.specs.declared.moves.Move.TheVariants.{Castle, Drop}
 use Rattle.rules_model.specs.declared.moves.Placed.{Placed}
 use Rattle.rules_model.specs.declared.moves.Promo.{Promo}
 use Rattle.rules_model.specs.declared.rules.Rules.{Rules}
@@ -61,16 +60,6 @@ holds_kind r k = holds r.hands r.side (kind_at k)
 -- the set has the numbers of these kinds
 abbrev pub AreHeld : Repeat → Set → Type 0
 AreHeld r held = (k : ℕ) → has held k ≡ (nat_lt k 26 && holds_kind r k)
-
-abbrev pub number_of : Option Kind → ℕ
-number_of None = 0
-number_of (Some kind) = kind.0
-
--- the number of the kind that an ordinary move places on the square that it leaves
-abbrev pub left_by : Move → ℕ
-left_by (Go from to promo gate) = number_of gate
-left_by (Castle from to rook gate) = 0
-left_by (Drop kind to) = 0
 
 -- an ordinary move that may place a hand piece of the kind on the square that it leaves
 abbrev pub moves_and_gates : Rules → Repeat → Square → Square → Promo → Kind → Bool

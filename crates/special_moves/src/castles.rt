@@ -315,6 +315,9 @@ pub(crate) fn push_castles<S: MoveSink>(
     ensures ok { OnOk result (TakesAll S.takes (IsCastle rules.now (repeat_of p.now)) out.old out.new) }
     ensures err { OnErr result (TakesSome S.stops (IsCastle rules.now (repeat_of p.now)) out.old out.new) }
 {
+    if !tables.castling_on() {
+        return Ok(());
+    }
     push_castles_to(rules, tables, p, sets, Wing::Kingside, out)?;
     push_castles_to(rules, tables, p, sets, Wing::Queenside, out)
 }

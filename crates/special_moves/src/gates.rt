@@ -5,13 +5,14 @@ ghost use Rattle.move_sink.specs.Taking.{TakesAll, TakesSome};
 ghost use Rattle.rules_model.specs.Fit.{IsFit};
 ghost use Rattle.rules_model.specs.Gating as Gating;
 ghost use Rattle.rules_model.specs.Repeats.{repeat_of};
+ghost use Rattle.piece_moves.specs.Movers.{IsMover};
 ghost use Rattle.special_moves.specs.Parts as Parts;
 ghost use Rattle.special_moves.specs.Parts.{IsGate, IsGateAt};
 
 use attack_tables::Tables;
 use board_sets::BoardSets;
 use move_sink::MoveSink;
-use piece_moves::push_from;
+use piece_moves::{Mover, mover_on, push_mover};
 use rules_model::castling::has_gate;
 use rules_model::kinds::{first_rank, in_hand};
 use rules_model::{FILES, KINDS, Kind, Move, Position, Promo, Rules, Square};
@@ -56,8 +57,8 @@ fn is_gate(rules: &Rules, p: &Position, file: u8) -> bool
     rules.gate_hand && has_gate(&p.gates, p.side, file)
 }
 
-/// Whether an own piece that is not the pawn makes the ordinary move, and may place a hand piece of the kind on the square that
-/// it leaves.
+/// Whether an own piece that is not the pawn makes the ordinary move, and may place a hand piece of the kind on the
+/// square that it leaves.
 #[tactic(auto, unfolding(rules_model::specs::Candidates::is_piece_move))]
 pub(crate) fn moves_and_gates(
     rules: &Rules,
@@ -82,6 +83,30 @@ pub(crate) fn moves_and_gates(
     may && piece_moves::is_candidate(rules, tables, p, &plain)
 }
 
+/// Gives the moves of the piece that place a piece of these kinds on the square that it leaves.
+fn push_gates_of<S: MoveSink>(
+    rules: &Rules,
+    p: &Position,
+    mover: Mover,
+    held: Set,
+    out: &mut S,
+) -> Result<(), S::Full>
+    requires fit { IsFit rules.now }
+    requires mover { IsMover rules.now p.now mover }
+    requires held { Parts.AreHeld (repeat_of p.now) held }
+    ensures ok { OnOk result (TakesAll S.takes (IsGateAt rules.now (repeat_of p.now) mover.from) out.old out.new) }
+    ensures err { OnErr result (TakesSome S.stops (IsGateAt rules.now (repeat_of p.now) mover.from) out.old out.new) }
+{
+    let mut left = held;
+    while let Some(k) = left.take_first() {
+        let kind = Kind(k);
+        if may_gate(rules, p, mover.from, kind) {
+            push_mover(rules, p, mover, Some(kind), out)?;
+        }
+    }
+    Ok(())
+}
+
 /// Gives the moves from the square that place a piece of these kinds there.
 fn push_gates_from<S: MoveSink>(
     rules: &Rules,
@@ -100,17 +125,10 @@ fn push_gates_from<S: MoveSink>(
     ensures ok { OnOk result (TakesAll S.takes (IsGateAt rules.now (repeat_of p.now) from) out.old out.new) }
     ensures err { OnErr result (TakesSome S.stops (IsGateAt rules.now (repeat_of p.now) from) out.old out.new) }
 {
-    if !sets.own.has(from.0) {
-        return Ok(());
+    match mover_on(rules, tables, p, sets, from) {
+        None => Ok(()),
+        Some(mover) => push_gates_of(rules, p, mover, held, out),
     }
-    let mut left = held;
-    while let Some(k) = left.take_first() {
-        let kind = Kind(k);
-        if may_gate(rules, p, from, kind) {
-            push_from(rules, tables, p, sets, from, Some(kind), out)?;
-        }
-    }
-    Ok(())
 }
 
 /// Gives the moves that place a piece on the square that they leave.

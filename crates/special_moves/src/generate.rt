@@ -14,8 +14,8 @@ use board_sets::BoardSets;
 use move_sink::MoveSink;
 use rules_model::{Position, Rules};
 
-/// Gives the moves of pawns, those of other pieces with a gate, castles and drops, each once and in no special order: those for
-/// which `is_candidate` answers yes. Where the sink is full, it was given some of them, each at most once.
+/// Gives the moves of pawns, those of other pieces with a gate, castles and drops, each once and in no special order:
+/// those for which `is_candidate` answers yes. Where the sink is full, it was given some of them, each at most once.
 pub fn push_moves<S: MoveSink>(
     rules: &Rules,
     tables: &Tables,

@@ -130,6 +130,9 @@ fn gates_and_drops(rt: HostRuntime) -> Result<(), Memory> {
     }
     // 3 moves of the knight, and a drop on each of the 61 empty squares
     assert_eq!(rt; count(rt.alloc(), &rules, &tables, &p)?, 64);
+    // and with a hawk too, as many again
+    p.hands[0][7] = 1;
+    assert_eq!(rt; count(rt.alloc(), &rules, &tables, &p)?, 128);
     // a pawn is dropped on neither the first rank nor the last
     p.gates[0] = 0;
     p.hands[0] = [0; 26];
@@ -148,6 +151,26 @@ fn gates_and_drops(rt: HostRuntime) -> Result<(), Memory> {
         assert_eq!(rt; is_candidate(&rules, &tables, &p, &m), may, "{to}");
     }
     assert_eq!(rt; count(rt.alloc(), &rules, &tables, &p)?, 48);
+    Ok(())
+}
+
+/// Chess with drops where White's second rank and Black's take all that is dropped.
+fn second_ranks() -> Rules
+    ensures { IsFit result }
+{
+    let mut rules = shouse();
+    let ranks = rules.double_region;
+    rules.drop_region = ranks;
+    rules
+}
+
+#[test]
+fn drops_keep_to_their_region(rt: HostRuntime) -> Result<(), Memory> {
+    let rules = second_ranks();
+    let tables = Tables::new(rt.alloc(), &rules)?;
+    let mut p = position("Ke1 Nc2 ke8");
+    p.hands[0][4] = 1;
+    assert_eq!(rt; count(rt.alloc(), &rules, &tables, &p)?, 7);
     Ok(())
 }
 

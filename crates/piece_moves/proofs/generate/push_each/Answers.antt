@@ -9,15 +9,15 @@ use Rattle.piece_moves.proofs.generate.push_each.Goals as goal
 
 pub loop-to-init : goal.loop-to-init
 loop-to-init g c =
-    let are = rw c.requires.tables at c.targets-left.ensures.are in
     record {
-      goes = λ s e. sym (are s) ∙ e;
-      taken = turn-none g.met.S.MoveSink.law _ target_of _ _ (λ m h. are (target_of m) ∙ to_target _ _ _ _ c.args.mover.piece m c.requires.own h);
+      within = λ s e. e;
+      taken = turn-none g.met.S.MoveSink.law _ target_of _ _
+          (λ m h. c.requires.mover.goes (target_of m) ∙ to_target _ _ _ _ c.args.mover.piece m c.requires.mover.own h);
     }
 
 pub loop-to-preserved : goal.loop-to-preserved
 loop-to-preserved g c = record {
-  goes = λ s e. c.loop-to.invariant.goes s (and_parts (has c.loop-to.left s) (not (s == c.in-Some.to)) (sym (c.in-Some.ensures.rest s) ∙ e)).0;
+  within = λ s e. c.loop-to.invariant.within s (and_parts (has c.loop-to.left s) (not (s == c.in-Some.to)) (sym (c.in-Some.ensures.rest s) ∙ e)).0;
   taken = turn-more g.met.S.MoveSink.law _ target_of _ _ _ _ _ _ c.in-Some.ensures.some.member c.in-Some.ensures.rest c.loop-to.invariant.taken c.in_ok-push_to.ensures.ok;
 }
 

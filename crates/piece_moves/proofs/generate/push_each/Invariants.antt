@@ -1,5 +1,4 @@
 use Rattle.std.proofs.Common.{◌≡◌, ℕ, true}
-use Rattle.rules_model.specs.Pieces.{piece_goes}
 use Rattle.rules_model.specs.Repeats.{repeat_of}
 use Rattle.square_set.specs.Members.{has, size}
 use Rattle.move_sink.specs.InTurn.{Outside, target_of}
@@ -9,8 +8,8 @@ use Rattle.piece_moves.proofs.generate.push_each.Given as goal
 
 abbrev pub invariant-loop-to : goal.invariant-loop-to
 invariant-loop-to g l = record {
-  goes : (s : ℕ) → has l.left s ≡ true → piece_goes l.rules l.p.cells l.p.side l.mover.piece.kind l.mover.from s ≡ true;
-  taken : TakesAll g.S.MoveSink.takes (Outside (IsMoveFrom l.rules (repeat_of l.p) l.mover.from l.mover.gate) target_of l.left) l.initial.out l.out;
+  within : (s : ℕ) → has l.left s ≡ true → has l.mover.targets s ≡ true;
+  taken : TakesAll g.S.MoveSink.takes (Outside (IsMoveFrom l.rules (repeat_of l.p) l.mover.from l.gate) target_of l.left) l.initial.out l.out;
 }
 
 abbrev pub decreases-loop-to : goal.decreases-loop-to

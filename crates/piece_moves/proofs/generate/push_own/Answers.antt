@@ -4,8 +4,16 @@ use Rattle.piece_moves.proofs.GoalLemmas.{there}
 use Rattle.piece_moves.proofs.PartLemmas.{from-none}
 use Rattle.piece_moves.proofs.generate.push_own.Goals as goal
 
-pub push_piece-requires-clause-own : goal.push_piece-requires-clause-own
-push_piece-requires-clause-own g c = there c.args.rules.now c.args.p.now.side _ _ (sym c.cell_on.ensures ∙ c.in-Some.is) c.requires.own
+pub targets-targets-requires-clause-own : goal.targets-targets-requires-clause-own
+targets-targets-requires-clause-own g c = rw c.requires.tables (there c.args.rules.now c.args.p.now.side _ _ (sym c.cell_on.ensures ∙ c.in-Some.is) c.requires.own)
+
+pub push_mover-requires-clause-mover : goal.push_mover-requires-clause-mover
+push_mover-requires-clause-mover g c = record {
+  own = there c.args.rules.now c.args.p.now.side _ _ (sym c.cell_on.ensures ∙ c.in-Some.is) c.requires.own;
+  from = c.requires.from;
+  goes = rw c.requires.tables at c.targets-targets.ensures.are;
+  small = c.targets-targets.ensures.small;
+}
 
 pub returns-in-None-clause-ok : goal.returns-in-None-clause-ok
 returns-in-None-clause-ok g c =

@@ -1,8 +1,17 @@
+use Rattle.std.proofs.Common.{ap, sym, ◌∙◌}
 use Rattle.std.proofs.lemmas.Result.{on_ok_weaker, on_err_weaker}
 use Rattle.foundation.proofs.AppendedLemmas.{on_err}
+use Rattle.move_sink.proofs.TakingLemmas.{all-none}
+use Rattle.rules_model.specs.Castling.{castling_on}
+use Rattle.rules_model.specs.Repeats.{repeat_of}
 use Rattle.special_moves.proofs.BelowLemmas.{either-all, either-left, either-some}
-use Rattle.special_moves.proofs.CastleLemmas.{wings-apart}
+use Rattle.special_moves.proofs.CastleLemmas.{no-castles, wings-apart}
 use Rattle.special_moves.proofs.castles.push_castles.Goals as goal
+
+pub returns-then-not-castling_on-clause-ok : goal.returns-then-not-castling_on-clause-ok
+returns-then-not-castling_on-clause-ok g c =
+    let off = ap castling_on (sym c.requires.tables) ∙ sym c.castling_on.ensures ∙ c.if-not-castling_on.true in
+    all-none g.met.S.MoveSink.law _ _ (no-castles c.args.rules.now (repeat_of c.args.p.now) off)
 
 pub returns-in_err-push_castles_to-clause-err : goal.returns-in_err-push_castles_to-clause-err
 returns-in_err-push_castles_to-clause-err g c = on_err _ (either-left _ _ _ _ _ c.in_err-push_castles_to.ensures.err)

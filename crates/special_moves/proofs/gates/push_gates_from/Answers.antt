@@ -1,59 +1,13 @@
-use Rattle.std.proofs.Common.{◌≡◌, ℕ, Bool, ◌&&◌, ◌<◌, nat_lt, ◌==◌, not, true, sym, ◌∙◌}
-use Rattle.std.proofs.lemmas.Bool.{and_parts, ltb-true}
-use Rattle.foundation.proofs.AppendedLemmas.{on_err}
-use Rattle.move_sink.proofs.TakingLemmas.{all-none, all-same, some-within}
-use Rattle.move_sink.proofs.TurnLemmas.{turn-all, turn-more, turn-none, turn-some}
+use Rattle.move_sink.proofs.TakingLemmas.{all-none}
 use Rattle.rules_model.specs.Repeats.{repeat_of}
-use Rattle.square_set.specs.Members.{has}
-use Rattle.special_moves.specs.Parts.{holds_kind, left_by}
-use Rattle.special_moves.proofs.GateLemmas.{none-placed, none-there, placed-held, placed-there, there-placed}
+use Rattle.special_moves.proofs.GateLemmas.{none-there}
 use Rattle.special_moves.proofs.gates.push_gates_from.Goals as goal
 
-pub returns-then-not-has-clause-ok : goal.returns-then-not-has-clause-ok
-returns-then-not-has-clause-ok g c =
-    all-none g.met.S.MoveSink.law _ _
-    (none-there c.args.rules.now (repeat_of c.args.p.now) c.args.from c.args.sets.now.own c.requires.sets.own (sym c.has.ensures ∙ c.if-not-has.true))
+pub returns-in-None-clause-ok : goal.returns-in-None-clause-ok
+returns-in-None-clause-ok g c = all-none g.met.S.MoveSink.law _ _ (none-there c.args.rules.now (repeat_of c.args.p.now) c.args.from c.in-None.ensures.none)
 
-pub loop-k-init : goal.loop-k-init
-loop-k-init g c = record {
-  inside = λ s e. e;
-  taken = turn-none g.met.S.MoveSink.law _ left_by _ _ (placed-held c.args.rules.now (repeat_of c.args.p.now) c.args.from c.args.held c.requires.held);
-}
+pub returns-in-Some-clause-ok : goal.returns-in-Some-clause-ok
+returns-in-Some-clause-ok g c = rw c.in-Some.ensures.from at c.push_gates_of.ensures.ok
 
-small : (k : ℕ) (h : Bool) → (nat_lt k 26 && h) ≡ true → k < 26
-small k h e = ltb-true k 26 (and_parts (nat_lt k 26) h e).0
-
-pub loop-k-preserved-in-Continue-1 : goal.loop-k-preserved-in-Continue-1
-loop-k-preserved-in-Continue-1 g c =
-    let r = repeat_of c.args.p.now in
-    let k = c.in-Some.k in
-    let member = c.loop-k.invariant.inside k c.in-Some.ensures.some.member in
-    let low = small k (holds_kind r k) (sym (c.requires.held k) ∙ member) in
-    let gates = sym c.may_gate.ensures ∙ c.if-may_gate.true in
-    record {
-      inside = λ s e. c.loop-k.invariant.inside s (and_parts (has c.loop-k.left s) (not (s == k)) (sym (c.in-Some.ensures.rest s) ∙ e)).0;
-      taken = turn-more g.met.S.MoveSink.law _ left_by _ _ _ _ _ _ c.in-Some.ensures.some.member c.in-Some.ensures.rest c.loop-k.invariant.taken
-          (all-same _ _ _ _ _ c.in_ok-push_from.ensures.ok (placed-there c.args.rules.now r c.args.from k low gates) (there-placed c.args.rules.now r c.args.from k));
-    }
-
-pub loop-k-preserved : goal.loop-k-preserved
-loop-k-preserved g c =
-    let r = repeat_of c.args.p.now in
-    let k = c.in-Some.k in
-    record {
-      inside = λ s e. c.loop-k.invariant.inside s (and_parts (has c.loop-k.left s) (not (s == k)) (sym (c.in-Some.ensures.rest s) ∙ e)).0;
-      taken = turn-more g.met.S.MoveSink.law _ left_by _ _ _ _ _ _ c.in-Some.ensures.some.member c.in-Some.ensures.rest c.loop-k.invariant.taken
-          (all-none g.met.S.MoveSink.law _ _ (none-placed c.args.rules.now r c.args.from k (sym c.may_gate.ensures ∙ c.if-may_gate.false)));
-    }
-
-pub returns-in_err-push_from-clause-err : goal.returns-in_err-push_from-clause-err
-returns-in_err-push_from-clause-err g c =
-    let r = repeat_of c.args.p.now in
-    let k = c.in-Some.k in
-    let member = c.loop-k.invariant.inside k c.in-Some.ensures.some.member in
-    let low = small k (holds_kind r k) (sym (c.requires.held k) ∙ member) in
-    on_err _ (turn-some g.met.S.MoveSink.law _ left_by _ _ _ _ _ c.in-Some.ensures.some.member c.loop-k.invariant.taken
-    (some-within _ _ _ _ _ c.in_err-push_from.ensures.err (placed-there c.args.rules.now r c.args.from k low (sym c.may_gate.ensures ∙ c.if-may_gate.true))))
-
-pub returns-clause-ok : goal.returns-clause-ok
-returns-clause-ok g c = turn-all g.S.MoveSink.takes _ left_by _ _ _ c.in_default.ensures.none c.loop-k.invariant.taken
+pub returns-in-Some-clause-err : goal.returns-in-Some-clause-err
+returns-in-Some-clause-err g c = rw c.in-Some.ensures.from at c.push_gates_of.ensures.err
