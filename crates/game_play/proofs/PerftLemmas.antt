@@ -43,6 +43,11 @@ sum-ones f h (x ∷ xs) =
 pub perft-one : (rules : Rules) (p : Position) → perft rules 1 p ≡ length (legal rules (repeat_of p))
 perft-one rules p = perft-suc rules 0 p ∙ sum-ones (λ m. perft rules 0 (next rules p m)) (λ m. perft-none rules (next rules p m)) (legal rules (repeat_of p))
 
+-- what is counted for the last ply
+pub perft-last : (rules : Rules) (plies : ℕ) (p q : Position) (n top : ℕ) → plies ≡ 1 → p ≡ q → n ≡ min (length (legal rules (repeat_of p))) top → n ≡ min (perft rules plies q) top
+perft-last rules plies p q n top one same is =
+    is ∙ ap (λ k. min k top) (sym (perft-one rules p) ∙ ap (λ k. perft rules k p) (sym one)) ∙ ap (λ x. min (perft rules plies x) top) same
+
 -- ---- a sum does not depend on the order
 
 -- a list is what stands before an element, the element and what stands behind it

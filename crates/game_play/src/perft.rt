@@ -12,8 +12,9 @@ use legality::{apply_with, count_legal_with, push_legal_with};
 use rules_model::{Memory, MoveList, Position, Rules};
 use std::alloc::Global;
 
-/// How many lists of so many legal moves in turn there are from the position, which has these sets. The moves of each ply are put at
-/// the end of the list, and are taken off again.
+/// How many lists of so many legal moves in turn there are from the position, which has these sets. The moves of each
+/// ply but the last are put at the end of the list, and are taken off again; those of the last are counted alone, with
+/// no call of this function, since a call clears the room of a position.
 fn count_lines(
     rules: &Rules,
     tables: &Tables,
@@ -24,13 +25,10 @@ fn count_lines(
 ) -> Result<u128, Memory>
     requires ready { IsReady rules.now tables.now p.now }
     requires sets { AreSets rules.now p.now.side p.now.cells sets.now }
-    requires some { 1 ≤ plies }
+    requires some { 2 ≤ plies }
     ensures count { IfOk result (λ n. n ≡ min (Perft.perft rules.now plies p.now) (2 ^ 128 - 1)) }
     ensures kept { OnOk result (moves.new ≡ moves.old) }
 {
-    if plies == 1 {
-        return Ok(count_legal_with(rules, tables, p, sets));
-    }
     let first = moves.items.len();
     push_legal_with(rules, tables, p, sets, moves)?;
     let mut total: u128 = 0;
@@ -38,7 +36,11 @@ fn count_lines(
         let m = moves.items[i];
         let mut next = *p;
         let next_sets = apply_with(rules, tables, &mut next, sets, &m);
-        let lines = count_lines(rules, tables, &next, &next_sets, plies - 1, moves)?;
+        let lines = if plies == 2 {
+            count_legal_with(rules, tables, &next, &next_sets)
+        } else {
+            count_lines(rules, tables, &next, &next_sets, plies - 1, moves)?
+        };
         total = total.saturating_add(lines);
     }
     moves.items.truncate(first);
@@ -53,11 +55,14 @@ impl Game {
         requires most { plies ≤ 9 }
         ensures { IfOk result (λ n. n ≡ min (Perft.perft self.now.rules plies (story self.now).last) (2 ^ 128 - 1)) }
     {
+        let (rules, p) = (self.rules(), self.position());
+        let sets = sets_of(rules, &p.cells, p.side);
+        if plies == 1 {
+            return Ok(count_legal_with(rules, &self.tables, p, &sets));
+        }
         let mut moves = MoveList {
             items: Vec::new(alloc),
         };
-        let (rules, p) = (self.rules(), self.position());
-        let sets = sets_of(rules, &p.cells, p.side);
         count_lines(rules, &self.tables, p, &sets, plies, &mut moves)
     }
 }

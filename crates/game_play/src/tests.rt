@@ -97,16 +97,21 @@ fn moves_are_played_and_taken_back(rt: HostRuntime) -> Result<(), Fail> {
     Ok(())
 }
 
+/// Plays so many plies of `ROUND`, over and over.
+fn go_round(rt: &impl Abort, game: &mut Game, plies: usize) {
+    let moves = [go("e1d1"), go("e8d8"), go("d1e1"), go("d8e8")];
+    for ply in 0..plies {
+        assert_eq!(rt; game.play(&moves[ply % 4]), Ok(()));
+    }
+}
+
 #[test]
 fn a_game_keeps_so_many_plies(rt: HostRuntime) -> Result<(), Fail> {
     let rules = chess();
     let start = position("Ke1 ke8 Ra1");
     let mut game = game(&rt, rt.alloc(), &rules, &start, "")?;
-    let moves = [go("e1d1"), go("e8d8"), go("d1e1"), go("d8e8")];
-    for ply in 0..MOST_PLIES {
-        assert_eq!(rt; game.play(&moves[ply % 4]), Ok(()));
-    }
-    assert_eq!(rt; game.play(&moves[0]), Err(PlayFault::TooLong));
+    go_round(&rt, &mut game, MOST_PLIES);
+    assert_eq!(rt; game.play(&go("e1d1")), Err(PlayFault::TooLong));
     assert_eq!(rt; game.play(&go("e1e3")), Err(PlayFault::Illegal));
     assert_eq!(rt; game.moves().len(), 8192);
     assert_eq!(rt; game.repeats(&start), 2049);

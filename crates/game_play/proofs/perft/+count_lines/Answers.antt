@@ -1,4 +1,4 @@
-use Rattle.std.proofs.Common.{◌≡◌, ◌-◌, ◌^◌, ◌<◌, ◌≤◌, min, drop, get_or, length, arith, ap, sym, ◌∙◌}
+use Rattle.std.proofs.Common.{◌≡◌, ◌-◌, ◌^◌, ◌<◌, ◌≤◌, min, drop, get_or, length, arith, ap, ◌∙◌}
 use Rattle.std.specs.List.{sum_by}
 use Rattle.std.proofs.lemmas.List.{take_all, length-drop}
 use Rattle.foundation.specs.Member.{Member}
@@ -7,12 +7,9 @@ use Rattle.rules_model.specs.Legal.{legal}
 use Rattle.rules_model.specs.Next.{next}
 use Rattle.rules_model.specs.Repeats.{repeat_of}
 use Rattle.game_play.specs.Perft.{perft}
-use Rattle.game_play.proofs.PerftLemmas.{perft-one, appended-at, sum-more, listed-perft}
+use Rattle.game_play.proofs.PerftLemmas.{perft-last, appended-at, sum-more, listed-perft}
 use Rattle.game_play.proofs.perft.+count_lines.Goals as goal
-
-pub returns-then-plies-eq1-clause-count : goal.returns-then-plies-eq1-clause-count
-returns-then-plies-eq1-clause-count t c =
-    c.count_legal_with.ensures ∙ ap (λ n. min n (2 ^ 128 - 1)) (sym (perft-one c.args.rules.now c.args.p.now) ∙ ap (λ k. perft c.args.rules.now k c.args.p.now) (sym c.if-plies-eq1.true))
+use Rattle.game_play.proofs.perft.+count_lines.Goals.{then-plies-eq2, else-plies-eq2+in_ok-lines}
 
 pub apply_with-next_sets-requires-clause-legal : goal.apply_with-next_sets-requires-clause-legal
 apply_with-next_sets-requires-clause-legal t c =
@@ -25,13 +22,21 @@ pub loop-i-preserved : goal.loop-i-preserved
 loop-i-preserved t c =
     let rules = c.args.rules.now in
     let f = λ (m : Move). perft rules (c.args.plies - 1) (next rules c.args.p.now m) in
-    let same : c.count_lines.new.moves ≡ c.loop-i.moves = c.in_ok-lines.ensures.kept in
+    let joined : (c.if-plies-eq2.moves ≡ c.loop-i.moves) × (c.if-plies-eq2.lines ≡ min (f c.index.result.now) (2 ^ 128 - 1)) =
+    elim c.if-plies-eq2.branch [
+      | then-plies-eq2 w ↦
+          let one : c.args.plies - 1 ≡ 1 = let two = w.if-plies-eq2.true in omega (arith, two) in
+          (w.moves-is, w.lines-is ∙ perft-last rules (c.args.plies - 1) _ _ _ (2 ^ 128 - 1) one c.apply_with-next_sets.ensures.next w.count_legal_with-lines.ensures)
+      | else-plies-eq2+in_ok-lines w ↦ (
+        w.moves-is ∙ w.in_ok-lines.ensures.kept,
+        w.lines-is ∙ w.in_ok-lines.ensures.count ∙ ap (λ q. min (perft rules (c.args.plies - 1) q) (2 ^ 128 - 1)) c.apply_with-next_sets.ensures.next,
+      )
+    ] in
     let element : c.index.result.now ≡ get_or c.loop-i.moves c.loop-i.i c.index.result.now = c.index.ensures ∙ ap (λ ms. get_or ms c.loop-i.i c.index.result.now) c.moves-in-loop-i.view_is in
-    let lines : c.in_ok-lines.lines ≡ min (f c.index.result.now) (2 ^ 128 - 1) = c.in_ok-lines.ensures.count ∙ ap (λ q. min (perft rules (c.args.plies - 1) q) (2 ^ 128 - 1)) c.apply_with-next_sets.ensures.next in
     let low : c.len-first.result ≤ c.loop-i.i = omega arith in
     let high : c.loop-i.i < length c.loop-i.moves = omega arith in
-    let total = sum-more f c.loop-i.moves c.len-first.result c.loop-i.i (2 ^ 128 - 1) c.loop-i.total c.in_ok-lines.lines c.saturating_add-total.result c.index.result.now low high element c.loop-i.invariant.total lines c.saturating_add-total.ensures in
-    rw same (record { first = c.loop-i.invariant.first; end = c.loop-i.invariant.end; listed = c.loop-i.invariant.listed; total = total })
+    let total = sum-more f c.loop-i.moves c.len-first.result c.loop-i.i (2 ^ 128 - 1) c.loop-i.total c.if-plies-eq2.lines c.saturating_add-total.result c.index.result.now low high element c.loop-i.invariant.total joined.1 c.saturating_add-total.ensures in
+    rw joined.0 (record { first = c.loop-i.invariant.first; end = c.loop-i.invariant.end; listed = c.loop-i.invariant.listed; total = total })
 
 pub returns-clause-count : goal.returns-clause-count
 returns-clause-count t c =
