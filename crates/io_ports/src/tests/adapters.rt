@@ -2,14 +2,17 @@
 use super::{next, polled, read, reading};
 use crate::{
     Given, Got, LineBuf, MAX_FILE, MAX_LINE, MachineClock, MachineFiles, Polled, QueuedInput,
+    Source,
 };
+use std::alloc::Global;
 use std::io::{self, BufReader, BufWriter, PipeWriter, Write};
+use std::process::Abort;
 use std::test::Fail;
 use std::time::Duration;
 use std::{env, fs, process, thread};
 
 // N lines with their numbers, then a line that is too long, and a last one with no end.
-fn write_lines(writer: PipeWriter, alloc: std::alloc::Global, lines: u32) -> io::Result<()> {
+fn write_lines(writer: PipeWriter, alloc: Global, lines: u32) -> io::Result<()> {
     let mut writer = BufWriter::new(alloc, writer)?;
     for number in 0..lines {
         writeln!(writer, "{number}")?;
@@ -20,6 +23,29 @@ fn write_lines(writer: PipeWriter, alloc: std::alloc::Global, lines: u32) -> io:
     writer.flush()
 }
 
+// The next line is this.
+fn hears<S: Source + Send>(rt: &impl Abort, source: &mut S, line: &mut LineBuf, text: &[u8]) {
+    assert_eq!(rt; next(source, line), Got::Line);
+    assert_eq!(rt; line.text(), text);
+}
+
+// The lines of `write_lines`, and then no more.
+fn hears_lines<S: Source + Send>(
+    rt: &impl Abort,
+    alloc: Global,
+    source: &mut S,
+    line: &mut LineBuf,
+    lines: u32,
+) -> Result<(), Fail> {
+    for number in 0..lines {
+        hears(rt, source, line, format!(in alloc; "{number}")?.as_bytes());
+    }
+    assert_eq!(rt; next(source, line), Got::TooLong);
+    hears(rt, source, line, b"quit");
+    assert_eq!(rt; next(source, line), Got::End);
+    Ok(())
+}
+
 #[test]
 fn a_thread_reads_ahead(rt: HostRuntime) -> Result<(), Fail> {
     let alloc = rt.alloc();
@@ -28,18 +54,10 @@ fn a_thread_reads_ahead(rt: HostRuntime) -> Result<(), Fail> {
     let mut input = QueuedInput::start(rt, alloc, BufReader::new(alloc, reader)?)?;
     assert_eq!(rt; polled(&mut input, &mut line), Polled::NotYet);
     writer.write_all(b"uci\r\n")?;
-    assert_eq!(rt; next(&mut input, &mut line), Got::Line);
-    assert_eq!(rt; line.text(), b"uci".as_slice());
+    hears(&rt, &mut input, &mut line, b"uci");
     assert_eq!(rt; polled(&mut input, &mut line), Polled::NotYet);
     let writing = thread::spawn(&rt, move || write_lines(writer, alloc, 100_000))?;
-    for number in 0..100_000u32 {
-        assert_eq!(rt; next(&mut input, &mut line), Got::Line);
-        assert_eq!(rt; line.text(), format!(in alloc; "{number}")?.as_bytes());
-    }
-    assert_eq!(rt; next(&mut input, &mut line), Got::TooLong);
-    assert_eq!(rt; next(&mut input, &mut line), Got::Line);
-    assert_eq!(rt; line.text(), b"quit".as_slice());
-    assert_eq!(rt; next(&mut input, &mut line), Got::End);
+    hears_lines(&rt, alloc, &mut input, &mut line, 100_000)?;
     assert_eq!(rt; polled(&mut input, &mut line), Polled::End);
     writing.join(&rt)?;
     Ok(())
