@@ -1,5 +1,5 @@
 -- What the forms in memory are, as contracts see them.
-use Rattle.std.specs.Prelude.{ℕ, List, [], ◌∷◌, None, Some, bytes_eq, if◌then◌else◌}
+use Rattle.std.specs.Prelude.{ℕ, zero, suc, ◌++◌, List, [], ◌∷◌, None, Some, bytes_eq, if◌then◌else◌}
 use Rattle.std.specs.declared.option.Option.{Option}
 use Rattle.io_ports.specs.Source.{Owed, Endless, Polls}
 use Rattle.io_ports.specs.declared.memory.source.PollsOwed.{PollsOwed}
@@ -24,8 +24,9 @@ pub record SinkState : Type 0 where
   pub room : ℕ
   pub faults : ℕ
 
--- a clock: the readings to come, how many there were, and the last one
+-- a clock: the readings that it gave, those to come, how many there were, and the last one
 pub record ClockState : Type 0 where
+  pub given : List ℕ
   pub coming : List ℕ
   pub count : ℕ
   pub last : ℕ
@@ -40,6 +41,16 @@ abbrev pub readings_after : List ℕ → List ℕ
 readings_after [] = []
 readings_after (reading ∷ []) = reading ∷ []
 readings_after (reading ∷ next ∷ readings) = next ∷ readings
+
+-- the readings to come after this many calls
+abbrev pub coming_after : List ℕ → ℕ → List ℕ
+coming_after readings zero = readings
+coming_after readings (suc calls) = readings_after (coming_after readings calls)
+
+-- the readings of this many calls
+abbrev pub given_in : List ℕ → ℕ → List ℕ
+given_in readings zero = []
+given_in readings (suc calls) = given_in readings calls ++ first_reading (coming_after readings calls) ∷ []
 
 -- the bytes of the first file of this name
 abbrev pub file_at : List File → List ℕ → Option (List ℕ)

@@ -3,17 +3,18 @@ use Rattle.std.specs.Prelude.{◌≡◌, ℕ, ◌+◌, List, [], ◌∷◌}
 use Rattle.std.specs.declared.option.Option.{Option}
 use Rattle.std.specs.Io.KnownBytes.{Appends}
 use Rattle.io_ports.specs.Cause.{RoseBy}
-use Rattle.io_ports.specs.Clock.{count_after, last_after}
+use Rattle.io_ports.specs.Clock.{GivesReadings, count_after, last_after}
 use Rattle.io_ports.specs.Files.{Contents, Read, Finds, faults_of}
 use Rattle.io_ports.specs.Lines.{Line}
 use Rattle.io_ports.specs.Source.{Takes}
 
 -- From old to new the source lost these lines, the sink gained this output, and the clock gave these readings,
 -- each as far as it tells.
-pub record Moves {S K C : Type 0} (left : S → Option (List ℕ)) (taken : K → Option (List ℕ)) (count last : C → ℕ)
+pub record Moves {S K C : Type 0} (left : S → Option (List ℕ)) (taken : K → Option (List ℕ)) (given : C → Option (List ℕ)) (count last : C → ℕ)
     (source source' : S) (sink sink' : K) (clock clock' : C) (lines : List Line) (output readings : List ℕ) : Type 0 where
   pub took : Takes (left source) (left source') lines
   pub wrote : Appends (taken sink) (taken sink') output
+  pub clocked : GivesReadings (count clock') (given clock) (given clock') readings
   pub counted : count clock' ≡ count_after (count clock) readings
   pub read : last clock' ≡ last_after (last clock) readings
 

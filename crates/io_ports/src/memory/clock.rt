@@ -1,6 +1,6 @@
-ghost use Rattle.std.specs.Prelude.{◌≡◌, ◌≤◌, [], ◌∷◌, drop, vec_len, IfOk};
-ghost use Rattle.io_ports.specs.Clock.{count_after};
-ghost use Rattle.io_ports.specs.InMemory.{ClockState, first_reading, readings_after};
+ghost use Rattle.std.specs.Prelude.{◌≡◌, ◌-◌, ◌^◌, ◌<◌, ◌≤◌, [], ◌∷◌, Some, drop, length, vec_len, IfOk};
+ghost use Rattle.io_ports.specs.Clock.{GivesReadings, count_after};
+ghost use Rattle.io_ports.specs.InMemory.{ClockState, first_reading, readings_after, coming_after, given_in};
 
 use crate::Clock;
 use foundation::Memory;
@@ -19,15 +19,21 @@ pub struct ListClock {
 impl Model for ListClock {
     ghost Value = { ClockState };
 
-    ghost view = { λ clock. record { coming = drop clock.at clock.readings.items; count = clock.count; last = clock.last } };
+    ghost view = { λ clock. record {
+      given = given_in clock.readings.items clock.count;
+      coming = drop clock.at clock.readings.items;
+      count = clock.count;
+      last = clock.last;
+    } };
 
-    ghost invariant = { λ clock. clock.at ≤ vec_len clock.readings };
+    ghost invariant = { λ clock. (clock.at ≤ vec_len clock.readings)
+        × (clock.count < 2 ^ 64 - 1 → drop clock.at clock.readings.items ≡ coming_after clock.readings.items clock.count) };
 }
 
 impl ListClock {
     /// A clock that gives these readings.
     pub fn new(alloc: Global, readings: &[u64]) -> Result<ListClock, Memory>
-        ensures { IfOk result (λ clock. clock ≡ record { coming = readings.now; count = 0; last = 0 }) }
+        ensures { IfOk result (λ clock. clock ≡ record { given = []; coming = readings.now; count = 0; last = 0 }) }
     {
         Ok(ListClock {
             readings: readings.to_vec(alloc)?,
@@ -45,12 +51,33 @@ impl ListClock {
     }
 }
 
+// The first of the readings, and 0 where there are none.
+fn first_of(readings: &[u64]) -> u64
+    ensures { result ≡ first_reading readings.now }
+{
+    match readings {
+        [] => 0,
+        [reading, ..] => *reading,
+    }
+}
+
+// How many of the readings a call takes: the last one stays.
+fn step_in(readings: &[u64]) -> usize
+    ensures within { result ≤ length readings.now }
+    ensures rest { drop result readings.now ≡ readings_after readings.now }
+{
+    if readings.len() > 1 { 1 } else { 0 }
+}
+
 impl Clock for ListClock {
+    ghost given = { λ clock. Some clock.given };
+
     ghost count = { λ clock. clock.count };
 
     ghost last = { λ clock. clock.last };
 
     fn now(&mut self) -> u64
+        ensures given { GivesReadings self.new.count (Some self.old.given) (Some self.new.given) (result ∷ []) }
         ensures count { self.new.count ≡ count_after self.old.count (result ∷ []) }
         ensures last { self.new.last ≡ result }
 
@@ -58,15 +85,11 @@ impl Clock for ListClock {
         ensures first { result ≡ first_reading self.old.coming }
         ensures coming { self.new.coming ≡ readings_after self.old.coming }
     {
-        self.count = self.count.saturating_add(1);
         let coming = &self.readings[self.at..];
-        self.last = match coming {
-            [] => 0,
-            [reading, ..] => *reading,
-        };
-        if coming.len() > 1 {
-            self.at += 1;
-        }
-        self.last
+        let reading = first_of(coming);
+        self.at += step_in(coming);
+        self.count = self.count.saturating_add(1);
+        self.last = reading;
+        reading
     }
 }
