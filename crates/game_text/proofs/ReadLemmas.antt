@@ -17,7 +17,7 @@ use Rattle.game_text.specs.declared.fault.GameFault.TheVariants.{Missing, Unknow
 use Rattle.game_text.specs.declared.fault.NoGame.{NoGame}
 use Rattle.game_text.specs.declared.fault.NoGame.TheVariants.{Faulty, Unread, Memory}
 use Rattle.game_text.specs.GameText.{game_by, game_from, game_in, game_of, game_on, lines_by, lines_in, lines_of_game, lines_on, position_of, started, unless_faulty}
-use Rattle.game_text.specs.Heard.{Heard}
+use Rattle.game_text.specs.HeardLines.{HeardLines}
 use Rattle.game_text.specs.Playing.{and_then, play_all, words_of}
 use Rattle.game_text.specs.ReadView.{IsUnread, Plays, Says, SaysGame, Tells}
 
@@ -88,7 +88,7 @@ read_more a b c start now next number text read takes played = record {
 
 -- the end after them
 pub read_end : (a b c : Option (List ℕ)) (start now : Played) (number : ℕ) → ReadOn a b start now number → Takes b c [] → IsAtEnd c
-    → Heard a c (lines_on start) (λ lines. game_on 3 start lines ≡ Ok now)
+    → HeardLines a c (lines_on start) (λ lines. game_on 3 start lines ≡ Ok now)
 read_end a b c start now number read takes ended = record {
   lines = read.lines ++ [];
   took = takes_more a b c read.lines [] read.took takes;
@@ -98,7 +98,7 @@ read_end a b c start now number read takes ended = record {
 
 -- a faulty line after them
 read_fault : (a b c : Option (List ℕ)) (start now : Played) (number : ℕ) (x : Line) (fault : GameFault) → ReadOn a b start now number → Takes b c (x ∷ [])
-    → ((more : List Line) → game_on number now (x ∷ more) ≡ Err fault) → Heard a c (lines_on start) (λ lines. game_on 3 start lines ≡ Err fault)
+    → ((more : List Line) → game_on number now (x ∷ more) ≡ Err fault) → HeardLines a c (lines_on start) (λ lines. game_on 3 start lines ≡ Err fault)
 read_fault a b c start now number x fault read takes is = record {
   lines = read.lines ++ x ∷ [];
   took = takes_more a b c read.lines (x ∷ []) read.took takes;
@@ -107,7 +107,7 @@ read_fault a b c start now number x fault read takes is = record {
 }
 
 -- a line that is not read further
-read_line : (a b c : Option (List ℕ)) (start now : Played) (number : ℕ) (x : Line) → ReadOn a b start now number → Takes b c (x ∷ []) → Heard a c (lines_on start) (λ lines. ⊤)
+read_line : (a b c : Option (List ℕ)) (start now : Played) (number : ℕ) (x : Line) → ReadOn a b start now number → Takes b c (x ∷ []) → HeardLines a c (lines_on start) (λ lines. ⊤)
 read_line a b c start now number x read takes = record {
   lines = read.lines ++ x ∷ [];
   took = takes_more a b c read.lines (x ∷ []) read.took takes;
@@ -116,12 +116,12 @@ read_line a b c start now number x read takes = record {
 }
 
 pub read_long : (a b c : Option (List ℕ)) (start now : Played) (number : ℕ) → ReadOn a b start now number → Takes b c (TooLong ∷ [])
-    → Heard a c (lines_on start) (λ lines. game_on 3 start lines ≡ Err (LineTooLong number))
+    → HeardLines a c (lines_on start) (λ lines. game_on 3 start lines ≡ Err (LineTooLong number))
 read_long a b c start now number read takes = read_fault a b c start now number TooLong (LineTooLong number) read takes (λ more. on-long number now more)
 
 -- a line with a move that is not played
 pub read_unplayed : (a b c : Option (List ℕ)) (start now next new : Played) (number : ℕ) (text : List ℕ) (why : NoGame) → ReadOn a b start now number → Takes b c (Text text ∷ [])
-    → Plays {A = Unit {0}} (play_all now (words_of text)) next (Err why) → Heard a c (lines_on start) (λ lines. Says {A = Unit {0}} (game_on 3 start lines) new (Err why))
+    → Plays {A = Unit {0}} (play_all now (words_of text)) next (Err why) → HeardLines a c (lines_on start) (λ lines. Says {A = Unit {0}} (game_on 3 start lines) new (Err why))
 read_unplayed a b c start now next new number text (Faulty fault) read takes says =
     read_fault a b c start now number (Text text) fault read takes (λ more. on-fault number now text more fault says)
 read_unplayed a b c start now next new number text Unread read takes says = read_line a b c start now number (Text text) read takes
@@ -138,7 +138,7 @@ unplayed_heard said now Unread plays unread = plays
 unplayed_heard said now Memory plays unread = unread
 
 -- nothing after them
-pub read_stop : (a b c : Option (List ℕ)) (start now : Played) (number : ℕ) → ReadOn a b start now number → Takes b c [] → Heard a c (lines_on start) (λ lines. ⊤)
+pub read_stop : (a b c : Option (List ℕ)) (start now : Played) (number : ℕ) → ReadOn a b start now number → Takes b c [] → HeardLines a c (lines_on start) (λ lines. ⊤)
 read_stop a b c start now number read takes = record {
   lines = read.lines ++ [];
   took = takes_more a b c read.lines [] read.took takes;
@@ -146,7 +146,7 @@ read_stop a b c start now number read takes = record {
   holds = inr (λ more. tt);
 }
 
-pub read_so_far : (a b : Option (List ℕ)) (start now : Played) (number : ℕ) → ReadOn a b start now number → Heard a b (lines_on start) (λ lines. ⊤)
+pub read_so_far : (a b : Option (List ℕ)) (start now : Played) (number : ℕ) → ReadOn a b start now number → HeardLines a b (lines_on start) (λ lines. ⊤)
 read_so_far a b start now number read = record {
   lines = read.lines;
   took = read.took;

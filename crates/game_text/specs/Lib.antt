@@ -3,5 +3,5 @@ pub mod GameText
 pub mod Goal
 pub mod Problem
 pub mod Fault
-pub mod Heard
+pub mod HeardLines
 pub mod ReadView

@@ -2,7 +2,7 @@
 ghost use Rattle.std.specs.Prelude.{◌-◌, ◌∷◌, length, take};
 ghost use Rattle.io_ports.specs.Cause.{HasCause};
 ghost use Rattle.io_ports.specs.Lines.{Text};
-ghost use Rattle.game_text.specs.Heard.{Heard};
+ghost use Rattle.game_text.specs.HeardLines.{HeardLines};
 ghost use Rattle.game_text.specs.Problem as Said;
 ghost use Rattle.game_text.specs.ReadView.{IsUnread, Says, Tells};
 
@@ -29,7 +29,7 @@ fn read_line_of_moves<S: Source>(
     source: &mut S,
     line: &mut LineBuf,
 ) -> Result<(), NoGame>
-    ensures heard { Heard (S.left source.old) (S.left source.new) (λ lines. length (take 1 lines))
+    ensures heard { HeardLines (S.left source.old) (S.left source.new) (λ lines. length (take 1 lines))
         (λ lines. Says (Said.moves_on game.old lines) game.new result) }
     ensures cause { HasCause (S.faults source.old) (S.faults source.new) (IsUnread result) }
 {
@@ -43,7 +43,7 @@ fn read_line_of_moves<S: Source>(
 
 // Reads line 4.
 fn read_line_of_goal<S: Source>(source: &mut S, line: &mut LineBuf) -> Result<Goal, NoGame>
-    ensures heard { Heard (S.left source.old) (S.left source.new) (λ lines. length (take 1 lines))
+    ensures heard { HeardLines (S.left source.old) (S.left source.new) (λ lines. length (take 1 lines))
         (λ lines. Tells (Said.goal_on lines) result) }
     ensures cause { HasCause (S.faults source.old) (S.faults source.new) (IsUnread result) }
 {
@@ -65,7 +65,7 @@ fn read_on<S: Source>(
     source: &mut S,
     line: &mut LineBuf,
 ) -> Result<Problem, NoGame>
-    ensures heard { Heard (S.left source.old) (S.left source.new) (Said.lines_on_problem game)
+    ensures heard { HeardLines (S.left source.old) (S.left source.new) (Said.lines_on_problem game)
         (λ lines. Tells (Said.problem_on game lines) result) }
     ensures cause { HasCause (S.faults source.old) (S.faults source.new) (IsUnread result) }
 {
@@ -85,7 +85,7 @@ pub fn read_problem_after<S: Source>(
     source: &mut S,
     line: &mut LineBuf,
 ) -> Result<Problem, NoGame>
-    ensures heard { Heard (S.left source.old) (S.left source.new) (Said.lines_of_problem_after variants.now line.old)
+    ensures heard { HeardLines (S.left source.old) (S.left source.new) (Said.lines_of_problem_after variants.now line.old)
         (λ lines. Tells (Said.problem_after variants.now line.old lines) result) }
     ensures cause { HasCause (S.faults source.old) (S.faults source.new) (IsUnread result) }
 {

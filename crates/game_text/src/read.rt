@@ -6,7 +6,7 @@ ghost use Rattle.rules_model.specs.Fit.{IsFit};
 ghost use Rattle.rules_model.specs.Sound.{is_sound};
 ghost use Rattle.variant_rules.specs.Entries.{found};
 ghost use Rattle.game_text.specs.GameText as GameText;
-ghost use Rattle.game_text.specs.Heard.{Heard};
+ghost use Rattle.game_text.specs.HeardLines.{HeardLines};
 ghost use Rattle.game_text.specs.ReadView.{IsUnread, Says, SaysGame};
 
 use crate::copies::{copy_of, text_of};
@@ -27,7 +27,7 @@ fn read_moves<S: Source>(
     source: &mut S,
     line: &mut LineBuf,
 ) -> Result<(), NoGame>
-    ensures heard { Heard (S.left source.old) (S.left source.new) (GameText.lines_on game.old)
+    ensures heard { HeardLines (S.left source.old) (S.left source.new) (GameText.lines_on game.old)
         (λ lines. Says (GameText.game_on 3 game.old lines) game.new result) }
     ensures cause { HasCause (S.faults source.old) (S.faults source.new) (IsUnread result) }
 {
@@ -78,7 +78,7 @@ fn read_position<S: Source>(
 ) -> Result<Game, NoGame>
     requires fit { IsFit rules.now }
     requires start { is_sound rules.now rules.now.start ≡ true }
-    ensures heard { Heard (S.left source.old) (S.left source.new) (λ lines. GameText.lines_by rules.now (take 1 lines))
+    ensures heard { HeardLines (S.left source.old) (S.left source.new) (λ lines. GameText.lines_by rules.now (take 1 lines))
         (λ lines. SaysGame (GameText.game_by rules.now (take 1 lines)) result) }
     ensures cause { HasCause (S.faults source.old) (S.faults source.new) (IsUnread result) }
 {
@@ -111,7 +111,7 @@ pub(crate) fn read_variant<S: Source>(
     source: &mut S,
     line: &mut LineBuf,
 ) -> Result<Game, NoGame>
-    ensures heard { Heard (S.left source.old) (S.left source.new)
+    ensures heard { HeardLines (S.left source.old) (S.left source.new)
         (λ lines. GameText.lines_in (found variants.now line.old) (take 1 lines))
         (λ lines. SaysGame (GameText.game_of variants.now (Text line.old ∷ take 1 lines)) result) }
     ensures cause { HasCause (S.faults source.old) (S.faults source.new) (IsUnread result) }
@@ -130,7 +130,7 @@ pub(crate) fn read_start<S: Source>(
     source: &mut S,
     line: &mut LineBuf,
 ) -> Result<Game, NoGame>
-    ensures heard { Heard (S.left source.old) (S.left source.new)
+    ensures heard { HeardLines (S.left source.old) (S.left source.new)
         (λ lines. GameText.lines_of_game variants.now (take 2 lines))
         (λ lines. SaysGame (GameText.game_of variants.now (take 2 lines)) result) }
     ensures cause { HasCause (S.faults source.old) (S.faults source.new) (IsUnread result) }
@@ -153,7 +153,7 @@ pub fn read_game<S: Source>(
     variants: &Variants,
     source: &mut S,
 ) -> Result<Game, NoGame>
-    ensures heard { Heard (S.left source.old) (S.left source.new) (GameText.lines_of_game variants.now)
+    ensures heard { HeardLines (S.left source.old) (S.left source.new) (GameText.lines_of_game variants.now)
         (λ lines. SaysGame (GameText.game_of variants.now lines) result) }
     ensures cause { HasCause (S.faults source.old) (S.faults source.new) (IsUnread result) }
 {

@@ -5,7 +5,7 @@ use Rattle.std.specs.Io.KnownBytes.{IsAtEnd}
 use Rattle.io_ports.specs.Lines.{Line, Text}
 use Rattle.io_ports.specs.Source.{Takes}
 use Rattle.io_ports.proofs.Moved.{takes_none, takes_more}
-use Rattle.game_text.specs.Heard.{Heard}
+use Rattle.game_text.specs.HeardLines.{HeardLines}
 use Rattle.proof_text.specs.declared.fault.ProofFault.{ProofFault}
 use Rattle.proof_text.specs.declared.proof.Proof.{Proof}
 use Rattle.proof_text.specs.Fault.{IsFaultOrMemory}
@@ -40,7 +40,7 @@ few : (front more : List Line) → length front ≤ length (front ++ more)
 few front more = let long = length-append front more in omega (arith, long)
 
 -- the end after them
-pub taken-end : (a b c : Option (List ℕ)) (kept now : List Line) → TakenOn a b kept now → Takes b c [] → IsAtEnd c → Heard a c length (λ lines. now ≡ kept ++ lines)
+pub taken-end : (a b c : Option (List ℕ)) (kept now : List Line) → TakenOn a b kept now → Takes b c [] → IsAtEnd c → HeardLines a c length (λ lines. now ≡ kept ++ lines)
 taken-end a b c kept now before takes ended = record {
   lines = before.lines ++ [];
   took = takes_more a b c before.lines [] before.took takes;
@@ -50,7 +50,7 @@ taken-end a b c kept now before takes ended = record {
 
 module _ (P : Type 0) (holds : P) where
   -- nothing after them
-  taken_stop : (a b c : Option (List ℕ)) (kept now : List Line) → TakenOn a b kept now → Takes b c [] → Heard a c length (λ lines. P)
+  taken_stop : (a b c : Option (List ℕ)) (kept now : List Line) → TakenOn a b kept now → Takes b c [] → HeardLines a c length (λ lines. P)
   taken_stop a b c kept now before takes = record {
     lines = before.lines ++ [];
     took = takes_more a b c before.lines [] before.took takes;
@@ -59,7 +59,7 @@ module _ (P : Type 0) (holds : P) where
   }
 
   -- a line after them that is not kept
-  taken_lost : (a b c : Option (List ℕ)) (kept now : List Line) (x : Line) → TakenOn a b kept now → Takes b c (x ∷ []) → Heard a c length (λ lines. P)
+  taken_lost : (a b c : Option (List ℕ)) (kept now : List Line) (x : Line) → TakenOn a b kept now → Takes b c (x ∷ []) → HeardLines a c length (λ lines. P)
   taken_lost a b c kept now x before takes = record {
     lines = before.lines ++ x ∷ [];
     took = takes_more a b c before.lines (x ∷ []) before.took takes;
@@ -67,7 +67,7 @@ module _ (P : Type 0) (holds : P) where
     holds = inr (λ more. holds);
   }
 
-  pub taken-so-far : (a b : Option (List ℕ)) (kept now : List Line) → TakenOn a b kept now → Heard a b length (λ lines. P)
+  pub taken-so-far : (a b : Option (List ℕ)) (kept now : List Line) → TakenOn a b kept now → HeardLines a b length (λ lines. P)
   taken-so-far a b kept now before = record { lines = before.lines; took = before.took; few = few before.lines; holds = inr (λ more. holds) }
 
 -- ---- one line more, by the call
@@ -76,13 +76,13 @@ pub taken-one : (a b c : Option (List ℕ)) (kept now next : List Line) (keeps :
 taken-one a b c kept now next true before one is = taken-more a b c kept now next one.line before one.took one.are
 taken-one a b c kept now next false before one is = absurd (cc)
 
-pub taken-all : (a b c : Option (List ℕ)) (kept now last : List Line) (keeps : Bool) → TakenOn a b kept now → Keeps b c now last (Ok keeps) → keeps ≡ false → Heard a c length (λ lines. last ≡ kept ++ lines)
+pub taken-all : (a b c : Option (List ℕ)) (kept now last : List Line) (keeps : Bool) → TakenOn a b kept now → Keeps b c now last (Ok keeps) → keeps ≡ false → HeardLines a c length (λ lines. last ≡ kept ++ lines)
 taken-all a b c kept now last true before none is = absurd (cc)
 taken-all a b c kept now last false before none is =
-    subst (λ x. Heard a c length (λ lines. x ≡ kept ++ lines)) (sym none.are) (taken-end a b c kept now before none.took none.ended)
+    subst (λ x. HeardLines a c length (λ lines. x ≡ kept ++ lines)) (sym none.are) (taken-end a b c kept now before none.took none.ended)
 
 -- an error, whichever
-pub taken-error : (a b c : Option (List ℕ)) (kept now last : List Line) (why : NoProof) → TakenOn a b kept now → Keeps b c now last (Err why) → Heard a c length (λ lines. AreKept kept lines last (Err why))
+pub taken-error : (a b c : Option (List ℕ)) (kept now last : List Line) (why : NoProof) → TakenOn a b kept now → Keeps b c now last (Err why) → HeardLines a c length (λ lines. AreKept kept lines last (Err why))
 taken-error a b c kept now last (Faulty fault) before keeps = taken_lost (fault ≡ Memory) keeps.memory a b c kept now keeps.line before keeps.took
 taken-error a b c kept now last Unread before keeps = taken_stop ⊤ tt a b c kept now before keeps
 

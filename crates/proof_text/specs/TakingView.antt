@@ -1,7 +1,7 @@
 -- What the code answers of a source's lines, as the definitions have it.
 use Rattle.std.specs.Prelude.{◌≡◌, ℕ, Bool, true, false, List, [], ◌∷◌, ◌++◌, Option, Result, Ok, Err, ⊤, length}
 use Rattle.std.specs.Io.KnownBytes.{IsAtEnd}
-use Rattle.game_text.specs.Heard.{Heard}
+use Rattle.game_text.specs.HeardLines.{HeardLines}
 use Rattle.io_ports.specs.Lines.{Line, Text}
 use Rattle.io_ports.specs.Source.{Takes}
 use Rattle.proof_text.specs.declared.fault.ProofFault.{ProofFault}
@@ -62,7 +62,7 @@ SaysProofAfter first lines said = SaysProof (proof_of (Text first ∷ lines)) sa
 -- lines were taken, and this holds of them: of these alone where the end was met, or else of these and any others
 -- after them
 abbrev pub HoldsOfTaken : Option (List ℕ) → Option (List ℕ) → (List Line → Type 0) → Type 0
-HoldsOfTaken left left' Has = Heard left left' length Has
+HoldsOfTaken left left' Has = HeardLines left left' length Has
 
 -- all lines that were left were taken and added to those that were kept, or there was no memory, or the source failed
 abbrev pub KeepsAll : Option (List ℕ) → Option (List ℕ) → List Line → List Line → Result (Unit {0}) NoProof → Type 0

@@ -18,7 +18,7 @@ use Rattle.game_text.specs.declared.fault.NoGame.{NoGame}
 use Rattle.game_text.specs.declared.fault.NoGame.TheVariants.{Faulty, Unread, Memory}
 use Rattle.game_text.specs.Fault as game
 use Rattle.game_text.specs.GameText.{game_of, lines_of_game}
-use Rattle.game_text.specs.Heard.{Heard}
+use Rattle.game_text.specs.HeardLines.{HeardLines}
 use Rattle.game_text.specs.ReadView as read
 use Rattle.variant_ini.specs.Section.{Section}
 use Rattle.words.specs.Asked.{Asked, asked}
@@ -93,8 +93,8 @@ read_says said r g is says = subst (λ (x : Result Played NoGame). read.SaysGame
 
 -- a game text of the variants of sections
 pub read_heard : (l l' : Option (List ℕ)) (variants variants' : List Named) (r : Result Played NoGame) → variants ≡ variants'
-    → Heard l l' (lines_of_game variants) (λ lines. read.SaysGame (game_of variants lines) r) → Heard l l' (lines_of_game variants') (λ lines. read.SaysGame (game_of variants' lines) r)
-read_heard l l' variants variants' r is heard = subst (λ (x : List Named). Heard l l' (lines_of_game x) (λ lines. read.SaysGame (game_of x lines) r)) is heard
+    → HeardLines l l' (lines_of_game variants) (λ lines. read.SaysGame (game_of variants lines) r) → HeardLines l l' (lines_of_game variants') (λ lines. read.SaysGame (game_of variants' lines) r)
+read_heard l l' variants variants' r is heard = subst (λ (x : List Named). HeardLines l l' (lines_of_game x) (λ lines. read.SaysGame (game_of x lines) r)) is heard
 
 pub no_game_unheard : (why : NoGame) → IsUnheard {A = Played} (Err (game_halt why)) → read.IsUnread {A = Played} (Err why)
 no_game_unheard (Faulty why) unheard = absurd unheard
@@ -174,9 +174,9 @@ reached_need a files none lines = rw none (omega arith)
 
 -- a command where the sections are those of the file
 pub command_heard : (a : Asked) (files : Contents) (failed : ℕ) (sections : List Section) (l l' : Option (List ℕ)) (o : Result (List ℕ) Halt) → HasVariants a.variants files failed (Ok sections)
-    → Heard l l' (lines_needed sections a.command) (λ lines. Answers o (SaysCommand sections a.command lines)) → Heard l l' (lines_asked (Some a) files) (λ lines. Answers o (SaysAsked a files failed lines))
+    → HeardLines l l' (lines_needed sections a.command) (λ lines. Answers o (SaysCommand sections a.command lines)) → HeardLines l l' (lines_asked (Some a) files) (λ lines. Answers o (SaysAsked a files failed lines))
 command_heard a files failed sections l l' o has heard =
-    let here = subst (λ (x : List Section). Heard l l' (lines_needed x a.command) (λ lines. Answers o (SaysCommand x a.command lines))) has.1 heard in
+    let here = subst (λ (x : List Section). HeardLines l l' (lines_needed x a.command) (λ lines. Answers o (SaysCommand x a.command lines))) has.1 heard in
     heard_so _ _ _ _ _ _ here (reached_need a files has.0) (λ lines says. command_answers a files failed lines o has.0 says)
 
 -- and no command answers by the fault of a file

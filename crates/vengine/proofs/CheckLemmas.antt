@@ -13,7 +13,7 @@ use Rattle.game_text.specs.declared.fault.NoGame.{NoGame}
 use Rattle.game_text.specs.declared.fault.NoGame.TheVariants as no_game
 use Rattle.game_text.specs.declared.problem.Problem.{Problem}
 use Rattle.game_text.specs.GameText.{game_of, lines_of_game}
-use Rattle.game_text.specs.Heard.{Heard}
+use Rattle.game_text.specs.HeardLines.{HeardLines}
 use Rattle.game_text.specs.Problem.{lines_of_problem, problem_of}
 use Rattle.game_text.specs.ReadView as read
 use Rattle.game_text.proofs.HeardLemmas.{heard_so, heard_then}
@@ -121,16 +121,16 @@ proof_unheard (no_proof.Faulty (proof_fault.BadBody why)) unheard = absurd unhea
 -- ---- the lines of a problem and its strategy, after the first
 
 -- of rules, by their equation
-pub rules_heard : (a b : Option (List ℕ)) (rules rules' : Rules) (P : Result Strategy StrategyFault → Type 0) → rules ≡ rules' → Heard a b (lines_of_strategy rules) (λ lines. P (strategy_of rules lines))
-    → Heard a b (lines_of_strategy rules') (λ lines. P (strategy_of rules' lines))
-rules_heard a b rules rules' P is heard = subst (λ (r : Rules). Heard a b (lines_of_strategy r) (λ lines. P (strategy_of r lines))) is heard
+pub rules_heard : (a b : Option (List ℕ)) (rules rules' : Rules) (P : Result Strategy StrategyFault → Type 0) → rules ≡ rules' → HeardLines a b (lines_of_strategy rules) (λ lines. P (strategy_of rules lines))
+    → HeardLines a b (lines_of_strategy rules') (λ lines. P (strategy_of rules' lines))
+rules_heard a b rules rules' P is heard = subst (λ (r : Rules). HeardLines a b (lines_of_strategy r) (λ lines. P (strategy_of r lines))) is heard
 
 -- of variants, by theirs
 pub variants_heard : (a b : Option (List ℕ)) (variants variants' : List Named) (x : Line) (r : Result Problem NoGame) → variants ≡ variants'
-    → Heard a b (λ lines. lines_of_problem variants (x ∷ lines) - 1) (λ lines. read.Tells (problem_of variants (x ∷ lines)) r)
-    → Heard a b (λ lines. lines_of_problem variants' (x ∷ lines) - 1) (λ lines. read.Tells (problem_of variants' (x ∷ lines)) r)
+    → HeardLines a b (λ lines. lines_of_problem variants (x ∷ lines) - 1) (λ lines. read.Tells (problem_of variants (x ∷ lines)) r)
+    → HeardLines a b (λ lines. lines_of_problem variants' (x ∷ lines) - 1) (λ lines. read.Tells (problem_of variants' (x ∷ lines)) r)
 variants_heard a b variants variants' x r is heard =
-    subst (λ (v : List Named). Heard a b (λ lines. lines_of_problem v (x ∷ lines) - 1) (λ lines. read.Tells (problem_of v (x ∷ lines)) r)) is heard
+    subst (λ (v : List Named). HeardLines a b (λ lines. lines_of_problem v (x ∷ lines) - 1) (λ lines. read.Tells (problem_of v (x ∷ lines)) r)) is heard
 
 pub problem_first : (variants : List Named) (x : Line) (lines : List Line) → lines_of_problem variants (x ∷ lines) - 1 ≤ lines_of_stated variants (x ∷ lines) - 1
 unfolding lines_of_stated
@@ -174,9 +174,9 @@ stated_most variants x lines = let most = problem-most variants (x ∷ lines) in
 
 -- the problem, and the strategy after it
 pub stated_heard : (a b c : Option (List ℕ)) (variants : List Named) (x : Line) (p : Problem) (P : Result Strategy StrategyFault → Type 0) (R : Result Proof Fault → Type 0)
-    → Heard a b (λ lines. lines_of_problem variants (x ∷ lines) - 1) (λ lines. problem_of variants (x ∷ lines) ≡ Ok p) → Heard b c (lines_of_strategy p.game.rules) (λ lines. P (strategy_of p.game.rules lines))
+    → HeardLines a b (λ lines. lines_of_problem variants (x ∷ lines) - 1) (λ lines. problem_of variants (x ∷ lines) ≡ Ok p) → HeardLines b c (lines_of_strategy p.game.rules) (λ lines. P (strategy_of p.game.rules lines))
     → ((r : Result Strategy StrategyFault) → P r → R (with_strategy p r))
-    → Heard a c (λ lines. lines_of_stated variants (x ∷ lines) - 1) (λ lines. R (by_problem (problem_of variants (x ∷ lines)) (x ∷ lines)))
+    → HeardLines a c (λ lines. lines_of_stated variants (x ∷ lines) - 1) (λ lines. R (by_problem (problem_of variants (x ∷ lines)) (x ∷ lines)))
 stated_heard a b c variants x p P R first later so =
     heard_then a b c 3 _ _ _ _ _ _ first later (λ lines is. stated_there variants x lines p is) (stated_most variants x)
     (λ front rest three is. stated_needs variants x front rest p three is)
@@ -197,16 +197,16 @@ module _ (variants : List Named) (text : List ℕ) (lines : List Line) (t : Bool
 
 -- a proof text
 pub proof_heard : (a b : Option (List ℕ)) (variants : List Named) (text first : List ℕ) (P : Result Proof Fault → Type 0) → is_version text ≡ true → first ≡ text
-    → Heard a b length (λ lines. P (by_proof (proof_of (Text first ∷ lines))))
-    → Heard a b (λ lines. lines_of_check variants (Text text ∷ lines) - 1) (λ lines. P (stated_in variants (Text text ∷ lines)))
+    → HeardLines a b length (λ lines. P (by_proof (proof_of (Text first ∷ lines))))
+    → HeardLines a b (λ lines. lines_of_check variants (Text text ∷ lines) - 1) (λ lines. P (stated_in variants (Text text ∷ lines)))
 proof_heard a b variants text first P is same heard =
     heard_so a b _ _ _ _ heard (λ lines. let all = lines_are_by variants text lines true is in omega (arith, all))
     (λ lines says. subst P (sym (states_by variants text lines true is)) (subst (λ (t : List ℕ). P (by_proof (proof_of (Text t ∷ lines)))) same says))
 
 -- a problem
 pub other_heard : (a b : Option (List ℕ)) (variants : List Named) (text : List ℕ) (P : Result Proof Fault → Type 0) → is_version text ≡ false
-    → Heard a b (λ lines. lines_of_stated variants (Text text ∷ lines) - 1) (λ lines. P (by_problem (problem_of variants (Text text ∷ lines)) (Text text ∷ lines)))
-    → Heard a b (λ lines. lines_of_check variants (Text text ∷ lines) - 1) (λ lines. P (stated_in variants (Text text ∷ lines)))
+    → HeardLines a b (λ lines. lines_of_stated variants (Text text ∷ lines) - 1) (λ lines. P (by_problem (problem_of variants (Text text ∷ lines)) (Text text ∷ lines)))
+    → HeardLines a b (λ lines. lines_of_check variants (Text text ∷ lines) - 1) (λ lines. P (stated_in variants (Text text ∷ lines)))
 other_heard a b variants text P is heard =
     heard_so a b _ _ _ _ heard (λ lines. let all = lines_are_by variants text lines false is in omega (arith, all))
     (λ lines says. subst P (sym (states_by variants text lines false is)) says)

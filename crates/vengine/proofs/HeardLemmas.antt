@@ -2,7 +2,7 @@
 use Rattle.std.proofs.Common.{◌≡◌, ◌≤◌, ℕ, length, List, [], ◌++◌, inl, inr, Option, Some, None, refl, sym, ap, subst, ◌∙◌, map}
 use Rattle.io_ports.specs.Lines.{Line, lines_of, pieces_of, line_of}
 use Rattle.io_ports.proofs.Moved.{map_line-append}
-use Rattle.game_text.specs.Heard.{Heard}
+use Rattle.game_text.specs.HeardLines.{HeardLines}
 use Rattle.std.proofs.lemmas.List.{append-nil}
 use Rattle.vengine.specs.Run.{IsInput, Decide}
 
@@ -20,7 +20,7 @@ lines_of-takes : (xs ys : List ℕ) (pieces : List (List ℕ)) (lines : List Lin
 lines_of-takes xs ys pieces lines cut is =
     ap (map line_of) cut ∙ map_line-append pieces (pieces_of ys) ∙ ap (λ l. l ++ lines_of ys) is
 
-pub settle : (left left' : Option (List ℕ)) (needed : List Line → ℕ) (P : List Line → Type 0) (h : Heard left left' needed P) → Settled left h.lines needed P
+pub settle : (left left' : Option (List ℕ)) (needed : List Line → ℕ) (P : List Line → Type 0) (h : HeardLines left left' needed P) → Settled left h.lines needed P
 settle None left' needed P h = elim h.holds [
   | inl (ended, holds) ↦ record { rest = []; input = tt; few = h.few []; decided = inl refl; holds = subst P (sym (append-nil h.lines)) holds }
   | inr holds ↦ record { rest = []; input = tt; few = h.few []; decided = inl refl; holds = holds [] }

@@ -17,7 +17,7 @@ use Rattle.vengine.specs.declared.fault.FileFault.{FileFault}
 use Rattle.vengine.specs.declared.fault.FileFault.TheVariants.{Failed}
 use Rattle.vengine.specs.Commands.{asks_file, asks_input, lines_asked}
 use Rattle.vengine.specs.Fault.{fault_status}
-use Rattle.game_text.specs.Heard.{Heard}
+use Rattle.game_text.specs.HeardLines.{HeardLines}
 use Rattle.vengine.specs.Looked.{IsTold, IsTooLarge, Looked}
 use Rattle.vengine.specs.Run.{Completes, Decide, Did, DidPart, FilesFailed, HasFileCause, IsCut, IsDone, IsInput, IsUnreadable, May, NamesFile, TellsFiles, TellsInput}
 use Rattle.vengine.specs.Shot.{Shot, Says as ShotSays, SaysAsked, SaysFault, refused, answered}
@@ -99,7 +99,7 @@ told_unread (Some has) files name told unread = subst (λ (x : Contents). (x nam
 -- files were read, and lines were heard, that have this answer
 abbrev pub Says : Option Contents → (List Read → Type 0) → Option (List ℕ) → Option (List ℕ) → List Text → ℕ → List ℕ → Type 0
 Says contents asks left left' words status text =
-    Looked contents asks (λ files failed. Heard left left' (lines_asked (asked words) files) (λ input. Shot words files failed input status text))
+    Looked contents asks (λ files failed. HeardLines left left' (lines_asked (asked words) files) (λ input. Shot words files failed input status text))
 
 module _ {S K C F : Type 0} {left : S → Option (List ℕ)} {taken : K → Option (List ℕ)} {count last : C → ℕ} {contents : F → Option Contents} {faults : F → ℕ} where
   -- the text of an answer was written
@@ -132,7 +132,7 @@ module _ {S K C F : Type 0} {left : S → Option (List ℕ)} {taken : K → Opti
       → Says (contents f) (Reads contents faults f f') (left s) (left s') words status text → AppendsFront (taken k) (taken k') text
       → DidPart (Moves left taken count last s s' k k' c c) (Reads contents faults f f') (contents f) (left s) words
   run_part s s' k k' c f f' words status text looked wrote =
-      let heard = subst (λ (x : List ℕ). Heard (left s) (left s') (lines_asked (asked words) looked.files) (λ input. Shot words looked.files (faults_in looked.reads) input status x)) wrote.whole looked.holds in
+      let heard = subst (λ (x : List ℕ). HeardLines (left s) (left s') (lines_asked (asked words) looked.files) (λ input. Shot words looked.files (faults_in looked.reads) input status x)) wrote.whole looked.holds in
       let settled = settle (left s) (left s') _ _ heard in
       record {
         lines = heard.lines;
@@ -154,7 +154,7 @@ module _ {S K C F : Type 0} {left : S → Option (List ℕ)} {taken : K → Opti
 
   -- nothing was
   pub run_none : (s s' : S) (k : K) (c : C) (f f' : F) (words : List Text)
-      → Looked (contents f) (Reads contents faults f f') (λ files failed. Heard (left s) (left s') (lines_asked (asked words) files) (λ input. ⊤))
+      → Looked (contents f) (Reads contents faults f f') (λ files failed. HeardLines (left s) (left s') (lines_asked (asked words) files) (λ input. ⊤))
       → DidPart (Moves left taken count last s s' k k c c) (Reads contents faults f f') (contents f) (left s) words
   run_none s s' k c f f' words looked =
       let heard = looked.holds in

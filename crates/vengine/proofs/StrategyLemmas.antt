@@ -6,7 +6,7 @@ use Rattle.io_ports.specs.Lines.{Line, Text, TooLong}
 use Rattle.io_ports.specs.Source.{Takes}
 use Rattle.io_ports.proofs.Moved.{takes_none, takes_more}
 use Rattle.rules_model.specs.declared.rules.Rules.{Rules}
-use Rattle.game_text.specs.Heard.{Heard}
+use Rattle.game_text.specs.HeardLines.{HeardLines}
 use Rattle.strategy.specs.declared.fault.StrategyFault.{StrategyFault}
 use Rattle.strategy.specs.declared.nodes.Strategy.{Strategy}
 use Rattle.strategy.specs.declared.reader.Reader.{Reader}
@@ -69,7 +69,7 @@ taken_more rules a b c start now next x before takes steps = record {
 
 -- the end after them
 pub taken_end : (rules : Rules) (a b c : Option (List ℕ)) (start now : Reader) → TakenOn rules a b start now → Takes b c [] → IsAtEnd c
-    → Heard a c (lines_on rules start) (λ lines. taken rules start lines ≡ Ok now)
+    → HeardLines a c (lines_on rules start) (λ lines. taken rules start lines ≡ Ok now)
 taken_end rules a b c start now before takes ended = record {
   lines = before.lines ++ [];
   took = takes_more a b c before.lines [] before.took takes;
@@ -79,7 +79,7 @@ taken_end rules a b c start now before takes ended = record {
 
 -- a faulty line after them, or one for which there was no memory
 pub taken_fault : (rules : Rules) (a b c : Option (List ℕ)) (start now : Reader) (x : Line) (fault : StrategyFault) → TakenOn rules a b start now → Takes b c (x ∷ [])
-    → IsFaultOrMemory (step rules now x) fault → Heard a c (lines_on rules start) (λ lines. IsFaultOrMemory (taken rules start lines) fault)
+    → IsFaultOrMemory (step rules now x) fault → HeardLines a c (lines_on rules start) (λ lines. IsFaultOrMemory (taken rules start lines) fault)
 taken_fault rules a b c start now x fault before takes is = record {
   lines = before.lines ++ x ∷ [];
   took = takes_more a b c before.lines (x ∷ []) before.took takes;
@@ -88,11 +88,11 @@ taken_fault rules a b c start now x fault before takes is = record {
 }
 
 pub taken_long : (rules : Rules) (a b c : Option (List ℕ)) (start now : Reader) (fault : StrategyFault) → TakenOn rules a b start now → Takes b c (TooLong ∷ []) → step rules now TooLong ≡ Err fault
-    → Heard a c (lines_on rules start) (λ lines. IsFaultOrMemory (taken rules start lines) fault)
+    → HeardLines a c (lines_on rules start) (λ lines. IsFaultOrMemory (taken rules start lines) fault)
 taken_long rules a b c start now fault before takes is = taken_fault rules a b c start now TooLong fault before takes (fault-is (step rules now TooLong) fault is)
 
 -- nothing after them
-pub taken_stop : (rules : Rules) (a b c : Option (List ℕ)) (start now : Reader) → TakenOn rules a b start now → Takes b c [] → Heard a c (lines_on rules start) (λ lines. ⊤)
+pub taken_stop : (rules : Rules) (a b c : Option (List ℕ)) (start now : Reader) → TakenOn rules a b start now → Takes b c [] → HeardLines a c (lines_on rules start) (λ lines. ⊤)
 taken_stop rules a b c start now before takes = record {
   lines = before.lines ++ [];
   took = takes_more a b c before.lines [] before.took takes;
@@ -100,7 +100,7 @@ taken_stop rules a b c start now before takes = record {
   holds = inr (λ more. tt);
 }
 
-pub taken_so_far : (rules : Rules) (a b : Option (List ℕ)) (start now : Reader) → TakenOn rules a b start now → Heard a b (lines_on rules start) (λ lines. ⊤)
+pub taken_so_far : (rules : Rules) (a b : Option (List ℕ)) (start now : Reader) → TakenOn rules a b start now → HeardLines a b (lines_on rules start) (λ lines. ⊤)
 taken_so_far rules a b start now before = record {
   lines = before.lines;
   took = before.took;
@@ -118,8 +118,8 @@ fault_same rules b text line fault is says = subst (λ t. IsFaultOrMemory (step 
 
 -- a reader that has begun, by its equation
 pub begun_heard : (rules : Rules) (a b : Option (List ℕ)) (start : Reader) (P : Result Reader StrategyFault → Type 0) → start ≡ begun
-    → Heard a b (lines_on rules start) (λ lines. P (taken rules start lines)) → Heard a b (lines_of_strategy rules) (λ lines. P (taken rules begun lines))
-begun_heard rules a b start P is heard = subst (λ (x : Reader). Heard a b (lines_on rules x) (λ lines. P (taken rules x lines))) is heard
+    → HeardLines a b (lines_on rules start) (λ lines. P (taken rules start lines)) → HeardLines a b (lines_of_strategy rules) (λ lines. P (taken rules begun lines))
+begun_heard rules a b start P is heard = subst (λ (x : Reader). HeardLines a b (lines_on rules x) (λ lines. P (taken rules x lines))) is heard
 
 taken_bad : (rules : Rules) (lines : List Line) (fault : StrategyFault) → taken rules begun lines ≡ Err fault → strategy_of rules lines ≡ Err fault
 unfolding strategy_of

@@ -5,7 +5,7 @@ ghost use Rattle.io_ports.specs.Trace.{Reads};
 ghost use Rattle.vengine.specs.Commands.{asks_input, lines_asked, lines_needed, reads_input};
 ghost use Rattle.variant_rules.specs.Entries.{entries};
 ghost use Rattle.game_text.specs.GameText.{lines_of_game};
-ghost use Rattle.game_text.specs.Heard.{Heard};
+ghost use Rattle.game_text.specs.HeardLines.{HeardLines};
 ghost use Rattle.vengine.specs.GameTexts as print;
 ghost use Rattle.vengine.specs.HaltView.{Answers, IsFileFault, IsUnheard, OutcomeOf};
 ghost use Rattle.vengine.specs.Looked.{Looked};
@@ -65,7 +65,7 @@ fn moves<S: Source>(
     sections: &Sections,
     source: &mut S,
 ) -> Result<Text, Halt<'static>>
-    ensures heard { Heard (S.left source.old) (S.left source.new) (lines_of_game (entries sections.now))
+    ensures heard { HeardLines (S.left source.old) (S.left source.new) (lines_of_game (entries sections.now))
         (λ lines. Answers result (SaysOfGame print.moves_of sections.now lines)) }
     ensures cause { HasCause (S.faults source.old) (S.faults source.new) (IsUnheard result) }
 {
@@ -79,7 +79,7 @@ fn status<S: Source>(
     sections: &Sections,
     source: &mut S,
 ) -> Result<Text, Halt<'static>>
-    ensures heard { Heard (S.left source.old) (S.left source.new) (lines_of_game (entries sections.now))
+    ensures heard { HeardLines (S.left source.old) (S.left source.new) (lines_of_game (entries sections.now))
         (λ lines. Answers result (SaysOfGame print.status_of sections.now lines)) }
     ensures cause { HasCause (S.faults source.old) (S.faults source.new) (IsUnheard result) }
 {
@@ -96,7 +96,7 @@ fn perft<S: Source>(
 ) -> Result<Text, Halt<'static>>
     requires least { 1 ≤ plies }
     requires most { plies ≤ 9 }
-    ensures heard { Heard (S.left source.old) (S.left source.new) (lines_of_game (entries sections.now))
+    ensures heard { HeardLines (S.left source.old) (S.left source.new) (lines_of_game (entries sections.now))
         (λ lines. Answers result (SaysOfGame (print.perft_of plies) sections.now lines)) }
     ensures cause { HasCause (S.faults source.old) (S.faults source.new) (IsUnheard result) }
 {
@@ -120,7 +120,7 @@ fn command_text<'a, S: Source>(
     source: &mut S,
 ) -> Result<Text, Halt<'a>>
     requires plies { HasPlies command }
-    ensures heard { Heard (S.left source.old) (S.left source.new) (lines_needed sections.now (command_seen command.entry))
+    ensures heard { HeardLines (S.left source.old) (S.left source.new) (lines_needed sections.now (command_seen command.entry))
         (λ lines. Answers result (SaysCommand sections.now (command_seen command.entry) lines)) }
     ensures cause { HasCause (S.faults source.old) (S.faults source.new) (IsUnheard result) }
     ensures unread { reads_input (command_seen command.entry) ≡ false → source.new ≡ source.old }
@@ -149,7 +149,7 @@ fn asked_text<'a, S: Source, F: Files>(
 ) -> Result<Text, Halt<'a>>
     requires plies { HasPlies asked.command }
     ensures says { Looked (F.contents files.old) (Reads F.contents F.faults files.old files.new) (λ contents failed.
-        Heard (S.left source.old) (S.left source.new) (lines_asked (Some (asked_seen asked.entry)) contents)
+        HeardLines (S.left source.old) (S.left source.new) (lines_asked (Some (asked_seen asked.entry)) contents)
         (λ lines. Answers result (SaysAsked (asked_seen asked.entry) contents failed lines))) }
     ensures cause { HasCause (S.faults source.old) (S.faults source.new) (IsUnheard result) }
     ensures unread { reads_input (asked_seen asked.entry).command ≡ false → source.new ≡ source.old }
@@ -167,7 +167,7 @@ fn words_text<'a, S: Source, F: Files>(
     files: &mut F,
 ) -> Result<Text, Halt<'a>>
     ensures says { Looked (F.contents files.old) (Reads F.contents F.faults files.old files.new) (λ contents failed.
-        Heard (S.left source.old) (S.left source.new) (lines_asked (asked (map string_bytes words.now)) contents)
+        HeardLines (S.left source.old) (S.left source.new) (lines_asked (asked (map string_bytes words.now)) contents)
         (λ lines. Answers result (Shot (map string_bytes words.now) contents failed lines))) }
     ensures cause { HasCause (S.faults source.old) (S.faults source.new) (IsUnheard result) }
     ensures unread { asks_input (asked (map string_bytes words.now)) ≡ false → source.new ≡ source.old }
@@ -212,7 +212,7 @@ pub fn answer_to<S: Source, F: Files>(
     files: &mut F,
 ) -> Result<Answer, Stop>
     ensures says { Looked (F.contents files.old) (Reads F.contents F.faults files.old files.new) (λ contents failed.
-        Heard (S.left source.old) (S.left source.new) (lines_asked (asked (map string_bytes words.now)) contents) (λ lines.
+        HeardLines (S.left source.old) (S.left source.new) (lines_asked (asked (map string_bytes words.now)) contents) (λ lines.
         IfOk result (λ answer. Shot (map string_bytes words.now) contents failed lines answer.status answer.text))) }
     ensures cause { HasCause (S.faults source.old) (S.faults source.new) (IsUnread result) }
     ensures unsaid { ¬ (IsUnsaid result) }

@@ -3,7 +3,7 @@ ghost use Rattle.std.specs.Prelude.{◌≡◌, ◌-◌, ◌∷◌, IfOk, codes, 
 ghost use Rattle.io_ports.specs.Cause.{HasCause};
 ghost use Rattle.io_ports.specs.Lines.{Text as line_text};
 ghost use Rattle.variant_rules.specs.Entries.{entries};
-ghost use Rattle.game_text.specs.Heard.{Heard};
+ghost use Rattle.game_text.specs.HeardLines.{HeardLines};
 ghost use Rattle.game_text.specs.Problem.{problem_of};
 ghost use Rattle.strategy.specs.Reading.{AreSound};
 ghost use Rattle.proof_text.specs.Reading.{proof_of};
@@ -30,7 +30,7 @@ fn state_proof<S: Source>(
     first: &[u8],
     source: &mut S,
 ) -> Result<Proof, Halt<'static>>
-    ensures heard { Heard (S.left source.old) (S.left source.new) length
+    ensures heard { HeardLines (S.left source.old) (S.left source.new) length
         (λ lines. States (Said.by_proof (proof_of (line_text first.now ∷ lines))) result) }
     ensures sound { IfOk result (λ p. AreSound p.game.rules p.strategy.nodes) }
     ensures cause { HasCause (S.faults source.old) (S.faults source.new) (IsUnheard result) }
@@ -46,7 +46,7 @@ fn state_problem<S: Source>(
     source: &mut S,
     line: &mut LineBuf,
 ) -> Result<Proof, Halt<'static>>
-    ensures heard { Heard (S.left source.old) (S.left source.new)
+    ensures heard { HeardLines (S.left source.old) (S.left source.new)
         (Said.lines_stated_after (entries sections.now) line.old)
         (λ lines. States (Said.stated_after (entries sections.now) line.old lines) result) }
     ensures sound { IfOk result (λ p. AreSound p.game.rules p.strategy.nodes) }
@@ -73,7 +73,7 @@ fn state_after<S: Source>(
     source: &mut S,
     line: &mut LineBuf,
 ) -> Result<Proof, Halt<'static>>
-    ensures heard { Heard (S.left source.old) (S.left source.new)
+    ensures heard { HeardLines (S.left source.old) (S.left source.new)
         (λ lines. Said.lines_of_check (entries sections.now) (line_text line.old ∷ lines) - 1)
         (λ lines. States (Said.stated_in (entries sections.now) (line_text line.old ∷ lines)) result) }
     ensures sound { IfOk result (λ p. AreSound p.game.rules p.strategy.nodes) }
@@ -94,7 +94,7 @@ fn state_by<S: Source>(
     source: &mut S,
     line: &mut LineBuf,
 ) -> Result<Proof, Halt<'static>>
-    ensures heard { Heard (S.left source.old) (S.left source.new) (Said.lines_of_check (entries sections.now))
+    ensures heard { HeardLines (S.left source.old) (S.left source.new) (Said.lines_of_check (entries sections.now))
         (λ lines. States (Said.stated_in (entries sections.now) lines) result) }
     ensures sound { IfOk result (λ p. AreSound p.game.rules p.strategy.nodes) }
     ensures cause { HasCause (S.faults source.old) (S.faults source.new) (IsUnheard result) }
@@ -113,7 +113,7 @@ fn state<S: Source>(
     sections: &Sections,
     source: &mut S,
 ) -> Result<Proof, Halt<'static>>
-    ensures heard { Heard (S.left source.old) (S.left source.new) (Said.lines_of_check (entries sections.now))
+    ensures heard { HeardLines (S.left source.old) (S.left source.new) (Said.lines_of_check (entries sections.now))
         (λ lines. States (Said.stated_in (entries sections.now) lines) result) }
     ensures sound { IfOk result (λ p. AreSound p.game.rules p.strategy.nodes) }
     ensures cause { HasCause (S.faults source.old) (S.faults source.new) (IsUnheard result) }
@@ -155,7 +155,7 @@ pub fn check_text<S: Source>(
     sections: &Sections,
     source: &mut S,
 ) -> Result<Text, Halt<'static>>
-    ensures heard { Heard (S.left source.old) (S.left source.new) (Said.lines_of_check (entries sections.now))
+    ensures heard { HeardLines (S.left source.old) (S.left source.new) (Said.lines_of_check (entries sections.now))
         (λ lines. Answers result (Said.SaysCheck (entries sections.now) lines)) }
     ensures cause { HasCause (S.faults source.old) (S.faults source.new) (IsUnheard result) }
 {

@@ -3,7 +3,7 @@ ghost use Rattle.std.specs.Prelude.{◌≡◌, ◌≤◌, IfOk};
 ghost use Rattle.io_ports.specs.Cause.{HasCause};
 ghost use Rattle.variant_rules.specs.Entries.{entries};
 ghost use Rattle.game_text.specs.GameText.{game_of, lines_of_game};
-ghost use Rattle.game_text.specs.Heard.{Heard};
+ghost use Rattle.game_text.specs.HeardLines.{HeardLines};
 ghost use Rattle.vengine.specs.GameTexts.{moves_of, perft_of, status_of};
 ghost use Rattle.vengine.specs.GameView.{SaysGame};
 ghost use Rattle.vengine.specs.HaltView.{IsUnheard};
@@ -27,7 +27,7 @@ pub fn game_in<S: Source>(
     sections: &Sections,
     source: &mut S,
 ) -> Result<Game, Halt<'static>>
-    ensures heard { Heard (S.left source.old) (S.left source.new) (lines_of_game (entries sections.now))
+    ensures heard { HeardLines (S.left source.old) (S.left source.new) (lines_of_game (entries sections.now))
         (λ lines. SaysGame (game_of (entries sections.now) lines) result) }
     ensures cause { HasCause (S.faults source.old) (S.faults source.new) (IsUnheard result) }
 {

@@ -2,7 +2,7 @@
 ghost use Rattle.std.specs.Prelude.{◌≡◌, IfOk};
 ghost use Rattle.io_ports.specs.Cause.{HasCause};
 ghost use Rattle.rules_model.specs.Fit.{IsFit};
-ghost use Rattle.game_text.specs.Heard.{Heard};
+ghost use Rattle.game_text.specs.HeardLines.{HeardLines};
 ghost use Rattle.strategy.specs.Needed.{lines_of_strategy, lines_on};
 ghost use Rattle.strategy.specs.Reading.{AreSound, strategy_of, taken};
 ghost use Rattle.vengine.specs.CheckView.{IsUnread, SaysStrategy, SaysTaken};
@@ -54,7 +54,7 @@ fn take_lines<S: Source>(
 ) -> Result<(), NoStrategy>
     requires fit { IsFit rules.now }
     requires sound { AreSound rules.now reader.old.nodes }
-    ensures heard { Heard (S.left source.old) (S.left source.new) (lines_on rules.now reader.old)
+    ensures heard { HeardLines (S.left source.old) (S.left source.new) (lines_on rules.now reader.old)
         (λ lines. SaysTaken (taken rules.now reader.old lines) reader.new result) }
     ensures sound { AreSound rules.now reader.new.nodes }
     ensures cause { HasCause (S.faults source.old) (S.faults source.new) (IsUnread result) }
@@ -77,7 +77,7 @@ pub fn read_strategy<S: Source>(
     source: &mut S,
 ) -> Result<Strategy, NoStrategy>
     requires { IsFit rules.now }
-    ensures heard { Heard (S.left source.old) (S.left source.new) (lines_of_strategy rules.now)
+    ensures heard { HeardLines (S.left source.old) (S.left source.new) (lines_of_strategy rules.now)
         (λ lines. SaysStrategy (strategy_of rules.now lines) result) }
     ensures sound { IfOk result (λ s. AreSound rules.now s.nodes) }
     ensures cause { HasCause (S.faults source.old) (S.faults source.new) (IsUnread result) }
