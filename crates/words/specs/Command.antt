@@ -6,6 +6,10 @@ use Rattle.words.specs.Options.{Text}
 
 -- a command with its arguments
 pub data Command : Type 0 where
+  -- `uci`, and no words: a session of the Universal Chess Interface
+  Uci : Command
+  -- `xboard`: a session of the Chess Engine Communication Protocol
+  Xboard : Command
   -- `moves`
   Moves : Command
   -- `status`
@@ -46,14 +50,16 @@ reach_in arguments = None
 -- the command of this name with these arguments
 abbrev pub command_named : Text → List Text → Option Command
 command_named name arguments =
-    if bytes_eq name (codes "moves") then without_arguments Moves arguments
+    if bytes_eq name (codes "uci") then without_arguments Uci arguments
+    else (if bytes_eq name (codes "xboard") then without_arguments Xboard arguments
+    else (if bytes_eq name (codes "moves") then without_arguments Moves arguments
     else (if bytes_eq name (codes "status") then without_arguments Status arguments
     else (if bytes_eq name (codes "perft") then perft_in arguments
     else (if bytes_eq name (codes "check") then without_arguments Check arguments
     else (if bytes_eq name (codes "variants") then without_arguments Variants arguments
-    else (if bytes_eq name (codes "reach") then reach_in arguments else None)))))
+    else (if bytes_eq name (codes "reach") then reach_in arguments else None)))))))
 
--- the command that words without options are
+-- the command that words without options are; that of no words is the session of `uci`
 abbrev pub command_in : List Text → Option Command
-command_in [] = None
+command_in [] = Some Uci
 command_in (name ∷ arguments) = command_named name arguments

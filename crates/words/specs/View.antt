@@ -5,7 +5,7 @@ use Rattle.words.specs.declared.command.Command.{Command as Given}
 use Rattle.words.specs.declared.command.Command.TheVariants as given
 use Rattle.words.specs.declared.reading.Asked.{Asked as GivenAsked}
 use Rattle.words.specs.Asked.{Asked}
-use Rattle.words.specs.Command.{Command, Moves, Status, Perft, Check, Variants, Reach}
+use Rattle.words.specs.Command.{Command, Uci, Xboard, Moves, Status, Perft, Check, Variants, Reach}
 use Rattle.words.specs.Options.{Text}
 
 -- the text that is referred to, where there is one, and the texts
@@ -16,6 +16,8 @@ abbrev pub texts : List (Bor Text) → List Text
 texts = map (λ s. s.now)
 
 abbrev pub command_seen : Given → Command
+command_seen given.Uci = Uci
+command_seen given.Xboard = Xboard
 command_seen given.Moves = Moves
 command_seen given.Status = Status
 command_seen (given.Perft plies) = Perft plies
@@ -32,6 +34,8 @@ asked_seen a = record {
 
 -- a number of plies is from 1 to 9
 abbrev pub HasPlies : Given → Type 0
+HasPlies given.Uci = ⊤
+HasPlies given.Xboard = ⊤
 HasPlies given.Moves = ⊤
 HasPlies given.Status = ⊤
 HasPlies (given.Perft plies) = (1 ≤ plies) × (plies ≤ 9)

@@ -17,6 +17,10 @@ const MOST_PLIES: u64 = 9;
 /// `specs/View.antt` and of `command_named` here and there, and a function of its arguments, here and there.
 #[derive(Clone, Copy, Debug, PartialEq, Eq)]
 pub enum Command<'a> {
+    /// `uci`, and no words: a session of the Universal Chess Interface.
+    Uci,
+    /// `xboard`: a session of the Chess Engine Communication Protocol.
+    Xboard,
     /// `moves`: the legal moves of the last position of the game text that is the input.
     Moves,
     /// `status`: how the game of that text stands, and its last position.
@@ -96,6 +100,8 @@ fn command_named<'a>(name: &str, arguments: &[&'a str]) -> Option<Command<'a>>
     ensures plies { IfSome result HasPlies }
 {
     match name {
+        "uci" => without_arguments(Command::Uci, arguments),
+        "xboard" => without_arguments(Command::Xboard, arguments),
         "moves" => without_arguments(Command::Moves, arguments),
         "status" => without_arguments(Command::Status, arguments),
         "perft" => perft_in(arguments),
@@ -106,13 +112,13 @@ fn command_named<'a>(name: &str, arguments: &[&'a str]) -> Option<Command<'a>>
     }
 }
 
-/// The command that words without options are.
+/// The command that words without options are. That of no words is the session of `uci`.
 pub(crate) fn command_in<'a>(words: &[&'a str]) -> Option<Command<'a>>
     ensures is { option_map command_seen result ≡ command_in (texts words.now) }
     ensures plies { IfSome result HasPlies }
 {
     match words {
-        [] => None,
+        [] => Some(Command::Uci),
         [name, arguments @ ..] => command_named(name, arguments),
     }
 }

@@ -1,5 +1,5 @@
 //! Reads the words of a run.
-ghost use Rattle.std.specs.Prelude.{◌≡◌, ◌<◌, ◌^◌, IfOk, IfSome, length, map, option_map, string_bytes, true};
+ghost use Rattle.std.specs.Prelude.{◌≡◌, ◌<◌, ◌≤◌, ◌^◌, IfOk, IfSome, length, map, option_map, string_bytes, true};
 ghost use Rattle.std.specs.List.{list_all, list_any};
 ghost use Rattle.clap.specs.Words.{app_of, kind_of};
 ghost use Rattle.words.specs.Asked.{are_sound, asked, asked_by, is_sound, threads_in};
@@ -65,7 +65,9 @@ fn all_without_dash(words: &[&str]) -> bool
 }
 
 fn threads_in(text: Option<&str>) -> Option<u64>
-    ensures { result ≡ threads_in (text_in text.entry) }
+    ensures is { result ≡ threads_in (text_in text.entry) }
+    ensures least { IfSome result (λ threads. 1 ≤ threads) }
+    ensures most { IfSome result (λ threads. threads ≤ 64) }
 {
     match text {
         Some(text) => number_in(1, MOST_THREADS, text),
@@ -80,6 +82,8 @@ fn asked_by<'a>(
     words: &[&'a str],
 ) -> Option<Asked<'a>>
     ensures is { option_map asked_seen result ≡ asked_by (text_in variants.entry) (text_in threads.entry) (texts words.now) }
+    ensures least { IfSome result (λ a. 1 ≤ a.threads) }
+    ensures most { IfSome result (λ a. a.threads ≤ 64) }
     ensures plies { IfSome result (λ a. HasPlies a.command) }
 {
     if is_sound(variants) && is_sound(threads) && all_without_dash(words) {
@@ -98,6 +102,8 @@ fn asked_by<'a>(
 /// What the words of a run ask, the program's name left out. None exactly where they are not of the command set.
 pub fn read_words<'a>(alloc: Global, words: &'a [String]) -> Result<Option<Asked<'a>>, Memory>
     ensures is { IfOk result (λ given. option_map asked_seen given ≡ asked (map string_bytes words.now)) }
+    ensures least { IfOk result (λ given. IfSome given (λ a. 1 ≤ a.threads)) }
+    ensures most { IfOk result (λ given. IfSome given (λ a. a.threads ≤ 64)) }
     ensures plies { IfOk result (λ given. IfSome given (λ a. HasPlies a.command)) }
 {
     if has_stray(words) {

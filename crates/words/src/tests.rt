@@ -47,7 +47,17 @@ fn owned(alloc: Global, words: &[&str]) -> Result<Vec<String>, Fail> {
 
 #[test]
 fn words_of_the_set_are_read(rt: HostRuntime) -> Result<(), Fail> {
-    let rows: [(&[&str], Asked<'static>); 21] = [
+    let rows: [(&[&str], Asked<'static>); 25] = [
+        (&[], command(Command::Uci)),
+        (&["uci"], command(Command::Uci)),
+        (&["xboard"], command(Command::Xboard)),
+        (
+            &["--threads", "4"],
+            Asked {
+                threads: 4,
+                ..command(Command::Uci)
+            },
+        ),
         (&["moves"], MOVES),
         (&["status"], command(Command::Status)),
         (&["perft", "1"], command(Command::Perft(1))),
@@ -105,8 +115,8 @@ fn words_of_the_set_are_read(rt: HostRuntime) -> Result<(), Fail> {
 #[test]
 fn other_words_ask_nothing(rt: HostRuntime) -> Result<(), Fail> {
     let rows: [&[&str]; 55] = [
-        &[],
         &[""],
+        &["Uci"],
         &["Moves"],
         &["moves", "leapers"],
         &["moves", ""],
@@ -116,7 +126,7 @@ fn other_words_ask_nothing(rt: HostRuntime) -> Result<(), Fail> {
         &["reach", "-N", "b1"],
         &["reach", "--", "b1"],
         &["Reach", "N", "b1"],
-        &["uci"],
+        &["uci", "f"],
         &["status", "4"],
         &["check", "f"],
         &["Check"],
@@ -140,7 +150,7 @@ fn other_words_ask_nothing(rt: HostRuntime) -> Result<(), Fail> {
         &["--Threads", "4", "moves"],
         &["--=4", "moves"],
         &["--threads"],
-        &["--threads", "4"],
+        &["xboard", "1"],
         &["--threads", "4", "--threads", "4", "moves"],
         &["--threads=4", "--threads=4", "moves"],
         &["--variants", "a", "--variants=a", "moves"],
