@@ -2,7 +2,6 @@
 use Rattle.std.proofs.Common.{◌≡◌, ℕ, List, inl, inr, refl, sym, subst, ap, ◌∙◌, Option, Some, None, Ok, Err, IfOk, option_map, ◌≤◌, arith}
 use Rattle.std.specs.Prelude.{⊤}
 use Rattle.std.specs.declared.result.Result.{Result}
-use Rattle.io_ports.specs.Files.{Contents}
 use Rattle.io_ports.specs.Lines.{Line}
 use Rattle.betza_text.specs.declared.part.Part.{Part}
 use Rattle.betza_text.specs.declared.fault.BetzaFault.{BetzaFault}
@@ -20,27 +19,20 @@ use Rattle.game_text.specs.Fault as game
 use Rattle.game_text.specs.GameText.{game_of, lines_of_game}
 use Rattle.game_text.specs.HeardLines.{HeardLines}
 use Rattle.game_text.specs.ReadView as read
-use Rattle.variant_ini.specs.Section.{Section}
-use Rattle.words.specs.Asked.{Asked, asked}
-use Rattle.words.specs.Command.{Command}
-use Rattle.vengine.specs.Commands.{lines_asked, lines_needed}
-use Rattle.words.specs.Options.{Text}
 use Rattle.vengine.specs.declared.answers.Answer.{Answer}
 use Rattle.vengine.specs.declared.halt.Halt.{Halt}
 use Rattle.vengine.specs.declared.halt.Halt.TheVariants.{Usage, Fault, Stop}
-use Rattle.vengine.specs.declared.fault.Fault.TheVariants as fault
-use Rattle.vengine.specs.declared.stop.Stop.{Stop as Why}
+use Rattle.vengine.specs.declared.fault.Fault.{Fault as Why}
+use Rattle.vengine.specs.declared.stop.Stop.{Stop as Cut}
 use Rattle.vengine.specs.declared.stop.Stop.TheVariants as stop
 use Rattle.vengine.specs.Fault.{error_line, fault_status, fault_text}
 use Rattle.vengine.specs.GameView.{SaysGame}
-use Rattle.vengine.specs.HaltView.{Answers, HasVariants, IsFileFault, IsUnheard, OutcomeOf, betza_halt, game_halt}
+use Rattle.vengine.specs.HaltView.{Answers, IsUnheard, OutcomeOf, betza_halt, game_halt}
 use Rattle.vengine.specs.ReachText.{reach_text}
 use Rattle.vengine.specs.Setup.{setup_of}
-use Rattle.vengine.specs.Shot.{Shot, SaysAsked, SaysCommand, SaysOf, SaysReach, reached, faulty_word, faulty_square, refused, answered}
+use Rattle.vengine.specs.Shot.{SaysOf, SaysReach, reached, faulty_word, faulty_square}
 use Rattle.vengine.specs.StopView.{IsUnread, IsUnsaid}
-use Rattle.vengine.specs.Variants.{sections_of, variants_fault}
-use Rattle.game_text.proofs.HeardLemmas.{heard_so, same_needed}
-use Rattle.vengine.proofs.ShotLemmas.{says_at, shot_asked, command_done}
+use Rattle.vengine.proofs.ShotLemmas.{says_at}
 
 -- ---- the commands
 
@@ -70,21 +62,16 @@ game_answers print said g text is prints = subst (λ (x : Result Played GameFaul
 -- or the fault of the game text
 pub no_game_answers : (print : Played → List ℕ) (said : Result Played GameFault) (why : Halt) → SaysGame said (Err why) → Answers (Err why) (SaysOf print said)
 no_game_answers print said Usage says = absurd says
-no_game_answers print said (Fault (fault.Betza why)) says = absurd says
-no_game_answers print said (Fault (fault.Reach why)) says = absurd says
-no_game_answers print said (Fault (fault.Game why)) says = subst (λ (x : Result Played GameFault). SaysOf print x 3 (error_line (game.fault_text why))) (sym says) (refl, refl)
-no_game_answers print said (Fault (fault.Strategy why)) says = absurd says
-no_game_answers print said (Fault (fault.Proof why)) says = absurd says
-no_game_answers print said (Fault (fault.Verdict why)) says = absurd says
-no_game_answers print said (Fault (fault.Ini why)) says = absurd says
-no_game_answers print said (Fault (fault.File why)) says = absurd says
+no_game_answers print said (Fault fault) says =
+    subst (λ (x : Why). SaysOf print said (fault_status x) (error_line (fault_text x))) (sym says.is)
+    (subst (λ (x : Result Played GameFault). SaysOf print x 3 (error_line (game.fault_text says.why))) (sym says.has) (refl, refl))
 no_game_answers print said (Stop stop.Source) says = tt
 no_game_answers print said (Stop stop.Sink) says = absurd says
 no_game_answers print said (Stop stop.Memory) says = tt
 
 -- why no game was read
 pub no_game_says : (said : Result Played GameFault) (why : NoGame) → read.SaysGame said (Err why) → SaysGame said (Err (game_halt why))
-no_game_says said (Faulty why) says = says
+no_game_says said (Faulty why) says = record { why = why; has = says; is = refl }
 no_game_says said Unread says = tt
 no_game_says said Memory says = tt
 
@@ -104,14 +91,14 @@ no_game_unheard Memory unheard = absurd unheard
 -- ---- outcomes
 
 -- the status and the text of an outcome are those that it comes to
-pub outcome_answers : (o : Result (List ℕ) Halt) (r : Result Answer Why) (Says : ℕ → List ℕ → Type 0) → OutcomeOf o r → Answers o Says → IfOk r (λ answer. Says answer.status answer.text)
+pub outcome_answers : (o : Result (List ℕ) Halt) (r : Result Answer Cut) (Says : ℕ → List ℕ → Type 0) → OutcomeOf o r → Answers o Says → IfOk r (λ answer. Says answer.status answer.text)
 outcome_answers (Ok said) (Ok answer) Says is says = says_at Says 0 answer.status said answer.text is.0 is.1 says
 outcome_answers (Err Usage) (Ok answer) Says is says = says_at Says 2 answer.status _ answer.text is.0 is.1 says
 outcome_answers (Err (Fault why)) (Ok answer) Says is says = says_at Says (fault_status why) answer.status _ answer.text is.0 is.1 says
 outcome_answers (Err (Stop why)) (Ok answer) Says is says = absurd is
 outcome_answers o (Err why) Says is says = tt
 
-pub outcome_unheard : (o : Result (List ℕ) Halt) (r : Result Answer Why) → OutcomeOf o r → IsUnread r → IsUnheard o
+pub outcome_unheard : (o : Result (List ℕ) Halt) (r : Result Answer Cut) → OutcomeOf o r → IsUnread r → IsUnheard o
 outcome_unheard o (Ok answer) is unread = absurd unread
 outcome_unheard (Ok said) (Err stop.Source) is unread = cc
 outcome_unheard (Err Usage) (Err stop.Source) is unread = cc
@@ -123,7 +110,7 @@ outcome_unheard o (Err stop.Sink) is unread = absurd unread
 outcome_unheard o (Err stop.Memory) is unread = absurd unread
 
 -- no sink that failed is why there is none
-pub outcome_unsaid : (o : Result (List ℕ) Halt) (r : Result Answer Why) (Says : ℕ → List ℕ → Type 0) → OutcomeOf o r → Answers o Says → IsUnsaid r → ⊥
+pub outcome_unsaid : (o : Result (List ℕ) Halt) (r : Result Answer Cut) (Says : ℕ → List ℕ → Type 0) → OutcomeOf o r → Answers o Says → IsUnsaid r → ⊥
 outcome_unsaid o (Ok answer) Says is says unsaid = unsaid
 outcome_unsaid o (Err stop.Source) Says is says unsaid = unsaid
 outcome_unsaid (Ok said) (Err stop.Sink) Says is says unsaid = cc
@@ -134,25 +121,6 @@ outcome_unsaid (Err (Stop stop.Sink)) (Err stop.Sink) Says is says unsaid = says
 outcome_unsaid (Err (Stop stop.Memory)) (Err stop.Sink) Says is says unsaid = cc
 outcome_unsaid o (Err stop.Memory) Says is says unsaid = unsaid
 
--- status 6 is that of a file that was not read
-pub outcome_unread : (o : Result (List ℕ) Halt) (r : Result Answer Why) → OutcomeOf o r → IfOk r (λ answer. answer.status ≡ 6 → IsFileFault o)
-outcome_unread (Ok said) (Ok answer) is = λ six. let zero = is.0 in absurd (omega (arith, six, zero))
-outcome_unread (Err Usage) (Ok answer) is = λ six. let two = is.0 in absurd (omega (arith, six, two))
-outcome_unread (Err (Fault (fault.Betza why))) (Ok answer) is = λ six. let three = is.0 in absurd (omega (arith, six, three))
-outcome_unread (Err (Fault (fault.Reach why))) (Ok answer) is = λ six. let three = is.0 in absurd (omega (arith, six, three))
-outcome_unread (Err (Fault (fault.Game why))) (Ok answer) is = λ six. let three = is.0 in absurd (omega (arith, six, three))
-outcome_unread (Err (Fault (fault.Strategy why))) (Ok answer) is = λ six. let three = is.0 in absurd (omega (arith, six, three))
-outcome_unread (Err (Fault (fault.Proof why))) (Ok answer) is = λ six. let three = is.0 in absurd (omega (arith, six, three))
-outcome_unread (Err (Fault (fault.Verdict why))) (Ok answer) is = λ six. let three = is.0 in absurd (omega (arith, six, three))
-outcome_unread (Err (Fault (fault.Ini why))) (Ok answer) is = λ six. let three = is.0 in absurd (omega (arith, six, three))
-outcome_unread (Err (Fault (fault.File why))) (Ok answer) is = λ six. tt
-outcome_unread (Err (Stop why)) (Ok answer) is = absurd is
-outcome_unread o (Err why) is = tt
-
-pub status_unread : {P : Type 0} (o : Result (List ℕ) Halt) (r : Result Answer Why) → OutcomeOf o r → (IsFileFault o → P) → IfOk r (λ answer. answer.status ≡ 6 → P)
-status_unread o (Ok answer) is so = λ six. so (outcome_unread o (Ok answer) is six)
-status_unread o (Err why) is so = tt
-
 -- what follows of a status and a text follows of an outcome
 pub answers_so : (o : Result (List ℕ) Halt) (P Q : ℕ → List ℕ → Type 0) → ((status : ℕ) (text : List ℕ) → P status text → Q status text) → Answers o P → Answers o Q
 answers_so (Ok said) P Q so answers = so 0 said answers
@@ -161,53 +129,6 @@ answers_so (Err (Fault why)) P Q so answers = so (fault_status why) _ answers
 answers_so (Err (Stop stop.Source)) P Q so answers = tt
 answers_so (Err (Stop stop.Sink)) P Q so answers = answers
 answers_so (Err (Stop stop.Memory)) P Q so answers = tt
-
--- a command is reached where the file of variants has no fault
-pub command_answers : (a : Asked) (files : Contents) (failed : ℕ) (input : List Line) (o : Result (List ℕ) Halt) → variants_fault a.variants files ≡ None → Answers o (SaysCommand (sections_of a.variants files) a.command input)
-    → Answers o (SaysAsked a files failed input)
-command_answers a files failed input o none answers = answers_so o _ _ (λ status text says. answered status text none says) answers
-
--- a command is reached for its lines where the file of variants has no fault
-reached_need : (a : Asked) (files : Contents) → variants_fault a.variants files ≡ None → (lines : List Line)
-    → lines_needed (sections_of a.variants files) a.command lines ≤ lines_asked (Some a) files lines
-reached_need a files none lines = rw none (omega arith)
-
--- a command where the sections are those of the file
-pub command_heard : (a : Asked) (files : Contents) (failed : ℕ) (sections : List Section) (l l' : Option (List ℕ)) (o : Result (List ℕ) Halt) → HasVariants a.variants files failed (Ok sections)
-    → HeardLines l l' (lines_needed sections a.command) (λ lines. Answers o (SaysCommand sections a.command lines)) → HeardLines l l' (lines_asked (Some a) files) (λ lines. Answers o (SaysAsked a files failed lines))
-command_heard a files failed sections l l' o has heard =
-    let here = subst (λ (x : List Section). HeardLines l l' (lines_needed x a.command) (λ lines. Answers o (SaysCommand x a.command lines))) has.1 heard in
-    heard_so _ _ _ _ _ _ here (reached_need a files has.0) (λ lines says. command_answers a files failed lines o has.0 says)
-
--- and no command answers by the fault of a file
-pub command_reads_no_file : (sections : List Section) (c : Command) (input : List Line) (o : Result (List ℕ) Halt) → Answers o (SaysCommand sections c input) → IsFileFault o → ⊥
-command_reads_no_file sections c input (Ok said) says file = file
-command_reads_no_file sections c input (Err Usage) says file = file
-command_reads_no_file sections c input (Err (Fault (fault.Betza why))) says file = file
-command_reads_no_file sections c input (Err (Fault (fault.Reach why))) says file = file
-command_reads_no_file sections c input (Err (Fault (fault.Game why))) says file = file
-command_reads_no_file sections c input (Err (Fault (fault.Strategy why))) says file = file
-command_reads_no_file sections c input (Err (Fault (fault.Proof why))) says file = file
-command_reads_no_file sections c input (Err (Fault (fault.Verdict why))) says file = file
-command_reads_no_file sections c input (Err (Fault (fault.Ini why))) says file = file
-command_reads_no_file sections c input (Err (Fault (fault.File why))) says file =
-    elim (command_done sections c input 6 _ says) [ inl is ↦ absurd (omega (arith, is)) | inr is ↦ absurd (omega (arith, is)) ]
-command_reads_no_file sections c input (Err (Stop why)) says file = file
-
--- else the answer is its fault
-pub refusal_answers : (a : Asked) (files : Contents) (failed : ℕ) (input : List Line) (why : Halt) → HasVariants a.variants files failed (Err why) → Answers (Err why) (SaysAsked a files failed input)
-refusal_answers a files failed input Usage has = absurd has
-refusal_answers a files failed input (Fault why) has = refused why has
-refusal_answers a files failed input (Stop stop.Source) has = tt
-refusal_answers a files failed input (Stop stop.Sink) has = has
-refusal_answers a files failed input (Stop stop.Memory) has = tt
-
-pub refusal_heard : (name : Option Text) (files : Contents) (failed : ℕ) (why : Halt) → HasVariants name files failed (Err why) → IsUnheard {A = List ℕ} (Err why) → ⊥
-refusal_heard name files failed Usage has unheard = unheard
-refusal_heard name files failed (Fault why) has unheard = unheard
-refusal_heard name files failed (Stop stop.Source) has unheard = has
-refusal_heard name files failed (Stop stop.Sink) has unheard = unheard
-refusal_heard name files failed (Stop stop.Memory) has unheard = unheard
 
 pub word_heard : (why : BetzaFault) → IsUnheard {A = List ℕ} (Err (betza_halt why)) → ⊥
 word_heard betza.Memory unheard = unheard
@@ -221,12 +142,3 @@ word_heard (betza.BadLame place) unheard = unheard
 word_heard (betza.BadHopper place) unheard = unheard
 word_heard (betza.BadNumber place) unheard = unheard
 word_heard (betza.TooManyTerms place) unheard = unheard
-
--- what words are answered that ask this
-pub words_answer : (words : List Text) (a : Asked) (files : Contents) (failed : ℕ) (input : List Line) (o : Result (List ℕ) Halt) → asked words ≡ Some a → Answers o (SaysAsked a files failed input)
-    → Answers o (Shot words files failed input)
-words_answer words a files failed input o is answers = answers_so o _ _ (λ status text says. shot_asked words a files failed input status text is says) answers
-
-pub words_need : (words : List Text) (a : Asked) (files : Contents) → asked words ≡ Some a → (lines : List Line)
-    → lines_asked (Some a) files lines ≤ lines_asked (asked words) files lines
-words_need words a files is lines = rw is (omega arith)

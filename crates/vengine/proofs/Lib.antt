@@ -3,6 +3,7 @@ mod CheckLemmas
 mod FileLemmas
 mod HeardLemmas
 mod RunLemmas
+mod SessionCases
 mod SetupLemmas
 mod ShotLemmas
 mod StrategyLemmas

@@ -1,40 +1,175 @@
 -- What a run has done.
-use Rattle.std.proofs.Common.{◌≡◌, ℕ, ◌+◌, ◌<◌, Bool, true, false, List, [], ◌++◌, inl, inr, refl, sym, ap, subst, ◌∙◌, Option, Some, None, ◌⊎◌, ◌↔◌, IsNone, arith, is_some}
-use Rattle.std.specs.Prelude.{IsSomeAnd, ⊤, min}
+use Rattle.std.proofs.Common.{◌≡◌, ℕ, zero, suc, ◌+◌, ◌<◌, ◌≤◌, Bool, true, false, List, [], ◌++◌, length, inl, inr, refl, sym, ap, subst, ◌∙◌, Option, Some, None, Ok, Err, IfOk, IsErr, ◌⊎◌, ◌↔◌, IsNone, arith, is_some}
+use Rattle.std.proofs.lemmas.Bool.{false≢true}
+use Rattle.std.proofs.lemmas.List.{append-nil}
+use Rattle.std.specs.Prelude.{if◌then◌else◌}
+use Rattle.std.specs.declared.result.Result.{Result}
 use Rattle.std.specs.Io.KnownBytes.{Appends}
+use Rattle.io_ports.specs.declared.dialect.Dialect.{Dialect}
+use Rattle.io_ports.specs.declared.dialect.Dialect.TheVariants as dialect
 use Rattle.io_ports.specs.Cause.{Rose, RoseBy}
-use Rattle.io_ports.specs.Files.{Contents, Read}
+use Rattle.io_ports.specs.Files.{Contents, Finds, Read}
 use Rattle.io_ports.specs.Lines.{Line}
 use Rattle.io_ports.specs.Sink.{AppendsFront}
 use Rattle.io_ports.specs.Source.{Owed}
 use Rattle.io_ports.specs.Trace.{Moves, Reads, faults_in}
 use Rattle.io_ports.proofs.Moved.{appends_none}
+use Rattle.variant_ini.specs.Section.{Section}
 use Rattle.words.specs.Asked.{Asked, asked}
+use Rattle.words.specs.Command.{Command}
 use Rattle.words.specs.Options.{Text}
-use Rattle.vengine.specs.declared.fault.Fault.{Fault}
-use Rattle.vengine.specs.declared.fault.Fault.TheVariants as fault
-use Rattle.vengine.specs.declared.fault.FileFault.{FileFault}
-use Rattle.vengine.specs.declared.fault.FileFault.TheVariants.{Failed}
-use Rattle.vengine.specs.Commands.{asks_file, asks_input, lines_asked}
-use Rattle.vengine.specs.Fault.{fault_status}
+use Rattle.words.specs.View.{asked_seen, command_seen}
+use Rattle.vengine.specs.declared.answers.Answer.{Answer}
+use Rattle.vengine.specs.declared.halt.Halt.{Halt}
+use Rattle.vengine.specs.declared.halt.Halt.TheVariants as halt
+use Rattle.vengine.specs.declared.opening.Opened.{Opened}
+use Rattle.vengine.specs.declared.stop.Stop.{Stop}
+use Rattle.vengine.specs.declared.stop.Stop.TheVariants as stop
+use Rattle.vengine.specs.Commands.{IsOneShot, asks_file, asks_input, lines_asked, lines_needed}
+use Rattle.vengine.specs.HaltView.{Finishes, Opens, OutcomeOf}
 use Rattle.game_text.specs.HeardLines.{HeardLines}
-use Rattle.vengine.specs.Looked.{IsTold, IsTooLarge, Looked}
-use Rattle.vengine.specs.Run.{Completes, Decide, Did, DidPart, FilesFailed, HasFileCause, IsCut, IsDone, IsInput, IsUnreadable, May, NamesFile, TellsFiles, TellsInput}
-use Rattle.vengine.specs.Shot.{Shot, Says as ShotSays, SaysAsked, SaysFault, refused, answered}
-use Rattle.vengine.specs.Variants.{Refuses, sections_of, variants_fault}
-use Rattle.vengine.proofs.FileLemmas.{why_unread}
+use Rattle.game_text.proofs.HeardLemmas.{heard_nothing, heard_so}
+use Rattle.vengine.specs.Looked.{Looked, TellsReads}
+use Rattle.vengine.specs.Run.{BeginsSession, Completes, CompletesSession, Decide, Did, FilesFailed, Further, HasFileCause, IsCut, IsDone, IsInput, May, PartOf, ShotPart, TellsInput}
+use Rattle.vengine.specs.Sessions.{dialect_of, is_session, served, serves, to_do}
+use Rattle.vengine.specs.Shot.{Shot, Says, SaysCommand}
+use Rattle.vengine.specs.StopView.{IsUnread, IsUnsaid}
+use Rattle.vengine.specs.Variants.{AreFirstReads, fault_in, sections_in}
+use Rattle.vengine.proofs.FileLemmas.{no_further, reads_on, same_reads}
 use Rattle.vengine.proofs.HeardLemmas.{settle}
-use Rattle.vengine.proofs.ShotLemmas.{command_done, shot_some, shot_done, shot_usage, shot_failing, shot_once, shot_without, shot_unnamed}
+use Rattle.vengine.proofs.ShotLemmas.{command_done, done_whole, says_done, says_failing, says_once, says_shot, says_since, says_usage, says_without, shot_asks, shot_says, shot_some}
 
-may_shot : (owed : Owed) (words : List Text) (files : Contents) (failed : ℕ) (input : List Line) (status : ℕ) (text : List ℕ) → Shot words files failed input status text
-    → May owed words files failed input [] status text
-unfolding May
-may_shot owed words files failed input status text shot = (shot, refl)
+-- ---- what a run does
 
-shot_may : (owed : Owed) (words : List Text) (files : Contents) (failed : ℕ) (input : List Line) (readings : List ℕ) (status : ℕ) (text : List ℕ)
-    → May owed words files failed input readings status text → Shot words files failed input status text
+-- no front serves a session
+one_shot_served : (c : Option Asked) → IsOneShot (served c)
+one_shot_served None = tt
+one_shot_served (Some a) = go (dialect_of a.command) refl
+  where
+    go : (d : Option Dialect) → dialect_of a.command ≡ d → IsOneShot (if serves d then Some a else None)
+    go None is = ap is_some is
+    go (Some dialect.Uci) is = tt
+    go (Some dialect.Cecp) is = tt
+
+pub one_shot : (words : List Text) → IsOneShot (to_do words)
+unfolding to_do
+one_shot words = one_shot_served (asked words)
+
+pub part_of : (c : Option Asked) (Shots Spoken : Type 0) → IsOneShot c → Shots → PartOf c Shots Spoken
+part_of None Shots Spoken one part = part
+part_of (Some a) Shots Spoken one part = rw one part
+
+-- ---- the answer of a run
+
+-- What is known of it: some files were read, and there may be others to read where it has no answer; it has one to the lines that were heard.
+pub record Answered (contents : Option Contents) (asks : List Read → Type 0) (left left' : Option (List ℕ)) (words : List Text) (r : Result Answer Stop) : Type 0 where
+  pub reads : List Read
+  pub further : List Read
+  pub all : List Read
+  pub asked : asks reads
+  pub after : Further contents further
+  pub all_are : all ≡ reads ++ further
+  pub whole : IfOk r (λ answer. all ≡ reads)
+  pub first : AreFirstReads (to_do words) all
+  pub heard : HeardLines left left' (lines_asked (to_do words) all) (λ lines. IfOk r (λ answer. Says (to_do words) all lines answer.status answer.text))
+
+loaded_so : (c : Option Asked) (a : Asked) (reads : List Read) → c ≡ Some a → fault_in a.variants reads ≡ None → (input : List Line) (status : ℕ) (text : List ℕ) → SaysCommand (sections_in a.variants reads) a.command input status text
+    → Says c reads input status text
+loaded_so c a reads is none input status text says = subst (λ (x : Option Asked). Says x reads input status text) (sym is) (rw none says)
+
+loaded_need : (c : Option Asked) (a : Asked) (reads : List Read) → c ≡ Some a → fault_in a.variants reads ≡ None → (lines : List Line) → lines_needed (sections_in a.variants reads) a.command lines ≤ lines_asked c reads lines
+loaded_need c a reads is none lines = subst (λ (x : Option Asked). lines_needed (sections_in a.variants reads) a.command lines ≤ lines_asked x reads lines) (sym is) (rw none (omega arith))
+
+if_so : {A : Type 0} {E : Type 0} (r : Result A E) (P Q : A → Type 0) → ((x : A) → P x → Q x) → IfOk r P → IfOk r Q
+if_so (Ok x) P Q so holds = so x holds
+if_so (Err why) P Q so holds = tt
+
+if_all : {A : Type 0} {E : Type 0} (r : Result A E) (P : A → Type 0) → ((x : A) → P x) → IfOk r P
+if_all (Ok x) P all = all x
+if_all (Err why) P all = tt
+
+-- a command was reached
+pub reached : (contents : Option Contents) (asks : List Read → Type 0) (left left' : Option (List ℕ)) (words : List Text) (o : Opened) (r : Result Answer Stop)
+    → Looked asks (λ reads. Opens (to_do words) reads (Ok o))
+    → HeardLines left left' (lines_needed o.sections (command_seen o.asked.command)) (λ lines. IfOk r (λ answer. SaysCommand o.sections (command_seen o.asked.command) lines answer.status answer.text))
+    → Answered contents asks left left' words r
+reached contents asks left left' words o r looked heard =
+    let a = asked_seen o.asked in
+    let (is, accepted, are) = looked.holds in
+    let here = rw are at heard in
+    record {
+      reads = looked.reads;
+      further = [];
+      all = looked.reads;
+      asked = looked.asks;
+      after = no_further contents;
+      all_are = sym (append-nil looked.reads);
+      whole = if_all r _ (λ answer. refl);
+      first = subst (λ (x : Option Asked). AreFirstReads x looked.reads) (sym is) accepted.0;
+      heard = heard_so _ _ _ _ _ _ here (loaded_need (to_do words) a looked.reads is accepted.1)
+          (λ lines says. if_so r _ _ (λ answer said. loaded_so (to_do words) a looked.reads is accepted.1 lines answer.status answer.text said) says);
+    }
+
+-- none was
+refused_says : (c : Option Asked) (reads : List Read) (why : Halt) (r : Result Answer Stop) (lines : List Line) → Opens c reads (Err why) → OutcomeOf (Err why) r
+    → IfOk r (λ answer. Says c reads lines answer.status answer.text)
+refused_says c reads why (Err cut) lines opens is = tt
+refused_says None reads halt.Usage (Ok answer) lines opens is = is
+refused_says (Some a) reads halt.Usage (Ok answer) lines opens is = cc
+refused_says None reads (halt.Fault fault) (Ok answer) lines opens is = absurd opens
+refused_says (Some a) reads (halt.Fault fault) (Ok answer) lines opens is = rw opens.1 is
+refused_says c reads (halt.Stop why) (Ok answer) lines opens is = absurd is
+
+refused_first : (c : Option Asked) (reads : List Read) (why : Halt) (r : Result Answer Stop) (answer : Answer) → Opens c reads (Err why) → OutcomeOf (Err why) r → r ≡ Ok answer → AreFirstReads c reads
+refused_first None reads halt.Usage r answer opens is ok = opens.1
+refused_first (Some a) reads halt.Usage r answer opens is ok = cc
+refused_first None reads (halt.Fault fault) r answer opens is ok = absurd opens
+refused_first (Some a) reads (halt.Fault fault) r answer opens is ok = opens.0
+refused_first c reads (halt.Stop why) (Ok x) answer opens is ok = absurd is
+refused_first c reads (halt.Stop why) (Err x) answer opens is ok = cc
+
+-- the reads that were done, or none of them
+some_reads : (c : Option Asked) (reads : List Read) (why : Halt) → Opens c reads (Err why) → (reads ≡ []) ⊎ AreFirstReads c reads
+some_reads c reads halt.Usage opens = inl opens.1
+some_reads None reads (halt.Fault fault) opens = absurd opens
+some_reads (Some a) reads (halt.Fault fault) opens = inr opens.0
+some_reads c reads (halt.Stop stop.Source) opens = absurd opens
+some_reads c reads (halt.Stop stop.Sink) opens = absurd opens
+some_reads c reads (halt.Stop stop.Memory) opens = opens
+
+pub refused : (contents : Option Contents) (asks : List Read → Type 0) (left : Option (List ℕ)) (words : List Text) (why : Halt) (r : Result Answer Stop)
+    → Looked asks (λ reads. Opens (to_do words) reads (Err why)) → OutcomeOf (Err why) r → Answered contents asks left left words r
+refused contents asks left words why (Ok answer) looked is = record {
+  reads = looked.reads;
+  further = [];
+  all = looked.reads;
+  asked = looked.asks;
+  after = no_further contents;
+  all_are = sym (append-nil looked.reads);
+  whole = refl;
+  first = refused_first (to_do words) looked.reads why (Ok answer) answer looked.holds is refl;
+  heard = heard_nothing _ _ _ (λ lines. refused_says (to_do words) looked.reads why (Ok answer) lines looked.holds is);
+}
+refused contents asks left words why (Err cut) looked is =
+    let (further, after, first) = reads_on contents (to_do words) looked.reads (some_reads (to_do words) looked.reads why looked.holds) in
+    record {
+      reads = looked.reads;
+      further = further;
+      all = looked.reads ++ further;
+      asked = looked.asks;
+      after = after;
+      all_are = refl;
+      whole = tt;
+      first = first;
+      heard = heard_nothing _ _ _ (λ lines. tt);
+    }
+
+-- ---- the text of it
+
+may_shot : (owed : Owed) (words : List Text) (contents : Option Contents) (reads : List Read) (input : List Line) (status : ℕ) (text : List ℕ) → Shot words reads input status text
+    → May owed words contents reads input [] status text
 unfolding May
-shot_may owed words files failed input readings status text may = may.0
+may_shot owed words contents reads input status text shot = inl (shot, refl)
 
 decide_so : (lines rest : List Line) (P Q : List Line → Type 0) → ((input : List Line) → P input → Q input) → Decide lines rest P → Decide lines rest Q
 decide_so lines rest P Q so decided = elim decided [ inl none ↦ inl none | inr holds ↦ inr (λ more. so (lines ++ more) (holds more)) ]
@@ -43,186 +178,259 @@ same_input : (left : Option (List ℕ)) (input input' : List Line) → IsInput l
 same_input None input input' is told = absurd told
 same_input (Some bytes) input input' is told = sym is ∙ told
 
-same_files : (contents : Option Contents) (files files' : Contents) → IsTold contents files → TellsFiles contents files' → files ≡ files'
-same_files None files files' is told = absurd told
-same_files (Some has) files files' is told = sym is ∙ told
+-- a status of a run that was cut short is none of a run that was not
+not_done : (status n : ℕ) → status ≡ n → IsCut n → IsDone status → ⊥
+not_done status n is cut done = done_whole status done (subst IsCut (sym is) cut)
 
-rises : (before now failed : ℕ) → RoseBy before now failed → 0 < failed → Rose before now
-rises before now failed rose some = let by = rose.rose in omega (arith, by, some)
+four : IsCut 4
+four = inl refl
 
--- ---- why a file was not read
+five : IsCut 5
+five = inr (inl refl)
 
-names_so : (c : Option Asked) (P Q : Text → Type 0) → ((name : Text) → P name → Q name) → NamesFile c P → NamesFile c Q
-names_so None P Q so names = absurd names
-names_so (Some a) P Q so names = go a.variants names
-  where
-    go : (o : Option Text) → IsSomeAnd o P → IsSomeAnd o Q
-    go None h = absurd h
-    go (Some name) h = so name h
+seven : IsCut 7
+seven = inr (inr refl)
 
--- the file is missing or too large, or the files failed
-abbrev pub Unread : Contents → ℕ → Text → Type 0
-Unread files failed name = ((files name ≡ None) ⊎ IsTooLarge (files name)) ⊎ (0 < failed)
+module _ (contents : Option Contents) (asks : List Read → Type 0) (left left' : Option (List ℕ)) (words : List Text) where
+  -- the answer is one to some input
+  says_some : (answer : Answer) → Answered contents asks left left' words (Ok answer) → (reads : List Read) × (input : List Line) × Says (to_do words) reads input answer.status answer.text
+  says_some answer answered = let settled = settle left left' _ _ answered.heard in (answered.all, answered.heard.lines ++ settled.rest, settled.holds)
 
-refused_since : (files : Contents) (failed : ℕ) (name : Option Text) (why : Fault) → Refuses name files failed why → fault_status why ≡ 6 → IsSomeAnd name (Unread files failed)
-refused_since files failed None why (inl is) six = cc
-refused_since files failed None why (inr fails) six = absurd fails
-refused_since files failed (Some name) (fault.File why) (inl is) six = inl (why_unread (files name) why is)
-refused_since files failed (Some name) (fault.Betza why) (inl is) six = absurd (omega (arith, six))
-refused_since files failed (Some name) (fault.Reach why) (inl is) six = absurd (omega (arith, six))
-refused_since files failed (Some name) (fault.Game why) (inl is) six = absurd (omega (arith, six))
-refused_since files failed (Some name) (fault.Strategy why) (inl is) six = absurd (omega (arith, six))
-refused_since files failed (Some name) (fault.Proof why) (inl is) six = absurd (omega (arith, six))
-refused_since files failed (Some name) (fault.Verdict why) (inl is) six = absurd (omega (arith, six))
-refused_since files failed (Some name) (fault.Ini why) (inl is) six = absurd (omega (arith, six))
-refused_since files failed (Some name) why (inr fails) six = inr fails.0
+  answer_done : (answer : Answer) → Answered contents asks left left' words (Ok answer) → IsDone answer.status
+  answer_done answer answered = let (reads, input, says) = says_some answer answered in says_done (to_do words) reads input answer.status answer.text says
 
-asked_since : (a : Asked) (files : Contents) (failed : ℕ) (input : List Line) (status : ℕ) (text : List ℕ) → SaysAsked a files failed input status text → status ≡ 6
-    → IsSomeAnd a.variants (Unread files failed)
-asked_since a files failed input status text (refused why refuses) six = refused_since files failed a.variants why refuses six
-asked_since a files failed input status text (answered s t none says) six =
-    elim (command_done (sections_of a.variants files) a.command input s t says) [ inl is ↦ absurd (omega (arith, is, six)) | inr is ↦ absurd (omega (arith, is, six)) ]
-
-says_since : (c : Option Asked) (files : Contents) (failed : ℕ) (input : List Line) (status : ℕ) (text : List ℕ) → ShotSays c files failed input status text → status ≡ 6 → NamesFile c (Unread files failed)
-says_since None files failed input status text says six = let two = says.0 in absurd (omega (arith, two, six))
-says_since (Some a) files failed input status text says six = asked_since a files failed input status text says six
-
-shot_since : (words : List Text) (files : Contents) (failed : ℕ) (input : List Line) (status : ℕ) (text : List ℕ) → Shot words files failed input status text → status ≡ 6
-    → NamesFile (asked words) (Unread files failed)
-unfolding Shot
-shot_since words files failed input status text shot six = says_since (asked words) files failed input status text shot six
-
-told_unread : (contents : Option Contents) (files : Contents) (name : Text) → IsTold contents files → (files name ≡ None) ⊎ IsTooLarge (files name) → IsUnreadable contents name
-told_unread None files name told unread = tt
-told_unread (Some has) files name told unread = subst (λ (x : Contents). (x name ≡ None) ⊎ IsTooLarge (x name)) (sym told) unread
-
--- files were read, and lines were heard, that have this answer
-abbrev pub Says : Option Contents → (List Read → Type 0) → Option (List ℕ) → Option (List ℕ) → List Text → ℕ → List ℕ → Type 0
-Says contents asks left left' words status text =
-    Looked contents asks (λ files failed. HeardLines left left' (lines_asked (asked words) files) (λ input. Shot words files failed input status text))
-
-module _ {S K C F : Type 0} {left : S → Option (List ℕ)} {taken : K → Option (List ℕ)} {count last : C → ℕ} {contents : F → Option Contents} {faults : F → ℕ} where
+module _ {S K C F : Type 0} {left : S → Option (List ℕ)} {taken : K → Option (List ℕ)} {given : C → Option (List ℕ)} {count last : C → ℕ} {contents : F → Option Contents} {faults : F → ℕ} where
   -- the text of an answer was written
-  pub run_did : (s s' : S) (k k' : K) (c : C) (f f' : F) (owed : Owed) (words : List Text) (status : ℕ) (text : List ℕ)
-      → Says (contents f) (Reads contents faults f f') (left s) (left s') words status text → Appends (taken k) (taken k') text
-      → Did owed (Moves left taken count last s s' k k' c c) (Reads contents faults f f') (contents f) (left s) words status
-  run_did s s' k k' c f f' owed words status text looked wrote =
-      let heard = looked.holds in
-      let settled = settle (left s) (left s') _ _ heard in
-      let may = λ (input : List Line). may_shot owed words looked.files (faults_in looked.reads) input status text in
+  wrote_all : (s s' : S) (k k' : K) (c : C) (f f' : F) (owed : Owed) (words : List Text) (answer : Answer) (status : ℕ)
+      → Answered (contents f) (Reads contents faults f f') (left s) (left s') words (Ok answer) → status ≡ answer.status → Appends (taken k) (taken k') answer.text
+      → Did owed (Moves left taken given count last s s' k k' c c) (Reads contents faults f f') (contents f) (left s) words status
+  wrote_all s s' k k' c f f' owed words answer status answered is wrote =
+      let settled = settle (left s) (left s') _ _ answered.heard in
+      let may : (input : List Line) → Says (to_do words) answered.all input answer.status answer.text → May owed words (contents f) answered.all input [] status answer.text =
+      λ input says. rw is (may_shot owed words (contents f) answered.all input answer.status answer.text (says_shot words answered.all input answer.status answer.text answered.first says)) in
       record {
-        lines = heard.lines;
+        lines = answered.heard.lines;
         rest = settled.rest;
         readings = [];
-        reads = looked.reads;
-        files = looked.files;
-        text = text;
-        moves = record { took = heard.took; wrote = wrote; counted = refl; read = refl };
-        asks = looked.asks;
-        told_files = looked.told;
-        agree = looked.agree;
+        reads = answered.all;
+        text = answer.text;
+        moves = record { took = answered.heard.took; wrote = wrote; clocked = λ below. appends_none (given c); counted = refl; read = refl };
+        asks = subst (Reads contents faults f f') (sym answered.whole) answered.asked;
         input = settled.input;
         few = settled.few;
-        decided = decide_so heard.lines settled.rest _ _ may settled.decided;
-        allowed = may (heard.lines ++ settled.rest) settled.holds;
+        decided = decide_so answered.heard.lines settled.rest _ _ may settled.decided;
+        allowed = may (answered.heard.lines ++ settled.rest) settled.holds;
       }
 
+  pub run_did : (s s' : S) (k k' : K) (c : C) (f f' : F) (owed : Owed) (words : List Text) (before now : ℕ) (r : Result Answer Stop) (status : ℕ)
+      → Answered (contents f) (Reads contents faults f f') (left s) (left s') words r → Finishes r (taken k) (taken k') before now status → IsDone status
+      → Did owed (Moves left taken given count last s s' k k' c c) (Reads contents faults f f') (contents f) (left s) words status
+  run_did s s' k k' c f f' owed words before now (Ok answer) status answered (inl wrote) done = wrote_all s s' k k' c f f' owed words answer status answered wrote.0 wrote.1
+  run_did s s' k k' c f f' owed words before now (Ok answer) status answered (inr failed) done = absurd (not_done status 5 failed.0 five done)
+  run_did s s' k k' c f f' owed words before now (Err stop.Source) status answered wrote done = absurd (not_done status 4 wrote.0 four done)
+  run_did s s' k k' c f f' owed words before now (Err stop.Sink) status answered wrote done = absurd (not_done status 5 wrote.0 five done)
+  run_did s s' k k' c f f' owed words before now (Err stop.Memory) status answered wrote done = absurd (not_done status 7 wrote.0 seven done)
+
   -- a front part of it was
-  pub run_part : (s s' : S) (k k' : K) (c : C) (f f' : F) (words : List Text) (status : ℕ) (text : List ℕ)
-      → Says (contents f) (Reads contents faults f f') (left s) (left s') words status text → AppendsFront (taken k) (taken k') text
-      → DidPart (Moves left taken count last s s' k k' c c) (Reads contents faults f f') (contents f) (left s) words
-  run_part s s' k k' c f f' words status text looked wrote =
-      let heard = subst (λ (x : List ℕ). HeardLines (left s) (left s') (lines_asked (asked words) looked.files) (λ input. Shot words looked.files (faults_in looked.reads) input status x)) wrote.whole looked.holds in
-      let settled = settle (left s) (left s') _ _ heard in
+  wrote_part : (s s' : S) (k k' : K) (c : C) (f f' : F) (words : List Text) (answer : Answer) → Answered (contents f) (Reads contents faults f f') (left s) (left s') words (Ok answer)
+      → AppendsFront (taken k) (taken k') answer.text → ShotPart (Moves left taken given count last s s' k k' c c) (Reads contents faults f f') (contents f) (left s) words
+  wrote_part s s' k k' c f f' words answer answered wrote =
+      let settled = settle (left s) (left s') _ _ answered.heard in
+      let shot : (input : List Line) → Says (to_do words) answered.all input answer.status answer.text → Shot words (answered.reads ++ answered.further) input answer.status (wrote.front ++ wrote.back) =
+      λ input says.
+      subst (λ (x : List Read). Shot words x input answer.status (wrote.front ++ wrote.back)) answered.all_are
+      (subst (λ (x : List ℕ). Shot words answered.all input answer.status x) wrote.whole (says_shot words answered.all input answer.status answer.text answered.first says)) in
       record {
-        lines = heard.lines;
+        lines = answered.heard.lines;
         rest = settled.rest;
-        reads = looked.reads;
-        files = looked.files;
+        reads = answered.reads;
+        further = answered.further;
         written = wrote.front;
         back = wrote.back;
-        status = status;
-        moves = record { took = heard.took; wrote = wrote.took; counted = refl; read = refl };
-        asks = looked.asks;
-        told_files = looked.told;
-        agree = looked.agree;
+        status = answer.status;
+        moves = record { took = answered.heard.took; wrote = wrote.took; clocked = λ below. appends_none (given c); counted = refl; read = refl };
+        asks = answered.asked;
+        after = answered.after;
         input = settled.input;
-        few = settled.few;
-        decided = inr settled.decided;
-        allowed = settled.holds;
+        few = subst (λ (x : List Read). length answered.heard.lines ≤ lines_asked (to_do words) x (answered.heard.lines ++ settled.rest)) answered.all_are settled.few;
+        decided = inr (decide_so answered.heard.lines settled.rest _ _ shot settled.decided);
+        allowed = shot (answered.heard.lines ++ settled.rest) settled.holds;
       }
 
   -- nothing was
-  pub run_none : (s s' : S) (k : K) (c : C) (f f' : F) (words : List Text)
-      → Looked (contents f) (Reads contents faults f f') (λ files failed. HeardLines (left s) (left s') (lines_asked (asked words) files) (λ input. ⊤))
-      → DidPart (Moves left taken count last s s' k k c c) (Reads contents faults f f') (contents f) (left s) words
-  run_none s s' k c f f' words looked =
-      let heard = looked.holds in
-      let settled = settle (left s) (left s') _ _ heard in
-      let (status, text, says) = shot_some words looked.files (faults_in looked.reads) (heard.lines ++ settled.rest) in
+  wrote_none : (s s' : S) (k k' : K) (c : C) (f f' : F) (words : List Text) (r : Result Answer Stop) → Answered (contents f) (Reads contents faults f f') (left s) (left s') words r → Appends (taken k) (taken k') []
+      → ShotPart (Moves left taken given count last s s' k k' c c) (Reads contents faults f f') (contents f) (left s) words
+  wrote_none s s' k k' c f f' words r answered wrote =
+      let settled = settle (left s) (left s') _ _ answered.heard in
+      let (status, text, says) = shot_some words answered.all (answered.heard.lines ++ settled.rest) (one_shot words) answered.first in
       record {
-        lines = heard.lines;
+        lines = answered.heard.lines;
         rest = settled.rest;
-        reads = looked.reads;
-        files = looked.files;
+        reads = answered.reads;
+        further = answered.further;
         written = [];
         back = text;
         status = status;
-        moves = record { took = heard.took; wrote = appends_none (taken k); counted = refl; read = refl };
-        asks = looked.asks;
-        told_files = looked.told;
-        agree = looked.agree;
+        moves = record { took = answered.heard.took; wrote = wrote; clocked = λ below. appends_none (given c); counted = refl; read = refl };
+        asks = answered.asked;
+        after = answered.after;
         input = settled.input;
-        few = settled.few;
+        few = subst (λ (x : List Read). length answered.heard.lines ≤ lines_asked (to_do words) x (answered.heard.lines ++ settled.rest)) answered.all_are settled.few;
         decided = inl refl;
-        allowed = says;
+        allowed = subst (λ (x : List Read). Shot words x (answered.heard.lines ++ settled.rest) status text) answered.all_are says;
       }
+
+  pub run_part : (s s' : S) (k k' : K) (c : C) (f f' : F) (words : List Text) (before now : ℕ) (r : Result Answer Stop) (status : ℕ)
+      → Answered (contents f) (Reads contents faults f f') (left s) (left s') words r → Finishes r (taken k) (taken k') before now status → IsCut status
+      → ShotPart (Moves left taken given count last s s' k k' c c) (Reads contents faults f f') (contents f) (left s) words
+  run_part s s' k k' c f f' words before now (Ok answer) status answered (inl wrote) cut =
+      absurd (done_whole status (subst IsDone (sym wrote.0) (answer_done (contents f) (Reads contents faults f f') (left s) (left s') words answer answered)) cut)
+  run_part s s' k k' c f f' words before now (Ok answer) status answered (inr failed) cut = wrote_part s s' k k' c f f' words answer answered failed.1
+  run_part s s' k k' c f f' words before now (Err stop.Source) status answered wrote cut = wrote_none s s' k k' c f f' words (Err stop.Source) answered wrote.1
+  run_part s s' k k' c f f' words before now (Err stop.Sink) status answered wrote cut = wrote_none s s' k k' c f f' words (Err stop.Sink) answered wrote.1
+  run_part s s' k k' c f f' words before now (Err stop.Memory) status answered wrote cut = wrote_none s s' k k' c f f' words (Err stop.Memory) answered wrote.1
 
 -- ---- the status
 
-module _ (contents : Option Contents) (asks : List Read → Type 0) (left left' : Option (List ℕ)) (words : List Text) (status : ℕ) (text : List ℕ) (looked : Says contents asks left left' words status text) where
-  -- the answer is one to some input
-  some_input : (input : List Line) × Shot words looked.files (faults_in looked.reads) input status text
-  some_input = let settled = settle left left' _ _ looked.holds in (looked.holds.lines ++ settled.rest, settled.holds)
+-- it is that of the answer, or of a run that was cut short
+ends : (r : Result Answer Stop) (old new : Option (List ℕ)) (before now status : ℕ) → Finishes r old new before now status → ((answer : Answer) × (r ≡ Ok answer) × (status ≡ answer.status)) ⊎ IsCut status
+ends (Ok answer) old new before now status (inl wrote) = inl (answer, refl, wrote.0)
+ends (Ok answer) old new before now status (inr failed) = inr (inr (inl failed.0))
+ends (Err stop.Source) old new before now status wrote = inr (inl wrote.0)
+ends (Err stop.Sink) old new before now status wrote = inr (inr (inl wrote.0))
+ends (Err stop.Memory) old new before now status wrote = inr (inr (inr wrote.0))
 
-  pub says_done : IsDone status
-  says_done = shot_done words looked.files (faults_in looked.reads) some_input.0 status text some_input.1
+module _ (contents : Option Contents) (asks : List Read → Type 0) (left left' : Option (List ℕ)) (words : List Text) (r : Result Answer Stop) (answered : Answered contents asks left left' words r)
+    (old new : Option (List ℕ)) (sank sinks status : ℕ) (finishes : Finishes r old new sank sinks status) where
+  at_ok : (answer : Answer) → r ≡ Ok answer → Answered contents asks left left' words (Ok answer)
+  at_ok answer is = subst (λ (x : Result Answer Stop). Answered contents asks left left' words x) is answered
 
-  pub says_usage : (status ≡ 2) ↔ IsNone (asked words)
-  says_usage = shot_usage words looked.files (faults_in looked.reads) some_input.0 status text some_input.1
+  pub run_statuses : IsDone status ⊎ IsCut status
+  run_statuses = elim (ends r old new sank sinks status finishes) [
+    | inl (answer, is, same) ↦ inl (subst IsDone (sym same) (answer_done contents asks left left' words answer (at_ok answer is)))
+    | inr cut ↦ inr cut
+  ]
 
-  -- where files do not fail, it is the answer to the input that is told, or not read
-  says_at_input : (input : List Line) → (asks_input (asked words) ≡ true → TellsInput left input) → (s : ℕ) (t : List ℕ) → Shot words looked.files 0 (looked.holds.lines ++ (settle left left' _ _ looked.holds).rest) s t
-      → Shot words looked.files 0 input s t
-  says_at_input input told s t shot = go (asks_input (asked words)) refl
+  pub run_usage : IsCut status ⊎ ((status ≡ 2) ↔ IsNone (to_do words))
+  run_usage = elim (ends r old new sank sinks status finishes) [
+    | inl (answer, is, same) ↦
+        let (reads, input, says) = says_some contents asks left left' words answer (at_ok answer is) in
+        inr (subst (λ (n : ℕ). (n ≡ 2) ↔ IsNone (to_do words)) (sym same) (says_usage (to_do words) reads input answer.status answer.text says))
+    | inr cut ↦ inl cut
+  ]
+
+  -- the answer to the input that is told, or not read
+  says_at : (answer : Answer) (reads : List Read) (input : List Line) → (asks_input (to_do words) ≡ true → TellsInput left input) → (lines : List Line) → IsInput left lines
+      → Says (to_do words) reads lines answer.status answer.text → Says (to_do words) reads input answer.status answer.text
+  says_at answer reads input told lines is says = go (asks_input (to_do words)) refl
     where
-      go : (b : Bool) → asks_input (asked words) ≡ b → Shot words looked.files 0 input s t
-      go true reads = subst (λ (x : List Line). Shot words looked.files 0 x s t) (same_input left _ input (settle left left' _ _ looked.holds).input (told reads)) shot
-      go false reads = shot_without words looked.files 0 _ input s t reads shot
+      go : (b : Bool) → asks_input (to_do words) ≡ b → Says (to_do words) reads input answer.status answer.text
+      go true asks_it = subst (λ (x : List Line). Says (to_do words) reads x answer.status answer.text) (same_input left lines input is (told asks_it)) says
+      go false asks_none = says_without (to_do words) reads lines input answer.status answer.text asks_none says
 
-  -- and to the files that are told, or not read
-  says_at_files : (files : Contents) → (asks_file (asked words) ≡ true → TellsFiles contents files) → (input : List Line) (s : ℕ) (t : List ℕ) → Shot words looked.files 0 input s t → Shot words files 0 input s t
-  says_at_files files told input s t shot = go (asks_file (asked words)) refl
-    where
-      go : (b : Bool) → asks_file (asked words) ≡ b → Shot words files 0 input s t
-      go true reads = subst (λ (x : Contents). Shot words x 0 input s t) (same_files contents looked.files files looked.told (told reads)) shot
-      go false reads = shot_unnamed words looked.files files input s t reads shot
+  module _ (before now : ℕ) (rose : (reads : List Read) → asks reads → RoseBy before now (faults_in reads)) (found : (reads : List Read) → asks reads → Finds contents reads) where
+    tells : (reads reads' : List Read) → asks reads → faults_in reads ≡ 0 → TellsReads contents reads' → TellsReads contents reads
+    tells reads reads' asked works told = go contents (found reads asked) told
+      where
+        go : (o : Option Contents) → Finds o reads → TellsReads o reads' → TellsReads o reads
+        go None finds none = none
+        go (Some files) finds some = (finds, works)
 
-  pub says_complete : (owed : Owed) (before now : ℕ) → ((reads : List Read) → asks reads → RoseBy before now (faults_in reads)) → Completes owed contents left words (FilesFailed before now) status
-  says_complete owed before now rose files input readings text' status' tells_files tells_input may =
-      let settled = settle left left' _ _ looked.holds in
-      elim (shot_failing words looked.files (faults_in looked.reads) (looked.holds.lines ++ settled.rest) status text settled.holds) [
-        | inl shot ↦
-            let here = says_at_files files tells_files input status text (says_at_input input tells_input status text shot) in
-            inl (shot_once words files input status status' text text' here (shot_may owed words files 0 input readings status' text' may)).0
-        | inr fails ↦ inr (inr (fails.1.0, rises before now (faults_in looked.reads) (rose looked.reads looked.asks) fails.0))
-      ]
+    answer_complete : (answer : Answer) → Answered contents asks left left' words (Ok answer) → Completes contents left words (FilesFailed before now) answer.status
+    answer_complete answer a reads input s t tells_files tells_input shot = go (faults_in a.reads) refl
+      where
+        go : (n : ℕ) → faults_in a.reads ≡ n → (answer.status ≡ s) ⊎ IsCut answer.status ⊎ FilesFailed before now answer.status
+        go zero works =
+            let settled = settle left left' _ _ a.heard in
+            let here = says_at answer a.all input tells_input (a.heard.lines ++ settled.rest) settled.input settled.holds in
+            let told : asks_file (to_do words) ≡ true → TellsReads contents a.all = λ named. rw a.whole (tells a.reads reads a.asked works (tells_files named)) in
+            let same = same_reads (to_do words) contents a.all reads a.first (shot_asks words reads input s t shot) told tells_files in
+            inl (says_once (to_do words) a.all input answer.status s answer.text t here (subst (λ (x : List Read). Says (to_do words) x input s t) (sym same) (shot_says words reads input s t shot))).0
+        go (suc n) fails =
+            let settled = settle left left' _ _ a.heard in
+            let some : 0 < faults_in a.all = rw a.whole (omega (arith, fails)) in
+            let says = says_failing (to_do words) a.all (a.heard.lines ++ settled.rest) answer.status answer.text some a.first settled.holds in
+            let by = (rose a.reads a.asked).rose in
+            inr (inr (says.0, omega (arith, by, fails)))
 
-  pub says_file_cause : (before now : ℕ) → ((reads : List Read) → asks reads → RoseBy before now (faults_in reads)) → status ≡ 6 → HasFileCause contents before now words
-  says_file_cause before now rose six =
-      names_so (asked words) (Unread looked.files (faults_in looked.reads)) (λ name. IsUnreadable contents name ⊎ Rose before now)
-      (λ name unread. elim unread [
-        | inl is ↦ inl (told_unread contents looked.files name looked.told is)
-        | inr some ↦ inr (rises before now (faults_in looked.reads) (rose looked.reads looked.asks) some)
-      ])
-      (shot_since words looked.files (faults_in looked.reads) some_input.0 status text some_input.1 six)
+    pub run_complete : Completes contents left words (FilesFailed before now) status
+    run_complete reads input s t tells_files tells_input shot = elim (ends r old new sank sinks status finishes) [
+      | inl (answer, is, same) ↦
+          subst (λ (n : ℕ). (n ≡ s) ⊎ IsCut n ⊎ FilesFailed before now n) (sym same) (answer_complete answer (at_ok answer is) reads input s t tells_files tells_input shot)
+      | inr cut ↦ inr (inl cut)
+    ]
+
+    pub run_unread : status ≡ 6 → HasFileCause contents before now words
+    run_unread six = elim (ends r old new sank sinks status finishes) [
+      | inl (answer, is, same) ↦
+          let a = at_ok answer is in
+          let settled = settle left left' _ _ a.heard in
+          says_since contents before now (to_do words) a.all (a.heard.lines ++ settled.rest) answer.status answer.text (rw a.whole (found a.reads a.asked)) (rw a.whole (rose a.reads a.asked)) a.first settled.holds (sym same ∙ six)
+      | inr cut ↦ absurd (done_whole status (inr (inr (inr six))) cut)
+    ]
+
+-- no session begins
+pub run_session : (contents : Option Contents) (words : List Text) (Failed : ℕ → Type 0) (status : ℕ) → CompletesSession contents words Failed status
+run_session contents words Failed status reads tells begins = go (to_do words) (one_shot words) begins
+  where
+    go : (c : Option Asked) → IsOneShot c → BeginsSession c reads → (status ≡ 0) ⊎ IsCut status ⊎ Failed status
+    go None one begins = absurd begins
+    go (Some a) one begins = absurd (false≢true (sym one ∙ begins.0))
+
+-- ---- its causes
+
+pub source_failed : (r : Result Answer Stop) (old new : Option (List ℕ)) (before now status : ℕ) → Finishes r old new before now status → IfOk r (λ answer. IsDone answer.status) → status ≡ 4 → IsUnread r
+source_failed (Ok answer) old new before now status (inl wrote) done is = absurd (not_done answer.status 4 (sym wrote.0 ∙ is) four done)
+source_failed (Ok answer) old new before now status (inr failed) done is = let five_is = failed.0 in absurd (omega (arith, five_is, is))
+source_failed (Err stop.Source) old new before now status wrote done is = tt
+source_failed (Err stop.Sink) old new before now status wrote done is = let five_is = wrote.0 in absurd (omega (arith, five_is, is))
+source_failed (Err stop.Memory) old new before now status wrote done is = let seven_is = wrote.0 in absurd (omega (arith, seven_is, is))
+
+pub sink_failed : (r : Result Answer Stop) (old new : Option (List ℕ)) (before now status : ℕ) → Finishes r old new before now status → IfOk r (λ answer. IsDone answer.status) → (IsUnsaid r → ⊥) → status ≡ 5
+    → Rose before now
+sink_failed (Ok answer) old new before now status (inl wrote) done said is = absurd (not_done answer.status 5 (sym wrote.0 ∙ is) five done)
+sink_failed (Ok answer) old new before now status (inr failed) done said is = failed.2
+sink_failed (Err stop.Source) old new before now status wrote done said is = let four_is = wrote.0 in absurd (omega (arith, four_is, is))
+sink_failed (Err stop.Sink) old new before now status wrote done said is = absurd (said tt)
+sink_failed (Err stop.Memory) old new before now status wrote done said is = let seven_is = wrote.0 in absurd (omega (arith, seven_is, is))
+
+pub is_err : (r : Result Answer Stop) → IsUnread r → IsErr r
+is_err (Ok answer) unread = absurd unread
+is_err (Err why) unread = cc
+
+pub ok_done : (contents : Option Contents) (asks : List Read → Type 0) (left left' : Option (List ℕ)) (words : List Text) (r : Result Answer Stop) → Answered contents asks left left' words r → IfOk r (λ answer. IsDone answer.status)
+ok_done contents asks left left' words (Ok answer) answered = answer_done contents asks left left' words answer answered
+ok_done contents asks left left' words (Err why) answered = tt
+
+-- a command has not the status of a file that was not read
+pub not_six : (r : Result Answer Stop) (sections : List Section) (c : Command) (left left' : Option (List ℕ)) (needed : List Line → ℕ) (old new : Option (List ℕ)) (before now status : ℕ)
+    → HeardLines left left' needed (λ lines. IfOk r (λ answer. SaysCommand sections c lines answer.status answer.text)) → Finishes r old new before now status → status ≡ 6 → ⊥
+not_six (Ok answer) sections c left left' needed old new before now status heard (inl wrote) six =
+    let settled = settle left left' _ _ heard in
+    let same = wrote.0 in
+    elim (command_done sections c (heard.lines ++ settled.rest) answer.status answer.text settled.holds) [ inl is ↦ absurd (omega (arith, is, same, six)) | inr is ↦ absurd (omega (arith, is, same, six)) ]
+not_six (Ok answer) sections c left left' needed old new before now status heard (inr failed) six = let is = failed.0 in absurd (omega (arith, is, six))
+not_six (Err stop.Source) sections c left left' needed old new before now status heard wrote six = let is = wrote.0 in absurd (omega (arith, is, six))
+not_six (Err stop.Sink) sections c left left' needed old new before now status heard wrote six = let is = wrote.0 in absurd (omega (arith, is, six))
+not_six (Err stop.Memory) sections c left left' needed old new before now status heard wrote six = let is = wrote.0 in absurd (omega (arith, is, six))
+
+-- an outcome without a source is not cut short by it, nor by the sink
+pub refused_heard : (c : Option Asked) (reads : List Read) (why : Halt) (r : Result Answer Stop) → Opens c reads (Err why) → OutcomeOf (Err why) r → IsUnread r → ⊥
+refused_heard c reads why (Ok answer) opens is unread = unread
+refused_heard c reads halt.Usage (Err stop.Source) opens is unread = cc
+refused_heard c reads (halt.Fault fault) (Err stop.Source) opens is unread = cc
+refused_heard c reads (halt.Stop stop.Source) (Err stop.Source) opens is unread = opens
+refused_heard c reads (halt.Stop stop.Sink) (Err stop.Source) opens is unread = cc
+refused_heard c reads (halt.Stop stop.Memory) (Err stop.Source) opens is unread = cc
+refused_heard c reads why (Err stop.Sink) opens is unread = unread
+refused_heard c reads why (Err stop.Memory) opens is unread = unread
+
+pub refused_said : (c : Option Asked) (reads : List Read) (why : Halt) (r : Result Answer Stop) → Opens c reads (Err why) → OutcomeOf (Err why) r → IsUnsaid r → ⊥
+refused_said c reads why (Ok answer) opens is unsaid = unsaid
+refused_said c reads why (Err stop.Source) opens is unsaid = unsaid
+refused_said c reads halt.Usage (Err stop.Sink) opens is unsaid = cc
+refused_said c reads (halt.Fault fault) (Err stop.Sink) opens is unsaid = cc
+refused_said c reads (halt.Stop stop.Source) (Err stop.Sink) opens is unsaid = cc
+refused_said c reads (halt.Stop stop.Sink) (Err stop.Sink) opens is unsaid = opens
+refused_said c reads (halt.Stop stop.Memory) (Err stop.Sink) opens is unsaid = cc
+refused_said c reads why (Err stop.Memory) opens is unsaid = unsaid

@@ -1,5 +1,6 @@
 -- What a run says.
-use Rattle.std.proofs.Common.{◌≡◌, ℕ, ◌<◌, Bool, true, false, List, [], ◌++◌, inl, inr, refl, sym, ap, subst, ◌∙◌, Option, Some, None, Ok, Err, IsNone, ◌≢◌, ◌↔◌, ◌⊎◌, arith, is_some}
+use Rattle.std.proofs.Common.{◌≡◌, ℕ, ◌<◌, Bool, true, false, List, [], ◌∷◌, ◌++◌, inl, inr, refl, sym, ap, subst, ◌∙◌, Option, Some, None, Ok, Err, IsNone, ◌≢◌, ◌↔◌, ◌⊎◌, arith}
+use Rattle.std.specs.Prelude.{IsSomeAnd}
 use Rattle.std.proofs.lemmas.Bool.{false≢true}
 use Rattle.std.specs.declared.result.Result.{Result}
 use Rattle.betza_text.specs.declared.part.Part.{Part}
@@ -8,8 +9,11 @@ use Rattle.betza_text.specs.Word.{Spells, BetzaBad}
 use Rattle.betza_text.specs.Fault.{fault_text as betza_text}
 use Rattle.betza_text.proofs.WordLaws.{word_or_fault, one_word, one_fault, not_both}
 use Rattle.betza_compile.specs.Terms.{terms}
-use Rattle.io_ports.specs.Files.{Contents}
+use Rattle.io_ports.specs.Cause.{Rose, RoseBy}
+use Rattle.io_ports.specs.Files.{Contents, Finds, Found, Read, faults_of}
+use Rattle.io_ports.specs.Files as found
 use Rattle.io_ports.specs.Lines.{Line}
+use Rattle.io_ports.specs.Trace.{faults_in}
 use Rattle.rules_model.specs.declared.board.Cell.{Cell}
 use Rattle.rules_model.specs.declared.board.Square.{Square}
 use Rattle.variant_ini.specs.Section.{Section}
@@ -18,22 +22,25 @@ use Rattle.game_play.specs.Played.{Played}
 use Rattle.game_text.specs.declared.fault.GameFault.{GameFault}
 use Rattle.game_text.specs.Fault as game
 use Rattle.game_text.specs.GameText.{game_of}
-use Rattle.words.specs.Asked.{Asked, asked}
-use Rattle.words.specs.Command.{Command, Reach, Moves, Status, Perft, Check, Variants}
+use Rattle.words.specs.Asked.{Asked}
+use Rattle.words.specs.Command.{Command, Uci, Xboard, Moves, Status, Perft, Check, Variants, Reach}
 use Rattle.words.specs.Options.{Text}
 use Rattle.vengine.specs.declared.fault.Fault.{Fault}
 use Rattle.vengine.specs.declared.fault.Fault.TheVariants as fault
 use Rattle.vengine.specs.declared.fault.FileFault.TheVariants.{Failed}
-use Rattle.vengine.specs.Commands.{asks_file, asks_input, reads_input}
-use Rattle.vengine.specs.Fault.{error_line, fault_status, fault_text, unplaced_text}
+use Rattle.vengine.specs.Commands.{IsOneShot, asks_input, reads_input}
+use Rattle.vengine.specs.Fault.{FaultClass, OfFile, OfInput, class_status, error_line, facts, fault_status, fault_text, unplaced_text}
 use Rattle.vengine.specs.GameTexts.{moves_of, status_of, perft_of}
 use Rattle.vengine.specs.ReachText.{reach_text}
-use Rattle.vengine.specs.Run.{IsDone, IsCut}
+use Rattle.vengine.specs.Looked.{TellsReads}
+use Rattle.vengine.specs.Run.{IsCut, IsDone, IsUnreadable, NamesFile}
+use Rattle.vengine.specs.Sessions.{is_session, to_do}
 use Rattle.vengine.specs.Setup.{Unplaced, setup_of}
-use Rattle.vengine.specs.Shot.{Shot, Says, SaysAsked, SaysCommand, SaysFault, SaysOf, SaysReach, reached, faulty_word, faulty_square, refused, answered, usage_line}
-use Rattle.vengine.specs.Variants.{Fails, Refuses, sections_of, variants_fault}
+use Rattle.vengine.specs.Shot.{Shot, Says, SaysAsked, SaysCommand, SaysFault, SaysLoaded, SaysOf, SaysReach, reached, faulty_word, faulty_square, usage_line}
+use Rattle.vengine.specs.Variants.{AreFirstReads, AreReadsOf, fault_found, fault_in, sections_in}
 use Rattle.vengine.specs.VariantsText.{variants_text}
 use Rattle.vengine.proofs.CheckLemmas.{check_done, check_once, check_some}
+use Rattle.vengine.proofs.FileLemmas.{same_reads, why_unread}
 
 -- ---- some answer
 
@@ -55,43 +62,46 @@ game_some : (print : Played → List ℕ) (r : Result Played GameFault) → (sta
 game_some print (Ok g) = (0, print g, (refl, refl))
 game_some print (Err fault) = (3, error_line (game.fault_text fault), (refl, refl))
 
-command_some : (sections : List Section) (c : Command) (input : List Line) → (status : ℕ) × (text : List ℕ) × SaysCommand sections c input status text
-command_some sections (Reach word square own enemy) input = reach_some word square own enemy
-command_some sections Moves input = game_some moves_of (game_of (entries sections) input)
-command_some sections Status input = game_some status_of (game_of (entries sections) input)
-command_some sections (Perft plies) input = game_some (perft_of plies) (game_of (entries sections) input)
-command_some sections Check input = check_some (entries sections) input
-command_some sections Variants input = (0, variants_text (entries sections), (refl, refl))
+command_some : (sections : List Section) (c : Command) (input : List Line) → is_session c ≡ false → (status : ℕ) × (text : List ℕ) × SaysCommand sections c input status text
+command_some sections Uci input one = absurd (false≢true (sym one))
+command_some sections Xboard input one = absurd (false≢true (sym one))
+command_some sections (Reach word square own enemy) input one = reach_some word square own enemy
+command_some sections Moves input one = game_some moves_of (game_of (entries sections) input)
+command_some sections Status input one = game_some status_of (game_of (entries sections) input)
+command_some sections (Perft plies) input one = game_some (perft_of plies) (game_of (entries sections) input)
+command_some sections Check input one = check_some (entries sections) input
+command_some sections Variants input one = (0, variants_text (entries sections), (refl, refl))
 
-asked_some : (a : Asked) (files : Contents) (failed : ℕ) (input : List Line) → (status : ℕ) × (text : List ℕ) × SaysAsked a files failed input status text
-asked_some a files failed input = go (variants_fault a.variants files) refl
-  where
-    go : (o : Option Fault) → variants_fault a.variants files ≡ o → (status : ℕ) × (text : List ℕ) × SaysAsked a files failed input status text
-    go None is = let (status, text, says) = command_some (sections_of a.variants files) a.command input in (status, text, answered status text is says)
-    go (Some why) is = (fault_status why, error_line (fault_text why), refused why (inl is))
+loaded_some : (o : Option Fault) (Says : ℕ → List ℕ → Type 0) → (status : ℕ) × (text : List ℕ) × Says status text → (status : ℕ) × (text : List ℕ) × SaysLoaded o Says status text
+loaded_some None Says some = some
+loaded_some (Some why) Says some = (fault_status why, error_line (fault_text why), (refl, refl))
 
-says_some : (c : Option Asked) (files : Contents) (failed : ℕ) (input : List Line) → (status : ℕ) × (text : List ℕ) × Says c files failed input status text
-says_some None files failed input = (2, usage_line, (refl, refl))
-says_some (Some a) files failed input = asked_some a files failed input
+says_some : (c : Option Asked) (reads : List Read) (input : List Line) → IsOneShot c → (status : ℕ) × (text : List ℕ) × Says c reads input status text
+says_some None reads input one = (2, usage_line, (refl, refl))
+says_some (Some a) reads input one = loaded_some (fault_in a.variants reads) (SaysCommand (sections_in a.variants reads) a.command input) (command_some (sections_in a.variants reads) a.command input one)
 
--- words have some answer
-pub shot_some : (words : List Text) (files : Contents) (failed : ℕ) (input : List Line) → (status : ℕ) × (text : List ℕ) × Shot words files failed input status text
+-- words of a one-shot command have some answer
+pub shot_some : (words : List Text) (reads : List Read) (input : List Line) → IsOneShot (to_do words) → AreFirstReads (to_do words) reads → (status : ℕ) × (text : List ℕ) × Shot words reads input status text
 unfolding Shot
-shot_some words files failed input = says_some (asked words) files failed input
+shot_some words reads input one first = let (status, text, says) = says_some (to_do words) reads input one in (status, text, record { asks = first; says = says })
 
 -- ---- answers, by equations
 
 pub says_at : (Says : ℕ → List ℕ → Type 0) (status status' : ℕ) (text text' : List ℕ) → status' ≡ status → text' ≡ text → Says status text → Says status' text'
 says_at Says status status' text text' p q says = subst (λ (x : ℕ). Says x text') (sym p) (subst (λ (x : List ℕ). Says status x) (sym q) says)
 
-pub shot_usage_line : (words : List Text) (files : Contents) (failed : ℕ) (input : List Line) → asked words ≡ None → Shot words files failed input 2 usage_line
+-- an answer as a record, and the other way round
+pub says_shot : (words : List Text) (reads : List Read) (input : List Line) (status : ℕ) (text : List ℕ) → AreFirstReads (to_do words) reads → Says (to_do words) reads input status text → Shot words reads input status text
 unfolding Shot
-shot_usage_line words files failed input none = subst (λ (c : Option Asked). Says c files failed input 2 usage_line) (sym none) (refl, refl)
+says_shot words reads input status text first says = record { asks = first; says = says }
 
-pub shot_asked : (words : List Text) (a : Asked) (files : Contents) (failed : ℕ) (input : List Line) (status : ℕ) (text : List ℕ) → asked words ≡ Some a → SaysAsked a files failed input status text
-    → Shot words files failed input status text
+pub shot_says : (words : List Text) (reads : List Read) (input : List Line) (status : ℕ) (text : List ℕ) → Shot words reads input status text → Says (to_do words) reads input status text
 unfolding Shot
-shot_asked words a files failed input status text is says = subst (λ (c : Option Asked). Says c files failed input status text) (sym is) says
+shot_says words reads input status text shot = shot.says
+
+pub shot_asks : (words : List Text) (reads : List Read) (input : List Line) (status : ℕ) (text : List ℕ) → Shot words reads input status text → AreFirstReads (to_do words) reads
+unfolding Shot
+shot_asks words reads input status text shot = shot.asks
 
 -- ---- the statuses
 
@@ -105,6 +115,8 @@ game_done print (Ok g) status text says = inl says.0
 game_done print (Err why) status text says = inr says.0
 
 pub command_done : (sections : List Section) (c : Command) (input : List Line) (status : ℕ) (text : List ℕ) → SaysCommand sections c input status text → (status ≡ 0) ⊎ (status ≡ 3)
+command_done sections Uci input status text says = absurd says
+command_done sections Xboard input status text says = absurd says
 command_done sections (Reach word square own enemy) input status text says = reach_done word square own enemy status text says
 command_done sections Moves input status text says = game_done moves_of (game_of (entries sections) input) status text says
 command_done sections Status input status text says = game_done status_of (game_of (entries sections) input) status text says
@@ -112,30 +124,23 @@ command_done sections (Perft plies) input status text says = game_done (perft_of
 command_done sections Check input status text says = check_done (entries sections) input status text says
 command_done sections Variants input status text says = inl says.0
 
-fault_done : (why : Fault) → (fault_status why ≡ 3) ⊎ (fault_status why ≡ 6)
-fault_done (fault.Betza why) = inl refl
-fault_done (fault.Reach why) = inl refl
-fault_done (fault.Game why) = inl refl
-fault_done (fault.Strategy why) = inl refl
-fault_done (fault.Proof why) = inl refl
-fault_done (fault.Verdict why) = inl refl
-fault_done (fault.Ini why) = inl refl
-fault_done (fault.File why) = inr refl
+class_done : (c : FaultClass) → (class_status c ≡ 3) ⊎ (class_status c ≡ 6)
+class_done OfInput = inl refl
+class_done OfFile = inr refl
 
-asked_done : (a : Asked) (files : Contents) (failed : ℕ) (input : List Line) (status : ℕ) (text : List ℕ) → SaysAsked a files failed input status text → (status ≡ 0) ⊎ (status ≡ 3) ⊎ (status ≡ 6)
-asked_done a files failed input status text (refused why refuses) = inr (fault_done why)
-asked_done a files failed input status text (answered s t none says) =
-    elim (command_done (sections_of a.variants files) a.command input s t says) [ inl done ↦ inl done | inr done ↦ inr (inl done) ]
+loaded_done : (o : Option Fault) (Says : ℕ → List ℕ → Type 0) (status : ℕ) (text : List ℕ) → (Says status text → (status ≡ 0) ⊎ (status ≡ 3)) → SaysLoaded o Says status text
+    → (status ≡ 0) ⊎ (status ≡ 3) ⊎ (status ≡ 6)
+loaded_done None Says status text so says = elim (so says) [ inl done ↦ inl done | inr done ↦ inr (inl done) ]
+loaded_done (Some why) Says status text so says = elim (class_done (facts why).1) [ inl is ↦ inr (inl (says.0 ∙ is)) | inr is ↦ inr (inr (says.0 ∙ is)) ]
 
-says_done : (c : Option Asked) (files : Contents) (failed : ℕ) (input : List Line) (status : ℕ) (text : List ℕ) → Says c files failed input status text → IsDone status
-says_done None files failed input status text says = inr (inl says.0)
-says_done (Some a) files failed input status text says =
-    elim (asked_done a files failed input status text says) [ inl done ↦ inl done | inr done ↦ inr (inr done) ]
+asked_done : (a : Asked) (reads : List Read) (input : List Line) (status : ℕ) (text : List ℕ) → SaysAsked a reads input status text → (status ≡ 0) ⊎ (status ≡ 3) ⊎ (status ≡ 6)
+asked_done a reads input status text says = loaded_done (fault_in a.variants reads) _ status text (command_done (sections_in a.variants reads) a.command input status text) says
 
 -- what a run says has one of the statuses of a run that was not cut short
-pub shot_done : (words : List Text) (files : Contents) (failed : ℕ) (input : List Line) (status : ℕ) (text : List ℕ) → Shot words files failed input status text → IsDone status
-unfolding Shot
-shot_done words files failed input status text shot = says_done (asked words) files failed input status text shot
+pub says_done : (c : Option Asked) (reads : List Read) (input : List Line) (status : ℕ) (text : List ℕ) → Says c reads input status text → IsDone status
+says_done None reads input status text says = inr (inl says.0)
+says_done (Some a) reads input status text says =
+    elim (asked_done a reads input status text says) [ inl done ↦ inl done | inr done ↦ inr (inr done) ]
 
 -- a run that was cut short has none of these statuses
 not_cut : (status n : ℕ) → status ≡ n → (n ≡ 4 → ⊥) → (n ≡ 5 → ⊥) → (n ≡ 7 → ⊥) → IsCut status → ⊥
@@ -158,20 +163,16 @@ done_whole status done cut = elim done [
 
 -- ---- the usage line
 
-pub not_usage : (status : ℕ) → (status ≡ 0) ⊎ (status ≡ 3) ⊎ (status ≡ 6) → status ≡ 2 → ⊥
+not_usage : (status : ℕ) → (status ≡ 0) ⊎ (status ≡ 3) ⊎ (status ≡ 6) → status ≡ 2 → ⊥
 not_usage status done is = elim done [
   | inl a ↦ absurd (omega (arith, a, is))
   | inr more ↦ elim more [ inl a ↦ absurd (omega (arith, a, is)) | inr a ↦ absurd (omega (arith, a, is)) ]
 ]
 
-says_usage : (c : Option Asked) (files : Contents) (failed : ℕ) (input : List Line) (status : ℕ) (text : List ℕ) → Says c files failed input status text → (status ≡ 2) ↔ IsNone c
-says_usage None files failed input status text says = (λ is. refl, λ none. says.0)
-says_usage (Some a) files failed input status text says = (λ is. absurd (not_usage status (asked_done a files failed input status text says) is), λ none. cc)
-
--- it is the answer exactly to words that are not of the command set
-pub shot_usage : (words : List Text) (files : Contents) (failed : ℕ) (input : List Line) (status : ℕ) (text : List ℕ) → Shot words files failed input status text → (status ≡ 2) ↔ IsNone (asked words)
-unfolding Shot
-shot_usage words files failed input status text shot = says_usage (asked words) files failed input status text shot
+-- it is the answer exactly where a run does nothing of what the words ask
+pub says_usage : (c : Option Asked) (reads : List Read) (input : List Line) (status : ℕ) (text : List ℕ) → Says c reads input status text → (status ≡ 2) ↔ IsNone c
+says_usage None reads input status text says = (λ is. refl, λ none. says.0)
+says_usage (Some a) reads input status text says = (λ is. absurd (not_usage status (asked_done a reads input status text says) is), λ none. cc)
 
 -- ---- one answer
 
@@ -211,6 +212,8 @@ game_once print (Ok g) s s' t t' says says' = (says.0 ∙ sym says'.0, says.1 �
 game_once print (Err fault) s s' t t' says says' = (says.0 ∙ sym says'.0, says.1 ∙ sym says'.1)
 
 command_once : (sections : List Section) (c : Command) (input : List Line) (s s' : ℕ) (t t' : List ℕ) → SaysCommand sections c input s t → SaysCommand sections c input s' t' → (s ≡ s') × (t ≡ t')
+command_once sections Uci input s s' t t' says says' = absurd says
+command_once sections Xboard input s s' t t' says says' = absurd says
 command_once sections (Reach word square own enemy) input s s' t t' says says' = reach_once word square own enemy s s' t t' says says'
 command_once sections Moves input s s' t t' says says' = game_once moves_of (game_of (entries sections) input) s s' t t' says says'
 command_once sections Status input s s' t t' says says' = game_once status_of (game_of (entries sections) input) s s' t t' says says'
@@ -218,64 +221,58 @@ command_once sections (Perft plies) input s s' t t' says says' = game_once (perf
 command_once sections Check input s s' t t' says says' = check_once (entries sections) input s s' t t' says says'
 command_once sections Variants input s s' t t' says says' = (says.0 ∙ sym says'.0, says.1 ∙ sym says'.1)
 
--- where files do not fail, a refusal is that of their contents
-refuses_told : (name : Option Text) (files : Contents) (why : Fault) → Refuses name files 0 why → variants_fault name files ≡ Some why
-refuses_told name files why (inl is) = is
-refuses_told None files why (inr fails) = absurd fails
-refuses_told (Some name) files why (inr fails) = let above = fails.0 in absurd (omega (arith, above))
+loaded_once : (o : Option Fault) (Says : ℕ → List ℕ → Type 0) (s s' : ℕ) (t t' : List ℕ) → (Says s t → Says s' t' → (s ≡ s') × (t ≡ t')) → SaysLoaded o Says s t → SaysLoaded o Says s' t' → (s ≡ s') × (t ≡ t')
+loaded_once None Says s s' t t' once says says' = once says says'
+loaded_once (Some why) Says s s' t t' once says says' = (says.0 ∙ sym says'.0, says.1 ∙ sym says'.1)
 
-same_fault : (o : Option Fault) (why why' : Fault) → o ≡ Some why → o ≡ Some why' → why ≡ why'
-same_fault o why why' p q = cc
+-- a run has one answer by its reads and its input
+pub says_once : (c : Option Asked) (reads : List Read) (input : List Line) (s s' : ℕ) (t t' : List ℕ) → Says c reads input s t → Says c reads input s' t' → (s ≡ s') × (t ≡ t')
+says_once None reads input s s' t t' says says' = (says.0 ∙ sym says'.0, says.1 ∙ sym says'.1)
+says_once (Some a) reads input s s' t t' says says' = loaded_once (fault_in a.variants reads) _ s s' t t' (command_once (sections_in a.variants reads) a.command input s s' t t') says says'
 
-faulty_or_not : (o : Option Fault) (why : Fault) → o ≡ Some why → o ≡ None → ⊥
-faulty_or_not o why p q = cc
-
-asked_once : (a : Asked) (files : Contents) (input : List Line) (s s' : ℕ) (t t' : List ℕ) → SaysAsked a files 0 input s t → SaysAsked a files 0 input s' t' → (s ≡ s') × (t ≡ t')
-asked_once a files input s s' t t' (refused why refuses) (refused why' refuses') =
-    let same = same_fault _ why why' (refuses_told a.variants files why refuses) (refuses_told a.variants files why' refuses') in
-    (ap fault_status same, ap (λ (x : Fault). error_line (fault_text x)) same)
-asked_once a files input s s' t t' (refused why refuses) (answered status text none says) = absurd (faulty_or_not _ why (refuses_told a.variants files why refuses) none)
-asked_once a files input s s' t t' (answered status text none says) (refused why refuses) = absurd (faulty_or_not _ why (refuses_told a.variants files why refuses) none)
-asked_once a files input s s' t t' (answered status text none says) (answered status' text' none' says') = command_once (sections_of a.variants files) a.command input _ _ _ _ says says'
-
-says_once : (c : Option Asked) (files : Contents) (input : List Line) (s s' : ℕ) (t t' : List ℕ) → Says c files 0 input s t → Says c files 0 input s' t' → (s ≡ s') × (t ≡ t')
-says_once None files input s s' t t' says says' = (says.0 ∙ sym says'.0, says.1 ∙ sym says'.1)
-says_once (Some a) files input s s' t t' says says' = asked_once a files input s s' t t' says says'
-
--- words have one answer, where files do not fail
-pub shot_once : (words : List Text) (files : Contents) (input : List Line) (s s' : ℕ) (t t' : List ℕ) → Shot words files 0 input s t → Shot words files 0 input s' t' → (s ≡ s') × (t ≡ t')
+pub shot_once : (words : List Text) (reads : List Read) (input : List Line) (s s' : ℕ) (t t' : List ℕ) → Shot words reads input s t → Shot words reads input s' t' → (s ≡ s') × (t ≡ t')
 unfolding Shot
-shot_once words files input s s' t t' shot shot' = says_once (asked words) files input s s' t t' shot shot'
+shot_once words reads input s s' t t' shot shot' = says_once (to_do words) reads input s s' t t' shot.says shot'.says
+
+-- and by the contents of files that do not fail
+pub shot_told : (words : List Text) (files : Contents) (reads reads' : List Read) (input : List Line) (s s' : ℕ) (t t' : List ℕ) → TellsReads (Some files) reads → TellsReads (Some files) reads'
+    → Shot words reads input s t → Shot words reads' input s' t' → (s ≡ s') × (t ≡ t')
+unfolding Shot
+shot_told words files reads reads' input s s' t t' tells tells' shot shot' =
+    let same = same_reads (to_do words) (Some files) reads reads' shot.asks shot'.asks (λ named. tells) (λ named. tells') in
+    says_once (to_do words) reads' input s s' t t' (subst (λ (x : List Read). Says (to_do words) x input s t) same shot.says) shot'.says
 
 -- ---- files that fail
 
-fails_so : (name : Option Text) (failed : ℕ) (why : Fault) → Fails name failed why → (0 < failed) × (why ≡ fault.File Failed)
-fails_so None failed why fails = absurd fails
-fails_so (Some name) failed why fails = fails
+named_failing : (name : Option Text) (reads : List Read) (Says : ℕ → List ℕ → Type 0) (status : ℕ) (text : List ℕ) → 0 < faults_in reads → AreReadsOf name reads → SaysLoaded (fault_in name reads) Says status text
+    → SaysFault (fault.File Failed) status text
+named_failing None reads Says status text some are says = let none = ap faults_in are in absurd (omega (arith, some, none))
+named_failing (Some name) [] Says status text some are says = absurd are
+named_failing (Some name) (x ∷ y ∷ reads) Says status text some are says = absurd are
+named_failing (Some name) (x ∷ []) Says status text some are says = go x.found (omega (arith, some)) says
+  where
+    go : (f : Found) → 0 < faults_of f → SaysLoaded (fault_found f) Says status text → SaysFault (fault.File Failed) status text
+    go (found.Bytes bytes) some says = absurd (omega (arith, some))
+    go found.Missing some says = absurd (omega (arith, some))
+    go found.TooLarge some says = absurd (omega (arith, some))
+    go found.Fault some says = says
 
-asked_failing : (a : Asked) (files : Contents) (failed : ℕ) (input : List Line) (status : ℕ) (text : List ℕ) → SaysAsked a files failed input status text
-    → SaysAsked a files 0 input status text ⊎ ((0 < failed) × SaysFault (fault.File Failed) status text)
-asked_failing a files failed input status text (refused why (inl is)) = inl (refused why (inl is))
-asked_failing a files failed input status text (refused why (inr fails)) =
-    let so = fails_so a.variants failed why fails in
-    inr (so.0, (ap fault_status so.1, ap (λ (x : Fault). error_line (fault_text x)) so.1))
-asked_failing a files failed input status text (answered s t none says) = inl (answered s t none says)
+-- an answer by a read that failed says so
+pub says_failing : (c : Option Asked) (reads : List Read) (input : List Line) (status : ℕ) (text : List ℕ) → 0 < faults_in reads → AreFirstReads c reads → Says c reads input status text
+    → SaysFault (fault.File Failed) status text
+says_failing None reads input status text some are says = let none = ap faults_in are in absurd (omega (arith, some, none))
+says_failing (Some a) reads input status text some are says = named_failing a.variants reads _ status text some are says
 
-says_failing : (c : Option Asked) (files : Contents) (failed : ℕ) (input : List Line) (status : ℕ) (text : List ℕ) → Says c files failed input status text
-    → Says c files 0 input status text ⊎ ((0 < failed) × SaysFault (fault.File Failed) status text)
-says_failing None files failed input status text says = inl says
-says_failing (Some a) files failed input status text says = asked_failing a files failed input status text says
-
--- an answer is one of files that do not fail, or says that they failed
-pub shot_failing : (words : List Text) (files : Contents) (failed : ℕ) (input : List Line) (status : ℕ) (text : List ℕ) → Shot words files failed input status text
-    → Shot words files 0 input status text ⊎ ((0 < failed) × SaysFault (fault.File Failed) status text)
+pub shot_failing : (words : List Text) (reads : List Read) (input : List Line) (status : ℕ) (text : List ℕ) → 0 < faults_in reads → Shot words reads input status text → SaysFault (fault.File Failed) status text
 unfolding Shot
-shot_failing words files failed input status text shot = says_failing (asked words) files failed input status text shot
+shot_failing words reads input status text some shot = says_failing (to_do words) reads input status text some shot.asks shot.says
 
--- ---- words that read no input, and words that name no file
+-- ---- words that read no input
 
 command_without : (sections : List Section) (c : Command) (input input' : List Line) (status : ℕ) (text : List ℕ) → reads_input c ≡ false → SaysCommand sections c input status text
     → SaysCommand sections c input' status text
+command_without sections Uci input input' status text reads says = absurd (false≢true (sym reads))
+command_without sections Xboard input input' status text reads says = absurd (false≢true (sym reads))
 command_without sections (Reach word square own enemy) input input' status text reads says = says
 command_without sections Variants input input' status text reads says = says
 command_without sections Moves input input' status text reads says = absurd (false≢true (sym reads))
@@ -283,44 +280,35 @@ command_without sections Check input input' status text reads says = absurd (fal
 command_without sections Status input input' status text reads says = absurd (false≢true (sym reads))
 command_without sections (Perft plies) input input' status text reads says = absurd (false≢true (sym reads))
 
-asked_without : (a : Asked) (files : Contents) (failed : ℕ) (input input' : List Line) (status : ℕ) (text : List ℕ) → reads_input a.command ≡ false → SaysAsked a files failed input status text
-    → SaysAsked a files failed input' status text
-asked_without a files failed input input' status text reads (refused why refuses) = refused why refuses
-asked_without a files failed input input' status text reads (answered s t none says) = answered s t none (command_without (sections_of a.variants files) a.command input input' s t reads says)
+loaded_so : (o : Option Fault) (P Q : ℕ → List ℕ → Type 0) (status : ℕ) (text : List ℕ) → (P status text → Q status text) → SaysLoaded o P status text → SaysLoaded o Q status text
+loaded_so None P Q status text so says = so says
+loaded_so (Some why) P Q status text so says = says
 
-says_without : (c : Option Asked) (files : Contents) (failed : ℕ) (input input' : List Line) (status : ℕ) (text : List ℕ) → asks_input c ≡ false → Says c files failed input status text
-    → Says c files failed input' status text
-says_without None files failed input input' status text reads says = says
-says_without (Some a) files failed input input' status text reads says = asked_without a files failed input input' status text reads says
+-- the answer of a run that reads no input does not depend on it
+pub says_without : (c : Option Asked) (reads : List Read) (input input' : List Line) (status : ℕ) (text : List ℕ) → asks_input c ≡ false → Says c reads input status text → Says c reads input' status text
+says_without None reads input input' status text none says = says
+says_without (Some a) reads input input' status text none says = loaded_so (fault_in a.variants reads) _ _ status text (command_without (sections_in a.variants reads) a.command input input' status text none) says
 
--- the answer to words that read no input does not depend on it
-pub shot_without : (words : List Text) (files : Contents) (failed : ℕ) (input input' : List Line) (status : ℕ) (text : List ℕ) → asks_input (asked words) ≡ false
-    → Shot words files failed input status text → Shot words files failed input' status text
-unfolding Shot
-shot_without words files failed input input' status text reads shot = says_without (asked words) files failed input input' status text reads shot
+-- ---- the statuses of a file that was not read
 
-unnamed_none : (name : Option Text) (files : Contents) → is_some name ≡ false → variants_fault name files ≡ None
-unnamed_none None files none = refl
-unnamed_none (Some name) files none = absurd (false≢true (sym none))
+named_since : (contents : Option Contents) (before now : ℕ) (name : Option Text) (reads : List Read) (Says : ℕ → List ℕ → Type 0) (status : ℕ) (text : List ℕ) → Finds contents reads → RoseBy before now (faults_in reads)
+    → AreReadsOf name reads → (Says status text → (status ≡ 0) ⊎ (status ≡ 3)) → SaysLoaded (fault_in name reads) Says status text → status ≡ 6 → IsSomeAnd name (λ n. IsUnreadable contents n ⊎ Rose before now)
+named_since contents before now None reads Says status text finds rose are done says six = elim (done says) [ inl is ↦ absurd (omega (arith, is, six)) | inr is ↦ absurd (omega (arith, is, six)) ]
+named_since contents before now (Some name) [] Says status text finds rose are done says six = absurd are
+named_since contents before now (Some name) (x ∷ y ∷ reads) Says status text finds rose are done says six = absurd are
+named_since contents before now (Some name) (x ∷ []) Says status text finds rose are done says six =
+    subst (λ (m : Text). IsUnreadable contents m ⊎ Rose before now) are (go (fault_found x.found) refl says)
+  where
+    go : (o : Option Fault) → fault_found x.found ≡ o → SaysLoaded o Says status text → IsUnreadable contents x.name ⊎ Rose before now
+    go None is says = elim (done says) [ inl zero ↦ absurd (omega (arith, zero, six)) | inr three ↦ absurd (omega (arith, three, six)) ]
+    go (Some why) is says = elim (why_unread contents x.name x.found why finds is (sym says.0 ∙ six)) [
+      | inl unreadable ↦ inl unreadable
+      | inr some ↦ let by = rose.rose in inr (omega (arith, by, some))
+    ]
 
--- nor have the sections then any of a file
-unnamed_sections : (name : Option Text) (files files' : Contents) → is_some name ≡ false → sections_of name files ≡ sections_of name files'
-unnamed_sections None files files' none = refl
-unnamed_sections (Some name) files files' none = absurd (false≢true (sym none))
-
-asked_unnamed : (a : Asked) (files files' : Contents) (input : List Line) (status : ℕ) (text : List ℕ) → is_some a.variants ≡ false → SaysAsked a files 0 input status text
-    → SaysAsked a files' 0 input status text
-asked_unnamed a files files' input status text none (refused why refuses) =
-    absurd (faulty_or_not _ why (refuses_told a.variants files why refuses) (unnamed_none a.variants files none))
-asked_unnamed a files files' input status text none (answered s t no_fault says) =
-    answered s t (unnamed_none a.variants files' none) (subst (λ (x : List Section). SaysCommand x a.command input s t) (unnamed_sections a.variants files files' none) says)
-
-says_unnamed : (c : Option Asked) (files files' : Contents) (input : List Line) (status : ℕ) (text : List ℕ) → asks_file c ≡ false → Says c files 0 input status text → Says c files' 0 input status text
-says_unnamed None files files' input status text none says = says
-says_unnamed (Some a) files files' input status text none says = asked_unnamed a files files' input status text none says
-
--- the answer to words that name no file does not depend on the files
-pub shot_unnamed : (words : List Text) (files files' : Contents) (input : List Line) (status : ℕ) (text : List ℕ) → asks_file (asked words) ≡ false
-    → Shot words files 0 input status text → Shot words files' 0 input status text
-unfolding Shot
-shot_unnamed words files files' input status text none shot = says_unnamed (asked words) files files' input status text none shot
+-- a run has the status of a file that was not read where it is missing or too large, or the files failed
+pub says_since : (contents : Option Contents) (before now : ℕ) (c : Option Asked) (reads : List Read) (input : List Line) (status : ℕ) (text : List ℕ) → Finds contents reads → RoseBy before now (faults_in reads)
+    → AreFirstReads c reads → Says c reads input status text → status ≡ 6 → NamesFile c (λ name. IsUnreadable contents name ⊎ Rose before now)
+says_since contents before now None reads input status text finds rose are says six = let two = says.0 in absurd (omega (arith, two, six))
+says_since contents before now (Some a) reads input status text finds rose are says six =
+    named_since contents before now a.variants reads _ status text finds rose are (command_done (sections_in a.variants reads) a.command input status text) says six

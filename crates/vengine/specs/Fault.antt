@@ -36,27 +36,35 @@ abbrev pub unplaced_text : Unplaced → List ℕ
 unplaced_text (NoSquare text) = codes "ReachFault 1 BadSquare " ++ text
 unplaced_text (Taken text) = codes "ReachFault 2 SquareTwice " ++ text
 
+-- ---- all faults
+
+-- a fault of what was given, or a file that was not read
+pub data FaultClass : Type 0 where
+  OfInput : FaultClass
+  OfFile : FaultClass
+
+-- the status of a run with a fault of this class
+abbrev pub class_status : FaultClass → ℕ
+class_status OfInput = 3
+class_status OfFile = 6
+
+-- what a fault prints, and its class: the one table of all faults
+abbrev pub facts : Fault → List ℕ × FaultClass
+facts (Betza fault) = (betza.fault_text fault, OfInput)
+facts (Reach fault) = (unplaced_text (unplaced_of fault), OfInput)
+facts (Game fault) = (game.fault_text fault, OfInput)
+facts (Strategy fault) = (strategy.fault_text fault, OfInput)
+facts (Proof fault) = (proof.fault_text fault, OfInput)
+facts (Verdict verdict) = (verdict_text verdict, OfInput)
+facts (Ini fault) = (ini_fault_text fault, OfInput)
+facts (File fault) = (file_fault_text fault, OfFile)
+
 abbrev pub fault_text : Fault → List ℕ
-fault_text (Betza fault) = betza.fault_text fault
-fault_text (Reach fault) = unplaced_text (unplaced_of fault)
-fault_text (Game fault) = game.fault_text fault
-fault_text (Strategy fault) = strategy.fault_text fault
-fault_text (Proof fault) = proof.fault_text fault
-fault_text (Verdict verdict) = verdict_text verdict
-fault_text (Ini fault) = ini_fault_text fault
-fault_text (File fault) = file_fault_text fault
+fault_text fault = (facts fault).0
+
+abbrev pub fault_status : Fault → ℕ
+fault_status fault = class_status (facts fault).1
 
 -- the line of a fault
 abbrev pub error_line : List ℕ → List ℕ
 error_line fault = codes "error " ++ fault ++ codes "\n"
-
--- the status of a run with this fault: a file that was not read has its own
-abbrev pub fault_status : Fault → ℕ
-fault_status (Betza fault) = 3
-fault_status (Reach fault) = 3
-fault_status (Game fault) = 3
-fault_status (Strategy fault) = 3
-fault_status (Proof fault) = 3
-fault_status (Verdict verdict) = 3
-fault_status (Ini fault) = 3
-fault_status (File fault) = 6

@@ -2,23 +2,23 @@
 use Rattle.std.specs.Prelude.{◌≡◌, Result, Ok, Err, ⊤}
 use Rattle.game_play.specs.Played.{Played}
 use Rattle.game_text.specs.declared.fault.GameFault.{GameFault}
-use Rattle.vengine.specs.declared.fault.Fault.TheVariants.{Betza, Reach, Game, Strategy, Proof, Verdict, Ini, File}
+use Rattle.vengine.specs.declared.fault.Fault.{Fault}
+use Rattle.vengine.specs.declared.fault.Fault.TheVariants.{Game}
 use Rattle.vengine.specs.declared.halt.Halt.{Halt}
 use Rattle.vengine.specs.declared.halt.Halt.TheVariants as halt
 use Rattle.vengine.specs.declared.stop.Stop.TheVariants as stop
+
+-- the game text has this fault
+pub record IsGameFault (said : Result Played GameFault) (fault : Fault) : Type 0 where
+  pub why : GameFault
+  pub has : said ≡ Err why
+  pub is : fault ≡ Game why
 
 -- the game text says this game, or has this fault; where the run was cut short nothing is known of it
 abbrev pub SaysGame : Result Played GameFault → Result Played Halt → Type 0
 SaysGame said (Ok g) = said ≡ Ok g
 SaysGame said (Err halt.Usage) = ⊥
-SaysGame said (Err (halt.Fault (Betza fault))) = ⊥
-SaysGame said (Err (halt.Fault (Reach fault))) = ⊥
-SaysGame said (Err (halt.Fault (Game fault))) = said ≡ Err fault
-SaysGame said (Err (halt.Fault (Strategy fault))) = ⊥
-SaysGame said (Err (halt.Fault (Proof fault))) = ⊥
-SaysGame said (Err (halt.Fault (Verdict verdict))) = ⊥
-SaysGame said (Err (halt.Fault (Ini fault))) = ⊥
-SaysGame said (Err (halt.Fault (File fault))) = ⊥
+SaysGame said (Err (halt.Fault fault)) = IsGameFault said fault
 SaysGame said (Err (halt.Stop stop.Source)) = ⊤
 SaysGame said (Err (halt.Stop stop.Sink)) = ⊥
 SaysGame said (Err (halt.Stop stop.Memory)) = ⊤

@@ -1,16 +1,17 @@
 -- What the code answers, as the definitions have it.
-use Rattle.std.specs.Prelude.{◌≡◌, ◌<◌, ◌≤◌, ℕ, List, length, Option, Some, None, Result, Ok, Err, ⊤}
+use Rattle.std.specs.Prelude.{◌≡◌, ◌≤◌, ◌⊎◌, ℕ, List, [], ◌∷◌, length, Option, Some, None, Result, Ok, Err, ⊤}
+use Rattle.std.specs.Io.KnownBytes.{Appends}
 use Rattle.betza_text.specs.declared.fault.BetzaFault.{BetzaFault}
 use Rattle.betza_text.specs.declared.fault.BetzaFault.TheVariants as betza
 use Rattle.io_ports.specs.declared.files.TheConstants.{MAX_FILE}
-use Rattle.io_ports.specs.Files.{Contents}
+use Rattle.io_ports.specs.Cause.{Rose}
+use Rattle.io_ports.specs.Files.{Bytes, Read}
+use Rattle.io_ports.specs.Sink.{AppendsFront}
 use Rattle.variant_ini.specs.declared.fault.IniFault.{IniFault}
 use Rattle.variant_ini.specs.declared.fault.IniFault.TheVariants as ini
 use Rattle.variant_ini.specs.Section.{Section}
-use Rattle.vengine.specs.declared.fault.FileFault.{FileFault}
-use Rattle.vengine.specs.declared.fault.FileFault.TheVariants.{Missing, TooLarge, Failed}
 use Rattle.vengine.specs.declared.fault.Fault.{Fault}
-use Rattle.vengine.specs.declared.fault.Fault.TheVariants.{Betza, Reach, Game, Strategy, Proof, Verdict, Ini, File}
+use Rattle.vengine.specs.declared.fault.Fault.TheVariants.{Betza, Game, Strategy, Proof, Ini}
 use Rattle.game_text.specs.declared.fault.NoGame.{NoGame}
 use Rattle.game_text.specs.declared.fault.NoGame.TheVariants as no_game
 use Rattle.strategy.specs.declared.fault.StrategyFault.TheVariants as strategy
@@ -20,15 +21,18 @@ use Rattle.proof_text.specs.declared.taking.NoProof.TheVariants as no_proof
 use Rattle.vengine.specs.declared.halt.Halt.{Halt}
 use Rattle.vengine.specs.declared.halt.Halt.TheVariants as halt
 use Rattle.vengine.specs.declared.answers.Answer.{Answer}
+use Rattle.vengine.specs.declared.opening.Opened.{Opened}
 use Rattle.vengine.specs.declared.strategy_lines.NoStrategy.{NoStrategy}
 use Rattle.vengine.specs.declared.strategy_lines.NoStrategy.TheVariants as no_strategy
 use Rattle.vengine.specs.declared.stop.Stop.{Stop}
 use Rattle.vengine.specs.declared.stop.Stop.TheVariants as stop
 use Rattle.vengine.specs.Fault.{error_line, fault_status, fault_text}
-use Rattle.vengine.specs.Looked.{IsTooLarge}
 use Rattle.vengine.specs.Shot.{usage_line}
-use Rattle.vengine.specs.Variants.{Refuses, sections_of, variants_fault}
+use Rattle.vengine.specs.Variants.{Accepts, AreFirstReads, AreReadsOf, Refuses, sections_in}
+use Rattle.words.specs.declared.reading.Asked.{Asked as GivenAsked}
+use Rattle.words.specs.Asked.{Asked}
 use Rattle.words.specs.Options.{Text}
+use Rattle.words.specs.View.{asked_seen}
 
 -- out of memory is no fault of a word
 abbrev pub betza_halt : BetzaFault → Halt
@@ -100,50 +104,61 @@ IsUnheard (Err (halt.Stop stop.Source)) = ⊤
 IsUnheard (Err (halt.Stop stop.Sink)) = ⊥
 IsUnheard (Err (halt.Stop stop.Memory)) = ⊥
 
--- a file was not read
-abbrev pub IsFileFault : {A : Type 0} → Result A Halt → Type 0
-IsFileFault (Ok x) = ⊥
-IsFileFault (Err halt.Usage) = ⊥
-IsFileFault (Err (halt.Fault (Betza fault))) = ⊥
-IsFileFault (Err (halt.Fault (Reach fault))) = ⊥
-IsFileFault (Err (halt.Fault (Game fault))) = ⊥
-IsFileFault (Err (halt.Fault (Strategy fault))) = ⊥
-IsFileFault (Err (halt.Fault (Proof fault))) = ⊥
-IsFileFault (Err (halt.Fault (Verdict verdict))) = ⊥
-IsFileFault (Err (halt.Fault (Ini fault))) = ⊥
-IsFileFault (Err (halt.Fault (File fault))) = ⊤
-IsFileFault (Err (halt.Stop why)) = ⊥
+-- ---- what a run does first
 
--- why the file was not read: it is missing, it has too many bytes, or the files failed, this number of times
-abbrev pub HasFileFault : Option (List ℕ) → ℕ → FileFault → Type 0
-HasFileFault file failed Missing = file ≡ None
-HasFileFault file failed TooLarge = IsTooLarge file
-HasFileFault file failed Failed = 0 < failed
+-- what a run does, or the usage line where it does nothing
+abbrev pub IsToDo : Option Asked → Result GivenAsked Halt → Type 0
+IsToDo asked (Ok given) = asked ≡ Some (asked_seen given)
+IsToDo asked (Err halt.Usage) = asked ≡ None
+IsToDo asked (Err (halt.Fault fault)) = ⊥
+IsToDo asked (Err (halt.Stop stop.Source)) = ⊥
+IsToDo asked (Err (halt.Stop stop.Sink)) = ⊥
+IsToDo asked (Err (halt.Stop stop.Memory)) = ⊤
 
--- the file has these bytes, or was not read
-abbrev pub HasFile : Option (List ℕ) → ℕ → Result (List ℕ) Halt → Type 0
-HasFile file failed (Ok bytes) = (file ≡ Some bytes) × (length bytes ≤ MAX_FILE)
-HasFile file failed (Err halt.Usage) = ⊥
-HasFile file failed (Err (halt.Fault (Betza fault))) = ⊥
-HasFile file failed (Err (halt.Fault (Reach fault))) = ⊥
-HasFile file failed (Err (halt.Fault (Game fault))) = ⊥
-HasFile file failed (Err (halt.Fault (Strategy fault))) = ⊥
-HasFile file failed (Err (halt.Fault (Proof fault))) = ⊥
-HasFile file failed (Err (halt.Fault (Verdict verdict))) = ⊥
-HasFile file failed (Err (halt.Fault (Ini fault))) = ⊥
-HasFile file failed (Err (halt.Fault (File fault))) = HasFileFault file failed fault
-HasFile file failed (Err (halt.Stop stop.Source)) = ⊥
-HasFile file failed (Err (halt.Stop stop.Sink)) = ⊥
-HasFile file failed (Err (halt.Stop stop.Memory)) = ⊤
+-- the bytes that were found of the file of this name, or why it is refused; nothing was, where there was no memory
+abbrev pub HasFile : Text → List Read → Result (List ℕ) Halt → Type 0
+HasFile name reads (Ok bytes) =
+    (reads ≡ record { name = name; found = Bytes bytes } ∷ []) × (length bytes ≤ MAX_FILE)
+HasFile name reads (Err halt.Usage) = ⊥
+HasFile name reads (Err (halt.Fault fault)) = Refuses (Some name) reads fault
+HasFile name reads (Err (halt.Stop stop.Source)) = ⊥
+HasFile name reads (Err (halt.Stop stop.Sink)) = ⊥
+HasFile name reads (Err (halt.Stop stop.Memory)) = reads ≡ []
 
--- the sections are the built-in ones and those of the file of this name, or the file is refused
-abbrev pub HasVariants : Option Text → Contents → ℕ → Result (List Section) Halt → Type 0
-HasVariants name files failed (Ok sections) = (variants_fault name files ≡ None) × (sections ≡ sections_of name files)
-HasVariants name files failed (Err halt.Usage) = ⊥
-HasVariants name files failed (Err (halt.Fault fault)) = Refuses name files failed fault
-HasVariants name files failed (Err (halt.Stop stop.Source)) = ⊥
-HasVariants name files failed (Err (halt.Stop stop.Sink)) = ⊥
-HasVariants name files failed (Err (halt.Stop stop.Memory)) = ⊤
+-- all reads of the file of variants were done, or none
+abbrev pub AreReadsOrNone : Option Text → List Read → Type 0
+AreReadsOrNone name reads = (reads ≡ []) ⊎ AreReadsOf name reads
+
+-- the sections are the built-in ones and those that were found of the file of this name, or the file is refused
+abbrev pub HasSections : Option Text → List Read → Result (List Section) Halt → Type 0
+HasSections name reads (Ok sections) = Accepts name reads × (sections ≡ sections_in name reads)
+HasSections name reads (Err halt.Usage) = ⊥
+HasSections name reads (Err (halt.Fault fault)) = Refuses name reads fault
+HasSections name reads (Err (halt.Stop stop.Source)) = ⊥
+HasSections name reads (Err (halt.Stop stop.Sink)) = ⊥
+HasSections name reads (Err (halt.Stop stop.Memory)) = AreReadsOrNone name reads
+
+-- the file of variants that is named is refused, for this fault
+abbrev pub RefusesAsked : Option Asked → List Read → Fault → Type 0
+RefusesAsked None reads fault = ⊥
+RefusesAsked (Some a) reads fault = Refuses a.variants reads fault
+
+-- all reads that a run does first were done, or none
+abbrev pub AreFirstOrNone : Option Asked → List Read → Type 0
+AreFirstOrNone asked reads = (reads ≡ []) ⊎ AreFirstReads asked reads
+
+-- what a run does, with the sections that there are after these reads, or why it does nothing of it
+abbrev pub Opens : Option Asked → List Read → Result Opened Halt → Type 0
+Opens asked reads (Ok o) =
+    (asked ≡ Some (asked_seen o.asked)) × Accepts (asked_seen o.asked).variants reads
+    × (o.sections ≡ sections_in (asked_seen o.asked).variants reads)
+Opens asked reads (Err halt.Usage) = (asked ≡ None) × (reads ≡ [])
+Opens asked reads (Err (halt.Fault fault)) = RefusesAsked asked reads fault
+Opens asked reads (Err (halt.Stop stop.Source)) = ⊥
+Opens asked reads (Err (halt.Stop stop.Sink)) = ⊥
+Opens asked reads (Err (halt.Stop stop.Memory)) = AreFirstOrNone asked reads
+
+-- ---- answers
 
 -- the answer has the status and the text of the outcome. A run that was cut short stays so, and any other may be out
 -- of memory
@@ -157,3 +172,13 @@ OutcomeOf (Err (halt.Stop why)) (Err why') = why' ≡ why
 OutcomeOf (Ok said) (Err why') = why' ≡ stop.Memory
 OutcomeOf (Err halt.Usage) (Err why') = why' ≡ stop.Memory
 OutcomeOf (Err (halt.Fault fault)) (Err why') = why' ≡ stop.Memory
+
+-- The text of an answer is written, or a front part of it where the sink fails. A run that was cut short writes
+-- nothing. `old` and `new` are what the sink had taken before and has now, and `before` and `now` its counts of faults.
+abbrev pub Finishes : Result Answer Stop → Option (List ℕ) → Option (List ℕ) → ℕ → ℕ → ℕ → Type 0
+Finishes (Ok answer) old new before now status =
+    ((status ≡ answer.status) × Appends old new answer.text)
+    ⊎ ((status ≡ 5) × AppendsFront old new answer.text × Rose before now)
+Finishes (Err stop.Source) old new before now status = (status ≡ 4) × Appends old new []
+Finishes (Err stop.Sink) old new before now status = (status ≡ 5) × Appends old new []
+Finishes (Err stop.Memory) old new before now status = (status ≡ 7) × Appends old new []

@@ -10,6 +10,7 @@ pub mod MovesText
 pub mod OutcomeText
 pub mod ReachText
 pub mod Run
+pub mod Sessions
 pub mod Setup
 pub mod Shot
 pub mod StopView

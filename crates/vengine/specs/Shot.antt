@@ -1,6 +1,6 @@
--- What a run of one command says: a status and a text, for the words, the files and the lines of the input.
-use Rattle.std.specs.Prelude.{◌≡◌, ℕ, List, ◌++◌, Option, Some, None, Result, Ok, Err, codes}
-use Rattle.io_ports.specs.Files.{Contents}
+-- What a run of one command says: a status and a text, for the words, the reads of files and the lines of the input.
+use Rattle.std.specs.Prelude.{◌≡◌, ℕ, List, [], ◌++◌, Option, Some, None, Result, Ok, Err, codes}
+use Rattle.io_ports.specs.Files.{Read}
 use Rattle.io_ports.specs.Lines.{Line}
 use Rattle.betza_text.specs.declared.part.Part.{Part}
 use Rattle.betza_text.specs.declared.fault.BetzaFault.{BetzaFault}
@@ -15,15 +15,16 @@ use Rattle.game_play.specs.Played.{Played}
 use Rattle.game_text.specs.declared.fault.GameFault.{GameFault}
 use Rattle.game_text.specs.Fault as game
 use Rattle.game_text.specs.GameText.{game_of}
-use Rattle.words.specs.Asked.{Asked, asked}
-use Rattle.words.specs.Command.{Command, Reach, Moves, Status, Perft, Check, Variants}
+use Rattle.words.specs.Asked.{Asked}
+use Rattle.words.specs.Command.{Command, Uci, Xboard, Moves, Status, Perft, Check, Variants, Reach}
 use Rattle.vengine.specs.declared.fault.Fault.{Fault}
 use Rattle.vengine.specs.Checking.{SaysCheck}
 use Rattle.vengine.specs.Fault.{error_line, fault_status, fault_text, unplaced_text}
 use Rattle.vengine.specs.GameTexts.{moves_of, status_of, perft_of}
 use Rattle.vengine.specs.ReachText.{reach_text}
+use Rattle.vengine.specs.Sessions.{to_do}
 use Rattle.vengine.specs.Setup.{Unplaced, setup_of}
-use Rattle.vengine.specs.Variants.{Refuses, sections_of, variants_fault}
+use Rattle.vengine.specs.Variants.{AreFirstReads, fault_in, sections_in}
 use Rattle.vengine.specs.VariantsText.{variants_text}
 
 -- the answer to words that are not of the command set
@@ -50,8 +51,10 @@ SaysOf print (Err fault) status text = (status ≡ 3) × (text ≡ error_line (g
 abbrev pub SaysOfGame : (Played → List ℕ) → List Section → List Line → ℕ → List ℕ → Type 0
 SaysOfGame print sections input status text = SaysOf print (game_of (entries sections) input) status text
 
--- the answer of a command to an input with these lines, where there are these sections
+-- the answer of a command to an input with these lines, where there are these sections; a session has none
 abbrev pub SaysCommand : List Section → Command → List Line → ℕ → List ℕ → Type 0
+SaysCommand sections Uci input status text = ⊥
+SaysCommand sections Xboard input status text = ⊥
 SaysCommand sections Moves input status text = SaysOfGame moves_of sections input status text
 SaysCommand sections Status input status text = SaysOfGame status_of sections input status text
 SaysCommand sections (Perft plies) input status text = SaysOfGame (perft_of plies) sections input status text
@@ -63,18 +66,26 @@ SaysCommand sections (Reach word square own enemy) input status text = SaysReach
 abbrev pub SaysFault : Fault → ℕ → List ℕ → Type 0
 SaysFault fault status text = (status ≡ fault_status fault) × (text ≡ error_line (fault_text fault))
 
--- the answer to words of the command set: the fault of the file of variants, or else the command's answer
-pub data SaysAsked (a : Asked) (files : Contents) (failed : ℕ) (input : List Line) : ℕ → List ℕ → Type 0 where
-  refused : (fault : Fault) → Refuses a.variants files failed fault
-      → SaysAsked a files failed input (fault_status fault) (error_line (fault_text fault))
-  answered : (status : ℕ) (text : List ℕ) → variants_fault a.variants files ≡ None
-      → SaysCommand (sections_of a.variants files) a.command input status text → SaysAsked a files failed input status text
+-- the fault of the file of variants, or else what the command says
+abbrev pub SaysLoaded : Option Fault → (ℕ → List ℕ → Type 0) → ℕ → List ℕ → Type 0
+SaysLoaded None Says status text = Says status text
+SaysLoaded (Some fault) Says status text = SaysFault fault status text
 
-abbrev pub Says : Option Asked → Contents → ℕ → List Line → ℕ → List ℕ → Type 0
-Says None files failed input status text = (status ≡ 2) × (text ≡ usage_line)
-Says (Some a) files failed input status text = SaysAsked a files failed input status text
+-- the answer of a run that does this, by what its first reads found
+abbrev pub SaysAsked : Asked → List Read → List Line → ℕ → List ℕ → Type 0
+SaysAsked a reads input status text =
+    SaysLoaded (fault_in a.variants reads) (SaysCommand (sections_in a.variants reads) a.command input) status text
 
--- The status and the text of a run with these words, where the files have these contents and failed this number of
--- times, and the input has these lines. Of a session it will be what is said before the session begins.
-unfoldable pub Shot : List (List ℕ) → Contents → ℕ → List Line → ℕ → List ℕ → Type 0
-Shot words files failed input status text = Says (asked words) files failed input status text
+abbrev pub Says : Option Asked → List Read → List Line → ℕ → List ℕ → Type 0
+Says None reads input status text = (status ≡ 2) × (text ≡ usage_line)
+Says (Some a) reads input status text = SaysAsked a reads input status text
+
+-- The status and the text of a run with these words, where it asked for these files and no others, and the input has
+-- these lines. Of a session it is what is said where the session does not begin.
+pub record ShotOf (asked : Option Asked) (reads : List Read) (input : List Line) (status : ℕ) (text : List ℕ)
+    : Type 0 where
+  pub asks : AreFirstReads asked reads
+  pub says : Says asked reads input status text
+
+unfoldable pub Shot : List (List ℕ) → List Read → List Line → ℕ → List ℕ → Type 0
+Shot words reads input status text = ShotOf (to_do words) reads input status text

@@ -1,37 +1,35 @@
-//! What the words of a run are answered.
-ghost use Rattle.std.specs.Prelude.{◌≡◌, ◌≤◌, ℕ, true, false, IfOk, Some, map, string_bytes};
+//! What a command is answered.
+ghost use Rattle.std.specs.Prelude.{◌≡◌, ◌≤◌, ℕ, false, IfOk};
 ghost use Rattle.io_ports.specs.Cause.{HasCause};
-ghost use Rattle.io_ports.specs.Trace.{Reads};
-ghost use Rattle.vengine.specs.Commands.{asks_input, lines_asked, lines_needed, reads_input};
+ghost use Rattle.vengine.specs.Commands.{lines_needed, reads_input};
 ghost use Rattle.variant_rules.specs.Entries.{entries};
 ghost use Rattle.game_text.specs.GameText.{lines_of_game};
 ghost use Rattle.game_text.specs.HeardLines.{HeardLines};
 ghost use Rattle.vengine.specs.GameTexts as print;
-ghost use Rattle.vengine.specs.HaltView.{Answers, IsFileFault, IsUnheard, OutcomeOf};
-ghost use Rattle.vengine.specs.Looked.{Looked};
-ghost use Rattle.vengine.specs.Shot.{SaysAsked, SaysCommand, SaysOfGame, SaysReach, Shot, usage_line};
+ghost use Rattle.vengine.specs.HaltView.{Answers, IsUnheard, OutcomeOf};
+ghost use Rattle.vengine.specs.Sessions.{is_session};
+ghost use Rattle.vengine.specs.Shot.{SaysCommand, SaysOfGame, SaysReach, usage_line};
 ghost use Rattle.vengine.specs.StopView.{IsUnread, IsUnsaid};
 ghost use Rattle.vengine.specs.VariantsText.{variants_text};
-ghost use Rattle.words.specs.Asked.{asked};
-ghost use Rattle.words.specs.View.{HasPlies, asked_seen, command_seen};
+ghost use Rattle.words.specs.View.{HasPlies, command_seen};
 
 use crate::checking::check_text;
 use crate::game::{game_in, moves_of, perft_of, status_of};
 use crate::halt::Halt;
+use crate::opening::Opened;
 use crate::reach::reach_text;
-use crate::sections::sections_with;
 use crate::setup::set_up;
 use crate::stop::Stop;
 use crate::variants::variants_of;
 use betza_compile::compile;
 use betza_text::parse;
 use foundation::{Memory, Text};
-use io_ports::{Files, Source};
+use io_ports::Source;
 use std::alloc::{AllocError, Global};
 use variant_ini::Sections;
-use words::{Asked, Command, read_words};
+use words::Command;
 
-/// What the words are answered.
+/// What a run answers.
 #[derive(Drop)]
 pub struct Answer {
     /// The status with which the program ends.
@@ -119,13 +117,16 @@ fn command_text<'a, S: Source>(
     sections: &Sections,
     source: &mut S,
 ) -> Result<Text, Halt<'a>>
+    requires one_shot { is_session (command_seen command) ≡ false }
     requires plies { HasPlies command }
-    ensures heard { HeardLines (S.left source.old) (S.left source.new) (lines_needed sections.now (command_seen command.entry))
+    ensures heard { HeardLines (S.left source.old) (S.left source.new)
+        (lines_needed sections.now (command_seen command.entry))
         (λ lines. Answers result (SaysCommand sections.now (command_seen command.entry) lines)) }
     ensures cause { HasCause (S.faults source.old) (S.faults source.new) (IsUnheard result) }
     ensures unread { reads_input (command_seen command.entry) ≡ false → source.new ≡ source.old }
 {
     match command {
+        Command::Uci | Command::Xboard => unreachable!(),
         Command::Moves => moves(alloc, sections, source),
         Command::Status => status(alloc, sections, source),
         Command::Perft(plies) => perft(alloc, plies, sections, source),
@@ -140,45 +141,6 @@ fn command_text<'a, S: Source>(
     }
 }
 
-// The text that is asked for.
-fn asked_text<'a, S: Source, F: Files>(
-    alloc: Global,
-    asked: Asked<'a>,
-    source: &mut S,
-    files: &mut F,
-) -> Result<Text, Halt<'a>>
-    requires plies { HasPlies asked.command }
-    ensures says { Looked (F.contents files.old) (Reads F.contents F.faults files.old files.new) (λ contents failed.
-        HeardLines (S.left source.old) (S.left source.new) (lines_asked (Some (asked_seen asked.entry)) contents)
-        (λ lines. Answers result (SaysAsked (asked_seen asked.entry) contents failed lines))) }
-    ensures cause { HasCause (S.faults source.old) (S.faults source.new) (IsUnheard result) }
-    ensures unread { reads_input (asked_seen asked.entry).command ≡ false → source.new ≡ source.old }
-    ensures unreached { IsFileFault result → source.new ≡ source.old }
-{
-    let sections = sections_with(alloc, files, asked.variants)?;
-    command_text(alloc, asked.command, &sections, source)
-}
-
-// The text that words ask for.
-fn words_text<'a, S: Source, F: Files>(
-    alloc: Global,
-    words: &'a [String],
-    source: &mut S,
-    files: &mut F,
-) -> Result<Text, Halt<'a>>
-    ensures says { Looked (F.contents files.old) (Reads F.contents F.faults files.old files.new) (λ contents failed.
-        HeardLines (S.left source.old) (S.left source.new) (lines_asked (asked (map string_bytes words.now)) contents)
-        (λ lines. Answers result (Shot (map string_bytes words.now) contents failed lines))) }
-    ensures cause { HasCause (S.faults source.old) (S.faults source.new) (IsUnheard result) }
-    ensures unread { asks_input (asked (map string_bytes words.now)) ≡ false → source.new ≡ source.old }
-    ensures unreached { IsFileFault result → source.new ≡ source.old }
-{
-    match read_words(alloc, words)? {
-        None => Err(Halt::Usage),
-        Some(asked) => asked_text(alloc, asked, source, files),
-    }
-}
-
 fn usage(alloc: Global) -> Result<Text, AllocError>
     ensures { IfOk result (λ text. text ≡ usage_line) }
 {
@@ -186,8 +148,8 @@ fn usage(alloc: Global) -> Result<Text, AllocError>
     Ok(Text { items })
 }
 
-// The status and the text of an outcome.
-fn answer_of<'a>(alloc: Global, outcome: Result<Text, Halt<'a>>) -> Result<Answer, Stop>
+/// The status and the text of an outcome. Any but one that was cut short may find no memory.
+pub fn answer_of<'a>(alloc: Global, outcome: Result<Text, Halt<'a>>) -> Result<Answer, Stop>
     ensures { OutcomeOf outcome.entry result }
 {
     match outcome {
@@ -204,21 +166,17 @@ fn answer_of<'a>(alloc: Global, outcome: Result<Text, Halt<'a>>) -> Result<Answe
     }
 }
 
-/// The answer to the words of a run, with what is read of the files, and then of the source.
-pub fn answer_to<S: Source, F: Files>(
-    alloc: Global,
-    words: &[String],
-    source: &mut S,
-    files: &mut F,
-) -> Result<Answer, Stop>
-    ensures says { Looked (F.contents files.old) (Reads F.contents F.faults files.old files.new) (λ contents failed.
-        HeardLines (S.left source.old) (S.left source.new) (lines_asked (asked (map string_bytes words.now)) contents) (λ lines.
-        IfOk result (λ answer. Shot (map string_bytes words.now) contents failed lines answer.status answer.text))) }
+/// The answer of a one-shot command, with what it reads of the source.
+pub fn answer_to<S: Source>(alloc: Global, opened: &Opened, source: &mut S) -> Result<Answer, Stop>
+    requires one_shot { is_session (command_seen opened.now.asked.command) ≡ false }
+    requires plies { HasPlies opened.now.asked.command }
+    ensures heard { HeardLines (S.left source.old) (S.left source.new)
+        (lines_needed opened.now.sections (command_seen opened.now.asked.command)) (λ lines. IfOk result (λ answer.
+        SaysCommand opened.now.sections (command_seen opened.now.asked.command) lines answer.status answer.text)) }
     ensures cause { HasCause (S.faults source.old) (S.faults source.new) (IsUnread result) }
     ensures unsaid { ¬ (IsUnsaid result) }
-    ensures unread { asks_input (asked (map string_bytes words.now)) ≡ false → source.new ≡ source.old }
-    ensures unreached { IfOk result (λ answer. answer.status ≡ 6 → source.new ≡ source.old) }
+    ensures unread { reads_input (command_seen opened.now.asked.command) ≡ false → source.new ≡ source.old }
 {
-    let outcome = words_text(alloc, words, source, files);
+    let outcome = command_text(alloc, opened.asked.command, &opened.sections, source);
     answer_of(alloc, outcome)
 }

@@ -1,30 +1,34 @@
 //! What the definition of the program's answers comes to, as laws.
-ghost use Rattle.std.specs.Prelude.{◌≡◌, ◌⊎◌, ◌<◌, ℕ, List};
-ghost use Rattle.io_ports.specs.Files.{Contents};
+ghost use Rattle.std.specs.Prelude.{◌≡◌, ◌<◌, ℕ, List, Some};
+ghost use Rattle.io_ports.specs.Files.{Contents, Read};
 ghost use Rattle.io_ports.specs.Lines.{Line};
+ghost use Rattle.io_ports.specs.Trace.{faults_in};
 ghost use Rattle.vengine.specs.declared.fault.Fault.TheVariants.{File};
 ghost use Rattle.vengine.specs.declared.fault.FileFault.TheVariants.{Failed};
 ghost use Rattle.variant_rules.specs.Entries.{Named};
 ghost use Rattle.vengine.specs.Checking.{IsWon, SaysCheck};
 ghost use Rattle.vengine.specs.Commands.{IsOneShot};
+ghost use Rattle.vengine.specs.Looked.{TellsReads};
+ghost use Rattle.vengine.specs.Sessions.{to_do};
 ghost use Rattle.vengine.specs.Shot.{SaysFault, Shot};
-ghost use Rattle.words.specs.Asked.{asked};
+ghost use Rattle.vengine.specs.Variants.{AreFirstReads};
 
 use forced_wins::by_rules::good_strategies_win;
 use strategy::{Edge, Node};
 
-/// Words of a one-shot command, or of none, have exactly one answer, whatever files and input hold: one status and one
-/// text. Where files fail, that may be said in its place.
+/// Words of a one-shot command, or of none, have exactly one answer by the input and the reads of the file of variants,
+/// where they name one: one status and one text. Where files tell their contents and do not fail, it goes by the contents.
+/// Where they fail, the answer says so.
 pub fn words_have_one_answer()
-    ensures some { (words : List (List ℕ)) (files : Contents) (failed : ℕ) (input : List Line) → IsOneShot (asked words)
-        → (status : ℕ) × (text : List ℕ) × Shot words files failed input status text }
-    ensures once { (words : List (List ℕ)) (files : Contents) (input : List Line) (s s' : ℕ) (t t' : List ℕ)
-        → IsOneShot (asked words) → Shot words files 0 input s t → Shot words files 0 input s' t'
-        → (s ≡ s') × (t ≡ t') }
-    ensures failing { (words : List (List ℕ)) (files : Contents) (failed : ℕ) (input : List Line)
-        (status : ℕ) (text : List ℕ)
-        → IsOneShot (asked words) → Shot words files failed input status text
-        → Shot words files 0 input status text ⊎ ((0 < failed) × SaysFault (File Failed) status text) }
+    ensures some { (words : List (List ℕ)) (reads : List Read) (input : List Line) → IsOneShot (to_do words)
+        → AreFirstReads (to_do words) reads → (status : ℕ) × (text : List ℕ) × Shot words reads input status text }
+    ensures once { (words : List (List ℕ)) (reads : List Read) (input : List Line) (s s' : ℕ) (t t' : List ℕ)
+        → Shot words reads input s t → Shot words reads input s' t' → (s ≡ s') × (t ≡ t') }
+    ensures told { (words : List (List ℕ)) (files : Contents) (reads reads' : List Read) (input : List Line)
+        (s s' : ℕ) (t t' : List ℕ) → TellsReads (Some files) reads → TellsReads (Some files) reads'
+        → Shot words reads input s t → Shot words reads' input s' t' → (s ≡ s') × (t ≡ t') }
+    ensures failing { (words : List (List ℕ)) (reads : List Read) (input : List Line) (status : ℕ) (text : List ℕ)
+        → 0 < faults_in reads → Shot words reads input status text → SaysFault (File Failed) status text }
 {}
 
 /// `check` answers `wins` only where the side of the goal wins the game of the input within the moves of the goal, against every

@@ -8,6 +8,7 @@ mod game;
 mod halt;
 mod laws;
 mod moves;
+mod opening;
 mod outcome;
 mod program;
 mod reach;

@@ -1,8 +1,9 @@
 //! The sections of variants: those that are built in, and those of the file of variants.
-ghost use Rattle.std.specs.Prelude.{◌≡◌, ℕ, Some};
+ghost use Rattle.std.specs.Prelude.{◌≡◌, ◌∷◌, [], ℕ, List, IsNone, Some};
+ghost use Rattle.io_ports.specs.Files.{Bytes};
 ghost use Rattle.io_ports.specs.Trace.{Reads};
 ghost use Rattle.vengine.specs.Looked.{Looked};
-ghost use Rattle.vengine.specs.HaltView.{HasFile, HasVariants};
+ghost use Rattle.vengine.specs.HaltView.{HasFile, HasSections};
 ghost use Rattle.words.specs.View.{text_in};
 
 use crate::fault::{Fault, FileFault};
@@ -22,7 +23,7 @@ fn unread(why: FileFault) -> Halt<'static>
 
 // The bytes of a file, where they are not too many. Files that do not tell what they have may give too many.
 fn within_limit(bytes: Vec<u8>) -> Result<Text, Halt<'static>>
-    ensures { (failed : ℕ) → HasFile (Some bytes.items) failed result }
+    ensures { (name : List ℕ) → HasFile name (record { name = name; found = Bytes bytes.items } ∷ []) result }
 {
     if bytes.len() <= MAX_FILE {
         Ok(Text { items: bytes })
@@ -33,8 +34,7 @@ fn within_limit(bytes: Vec<u8>) -> Result<Text, Halt<'static>>
 
 // The bytes of the file of this name.
 fn read_file<F: Files>(alloc: Global, files: &mut F, name: &[u8]) -> Result<Text, Halt<'static>>
-    ensures { Looked (F.contents files.old) (Reads F.contents F.faults files.old files.new)
-        (λ contents failed. HasFile (contents name.now) failed result) }
+    ensures { Looked (Reads F.contents F.faults files.old files.new) (λ reads. HasFile name.now reads result) }
 {
     let mut bytes = Vec::new(alloc);
     match files.read(name, &mut bytes) {
@@ -52,8 +52,8 @@ fn read_sections<F: Files>(
     files: &mut F,
     name: &[u8],
 ) -> Result<Sections, Halt<'static>>
-    ensures { Looked (F.contents files.old) (Reads F.contents F.faults files.old files.new)
-        (λ contents failed. HasVariants (Some name.now) contents failed result) }
+    ensures { Looked (Reads F.contents F.faults files.old files.new)
+        (λ reads. HasSections (Some name.now) reads result) }
 {
     let bytes = read_file(alloc, files, name)?;
     let mut sections = builtin(alloc)?;
@@ -61,14 +61,16 @@ fn read_sections<F: Files>(
     Ok(sections)
 }
 
-/// The sections that are built in, and after them those of the file of variants of this name, where one is named.
+/// The sections that are built in, and after them those of the file of variants of this name, where one is named. Where
+/// none is, no file is read.
 pub fn sections_with<F: Files>(
     alloc: Global,
     files: &mut F,
     name: Option<&str>,
 ) -> Result<Sections, Halt<'static>>
-    ensures { Looked (F.contents files.old) (Reads F.contents F.faults files.old files.new)
-        (λ contents failed. HasVariants (text_in name.entry) contents failed result) }
+    ensures has { Looked (Reads F.contents F.faults files.old files.new)
+        (λ reads. HasSections (text_in name.entry) reads result) }
+    ensures unnamed { IsNone (text_in name.entry) → files.new ≡ files.old }
 {
     match name {
         None => Ok(builtin(alloc)?),

@@ -2,6 +2,7 @@ use super::*;
 use io_ports::{
     Files, Given, ListClock, MAX_FILE, MAX_LINE, MemFiles, MemSink, MemSource, OpenGate, PollsOwed,
 };
+use std::process::Abort;
 use std::str;
 use std::test::Fail;
 
@@ -46,133 +47,103 @@ fn ran<R: AllocGlobal + Threads + Wait + Sync, F: Files>(
     Ok((status, sink))
 }
 
-#[test]
-fn reach_says_where_a_piece_goes(rt: HostRuntime) -> Result<(), Fail> {
-    let rows: [(&str, &str, u8, &str); 25] = [
-        ("N", "b1", 0, "quiet d2 a3 c3\ntake -\n"),
-        ("WF", "a1", 0, "quiet b1 a2 b2\ntake -\n"),
-        ("G", "d4", 0, "quiet a1 g1 a7 g7\ntake -\n"),
-        ("H", "h8", 0, "quiet h5 e8\ntake -\n"),
-        ("NN", "b1", 0, "quiet d2 a3 c3 f3 h4 d5 e7\ntake -\n"),
-        ("nN", "b1", 0, "quiet d2 a3 c3\ntake -\n"),
-        ("ffN", "d4", 0, "quiet c6 e6\ntake -\n"),
-        ("fsN", "d4", 0, "quiet b5 f5\ntake -\n"),
-        ("bFfW", "d4", 0, "quiet c3 e3 d5\ntake -\n"),
-        (
-            "mRcpR",
-            "a1",
-            0,
-            "quiet b1 c1 d1 e1 f1 g1 h1 a2 a3 a4 a5 a6 a7 a8\ntake -\n",
-        ),
-        ("gQ", "d4", 0, "quiet -\ntake -\n"),
-        ("fN", "d4", 3, "error BetzaFault 6 AmbiguousDirection 0\n"),
-        ("iN", "a1", 3, "error BetzaFault 4 UnsupportedModifier 0\n"),
-        ("nR", "a1", 3, "error BetzaFault 7 BadLame 0\n"),
-        ("pgR", "a1", 3, "error BetzaFault 8 BadHopper 1\n"),
-        ("R12", "a1", 3, "error BetzaFault 9 BadNumber 1\n"),
-        ("NLJNLJNLJ", "a1", 3, "error BetzaFault 10 TooManyTerms 8\n"),
-        ("", "b1", 3, "error BetzaFault 1 Empty 0\n"),
-        ("Né", "b1", 3, "error BetzaFault 3 UnknownAtom 1\n"),
-        (
-            "WFDNAHLCWFDNAHLCWFDNAHLCWFDNAHLCWFDNAHLCWFDNAHLCWFDNAHLCWFDNAHLCW",
-            "b1",
-            3,
-            "error BetzaFault 2 TooLong 64\n",
-        ),
-        ("fN", "z9", 3, "error BetzaFault 6 AmbiguousDirection 0\n"),
-        ("N", "i9", 3, "error ReachFault 1 BadSquare i9\n"),
-        ("N", "a10", 3, "error ReachFault 1 BadSquare a10\n"),
-        ("N", "", 3, "error ReachFault 1 BadSquare \n"),
-        ("N", "é1", 3, "error ReachFault 1 BadSquare é1\n"),
-    ];
-    let mut files = MemFiles::new(rt.alloc());
-    for (word, square, status, text) in rows {
-        let words = ["reach", word, square];
-        let (answered, sink) = ran(&rt, &mut files, words.as_slice(), b"a line\n", &[], 1000)?;
-        assert_eq!(rt; answered, status, "{word} {square}");
-        assert_eq!(rt; sink.taken(), text.as_bytes(), "{word} {square}");
-    }
+/// Runs words over these files and this input, with a sink that has room for all, and wants this status and this text.
+fn answers<R: Abort + AllocGlobal + Threads + Wait + Sync, F: Files>(
+    rt: &R,
+    files: &mut F,
+    words: &[&str],
+    input: &[u8],
+    status: u8,
+    text: &[u8],
+) -> Result<(), Fail> {
+    let (answered, sink) = ran(rt, files, words, input, &[], 1000)?;
+    assert_eq!(rt; answered, status);
+    assert_eq!(rt; sink.taken(), text);
     Ok(())
 }
 
 #[test]
-fn reach_takes_lists_of_own_and_enemy_squares(rt: HostRuntime) -> Result<(), Fail> {
-    let rows: [(&[&str], u8, &str); 15] = [
-        (&["nN", "b1", "b2"], 0, "quiet d2\ntake -\n"),
-        (&["gQ", "d4", "d5", "d6"], 0, "quiet -\ntake d6\n"),
+fn reach_says_where_a_piece_goes(rt: HostRuntime) -> Result<(), Fail> {
+    let rows: [(&[&str], u8, &str); 14] = [
+        (&["reach", "N", "b1"], 0, "quiet d2 a3 c3\ntake -\n"),
+        (&["reach", "G", "d4"], 0, "quiet a1 g1 a7 g7\ntake -\n"),
         (
-            &["mRcpR", "a1", "a4", "a7"],
+            &["reach", "NN", "b1"],
+            0,
+            "quiet d2 a3 c3 f3 h4 d5 e7\ntake -\n",
+        ),
+        (&["reach", "nN", "b1", "b2"], 0, "quiet d2\ntake -\n"),
+        (
+            &["reach", "mRcpR", "a1", "a4", "a7"],
             0,
             "quiet b1 c1 d1 e1 f1 g1 h1 a2 a3\ntake a7\n",
         ),
-        (&["cF", "a1", "none", "b2"], 0, "quiet -\ntake b2\n"),
-        (&["R", "a1", "b1,a3"], 0, "quiet a2\ntake -\n"),
-        (&["R", "a1", "none", "b1,a3"], 0, "quiet a2\ntake b1 a3\n"),
-        (&["F", "a1", "none", "none"], 0, "quiet b2\ntake -\n"),
-        (&["R", "a1", "a1"], 3, "error ReachFault 2 SquareTwice a1\n"),
         (
-            &["R", "a1", "a2,a2"],
-            3,
-            "error ReachFault 2 SquareTwice a2\n",
+            &["reach", "R", "a1", "none", "b1,a3"],
+            0,
+            "quiet a2\ntake b1 a3\n",
         ),
         (
-            &["R", "a1", "a2", "b3,a2"],
+            &["reach", "fN", "z9"],
             3,
-            "error ReachFault 2 SquareTwice a2\n",
+            "error BetzaFault 6 AmbiguousDirection 0\n",
         ),
         (
-            &["R", "a1", "a2,i9", "a2"],
+            &["reach", "NLJNLJNLJ", "a1"],
             3,
-            "error ReachFault 1 BadSquare i9\n",
+            "error BetzaFault 10 TooManyTerms 8\n",
+        ),
+        (&["reach", "", "b1"], 3, "error BetzaFault 1 Empty 0\n"),
+        (
+            &["reach", "Né", "b1"],
+            3,
+            "error BetzaFault 3 UnknownAtom 1\n",
         ),
         (
-            &["R", "a1", "a2,a1", "i9"],
+            &["reach", "N", "é1"],
+            3,
+            "error ReachFault 1 BadSquare é1\n",
+        ),
+        (
+            &["reach", "R", "a1", "a2,a1", "i9"],
             3,
             "error ReachFault 2 SquareTwice a1\n",
         ),
-        (&["R", "a1", ""], 3, "error ReachFault 1 BadSquare \n"),
         (
-            &["R", "a1", "b2,none"],
+            &["reach", "R", "a1", ""],
+            3,
+            "error ReachFault 1 BadSquare \n",
+        ),
+        (
+            &["reach", "R", "a1", "b2,none"],
             3,
             "error ReachFault 1 BadSquare none\n",
         ),
-        (&["R12", "a1", "a1"], 3, "error BetzaFault 9 BadNumber 1\n"),
     ];
     let mut files = MemFiles::new(rt.alloc());
-    for (arguments, status, text) in rows {
-        let mut words = vec![in rt.alloc(); "reach"]?;
-        words.extend_from_slice(arguments)?;
-        let (answered, sink) = ran(&rt, &mut files, words.as_slice(), b"a line\n", &[], 1000)?;
-        assert_eq!(rt; answered, status, "{text}");
-        assert_eq!(rt; sink.taken(), text.as_bytes(), "{text}");
+    for (words, status, text) in rows {
+        answers(&rt, &mut files, words, b"a line\n", status, text.as_bytes())?;
     }
     Ok(())
 }
 
+/// Words of a session have the same answer, since no front serves one yet.
 #[test]
 fn other_words_are_answered_by_the_usage_line(rt: HostRuntime) -> Result<(), Fail> {
-    let rows: [&[&str]; 15] = [
+    let rows: [&[&str]; 9] = [
         &[],
+        &["uci"],
+        &["xboard"],
+        &["--variants", "none"],
+        &["--threads", "2"],
         &["moves", "chess"],
-        &["Moves"],
         &["--"],
-        &["reach", "N"],
-        &["reach", "N", "b1", "-"],
         &["--threads", "65", "moves"],
-        &["--variants", "moves"],
-        &["--variants=", "moves"],
-        &["perft", "x"],
-        &["perft"],
-        &["perft", "0"],
         &["perft", "10"],
-        &["status", "4"],
-        &["help"],
     ];
     let mut files = MemFiles::new(rt.alloc());
     for words in rows {
-        let (status, sink) = ran(&rt, &mut files, words, b"chess\nstartpos\n", &[], 1000)?;
-        assert_eq!(rt; status, 2);
-        assert_eq!(rt; sink.taken(), USAGE_LINE.as_bytes());
+        answers(&rt, &mut files, words, b"quit\n", 2, USAGE_LINE.as_bytes())?;
     }
     Ok(())
 }
@@ -180,9 +151,8 @@ fn other_words_are_answered_by_the_usage_line(rt: HostRuntime) -> Result<(), Fai
 /// Perft counts are those of the Chess Programming Wiki's positions; the others are worked by hand.
 #[test]
 fn game_texts_are_answered(rt: HostRuntime) -> Result<(), Fail> {
-    let rows: [(&[&str], &str, u8, &str); 46] = [
+    let rows: [(&[&str], &str, u8, &str); 30] = [
         (&["moves"], "chess\nstartpos\n", 0, START),
-        (&["moves"], "chess\nstartpos", 0, START),
         (&["moves"], "chess\r\nstartpos\r\n\r\n", 0, START),
         (
             &["--threads", "4", "moves"],
@@ -195,12 +165,6 @@ fn game_texts_are_answered(rt: HostRuntime) -> Result<(), Fail> {
             "chess\n4k3/8/8/8/8/8/8/K7 w - - 0 1\n\n\ta1a2  e8d8\n",
             0,
             "a2a1\na2a3\na2b1\na2b2\na2b3\nmoves 5\n",
-        ),
-        (
-            &["moves"],
-            "chess\n7k/5Q2/6K1/8/8/8/8/8 b - - 0 1",
-            0,
-            "moves 0\n",
         ),
         (
             &["status"],
@@ -232,57 +196,13 @@ fn game_texts_are_answered(rt: HostRuntime) -> Result<(), Fail> {
             0,
             "won white flag\n4k3/8/8/8/3K4/8/8/8 b - - 1 1\n",
         ),
-        (
-            &["status"],
-            "kingofthehill\n4k3/8/8/8/8/4K3/8/8 w - - 0 1\ne3e4",
-            0,
-            "won white flag\n4k3/8/8/8/4K3/8/8/8 b - - 1 1\n",
-        ),
         (&["perft", "4"], "chess\nstartpos\n", 0, "197281\n"),
-        (
-            &["perft", "1"],
-            "chess\nr3k2r/p1ppqpb1/bn2pnp1/3PN3/1p2P3/2N2Q1p/PPPBBPPP/R3K2R w KQkq - 0 1\n",
-            0,
-            "48\n",
-        ),
-        (
-            &["perft", "2"],
-            "chess\nr3k2r/p1ppqpb1/bn2pnp1/3PN3/1p2P3/2N2Q1p/PPPBBPPP/R3K2R w KQkq - 0 1\n",
-            0,
-            "2039\n",
-        ),
-        (
-            &["perft", "3"],
-            "chess\nr3k2r/p1ppqpb1/bn2pnp1/3PN3/1p2P3/2N2Q1p/PPPBBPPP/R3K2R w KQkq - 0 1\n",
-            0,
-            "97862\n",
-        ),
-        (
-            &["perft", "1"],
-            "chess\n8/2p5/3p4/KP5r/1R3p1k/8/4P1P1/8 w - - 0 1",
-            0,
-            "14\n",
-        ),
-        (
-            &["perft", "2"],
-            "chess\n8/2p5/3p4/KP5r/1R3p1k/8/4P1P1/8 w - - 0 1",
-            0,
-            "191\n",
-        ),
-        (
-            &["perft", "3"],
-            "chess\n8/2p5/3p4/KP5r/1R3p1k/8/4P1P1/8 w - - 0 1",
-            0,
-            "2812\n",
-        ),
         (
             &["perft", "4"],
             "chess\n8/2p5/3p4/KP5r/1R3p1k/8/4P1P1/8 w - - 0 1",
             0,
             "43238\n",
         ),
-        (&["perft", "1"], "xiangqi\nstartpos", 0, "44\n"),
-        (&["perft", "2"], "xiangqi\nstartpos", 0, "1920\n"),
         (&["perft", "3"], "seirawan\nstartpos", 0, "24830\n"),
         (
             &["status"],
@@ -326,26 +246,7 @@ fn game_texts_are_answered(rt: HostRuntime) -> Result<(), Fail> {
             3,
             "error GameFault 2 UnknownVariant Chess\n",
         ),
-        (
-            &["status"],
-            " chess\n",
-            3,
-            "error GameFault 2 UnknownVariant  chess\n",
-        ),
-        (
-            &["perft", "1"],
-            "\n",
-            3,
-            "error GameFault 2 UnknownVariant \n",
-        ),
         (&["moves"], "chess", 3, "error GameFault 1 Missing 2\n"),
-        (&["moves"], "", 3, "error GameFault 1 Missing 1\n"),
-        (
-            &["moves"],
-            "chess\n\ne2e4",
-            3,
-            "error GameFault 4 BadPosition FenFault 1 Length\n",
-        ),
         (
             &["moves"],
             "chess\n8/8/8/8/8/8/8/z7 w - - 0 1\ne2e5\n",
@@ -363,12 +264,6 @@ fn game_texts_are_answered(rt: HostRuntime) -> Result<(), Fail> {
             "chess\nstartpos\ne2e4\n\n e7e4 .\n",
             3,
             "error GameFault 5 BadMove 2 e7e4\n",
-        ),
-        (
-            &["perft", "9"],
-            "chess\nstartpos\n.",
-            3,
-            "error GameFault 5 BadMove 1 .\n",
         ),
         (
             &["--variants", "f", "moves"],
@@ -405,9 +300,14 @@ fn game_texts_are_answered(rt: HostRuntime) -> Result<(), Fail> {
     ];
     let mut files = some_files(rt.alloc())?;
     for (words, input, status, text) in rows {
-        let (answered, sink) = ran(&rt, &mut files, words, input.as_bytes(), &[], 1000)?;
-        assert_eq!(rt; answered, status, "{input}");
-        assert_eq!(rt; sink.taken(), text.as_bytes(), "{input}");
+        answers(
+            &rt,
+            &mut files,
+            words,
+            input.as_bytes(),
+            status,
+            text.as_bytes(),
+        )?;
     }
     Ok(())
 }
@@ -465,23 +365,7 @@ fn strategies_are_checked(rt: HostRuntime) -> Result<(), Fail> {
         ),
         (
             MATED,
-            "\nmate white 0\n",
-            MATE,
-            "",
-            "",
-            "error GameFault 7 BadGoal 4\n",
-        ),
-        (
-            MATED,
             "\nmate white 101\n",
-            MATE,
-            "",
-            "",
-            "error GameFault 7 BadGoal 4\n",
-        ),
-        (
-            MATED,
-            "\nmate red 2\n",
             MATE,
             "",
             "",
@@ -503,22 +387,6 @@ fn strategies_are_checked(rt: HostRuntime) -> Result<(), Fail> {
             "edge h8g8 2\n",
             "",
             "error Verdict 3 MissingReply 1 h8g8\n",
-        ),
-        (
-            MATED,
-            IN_TWO,
-            MATE,
-            "node 0 2",
-            "node 0 1",
-            "error Verdict 4 BadRank 0\n",
-        ),
-        (
-            MATED,
-            IN_TWO,
-            MATE,
-            "b - - 1",
-            "b - - 0",
-            "error Verdict 5 BadCounter 0\n",
         ),
         (
             REPEATED,
@@ -549,9 +417,16 @@ fn strategies_are_checked(rt: HostRuntime) -> Result<(), Fail> {
     for (game, goal, strategy, right, wrong, text) in rows {
         let strategy = replaced(rt.alloc(), strategy, right, wrong)?;
         let input = format!(in rt.alloc(); "{game}{goal}{strategy}")?;
-        let (answered, sink) = ran(&rt, &mut files, &["check"], input.as_bytes(), &[], 1000)?;
-        assert_eq!(rt; sink.taken(), text.as_bytes(), "{input}");
-        assert_eq!(rt; answered, if text == "wins\n" { 0 } else { 3 }, "{input}");
+        let status = if text == "wins\n" { 0 } else { 3 };
+        let words = ["check"].as_slice();
+        answers(
+            &rt,
+            &mut files,
+            words,
+            input.as_bytes(),
+            status,
+            text.as_bytes(),
+        )?;
     }
     Ok(())
 }
@@ -623,9 +498,16 @@ fn proof_texts_are_checked(rt: HostRuntime) -> Result<(), Fail> {
     let mut files = MemFiles::new(rt.alloc());
     for (right, wrong, text) in rows {
         let input = replaced(rt.alloc(), PROOF, right, wrong)?;
-        let (answered, sink) = ran(&rt, &mut files, &["check"], input.as_bytes(), &[], 1000)?;
-        assert_eq!(rt; sink.taken(), text.as_bytes(), "{wrong}");
-        assert_eq!(rt; answered, if text == "wins\n" { 0 } else { 3 }, "{wrong}");
+        let status = if text == "wins\n" { 0 } else { 3 };
+        let words = ["check"].as_slice();
+        answers(
+            &rt,
+            &mut files,
+            words,
+            input.as_bytes(),
+            status,
+            text.as_bytes(),
+        )?;
     }
     Ok(())
 }
@@ -657,37 +539,26 @@ fn some_files(alloc: Global) -> Result<MemFiles, Fail> {
     Ok(files)
 }
 
+/// Runs words over these files and this input, and wants a text with this line and this end.
+fn lists<R: Abort + AllocGlobal + Threads + Wait + Sync, F: Files>(
+    rt: &R,
+    files: &mut F,
+    words: &[&str],
+    input: &[u8],
+    line: &str,
+    end: &str,
+) -> Result<(), Fail> {
+    let (answered, sink) = ran(rt, files, words, input, &[], 1000)?;
+    let text = str::from_utf8(sink.taken())?;
+    assert!(rt; answered == 0 && text.contains(line) && text.ends_with(end));
+    Ok(())
+}
+
 /// Rows of which only some lines, and the last one, are known by hand.
 #[test]
 fn long_answers_have_these_lines(rt: HostRuntime) -> Result<(), Fail> {
-    let rows: [(&[&str], &str, &str, &str); 13] = [
+    let rows: [(&[&str], &str, &str, &str); 7] = [
         (&["moves"], "capablanca\nstartpos", "b1c3\n", "\nmoves 28\n"),
-        (&["moves"], "losalamos\nstartpos", "b1a3\n", "\nmoves 10\n"),
-        (&["moves"], "seirawan\nstartpos", "\nb1c3\n", "\nmoves 28\n"),
-        (
-            &["moves"],
-            "seirawan\nstartpos",
-            "\nb1c3e\n",
-            "\nmoves 28\n",
-        ),
-        (
-            &["moves"],
-            "seirawan\nstartpos",
-            "\nb1c3h\n",
-            "\nmoves 28\n",
-        ),
-        (
-            &["moves"],
-            "seirawan\n4k3/8/8/8/8/8/8/4K2R[H] w K - 0 1",
-            "\ne1g1\n",
-            "\nmoves 31\n",
-        ),
-        (
-            &["moves"],
-            "seirawan\n4k3/8/8/8/8/8/8/4K2R[H] w K - 0 1",
-            "\ne1g1h\n",
-            "\nmoves 31\n",
-        ),
         (
             &["moves"],
             "seirawan\n4k3/8/8/8/8/8/8/4K2R[H] w K - 0 1",
@@ -722,37 +593,7 @@ fn long_answers_have_these_lines(rt: HostRuntime) -> Result<(), Fail> {
     ];
     let mut files = some_files(rt.alloc())?;
     for (words, input, line, end) in rows {
-        let (answered, sink) = ran(&rt, &mut files, words, input.as_bytes(), &[], 1000)?;
-        assert_eq!(rt; answered, 0, "{input}");
-        let text = str::from_utf8(sink.taken())?;
-        assert!(rt; text.contains(line), "{input}");
-        assert!(rt; text.ends_with(end), "{input}");
-    }
-    Ok(())
-}
-
-/// A game of knights that go out and back, as many plies as a game may have, and then one more.
-#[test]
-fn a_game_has_at_most_8192_plies(rt: HostRuntime) -> Result<(), Fail> {
-    let rows = [
-        (
-            "",
-            "drawn repetition\nrnbqkbnr/pppppppp/8/8/8/8/PPPPPPPP/RNBQKBNR w KQkq - 8192 4097\n",
-            0,
-        ),
-        ("g1f3\ne2e5", "error GameFault 6 TooManyMoves\n", 3),
-        ("\ne2e5", "error GameFault 5 BadMove 8193 e2e5\n", 3),
-    ];
-    for (end, text, status) in rows {
-        let mut input = b"chess\nstartpos\n".to_vec(rt.alloc())?;
-        for _ in 0..2048 {
-            input.extend_from_slice(b"g1f3 g8f6 f3g1 f6g8 ")?;
-        }
-        input.extend_from_slice(end.as_bytes())?;
-        let mut files = MemFiles::new(rt.alloc());
-        let (answered, sink) = ran(&rt, &mut files, &["status"], input.as_slice(), &[], 1000)?;
-        assert_eq!(rt; answered, status, "{text}");
-        assert_eq!(rt; sink.taken(), text.as_bytes(), "{text}");
+        lists(&rt, &mut files, words, input.as_bytes(), line, end)?;
     }
     Ok(())
 }
@@ -760,37 +601,18 @@ fn a_game_has_at_most_8192_plies(rt: HostRuntime) -> Result<(), Fail> {
 #[test]
 fn a_line_of_a_game_text_is_too_long_before_its_other_faults(rt: HostRuntime) -> Result<(), Fail> {
     let rows = [
-        ("", MAX_LINE + 1, 3, "error GameFault 8 LineTooLong 1\n"),
+        (MAX_LINE + 1, "error GameFault 8 LineTooLong 2\n"),
         (
-            "chess\n",
-            MAX_LINE + 1,
-            3,
-            "error GameFault 8 LineTooLong 2\n",
-        ),
-        (
-            "chess\n",
             MAX_LINE,
-            3,
             "error GameFault 4 BadPosition FenFault 1 Length\n",
         ),
-        (
-            "chess\nstartpos\n",
-            MAX_LINE + 1,
-            3,
-            "error GameFault 8 LineTooLong 3\n",
-        ),
-        ("chess\nstartpos\n", MAX_LINE, 0, START),
     ];
-    for (front, len, status, text) in rows {
-        let mut input = front.as_bytes().to_vec(rt.alloc())?;
-        for _ in 0..len {
-            input.push(b' ')?;
-        }
-        input.extend_from_slice(b"\n\n")?;
-        let mut files = MemFiles::new(rt.alloc());
-        let (answered, sink) = ran(&rt, &mut files, &["moves"], input.as_slice(), &[], 1000)?;
-        assert_eq!(rt; answered, status, "{text}");
-        assert_eq!(rt; sink.taken(), text.as_bytes(), "{text}");
+    let mut files = MemFiles::new(rt.alloc());
+    for (len, text) in rows {
+        let mut input = b"chess\n".to_vec(rt.alloc())?;
+        input.resize(6 + len, b' ')?;
+        let words = ["moves"].as_slice();
+        answers(&rt, &mut files, words, input.as_slice(), 3, text.as_bytes())?;
     }
     Ok(())
 }
@@ -809,9 +631,7 @@ fn names_and_texts_may_have_any_bytes(rt: HostRuntime) -> Result<(), Fail> {
     ];
     for (input, text) in rows {
         let mut files = MemFiles::new(rt.alloc());
-        let (status, sink) = ran(&rt, &mut files, &["moves"], input, &[], 1000)?;
-        assert_eq!(rt; status, 3);
-        assert_eq!(rt; sink.taken(), text);
+        answers(&rt, &mut files, &["moves"], input, 3, text)?;
     }
     Ok(())
 }
@@ -835,31 +655,39 @@ impl Files for FailingFiles {
     }
 }
 
+/// A file of the most bytes that one may have, all of them comments.
+fn largest_file(alloc: Global) -> Result<Vec<u8>, Fail> {
+    let mut bytes = Vec::new(alloc);
+    for _ in 0..1024 {
+        bytes.extend_from_slice(&[b'#'; 1023])?;
+        bytes.push(b'\n')?;
+    }
+    Ok(bytes)
+}
+
+/// Runs words over these files and a source that fails at its first call, and wants this status and this text.
+fn fails<R: Abort + AllocGlobal + Threads + Wait + Sync, F: Files>(
+    rt: &R,
+    files: &mut F,
+    words: &[&str],
+    status: u8,
+    text: &[u8],
+) -> Result<(), Fail> {
+    let (answered, sink) = ran(rt, files, words, b"chess\n", &[0], 1000)?;
+    assert_eq!(rt; answered, status);
+    assert_eq!(rt; sink.taken(), text);
+    Ok(())
+}
+
 /// The source fails at its first call, so that a command that is reached and reads it has status 4.
 #[test]
 fn the_file_of_variants_is_judged_before_the_command(rt: HostRuntime) -> Result<(), Fail> {
-    let alloc = rt.alloc();
-    let mut files = MemFiles::new(alloc);
-    let mut large = Vec::new(alloc);
-    for _ in 0..1024 {
-        large.extend_from_slice(&[b'#'; 1023])?;
-        large.push(b'\n')?;
-    }
-    assert_eq!(rt; large.len(), MAX_FILE);
-    files.add(b"largest", large.as_slice())?;
-    large.push(b'#')?;
-    files.add(b"larger", large.as_slice())?;
-    files.add(b"empty", b"")?;
-    files.add(b"good", b"# a\n[mini:chess]\nking = k\n")?;
-    files.add(b"pair", b"castling = true\n")?;
-    files.add(b"bad", b"[a]\n[b\n")?;
-    files.add(b"foreign", b"[a]\nx = \xe9\n")?;
-    let rows: [(&[&str], u8, &str); 17] = [
-        (
-            &["--variants", "none", "moves"],
-            6,
-            "error FileFault 1 Missing\n",
-        ),
+    let mut files = some_files(rt.alloc())?;
+    let mut bytes = largest_file(rt.alloc())?;
+    files.add(b"largest", bytes.as_slice())?;
+    bytes.push(b'#')?;
+    files.add(b"larger", bytes.as_slice())?;
+    let rows: [(&[&str], u8, &str); 8] = [
         (
             &["--variants=none", "reach", "fN", "i9"],
             6,
@@ -871,100 +699,84 @@ fn the_file_of_variants_is_judged_before_the_command(rt: HostRuntime) -> Result<
             "error FileFault 2 TooLarge\n",
         ),
         (
-            &["--variants", "larger", "reach", "N", "b1"],
-            6,
-            "error FileFault 2 TooLarge\n",
-        ),
-        (
             &["--variants", "pair", "moves"],
             3,
             "error IniFault 4 NoSection 1\n",
         ),
-        (
-            &["--variants", "bad", "moves"],
-            3,
-            "error IniFault 5 BadLine 2\n",
-        ),
-        (
-            &["--variants", "foreign", "moves"],
-            3,
-            "error IniFault 2 NotAscii 2\n",
-        ),
-        (
-            &["--variants", "pair", "reach", "fN", "i9"],
-            3,
-            "error IniFault 4 NoSection 1\n",
-        ),
         (&["--variants", "pair", "reach", "N"], 2, USAGE_LINE),
-        (&["--variants", "none"], 2, USAGE_LINE),
+        (&["--variants", "none", "uci"], 2, USAGE_LINE),
         (&["--variants", "largest", "moves"], 4, ""),
-        (&["--variants", "empty", "moves"], 4, ""),
-        (&["--variants", "good", "moves"], 4, ""),
         (&["moves"], 4, ""),
         (
-            &["--variants", "largest", "reach", "N", "b1"],
-            0,
-            "quiet d2 a3 c3\ntake -\n",
-        ),
-        (
-            &["--variants", "good", "reach", "N", "i9"],
+            &["--variants", "empty", "reach", "N", "i9"],
             3,
             "error ReachFault 1 BadSquare i9\n",
         ),
-        (
-            &["--threads", "2", "--variants", "empty", "reach", "N", "b1"],
-            0,
-            "quiet d2 a3 c3\ntake -\n",
-        ),
     ];
     for (words, status, text) in rows {
-        let (answered, sink) = ran(&rt, &mut files, words, b"chess\n", &[0], 1000)?;
-        assert_eq!(rt; answered, status, "{text}");
-        assert_eq!(rt; sink.taken(), text.as_bytes(), "{text}");
+        fails(&rt, &mut files, words, status, text.as_bytes())?;
     }
-    let mut failing = FailingFiles { faults: 0 };
-    let words = ["--variants", "good", "moves"].as_slice();
-    let (status, sink) = ran(&rt, &mut failing, words, b"chess\n", &[0], 1000)?;
-    assert_eq!(rt; status, 6);
-    assert_eq!(rt; sink.taken(), b"error FileFault 3 Failed\n".as_slice());
     Ok(())
 }
 
 #[test]
-fn a_run_fails_with_its_ports(rt: HostRuntime) -> Result<(), Fail> {
-    let mut files = MemFiles::new(rt.alloc());
-    let input = b"chess\n4k3/8/8/8/8/8/8/K7 b - - 0 1\ne8e7\n".as_slice();
-    let rows: [(&[&str], u64, u8, &str); 4] = [
-        (&["moves"], 4, 0, "a1a2\na1b1\na1b2\nmoves 3\n"),
-        (&["reach", "N", "b1"], 0, 0, "quiet d2 a3 c3\ntake -\n"),
-        (
-            &["reach", "N", "i9"],
-            0,
-            3,
-            "error ReachFault 1 BadSquare i9\n",
-        ),
-        (
-            &["--variants", "f", "moves"],
-            0,
-            6,
-            "error FileFault 1 Missing\n",
-        ),
-    ];
-    for (words, calls, status, text) in rows {
-        for call in 0..calls {
-            let (answered, sink) = ran(&rt, &mut files, words, input, &[call], 1000)?;
-            assert_eq!(rt; answered, 4);
-            assert_eq!(rt; sink.taken(), b"".as_slice());
-        }
-        for room in 0..text.len() {
-            let (answered, sink) = ran(&rt, &mut files, words, input, &[], room)?;
-            assert_eq!(rt; answered, 5);
-            assert_eq!(rt; sink.taken(), &text.as_bytes()[..room]);
-            assert_eq!(rt; sink.faults(), 1);
-        }
-        let (answered, sink) = ran(&rt, &mut files, words, input, &[calls], text.len())?;
-        assert_eq!(rt; answered, status);
-        assert_eq!(rt; sink.taken(), text.as_bytes());
+fn files_that_fail_have_a_status(rt: HostRuntime) -> Result<(), Fail> {
+    let mut files = FailingFiles { faults: 0 };
+    let words = ["--variants", "f", "moves"].as_slice();
+    fails(&rt, &mut files, words, 6, b"error FileFault 3 Failed\n")
+}
+
+/// Runs words over a sink that has room for less than the text, for each number of bytes.
+fn is_cut<R: Abort + AllocGlobal + Threads + Wait + Sync, F: Files>(
+    rt: &R,
+    files: &mut F,
+    words: &[&str],
+    input: &[u8],
+    text: &[u8],
+) -> Result<(), Fail> {
+    for room in 0..text.len() {
+        let (answered, sink) = ran(rt, files, words, input, &[], room)?;
+        assert!(rt; answered == 5 && sink.taken() == &text[..room] && sink.faults() == 1);
     }
     Ok(())
+}
+
+/// The input that `moves` reads in four calls.
+const LINES: &[u8] = b"chess\n4k3/8/8/8/8/8/8/K7 b - - 0 1\ne8e7\n";
+
+#[test]
+fn a_run_fails_with_its_sink(rt: HostRuntime) -> Result<(), Fail> {
+    let mut files = MemFiles::new(rt.alloc());
+    is_cut(
+        &rt,
+        &mut files,
+        &["moves"],
+        LINES,
+        b"a1a2\na1b1\na1b2\nmoves 3\n",
+    )?;
+    let words = ["--variants", "f", "moves"].as_slice();
+    is_cut(
+        &rt,
+        &mut files,
+        words,
+        LINES,
+        b"error FileFault 1 Missing\n",
+    )
+}
+
+#[test]
+fn a_run_fails_with_its_source(rt: HostRuntime) -> Result<(), Fail> {
+    let mut files = MemFiles::new(rt.alloc());
+    for call in 0..4 {
+        let (answered, sink) = ran(&rt, &mut files, &["moves"], LINES, &[call], 1000)?;
+        assert!(rt; answered == 4 && sink.taken().is_empty());
+    }
+    answers(
+        &rt,
+        &mut files,
+        &["moves"],
+        LINES,
+        0,
+        b"a1a2\na1b1\na1b2\nmoves 3\n",
+    )
 }

@@ -1,13 +1,12 @@
-use Rattle.std.proofs.Common.{refl, sym, ◌∙◌}
+use Rattle.std.proofs.Common.{inl, refl}
 use Rattle.std.proofs.lemmas.Result.{err_from_is_err_and}
-use Rattle.std.proofs.lemmas.List.{append-nil}
 use Rattle.vengine.proofs.FileLemmas.{looked_none}
 use Rattle.vengine.proofs.sections.sections_with.Goals as goal
 
-pub returns-in_err-builtin-in-None : goal.returns-in_err-builtin-in-None
-returns-in_err-builtin-in-None g c =
+pub returns-in_err-builtin-in-None-clause-has : goal.returns-in_err-builtin-in-None-clause-has
+returns-in_err-builtin-in-None-clause-has g c =
     let p = err_from_is_err_and c.from_residual.result c.from_residual.ensures.1 in
-    rw (p.1, p.2) (looked_none _ _ (λ files. tt))
+    rw (p.1, p.2) (looked_none _ _ (inl refl))
 
-pub returns-in_ok-builtin-in-None : goal.returns-in_ok-builtin-in-None
-returns-in_ok-builtin-in-None g c = rw c.in-None.is (looked_none _ _ (λ files. (refl, c.in_ok-builtin-in-None.ensures.are ∙ sym (append-nil _))))
+pub returns-in_ok-builtin-in-None-clause-has : goal.returns-in_ok-builtin-in-None-clause-has
+returns-in_ok-builtin-in-None-clause-has g c = rw c.in-None.is (looked_none _ _ ((refl, refl), c.in_ok-builtin-in-None.ensures.are))

@@ -1,0 +1,63 @@
+//! What a run does first: it reads its words, and the file of variants that they name.
+ghost use Rattle.std.specs.Prelude.{◌≡◌, false, IfOk, map, string_bytes};
+ghost use Rattle.io_ports.specs.Trace.{Reads};
+ghost use Rattle.vengine.specs.Commands.{asks_file};
+ghost use Rattle.vengine.specs.HaltView.{IsToDo, Opens};
+ghost use Rattle.vengine.specs.Looked.{Looked};
+ghost use Rattle.vengine.specs.Sessions.{dialect_of, is_session, serves, to_do};
+ghost use Rattle.words.specs.View.{HasPlies, command_seen};
+
+use crate::halt::Halt;
+use crate::sections::sections_with;
+use io_ports::Files;
+use std::alloc::Global;
+use variant_ini::Sections;
+use words::{Asked, Command, read_words};
+
+/// What a run does, with the sections of variants that there are.
+#[derive(Drop)]
+pub struct Opened<'a> {
+    /// What the words ask.
+    pub asked: Asked<'a>,
+    /// The sections that are built in, and after them those of the file of variants.
+    pub sections: Sections,
+}
+
+// Whether a run does this: no front serves a session yet.
+fn is_served(command: &Command) -> bool
+    ensures { result ≡ serves (dialect_of (command_seen command.now)) }
+{
+    !matches!(command, Command::Uci | Command::Xboard)
+}
+
+// What the words ask that a run does.
+#[tactic(auto, unfolding(crate::specs::Sessions::to_do))]
+fn read_asked<'a>(alloc: Global, words: &'a [String]) -> Result<Asked<'a>, Halt<'a>>
+    ensures is { IsToDo (to_do (map string_bytes words.now)) result }
+    ensures one_shot { IfOk result (λ a. is_session (command_seen a.command) ≡ false) }
+    ensures plies { IfOk result (λ a. HasPlies a.command) }
+{
+    match read_words(alloc, words)? {
+        Some(asked) if is_served(&asked.command) => Ok(asked),
+        _ => Err(Halt::Usage),
+    }
+}
+
+/// Reads the words of a run, and then the file of variants, where one is named.
+///
+/// The error is the usage line where a run does nothing of what the words ask, or why the file of variants is refused.
+pub fn open<'a, F: Files>(
+    alloc: Global,
+    words: &'a [String],
+    files: &mut F,
+) -> Result<Opened<'a>, Halt<'a>>
+    ensures opens { Looked (Reads F.contents F.faults files.old files.new)
+        (λ reads. Opens (to_do (map string_bytes words.now)) reads result) }
+    ensures unnamed { asks_file (to_do (map string_bytes words.now)) ≡ false → files.new ≡ files.old }
+    ensures one_shot { IfOk result (λ o. is_session (command_seen o.asked.command) ≡ false) }
+    ensures plies { IfOk result (λ o. HasPlies o.asked.command) }
+{
+    let asked = read_asked(alloc, words)?;
+    let sections = sections_with(alloc, files, asked.variants)?;
+    Ok(Opened { asked, sections })
+}
