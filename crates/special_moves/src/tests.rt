@@ -7,7 +7,7 @@ use attack_tables::Tables;
 use board_sets::sets_of;
 use foundation::Memory;
 use rules_model::{Kind, Move, MoveList, Placed, Position, Promo, Rules};
-use sample_rules::{chess, kind, position, shouse, square};
+use sample_rules::{chess, hand_of, kind, position, shouse, square};
 use std::alloc::Global;
 use std::process::Abort;
 
@@ -24,6 +24,19 @@ fn count(alloc: Global, rules: &Rules, tables: &Tables, p: &Position) -> Result<
     Ok(found.items.len())
 }
 
+/// Asserts how many moves are given in a variant with drops and gates.
+fn expect_count(
+    rt: &impl Abort,
+    alloc: Global,
+    p: &Position,
+    count_of: usize,
+) -> Result<(), Memory> {
+    let rules = shouse();
+    let tables = Tables::new(alloc, &rules)?;
+    assert_eq!(rt; count(alloc, &rules, &tables, p)?, count_of);
+    Ok(())
+}
+
 /// White's castle from e1.
 fn castle(to: &str, rook: &str, gate: Option<Placed>) -> Move {
     Move::Castle {
@@ -34,48 +47,75 @@ fn castle(to: &str, rook: &str, gate: Option<Placed>) -> Move {
     }
 }
 
+/// Asserts of White's pieces, with rights by wing, whether White castles short and long, and that no other move is given.
+fn expect_castles(
+    rt: &impl Abort,
+    alloc: Global,
+    rules: &Rules,
+    row: &(&str, [bool; 2], [bool; 2]),
+) -> Result<(), Memory>
+    requires { IsFit rules.now }
+{
+    let (pieces, rights, castles) = *row;
+    let mut p = position(pieces);
+    p.rights[0] = rights;
+    let tables = Tables::new(alloc, rules)?;
+    let found = [
+        is_candidate(rules, &tables, &p, &castle("g1", "h1", None)),
+        is_candidate(rules, &tables, &p, &castle("c1", "a1", None)),
+    ];
+    assert_eq!(rt; found, castles, "{pieces}");
+    let wanted = usize::from(castles[0]) + usize::from(castles[1]);
+    let given = count(alloc, rules, &tables, &p)?;
+    assert_eq!(rt; given, wanted, "{pieces}");
+    Ok(())
+}
+
 #[test]
 fn castles_of_chess(rt: HostRuntime) -> Result<(), Memory> {
-    let rules = chess();
-    let tables = Tables::new(rt.alloc(), &rules)?;
-    let short = castle("g1", "h1", None);
-    let long = castle("c1", "a1", None);
-    // pieces, rights by wing, and whether White castles short and long
     let rows = [
-        ("Ke1 Ra1 Rh1 ke8", [true, true], true, true),
-        ("Ke1 Ra1 Rh1 ke8", [true, false], true, false),
+        ("Ke1 Ra1 Rh1 ke8", [true, true], [true, true]),
+        ("Ke1 Ra1 Rh1 ke8", [true, false], [true, false]),
         // through f1, which is attacked
-        ("Ke1 Ra1 Rh1 ke8 rf8", [true, true], false, true),
+        ("Ke1 Ra1 Rh1 ke8 rf8", [true, true], [false, true]),
         // over b1 only the rook goes
-        ("Ke1 Ra1 Rh1 ke8 rb8", [true, true], true, true),
+        ("Ke1 Ra1 Rh1 ke8 rb8", [true, true], [true, true]),
         // over a piece
-        ("Ke1 Ra1 Nb1 Rh1 ke8", [true, true], true, false),
+        ("Ke1 Ra1 Nb1 Rh1 ke8", [true, true], [true, false]),
         // out of check, and to where the king is attacked
-        ("Ke1 Ra1 Rh1 ka8 re8", [true, true], false, false),
-        ("Ke1 Ra1 Rh1 ke8 rg8", [true, true], false, true),
+        ("Ke1 Ra1 Rh1 ka8 re8", [true, true], [false, false]),
+        ("Ke1 Ra1 Rh1 ke8 rg8", [true, true], [false, true]),
         // the king has moved
-        ("Kd1 Ra1 Rh1 ke8", [true, true], false, false),
+        ("Kd1 Ra1 Rh1 ke8", [true, true], [false, false]),
     ];
-    for (pieces, rights, near, far) in rows {
-        let mut p = position(pieces);
-        p.rights[0] = rights;
-        assert_eq!(rt; is_candidate(&rules, &tables, &p, &short), near, "{pieces}");
-        assert_eq!(rt; is_candidate(&rules, &tables, &p, &long), far, "{pieces}");
-        let castles = usize::from(near) + usize::from(far);
-        assert_eq!(rt;
-            count(rt.alloc(), &rules, &tables, &p)?,
-            castles,
-            "{pieces}"
-        );
+    for row in &rows {
+        expect_castles(&rt, rt.alloc(), &chess(), row)?;
     }
     Ok(())
 }
 
-// An elephant is in hand. The rook on f1 stands between the king and its target, and stays there.
+/// Whether White, with an elephant in hand, may castle short with a rook from there and place the elephant there.
+fn may_place(tables: &Tables, rook: &str, at: &str) -> bool {
+    let mut p = position("Ke1 ke8");
+    p.cells[square(rook).0 as usize] = position("Ra1").cells[0];
+    p.rights[0][0] = true;
+    p.hands[0] = hand_of(b"e");
+    let placed = Placed {
+        kind: kind(b'e'),
+        at: square(at),
+    };
+    is_candidate(
+        tables.rules(),
+        tables,
+        &p,
+        &castle("g1", rook, Some(placed)),
+    )
+}
+
+// The rook on f1 stands between the king and its target, and stays there.
 #[test]
 fn castles_with_a_gate(rt: HostRuntime) -> Result<(), Memory> {
-    let rules = shouse();
-    let tables = Tables::new(rt.alloc(), &rules)?;
+    let tables = Tables::new(rt.alloc(), &shouse())?;
     // the rook's start, where the elephant is placed, and whether it may be
     let rows = [
         ("h1", "e1", true),
@@ -87,70 +127,85 @@ fn castles_with_a_gate(rt: HostRuntime) -> Result<(), Memory> {
         ("f1", "f1", false),
     ];
     for (rook, at, may) in rows {
-        let mut p = position("Ke1 ke8");
-        p.cells[square(rook).0 as usize] = position("Ra1").cells[0];
-        p.rights[0][0] = true;
-        p.hands[0][4] = 1;
-        let placed = Placed {
-            kind: kind(b'e'),
-            at: square(at),
-        };
-        let m = castle("g1", rook, Some(placed));
+        assert_eq!(rt; may_place(&tables, rook, at), may, "{rook} {at}");
+    }
+    Ok(())
+}
+
+/// King and knight of White with the gate of b1, and with these pieces in hand.
+fn with_gate(hand: &[u8]) -> Position {
+    let mut p = position("Ke1 Nb1 ke8");
+    p.gates[0] = 2;
+    p.hands[0] = hand_of(hand);
+    p
+}
+
+/// A move that leaves a piece from the hand on its start.
+fn gated(from: &str, to: &str, gate: Kind) -> Move {
+    Move::Go {
+        from: square(from),
+        to: square(to),
+        promo: Promo::Stays,
+        gate: Some(gate),
+    }
+}
+
+// The king's gate is closed, and no hawk is in hand.
+#[test]
+fn gates_place_what_is_in_hand(rt: HostRuntime) -> Result<(), Memory> {
+    let rules = shouse();
+    let tables = Tables::new(rt.alloc(), &rules)?;
+    let p = with_gate(b"e");
+    let rows = [
+        ("b1", "c3", b'e', true),
+        ("e1", "e2", b'e', false),
+        ("b1", "c3", b'h', false),
+    ];
+    for (from, to, letter, may) in rows {
+        let m = gated(from, to, kind(letter));
         assert_eq!(rt; is_candidate(&rules, &tables, &p, &m), may, "{m:?}");
     }
     Ok(())
 }
 
-/// A move of an elephant's gate.
-fn go(from: &str, to: &str, gate: Option<Kind>) -> Move {
-    Move::Go {
-        from: square(from),
+/// A drop of a pawn.
+fn pawn_to(to: &str) -> Move {
+    Move::Drop {
+        kind: kind(b'p'),
         to: square(to),
-        promo: Promo::Stays,
-        gate,
     }
 }
 
+// Of an elephant: 3 moves of the knight, and a drop on each of the 61 empty squares; and with a hawk too, as many again.
+// A pawn is dropped on neither the first rank nor the last, and comes in by no gate.
 #[test]
-fn gates_and_drops(rt: HostRuntime) -> Result<(), Memory> {
+fn moves_from_the_hand_are_counted(rt: HostRuntime) -> Result<(), Memory> {
+    expect_count(&rt, rt.alloc(), &with_gate(b"e"), 64)?;
+    expect_count(&rt, rt.alloc(), &with_gate(b"eh"), 128)?;
+    let mut p = with_gate(b"p");
+    p.gates[0] = 0;
+    expect_count(&rt, rt.alloc(), &p, 48)
+}
+
+#[test]
+fn pawns_are_dropped_between_the_last_ranks(rt: HostRuntime) -> Result<(), Memory> {
     let rules = shouse();
     let tables = Tables::new(rt.alloc(), &rules)?;
-    let mut p = position("Ke1 Nb1 ke8");
-    p.gates[0] = 2;
-    p.hands[0][4] = 1;
-    let elephant = kind(b'e');
-    let gated = go("b1", "c3", Some(elephant));
-    assert!(rt; is_candidate(&rules, &tables, &p, &gated));
-    // the king's gate is closed, and no hawk is in hand
-    for m in [
-        go("e1", "e2", Some(elephant)),
-        go("b1", "c3", Some(kind(b'h'))),
-    ] {
-        assert!(rt; !is_candidate(&rules, &tables, &p, &m), "{m:?}");
-    }
-    // 3 moves of the knight, and a drop on each of the 61 empty squares
-    assert_eq!(rt; count(rt.alloc(), &rules, &tables, &p)?, 64);
-    // and with a hawk too, as many again
-    p.hands[0][7] = 1;
-    assert_eq!(rt; count(rt.alloc(), &rules, &tables, &p)?, 128);
-    // a pawn is dropped on neither the first rank nor the last
-    p.gates[0] = 0;
-    p.hands[0] = [0; 26];
-    p.hands[0][15] = 1;
-    for (to, may) in [
+    let p = with_gate(b"p");
+    let rows = [
         ("e2", true),
         ("e7", true),
         ("d1", false),
         ("d8", false),
         ("b1", false),
-    ] {
-        let m = Move::Drop {
-            kind: kind(b'p'),
-            to: square(to),
-        };
-        assert_eq!(rt; is_candidate(&rules, &tables, &p, &m), may, "{to}");
+    ];
+    for (to, may) in rows {
+        assert_eq!(rt;
+            is_candidate(&rules, &tables, &p, &pawn_to(to)),
+            may,
+            "{to}"
+        );
     }
-    assert_eq!(rt; count(rt.alloc(), &rules, &tables, &p)?, 48);
     Ok(())
 }
 
@@ -169,7 +224,7 @@ fn drops_keep_to_their_region(rt: HostRuntime) -> Result<(), Memory> {
     let rules = second_ranks();
     let tables = Tables::new(rt.alloc(), &rules)?;
     let mut p = position("Ke1 Nc2 ke8");
-    p.hands[0][4] = 1;
+    p.hands[0] = hand_of(b"e");
     assert_eq!(rt; count(rt.alloc(), &rules, &tables, &p)?, 7);
     Ok(())
 }
