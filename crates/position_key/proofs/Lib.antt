@@ -1,0 +1,4 @@
+pub mod SumLemmas
+pub mod ExchangeLemmas
+pub mod TouchedLemmas
+pub mod PackedLemmas

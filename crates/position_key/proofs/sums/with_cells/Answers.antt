@@ -1,0 +1,8 @@
+use Rattle.std.proofs.Common.{rules}
+use Rattle.position_key.proofs.ExchangeLemmas.{between-less}
+use Rattle.position_key.proofs.sums.with_cells.Goals as goal
+
+pub loop-at-preserved : goal.loop-at-preserved
+loop-at-preserved c =
+    let step = rw (c.cell_word-was.ensures, c.cell_at.ensures, c.cell_word-is.ensures, c.cell_at-in-Some.ensures) at c.exchanged-key.ensures in
+    between-less _ _ _ _ _ c.in-Some.ensures.some.member c.in-Some.ensures.rest _ _ _ (search rules) (search rules) c.loop-at.invariant step

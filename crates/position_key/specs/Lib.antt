@@ -1,0 +1,5 @@
+pub mod Words
+pub mod Key
+pub mod Changed
+pub mod Cells
+pub mod Packed
