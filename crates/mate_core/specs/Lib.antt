@@ -1,6 +1,5 @@
 pub mod Best
 pub mod Claims
 pub mod Hash
-pub mod Packed
 pub mod Steps
 pub mod Runs

@@ -6,9 +6,7 @@ mod answers;
 mod event;
 mod frame;
 mod hash;
-mod packed;
 mod packed_fact;
-mod rest;
 mod steps;
 mod store;
 #[cfg(test)]
@@ -21,8 +19,6 @@ pub use event::{Event, Reply};
 pub use forced_wins::Fact;
 pub use frame::Frame;
 pub use hash::{hash_of, part_of, shard_of, shard_of_hash};
-pub use packed::Packed;
 pub use packed_fact::{Claim, PackedFact};
-pub use rest::Rest;
 pub use steps::step;
 pub use store::{FactList, FactLists, Known, KnownList, Store};

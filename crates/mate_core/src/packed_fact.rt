@@ -5,8 +5,8 @@ ghost use Rattle.mate_core.specs.Best as Best;
 ghost use Rattle.mate_core.specs.Hash.{hash_of};
 ghost use Rattle.mate_core.specs.Claims.{claim_of, fact_with};
 
-use crate::packed::Packed;
 use forced_wins::Fact;
+use position_key::Packed;
 use rules_model::{Move, Repeat, Side};
 use std::marker::Model;
 

@@ -4,8 +4,8 @@ use Rattle.std.proofs.Crossing.{crosses}
 use Rattle.fact_lock.proofs.lock.Lock.TheSendSync as lock
 use Rattle.fact_lock.proofs.lock.Pass.TheSendSync as pass
 use Rattle.mate_core.proofs.frame.Frame.TheSendSync as frame
-use Rattle.mate_core.proofs.rest.Rest.TheSendSync as rest
-use Rattle.mate_core.specs.contracts.packed.Packed as Packed
+use Rattle.position_key.proofs.rest.Rest.TheSendSync as rest
+use Rattle.position_key.specs.contracts.packed.Packed as Packed
 use Rattle.mate_core.proofs.packed_fact.Claim.TheSendSync as claim
 use Rattle.mate_core.specs.contracts.packed_fact.PackedFact as PackedFact
 use Rattle.mate_shards.specs.contracts.shard.Shard as Shard

@@ -1,6 +1,7 @@
 //! What a shard is asked to do. The repeat is packed and hashed before the turn, so that no other thread waits for that.
 use crate::published::Published;
-use mate_core::{Claim, Packed, PackedFact};
+use mate_core::{Claim, PackedFact};
+use position_key::Packed;
 
 /// The question whether the attacker wins the repeat at the counter, within this many of his moves.
 #[derive(Drop)]
