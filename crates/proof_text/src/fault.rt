@@ -21,7 +21,7 @@ pub enum ProofFault {
     BadHistory(u64),
     /// The strategy has this fault, whose line counts in the whole text.
     BadBody(StrategyFault),
-    /// There was no memory, or the text has 2^64 - 1 lines or more, or announces as many nodes.
+    /// There was no memory, or the text has 2^64 - 1 lines or more.
     Memory,
 }
 

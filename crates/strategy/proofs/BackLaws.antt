@@ -26,6 +26,7 @@ use Rattle.strategy.specs.declared.nodes.Node.{Node}
 use Rattle.strategy.specs.declared.nodes.Strategy.{Strategy}
 use Rattle.strategy.specs.declared.reader.Reader.{Reader}
 use Rattle.foundation.specs.Cuts.{cut}
+use Rattle.foundation.specs.Numbers.{capped}
 use Rattle.strategy.specs.Said.{attacker_said, count_said, end_line, said}
 use Rattle.strategy.specs.Reading.{◌>>=◌, AreSound, begun, counted, edge_at, edge_from, finished, is_next, more_edges, step, strategy_of, taken, with_count, with_edge, with_last_edge, with_move, with_node, with_position, with_said, with_text}
 use Rattle.strategy.specs.Writing.{AreReadable, IsReadBack, IsReadable, attacker_text, count_text, edge_text, header_texts, node_text, nodes_texts, strategy_texts}
@@ -211,8 +212,11 @@ count_text-with rules a n small = let short : nat_lt 2048 (length (count_text n)
 
 count_step : (rules : Rules) (a : Side) (n : ℕ) → n < 2 ^ 64 → step rules (record begun { line = 3; attacker = a }) (Text (count_text n)) ≡ Ok (at a n 4 [])
 count_step rules a n small =
+    let as_is : capped n ≡ n = omega arith in
     step_text rules (record begun { line = 3; attacker = a }) (at a n 3 []) (count_text n)
-    (count_text-with rules a n small ∙ ap (with_count (record begun { line = 3; attacker = a })) (count-said n small))
+    (count_text-with rules a n small
+    ∙ ap (with_count (record begun { line = 3; attacker = a })) (count-said n small)
+    ∙ ap (λ k. Ok (at a k 3 [])) as_is)
 
 -- ---- the end
 

@@ -7,6 +7,7 @@ use Rattle.rules_model.specs.declared.board.Side.TheVariants.{White}
 use Rattle.rules_model.specs.declared.moves.Move.{Move}
 use Rattle.rules_model.specs.declared.rules.Rules.{Rules}
 use Rattle.rules_model.specs.Sound.{is_sound}
+use Rattle.foundation.specs.Numbers.{capped}
 use Rattle.fen_model.specs.declared.fault.FenFault.{FenFault}
 use Rattle.fen_model.specs.Reading.{fen_of}
 use Rattle.move_names.specs.Read.{move_said}
@@ -38,9 +39,10 @@ abbrev pub with_attacker : Reader → Option Side → Result Reader StrategyFaul
 with_attacker b None = Err (Header b.line)
 with_attacker b (Some side) = Ok (record b { attacker = side })
 
+-- no list has more than 2^64 - 1 nodes, so a greater number counts as that one
 abbrev pub with_count : Reader → Option ℕ → Result Reader StrategyFault
 with_count b None = Err (Header b.line)
-with_count b (Some count) = Ok (record b { announced = count })
+with_count b (Some count) = Ok (record b { announced = capped count })
 
 -- ---- nodes
 

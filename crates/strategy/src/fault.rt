@@ -24,7 +24,7 @@ pub enum StrategyFault {
     BadNumber(u64),
     /// The text ends before its end is said, or goes on after it.
     Ended(u64),
-    /// There was no memory, or the text announces 2^64 - 1 nodes or more.
+    /// There was no memory.
     Memory,
 }
 

@@ -27,7 +27,7 @@ pub struct Reader {
     /// The number of the next line, counted from 1.
     pub line: u64,
     pub attacker: Side,
-    /// How many nodes the header announces.
+    /// How many nodes the header announces; a number above 2^64 - 1 counts as that one.
     pub announced: u64,
     pub nodes: Nodes,
     /// Whether the end was said.
@@ -89,9 +89,6 @@ impl Reader {
         let Some(count) = read_count(text) else {
             return Err(StrategyFault::Header(self.line));
         };
-        if count == u64::MAX {
-            return Err(StrategyFault::Memory);
-        }
         self.announced = count;
         Ok(())
     }
@@ -253,7 +250,7 @@ impl Reader {
 
     /// Takes the next line, without its end. After an error the reader is as before.
     ///
-    /// `Memory` is also the answer where 2^64 - 1 nodes or more are announced, and at line 2^64 - 1.
+    /// `Memory` is also the answer at line 2^64 - 1.
     #[tactic(auto, unfolding(crate::specs::Reading::step))]
     pub fn take_line(&mut self, rules: &Rules, text: &[u8]) -> Result<(), StrategyFault>
         requires fit { IsFit rules.now }

@@ -50,7 +50,7 @@ pub fn cut_line(bytes: &[u8]) -> (&[u8], &[u8])
 /// Reads the text of a strategy.
 ///
 /// Lines end with LF, which the last may lack; a CR at the end of a line is dropped. The answer is the strategy, or the
-/// fault of the first faulty line. `Memory` is also the answer where 2^64 - 1 nodes or more are announced.
+/// fault of the first faulty line. Room for nodes is taken as they come, however many are announced.
 pub fn read(alloc: Global, rules: &Rules, text: &[u8]) -> Result<Strategy, StrategyFault>
     requires { IsFit rules.now }
     ensures answer { Answers (strategy_of rules.now (lines_of text.now)) result }

@@ -74,6 +74,15 @@ fn the_first_fault_is_the_answer(rt: HostRuntime) -> Result<(), Fail> {
             "strategy 1\nattacker black\nnodes 1\nnode 0 65536 7k/R7/5K2/8/8/8/8/8 w - - 0 1\n",
             "StrategyFault 5 BadNumber 4",
         ),
+        // So many nodes never come.
+        (
+            "strategy 1\nattacker black\nnodes 18446744073709551615\nend\n",
+            "StrategyFault 5 BadNumber 4",
+        ),
+        (
+            "strategy 1\nattacker black\nnodes 18446744073709551616\nnode 0 0 7k/R7/5K2/8/8/8/8/8 w - - 0 1\nend\n",
+            "StrategyFault 5 BadNumber 5",
+        ),
     ];
     for (text, printed) in rows {
         match read(rt.alloc(), &rules, text.as_bytes()) {
