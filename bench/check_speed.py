@@ -4,9 +4,13 @@
 The variant has no king: White's commoner wins once it stands on l1, and walks there through the first two ranks. Black's wazirs walk on the other
 ranks, and can stop nothing. So a strategy has a node for each step and each way in which the wazirs may then stand.
 
+Three texts more are made to be hard: one repeat at as many counters as there are, a node with many edges of which the last stand again, and a
+proof text whose second line is faulty and which goes on for 60 megabytes.
+
 Usage: bench/check_speed.py [NODES ..]      (at least so many nodes each, 10000 and 100000 by default)
 """
 import os
+import re
 import subprocess
 import sys
 import tempfile
@@ -107,21 +111,74 @@ def strategy(least):
     return "\n".join(lines) + "\n", count
 
 
+def one_repeat():
+    """A strategy whose nodes but the root have one repeat, won for White, at each counter: the input, its nodes and the answer."""
+    variant = VARIANT.replace("nMoveRule = 0", "nMoveRule = 0\nnFoldRule = 0")
+    nodes = 10_000
+    lines = ["race", fen((10, 0), frozenset(WAZIRS), "w", 0), "", "mate white 1", "strategy 1", "attacker white", f"nodes {nodes}"]
+    lines += [f"node 0 1 {fen((10, 0), frozenset(WAZIRS), 'w', 0)}", "edge k1l1 1"]
+    lines += [f"node {i} 0 {fen((11, 0), frozenset(WAZIRS), 'b', i)}" for i in range(1, nodes)]
+    return variant, "\n".join(lines + ["end"]) + "\n", nodes, "wins\n"
+
+
+def many_edges():
+    """A node of Black with an edge for each drop, and many more for the last of them: the input, its edges and the answer."""
+    edges = 200_000
+    kinds = "abdefghijklmnopqrstuvwxy"
+    variant = "[drops]\nmaxFile = 12\nmaxRank = 10\ncommoner = c\n"
+    variant += "".join(f"customPiece{i + 1} = {kind}:W\n" for i, kind in enumerate(kinds))
+    variant += "castling = false\npieceDrops = true\nnMoveRule = 0\nflagPiece = c\nflagRegionWhite = l1\n"
+    variant += f"startFen = 12/12/12/12/12/12/12/12/12/C11[{kinds}] w - - 0 1\n"
+
+    def board(commoner, kind=None, square=None):
+        squares = {(commoner, 0): "C", square: kind}
+        ranks = [[squares.get((file, rank)) for file in range(FILES)] for rank in range(RANKS - 1, -1, -1)]
+        texts = ["".join(piece or "-" for piece in row) for row in ranks]
+        hand = kinds.replace(kind, "") if kind else kinds
+        return "/".join(re.sub("-+", lambda run: str(len(run[0])), text) for text in texts) + f"[{hand}]"
+
+    drops = [(kind, (file, rank)) for kind in kinds for file in range(FILES) for rank in range(RANKS) if (file, rank) != (1, 0)]
+    lines = ["drops", f"{board(0)} w - - 0 1", "", "mate white 2", "strategy 1", "attacker white", f"nodes {len(drops) + 2}"]
+    lines += [f"node 0 2 {board(0)} w - - 0 1", "edge a1b1 1", f"node 1 1 {board(1)} b - - 1 1"]
+    named = [f"edge {kind.upper()}@{name(square)} {i + 2}" for i, (kind, square) in enumerate(drops)]
+    lines += named + named[-1:] * (edges - len(named))
+    lines += [f"node {i + 2} 1 {board(1, kind, square)} w - - 9 1" for i, (kind, square) in enumerate(drops)]
+    return variant, "\n".join(lines + ["end"]) + "\n", edges, "error Verdict 2 WrongMove 1\n"
+
+
+def faulty_second_line():
+    """A proof text of 60 megabytes whose second line is faulty: the input, its lines and the answer."""
+    lines = 30_000_000
+    return VARIANT, "strategy 2\n" + "x\n" * lines, lines + 1, "error ProofFault 1 Header 2\n"
+
+
+def checked(variant, text, answer):
+    """How long `check` takes on the text, which has this answer."""
+    with tempfile.NamedTemporaryFile("w", suffix=".ini") as variants, tempfile.NamedTemporaryFile("w") as input_file:
+        variants.write(variant)
+        variants.flush()
+        input_file.write(text)
+        input_file.flush()
+        start = time.perf_counter()
+        with open(input_file.name) as given:
+            done = subprocess.run(
+                [ENGINE, "--variants", variants.name, "check"], stdin=given, capture_output=True, text=True
+            )
+        taken = time.perf_counter() - start
+    if done.stdout != answer:
+        sys.exit("check_speed: " + done.stdout)
+    return taken
+
+
 def main():
     wanted = [int(word) for word in sys.argv[1:]] or [10_000, 100_000]
-    with tempfile.NamedTemporaryFile("w", suffix=".ini") as variants:
-        variants.write(VARIANT)
-        variants.flush()
-        for least in wanted:
-            text, nodes = strategy(least)
-            start = time.perf_counter()
-            done = subprocess.run(
-                [ENGINE, "--variants", variants.name, "check"], input=text, capture_output=True, text=True
-            )
-            taken = time.perf_counter() - start
-            if done.stdout != "wins\n":
-                sys.exit("check_speed: " + done.stdout)
-            print(f"{nodes} nodes, {len(text)} bytes: {taken:.2f} s, {nodes / taken:.0f} nodes a second")
+    for least in wanted:
+        text, nodes = strategy(least)
+        taken = checked(VARIANT, text, "wins\n")
+        print(f"{nodes} nodes, {len(text)} bytes: {taken:.2f} s, {nodes / taken:.0f} nodes a second")
+    for name, make in (("nodes of one repeat", one_repeat), ("edges of one node", many_edges), ("lines after a fault", faulty_second_line)):
+        variant, text, count, answer = make()
+        print(f"{count} {name}, {len(text)} bytes: {checked(variant, text, answer):.2f} s")
 
 
 if __name__ == "__main__":

@@ -1,6 +1,7 @@
 -- The nodes of one repeat are those of its bucket.
-use Rattle.std.proofs.Common.{◌≡◌, ◌⊎◌, inl, inr, ℕ, zero, suc, ◌+◌, ◌%◌, ◌<◌, ◌≤◌, min, Bool, true, false, nat_lt, ◌&&◌, ◌||◌, cond, List, [], ◌∷◌, ◌++◌, length, take, get_or, set, replicate, Some, None, slice_get, count_by, if◌then◌else◌, refl, ap, sym, ◌∙◌, add-one, append-nil, arith}
+use Rattle.std.proofs.Common.{◌≡◌, ◌⊎◌, inl, inr, ℕ, zero, suc, ◌+◌, ◌%◌, ◌^◌, ◌<◌, ◌≤◌, min, Bool, true, false, nat_lt, ◌==◌, ◌&&◌, ◌||◌, cond, List, [], ◌∷◌, ◌++◌, length, take, get_or, set, replicate, Some, None, slice_get, count_by, if◌then◌else◌, refl, ap, sym, ◌∙◌, add-one, append-nil, arith}
 use Rattle.std.specs.List.{filter, list_any}
+use Rattle.std.proofs.lemmas.Bool.{and_parts}
 use Rattle.std.proofs.lemmas.Bool.Decides.{nat_tests}
 use Rattle.std.proofs.lemmas.List.{take_more, take_all, length-set, length-replicate, get_or-set_same, get_or-set_other, get_or-replicate}
 use Rattle.std.proofs.lemmas.List.Elements.{filter-append}
@@ -15,7 +16,9 @@ use Rattle.rules_model.proofs.EqualLaws.{repeat-decides}
 use Rattle.mate_core.specs.Hash.{hash_of}
 use Rattle.forced_wins.proofs.Counts.{by_cases, eq_to, eq_from, true_false, not_true}
 use Rattle.strategy.specs.declared.nodes.Node.{Node}
-use Rattle.strategy_check.specs.Buckets.{at, has_repeat, is_twin, falls_into, bucket, found, put, AreFilled, IsIndex}
+use Rattle.strategy_check.specs.declared.places.Key.{Key}
+use Rattle.strategy_check.specs.declared.places.Key.TheVariants as by
+use Rattle.strategy_check.specs.Buckets.{at, has_repeat, is_twin, falls_into, bucket, found, key_of, put, AreFilled, IsIndex}
 
 -- the element at a place
 pub element : {X : Type 0} (xs : List X) (k : ℕ) → k < length xs → (x : X) × (slice_get xs k ≡ Some x) × (get_or xs k x ≡ x)
@@ -34,9 +37,6 @@ lt_false m n h = grind (arith, nat_tests)
 or-false : (b : Bool) → (b || false) ≡ b
 or-false true = refl
 or-false false = refl
-
-and-left : (a b : Bool) → (a && b) ≡ true → a ≡ true
-and-left a b h = grind arith
 
 -- ---- a bucket has all that pass a test which leads into it
 
@@ -106,75 +106,88 @@ module _ (s : List Node) (into test : Node → Bool) (within : (v : Node) → te
 
 -- ---- buckets are filled place by place
 
-bucket-more : (s : List Node) (size b k : ℕ) (v : Node) → slice_get s k ≡ Some v → bucket s size b (k + 1) ≡ bucket s size b k ++ (if falls_into size b v then k ∷ [] else [])
-unfolding bucket below
-bucket-more s size b k v e =
-    let here : filter (at s (falls_into size b)) (k ∷ []) ≡ (if falls_into size b v then k ∷ [] else []) = rw e in
-    rw add-one (filter-append (at s (falls_into size b)) (below k) (k ∷ []) ∙ ap (λ ks. filter (at s (falls_into size b)) (below k) ++ ks) here)
+module _ (key : Key) (s : List Node) where
+  bucket-more : (b k size : ℕ) (v : Node) → slice_get s k ≡ Some v → bucket key s size b (k + 1) ≡ bucket key s size b k ++ (if falls_into key size b v then k ∷ [] else [])
+  unfolding bucket below
+  bucket-more b k size v e =
+      let here : filter (at s (falls_into key size b)) (k ∷ []) ≡ (if falls_into key size b v then k ∷ [] else []) = rw e in
+      rw add-one (filter-append (at s (falls_into key size b)) (below k) (k ∷ []) ∙ ap (λ ks. filter (at s (falls_into key size b)) (below k) ++ ks) here)
 
-pub filled-none : (s : List Node) (n : ℕ) → 0 < n → AreFilled s 0 (replicate n [])
-unfolding bucket below
-filled-none s n h = record {
-  some = let e = length-replicate {A = List ℕ} n [] in omega arith;
-  each = λ b k. let e = length-replicate {A = List ℕ} n [] in get_or-replicate n b [] [] (omega arith);
-}
+  pub filled-none : (n : ℕ) → 0 < n → AreFilled key s 0 (replicate n [])
+  unfolding bucket below
+  filled-none n h = record {
+    some = let e = length-replicate {A = List ℕ} n [] in omega arith;
+    each = λ b k. let e = length-replicate {A = List ℕ} n [] in get_or-replicate n b [] [] (omega arith);
+  }
 
-module _ (s : List Node) (i : ℕ) (v : Node) (is : slice_get s i ≡ Some v) (bs : List (List ℕ)) (filled : AreFilled s i bs) where
-  size : ℕ
-  size = length bs
+  module _ (i : ℕ) (v : Node) (is : slice_get s i ≡ Some v) (bs : List (List ℕ)) (filled : AreFilled key s i bs) where
+    own : ℕ
+    own = key_of key v.position % length bs
 
-  own : ℕ
-  own = hash_of (repeat_of v.position) % length bs
+    own-below : own < length bs
+    unfolding own
+    own-below = let some = filled.some in omega arith
 
-  own-below : own < length bs
-  unfolding own
-  own-below = let some = filled.some in omega arith
+    new-each : (b : ℕ) → b < length bs → get_or (put bs i (key_of key v.position)) b [] ≡ bucket key s (length bs) b (i + 1)
+    unfolding own
+    new-each b h =
+        by_cases (falls_into key (length bs) b v)
+        (λ y. let e : own ≡ b = eq_from _ _ y in
+        let more : bucket key s (length bs) b (i + 1) ≡ bucket key s (length bs) b i ++ i ∷ [] = bucket-more b i (length bs) v is ∙ rw y in
+        ap (λ c. get_or (set bs c (get_or bs c [] ++ i ∷ [])) b []) e
+        ∙ get_or-set_same bs b (get_or bs b [] ++ i ∷ []) [] h
+        ∙ ap (λ ks. ks ++ i ∷ []) (filled.each b h) ∙ sym more)
+        (λ n. let apart : b ≡ own → ⊥ = λ e. true_false (falls_into key (length bs) b v) (eq_to own b (sym e)) n in
+        let more : bucket key s (length bs) b (i + 1) ≡ bucket key s (length bs) b i ++ [] = bucket-more b i (length bs) v is ∙ rw n in
+        get_or-set_other bs own b (get_or bs own [] ++ i ∷ []) [] apart ∙ filled.each b h ∙ sym (more ∙ append-nil (bucket key s (length bs) b i)))
 
-  new-each : (b : ℕ) → b < length bs → get_or (put bs i (repeat_of v.position)) b [] ≡ bucket s (length bs) b (i + 1)
-  unfolding own
-  new-each b h =
-      by_cases (falls_into (length bs) b v)
-      (λ y. let e : own ≡ b = eq_from _ _ y in
-      let more : bucket s (length bs) b (i + 1) ≡ bucket s (length bs) b i ++ i ∷ [] = bucket-more s (length bs) b i v is ∙ rw y in
-      ap (λ c. get_or (set bs c (get_or bs c [] ++ i ∷ [])) b []) e
-      ∙ get_or-set_same bs b (get_or bs b [] ++ i ∷ []) [] h
-      ∙ ap (λ ks. ks ++ i ∷ []) (filled.each b h) ∙ sym more)
-      (λ n. let apart : b ≡ own → ⊥ = λ e. true_false (falls_into (length bs) b v) (eq_to own b (sym e)) n in
-      let more : bucket s (length bs) b (i + 1) ≡ bucket s (length bs) b i ++ [] = bucket-more s (length bs) b i v is ∙ rw n in
-      get_or-set_other bs own b (get_or bs own [] ++ i ∷ []) [] apart ∙ filled.each b h ∙ sym (more ∙ append-nil (bucket s (length bs) b i)))
-
-  pub filled-more : AreFilled s (i + 1) (put bs i (repeat_of v.position))
-  filled-more =
-      let len : length (put bs i (repeat_of v.position)) ≡ length bs = length-set bs _ _ in
-      let some = filled.some in
-      record {
-        some = omega arith;
-        each = λ b h. new-each b (omega arith) ∙ ap (λ n. bucket s n b (i + 1)) (sym len);
-      }
+    pub filled-more : AreFilled key s (i + 1) (put bs i (key_of key v.position))
+    filled-more =
+        let len : length (put bs i (key_of key v.position)) ≡ length bs = length-set bs _ _ in
+        let some = filled.some in
+        record {
+          some = omega arith;
+          each = λ b h. new-each b (omega arith) ∙ ap (λ n. bucket key s n b (i + 1)) (sym len);
+        }
 
 -- ---- what is found
 
-module _ (s : List Node) (bs : List (List ℕ)) (index : IsIndex s bs) (r : Repeat) where
-  into : Node → Bool
-  into v = falls_into (length bs) (hash_of r % length bs) v
+-- nodes of one repeat and one counter have one key
+twin-key : (key : Key) (p q : Position) → repeat_of p ≡ repeat_of q → p.counter ≡ q.counter → key_of key p ≡ key_of key q
+twin-key by.Repeat p q r c = ap hash_of r
+twin-key by.Counter p q r c = λ i. (hash_of (r i) + c i) % 2 ^ 64
 
-  has-falls : (v : Node) → has_repeat r v ≡ true → falls_into (length bs) (hash_of r % length bs) v ≡ true
-  has-falls v h = eq_to _ _ (ap (λ (x : Repeat). hash_of x % length bs) ((repeat-decides (repeat_of v.position) r).0 h))
+is-repeat : (r : Repeat) (v : Node) → has_repeat r v ≡ true → repeat_of v.position ≡ r
+is-repeat r v h = (repeat-decides (repeat_of v.position) r).0 h
 
-  bucket-is : found bs r ≡ filter (at s (falls_into (length bs) (hash_of r % length bs))) (below (length s))
+module _ (key : Key) (s : List Node) (bs : List (List ℕ)) (index : IsIndex key s bs) (p : Position) where
+  abbrev into : Node → Bool
+  into v = falls_into key (length bs) (key_of key p % length bs) v
+
+  falls : (v : Node) → key_of key v.position ≡ key_of key p → into v ≡ true
+  falls v e = eq_to _ _ (ap (λ n. n % length bs) e)
+
+  bucket-is : found bs (key_of key p) ≡ filter (at s (falls_into key (length bs) (key_of key p % length bs))) (below (length s))
   unfolding bucket
-  bucket-is = let some = index.some in index.each (hash_of r % length bs) (omega arith)
+  bucket-is = let some = index.some in index.each (key_of key p % length bs) (omega arith)
 
-  pub count-found : count_by (at s (has_repeat r)) (found bs r) ≡ count_by (has_repeat r) s
-  count-found =
-      ap (count_by (at s (has_repeat r))) bucket-is
-      ∙ count-bucket s (falls_into (length bs) (hash_of r % length bs)) (has_repeat r) has-falls (length s) (omega arith)
-      ∙ ap (count_by (has_repeat r)) (take_all (length s) s (omega arith))
+  twin-falls : (v : Node) → is_twin p v ≡ true → into v ≡ true
+  twin-falls v h =
+      let both = and_parts (has_repeat (repeat_of p) v) (v.position.counter == p.counter) h in
+      falls v (twin-key key v.position p (is-repeat (repeat_of p) v both.0) (eq_from _ _ both.1))
 
-pub twin-found : (s : List Node) (bs : List (List ℕ)) → IsIndex s bs → (p : Position) (first : ℕ) → first ≤ length s → list_any (λ j. nat_lt j first && at s (is_twin p) j) (found bs (repeat_of p)) ≡ list_any (is_twin p) (take first s)
-twin-found s bs index p first h =
-    let r = repeat_of p in
-    let least : min first (length s) ≡ first = omega arith in
-    ap (list_any (λ j. nat_lt j first && at s (is_twin p) j)) (bucket-is s bs index (repeat_of p))
-    ∙ any-bucket s (falls_into (length bs) (hash_of (repeat_of p) % length bs)) (is_twin p) (λ v e. has-falls s bs index (repeat_of p) v (and-left _ _ e)) first (length s) (omega arith)
-    ∙ ap (λ n. list_any (is_twin p) (take n s)) least
+  pub twin-found : (first : ℕ) → first ≤ length s → list_any (λ j. nat_lt j first && at s (is_twin p) j) (found bs (key_of key p)) ≡ list_any (is_twin p) (take first s)
+  twin-found first h =
+      let least : min first (length s) ≡ first = omega arith in
+      ap (list_any (λ j. nat_lt j first && at s (is_twin p) j)) bucket-is
+      ∙ any-bucket s (falls_into key (length bs) (key_of key p % length bs)) (is_twin p) twin-falls first (length s) (omega arith)
+      ∙ ap (λ n. list_any (is_twin p) (take n s)) least
+
+pub count-found : (key : Key) (s : List Node) (bs : List (List ℕ)) (p : Position) → key ≡ by.Repeat → IsIndex key s bs
+    → count_by (at s (has_repeat (repeat_of p))) (found bs (key_of key p)) ≡ count_by (has_repeat (repeat_of p)) s
+count-found by.Counter s bs p is index = absurd (cc)
+count-found by.Repeat s bs p is index =
+    ap (count_by (at s (has_repeat (repeat_of p)))) (bucket-is by.Repeat s bs index p)
+    ∙ count-bucket s (falls_into by.Repeat (length bs) (hash_of (repeat_of p) % length bs)) (has_repeat (repeat_of p))
+    (λ v h. falls by.Repeat s bs index p v (ap hash_of (is-repeat (repeat_of p) v h))) (length s) (omega arith)
+    ∙ ap (count_by (has_repeat (repeat_of p))) (take_all (length s) s (omega arith))

@@ -1,9 +1,10 @@
 -- Edges, one after another.
-use Rattle.std.proofs.Common.{◌≡◌, inl, inr, ℕ, ◌+◌, ◌<◌, Bool, true, false, not, ◌&&◌, ◌||◌, List, [], ◌∷◌, length, drop, get_or, Option, Some, None, unwrap_or, if◌then◌else◌, refl, ap, sym, ◌∙◌, arith}
+use Rattle.std.proofs.Common.{◌≡◌, inl, inr, ℕ, ◌+◌, ◌<◌, Bool, true, false, not, ◌&&◌, ◌||◌, List, [], ◌∷◌, ◌++◌, length, take, drop, get_or, Option, Some, None, unwrap_or, if◌then◌else◌, refl, ap, sym, ◌∙◌, arith}
 use Rattle.std.specs.Bool.{Decides}
 use Rattle.std.specs.List.{list_any, list_all}
 use Rattle.std.proofs.lemmas.Bool.{or_left, or_right}
-use Rattle.std.proofs.lemmas.List.{at_drop_more}
+use Rattle.std.proofs.lemmas.List.{at_drop_more, take-append-drop, take_more}
+use Rattle.std.proofs.lemmas.List.Folds.{list_any-append}
 use Rattle.foundation.specs.Member.{Member}
 use Rattle.rules_model.specs.declared.board.Side.{Side}
 use Rattle.rules_model.specs.declared.moves.Move.{Move}
@@ -12,7 +13,7 @@ use Rattle.rules_model.specs.Moves.{same_move}
 use Rattle.rules_model.proofs.EqualLaws.{move-decides}
 use Rattle.forced_wins.specs.Tables as Tables
 use Rattle.forced_wins.specs.Views.{seen_by}
-use Rattle.forced_wins.proofs.Counts.{by_cases}
+use Rattle.forced_wins.proofs.Counts.{by_cases, same_from}
 use Rattle.strategy.specs.declared.nodes.Edge.{Edge}
 use Rattle.strategy.specs.declared.nodes.Node.{Node}
 use Rattle.strategy_check.specs.Rows.{kept, fits_edge, wrong_move, bad_counter}
@@ -41,12 +42,48 @@ any-decides m ms = (tested-member m ms, member-tested m ms)
 
 -- ---- edges with one move
 
-module _ (rules : Rules) (a : Side) (es : List Edge) (i : ℕ) (d : Edge) (h : i < length es) where
-  pub doubled-here : list_any (λ f. same_move (get_or es i d).chosen f.chosen) (drop (i + 1) es) ≡ true → Tables.is_doubled (seen_by rules a) kept (drop i es) ≡ true
-  doubled-here e = at_drop_more (Tables.is_doubled (seen_by rules a) kept) es i d h ∙ or_left _ _ e
+turned : (m n : Move) → same_move m n ≡ same_move n m
+turned m n =
+    same_from (same_move m n) (same_move n m)
+    (λ t. (move-decides n m).1 (sym ((move-decides m n).0 t)))
+    (λ t. (move-decides m n).1 (sym ((move-decides n m).0 t)))
 
-  pub doubled-later : list_any (λ f. same_move (get_or es i d).chosen f.chosen) (drop (i + 1) es) ≡ false → Tables.is_doubled (seen_by rules a) kept (drop i es) ≡ Tables.is_doubled (seen_by rules a) kept (drop (i + 1) es)
-  doubled-later e = at_drop_more (Tables.is_doubled (seen_by rules a) kept) es i d h ∙ rw e
+regrouped : (a s d b : Bool) → ((a || (s || false)) || (d || b)) ≡ ((a || d) || (s || b))
+regrouped true s d b = refl
+regrouped false true true b = refl
+regrouped false true false b = refl
+regrouped false false d b = refl
+
+module _ (rules : Rules) (a : Side) where
+  abbrev doubled : List Edge → Bool
+  doubled es = Tables.is_doubled (seen_by rules a) kept es
+
+  abbrev has : List Edge → Edge → Bool
+  has es e = list_any (λ f. same_move e.chosen f.chosen) es
+
+  -- one edge more
+  doubled-more : (es : List Edge) (e : Edge) → doubled (es ++ e ∷ []) ≡ (doubled es || has es e)
+  doubled-more [] e = refl
+  doubled-more (x ∷ xs) e =
+      (λ i. list_any-append (λ (f : Edge). same_move x.chosen f.chosen) xs (e ∷ []) i || doubled-more xs e i)
+      ∙ ap (λ t. (has xs x || (t || false)) || (doubled xs || has xs e)) (turned x.chosen e.chosen)
+      ∙ regrouped (has xs x) (same_move e.chosen x.chosen) (doubled xs) (has xs e)
+
+  doubled-front : (es others : List Edge) → doubled es ≡ true → doubled (es ++ others) ≡ true
+  doubled-front [] others h = cc
+  doubled-front (x ∷ xs) others h =
+      either (has xs x) (doubled xs) (doubled (x ∷ xs ++ others) ≡ true)
+      (λ t. or_left (has (xs ++ others) x) _ (list_any-append (λ (f : Edge). same_move x.chosen f.chosen) xs others ∙ or_left (has xs x) _ t))
+      (λ t. or_right (has (xs ++ others) x) _ (doubled-front xs others t)) h
+
+  -- those before a place have moves of their own, and so has the one there, or not
+  pub doubled-next : (es : List Edge) (i : ℕ) (d : Edge) (b : Bool) → i < length es → doubled (take i es) ≡ false → has (take i es) (get_or es i d) ≡ b → doubled (take (i + 1) es) ≡ b
+  doubled-next es i d b h apart e =
+      ap doubled (take_more es i d h) ∙ doubled-more (take i es) (get_or es i d)
+      ∙ ap (λ t. t || has (take i es) (get_or es i d)) apart ∙ e
+
+  pub doubled-first : (es : List Edge) (k : ℕ) → doubled (take k es) ≡ true → doubled es ≡ true
+  doubled-first es k h = ap doubled (sym (take-append-drop k es)) ∙ doubled-front (take k es) (drop k es) h
 
 -- ---- moves without an edge
 

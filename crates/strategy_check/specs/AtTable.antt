@@ -12,6 +12,7 @@ use Rattle.forced_wins.specs.Views as Views
 use Rattle.game_play.specs.Played.{story}
 use Rattle.strategy.specs.declared.nodes.Edge.{Edge}
 use Rattle.strategy.specs.declared.nodes.Node.{Node}
+use Rattle.strategy_check.specs.declared.places.Places.{Places}
 use Rattle.strategy_check.specs.declared.table.Table.{Table}
 use Rattle.strategy_check.specs.Buckets as Buckets
 use Rattle.strategy_check.specs.Rows as Rows
@@ -21,9 +22,10 @@ use Rattle.strategy_check.specs.Steps as Steps
 abbrev pub IsSound : Table → Position → Type 0
 IsSound t p = is_sound t.game.now.rules p ≡ true
 
--- the buckets hold the places of the table's nodes
-abbrev pub IsIndex : Table → List (List ℕ) → Type 0
-IsIndex t buckets = Buckets.IsIndex t.nodes.now buckets
+-- the places are those of the table's nodes, by the key for its rules
+pub record IsIndex (t : Table) (places : Places) : Type 0 where
+  pub key : places.by ≡ Buckets.key_for t.game.now.rules.n_fold
+  pub index : Buckets.IsIndex places.by t.nodes.now places.buckets.items
 
 abbrev pub legal : Table → Position → List Move
 legal t p = Legal.legal t.game.now.rules (repeat_of p)

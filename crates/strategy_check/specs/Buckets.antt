@@ -1,5 +1,5 @@
--- Places of nodes by the hashes of their repeats.
-use Rattle.std.specs.Prelude.{◌≡◌, ℕ, ◌%◌, ◌<◌, Bool, ◌&&◌, ◌==◌, List, [], ◌∷◌, ◌++◌, length, slice_get, slice_set, slice_index_or}
+-- Places of nodes by numbers of their positions.
+use Rattle.std.specs.Prelude.{◌≡◌, ℕ, ◌+◌, ◌%◌, ◌^◌, ◌<◌, Bool, ◌&&◌, ◌==◌, List, [], ◌∷◌, ◌++◌, length, slice_get, slice_set, slice_index_or, if◌then◌else◌}
 use Rattle.std.specs.List.{filter}
 use Rattle.foundation.specs.Count.{below}
 use Rattle.rules_model.specs.declared.board.Position.{Position}
@@ -9,6 +9,8 @@ use Rattle.rules_model.specs.Repeats.{repeat_of}
 use Rattle.forced_wins.specs.Tables.{leads}
 use Rattle.mate_core.specs.Hash.{hash_of}
 use Rattle.strategy.specs.declared.nodes.Node.{Node}
+use Rattle.strategy_check.specs.declared.places.Key as places
+use Rattle.strategy_check.specs.declared.places.Key.TheVariants as by
 
 -- the test of the node at the place
 abbrev pub at : List Node → (Node → Bool) → ℕ → Bool
@@ -20,27 +22,40 @@ has_repeat r v = same_repeat (repeat_of v.position) r
 abbrev pub is_twin : Position → Node → Bool
 is_twin p v = has_repeat (repeat_of p) v && (v.position.counter == p.counter)
 
--- the repeat of the node falls into the bucket b of so many
-abbrev pub falls_into : ℕ → ℕ → Node → Bool
-falls_into size b v = (hash_of (repeat_of v.position) % size) == b
+-- ---- keys
+
+-- a number of the position: of its repeat, or of this and its counter, which makes the number as much greater
+abbrev pub key_of : places.Key → Position → ℕ
+key_of by.Repeat p = hash_of (repeat_of p)
+key_of by.Counter p = (hash_of (repeat_of p) + p.counter) % 2 ^ 64
+
+-- the key where this many repetitions end the game, 0 for none
+abbrev pub key_for : ℕ → places.Key
+key_for fold = if fold == 0 then by.Counter else by.Repeat
+
+-- ---- buckets
+
+-- the node falls into the bucket b of so many
+abbrev pub falls_into : places.Key → ℕ → ℕ → Node → Bool
+falls_into key size b v = (key_of key v.position % size) == b
 
 -- of the places below k those whose nodes fall into the bucket
-unfoldable pub bucket : List Node → ℕ → ℕ → ℕ → List ℕ
-bucket s size b k = filter (at s (falls_into size b)) (below k)
+unfoldable pub bucket : places.Key → List Node → ℕ → ℕ → ℕ → List ℕ
+bucket key s size b k = filter (at s (falls_into key size b)) (below k)
 
--- the bucket of the repeat
-abbrev pub found : List (List ℕ) → Repeat → List ℕ
-found buckets r = slice_index_or buckets (hash_of r % length buckets) []
+-- the bucket of the number
+abbrev pub found : List (List ℕ) → ℕ → List ℕ
+found buckets n = slice_index_or buckets (n % length buckets) []
 
 -- a place more in it
-abbrev pub put : List (List ℕ) → ℕ → Repeat → List (List ℕ)
-put buckets place r = slice_set buckets (hash_of r % length buckets) (found buckets r ++ place ∷ [])
+abbrev pub put : List (List ℕ) → ℕ → ℕ → List (List ℕ)
+put buckets place n = slice_set buckets (n % length buckets) (found buckets n ++ place ∷ [])
 
 -- each bucket holds those of the places below k that fall into it
-pub record AreFilled (s : List Node) (k : ℕ) (buckets : List (List ℕ)) : Type 0 where
+pub record AreFilled (key : places.Key) (s : List Node) (k : ℕ) (buckets : List (List ℕ)) : Type 0 where
   pub some : 0 < length buckets
-  pub each : (b : ℕ) → b < length buckets → slice_index_or buckets b [] ≡ bucket s (length buckets) b k
+  pub each : (b : ℕ) → b < length buckets → slice_index_or buckets b [] ≡ bucket key s (length buckets) b k
 
 -- the buckets hold the places of all nodes
-abbrev pub IsIndex : List Node → List (List ℕ) → Type 0
-IsIndex s buckets = AreFilled s (length s) buckets
+abbrev pub IsIndex : places.Key → List Node → List (List ℕ) → Type 0
+IsIndex key s buckets = AreFilled key s (length s) buckets

@@ -30,12 +30,13 @@ pub(crate) fn is_same_move(a: &Move, b: &Move) -> bool
     are_equal(a, b)
 }
 
-/// Whether two of the edges have one move.
+/// Whether two of the edges have one move. Each is compared with those before it, so that where all moves are legal no more edges are
+/// looked at than there are legal moves, and one.
 fn is_doubled(edges: &[Edge]) -> bool
     ensures { (rules : Rules) (a : Side) → result ≡ Tables.is_doubled (seen_by rules a) kept edges.now }
 {
     for (i, e) in edges.iter().enumerate() {
-        if has_move(&edges[i + 1..], &e.chosen) {
+        if has_move(&edges[..i], &e.chosen) {
             return true;
         }
     }

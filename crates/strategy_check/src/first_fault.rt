@@ -7,7 +7,7 @@ ghost use Rattle.strategy_check.specs.Verdicts.{as_verdict, verdict_of};
 ghost use Rattle.strategy_check.specs.declared.verdict.Verdict.TheVariants as Said;
 ghost use Rattle.strategy_check.specs.AtTable as At;
 
-use crate::places::Places;
+use crate::places::{Key, Places};
 use crate::table::Table;
 use crate::verdict::Verdict;
 use forced_wins::by_rules::good_strategies_win;
@@ -42,7 +42,7 @@ impl Table<'_> {
         i: usize,
         v: &Node,
     ) -> Result<Verdict, Memory>
-        requires index { At.IsIndex self.now places.now.buckets.items }
+        requires index { At.IsIndex self.now places.now }
         requires there { i < length self.now.nodes.now }
         requires sound { At.IsSound self.now v.now.position }
         ensures { IfOk result (λ x. x ≡ as_verdict (At.node_verdict self.now i v.now)) }
@@ -73,7 +73,7 @@ impl Table<'_> {
 
     /// The first fault of the nodes in their order, or that there is none.
     fn nodes_verdict(&self, alloc: Global, places: &Places) -> Result<Verdict, Memory>
-        requires index { At.IsIndex self.now places.now.buckets.items }
+        requires index { At.IsIndex self.now places.now }
         requires sound { AreSound self.now.game.now.rules self.now.nodes.now }
         ensures { IfOk result (λ x. x ≡ as_verdict (At.nodes_verdict self.now 0 self.now.nodes.now)) }
     {
@@ -111,6 +111,7 @@ pub fn check(
     if !s.attacker.is(attacker) || !table.fits_root(n) {
         return Ok(Verdict::Root);
     }
-    let places = Places::new(alloc, table.nodes)?;
+    let by = Key::for_fold(game.rules().n_fold);
+    let places = Places::new(alloc, by, table.nodes)?;
     table.nodes_verdict(alloc, &places)
 }

@@ -2,14 +2,53 @@
 ghost use Rattle.std.specs.Prelude.{◌≡◌, ◌≤◌, ◌<◌, ◌%◌, ◌&&◌, [], length, take, IfOk, OnOk, count_by, replicate, nat_lt};
 ghost use Rattle.std.specs.List.{list_any};
 ghost use Rattle.rules_model.specs.Repeats as Repeats;
-ghost use Rattle.mate_core.specs.Hash as Hash;
-ghost use Rattle.strategy_check.specs.Buckets.{at, has_repeat, is_twin, found, put, IsIndex};
+ghost use Rattle.strategy_check.specs.Buckets.{at, has_repeat, is_twin, found, key_for, key_of, put, IsIndex};
+ghost use Rattle.strategy_check.specs.declared.places.Key.TheVariants as key;
 
 use mate_core::hash_of;
 use rules_model::{Memory, Position, repeat_of, repeats};
 use std::alloc::{AllocError, Global};
 use std::marker::Model;
 use strategy::Node;
+
+/// Of what a node's bucket depends.
+#[derive(Clone, Copy)]
+pub(crate) enum Key {
+    /// Its repeat. Nodes of one repeat are counted so.
+    Repeat,
+    /// Its repeat and its counter. So the nodes of one repeat do not crowd one bucket.
+    Counter,
+}
+
+impl Key {
+    /// The key by which a check finds nodes where this many repetitions end the game, 0 for none. Where repetitions are counted, a repeat
+    /// is a fault as soon as so many nodes have it, so no bucket that is searched again and again grows long.
+    pub fn for_fold(fold: u16) -> Key
+        ensures { result ≡ key_for fold }
+    {
+        if fold == 0 { Key::Counter } else { Key::Repeat }
+    }
+
+    /// A number that is the same for positions that are to be found together.
+    fn of(self, p: &Position) -> u64
+        ensures { result ≡ key_of self p.now }
+    {
+        let hash = hash_of(&repeat_of(p));
+        match self {
+            Key::Repeat => hash,
+            Key::Counter => hash.wrapping_add(u64::from(p.counter)),
+        }
+    }
+
+    /// The bucket of the position, among so many.
+    fn bucket(self, p: &Position, size: usize) -> usize
+        requires some { 0 < size }
+        ensures is { result ≡ key_of self p.now % size }
+        ensures below { result < size }
+    {
+        (self.of(p) % size as u64) as usize
+    }
+}
 
 /// Places of nodes.
 #[derive(Drop)]
@@ -25,19 +64,12 @@ impl Model for Bucket {
     ghost view = { λ b. b.places.items };
 }
 
-/// The places of nodes by the hashes of their repeats, so that the nodes of one repeat are found without a look at all of them.
+/// The places of nodes by their keys, so that the nodes of one repeat, or those that have a counter too, are found without a look at all
+/// of them.
 #[derive(Drop)]
 pub(crate) struct Places {
+    by: Key,
     buckets: Vec<Bucket>,
-}
-
-/// The bucket of the repeat, among so many.
-fn bucket_of(p: &Position, size: usize) -> usize
-    requires some { 0 < size }
-    ensures is { result ≡ Hash.hash_of (Repeats.repeat_of p.now) % size }
-    ensures below { result < size }
-{
-    (hash_of(&repeat_of(p)) % size as u64) as usize
 }
 
 /// Whether the node at the place has the repeat of the position.
@@ -56,7 +88,8 @@ fn is_twin(nodes: &[Node], place: usize, p: &Position) -> bool
 {
     match nodes.get(place) {
         None => false,
-        Some(u) => repeats(&u.position, p) && u.position.counter == p.counter,
+        // The counters are compared first, which is quickly done.
+        Some(u) => u.position.counter == p.counter && repeats(&u.position, p),
     }
 }
 
@@ -92,11 +125,13 @@ fn empty_buckets(alloc: Global, size: usize) -> Result<Vec<Bucket>, AllocError>
 }
 
 impl Places {
-    /// The places of all nodes.
-    pub fn new(alloc: Global, nodes: &[Node]) -> Result<Places, Memory>
-        ensures { IfOk result (λ p. IsIndex nodes.now p.buckets.items) }
+    /// The places of all nodes by this key.
+    pub fn new(alloc: Global, by: Key, nodes: &[Node]) -> Result<Places, Memory>
+        ensures key { IfOk result (λ p. p.by ≡ by) }
+        ensures index { IfOk result (λ p. IsIndex by nodes.now p.buckets.items) }
     {
         let mut places = Places {
+            by,
             buckets: empty_buckets(alloc, nodes.len().max(1))?,
         };
         for (i, v) in nodes.iter().enumerate() {
@@ -105,29 +140,31 @@ impl Places {
         Ok(places)
     }
 
-    /// Puts the place of a node into the bucket of its repeat.
+    /// Puts the place of a node into its bucket.
     fn put(&mut self, place: usize, p: &Position) -> Result<(), AllocError>
         requires some { 0 < length self.old.buckets.items }
-        ensures { OnOk result (self.new.buckets.items ≡ put self.old.buckets.items place (Repeats.repeat_of p.now)) }
+        ensures key { self.new.by ≡ self.old.by }
+        ensures put { OnOk result (self.new.buckets.items ≡ put self.old.buckets.items place (key_of self.old.by p.now)) }
     {
-        let b = bucket_of(p, self.buckets.len());
+        let b = self.by.bucket(p, self.buckets.len());
         self.buckets[b].places.push(place)?;
         Ok(())
     }
 
-    /// The places of the bucket of the position's repeat.
+    /// The places of the bucket of the position.
     fn bucket(&self, p: &Position) -> &[usize]
         requires some { 0 < length self.now.buckets.items }
-        ensures { result.now ≡ found self.now.buckets.items (Repeats.repeat_of p.now) }
+        ensures { result.now ≡ found self.now.buckets.items (key_of self.now.by p.now) }
     {
-        self.buckets[bucket_of(p, self.buckets.len())]
+        self.buckets[self.by.bucket(p, self.buckets.len())]
             .places
             .as_slice()
     }
 
-    /// How many of the nodes have the repeat of the position.
+    /// How many of the nodes, which are found by their repeats, have the repeat of the position.
     pub fn count(&self, nodes: &[Node], p: &Position) -> usize
-        requires index { IsIndex nodes.now self.now.buckets.items }
+        requires key { self.now.by ≡ key.Repeat }
+        requires index { IsIndex self.now.by nodes.now self.now.buckets.items }
         ensures { result ≡ count_by (has_repeat (Repeats.repeat_of p.now)) nodes.now }
     {
         count_at(self.bucket(p), nodes, p)
@@ -135,7 +172,7 @@ impl Places {
 
     /// Whether one of the first nodes has the repeat and the counter of the position.
     pub fn has_twin(&self, nodes: &[Node], first: usize, p: &Position) -> bool
-        requires index { IsIndex nodes.now self.now.buckets.items }
+        requires index { IsIndex self.now.by nodes.now self.now.buckets.items }
         requires there { first ≤ length nodes.now }
         ensures { result ≡ list_any (is_twin p.now) (take first nodes.now) }
     {

@@ -21,7 +21,7 @@ impl Table<'_> {
     /// Whether the node's repeat stands as often in the game and among the nodes as the repetition rule says.
     #[tactic(auto, unfolding(forced_wins::specs::Games::times, rules_model::specs::Games::times, forced_wins::specs::Tables::nodes_of))]
     fn stands_often(&self, places: &Places, v: &Node) -> bool
-        requires index { At.IsIndex self.now places.now.buckets.items }
+        requires index { At.IsIndex self.now places.now }
         ensures { result ≡ At.stands_often self.now v.now }
     {
         let fold = self.game.rules().n_fold;
@@ -37,7 +37,7 @@ impl Table<'_> {
     /// repeat or one that stands too often in the game and among the nodes.
     #[tactic(auto, unfolding(forced_wins::specs::Tables::repeats_at))]
     pub fn is_repeating(&self, places: &Places, i: usize, v: &Node) -> bool
-        requires index { At.IsIndex self.now places.now.buckets.items }
+        requires index { At.IsIndex self.now places.now }
         requires there { i < length self.now.nodes.now }
         ensures { result ≡ At.repeats self.now i v.now }
     {
