@@ -1,0 +1,6 @@
+mod SumLaws
+mod WorthLaws
+mod PutLaws
+mod HandLaws
+mod MoveLaws
+mod worked

@@ -1,0 +1,31 @@
+//! What a position is worth at a glance: the sum of the pieces of the side to move less that of the other side, each piece by its
+//! kind and by how near it stands to the centre.
+//!
+//! The two sums are kept through moves: `Tally::after` looks at the squares that a move writes, and not at the board.
+#![tactic(auto)]
+
+mod after;
+mod hands;
+mod pieces;
+mod tally;
+#[cfg(test)]
+mod tests;
+mod worths;
+
+ghost use Rattle.std.specs.Prelude.{◌≡◌};
+ghost use Rattle.rules_model.specs.Fit.{IsFit};
+ghost use Rattle.evaluation.specs.Evaluation.{evaluation};
+
+use rules_model::{Position, Rules};
+pub use tally::Tally;
+pub use worths::Worths;
+
+/// What the position is worth to the side to move, from -30,000 to 30,000. No memory is taken.
+///
+/// The worths of all kinds are made anew in each call: a caller who asks more than once makes `Worths` and keeps a `Tally`.
+pub fn evaluate(rules: &Rules, p: &Position) -> i32
+    requires { IsFit rules.now }
+    ensures { result ≡ evaluation rules.now p.now }
+{
+    Tally::of(rules, p).value(p.side)
+}
