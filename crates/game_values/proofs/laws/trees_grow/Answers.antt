@@ -1,0 +1,9 @@
+use Rattle.game_values.proofs.TreeLaws.{roots-lines, tree-grows, tree-some}
+use Rattle.game_values.proofs.laws.trees_grow.Goals as goal
+
+pub returns : goal.returns
+returns g c = record {
+  some = λ play. tree-some play;
+  longer = λ play. tree-grows play;
+  roots = λ play. roots-lines play;
+}
