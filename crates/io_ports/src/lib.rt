@@ -4,6 +4,7 @@
 #![tactic(auto)]
 
 mod clock;
+mod command;
 mod dialect;
 mod entry;
 mod files;
@@ -15,6 +16,7 @@ mod line;
 mod machine_clock;
 mod machine_files;
 mod memory;
+mod patient;
 mod ports;
 mod queue;
 mod queued_input;
@@ -25,16 +27,20 @@ mod standard;
 mod standard_input;
 
 pub use clock::Clock;
+pub use command::{UciWord, find_command};
 pub use dialect::{Dialect, Heard};
 pub use files::{Files, Given, MAX_FILE};
 pub use gate::{Gate, HoldingGate, OpenGate};
-pub use hearing::hear;
-pub use laws::pieces_lose_nothing;
+pub use hearing::{hear, too_long_answer};
+pub use laws::{owed_polls_run_out, pieces_lose_nothing};
 pub use limits::{Limits, SearchFault, Stopped};
 pub use line::{LineBuf, MAX_LINE};
 pub use machine_clock::MachineClock;
 pub use machine_files::MachineFiles;
-pub use memory::{File, ListClock, MemFiles, MemSink, MemSource, PollsOwed, QuietSource};
+pub use memory::{
+    File, ListClock, MemFiles, MemSink, MemSource, PollsOwed, QuietSource, SinkFault,
+};
+pub use patient::PatientReader;
 pub use ports::Ports;
 pub use queued_input::QueuedInput;
 pub use reply::ReplyText;

@@ -17,7 +17,7 @@ use std::marker::Model;
 /// The bytes of a front whose line is too long, whatever follows: a line may end in CR and LF.
 const LONGEST: usize = MAX_LINE + 3;
 
-/// The most bytes of a piece that is taken.
+/// The most bytes of a line that is taken, without its LF and a final CR.
 const MOST: usize = 1 << 30;
 
 /// The front of a piece, as the list of its bytes. It has room for the longest from the start, and never grows.
@@ -146,18 +146,24 @@ fn end_line(front: &mut Front, line: &mut LineBuf) -> Got
     if fits { Got::Line } else { Got::TooLong }
 }
 
-// Reads over the rest of a piece that is too long.
-fn skip_piece<R: BufRead>(reader: &mut R) -> io::Result<()>
+// Reads over the rest of a piece that is too long. More than this many bytes of its line are a fault; a final CR is not
+// counted.
+pub(crate) fn skip_piece<R: BufRead>(reader: &mut R, most: usize) -> io::Result<()>
     ensures ok { OnOk result (DropsThrough (R.remaining reader.old) (R.remaining reader.new) 10) }
     ensures err { OnErr result (Skips (R.remaining reader.old) (R.remaining reader.new)) }
 {
-    for _ in LONGEST..MOST {
+    let mut last = 0;
+    for read in 0..most.saturating_add(2) {
+        if read > most && last != b'\r' {
+            break;
+        }
         let Some(byte) = next_byte(reader)? else {
             return Ok(());
         };
         if byte == b'\n' {
             return Ok(());
         }
+        last = byte;
     }
     Err(io::Error::from(ErrorKind::InvalidData))
 }
@@ -172,7 +178,7 @@ fn skip_line<R: BufRead>(reader: &mut R, front: &mut Front) -> io::Result<Got>
     ensures begun { OnErr result (front.new ≡ front.old) }
     ensures skipped { OnErr result (Skips (R.remaining reader.old) (R.remaining reader.new)) }
 {
-    skip_piece(reader)?;
+    skip_piece(reader, MOST - LONGEST)?;
     front.clear();
     Ok(Got::TooLong)
 }

@@ -1,100 +1,116 @@
 mod adapters;
+mod memory;
 
+use crate::standard_input::skip_piece;
 use crate::{
-    Clock, Dialect, Failed, Files, Gate, Given, Got, Heard, HoldingGate, LineBuf, ListClock,
-    MAX_FILE, MAX_LINE, MemFiles, MemSink, MemSource, OpenGate, Polled, PollsOwed, Ports,
-    QuietSource, Sink, Source, StandardInput, StandardOutput, hear,
+    Dialect, Failed, Files, Gate, Given, Got, Heard, HoldingGate, LineBuf, MAX_LINE, Polled, Sink,
+    Source, StandardInput, StandardOutput, find_command, hear, too_long_answer,
 };
+use foundation::Memory;
 use std::alloc::{AllocError, Global};
 use std::io::{self, BufReader, ErrorKind, Read, Write};
 use std::test::Fail;
 use std::thread::join;
 
-fn polled<S: Source + Send>(source: &mut S, line: &mut LineBuf) -> Polled {
-    source.poll_line(line)
+// Writes an answer of a source on a line of its own.
+fn tell(told: &mut Vec<u8>, answer: Polled, line: &LineBuf) -> Result<(), AllocError> {
+    let text = match answer {
+        Polled::Line => line.text(),
+        Polled::TooLong => b"(long)",
+        Polled::End => b"(end)",
+        Polled::Failed => b"(fault)",
+        Polled::NotYet => b"(wait)",
+    };
+    told.extend_from_slice(text)?;
+    Ok(told.push(b'\n')?)
 }
 
-fn next<S: Source + Send>(source: &mut S, line: &mut LineBuf) -> Got {
-    source.next_line(line)
+// What a source answers when it is polled this often.
+fn polls<S: Source>(alloc: Global, source: &mut S, count: u32) -> Result<Vec<u8>, Memory> {
+    let (mut line, mut told) = (LineBuf::new(alloc)?, Vec::new(alloc));
+    for _ in 0..count {
+        let answer = source.poll_line(&mut line);
+        tell(&mut told, answer, &line)?;
+    }
+    Ok(told)
 }
 
-fn put<K: Sink + Send>(sink: &mut K, piece: &[u8]) -> Result<(), Failed> {
-    sink.put(piece)
+// What a source answers when it is asked this often.
+fn lines<S: Source>(alloc: Global, source: &mut S, count: u32) -> Result<Vec<u8>, Memory> {
+    let (mut line, mut told) = (LineBuf::new(alloc)?, Vec::new(alloc));
+    for _ in 0..count {
+        let answer = source.next_line(&mut line);
+        tell(&mut told, answer.into(), &line)?;
+    }
+    Ok(told)
 }
 
-fn read<F: Files>(files: &mut F, name: &[u8], out: &mut Vec<u8>) -> Given {
-    files.read(name, out)
+// Puts the pieces that bars separate, and tells whether each was taken.
+fn puts<K: Sink>(alloc: Global, sink: &mut K, pieces: &[u8]) -> Result<Vec<u8>, AllocError> {
+    let mut told = Vec::new(alloc);
+    for piece in pieces.split(|byte| *byte == b'|') {
+        told.push(if sink.put(piece).is_ok() { b'+' } else { b'-' })?;
+    }
+    Ok(told)
 }
 
-fn reading<C: Clock + Send>(clock: &mut C) -> u64 {
-    clock.now()
+// Reads the files whose names blanks separate, and tells the answers and how many bytes each has.
+fn reads<F: Files>(alloc: Global, files: &mut F, names: &[u8]) -> Result<Vec<u8>, io::Error> {
+    let (mut out, mut told) = (Vec::new(alloc), Vec::new(alloc));
+    for name in names.split(|byte| *byte == b' ') {
+        match files.read(name, &mut out) {
+            Given::Bytes => write!(told, "{} ", out.len())?,
+            Given::Missing => told.extend_from_slice(b"missing ")?,
+            Given::TooLarge => told.extend_from_slice(b"large ")?,
+            Given::Failed => told.extend_from_slice(b"fault ")?,
+            Given::Memory => told.extend_from_slice(b"memory ")?,
+        }
+    }
+    Ok(told)
 }
 
 fn pass<G: Gate + Sync>(gate: &G, worker: u32) {
     gate.pass(worker, 0);
 }
 
-// Whether a line is one that does nothing.
-fn is_skipped(dialect: Dialect, line: &[u8]) -> bool {
-    matches!(hear(dialect, line), Heard::Skip)
+// Tells what each line does that is heard: `r` is a reply, `i` is ignored and `s` stops.
+fn hears(alloc: Global, dialect: Dialect, lines: &[u8]) -> Result<Vec<u8>, AllocError> {
+    let mut told = Vec::new(alloc);
+    for line in lines.split(|byte| *byte == b'\n') {
+        told.push(match hear(dialect, line) {
+            Heard::Reply(_) => b'r',
+            Heard::Skip => b'i',
+            Heard::Stop => b's',
+        })?;
+    }
+    Ok(told)
 }
 
-// Whether a line stops a search.
-fn stops(dialect: Dialect, line: &[u8]) -> bool {
-    matches!(hear(dialect, line), Heard::Stop)
-}
-
-// Whether a line is answered `readyok`.
-fn is_ready(line: &[u8]) -> bool {
-    match hear(Dialect::Uci, line) {
-        Heard::Reply(reply) => reply.text() == b"readyok".as_slice(),
-        Heard::Skip | Heard::Stop => false,
+// The text after the first command of a line.
+fn after_command(line: &[u8]) -> &[u8] {
+    match find_command(line) {
+        Some((_, Some(after))) => after,
+        Some((_, None)) | None => b"(none)",
     }
 }
 
 #[test]
-fn a_line_that_is_heard_is_answered_or_skipped_or_stops(rt: HostRuntime) {
-    let skipped = b"\n \t \ndebug isready\nregister later\nISREADY\nisreadynow\nping 1\nxquit";
-    for line in skipped.split(|byte| *byte == b'\n') {
-        assert!(rt; is_skipped(Dialect::Uci, line));
-        assert!(rt; line.is_empty() == is_skipped(Dialect::Cecp, line));
-    }
-    let stopping =
-        b"uci\nucinewgame\nsetoption name\nposition\n\tgo isready\nstop\nponderhit\nmoves\nstatus\nstrategy\nx quit";
-    for line in stopping.split(|byte| *byte == b'\n') {
-        assert!(rt; stops(Dialect::Uci, line));
-    }
-    assert!(rt; is_ready(b"isready") && is_ready(b"\t joho  isready now"));
-    assert!(rt; stops(Dialect::Cecp, b"isready") && stops(Dialect::Cecp, b" "));
-}
-
-fn poll_and_put<S: Source, K: Sink, C: Clock, G: Gate>(
-    ports: &mut Ports<'_, '_, '_, '_, S, K, C, G>,
-    line: &mut LineBuf,
-) -> (Polled, Result<(), Failed>) {
-    ports.gate.pass(1, ports.clock.now());
-    (ports.source.poll_line(line), ports.sink.put(b"ok"))
-}
-
-#[test]
-fn ports_are_lent_and_a_quiet_source_stops_nothing(rt: HostRuntime) -> Result<(), Fail> {
+fn a_line_that_is_heard_is_answered_or_skipped_or_stops(rt: HostRuntime) -> Result<(), Fail> {
     let alloc = rt.alloc();
-    let mut line = LineBuf::new(alloc)?;
-    let (mut sink, mut clock) = (MemSink::new(alloc, 2)?, ListClock::new(alloc, &[5])?);
-    let mut ports = Ports {
-        source: &mut QuietSource,
-        sink: &mut sink,
-        clock: &mut clock,
-        gate: &OpenGate,
-        dialect: Dialect::Uci,
-    };
-    assert_eq!(rt;
-        poll_and_put(&mut ports, &mut line),
-        (Polled::NotYet, Ok(()))
-    );
-    assert_eq!(rt; next(ports.source, &mut line), Got::End);
-    assert_eq!(rt; (sink.taken(), clock.count()), (b"ok".as_slice(), 1));
+    let text =
+        b"\n \t \ndebug isready\nregister\nISREADY\nxquit\n\tgo isready\nx quit\nstrategy\n\t joho  isready now";
+    let uci = hears(alloc, Dialect::Uci, text)?;
+    assert!(rt; uci.as_slice() == b"iiiiiisssr".as_slice());
+    let cecp = hears(alloc, Dialect::Cecp, text)?;
+    assert!(rt; cecp.as_slice() == b"isssssssss".as_slice());
     Ok(())
+}
+
+#[test]
+fn a_command_is_found_with_the_text_after_it(rt: HostRuntime) {
+    assert!(rt; after_command(b"a\tgo  go depth") == b" go depth".as_slice());
+    assert!(rt; after_command(b"quit") == b"(none)".as_slice());
+    assert!(rt; too_long_answer(Dialect::Cecp) == b"Error (line too long)\n".as_slice());
 }
 
 #[test]
@@ -108,109 +124,12 @@ fn worker_0_is_held_until_worker_1_has_passed(rt: HostRuntime) {
     assert!(rt; alone.gave_up());
 }
 
-#[test]
-fn lines_end_at_lf_or_at_the_end_and_lose_a_final_cr(rt: HostRuntime) -> Result<(), Fail> {
-    let alloc = rt.alloc();
-    let mut line = LineBuf::new(alloc)?;
-    let text = b"uci\r\n\n\r\na\rb\r\r\nlast\r";
-    let mut source = MemSource::new(alloc, text.as_slice(), PollsOwed::Number(2), &[1, 5])?;
-    for (answer, expected) in [
-        (Polled::NotYet, b"".as_slice()),
-        (Polled::Failed, b"".as_slice()),
-        (Polled::NotYet, b"".as_slice()),
-        (Polled::Line, b"uci".as_slice()),
-        (Polled::Line, b"".as_slice()),
-        (Polled::Failed, b"".as_slice()),
-        (Polled::Line, b"".as_slice()),
-        (Polled::Line, b"a\rb\r".as_slice()),
-        (Polled::Line, b"last".as_slice()),
-        (Polled::End, b"".as_slice()),
-    ] {
-        assert_eq!(rt; polled(&mut source, &mut line), answer);
-        if answer == Polled::Line {
-            assert_eq!(rt; line.text(), expected);
-        }
-    }
-    assert_eq!(rt; source.faults(), 2);
-    Ok(())
-}
-
 // N bytes, and then an end of line and another line.
 fn long_line(alloc: Global, len: usize, end: &[u8]) -> Result<Vec<u8>, AllocError> {
     let mut text = vec![in alloc; b'a'; len]?;
     text.extend_from_slice(end)?;
     text.extend_from_slice(b"next")?;
     Ok(text)
-}
-
-#[test]
-fn a_line_is_too_long_by_its_bytes_without_the_cr(rt: HostRuntime) -> Result<(), Fail> {
-    let alloc = rt.alloc();
-    let mut line = LineBuf::new(alloc)?;
-    for (len, end, answer) in [
-        (MAX_LINE, b"\r\n".as_slice(), Got::Line),
-        (MAX_LINE + 1, b"\n".as_slice(), Got::TooLong),
-    ] {
-        let text = long_line(alloc, len, end)?;
-        let mut source = MemSource::new(alloc, text.as_slice(), PollsOwed::Endless, &[])?;
-        assert_eq!(rt; polled(&mut source, &mut line), Polled::NotYet);
-        assert_eq!(rt;
-            (next(&mut source, &mut line), source.left()),
-            (answer, b"next".as_slice())
-        );
-    }
-    Ok(())
-}
-
-#[test]
-fn a_piece_is_taken_as_far_as_it_fits(rt: HostRuntime) -> Result<(), Fail> {
-    let mut sink = MemSink::new(rt.alloc(), 5)?;
-    for (piece, answer) in [
-        (b"abc".as_slice(), Ok(())),
-        (b"defg".as_slice(), Err(Failed)),
-        (b"".as_slice(), Ok(())),
-        (b"h".as_slice(), Err(Failed)),
-    ] {
-        assert_eq!(rt; put(&mut sink, piece), answer);
-    }
-    assert_eq!(rt; (sink.taken(), sink.faults()), (b"abcde".as_slice(), 2));
-    Ok(())
-}
-
-#[test]
-fn files_are_found_by_name(rt: HostRuntime) -> Result<(), Fail> {
-    let alloc = rt.alloc();
-    let mut files = MemFiles::new(alloc);
-    let mut large = vec![in alloc; b'a'; MAX_FILE]?;
-    files.add(b"full.ini", large.as_slice())?;
-    large.push(b'a')?;
-    files.add(b"large.ini", large.as_slice())?;
-    files.add(b"a.ini", b"first")?;
-    files.add(b"a.ini", b"second")?;
-    let mut out = Vec::new(alloc);
-    for (name, answer) in [
-        (b"large.ini".as_slice(), Given::TooLarge),
-        (b"full.ini".as_slice(), Given::Bytes),
-        (b"a.ini".as_slice(), Given::Bytes),
-        (b"a".as_slice(), Given::Missing),
-    ] {
-        assert_eq!(rt; read(&mut files, name, &mut out), answer);
-    }
-    assert_eq!(rt; out.as_slice(), b"first".as_slice());
-    Ok(())
-}
-
-#[test]
-fn the_last_reading_comes_again(rt: HostRuntime) -> Result<(), Fail> {
-    let mut clock = ListClock::new(rt.alloc(), &[7, 5])?;
-    let readings = [
-        reading(&mut clock),
-        reading(&mut clock),
-        reading(&mut clock),
-    ];
-    assert_eq!(rt; (readings, clock.count()), ([7, 5, 5], 3));
-    pass(&OpenGate, 0);
-    Ok(())
 }
 
 // A writer that takes at most 3 bytes a call, up to its room, and can be flushed `flushes` times.
@@ -243,49 +162,53 @@ impl Write for Narrow {
     }
 }
 
+// Puts two pieces into a writer of this room, and tells the answers, what was written and how much of it was flushed.
+fn narrow_puts(alloc: Global, room: usize, flushes: u32) -> Result<Vec<u8>, io::Error> {
+    let mut writer = Narrow {
+        written: Vec::new(alloc),
+        room,
+        flushes,
+        flushed: 0,
+    };
+    let mut output = StandardOutput::new(&mut writer);
+    let mut told = puts(alloc, &mut output, b"readyok|ok")?;
+    let faults = output.faults();
+    write!(told, " {faults} {} ", writer.flushed)?;
+    told.extend_from_slice(&writer.written)?;
+    Ok(told)
+}
+
 #[test]
 fn a_writer_gets_each_piece_and_its_failure_is_a_fault(rt: HostRuntime) -> Result<(), Fail> {
     let alloc = rt.alloc();
-    for (room, flushes, second, written, flushed) in [
-        (9, 2, Ok(()), b"readyokok".as_slice(), 9),
-        (8, 2, Err(Failed), b"readyoko".as_slice(), 7),
-        (9, 1, Err(Failed), b"readyokok".as_slice(), 7),
-    ] {
-        let mut writer = Narrow {
-            written: Vec::new(alloc),
-            room,
-            flushes,
-            flushed: 0,
-        };
-        let mut output = StandardOutput::new(&mut writer);
-        assert_eq!(rt; put(&mut output, b"readyok"), Ok(()));
-        assert_eq!(rt; put(&mut output, b"ok"), second);
-        assert_eq!(rt; output.faults(), u64::from(second.is_err()));
-        assert_eq!(rt;
-            (writer.written.as_slice(), writer.flushed),
-            (written, flushed)
-        );
-    }
-    assert_eq!(rt;
-        put(&mut StandardOutput::new(rt.stdout()), b"on its way\n"),
-        Ok(())
-    );
+    let taken = narrow_puts(alloc, 9, 2)?;
+    assert!(rt; taken.as_slice() == b"++ 0 9 readyokok".as_slice());
+    let full = narrow_puts(alloc, 8, 2)?;
+    assert!(rt; full.as_slice() == b"+- 1 7 readyoko".as_slice());
+    let stuck = narrow_puts(alloc, 9, 1)?;
+    assert!(rt; stuck.as_slice() == b"+- 1 7 readyokok".as_slice());
     Ok(())
 }
 
-// A reader that gives at most 3 bytes a call, and fails at the calls of these numbers.
+#[test]
+fn standard_output_takes_a_piece(rt: HostRuntime) {
+    assert!(rt; StandardOutput::new(rt.stdout()).put(b"on its way\n") == Ok::<(), Failed>(()));
+}
+
+// A reader that gives at most 3 bytes a call, and fails with this kind of error at the calls of these numbers.
 #[derive(Drop)]
 struct Halting {
     text: &'static [u8],
     calls: u64,
     failing: &'static [u64],
+    kind: ErrorKind,
 }
 
 impl Read for Halting {
     fn read(&mut self, buf: &mut [u8]) -> io::Result<usize> {
         self.calls = self.calls.saturating_add(1);
         if self.failing.contains(&self.calls) {
-            return Err(io::Error::from(ErrorKind::BrokenPipe));
+            return Err(io::Error::from(self.kind));
         }
         let given = self.text.len().min(buf.len()).min(3);
         buf[..given].copy_from_slice(&self.text[..given]);
@@ -297,47 +220,58 @@ impl Read for Halting {
 #[test]
 fn standard_input_takes_up_a_line_that_a_failure_interrupts(rt: HostRuntime) -> Result<(), Fail> {
     let alloc = rt.alloc();
-    let mut line = LineBuf::new(alloc)?;
     let reader = Halting {
         text: b"uci\r\n\nisready",
         calls: 0,
         failing: &[2, 4, 6],
+        kind: ErrorKind::BrokenPipe,
     };
     let mut input = StandardInput::new(alloc, BufReader::new(alloc, reader)?)?;
-    for (answer, expected) in [
-        (Polled::Failed, b"".as_slice()),
-        (Polled::Line, b"uci".as_slice()),
-        (Polled::Line, b"".as_slice()),
-        (Polled::Failed, b"".as_slice()),
-        (Polled::Failed, b"".as_slice()),
-        (Polled::Line, b"isready".as_slice()),
-        (Polled::End, b"".as_slice()),
-    ] {
-        assert_eq!(rt; polled(&mut input, &mut line), answer);
-        if answer == Polled::Line {
-            assert_eq!(rt; line.text(), expected);
-        }
-    }
-    assert_eq!(rt; input.faults(), 3);
+    let told = polls(alloc, &mut input, 7)?;
+    assert!(rt;
+        told.as_slice() == b"(fault)\nuci\n\n(fault)\n(fault)\nisready\n(end)\n".as_slice()
+    );
+    assert!(rt; input.faults() == 3);
     Ok(())
+}
+
+// What a long line and the next one are to standard input.
+fn long_lines(alloc: Global, len: usize, end: &[u8]) -> Result<Vec<u8>, Memory> {
+    let text = long_line(alloc, len, end)?;
+    let mut input = StandardInput::new(alloc, text.as_slice())?;
+    let mut line = LineBuf::new(alloc)?;
+    let mut told = Vec::new(alloc);
+    told.push(if input.next_line(&mut line) == Got::Line {
+        b'+'
+    } else {
+        b'-'
+    })?;
+    let rest = lines(alloc, &mut input, 2)?;
+    told.extend_from_slice(&rest)?;
+    Ok(told)
 }
 
 #[test]
 fn standard_input_takes_a_long_line_whole(rt: HostRuntime) -> Result<(), Fail> {
     let alloc = rt.alloc();
-    let mut line = LineBuf::new(alloc)?;
-    for (len, end, answer) in [
-        (MAX_LINE, b"\r\n".as_slice(), Got::Line),
-        (MAX_LINE + 1, b"\n".as_slice(), Got::TooLong),
-        (MAX_LINE + 1, b"\r\n".as_slice(), Got::TooLong),
-        (3 * MAX_LINE, b"\n".as_slice(), Got::TooLong),
-    ] {
-        let text = long_line(alloc, len, end)?;
-        let mut input = StandardInput::new(alloc, text.as_slice())?;
-        assert_eq!(rt; next(&mut input, &mut line), answer);
-        assert_eq!(rt; next(&mut input, &mut line), Got::Line);
-        assert_eq!(rt; line.text(), b"next".as_slice());
-        assert_eq!(rt; next(&mut input, &mut line), Got::End);
+    let fits = long_lines(alloc, MAX_LINE, b"\r\n")?;
+    assert!(rt; fits.as_slice() == b"+next\n(end)\n".as_slice());
+    for len in [MAX_LINE + 1, 3 * MAX_LINE] {
+        let long = long_lines(alloc, len, b"\r\n")?;
+        assert!(rt;
+            long.as_slice() == b"-next\n(end)\n".as_slice(),
+            "a line of {len} bytes"
+        );
     }
     Ok(())
+}
+
+#[test]
+fn a_line_of_the_most_bytes_is_no_fault(rt: HostRuntime) {
+    for text in b"aaa\nb aaa\r\nb aaa\r aa\r\r\n aaa".split(|byte| *byte == b' ') {
+        assert!(rt; skip_piece(&mut &*text, 3).is_ok());
+    }
+    for text in b"aaaa\n aaaa\r\n aaa\ra aaa\r\r".split(|byte| *byte == b' ') {
+        assert!(rt; skip_piece(&mut &*text, 3).is_err());
+    }
 }

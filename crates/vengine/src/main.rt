@@ -19,7 +19,9 @@ mod strategy_lines;
 mod variants;
 
 use foundation::Memory;
-use io_ports::{MachineClock, MachineFiles, OpenGate, QueuedInput, StandardOutput};
+use io_ports::{
+    MachineClock, MachineFiles, OpenGate, PatientReader, QueuedInput, StandardOutput,
+};
 use program::NO_MEMORY;
 pub use program::run;
 use std::io::{BufReader, ErrorKind, Read};
@@ -64,7 +66,7 @@ where
 {
     let alloc = rt.alloc();
     let words = given_words(&rt)?;
-    let Ok(reader) = BufReader::new(alloc, input) else {
+    let Ok(reader) = BufReader::new(alloc, PatientReader::new(rt, input)) else {
         return Err(Memory);
     };
     let mut source = QueuedInput::start(rt, alloc, reader)?;
