@@ -15,7 +15,7 @@ use Rattle.rules_model.specs.Ready.{IsReady}
 use Rattle.rules_model.specs.Repeats.{repeat_of}
 use Rattle.rules_model.specs.Sound.{is_sound}
 use Rattle.rules_model.proofs.ResultLaws.{are_legal-none, story_from-none}
-use Rattle.game_play.specs.Keys.{key_of}
+use Rattle.position_key.specs.Key.{key_of}
 use Rattle.game_play.specs.Played.{Played, story, longer, shorter, legal_in, IsPlayed, played_of, IsKept}
 use Rattle.game_play.proofs.KeyLemmas.{keys-take}
 use Rattle.game_play.proofs.StoryLemmas.{history-push, history-length, legal-push, legal-front, last-sound}

@@ -1,4 +1,3 @@
 pub mod Played
-pub mod Keys
 pub mod Perft
 pub mod Repetition

@@ -10,7 +10,7 @@ use Rattle.rules_model.specs.Legal.{legal}
 use Rattle.rules_model.specs.Repeats.{repeat_of}
 use Rattle.game_play.specs.declared.faults.PlayFault.{PlayFault}
 use Rattle.game_play.specs.declared.faults.PlayFault.TheVariants.{Illegal, TooLong, Memory}
-use Rattle.game_play.specs.Keys.{key_of}
+use Rattle.position_key.specs.Key.{key_of}
 
 -- a game: its rules, the position from which it started and the moves that were played
 pub record Played : Type 0 where

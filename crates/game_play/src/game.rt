@@ -5,8 +5,8 @@ ghost use Rattle.rules_model.specs.Games as Games;
 ghost use Rattle.rules_model.specs.Sound.{is_sound};
 ghost use Rattle.game_play.specs.Played.{story, IsPlayed};
 
-use crate::keys::key_of;
 use attack_tables::Tables;
+use position_key::key_of;
 use rules_model::{Memory, Move, Position, Rules};
 use std::alloc::Global;
 use std::marker::Model;

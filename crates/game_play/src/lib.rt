@@ -3,7 +3,6 @@
 
 pub mod faults;
 pub mod game;
-mod keys;
 pub mod laws;
 mod perft;
 mod play;

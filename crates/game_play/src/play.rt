@@ -1,13 +1,13 @@
 //! Moves played and taken back.
 ghost use Rattle.std.specs.Prelude.{◌≡◌, ◌↔◌, ◌∷◌, ◌++◌, [], OnOk, OnErr, IsErr};
 ghost use Rattle.rules_model.specs.Repeats.{repeat_of};
-ghost use Rattle.game_play.specs.Keys as Keys;
+ghost use Rattle.position_key.specs.Key as Key;
 ghost use Rattle.game_play.specs.Played.{longer, shorter, IsAnswer};
 
 use crate::faults::{NothingPlayed, PlayFault};
 use crate::game::{Game, MOST_PLIES};
-use crate::keys::key_of;
 use legality::{apply, is_legal};
+use position_key::key_of;
 use rules_model::{Move, Position};
 use std::alloc::AllocError;
 
@@ -21,7 +21,7 @@ fn append(
 ) -> Result<(), AllocError>
     ensures positions { OnOk result (positions.new.items ≡ positions.old.items ++ next.now ∷ []) }
     ensures moves { OnOk result (moves.new.items ≡ moves.old.items ++ m.now ∷ []) }
-    ensures keys { OnOk result (keys.new.items ≡ keys.old.items ++ Keys.key_of (repeat_of next.now) ∷ []) }
+    ensures keys { OnOk result (keys.new.items ≡ keys.old.items ++ Key.key_of (repeat_of next.now) ∷ []) }
     ensures same_positions { OnErr result (positions.new.items ≡ positions.old.items) }
     ensures same_moves { OnErr result (moves.new.items ≡ moves.old.items) }
     ensures same_keys { OnErr result (keys.new.items ≡ keys.old.items) }

@@ -6,20 +6,20 @@ ghost use Rattle.forced_wins.specs.Wins.{each_once, is_in};
 ghost use Rattle.rules_model.specs.declared.board.Position.{Position};
 ghost use Rattle.rules_model.specs.Games.{times, history, same_repeat};
 ghost use Rattle.rules_model.specs.Repeats as Repeats;
-ghost use Rattle.game_play.specs.Keys as Keys;
+ghost use Rattle.position_key.specs.Key as Key;
 ghost use Rattle.game_play.specs.Played.{story, keys_of};
 ghost use Rattle.game_play.specs.Repetition.{opens};
 
 use crate::game::Game;
-use crate::keys::key_of;
+use position_key::key_of;
 use rules_model::{Blocked, Memory, Position, repeat_of, repeats};
 use std::alloc::Global;
 
 /// Whether two positions of these keys repeat each other. The positions are looked at where the keys agree.
-#[tactic(auto, using(crate::proofs::KeyLemmas::unequal_keys))]
+#[tactic(auto, using(position_key::proofs::KeyLaws::unequal_keys))]
 fn is_standing(kept: &Position, kept_key: u64, p: &Position, key: u64) -> bool
-    requires kept_key { kept_key ≡ Keys.key_of (Repeats.repeat_of kept.now) }
-    requires key { key ≡ Keys.key_of (Repeats.repeat_of p.now) }
+    requires kept_key { kept_key ≡ Key.key_of (Repeats.repeat_of kept.now) }
+    requires key { key ≡ Key.key_of (Repeats.repeat_of p.now) }
     ensures { result ≡ same_repeat (Repeats.repeat_of kept.now) (Repeats.repeat_of p.now) }
 {
     if kept_key != key {
@@ -31,7 +31,7 @@ fn is_standing(kept: &Position, kept_key: u64, p: &Position, key: u64) -> bool
 /// How many of the positions, which have these keys, repeat the position.
 fn standings(positions: &[Position], keys: &[u64], p: &Position, key: u64) -> u32
     requires keys { keys.now ≡ keys_of positions.now }
-    requires key { key ≡ Keys.key_of (Repeats.repeat_of p.now) }
+    requires key { key ≡ Key.key_of (Repeats.repeat_of p.now) }
     requires few { length positions.now ≤ 8193 }
     ensures is { result ≡ times (Repeats.repeat_of p.now) positions.now }
     ensures few { result ≤ length positions.now }
@@ -48,7 +48,7 @@ fn standings(positions: &[Position], keys: &[u64], p: &Position, key: u64) -> u3
 /// Whether one of the positions, which have these keys, repeats the position.
 fn stood(positions: &[Position], keys: &[u64], p: &Position, key: u64) -> bool
     requires keys { keys.now ≡ keys_of positions.now }
-    requires key { key ≡ Keys.key_of (Repeats.repeat_of p.now) }
+    requires key { key ≡ Key.key_of (Repeats.repeat_of p.now) }
     ensures { result ≡ is_in (map Repeats.repeat_of positions.now) (Repeats.repeat_of p.now) }
 {
     for (i, kept) in positions.iter().enumerate() {

@@ -1,3 +1,4 @@
+pub mod KeyLaws
 pub mod SumLemmas
 pub mod ExchangeLemmas
 pub mod TouchedLemmas
