@@ -10,7 +10,7 @@ use sample_rules::{empty, leapers};
 use std::alloc::Global;
 use std::sync::Wait;
 use std::test::Fail;
-use std::thread::join;
+use std::thread::{Threads, join};
 
 // A frame whose rules draw every end, so that the attacker wins no position and every refutation is true.
 fn drawn(blocked: Vec<Repeat>) -> Frame
@@ -133,26 +133,34 @@ fn in_four(shards: &Shards, passes: Passes) -> Result<(Passes, Passes, Passes, P
     Ok((a, b, c, d))
 }
 
+// What publishing the fact of the number answers, and what a look within these moves finds of it.
+fn answers<R: Wait>(
+    rt: &R,
+    shards: &Shards,
+    passes: &mut Passes,
+    number: u32,
+    moves: u16,
+) -> (Published, Option<Fact>)
+    requires passes { ArePassesOf shards.now passes.old }
+    requires truth { RefutesAll shards.now.frame }
+    ensures { ArePassesOf shards.now passes.new }
+{
+    let published = shards.publish(rt, passes, &refutation(number));
+    let found = shards.look(rt, passes, &numbered(number), moves);
+    (published, found)
+}
+
 #[test]
 fn a_shard_of_sixteen_places(rt: HostRuntime) -> Result<(), Fail> {
     let (shards, passes) = drawn_shards(rt.alloc(), Vec::new(rt.alloc()), 1, 16)?;
     let mut done = publish_all(&rt, &shards, passes, 0, 16);
     assert_eq!(rt; (done.stored, done.lost), (16, 0));
-    let more = shards.publish(&rt, &mut done.passes, &refutation(16));
-    assert_eq!(rt; more, Published::Full);
-    let again = shards.publish(&rt, &mut done.passes, &refutation(0));
-    assert_eq!(rt; again, Published::KnownBetter);
-    assert!(rt; shards.look(&rt, &mut done.passes, &numbered(0), 2) == Some(refutation(0)));
-    assert!(rt;
-        shards
-            .look(&rt, &mut done.passes, &numbered(0), 3)
-            .is_none()
-    );
-    assert!(rt;
-        shards
-            .look(&rt, &mut done.passes, &numbered(16), 2)
-            .is_none()
-    );
+    let full = answers(&rt, &shards, &mut done.passes, 16, 2);
+    assert!(rt; full == (Published::Full, None));
+    let known = answers(&rt, &shards, &mut done.passes, 0, 2);
+    assert!(rt; known == (Published::KnownBetter, Some(refutation(0))));
+    let within_three = answers(&rt, &shards, &mut done.passes, 0, 3);
+    assert!(rt; within_three == (Published::KnownBetter, None));
     Ok(())
 }
 
@@ -166,52 +174,66 @@ fn a_shard_of_all_places(rt: HostRuntime) -> Result<(), Fail> {
     Ok(())
 }
 
+// Two threads publish ten thousand facts each, the second of them five thousand numbers on.
+fn publish_in_two<R: Threads + Wait + Sync>(
+    rt: &R,
+    shards: &Shards,
+    one: Passes,
+    other: Passes,
+    first: u32,
+) -> Done
+    requires passes { ArePassesOf shards.now one × ArePassesOf shards.now other }
+    requires truth { RefutesAll shards.now.frame }
+    requires first { first ≤ 10000 }
+    ensures { ArePassesOf shards.now result.passes }
+{
+    let (one, other) = join(
+        rt,
+        move || -> Done
+            requires { ArePassesOf shards.now one × RefutesAll shards.now.frame × (first ≤ 10000) }
+            ensures { ArePassesOf shards.entry.now result.passes }
+        { publish_all(rt, shards, one, first, first + 10000) },
+        move || -> Done
+            requires { ArePassesOf shards.now other × RefutesAll shards.now.frame × (first ≤ 10000) }
+            ensures { ArePassesOf shards.entry.now result.passes }
+        { publish_all(rt, shards, other, first + 5000, first + 15000) },
+    );
+    joined(shards, one, other)
+}
+
+// Two times two threads do so.
+fn publish_in_four<R: Threads + Wait + Sync>(
+    rt: &R,
+    shards: &Shards,
+    passes: Passes,
+) -> Result<Done, Memory>
+    requires passes { ArePassesOf shards.now passes }
+    requires parts { All (λ p. p.parts ≡ all_parts) passes }
+    requires truth { RefutesAll shards.now.frame }
+    ensures { IfOk result (λ done. ArePassesOf shards.now done.passes) }
+{
+    let (a, b, c, d) = in_four(shards, passes)?;
+    let (front, back) = join(
+        rt,
+        move || -> Done
+            requires { ArePassesOf shards.now a × ArePassesOf shards.now b × RefutesAll shards.now.frame }
+            ensures { ArePassesOf shards.entry.now result.passes }
+        { publish_in_two(rt, shards, a, b, 0) },
+        move || -> Done
+            requires { ArePassesOf shards.now c × ArePassesOf shards.now d × RefutesAll shards.now.frame }
+            ensures { ArePassesOf shards.entry.now result.passes }
+        { publish_in_two(rt, shards, c, d, 10000) },
+    );
+    Ok(joined(shards, front, back))
+}
+
 // A thread shares half of its facts with the one before it and half with the one after it, and each fact is stored for one.
 #[test]
 fn four_threads_store_each_fact_once(rt: HostRuntime) -> Result<(), Fail> {
     let (shards, passes) = drawn_shards(rt.alloc(), Vec::new(rt.alloc()), 16, 4096)?;
-    let shared = &shards;
-    let (a, b, c, d) = in_four(shared, passes)?;
-    let (front, back) = join(
-        &rt,
-        || -> Done
-            requires { ArePassesOf shared.now a × ArePassesOf shared.now b × RefutesAll shared.now.frame }
-            ensures { ArePassesOf shared.entry.now result.passes }
-        {
-            let (one, two) = join(
-                &rt,
-                || -> Done
-                    requires { ArePassesOf shared.now a × RefutesAll shared.now.frame }
-                    ensures { ArePassesOf shared.entry.now result.passes }
-                { publish_all(&rt, shared, a, 0, 10000) },
-                || -> Done
-                    requires { ArePassesOf shared.now b × RefutesAll shared.now.frame }
-                    ensures { ArePassesOf shared.entry.now result.passes }
-                { publish_all(&rt, shared, b, 5000, 15000) },
-            );
-            joined(shared, one, two)
-        },
-        || -> Done
-            requires { ArePassesOf shared.now c × ArePassesOf shared.now d × RefutesAll shared.now.frame }
-            ensures { ArePassesOf shared.entry.now result.passes }
-        {
-            let (three, four) = join(
-                &rt,
-                || -> Done
-                    requires { ArePassesOf shared.now c × RefutesAll shared.now.frame }
-                    ensures { ArePassesOf shared.entry.now result.passes }
-                { publish_all(&rt, shared, c, 10000, 20000) },
-                || -> Done
-                    requires { ArePassesOf shared.now d × RefutesAll shared.now.frame }
-                    ensures { ArePassesOf shared.entry.now result.passes }
-                { publish_all(&rt, shared, d, 15000, 25000) },
-            );
-            joined(shared, three, four)
-        },
-    );
-    let done = joined(shared, front, back);
+    let done = publish_in_four(&rt, &shards, passes)?;
     assert_eq!(rt; (done.stored, done.lost), (25000, 0));
-    let again = publish_all(&rt, shared, done.passes, 0, 25000);
+    let again = publish_all(&rt, &shards, done.passes, 0, 25000);
     assert_eq!(rt; (again.stored, again.lost), (0, 0));
     Ok(())
 }
