@@ -7,6 +7,7 @@ pub mod FlagLaws
 pub mod FreeLaws
 pub mod GoLaws
 pub mod KeepLaws
+pub mod LateLaws
 pub mod ListLaws
 pub mod MemberLaws
 pub mod MobileLaws

@@ -9,18 +9,20 @@ ghost use Rattle.rules_model.specs.Ready.{IsReady};
 ghost use Rattle.rules_model.specs.Repeats.{repeat_of};
 ghost use Rattle.board_sets.specs.Sets.{AreSets};
 ghost use Rattle.legality.specs.Chosen.{captures_if_forced};
+ghost use Rattle.legality.specs.LateEnds.{late_end_where};
 ghost use Rattle.legality.specs.Moved.{AreOwn, HoldNoKing, LeaveSafely};
 
 use crate::candidates::{candidates_are_fit, is_candidate, push_candidates};
 use crate::capture::captures;
 use crate::choice::Choice;
 use crate::count::Counter;
+use crate::play::king_attacked_with;
 use crate::safety::Safety;
-use crate::search::{can_go, goes_on, only_captures};
+use crate::search::{can_go, early_end_with, goes_on, only_captures};
 use crate::unpinned::free_squares;
 use attack_tables::Tables;
 use board_sets::{BoardSets, sets_of};
-use end_rules::{early_end, no_move};
+use end_rules::no_move;
 use rules_model::{Move, Outcome, Position, Rules};
 use square_set::Set;
 
@@ -34,7 +36,7 @@ pub fn count_legal_with(rules: &Rules, tables: &Tables, p: &Position, sets: &Boa
         return 0;
     }
     let safety = Safety::of_all(rules, tables, p, sets);
-    let captures = only_captures(rules, tables, p, sets);
+    let captures = only_captures(rules, tables, p, sets, &safety);
     let choice = Choice { safety, captures };
     let mut counter = Counter { choice, count: 0 };
     let _ = push_candidates(rules, tables, p, sets, &mut counter);
@@ -50,35 +52,84 @@ pub fn count_legal(rules: &Rules, tables: &Tables, p: &Position) -> u128
     count_legal_with(rules, tables, p, &sets)
 }
 
+/// The same as `any_legal`, by the sets of the board, which the caller has.
+pub fn any_legal_with(rules: &Rules, tables: &Tables, p: &Position, sets: &BoardSets) -> bool
+    requires ready { IsReady rules.now tables.now p.now }
+    requires sets { AreSets rules.now p.now.side p.now.cells sets.now }
+    ensures { result ≡ not (Legal.is_stuck rules.now (repeat_of p.now)) }
+{
+    if !goes_on(rules, tables, p, sets) {
+        return false;
+    }
+    can_go(rules, tables, p, sets, false)
+}
+
 /// Whether there is a legal move. It stops at the first, and no memory is taken.
 pub fn any_legal(rules: &Rules, tables: &Tables, p: &Position) -> bool
     requires ready { IsReady rules.now tables.now p.now }
     ensures { result ≡ not (Legal.is_stuck rules.now (repeat_of p.now)) }
 {
     let sets = sets_of(rules, &p.cells, p.side);
-    if !goes_on(rules, tables, p, &sets) {
-        return false;
+    any_legal_with(rules, tables, p, &sets)
+}
+
+/// The end where the position has no early end, for a caller who knows whether some move is legal.
+fn late_end(rules: &Rules, tables: &Tables, p: &Position, sets: &BoardSets, any: bool) -> Outcome
+    requires tables { tables.now ≡ rules.now }
+    requires sets { AreSets rules.now p.now.side p.now.cells sets.now }
+    ensures { result ≡ late_end_where rules.now (repeat_of p.now) any }
+{
+    if any {
+        Outcome::Ongoing
+    } else {
+        no_move(rules, p.side, king_attacked_with(rules, tables, p, sets))
     }
-    can_go(rules, tables, p, &sets, false)
+}
+
+/// The same as `own_end`, by the sets of the board, for a caller who also knows whether some move is legal.
+#[tactic(auto, unfolding(rules_model::specs::Legal::own_end))]
+pub fn end_where(
+    rules: &Rules,
+    tables: &Tables,
+    p: &Position,
+    sets: &BoardSets,
+    any: bool,
+) -> Outcome
+    requires ready { IsReady rules.now tables.now p.now }
+    requires sets { AreSets rules.now p.now.side p.now.cells sets.now }
+    requires any { any ≡ not (Legal.is_stuck rules.now (repeat_of p.now)) }
+    ensures { result ≡ Legal.own_end rules.now (repeat_of p.now) }
+{
+    match early_end_with(rules, tables, p, sets) {
+        Outcome::Ongoing => late_end(rules, tables, p, sets, any),
+        end => end,
+    }
+}
+
+/// The same as `own_end`, by the sets of the board, which the caller has.
+#[tactic(auto, unfolding(rules_model::specs::Legal::own_end))]
+pub fn own_end_with(rules: &Rules, tables: &Tables, p: &Position, sets: &BoardSets) -> Outcome
+    requires ready { IsReady rules.now tables.now p.now }
+    requires sets { AreSets rules.now p.now.side p.now.cells sets.now }
+    ensures { result ≡ Legal.own_end rules.now (repeat_of p.now) }
+{
+    match early_end_with(rules, tables, p, sets) {
+        Outcome::Ongoing => {
+            let any = can_go(rules, tables, p, sets, false);
+            late_end(rules, tables, p, sets, any)
+        }
+        end => end,
+    }
 }
 
 /// The end that the position has by itself: an early end, or that no move is legal; `Outcome::Ongoing` where there is
 /// none. No memory is taken.
-#[tactic(auto, unfolding(rules_model::specs::Legal::own_end))]
 pub fn own_end(rules: &Rules, tables: &Tables, p: &Position) -> Outcome
     requires ready { IsReady rules.now tables.now p.now }
     ensures { result ≡ Legal.own_end rules.now (repeat_of p.now) }
 {
-    match early_end(rules, p) {
-        Outcome::Ongoing => {
-            if any_legal(rules, tables, p) {
-                Outcome::Ongoing
-            } else {
-                no_move(rules, p.side, tables.king_attacked(p, p.side))
-            }
-        }
-        end => end,
-    }
+    let sets = sets_of(rules, &p.cells, p.side);
+    own_end_with(rules, tables, p, &sets)
 }
 
 /// Whether the move is a candidate, and sane.
@@ -117,6 +168,22 @@ fn is_lawful(rules: &Rules, tables: &Tables, p: &Position, sets: &BoardSets, m: 
         && is_wanted(rules, tables, p, sets, m)
 }
 
+/// The same as `is_legal`, by the sets of the board, which the caller has.
+pub fn is_legal_with(
+    rules: &Rules,
+    tables: &Tables,
+    p: &Position,
+    sets: &BoardSets,
+    m: &Move,
+) -> bool
+    requires ready { IsReady rules.now tables.now p.now }
+    requires sets { AreSets rules.now p.now.side p.now.cells sets.now }
+    ensures is { result ≡ Allowed.is_legal rules.now (repeat_of p.now) m.now }
+    ensures member { IsTrue result ↔ Member m.now (Legal.legal rules.now (repeat_of p.now)) }
+{
+    is_lawful(rules, tables, p, sets, m)
+}
+
 /// Whether the move is legal: whether `legal_moves` lists it. Every value of `Move` may be asked for. No memory is
 /// taken, and no other move is looked at but where one must capture and this move does not.
 pub fn is_legal(rules: &Rules, tables: &Tables, p: &Position, m: &Move) -> bool
@@ -125,7 +192,7 @@ pub fn is_legal(rules: &Rules, tables: &Tables, p: &Position, m: &Move) -> bool
     ensures member { IsTrue result ↔ Member m.now (Legal.legal rules.now (repeat_of p.now)) }
 {
     let sets = sets_of(rules, &p.cells, p.side);
-    is_lawful(rules, tables, p, &sets, m)
+    is_legal_with(rules, tables, p, &sets, m)
 }
 
 /// Own pieces other than kings that may go anywhere: none leaves the own king attacked by a move on which it stays
@@ -141,6 +208,22 @@ pub fn free(rules: &Rules, tables: &Tables, p: &Position) -> Set
     free_squares(rules, tables, p, &sets).to_leave
 }
 
+/// The same as `gives_check`, by the sets of the board, which the caller has.
+pub fn gives_check_with(
+    rules: &Rules,
+    tables: &Tables,
+    p: &Position,
+    sets: &BoardSets,
+    m: &Move,
+) -> bool
+    requires ready { IsReady rules.now tables.now p.now }
+    requires sets { AreSets rules.now p.now.side p.now.cells sets.now }
+    requires legal { Member m.now (Legal.legal rules.now (repeat_of p.now)) }
+    ensures { result ≡ Legal.gives_check rules.now (repeat_of p.now) m.now }
+{
+    Safety::of_few(rules, tables, p, sets).checks_after(m)
+}
+
 /// Whether the legal move attacks the other side's king.
 pub fn gives_check(rules: &Rules, tables: &Tables, p: &Position, m: &Move) -> bool
     requires ready { IsReady rules.now tables.now p.now }
@@ -148,5 +231,5 @@ pub fn gives_check(rules: &Rules, tables: &Tables, p: &Position, m: &Move) -> bo
     ensures { result ≡ Legal.gives_check rules.now (repeat_of p.now) m.now }
 {
     let sets = sets_of(rules, &p.cells, p.side);
-    Safety::of_few(rules, tables, p, &sets).checks_after(m)
+    gives_check_with(rules, tables, p, &sets, m)
 }

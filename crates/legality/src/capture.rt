@@ -36,7 +36,7 @@ fn takes(rules: &Rules, p: &Position, from: Square, to: Square) -> bool
 }
 
 /// Whether the move captures. En passant is a capture.
-pub(crate) fn captures(rules: &Rules, p: &Position, m: &Move) -> bool
+pub fn captures(rules: &Rules, p: &Position, m: &Move) -> bool
     requires rules { IsFit rules.now }
     requires fit { IsFitMove m.now }
     ensures { result ≡ Next.captures rules.now (repeat_of p.now) m.now }

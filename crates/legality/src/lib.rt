@@ -19,6 +19,11 @@ mod seek;
 mod tests;
 mod unpinned;
 
-pub use ask::{any_legal, count_legal, count_legal_with, free, gives_check, is_legal, own_end};
-pub use list::{legal_moves, push_legal, push_legal_with};
-pub use play::{apply, apply_with};
+pub use ask::{
+    any_legal, any_legal_with, count_legal, count_legal_with, end_where, free, gives_check,
+    gives_check_with, is_legal, is_legal_with, own_end, own_end_with,
+};
+pub use capture::captures;
+pub use list::{legal_moves, legal_moves_with, push_legal, push_legal_with};
+pub use play::{apply, apply_with, king_attacked_with};
+pub use search::early_end_with;

@@ -35,7 +35,7 @@ pub fn push_legal_with(
         return Ok(());
     }
     let safety = Safety::of_all(rules, tables, p, sets);
-    let captures = only_captures(rules, tables, p, sets);
+    let captures = only_captures(rules, tables, p, sets, &safety);
     let choice = Choice { safety, captures };
     let start = length_of(out);
     match push_candidates(rules, tables, p, sets, out) {
@@ -65,6 +65,26 @@ pub fn push_legal(
     push_legal_with(rules, tables, p, &sets, out)
 }
 
+/// The same as `legal_moves`, by the sets of the board, which the caller has.
+pub fn legal_moves_with(
+    alloc: Global,
+    rules: &Rules,
+    tables: &Tables,
+    p: &Position,
+    sets: &BoardSets,
+) -> Result<MoveList, Memory>
+    requires ready { IsReady rules.now tables.now p.now }
+    requires sets { AreSets rules.now p.now.side p.now.cells sets.now }
+    ensures { IfOk result (λ ms. ms ≡ legal rules.now (repeat_of p.now)) }
+{
+    let mut moves = MoveList {
+        items: Vec::new(alloc),
+    };
+    push_legal_with(rules, tables, p, sets, &mut moves)?;
+    sort_moves(&mut moves.items)?;
+    Ok(moves)
+}
+
 /// The legal moves, each once and in the byte order of their texts: those of the rules of movement after which the
 /// mover's king is not attacked, that give no check which the variant forbids, and where one must capture and can, the
 /// captures alone. Where the position has ended there are none (FIDE Laws of Chess, articles 3.9 and 3.10;
@@ -78,10 +98,6 @@ pub fn legal_moves(
     requires ready { IsReady rules.now tables.now p.now }
     ensures { IfOk result (λ ms. ms ≡ legal rules.now (repeat_of p.now)) }
 {
-    let mut moves = MoveList {
-        items: Vec::new(alloc),
-    };
-    push_legal(rules, tables, p, &mut moves)?;
-    sort_moves(&mut moves.items)?;
-    Ok(moves)
+    let sets = sets_of(rules, &p.cells, p.side);
+    legal_moves_with(alloc, rules, tables, p, &sets)
 }

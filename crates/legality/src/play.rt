@@ -39,13 +39,22 @@ fn is_checked(tables: &Tables, p: &Position, sets: &BoardSets) -> bool
     tables.king_attacked_by(&p.cells, sets.kings, sets.enemies, occupied, p.side)
 }
 
+/// Whether the king of the side to move is attacked, by the sets of the board, which the caller has.
+pub fn king_attacked_with(rules: &Rules, tables: &Tables, p: &Position, sets: &BoardSets) -> bool
+    requires tables { tables.now ≡ rules.now }
+    requires sets { AreSets rules.now p.now.side p.now.cells sets.now }
+    ensures { result ≡ Attacks.king_attacked rules.now p.now.cells p.now.side }
+{
+    is_checked(tables, p, sets)
+}
+
 /// Whether the king of the side to move is attacked, and such a check counts.
 fn is_check_counted(rules: &Rules, tables: &Tables, p: &Position, sets: &BoardSets) -> bool
     requires tables { tables.now ≡ rules.now }
     requires sets { AreSets rules.now p.now.side p.now.cells sets.now }
     ensures { result ≡ (rules.now.check_counting && Attacks.king_attacked rules.now p.now.cells p.now.side) }
 {
-    rules.check_counting && is_checked(tables, p, sets)
+    rules.check_counting && king_attacked_with(rules, tables, p, sets)
 }
 
 /// The same as `apply`, by the sets of the board. Answered are the sets of the position after the move, for the side

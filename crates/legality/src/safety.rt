@@ -25,7 +25,7 @@ use rules_model::{Cells, Kind, Move, Position, Rules, Square};
 use square_set::{Set, Shift};
 
 /// A position, with what is known of it for all its moves.
-#[derive(Drop)]
+#[derive(Clone, Copy)]
 pub(crate) struct Safety<'a> {
     pub tables: &'a Tables,
     pub p: &'a Position,

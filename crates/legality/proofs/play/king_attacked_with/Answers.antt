@@ -1,7 +1,7 @@
 use Rattle.std.proofs.Common.{sym, subst}
 use Rattle.rules_model.specs.declared.rules.Rules.{Rules}
 use Rattle.board_sets.specs.Sets.{AreSets}
-use Rattle.legality.proofs.play.is_check_counted.Goals as goal
+use Rattle.legality.proofs.play.king_attacked_with.Goals as goal
 
 pub is_checked-requires : goal.is_checked-requires
 is_checked-requires c =

@@ -1,6 +1,6 @@
 use Rattle.std.proofs.Common.{sym, ◌∙◌}
 use Rattle.legality.proofs.ListLaws.{ended_stuck, goes_not_stuck}
-use Rattle.legality.proofs.ask.any_legal.Goals as goal
+use Rattle.legality.proofs.ask.any_legal_with.Goals as goal
 
 pub returns-then-not-goes_on : goal.returns-then-not-goes_on
 returns-then-not-goes_on c = ended_stuck _ _ (sym c.if-not-goes_on.ensures)
