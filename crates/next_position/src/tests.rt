@@ -84,15 +84,18 @@ fn leads_to<R: Abort>(rt: &R, rules: &Rules, p: &Position, m: &Move, next: &Posi
     sound_positions_take_moves();
     let mut cells = p.cells;
     move_pieces(rules, p, m, &mut cells);
-    assert!(rt; cells == next.cells);
+    assert!(rt; cells == next.cells, "{m:?}");
     let mut made = *p;
     make_move(rules, &mut made, m);
-    assert_eq!(rt; made.hands, next.hands);
-    assert_eq!(rt; made.rights, next.rights);
-    assert_eq!(rt; made.gates, next.gates);
-    assert_eq!(rt; made.checks, next.checks);
-    assert_eq!(rt; (made.counter, made.number), (next.counter, next.number));
-    assert!(rt; made == *next);
+    assert!(rt; made == *next, "{m:?}");
+}
+
+/// The checks that White has left after it gave one, or not.
+fn checks_after(p: &Position, left: u8, gives: bool) -> u8 {
+    let mut p = *p;
+    p.checks[0] = left;
+    count_check(&mut p, Side::White, gives);
+    p.checks[0]
 }
 
 #[test]
@@ -103,13 +106,12 @@ fn checks_are_counted_last(rt: HostRuntime) {
     sound_positions_take_moves();
     make_but_checks(&rules, &mut p, &quiet("a1", "a8"));
     assert_eq!(rt; (p.side, p.checks), (Side::Black, [3, 3]));
-    count_check(&mut p, Side::White, false);
-    assert_eq!(rt; p.checks, [3, 3]);
-    count_check(&mut p, Side::White, true);
-    assert_eq!(rt; p.checks, [2, 3]);
-    p.checks = [0, 3];
-    count_check(&mut p, Side::White, true);
-    assert_eq!(rt; p.checks, [0, 3]);
+    let left = [
+        checks_after(&p, 3, false),
+        checks_after(&p, 3, true),
+        checks_after(&p, 0, true),
+    ];
+    assert_eq!(rt; left, [3, 2, 0]);
 }
 
 // The gates of the king are those of the file e, and of the rooks those of the files a and h, or b and g.
@@ -123,140 +125,173 @@ const G: u16 = 64;
 
 const H: u16 = 128;
 
-#[test]
-fn from_the_start(rt: HostRuntime) {
-    let rules = generals();
-    let start = rules.start;
-    let risen = Position {
+/// The start of generals after a move of White that counts, with these pieces.
+fn risen(pieces: &str) -> Position {
+    let p = Position {
         side: Side::Black,
         counter: 1,
-        ..start
+        ..generals().start
     };
-    let reset = Position {
+    set(p, pieces)
+}
+
+/// The same after a move by which the count begins anew.
+fn reset(pieces: &str) -> Position {
+    Position {
         counter: 0,
-        ..risen
-    };
-    let placed = Position {
-        hands: [[0; 26]; 2],
-        ..risen
-    };
-    let black = [[false, false], [true, true]];
-    let mut next = set(risen, "Ra1 Ke1 Rh1 Pe2 Sb4 pd4 ra8 ke8 rh8");
-    leads_to(&rt, &rules, &start, &quiet("b3", "b4"), &next);
-    next = set(risen, "Ra1 Ke1 Rh1 Pe2 Gb4 pd4 ra8 ke8 rh8");
+        ..risen(pieces)
+    }
+}
+
+/// Asserts what the position after a move from the start is.
+fn starts<R: Abort>(rt: &R, m: &Move, next: &Position)
+    requires { IsFitMove m.now }
+{
+    let rules = generals();
+    leads_to(rt, &rules, &rules.start, m, next);
+}
+
+#[test]
+fn steps_from_the_start(rt: HostRuntime) {
+    let next = risen("Ra1 Ke1 Rh1 Pe2 Sb4 pd4 ra8 ke8 rh8");
+    starts(&rt, &quiet("b3", "b4"), &next);
+    let mut next = risen("Ra1 Ke1 Rh1 Pe2 Gb4 pd4 ra8 ke8 rh8");
     promote(&mut next, "b4", b's');
-    let plus = go("b3", "b4", Promo::Plus, None);
-    leads_to(&rt, &rules, &start, &plus, &next);
-    next = set(reset, "Ra1 Ke1 Rh1 Pe3 Sb3 pd4 ra8 ke8 rh8");
-    leads_to(&rt, &rules, &start, &quiet("e2", "e3"), &next);
-    next = set(reset, "Ra1 Ke1 Rh1 Pe4 Sb3 pd4 ra8 ke8 rh8");
+    starts(&rt, &go("b3", "b4", Promo::Plus, None), &next);
+    let next = reset("Ra1 Ke1 Rh1 Pe3 Sb3 pd4 ra8 ke8 rh8");
+    starts(&rt, &quiet("e2", "e3"), &next);
+    let mut next = reset("Ra1 Ke1 Rh1 Pe4 Sb3 pd4 ra8 ke8 rh8");
     next.ep = Some(square("e3"));
-    leads_to(&rt, &rules, &start, &quiet("e2", "e4"), &next);
-    // a rook is taken, with check
-    next = Position {
+    starts(&rt, &quiet("e2", "e4"), &next);
+}
+
+// A rook takes a rook, with check; and the king goes.
+#[test]
+fn rights_and_gates_are_lost(rt: HostRuntime) {
+    let next = Position {
         hands: [hand_of(b"rs"), hand_of(b"")],
         rights: [[true, false], [true, false]],
         gates: [E | H, E | H],
         checks: [2, 3],
-        ..set(reset, "Ra8 Ke1 Rh1 Pe2 Sb3 pd4 ke8 rh8")
+        ..reset("Ra8 Ke1 Rh1 Pe2 Sb3 pd4 ke8 rh8")
     };
-    leads_to(&rt, &rules, &start, &quiet("a1", "a8"), &next);
-    next = Position {
-        rights: black,
+    starts(&rt, &quiet("a1", "a8"), &next);
+    let next = Position {
+        rights: [[false, false], [true, true]],
         gates: [A | H, A | E | H],
-        ..set(risen, "Ra1 Kd1 Rh1 Pe2 Sb3 pd4 ra8 ke8 rh8")
+        ..risen("Ra1 Kd1 Rh1 Pe2 Sb3 pd4 ra8 ke8 rh8")
     };
-    leads_to(&rt, &rules, &start, &quiet("e1", "d1"), &next);
-    // a silver comes in by a gate of a move, of both castles, and by a drop
-    next = Position {
-        rights: [[false, true], [true, true]],
-        gates: [A | E, A | E | H],
-        ..set(placed, "Ra1 Ke1 Rh2 Sh1 Pe2 Sb3 pd4 ra8 ke8 rh8")
-    };
-    let gated = go("h1", "h2", Promo::Stays, Some(kind(b's')));
-    leads_to(&rt, &rules, &start, &gated, &next);
-    next = Position {
-        rights: black,
-        gates: [A, A | E | H],
-        ..set(placed, "Ra1 Se1 Rf1 Kg1 Pe2 Sb3 pd4 ra8 ke8 rh8")
-    };
-    leads_to(&rt, &rules, &start, &castle("g1", "h1", "e1"), &next);
-    next = Position {
-        rights: black,
-        gates: [H, A | E | H],
-        ..set(placed, "Sa1 Kc1 Rd1 Rh1 Pe2 Sb3 pd4 ra8 ke8 rh8")
-    };
-    leads_to(&rt, &rules, &start, &castle("c1", "a1", "a1"), &next);
-    next = set(placed, "Ra1 Ke1 Rh1 Pe2 Sb3 Sc3 pd4 ra8 ke8 rh8");
-    leads_to(&rt, &rules, &start, &drop(kind(b's'), "c3"), &next);
+    starts(&rt, &quiet("e1", "d1"), &next);
 }
 
+/// What White's rights and gates are after its silver came in, and its pieces.
+fn placed(rights: [bool; 2], gates: u16, pieces: &str) -> Position {
+    Position {
+        hands: [[0; 26]; 2],
+        rights: [rights, [true, true]],
+        gates: [gates, A | E | H],
+        ..risen(pieces)
+    }
+}
+
+// A silver comes in by a gate of a move, of both castles, and by a drop.
 #[test]
-fn from_elsewhere(rt: HostRuntime) {
+fn a_silver_comes_in(rt: HostRuntime) {
+    let gated = go("h1", "h2", Promo::Stays, Some(kind(b's')));
+    let pieces = "Ra1 Ke1 Rh2 Sh1 Pe2 Sb3 pd4 ra8 ke8 rh8";
+    starts(&rt, &gated, &placed([false, true], A | E, pieces));
+    let pieces = "Ra1 Se1 Rf1 Kg1 Pe2 Sb3 pd4 ra8 ke8 rh8";
+    let none = [false, false];
+    starts(&rt, &castle("g1", "h1", "e1"), &placed(none, A, pieces));
+    let pieces = "Sa1 Kc1 Rd1 Rh1 Pe2 Sb3 pd4 ra8 ke8 rh8";
+    starts(&rt, &castle("c1", "a1", "a1"), &placed(none, H, pieces));
+    let pieces = "Ra1 Ke1 Rh1 Pe2 Sb3 Sc3 pd4 ra8 ke8 rh8";
+    let next = placed([true, true], A | E | H, pieces);
+    starts(&rt, &drop(kind(b's'), "c3"), &next);
+}
+
+/// The start of generals with other pieces.
+fn before(pieces: &str) -> Position {
+    set(generals().start, pieces)
+}
+
+// No pawn is there to take en passant; and one is.
+#[test]
+fn pawns_pass(rt: HostRuntime) {
     let rules = generals();
-    let start = rules.start;
-    let moved = Position {
-        side: Side::Black,
-        ..start
-    };
-    // no pawn is there to take en passant
-    let mut p = set(start, "Ra1 Ke1 Rh1 Pe2 Sb3 ra8 ke8 rh8");
-    let mut next = set(moved, "Ra1 Ke1 Rh1 Pe4 Sb3 ra8 ke8 rh8");
+    let p = before("Ra1 Ke1 Rh1 Pe2 Sb3 ra8 ke8 rh8");
+    let next = reset("Ra1 Ke1 Rh1 Pe4 Sb3 ra8 ke8 rh8");
     leads_to(&rt, &rules, &p, &quiet("e2", "e4"), &next);
-    // en passant
-    p = set(moved, "Ra1 Ke1 Rh1 Pe4 Sb3 pd4 ra8 ke8 rh8");
+    let mut p = reset("Ra1 Ke1 Rh1 Pe4 Sb3 pd4 ra8 ke8 rh8");
     p.ep = Some(square("e3"));
-    next = Position {
+    let next = Position {
         hands: [hand_of(b"s"), hand_of(b"p")],
         number: 2,
-        ..set(start, "Ra1 Ke1 Rh1 Sb3 pe3 ra8 ke8 rh8")
+        ..before("Ra1 Ke1 Rh1 Sb3 pe3 ra8 ke8 rh8")
     };
     leads_to(&rt, &rules, &p, &quiet("d4", "e3"), &next);
-    // a rook that was a pawn goes to the hand as a pawn
-    p = start;
+}
+
+// A rook that was a pawn goes to the hand as a pawn.
+#[test]
+fn a_promoted_piece_is_taken(rt: HostRuntime) {
+    let rules = generals();
+    let mut p = rules.start;
     promote(&mut p, "a8", b'p');
-    next = Position {
+    let next = Position {
         hands: [hand_of(b"ps"), hand_of(b"")],
         rights: [[true, false], [true, false]],
         gates: [E | H, E | H],
         checks: [2, 3],
-        ..set(moved, "Ra8 Ke1 Rh1 Pe2 Sb3 pd4 ke8 rh8")
+        ..reset("Ra8 Ke1 Rh1 Pe2 Sb3 pd4 ke8 rh8")
     };
     leads_to(&rt, &rules, &p, &quiet("a1", "a8"), &next);
-    // a pawn becomes a rook
-    p = set(start, "Ra1 Ke1 Rh1 Pe2 Pb7 Sb3 pd4 ra8 ke8 rh8");
-    next = set(moved, "Ra1 Ke1 Rh1 Pe2 Rb8 Sb3 pd4 ra8 ke8 rh8");
+}
+
+// A pawn becomes a rook, and a pawn goes on: each gives check.
+#[test]
+fn pawns_give_check(rt: HostRuntime) {
+    let rules = generals();
+    let p = before("Ra1 Ke1 Rh1 Pe2 Pb7 Sb3 pd4 ra8 ke8 rh8");
+    let mut next = reset("Ra1 Ke1 Rh1 Pe2 Rb8 Sb3 pd4 ra8 ke8 rh8");
     promote(&mut next, "b8", b'p');
     next.checks = [2, 3];
     let rook = Promo::Pawn(kind(b'r'));
     leads_to(&rt, &rules, &p, &go("b7", "b8", rook, None), &next);
-    // a pawn gives check
-    p = set(start, "Ra1 Ke1 Rh1 Pe2 Pd6 Sb3 pd4 ra8 ke8 rh8");
-    next = set(moved, "Ra1 Ke1 Rh1 Pe2 Pd7 Sb3 pd4 ra8 ke8 rh8");
+    let p = before("Ra1 Ke1 Rh1 Pe2 Pd6 Sb3 pd4 ra8 ke8 rh8");
+    let mut next = reset("Ra1 Ke1 Rh1 Pe2 Pd7 Sb3 pd4 ra8 ke8 rh8");
     next.checks = [2, 3];
     leads_to(&rt, &rules, &p, &quiet("d6", "d7"), &next);
-    // both counts stay at 9,999
-    p = Position {
+}
+
+#[test]
+fn both_counts_stay_at_the_greatest(rt: HostRuntime) {
+    let rules = generals();
+    let p = Position {
+        side: Side::Black,
         counter: 9999,
         number: 9999,
-        ..moved
+        ..rules.start
     };
-    next = Position {
+    let next = Position {
         side: Side::White,
         rights: [[true, true], [false, false]],
         gates: [A | E | H, A | H],
         ..set(p, "Ra1 Ke1 Rh1 Pe2 Sb3 pd4 ra8 kd8 rh8")
     };
     leads_to(&rt, &rules, &p, &quiet("e8", "d8"), &next);
-    // where nothing goes to hands
-    p = set(start, "Ra1 Ke1 Rh1 Pe2 Pb7 Sb3 pd4 ra8 ke8 rh8");
-    next = Position {
+}
+
+#[test]
+fn nothing_goes_to_hands(rt: HostRuntime) {
+    let p = before("Ra1 Ke1 Rh1 Pe2 Pb7 Sb3 pd4 ra8 ke8 rh8");
+    let next = Position {
         rights: [[true, true], [true, false]],
         gates: [A | E | H, E | H],
         checks: [2, 3],
-        ..set(moved, "Ra1 Ke1 Rh1 Pe2 Ra8 Sb3 pd4 ke8 rh8")
+        ..reset("Ra1 Ke1 Rh1 Pe2 Ra8 Sb3 pd4 ke8 rh8")
     };
-    let taking = go("b7", "a8", rook, None);
+    let taking = go("b7", "a8", Promo::Pawn(kind(b'r')), None);
     leads_to(&rt, &without_prisoners(), &p, &taking, &next);
 }
 
