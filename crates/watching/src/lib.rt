@@ -1,0 +1,21 @@
+//! What a worker does while it searches: it asks at each node whether it may go on.
+//!
+//! A search knows the world outside by `Watch` alone. The worker in the caller has a `Caller`, which polls for lines, answers them, reads the
+//! clock and heeds limits; the workers beside it have a `Helper`, which knows a flag and a quota. What ends a worker is a `Halt`.
+#![tactic(auto)]
+
+mod caller;
+mod flag;
+mod halt;
+mod helper;
+mod listen;
+mod watch;
+
+pub use caller::Caller;
+pub use flag::StopFlag;
+pub use halt::{Cut, Halt};
+pub use helper::Helper;
+pub use watch::Watch;
+
+#[cfg(test)]
+mod tests;
