@@ -19,7 +19,8 @@ use Rattle.watching.specs.Watched.{World, Moment, moment, Gone, Ended, Later, Sa
 rose_more : (a b c : ℕ) → a ≤ b → Rose b c → Rose a c
 rose_more a b c le r = omega arith
 
-caused_more : (s s' s'' k k' k'' : ℕ) (why : SearchFault) → s ≤ s' → k ≤ k' → IsCaused s' s'' k' k'' why → IsCaused s s'' k k'' why
+caused_more : (s s' s'' k k' k'' : ℕ) (why : SearchFault) → s ≤ s' → k ≤ k' → IsCaused s' s'' k' k'' why
+    → IsCaused s s'' k k'' why
 caused_more s s' s'' k k' k'' fault.ReadFault p q h = rose_more s s' s'' p h
 caused_more s s' s'' k k' k'' fault.WriteFault p q h = rose_more k k' k'' q h
 caused_more s s' s'' k k' k'' fault.Memory p q h = tt
@@ -41,10 +42,12 @@ module _ {S K C : Type 0} (w : World S K C) where
     }
 
     module _ (a b : Moment S K C) (text : List ℕ) where
-      pub gone_wider : (m n : ℕ) (why : Option Cut) → Gone w dialect limits a b text m why → m ≤ n → Gone w dialect limits a b text n why
+      pub gone_wider : (m n : ℕ) (why : Option Cut) → Gone w dialect limits a b text m why → m ≤ n
+          → Gone w dialect limits a b text n why
       gone_wider m n why p le = record { looked = looked_wider dialect p.looked le; later = p.later; end = p.end }
 
-      pub ended_wider : (m n : ℕ) (why : Halt) → Ended w dialect limits a b text m why → m ≤ n → Ended w dialect limits a b text n why
+      pub ended_wider : (m n : ℕ) (why : Halt) → Ended w dialect limits a b text m why → m ≤ n
+          → Ended w dialect limits a b text n why
       ended_wider m n (halt.Cut why) p le = gone_wider m n (Some why) p le
       ended_wider m n (halt.Fault why) p le =
           let e = p.entered in
@@ -56,7 +59,8 @@ module _ {S K C : Type 0} (w : World S K C) where
             caused = p.caused;
           }
 
-      pub ended_memory : (m : ℕ) → Gone w dialect limits a b text m None → Ended w dialect limits a b text m (halt.Fault fault.Memory)
+      pub ended_memory : (m : ℕ) → Gone w dialect limits a b text m None
+          → Ended w dialect limits a b text m (halt.Fault fault.Memory)
       ended_memory m p = record {
         broke = ran_off dialect (λ events h. h.0) p.looked.ran;
         spends = p.looked.spends;
@@ -66,14 +70,16 @@ module _ {S K C : Type 0} (w : World S K C) where
       }
 
       module _ (c : Moment S K C) (text' : List ℕ) (m n : ℕ) (p : Gone w dialect limits a b text m None) where
-        pub gone_more : (why : Option Cut) → Gone w dialect limits b c text' n why → Gone w dialect limits a c text' (m + n) why
+        pub gone_more : (why : Option Cut) → Gone w dialect limits b c text' n why
+            → Gone w dialect limits a c text' (m + n) why
         gone_more why q = record {
           looked = looked_more dialect m n p.looked q.looked;
           later = later_more a b c p.later q.later;
           end = q.end;
         }
 
-        pub ended_more : (why : Halt) → Ended w dialect limits b c text' n why → Ended w dialect limits a c text' (m + n) why
+        pub ended_more : (why : Halt) → Ended w dialect limits b c text' n why
+            → Ended w dialect limits a c text' (m + n) why
         ended_more (halt.Cut why) q = gone_more (Some why) q
         ended_more (halt.Fault why) q =
             let le = p.looked.entered in let le' = q.entered in
@@ -148,7 +154,8 @@ module _ {S K C : Type 0} where
       gone = gone_wider w a.dialect a.limits (now_of a) (now_of b) b.line.now m n None p.gone le;
     }
 
-    pub stops_more : (a b c : Caller S K C) (m n : ℕ) (why : Halt) → Goes a b m → Stops b c n why → Stops a c (m + n) why
+    pub stops_more : (a b c : Caller S K C) (m n : ℕ) (why : Halt) → Goes a b m → Stops b c n why
+        → Stops a c (m + n) why
     stops_more a b c m n why p q =
         let next = rw (p.lent.dialect_is, p.lent.limits_is) at q.ended in
         record {

@@ -59,7 +59,8 @@ abbrev pub Replies : List Line → (List ℕ → Type 0) → Moved
 Replies lines appends heard output taken = (heard ≡ lines) × appends output × (taken ≡ [])
 
 -- a line that was heard, or none, was answered at once, or it ends the search
-pub record Heeds (dialect : Dialect) (appends : List ℕ → Type 0) (answer : Polled) (text : List ℕ) (why : Option Cut) : Type 0 where
+pub record Heeds (dialect : Dialect) (appends : List ℕ → Type 0) (answer : Polled) (text : List ℕ)
+    (why : Option Cut) : Type 0 where
   pub ran : Ran dialect (Replies (polled_lines answer text) appends) (held why text) (Listens dialect)
   pub why_is : IsHeardAs dialect answer text why
 
@@ -72,18 +73,24 @@ abbrev pub IsReached : Option ℕ → ℕ → Type 0
 IsReached None number = ⊥
 IsReached (Some given) number = given ≤ number
 
--- Why a worker was cut: a line or the end, where fewer polls are owed than the bound; the quota, which it has entered and which is below the
--- nodes that it may reach; the clock, by its last reading.
+-- Why a worker was cut: a line or the end, where fewer polls are owed than the bound; the quota, which it has entered
+-- and which is below the nodes that it may reach; the clock, by its last reading.
 abbrev pub MayCut : Dialect → Owed → ℕ → Limits → ℕ → ℕ → List ℕ → List ℕ → Option Cut → Type 0
 MayCut dialect owed bound limits reach nodes taken text None = Unit {0}
-MayCut dialect owed bound limits reach nodes taken text (Some cut.Line) = Lacks owed bound × (stops dialect (Text text) ≡ true)
+MayCut dialect owed bound limits reach nodes taken text (Some cut.Line) =
+    Lacks owed bound × (stops dialect (Text text) ≡ true)
 MayCut dialect owed bound limits reach nodes taken text (Some cut.End) = Lacks owed bound
-MayCut dialect owed bound limits reach nodes taken text (Some (cut.Quota quota)) = (limits.quota ≡ Some quota) × (quota < reach) × (quota ≤ nodes)
-MayCut dialect owed bound limits reach nodes taken text (Some (cut.Deadline reading)) = IsReached limits.deadline reading × EndsIn taken reading
+MayCut dialect owed bound limits reach nodes taken text (Some (cut.Quota quota)) =
+    (limits.quota ≡ Some quota) × (quota < reach) × (quota ≤ nodes)
+MayCut dialect owed bound limits reach nodes taken text (Some (cut.Deadline reading)) =
+    IsReached limits.deadline reading × EndsIn taken reading
 
 -- a search, or a part of it, that began after so many nodes
-pub record Looked (dialect : Dialect) (moved : Moved) (owed owed' : Owed) (limits : Limits) (nodes nodes' bound : ℕ) (text : List ℕ) (why : Option Cut) : Type 0 where
-  pub ran : Ran dialect moved (held why text) (λ events. Listens dialect events × MayCut dialect owed bound limits (nodes + bound) nodes' (readings events) text why)
+pub record Looked (dialect : Dialect) (moved : Moved) (owed owed' : Owed) (limits : Limits) (nodes nodes' bound : ℕ)
+    (text : List ℕ) (why : Option Cut) : Type 0 where
+  pub ran : Ran dialect moved (held why text)
+      (λ events. Listens dialect events
+      × MayCut dialect owed bound limits (nodes + bound) nodes' (readings events) text why)
   pub spends : Spends owed owed' bound
   pub entered : nodes' ≤ nodes + bound
 
@@ -97,4 +104,5 @@ IsCaused source source' sink sink' fault.Memory = Unit {0}
 abbrev pub HeedsEnd : Dialect → (List ℕ → Type 0) → Polled → List ℕ → ℕ → ℕ → Halt → Type 0
 HeedsEnd dialect appends answer text sink sink' (halt.Cut why) = Heeds dialect appends answer text (Some why)
 HeedsEnd dialect appends answer text sink sink' (halt.Fault why) =
-    Broke dialect (Replies (polled_lines answer text) appends) (Listens dialect) × ((why ≡ fault.ReadFault → answer ≡ polled.Failed) × (why ≡ fault.WriteFault → Rose sink sink'))
+    Broke dialect (Replies (polled_lines answer text) appends) (Listens dialect)
+    × ((why ≡ fault.ReadFault → answer ≡ polled.Failed) × (why ≡ fault.WriteFault → Rose sink sink'))

@@ -18,7 +18,8 @@ use Rattle.watching.specs.LookLaws.{looked_poll, looked_read, looked_more, cause
 use Rattle.io_ports.proofs.Owing.{spends_poll}
 use Rattle.watching.specs.Watched.{World, moment, Gone, Ended}
 
-heard_end : (dialect : Dialect) (answer : Polled) (text : List ℕ) (why : Cut) → IsHeardAs dialect answer text (Some why) → Some why ≡ Some cut.End → answer ≡ polled.End
+heard_end : (dialect : Dialect) (answer : Polled) (text : List ℕ) (why : Cut)
+    → IsHeardAs dialect answer text (Some why) → Some why ≡ Some cut.End → answer ≡ polled.End
 heard_end dialect answer text cut.Line h e = absurd (cc)
 heard_end dialect answer text cut.End h e = h
 heard_end dialect answer text (cut.Quota q) h e = absurd h
@@ -50,7 +51,8 @@ module _ {S K C : Type 0} (w : World S K C) (dialect : Dialect) (limits : Limits
       → Takes (w.left s) (w.left s') (polled_lines answer text) → Owes (w.owed s) (w.owed s') answer
       → w.source_faults s ≤ w.source_faults s' → Heeds dialect (Appends (w.taken k) (w.taken k')) answer text None
       → w.sink_faults k ≤ w.sink_faults k' → nodes' ≤ nodes + 1
-      → GivesReadings (w.count c') (w.given c) (w.given c') (reading ∷ []) → w.count c' ≡ count_after (w.count c) (reading ∷ [])
+      → GivesReadings (w.count c') (w.given c) (w.given c') (reading ∷ [])
+      → w.count c' ≡ count_after (w.count c) (reading ∷ [])
       → w.last c' ≡ reading → held why text ≡ [] → (why ≡ Some cut.End → ⊥)
       → MayCut dialect (w.owed s') 0 limits (nodes' + 0) nodes' (reading ∷ []) text why
       → Gone w dialect limits (moment s k c nodes) (moment s' k' c' nodes') text 1 why

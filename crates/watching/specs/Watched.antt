@@ -62,19 +62,22 @@ module _ {S K C : Type 0} where
     pub sink_later : w.sink_faults a.sink ≤ w.sink_faults b.sink
 
   -- it entered at most so many nodes, and this cut it
-  pub record Gone (w : World S K C) (dialect : Dialect) (limits : Limits) (a b : Moment S K C) (text : List ℕ) (bound : ℕ)
-      (why : Option Cut) : Type 0 where
-    pub looked : Looked dialect (MovesOn w a b) (w.owed a.source) (w.owed b.source) limits a.nodes b.nodes bound text why
+  pub record Gone (w : World S K C) (dialect : Dialect) (limits : Limits) (a b : Moment S K C) (text : List ℕ)
+      (bound : ℕ) (why : Option Cut) : Type 0 where
+    pub looked :
+        Looked dialect (MovesOn w a b) (w.owed a.source) (w.owed b.source) limits a.nodes b.nodes bound text why
     pub later : Later w a b
     pub end : why ≡ Some cut.End → IsAtEnd (w.left b.source)
 
   -- it entered at most so many nodes, and a fault ended it
-  pub record Failed (w : World S K C) (dialect : Dialect) (a b : Moment S K C) (bound : ℕ) (why : SearchFault) : Type 0 where
+  pub record Failed (w : World S K C) (dialect : Dialect) (a b : Moment S K C) (bound : ℕ)
+      (why : SearchFault) : Type 0 where
     pub broke : Broke dialect (MovesOn w a b) (Listens dialect)
     pub spends : Spends (w.owed a.source) (w.owed b.source) bound
     pub entered : b.nodes ≤ a.nodes + bound
     pub later : Later w a b
-    pub caused : IsCaused (w.source_faults a.source) (w.source_faults b.source) (w.sink_faults a.sink) (w.sink_faults b.sink) why
+    pub caused : IsCaused (w.source_faults a.source) (w.source_faults b.source)
+        (w.sink_faults a.sink) (w.sink_faults b.sink) why
 
   -- what ended it
   abbrev pub Ended : World S K C → Dialect → Limits → Moment S K C → Moment S K C → List ℕ → ℕ → Halt → Type 0
@@ -82,13 +85,14 @@ module _ {S K C : Type 0} where
   Ended w dialect limits a b text bound (halt.Fault why) = Failed w dialect a b bound why
 
   -- what it left, whether it came to its end or not
-  pub record Watched {T : Type 0} (w : World S K C) (dialect : Dialect) (limits : Limits) (a b : Moment S K C) (text : List ℕ)
-      (bound : ℕ) (end : Result T Halt) : Type 0 where
+  pub record Watched {T : Type 0} (w : World S K C) (dialect : Dialect) (limits : Limits) (a b : Moment S K C)
+      (text : List ℕ) (bound : ℕ) (end : Result T Halt) : Type 0 where
     pub gone : OnOk end (Gone w dialect limits a b text bound None)
     pub ended : (why : Halt) → IsErrOf end why → Ended w dialect limits a b text bound why
 
 -- the same things are lent
-pub record Same {S K C L : Type 0} (source source' : MutBor S) (sink sink' : MutBor K) (clock clock' : MutBor C) (line line' : MutBor L) : Type 0 where
+pub record Same {S K C L : Type 0} (source source' : MutBor S) (sink sink' : MutBor K) (clock clock' : MutBor C)
+    (line line' : MutBor L) : Type 0 where
   pub source_is : source'.ghost_name ≡ source.ghost_name
   pub sink_is : sink'.ghost_name ≡ sink.ghost_name
   pub clock_is : clock'.ghost_name ≡ clock.ghost_name

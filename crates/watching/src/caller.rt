@@ -12,7 +12,8 @@ use io_ports::{Clock, Dialect, Limits, LineBuf, Sink, Source};
 /// How many nodes stand from one poll to the next.
 const POLL_EVERY: u64 = 1024;
 
-/// The watch of the worker that hears the outside: it polls the source, answers lines, reads the clock, and counts nodes.
+/// The watch of the worker that hears the outside: it polls the source, answers lines, reads the clock, and counts
+/// nodes.
 #[derive(Drop)]
 pub struct Caller<'s, 'k, 'c, 'l, S, K, C> {
     pub source: &'s mut S,

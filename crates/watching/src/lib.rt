@@ -1,7 +1,8 @@
 //! What a worker does while it searches: it asks at each node whether it may go on.
 //!
-//! A search knows the world outside by `Watch` alone. The worker in the caller has a `Caller`, which polls for lines, answers them, reads the
-//! clock and heeds limits; the workers beside it have a `Helper`, which knows a flag and a quota. What ends a worker is a `Halt`.
+//! A search knows the world outside by `Watch` alone. The worker in the caller has a `Caller`, which polls for lines,
+//! answers them, reads the clock and heeds limits; the workers beside it have a `Helper`, which knows a flag and a
+//! quota. What ends a worker is a `Halt`.
 #![tactic(auto)]
 
 mod caller;
