@@ -48,10 +48,12 @@ module _ (hands : List (List ℕ)) (side : Side) (kind : Kind) (n : ℕ) (are : 
       ap (λ hand. slice_index hand kind.0) own_hand
       ∙ get_or-set_same (hand_of hands side) kind.0 n 0 (omega (arith, l, hand_size hands side are))
 
-  pub held_beside : (k : ℕ) → k ≢ kind.0 → in_hand (with_hand hands side kind n) side (record { 0 = k }) ≡ in_hand hands side (record { 0 = k })
+  pub held_beside : (k : ℕ) → k ≢ kind.0
+      → in_hand (with_hand hands side kind n) side (record { 0 = k }) ≡ in_hand hands side (record { 0 = k })
   held_beside k apart = ap (λ hand. slice_index hand k) own_hand ∙ get_or-set_other (hand_of hands side) kind.0 k n 0 apart
 
-  hand-set : (rules : Rules) → kind.0 < 26 → hand_worth rules (with_hand hands side kind n) side + in_hand hands side kind * kind_worth rules kind ≡ hand_worth rules hands side + n * kind_worth rules kind
+  hand-set : (rules : Rules) → kind.0 < 26
+      → hand_worth rules (with_hand hands side kind n) side + in_hand hands side kind * kind_worth rules kind ≡ hand_worth rules hands side + n * kind_worth rules kind
   unfolding hand_worth
   hand-set rules l =
       let f : ℕ → ℕ = λ k. in_hand hands side (record { 0 = k }) * kind_worth rules (record { 0 = k }) in
@@ -63,7 +65,8 @@ apart_from : (side : Side) → side_index (other side) ≢ side_index side
 apart_from White = λ e. cc
 apart_from Black = λ e. cc
 
-other_hand : (rules : Rules) (hands : List (List ℕ)) (side : Side) (kind : Kind) (n : ℕ) → hand_worth rules (with_hand hands side kind n) (other side) ≡ hand_worth rules hands (other side)
+other_hand : (rules : Rules) (hands : List (List ℕ)) (side : Side) (kind : Kind) (n : ℕ)
+    → hand_worth rules (with_hand hands side kind n) (other side) ≡ hand_worth rules hands (other side)
 unfolding hand_worth
 other_hand rules hands side kind n =
     let same : hand_of (with_hand hands side kind n) (other side) ≡ hand_of hands (other side) =
@@ -75,13 +78,16 @@ other_hand rules hands side kind n =
 plus_one : (n worth : ℕ) → (n + 1) * worth ≡ n * worth + worth
 plus_one n worth = let h = add-mul n 1 worth in omega (arith, h)
 
-raised_hand : (rules : Rules) (hands : List (List ℕ)) (side : Side) (kind : Kind) → AreHands hands → kind.0 < 26 → hand_worth rules (taken_in hands side kind) side ≡ hand_worth rules hands side + kind_worth rules kind
+raised_hand : (rules : Rules) (hands : List (List ℕ)) (side : Side) (kind : Kind) → AreHands hands → kind.0 < 26
+    → hand_worth rules (taken_in hands side kind) side ≡ hand_worth rules hands side + kind_worth rules kind
 raised_hand rules hands side kind are l =
     let h = hand-set hands side kind (in_hand hands side kind + 1) are rules l in
     let k = plus_one (in_hand hands side kind) (kind_worth rules kind) in
     omega (arith, h, k)
 
-lowered_hand : (rules : Rules) (hands : List (List ℕ)) (side : Side) (kind : Kind) (n : ℕ) → AreHands hands → kind.0 < 26 → in_hand hands side kind ≡ n + 1 → hand_worth rules (put_down hands side kind) side + kind_worth rules kind ≡ hand_worth rules hands side
+lowered_hand : (rules : Rules) (hands : List (List ℕ)) (side : Side) (kind : Kind) (n : ℕ) → AreHands hands
+    → kind.0 < 26 → in_hand hands side kind ≡ n + 1
+    → hand_worth rules (put_down hands side kind) side + kind_worth rules kind ≡ hand_worth rules hands side
 lowered_hand rules hands side kind n are l held =
     let h = hand-set hands side kind (in_hand hands side kind - 1) are rules l in
     let before = ap (λ m. m * kind_worth rules kind) held in
@@ -90,7 +96,9 @@ lowered_hand rules hands side kind n are l held =
     let k = plus_one n (kind_worth rules kind) in
     omega (arith, h, before, after, k)
 
-pub takes_in : (rules : Rules) (side : Side) (kind : Kind) (worth : ℕ) (old new : Tally) → AreFew rules → kind.0 < 26 → worth ≡ kind_worth rules kind → IsMore side worth old new → HandStep rules (λ hands. taken_in hands side kind) old new
+pub takes_in : (rules : Rules) (side : Side) (kind : Kind) (worth : ℕ) (old new : Tally) → AreFew rules → kind.0 < 26
+    → worth ≡ kind_worth rules kind → IsMore side worth old new
+    → HandStep rules (λ hands. taken_in hands side kind) old new
 takes_in rules White kind worth old new few l is more cells hands are held sums =
     let there = more (board_worth rules cells White + hand_worth rules hands White) (board_worth rules cells Black + hand_worth rules hands Black)
     (omega (arith, board_few rules cells White few, hand_few rules hands White few held), omega (arith, board_few rules cells Black few, hand_few rules hands Black few held))
@@ -106,14 +114,16 @@ takes_in rules Black kind worth old new few l is more cells hands are held sums 
     let beside = other_hand rules hands Black kind (in_hand hands Black kind + 1) in
     record { white = there.white_is ∙ ap pos (omega (arith, beside)); black = there.black_is ∙ ap pos (omega (arith, own, is)) }
 
-held_letter : (hands : List (List ℕ)) (side : Side) (kind : Kind) → AreHands hands → 0 < in_hand hands side kind → kind.0 < 26
+held_letter : (hands : List (List ℕ)) (side : Side) (kind : Kind) → AreHands hands → 0 < in_hand hands side kind
+    → kind.0 < 26
 held_letter hands side kind are some = by_letter (cases_lt kind.0 26)
   where
     by_letter : (kind.0 < 26) ⊎ (26 ≤ kind.0) → kind.0 < 26
     by_letter (inl l) = l
     by_letter (inr l) = absurd (omega (arith, some, get_or_past (hand_of hands side) kind.0 0 (omega (arith, l, hand_size hands side are))))
 
-pub puts_down : (rules : Rules) (side : Side) (kind : Kind) (held : Bool) (worth : ℕ) (old new : Tally) → held ≡ true → worth ≡ kind_worth rules kind → IsLess side worth old new → PutsDown rules side kind held old new
+pub puts_down : (rules : Rules) (side : Side) (kind : Kind) (held : Bool) (worth : ℕ) (old new : Tally) → held ≡ true
+    → worth ≡ kind_worth rules kind → IsLess side worth old new → PutsDown rules side kind held old new
 puts_down rules White kind held worth old new true_is is less cells hands are held_is sums =
     let some : 0 < in_hand hands White kind = ltb-true 0 (in_hand hands White kind) (sym held_is ∙ true_is) in
     let own = lowered_hand rules hands White kind (in_hand hands White kind - 1) are (held_letter hands White kind are some) (omega (arith, some)) in
@@ -131,7 +141,8 @@ puts_down rules Black kind held worth old new true_is is less cells hands are he
 
 -- ---- a piece is taken, and another placed
 
-kept : (hands : List (List ℕ)) (side : Side) (kind : Kind) (n : ℕ) → AreHands hands → AreHands (with_hand hands side kind n)
+kept : (hands : List (List ℕ)) (side : Side) (kind : Kind) (n : ℕ) → AreHands hands
+    → AreHands (with_hand hands side kind n)
 kept hands side kind n are =
     let whole : length (slice_set (hand_of hands side) kind.0 n) ≡ 26 = length-set (hand_of hands side) kind.0 n ∙ hand_size hands side are in
     record {
@@ -139,7 +150,8 @@ kept hands side kind n are =
       each = list_all-set (λ (hand : List ℕ). length hand == 26) hands (side_index side) (slice_set (hand_of hands side) kind.0 n) ((Decides-eqb _ 26).1 whole) are.each;
     }
 
-taken_kept : (to_hand : Bool) (hands : List (List ℕ)) (side : Side) (taken : Option Cell) → AreHands hands → AreHands (take_into to_hand hands side taken)
+taken_kept : (to_hand : Bool) (hands : List (List ℕ)) (side : Side) (taken : Option Cell) → AreHands hands
+    → AreHands (take_into to_hand hands side taken)
 taken_kept to_hand hands side None are = are
 taken_kept to_hand hands side (Some c) are = by_rule to_hand
   where
@@ -147,8 +159,10 @@ taken_kept to_hand hands side (Some c) are = by_rule to_hand
     by_rule true = kept hands side (hand_kind c) (in_hand hands side (hand_kind c) + 1) are
     by_rule false = are
 
-pub taken_and_placed : (rules : Rules) (hands : List (List ℕ)) (side : Side) (taken : Option Cell) (kind : Kind) (held : Bool) (old mid new : Tally) → AreHands hands
-    → HandStep rules (λ hands. take_into rules.to_hand hands side taken) old mid → held ≡ holds (take_into rules.to_hand hands side taken) side kind → PutsDown rules side kind held mid new
+pub taken_and_placed : (rules : Rules) (hands : List (List ℕ)) (side : Side) (taken : Option Cell) (kind : Kind) (held : Bool) (old mid new : Tally)
+    → AreHands hands
+    → HandStep rules (λ hands. take_into rules.to_hand hands side taken) old mid
+    → held ≡ holds (take_into rules.to_hand hands side taken) side kind → PutsDown rules side kind held mid new
     → HandsGoTo rules hands (put_down (take_into rules.to_hand hands side taken) side kind) old new
 taken_and_placed rules hands side taken kind held old mid new are takes held_is puts cells few sums =
     puts cells (take_into rules.to_hand hands side taken) (taken_kept rules.to_hand hands side taken are) held_is (takes cells hands are few sums)

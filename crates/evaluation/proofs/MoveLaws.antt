@@ -29,8 +29,10 @@ use Rattle.evaluation.proofs.PutLaws.{cell_other}
 -- ---- pieces
 
 module _ (rules : Rules) (r : Repeat) (size : length r.cells ≡ 120) where
-  pub goes_plainly : (from to : Square) (promo : Promo) (old mid new : Tally) → from.0 ≢ to.0 → passes_by rules r from to.0 ≡ false
-      → PutsOn rules from.0 (cell_at r.cells from.0) None old mid → PutsOn rules to.0 (cell_at r.cells to.0) (promote rules (cell_at r.cells from.0) promo) mid new
+  pub goes_plainly : (from to : Square) (promo : Promo) (old mid new : Tally) → from.0 ≢ to.0
+      → passes_by rules r from to.0 ≡ false
+      → PutsOn rules from.0 (cell_at r.cells from.0) None old mid
+      → PutsOn rules to.0 (cell_at r.cells to.0) (promote rules (cell_at r.cells from.0) promo) mid new
       → GoesTo rules r.cells (cells_after rules r (Go from to promo None)) old new
   unfolding cells_after
   goes_plainly from to promo old mid new apart plain leaves enters hands held sums =
@@ -38,7 +40,8 @@ module _ (rules : Rules) (r : Repeat) (size : length r.cells ≡ 120) where
       rw plain (enters (slice_set r.cells from.0 None) hands (length-set r.cells from.0 None ∙ size) held
       (sym (cell_other r.cells from.0 to.0 None (λ e. apart (sym e)))) left)
 
-  pub is_dropped : (kind : Kind) (to : Square) (old new : Tally) → PutsOn rules to.0 (cell_at r.cells to.0) (Some (fresh r.side kind)) old new
+  pub is_dropped : (kind : Kind) (to : Square) (old new : Tally)
+      → PutsOn rules to.0 (cell_at r.cells to.0) (Some (fresh r.side kind)) old new
       → GoesTo rules r.cells (cells_after rules r (Drop kind to)) old new
   unfolding cells_after
   is_dropped kind to old new enters hands held sums = enters r.cells hands size held refl sums
@@ -69,7 +72,8 @@ front : (a b c d : Bool) → (a && b && c && d) ≡ true → a ≡ true
 front true b c d e = refl
 front false b c d e = cc
 
-held_few : (r : Repeat) (side : Side) (kind : Kind) → pieces_of r White + pieces_of r Black ≤ 240 → in_hand r.hands side kind ≤ 1000
+held_few : (r : Repeat) (side : Side) (kind : Kind) → pieces_of r White + pieces_of r Black ≤ 240
+    → in_hand r.hands side kind ≤ 1000
 held_few r White kind h = let k = held_among r White kind in omega (arith, h, k)
 held_few r Black kind h = let k = held_among r Black kind in omega (arith, h, k)
 
@@ -79,8 +83,10 @@ sound_holds_few rules p e side kind = held_few (repeat_of p) side kind (few_piec
 
 -- ---- the whole
 
-pub moved : (rules : Rules) (p : Position) (m : Move) (old mid new : Tally) → is_sound rules p ≡ true → IsTally rules p old
-    → GoesTo rules p.cells (cells_after rules (repeat_of p) m) old mid → HandsGoTo rules p.hands (hands_after rules (repeat_of p) m) mid new
+pub moved : (rules : Rules) (p : Position) (m : Move) (old mid new : Tally) → is_sound rules p ≡ true
+    → IsTally rules p old
+    → GoesTo rules p.cells (cells_after rules (repeat_of p) m) old mid
+    → HandsGoTo rules p.hands (hands_after rules (repeat_of p) m) mid new
     → IsTally rules (next rules p m) new
 unfolding next next_repeat
 moved rules p m old mid new sound tally pieces hands =

@@ -22,7 +22,8 @@ use Rattle.evaluation.proofs.SumLaws.{sum-but-one, sum-few, sum-more, sum-none}
 
 -- ---- how large they are
 
-pub piece_few : (rules : Rules) (side : Side) (s : ℕ) (cell : Option Cell) → AreFew rules → s < 120 → piece_worth rules side s cell ≤ 7780
+pub piece_few : (rules : Rules) (side : Side) (s : ℕ) (cell : Option Cell) → AreFew rules → s < 120
+    → piece_worth rules side s cell ≤ 7780
 piece_few rules side s None few l = omega arith
 piece_few rules side s (Some c) few l = by_side (same_side c.side side)
   where
@@ -30,7 +31,8 @@ piece_few rules side s (Some c) few l = by_side (same_side c.side side)
     by_side true = few.pieces c.kind s l
     by_side false = omega arith
 
-pub board_few : (rules : Rules) (cells : List (Option Cell)) (side : Side) → AreFew rules → board_worth rules cells side ≤ 933600
+pub board_few : (rules : Rules) (cells : List (Option Cell)) (side : Side) → AreFew rules
+    → board_worth rules cells side ≤ 933600
 unfolding board_worth
 board_few rules cells side few =
     let h = sum-few (λ s. piece_worth rules side s (cell_at cells s)) 120 7780 (λ s l. piece_few rules side s (cell_at cells s) few l) in
@@ -42,7 +44,8 @@ held_few number worth most few small =
     let b = mul-le-mul_left most small in
     omega (arith, a, b)
 
-pub hand_few : (rules : Rules) (hands : List (List ℕ)) (side : Side) → AreFew rules → HoldsFew 1000 hands → hand_worth rules hands side ≤ 200200000
+pub hand_few : (rules : Rules) (hands : List (List ℕ)) (side : Side) → AreFew rules → HoldsFew 1000 hands
+    → hand_worth rules hands side ≤ 200200000
 unfolding hand_worth
 hand_few rules hands side few held =
     let h = sum-few (λ k. in_hand hands side (record { 0 = k }) * kind_worth rules (record { 0 = k })) 26 7700000
@@ -51,13 +54,17 @@ hand_few rules hands side few held =
 
 -- ---- a square is written
 
-cell_same : (cells : List (Option Cell)) (at : ℕ) (c : Option Cell) → at < length cells → cell_at (slice_set cells at c) at ≡ c
+cell_same : (cells : List (Option Cell)) (at : ℕ) (c : Option Cell) → at < length cells
+    → cell_at (slice_set cells at c) at ≡ c
 cell_same cells at c l = ap flat (slice_get-set_same cells at c l)
 
-pub cell_other : (cells : List (Option Cell)) (at s : ℕ) (c : Option Cell) → s ≢ at → cell_at cells s ≡ cell_at (slice_set cells at c) s
+pub cell_other : (cells : List (Option Cell)) (at s : ℕ) (c : Option Cell) → s ≢ at
+    → cell_at cells s ≡ cell_at (slice_set cells at c) s
 cell_other cells at s c other = ap flat (sym (slice_get-set_other cells at s c (λ e. other (sym e))))
 
-pub board-set : (rules : Rules) (side : Side) (cells : List (Option Cell)) (at : ℕ) (c : Option Cell) → at < 120 → length cells ≡ 120 → board_worth rules (slice_set cells at c) side + piece_worth rules side at (cell_at cells at) ≡ board_worth rules cells side + piece_worth rules side at c
+pub board-set : (rules : Rules) (side : Side) (cells : List (Option Cell)) (at : ℕ) (c : Option Cell) → at < 120
+    → length cells ≡ 120
+    → board_worth rules (slice_set cells at c) side + piece_worth rules side at (cell_at cells at) ≡ board_worth rules cells side + piece_worth rules side at c
 unfolding board_worth
 board-set rules side cells at c l size =
     let f : ℕ → ℕ = λ s. piece_worth rules side s (cell_at cells s) in
@@ -73,19 +80,24 @@ rest rules cells hands at side = board_worth rules (slice_set cells at None) sid
 counts : (tally : Tally) (a b c d : ℕ) → a ≡ c → b ≡ d → Counts tally a b → Counts tally c d
 counts tally a b c d p q h = rw (← p, ← q) h
 
-sums_at : (rules : Rules) (cells : List (Option Cell)) (hands : List (List ℕ)) (side : Side) (at : ℕ) (c : Option Cell) → at < 120 → length cells ≡ 120 → board_worth rules (slice_set cells at c) side + hand_worth rules hands side ≡ rest rules cells hands at side + piece_worth rules side at c
+sums_at : (rules : Rules) (cells : List (Option Cell)) (hands : List (List ℕ)) (side : Side) (at : ℕ) (c : Option Cell)
+    → at < 120 → length cells ≡ 120
+    → board_worth rules (slice_set cells at c) side + hand_worth rules hands side ≡ rest rules cells hands at side + piece_worth rules side at c
 sums_at rules cells hands side at c l size =
     let a = board-set rules side cells at None l size in
     let b = board-set rules side cells at c l size in
     omega (arith, a, b)
 
-sums_now : (rules : Rules) (cells : List (Option Cell)) (hands : List (List ℕ)) (side : Side) (at : ℕ) (c : Option Cell) → at < 120 → length cells ≡ 120 → cell_at cells at ≡ c → board_worth rules cells side + hand_worth rules hands side ≡ rest rules cells hands at side + piece_worth rules side at c
+sums_now : (rules : Rules) (cells : List (Option Cell)) (hands : List (List ℕ)) (side : Side) (at : ℕ) (c : Option Cell)
+    → at < 120 → length cells ≡ 120 → cell_at cells at ≡ c
+    → board_worth rules cells side + hand_worth rules hands side ≡ rest rules cells hands at side + piece_worth rules side at c
 sums_now rules cells hands side at c l size is =
     let a = board-set rules side cells at None l size in
     let b : board_worth rules (slice_set cells at None) side + piece_worth rules side at c ≡ board_worth rules cells side + 0 = rw (← is) a in
     omega (arith, b)
 
-pub puts_on : (rules : Rules) (at : ℕ) (before after : Option Cell) (old mid new : Tally) → at < 120 → AreFew rules → DropsPiece rules at before old mid → AddsPiece rules at after mid new → PutsOn rules at before after old new
+pub puts_on : (rules : Rules) (at : ℕ) (before after : Option Cell) (old mid new : Tally) → at < 120 → AreFew rules
+    → DropsPiece rules at before old mid → AddsPiece rules at after mid new → PutsOn rules at before after old new
 puts_on rules at before after old mid new l few drops adds cells hands size held is sums =
     let w = rest rules cells hands at White in
     let b = rest rules cells hands at Black in
@@ -119,20 +131,25 @@ pub record IsHandPart (rules : Rules) (hands : List (List ℕ)) (side : Side) (n
   pub is : worth ≡ hand_part rules hands side n
   pub few : worth ≤ 2000000 * n
 
-pub board_none : (rules : Rules) (cells : List (Option Cell)) → IsBoardPart rules cells 0 (record { white = pos 0; black = pos 0 })
+pub board_none : (rules : Rules) (cells : List (Option Cell))
+    → IsBoardPart rules cells 0 (record { white = pos 0; black = pos 0 })
 unfolding board_part
 board_none rules cells = record { counts = record { white_is = ap pos (sym (sum-none _)); black_is = ap pos (sym (sum-none _)) } }
 
-part_few : (rules : Rules) (cells : List (Option Cell)) (side : Side) (n : ℕ) → AreFew rules → n ≤ 120 → board_part rules cells side n ≤ n * 7780
+part_few : (rules : Rules) (cells : List (Option Cell)) (side : Side) (n : ℕ) → AreFew rules → n ≤ 120
+    → board_part rules cells side n ≤ n * 7780
 unfolding board_part
 part_few rules cells side n few l =
     sum-few (λ s. piece_worth rules side s (cell_at cells s)) n 7780 (λ s m. piece_few rules side s (cell_at cells s) few (omega (arith, l, m)))
 
-part_more : (rules : Rules) (cells : List (Option Cell)) (side : Side) (n : ℕ) → board_part rules cells side (n + 1) ≡ board_part rules cells side n + piece_worth rules side n (cell_at cells n)
+part_more : (rules : Rules) (cells : List (Option Cell)) (side : Side) (n : ℕ)
+    → board_part rules cells side (n + 1) ≡ board_part rules cells side n + piece_worth rules side n (cell_at cells n)
 unfolding board_part
 part_more rules cells side n = sum-more (λ s. piece_worth rules side s (cell_at cells s)) n
 
-pub board_more : (rules : Rules) (cells : List (Option Cell)) (n : ℕ) (old new : Tally) → AreFew rules → n < 120 → IsBoardPart rules cells n old → AddsPiece rules n (cell_at cells n) old new → IsBoardPart rules cells (n + 1) new
+pub board_more : (rules : Rules) (cells : List (Option Cell)) (n : ℕ) (old new : Tally) → AreFew rules → n < 120
+    → IsBoardPart rules cells n old → AddsPiece rules n (cell_at cells n) old new
+    → IsBoardPart rules cells (n + 1) new
 board_more rules cells n old new few l part adds =
     let small : IsSmall (board_part rules cells White n) (board_part rules cells Black n) = (
       omega (arith, part_few rules cells White n few (omega (arith, l)), l),
@@ -146,11 +163,13 @@ board_more rules cells n old new few l part adds =
       };
     }
 
-whole : (rules : Rules) (cells : List (Option Cell)) (side : Side) (n : ℕ) → n ≡ 120 → board_part rules cells side n ≡ board_worth rules cells side
+whole : (rules : Rules) (cells : List (Option Cell)) (side : Side) (n : ℕ) → n ≡ 120
+    → board_part rules cells side n ≡ board_worth rules cells side
 unfolding board_part board_worth
 whole rules cells side n e = rw e refl
 
-pub board_whole : (rules : Rules) (cells : List (Option Cell)) (n : ℕ) (tally : Tally) → n ≤ 120 → 120 ≤ n → IsBoardPart rules cells n tally → Counts tally (board_worth rules cells White) (board_worth rules cells Black)
+pub board_whole : (rules : Rules) (cells : List (Option Cell)) (n : ℕ) (tally : Tally) → n ≤ 120 → 120 ≤ n
+    → IsBoardPart rules cells n tally → Counts tally (board_worth rules cells White) (board_worth rules cells Black)
 board_whole rules cells n tally l m part =
     let e : n ≡ 120 = omega (arith, l, m) in
     record {
@@ -162,12 +181,16 @@ pub hand_none : (rules : Rules) (hands : List (List ℕ)) (side : Side) → IsHa
 unfolding hand_part
 hand_none rules hands side = record { is = sym (sum-none _); few = omega arith }
 
-hand_part_more : (rules : Rules) (hands : List (List ℕ)) (side : Side) (n : ℕ) → hand_part rules hands side (n + 1) ≡ hand_part rules hands side n + in_hand hands side (record { 0 = n }) * kind_worth rules (record { 0 = n })
+hand_part_more : (rules : Rules) (hands : List (List ℕ)) (side : Side) (n : ℕ)
+    → hand_part rules hands side (n + 1) ≡ hand_part rules hands side n + in_hand hands side (record { 0 = n }) * kind_worth rules (record { 0 = n })
 unfolding hand_part
 hand_part_more rules hands side n = sum-more (λ k. in_hand hands side (record { 0 = k }) * kind_worth rules (record { 0 = k })) n
 
 -- one kind more
-pub hand_more : (rules : Rules) (hands : List (List ℕ)) (side : Side) (n number worth old : ℕ) → IsHandPart rules hands side n old → number ≡ in_hand hands side (record { 0 = n }) → worth ≡ kind_worth rules (record { 0 = n }) → number < 256 → worth ≤ 7700 → IsHandPart rules hands side (n + 1) (old + number * worth)
+pub hand_more : (rules : Rules) (hands : List (List ℕ)) (side : Side) (n number worth old : ℕ)
+    → IsHandPart rules hands side n old → number ≡ in_hand hands side (record { 0 = n })
+    → worth ≡ kind_worth rules (record { 0 = n }) → number < 256 → worth ≤ 7700
+    → IsHandPart rules hands side (n + 1) (old + number * worth)
 hand_more rules hands side n number worth old part number_is worth_is held few =
     let product : number * worth ≡ in_hand hands side (record { 0 = n }) * kind_worth rules (record { 0 = n }) = rw (number_is, worth_is) refl in
     let small = held_few number worth 255 (omega (arith, held)) few in
@@ -178,12 +201,14 @@ hand_more rules hands side n number worth old part number_is worth_is held few =
     }
 
 -- and its sum fits
-pub hand_room : (n number worth old : ℕ) → old ≤ 2000000 * n → n < 26 → number < 256 → worth ≤ 7700 → (number * worth < 2 ^ 32) × (old + number * worth < 2 ^ 32)
+pub hand_room : (n number worth old : ℕ) → old ≤ 2000000 * n → n < 26 → number < 256 → worth ≤ 7700
+    → (number * worth < 2 ^ 32) × (old + number * worth < 2 ^ 32)
 hand_room n number worth old few l held small =
     let product = held_few number worth 255 (omega (arith, held)) small in
     (omega (arith, product), omega (arith, product, few, l))
 
-pub hand_whole : (rules : Rules) (hands : List (List ℕ)) (side : Side) (n worth : ℕ) → n ≤ 26 → 26 ≤ n → IsHandPart rules hands side n worth → (worth ≡ hand_worth rules hands side) × (worth ≤ 52000000)
+pub hand_whole : (rules : Rules) (hands : List (List ℕ)) (side : Side) (n worth : ℕ) → n ≤ 26 → 26 ≤ n
+    → IsHandPart rules hands side n worth → (worth ≡ hand_worth rules hands side) × (worth ≤ 52000000)
 unfolding hand_part hand_worth
 hand_whole rules hands side n worth l m part =
     let e : n ≡ 26 = omega (arith, l, m) in
@@ -191,7 +216,10 @@ hand_whole rules hands side n worth l m part =
 
 -- ---- the sums of a position
 
-pub sums_of : (rules : Rules) (cells : List (Option Cell)) (hands : List (List ℕ)) (board mid new : Tally) (white black : ℕ) → AreFew rules → Counts board (board_worth rules cells White) (board_worth rules cells Black) → white ≡ hand_worth rules hands White → black ≡ hand_worth rules hands Black → white ≤ 52000000 → IsMore White white board mid → IsMore Black black mid new → AreSums rules cells hands new
+pub sums_of : (rules : Rules) (cells : List (Option Cell)) (hands : List (List ℕ)) (board mid new : Tally) (white black : ℕ)
+    → AreFew rules → Counts board (board_worth rules cells White) (board_worth rules cells Black)
+    → white ≡ hand_worth rules hands White → black ≡ hand_worth rules hands Black → white ≤ 52000000
+    → IsMore White white board mid → IsMore Black black mid new → AreSums rules cells hands new
 sums_of rules cells hands board mid new white black few counts white_is black_is small first second =
     let a = board_few rules cells White few in
     let b = board_few rules cells Black few in

@@ -25,7 +25,8 @@ sum-same f g (suc n) same =
     omega (arith, rest, last, sum-suc f n, sum-suc g n)
 
 -- equal terms but for one
-pub sum-but-one : (f g : ℕ → ℕ) (n at : ℕ) → at < n → ((k : ℕ) → k ≢ at → f k ≡ g k) → sum_by g (below n) + f at ≡ sum_by f (below n) + g at
+pub sum-but-one : (f g : ℕ → ℕ) (n at : ℕ) → at < n → ((k : ℕ) → k ≢ at → f k ≡ g k)
+    → sum_by g (below n) + f at ≡ sum_by f (below n) + g at
 sum-but-one f g zero at l same = absurd (omega (arith, l))
 sum-but-one f g (suc n) at l same = by_last (cases_eq at n) (λ m. sum-but-one f g n at m same)
   where

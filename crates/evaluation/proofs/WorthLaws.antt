@@ -17,7 +17,8 @@ no_rule : (rules : Rules) (kind : Kind) → length rules.kinds ≡ 26 → 26 ≤
 no_rule rules kind size l = ap rule_of (slice_get_past rules.kinds kind.0 (omega (arith, size, l)))
 
 -- a kind that is named is a letter
-not_named : (rules : Rules) (named : Option Kind) (kind : Kind) → length rules.kinds ≡ 26 → is_there rules named ≡ true → 26 ≤ kind.0 → names named kind ≡ false
+not_named : (rules : Rules) (named : Option Kind) (kind : Kind) → length rules.kinds ≡ 26
+    → is_there rules named ≡ true → 26 ≤ kind.0 → names named kind ≡ false
 not_named rules None kind size there l = refl
 not_named rules (Some k) kind size there l = by_equal (cases_eq k.0 kind.0)
   where
@@ -39,7 +40,9 @@ kind_beyond rules kind fit l =
 pub kinds_none : (rules : Rules) (kinds : List ℕ) → length kinds ≡ 26 → AreKindWorths rules kinds 0
 kinds_none rules kinds size = record { size = size; each = λ k l. absurd (omega (arith, l)); few = λ k l. absurd (omega (arith, l)) }
 
-pub kinds_more : (rules : Rules) (kinds : List ℕ) (k worth : ℕ) → k < 26 → AreKindWorths rules kinds k → worth ≡ kind_worth rules (record { 0 = k }) → worth ≤ 7700 → AreKindWorths rules (slice_set kinds k worth) (k + 1)
+pub kinds_more : (rules : Rules) (kinds : List ℕ) (k worth : ℕ) → k < 26 → AreKindWorths rules kinds k
+    → worth ≡ kind_worth rules (record { 0 = k }) → worth ≤ 7700
+    → AreKindWorths rules (slice_set kinds k worth) (k + 1)
 kinds_more rules kinds k worth l are is few =
     record {
       size = length-set kinds k worth ∙ are.size;
@@ -47,7 +50,8 @@ kinds_more rules kinds k worth l are is few =
       few = λ j m. by_last_few j m (cases_eq j k);
     }
   where
-    by_last : (j : ℕ) → j < k + 1 → (j ≡ k) ⊎ (j ≡ k → ⊥) → slice_index (slice_set kinds k worth) j ≡ kind_worth rules (record { 0 = j })
+    by_last : (j : ℕ) → j < k + 1 → (j ≡ k) ⊎ (j ≡ k → ⊥)
+        → slice_index (slice_set kinds k worth) j ≡ kind_worth rules (record { 0 = j })
     by_last j m (inl e) = rw e (get_or-set_same kinds k worth 0 (omega (arith, l, are.size)) ∙ is)
     by_last j m (inr other) = get_or-set_other kinds k j worth 0 other ∙ are.each j (omega (arith, m, other))
 
@@ -58,7 +62,9 @@ kinds_more rules kinds k worth l are is few =
 pub squares_none : (rules : Rules) (squares : List ℕ) → length squares ≡ 120 → AreSquareWorths rules squares 0
 squares_none rules squares size = record { size = size; each = λ k l. absurd (omega (arith, l)); few = λ k l. absurd (omega (arith, l)) }
 
-pub squares_more : (rules : Rules) (squares : List ℕ) (s worth : ℕ) → s < 120 → AreSquareWorths rules squares s → worth ≡ square_worth rules (record { 0 = s }) → worth ≤ 80 → AreSquareWorths rules (slice_set squares s worth) (s + 1)
+pub squares_more : (rules : Rules) (squares : List ℕ) (s worth : ℕ) → s < 120 → AreSquareWorths rules squares s
+    → worth ≡ square_worth rules (record { 0 = s }) → worth ≤ 80
+    → AreSquareWorths rules (slice_set squares s worth) (s + 1)
 squares_more rules squares s worth l are is few =
     record {
       size = length-set squares s worth ∙ are.size;
@@ -66,7 +72,8 @@ squares_more rules squares s worth l are is few =
       few = λ j m. by_last_few j m (cases_eq j s);
     }
   where
-    by_last : (j : ℕ) → j < s + 1 → (j ≡ s) ⊎ (j ≡ s → ⊥) → slice_index (slice_set squares s worth) j ≡ square_worth rules (record { 0 = j })
+    by_last : (j : ℕ) → j < s + 1 → (j ≡ s) ⊎ (j ≡ s → ⊥)
+        → slice_index (slice_set squares s worth) j ≡ square_worth rules (record { 0 = j })
     by_last j m (inl e) = rw e (get_or-set_same squares s worth 0 (omega (arith, l, are.size)) ∙ is)
     by_last j m (inr other) = get_or-set_other squares s j worth 0 other ∙ are.each j (omega (arith, m, other))
 
@@ -76,14 +83,16 @@ squares_more rules squares s worth l are is few =
 
 -- ---- what they say of each kind and square
 
-pub kind_few : (rules : Rules) (kinds squares : List ℕ) (king : Option Kind) → AreWorths rules kinds squares king → (kind : Kind) → kind_worth rules kind ≤ 7700
+pub kind_few : (rules : Rules) (kinds squares : List ℕ) (king : Option Kind) → AreWorths rules kinds squares king
+    → (kind : Kind) → kind_worth rules kind ≤ 7700
 kind_few rules kinds squares king are kind = by_letter (cases_lt kind.0 26)
   where
     by_letter : (kind.0 < 26) ⊎ (26 ≤ kind.0) → kind_worth rules kind ≤ 7700
     by_letter (inl l) = are.kinds_are.few kind.0 l
     by_letter (inr l) = omega (arith, kind_beyond rules kind are.fit l)
 
-on_few : (rules : Rules) (kind : Kind) (s : ℕ) → kind_worth rules kind ≤ 7700 → square_worth rules (record { 0 = s }) ≤ 80 → worth_on rules kind s ≤ 7780
+on_few : (rules : Rules) (kind : Kind) (s : ℕ) → kind_worth rules kind ≤ 7700
+    → square_worth rules (record { 0 = s }) ≤ 80 → worth_on rules kind s ≤ 7780
 unfolding worth_on
 on_few rules kind s k l = by_king (names rules.king kind)
   where
@@ -91,7 +100,8 @@ on_few rules kind s k l = by_king (names rules.king kind)
     by_king true = omega arith
     by_king false = omega (arith, k, l)
 
-pub are_few : (rules : Rules) (kinds squares : List ℕ) (king : Option Kind) → AreWorths rules kinds squares king → AreFew rules
+pub are_few : (rules : Rules) (kinds squares : List ℕ) (king : Option Kind) → AreWorths rules kinds squares king
+    → AreFew rules
 are_few rules kinds squares king are =
     record {
       kinds = kind_few rules kinds squares king are;

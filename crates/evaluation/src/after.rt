@@ -11,8 +11,9 @@ use crate::worths::Worths;
 use rules_model::{Move, Position, Rules};
 
 impl Tally {
-    /// The sums of the position after the move, of those before it. It looks at the squares and the hand that the move writes, and
-    /// takes no memory. The move need not be legal. `Worths::tally_after` is the same for a caller who keeps the worths.
+    /// The sums of the position after the move, of those before it. It looks at the squares and the hand that the
+    /// move writes, and takes no memory. The move need not be legal. `Worths::tally_after` is the same for a caller
+    /// who keeps the worths.
     pub fn after(&self, rules: &Rules, p: &Position, m: &Move) -> Tally
         requires fit { IsFit rules.now }
         requires sound { is_sound rules.now p.now ≡ true }
@@ -25,8 +26,8 @@ impl Tally {
 }
 
 impl Worths {
-    /// The sums of the position after the move, of those before it. It looks at the squares and the hand that the move writes, and
-    /// takes no memory. The move need not be legal.
+    /// The sums of the position after the move, of those before it. It looks at the squares and the hand that the
+    /// move writes, and takes no memory. The move need not be legal.
     pub fn tally_after(&self, tally: Tally, rules: &Rules, p: &Position, m: &Move) -> Tally
         requires fit { IsFit rules.now }
         requires worths { self.now ≡ rules.now }

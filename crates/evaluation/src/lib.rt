@@ -1,5 +1,5 @@
-//! What a position is worth at a glance: the sum of the pieces of the side to move less that of the other side, each piece by its
-//! kind and by how near it stands to the centre.
+//! What a position is worth at a glance: the sum of the pieces of the side to move less that of the other side, each
+//! piece by its kind and by how near it stands to the centre.
 //!
 //! The two sums are kept through moves: `Tally::after` looks at the squares that a move writes, and not at the board.
 #![tactic(auto)]
@@ -22,7 +22,8 @@ pub use worths::Worths;
 
 /// What the position is worth to the side to move, from -30,000 to 30,000. No memory is taken.
 ///
-/// The worths of all kinds are made anew in each call: a caller who asks more than once makes `Worths` and keeps a `Tally`.
+/// The worths of all kinds are made anew in each call: a caller who asks more than once makes `Worths` and keeps a
+/// `Tally`.
 pub fn evaluate(rules: &Rules, p: &Position) -> i32
     requires { IsFit rules.now }
     ensures { result ≡ evaluation rules.now p.now }

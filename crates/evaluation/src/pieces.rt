@@ -105,7 +105,8 @@ impl Tally {
         requires to { to.0 < 120 }
         requires apart { from.0 ≢ to.0 }
         requires plain { Pawns.passes_by rules.now (repeat_of p.now) from to.0 ≡ false }
-        ensures { GoesTo rules.now p.now.cells (Next.cells_after rules.now (repeat_of p.now) (Go from to promo None)) self result }
+        ensures { GoesTo rules.now p.now.cells
+            (Next.cells_after rules.now (repeat_of p.now) (Go from to promo None)) self result }
     {
         position_sizes(p);
         let piece = cell_at(&p.cells, from);
@@ -128,7 +129,8 @@ impl Tally {
     ) -> Tally
         requires fit { IsFit rules.now }
         requires worths { worths.now ≡ rules.now }
-        ensures { GoesTo rules.now p.now.cells (Next.cells_after rules.now (repeat_of p.now) (Go from to promo gate)) self result }
+        ensures { GoesTo rules.now p.now.cells
+            (Next.cells_after rules.now (repeat_of p.now) (Go from to promo gate)) self result }
     {
         let mut draft = Draft {
             cells: p.cells,
@@ -156,7 +158,8 @@ impl Tally {
         requires from { from.0 < 120 }
         requires to { to.0 < 120 }
         requires rook { rook.0 < 120 }
-        ensures { GoesTo worths.now p.now.cells (Next.cells_after worths.now (repeat_of p.now) (Castle from to rook gate)) self result }
+        ensures { GoesTo worths.now p.now.cells
+            (Next.cells_after worths.now (repeat_of p.now) (Castle from to rook gate)) self result }
     {
         let mut draft = Draft {
             cells: p.cells,

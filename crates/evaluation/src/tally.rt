@@ -127,7 +127,8 @@ impl Tally {
         Worths::of(rules).tally(p)
     }
 
-    /// What a position with these sums is worth to the side, where it is to move: from -30,000 to 30,000. No memory is taken.
+    /// What a position with these sums is worth to the side, where it is to move: from -30,000 to 30,000. No memory
+    /// is taken.
     pub fn value(&self, side: Side) -> i32
         ensures is { result ≡ tally_value self.now side }
         ensures of_positions { ValuesPositions self.now side result }

@@ -23,8 +23,8 @@ fn worths_of_kinds(rt: HostRuntime) {
     for (letter, worth) in rows {
         assert_eq!(rt; worths.kind(kind(letter)), worth);
     }
-    // a cannon has four slides that do not take, each half of 120, and four hops that take alone, each half of 60; a horse has
-    // eight steps that can be blocked, of 25
+    // a cannon has four slides that do not take, each half of 120, and four hops that take alone, each half of 60; a
+    // horse has eight steps that can be blocked, of 25
     let eastern = Worths::of(&xiangqi());
     assert_eq!(rt; eastern.kind(kind(b'c')), 380);
     assert_eq!(rt; eastern.kind(kind(b'n')), 220);

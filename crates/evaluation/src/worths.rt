@@ -10,8 +10,8 @@ use rules_model::{KINDS, Kind, Rules, SQUARES, Square, Term, Terms, Way};
 use std::marker::Model;
 use std::snapshot::Snapshot;
 
-/// What each kind of a variant and each square of its board is worth, made once. In a contract they are the rules of which they
-/// were made.
+/// What each kind of a variant and each square of its board is worth, made once. In a contract they are the rules of
+/// which they were made.
 #[derive(Drop)]
 pub struct Worths {
     kinds: [u16; KINDS],

@@ -60,7 +60,8 @@ has_move : (rules : Rules) (r : Repeat) → is_ongoing (own_end rules r) ≡ tru
 unfolding is_stuck
 has_move rules r h = some_move (legal rules r) (sym (own_end-stuck rules r) ∙ h)
 
-own_goes_on : (rules : Rules) (g : Story) → result rules g ≡ Ongoing → is_ongoing (own_end rules (repeat_of g.last)) ≡ true
+own_goes_on : (rules : Rules) (g : Story) → result rules g ≡ Ongoing
+    → is_ongoing (own_end rules (repeat_of g.last)) ≡ true
 unfolding result
 own_goes_on rules g is = first_goes_on _ _ is
 
@@ -73,7 +74,8 @@ play_laws rules =
       moves = λ g m h. (filter-member (captures rules (repeat_of g.last)) m (legal rules (repeat_of g.last)) h).0;
     }
 
-pub root_attains : (rules : Rules) (depth : ℕ) (g : Story) (first : Move) (roots : List Move) → (m : Move) × Attains rules depth g (first ∷ roots) (value_of rules depth g (first ∷ roots)) m
+pub root_attains : (rules : Rules) (depth : ℕ) (g : Story) (first : Move) (roots : List Move)
+    → (m : Move) × Attains rules depth g (first ∷ roots) (value_of rules depth g (first ∷ roots)) m
 root_attains rules depth g first roots =
     let s = roots_attain (play rules) (play_laws rules) depth g (first ∷ roots) first (inl refl) in
     (s.0, record { root = s.1; attained = s.2 })

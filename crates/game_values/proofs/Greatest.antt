@@ -48,7 +48,8 @@ module _ {M : Type 0} (f : M → ℤ) where
       by_rest (inl is) (inr own) = inr (record { best = m; member = inl refl; scored = sym (is ∙ own) })
 
   -- what is above the floor and each score is above the greatest
-  pub greatest-least : (low v : ℤ) (ms : List M) → low ≤ℤ v → ((m : M) → Member m ms → f m ≤ℤ v) → greatest low f ms ≤ℤ v
+  pub greatest-least : (low v : ℤ) (ms : List M) → low ≤ℤ v → ((m : M) → Member m ms → f m ≤ℤ v)
+      → greatest low f ms ≤ℤ v
   greatest-least low v ms floor each = by_kind (greatest-is low ms)
     where
       by_kind : (greatest low f ms ≡ low) ⊎ Scores ms (greatest low f ms) → greatest low f ms ≤ℤ v
@@ -60,5 +61,6 @@ module _ {M : Type 0} (f : M → ℤ) where
       greatest-least low (greatest low f ns) ms (greatest-floor low ns) (λ m h. greatest-member low ns m (within m h))
 
   -- only the elements matter
-  pub greatest-set : (low : ℤ) (ms ns : List M) → ((m : M) → Member m ms → Member m ns) → ((m : M) → Member m ns → Member m ms) → greatest low f ms ≡ greatest low f ns
+  pub greatest-set : (low : ℤ) (ms ns : List M) → ((m : M) → Member m ms → Member m ns)
+      → ((m : M) → Member m ns → Member m ms) → greatest low f ms ≡ greatest low f ns
   greatest-set low ms ns to from = let h = part low ms ns to in let k = part low ns ms from in omega (arith, ints, h, k)

@@ -20,7 +20,8 @@ pub score_other : (first last : ℕ) (v : ℤ) → IsScore first last v → IsSc
 score_other first last v (inl h) = inl (calm_other v h)
 score_other first last v (inr h) = inr (record { ply = h.ply; from = h.from; upto = h.upto; is = worth_other h.ply v h.is })
 
-pub score_wider : (first last first' last' : ℕ) (v : ℤ) → first' ≤ first → last ≤ last' → IsScore first last v → IsScore first' last' v
+pub score_wider : (first last first' last' : ℕ) (v : ℤ) → first' ≤ first → last ≤ last' → IsScore first last v
+    → IsScore first' last' v
 score_wider first last first' last' v lower higher (inl h) = inl h
 score_wider first last first' last' v lower higher (inr h) =
     let f = h.from in let u = h.upto in
@@ -54,7 +55,8 @@ large_score first last v (inr h) large = h
 
 module _ {M : Type 0} (f : M → ℤ) (first last : ℕ) where
   -- above a floor that is a score
-  pub greatest_score : (low : ℤ) (ms : List M) → IsScore first last low → ((m : M) → IsScore first last (f m)) → IsScore first last (greatest low f ms)
+  pub greatest_score : (low : ℤ) (ms : List M) → IsScore first last low → ((m : M) → IsScore first last (f m))
+      → IsScore first last (greatest low f ms)
   greatest_score low ms floor each = by_kind (greatest-is f low ms)
     where
       by_kind : (greatest low f ms ≡ low) ⊎ Scores f ms (greatest low f ms) → IsScore first last (greatest low f ms)
@@ -62,7 +64,8 @@ module _ {M : Type 0} (f : M → ℤ) (first last : ℕ) where
       by_kind (inr s) = rw (← s.scored) (each s.best)
 
   -- with some element that is above the floor
-  pub attained : (ms : List M) (m : M) → Member m ms → ((m : M) → IsScore first last (f m)) → Scores f ms (greatest worst f ms)
+  pub attained : (ms : List M) (m : M) → Member m ms → ((m : M) → IsScore first last (f m))
+      → Scores f ms (greatest worst f ms)
   attained ms m there each = by_kind (greatest-is f worst ms)
     where
       by_kind : (greatest worst f ms ≡ worst) ⊎ Scores f ms (greatest worst f ms) → Scores f ms (greatest worst f ms)
@@ -72,7 +75,8 @@ module _ {M : Type 0} (f : M → ℤ) (first last : ℕ) where
           absurd (omega (arith, ints, e, above, below))
       by_kind (inr s) = s
 
-  pub some_score : (ms : List M) (m : M) → Member m ms → ((m : M) → IsScore first last (f m)) → IsScore first last (greatest worst f ms)
+  pub some_score : (ms : List M) (m : M) → Member m ms → ((m : M) → IsScore first last (f m))
+      → IsScore first last (greatest worst f ms)
   some_score ms m there each = let s = attained ms m there each in rw (← s.scored) (each s.best)
 
 -- ---- values
@@ -96,7 +100,8 @@ module _ {X M : Type 0} (g : Play X M) where
         by_kind (inl e) = inl (record { least = omega (arith, ints, e); most = omega (arith, ints, e) })
         by_kind (inr e) = inr (record { ply = ply; from = omega arith; upto = l; is = e })
 
-    settled_score : (x : X) (ply last : ℕ) (v : ℤ) → ply ≤ last → (g.ended x ply ≡ None → IsScore ply last v) → IsScore ply last (settled (g.ended x ply) v)
+    settled_score : (x : X) (ply last : ℕ) (v : ℤ) → ply ≤ last → (g.ended x ply ≡ None → IsScore ply last v)
+        → IsScore ply last (settled (g.ended x ply) v)
     settled_score x ply last v l ongoing = by_end (g.ended x ply) refl
       where
         by_end : (o : Option ℤ) → g.ended x ply ≡ o → IsScore ply last (settled o v)
@@ -123,13 +128,15 @@ module _ {X M : Type 0} (g : Play X M) where
     unfolding root_score
     root_score-score depth x m = score_other _ _ _ (value-score (depth - 1) 1 (g.after x m))
 
-    pub root_value-score : (depth : ℕ) (x : X) (roots : List M) (m : M) → 0 < depth → Member m roots → IsScore 1 (depth + 4) (root_value g depth x roots)
+    pub root_value-score : (depth : ℕ) (x : X) (roots : List M) (m : M) → 0 < depth → Member m roots
+        → IsScore 1 (depth + 4) (root_value g depth x roots)
     unfolding root_value
     root_value-score depth x roots m some there =
         score_wider 1 (1 + (depth - 1 + 4)) 1 (depth + 4) _ (omega arith) (omega (arith, some))
         (some_score (root_score g depth x) 1 (1 + (depth - 1 + 4)) roots m there (root_score-score depth x))
 
-    pub roots_attain : (depth : ℕ) (x : X) (roots : List M) (m : M) → Member m roots → (best : M) × Member best roots × (root_score g depth x best ≡ root_value g depth x roots)
+    pub roots_attain : (depth : ℕ) (x : X) (roots : List M) (m : M) → Member m roots
+        → (best : M) × Member best roots × (root_score g depth x best ≡ root_value g depth x roots)
     unfolding root_value
     roots_attain depth x roots m there =
         let s = attained (root_score g depth x) 1 (1 + (depth - 1 + 4)) roots m there (root_score-score depth x) in

@@ -34,7 +34,8 @@ module _ {M : Type 0} where
       by_side (inr (inl e)) = absurd (other (sym e))
       by_side (inr (inr k)) = member-right n before after k
 
-  pub sum_by-once : (f : M → ℕ) (roots ms : List M) → IsEachOnce roots → ((m : M) → Member m roots → Member m ms) → sum_by f roots ≤ sum_by f ms
+  pub sum_by-once : (f : M → ℕ) (roots ms : List M) → IsEachOnce roots → ((m : M) → Member m roots → Member m ms)
+      → sum_by f roots ≤ sum_by f ms
   sum_by-once f [] ms once within = omega arith
   sum_by-once f (r ∷ roots) ms once within =
       let s = stands r ms (within r (inl refl)) in
@@ -63,7 +64,9 @@ module _ {X M : Type 0} (g : Play X M) where
   unfolding tree
   tree-suc length x = rw add-one refl
 
-  pub roots-lines : (length : ℕ) (x : X) (roots : List M) → IsEachOnce roots → ((m : M) → Member m roots → Member m (g.moves x)) → 1 + sum_by (λ m. tree g length (g.after x m)) roots ≤ tree g (length + 1) x
+  pub roots-lines : (length : ℕ) (x : X) (roots : List M) → IsEachOnce roots
+      → ((m : M) → Member m roots → Member m (g.moves x))
+      → 1 + sum_by (λ m. tree g length (g.after x m)) roots ≤ tree g (length + 1) x
   roots-lines length x roots once within =
       let h = sum_by-once (λ m. tree g length (g.after x m)) roots (g.moves x) once within in
       omega (arith, h, tree-suc length x)
@@ -71,7 +74,8 @@ module _ {X M : Type 0} (g : Play X M) where
 -- ---- bounds
 
 -- a mate that is so near
-pub mates_near : (rules : Rules) (depth n ply : ℕ) (g : Story) → ply ≤ depth + 4 → 2 * n ≤ ply + 1 → solve_bound rules n g ≤ asked_bound rules depth g
+pub mates_near : (rules : Rules) (depth n ply : ℕ) (g : Story) → ply ≤ depth + 4 → 2 * n ≤ ply + 1
+    → solve_bound rules n g ≤ asked_bound rules depth g
 unfolding asked_bound solve_bound
 mates_near rules depth n ply g near few =
     let longer = tree-grows (play rules) (2 * n + 1) (depth + 6) g (omega (arith, near, few)) in

@@ -35,7 +35,8 @@ IsScore first last v = IsCalm v ⊎ IsEnd first last v
 
 -- ---- what the laws ask of a game
 
--- an ended state is drawn or won, what an ongoing one is worth at a glance is no mate, it has a move, and captures are moves
+-- an ended state is drawn or won, what an ongoing one is worth at a glance is no mate, it has a move, and captures
+-- are moves
 pub record PlayLaws {X M : Type 0} (g : Play X M) : Type 0 where
   pub ends : (x : X) (ply : ℕ) (v : ℤ) → g.ended x ply ≡ Some v → (v ≡ pos 0) ⊎ IsWorthAt ply v
   pub calm : (x : X) → IsCalm (g.eval x)
@@ -53,7 +54,8 @@ QuietValuesAreScores {X = X} g = (limit ply : ℕ) (x : X) → IsScore ply (ply 
 
 abbrev pub RootValuesAreScores : {X M : Type 0} → Play X M → Type 0
 RootValuesAreScores {X = X} {M = M} g =
-    (depth : ℕ) (x : X) (roots : List M) (m : M) → 0 < depth → Member m roots → IsScore 1 (depth + 4) (root_value g depth x roots)
+    (depth : ℕ) (x : X) (roots : List M) (m : M) → 0 < depth → Member m roots
+    → IsScore 1 (depth + 4) (root_value g depth x roots)
 
 -- some root move attains the value
 abbrev pub RootsAttain : {X M : Type 0} → Play X M → Type 0

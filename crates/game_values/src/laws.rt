@@ -5,7 +5,8 @@ ghost use Rattle.rules_model.specs.declared.rules.Rules.{Rules};
 ghost use Rattle.game_values.specs.Laws.{IsAttained, LargeScoresAreEnds, MatesAreNear, PlayLaws, QuietValuesAreScores, RootsAreASet, RootsAreLines, RootsAttain, RootValuesAreScores, TreesGrow, ValuesAreScores, Within};
 ghost use Rattle.game_values.specs.Values.{play, Play, quiet, tree, value};
 
-/// Games by the rules of play meet what the laws ask of a game: an ended game is drawn or won, and an ongoing one has a legal move.
+/// Games by the rules of play meet what the laws ask of a game: an ended game is drawn or won, and an ongoing one has
+/// a legal move.
 pub fn games_are_play()
     ensures { (rules : Rules) → PlayLaws (play rules) }
 {}
@@ -16,7 +17,8 @@ pub fn ended_states_have_the_value_of_their_end<X, M>()
     ensures quiet_values { (g : Play X M) (limit ply : ℕ) (x : X) (v : ℤ) → g.ended x ply ≡ Some v → quiet g limit ply x ≡ v }
 {}
 
-/// A value is from -30,000 to 30,000, or it is that of an end that is no further from the root than the depth and four captures.
+/// A value is from -30,000 to 30,000, or it is that of an end that is no further from the root than the depth and
+/// four captures.
 pub fn values_are_scores<X, M>()
     ensures quiet_values { (g : Play X M) → PlayLaws g → QuietValuesAreScores g }
     ensures values { (g : Play X M) → PlayLaws g → ValuesAreScores g }
@@ -40,15 +42,16 @@ pub fn roots_are_a_set<X, M>()
     ensures { (g : Play X M) → RootsAreASet g }
 {}
 
-/// There is at least one line, there are more of more moves, and those that begin with different root moves are different.
+/// There is at least one line, there are more of more moves, and those that begin with different root moves are
+/// different.
 pub fn trees_grow<X, M>()
     ensures some { (g : Play X M) (length : ℕ) (x : X) → 1 ≤ tree g length x }
     ensures longer { (g : Play X M) → TreesGrow g }
     ensures roots { (g : Play X M) → RootsAreLines g }
 {}
 
-/// A mate that a search of some depth finds is an end within the depth and four captures, so near that the bound of a solve for it is
-/// within what the depth allows.
+/// A mate that a search of some depth finds is an end within the depth and four captures, so near that the bound of a
+/// solve for it is within what the depth allows.
 pub fn mates_are_near()
     ensures ends { LargeScoresAreEnds }
     ensures solves { MatesAreNear }

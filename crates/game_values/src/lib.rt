@@ -1,5 +1,6 @@
-//! The value of a game at a depth, and how many lines a search of it goes along: definitions over any game of two sides, and over
-//! games by the rules of play with their whole history. Their laws are the contracts of functions without code.
+//! The value of a game at a depth, and how many lines a search of it goes along: definitions over any game of two
+//! sides, and over games by the rules of play with their whole history. Their laws are the contracts of functions
+//! without code.
 #![tactic(auto)]
 
 mod laws;

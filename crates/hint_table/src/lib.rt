@@ -1,9 +1,9 @@
 //! Hints that order a search, shared by its workers: what an earlier look at a position left, or what a look at another
 //! position left in its place.
 //!
-//! A table is a row of words of 64 bits. A word holds a hint of 40 bits and 24 bits of the key of its position, and the
-//! newest hint is kept. Workers read and write words at any time and nobody waits. So a search may use what it gets to choose
-//! what it looks at first, and for nothing else: no contract says what a table answers.
+//! A table is a row of words of 64 bits. A word holds a hint of 40 bits and 24 bits of the key of its position, and
+//! the newest hint is kept. Workers read and write words at any time and nobody waits. So a search may use what it
+//! gets to choose what it looks at first, and for nothing else: no contract says what a table answers.
 #![tactic(auto)]
 
 #[cfg(test)]
@@ -72,7 +72,8 @@ impl HintTable {
         Ok(HintTable { words: cells })
     }
 
-    /// Writes each word of the table: a table of 0 has no hint, and any other word may be taken for a hint of any position.
+    /// Writes each word of the table: a table of 0 has no hint, and any other word may be taken for a hint of any
+    /// position.
     pub fn fill(&self, word: u64) {
         for cell in &self.words {
             cell.store(word);
