@@ -1,7 +1,7 @@
 ghost use Rattle.rules_model.specs.Fit.{IsFit};
 
 use super::*;
-use rules_model::{Cause, Move, Outcome, Position, Promo, Rules, Side, repeat_of, sound};
+use rules_model::{Blocked, Cause, Move, Outcome, Position, Promo, Rules, Side, repeat_of, sound};
 use sample_rules::{chess, position, square};
 use std::alloc::Global;
 use std::process::Abort;
@@ -18,6 +18,15 @@ fn go(text: &str) -> Move {
     }
 }
 
+/// Plays the moves of the text.
+fn play_all(rt: &impl Abort, game: &mut Game, moves: &str) {
+    for text in moves.split(' ') {
+        if !text.is_empty() {
+            assert_eq!(rt; game.play(&go(text)), Ok(()), "{text}");
+        }
+    }
+}
+
 /// The game of the moves from the position.
 fn game<R: Abort>(
     rt: &R,
@@ -30,129 +39,145 @@ fn game<R: Abort>(
 {
     assert!(rt; sound(rules, start));
     let mut game = Game::new(alloc, rules, start)?;
-    for text in moves.split(' ') {
-        if !text.is_empty() {
-            assert_eq!(rt; game.play(&go(text)), Ok(()), "{text}");
-        }
-    }
+    play_all(rt, &mut game, moves);
     Ok(game)
 }
 
-/// `7k/8/5KQ1/8/8/8/8/8 w - - 99 80`
-fn late() -> Position {
+/// The kings on their squares, and a rook that never moves.
+const KINGS: &str = "Ke1 ke8 Ra1";
+
+/// Both kings go one square, and come back.
+const ROUND: &str = "e1d1 e8d8 d1e1 d8e8";
+
+/// King and queen against a king.
+const QUEEN: &str = "kh8 Kf6 Qg6";
+
+/// The pieces after so many moves of one side without a capture or a pawn's move.
+fn at_count(pieces: &str, counter: u16) -> Position {
     Position {
-        counter: 99,
+        counter,
         number: 80,
-        ..position("kh8 Kf6 Qg6")
+        ..position(pieces)
     }
 }
 
-const ROUND: &str = "e1d1 e8d8 d1e1 d8e8";
-
-#[test]
-fn results(rt: HostRuntime) -> Result<(), Fail> {
-    let rules = chess();
-    let kings = position("Ke1 ke8 Ra1");
-    let twice = "e1d1 e8d8 d1e1 d8e8 e1d1 e8d8 d1e1";
-    let thrice = "e1d1 e8d8 d1e1 d8e8 e1d1 e8d8 d1e1 d8e8";
-    let rows = [
-        (rules.start, "", Outcome::Ongoing),
-        (kings, ROUND, Outcome::Ongoing),
-        (kings, twice, Outcome::Ongoing),
-        // The start is the first of the three.
-        (kings, thrice, Outcome::Drawn(Cause::Repetition)),
-        (late(), "", Outcome::Ongoing),
-        (late(), "g6g5", Outcome::Drawn(Cause::MoveCount)),
-        // Checkmate comes before the move count, and so does stalemate.
-        (late(), "g6g7", Outcome::Won(Side::White, Cause::Checkmate)),
-        (late(), "g6f7", Outcome::Drawn(Cause::Stalemate)),
-    ];
-    for (start, moves, outcome) in &rows {
-        let game = game(&rt, rt.alloc(), &rules, start, moves)?;
-        assert_eq!(rt; game.outcome(), *outcome, "{moves}");
-    }
+/// The result of the game of chess from the pieces, at a count of moves.
+fn expect_outcome(
+    rt: &impl Abort,
+    alloc: Global,
+    row: &(&str, u16, &str, Outcome),
+) -> Result<(), Fail> {
+    let (pieces, counter, moves, outcome) = *row;
+    let game = game(rt, alloc, &chess(), &at_count(pieces, counter), moves)?;
+    assert_eq!(rt; game.outcome(), outcome, "{moves}");
     Ok(())
 }
 
 #[test]
-fn moves_are_played_and_taken_back(rt: HostRuntime) -> Result<(), Fail> {
-    let rules = chess();
-    let start = position("Ke1 ke8 Ra1");
-    let mut game = game(&rt, rt.alloc(), &rules, &start, ROUND)?;
-    game.is_played();
-    assert_eq!(rt; game.play(&go("e1e3")), Err(PlayFault::Illegal));
-    assert_eq!(rt; game.moves().len(), 4);
-    assert_eq!(rt; game.history().len(), 5);
-    assert_eq!(rt; (game.position().counter, game.position().number), (4, 3));
-    assert_eq!(rt; game.repeats(&start), 2);
-    assert_eq!(rt; game.undo(), Ok(()));
-    assert_eq!(rt; game.repeats(&start), 1);
-    for _ply in 0..3 {
+fn results(rt: HostRuntime) -> Result<(), Fail> {
+    let twice = "e1d1 e8d8 d1e1 d8e8 e1d1 e8d8 d1e1";
+    let thrice = "e1d1 e8d8 d1e1 d8e8 e1d1 e8d8 d1e1 d8e8";
+    let mate = Outcome::Won(Side::White, Cause::Checkmate);
+    let rows = [
+        (KINGS, 0, twice, Outcome::Ongoing),
+        // The start is the first of the three.
+        (KINGS, 0, thrice, Outcome::Drawn(Cause::Repetition)),
+        (QUEEN, 99, "", Outcome::Ongoing),
+        (QUEEN, 99, "g6g5", Outcome::Drawn(Cause::MoveCount)),
+        // Checkmate comes before the move count, and so does stalemate.
+        (QUEEN, 99, "g6g7", mate),
+        (QUEEN, 99, "g6f7", Outcome::Drawn(Cause::Stalemate)),
+    ];
+    for row in &rows {
+        expect_outcome(&rt, rt.alloc(), row)?;
+    }
+    Ok(())
+}
+
+/// Takes back each of so many moves.
+fn undo_all(rt: &impl Abort, game: &mut Game, plies: usize) {
+    for _ply in 0..plies {
         assert_eq!(rt; game.undo(), Ok(()));
     }
+}
+
+#[test]
+fn moves_are_played_and_taken_back(rt: HostRuntime) -> Result<(), Fail> {
+    let start = position(KINGS);
+    let mut game = game(&rt, rt.alloc(), &chess(), &start, ROUND)?;
+    assert_eq!(rt; game.play(&go("e1e3")), Err(PlayFault::Illegal));
+    let lengths = (game.moves().len(), game.history().len());
+    assert_eq!(rt; lengths, (4, 5));
+    undo_all(&rt, &mut game, 4);
     assert_eq!(rt; game.undo(), Err(NothingPlayed));
     assert!(rt; *game.position() == start);
+    Ok(())
+}
+
+#[test]
+fn a_game_knows_its_rules(rt: HostRuntime) -> Result<(), Fail> {
+    let game = game(&rt, rt.alloc(), &chess(), &position(KINGS), "")?;
+    game.is_played();
     assert_eq!(rt; game.rules().n_fold, 3);
     assert_eq!(rt; game.tables().rules().n_fold, 3);
     Ok(())
 }
 
-/// Plays so many plies of `ROUND`, over and over.
-fn go_round(rt: &impl Abort, game: &mut Game, plies: usize) {
-    let moves = [go("e1d1"), go("e8d8"), go("d1e1"), go("d8e8")];
-    for ply in 0..plies {
-        assert_eq!(rt; game.play(&moves[ply % 4]), Ok(()));
+/// Asserts that these are the first positions of the game.
+fn expect_first(rt: &impl Abort, blocked: &Blocked, game: &Game) {
+    for (repeat, kept) in blocked.items.iter().zip(game.history()) {
+        assert!(rt; *repeat == repeat_of(kept));
     }
 }
 
-#[test]
-fn a_game_keeps_so_many_plies(rt: HostRuntime) -> Result<(), Fail> {
-    let rules = chess();
-    let start = position("Ke1 ke8 Ra1");
-    let mut game = game(&rt, rt.alloc(), &rules, &start, "")?;
-    go_round(&rt, &mut game, MOST_PLIES);
-    assert_eq!(rt; game.play(&go("e1d1")), Err(PlayFault::TooLong));
-    assert_eq!(rt; game.play(&go("e1e3")), Err(PlayFault::Illegal));
-    assert_eq!(rt; game.moves().len(), 8192);
-    assert_eq!(rt; game.repeats(&start), 2049);
-    assert_eq!(rt; game.outcome(), Outcome::Drawn(Cause::Repetition));
-    assert_eq!(rt; game.blocked(rt.alloc())?.items.len(), 4);
+/// How often the start stood in the game of the moves, and how many of its first positions are blocked.
+fn expect_repeats(rt: &impl Abort, alloc: Global, row: &(&str, u32, usize)) -> Result<(), Fail> {
+    let (moves, count, length) = *row;
+    let start = position(KINGS);
+    let game = game(rt, alloc, &chess(), &start, moves)?;
+    let blocked = game.blocked(alloc)?;
+    let found = (game.repeats(&start), blocked.items.len());
+    assert_eq!(rt; found, (count, length), "{moves}");
+    expect_first(rt, &blocked, &game);
     Ok(())
 }
 
 #[test]
 fn repeats_are_blocked(rt: HostRuntime) -> Result<(), Fail> {
-    let rules = chess();
-    let start = position("Ke1 ke8 Ra1");
     let rows = [
-        ("", 0),
-        ("e1d1 e8d8 d1e1", 0),
-        (ROUND, 1),
-        ("e1d1 e8d8 d1e1 d8e8 e1d1", 2),
+        ("", 1, 0),
+        ("e1d1 e8d8 d1e1", 1, 0),
+        (ROUND, 2, 1),
+        ("e1d1 e8d8 d1e1 d8e8 e1d1", 2, 2),
     ];
-    for (moves, count) in rows {
-        let game = game(&rt, rt.alloc(), &rules, &start, moves)?;
-        let blocked = game.blocked(rt.alloc())?;
-        assert_eq!(rt; blocked.items.len(), count, "{moves}");
-        for (repeat, kept) in blocked.items.iter().zip(game.history()) {
-            assert!(rt; *repeat == repeat_of(kept));
+    for row in &rows {
+        expect_repeats(&rt, rt.alloc(), row)?;
+    }
+    Ok(())
+}
+
+/// How many lists of one move, of two and so on go on from the game of the moves.
+fn expect_counts(
+    rt: &impl Abort,
+    alloc: Global,
+    start: &Position,
+    moves: &str,
+    counts: &[u128],
+) -> Result<(), Fail> {
+    let game = game(rt, alloc, &chess(), start, moves)?;
+    for plies in 1..4u8 {
+        if let Some(count) = counts.get(plies as usize - 1) {
+            assert_eq!(rt; game.perft(alloc, plies)?, *count, "{plies}");
         }
     }
     Ok(())
 }
 
+// A game that is ended by the move count goes on: of the king's squares h7 alone is not attacked.
 #[test]
 fn lists_of_moves_are_counted(rt: HostRuntime) -> Result<(), Fail> {
-    let rules = chess();
-    let start = game(&rt, rt.alloc(), &rules, &rules.start, "")?;
-    assert_eq!(rt; start.perft(rt.alloc(), 1)?, 20);
-    assert_eq!(rt; start.perft(rt.alloc(), 2)?, 400);
-    assert_eq!(rt; start.perft(rt.alloc(), 3)?, 8902);
-    let mated = game(&rt, rt.alloc(), &rules, &late(), "g6g7")?;
-    assert_eq!(rt; mated.perft(rt.alloc(), 1)?, 0);
-    assert_eq!(rt; mated.perft(rt.alloc(), 2)?, 0);
-    // A game that is ended by the move count goes on: of the king's squares h7 alone is not attacked.
-    let drawn = game(&rt, rt.alloc(), &rules, &late(), "g6g5")?;
-    assert_eq!(rt; drawn.perft(rt.alloc(), 1)?, 1);
-    Ok(())
+    let alloc = rt.alloc();
+    expect_counts(&rt, alloc, &chess().start, "", &[20, 400, 8902])?;
+    expect_counts(&rt, alloc, &at_count(QUEEN, 99), "g6g7", &[0, 0])?;
+    expect_counts(&rt, alloc, &at_count(QUEEN, 99), "g6g5", &[1])
 }
