@@ -1,0 +1,66 @@
+//! The legal moves.
+ghost use Rattle.std.specs.Prelude.{◌≡◌, ◌↔◌, ◌-◌, ◌^◌, min, not, length, IsTrue, OnOk, OnErr, IfOk};
+ghost use Rattle.foundation.specs.Member.{Member, Appends};
+ghost use Rattle.rules_model.specs.Allowed as Allowed;
+ghost use Rattle.rules_model.specs.Legal as Legal;
+ghost use Rattle.rules_model.specs.Next as Next;
+ghost use Rattle.playing.specs.Stance as Stance;
+
+use crate::board::Board;
+use legality::{
+    any_legal_with, captures, count_legal_with, is_legal_with, legal_moves_with, push_legal_with,
+};
+use rules_model::{Memory, Move, MoveList};
+use std::alloc::Global;
+
+impl Board<'_> {
+    /// Whether the move is legal. Every value of `Move` may be asked for.
+    pub fn is_legal(&self, m: &Move) -> bool
+        ensures is { result ≡ Allowed.is_legal self.now.rules (Stance.repeat_in self.now) m.now }
+        ensures member { IsTrue result ↔ Member m.now (Stance.legal_in self.now) }
+    {
+        let rules = self.tables.rules();
+        is_legal_with(rules, self.tables, &self.position, &self.sets, m)
+    }
+
+    /// Whether there is a legal move. It stops at the first.
+    pub fn any_legal(&self) -> bool
+        ensures { result ≡ not (Legal.is_stuck self.now.rules (Stance.repeat_in self.now)) }
+    {
+        let rules = self.tables.rules();
+        any_legal_with(rules, self.tables, &self.position, &self.sets)
+    }
+
+    /// How many legal moves there are, up to 2^128 - 1. No memory is taken.
+    pub fn count_legal(&self) -> u128
+        ensures { result ≡ min (length (Stance.legal_in self.now)) (2 ^ 128 - 1) }
+    {
+        let rules = self.tables.rules();
+        count_legal_with(rules, self.tables, &self.position, &self.sets)
+    }
+
+    /// Appends the legal moves, each once and in no special order. Without memory the list is as it was.
+    pub fn push_legal(&self, out: &mut MoveList) -> Result<(), Memory>
+        ensures ok { OnOk result (Appends (λ m. Member m (Stance.legal_in self.now)) out.old out.new) }
+        ensures err { OnErr result (out.new ≡ out.old) }
+    {
+        let rules = self.tables.rules();
+        push_legal_with(rules, self.tables, &self.position, &self.sets, out)
+    }
+
+    /// The legal moves, each once and in the byte order of their texts, or `Memory`.
+    pub fn legal_moves(&self, alloc: Global) -> Result<MoveList, Memory>
+        ensures { IfOk result (λ ms. ms ≡ Stance.legal_in self.now) }
+    {
+        let rules = self.tables.rules();
+        legal_moves_with(alloc, rules, self.tables, &self.position, &self.sets)
+    }
+
+    /// Whether the legal move captures. En passant is a capture.
+    pub fn captures(&self, m: &Move) -> bool
+        requires { Member m.now (Stance.legal_in self.now) }
+        ensures { result ≡ Next.captures self.now.rules (Stance.repeat_in self.now) m.now }
+    {
+        captures(self.tables.rules(), &self.position, m)
+    }
+}
