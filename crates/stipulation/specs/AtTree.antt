@@ -1,0 +1,33 @@
+-- A certificate's tree as the check has it: its steps beside the game that is their root.
+use Rattle.std.specs.Prelude.{◌≡◌, ℕ, ◌≤◌, Bool, ◌||◌, List, length, take}
+use Rattle.rules_model.specs.declared.board.Position.{Position}
+use Rattle.rules_model.specs.declared.board.Side.{Side}
+use Rattle.rules_model.specs.declared.moves.Move.{Move}
+use Rattle.rules_model.specs.declared.rules.Rules.{Rules}
+use Rattle.rules_model.specs.Games.{Story}
+use Rattle.rules_model.specs.Sides.{same_side}
+use Rattle.forced_wins.specs.Contests.{Contest}
+use Rattle.game_play.specs.Played.{story}
+use Rattle.stipulation.specs.declared.cert.Step.{Step}
+use Rattle.stipulation.specs.declared.check.Tree.{Tree}
+use Rattle.stipulation.specs.Lines as Lines
+use Rattle.stipulation.specs.Stipulations.{aims}
+use Rattle.stipulation.specs.Trees.{game_at}
+
+-- helpmates or selfmates
+abbrev pub games_for : Bool → Rules → Side → Contest Story Move
+games_for help rules a = aims (λ g. help || same_side g.last.side a) rules a
+
+abbrev pub games : Tree → Contest Story Move
+games t = games_for t.help t.game.now.rules (story t.game.now).last.side
+
+-- the game after the line
+abbrev pub at : Tree → List Position → Story
+at t ps = Lines.along (story t.game.now) ps
+
+abbrev pub AreSound : Tree → List Position → Type 0
+AreSound t ps = Lines.AreSound t.game.now.rules ps
+
+-- the line leads to the last of the earlier steps, and each part of it to the last one of its ply
+abbrev pub IsLineTo : Tree → List Step → List Position → Type 0
+IsLineTo t earlier ps = (q : ℕ) → q ≤ length ps → at t (take q ps) ≡ game_at (games t) (story t.game.now) earlier q

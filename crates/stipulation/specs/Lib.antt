@@ -1,0 +1,5 @@
+pub mod Stipulations
+pub mod Trees
+pub mod Lines
+pub mod Verdicts
+pub mod AtTree

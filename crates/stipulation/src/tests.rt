@@ -1,0 +1,165 @@
+ghost use Rattle.rules_model.specs.Fit.{IsFit};
+
+use super::*;
+use game_play::Game;
+use rules_model::{Move, Position, Promo, Rules, Side, sound};
+use sample_rules::{chess, position, square};
+use std::alloc::Global;
+use std::process::Abort;
+use std::test::Fail;
+
+/// Chess where a side that can capture must.
+fn forced() -> Rules
+    ensures { IsFit result }
+{
+    let mut rules = chess();
+    rules.must_capture = true;
+    rules
+}
+
+/// The move of a text such as `e2e4`, without promotion.
+fn go(text: &str) -> Move {
+    let (from, to) = text.split_at_checked(2).unwrap_or(("", ""));
+    Move::Go {
+        from: square(from),
+        to: square(to),
+        promo: Promo::Stays,
+        gate: None,
+    }
+}
+
+/// The game of the moves from the position, by the rules.
+fn game<R: Abort>(
+    rt: &R,
+    alloc: Global,
+    rules: &Rules,
+    start: &Position,
+    moves: &str,
+) -> Result<Game, Fail>
+    requires { IsFit rules.now }
+{
+    assert!(rt; sound(rules, start));
+    let mut game = Game::new(alloc, rules, start)?;
+    for text in moves.split(' ') {
+        if !text.is_empty() {
+            assert_eq!(rt; game.play(&go(text)), Ok(()), "{text}");
+        }
+    }
+    Ok(game)
+}
+
+/// The certificate of steps such as `1 e2e4`, separated by commas.
+fn cert(alloc: Global, text: &str) -> Result<Cert, Fail> {
+    let mut items = Vec::new(alloc);
+    for step in text.split(", ") {
+        if let Some((ply, chosen)) = step.split_once(' ') {
+            items.push(Step {
+                ply: ply.parse()?,
+                chosen: go(chosen),
+            })?;
+        }
+    }
+    Ok(Cert {
+        steps: Steps { items },
+    })
+}
+
+/// Whether the verdict on the selfmate within n moves prints so.
+fn says_self<R: Abort>(
+    rt: &R,
+    alloc: Global,
+    game: &Game,
+    n: u16,
+    steps: &str,
+    wanted: &str,
+) -> Result<(), Fail> {
+    let verdict = check_self(alloc, game, n, &cert(alloc, steps)?)?;
+    let text = format!(in alloc; "{verdict}")?;
+    assert!(rt; text.as_str() == wanted, "{steps}: {text}");
+    Ok(())
+}
+
+/// The same for the helpmate.
+fn says_help<R: Abort>(
+    rt: &R,
+    alloc: Global,
+    game: &Game,
+    n: u16,
+    steps: &str,
+    wanted: &str,
+) -> Result<(), Fail> {
+    let verdict = check_help(alloc, game, n, &cert(alloc, steps)?)?;
+    let text = format!(in alloc; "{verdict}")?;
+    assert!(rt; text.as_str() == wanted, "{steps}: {text}");
+    Ok(())
+}
+
+/// White to move: after the rook's check on e1 Black must take it, which mates.
+#[test]
+fn a_selfmate_and_its_spoilt_forms(rt: HostRuntime) -> Result<(), Fail> {
+    let start = position("Ka1 Rd1 kg5 re8 rh2");
+    let game = game(&rt, rt.alloc(), &forced(), &start, "")?;
+    let rows = [
+        ("1 d1e1, 2 e8e1", "CertVerdict 0 Holds"),
+        ("", "CertVerdict 6 Unfinished 0"),
+        ("2 d1e1", "CertVerdict 1 BadPly 1"),
+        ("1 d1e1, 3 e8e1", "CertVerdict 1 BadPly 2"),
+        ("1 d1e1", "CertVerdict 5 MissingReply 1 e8e1"),
+        ("1 d1e2", "CertVerdict 2 BadMove 1"),
+        ("1 d1e1, 2 e8e1, 2 e8e1", "CertVerdict 2 BadMove 3"),
+        ("1 d1e1, 2 e8e1, 1 d1d2", "CertVerdict 2 BadMove 3"),
+        ("1 d1e1, 2 e8e1, 3 a1b1", "CertVerdict 2 BadMove 3"),
+    ];
+    for (steps, wanted) in rows {
+        says_self(&rt, rt.alloc(), &game, 1, steps, wanted)?;
+    }
+    says_self(
+        &rt,
+        rt.alloc(),
+        &game,
+        0,
+        "1 d1e1, 2 e8e1",
+        "CertVerdict 3 TooDeep 1",
+    )
+}
+
+/// Black to move, who helps White to mate on the back rank.
+#[test]
+fn a_helpmate_and_its_spoilt_forms(rt: HostRuntime) -> Result<(), Fail> {
+    let start = Position {
+        side: Side::Black,
+        ..position("kg8 Ra7 Kg6")
+    };
+    let game = game(&rt, rt.alloc(), &chess(), &start, "")?;
+    let rows = [
+        ("1 g8h8, 2 a7a8", "CertVerdict 0 Holds"),
+        ("1 g8h8", "CertVerdict 6 Unfinished 1"),
+        ("1 g8h8, 2 a7a8, 2 a7h7", "CertVerdict 2 BadMove 3"),
+        ("1 g8f8, 2 a7a8, 3 f8e7", "CertVerdict 3 TooDeep 3"),
+    ];
+    for (steps, wanted) in rows {
+        says_help(&rt, rt.alloc(), &game, 1, steps, wanted)?;
+    }
+    Ok(())
+}
+
+/// The position at the root has stood twice: the third time the game is drawn.
+#[test]
+fn the_history_counts(rt: HostRuntime) -> Result<(), Fail> {
+    let start = Position {
+        side: Side::Black,
+        ..position("kg8 Ra7 Kg6")
+    };
+    let (chess, again) = (chess(), "1 g8h8, 2 a7b7, 3 h8g8, 4 b7a7");
+    let once = game(&rt, rt.alloc(), &chess, &start, "")?;
+    says_help(
+        &rt,
+        rt.alloc(),
+        &once,
+        3,
+        again,
+        "CertVerdict 6 Unfinished 4",
+    )?;
+    let twice = game(&rt, rt.alloc(), &chess, &start, "g8h8 a7b7 h8g8 b7a7")?;
+    says_help(&rt, rt.alloc(), &twice, 3, again, "CertVerdict 4 NotMate 4")
+}
