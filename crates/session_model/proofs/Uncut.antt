@@ -1,0 +1,146 @@
+-- What nothing cuts is done, and what is announced is won.
+use Rattle.std.proofs.Common.{◌≡◌, ◌⊎◌, inl, inr, ℕ, ◌+◌, ◌*◌, ◌≤◌, ◌<◌, List, [], ◌∷◌, ◌++◌, length, Option, None, refl, sym, ap, subst, arith}
+use Rattle.io_ports.specs.declared.dialect.Dialect.{Dialect}
+use Rattle.io_ports.specs.Lines.{Line}
+use Rattle.rules_model.specs.declared.board.Side.{Side}
+use Rattle.rules_model.specs.declared.moves.Move.{Move}
+use Rattle.rules_model.specs.Sides.{other}
+use Rattle.forced_wins.proofs.StrategyLaws.{good-strategy-wins}
+use Rattle.game_play.specs.Played.{Played, legal_in, story}
+use Rattle.strategy.specs.declared.nodes.Strategy.{Strategy}
+use Rattle.strategy_check.specs.Rows.{kept}
+use Rattle.session_model.specs.Deadlines.{IsReached, deadline_of}
+use Rattle.session_model.specs.Laws.{RunsWhole, MatesAreShown, ShowsWhereWon, MatesAreWon, IsMateWon, ShownWins, AnsweredMatesAreWon, PrintsAll, DepthsArePrinted, ThinksWhole}
+use Rattle.session_model.specs.Mates.{Evidence, IsShown, IsWin, mover}
+use Rattle.session_model.specs.Thinking.{Task, Report, Score, Points, Mates, Mated, Cause, Interrupted, OutOfNodes, OutOfTime, MayCut, IsShort, Ending, Whole, InSearch, InSolve, MayEnd, IsScore, last_best, reported}
+use Rattle.io_ports.specs.declared.dialect.Dialect.TheVariants.{Uci, Cecp}
+use Rattle.game_values.specs.Bounds.{solve_bound}
+use Rattle.watching.specs.Events.{Event, Hears, Says, Reads, Opens, readings, said}
+use Rattle.session_model.specs.UciGo.{Go, last_depth, share_of, time_for}
+use Rattle.session_model.specs.UciSession.{Answers, GoesBy, Shown, Unsettled, Stopped, NoMate, first_of, task_of}
+use Rattle.session_model.specs.UciState.{State}
+use Rattle.session_model.specs.UciTexts.{best_line, depth_lines}
+use Rattle.session_model.specs.Turns.{Turn, lines_in}
+use Rattle.session_model.specs.CecpSession as CecpSession
+use Rattle.forced_wins.proofs.Blocked.{wins-grow}
+
+-- nothing cuts
+no_cut : (dialect : Dialect) (share time : Option ℕ) (bound : ℕ) (taken : List ℕ) (following : List Line) (cause : Cause)
+    → share ≡ None → time ≡ None → MayCut dialect ⊥ share time bound taken following cause → ⊥
+no_cut dialect share time bound taken following Interrupted no_share no_time h = h.0
+no_cut dialect share time bound taken following OutOfNodes no_share no_time h =
+    subst (λ s. IsShort s bound) no_share h
+no_cut dialect share time bound taken following OutOfTime no_share no_time h =
+    subst (λ t. IsReached (deadline_of t taken) taken) no_time h
+
+whole : (dialect : Dialect) (t : Task) (done : ℕ) (taken : List ℕ) (following : List Line) (ending : Ending)
+    → MayEnd dialect ⊥ t done taken following ending → t.share ≡ None → t.time ≡ None → (ending ≡ Whole) × (done ≡ t.depths)
+whole dialect t done taken following Whole h no_share no_time = (refl, h)
+whole dialect t done taken following (InSearch cause) h no_share no_time =
+    absurd (no_cut dialect t.share t.time _ taken following cause no_share no_time h.1)
+whole dialect t done taken following (InSolve report n cause) h no_share no_time =
+    absurd (no_cut dialect t.share t.time _ taken following cause no_share no_time h.2)
+
+pub runs_whole : RunsWhole
+runs_whole dialect t reports ending taken following h no_share no_time =
+    whole dialect t (length reports) taken following ending h.ended no_share no_time
+
+-- a strategy that is shown wins
+shown_wins : (g : Played) (n : ℕ) (side : Side) (s : Strategy) → IsShown g n side s → IsWin g n side
+shown_wins g n side s h = good-strategy-wins g.rules kept (story g) side n s.attacker s.nodes h.good
+
+out_of_limit : (moves counter n last : ℕ) → n ≤ last → 0 < moves → 2 * moves ≤ counter + 2 * n
+    → (moves ≡ 0) ⊎ (counter + 2 * last < 2 * moves) → ⊥
+out_of_limit moves counter n last few some close (inl none) = absurd (omega arith)
+out_of_limit moves counter n last few some close (inr within) = absurd (omega arith)
+
+pub mates_are_shown : MatesAreShown
+mates_are_shown state go last first turn following (Shown n s best) h no_share no_time limit =
+    (shown_wins state.game n (mover state.game) s h.1, h.0.first)
+mates_are_shown state go last first turn following (Unsettled n e) h no_share no_time limit =
+    out_of_limit _ _ n last h.0.few h.1.unsettled.counted h.1.unsettled.close limit
+mates_are_shown state go last first turn following (Stopped n cause) h no_share no_time limit =
+    no_cut Uci (share_of go state.threads) (time_for go (mover state.game)) (solve_bound state.game.rules n (story state.game))
+    (readings turn.events) following cause no_share no_time h.1
+mates_are_shown state go last first turn following NoMate h no_share no_time limit = h.0
+
+won_by_score : (t : Task) (depth : ℕ) (score : Score) (best : Move) (unsettled : Option Evidence)
+    → IsScore t depth score best unsettled → IsMateWon t.game score
+won_by_score t depth (Points points) best unsettled h = tt
+won_by_score t depth (Mates n s) best unsettled h = shown_wins t.game n (mover t.game) s h.2
+won_by_score t depth (Mated n s) best unsettled h = shown_wins t.game n (other (mover t.game)) s h.2
+
+pub mates_are_won : MatesAreWon
+mates_are_won t depth report h = won_by_score t depth report.score report.best report.unsettled h.scored
+
+-- ---- and so for `go mate`
+
+pub shown_is_won : ShownWins
+shown_is_won = shown_wins
+
+pub answered_is_won : AnsweredMatesAreWon
+answered_is_won owed bound state go last n s first best turn following h =
+    (shown_wins state.game n (mover state.game) s h.1, h.0.first)
+
+pub shows_where_won : ShowsWhereWon
+shows_where_won state go last first turn following (Shown n s best) h no_share no_time limit some =
+    sym (wins-grow state.game.rules n last (story state.game) (mover state.game) h.0.few
+    (shown_wins state.game n (mover state.game) s h.1))
+shows_where_won state go last first turn following (Unsettled n e) h no_share no_time limit some =
+    absurd (out_of_limit _ _ n last h.0.few h.1.unsettled.counted h.1.unsettled.close limit)
+shows_where_won state go last first turn following (Stopped n cause) h no_share no_time limit some =
+    absurd (no_cut Uci (share_of go state.threads) (time_for go (mover state.game)) (solve_bound state.game.rules n (story state.game))
+    (readings turn.events) following cause no_share no_time h.1)
+shows_where_won state go last first turn following NoMate h no_share no_time limit some = sym (h.0 last some (omega arith))
+
+-- ---- all depths
+
+said_append : (before : List Event) (text : List ℕ) → said (before ++ Says text ∷ []) ≡ said before ++ text ∷ []
+said_append [] text = refl
+said_append (Hears line ∷ events) text = said_append events text
+said_append (Says before ∷ events) text = ap (λ more. before ∷ more) (said_append events text)
+said_append (Reads reading ∷ events) text = said_append events text
+said_append (Opens read ∷ events) text = said_append events text
+
+said_last : (events before : List Event) (text : List ℕ) (texts : List (List ℕ)) → events ≡ before ++ Says text ∷ []
+    → said before ≡ texts → said events ≡ texts ++ text ∷ []
+said_last events before text texts are texts_are =
+    subst (λ e. said e ≡ texts ++ text ∷ []) (sym are)
+    (subst (λ ts. said (before ++ Says text ∷ []) ≡ ts ++ text ∷ []) texts_are (said_append before text))
+
+none_more : (reports : List Report) → reports ++ [] ≡ reports
+none_more [] = refl
+none_more (report ∷ reports) = ap (λ more. report ∷ more) (none_more reports)
+
+all_reported : (reports : List Report) (ending : Ending) → ending ≡ Whole → reported reports ending ≡ reports
+all_reported reports ending is = subst (λ e. reported reports e ≡ reports) (sym is) (none_more reports)
+
+prints_by : (state : State) (go : Go) (first : Move) (legal : List Move) (turn : Turn State) (following : List Line)
+    → GoesBy None None (first ∷ legal) ⊥ state go turn following
+    → share_of go state.threads ≡ None → time_for go (mover state.game) ≡ None → PrintsAll state go first turn
+prints_by state go first legal turn following h no_share no_time =
+    let w : (h.ending ≡ Whole) × (length h.reports ≡ last_depth go) =
+    runs_whole Uci (task_of state go) h.reports h.ending (readings turn.events) following h.deepens no_share no_time in
+    record {
+      reports = h.reports;
+      number = w.1;
+      valued = h.deepens.valued;
+      texts =
+          subst (λ reports. said turn.events
+          ≡ depth_lines state.game.rules 1 reports ++ best_line (last_best (first_of first (task_of state go).roots) reports) ∷ [])
+          (all_reported h.reports h.ending w.0)
+          (said_last turn.events h.concludes.before _ _ h.concludes.events_are h.concludes.lines_are);
+    }
+
+pub depths_are_printed : DepthsArePrinted
+depths_are_printed used state turn turns following go first legal h is legal_is no_perft no_mate no_share no_time =
+    prints_by state go first legal turn (lines_in turns ++ following)
+    (subst (λ moves. GoesBy None None moves ⊥ state go turn (lines_in turns ++ following)) legal_is
+    (subst (λ mate. GoesBy None mate (legal_in state.game) ⊥ state go turn (lines_in turns ++ following)) no_mate
+    (subst (λ perft. GoesBy perft go.mate (legal_in state.game) ⊥ state go turn (lines_in turns ++ following)) no_perft
+    (subst (λ command. Answers ⊥ state turn (lines_in turns ++ following) command) is h.1))))
+    no_share no_time
+
+pub thinks_whole : ThinksWhole
+thinks_whole state first answered turn following h no_time =
+    runs_whole Cecp (CecpSession.task_of state) h.reports h.ending (readings h.before) following h.deepens refl no_time
