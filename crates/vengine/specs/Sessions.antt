@@ -3,7 +3,7 @@ use Rattle.std.specs.Prelude.{ℕ, suc, List, [], ◌∷◌, Bool, true, false, 
 use Rattle.io_ports.specs.declared.dialect.Dialect.{Dialect}
 use Rattle.io_ports.specs.declared.dialect.Dialect.TheVariants as dialect
 use Rattle.io_ports.specs.Files.{Contents, Read}
-use Rattle.io_ports.specs.Heard.{heard_word}
+use Rattle.io_ports.specs.Command.{command_word}
 use Rattle.io_ports.specs.Lines.{Line, Text, TooLong}
 use Rattle.io_ports.specs.Source.{Owed}
 use Rattle.game_text.specs.Playing.{words_of}
@@ -47,7 +47,7 @@ Speaks dialect.Cecp sections threads owed contents reads lines readings output =
 abbrev pub quits_first : List (List ℕ) → Bool
 quits_first [] = false
 quits_first (word ∷ words) =
-    if bytes_eq word (codes "quit") then true else if is_some (heard_word word) then false else quits_first words
+    if bytes_eq word (codes "quit") then true else if is_some (command_word word) then false else quits_first words
 
 -- the first of these words is `quit`
 abbrev pub quits_at_once : List (List ℕ) → Bool
