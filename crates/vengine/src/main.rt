@@ -19,9 +19,7 @@ mod strategy_lines;
 mod variants;
 
 use foundation::Memory;
-use io_ports::{
-    MachineClock, MachineFiles, OpenGate, PatientReader, QueuedInput, StandardOutput,
-};
+use io_ports::{MachineClock, MachineFiles, OpenGate, PatientReader, QueuedInput, StandardOutput};
 use program::NO_MEMORY;
 pub use program::run;
 use std::io::{BufReader, ErrorKind, Read};

@@ -139,7 +139,6 @@ module _ {S K C : Type 0} {left : S → Option (List ℕ)} {taken : K → Option
   pub looked_more : {s s' s'' : S} {k k' k'' : K} {c c' c'' : C} {o o' o'' : Owed} {limits : Limits} {nodes nodes' nodes'' : ℕ} (m n : ℕ) {text text' : List ℕ} {why : Option Cut}
       → Looked dialect (Moves left taken given count last s s' k k' c c') o o' limits nodes nodes' m text None
       → Looked dialect (Moves left taken given count last s' s'' k' k'' c' c'') o' o'' limits nodes' nodes'' n text' why
-     
       → Looked dialect (Moves left taken given count last s s'' k k'' c c'') o o'' limits nodes nodes'' (m + n) text' why
   looked_more {o = o} {o' = o'} {o'' = o''} {limits = limits} {nodes = nodes} {nodes' = nodes'} {nodes'' = nodes''} m n {text' = text'} {why = why} a b =
       let le = a.entered in let le' = b.entered in

@@ -42,7 +42,7 @@ pub fn heed<K: Sink>(
 ) -> Result<(), Halt>
     ensures heeds { OnOk result (Heeds dialect (Appends (K.taken sink.old) (K.taken sink.new)) answer line.now None) }
     ensures ended { (why : Halt) → IsErrOf result why → HeedsEnd dialect
-      (Appends (K.taken sink.old) (K.taken sink.new)) answer line.now (K.faults sink.old) (K.faults sink.new) why }
+        (Appends (K.taken sink.old) (K.taken sink.new)) answer line.now (K.faults sink.old) (K.faults sink.new) why }
     ensures later { K.faults sink.old ≤ K.faults sink.new }
 {
     match answer {
