@@ -43,6 +43,17 @@ def custom():
     return "".join(f"[v{i}]\n{pieces}{START}" for i in range(SECTIONS))
 
 
+def one_name():
+    """All sections have one name, and as many lines as a file of one megabyte holds."""
+    lines = "nMoveRule = 40\n" * 135
+    return f"[v:chess]\n{lines}" * SECTIONS
+
+
+def own_lines():
+    """One section has all the lines."""
+    return "[v:chess]\n" + "nMoveRule = 40\n" * 69_000
+
+
 def best(words, runs):
     times = []
     for _ in range(runs):
@@ -57,7 +68,7 @@ def best(words, runs):
 def main():
     runs = int(sys.argv[1]) if len(sys.argv) > 1 else 5
     base = best([], runs)
-    for make in (children, chain, long_chain, wide_chain, custom):
+    for make in (children, chain, long_chain, wide_chain, custom, one_name, own_lines):
         with tempfile.NamedTemporaryFile("w", suffix=".ini") as file:
             text = make()
             file.write(text)

@@ -1,18 +1,13 @@
 -- Lists that are filled place by place, and the table of pieces.
 use Rattle.std.proofs.Common.{◌≡◌, ℕ, zero, suc, ◌+◌, ◌<◌, Bool, true, false, cond, List, [], ◌∷◌, Option, Some, None, length, get_or, map, count_by, refl, sym, ap, ◌∙◌, arith}
 use Rattle.std.specs.List.{find}
-use Rattle.std.specs.Option.{option_map, option_or}
-use Rattle.std.specs.Str.{bytes_eq}
-use Rattle.std.specs.Prelude.{◌-◌, ◌≤◌, if◌then◌else◌, nat_lt, reverse}
-use Rattle.std.proofs.lemmas.List.{ext_get_or, get_or-map, length-map, reverse-append}
-use Rattle.std.proofs.lemmas.List.Folds.{find-append}
+use Rattle.std.specs.Prelude.{◌-◌, ◌≤◌, if◌then◌else◌, nat_lt}
+use Rattle.std.proofs.lemmas.List.{ext_get_or, get_or-map, length-map}
 use Rattle.std.proofs.lemmas.Bool.Decides.{nat_tests}
 use Rattle.foundation.specs.Count.{first_below, or_else}
 use Rattle.foundation.specs.Tests.{one_if}
 use Rattle.foundation.proofs.CountLemmas.{first_below-more}
 use Rattle.foundation.proofs.SetLemmas.{count_by-cons}
-use Rattle.variant_ini.specs.declared.key_line.KeyLine.{KeyLine}
-use Rattle.variant_ini.specs.Section.{last_value, or_here}
 use Rattle.variant_options.specs.PieceTable.{PieceRow, pieces, wordless}
 
 -- a list with the value of a function at each place is the mapped list
@@ -35,27 +30,6 @@ count_by-map f test (x ∷ xs) =
     count_by-cons test (f x) (map f xs)
     ∙ ap (λ n. one_if (test (f x)) + n) (count_by-map f test xs)
     ∙ sym (count_by-cons (λ y. test (f y)) x xs)
-
--- ---- the last line with a key
-
-abbrev pub value_of : KeyLine → List ℕ
-value_of line = line.value
-
-last_step : (found : Option KeyLine) (line : KeyLine) (key : List ℕ) (same : Bool) → bytes_eq line.key key ≡ same → or_here (option_map value_of found) line key ≡ option_map value_of (option_or found (cond same (Some line) None))
-last_step (Some other) line key same e = refl
-last_step None line key true e = ap (λ b. cond b (Some line.value) None) e
-last_step None line key false e = ap (λ b. cond b (Some line.value) None) e
-
--- the last line with a key is the first from the end
-pub last_value_found : (lines : List KeyLine) (key : List ℕ) → last_value lines key ≡ option_map value_of (find (λ line. bytes_eq line.key key) (reverse lines))
-unfolding last_value
-last_value_found [] key = refl
-last_value_found (line ∷ lines) key =
-    ap (λ found. or_here found line key) (last_value_found lines key)
-    ∙ last_step (find (λ line. bytes_eq line.key key) (reverse lines)) line key (bytes_eq line.key key) refl
-    ∙ ap (option_map value_of)
-    (sym (find-append (λ line. bytes_eq line.key key) (reverse lines) (line ∷ []))
-    ∙ ap (find (λ line. bytes_eq line.key key)) (sym (reverse-append (line ∷ []) lines)))
 
 -- ---- what is found first
 

@@ -50,7 +50,7 @@ fn letters_of(sections: &Sections, above: &[Letters], place: usize) -> Letters
     requires above { above.now ≡ table.letters_before sections.now place }
     ensures { result ≡ table.letters_of sections.now place }
 {
-    let own = own_letters(sections.lines(place));
+    let own = own_letters(sections, place);
     letters_by(&own, &inherited(sections, above, place))
 }
 

@@ -1,9 +1,7 @@
 //! What the own lines of a section say, and their faults.
-ghost use Rattle.std.specs.Prelude.{◌≡◌, ◌<◌, IfOk, IfSome, map, length, reverse};
-ghost use Rattle.std.specs.List.{find};
-ghost use Rattle.std.specs.Option.{option_copied, option_map};
-ghost use Rattle.std.specs.Str.{bytes_eq};
-ghost use Rattle.variant_ini.specs.Section.{last_value, section_at};
+ghost use Rattle.std.specs.Prelude.{◌≡◌, ◌<◌, IfOk, IfSome, map, length};
+ghost use Rattle.std.specs.Option.{option_map};
+ghost use Rattle.variant_ini.specs.Section.{section_at};
 ghost use Rattle.variant_options.specs.LineFaults.{piece_named};
 ghost use Rattle.variant_options.specs.PieceTable.{pieces};
 ghost use Rattle.variant_options.specs.PieceView.{piece_view};
@@ -29,33 +27,6 @@ pub(crate) const PIECES: usize = 56;
 /// last line gives, where it gives one.
 pub(crate) type OwnLetters = [Option<Option<Kind>>; PIECES];
 
-fn has_key(line: &KeyLine, key: &[u8]) -> bool
-    ensures { result ≡ bytes_eq line.now.key key.now }
-{
-    let found = &line.key;
-    found.items.as_slice() == key
-}
-
-/// The last line with this key.
-fn last_line<'a>(lines: &'a [KeyLine], key: &[u8]) -> Option<&'a KeyLine>
-    ensures { option_copied result ≡ find (λ line. bytes_eq line.key key.now) (reverse lines.now) }
-{
-    lines.iter().rev().find(|line| has_key(line, key))
-}
-
-/// The value of the last line with this key.
-fn last_value<'a>(lines: &'a [KeyLine], key: &[u8]) -> Option<&'a [u8]>
-    ensures { option_copied result ≡ last_value lines.now key.now }
-{
-    match last_line(lines, key) {
-        Some(line) => {
-            let value = &line.value;
-            Some(value.items.as_slice())
-        }
-        None => None,
-    }
-}
-
 /// The letter that a piece's value gives.
 fn letter_in(value: &[u8]) -> Option<Kind>
     ensures { result ≡ PieceLetters.letter_in value.now }
@@ -67,11 +38,12 @@ fn letter_in(value: &[u8]) -> Option<Kind>
     }
 }
 
-/// What the lines say of a piece.
-fn own_value(lines: &[KeyLine], piece: &[u8]) -> Option<Option<Kind>>
-    ensures { result ≡ own_value lines.now piece.now }
+/// What the lines of the section at a place say of a piece.
+fn own_value(sections: &Sections, section: usize, piece: &[u8]) -> Option<Option<Kind>>
+    requires { section < length sections.now }
+    ensures { result ≡ own_value (section_at sections.now section).lines piece.now }
 {
-    match last_value(lines, piece) {
+    match sections.own_value(section, piece) {
         Some(value) => Some(letter_in(value)),
         None => None,
     }
@@ -100,22 +72,24 @@ pub(crate) fn piece_place(key: &[u8]) -> Option<usize>
     None
 }
 
-/// What the lines say of the piece at a place of the table.
-fn own_at(lines: &[KeyLine], place: usize) -> Option<Option<Kind>>
-    requires { place < 56 }
-    ensures { result ≡ own_value lines.now (piece_row place).key }
+/// What the lines of a section say of the piece at a place of the table.
+fn own_at(sections: &Sections, section: usize, place: usize) -> Option<Option<Kind>>
+    requires section { section < length sections.now }
+    requires place { place < 56 }
+    ensures { result ≡ own_value (section_at sections.now section).lines (piece_row place).key }
 {
     let piece = piece_at(place);
-    own_value(lines, piece.0)
+    own_value(sections, section, piece.0)
 }
 
-/// What the lines say of each piece.
-pub(crate) fn own_letters(lines: &[KeyLine]) -> OwnLetters
-    ensures { result ≡ map (λ piece. own_value lines.now piece.key) pieces }
+/// What the lines of a section say of each piece: each is looked up by its key.
+pub(crate) fn own_letters(sections: &Sections, section: usize) -> OwnLetters
+    requires { section < length sections.now }
+    ensures { result ≡ map (λ piece. own_value (section_at sections.now section).lines piece.key) pieces }
 {
     let mut letters = [None; PIECES];
     for i in 0..PIECES {
-        letters[i] = own_at(lines, i);
+        letters[i] = own_at(sections, section, i);
     }
     letters
 }
@@ -137,12 +111,13 @@ pub(crate) fn letter_given(letters: &OwnLetters, kind: Kind) -> bool
     letters.iter().any(|letter| names(letter.flatten(), kind))
 }
 
-/// The smallest letter that the lines give to more than one piece.
+/// The smallest letter that the lines of a section give to more than one piece.
 #[tactic(auto, using(foundation::proofs::CountLemmas::first), unfolding(variant_model::specs::PieceLetters::letter_twice))]
-fn letter_twice(lines: &[KeyLine]) -> Option<u8>
-    ensures { result ≡ PieceLetters.letter_twice lines.now }
+fn letter_twice(sections: &Sections, section: usize) -> Option<u8>
+    requires { section < length sections.now }
+    ensures { result ≡ PieceLetters.letter_twice (section_at sections.now section).lines }
 {
-    let letters = own_letters(lines);
+    let letters = own_letters(sections, section);
     for k in 0..KINDS {
         if letter_count(&letters, Kind(k)) > 1 {
             return Some(k);
@@ -196,11 +171,10 @@ pub fn own_fault(
     requires { place < length sections.now }
     ensures { IfOk result (λ fault. fault ≡ Entry.own_fault (section_at sections.now place).lines) }
 {
-    let lines = sections.lines(place);
-    if let Some(fault) = lines_fault(alloc, lines)? {
+    if let Some(fault) = lines_fault(alloc, sections.lines(place))? {
         return Ok(Some(fault));
     }
-    Ok(match letter_twice(lines) {
+    Ok(match letter_twice(sections, place) {
         Some(letter) => Some(SectionFault::LetterTwice(Kind(letter))),
         None => None,
     })

@@ -2,7 +2,7 @@
 
 ghost use Rattle.std.specs.Prelude.{◌≡◌, ◌<◌, ◌++◌, ◌∷◌, ℕ, List, None, [], length, IfErr, IfOk, IfSome, OnOk, OnErr};
 ghost use Rattle.std.specs.Option.{option_copied};
-ghost use Rattle.variant_ini.specs.Section.{section_at};
+ghost use Rattle.variant_ini.specs.Section.{last_value, section_at};
 ghost use Rattle.variant_ini.specs.FileLines.{AreFileLines};
 ghost use Rattle.variant_ini.specs.Lone.{lone_section};
 ghost use Rattle.variant_ini.specs.Reading.{fault_of, sections_in, IsFaultOrMemory};
@@ -159,6 +159,15 @@ impl Sections {
     {
         let section = &self.sections[section];
         section.lines()
+    }
+
+    /// The value of a section's own last line for a key. Takes no memory, and time that grows with the logarithm of its lines.
+    pub fn own_value(&self, section: usize, key: &[u8]) -> Option<&[u8]>
+        requires { section < length self.now }
+        ensures { option_copied result ≡ last_value (section_at self.now section).lines key.now }
+    {
+        let section = &self.sections[section];
+        section.last_value(key, class_of(key))
     }
 
     /// The value of a key in a section: that of its own last line for the key, else the value of the key in the first

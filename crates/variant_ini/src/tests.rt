@@ -35,16 +35,50 @@ fn options_come_from_the_nearest_section(rt: HostRuntime) -> Result<(), Fail> {
             "{key:?} of {section}"
         );
     }
-    assert_eq!(rt; sections.name(6), b"=x".as_slice());
-    assert!(rt; sections.parent(2) == Some(b"b".as_slice()));
-    assert!(rt; sections.parent(5).is_none());
-    assert!(rt; sections.parent_place(6) == Some(0));
-    assert!(rt; sections.parent_place(3) == Some(1));
-    assert!(rt; sections.parent_place(4).is_none());
-    assert_eq!(rt; sections.lines(0).len(), 3);
-    for line in sections.lines(1) {
-        assert_eq!(rt; line.key.items.as_slice(), b"X".as_slice());
-        assert!(rt; line.value.items.is_empty());
+    Ok(())
+}
+
+#[test]
+fn sections_have_names_parents_and_lines(rt: HostRuntime) -> Result<(), Fail> {
+    let mut sections = Sections::new(rt.alloc());
+    sections.add(BASE)?;
+    sections.add(MORE)?;
+    let rows: [(&[u8], Option<&[u8]>, Option<usize>, usize); 7] = [
+        (b"a", None, None, 3),
+        (b"b", Some(b"a"), Some(0), 1),
+        (b"a", Some(b"b"), Some(1), 1),
+        (b"c", Some(b"b"), Some(1), 0),
+        (b"d", Some(b"e"), None, 0),
+        (b"e", None, None, 1),
+        (b"=x", Some(b"a"), Some(0), 0),
+    ];
+    assert_eq!(rt; sections.len(), rows.len());
+    for (section, (name, parent, place, lines)) in rows.into_iter().enumerate() {
+        assert!(rt; section < sections.len());
+        assert!(rt; sections.name(section) == name);
+        assert!(rt; sections.parent(section) == parent);
+        assert!(rt; sections.parent_place(section) == place);
+        assert!(rt; sections.lines(section).len() == lines);
+    }
+    Ok(())
+}
+
+#[test]
+fn own_values_are_not_inherited(rt: HostRuntime) -> Result<(), Fail> {
+    let mut sections = Sections::new(rt.alloc());
+    sections.add(BASE)?;
+    let rows: [(usize, &[u8], Option<&[u8]>); 4] = [
+        (0, b"x", Some(b"2 # two")),
+        (0, b"X", None),
+        (1, b"X", Some(b"")),
+        (1, b"x", None),
+    ];
+    for (section, key, value) in rows {
+        assert!(rt; section < sections.len());
+        assert!(rt;
+            sections.own_value(section, key) == value,
+            "{key:?} of {section}"
+        );
     }
     Ok(())
 }

@@ -1,11 +1,8 @@
-use Rattle.std.proofs.Common.{ap, ◌∙◌, map}
-use Rattle.variant_options.specs.PieceTable.{pieces}
-use Rattle.section_rules.specs.Own.{own_value}
+use Rattle.std.proofs.Common.{◌∙◌}
 use Rattle.section_rules.proofs.LetterLemmas.{letters_are}
 use Rattle.section_rules.proofs.letters.letters_of.Goals as goal
 
 pub returns : goal.returns
 returns c =
     c.letters_by.ensures
-    ∙ letters_are c.args.sections.now c.args.place c.own_letters-own.result c.inherited.result
-    (c.own_letters-own.ensures ∙ ap (λ lines. map (λ piece. own_value lines piece.key) pieces) c.lines.ensures) c.inherited.ensures
+    ∙ letters_are c.args.sections.now c.args.place c.own_letters-own.result c.inherited.result c.own_letters-own.ensures c.inherited.ensures
