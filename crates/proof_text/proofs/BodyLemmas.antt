@@ -1,100 +1,86 @@
--- The strategy, line by line.
-use Rattle.std.proofs.Common.{◌≡◌, ℕ, ◌+◌, ◌-◌, ◌≤◌, List, Some, Ok, Err, length, drop, refl, sym, ap, subst, ◌∙◌}
-use Rattle.std.specs.Prelude.{Result, codes, slice_get}
-use Rattle.std.proofs.lemmas.List.{drop_all}
-use Rattle.io_ports.specs.Lines.{Line, Text}
+-- The strategy of a proof text, and its faults in the whole text.
+use Rattle.std.proofs.Common.{◌≡◌, ◌≤◌, ℕ, ◌-◌, List, Option, Ok, Err, refl, ap, sym, subst, ◌∙◌}
+use Rattle.std.specs.Prelude.{Result}
+use Rattle.io_ports.specs.Lines.{Line}
 use Rattle.rules_model.specs.declared.rules.Rules.{Rules}
+use Rattle.game_text.specs.HeardLines.{HeardLines}
+use Rattle.game_text.proofs.HeardLemmas.{heard_so, same_needed}
 use Rattle.strategy.specs.declared.fault.StrategyFault.{StrategyFault}
+use Rattle.strategy.specs.declared.fault.StrategyFault.TheVariants as strategy_fault
 use Rattle.strategy.specs.declared.nodes.Strategy.{Strategy}
-use Rattle.strategy.specs.declared.reader.Reader.{Reader}
 use Rattle.strategy.specs.Fault.{IsFaultOrMemory}
-use Rattle.strategy.specs.Reading.{◌>>=◌, Answers, begun, finished, step, strategy_of, taken}
-use Rattle.strategy.proofs.ReadLemmas.{fault-is, fault-so, taken-cons, taken-none}
 use Rattle.game_play.specs.Played.{Played}
 use Rattle.game_text.specs.declared.goal.Goal.{Goal}
-use Rattle.strategy.specs.declared.fault.StrategyFault.TheVariants as strategy_fault
 use Rattle.proof_text.specs.declared.fault.ProofFault.{ProofFault}
 use Rattle.proof_text.specs.declared.fault.ProofFault.TheVariants.{Header, BadRules, RefusedRules, BadStart, BadHistory, BadBody, Memory}
+use Rattle.proof_text.specs.declared.proof.Proof.{Proof}
 use Rattle.proof_text.specs.Fault as proof_text
 use Rattle.proof_text.specs.Fault.{HasBodyFault, moved_down}
-use Rattle.proof_text.specs.Reading.{body_at, body_on, with_strategy}
-use Rattle.proof_text.proofs.LineLemmas.{drop-at}
+use Rattle.proof_text.specs.Reading.{body_of, body_on, lines_of_body, with_strategy}
+use Rattle.proof_text.specs.declared.strategy_lines.NoStrategy.{NoStrategy}
+use Rattle.proof_text.specs.declared.strategy_lines.NoStrategy.TheVariants as by
+use Rattle.proof_text.specs.declared.taking.NoProof.{NoProof}
+use Rattle.proof_text.specs.declared.taking.NoProof.TheVariants.{Faulty, Unread}
+use Rattle.proof_text.specs.StrategyView as strategy
+use Rattle.proof_text.specs.StrategyView.{HasBodyWhy}
+use Rattle.proof_text.specs.TakingView.{HasWhy, Hears, IsUnread}
 
-abbrev then_rest : Rules → List Line → Reader → Result Reader StrategyFault
-then_rest rules rest next = taken rules next rest
+module _ (number : ℕ) (g : Played) (goal : Goal) where
+  -- what was heard of the strategy
+  pub body-heard : (a b : Option (List ℕ)) (rules : Rules) (P : Result Strategy StrategyFault → Type 0) (Q : Result Proof ProofFault → Type 0) → rules ≡ g.rules
+      → HeardLines a b (lines_of_body rules) (λ lines. P (body_of rules lines)) → ((r : Result Strategy StrategyFault) → P r → Q (with_strategy number g goal r))
+      → Hears a b (body_on number g goal) Q
+  unfolding body_on
+  body-heard a b rules P Q same heard so =
+      heard_so a b _ _ _ _ (subst (λ (r : Rules). HeardLines a b (lines_of_body r) (λ lines. P (body_of r lines))) same heard)
+      (same_needed _) (λ lines says. so (body_of g.rules lines) says)
 
-abbrev version : Line
-version = Text (codes "strategy 1")
+  -- ---- the fault of the whole text
 
-module _ (rules : Rules) (lines : List Line) (number : ℕ) where
-  -- what the strategy says, by what its lines before this place say
-  abbrev pub StandsAt : ℕ → Reader → Type 0
-  StandsAt place b = body_at lines number rules ≡ (taken rules b (drop place lines) >>= finished)
+  body_bad : (r : Result Strategy StrategyFault) (bad moved : StrategyFault) → r ≡ Err bad → moved ≡ moved_down (number - 2) bad → with_strategy number g goal r ≡ Err (BadBody moved)
+  body_bad r bad moved says is = ap (with_strategy number g goal) says ∙ ap (λ m. Err (BadBody m)) (sym is)
 
-  begins : body_at lines number rules ≡ ((step rules begun version >>= then_rest rules (drop (number - 1) lines)) >>= finished)
-  unfolding strategy_of
-  begins = ap (λ r. r >>= finished) (taken-cons rules begun version (drop (number - 1) lines))
+  why_so : (r : Result Strategy StrategyFault) (why moved : StrategyFault) → IsFaultOrMemory r why → (why ≡ strategy_fault.Memory → ⊥) → moved ≡ moved_down (number - 2) why → with_strategy number g goal r ≡ Err (BadBody moved)
+  why_so r strategy_fault.Memory moved says not is = absurd (not refl)
+  why_so r (strategy_fault.Header line) moved says not is = body_bad r (strategy_fault.Header line) moved says is
+  why_so r (strategy_fault.BadLine line) moved says not is = body_bad r (strategy_fault.BadLine line) moved says is
+  why_so r (strategy_fault.BadPosition line bad) moved says not is = body_bad r (strategy_fault.BadPosition line bad) moved says is
+  why_so r (strategy_fault.BadMove line) moved says not is = body_bad r (strategy_fault.BadMove line) moved says is
+  why_so r (strategy_fault.BadNumber line) moved says not is = body_bad r (strategy_fault.BadNumber line) moved says is
+  why_so r (strategy_fault.Ended line) moved says not is = body_bad r (strategy_fault.Ended line) moved says is
 
-  pub stands-first : (start b : Reader) (text : List ℕ) → start ≡ begun → text ≡ codes "strategy 1" → step rules start (Text text) ≡ Ok b → StandsAt (number - 1) b
-  stands-first start b text new first is =
-      begins ∙ ap (λ r. (r >>= then_rest rules (drop (number - 1) lines)) >>= finished) ((λ i. step rules (sym new i) (Text (sym first i))) ∙ is)
+  pub body-fault : (r : Result Strategy StrategyFault) (why : StrategyFault) (bad : ProofFault) → HasBodyFault (number - 2) why bad → IsFaultOrMemory r why → proof_text.IsFaultOrMemory (with_strategy number g goal r) bad
+  body-fault r why Memory is says = tt
+  body-fault r why (BadBody moved) is says = why_so r why moved says is.1 is.0
+  body-fault r why (Header line) is says = absurd is
+  body-fault r why (BadRules line) is says = absurd is
+  body-fault r why (RefusedRules bad) is says = absurd is
+  body-fault r why (BadStart line bad) is says = absurd is
+  body-fault r why (BadHistory line) is says = absurd is
 
-  pub first-fault : (start : Reader) (text : List ℕ) (fault : StrategyFault) → start ≡ begun → text ≡ codes "strategy 1" → IsFaultOrMemory (step rules start (Text text)) fault
-      → IsFaultOrMemory (body_at lines number rules) fault
-  first-fault start text fault new first is =
-      fault-so (step rules start (Text text)) (body_at lines number rules)
-      (λ e said. begins ∙ ap (λ r. (r >>= then_rest rules (drop (number - 1) lines)) >>= finished) ((λ i. step rules (sym new i) (Text (sym first i))) ∙ said)) fault is
+  -- ---- what was heard, by the answer
 
-  goes_on : (place : ℕ) (b : Reader) (x : Line) → slice_get lines place ≡ Some x → StandsAt place b
-      → body_at lines number rules ≡ ((step rules b x >>= then_rest rules (drop (place + 1) lines)) >>= finished)
-  goes_on place b x here stands =
-      stands
-      ∙ ap (λ rest. taken rules b rest >>= finished) (drop-at lines place x here)
-      ∙ ap (λ r. r >>= finished) (taken-cons rules b x (drop (place + 1) lines))
+  pub body-good : (a b : Option (List ℕ)) (rules : Rules) (s : Strategy) → rules ≡ g.rules → HeardLines a b (lines_of_body rules) (λ lines. body_of rules lines ≡ Ok s)
+      → Hears a b (body_on number g goal) (λ said. said ≡ Ok (record { game = g; attacker = goal.attacker; n = goal.moves; strategy = s }))
+  body-good a b rules s same heard =
+      body-heard a b rules (λ (r : Result Strategy StrategyFault). r ≡ Ok s)
+      (λ (said : Result Proof ProofFault). said ≡ Ok (record { game = g; attacker = goal.attacker; n = goal.moves; strategy = s })) same heard
+      (λ r says. ap (with_strategy number g goal) says)
 
-  pub stands-next : (place : ℕ) (b next : Reader) (x : Line) → slice_get lines place ≡ Some x → step rules b x ≡ Ok next → StandsAt place b → StandsAt (place + 1) next
-  stands-next place b next x here took stands =
-      goes_on place b x here stands ∙ ap (λ r. (r >>= then_rest rules (drop (place + 1) lines)) >>= finished) took
+  why_says : (r : Result Strategy StrategyFault) (why : NoStrategy) (other : NoProof) → HasBodyWhy (number - 2) why other → strategy.HasWhy r why → HasWhy (with_strategy number g goal r) other
+  why_says r (by.Faulty fault) (Faulty bad) is says = body-fault r fault bad is says
+  why_says r (by.Faulty fault) Unread is says = absurd is
+  why_says r by.Unread (Faulty bad) is says = absurd is
+  why_says r by.Unread Unread is says = tt
 
-  pub stands-fault : (place : ℕ) (b : Reader) (x : Line) (fault : StrategyFault) → slice_get lines place ≡ Some x → IsFaultOrMemory (step rules b x) fault → StandsAt place b
-      → IsFaultOrMemory (body_at lines number rules) fault
-  stands-fault place b x fault here is stands =
-      fault-so (step rules b x) (body_at lines number rules)
-      (λ e said. goes_on place b x here stands ∙ ap (λ r. (r >>= then_rest rules (drop (place + 1) lines)) >>= finished) said) fault is
+  pub body-bad : (a b : Option (List ℕ)) (rules : Rules) (why : NoStrategy) (other : NoProof) → rules ≡ g.rules → HasBodyWhy (number - 2) why other
+      → HeardLines a b (lines_of_body rules) (λ lines. strategy.HasWhy (body_of rules lines) why) → Hears a b (body_on number g goal) (λ said. HasWhy said other)
+  body-bad a b rules why other same is heard =
+      body-heard a b rules (λ (r : Result Strategy StrategyFault). strategy.HasWhy r why) (λ (said : Result Proof ProofFault). HasWhy said other) same heard
+      (λ r says. why_says r why other is says)
 
-  answered : (answer : Result Strategy StrategyFault) → body_at lines number rules ≡ answer → Answers (body_at lines number rules) answer
-  answered (Ok s) is = is
-  answered (Err fault) is = fault-is (body_at lines number rules) fault is
-
-  pub stands-last : (place : ℕ) (b : Reader) (answer : Result Strategy StrategyFault) → length lines ≤ place → StandsAt place b → answer ≡ finished b → Answers (body_at lines number rules) answer
-  stands-last place b answer past stands is =
-      answered answer
-      (stands ∙ ap (λ rest. taken rules b rest >>= finished) (drop_all place lines past) ∙ ap (λ r. r >>= finished) (taken-none rules b) ∙ sym is)
-
--- ---- the fault of the whole text
-
-body_bad : (lines : List Line) (number : ℕ) (g : Played) (goal : Goal) (bad moved : StrategyFault) → body_at lines number g.rules ≡ Err bad → moved ≡ moved_down (number - 2) bad
-    → body_on lines number g goal ≡ Err (BadBody moved)
-unfolding body_on
-body_bad lines number g goal bad moved says is = ap (with_strategy number g goal) says ∙ ap (λ m. Err (BadBody m)) (sym is)
-
-why_so : (lines : List Line) (number : ℕ) (g : Played) (goal : Goal) (why moved : StrategyFault) → IsFaultOrMemory (body_at lines number g.rules) why → (why ≡ strategy_fault.Memory → ⊥) → moved ≡ moved_down (number - 2) why
-    → body_on lines number g goal ≡ Err (BadBody moved)
-why_so lines number g goal strategy_fault.Memory moved says not is = absurd (not refl)
-why_so lines number g goal (strategy_fault.Header line) moved says not is = body_bad lines number g goal (strategy_fault.Header line) moved says is
-why_so lines number g goal (strategy_fault.BadLine line) moved says not is = body_bad lines number g goal (strategy_fault.BadLine line) moved says is
-why_so lines number g goal (strategy_fault.BadPosition line bad) moved says not is = body_bad lines number g goal (strategy_fault.BadPosition line bad) moved says is
-why_so lines number g goal (strategy_fault.BadMove line) moved says not is = body_bad lines number g goal (strategy_fault.BadMove line) moved says is
-why_so lines number g goal (strategy_fault.BadNumber line) moved says not is = body_bad lines number g goal (strategy_fault.BadNumber line) moved says is
-why_so lines number g goal (strategy_fault.Ended line) moved says not is = body_bad lines number g goal (strategy_fault.Ended line) moved says is
-
-pub body-fault : (lines : List Line) (number : ℕ) (g : Played) (goal : Goal) (rules : Rules) (why : StrategyFault) (bad : ProofFault) → rules ≡ g.rules
-    → IsFaultOrMemory (body_at lines number rules) why → HasBodyFault (number - 2) why bad → proof_text.IsFaultOrMemory (body_on lines number g goal) bad
-body-fault lines number g goal rules why Memory same says is = tt
-body-fault lines number g goal rules why (BadBody moved) same says is =
-    why_so lines number g goal why moved (subst (λ (r : Rules). IsFaultOrMemory (body_at lines number r) why) same says) is.1 is.0
-body-fault lines number g goal rules why (Header line) same says is = absurd is
-body-fault lines number g goal rules why (BadRules line) same says is = absurd is
-body-fault lines number g goal rules why (RefusedRules bad) same says is = absurd is
-body-fault lines number g goal rules why (BadStart line bad) same says is = absurd is
-body-fault lines number g goal rules why (BadHistory line) same says is = absurd is
+pub body-unread : (A B : Type 0) (lines : ℕ) (why : NoStrategy) (other : NoProof) → HasBodyWhy lines why other → IsUnread {A = A} (Err other) → strategy.IsUnread {A = B} (Err why)
+body-unread A B lines (by.Faulty fault) (Faulty bad) is unread = absurd unread
+body-unread A B lines (by.Faulty fault) Unread is unread = absurd is
+body-unread A B lines by.Unread (Faulty bad) is unread = absurd unread
+body-unread A B lines by.Unread Unread is unread = tt

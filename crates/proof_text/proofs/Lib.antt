@@ -1,15 +1,12 @@
 pub mod FaultLemmas
 pub mod WordLemmas
-pub mod LineLemmas
+pub mod ReadingLemmas
+pub mod StrategyLemmas
 pub mod BodyLemmas
 pub mod EntryLemmas
-pub mod PairLemmas
-pub mod TakingLemmas
-pub mod HistoryLemmas
 pub mod WriteLemmas
 pub mod PairBackLemmas
 pub mod FileBackLemmas
-pub mod FollowLemmas
 pub mod ToldBackLemmas
 pub mod WordBackLemmas
 pub mod MoveBackLemmas

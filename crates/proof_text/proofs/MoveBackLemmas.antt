@@ -1,8 +1,7 @@
 -- The moves of a game, written line by line, are played again.
 use Rattle.std.proofs.Common.{◌≡◌, ℕ, ◌+◌, true, List, [], ◌∷◌, ◌++◌, Some, Result, Ok, length, map, sym, ap, subst, ◌∙◌, arith, append_assoc, append-nil, length-append}
-use Rattle.std.specs.Option.{option_map}
 use Rattle.foundation.specs.Member.{Member}
-use Rattle.io_ports.specs.Lines.{Line}
+use Rattle.io_ports.specs.Lines.{Line, Text}
 use Rattle.rules_model.specs.declared.board.Position.{Position}
 use Rattle.rules_model.specs.declared.moves.Move.{Move}
 use Rattle.rules_model.specs.declared.rules.Rules.{Rules}
@@ -18,9 +17,8 @@ use Rattle.game_play.proofs.KeptLemmas.{played-last-sound}
 use Rattle.game_play.proofs.StoryLemmas.{legal-front}
 use Rattle.game_text.specs.Playing.{play}
 use Rattle.game_text.proofs.PlayLemmas.{play-longer, plays-named}
-use Rattle.proof_text.specs.declared.fault.ProofFault.{ProofFault}
-use Rattle.proof_text.specs.Reading.{moved, played}
-use Rattle.proof_text.proofs.FollowLemmas.{Follow, follow-here, follow-next}
+use Rattle.proof_text.specs.declared.fault.ProofFault.TheVariants.{BadHistory}
+use Rattle.proof_text.specs.Reading.{game_in, goal_on, line_on, moves_on, said_or}
 
 -- the move after some moves of a game is legal there
 legal-there : (rules : Rules) (g : Story) (done : List Move) (m : Move) (more : List Move)
@@ -57,16 +55,20 @@ module _ (rules : Rules) (start : Position) where
       (omega (arith, few, length-append done (m ∷ more)))
 
   -- the lines of the moves after some moves lead to the whole game
-  pub moves-follow : (lines : List Line) (done more : List Move) (number : ℕ) (rest : List (List ℕ))
-      → IsPlayed (game_of (done ++ more)) → Follow lines number (map text_of more ++ rest)
-      → played lines (length more) number (game_of done) ≡ Ok (game_of (done ++ more))
-  unfolding played
-  moves-follow lines done [] number rest is follow = ap (λ moves. Ok (game_of moves)) (sym (append-nil done))
-  moves-follow lines done (m ∷ more) number rest is follow =
+  pub moves-back : (done more : List Move) (number : ℕ) (rest : List Line) → IsPlayed (game_of (done ++ more))
+      → (moves_on (length more) number (game_of done)).says (map Text (map text_of more) ++ rest)
+      ≡ (goal_on (number + length more) (game_of (done ++ more))).says rest
+  unfolding moves_on line_on
+  moves-back done [] number rest is =
+      let same : number ≡ number + 0 = omega arith in
+      ap (λ k. (goal_on k (game_of done)).says rest) same
+      ∙ ap (λ moves. (goal_on (number + 0) (game_of moves)).says rest) (sym (append-nil done))
+  moves-back done (m ∷ more) number rest is =
       let same = append_assoc done (m ∷ []) more in
+      let further : number + 1 + length more ≡ number + length (m ∷ more) = omega arith in
       let still = subst (λ moves. IsPlayed (game_of moves)) (sym same) is in
-      let goes_on : Played → Result Played ProofFault = played lines (length more) (number + 1) in
-      ap (λ text. moved number (option_map (play (game_of done)) text) goes_on) (follow-here follow)
-      ∙ ap (λ next. moved number (Some next) goes_on) (move-plays done m more is)
-      ∙ moves-follow lines (done ++ m ∷ []) more (number + 1) rest still (follow-next follow)
-      ∙ ap (λ moves. Ok (game_of moves)) same
+      ap (λ said. said_or (BadHistory number) (game_in said) (λ h. (moves_on (length more) (number + 1) h).says (map Text (map text_of more) ++ rest)))
+      (move-plays done m more is)
+      ∙ moves-back (done ++ m ∷ []) more (number + 1) rest still
+      ∙ ap (λ k. (goal_on k (game_of ((done ++ m ∷ []) ++ more))).says rest) further
+      ∙ ap (λ moves. (goal_on (number + length (m ∷ more)) (game_of moves)).says rest) same

@@ -1,8 +1,8 @@
 -- A proof text that was written is read back, part after part, from the last to the first.
 use Rattle.std.proofs.Common.{◌≡◌, ℕ, ◌+◌, ◌^◌, ◌<◌, ◌≤◌, List, [], ◌∷◌, ◌++◌, Result, Ok, length, map, refl, ap, subst, ◌∙◌, arith, append_assoc, length-append}
-use Rattle.std.specs.Prelude.{codes, option_and_then}
+use Rattle.std.specs.Prelude.{codes}
 use Rattle.std.specs.Fmt.{decimal}
-use Rattle.std.proofs.lemmas.List.{length-map}
+use Rattle.std.proofs.lemmas.List.{map-append}
 use Rattle.io_ports.specs.Lines.{Line, Text, lines_of}
 use Rattle.rules_model.specs.declared.board.Side.{Side}
 use Rattle.rules_model.specs.declared.board.Side.TheVariants.{White, Black}
@@ -13,27 +13,24 @@ use Rattle.fen_model.specs.Reading.{fen_of}
 use Rattle.fen_model.proofs.GivesBack.{gives-back}
 use Rattle.fen_model.proofs.JoinLaws.{Each}
 use Rattle.fen_model.proofs.SoundParts.{parts}
-use Rattle.variant_ini.specs.declared.key_line.KeyLine.{KeyLine}
 use Rattle.variant_ini.specs.Section.{Section}
 use Rattle.variant_model.specs.Told.{line_of, told}
 use Rattle.game_play.specs.Played.{IsPlayed, Played}
 use Rattle.game_text.specs.declared.goal.Goal.{Goal}
 use Rattle.game_text.specs.GameText.{started}
 use Rattle.strategy.specs.declared.nodes.Strategy.{Strategy}
-use Rattle.strategy.specs.Reading.{AreSound, strategy_of}
+use Rattle.strategy.specs.Reading.{AreSound}
 use Rattle.strategy.specs.Writing.{AreReadable, ended_lines, strategy_texts}
 use Rattle.strategy.proofs.BackLaws.{texts-back}
 use Rattle.strategy.proofs.BackLemmas.{Above, above-append, decimal-above, decimal-short, fen-above, fen-short, lower-above, move-above, move-short}
 use Rattle.strategy.proofs.LineLaws.{IsLine, each-append, high-line, lines-back, strategy-lines}
-use Rattle.proof_text.specs.declared.fault.ProofFault.{ProofFault}
+use Rattle.proof_text.specs.declared.fault.ProofFault.TheVariants.{Header}
 use Rattle.proof_text.specs.declared.proof.Proof.{Proof}
-use Rattle.proof_text.specs.Reading.{and_then, body_on, by_version, goal_on, headed, history_on, is_version_in, moves_on, pairs_on, proof_of, rules_of, rules_on, start_on, with_rules, with_start, with_strategy}
-use Rattle.proof_text.specs.Words.{goal_said, history_said, rules_said, start_said}
+use Rattle.proof_text.specs.Reading.{body_on, goal_on, history_on, line_on, moves_on, pairs_on, proof_of, proof_on, rules_of, rules_on, said_or, start_on, with_rules, with_start, with_strategy}
 use Rattle.proof_text.specs.Writing.{body_texts, game_texts, goal_text, history_texts, pair_text, proof_text, proof_texts, start_line}
-use Rattle.proof_text.proofs.FollowLemmas.{Follow, follow-all, follow-here, follow-next, follow-past}
-use Rattle.proof_text.proofs.MoveBackLemmas.{moves-follow}
+use Rattle.proof_text.proofs.MoveBackLemmas.{moves-back}
 use Rattle.proof_text.proofs.PairBackLemmas.{AreToldBack}
-use Rattle.proof_text.proofs.ToldBackLemmas.{IsTold, pairs-follow, pairs-lines, told-each}
+use Rattle.proof_text.proofs.ToldBackLemmas.{IsTold, pairs-back, pairs-lines, told-each}
 use Rattle.proof_text.proofs.WordBackLemmas.{goal-said, history-said, rules-said, start-said}
 
 -- ---- a game, a goal and a strategy
@@ -64,50 +61,35 @@ module _ (g : Played) (n : ℕ) (s : Strategy) (is : IsGoal g n s) where
 
   -- ---- what the lines say
 
-  module _ (lines : List Line) where
-    body-follow : (number : ℕ) → Follow lines number (body_texts g.rules s)
-        → body_on lines number g (goal g n s) ≡ Ok (proof g n s)
-    unfolding body_on strategy_texts
-    body-follow number follow =
-        ap
-        (λ (ls : List Line). with_strategy number g (goal g n s) (strategy_of g.rules (Text (codes "strategy 1") ∷ ls)))
-        follow.rest
-        ∙ ap (with_strategy number g (goal g n s))
-        (texts-back g.rules s is.played.fit is.sound is.readable is.few)
+  body-back : (number : ℕ) → (body_on number g (goal g n s)).says (map Text (body_texts g.rules s)) ≡ Ok (proof g n s)
+  unfolding body_on strategy_texts
+  body-back number =
+      ap (with_strategy number g (goal g n s)) (texts-back g.rules s is.played.fit is.sound is.readable is.few)
 
-    goal-follow : (number : ℕ) → Follow lines number (end_texts g n s) → goal_on lines number g ≡ Ok (proof g n s)
-    unfolding goal_on
-    goal-follow number follow =
-        let goes_on : Goal → Result Proof ProofFault = body_on lines (number + 1) g in
-        ap (λ text. headed number (option_and_then goal_said text) goes_on) (follow-here follow)
-        ∙ ap (λ said. headed number said goes_on) (goal-said s.attacker n is.least is.most)
-        ∙ body-follow (number + 1) (follow-next follow)
+  goal-back : (number : ℕ) → (goal_on number g).says (map Text (end_texts g n s)) ≡ Ok (proof g n s)
+  unfolding goal_on line_on
+  goal-back number =
+      ap (λ said. said_or (Header number) said (λ x. (body_on (number + 1) g x).says (map Text (body_texts g.rules s))))
+      (goal-said s.attacker n is.least is.most)
+      ∙ body-back (number + 1)
 
-    history-follow : (number : ℕ) → Follow lines number (history_texts g.moves ++ end_texts g n s)
-        → history_on lines number (started g.rules g.start) ≡ Ok (proof g n s)
-    unfolding history_on moves_on
-    history-follow number follow =
-        let count = length g.moves in
-        let end = end_texts g n s in
-        let moves = follow-next follow in
-        let goes_on : ℕ → Result Proof ProofFault = moves_on lines (number + 1) (started g.rules g.start) in
-        ap (λ text. headed number (option_and_then history_said text) goes_on) (follow-here follow)
-        ∙ ap (λ said. headed number said goes_on) (history-said count is.played.few)
-        ∙ ap (λ r. and_then r (goal_on lines (number + 1 + count)))
-        (moves-follow g.rules g.start lines [] g.moves (number + 1) end is.played moves)
-        ∙ goal-follow (number + 1 + count)
-        (subst (λ k. Follow lines (number + 1 + k) end) (length-map g.moves text_of)
-        (follow-past (map text_of g.moves) end moves))
+  history-back : (number : ℕ) → (history_on number (started g.rules g.start)).says (map Text (history_texts g.moves) ++ map Text (end_texts g n s)) ≡ Ok (proof g n s)
+  unfolding history_on line_on
+  history-back number =
+      let end = map Text (end_texts g n s) in
+      ap (λ said. said_or (Header number) said (λ x. (moves_on x (number + 1) (started g.rules g.start)).says (map Text (map text_of g.moves) ++ end)))
+      (history-said (length g.moves) is.played.few)
+      ∙ moves-back g.rules g.start [] g.moves (number + 1) end is.played
+      ∙ goal-back (number + 1 + length g.moves)
 
-    start-follow : (number : ℕ) → Follow lines number (game_texts g ++ end_texts g n s)
-        → start_on lines number g.rules ≡ Ok (proof g n s)
-    unfolding start_on
-    start-follow number follow =
-        let goes_on : List ℕ → Result Proof ProofFault = λ fen. with_start lines number g.rules (fen_of g.rules fen) in
-        ap (λ text. headed number (option_and_then start_said text) goes_on) (follow-here follow)
-        ∙ ap (λ said. headed number said goes_on) (start-said (fen_text g.rules g.start))
-        ∙ ap (with_start lines number g.rules) start-read
-        ∙ history-follow (number + 1) (follow-next follow)
+  start-back : (number : ℕ) → (start_on number g.rules).says (map Text (game_texts g) ++ map Text (end_texts g n s)) ≡ Ok (proof g n s)
+  unfolding start_on line_on
+  start-back number =
+      let after = map Text (history_texts g.moves) ++ map Text (end_texts g n s) in
+      ap (λ said. said_or (Header number) said (λ fen. (with_start number g.rules (fen_of g.rules fen)).says after))
+      (start-said (fen_text g.rules g.start))
+      ∙ ap (λ said. (with_start number g.rules said).says after) start-read
+      ∙ history-back (number + 1)
 
   -- ---- each line is one line
 
@@ -180,36 +162,36 @@ module _ (g : Played) (n : ℕ) (s : Strategy) (is : IsGoal g n s) where
           (high-line (codes "strategy 2") refl (omega arith), (count, after))
 
       module _ (rules : rules_of (map line_of (told sections place)) ≡ Ok g.rules) where
-        pairs-on : (lines : List Line) → Follow lines 3 (map pair_text pairs ++ game_and_end)
-            → pairs_on lines (length pairs) ≡ Ok (proof g n s)
-        unfolding pairs_on
-        pairs-on lines follow =
-            let count = length pairs in
-            let goes_on : List KeyLine → Result Proof ProofFault =
-            λ read. with_rules lines (3 + count) (rules_of read) in
-            ap (λ r. and_then r goes_on) (pairs-follow lines [] pairs 3 game_and_end each follow)
-            ∙ ap (with_rules lines (3 + count)) rules
-            ∙ start-follow lines (3 + count)
-            (subst (λ k. Follow lines (3 + k) game_and_end) (length-map pairs pair_text)
-            (follow-past (map pair_text pairs) game_and_end follow))
+        abbrev after : List Line
+        after = map Text (game_texts g) ++ map Text (end_texts g n s)
 
-        rules-on : (lines : List Line) → Follow lines 2 later_texts → rules_on lines ≡ Ok (proof g n s)
-        unfolding rules_on
-        rules-on lines follow =
-            ap (λ text. headed 2 (option_and_then rules_said text) (pairs_on lines)) (follow-here follow)
-            ∙ ap (λ said. headed 2 said (pairs_on lines)) (rules-said (length pairs) some (omega (arith, few)))
-            ∙ pairs-on lines (follow-next follow)
+        -- the lines after that of the number of the pairs
+        split : map Text (map pair_text pairs ++ game_and_end) ≡ map Text (map pair_text pairs) ++ after
+        split =
+            map-append Text (map pair_text pairs) game_and_end
+            ∙ ap (λ ls. map Text (map pair_text pairs) ++ ls) (map-append Text (game_texts g) (end_texts g n s))
 
-        all-on : (lines : List Line) → Follow lines 1 (codes "strategy 2" ∷ later_texts)
-            → proof_of lines ≡ Ok (proof g n s)
-        unfolding proof_of
-        all-on lines follow =
-            ap (λ text. by_version (is_version_in text) (rules_on lines)) (follow-here follow)
-            ∙ rules-on lines (follow-next follow)
+        pairs-on : (pairs_on (length pairs) 3 []).says (map Text (map pair_text pairs ++ game_and_end)) ≡ Ok (proof g n s)
+        pairs-on =
+            ap (pairs_on (length pairs) 3 []).says split
+            ∙ pairs-back [] pairs 3 after each
+            ∙ ap (λ r. (with_rules (3 + length pairs) r).says after) rules
+            ∙ start-back (3 + length pairs)
+
+        rules-on : rules_on.says (map Text later_texts) ≡ Ok (proof g n s)
+        unfolding rules_on line_on
+        rules-on =
+            ap (λ said. said_or (Header 2) said (λ x. (pairs_on x 3 []).says (map Text (map pair_text pairs ++ game_and_end))))
+            (rules-said (length pairs) some (omega (arith, few)))
+            ∙ pairs-on
+
+        all-on : proof_of (map Text (codes "strategy 2" ∷ later_texts)) ≡ Ok (proof g n s)
+        unfolding proof_on line_on
+        all-on = rules-on
 
         pub proof-back : proof_of (lines_of (proof_text sections place g n s)) ≡ Ok (proof g n s)
         unfolding proof_text
         proof-back =
             ap (λ texts. proof_of (lines_of (ended_lines texts))) texts-are
             ∙ ap proof_of (lines-back (codes "strategy 2" ∷ later_texts) all-lines)
-            ∙ all-on (map Text (codes "strategy 2" ∷ later_texts)) (follow-all (codes "strategy 2" ∷ later_texts))
+            ∙ all-on

@@ -1,10 +1,9 @@
 -- The pairs that a section tells are read back from their lines.
-use Rattle.std.proofs.Common.{◌≡◌, ℕ, ◌+◌, Bool, true, List, [], ◌∷◌, ◌++◌, Option, Some, None, Result, Ok, length, map, refl, sym, ap, ◌∙◌, append_assoc, append-nil}
-use Rattle.std.specs.Prelude.{option_and_then}
+use Rattle.std.proofs.Common.{◌≡◌, ℕ, ◌+◌, Bool, true, List, [], ◌∷◌, ◌++◌, Option, Some, None, length, map, refl, sym, ap, ◌∙◌, append_assoc, append-nil, arith}
 use Rattle.std.specs.List.{flat_map, list_all}
 use Rattle.std.proofs.lemmas.Bool.{and_parts}
 use Rattle.fen_model.proofs.JoinLaws.{Each}
-use Rattle.io_ports.specs.Lines.{Line}
+use Rattle.io_ports.specs.Lines.{Line, Text}
 use Rattle.strategy.proofs.BackLaws.{all_first, all_others}
 use Rattle.strategy.proofs.LineLaws.{IsLine, each-append}
 use Rattle.variant_ini.specs.declared.key_line.KeyLine.{KeyLine}
@@ -13,11 +12,9 @@ use Rattle.variant_ini.specs.Section.{Section}
 use Rattle.variant_options.specs.Keys.{all_keys, in_order, key_inserted, ordered_keys}
 use Rattle.variant_options.specs.Options.{options}
 use Rattle.variant_model.specs.Told.{line_of, told, told_of, told_value, with_value}
-use Rattle.proof_text.specs.declared.fault.ProofFault.{ProofFault}
-use Rattle.proof_text.specs.Pairs.{pair_said}
-use Rattle.proof_text.specs.Reading.{paired, pairs_after}
+use Rattle.proof_text.specs.declared.fault.ProofFault.TheVariants.{BadRules}
+use Rattle.proof_text.specs.Reading.{line_on, pairs_on, rules_of, said_or, with_rules}
 use Rattle.proof_text.specs.Writing.{pair_text}
-use Rattle.proof_text.proofs.FollowLemmas.{Follow, follow-here, follow-next}
 use Rattle.proof_text.proofs.PairBackLemmas.{AreToldBack, IsToldBack, is_plain, pair-back, pair-line}
 
 -- ---- the keys
@@ -75,15 +72,17 @@ pairs-lines [] each = tt
 pairs-lines (pair ∷ pairs) each = (pair-line pair each.0.plain each.0.back, pairs-lines pairs each.1)
 
 -- the lines say the pairs, after those that were read before
-pub pairs-follow : (lines : List Line) (read : List KeyLine) (pairs : List (List ℕ × List ℕ)) (number : ℕ)
-    (rest : List (List ℕ)) → Each IsTold pairs → Follow lines number (map pair_text pairs ++ rest)
-    → pairs_after read lines (length pairs) number ≡ Ok (read ++ map line_of pairs)
-unfolding pairs_after
-pairs-follow lines read [] number rest each follow = ap Ok (sym (append-nil read))
-pairs-follow lines read (pair ∷ pairs) number rest each follow =
-    let goes_on : KeyLine → Result (List KeyLine) ProofFault =
-    λ line. pairs_after (read ++ line ∷ []) lines (length pairs) (number + 1) in
-    ap (λ text. paired number (option_and_then pair_said text) goes_on) (follow-here follow)
-    ∙ ap (λ said. paired number said goes_on) (pair-back pair each.0.plain each.0.back)
-    ∙ pairs-follow lines (read ++ line_of pair ∷ []) pairs (number + 1) rest each.1 (follow-next follow)
-    ∙ ap Ok (append_assoc read (line_of pair ∷ []) (map line_of pairs))
+pub pairs-back : (read : List KeyLine) (pairs : List (List ℕ × List ℕ)) (number : ℕ) (rest : List Line) → Each IsTold pairs
+    → (pairs_on (length pairs) number read).says (map Text (map pair_text pairs) ++ rest)
+    ≡ (with_rules (number + length pairs) (rules_of (read ++ map line_of pairs))).says rest
+unfolding pairs_on line_on
+pairs-back read [] number rest each =
+    let same : number ≡ number + 0 = omega arith in
+    ap (λ n. (with_rules n (rules_of read)).says rest) same ∙ ap (λ ps. (with_rules (number + 0) (rules_of ps)).says rest) (sym (append-nil read))
+pairs-back read (pair ∷ pairs) number rest each =
+    let further : number + 1 + length pairs ≡ number + length (pair ∷ pairs) = omega arith in
+    let more = append_assoc read (line_of pair ∷ []) (map line_of pairs) in
+    ap (λ said. said_or (BadRules number) said (λ line. (pairs_on (length pairs) (number + 1) (read ++ line ∷ [])).says (map Text (map pair_text pairs) ++ rest)))
+    (pair-back pair each.0.plain each.0.back)
+    ∙ pairs-back (read ++ line_of pair ∷ []) pairs (number + 1) rest each.1
+    ∙ (λ i. (with_rules (further i) (rules_of (more i))).says rest)

@@ -1,39 +1,12 @@
-//! Reads the strategy.
-ghost use Rattle.std.specs.Prelude.{◌≡◌, ◌+◌, ◌≤◌, ◌<◌, ◌^◌, IfNone, IfOk, IfSome};
-ghost use Rattle.rules_model.specs.Fit.{IsFit};
-ghost use Rattle.strategy.specs.Reading.{Answers as strategy_answers, AreSound};
+//! The faults of the strategy in the whole text.
+ghost use Rattle.std.specs.Prelude.{◌≡◌, ◌+◌, ◌≤◌, ◌^◌, IfNone, IfSome};
 ghost use Rattle.proof_text.specs.Fault.{HasBodyFault, line_in, moved_down};
-ghost use Rattle.proof_text.specs.Reading.{body_at};
+ghost use Rattle.proof_text.specs.StrategyView.{HasBodyWhy};
 
 use crate::fault::ProofFault;
-use crate::lines::KeptLines;
-use rules_model::Rules;
-use std::alloc::Global;
-use strategy::{Reader, Strategy, StrategyFault};
-
-/// The strategy that the lines from this number on say, after a first line `strategy 1`.
-pub(crate) fn read_body(
-    alloc: Global,
-    rules: &Rules,
-    lines: &KeptLines,
-    number: usize,
-) -> Result<Strategy, StrategyFault>
-    requires fit { IsFit rules.now }
-    requires first { 1 ≤ number }
-    requires few { number < 2 ^ 32 }
-    ensures answer { strategy_answers (body_at lines.now number rules.now) result }
-    ensures sound { IfOk result (λ s. AreSound rules.now s.nodes) }
-{
-    let mut reader = Reader::new(alloc);
-    reader.take_line(rules, b"strategy 1")?;
-    for place in number - 1..lines.len() {
-        match lines.line(place + 1) {
-            Some(text) => reader.take_line(rules, text)?,
-            None => return Err(reader.fault_of_long_line()),
-        }
-    }
-    reader.finish()
-}
+use crate::strategy_lines::NoStrategy;
+use crate::taking::NoProof;
+use strategy::StrategyFault;
 
 /// The fault, this many lines further down; none where its line would be above 2^64 - 1.
 fn moved_down(lines: u64, fault: StrategyFault) -> Option<StrategyFault>
@@ -54,7 +27,7 @@ fn moved_down(lines: u64, fault: StrategyFault) -> Option<StrategyFault>
 }
 
 /// The fault of a proof text whose strategy has this fault, this many lines further down.
-pub(crate) fn body_fault(lines: u64, fault: StrategyFault) -> ProofFault
+fn body_fault(lines: u64, fault: StrategyFault) -> ProofFault
     ensures { HasBodyFault lines fault result }
 {
     match fault {
@@ -63,5 +36,15 @@ pub(crate) fn body_fault(lines: u64, fault: StrategyFault) -> ProofFault
             Some(moved) => ProofFault::BadBody(moved),
             None => ProofFault::Memory,
         },
+    }
+}
+
+/// Why no proof was read whose strategy was not read for this reason, this many lines further down.
+pub(crate) fn body_why(lines: u64, why: NoStrategy) -> NoProof
+    ensures { HasBodyWhy lines why result }
+{
+    match why {
+        NoStrategy::Faulty(fault) => NoProof::Faulty(body_fault(lines, fault)),
+        NoStrategy::Unread => NoProof::Unread,
     }
 }

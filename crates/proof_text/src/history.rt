@@ -1,53 +1,70 @@
 //! Plays the moves of the history.
-ghost use Rattle.std.specs.Prelude.{◌≡◌, ◌+◌, ◌<◌, ◌≤◌, ◌^◌, Ok, MatchResult};
-ghost use Rattle.std.specs.Option.{option_map};
-ghost use Rattle.game_text.specs.Playing.{play};
-ghost use Rattle.proof_text.specs.Fault.{IsFaultOrMemory};
-ghost use Rattle.proof_text.specs.Lines.{line_at};
-ghost use Rattle.proof_text.specs.Reading.{moved, played};
+ghost use Rattle.std.specs.Prelude.{◌≡◌, ◌+◌, ◌<◌, ◌^◌, ℕ, suc, Ok, MatchResult, option_and_then};
+ghost use Rattle.std.specs.Option.{option_copied};
+ghost use Rattle.io_ports.specs.Cause.{HasCause};
+ghost use Rattle.proof_text.specs.Reading.{goal_on, moves_on, played_by};
+ghost use Rattle.proof_text.specs.TakingView.{HasWhy, IsUnread, Reads, or_fault};
 
 use crate::fault::ProofFault;
-use crate::lines::KeptLines;
+use crate::taking::{NoProof, take_text, text_if};
 use game_play::Game;
 use game_text::{NoGame, play_move};
+use io_ports::{LineBuf, Source};
 use std::alloc::Global;
 
-/// Plays the move of the line of this number.
-fn play_line(
+// Plays the move that a text names; the line of this number has no text where it is missing or too long.
+fn play_text(
     alloc: Global,
-    lines: &KeptLines,
-    number: usize,
+    number: u64,
     game: &mut Game,
-) -> Result<(), ProofFault>
-    requires { 1 ≤ number }
-    ensures { let said = moved number (option_map (play game.old) (line_at lines.now number)) Ok in
-        MatchResult result (λ _. said ≡ Ok game.new) (IsFaultOrMemory said) }
+    text: Option<&[u8]>,
+) -> Result<(), NoProof>
+    ensures says { let said = or_fault (ProofFault.BadHistory number) (option_and_then (played_by game.old) (option_copied text.entry)) in
+        MatchResult result (λ _. said ≡ Ok game.new) (HasWhy said) }
+    ensures heard { ¬ (IsUnread result) }
 {
-    let Some(text) = lines.line(number) else {
-        return Err(ProofFault::BadHistory(number as u64));
+    let Some(text) = text else {
+        return Err(NoProof::Faulty(ProofFault::BadHistory(number)));
     };
     match play_move(alloc, game, text) {
         Ok(()) => Ok(()),
-        Err(NoGame::Memory) => Err(ProofFault::Memory),
-        Err(_) => Err(ProofFault::BadHistory(number as u64)),
+        Err(NoGame::Memory) => Err(NoProof::Faulty(ProofFault::Memory)),
+        Err(_) => Err(NoProof::Faulty(ProofFault::BadHistory(number))),
     }
 }
 
-/// Plays the moves of this many lines from this number on.
-pub(crate) fn play_lines(
+// Plays the move of the line of this number.
+fn take_move<S: Source>(
     alloc: Global,
-    lines: &KeptLines,
-    count: usize,
-    number: usize,
+    source: &mut S,
+    line: &mut LineBuf,
+    number: u64,
     game: &mut Game,
-) -> Result<(), ProofFault>
-    requires first { 1 ≤ number }
-    requires few { number + count < 2 ^ 32 }
-    ensures { let said = played lines.now count number game.old in
-        MatchResult result (λ _. said ≡ Ok game.new) (IsFaultOrMemory said) }
+) -> Result<(), NoProof>
+    ensures reads { (count : ℕ) → Reads (S.left source.old) (S.left source.new)
+        (moves_on (suc count) number game.old) (λ played. moves_on count (number + 1) game.new) result }
+    ensures cause { HasCause (S.faults source.old) (S.faults source.new) (IsUnread result) }
+{
+    let is_there = take_text(source, line)?;
+    play_text(alloc, number, game, text_if(is_there, line))
+}
+
+/// Plays the moves of this many lines from the line of this number on.
+pub(crate) fn take_moves<S: Source>(
+    alloc: Global,
+    source: &mut S,
+    line: &mut LineBuf,
+    number: u64,
+    count: u16,
+    game: &mut Game,
+) -> Result<(), NoProof>
+    requires { number < 2 ^ 32 }
+    ensures reads { Reads (S.left source.old) (S.left source.new)
+        (moves_on count number game.old) (λ played. goal_on (number + count) game.new) result }
+    ensures cause { HasCause (S.faults source.old) (S.faults source.new) (IsUnread result) }
 {
     for done in 0..count {
-        play_line(alloc, lines, number + done, game)?;
+        take_move(alloc, source, line, number + done as u64, game)?;
     }
     Ok(())
 }

@@ -4,23 +4,25 @@
 
 mod body;
 mod fault;
+mod head;
 mod history;
 pub mod laws;
-mod lines;
 mod pairs;
 mod proof;
 mod reading;
+mod strategy_lines;
 mod taking;
 #[cfg(test)]
 mod tests;
+mod text_source;
 mod told;
 mod words;
 mod writing;
 
 pub use fault::ProofFault;
-pub use lines::KeptLines;
 pub use proof::Proof;
-pub use reading::{read_lines, read_proof};
-pub use taking::{NoProof, read_proof_after};
+pub use reading::{read_proof, read_proof_after};
+pub use strategy_lines::{NoStrategy, read_strategy};
+pub use taking::NoProof;
 pub use words::is_version;
 pub use writing::write_proof;

@@ -1,16 +1,19 @@
-//! Reads the lines of the rules.
-ghost use Rattle.std.specs.Prelude.{◌≡◌, ◌+◌, ◌<◌, ◌≤◌, ◌^◌, [], Ok, IfOk, MatchResult, option_and_then};
+//! Takes the lines of the rules.
+ghost use Rattle.std.specs.Prelude.{◌≡◌, ◌+◌, ◌++◌, ◌<◌, ◌^◌, ◌∷◌, [], ℕ, suc, List, Ok, IfOk, MatchResult, option_and_then};
+ghost use Rattle.std.specs.Option.{option_copied};
+ghost use Rattle.io_ports.specs.Cause.{HasCause};
+ghost use Rattle.variant_ini.specs.declared.key_line.KeyLine.{KeyLine as KeyPair};
 ghost use Rattle.variant_ini.specs.LineKind.{line_kind};
 ghost use Rattle.variant_ini.specs.LineView.{pair_view};
 ghost use Rattle.variant_ini.specs.Section.{key_line};
-ghost use Rattle.proof_text.specs.Fault.{IsFaultOrMemory};
-ghost use Rattle.proof_text.specs.Lines.{line_at};
 ghost use Rattle.proof_text.specs.Pairs as Pairs;
-ghost use Rattle.proof_text.specs.Reading.{Answers, paired, pairs_after};
+ghost use Rattle.proof_text.specs.Reading.{pairs_on, rules_of, with_rules};
+ghost use Rattle.proof_text.specs.TakingView.{HasWhy, IsUnread, Reads, or_fault};
 
 use crate::fault::ProofFault;
-use crate::lines::KeptLines;
+use crate::taking::{NoProof, take_text, text_if};
 use foundation::Text;
+use io_ports::{LineBuf, Source};
 use std::alloc::{AllocError, Global};
 use variant_ini::{KeyLine, Line, Pair, pair_of, read_line};
 
@@ -72,35 +75,53 @@ fn read_pair(alloc: Global, text: &[u8]) -> Result<Option<KeyLine>, AllocError>
     Ok(Some(key_line_of(alloc, &pair)?))
 }
 
-/// The pair of the line of this number.
-fn pair_at(alloc: Global, lines: &KeptLines, number: usize) -> Result<KeyLine, ProofFault>
-    requires { 1 ≤ number }
-    ensures { Answers (paired number (option_and_then Pairs.pair_said (line_at lines.now number)) Ok) result }
+// The pair that a text says; the line of this number has no text where it is missing or too long.
+fn pair_in(alloc: Global, number: u64, text: Option<&[u8]>) -> Result<KeyLine, NoProof>
+    ensures says { let said = or_fault (ProofFault.BadRules number) (option_and_then Pairs.pair_said (option_copied text.entry)) in
+        MatchResult result (λ pair. said ≡ Ok pair) (HasWhy said) }
+    ensures heard { ¬ (IsUnread result) }
 {
-    let Some(text) = lines.line(number) else {
-        return Err(ProofFault::BadRules(number as u64));
+    let Some(text) = text else {
+        return Err(NoProof::Faulty(ProofFault::BadRules(number)));
     };
     match read_pair(alloc, text)? {
         Some(pair) => Ok(pair),
-        None => Err(ProofFault::BadRules(number as u64)),
+        None => Err(NoProof::Faulty(ProofFault::BadRules(number))),
     }
 }
 
-/// The pairs of this many lines from this number on.
-pub(crate) fn read_pairs(
+// Takes the pair of the line of this number.
+fn take_pair<S: Source>(
     alloc: Global,
-    lines: &KeptLines,
-    count: usize,
-    number: usize,
-) -> Result<Vec<KeyLine>, ProofFault>
-    requires first { 1 ≤ number }
-    requires few { number + count < 2 ^ 32 }
-    ensures { let said = pairs_after [] lines.now count number in
-        MatchResult result (λ pairs. said ≡ Ok pairs.items) (IsFaultOrMemory said) }
+    source: &mut S,
+    line: &mut LineBuf,
+    number: u64,
+) -> Result<KeyLine, NoProof>
+    ensures reads { (count : ℕ) (pairs : List KeyPair) → Reads (S.left source.old) (S.left source.new)
+        (pairs_on (suc count) number pairs) (λ pair. pairs_on count (number + 1) (pairs ++ pair ∷ [])) result }
+    ensures cause { HasCause (S.faults source.old) (S.faults source.new) (IsUnread result) }
+{
+    let is_there = take_text(source, line)?;
+    pair_in(alloc, number, text_if(is_there, line))
+}
+
+/// Takes the pairs of this many lines from the line of this number on.
+pub(crate) fn take_pairs<S: Source>(
+    alloc: Global,
+    source: &mut S,
+    line: &mut LineBuf,
+    number: u64,
+    count: u16,
+) -> Result<Vec<KeyLine>, NoProof>
+    requires { number < 2 ^ 32 }
+    ensures reads { Reads (S.left source.old) (S.left source.new)
+        (pairs_on count number []) (λ pairs. with_rules (number + count) (rules_of pairs.items)) result }
+    ensures cause { HasCause (S.faults source.old) (S.faults source.new) (IsUnread result) }
 {
     let mut pairs = Vec::new(alloc);
     for done in 0..count {
-        pairs.push(pair_at(alloc, lines, number + done)?)?;
+        let pair = take_pair(alloc, source, line, number + done as u64)?;
+        pairs.push(pair)?;
     }
     Ok(pairs)
 }

@@ -1,160 +1,118 @@
-//! Reads a proof text.
-ghost use Rattle.std.specs.Prelude.{◌≡◌, ◌≤◌, ◌∷◌, [], codes, IfOk};
-ghost use Rattle.io_ports.specs.Lines.{lines_of};
+//! Reads a proof text, line by line.
+ghost use Rattle.std.specs.Prelude.{◌≡◌, ◌-◌, ◌≤◌, ◌∷◌, [], codes, IfOk};
+ghost use Rattle.io_ports.specs.Cause.{HasCause};
+ghost use Rattle.io_ports.specs.Lines.{Text as line_text, lines_of};
 ghost use Rattle.rules_model.specs.Fit.{IsFit};
-ghost use Rattle.fen_model.specs.Reading.{fen_of};
 ghost use Rattle.variant_ini.specs.Lone.{lone_section};
+ghost use Rattle.game_text.specs.HeardLines.{HeardLines};
 ghost use Rattle.strategy.specs.Reading.{AreSound};
 ghost use Rattle.variant_rules.specs.Entries.{entries};
 ghost use Rattle.variant_rules.specs.Playable.{IsPlayable};
 ghost use Rattle.variant_rules.specs.View.{lent};
 ghost use Rattle.proof_text.specs.Reading as Said;
+ghost use Rattle.proof_text.specs.TakingView.{Hears, IsUnread, SaysProof};
 
-use crate::body::{body_fault, read_body};
+use crate::body::body_why;
 use crate::fault::ProofFault;
-use crate::history::play_lines;
-use crate::lines::{KeptLines, cut_lines};
-use crate::pairs::read_pairs;
+use crate::head::{take_goal, take_history, take_rules, take_start, take_version};
+use crate::history::take_moves;
+use crate::pairs::take_pairs;
 use crate::proof::Proof;
-use crate::words::{is_version, read_goal, read_history, read_rules, read_start};
+use crate::strategy_lines::read_body;
+use crate::taking::NoProof;
+use crate::text_source::TextSource;
+use crate::words::is_version;
 use foundation::Memory;
 use game_play::Game;
 use game_text::{Goal, copy_of};
+use io_ports::{LineBuf, Source};
 use rules_model::Rules;
 use std::alloc::Global;
-use variant_fen::read_fen;
 use variant_ini::{KeyLine, Sections};
 use variant_model::SectionFault;
 use variant_rules::{Variants, load};
 
-fn header_fault(number: usize) -> ProofFault
-    ensures { result ≡ ProofFault.Header number }
-{
-    ProofFault::Header(number as u64)
-}
-
-/// From the strategy on.
-#[tactic(auto, unfolding(crate::specs::Reading::body_on))]
-fn body_on(
+// Reads the strategy, from the line of this number on.
+fn read_on_body<S: Source>(
     alloc: Global,
-    lines: &KeptLines,
-    number: usize,
+    source: &mut S,
+    line: &mut LineBuf,
+    number: u64,
     game: Game,
     goal: Goal,
-) -> Result<Proof, ProofFault>
+) -> Result<Proof, NoProof>
     requires low { 2 ≤ number }
-    requires high { number ≤ 8711 }
-    ensures answer { Said.Answers (Said.body_on lines.now number game goal) result }
+    ensures heard { Hears (S.left source.old) (S.left source.new) (Said.body_on number game goal) (λ said. SaysProof said result) }
     ensures sound { IfOk result (λ p. AreSound p.game.rules p.strategy.nodes) }
+    ensures cause { HasCause (S.faults source.old) (S.faults source.new) (IsUnread result) }
 {
     // Tells the prover that the game's rules are fit and that it has at most 8,192 plies. Nothing is done.
     game.is_played();
-    match read_body(alloc, game.rules(), lines, number) {
+    match read_body(alloc, game.rules(), source, line) {
         Ok(strategy) => Ok(Proof {
             game,
             attacker: goal.attacker,
             n: goal.moves,
             strategy,
         }),
-        Err(why) => Err(body_fault(number as u64 - 2, why)),
+        Err(why) => Err(body_why(number - 2, why)),
     }
 }
 
-/// From the goal on.
-#[tactic(auto, unfolding(crate::specs::Reading::goal_on))]
-fn goal_on(alloc: Global, lines: &KeptLines, number: usize, game: Game) -> Result<Proof, ProofFault>
+// Reads on from the goal, the line of this number.
+fn read_on_goal<S: Source>(
+    alloc: Global,
+    source: &mut S,
+    line: &mut LineBuf,
+    number: u64,
+    game: Game,
+) -> Result<Proof, NoProof>
     requires low { 1 ≤ number }
     requires high { number ≤ 8710 }
-    ensures answer { Said.Answers (Said.goal_on lines.now number game) result }
+    ensures heard { Hears (S.left source.old) (S.left source.new) (Said.goal_on number game) (λ said. SaysProof said result) }
     ensures sound { IfOk result (λ p. AreSound p.game.rules p.strategy.nodes) }
+    ensures cause { HasCause (S.faults source.old) (S.faults source.new) (IsUnread result) }
 {
-    match lines.line(number).and_then(read_goal) {
-        Some(goal) => body_on(alloc, lines, number + 1, game, goal),
-        None => Err(header_fault(number)),
-    }
+    let goal = take_goal(source, line, number, &game)?;
+    read_on_body(alloc, source, line, number + 1, game, goal)
 }
 
-/// From the first move of the history on.
-#[tactic(auto, unfolding(crate::specs::Reading::moves_on))]
-fn moves_on(
+// Reads on from the history, the line of this number.
+fn read_on_history<S: Source>(
     alloc: Global,
-    lines: &KeptLines,
-    number: usize,
+    source: &mut S,
+    line: &mut LineBuf,
+    number: u64,
     mut game: Game,
-    count: usize,
-) -> Result<Proof, ProofFault>
-    requires low { 1 ≤ number }
-    requires high { number ≤ 517 }
-    requires few { count ≤ 8192 }
-    ensures answer { Said.Answers (Said.moves_on lines.now number game count) result }
-    ensures sound { IfOk result (λ p. AreSound p.game.rules p.strategy.nodes) }
-{
-    match play_lines(alloc, lines, count, number, &mut game) {
-        Ok(()) => goal_on(alloc, lines, number + count, game),
-        Err(fault) => Err(fault),
-    }
-}
-
-/// From the history on.
-#[tactic(auto, unfolding(crate::specs::Reading::history_on))]
-fn history_on(
-    alloc: Global,
-    lines: &KeptLines,
-    number: usize,
-    game: Game,
-) -> Result<Proof, ProofFault>
+) -> Result<Proof, NoProof>
     requires low { 1 ≤ number }
     requires high { number ≤ 516 }
-    ensures answer { Said.Answers (Said.history_on lines.now number game) result }
+    ensures heard { Hears (S.left source.old) (S.left source.new) (Said.history_on number game) (λ said. SaysProof said result) }
     ensures sound { IfOk result (λ p. AreSound p.game.rules p.strategy.nodes) }
+    ensures cause { HasCause (S.faults source.old) (S.faults source.new) (IsUnread result) }
 {
-    match lines.line(number).and_then(read_history) {
-        Some(count) => moves_on(alloc, lines, number + 1, game, count as usize),
-        None => Err(header_fault(number)),
-    }
+    let count = take_history(source, line, number, &game)?;
+    take_moves(alloc, source, line, number + 1, count, &mut game)?;
+    read_on_goal(alloc, source, line, number + 1 + count as u64, game)
 }
 
-/// From the start on, whose FEN is this.
-fn game_on(
+// Reads on from the start, the line of this number.
+fn read_on_start<S: Source>(
     alloc: Global,
-    lines: &KeptLines,
-    number: usize,
+    source: &mut S,
+    line: &mut LineBuf,
+    number: u64,
     rules: &Rules,
-    fen: &[u8],
-) -> Result<Proof, ProofFault>
+) -> Result<Proof, NoProof>
     requires fit { IsFit rules.now }
     requires low { 1 ≤ number }
     requires high { number ≤ 515 }
-    ensures answer { Said.Answers (Said.with_start lines.now number rules.now (fen_of rules.now fen.now)) result }
+    ensures heard { Hears (S.left source.old) (S.left source.new) (Said.start_on number rules.now) (λ said. SaysProof said result) }
     ensures sound { IfOk result (λ p. AreSound p.game.rules p.strategy.nodes) }
+    ensures cause { HasCause (S.faults source.old) (S.faults source.new) (IsUnread result) }
 {
-    match read_fen(rules, fen) {
-        Ok(start) => {
-            let game = Game::new(alloc, rules, &start)?;
-            history_on(alloc, lines, number + 1, game)
-        }
-        Err(why) => Err(ProofFault::BadStart(number as u64, why)),
-    }
-}
-
-/// From the start on.
-#[tactic(auto, unfolding(crate::specs::Reading::start_on))]
-fn start_on(
-    alloc: Global,
-    lines: &KeptLines,
-    number: usize,
-    rules: &Rules,
-) -> Result<Proof, ProofFault>
-    requires fit { IsFit rules.now }
-    requires low { 1 ≤ number }
-    requires high { number ≤ 515 }
-    ensures answer { Said.Answers (Said.start_on lines.now number rules.now) result }
-    ensures sound { IfOk result (λ p. AreSound p.game.rules p.strategy.nodes) }
-{
-    match lines.line(number).and_then(read_start) {
-        Some(fen) => game_on(alloc, lines, number, rules, fen),
-        None => Err(header_fault(number)),
-    }
+    let game = take_start(alloc, source, line, number, rules)?;
+    read_on_history(alloc, source, line, number + 1, game)
 }
 
 /// The variants of one section, `proof`, that has these pairs.
@@ -165,77 +123,94 @@ fn variants_of(alloc: Global, pairs: &[KeyLine]) -> Result<Variants, Memory>
     load(alloc, &sections)
 }
 
-/// After the lines of the rules, by the entry of their section.
-fn entry_on(
+// Reads on after the lines of the rules, by the entry of their section.
+fn read_on_entry<S: Source>(
     alloc: Global,
-    lines: &KeptLines,
-    number: usize,
+    source: &mut S,
+    line: &mut LineBuf,
+    number: u64,
     found: Result<&Rules, &SectionFault>,
-) -> Result<Proof, ProofFault>
+) -> Result<Proof, NoProof>
     requires playable { IfOk found (λ rules. IsPlayable rules.now) }
     requires low { 1 ≤ number }
     requires high { number ≤ 515 }
-    ensures answer { Said.Answers (Said.with_rules lines.now number (lent found.entry)) result }
+    ensures heard { Hears (S.left source.old) (S.left source.new)
+        (Said.with_rules number (lent found.entry)) (λ said. SaysProof said result) }
     ensures sound { IfOk result (λ p. AreSound p.game.rules p.strategy.nodes) }
+    ensures cause { HasCause (S.faults source.old) (S.faults source.new) (IsUnread result) }
 {
     match found {
-        Ok(rules) => start_on(alloc, lines, number, rules),
-        Err(why) => Err(ProofFault::RefusedRules(copy_of(alloc, why)?)),
+        Ok(rules) => read_on_start(alloc, source, line, number, rules),
+        Err(why) => Err(NoProof::Faulty(ProofFault::RefusedRules(copy_of(alloc, why)?))),
     }
 }
 
-/// After the lines of the rules, which have these pairs.
-fn section_on(
+// Reads on after the lines of the rules, which have these pairs.
+fn read_on_pairs<S: Source>(
     alloc: Global,
-    lines: &KeptLines,
-    number: usize,
+    source: &mut S,
+    line: &mut LineBuf,
+    number: u64,
     pairs: &[KeyLine],
-) -> Result<Proof, ProofFault>
+) -> Result<Proof, NoProof>
     requires low { 1 ≤ number }
     requires high { number ≤ 515 }
-    ensures answer { Said.Answers (Said.with_rules lines.now number (Said.rules_of pairs.now)) result }
+    ensures heard { Hears (S.left source.old) (S.left source.new)
+        (Said.with_rules number (Said.rules_of pairs.now)) (λ said. SaysProof said result) }
     ensures sound { IfOk result (λ p. AreSound p.game.rules p.strategy.nodes) }
+    ensures cause { HasCause (S.faults source.old) (S.faults source.new) (IsUnread result) }
 {
     let variants = variants_of(alloc, pairs)?;
     let (_name, found) = variants.entry(0);
-    entry_on(alloc, lines, number, found)
+    read_on_entry(alloc, source, line, number, found)
 }
 
-/// From the first line of the rules on.
-#[tactic(auto, unfolding(crate::specs::Reading::pairs_on))]
-fn pairs_on(alloc: Global, lines: &KeptLines, count: usize) -> Result<Proof, ProofFault>
-    requires { count ≤ 512 }
-    ensures answer { Said.Answers (Said.pairs_on lines.now count) result }
+// Reads on from line 2.
+fn read_on_rules<S: Source>(
+    alloc: Global,
+    source: &mut S,
+    line: &mut LineBuf,
+) -> Result<Proof, NoProof>
+    ensures heard { Hears (S.left source.old) (S.left source.new) Said.rules_on (λ said. SaysProof said result) }
     ensures sound { IfOk result (λ p. AreSound p.game.rules p.strategy.nodes) }
+    ensures cause { HasCause (S.faults source.old) (S.faults source.new) (IsUnread result) }
 {
-    match read_pairs(alloc, lines, count, 3) {
-        Ok(pairs) => section_on(alloc, lines, 3 + count, pairs.as_slice()),
-        Err(fault) => Err(fault),
-    }
+    let count = take_rules(source, line)?;
+    let pairs = take_pairs(alloc, source, line, 3, count)?;
+    read_on_pairs(alloc, source, line, 3 + count as u64, pairs.as_slice())
 }
 
-/// From line 2 on.
-#[tactic(auto, unfolding(crate::specs::Reading::rules_on))]
-fn rules_on(alloc: Global, lines: &KeptLines) -> Result<Proof, ProofFault>
-    ensures answer { Said.Answers (Said.rules_on lines.now) result }
+/// Reads a proof text from a source, after its first line, which was taken already, to its end or to its first faulty line.
+///
+/// The answer is the proof, or the first fault in the order of the text; the rules are judged after the last of their lines. No line after the
+/// first faulty one is taken. `Unread` is the answer where the source failed; then nothing is known of the text.
+pub fn read_proof_after<S: Source>(
+    alloc: Global,
+    first: &[u8],
+    source: &mut S,
+) -> Result<Proof, NoProof>
+    ensures heard { HeardLines (S.left source.old) (S.left source.new)
+        (λ lines. Said.lines_of_proof (line_text first.now ∷ lines) - 1)
+        (λ lines. SaysProof (Said.proof_of (line_text first.now ∷ lines)) result) }
     ensures sound { IfOk result (λ p. AreSound p.game.rules p.strategy.nodes) }
+    ensures cause { HasCause (S.faults source.old) (S.faults source.new) (IsUnread result) }
 {
-    match lines.line(2).and_then(read_rules) {
-        Some(count) => pairs_on(alloc, lines, count as usize),
-        None => Err(header_fault(2)),
+    if !is_version(first) {
+        return Err(NoProof::Faulty(ProofFault::Header(1)));
     }
+    let mut line = LineBuf::new(alloc)?;
+    read_on_rules(alloc, source, &mut line)
 }
 
-/// Reads the lines of a proof text: the proof that they say, or the first fault.
-#[tactic(auto, unfolding(crate::specs::Reading::proof_of))]
-pub fn read_lines(alloc: Global, lines: &KeptLines) -> Result<Proof, ProofFault>
-    ensures answer { Said.Answers (Said.proof_of lines.now) result }
+// Reads a proof text from a source.
+fn read_from<S: Source>(alloc: Global, source: &mut S) -> Result<Proof, NoProof>
+    ensures heard { Hears (S.left source.old) (S.left source.new) Said.proof_on (λ said. SaysProof said result) }
     ensures sound { IfOk result (λ p. AreSound p.game.rules p.strategy.nodes) }
+    ensures cause { HasCause (S.faults source.old) (S.faults source.new) (IsUnread result) }
 {
-    match lines.line(1) {
-        Some(text) if is_version(text) => rules_on(alloc, lines),
-        _ => Err(header_fault(1)),
-    }
+    let mut line = LineBuf::new(alloc)?;
+    take_version(source, &mut line)?;
+    read_on_rules(alloc, source, &mut line)
 }
 
 /// Reads a proof text, version 2: a game by rules that the text itself states, the side that is to win it within a number of moves, and a
@@ -247,6 +222,10 @@ pub fn read_proof(alloc: Global, text: &[u8]) -> Result<Proof, ProofFault>
     ensures answer { Said.Answers (Said.proof_of (lines_of text.now)) result }
     ensures sound { IfOk result (λ p. AreSound p.game.rules p.strategy.nodes) }
 {
-    let lines = cut_lines(alloc, text)?;
-    read_lines(alloc, &lines)
+    let mut source = TextSource::new(text);
+    match read_from(alloc, &mut source) {
+        Ok(proof) => Ok(proof),
+        Err(NoProof::Faulty(fault)) => Err(fault),
+        Err(NoProof::Unread) => unreachable!(),
+    }
 }

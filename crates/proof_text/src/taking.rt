@@ -1,16 +1,13 @@
-//! Reads a proof text from a source.
-ghost use Rattle.std.specs.Prelude.{◌≡◌, IfOk};
+//! Takes the lines of a proof text from a source.
+ghost use Rattle.std.specs.Prelude.{◌≡◌};
+ghost use Rattle.std.specs.Option.{option_copied};
 ghost use Rattle.io_ports.specs.Cause.{HasCause};
-ghost use Rattle.strategy.specs.Reading.{AreSound};
-ghost use Rattle.proof_text.specs.TakingView.{HoldsOfTaken, IsUnread, Keeps, KeepsAll, SaysProofAfter};
+ghost use Rattle.proof_text.specs.TakingView.{IsUnread, TakesText, text_if};
 
 use crate::fault::ProofFault;
-use crate::lines::KeptLines;
-use crate::proof::Proof;
-use crate::reading::read_lines;
 use foundation::Memory;
 use io_ports::{Got, LineBuf, Source};
-use std::alloc::Global;
+use std::alloc::{AllocError, AllocFailed};
 
 /// Why no proof was read.
 #[derive(Drop)]
@@ -44,75 +41,45 @@ impl From<Memory> for NoProof {
     }
 }
 
-// Takes a line and keeps it, where one is left.
-fn keep_line<S: Source>(
-    alloc: Global,
-    source: &mut S,
-    line: &mut LineBuf,
-    lines: &mut KeptLines,
-) -> Result<bool, NoProof>
-    ensures keeps { Keeps (S.left source.old) (S.left source.new) lines.old lines.new result }
+impl From<AllocError> for NoProof {
+    ghost use Rattle.std.specs.Prelude.{◌≡◌};
+    ghost use Rattle.proof_text.specs.declared.fault.ProofFault.TheVariants as fault;
+    ghost use Rattle.proof_text.specs.declared.taking.NoProof.TheVariants as no_proof;
+
+    ghost from_gives = { λ _ given. given ≡ no_proof.Faulty fault.Memory };
+
+    fn from(_error: AllocError) -> Self {
+        NoProof::Faulty(ProofFault::Memory)
+    }
+}
+
+impl<T: Drop> From<AllocFailed<T>> for NoProof {
+    ghost use Rattle.std.specs.Prelude.{◌≡◌};
+    ghost use Rattle.proof_text.specs.declared.fault.ProofFault.TheVariants as fault;
+    ghost use Rattle.proof_text.specs.declared.taking.NoProof.TheVariants as no_proof;
+
+    ghost from_gives = { λ _ given. given ≡ no_proof.Faulty fault.Memory };
+
+    fn from(_error: AllocFailed<T>) -> Self {
+        NoProof::Faulty(ProofFault::Memory)
+    }
+}
+
+// Takes the next line, and says whether the buffer has it: it has none that is missing or too long.
+pub(crate) fn take_text<S: Source>(source: &mut S, line: &mut LineBuf) -> Result<bool, NoProof>
+    ensures takes { TakesText (S.left source.old) (S.left source.new) line.new result }
     ensures cause { HasCause (S.faults source.old) (S.faults source.new) (IsUnread result) }
 {
     match source.next_line(line) {
-        Got::Line => {
-            lines.push_text(alloc, line.text())?;
-            Ok(true)
-        }
-        Got::TooLong => {
-            lines.push_too_long()?;
-            Ok(true)
-        }
-        Got::End => Ok(false),
+        Got::Line => Ok(true),
+        Got::TooLong | Got::End => Ok(false),
         Got::Failed => Err(NoProof::Unread),
     }
 }
 
-// Takes all lines.
-fn take_lines<S: Source>(
-    alloc: Global,
-    source: &mut S,
-    lines: &mut KeptLines,
-) -> Result<(), NoProof>
-    ensures keeps { KeepsAll (S.left source.old) (S.left source.new) lines.old lines.new result }
-    ensures cause { HasCause (S.faults source.old) (S.faults source.new) (IsUnread result) }
+// The text in the buffer, where it is there.
+pub(crate) fn text_if(is_there: bool, line: &LineBuf) -> Option<&[u8]>
+    ensures { option_copied result ≡ text_if is_there line.now }
 {
-    let Ok(mut line) = LineBuf::new(alloc) else {
-        return Err(NoProof::Faulty(ProofFault::Memory));
-    };
-    for _count in 0..u64::MAX {
-        let kept = match keep_line(alloc, source, &mut line, lines) {
-            Ok(kept) => kept,
-            Err(why) => return Err(why),
-        };
-        if !kept {
-            return Ok(());
-        }
-    }
-    Err(NoProof::Faulty(ProofFault::Memory))
-}
-
-/// Reads a proof text from a source to its end, after its first line, which was taken already.
-///
-/// The answer is the proof, or the first fault. `Unread` is the answer where the source failed; then nothing is known of the text.
-pub fn read_proof_after<S: Source>(
-    alloc: Global,
-    first: &[u8],
-    source: &mut S,
-) -> Result<Proof, NoProof>
-    ensures heard { HoldsOfTaken (S.left source.old) (S.left source.new)
-        (λ lines. SaysProofAfter first.now lines result) }
-    ensures sound { IfOk result (λ p. AreSound p.game.rules p.strategy.nodes) }
-    ensures cause { HasCause (S.faults source.old) (S.faults source.new) (IsUnread result) }
-{
-    let mut lines = KeptLines::new(alloc);
-    lines.push_text(alloc, first)?;
-    match take_lines(alloc, source, &mut lines) {
-        Ok(()) => {}
-        Err(why) => return Err(why),
-    }
-    match read_lines(alloc, &lines) {
-        Ok(proof) => Ok(proof),
-        Err(fault) => Err(NoProof::Faulty(fault)),
-    }
+    if is_there { Some(line.text()) } else { None }
 }

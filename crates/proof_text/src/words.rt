@@ -2,6 +2,7 @@
 ghost use Rattle.std.specs.Prelude.{◌≡◌, ◌≤◌, IfSome};
 ghost use Rattle.std.specs.Option.{option_copied};
 ghost use Rattle.game_text.specs.Goal.{after_words};
+ghost use Rattle.proof_text.specs.Reading.{version_said};
 ghost use Rattle.proof_text.specs.Words as Words;
 
 use foundation::number_within;
@@ -27,6 +28,13 @@ pub fn is_version(text: &[u8]) -> bool
     ensures { result ≡ Words.is_version text.now }
 {
     text == b"strategy 2".as_slice()
+}
+
+/// Reads `strategy 2`.
+pub(crate) fn read_version(text: &[u8]) -> Option<()>
+    ensures { result ≡ version_said text.now }
+{
+    is_version(text).then_some(())
 }
 
 /// Reads `rules K`, K from 1 to 512.

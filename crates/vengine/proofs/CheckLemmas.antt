@@ -33,19 +33,20 @@ use Rattle.proof_text.specs.declared.fault.ProofFault.TheVariants as proof_fault
 use Rattle.proof_text.specs.declared.proof.Proof.{Proof}
 use Rattle.proof_text.specs.declared.taking.NoProof.{NoProof}
 use Rattle.proof_text.specs.declared.taking.NoProof.TheVariants as no_proof
-use Rattle.proof_text.specs.Reading.{is_proof_text, proof_of}
+use Rattle.proof_text.specs.Reading.{is_proof_text, lines_of_proof, proof_of}
+use Rattle.proof_text.proofs.ReadingLemmas.{proof-needed}
 use Rattle.proof_text.specs.TakingView as taking
-use Rattle.proof_text.specs.Lines.{line_at}
 use Rattle.proof_text.specs.Words.{is_version}
 use Rattle.vengine.specs.declared.fault.Fault.{Fault}
 use Rattle.vengine.specs.declared.fault.Fault.TheVariants as fault
 use Rattle.vengine.specs.declared.halt.Halt.{Halt}
 use Rattle.vengine.specs.declared.halt.Halt.TheVariants as halt
 use Rattle.vengine.specs.declared.stop.Stop.TheVariants as stop
-use Rattle.vengine.specs.declared.strategy_lines.NoStrategy.{NoStrategy}
-use Rattle.vengine.specs.declared.strategy_lines.NoStrategy.TheVariants.{Faulty, Unread}
+use Rattle.proof_text.specs.declared.strategy_lines.NoStrategy.{NoStrategy}
+use Rattle.proof_text.specs.declared.strategy_lines.NoStrategy.TheVariants.{Faulty, Unread}
 use Rattle.vengine.specs.Checking.{Good, IsWon, SaysCheck, SaysStated, SaysVerdict, by_problem, by_proof, faulty, good, lines_after, lines_by, lines_of_check, lines_of_stated, stated, stated_by, stated_in, verdict_in, with_strategy}
-use Rattle.vengine.specs.CheckView.{HasWhy, IsUnread, Prints, States, losing, winning}
+use Rattle.proof_text.specs.StrategyView.{HasWhy, IsUnread}
+use Rattle.vengine.specs.CheckView.{Prints, States, losing, winning}
 use Rattle.vengine.specs.Fault.{error_line, fault_status, fault_text}
 use Rattle.vengine.specs.HaltView.{Answers, IsUnheard, game_halt, proof_halt, strategy_halt}
 
@@ -185,7 +186,6 @@ stated_heard a b c variants x p P R first later so =
 -- ---- by the first line
 
 first_line : (text : List ℕ) (lines : List Line) → is_proof_text (Text text ∷ lines) ≡ is_version text
-unfolding line_at
 first_line text lines = refl
 
 module _ (variants : List Named) (text : List ℕ) (lines : List Line) (t : Bool) (is : is_version text ≡ t) where
@@ -197,10 +197,14 @@ module _ (variants : List Named) (text : List ℕ) (lines : List Line) (t : Bool
 
 -- a proof text
 pub proof_heard : (a b : Option (List ℕ)) (variants : List Named) (text first : List ℕ) (P : Result Proof Fault → Type 0) → is_version text ≡ true → first ≡ text
-    → HeardLines a b length (λ lines. P (by_proof (proof_of (Text first ∷ lines))))
+    → HeardLines a b (λ lines. lines_of_proof (Text first ∷ lines) - 1) (λ lines. P (by_proof (proof_of (Text first ∷ lines))))
     → HeardLines a b (λ lines. lines_of_check variants (Text text ∷ lines) - 1) (λ lines. P (stated_in variants (Text text ∷ lines)))
 proof_heard a b variants text first P is same heard =
-    heard_so a b _ _ _ _ heard (λ lines. let all = lines_are_by variants text lines true is in omega (arith, all))
+    heard_so a b _ _ _ _ heard
+    (λ lines.
+    let all = lines_are_by variants text lines true is in
+    let alike = ap (λ (t : List ℕ). lines_of_proof (Text t ∷ lines)) same in
+    omega (arith, all, alike))
     (λ lines says. subst P (sym (states_by variants text lines true is)) (subst (λ (t : List ℕ). P (by_proof (proof_of (Text t ∷ lines)))) same says))
 
 -- a problem
@@ -217,7 +221,6 @@ unfolding problem_of game_of
 none_first variants = refl
 
 pub states_none : (variants : List Named) → stated_in variants [] ≡ Err (fault.Game (Missing 1))
-unfolding line_at
 states_none variants = ap (λ r. by_problem r []) (none_first variants)
 
 long_first : (variants : List Named) (lines : List Line) → problem_of variants (TooLong ∷ lines) ≡ Err (LineTooLong 1)
@@ -225,7 +228,6 @@ unfolding problem_of game_of
 long_first variants lines = refl
 
 pub states_long : (variants : List Named) (lines : List Line) → stated_in variants (TooLong ∷ lines) ≡ Err (fault.Game (LineTooLong 1))
-unfolding line_at
 states_long variants lines = ap (λ r. by_problem r (TooLong ∷ lines)) (long_first variants lines)
 
 long_needed : (variants : List Named) (lines : List Line) → 1 ≤ lines_of_problem variants (TooLong ∷ lines)
@@ -233,7 +235,7 @@ unfolding lines_of_problem lines_of_game
 long_needed variants lines = omega arith
 
 pub check_long : (variants : List Named) (lines : List Line) → 1 ≤ lines_of_check variants (TooLong ∷ lines)
-unfolding lines_of_stated line_at
+unfolding lines_of_stated
 check_long variants lines = let one = long_needed variants lines in omega (arith, one)
 
 text_needed : (variants : List Named) (text : List ℕ) (lines : List Line) → 1 ≤ lines_of_problem variants (Text text ∷ lines)
@@ -242,7 +244,7 @@ text_needed variants text lines = omega arith
 
 by_needed : (variants : List Named) (text : List ℕ) (lines : List Line) (t : Bool) → 1 ≤ lines_by t variants (Text text ∷ lines)
 unfolding lines_of_stated
-by_needed variants text lines true = omega arith
+by_needed variants text lines true = proof-needed text lines
 by_needed variants text lines false = let one = text_needed variants text lines in omega (arith, one)
 
 pub check_needed : (variants : List Named) (text : List ℕ) (lines : List Line) → 1 + (lines_of_check variants (Text text ∷ lines) - 1) ≤ lines_of_check variants (Text text ∷ lines)

@@ -6,5 +6,4 @@ mod RunLemmas
 mod SessionCases
 mod SetupLemmas
 mod ShotLemmas
-mod StrategyLemmas
 mod VariantLemmas

@@ -19,7 +19,7 @@ use Rattle.strategy_check.specs.Rows.{kept}
 use Rattle.strategy_check.specs.Verdicts.{verdict_of, verdict_text}
 use Rattle.proof_text.specs.declared.fault.ProofFault.{ProofFault}
 use Rattle.proof_text.specs.declared.proof.Proof.{Proof}
-use Rattle.proof_text.specs.Reading.{is_proof_text, proof_of}
+use Rattle.proof_text.specs.Reading.{is_proof_text, lines_of_proof, proof_of}
 use Rattle.vengine.specs.declared.fault.Fault.{Fault}
 use Rattle.vengine.specs.declared.fault.Fault.TheVariants as fault
 use Rattle.vengine.specs.Fault.{error_line, fault_text}
@@ -82,7 +82,7 @@ pub record IsWon (variants : List Named) (input : List Line) : Type 0 where
   pub states : stated_in variants input ≡ Ok proof
   pub won : wins proof.game.rules proof.n (story proof.game) proof.attacker ≡ true
 
--- ---- how many lines tell it: all of a proof text; of a problem and a strategy all of them, or those up to the first faulty one
+-- ---- how many lines tell it: all of them, or those up to the first faulty one
 
 abbrev pub lines_after : Result Problem GameFault → List Line → ℕ
 lines_after (Ok p) lines = lines_of_strategy p.game.rules lines
@@ -92,7 +92,7 @@ unfoldable pub lines_of_stated : List Named → List Line → ℕ
 lines_of_stated variants input = lines_of_problem variants input + lines_after (problem_of variants input) (drop 4 input)
 
 abbrev pub lines_by : Bool → List Named → List Line → ℕ
-lines_by true variants input = length input
+lines_by true variants input = lines_of_proof input
 lines_by false variants input = lines_of_stated variants input
 
 abbrev pub lines_of_check : List Named → List Line → ℕ

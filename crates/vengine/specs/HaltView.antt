@@ -21,9 +21,9 @@ use Rattle.proof_text.specs.declared.taking.NoProof.TheVariants as no_proof
 use Rattle.vengine.specs.declared.halt.Halt.{Halt}
 use Rattle.vengine.specs.declared.halt.Halt.TheVariants as halt
 use Rattle.vengine.specs.declared.answers.Answer.{Answer}
+use Rattle.proof_text.specs.declared.strategy_lines.NoStrategy.{NoStrategy}
+use Rattle.proof_text.specs.declared.strategy_lines.NoStrategy.TheVariants as no_strategy
 use Rattle.vengine.specs.declared.opening.Opened.{Opened}
-use Rattle.vengine.specs.declared.strategy_lines.NoStrategy.{NoStrategy}
-use Rattle.vengine.specs.declared.strategy_lines.NoStrategy.TheVariants as no_strategy
 use Rattle.vengine.specs.declared.stop.Stop.{Stop}
 use Rattle.vengine.specs.declared.stop.Stop.TheVariants as stop
 use Rattle.vengine.specs.Fault.{error_line, fault_status, fault_text}

@@ -6,7 +6,7 @@ ghost use Rattle.variant_rules.specs.Entries.{entries};
 ghost use Rattle.game_text.specs.HeardLines.{HeardLines};
 ghost use Rattle.game_text.specs.Problem.{problem_of};
 ghost use Rattle.strategy.specs.Reading.{AreSound};
-ghost use Rattle.proof_text.specs.Reading.{proof_of};
+ghost use Rattle.proof_text.specs.Reading.{lines_of_proof, proof_of};
 ghost use Rattle.vengine.specs.Checking as Said;
 ghost use Rattle.vengine.specs.CheckView.{Prints, States};
 ghost use Rattle.vengine.specs.HaltView.{Answers, IsUnheard};
@@ -30,7 +30,8 @@ fn state_proof<S: Source>(
     first: &[u8],
     source: &mut S,
 ) -> Result<Proof, Halt<'static>>
-    ensures heard { HeardLines (S.left source.old) (S.left source.new) length
+    ensures heard { HeardLines (S.left source.old) (S.left source.new)
+        (λ lines. lines_of_proof (line_text first.now ∷ lines) - 1)
         (λ lines. States (Said.by_proof (proof_of (line_text first.now ∷ lines))) result) }
     ensures sound { IfOk result (λ p. AreSound p.game.rules p.strategy.nodes) }
     ensures cause { HasCause (S.faults source.old) (S.faults source.new) (IsUnheard result) }

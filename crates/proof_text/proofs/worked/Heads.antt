@@ -4,7 +4,7 @@ use Rattle.std.specs.Prelude.{codes}
 use Rattle.rules_model.specs.declared.board.Side.TheVariants.{Black}
 use Rattle.foundation.specs.Numbers.{are_digits, value_after, is_number, number_of}
 use Rattle.io_ports.specs.Lines.{Text, TooLong}
-use Rattle.proof_text.specs.Lines.{line_at}
+use Rattle.proof_text.specs.Lines.{first_text}
 use Rattle.proof_text.specs.Words.{rules_said, start_said, history_said, goal_said}
 
 most_rules : rules_said (codes "rules 512") ≡ Some 512
@@ -69,15 +69,12 @@ other_goal : goal_said (codes "mate white 2") ≡ None
 unfolding are_digits value_after is_number number_of goal_said
 other_goal = refl
 
--- lines are counted from 1
-second : line_at (Text (codes "a") ∷ Text (codes "b") ∷ []) 2 ≡ Some (codes "b")
-unfolding line_at
-second = refl
+-- the first line, where it is not too long
+first : first_text (Text (codes "a") ∷ TooLong ∷ []) ≡ Some (codes "a")
+first = refl
 
-third : line_at (Text (codes "a") ∷ Text (codes "b") ∷ []) 3 ≡ None
-unfolding line_at
-third = refl
+no_line : first_text [] ≡ None
+no_line = refl
 
-long : line_at (Text (codes "a") ∷ TooLong ∷ []) 2 ≡ None
-unfolding line_at
+long : first_text (TooLong ∷ Text (codes "b") ∷ []) ≡ None
 long = refl

@@ -48,21 +48,21 @@ use Rattle.foundation.specs.Cuts.{cut}
 use Rattle.move_names.specs.Read.{castle_to, castle_said, drop_said, move_said}
 use Rattle.move_names.specs.Squares.{square_front, squares_front}
 use Rattle.strategy.specs.Said.{attacker_said, count_said, node_said, edge_said, said}
+use Rattle.strategy.specs.Needed.{lines_on}
 use Rattle.strategy.specs.Reading.{with_node, with_edge, with_said, with_text, step, taken, strategy_of, with_last_edge}
 use Rattle.strategy.specs.declared.fault.StrategyFault.TheVariants as body
 use Rattle.proof_text.specs.declared.fault.ProofFault.{ProofFault}
 use Rattle.proof_text.specs.declared.fault.ProofFault.TheVariants.{Header, BadRules, RefusedRules, BadStart, BadHistory, BadBody}
 use Rattle.proof_text.specs.declared.proof.Proof.{Proof}
-use Rattle.proof_text.specs.Lines.{line_at}
 use Rattle.proof_text.specs.Words.{rules_said, start_said, history_said, goal_said}
 use Rattle.proof_text.specs.Pairs.{is_read_back, pair_said}
-use Rattle.proof_text.specs.Reading.{body_on, goal_on, played, moves_on, history_on, start_on, pairs_after, rules_of, pairs_on, rules_on, proof_of}
+use Rattle.proof_text.specs.Reading.{line_on, body_on, goal_on, moves_on, history_on, start_on, rules_of, pairs_on, rules_on, proof_on, lines_of_proof, proof_of}
 use Rattle.variant_model.specs.declared.fault.SectionFault.TheVariants.{LetterTwice}
 use Rattle.fen_model.specs.declared.fault.FenFault.TheVariants.{Rank}
 use Rattle.variant_options.specs.Letters.{kind}
 
 unfoldable opened : Unit {0}
-unfolding any_below all_below first_below last_below is_diagonal attacks_from stands_between king_faces flies_to attacks king_attacked_at king_attacked castling_on rook_on rook_file pieces_of has_no_piece promotes_to_pawn_or_king chains_promotions gates_amiss kind_reaches blockers passes reaches_over sound_right sound_gate step_to modifier_count is_doubled digit_place digit_count cut_of number_place cut_length number_value is_bad_number number_said place_of direction_place hop_of part_of has_letter legs_of is_prefix is_atom is_once is_direction modifier_fault modifiers_fault is_bad_count is_bad_lame is_bad_hopper hopper_place atom_fault cut_fault part_fault shape_of points is_rankwise is_filewise is_plain_side leg_along is_pair pair_points is_bad_pair is_pair_to are_pairs are_single is_clear picks steps_of step_count is_far can_be_lame first_part first_length first_terms limit_of way_of header_of pair_of text_kind line_kind first_named parent_place value_within option_value last_value parts_from parts_of line_fault options option_kind skipped_keys words_of each_said listed squares_of row_of rows_of cells_from cells_of side_of checks_of count_of pocket_place fields_of are_letters gate_said bits_of may_hold held_of has_right are_digits is_number value_after number_of passed_of no_hands hands_of judged said_by fen_of tokens_of has_left_twice contradiction lines_fault entry_within entry rules_from letter_within piece_letter letter_twice on_the_board kind_rule_of trimmed cut is_passed castle_to castle_said drop_said move_said square_front squares_front attacker_said count_said node_said edge_said said with_node with_edge with_said with_text step taken strategy_of with_last_edge line_at rules_said start_said history_said goal_said is_read_back pair_said body_on goal_on played moves_on history_on start_on pairs_after rules_of pairs_on rules_on proof_of
+unfolding any_below all_below first_below last_below is_diagonal attacks_from stands_between king_faces flies_to attacks king_attacked_at king_attacked castling_on rook_on rook_file pieces_of has_no_piece promotes_to_pawn_or_king chains_promotions gates_amiss kind_reaches blockers passes reaches_over sound_right sound_gate step_to modifier_count is_doubled digit_place digit_count cut_of number_place cut_length number_value is_bad_number number_said place_of direction_place hop_of part_of has_letter legs_of is_prefix is_atom is_once is_direction modifier_fault modifiers_fault is_bad_count is_bad_lame is_bad_hopper hopper_place atom_fault cut_fault part_fault shape_of points is_rankwise is_filewise is_plain_side leg_along is_pair pair_points is_bad_pair is_pair_to are_pairs are_single is_clear picks steps_of step_count is_far can_be_lame first_part first_length first_terms limit_of way_of header_of pair_of text_kind line_kind first_named parent_place value_within option_value last_value parts_from parts_of line_fault options option_kind skipped_keys words_of each_said listed squares_of row_of rows_of cells_from cells_of side_of checks_of count_of pocket_place fields_of are_letters gate_said bits_of may_hold held_of has_right are_digits is_number value_after number_of passed_of no_hands hands_of judged said_by fen_of tokens_of has_left_twice contradiction lines_fault entry_within entry rules_from letter_within piece_letter letter_twice on_the_board kind_rule_of trimmed cut is_passed castle_to castle_said drop_said move_said square_front squares_front attacker_said count_said node_said edge_said said with_node with_edge with_said with_text step taken strategy_of with_last_edge lines_on rules_said start_said history_said goal_said is_read_back pair_said line_on body_on goal_on moves_on history_on start_on rules_of pairs_on rules_on proof_on
 opened = tt
 
 abbrev sample : List (List ℕ)
@@ -152,3 +152,22 @@ no_attacker = refl
 no_end : proof_of (lines (take 13 sample)) ≡ Err (BadBody (body.Ended 14))
 unfolding opened
 no_end = refl
+
+-- ---- no line is needed after the first faulty one
+
+all_needed : lines_of_proof (lines sample) ≡ 14
+unfolding opened
+all_needed = refl
+
+two_needed : lines_of_proof (faulty 2 (codes "rules 04")) ≡ 2
+unfolding opened
+two_needed = refl
+
+-- the rules are judged when the last of their lines is taken
+rules_needed : lines_of_proof (lines (set sample 3 (codes "rook = k"))) ≡ 5
+unfolding opened
+rules_needed = refl
+
+twelve_needed : lines_of_proof (faulty 12 (codes "edge a7a8 2")) ≡ 12
+unfolding opened
+twelve_needed = refl
