@@ -10,7 +10,8 @@ use Rattle.strategy.specs.Reading.{AreSound}
 use Rattle.proof_text.specs.declared.proof.Proof.{Proof}
 use Rattle.vengine.specs.declared.fault.Fault.{Fault}
 use Rattle.game_text.proofs.HeardLemmas.{heard_nothing, heard_so}
-use Rattle.vengine.specs.CheckView.{HasWhy, States}
+use Rattle.proof_text.specs.StrategyView.{HasWhy}
+use Rattle.vengine.specs.CheckView.{States}
 use Rattle.vengine.specs.HaltView.{strategy_halt}
 use Rattle.vengine.specs.Checking.{stated}
 use Rattle.vengine.proofs.CheckLemmas.{problem_bad, problem_first, problem_unheard, rules_heard, stated_heard, strategy_bad, strategy_good, strategy_unheard, variants_heard}
