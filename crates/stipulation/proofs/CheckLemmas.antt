@@ -1,25 +1,24 @@
 -- Lines along the steps of a tree, and verdicts step by step.
-use Rattle.std.proofs.Common.{◌≡◌, ◌⊎◌, inl, inr, ℕ, zero, suc, ◌+◌, ◌-◌, ◌<◌, ◌≤◌, min, nat_lt, Bool, true, false, ◌&&◌, ◌||◌, is_some, Option, None, Result, Ok, Err, IfOk, List, [], ◌∷◌, ◌++◌, length, take, drop, reverse, get_or, refl, ap, sym, ◌∙◌, subst, add-one, arith}
+use Rattle.std.proofs.Common.{◌≡◌, ◌⊎◌, inl, inr, ℕ, zero, suc, ◌+◌, ◌-◌, ◌<◌, ◌≤◌, Bool, false, is_some, Option, None, Result, Ok, Err, IfOk, List, [], ◌∷◌, length, take, drop, reverse, get_or, refl, ap, sym, ◌∙◌, subst, add-one, arith}
 use Rattle.std.proofs.lemmas.Bool.Decides.{nat_tests}
 use Rattle.std.proofs.lemmas.List.{take_more, take_all, length-take, length-drop, reverse-append}
 use Rattle.std.proofs.Math.Seq.{drop-cons}
 use Rattle.foundation.specs.declared.Memory.{Memory}
 use Rattle.foundation.specs.Member.{Member}
-use Rattle.foundation.specs.Tests.{is_nil}
 use Rattle.rules_model.specs.declared.board.Position.{Position}
 use Rattle.rules_model.specs.declared.moves.Move.{Move}
 use Rattle.rules_model.specs.declared.moves.Move.TheVariants.{Go}
 use Rattle.rules_model.specs.declared.moves.Promo.TheVariants.{Stays}
-use Rattle.rules_model.specs.Games.{Story, played}
+use Rattle.rules_model.specs.Games.{Story}
 use Rattle.forced_wins.specs.Contests.{Contest}
 use Rattle.game_play.specs.Played.{story}
 use Rattle.stipulation.specs.declared.cert.Step.{Step}
-use Rattle.stipulation.specs.declared.check.Tree.{Tree}
+use Rattle.stipulation.specs.declared.task.Task.{Task}
 use Rattle.stipulation.specs.declared.verdict.CertVerdict.{CertVerdict}
 use Rattle.stipulation.specs.declared.verdict.CertVerdict.TheVariants.{Holds, BadPly, BadMove, TooDeep, NotMate, MissingReply, Unfinished}
 use Rattle.stipulation.specs.Trees.{game_at, parent_game, children}
 use Rattle.stipulation.specs.Verdicts.{or_verdict, fault_if, is_bad_ply, plies_verdict, is_bad_move, game_verdict, step_verdict, steps_verdict, tree_verdict, is_empty_end}
-use Rattle.stipulation.specs.AtTree as At
+use Rattle.stipulation.specs.AtTask as At
 use Rattle.stipulation.proofs.LineLemmas.{along-none}
 use Rattle.stipulation.proofs.TreeLemmas.{or-holds, fault-holds, bad_ply, bad-parts, tested-member, game-here, game-past}
 
@@ -44,16 +43,16 @@ later-more steps i d h = drop-cons steps i d h ∙ (λ j. get_or steps i d ∷ d
 
 -- ---- lines
 
-pub line-none : (t : Tree) → At.IsLineTo t [] []
+pub line-none : (t : Task) → At.IsLineTo t [] []
 unfolding game_at
 line-none t q h = ap (At.at t) (take_none q) ∙ along-none (story t.game.now)
 
 -- the line to a step's parent
-pub line-parent : (t : Tree) (earlier : List Step) (ps : List Position) (ply : ℕ) → At.IsLineTo t earlier ps → 1 ≤ ply → ply ≤ length ps + 1 → At.at t (take (ply - 1) ps) ≡ parent_game (At.games t) (story t.game.now) earlier ply
+pub line-parent : (t : Task) (earlier : List Step) (ps : List Position) (ply : ℕ) → At.IsLineTo t earlier ps → 1 ≤ ply → ply ≤ length ps + 1 → At.at t (take (ply - 1) ps) ≡ parent_game (At.games t) (story t.game.now) earlier ply
 line-parent t earlier ps ply h a b = h (ply - 1) (omega arith)
 
 -- after a step's move
-pub line-more : (t : Tree) (earlier : List Step) (ps cut qs : List Position) (s : Step) → At.IsLineTo t earlier ps → 1 ≤ s.ply → s.ply ≤ length ps + 1 → cut ≡ take (s.ply - 1) ps → length qs ≡ length cut + 1 → take (length cut) qs ≡ cut → At.at t qs ≡ (At.games t).after (At.at t cut) s.chosen → At.IsLineTo t (s ∷ earlier) qs
+pub line-more : (t : Task) (earlier : List Step) (ps cut qs : List Position) (s : Step) → At.IsLineTo t earlier ps → 1 ≤ s.ply → s.ply ≤ length ps + 1 → cut ≡ take (s.ply - 1) ps → length qs ≡ length cut + 1 → take (length cut) qs ≡ cut → At.at t qs ≡ (At.games t).after (At.at t cut) s.chosen → At.IsLineTo t (s ∷ earlier) qs
 line-more t earlier ps cut qs s h a b e l before play q k = let c = cut_length in split (last_or q s.ply (omega arith))
   where
     cut_length : length cut ≡ s.ply - 1
@@ -165,7 +164,7 @@ ok-const (Ok v) a = λ _. a
 ok-const (Err e) a = tt
 
 -- the root as the end of an empty line
-pub root-end : (t : Tree) (ps : List Position) → ps ≡ [] → At.at t ps ≡ story t.game.now
+pub root-end : (t : Task) (ps : List Position) → ps ≡ [] → At.at t ps ≡ story t.game.now
 root-end t ps e = ap (At.at t) e ∙ along-none (story t.game.now)
 
 pub ok-mono : (P Q : CertVerdict → Type 0) (r : Result CertVerdict Memory) → IfOk r P → ((v : CertVerdict) → P v → Q v) → IfOk r Q
@@ -174,14 +173,14 @@ ok-mono P Q (Err e) h f = tt
 
 -- ---- a line of no move
 
-pub none-sound : (t : Tree) (ps : List Position) → ps ≡ [] → At.AreSound t ps
+pub none-sound : (t : Task) (ps : List Position) → ps ≡ [] → At.AreSound t ps
 none-sound t ps e = λ k d h. let l = ap length e in absurd (omega arith)
 
-pub none-leads : (t : Tree) (ps : List Position) → ps ≡ [] → At.IsLineTo t [] ps
+pub none-leads : (t : Task) (ps : List Position) → ps ≡ [] → At.IsLineTo t [] ps
 none-leads t ps e = subst (At.IsLineTo t []) (sym e) (line-none t)
 
-pub empty-ended : (t : Tree) (ps : List Position) (o : Option Bool) (b : Bool) → length t.steps.now ≡ 0 → ps ≡ [] → o ≡ (At.games t).end (At.at t ps) → b ≡ is_some o → b ≡ is_empty_end (At.games t) (story t.game.now) t.steps.now
-empty-ended t ps o b l e f h = h ∙ ap is_some (f ∙ ap (λ (g : Story). (At.games t).end g) (root-end t ps e)) ∙ nothing t.steps.now l
+pub empty-ended : (t : Task) (ps : List Position) (o : Option Bool) (b : Bool) (steps : List Step) → length steps ≡ 0 → ps ≡ [] → o ≡ (At.games t).end (At.at t ps) → b ≡ is_some o → b ≡ is_empty_end (At.games t) (story t.game.now) steps
+empty-ended t ps o b steps l e f h = h ∙ ap is_some (f ∙ ap (λ (g : Story). (At.games t).end g) (root-end t ps e)) ∙ nothing steps l
   where
     nothing : (steps : List Step) → length steps ≡ 0 → is_some ((At.games t).end (story t.game.now)) ≡ is_empty_end (At.games t) (story t.game.now) steps
     nothing [] l = refl

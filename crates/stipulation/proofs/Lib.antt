@@ -3,3 +3,6 @@ pub mod TreeLemmas
 pub mod CheckLemmas
 pub mod HoldLaws
 pub mod RuleLaws
+pub mod FoundLaws
+pub mod SearchLemmas
+pub mod MateLaws

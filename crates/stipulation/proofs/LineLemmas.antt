@@ -1,6 +1,5 @@
 -- Games along positions.
-use Rattle.std.proofs.Common.{◌≡◌, ℕ, suc, ◌+◌, ◌-◌, ◌<◌, ◌≤◌, nat_le, ◌==◌, Bool, true, false, not, ◌&&◌, ◌||◌, cond, if◌then◌else◌, Option, Some, None, List, [], ◌∷◌, ◌++◌, length, take, get_or, refl, ap, sym, ◌∙◌, subst, add-one, append_assoc, append-nil, arith}
-use Rattle.std.specs.List.{fold, All}
+use Rattle.std.proofs.Common.{◌≡◌, ℕ, ◌+◌, ◌-◌, ◌<◌, nat_le, ◌==◌, Bool, true, false, not, ◌&&◌, ◌||◌, cond, if◌then◌else◌, Option, Some, None, List, [], ◌∷◌, ◌++◌, length, take, get_or, refl, ap, sym, ◌∙◌, append_assoc, append-nil, arith}
 use Rattle.std.proofs.lemmas.Bool.Decides.{nat_tests}
 use Rattle.std.proofs.lemmas.List.{take_all, take_more}
 use Rattle.std.proofs.lemmas.List.Elements.{All-get_or}
@@ -15,7 +14,7 @@ use Rattle.rules_model.specs.declared.moves.Outcome.TheVariants.{Ongoing, Won, D
 use Rattle.rules_model.specs.declared.moves.Value.{Value}
 use Rattle.rules_model.specs.declared.moves.Value.TheVariants.{Win, Loss, Draw}
 use Rattle.rules_model.specs.declared.rules.Rules.{Rules}
-use Rattle.rules_model.specs.Ends.{is_ongoing, or_end, valued}
+use Rattle.rules_model.specs.Ends.{or_end, valued}
 use Rattle.rules_model.specs.Next.{next}
 use Rattle.rules_model.specs.Games.{Story, history, played, times, same_repeat, is_repeated, is_run_out, result}
 use Rattle.rules_model.specs.Legal.{own_end}

@@ -1,13 +1,11 @@
 -- Certificates that hold give selfmates and helpmates by the rules of play.
-use Rattle.std.proofs.Common.{◌≡◌, ◌⊎◌, inl, inr, ℕ, zero, suc, ◌+◌, ◌*◌, ◌<◌, ◌≤◌, List, [], ◌∷◌, length, Bool, true, false, not, ◌&&◌, ◌||◌, is_some, Option, Some, None, refl, ap, sym, ◌∙◌, subst, arith}
-use Rattle.std.specs.List.{list_any, list_all}
+use Rattle.std.proofs.Common.{◌≡◌, inl, inr, ℕ, zero, suc, ◌+◌, ◌*◌, ◌<◌, ◌≤◌, List, [], ◌∷◌, length, Bool, true, false, not, is_some, Option, Some, None, refl, ap, sym, ◌∙◌, arith}
+use Rattle.std.specs.List.{list_any}
 use Rattle.std.proofs.lemmas.Bool.{and_parts}
 use Rattle.std.proofs.lemmas.Bool.Decides.{nat_tests}
 use Rattle.foundation.specs.Member.{Member}
 use Rattle.foundation.specs.Tests.{is_nil}
-use Rattle.rules_model.specs.declared.board.Position.{Position}
 use Rattle.rules_model.specs.declared.board.Side.{Side}
-use Rattle.rules_model.specs.declared.board.Side.TheVariants.{White, Black}
 use Rattle.rules_model.specs.declared.moves.Cause.{Cause}
 use Rattle.rules_model.specs.declared.moves.Cause.TheVariants.{Flag, Checks, Extinction, Checkmate, Stalemate, Repetition, MoveCount}
 use Rattle.rules_model.specs.declared.moves.Move.{Move}
@@ -22,15 +20,16 @@ use Rattle.rules_model.specs.Games.{Story, played, story_from, result}
 use Rattle.rules_model.proofs.EqualLaws.{side-decides}
 use Rattle.rules_model.proofs.PlayLaws.{own_end-stuck}
 use Rattle.rules_model.proofs.ResultLaws.{result-own, story_from-none, story_from-more}
-use Rattle.forced_wins.specs.Contests.{Contest, forced, within}
+use Rattle.forced_wins.specs.Contests.{Contest, within}
 use Rattle.forced_wins.proofs.ClaimLaws as Claims
 use Rattle.forced_wins.proofs.ContestLaws.{any_intro, double, double-is, forced-attacking}
-use Rattle.forced_wins.proofs.Counts.{by_cases, own_cases, true_false}
+use Rattle.forced_wins.proofs.Counts.{by_cases, own_cases}
 use Rattle.forced_wins.proofs.Rules.{laws}
 use Rattle.stipulation.specs.declared.cert.Step.{Step}
 use Rattle.stipulation.specs.declared.verdict.CertVerdict.{CertVerdict}
 use Rattle.stipulation.specs.declared.verdict.CertVerdict.TheVariants.{Holds, BadPly, NotMate}
-use Rattle.stipulation.specs.Stipulations.{is_checkmate, mated_by, self_games, self_wins, AreInTurn, IsHelpMate, HelpWins, help_games}
+use Rattle.stipulation.specs.Stipulations.{is_checkmate, mated_by, self_games, self_wins, AreInTurn, HelpWins, help_games}
+use Rattle.stipulation.specs.Sentences.{SelfSentences}
 use Rattle.stipulation.specs.Trees.{game_at, children}
 use Rattle.stipulation.specs.Verdicts.{or_verdict, fault_if, is_bad_ply, plies_verdict, game_verdict, steps_verdict, tree_verdict, self_verdict, help_verdict, is_empty_end}
 use Rattle.stipulation.proofs.TreeLemmas.{or-holds, fault-holds, not_mate, bad_ply, steps-holds}
@@ -244,3 +243,23 @@ help-later rules n g steps b v e f k h =
 -- a check of a selfmate that holds
 pub self-checked : (rules : Rules) (n : ℕ) (g : Story) (steps : List Step) (v : CertVerdict) → v ≡ tree_verdict (self_games rules g.last.side) n g steps → v ≡ Holds → self_wins rules n g g.last.side ≡ true
 self-checked rules n g steps v e h = self-holds rules n g steps (sym e ∙ h)
+
+-- ---- the sentences on selfmates
+
+module _ (rules : Rules) (a : Side) where
+  other_end : (o : Outcome) → (o ≡ Ongoing → ⊥) → (o ≡ Won (other a) Checkmate → ⊥) → mated_by (other a) o ≡ Some false
+  other_end o h k = split (mated_by (other a) o) refl
+    where
+      split : (e : Option Bool) → mated_by (other a) o ≡ e → mated_by (other a) o ≡ Some false
+      split None e = absurd (h (mated-ongoing (other a) o e))
+      split (Some true) e = absurd (k (mated-won (other a) o e))
+      split (Some false) e = e
+
+  pub self-sentences : (n : ℕ) (g : Story) → SelfSentences rules n g a
+  self-sentences n g = record {
+    mated = λ e. Claims.forced-ended (self_games rules a) n g true (ap (mated_by (other a)) e ∙ won-mated (other a));
+    ended = λ h k. Claims.forced-ended (self_games rules a) n g false (other_end (result rules g) h k);
+    no_move_left = λ e t. Claims.forced-zero (self_games rules a) g (ap (mated_by (other a)) e) t;
+    some_move = λ e t. Claims.forced-attack (self_games rules a) (self-turns rules a) n g (ap (mated_by (other a)) e) t;
+    each_reply = λ e t. Claims.forced-defence (self_games rules a) (self-turns rules a) n g (ap (mated_by (other a)) e) t;
+  }

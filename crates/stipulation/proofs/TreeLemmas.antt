@@ -1,5 +1,5 @@
 -- Verdicts taken apart, and the parts of trees.
-use Rattle.std.proofs.Common.{◌≡◌, ◌⊎◌, inl, inr, ℕ, zero, suc, ◌+◌, ◌-◌, ◌*◌, ◌<◌, ◌≤◌, ◌==◌, nat_lt, List, [], ◌∷◌, length, Bool, true, false, not, ◌&&◌, ◌||◌, is_some, Option, Some, None, if◌then◌else◌, refl, ap, sym, ◌∙◌, subst, arith}
+use Rattle.std.proofs.Common.{◌≡◌, inl, inr, ℕ, ◌+◌, ◌*◌, ◌<◌, ◌≤◌, ◌==◌, nat_lt, List, [], ◌∷◌, Bool, true, false, not, ◌||◌, is_some, Option, Some, None, refl, ap, sym, ◌∙◌, subst, arith}
 use Rattle.std.specs.Bool.{Decides}
 use Rattle.std.specs.List.{list_any}
 use Rattle.std.proofs.lemmas.Bool.{or_cases, or_left, or_right}
@@ -15,7 +15,7 @@ use Rattle.stipulation.specs.declared.cert.Step.{Step}
 use Rattle.stipulation.specs.declared.verdict.CertVerdict.{CertVerdict}
 use Rattle.stipulation.specs.declared.verdict.CertVerdict.TheVariants.{Holds, BadPly, BadMove, TooDeep, NotMate, MissingReply, Unfinished}
 use Rattle.stipulation.specs.Trees.{game_at, moves_at, parent_game, siblings, children}
-use Rattle.stipulation.specs.Verdicts.{or_verdict, fault_if, is_bad_ply, plies_verdict, is_bad_move, first_missing, missing, end_verdict, game_verdict, step_verdict, steps_verdict}
+use Rattle.stipulation.specs.Verdicts.{or_verdict, fault_if, is_bad_move, first_missing, missing, end_verdict, game_verdict, step_verdict, steps_verdict}
 
 -- ---- moves among moves
 

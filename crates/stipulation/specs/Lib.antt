@@ -1,5 +1,7 @@
 pub mod Stipulations
+pub mod Sentences
 pub mod Trees
 pub mod Lines
 pub mod Verdicts
-pub mod AtTree
+pub mod AtTask
+pub mod Searches

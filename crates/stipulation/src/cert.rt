@@ -1,5 +1,7 @@
 //! Certificates as values.
-use rules_model::Move;
+ghost use Rattle.std.specs.Prelude.{◌≡◌, ◌++◌, ◌∷◌, [], length, take, OnOk};
+
+use rules_model::{Memory, Move};
 use std::marker::Model;
 
 /// A move of a certificate's tree.
@@ -23,6 +25,28 @@ impl Model for Steps {
     ghost Value = { List Step };
 
     ghost view = { λ s. s.items.items };
+}
+
+impl Steps {
+    pub(crate) fn len(&self) -> usize
+        ensures { result ≡ length self.now }
+    {
+        self.items.len()
+    }
+
+    pub(crate) fn push(&mut self, step: Step) -> Result<(), Memory>
+        ensures { OnOk result (self.new ≡ self.old ++ step ∷ []) }
+    {
+        self.items.push(step)?;
+        Ok(())
+    }
+
+    /// Drops the last steps until so many are left.
+    pub(crate) fn cut(&mut self, count: usize)
+        ensures { self.new ≡ take count self.old }
+    {
+        self.items.truncate(count);
+    }
 }
 
 /// How a selfmate is forced, or a helpmate reached, in the game that is the root. The parent of a step is the last earlier

@@ -9,10 +9,11 @@ ghost use Rattle.stipulation.specs.declared.verdict.CertVerdict.TheVariants as S
 ghost use Rattle.stipulation.specs.Stipulations.{self_wins, HelpWins};
 ghost use Rattle.stipulation.specs.Trees as Trees;
 ghost use Rattle.stipulation.specs.Verdicts as Verdicts;
-ghost use Rattle.stipulation.specs.AtTree as At;
+ghost use Rattle.stipulation.specs.AtTask as At;
 
 use crate::cert::{Cert, Step};
 use crate::line::Line;
+use crate::task::Task;
 use crate::tree::{first_missing, had_move, had_none, has_none};
 use crate::verdict::CertVerdict;
 use game_play::Game;
@@ -22,9 +23,7 @@ use std::alloc::Global;
 /// A certificate's steps beside the game that is their root.
 #[derive(Drop)]
 pub(crate) struct Tree<'a> {
-    pub game: &'a Game,
-    /// Whether both sides choose their moves, as in a helpmate.
-    pub help: bool,
+    pub task: Task<'a>,
     pub n: u16,
     pub steps: &'a [Step],
 }
@@ -67,44 +66,18 @@ fn missing(i: u64, reply: Option<Move>) -> CertVerdict
 }
 
 impl Tree<'_> {
-    /// Whether the other side of the one that is to move at the root has won by checkmate, where the game is ended after the line.
-    fn end(&self, line: &Line) -> Option<bool>
-        requires sound { At.AreSound self.now line.now }
-        ensures { result ≡ (At.games self.now).end (At.at self.now line.now) }
-    {
-        let winner = self.game.position().side.other();
-        line.end(self.game, winner)
-    }
-
-    /// Whether one move is to be chosen after the line, and not every move to be replied to.
-    fn is_choosing(&self, line: &Line) -> bool
-        requires sound { At.AreSound self.now line.now }
-        ensures { result ≡ (At.games self.now).attacking (At.at self.now line.now) }
-    {
-        self.help || line.last(self.game).side.is(self.game.position().side)
-    }
-
     /// Whether the move of the step may not follow its parent, at which the line ends.
     #[tactic(auto, unfolding(crate::specs::Verdicts::is_bad_move))]
     fn is_bad_move(&self, line: &Line, earlier: &[Step], s: &Step) -> bool
-        requires sound { At.AreSound self.now line.now }
+        requires sound { At.AreSound self.now.task line.now }
         ensures { let sibs = Trees.siblings (reverse earlier.now) s.now.ply in
-            result ≡ Verdicts.is_bad_move (At.games self.now) (At.at self.now line.now) sibs s.now.chosen }
+            result ≡ Verdicts.is_bad_move (At.games self.now.task) (At.at self.now.task line.now) sibs s.now.chosen }
     {
         let ply = u32::from(s.ply);
-        self.end(line).is_some()
-            || !self.is_legal(line, &s.chosen)
+        self.task.end(line).is_some()
+            || !self.task.is_legal(line, &s.chosen)
             || had_move(earlier, ply, &s.chosen)
-            || (self.is_choosing(line) && !had_none(earlier, ply))
-    }
-
-    /// Whether the move is legal after the line.
-    fn is_legal(&self, line: &Line, m: &Move) -> bool
-        requires sound { At.AreSound self.now line.now }
-        ensures is { result ≡ list_any (same_move m.now) ((At.games self.now).moves (At.at self.now line.now)) }
-        ensures member { IsTrue result ↔ Member m.now ((At.games self.now).moves (At.at self.now line.now)) }
-    {
-        line.is_legal(self.game, m)
+            || (self.task.is_choosing(line) && !had_none(earlier, ply))
     }
 
     /// The first failure of the game at which the line ends, by the children of the ply at the front of the later steps.
@@ -116,19 +89,19 @@ impl Tree<'_> {
         later: &[Step],
         ply: u32,
     ) -> Result<CertVerdict, Memory>
-        requires sound { At.AreSound self.now line.now }
+        requires sound { At.AreSound self.now.task line.now }
         ensures { let moves = Trees.moves_at ply later.now in
-            IfOk result (λ v. v ≡ Verdicts.game_verdict (At.games self.now) i (At.at self.now line.now) moves) }
+            IfOk result (λ v. v ≡ Verdicts.game_verdict (At.games self.now.task) i (At.at self.now.task line.now) moves) }
     {
-        match self.end(line) {
+        match self.task.end(line) {
             Some(true) => return Ok(CertVerdict::Holds),
             Some(false) => return Ok(CertVerdict::NotMate(i)),
             None => {}
         }
-        if self.is_choosing(line) {
+        if self.task.is_choosing(line) {
             return Ok(chosen_verdict(i, later, ply));
         }
-        let legal = line.legal_moves(alloc, self.game)?;
+        let legal = line.legal_moves(alloc, self.task.game)?;
         Ok(missing(i, first_missing(later, ply, legal.items.as_slice())))
     }
 
@@ -142,17 +115,17 @@ impl Tree<'_> {
         s: &Step,
     ) -> Result<CertVerdict, Memory>
         requires there { i < length self.now.steps.now }
-        requires sound { At.AreSound self.now line.old }
-        requires before { At.IsLineTo self.now (reverse (take i self.now.steps.now)) line.old }
+        requires sound { At.AreSound self.now.task line.old }
+        requires before { At.IsLineTo self.now.task (reverse (take i self.now.steps.now)) line.old }
         requires least { 1 ≤ s.now.ply }
         requires next { s.now.ply ≤ length line.old + 1 }
         ensures verdict { let earlier = reverse (take i self.now.steps.now) in
             let later = drop (i + 1) self.now.steps.now in
-            IfOk result (λ v. v ≡ Verdicts.step_verdict (At.games self.now) self.now.n (story self.now.game.now) (i + 1) earlier s.now later) }
-        ensures sound { At.AreSound self.now line.new }
+            IfOk result (λ v. v ≡ Verdicts.step_verdict (At.games self.now.task) self.now.n (story self.now.task.game.now) (i + 1) earlier s.now later) }
+        ensures sound { At.AreSound self.now.task line.new }
         ensures long { IfOk result (λ v. v ≡ Said.Holds → length line.new ≡ s.now.ply) }
         ensures line { let earlier = reverse (take i self.now.steps.now) in
-            IfOk result (λ v. v ≡ Said.Holds → At.IsLineTo self.now (s.now ∷ earlier) line.new) }
+            IfOk result (λ v. v ≡ Said.Holds → At.IsLineTo self.now.task (s.now ∷ earlier) line.new) }
     {
         let number = i as u64 + 1;
         line.cut(usize::from(s.ply) - 1);
@@ -162,7 +135,7 @@ impl Tree<'_> {
         if u32::from(s.ply) > 2 * u32::from(self.n) {
             return Ok(CertVerdict::TooDeep(number));
         }
-        line.push(self.game, &s.chosen)?;
+        line.push(self.task.game, &s.chosen)?;
         let ply = u32::from(s.ply) + 1;
         self.game_verdict(alloc, number, line, &self.steps[i + 1..], ply)
     }
@@ -170,8 +143,8 @@ impl Tree<'_> {
     /// The first failure of the steps, but for their plies.
     fn steps_verdict(&self, alloc: Global) -> Result<CertVerdict, Memory>
         requires plies { Verdicts.plies_verdict 1 0 self.now.steps.now ≡ Said.Holds }
-        ensures { let g = story self.now.game.now in
-            IfOk result (λ v. v ≡ Verdicts.steps_verdict (At.games self.now) self.now.n g 1 [] self.now.steps.now) }
+        ensures { let g = story self.now.task.game.now in
+            IfOk result (λ v. v ≡ Verdicts.steps_verdict (At.games self.now.task) self.now.n g 1 [] self.now.steps.now) }
     {
         let mut line = Line::new(alloc);
         for (i, s) in self.steps.iter().enumerate() {
@@ -186,8 +159,8 @@ impl Tree<'_> {
     /// The first failure of the tree.
     #[tactic(auto, unfolding(crate::specs::Verdicts::tree_verdict))]
     fn verdict(&self, alloc: Global) -> Result<CertVerdict, Memory>
-        ensures { let g = story self.now.game.now in
-            IfOk result (λ v. v ≡ Verdicts.tree_verdict (At.games self.now) self.now.n g self.now.steps.now) }
+        ensures { let g = story self.now.task.game.now in
+            IfOk result (λ v. v ≡ Verdicts.tree_verdict (At.games self.now.task) self.now.n g self.now.steps.now) }
     {
         match plies_verdict(self.steps) {
             CertVerdict::Holds => {}
@@ -203,13 +176,13 @@ impl Tree<'_> {
 
     /// Whether the game is ended, and there is no step.
     fn is_empty_end(&self, alloc: Global) -> bool
-        ensures { result ≡ Verdicts.is_empty_end (At.games self.now) (story self.now.game.now) self.now.steps.now }
+        ensures { result ≡ Verdicts.is_empty_end (At.games self.now.task) (story self.now.task.game.now) self.now.steps.now }
     {
         if self.steps.len() > 0 {
             return false;
         }
         let line = Line::new(alloc);
-        self.end(&line).is_some()
+        self.task.end(&line).is_some()
     }
 }
 
@@ -222,8 +195,7 @@ pub fn check_self(alloc: Global, game: &Game, n: u16, cert: &Cert) -> Result<Cer
         self_wins game.now.rules n (story game.now) (story game.now).last.side ≡ true) }
 {
     let tree = Tree {
-        game,
-        help: false,
+        task: Task { game, help: false },
         n,
         steps: cert.steps.items.as_slice(),
     };
@@ -238,8 +210,7 @@ pub fn check_help(alloc: Global, game: &Game, n: u16, cert: &Cert) -> Result<Cer
     ensures wins { IfOk result (λ v. v ≡ Said.Holds → HelpWins game.now.rules n (story game.now)) }
 {
     let tree = Tree {
-        game,
-        help: true,
+        task: Task { game, help: true },
         n,
         steps: cert.steps.items.as_slice(),
     };

@@ -3,7 +3,11 @@
 
 mod cert;
 mod check;
+pub mod laws;
 mod line;
+mod mates;
+mod search;
+mod task;
 #[cfg(test)]
 mod tests;
 mod tree;
@@ -11,4 +15,5 @@ mod verdict;
 
 pub use cert::{Cert, Step, Steps};
 pub use check::{check_help, check_self};
+pub use mates::{help_mate, self_mate};
 pub use verdict::CertVerdict;

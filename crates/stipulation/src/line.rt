@@ -78,6 +78,13 @@ impl Line {
         }
     }
 
+    /// How many moves there are.
+    pub fn len(&self) -> usize
+        ensures { result ≡ length self.now }
+    {
+        self.positions.len()
+    }
+
     /// Takes moves back until so many are left.
     pub fn cut(&mut self, plies: usize)
         ensures { self.new ≡ take plies self.old }

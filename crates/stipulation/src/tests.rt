@@ -163,3 +163,48 @@ fn the_history_counts(rt: HostRuntime) -> Result<(), Fail> {
     let twice = game(&rt, rt.alloc(), &chess, &start, "g8h8 a7b7 h8g8 b7a7")?;
     says_help(&rt, rt.alloc(), &twice, 3, again, "CertVerdict 4 NotMate 4")
 }
+
+/// Whether the search answers these steps, or none.
+fn finds<R: Abort>(
+    rt: &R,
+    alloc: Global,
+    found: &Option<Cert>,
+    wanted: Option<&str>,
+) -> Result<(), Fail> {
+    match (found, wanted) {
+        (None, None) => {}
+        (Some(found), Some(text)) => {
+            let wanted = cert(alloc, text)?;
+            let (found, wanted) = (&found.steps, &wanted.steps);
+            assert!(rt; found.items.as_slice() == wanted.items.as_slice(), "{text}");
+        }
+        _ => assert!(rt; false, "found or not"),
+    }
+    Ok(())
+}
+
+#[test]
+fn selfmates_are_found(rt: HostRuntime) -> Result<(), Fail> {
+    let start = position("Ka1 Rd1 kg5 re8 rh2");
+    let forced = game(&rt, rt.alloc(), &forced(), &start, "")?;
+    let found = self_mate(rt.alloc(), &forced, 1)?;
+    finds(&rt, rt.alloc(), &found, Some("1 d1e1, 2 e8e1"))?;
+    let free = game(&rt, rt.alloc(), &chess(), &start, "")?;
+    let none = self_mate(rt.alloc(), &free, 1)?;
+    finds(&rt, rt.alloc(), &none, None)
+}
+
+#[test]
+fn helpmates_are_found(rt: HostRuntime) -> Result<(), Fail> {
+    let rows = [("kg8 Ra7 Kg6", Some("1 g8h8, 2 a7a8")), ("kh8 Ka1", None)];
+    for (text, wanted) in rows {
+        let start = Position {
+            side: Side::Black,
+            ..position(text)
+        };
+        let game = game(&rt, rt.alloc(), &chess(), &start, "")?;
+        let found = help_mate(rt.alloc(), &game, 1)?;
+        finds(&rt, rt.alloc(), &found, wanted)?;
+    }
+    Ok(())
+}

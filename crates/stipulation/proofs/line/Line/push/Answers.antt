@@ -1,6 +1,5 @@
 use Rattle.std.proofs.Common.{ap, ◌∙◌, ◌++◌, ◌∷◌, [], List}
 use Rattle.rules_model.specs.declared.board.Position.{Position}
-use Rattle.rules_model.specs.Games.{played}
 use Rattle.game_play.specs.Played.{story}
 use Rattle.stipulation.proofs.LineLemmas.{push-played}
 use Rattle.stipulation.proofs.line.Line.push.Goals as goal

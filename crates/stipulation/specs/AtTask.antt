@@ -1,4 +1,4 @@
--- A certificate's tree as the check has it: its steps beside the game that is their root.
+-- A task: the game that is the root, what is aimed at in it, and lines of moves from it on.
 use Rattle.std.specs.Prelude.{◌≡◌, ℕ, ◌≤◌, Bool, ◌||◌, List, length, take}
 use Rattle.rules_model.specs.declared.board.Position.{Position}
 use Rattle.rules_model.specs.declared.board.Side.{Side}
@@ -9,7 +9,7 @@ use Rattle.rules_model.specs.Sides.{same_side}
 use Rattle.forced_wins.specs.Contests.{Contest}
 use Rattle.game_play.specs.Played.{story}
 use Rattle.stipulation.specs.declared.cert.Step.{Step}
-use Rattle.stipulation.specs.declared.check.Tree.{Tree}
+use Rattle.stipulation.specs.declared.task.Task.{Task}
 use Rattle.stipulation.specs.Lines as Lines
 use Rattle.stipulation.specs.Stipulations.{aims}
 use Rattle.stipulation.specs.Trees.{game_at}
@@ -18,16 +18,16 @@ use Rattle.stipulation.specs.Trees.{game_at}
 abbrev pub games_for : Bool → Rules → Side → Contest Story Move
 games_for help rules a = aims (λ g. help || same_side g.last.side a) rules a
 
-abbrev pub games : Tree → Contest Story Move
+abbrev pub games : Task → Contest Story Move
 games t = games_for t.help t.game.now.rules (story t.game.now).last.side
 
 -- the game after the line
-abbrev pub at : Tree → List Position → Story
+abbrev pub at : Task → List Position → Story
 at t ps = Lines.along (story t.game.now) ps
 
-abbrev pub AreSound : Tree → List Position → Type 0
+abbrev pub AreSound : Task → List Position → Type 0
 AreSound t ps = Lines.AreSound t.game.now.rules ps
 
 -- the line leads to the last of the earlier steps, and each part of it to the last one of its ply
-abbrev pub IsLineTo : Tree → List Step → List Position → Type 0
+abbrev pub IsLineTo : Task → List Step → List Position → Type 0
 IsLineTo t earlier ps = (q : ℕ) → q ≤ length ps → at t (take q ps) ≡ game_at (games t) (story t.game.now) earlier q

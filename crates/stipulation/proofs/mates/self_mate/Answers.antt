@@ -1,0 +1,16 @@
+use Rattle.game_play.specs.Played.{story}
+use Rattle.stipulation.proofs.MateLaws.{self-none, self-found, self-found-wins}
+use Rattle.stipulation.proofs.SearchLemmas.{ok-match, ok-some}
+use Rattle.stipulation.proofs.mates.self_mate.Goals as goal
+
+pub returns-clause-found : goal.returns-clause-found
+returns-clause-found c =
+    let rules = c.args.game.now.rules in
+    let g = story c.args.game.now in
+    ok-match _ _ _ _ c.find.result c.find.ensures (self-none rules c.args.n g) (λ k e. self-found rules c.args.n g k.steps e)
+
+pub returns-clause-wins : goal.returns-clause-wins
+returns-clause-wins c =
+    let rules = c.args.game.now.rules in
+    let g = story c.args.game.now in
+    ok-some _ _ _ c.find.result c.find.ensures (λ k e. self-found-wins rules c.args.n g k.steps e)

@@ -1,0 +1,129 @@
+//! The plain search: every move in turn, with the whole history of the game.
+ghost use Rattle.std.specs.Prelude.{◌≡◌, ◌≤◌, ◌+◌, length, IfOk};
+ghost use Rattle.foundation.specs.Member.{Member};
+ghost use Rattle.rules_model.specs.declared.moves.Move.{Move};
+ghost use Rattle.stipulation.specs.AtTask as At;
+ghost use Rattle.stipulation.specs.Searches as Searches;
+
+use crate::cert::{Step, Steps};
+use crate::line::Line;
+use crate::task::Task;
+use rules_model::{Memory, Move};
+use std::alloc::Global;
+
+impl Task<'_> {
+    /// Whether what is aimed at can be reached after the line within so many plies; where it can, the steps are appended.
+    #[cycle(search)]
+    #[tactic(auto, unfolding(crate::specs::Searches::found))]
+    pub fn search(
+        &self,
+        alloc: Global,
+        line: &mut Line,
+        plies: u16,
+        steps: &mut Steps,
+    ) -> Result<bool, Memory>
+        requires sound { At.AreSound self.now line.old }
+        requires few { length line.old + plies ≤ 12 }
+        ensures found { let found = Searches.found (At.games self.now) plies (length line.old) (At.at self.now line.old) in
+            IfOk result (λ answer. Searches.IsFound found steps.old steps.new answer) }
+        ensures line { IfOk result (λ _. line.new ≡ line.old) }
+    {
+        if let Some(won) = self.end(line) {
+            return Ok(won);
+        }
+        if plies == 0 {
+            return Ok(false);
+        }
+        let legal = line.legal_moves(alloc, self.game)?;
+        if self.is_choosing(line) {
+            self.choose(alloc, line, plies - 1, legal.items.as_slice(), steps)
+        } else {
+            self.reply_to_all(alloc, line, plies - 1, legal.items.as_slice(), steps)
+        }
+    }
+
+    /// The same by the first of the legal moves after which it can be reached within so many plies.
+    #[cycle(search)]
+    #[tactic(auto, unfolding(crate::specs::Searches::first_of))]
+    fn choose(
+        &self,
+        alloc: Global,
+        line: &mut Line,
+        plies: u16,
+        moves: &[Move],
+        steps: &mut Steps,
+    ) -> Result<bool, Memory>
+        requires sound { At.AreSound self.now line.old }
+        requires few { length line.old + plies ≤ 11 }
+        requires legal { (m : Move) → Member m moves.now → Member m ((At.games self.now).moves (At.at self.now line.old)) }
+        ensures found { let follow = Searches.followed (At.games self.now) plies (length line.old) (At.at self.now line.old) in
+            IfOk result (λ answer. Searches.IsFound (Searches.first_of follow moves.now) steps.old steps.new answer) }
+        ensures line { IfOk result (λ _. line.new ≡ line.old) }
+    {
+        for m in moves {
+            if self.follow(alloc, line, plies, m, steps)? {
+                return Ok(true);
+            }
+        }
+        Ok(false)
+    }
+
+    /// The same by every one of the legal moves.
+    #[cycle(search)]
+    #[tactic(auto, unfolding(crate::specs::Searches::all_of))]
+    fn reply_to_all(
+        &self,
+        alloc: Global,
+        line: &mut Line,
+        plies: u16,
+        moves: &[Move],
+        steps: &mut Steps,
+    ) -> Result<bool, Memory>
+        requires sound { At.AreSound self.now line.old }
+        requires few { length line.old + plies ≤ 11 }
+        requires legal { (m : Move) → Member m moves.now → Member m ((At.games self.now).moves (At.at self.now line.old)) }
+        ensures found { let follow = Searches.followed (At.games self.now) plies (length line.old) (At.at self.now line.old) in
+            IfOk result (λ answer. Searches.IsFound (Searches.all_of follow moves.now) steps.old steps.new answer) }
+        ensures line { IfOk result (λ _. line.new ≡ line.old) }
+    {
+        let kept = steps.len();
+        for m in moves {
+            if !self.follow(alloc, line, plies, m, steps)? {
+                steps.cut(kept);
+                return Ok(false);
+            }
+        }
+        Ok(true)
+    }
+
+    /// The same by the legal move, within so many plies after it.
+    #[cycle(search)]
+    fn follow(
+        &self,
+        alloc: Global,
+        line: &mut Line,
+        plies: u16,
+        m: &Move,
+        steps: &mut Steps,
+    ) -> Result<bool, Memory>
+        requires sound { At.AreSound self.now line.old }
+        requires few { length line.old + plies ≤ 11 }
+        requires legal { Member m.now ((At.games self.now).moves (At.at self.now line.old)) }
+        ensures found { let follow = Searches.followed (At.games self.now) plies (length line.old) (At.at self.now line.old) in
+            IfOk result (λ answer. Searches.IsFound (follow m.now) steps.old steps.new answer) }
+        ensures line { IfOk result (λ _. line.new ≡ line.old) }
+    {
+        let (ply, kept) = (line.len(), steps.len());
+        steps.push(Step {
+            ply: ply as u16 + 1,
+            chosen: *m,
+        })?;
+        line.push(self.game, m)?;
+        let is_found = self.search(alloc, line, plies, steps)?;
+        line.cut(ply);
+        if !is_found {
+            steps.cut(kept);
+        }
+        Ok(is_found)
+    }
+}
