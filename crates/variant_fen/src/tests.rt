@@ -36,10 +36,24 @@ fn prints_as(
     Ok(())
 }
 
+/// Each text is read, and the position prints as the second text of its row.
+fn all_print(
+    rt: &impl Abort,
+    alloc: Global,
+    rules: &Rules,
+    rows: &[(&str, &str)],
+) -> Result<(), Memory>
+    requires { IsFit rules.now }
+{
+    for (text, printed) in rows {
+        prints_as(rt, alloc, rules, text, printed)?;
+    }
+    Ok(())
+}
+
 #[test]
-fn positions_are_read_and_printed(rt: HostRuntime) -> Result<(), Memory> {
-    let alloc = rt.alloc();
-    let chess_rows = [
+fn positions_of_chess(rt: HostRuntime) -> Result<(), Memory> {
+    let rows = [
         (
             "rnbqkbnr/pppppppp/8/8/8/8/PPPPPPPP/RNBQKBNR w KQkq - 0 1",
             "rnbqkbnr/pppppppp/8/8/8/8/PPPPPPPP/RNBQKBNR w KQkq - 0 1",
@@ -56,11 +70,12 @@ fn positions_are_read_and_printed(rt: HostRuntime) -> Result<(), Memory> {
         // rights and en passant are left out
         ("4k3/8/8/8/8/8/8/4K3 w 5 7", "4k3/8/8/8/8/8/8/4K3 w - - 5 7"),
     ];
-    let rules = chess();
-    for (text, printed) in chess_rows {
-        prints_as(&rt, alloc, &rules, text, printed)?;
-    }
-    let shouse_rows = [
+    all_print(&rt, rt.alloc(), &chess(), &rows)
+}
+
+#[test]
+fn positions_with_hands(rt: HostRuntime) -> Result<(), Memory> {
+    let rows = [
         // a promoted pawn, and a hand for each side
         (
             "4k3/8/8/8/8/3q~4/4P3/4K3[nH] w - - 0 1",
@@ -72,11 +87,12 @@ fn positions_are_read_and_printed(rt: HostRuntime) -> Result<(), Memory> {
             "rnbqkbnr/pppppppp/8/8/8/8/PPPPPPPP/RNBQKBNR[EHeh] w KQBCDFGkqbcdfg - 0 1",
         ),
     ];
-    let rules = shouse();
-    for (text, printed) in shouse_rows {
-        prints_as(&rt, alloc, &rules, text, printed)?;
-    }
-    let wide_rows = [
+    all_print(&rt, rt.alloc(), &shouse(), &rows)
+}
+
+#[test]
+fn positions_of_large_boards(rt: HostRuntime) -> Result<(), Memory> {
+    let rows = [
         (
             "k11/12/12/6n5/12/12/12/12/12/KCNCNCNCNCNC b - - 99+0 9999 9999",
             "k11/12/12/6n5/12/12/12/12/12/KCNCNCNCNCNC b - - 99+0 9999 9999",
@@ -91,12 +107,32 @@ fn positions_are_read_and_printed(rt: HostRuntime) -> Result<(), Memory> {
             "11k/12/12/12/12/12/12/12/12/11K w - - 1+1 7 1",
         ),
     ];
-    let rules = wide();
-    for (text, printed) in wide_rows {
-        prints_as(&rt, alloc, &rules, text, printed)?;
-    }
+    all_print(&rt, rt.alloc(), &wide(), &rows)?;
     let start = "rnbakabnr/9/1c5c1/p1p1p1p1p/9/9/P1P1P1P1P/1C5C1/9/RNBAKABNR w - - 0 1";
-    prints_as(&rt, alloc, &xiangqi(), start, start)
+    all_print(&rt, rt.alloc(), &xiangqi(), &[(start, start)])
+}
+
+#[test]
+fn faults_print(rt: HostRuntime) -> Result<(), Fail> {
+    for (fault, text) in [
+        (FenFault::Length, "FenFault 1 Length"),
+        (FenFault::Rank, "FenFault 2 Rank"),
+        (FenFault::Letter, "FenFault 3 Letter"),
+        (FenFault::Width, "FenFault 4 Width"),
+        (FenFault::Pocket, "FenFault 5 Pocket"),
+        (FenFault::Side, "FenFault 6 Side"),
+        (FenFault::Rights, "FenFault 7 Rights"),
+        (FenFault::EnPassant, "FenFault 8 EnPassant"),
+        (FenFault::Checks, "FenFault 9 Checks"),
+        (FenFault::Counter, "FenFault 10 Counter"),
+        (FenFault::Kings, "FenFault 11 Kings"),
+        (FenFault::OpponentAttacked, "FenFault 12 OpponentAttacked"),
+        (FenFault::TooMany, "FenFault 13 TooMany"),
+    ] {
+        let printed = format!(in rt.alloc(); "{fault}")?;
+        assert!(rt; printed.as_str() == text, "{text}");
+    }
+    Ok(())
 }
 
 #[test]
