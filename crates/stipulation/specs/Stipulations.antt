@@ -54,7 +54,8 @@ self_wins rules n g a = forced (self_games rules a) n g
 -- the moves are made in turn: each is legal, in an ongoing game
 abbrev pub AreInTurn : Rules → Story → List Move → Type 0
 AreInTurn rules g [] = Unit {0}
-AreInTurn rules g (m ∷ ms) = (result rules g ≡ Ongoing) × Member m (legal rules (repeat_of g.last)) × AreInTurn rules (played rules g m) ms
+AreInTurn rules g (m ∷ ms) =
+    (result rules g ≡ Ongoing) × Member m (legal rules (repeat_of g.last)) × AreInTurn rules (played rules g m) ms
 
 -- after the moves, at least one and at most 2n, the side that is not to move in the game has won by checkmate
 pub record IsHelpMate (rules : Rules) (n : ℕ) (g : Story) (ms : List Move) : Type 0 where

@@ -39,7 +39,8 @@ is_bad_ply before ply = (ply == 0) || nat_lt (before + 1) ply
 -- of the steps from the number i on, the first of which follows this ply
 unfoldable pub plies_verdict : ℕ → ℕ → List Step → CertVerdict
 plies_verdict i before [] = Holds
-plies_verdict i before (s ∷ later) = or_verdict (fault_if (is_bad_ply before s.ply) (BadPly i)) (plies_verdict (i + 1) s.ply later)
+plies_verdict i before (s ∷ later) =
+    or_verdict (fault_if (is_bad_ply before s.ply) (BadPly i)) (plies_verdict (i + 1) s.ply later)
 
 -- ---- 2: moves
 
@@ -90,7 +91,8 @@ steps_verdict c n root i earlier (s ∷ later) =
 -- of the root and the steps, for n moves
 unfoldable pub tree_verdict : {X : Type 0} → Contest X Move → ℕ → X → List Step → CertVerdict
 tree_verdict c n root steps =
-    or_verdict (plies_verdict 1 0 steps) (or_verdict (game_verdict c 0 root (children 0 steps)) (steps_verdict c n root 1 [] steps))
+    or_verdict (plies_verdict 1 0 steps)
+    (or_verdict (game_verdict c 0 root (children 0 steps)) (steps_verdict c n root 1 [] steps))
 
 -- the verdict on the steps as a selfmate of the side to move within n moves
 abbrev pub self_verdict : Rules → ℕ → Story → List Step → CertVerdict
@@ -103,7 +105,8 @@ is_empty_end c root steps = is_nil steps && is_some (c.end root)
 -- the verdict on the steps as a helpmate within n moves
 abbrev pub help_verdict : Rules → ℕ → Story → List Step → CertVerdict
 help_verdict rules n g steps =
-    or_verdict (fault_if (is_empty_end (help_games rules g.last.side) g steps) (NotMate 0)) (tree_verdict (help_games rules g.last.side) n g steps)
+    or_verdict (fault_if (is_empty_end (help_games rules g.last.side) g steps) (NotMate 0))
+    (tree_verdict (help_games rules g.last.side) n g steps)
 
 -- ---- how a verdict prints
 

@@ -67,7 +67,8 @@ pub fn help_mate(alloc: Global, game: &Game, n: u16) -> Result<Option<Cert>, Mem
         (λ cert. Verdicts.help_verdict game.now.rules n (story game.now) cert.steps ≡ Said.Holds)) }
     ensures wins { IfOk result (λ answer. IfSome answer (λ _. HelpWins game.now.rules n (story game.now))) }
     ensures shortest { IfOk result (λ answer. IfSome answer (λ cert. (steps : List Step) →
-        Verdicts.help_verdict game.now.rules n (story game.now) steps ≡ Said.Holds → length cert.steps ≤ length steps)) }
+        Verdicts.help_verdict game.now.rules n (story game.now) steps ≡ Said.Holds →
+        length cert.steps ≤ length steps)) }
 {
     let task = Task { game, help: true };
     if task.is_ended(alloc) {
