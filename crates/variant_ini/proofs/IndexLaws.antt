@@ -72,11 +72,11 @@ unfolding KeepsOthers
 other_entries eq test old new h = h
 
 -- the index at a key
-abbrev found_at : BTreeMap (Vec ℕ Global) ℕ → List ℕ → Option ℕ
+abbrev pub found_at : BTreeMap (Vec ℕ Global) ℕ → List ℕ → Option ℕ
 found_at index key = get_by (λ k. slice_cmp nat_cmp key k.items) index
 
 -- after a write at the bytes bs, the index has the new value there, and the old ones elsewhere
-index_updates : (bs : List ℕ) (old new : BTreeMap (Vec ℕ Global) ℕ) (w : Option ℕ) → UpdatesBy (λ x y. slice_cmp nat_cmp x.items y.items) (λ k. slice_cmp nat_cmp bs k.items) old new w → (cs : List ℕ) → found_at new cs ≡ cond (bytes_eq bs cs) w (found_at old cs)
+pub index_updates : (bs : List ℕ) (old new : BTreeMap (Vec ℕ Global) ℕ) (w : Option ℕ) → UpdatesBy (λ x y. slice_cmp nat_cmp x.items y.items) (λ k. slice_cmp nat_cmp bs k.items) old new w → (cs : List ℕ) → found_at new cs ≡ cond (bytes_eq bs cs) w (found_at old cs)
 index_updates bs old new w h cs =
     ⊎_elim
     (λ y. subst (λ l. found_at new l ≡ w) ((bytes_decides bs cs).0 y) h.1 ∙ sym (cond-true (bytes_eq bs cs) w (found_at old cs) y))

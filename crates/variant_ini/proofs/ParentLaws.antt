@@ -42,39 +42,6 @@ first_named_within [] name place h = absurd (cc)
 first_named_within (x ∷ xs) name place h =
     below_more (bytes_eq x.name name) (first_named xs name) (length xs) place h (λ k e. first_named_within xs name k e)
 
-module _ (xs : List Section) (name : List ℕ) (place : ℕ) (s : Section) (within : place < length xs) (here : s ≡ get_or xs place s) (above : first_named (take place xs) name ≡ None) where
-  -- the section at the place has another name
-  pub none_more : bytes_eq s.name name ≡ false → first_named (take (place + 1) xs) name ≡ None
-  unfolding first_named
-  none_more apart =
-      ap (λ ys. first_named ys name) (take_more xs place s within ∙ ap (λ x. take place xs ++ x ∷ []) (sym here))
-      ∙ first_named-append (take place xs) (s ∷ []) name
-      ∙ ap (λ o. or_behind o (length (take place xs)) (first_named (s ∷ []) name)) above
-      ∙ ap (λ b. option_map (λ k. length (take place xs) + k) (cond b (Some 0) None)) apart
-
-  -- the section at the place is the first of the name
-  pub first_here : bytes_eq s.name name ≡ true → first_named xs name ≡ Some place
-  unfolding first_named
-  first_here same =
-      let split : xs ≡ take place xs ++ s ∷ drop (place + 1) xs = sym (take-append-drop place xs) ∙ ap (λ ys. take place xs ++ ys) (drop_more xs place s within ∙ ap (λ x. x ∷ drop (place + 1) xs) (sym here)) in
-      ap (λ ys. first_named ys name) split
-      ∙ first_named-append (take place xs) (s ∷ drop (place + 1) xs) name
-      ∙ ap (λ o. or_behind o (length (take place xs)) (first_named (s ∷ drop (place + 1) xs) name)) above
-      ∙ ap (λ b. option_map (λ k. length (take place xs) + k) (cond b (Some 0) (option_map suc (first_named (drop (place + 1) xs) name)))) same
-      ∙ ap Some (omega (arith, length-take-le place xs (omega (arith, within))))
-
--- the first of a name stands among the earlier sections
-pub found_among : (xs ys : List Section) (name : List ℕ) (place : ℕ) → Some place ≡ first_named xs name → Some place ≡ first_named (xs ++ ys) name
-found_among xs ys name place h =
-    ap (λ o. or_behind o (length xs) (first_named ys name)) h ∙ sym (first_named-append xs ys name)
-
--- none of the earlier sections has the name
-pub found_behind : (xs ys : List Section) (name : List ℕ) (later : Option ℕ) → None ≡ first_named xs name → later ≡ first_named ys name → option_map (λ k. length xs + k) later ≡ first_named (xs ++ ys) name
-found_behind xs ys name later none h =
-    ap (λ o. option_map (λ k. length xs + k) o) h
-    ∙ ap (λ o. or_behind o (length xs) (first_named ys name)) none
-    ∙ sym (first_named-append xs ys name)
-
 -- the parent of a section that stands behind others
 pub parent_place_behind : (xs ys : List Section) (place : ℕ) (s : Section) → place < length ys → s ≡ get_or ys place s → parent_place (xs ++ ys) (length xs + place) ≡ option_and_then (first_named (xs ++ take place ys)) s.parent
 unfolding parent_place

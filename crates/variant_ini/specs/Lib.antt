@@ -1,5 +1,6 @@
 pub mod Classes
 pub mod Cuts
+pub mod FirstPlaces
 pub mod LastPlaces
 pub mod LineKind
 pub mod LineView

@@ -8,6 +8,7 @@ mod fault;
 mod key_line;
 mod laws;
 mod line;
+mod names;
 mod parents;
 mod reading;
 mod section;

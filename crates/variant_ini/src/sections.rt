@@ -6,17 +6,20 @@ ghost use Rattle.variant_ini.specs.Section.{last_value, section_at};
 ghost use Rattle.variant_ini.specs.FileLines.{AreFileLines};
 ghost use Rattle.variant_ini.specs.Lone.{lone_section};
 ghost use Rattle.variant_ini.specs.Reading.{fault_of, sections_in, IsFaultOrMemory};
-ghost use Rattle.variant_ini.specs.OptionValue.{option_value, parent_place};
+ghost use Rattle.variant_ini.specs.FirstPlaces.{FindsFirst};
+ghost use Rattle.variant_ini.specs.OptionValue.{first_named, option_value, parent_place};
 ghost use Rattle.variant_ini.specs.Parents.{HasParents};
 
 use crate::class::class_of;
 use crate::fault::IniFault;
 use crate::key_line::KeyLine;
+use crate::names::{Names, names_of};
 use crate::parents::parent_places;
 use crate::reading::read_sections;
 use crate::section::IndexedSection;
 use foundation::Memory;
 use std::alloc::{AllocError, Global};
+use std::collections::BTreeMap;
 use std::marker::Model;
 
 /// Sections in the order in which their files have them. A contract sees the list of the sections, each with its name,
@@ -25,28 +28,33 @@ use std::marker::Model;
 pub struct Sections {
     sections: Vec<IndexedSection>,
     parent_places: Vec<Option<usize>>,
+    names: Names,
 }
 
 impl Model for Sections {
     ghost use Rattle.std.specs.Prelude.{List};
     ghost use Rattle.variant_ini.specs.Section.{Section};
+    ghost use Rattle.variant_ini.specs.FirstPlaces.{FindsFirst};
     ghost use Rattle.variant_ini.specs.Parents.{HasParents};
 
     ghost Value = { List Section };
 
     ghost view = { λ s. s.sections.items };
 
-    ghost invariant = { λ s. HasParents s.sections.items s.parent_places.items };
+    ghost invariant = { λ s. HasParents s.sections.items s.parent_places.items × FindsFirst s.names s.sections.items };
 }
 
-// What can fail is done before either list grows.
+// What can fail is done before anything grows.
 fn append_file(
     sections: &mut Vec<IndexedSection>,
     places: &mut Vec<Option<usize>>,
+    names: &mut Names,
     bytes: &[u8],
 ) -> Result<(), IniFault>
-    requires { HasParents sections.old.items places.old.items }
+    requires parents { HasParents sections.old.items places.old.items }
+    requires names { FindsFirst names.old sections.old.items }
     ensures parents { HasParents sections.new.items places.new.items }
+    ensures names { FindsFirst names.new sections.new.items }
     ensures added { OnOk result (sections.new.items ≡ sections.old.items ++ sections_in bytes.now) }
     ensures accepted { OnOk result (fault_of bytes.now ≡ None) }
     ensures fault { IfErr result (IsFaultOrMemory (fault_of bytes.now)) }
@@ -54,10 +62,12 @@ fn append_file(
 {
     let alloc = *sections.allocator();
     let mut read = read_sections(alloc, bytes)?;
-    let mut found = parent_places(alloc, sections.as_slice(), read.as_slice())?;
+    let all = names_of(alloc, sections.as_slice(), read.as_slice())?;
+    let mut found = parent_places(alloc, sections.as_slice(), read.as_slice(), &all)?;
     places.reserve(found.len())?;
     sections.append(&mut read)?;
     places.append(&mut found).unwrap();
+    *names = all;
     Ok(())
 }
 
@@ -76,12 +86,14 @@ fn section_with(alloc: Global, name: &[u8], lines: &[KeyLine]) -> Result<Indexed
 
 impl Sections {
     /// No sections. Takes no memory.
+    #[tactic(auto, unfolding(crate::specs::OptionValue::first_named))]
     pub fn new(alloc: Global) -> Sections
         ensures { result ≡ [] }
     {
         Sections {
             sections: Vec::new(alloc),
             parent_places: Vec::new(alloc),
+            names: BTreeMap::new(alloc),
         }
     }
 
@@ -93,9 +105,11 @@ impl Sections {
         sections.push(section_with(alloc, name, lines)?)?;
         let mut parent_places = Vec::new(alloc);
         parent_places.push(None)?;
+        let names = names_of(alloc, sections.as_slice(), &[])?;
         Ok(Sections {
             sections,
             parent_places,
+            names,
         })
     }
 
@@ -114,7 +128,12 @@ impl Sections {
         // No section's options change.
         ensures kept { (section : ℕ) (key : List ℕ) → section < length self.old → option_value self.new section key ≡ option_value self.old section key }
     {
-        append_file(&mut self.sections, &mut self.parent_places, bytes)
+        append_file(
+            &mut self.sections,
+            &mut self.parent_places,
+            &mut self.names,
+            bytes,
+        )
     }
 
     /// How many sections there are.
@@ -131,6 +150,13 @@ impl Sections {
     {
         let section = &self.sections[section];
         section.name()
+    }
+
+    /// The place of the first section of a name. Takes no memory, and time that grows with the logarithm of the names.
+    pub fn place_of(&self, name: &[u8]) -> Option<usize>
+        ensures { result ≡ first_named self.now name.now }
+    {
+        Some(*self.names.get(name)?)
     }
 
     /// The name of a section's parent, where it has one. Whether there is such a section is not said.

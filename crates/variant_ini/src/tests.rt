@@ -60,6 +60,15 @@ fn sections_have_names_parents_and_lines(rt: HostRuntime) -> Result<(), Fail> {
         assert!(rt; sections.parent_place(section) == place);
         assert!(rt; sections.lines(section).len() == lines);
     }
+    let first: [(&[u8], Option<usize>); 4] = [
+        (b"a", Some(0)),
+        (b"e", Some(5)),
+        (b"=x", Some(6)),
+        (b"x", None),
+    ];
+    for (name, place) in first {
+        assert!(rt; sections.place_of(name) == place);
+    }
     Ok(())
 }
 

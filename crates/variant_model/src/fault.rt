@@ -3,7 +3,25 @@ use betza_text::BetzaFault;
 use fen_model::FenFault;
 use rules_model::{Kind, Text};
 use std::error::Error;
-use std::{fmt, str};
+use std::fmt;
+
+/// A key, which prints as the characters of its bytes. The keys of a variants file are ASCII.
+#[derive(Clone, Copy)]
+struct Key<'a>(&'a [u8]);
+
+impl fmt::Display for Key<'_> {
+    ghost use Rattle.std.specs.Prelude.{Some};
+    ghost use Rattle.variant_model.specs.Fault.{key_text};
+
+    ghost output = { λ key. Some (key_text key.0.now) };
+
+    fn fmt<W: fmt::Write>(&self, f: &mut fmt::Formatter<W>) -> fmt::Result {
+        for byte in self.0 {
+            f.write_char(*byte as char)?;
+        }
+        Ok(())
+    }
+}
 
 /// Why a section is refused: its first fault, in this order, but that `Inconsistent` comes before `BadStart`.
 #[derive(Drop)]
@@ -36,25 +54,29 @@ impl fmt::Display for SectionFault {
 
     ghost output = { λ fault. Some (fault_text fault) };
 
-    /// The type's name, the fault's number, its name and its fields, as `SectionFault 5 BadValue nFoldRule`. An error where a
-    /// key is not UTF-8; the keys of a variants file are ASCII.
+    /// The type's name, the fault's number, its name and its fields, as `SectionFault 5 BadValue nFoldRule`.
     fn fmt<W: fmt::Write>(&self, f: &mut fmt::Formatter<W>) -> fmt::Result {
         match self {
             SectionFault::DuplicateName => f.write_str("SectionFault 1 DuplicateName"),
             SectionFault::UnknownParent => f.write_str("SectionFault 2 UnknownParent"),
             SectionFault::RefusedParent => f.write_str("SectionFault 3 RefusedParent"),
-            SectionFault::UnsupportedOption(key) => match str::from_utf8(key.items.as_slice()) {
-                Ok(key) => write!(f, "SectionFault 4 UnsupportedOption {key}"),
-                Err(_) => Err(fmt::Error),
-            },
-            SectionFault::BadValue(key) => match str::from_utf8(key.items.as_slice()) {
-                Ok(key) => write!(f, "SectionFault 5 BadValue {key}"),
-                Err(_) => Err(fmt::Error),
-            },
-            SectionFault::BadPiece(key, fault) => match str::from_utf8(key.items.as_slice()) {
-                Ok(key) => write!(f, "SectionFault 6 BadPiece {key} {fault}"),
-                Err(_) => Err(fmt::Error),
-            },
+            SectionFault::UnsupportedOption(key) => {
+                write!(
+                    f,
+                    "SectionFault 4 UnsupportedOption {}",
+                    Key(key.items.as_slice())
+                )
+            }
+            SectionFault::BadValue(key) => {
+                write!(f, "SectionFault 5 BadValue {}", Key(key.items.as_slice()))
+            }
+            SectionFault::BadPiece(key, fault) => {
+                write!(
+                    f,
+                    "SectionFault 6 BadPiece {} {fault}",
+                    Key(key.items.as_slice())
+                )
+            }
             SectionFault::LetterTwice(kind) => {
                 write!(
                     f,

@@ -22,12 +22,8 @@ fn first_named(sections: &Sections, place: usize, name: &[u8]) -> Option<usize>
     requires { place ≤ length sections.now }
     ensures { result ≡ first_named (take place sections.now) name.now }
 {
-    for above in 0..place {
-        if sections.name(above) == name {
-            return Some(above);
-        }
-    }
-    None
+    let first = sections.place_of(name)?;
+    if first < place { Some(first) } else { None }
 }
 
 fn fault_where(is_faulty: bool, fault: SectionFault) -> Option<SectionFault>
@@ -124,8 +120,6 @@ fn entry_of(
 }
 
 /// Judges each section, in their order. A section that is refused leaves the others as they are.
-///
-/// A section's name is compared with all names above it, so the time for names grows with the square of how many sections there are.
 pub fn load(alloc: Global, sections: &Sections) -> Result<Variants, Memory>
     ensures { IfOk result (λ variants. variants ≡ entries sections.now) }
 {

@@ -1,20 +1,15 @@
-use Rattle.std.proofs.Common.{refl, sym, ap, ◌∙◌, arith}
-use Rattle.std.specs.Str.{bytes_eq}
-use Rattle.variant_ini.specs.OptionValue.{first_named}
-use Rattle.variant_rules.proofs.NameLemmas.{none_above, first_above}
+use Rattle.std.proofs.Common.{Some, None, sym, ◌∙◌, arith}
+use Rattle.variant_ini.proofs.NameLaws.{none_above, first_is_above, first_is_not_above}
 use Rattle.variant_rules.proofs.loading.first_named.Goals as goal
 
-pub loop-above-init : goal.loop-above-init
-unfolding first_named
-loop-above-init c = refl
+pub returns-in_err-first : goal.returns-in_err-first
+returns-in_err-first c =
+    c.from_residual.ensures ∙ none_above c.args.place c.args.sections.now c.args.name.now (sym c.in_err-first.ensures)
 
-pub returns-then-eq : goal.returns-then-eq
-returns-then-eq c =
-    sym
-    (first_above c.args.sections.now c.args.name.now c.loop-above.above c.args.place (omega arith) c.requires c.loop-above.invariant
-    (ap (λ n. bytes_eq n c.args.name.now) (sym c.name.ensures) ∙ sym c.eq.ensures ∙ c.if-eq.true))
+pub returns-then-first-place : goal.returns-then-first-place
+returns-then-first-place c =
+    first_is_above c.args.place c.args.sections.now c.args.name.now c.in_ok-first.first (sym c.in_ok-first.ensures) (omega (arith, c.if-first-place.true))
 
-pub loop-above-preserved : goal.loop-above-preserved
-loop-above-preserved c =
-    none_above c.args.sections.now c.args.name.now c.loop-above.above c.args.place (omega arith) c.requires c.loop-above.invariant
-    (ap (λ n. bytes_eq n c.args.name.now) (sym c.name.ensures) ∙ sym c.eq.ensures ∙ c.if-eq.false)
+pub returns-else-first-place : goal.returns-else-first-place
+returns-else-first-place c =
+    first_is_not_above c.args.place c.args.sections.now c.args.name.now c.in_ok-first.first (sym c.in_ok-first.ensures) (omega (arith, c.if-first-place.false))
