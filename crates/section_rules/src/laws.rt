@@ -9,6 +9,7 @@ ghost use Rattle.variant_model.specs.Made.{resolved};
 
 /// The rules of a section whose header, lines and options have no fault fit, whatever the start; so do those of an accepted section.
 pub fn accepted_rules_fit()
-    ensures faultless { (sections : List Section) (at : ℕ) → IsFaultless sections at → IsFit (bare_rules (resolved sections at)) }
+    ensures faultless { (sections : List Section) (at : ℕ) → IsFaultless sections at
+        → IsFit (bare_rules (resolved sections at)) }
     ensures accepted { (sections : List Section) (at : ℕ) (rules : Rules) → entry sections at ≡ Ok rules → IsFit rules }
 {}

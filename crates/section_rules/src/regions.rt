@@ -62,7 +62,8 @@ pub(crate) fn regions(
     keys: Keys<'_>,
     defaults: [Region; 2],
 ) -> Result<[Region; 2], Memory>
-    ensures { IfOk result (λ regions. regions ≡ regions_on board (resolved_at section.now) (both_now keys.entry) defaults) }
+    ensures { IfOk result (λ regions. regions
+        ≡ regions_on board (resolved_at section.now) (both_now keys.entry) defaults) }
 {
     let white = region(alloc, section, keys.0, defaults[0])?;
     let black = region(alloc, section, keys.1, defaults[1])?;

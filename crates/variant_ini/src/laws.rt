@@ -9,12 +9,16 @@ ghost use Rattle.variant_ini.specs.Reading.{fault_of, sections_in};
 /// The value of an option is that of the section's own last line for it, else its value in the section's parent, else
 /// none: no chain of parents is cut off.
 pub fn options_are_inherited()
-    ensures { (sections : List Section) (section : ℕ) (key : List ℕ) → option_value sections section key ≡ own_or (last_value (section_at sections section).lines key) (option_and_then (λ parent. option_value sections parent key) (parent_place sections section)) }
+    ensures { (sections : List Section) (section : ℕ) (key : List ℕ)
+        → option_value sections section key
+        ≡ own_or (last_value (section_at sections section).lines key)
+        (option_and_then (λ parent. option_value sections parent key) (parent_place sections section)) }
 {}
 
 /// No section's options change where later sections are added.
 pub fn later_sections_change_no_option()
-    ensures { (sections later : List Section) (section : ℕ) (key : List ℕ) → section < length sections → option_value (sections ++ later) section key ≡ option_value sections section key }
+    ensures { (sections later : List Section) (section : ℕ) (key : List ℕ) → section < length sections
+        → option_value (sections ++ later) section key ≡ option_value sections section key }
 {}
 
 /// Of the sections of a file without a fault, each value has no blanks at its ends, no line feed and no byte above 127,

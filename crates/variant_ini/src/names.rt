@@ -19,7 +19,8 @@ fn add_name(
     place: usize,
     section: &IndexedSection,
 ) -> Result<(), AllocError>
-    ensures { (before : List Section) → length before ≡ place → FindsFirst names.old before → OnOk result (FindsFirst names.new (before ++ section.now ∷ [])) }
+    ensures { (before : List Section) → length before ≡ place → FindsFirst names.old before
+        → OnOk result (FindsFirst names.new (before ++ section.now ∷ [])) }
 {
     if let Some(_first) = names.get(section.name()) {
         return Ok(());
@@ -37,7 +38,8 @@ fn add_names(
     sections: &[IndexedSection],
 ) -> Result<(), AllocError>
     requires small { place < 2 ^ 63 }
-    ensures { (before : List Section) → length before ≡ place → FindsFirst names.old before → OnOk result (FindsFirst names.new (before ++ sections.now)) }
+    ensures { (before : List Section) → length before ≡ place → FindsFirst names.old before
+        → OnOk result (FindsFirst names.new (before ++ sections.now)) }
 {
     for (i, section) in sections.iter().enumerate() {
         add_name(alloc, names, place + i, section)?;

@@ -24,7 +24,8 @@ fn open_section(
     number: usize,
     names: Header<'_>,
 ) -> Result<(), IniFault>
-    ensures { let kind = header names.entry.name.now (option_copied names.entry.parent) in TakesLine (kind_fault number (length sections.old.items) kind) kind sections.old.items sections.new.items result }
+    ensures { let kind = header names.entry.name.now (option_copied names.entry.parent) in
+        TakesLine (kind_fault number (length sections.old.items) kind) kind sections.old.items sections.new.items result }
 {
     if sections.len() >= MOST_SECTIONS {
         return Err(IniFault::TooManySections(number));
@@ -39,7 +40,8 @@ fn push_pair(
     number: usize,
     words: Pair<'_>,
 ) -> Result<(), IniFault>
-    ensures { let kind = pair words.entry.key.now words.entry.value.now in TakesLine (kind_fault number (length sections.old.items) kind) kind sections.old.items sections.new.items result }
+    ensures { let kind = pair words.entry.key.now words.entry.value.now in
+        TakesLine (kind_fault number (length sections.old.items) kind) kind sections.old.items sections.new.items result }
 {
     if sections.is_empty() {
         return Err(IniFault::NoSection(number));
@@ -56,7 +58,8 @@ fn take_line(
     number: usize,
     line: &[u8],
 ) -> Result<(), IniFault>
-    ensures { TakesLine (numbered_fault number (length sections.old.items) line.now) (line_kind line.now) sections.old.items sections.new.items result }
+    ensures { TakesLine (numbered_fault number (length sections.old.items) line.now)
+        (line_kind line.now) sections.old.items sections.new.items result }
 {
     if line.len() > LONGEST_LINE {
         return Err(IniFault::LineTooLong(number));
@@ -72,7 +75,8 @@ fn take_line(
 
 /// The sections of a variants file, or its first fault.
 pub(crate) fn read_sections(alloc: Global, bytes: &[u8]) -> Result<Vec<IndexedSection>, IniFault>
-    ensures { MatchResult result (λ sections. (fault_of bytes.now ≡ None) × (sections.items ≡ sections_in bytes.now)) (IsFaultOrMemory (fault_of bytes.now)) }
+    ensures { MatchResult result (λ sections. (fault_of bytes.now ≡ None) × (sections.items ≡ sections_in bytes.now))
+        (IsFaultOrMemory (fault_of bytes.now)) }
 {
     if bytes.len() > LARGEST_FILE {
         return Err(IniFault::TooLarge);

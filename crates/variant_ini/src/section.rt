@@ -135,7 +135,8 @@ impl IndexedSection {
 
     /// Adds a line at the end.
     pub(crate) fn push(&mut self, alloc: Global, key: &[u8], value: &[u8]) -> Result<(), AllocError>
-        ensures ok { OnOk result (self.new ≡ record self.old { lines = self.old.lines ++ key_line key.now value.now ∷ [] }) }
+        ensures ok { OnOk result (self.new
+            ≡ record self.old { lines = self.old.lines ++ key_line key.now value.now ∷ [] }) }
         ensures err { OnErr result (self.new ≡ self.old) }
     {
         self.marks[class_of(key)] = true;

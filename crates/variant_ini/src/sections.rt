@@ -126,7 +126,8 @@ impl Sections {
         ensures err { OnErr result (self.new ≡ self.old) }
 
         // No section's options change.
-        ensures kept { (section : ℕ) (key : List ℕ) → section < length self.old → option_value self.new section key ≡ option_value self.old section key }
+        ensures kept { (section : ℕ) (key : List ℕ) → section < length self.old
+            → option_value self.new section key ≡ option_value self.old section key }
     {
         append_file(
             &mut self.sections,

@@ -49,7 +49,8 @@ fn word_fault(alloc: Global, word: &[u8]) -> Result<Option<LineFault>, Memory>
 
 /// The fault of a piece's value.
 fn piece_fault(alloc: Global, piece: &Piece, text: &[u8]) -> Result<Option<LineFault>, Memory>
-    ensures { IfOk result (λ fault. fault ≡ LineFaults.piece_fault (piece_view piece.now) (PieceTable.read_piece text.now)) }
+    ensures { IfOk result (λ fault. fault
+        ≡ LineFaults.piece_fault (piece_view piece.now) (PieceTable.read_piece text.now)) }
 {
     match (read_piece(text), piece.1) {
         (Some(PieceValue::Removed), _) => Ok(None),

@@ -10,7 +10,8 @@ ghost use Rattle.variant_rules.specs.Playable.{IsPlayable};
 
 /// The rules of an accepted section fit, and a game may start from their start.
 pub fn accepted_rules_are_playable()
-    ensures { (sections : List Section) (place : ℕ) (rules : Rules) → entry sections place ≡ Ok rules → IsPlayable rules }
+    ensures { (sections : List Section) (place : ℕ) (rules : Rules) → entry sections place ≡ Ok rules
+        → IsPlayable rules }
 {}
 
 /// The ten sections that are built in are accepted.
