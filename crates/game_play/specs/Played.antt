@@ -1,11 +1,15 @@
 -- Games as they are kept, and what a game answers to a move.
-use Rattle.std.specs.Prelude.{◌≡◌, ℕ, ◌-◌, ◌<◌, ◌≤◌, List, [], ◌∷◌, ◌++◌, map, length, take, slice_index_or, Result, Ok, Err}
+use Rattle.std.specs.Prelude.{◌≡◌, ℕ, ◌-◌, ◌<◌, ◌≤◌, Bool, if◌then◌else◌, List, [], ◌∷◌, ◌++◌, map, length, take, slice_index_or, Result, Ok, Err}
 use Rattle.foundation.specs.Member.{Member}
 use Rattle.rules_model.specs.declared.board.Position.{Position}
+use Rattle.rules_model.specs.declared.moves.Cause.TheVariants.{Repetition, MoveCount}
 use Rattle.rules_model.specs.declared.moves.Move.{Move}
+use Rattle.rules_model.specs.declared.moves.Outcome.{Outcome}
+use Rattle.rules_model.specs.declared.moves.Outcome.TheVariants.{Ongoing, Drawn}
 use Rattle.rules_model.specs.declared.rules.Rules.{Rules}
+use Rattle.rules_model.specs.Ends.{valued}
 use Rattle.rules_model.specs.Fit.{IsFit}
-use Rattle.rules_model.specs.Games.{Story, history, story_of, IsGame}
+use Rattle.rules_model.specs.Games.{Story, history, story_of, IsGame, is_run_out}
 use Rattle.rules_model.specs.Legal.{legal}
 use Rattle.rules_model.specs.Repeats.{repeat_of}
 use Rattle.game_play.specs.declared.faults.PlayFault.{PlayFault}
@@ -39,6 +43,11 @@ pub record IsPlayed (g : Played) : Type 0 where
   pub fit : IsFit g.rules
   pub game : IsGame g.rules g.start g.moves
   pub few : length g.moves ≤ 8192
+
+-- the end of a game that its last position does not end by itself: repetition, where that position has stood often enough, or the move count
+abbrev pub late_end : Rules → Position → Bool → Outcome
+late_end rules last repeated =
+    if repeated then valued rules.n_fold_value last.side Repetition else if is_run_out rules last.counter then Drawn MoveCount else Ongoing
 
 -- why a move was refused, exactly: each fault has its own case, and so has the move that is played
 abbrev pub IsAnswer : {A : Type 0} → Played → Move → Result A PlayFault → Type 0

@@ -1,9 +1,9 @@
 //! A game that is kept: its rules, moves and positions.
-ghost use Rattle.std.specs.Prelude.{◌≡◌, true, IfOk, []};
+ghost use Rattle.std.specs.Prelude.{◌≡◌, ◌≤◌, true, IfOk, [], length};
 ghost use Rattle.rules_model.specs.Fit.{IsFit};
 ghost use Rattle.rules_model.specs.Games as Games;
 ghost use Rattle.rules_model.specs.Sound.{is_sound};
-ghost use Rattle.game_play.specs.Played.{story, IsPlayed};
+ghost use Rattle.game_play.specs.Played.{story, keys_of, IsPlayed};
 
 use attack_tables::Tables;
 use position_key::key_of;
@@ -89,6 +89,14 @@ impl Game {
         ensures { result.now ≡ Games.history (story self.now) }
     {
         self.positions.as_slice()
+    }
+
+    /// The key of each position, in their order.
+    pub fn keys(&self) -> &[u64]
+        ensures is { result.now ≡ keys_of (Games.history (story self.now)) }
+        ensures few { length result.now ≤ 8193 }
+    {
+        self.keys.as_slice()
     }
 
     /// The moves that were played, the first one first.

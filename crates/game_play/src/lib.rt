@@ -13,3 +13,4 @@ mod tests;
 
 pub use faults::{NothingPlayed, PlayFault};
 pub use game::{Game, MOST_PLIES};
+pub use results::late_end;

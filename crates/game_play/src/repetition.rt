@@ -98,12 +98,16 @@ impl Game {
         ensures is { result ≡ times (Repeats.repeat_of p.now) (history (story self.now)) }
         ensures few { result ≤ length self.now.moves + 1 }
     {
-        standings(
-            self.positions.as_slice(),
-            self.keys.as_slice(),
-            p,
-            key_of(p),
-        )
+        self.repeats_by_key(p, key_of(p))
+    }
+
+    /// The same, for a caller who knows the position's key.
+    pub fn repeats_by_key(&self, p: &Position, key: u64) -> u32
+        requires key { key ≡ Key.key_of (Repeats.repeat_of p.now) }
+        ensures is { result ≡ times (Repeats.repeat_of p.now) (history (story self.now)) }
+        ensures few { result ≤ length self.now.moves + 1 }
+    {
+        standings(self.positions.as_slice(), self.keys.as_slice(), p, key)
     }
 
     /// The repeats of the game that may not stand again: each one whose count plus 1 is at least `nFoldRule`, once, in the order in which

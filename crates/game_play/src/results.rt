@@ -2,11 +2,12 @@
 ghost use Rattle.std.specs.Prelude.{◌≡◌};
 ghost use Rattle.rules_model.specs.Ends as Ends;
 ghost use Rattle.rules_model.specs.Games as Games;
+ghost use Rattle.game_play.specs.Played as Played;
 ghost use Rattle.game_play.specs.Played.{story};
 
 use crate::game::Game;
 use legality::own_end;
-use rules_model::{Cause, Outcome, Rules, Side, Value};
+use rules_model::{Cause, Outcome, Position, Rules, Side, Value};
 
 /// What a value that a rule names for the side comes to.
 fn valued(value: Value, side: Side, cause: Cause) -> Outcome
@@ -25,6 +26,20 @@ fn is_run_out(rules: &Rules, counter: u16) -> bool
     ensures { result ≡ Games.is_run_out rules.now counter }
 {
     rules.n_move != 0 && u32::from(counter) >= 2 * u32::from(rules.n_move)
+}
+
+/// The end of a game that its last position does not end by itself: repetition, where that position has stood as often as the rule says, or
+/// the move count; `Outcome::Ongoing` where there is neither.
+pub fn late_end(rules: &Rules, last: &Position, repeated: bool) -> Outcome
+    ensures { result ≡ Played.late_end rules.now last.now repeated }
+{
+    if repeated {
+        valued(rules.n_fold_value, last.side, Cause::Repetition)
+    } else if is_run_out(rules, last.counter) {
+        Outcome::Drawn(Cause::MoveCount)
+    } else {
+        Outcome::Ongoing
+    }
 }
 
 impl Game {
@@ -46,15 +61,7 @@ impl Game {
         let rules = self.rules();
         let last = self.position();
         match own_end(rules, &self.tables, last) {
-            Outcome::Ongoing => {
-                if self.is_repeated() {
-                    valued(rules.n_fold_value, last.side, Cause::Repetition)
-                } else if is_run_out(rules, last.counter) {
-                    Outcome::Drawn(Cause::MoveCount)
-                } else {
-                    Outcome::Ongoing
-                }
-            }
+            Outcome::Ongoing => late_end(rules, last, self.is_repeated()),
             end => end,
         }
     }

@@ -1,7 +1,7 @@
 use Rattle.std.proofs.Common.{◌≡◌, length, ap, arith}
 use Rattle.game_play.specs.Played.{Played}
 use Rattle.game_play.proofs.KeptLemmas.{kept-few, kept-count}
-use Rattle.game_play.proofs.game.Game.repeats.Goals as goal
+use Rattle.game_play.proofs.game.Game.repeats_by_key.Goals as goal
 
 pub standings-requires-clause-few : goal.standings-requires-clause-few
 standings-requires-clause-few c = let i = c.self.inside in rw c.as_slice.ensures.value (kept-few i.tables i.positions.items i.moves.items i.keys.items c.self.invariant)
