@@ -1,0 +1,9 @@
+//! Lines of moves that go on from a game, for searches: moves are put on the line and taken off again, without memory.
+#![tactic(auto)]
+
+mod line;
+mod results;
+#[cfg(test)]
+mod tests;
+
+pub use line::Line;
