@@ -1,2 +1,4 @@
 pub mod LineLaws
 pub mod HeldLemmas
+pub mod SlotLemmas
+pub mod SlotLaws

@@ -56,14 +56,19 @@ positions_of stances = map (λ (s : Stance). s.position) stances
 abbrev pub stances_of : Rules → List Position → List Stance
 stances_of rules positions = map (by_rules rules) positions
 
+-- the keys of the game's positions and of the line's, of which the game's last is the first
+abbrev pub all_keys : Story → List ℕ → List ℕ
+all_keys base keys = keys_of base.earlier ++ keys
+
 -- the boards and the keys are those of the positions since the game, and the moves are legal, each in its turn
 pub record IsHeld (rules : Rules) (base : Position) (moves : List Move) (boards : List Stance) (keys : List ℕ) : Type 0 where
   pub are_legal : are_legal rules base moves ≡ true
   pub are_boards : boards ≡ stances_of rules (positions_since rules base moves)
   pub are_keys : keys ≡ keys_of (positions_since rules base moves)
 
--- no more moves than there is room for, and memory for each
-pub record HasRoom (moves room boards_capacity moves_capacity keys_capacity : ℕ) : Type 0 where
+-- no more moves than there is room for, and memory for each; the game is not too long
+pub record HasRoom (earlier moves room boards_capacity moves_capacity keys_capacity : ℕ) : Type 0 where
+  pub short : earlier ≤ 8192
   pub small : room ≤ 200
   pub few : moves ≤ room
   pub for_boards : room + 1 ≤ boards_capacity

@@ -3,6 +3,7 @@
 
 mod line;
 mod results;
+mod slots;
 #[cfg(test)]
 mod tests;
 

@@ -6,6 +6,7 @@ ghost use Rattle.position_key.specs.Key.{key_of};
 ghost use Rattle.game_line.specs.Lined as Lined;
 ghost use Rattle.game_line.specs.Lined.{pushed, shorter};
 
+use crate::slots::Slots;
 use game_play::Game;
 use playing::Board;
 use rules_model::{Memory, Move, Rules};
@@ -22,6 +23,8 @@ pub struct Line<'g> {
     pub(crate) moves: Vec<Move>,
     /// A key for each board.
     pub(crate) keys: Vec<u64>,
+    /// How many keys of the game and of the line are in each slot.
+    pub(crate) slots: Slots,
     room: usize,
 }
 
@@ -29,13 +32,16 @@ impl<'g> Model for Line<'g> {
     ghost use Rattle.std.specs.Prelude.{length};
     ghost use Rattle.std.specs.Vec.{vec_capacity};
     ghost use Rattle.game_play.specs.Played.{story};
-    ghost use Rattle.game_line.specs.Lined.{Lined, line_of, IsHeld, HasRoom};
+    ghost use Rattle.game_line.specs.Lined.{Lined, all_keys, line_of, IsHeld, HasRoom};
+    ghost use Rattle.game_line.specs.Slots.{AreCounts};
 
     ghost Value = { Lined };
 
     ghost view = { λ l. line_of l.game.now l.moves.items l.room };
 
-    ghost invariant = { λ l. IsHeld l.game.now.rules (story l.game.now).last l.moves.items l.boards.items l.keys.items × HasRoom (length l.moves.items) l.room (vec_capacity l.boards) (vec_capacity l.moves) (vec_capacity l.keys) };
+    ghost invariant = { λ l. IsHeld l.game.now.rules (story l.game.now).last l.moves.items l.boards.items l.keys.items
+        × HasRoom (length (story l.game.now).earlier) (length l.moves.items) l.room (vec_capacity l.boards) (vec_capacity l.moves) (vec_capacity l.keys)
+        × AreCounts (all_keys (story l.game.now) l.keys.items) l.slots };
 }
 
 impl<'g> Line<'g> {
@@ -48,6 +54,7 @@ impl<'g> Line<'g> {
         let mut keys = Vec::with_capacity(alloc, room + 1)?;
         let mut boards = Vec::with_capacity(alloc, room + 1)?;
         let moves = Vec::with_capacity(alloc, room)?;
+        let slots = Slots::of(alloc, game.keys())?;
         keys.push_reserved(board.key());
         boards.push_reserved(board);
         Ok(Line {
@@ -55,6 +62,7 @@ impl<'g> Line<'g> {
             boards,
             moves,
             keys,
+            slots,
             room,
         })
     }
@@ -101,7 +109,9 @@ impl<'g> Line<'g> {
         ensures { self.new ≡ pushed self.old m.now }
     {
         let next = self.boards[self.boards.len() - 1].after(m);
-        self.keys.push_reserved(next.key());
+        let key = next.key();
+        self.slots.count(key);
+        self.keys.push_reserved(key);
         self.boards.push_reserved(next);
         self.moves.push_reserved(*m);
     }
@@ -112,6 +122,7 @@ impl<'g> Line<'g> {
         ensures { self.new ≡ shorter self.old }
     {
         let plies = self.moves.len();
+        self.slots.uncount(self.keys[plies]);
         self.moves.truncate(plies - 1);
         self.boards.truncate(plies);
         self.keys.truncate(plies);

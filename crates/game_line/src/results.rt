@@ -1,5 +1,5 @@
 //! How a line stands.
-ghost use Rattle.std.specs.Prelude.{◌≡◌, ◌≤◌, not, length};
+ghost use Rattle.std.specs.Prelude.{◌≡◌, ◌<◌, ◌≤◌, not, false, length};
 ghost use Rattle.rules_model.specs.Games as Games;
 ghost use Rattle.rules_model.specs.Games.{times};
 ghost use Rattle.rules_model.specs.Legal as Legal;
@@ -51,7 +51,15 @@ impl Line<'_> {
         self.game.is_played();
         let (last, key) = (self.board().position(), self.key());
         let before = self.game.repeats_by_key(last, key);
-        before + standings(&self.boards[1..], &self.keys[1..], last, key)
+        let since = standings(&self.boards[1..], &self.keys[1..], last, key);
+        before + since
+    }
+
+    /// Whether the last position may have stood so often: its slot says no where it has not so many keys.
+    fn may_have_stood(&self, fold: u16) -> bool
+        ensures { result ≡ false → times (repeat_of (story_of_line self.now).last) (Games.history (story_of_line self.now)) < fold }
+    {
+        self.slots.at(self.key()) >= fold
     }
 
     /// Whether the last position has stood as often as the repetition rule says.
@@ -60,7 +68,10 @@ impl Line<'_> {
         ensures { result ≡ Games.is_repeated self.now.rules (story_of_line self.now) }
     {
         let fold = self.rules().n_fold;
-        fold != 0 && self.last_standings() >= u32::from(fold)
+        if fold == 0 || !self.may_have_stood(fold) {
+            return false;
+        }
+        self.last_standings() >= u32::from(fold)
     }
 
     /// How the game and the line stand, as `Game::outcome` says it. No memory is taken.

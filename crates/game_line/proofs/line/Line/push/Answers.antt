@@ -5,6 +5,7 @@ use Rattle.playing.specs.Stance.{Stance, after}
 use Rattle.playing.specs.Stance as Stance
 use Rattle.game_line.specs.Lined.{Lined, stance_of_line}
 use Rattle.game_line.proofs.HeldLemmas.{line-stance, line-legal, held-last, held-push, held-count}
+use Rattle.game_line.proofs.SlotLaws.{slots-few, slots-push}
 use Rattle.game_line.proofs.line.Line.push.Goals as goal
 
 pub after-next-requires : goal.after-next-requires
@@ -45,13 +46,24 @@ invariant_of-self c =
     let lt = c.requires.room in
     let last = held-last i.game.now.rules (story i.game.now).last i.moves.items i.boards.items i.keys.items held c.len.result c.index.result.now (omega arith) c.index.ensures in
     let legal = line-legal i.game.now i.moves.items i.room i.boards.items i.keys.items held c.args.self.now c.self.view_is c.args.m.now c.requires.legal in (
-      held-push i.game.now.rules (story i.game.now).last i.moves.items i.boards.items i.keys.items held c.args.m.now legal c.after-next.result c.key.result (c.after-next.ensures ∙ ap (λ (s : Stance). after s c.args.m.now) last) c.key.ensures
+      held-push i.game.now.rules (story i.game.now).last i.moves.items i.boards.items i.keys.items held c.args.m.now legal c.after-next.result c.key-key.result (c.after-next.ensures ∙ ap (λ (s : Stance). after s c.args.m.now) last) c.key-key.ensures
           _ _ _ c.push_reserved-2.ensures.items c.push_reserved-3.ensures.items c.push_reserved.ensures.items,
       record {
+        short = has.short;
         small = has.small;
         few = (let a = ap length c.push_reserved-3.ensures.items in let n = c.push_reserved-3.ensures.len in let ok = i.moves.ok.0 in let ok2 = c.push_reserved-3.new.self.ok.0 in omega arith);
         for_boards = (let a = has.for_boards in let b = c.push_reserved-2.ensures.capacity in omega arith);
         for_moves = (let a = has.for_moves in let b = c.push_reserved-3.ensures.capacity in omega arith);
         for_keys = (let a = has.for_keys in let b = c.push_reserved.ensures.capacity in omega arith);
       },
+      slots-push (story i.game.now) i.keys.items i.slots c.self.invariant.2 c.key-key.result _ _ c.push_reserved.ensures.items c.count.ensures,
     )
+
+pub count-requires : goal.count-requires
+count-requires c =
+    let i = c.self.inside in
+    let has = c.self.invariant.1 in
+    let count = (held-count i.game.now.rules (story i.game.now).last i.moves.items i.boards.items i.keys.items c.self.invariant.0).1 in
+    let short = has.short in let few = has.few in let small = has.small in
+    let most = slots-few (story i.game.now) i.keys.items i.slots c.self.invariant.2 c.key-key.result in
+    omega arith

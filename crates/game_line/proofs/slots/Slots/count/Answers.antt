@@ -1,0 +1,7 @@
+use Rattle.std.proofs.Common.{◌≡◌, sym, subst, List, ℕ}
+use Rattle.game_line.specs.Slots.{AreCounts}
+use Rattle.game_line.proofs.SlotLemmas.{counted}
+use Rattle.game_line.proofs.slots.Slots.count.Goals as goal
+
+pub returns : goal.returns
+returns c = λ keys h. counted keys c.self.inside.counts.items c.args.key c.slot_of.result _ c.slot_of.ensures.is c.slot_of.ensures.below c.index_mut.ensures.value (subst (AreCounts keys) (sym c.self.view_is) h)
