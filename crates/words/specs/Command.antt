@@ -18,6 +18,12 @@ pub data Command : Type 0 where
   Perft : ℕ → Command
   -- `check`
   Check : Command
+  -- `stipulate self N`: a number of moves
+  SelfMate : ℕ → Command
+  -- `stipulate help N`: a number of moves of each side
+  HelpMate : ℕ → Command
+  -- `stipulate check`
+  CheckCert : Command
   -- `variants`
   Variants : Command
   -- `reach WORD SQUARE [OWN [ENEMY]]`: a Betza word, a square, and the lists of own and of enemy squares
@@ -40,6 +46,27 @@ abbrev pub perft_in : List Text → Option Command
 perft_in (plies ∷ []) = perft_of plies
 perft_in arguments = None
 
+-- from 1 to 6 moves
+abbrev pub self_mate_of : Text → Option Command
+self_mate_of moves = option_map SelfMate (number_in 1 6 moves)
+
+abbrev pub help_mate_of : Text → Option Command
+help_mate_of moves = option_map HelpMate (number_in 1 6 moves)
+
+-- a selfmate or a helpmate
+abbrev pub mate_in : Text → Text → Option Command
+mate_in stipulation moves =
+    if bytes_eq stipulation (codes "self") then self_mate_of moves
+    else (if bytes_eq stipulation (codes "help") then help_mate_of moves else None)
+
+abbrev pub check_of : Text → Option Command
+check_of word = if bytes_eq word (codes "check") then Some CheckCert else None
+
+abbrev pub stipulate_in : List Text → Option Command
+stipulate_in (word ∷ []) = check_of word
+stipulate_in (stipulation ∷ moves ∷ []) = mate_in stipulation moves
+stipulate_in arguments = None
+
 -- a list that is left out has no square
 abbrev pub reach_in : List Text → Option Command
 reach_in (word ∷ square ∷ []) = Some (Reach word square no_squares no_squares)
@@ -56,8 +83,9 @@ command_named name arguments =
     else (if bytes_eq name (codes "status") then without_arguments Status arguments
     else (if bytes_eq name (codes "perft") then perft_in arguments
     else (if bytes_eq name (codes "check") then without_arguments Check arguments
+    else (if bytes_eq name (codes "stipulate") then stipulate_in arguments
     else (if bytes_eq name (codes "variants") then without_arguments Variants arguments
-    else (if bytes_eq name (codes "reach") then reach_in arguments else None)))))))
+    else (if bytes_eq name (codes "reach") then reach_in arguments else None))))))))
 
 -- the command that words without options are; that of no words is the session of `uci`
 abbrev pub command_in : List Text → Option Command

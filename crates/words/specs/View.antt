@@ -5,7 +5,7 @@ use Rattle.words.specs.declared.command.Command.{Command as Given}
 use Rattle.words.specs.declared.command.Command.TheVariants as given
 use Rattle.words.specs.declared.reading.Asked.{Asked as GivenAsked}
 use Rattle.words.specs.Asked.{Asked}
-use Rattle.words.specs.Command.{Command, Uci, Xboard, Moves, Status, Perft, Check, Variants, Reach}
+use Rattle.words.specs.Command.{Command, Uci, Xboard, Moves, Status, Perft, Check, SelfMate, HelpMate, CheckCert, Variants, Reach}
 use Rattle.words.specs.Options.{Text}
 
 -- the text that is referred to, where there is one, and the texts
@@ -22,6 +22,9 @@ command_seen given.Moves = Moves
 command_seen given.Status = Status
 command_seen (given.Perft plies) = Perft plies
 command_seen given.Check = Check
+command_seen (given.SelfMate moves) = SelfMate moves
+command_seen (given.HelpMate moves) = HelpMate moves
+command_seen given.CheckCert = CheckCert
 command_seen given.Variants = Variants
 command_seen (given.Reach word square own enemy) = Reach word.now square.now own.now enemy.now
 
@@ -32,7 +35,7 @@ asked_seen a = record {
   command = command_seen a.command;
 }
 
--- a number of plies is from 1 to 9
+-- a number of plies is from 1 to 9, and one of moves from 1 to 6
 abbrev pub HasPlies : Given → Type 0
 HasPlies given.Uci = ⊤
 HasPlies given.Xboard = ⊤
@@ -40,5 +43,8 @@ HasPlies given.Moves = ⊤
 HasPlies given.Status = ⊤
 HasPlies (given.Perft plies) = (1 ≤ plies) × (plies ≤ 9)
 HasPlies given.Check = ⊤
+HasPlies (given.SelfMate moves) = (1 ≤ moves) × (moves ≤ 6)
+HasPlies (given.HelpMate moves) = (1 ≤ moves) × (moves ≤ 6)
+HasPlies given.CheckCert = ⊤
 HasPlies given.Variants = ⊤
 HasPlies (given.Reach word square own enemy) = ⊤

@@ -1,6 +1,7 @@
 //! The commands, by their names and arguments.
 ghost use Rattle.std.specs.Prelude.{◌≡◌, IfSome, option_map};
-ghost use Rattle.words.specs.Command.{Reach, command_in, command_named, perft_in, perft_of, reach_in, without_arguments};
+ghost use Rattle.words.specs.Command.{Reach, check_of, command_in, command_named, help_mate_of, mate_in, perft_in};
+ghost use Rattle.words.specs.Command.{perft_of, reach_in, self_mate_of, stipulate_in, without_arguments};
 ghost use Rattle.words.specs.View.{HasPlies, command_seen, texts};
 
 use crate::number::number_in;
@@ -10,6 +11,9 @@ const NO_SQUARES: &str = "none";
 
 /// The most plies that `perft` counts.
 const MOST_PLIES: u64 = 9;
+
+/// The most moves of a selfmate, and of each side in a helpmate.
+const MOST_MATE_MOVES: u64 = 6;
 
 /// A command with its arguments.
 ///
@@ -29,6 +33,12 @@ pub enum Command<'a> {
     Perft(u8),
     /// `check`: whether the strategy of the input wins the game of the input, by the goal that stands between them.
     Check,
+    /// `stipulate self N`: a selfmate in the game of the game text that is the input, within this number of moves, from 1 to 6.
+    SelfMate(u16),
+    /// `stipulate help N`: a helpmate in it, within this number of moves of each side, from 1 to 6.
+    HelpMate(u16),
+    /// `stipulate check`: whether the certificate of the input holds in the game of the input, by the goal that stands between them.
+    CheckCert,
     /// `variants`: the variants that there are, each with its fault where it has one.
     Variants,
     /// `reach WORD SQUARE [OWN [ENEMY]]`: where a piece of this Betza word goes from this square. The lists of squares
@@ -71,6 +81,55 @@ fn perft_in<'a>(arguments: &[&'a str]) -> Option<Command<'a>>
     }
 }
 
+fn self_mate_of<'a>(moves: &str) -> Option<Command<'a>>
+    ensures is { option_map command_seen result ≡ self_mate_of moves.now }
+    ensures plies { IfSome result HasPlies }
+{
+    let moves = number_in(1, MOST_MATE_MOVES, moves)?;
+    Some(Command::SelfMate(moves as u16))
+}
+
+fn help_mate_of<'a>(moves: &str) -> Option<Command<'a>>
+    ensures is { option_map command_seen result ≡ help_mate_of moves.now }
+    ensures plies { IfSome result HasPlies }
+{
+    let moves = number_in(1, MOST_MATE_MOVES, moves)?;
+    Some(Command::HelpMate(moves as u16))
+}
+
+// A selfmate or a helpmate.
+fn mate_in<'a>(stipulation: &str, moves: &str) -> Option<Command<'a>>
+    ensures is { option_map command_seen result ≡ mate_in stipulation.now moves.now }
+    ensures plies { IfSome result HasPlies }
+{
+    match stipulation {
+        "self" => self_mate_of(moves),
+        "help" => help_mate_of(moves),
+        _ => None,
+    }
+}
+
+fn check_of<'a>(word: &str) -> Option<Command<'a>>
+    ensures is { option_map command_seen result ≡ check_of word.now }
+    ensures plies { IfSome result HasPlies }
+{
+    match word {
+        "check" => Some(Command::CheckCert),
+        _ => None,
+    }
+}
+
+fn stipulate_in<'a>(arguments: &[&'a str]) -> Option<Command<'a>>
+    ensures is { option_map command_seen result ≡ stipulate_in (texts arguments.now) }
+    ensures plies { IfSome result HasPlies }
+{
+    match arguments {
+        [word] => check_of(word),
+        [stipulation, moves] => mate_in(stipulation, moves),
+        _ => None,
+    }
+}
+
 fn reach<'a>(word: &'a str, square: &'a str, own: &'a str, enemy: &'a str) -> Command<'a>
     ensures is { command_seen result ≡ Reach word.now square.now own.now enemy.now }
     ensures plies { HasPlies result }
@@ -106,6 +165,7 @@ fn command_named<'a>(name: &str, arguments: &[&'a str]) -> Option<Command<'a>>
         "status" => without_arguments(Command::Status, arguments),
         "perft" => perft_in(arguments),
         "check" => without_arguments(Command::Check, arguments),
+        "stipulate" => stipulate_in(arguments),
         "variants" => without_arguments(Command::Variants, arguments),
         "reach" => reach_in(arguments),
         _ => None,

@@ -47,7 +47,7 @@ fn owned(alloc: Global, words: &[&str]) -> Result<Vec<String>, Fail> {
 
 #[test]
 fn words_of_the_set_are_read(rt: HostRuntime) -> Result<(), Fail> {
-    let rows: [(&[&str], Asked<'static>); 21] = [
+    let rows: [(&[&str], Asked<'static>); 24] = [
         (&[], command(Command::Uci)),
         (&["uci"], command(Command::Uci)),
         (&["xboard"], command(Command::Xboard)),
@@ -65,6 +65,9 @@ fn words_of_the_set_are_read(rt: HostRuntime) -> Result<(), Fail> {
             command(Command::Perft(9)),
         ),
         (&["check"], command(Command::Check)),
+        (&["stipulate", "self", "1"], command(Command::SelfMate(1))),
+        (&["stipulate", "help", "06"], command(Command::HelpMate(6))),
+        (&["stipulate", "check"], command(Command::CheckCert)),
         (&["variants"], command(Command::Variants)),
         (&["reach", "N", "b1"], reach("N", "b1", "none", "none")),
         (&["reach", "", "", ""], reach("", "", "", "none")),
@@ -107,7 +110,7 @@ fn words_of_the_set_are_read(rt: HostRuntime) -> Result<(), Fail> {
 
 #[test]
 fn other_words_ask_nothing(rt: HostRuntime) -> Result<(), Fail> {
-    let rows: [&[&str]; 32] = [
+    let rows: [&[&str]; 36] = [
         &["Uci"],
         &["Moves"],
         &["moves", ""],
@@ -116,6 +119,10 @@ fn other_words_ask_nothing(rt: HostRuntime) -> Result<(), Fail> {
         &["reach", "N", "b1", "-"],
         &["reach", "-N", "b1"],
         &["uci", "f"],
+        &["stipulate"],
+        &["stipulate", "self", "0"],
+        &["stipulate", "help", "7"],
+        &["stipulate", "mate", "1"],
         &["perft"],
         &["perft", "4", "4"],
         &["perft", "0"],
