@@ -16,6 +16,7 @@ use Rattle.stipulation.specs.declared.cert.Step.{Step}
 use Rattle.stipulation.specs.declared.task.Task.{Task}
 use Rattle.stipulation.specs.declared.verdict.CertVerdict.{CertVerdict}
 use Rattle.stipulation.specs.declared.verdict.CertVerdict.TheVariants.{Holds, BadPly, BadMove, TooDeep, NotMate, MissingReply, Unfinished}
+use Rattle.stipulation.specs.Lines.{IsPathTo, along}
 use Rattle.stipulation.specs.Trees.{game_at, parent_game, children}
 use Rattle.stipulation.specs.Verdicts.{or_verdict, fault_if, is_bad_ply, plies_verdict, is_bad_move, game_verdict, step_verdict, steps_verdict, tree_verdict, is_empty_end}
 use Rattle.stipulation.specs.AtTask as At
@@ -47,36 +48,33 @@ pub line-none : (t : Task) → At.IsLineTo t [] []
 unfolding game_at
 line-none t q h = ap (At.at t) (take_none q) ∙ along-none (story t.game.now)
 
--- the line to a step's parent
-pub line-parent : (t : Task) (earlier : List Step) (ps : List Position) (ply : ℕ) → At.IsLineTo t earlier ps → 1 ≤ ply → ply ≤ length ps + 1 → At.at t (take (ply - 1) ps) ≡ parent_game (At.games t) (story t.game.now) earlier ply
-line-parent t earlier ps ply h a b = h (ply - 1) (omega arith)
+-- after a step's move, along positions that are cut before it
+module _ (c : Contest Story Move) (g : Story) (earlier : List Step) (s : Step) (ps cut qs : List Position) (before : IsPathTo c g earlier ps) (cut_is : cut ≡ take (s.ply - 1) ps)
+    (least : 1 ≤ s.ply) (most : s.ply ≤ length ps + 1) (one : length qs ≡ length cut + 1) (front : take (length cut) qs ≡ cut) (play : along g qs ≡ c.after (along g cut) s.chosen) where
+  cut_length : length cut ≡ s.ply - 1
+  cut_length = let f = ap length cut_is ∙ length-take (s.ply - 1) ps in omega arith
 
--- after a step's move
+  last_or : (q p : ℕ) → q ≤ p → (q ≡ p) ⊎ (q < p)
+  last_or q p h = grind arith
+
+  here : (q : ℕ) → q ≡ s.ply → along g (take q qs) ≡ game_at c g (s ∷ earlier) q
+  here q f =
+      let k = cut_length in
+      ap (along g) (take_all q qs (omega arith)) ∙ play
+      ∙ ap (λ (h : Story). c.after h s.chosen) (ap (along g) cut_is ∙ before (s.ply - 1) (omega arith))
+      ∙ sym (game-here c g s earlier) ∙ ap (game_at c g (s ∷ earlier)) (sym f)
+
+  past : (q : ℕ) → q < s.ply → along g (take q qs) ≡ game_at c g (s ∷ earlier) q
+  past q f =
+      let k = cut_length in
+      ap (along g) (sym (take_part q (length cut) qs (omega arith)) ∙ ap (take q) (front ∙ cut_is) ∙ take_part q (s.ply - 1) ps (omega arith))
+      ∙ before q (omega arith) ∙ sym (game-past c g s earlier q (λ e. omega arith))
+
+  pub path-more : IsPathTo c g (s ∷ earlier) qs
+  path-more q k = let long = cut_length in elim (last_or q s.ply (omega arith)) [ inl f ↦ here q f | inr f ↦ past q f ]
+
 pub line-more : (t : Task) (earlier : List Step) (ps cut qs : List Position) (s : Step) → At.IsLineTo t earlier ps → 1 ≤ s.ply → s.ply ≤ length ps + 1 → cut ≡ take (s.ply - 1) ps → length qs ≡ length cut + 1 → take (length cut) qs ≡ cut → At.at t qs ≡ (At.games t).after (At.at t cut) s.chosen → At.IsLineTo t (s ∷ earlier) qs
-line-more t earlier ps cut qs s h a b e l before play q k = let c = cut_length in split (last_or q s.ply (omega arith))
-  where
-    cut_length : length cut ≡ s.ply - 1
-    cut_length = let f = ap length e ∙ length-take (s.ply - 1) ps in omega arith
-
-    last_or : (q p : ℕ) → q ≤ p → (q ≡ p) ⊎ (q < p)
-    last_or q p h = grind arith
-
-    here : q ≡ s.ply → At.at t (take q qs) ≡ game_at (At.games t) (story t.game.now) (s ∷ earlier) q
-    here f =
-        let c = cut_length in
-        ap (At.at t) (take_all q qs (omega arith)) ∙ play
-        ∙ ap (λ (g : Story). (At.games t).after g s.chosen) (ap (At.at t) e ∙ line-parent t earlier ps s.ply h a b)
-        ∙ sym (game-here (At.games t) (story t.game.now) s earlier) ∙ ap (game_at (At.games t) (story t.game.now) (s ∷ earlier)) (sym f)
-
-    past : q < s.ply → At.at t (take q qs) ≡ game_at (At.games t) (story t.game.now) (s ∷ earlier) q
-    past f =
-        let c = cut_length in
-        ap (At.at t) (sym (take_part q (length cut) qs (omega arith)) ∙ ap (take q) (before ∙ e) ∙ take_part q (s.ply - 1) ps (omega arith))
-        ∙ h q (omega arith) ∙ sym (game-past (At.games t) (story t.game.now) s earlier q (λ g. omega arith))
-
-    split : (q ≡ s.ply) ⊎ (q < s.ply) → At.at t (take q qs) ≡ game_at (At.games t) (story t.game.now) (s ∷ earlier) q
-    split (inl f) = here f
-    split (inr f) = past f
+line-more t earlier ps cut qs s h a b e l before play = path-more (At.games t) (story t.game.now) earlier s ps cut qs h e a b l before play
 
 -- a move that is not bad is legal
 pub good-legal : {X : Type 0} (c : Contest X Move) (parent : X) (sibs : List Move) (m : Move) (bad : Bool) → bad ≡ is_bad_move c parent sibs m → bad ≡ false → Member m (c.moves parent)
@@ -90,12 +88,17 @@ low before ply h = grind (arith, nat_tests)
 next : (before ply : ℕ) → is_bad_ply before ply ≡ false → ply ≤ before + 1
 next before ply h = grind (arith, nat_tests)
 
-plies-parts : (i before : ℕ) (s : Step) (later : List Step) → plies_verdict i before (s ∷ later) ≡ Holds → (1 ≤ s.ply) × (s.ply ≤ before + 1) × (plies_verdict (i + 1) s.ply later ≡ Holds)
+-- the first of the steps may follow, and those after it may follow it
+pub plies-first : (i before : ℕ) (s : Step) (later : List Step) → plies_verdict i before (s ∷ later) ≡ Holds → (is_bad_ply before s.ply ≡ false) × (plies_verdict (i + 1) s.ply later ≡ Holds)
 unfolding plies_verdict
-plies-parts i before s later h =
+plies-first i before s later h =
     let u = or-holds (fault_if (is_bad_ply before s.ply) (BadPly i)) _ h in
-    let f = fault-holds (is_bad_ply before s.ply) (BadPly i) (bad_ply i) u.0 in
-    (low before s.ply f, next before s.ply f, u.1)
+    (fault-holds (is_bad_ply before s.ply) (BadPly i) (bad_ply i) u.0, u.1)
+
+plies-parts : (i before : ℕ) (s : Step) (later : List Step) → plies_verdict i before (s ∷ later) ≡ Holds → (1 ≤ s.ply) × (s.ply ≤ before + 1) × (plies_verdict (i + 1) s.ply later ≡ Holds)
+plies-parts i before s later h =
+    let parts = plies-first i before s later h in
+    (low before s.ply parts.0, next before s.ply parts.0, parts.1)
 
 pub plies-at : (i before : ℕ) (steps : List Step) (d : Step) → i < length steps → plies_verdict (i + 1) before (drop i steps) ≡ Holds → (1 ≤ (get_or steps i d).ply) × ((get_or steps i d).ply ≤ before + 1) × (plies_verdict (i + 1 + 1) (get_or steps i d).ply (drop (i + 1) steps) ≡ Holds)
 plies-at i before steps d l h =

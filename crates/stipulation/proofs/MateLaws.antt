@@ -1,5 +1,7 @@
 -- A search of a game finds a certificate exactly where there is a selfmate or a helpmate.
-use Rattle.std.proofs.Common.{◌≡◌, ◌⊎◌, inl, inr, ℕ, zero, suc, ◌+◌, ◌-◌, ◌*◌, ◌≤◌, List, length, Bool, true, false, ◌&&◌, is_some, Option, Some, None, refl, ap, sym, ◌∙◌, subst, arith}
+use Rattle.std.proofs.Common.{◌≡◌, ◌⊎◌, inl, inr, ℕ, zero, suc, ◌+◌, ◌-◌, ◌*◌, ◌<◌, ◌≤◌, List, length, Bool, true, false, ◌&&◌, is_some, Option, Some, None, Result, Ok, Err, IfOk, MatchOption, if◌then◌else◌, refl, ap, sym, ◌∙◌, subst, arith}
+use Rattle.std.specs.Option.{option_or}
+use Rattle.foundation.specs.declared.Memory.{Memory}
 use Rattle.foundation.specs.Tests.{is_nil}
 use Rattle.rules_model.specs.declared.moves.Move.{Move}
 use Rattle.rules_model.specs.declared.rules.Rules.{Rules}
@@ -11,7 +13,8 @@ use Rattle.forced_wins.proofs.ContestLaws.{within-mono}
 use Rattle.forced_wins.proofs.Counts.{true_false}
 use Rattle.stipulation.specs.declared.cert.Step.{Step}
 use Rattle.stipulation.specs.declared.verdict.CertVerdict.TheVariants.{Holds}
-use Rattle.stipulation.specs.Searches.{found, is_ended}
+use Rattle.stipulation.specs.declared.cert.Cert.{Cert}
+use Rattle.stipulation.specs.Searches.{found, help_found, is_ended, least_found, self_found, steps_of}
 use Rattle.stipulation.specs.Stipulations.{self_games, self_wins, HelpWins, help_games}
 use Rattle.stipulation.specs.Verdicts.{self_verdict, help_verdict, tree_verdict, is_empty_end}
 use Rattle.stipulation.proofs.FoundLaws.{found-within, found-holds, found-short}
@@ -85,3 +88,53 @@ module _ (rules : Rules) (n : ℕ) (g : Story) where
     where
       order : (a b d : ℕ) → a ≤ t → (b ≤ d → ⊥) → t ≡ d + 1 → a ≤ b
       order a b d h k e = grind arith
+
+-- ---- which certificate it is
+
+-- the steps of an answer are those that were found
+pub answered : (o : Option (List Step)) (answer : Option Cert) → MatchOption answer (o ≡ None) (λ k. o ≡ Some k.steps) → steps_of answer ≡ o
+answered o None is = sym is
+answered o (Some k) is = sym is
+
+pub answered-ok : (o : Option (List Step)) (r : Result (Option Cert) Memory) → IfOk r (λ a. MatchOption a (o ≡ None) (λ k. o ≡ Some k.steps)) → IfOk r (λ a. steps_of a ≡ o)
+answered-ok o (Ok a) is = answered o a is
+answered-ok o (Err e) is = tt
+
+module _ (rules : Rules) (n : ℕ) (g : Story) where
+  abbrev games : Contest Story Move
+  games = help_games rules g.last.side
+
+  -- a game that is ended has none
+  pub least-ended : (b : Bool) → b ≡ is_ended games g → b ≡ true → help_found rules n g ≡ None
+  unfolding help_found
+  least-ended b e f = let ended : is_ended games g ≡ true = sym e ∙ f in rw ended refl
+
+  begun-is : (b : Bool) → b ≡ is_ended games g → b ≡ false → help_found rules n g ≡ least_found games (2 * n) 1 g
+  unfolding help_found
+  begun-is b e f = let begun : is_ended games g ≡ false = sym e ∙ f in rw begun refl
+
+  pub least-begun : (b : Bool) → b ≡ is_ended games g → b ≡ false → help_found rules n g ≡ least_found games (2 * n + 1 - 1) 1 g
+  least-begun b e f = let all : 2 * n ≡ 2 * n + 1 - 1 = omega arith in begun-is b e f ∙ ap (λ k. least_found games k 1 g) all
+
+  least-hit : (more t : ℕ) (ss : List Step) → 1 ≤ more → found games t 0 g ≡ Some ss → least_found games more t g ≡ Some ss
+  unfolding least_found
+  least-hit zero t ss l e = absurd (omega (arith, l))
+  least-hit (suc more) t ss l e = ap (λ o. option_or o (least_found games more (t + 1) g)) e
+
+  least-miss : (more t : ℕ) → found games t 0 g ≡ None → least_found games (suc more) t g ≡ least_found games more (t + 1) g
+  unfolding least_found
+  least-miss more t e = ap (λ o. option_or o (least_found games more (t + 1) g)) e
+
+  -- where none has fewer plies than t
+  pub least-at : (t : ℕ) (ss : List Step) → 1 ≤ t → t ≤ 2 * n → help_found rules n g ≡ least_found games (2 * n + 1 - t) t g → found games t 0 g ≡ Some ss → help_found rules n g ≡ Some ss
+  least-at t ss l m is e = is ∙ least-hit (2 * n + 1 - t) t ss (omega (arith, m)) e
+
+  pub least-next : (t : ℕ) → t ≤ 2 * n → help_found rules n g ≡ least_found games (2 * n + 1 - t) t g → found games t 0 g ≡ None → help_found rules n g ≡ least_found games (2 * n + 1 - (t + 1)) (t + 1) g
+  least-next t m is e =
+      let one : 2 * n + 1 - t ≡ suc (2 * n - t) = omega (arith, m) in
+      let left : 2 * n - t ≡ 2 * n + 1 - (t + 1) = omega (arith, m) in
+      is ∙ ap (λ k. least_found games k t g) one ∙ least-miss (2 * n - t) t e ∙ ap (λ k. least_found games k (t + 1) g) left
+
+  pub least-none : (t : ℕ) → 2 * n < t → help_found rules n g ≡ least_found games (2 * n + 1 - t) t g → help_found rules n g ≡ None
+  unfolding least_found
+  least-none t m is = let none : 2 * n + 1 - t ≡ 0 = omega (arith, m) in is ∙ ap (λ k. least_found games k t g) none

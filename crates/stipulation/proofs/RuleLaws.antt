@@ -217,7 +217,7 @@ help-begins rules n g steps h =
     begins [] e k = none _ e
     begins (s ∷ later) e k = none _ (steps-holds (help_games rules g.last.side) n g 1 [] s later k).0.ongoing
 
-help-tree : (rules : Rules) (n : ℕ) (g : Story) (steps : List Step) → help_verdict rules n g steps ≡ Holds → tree_verdict (help_games rules g.last.side) n g steps ≡ Holds
+pub help-tree : (rules : Rules) (n : ℕ) (g : Story) (steps : List Step) → help_verdict rules n g steps ≡ Holds → tree_verdict (help_games rules g.last.side) n g steps ≡ Holds
 help-tree rules n g steps h = (or-holds (fault_if (is_empty_end (help_games rules g.last.side) g steps) (NotMate 0)) _ h).1
 
 -- a certificate of a helpmate that holds gives one

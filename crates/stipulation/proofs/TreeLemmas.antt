@@ -15,7 +15,7 @@ use Rattle.stipulation.specs.declared.cert.Step.{Step}
 use Rattle.stipulation.specs.declared.verdict.CertVerdict.{CertVerdict}
 use Rattle.stipulation.specs.declared.verdict.CertVerdict.TheVariants.{Holds, BadPly, BadMove, TooDeep, NotMate, MissingReply, Unfinished}
 use Rattle.stipulation.specs.Trees.{game_at, moves_at, parent_game, siblings, children}
-use Rattle.stipulation.specs.Verdicts.{or_verdict, fault_if, is_bad_move, first_missing, missing, end_verdict, game_verdict, step_verdict, steps_verdict}
+use Rattle.stipulation.specs.Verdicts.{or_verdict, fault_if, is_bad_move, first_missing, missing, end_verdict, game_verdict, plies_verdict, step_verdict, steps_verdict, tree_verdict}
 
 -- ---- moves among moves
 
@@ -127,6 +127,13 @@ step-faultless c n root i earlier s later h =
 pub steps-holds : {X : Type 0} (c : Contest X Move) (n : ℕ) (root : X) (i : ℕ) (earlier : List Step) (s : Step) (later : List Step) → steps_verdict c n root i earlier (s ∷ later) ≡ Holds → IsFaultless X c n root i earlier s later × (steps_verdict c n root (i + 1) (s ∷ earlier) later ≡ Holds)
 unfolding steps_verdict
 steps-holds c n root i earlier s later h = let k = or-holds (step_verdict c n root i earlier s later) _ h in (step-faultless c n root i earlier s later k.0, k.1)
+
+-- a faultless tree
+pub tree-parts : {X : Type 0} (c : Contest X Move) (n : ℕ) (root : X) (steps : List Step) → tree_verdict c n root steps ≡ Holds → (plies_verdict 1 0 steps ≡ Holds) × (steps_verdict c n root 1 [] steps ≡ Holds)
+unfolding tree_verdict
+tree-parts c n root steps h =
+    let u = or-holds (plies_verdict 1 0 steps) _ h in
+    (u.0, (or-holds (game_verdict c 0 root (children 0 steps)) _ u.1).1)
 
 -- ---- games and moves of a tree
 

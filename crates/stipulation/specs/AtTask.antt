@@ -1,5 +1,6 @@
 -- A task: the game that is the root, what is aimed at in it, and lines of moves from it on.
-use Rattle.std.specs.Prelude.{◌≡◌, ℕ, ◌≤◌, Bool, ◌||◌, List, length, take}
+use Rattle.std.specs.Prelude.{ℕ, Bool, ◌||◌, List, Option, length}
+use Rattle.foundation.specs.Member.{Member}
 use Rattle.rules_model.specs.declared.board.Position.{Position}
 use Rattle.rules_model.specs.declared.board.Side.{Side}
 use Rattle.rules_model.specs.declared.moves.Move.{Move}
@@ -11,8 +12,8 @@ use Rattle.game_play.specs.Played.{story}
 use Rattle.stipulation.specs.declared.cert.Step.{Step}
 use Rattle.stipulation.specs.declared.task.Task.{Task}
 use Rattle.stipulation.specs.Lines as Lines
+use Rattle.stipulation.specs.Searches.{found, followed}
 use Rattle.stipulation.specs.Stipulations.{aims}
-use Rattle.stipulation.specs.Trees.{game_at}
 
 -- helpmates or selfmates
 abbrev pub games_for : Bool → Rules → Side → Contest Story Move
@@ -30,4 +31,21 @@ AreSound t ps = Lines.AreSound t.game.now.rules ps
 
 -- the line leads to the last of the earlier steps, and each part of it to the last one of its ply
 abbrev pub IsLineTo : Task → List Step → List Position → Type 0
-IsLineTo t earlier ps = (q : ℕ) → q ≤ length ps → at t (take q ps) ≡ game_at (games t) (story t.game.now) earlier q
+IsLineTo t earlier ps = Lines.IsPathTo (games t) (story t.game.now) earlier ps
+
+-- ---- searches after the line
+
+abbrev pub legal_at : Task → List Position → List Move
+legal_at t ps = (games t).moves (at t ps)
+
+-- each of the moves is legal there
+abbrev pub AreLegal : Task → List Position → List Move → Type 0
+AreLegal t ps ms = (m : Move) → Member m ms → Member m (legal_at t ps)
+
+-- the steps that a plain search finds with so many plies left
+abbrev pub found_at : Task → ℕ → List Position → Option (List Step)
+found_at t plies ps = found (games t) plies (length ps) (at t ps)
+
+-- by the move, with so many plies left after it
+abbrev pub followed_at : Task → ℕ → List Position → Move → Option (List Step)
+followed_at t plies ps m = followed (games t) plies (length ps) (at t ps) m

@@ -3,5 +3,6 @@ pub mod Sentences
 pub mod Trees
 pub mod Lines
 pub mod Verdicts
-pub mod AtTask
 pub mod Searches
+pub mod AtTask
+pub mod AtTree

@@ -1,9 +1,13 @@
 -- The certificate that a plain search finds: the first move that does where one is to be chosen, and else every reply.
-use Rattle.std.specs.Prelude.{◌≡◌, ℕ, zero, suc, ◌+◌, List, [], ◌∷◌, ◌++◌, Bool, true, false, is_some, Option, Some, None, if◌then◌else◌}
-use Rattle.std.specs.Option.{option_or}
+use Rattle.std.specs.Prelude.{◌≡◌, ℕ, zero, suc, ◌+◌, ◌*◌, List, [], ◌∷◌, ◌++◌, Bool, true, false, is_some, Option, Some, None, if◌then◌else◌}
+use Rattle.std.specs.Option.{option_map, option_or}
 use Rattle.rules_model.specs.declared.moves.Move.{Move}
+use Rattle.rules_model.specs.declared.rules.Rules.{Rules}
+use Rattle.rules_model.specs.Games.{Story}
 use Rattle.forced_wins.specs.Contests.{Contest}
+use Rattle.stipulation.specs.declared.cert.Cert.{Cert}
 use Rattle.stipulation.specs.declared.cert.Step.{Step}
+use Rattle.stipulation.specs.Stipulations.{self_games, help_games}
 
 -- the steps of the first move that has some
 unfoldable pub first_of : (Move → Option (List Step)) → List Move → Option (List Step)
@@ -53,3 +57,22 @@ IsFound (Some steps) old new answer = (answer ≡ true) × (new ≡ old ++ steps
 
 abbrev pub is_ended : {X : Type 0} → Contest X Move → X → Bool
 is_ended c x = is_some (c.end x)
+
+-- ---- of a game
+
+-- the certificate of a selfmate within n moves
+abbrev pub self_found : Rules → ℕ → Story → Option (List Step)
+self_found rules n g = found (self_games rules g.last.side) (2 * n) 0 g
+
+-- with this number of plies, or else with one more, and so on for so many numbers
+unfoldable pub least_found : {X : Type 0} → Contest X Move → ℕ → ℕ → X → Option (List Step)
+least_found c zero plies x = None
+least_found c (suc more) plies x = option_or (found c plies 0 x) (least_found c more (plies + 1) x)
+
+-- the certificate of a helpmate within n moves of each side, of least length; a game that is ended has none
+unfoldable pub help_found : Rules → ℕ → Story → Option (List Step)
+help_found rules n g =
+    if is_ended (help_games rules g.last.side) g then None else least_found (help_games rules g.last.side) (2 * n) 1 g
+
+abbrev pub steps_of : Option Cert → Option (List Step)
+steps_of answer = option_map (λ cert. cert.steps) answer

@@ -10,6 +10,7 @@ ghost use Rattle.stipulation.specs.Stipulations.{self_wins, HelpWins};
 ghost use Rattle.stipulation.specs.Trees as Trees;
 ghost use Rattle.stipulation.specs.Verdicts as Verdicts;
 ghost use Rattle.stipulation.specs.AtTask as At;
+ghost use Rattle.stipulation.specs.AtTree as Here;
 
 use crate::cert::{Cert, Step};
 use crate::line::Line;
@@ -70,8 +71,7 @@ impl Tree<'_> {
     #[tactic(auto, unfolding(crate::specs::Verdicts::is_bad_move))]
     fn is_bad_move(&self, line: &Line, earlier: &[Step], s: &Step) -> bool
         requires sound { At.AreSound self.now.task line.now }
-        ensures { let sibs = Trees.siblings (reverse earlier.now) s.now.ply in
-            result ≡ Verdicts.is_bad_move (At.games self.now.task) (At.at self.now.task line.now) sibs s.now.chosen }
+        ensures { result ≡ Here.is_bad_move self.now line.now earlier.now s.now }
     {
         let ply = u32::from(s.ply);
         self.task.end(line).is_some()
@@ -90,8 +90,8 @@ impl Tree<'_> {
         ply: u32,
     ) -> Result<CertVerdict, Memory>
         requires sound { At.AreSound self.now.task line.now }
-        ensures { let moves = Trees.moves_at ply later.now in
-            IfOk result (λ v. v ≡ Verdicts.game_verdict (At.games self.now.task) i (At.at self.now.task line.now) moves) }
+        ensures { let children = Trees.moves_at ply later.now in
+            IfOk result (λ v. v ≡ Here.game_verdict self.now i line.now children) }
     {
         match self.task.end(line) {
             Some(true) => return Ok(CertVerdict::Holds),
@@ -119,9 +119,7 @@ impl Tree<'_> {
         requires before { At.IsLineTo self.now.task (reverse (take i self.now.steps.now)) line.old }
         requires least { 1 ≤ s.now.ply }
         requires next { s.now.ply ≤ length line.old + 1 }
-        ensures verdict { let earlier = reverse (take i self.now.steps.now) in
-            let later = drop (i + 1) self.now.steps.now in
-            IfOk result (λ v. v ≡ Verdicts.step_verdict (At.games self.now.task) self.now.n (story self.now.task.game.now) (i + 1) earlier s.now later) }
+        ensures verdict { IfOk result (λ v. v ≡ Here.step_verdict self.now i s.now) }
         ensures sound { At.AreSound self.now.task line.new }
         ensures long { IfOk result (λ v. v ≡ Said.Holds → length line.new ≡ s.now.ply) }
         ensures line { let earlier = reverse (take i self.now.steps.now) in
@@ -143,8 +141,7 @@ impl Tree<'_> {
     /// The first failure of the steps, but for their plies.
     fn steps_verdict(&self, alloc: Global) -> Result<CertVerdict, Memory>
         requires plies { Verdicts.plies_verdict 1 0 self.now.steps.now ≡ Said.Holds }
-        ensures { let g = story self.now.task.game.now in
-            IfOk result (λ v. v ≡ Verdicts.steps_verdict (At.games self.now.task) self.now.n g 1 [] self.now.steps.now) }
+        ensures { IfOk result (λ v. v ≡ Here.steps_verdict self.now) }
     {
         let mut line = Line::new(alloc);
         for (i, s) in self.steps.iter().enumerate() {
@@ -159,8 +156,7 @@ impl Tree<'_> {
     /// The first failure of the tree.
     #[tactic(auto, unfolding(crate::specs::Verdicts::tree_verdict))]
     fn verdict(&self, alloc: Global) -> Result<CertVerdict, Memory>
-        ensures { let g = story self.now.task.game.now in
-            IfOk result (λ v. v ≡ Verdicts.tree_verdict (At.games self.now.task) self.now.n g self.now.steps.now) }
+        ensures { IfOk result (λ v. v ≡ Here.tree_verdict self.now) }
     {
         match plies_verdict(self.steps) {
             CertVerdict::Holds => {}
@@ -176,7 +172,7 @@ impl Tree<'_> {
 
     /// Whether the game is ended, and there is no step.
     fn is_empty_end(&self, alloc: Global) -> bool
-        ensures { result ≡ Verdicts.is_empty_end (At.games self.now.task) (story self.now.task.game.now) self.now.steps.now }
+        ensures { result ≡ Here.is_empty_end self.now }
     {
         if self.steps.len() > 0 {
             return false;

@@ -15,5 +15,6 @@ mod verdict;
 
 pub use cert::{Cert, Step, Steps};
 pub use check::{check_help, check_self};
+pub use line::Line;
 pub use mates::{help_mate, self_mate};
 pub use verdict::CertVerdict;

@@ -3,12 +3,9 @@ ghost use Rattle.std.specs.Prelude.{◌≡◌, ◌+◌, ◌||◌, [], true, take
 ghost use Rattle.std.specs.List.{list_any};
 ghost use Rattle.foundation.specs.Member.{Member};
 ghost use Rattle.rules_model.specs.Games as Games;
-ghost use Rattle.rules_model.specs.Legal.{legal};
-ghost use Rattle.rules_model.specs.Moves.{same_move};
 ghost use Rattle.rules_model.specs.Repeats.{repeat_of};
 ghost use Rattle.rules_model.specs.Sound.{is_sound};
-ghost use Rattle.game_play.specs.Played.{story};
-ghost use Rattle.stipulation.specs.Lines.{along, AreSound};
+ghost use Rattle.stipulation.specs.Lines.{AreSound, game_after, legal_after, result_after};
 ghost use Rattle.stipulation.specs.Stipulations as Stipulations;
 
 use game_play::Game;
@@ -19,7 +16,7 @@ use std::marker::Model;
 
 /// The positions along a line of moves after the last one of a game. It has no greatest length.
 #[derive(Drop)]
-pub(crate) struct Line {
+pub struct Line {
     positions: Vec<Position>,
 }
 
@@ -95,7 +92,7 @@ impl Line {
     /// The last position.
     pub fn last<'a>(&'a self, game: &'a Game) -> &'a Position
         requires sound { AreSound game.now.rules self.now }
-        ensures is { result.now ≡ (along (story game.now) self.now).last }
+        ensures is { result.now ≡ (game_after game.now self.now).last }
         ensures sound { is_sound game.now.rules result.now ≡ true }
     {
         let plies = self.positions.len();
@@ -110,7 +107,7 @@ impl Line {
     #[tactic(auto, unfolding(rules_model::specs::Games::is_repeated))]
     fn is_repeated(&self, game: &Game) -> bool
         requires sound { AreSound game.now.rules self.now }
-        ensures { result ≡ Games.is_repeated game.now.rules (along (story game.now) self.now) }
+        ensures { result ≡ Games.is_repeated game.now.rules (game_after game.now self.now) }
     {
         let fold = game.rules().n_fold;
         if fold == 0 {
@@ -124,7 +121,7 @@ impl Line {
     /// Whether the game is ended by repetition or by the move count.
     fn is_cut(&self, game: &Game) -> bool
         requires sound { AreSound game.now.rules self.now }
-        ensures { let g = along (story game.now) self.now in
+        ensures { let g = game_after game.now self.now in
             result ≡ (Games.is_repeated game.now.rules g || Games.is_run_out game.now.rules g.last.counter) }
     {
         self.is_repeated(game) || is_run_out(game.rules(), self.last(game).counter)
@@ -133,7 +130,7 @@ impl Line {
     /// Whether the side has won by checkmate, where the game is ended after the line.
     pub fn end(&self, game: &Game, winner: Side) -> Option<bool>
         requires sound { AreSound game.now.rules self.now }
-        ensures { result ≡ Stipulations.mated_by winner (Games.result game.now.rules (along (story game.now) self.now)) }
+        ensures { result ≡ Stipulations.mated_by winner (result_after game.now self.now) }
     {
         game.is_played();
         match own_end(game.rules(), game.tables(), self.last(game)) {
@@ -145,7 +142,7 @@ impl Line {
     /// Whether the move is legal after the line.
     pub fn is_legal(&self, game: &Game, m: &Move) -> bool
         requires sound { AreSound game.now.rules self.now }
-        ensures { IsTrue result ↔ Member m.now (legal game.now.rules (repeat_of (along (story game.now) self.now).last)) }
+        ensures { IsTrue result ↔ Member m.now (legal_after game.now self.now) }
     {
         game.is_played();
         is_legal(game.rules(), game.tables(), self.last(game), m)
@@ -154,7 +151,7 @@ impl Line {
     /// The legal moves after the line.
     pub fn legal_moves(&self, alloc: Global, game: &Game) -> Result<MoveList, Memory>
         requires sound { AreSound game.now.rules self.now }
-        ensures { IfOk result (λ ms. ms ≡ legal game.now.rules (repeat_of (along (story game.now) self.now).last)) }
+        ensures { IfOk result (λ ms. ms ≡ legal_after game.now self.now) }
     {
         game.is_played();
         legal_moves(alloc, game.rules(), game.tables(), self.last(game))
@@ -163,10 +160,11 @@ impl Line {
     /// Makes a legal move. Without memory the line is what it was.
     pub fn push(&mut self, game: &Game, m: &Move) -> Result<(), Memory>
         requires sound { AreSound game.now.rules self.old }
-        requires legal { Member m.now (legal game.now.rules (repeat_of (along (story game.now) self.old).last)) }
+        requires legal { Member m.now (legal_after game.now self.old) }
         ensures more { OnOk result (length self.new ≡ length self.old + 1) }
         ensures before { OnOk result (take (length self.old) self.new ≡ self.old) }
-        ensures played { OnOk result (along (story game.now) self.new ≡ Games.played game.now.rules (along (story game.now) self.old) m.now) }
+        ensures played { let before = game_after game.now self.old in
+            OnOk result (game_after game.now self.new ≡ Games.played game.now.rules before m.now) }
         ensures sound { AreSound game.now.rules self.new }
         ensures refused { OnErr result (self.new ≡ self.old) }
     {

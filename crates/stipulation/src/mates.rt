@@ -42,11 +42,12 @@ impl Task<'_> {
     }
 }
 
-/// A certificate of a selfmate of the side that is to move in the game, within n moves of its own, exactly where there is one; else none.
-/// n is from 1 to 6. It need not be the shortest. `Memory` where there is none.
+/// A certificate of a selfmate of the side that is to move in the game, within n moves of its own, exactly where there is one; else
+/// none. n is from 1 to 6. It is the one that a plain search finds, by the first move in order that does, and need not be the shortest. `Memory` where there is none.
 pub fn self_mate(alloc: Global, game: &Game, n: u16) -> Result<Option<Cert>, Memory>
     requires least { 1 ≤ n }
     requires most { n ≤ 6 }
+    ensures is { IfOk result (λ answer. Searches.steps_of answer ≡ Searches.self_found game.now.rules n (story game.now)) }
     ensures found { IfOk result (λ answer. MatchOption answer
         (self_wins game.now.rules n (story game.now) (story game.now).last.side ≡ false)
         (λ cert. Verdicts.self_verdict game.now.rules n (story game.now) cert.steps ≡ Said.Holds)) }
@@ -57,11 +58,12 @@ pub fn self_mate(alloc: Global, game: &Game, n: u16) -> Result<Option<Cert>, Mem
     task.find(alloc, 2 * n)
 }
 
-/// A certificate of a helpmate of least length within n moves of each side, from the side that is to move in the game, exactly where there
-/// is one; else none. n is from 1 to 6. `Memory` where there is none.
+/// A certificate of a helpmate of least length within n moves of each side, from the side that is to move in the game, exactly where
+/// there is one; else none. n is from 1 to 6. It is the first one in the order of its moves. `Memory` where there is none.
 pub fn help_mate(alloc: Global, game: &Game, n: u16) -> Result<Option<Cert>, Memory>
     requires least { 1 ≤ n }
     requires most { n ≤ 6 }
+    ensures is { IfOk result (λ answer. Searches.steps_of answer ≡ Searches.help_found game.now.rules n (story game.now)) }
     ensures found { IfOk result (λ answer. MatchOption answer
         (HelpWins game.now.rules n (story game.now) → ⊥)
         (λ cert. Verdicts.help_verdict game.now.rules n (story game.now) cert.steps ≡ Said.Holds)) }

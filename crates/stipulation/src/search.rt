@@ -1,7 +1,6 @@
 //! The plain search: every move in turn, with the whole history of the game.
 ghost use Rattle.std.specs.Prelude.{◌≡◌, ◌≤◌, ◌+◌, length, IfOk};
 ghost use Rattle.foundation.specs.Member.{Member};
-ghost use Rattle.rules_model.specs.declared.moves.Move.{Move};
 ghost use Rattle.stipulation.specs.AtTask as At;
 ghost use Rattle.stipulation.specs.Searches as Searches;
 
@@ -24,7 +23,7 @@ impl Task<'_> {
     ) -> Result<bool, Memory>
         requires sound { At.AreSound self.now line.old }
         requires few { length line.old + plies ≤ 12 }
-        ensures found { let found = Searches.found (At.games self.now) plies (length line.old) (At.at self.now line.old) in
+        ensures found { let found = At.found_at self.now plies line.old in
             IfOk result (λ answer. Searches.IsFound found steps.old steps.new answer) }
         ensures line { IfOk result (λ _. line.new ≡ line.old) }
     {
@@ -55,9 +54,9 @@ impl Task<'_> {
     ) -> Result<bool, Memory>
         requires sound { At.AreSound self.now line.old }
         requires few { length line.old + plies ≤ 11 }
-        requires legal { (m : Move) → Member m moves.now → Member m ((At.games self.now).moves (At.at self.now line.old)) }
-        ensures found { let follow = Searches.followed (At.games self.now) plies (length line.old) (At.at self.now line.old) in
-            IfOk result (λ answer. Searches.IsFound (Searches.first_of follow moves.now) steps.old steps.new answer) }
+        requires legal { At.AreLegal self.now line.old moves.now }
+        ensures found { let found = Searches.first_of (At.followed_at self.now plies line.old) moves.now in
+            IfOk result (λ answer. Searches.IsFound found steps.old steps.new answer) }
         ensures line { IfOk result (λ _. line.new ≡ line.old) }
     {
         for m in moves {
@@ -81,9 +80,9 @@ impl Task<'_> {
     ) -> Result<bool, Memory>
         requires sound { At.AreSound self.now line.old }
         requires few { length line.old + plies ≤ 11 }
-        requires legal { (m : Move) → Member m moves.now → Member m ((At.games self.now).moves (At.at self.now line.old)) }
-        ensures found { let follow = Searches.followed (At.games self.now) plies (length line.old) (At.at self.now line.old) in
-            IfOk result (λ answer. Searches.IsFound (Searches.all_of follow moves.now) steps.old steps.new answer) }
+        requires legal { At.AreLegal self.now line.old moves.now }
+        ensures found { let found = Searches.all_of (At.followed_at self.now plies line.old) moves.now in
+            IfOk result (λ answer. Searches.IsFound found steps.old steps.new answer) }
         ensures line { IfOk result (λ _. line.new ≡ line.old) }
     {
         let kept = steps.len();
@@ -108,9 +107,9 @@ impl Task<'_> {
     ) -> Result<bool, Memory>
         requires sound { At.AreSound self.now line.old }
         requires few { length line.old + plies ≤ 11 }
-        requires legal { Member m.now ((At.games self.now).moves (At.at self.now line.old)) }
-        ensures found { let follow = Searches.followed (At.games self.now) plies (length line.old) (At.at self.now line.old) in
-            IfOk result (λ answer. Searches.IsFound (follow m.now) steps.old steps.new answer) }
+        requires legal { Member m.now (At.legal_at self.now line.old) }
+        ensures found { let found = At.followed_at self.now plies line.old m.now in
+            IfOk result (λ answer. Searches.IsFound found steps.old steps.new answer) }
         ensures line { IfOk result (λ _. line.new ≡ line.old) }
     {
         let (ply, kept) = (line.len(), steps.len());

@@ -2,7 +2,7 @@ use Rattle.std.proofs.Common.{◌≡◌, ◌+◌, ◌-◌, ◌*◌, ap, sym, ◌
 use Rattle.forced_wins.specs.Contests.{within}
 use Rattle.game_play.specs.Played.{story}
 use Rattle.stipulation.specs.Stipulations.{help_games}
-use Rattle.stipulation.proofs.MateLaws.{help-ended, help-begun, help-missed, help-none, help-found, help-shortest}
+use Rattle.stipulation.proofs.MateLaws.{help-ended, help-begun, help-missed, help-none, help-found, help-shortest, least-at, least-begun, least-ended, least-next, least-none}
 use Rattle.stipulation.proofs.RuleLaws.{help-holds}
 use Rattle.stipulation.proofs.SearchLemmas.{some-of, none-of}
 use Rattle.stipulation.proofs.mates.help_mate.Goals as goal
@@ -14,6 +14,7 @@ returns-then-is_ended-clause-found c =
 pub loop-plies-init : goal.loop-plies-init
 loop-plies-init c = record {
   least = omega arith;
+  least_found = least-begun c.args.game.now.rules c.args.n (story c.args.game.now) c.is_ended.result c.is_ended.ensures c.if-is_ended.false;
   none = help-begun c.args.game.now.rules c.args.n (story c.args.game.now) c.is_ended.result c.is_ended.ensures c.if-is_ended.false;
 }
 
@@ -39,6 +40,8 @@ loop-plies-preserved c =
     let back : c.loop-plies.plies + 1 - 1 ≡ c.loop-plies.plies = omega arith in
     record {
       least = omega arith;
+      least_found = least-next c.args.game.now.rules c.args.n g c.loop-plies.plies (omega arith) c.loop-plies.invariant.least_found
+          (none-of _ _ c.in_ok-cert.field-0 c.in_ok-cert.ensures c.in_default.not-Some);
       none =
           ap (λ t. within (help_games c.args.game.now.rules g.last.side) t g) back
           ∙ help-missed c.args.game.now.rules c.args.n g c.loop-plies.plies (none-of _ _ c.in_ok-cert.field-0 c.in_ok-cert.ensures c.in_default.not-Some);
@@ -49,3 +52,16 @@ returns-clause-found c =
     let g = story c.args.game.now in
     let all : c.loop-plies.plies - 1 ≡ 2 * c.args.n = omega arith in
     help-none c.args.game.now.rules c.args.n g (sym (ap (λ t. within (help_games c.args.game.now.rules g.last.side) t g) all) ∙ c.loop-plies.invariant.none)
+
+pub returns-then-is_ended-clause-is : goal.returns-then-is_ended-clause-is
+returns-then-is_ended-clause-is c =
+    sym (least-ended c.args.game.now.rules c.args.n (story c.args.game.now) c.is_ended.result c.is_ended.ensures c.if-is_ended.true)
+
+pub returns-in-Some-clause-is : goal.returns-in-Some-clause-is
+returns-in-Some-clause-is c =
+    sym (least-at c.args.game.now.rules c.args.n (story c.args.game.now) c.loop-plies.plies c.in-Some.cert.steps c.loop-plies.invariant.least (omega arith) c.loop-plies.invariant.least_found
+    (some-of _ _ c.in_ok-cert.field-0 c.in-Some.cert c.in_ok-cert.ensures c.in-Some.is))
+
+pub returns-clause-is : goal.returns-clause-is
+returns-clause-is c =
+    sym (least-none c.args.game.now.rules c.args.n (story c.args.game.now) c.loop-plies.plies (omega arith) c.loop-plies.invariant.least_found)
