@@ -7,7 +7,9 @@ use Rattle.rules_model.specs.declared.board.Position.{Position}
 use Rattle.rules_model.specs.declared.moves.Move.{Move}
 use Rattle.rules_model.specs.declared.rules.Rules.{Rules}
 use Rattle.rules_model.specs.Fit.{IsFit}
+use Rattle.rules_model.specs.Legal.{legal}
 use Rattle.rules_model.specs.MoveText.{text_of}
+use Rattle.rules_model.specs.Repeats.{repeat_of}
 use Rattle.rules_model.specs.Sound.{is_sound}
 use Rattle.move_names.specs.Names.{Names, NamesNothing}
 use Rattle.move_names.proofs.CastleLaws.{the_move}
@@ -18,46 +20,49 @@ use Rattle.game_text.specs.declared.fault.GameFault.{GameFault}
 use Rattle.game_text.specs.declared.fault.GameFault.TheVariants.{BadMove, TooManyMoves}
 use Rattle.game_text.specs.declared.fault.NoGame.{NoGame}
 use Rattle.game_text.specs.declared.fault.NoGame.TheVariants.{Faulty, Unread, Memory}
-use Rattle.game_text.specs.Playing.{and_then, goes_on, is_word, move_of, play, play_all}
+use Rattle.game_text.specs.Playing.{and_then, goes_on, is_word, move_in, move_of, play, play_all}
 use Rattle.game_text.specs.ReadView.{Plays}
 use Rattle.game_text.proofs.FindLemmas.{found-in, found-only, found-none}
 
 -- ---- the move of a text
 
-module _ (g : Played) (text : List ℕ) (fit : IsFit g.rules) (sound : is_sound g.rules (story g).last ≡ true) where
+module _ (rules : Rules) (p : Position) (text : List ℕ) (fit : IsFit rules) (sound : is_sound rules p ≡ true) where
+  abbrev moves : List Move
+  moves = legal rules (repeat_of p)
+
   -- a text names one move
-  one_name : (m n : Move) → Names g.rules (story g).last text m → Names g.rules (story g).last text n → m ≡ n
+  one_name : (m n : Move) → Names rules p text m → Names rules p text n → m ≡ n
   one_name m n a b =
-      the_move (sym (names-read g.rules (story g).last text m fit sound a) ∙ names-read g.rules (story g).last text n fit sound b)
+      the_move (sym (names-read rules p text m fit sound a) ∙ names-read rules p text n fit sound b)
 
   -- a legal move with the text is named by it
-  legal_name : (m : Move) → Member m (legal_in g) → bytes_eq (text_of m) text ≡ true → Names g.rules (story g).last text m
+  legal_name : (m : Move) → Member m moves → bytes_eq (text_of m) text ≡ true → Names rules p text m
   legal_name m member same =
-      subst (λ t. Names g.rules (story g).last t m) ((bytes_eq-Decides (text_of m) text).0 same) (legal-named g.rules (story g).last m fit sound member)
+      subst (λ t. Names rules p t m) ((bytes_eq-Decides (text_of m) text).0 same) (legal-named rules p m fit sound member)
 
   -- it plays the legal move that it names
-  pub plays-named : (m : Move) → Names g.rules (story g).last text m → Member m (legal_in g) → move_of g text ≡ Some m
-  unfolding move_of
+  pub plays-named : (m : Move) → Names rules p text m → Member m moves → move_in rules p text ≡ Some m
+  unfolding move_in
   plays-named m names member =
-      found-only (λ n. bytes_eq (text_of n) text) (legal_in g) m member ((bytes_eq-Decides (text_of m) text).1 names.written)
+      found-only (λ n. bytes_eq (text_of n) text) moves m member ((bytes_eq-Decides (text_of m) text).1 names.written)
       (λ n in_list same. one_name n m (legal_name n in_list same) names)
 
   -- and none where it names none
-  pub plays-none : ((m : Move) → Names g.rules (story g).last text m → Member m (legal_in g) → ⊥) → move_of g text ≡ None
-  unfolding move_of
-  plays-none none = found-none (λ n. bytes_eq (text_of n) text) (legal_in g) (λ n member same. none n (legal_name n member same) member)
+  pub plays-none : ((m : Move) → Names rules p text m → Member m moves → ⊥) → move_in rules p text ≡ None
+  unfolding move_in
+  plays-none none = found-none (λ n. bytes_eq (text_of n) text) moves (λ n member same. none n (legal_name n member same) member)
 
-  pub plays-nothing : NamesNothing g.rules (story g).last text → move_of g text ≡ None
+  pub plays-nothing : NamesNothing rules p text → move_in rules p text ≡ None
   plays-nothing nothing = plays-none (λ m names member. nothing m names)
 
-  pub plays-illegal : (m : Move) → Names g.rules (story g).last text m → (Member m (legal_in g) → ⊥) → move_of g text ≡ None
-  plays-illegal m names illegal = plays-none (λ n named member. illegal (subst (λ x. Member x (legal_in g)) (one_name n m named names) member))
+  pub plays-illegal : (m : Move) → Names rules p text m → (Member m moves → ⊥) → move_in rules p text ≡ None
+  plays-illegal m names illegal = plays-none (λ n named member. illegal (subst (λ x. Member x moves) (one_name n m named names) member))
 
   -- what it plays is named by it, and legal
-  pub played-named : (m : Move) → move_of g text ≡ Some m → Names g.rules (story g).last text m × Member m (legal_in g)
-  unfolding move_of
+  pub played-named : (m : Move) → move_in rules p text ≡ Some m → Names rules p text m × Member m moves
+  unfolding move_in
   played-named m is =
-      let found = found-in (λ n. bytes_eq (text_of n) text) (legal_in g) m is in
+      let found = found-in (λ n. bytes_eq (text_of n) text) moves m is in
       (legal_name m found.member found.passes, found.member)
 
 -- ---- one move
@@ -86,17 +91,17 @@ module _ (g : Played) (rules : Rules) (p : Position) (text : List ℕ) (played :
   bad_says x y why same is none = rw (is, same) (play-bad g text none)
 
   pub nothing-says : (x : Played) (why : NoGame) → NamesNothing rules p text → why ≡ Faulty (BadMove (length g.moves + 1) text) → Plays {A = Unit {0}} (play g text) x (Err why)
-  nothing-says x why nothing is = bad_says x g why refl is (plays-nothing g text played.fit here_sound (rw (rules_are, last_is) at nothing))
+  nothing-says x why nothing is = bad_says x g why refl is (plays-nothing g.rules (story g).last text played.fit here_sound (rw (rules_are, last_is) at nothing))
 
   pub illegal-says : (x y : Played) (m : Move) (why : NoGame) → Names rules p text m → (Member m (legal_in g) → ⊥) → y ≡ g → why ≡ Faulty (BadMove (length y.moves + 1) text)
       → Plays {A = Unit {0}} (play g text) x (Err why)
-  illegal-says x y m why names illegal same is = bad_says x y why same is (plays-illegal g text played.fit here_sound m (here_names m names) illegal)
+  illegal-says x y m why names illegal same is = bad_says x y why same is (plays-illegal g.rules (story g).last text played.fit here_sound m (here_names m names) illegal)
 
   pub played-says : (x : Played) (m : Move) → Names rules p text m → Member m (legal_in g) → length g.moves < 8192 → x ≡ longer g m → play g text ≡ Ok x
-  played-says x m names legal room is = play-longer g text m (plays-named g text played.fit here_sound m (here_names m names) legal) room ∙ ap Ok (sym is)
+  played-says x m names legal room is = play-longer g text m (plays-named g.rules (story g).last text played.fit here_sound m (here_names m names) legal) room ∙ ap Ok (sym is)
 
   pub full-says : (m : Move) → Names rules p text m → Member m (legal_in g) → 8192 ≤ length g.moves → play g text ≡ Err TooManyMoves
-  full-says m names legal full = play-full g text m (plays-named g text played.fit here_sound m (here_names m names) legal) full
+  full-says m names legal full = play-full g text m (plays-named g.rules (story g).last text played.fit here_sound m (here_names m names) legal) full
 
 -- ---- many moves
 

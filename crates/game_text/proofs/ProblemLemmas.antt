@@ -1,5 +1,5 @@
 -- What the lines of a problem say, as they are read.
-use Rattle.std.proofs.Common.{◌≡◌, ◌≤◌, ℕ, ◌+◌, ◌-◌, arith, length, take, drop, List, [], ◌∷◌, ◌++◌, Some, None, Result, Ok, Err, refl, sym, ap, subst, ◌∙◌, length-drop}
+use Rattle.std.proofs.Common.{◌≡◌, ◌≤◌, ℕ, ◌+◌, ◌-◌, arith, length, take, drop, List, [], ◌∷◌, ◌++◌, Option, Some, None, Result, Ok, Err, refl, sym, ap, subst, ◌∙◌, length-drop}
 use Rattle.io_ports.specs.Lines.{Line, Text, TooLong}
 use Rattle.variant_rules.specs.Entries.{Named, found}
 use Rattle.game_play.specs.Played.{Played}
@@ -7,10 +7,8 @@ use Rattle.game_text.specs.declared.fault.GameFault.{GameFault}
 use Rattle.game_text.specs.declared.fault.GameFault.TheVariants.{BadGoal, Missing, LineTooLong}
 use Rattle.game_text.specs.declared.fault.NoGame.{NoGame}
 use Rattle.game_text.specs.declared.fault.NoGame.TheVariants.{Faulty, Unread, Memory}
-use Rattle.game_text.specs.declared.goal.Goal.{Goal}
 use Rattle.game_text.specs.declared.problem.Problem.{Problem}
 use Rattle.game_text.specs.GameText.{game_of, lines_in, lines_of_game, unless_faulty}
-use Rattle.game_text.specs.Goal.{goal_said}
 use Rattle.game_text.specs.Playing.{and_then, play_all, words_of}
 use Rattle.game_text.specs.Problem.{goal_on, lines_of_problem, lines_on_problem, moves_on, or_bad, problem_of, problem_on, with_goal}
 use Rattle.game_text.specs.ReadView.{Plays, Says}
@@ -18,21 +16,21 @@ use Rattle.game_text.proofs.StartLemmas.{start-most, start-needs, start-there}
 
 -- ---- line 4
 
-pub goal-none : goal_on [] ≡ Err (Missing 4)
+pub goal-none : {A : Type 0} (said : List ℕ → Option A) → goal_on said [] ≡ Err (Missing 4)
 unfolding goal_on
-goal-none = refl
+goal-none said = refl
 
-pub goal-long : (more : List Line) → goal_on (TooLong ∷ more) ≡ Err (LineTooLong 4)
+pub goal-long : {A : Type 0} (said : List ℕ → Option A) (more : List Line) → goal_on said (TooLong ∷ more) ≡ Err (LineTooLong 4)
 unfolding goal_on
-goal-long more = refl
+goal-long said more = refl
 
-pub goal-good : (text : List ℕ) (goal : Goal) (more : List Line) → goal_said text ≡ Some goal → goal_on (Text text ∷ more) ≡ Ok goal
+pub goal-good : {A : Type 0} (said : List ℕ → Option A) (text : List ℕ) (goal : A) (more : List Line) → said text ≡ Some goal → goal_on said (Text text ∷ more) ≡ Ok goal
 unfolding goal_on
-goal-good text goal more is = ap or_bad is
+goal-good said text goal more is = ap or_bad is
 
-pub goal-bad : (text : List ℕ) (more : List Line) → goal_said text ≡ None → goal_on (Text text ∷ more) ≡ Err (BadGoal 4)
+pub goal-bad : {A : Type 0} (said : List ℕ → Option A) (text : List ℕ) (more : List Line) → said text ≡ None → goal_on said (Text text ∷ more) ≡ Err (BadGoal 4)
 unfolding goal_on
-goal-bad text more is = ap or_bad is
+goal-bad said text more is = ap or_bad is
 
 -- ---- line 3
 
@@ -70,57 +68,57 @@ unfolding moves_on
 moves-there g h [] is = cc
 moves-there g h (x ∷ lines) is = omega arith
 
-pub on-faulty : (g : Played) (lines : List Line) (fault : GameFault) → moves_on g lines ≡ Err fault → problem_on g lines ≡ Err fault
+pub on-faulty : {A : Type 0} (said : List ℕ → Option A) (g : Played) (lines : List Line) (fault : GameFault) → moves_on g lines ≡ Err fault → problem_on said g lines ≡ Err fault
 unfolding problem_on
-on-faulty g lines fault is = ap (λ r. and_then r (λ h. with_goal h (goal_on (drop 1 lines)))) is
+on-faulty said g lines fault is = ap (λ r. and_then r (λ h. with_goal h (goal_on said (drop 1 lines)))) is
 
 pub on-first : (g : Played) (lines : List Line) → length (take 1 lines) ≤ lines_on_problem g lines
 unfolding lines_on_problem
 on-first g lines = omega arith
 
-moved : (g h : Played) (x : Line) (more : List Line) → moves_on g (x ∷ []) ≡ Ok h → problem_on g (x ∷ more) ≡ with_goal h (goal_on more)
+moved : {A : Type 0} (said : List ℕ → Option A) (g h : Played) (x : Line) (more : List Line) → moves_on g (x ∷ []) ≡ Ok h → problem_on said g (x ∷ more) ≡ with_goal h (goal_on said more)
 unfolding problem_on
-moved g h x more is = ap (λ r. and_then r (λ k. with_goal k (goal_on more))) (moves_first g x more ∙ is)
+moved said g h x more is = ap (λ r. and_then r (λ k. with_goal k (goal_on said more))) (moves_first g x more ∙ is)
 
 moved_needs : (g h : Played) (x : Line) (more : List Line) → moves_on g (x ∷ []) ≡ Ok h → lines_on_problem g (x ∷ more) ≡ 1 + length (take 1 more)
 unfolding lines_on_problem
 moved_needs g h x more is = ap (λ r. 1 + unless_faulty r (λ k. length (take 1 more))) (moves_first g x more ∙ is)
 
 -- the goal comes after it
-pub on-moved : (g h : Played) (front more : List Line) → length front ≡ 1 → moves_on g front ≡ Ok h → problem_on g (front ++ more) ≡ with_goal h (goal_on more)
-on-moved g h [] more one is = absurd (omega (arith, one))
-on-moved g h (x ∷ []) more one is = moved g h x more is
-on-moved g h (x ∷ y ∷ front) more one is = absurd (omega (arith, one))
+pub on-moved : {A : Type 0} (said : List ℕ → Option A) (g h : Played) (front more : List Line) → length front ≡ 1 → moves_on g front ≡ Ok h → problem_on said g (front ++ more) ≡ with_goal h (goal_on said more)
+on-moved said g h [] more one is = absurd (omega (arith, one))
+on-moved said g h (x ∷ []) more one is = moved said g h x more is
+on-moved said g h (x ∷ y ∷ front) more one is = absurd (omega (arith, one))
 
 pub on-needs : (g h : Played) (front more : List Line) → length front ≡ 1 → moves_on g front ≡ Ok h → 1 + length (take 1 more) ≤ lines_on_problem g (front ++ more)
 on-needs g h [] more one is = absurd (omega (arith, one))
 on-needs g h (x ∷ []) more one is = let needs = moved_needs g h x more is in omega (arith, needs)
 on-needs g h (x ∷ y ∷ front) more one is = absurd (omega (arith, one))
 
-pub on-goal : (g h : Played) (front more : List Line) (goal : Goal) → length front ≡ 1 → moves_on g front ≡ Ok h → goal_on more ≡ Ok goal
-    → problem_on g (front ++ more) ≡ Ok (record { game = h; goal = goal })
-on-goal g h front more goal one is says = on-moved g h front more one is ∙ ap (with_goal h) says
+pub on-goal : {A : Type 0} (said : List ℕ → Option A) (g h : Played) (front more : List Line) (goal : A) → length front ≡ 1 → moves_on g front ≡ Ok h → goal_on said more ≡ Ok goal
+    → problem_on said g (front ++ more) ≡ Ok (record { game = h; goal = goal })
+on-goal said g h front more goal one is says = on-moved said g h front more one is ∙ ap (with_goal h) says
 
-pub on-bad : (g h : Played) (front more : List Line) (fault : GameFault) → length front ≡ 1 → moves_on g front ≡ Ok h → goal_on more ≡ Err fault → problem_on g (front ++ more) ≡ Err fault
-on-bad g h front more fault one is says = on-moved g h front more one is ∙ ap (with_goal h) says
+pub on-bad : {A : Type 0} (said : List ℕ → Option A) (g h : Played) (front more : List Line) (fault : GameFault) → length front ≡ 1 → moves_on g front ≡ Ok h → goal_on said more ≡ Err fault → problem_on said g (front ++ more) ≡ Err fault
+on-bad said g h front more fault one is says = on-moved said g h front more one is ∙ ap (with_goal h) says
 
 -- ---- lines 1 and 2
 
-pub start-bad : (variants : List Named) (lines : List Line) (fault : GameFault) → game_of variants (take 2 lines) ≡ Err fault → problem_of variants lines ≡ Err fault
+pub start-bad : {A : Type 0} (said : List ℕ → Option A) (variants : List Named) (lines : List Line) (fault : GameFault) → game_of variants (take 2 lines) ≡ Err fault → problem_of said variants lines ≡ Err fault
 unfolding problem_of
-start-bad variants lines fault is = ap (λ r. and_then r (λ g. problem_on g (drop 2 lines))) is
+start-bad said variants lines fault is = ap (λ r. and_then r (λ g. problem_on said g (drop 2 lines))) is
 
 pub start-first : (variants : List Named) (lines : List Line) → lines_of_game variants (take 2 lines) ≤ lines_of_problem variants lines
 unfolding lines_of_problem
 start-first variants lines = omega arith
 
 -- what follows them
-pub start-problem : (variants : List Named) (front more : List Line) (g : Played) → length front ≡ 2 → game_of variants (take 2 front) ≡ Ok g → problem_of variants (front ++ more) ≡ problem_on g more
+pub start-problem : {A : Type 0} (said : List ℕ → Option A) (variants : List Named) (front more : List Line) (g : Played) → length front ≡ 2 → game_of variants (take 2 front) ≡ Ok g → problem_of said variants (front ++ more) ≡ problem_on said g more
 unfolding problem_of
-start-problem variants [] more g two is = absurd (omega (arith, two))
-start-problem variants (x ∷ []) more g two is = absurd (omega (arith, two))
-start-problem variants (x ∷ y ∷ []) more g two is = ap (λ r. and_then r (λ h. problem_on h more)) is
-start-problem variants (x ∷ y ∷ z ∷ front) more g two is = absurd (omega (arith, two))
+start-problem said variants [] more g two is = absurd (omega (arith, two))
+start-problem said variants (x ∷ []) more g two is = absurd (omega (arith, two))
+start-problem said variants (x ∷ y ∷ []) more g two is = ap (λ r. and_then r (λ h. problem_on said h more)) is
+start-problem said variants (x ∷ y ∷ z ∷ front) more g two is = absurd (omega (arith, two))
 
 started_needs : (variants : List Named) (x y : Line) (more : List Line) (g : Played) → game_of variants (x ∷ y ∷ []) ≡ Ok g
     → lines_of_problem variants (x ∷ y ∷ more) ≡ lines_of_game variants (x ∷ y ∷ []) + lines_on_problem g more
@@ -156,8 +154,8 @@ module _ (variants : List Named) (name : List ℕ) where
       let needs = in_needs lines in
       omega (arith, two, needs)
 
-  pub after-bad : (lines : List Line) (fault : GameFault) → game_of variants (Text name ∷ take 1 lines) ≡ Err fault → problem_of variants (Text name ∷ lines) ≡ Err fault
-  after-bad lines fault is = start-bad variants (Text name ∷ lines) fault is
+  pub after-bad : {A : Type 0} (said : List ℕ → Option A) (lines : List Line) (fault : GameFault) → game_of variants (Text name ∷ take 1 lines) ≡ Err fault → problem_of said variants (Text name ∷ lines) ≡ Err fault
+  after-bad said lines fault is = start-bad said variants (Text name ∷ lines) fault is
 
   pub after-first : (lines : List Line) → lines_in (found variants name) (take 1 lines) ≤ lines_of_problem variants (Text name ∷ lines) - 1
   after-first lines =
@@ -165,8 +163,8 @@ module _ (variants : List Named) (name : List ℕ) where
       let needs = in_needs lines in
       omega (arith, first, needs)
 
-  pub after-problem : (front more : List Line) (g : Played) → length front ≡ 1 → game_of variants (Text name ∷ take 1 front) ≡ Ok g → problem_of variants (Text name ∷ front ++ more) ≡ problem_on g more
-  after-problem front more g one is = start-problem variants (Text name ∷ front) more g (omega (arith, one)) is
+  pub after-problem : {A : Type 0} (said : List ℕ → Option A) (front more : List Line) (g : Played) → length front ≡ 1 → game_of variants (Text name ∷ take 1 front) ≡ Ok g → problem_of said variants (Text name ∷ front ++ more) ≡ problem_on said g more
+  after-problem said front more g one is = start-problem said variants (Text name ∷ front) more g (omega (arith, one)) is
 
   pub after-needs : (front more : List Line) (g : Played) → length front ≡ 1 → game_of variants (Text name ∷ take 1 front) ≡ Ok g
       → 1 + lines_on_problem g more ≤ lines_of_problem variants (Text name ∷ front ++ more) - 1
@@ -178,37 +176,37 @@ then_parts : {A : Type 0} (r : Result Played GameFault) (next : Played → Resul
 then_parts (Ok g) next x is = (g, refl, is)
 then_parts (Err fault) next x is = cc
 
-goal_parts : (g : Played) (r : Result Goal GameFault) (p : Problem) → with_goal g r ≡ Ok p → (goal : Goal) × (r ≡ Ok goal)
+goal_parts : {A : Type 0} (g : Played) (r : Result A GameFault) (p : Problem A) → with_goal g r ≡ Ok p → (goal : A) × (r ≡ Ok goal)
 goal_parts g (Ok goal) p is = (goal, refl)
 goal_parts g (Err fault) p is = cc
 
-on_parts : (g : Played) (lines : List Line) (p : Problem) → problem_on g lines ≡ Ok p → (h : Played) × (moves_on g lines ≡ Ok h) × (with_goal h (goal_on (drop 1 lines)) ≡ Ok p)
+on_parts : {A : Type 0} (said : List ℕ → Option A) (g : Played) (lines : List Line) (p : Problem A) → problem_on said g lines ≡ Ok p → (h : Played) × (moves_on g lines ≡ Ok h) × (with_goal h (goal_on said (drop 1 lines)) ≡ Ok p)
 unfolding problem_on
-on_parts g lines p is = then_parts (moves_on g lines) (λ h. with_goal h (goal_on (drop 1 lines))) p is
+on_parts said g lines p is = then_parts (moves_on g lines) (λ h. with_goal h (goal_on said (drop 1 lines))) p is
 
-of_parts : (variants : List Named) (lines : List Line) (p : Problem) → problem_of variants lines ≡ Ok p → (g : Played) × (game_of variants (take 2 lines) ≡ Ok g) × (problem_on g (drop 2 lines) ≡ Ok p)
+of_parts : {A : Type 0} (said : List ℕ → Option A) (variants : List Named) (lines : List Line) (p : Problem A) → problem_of said variants lines ≡ Ok p → (g : Played) × (game_of variants (take 2 lines) ≡ Ok g) × (problem_on said g (drop 2 lines) ≡ Ok p)
 unfolding problem_of
-of_parts variants lines p is = then_parts (game_of variants (take 2 lines)) (λ g. problem_on g (drop 2 lines)) p is
+of_parts said variants lines p is = then_parts (game_of variants (take 2 lines)) (λ g. problem_on said g (drop 2 lines)) p is
 
-goal_there : (lines : List Line) (goal : Goal) → goal_on lines ≡ Ok goal → 1 ≤ length lines
+goal_there : {A : Type 0} (said : List ℕ → Option A) (lines : List Line) (goal : A) → goal_on said lines ≡ Ok goal → 1 ≤ length lines
 unfolding goal_on
-goal_there [] goal is = cc
-goal_there (x ∷ lines) goal is = omega arith
+goal_there said [] goal is = cc
+goal_there said (x ∷ lines) goal is = omega arith
 
-on_there : (g : Played) (lines : List Line) (p : Problem) → problem_on g lines ≡ Ok p → 2 ≤ length lines
-on_there g lines p is =
-    let parts = on_parts g lines p is in
+on_there : {A : Type 0} (said : List ℕ → Option A) (g : Played) (lines : List Line) (p : Problem A) → problem_on said g lines ≡ Ok p → 2 ≤ length lines
+on_there said g lines p is =
+    let parts = on_parts said g lines p is in
     let one = moves-there g parts.0 lines parts.1 in
-    let goal = goal_parts parts.0 (goal_on (drop 1 lines)) p parts.2 in
-    let rest = goal_there (drop 1 lines) goal.0 goal.1 in
+    let goal = goal_parts parts.0 (goal_on said (drop 1 lines)) p parts.2 in
+    let rest = goal_there said (drop 1 lines) goal.0 goal.1 in
     let long = length-drop 1 lines in
     omega (arith, one, rest, long)
 
-pub problem-there : (variants : List Named) (lines : List Line) (p : Problem) → problem_of variants lines ≡ Ok p → 4 ≤ length lines
-problem-there variants lines p is =
-    let parts = of_parts variants lines p is in
+pub problem-there : {A : Type 0} (said : List ℕ → Option A) (variants : List Named) (lines : List Line) (p : Problem A) → problem_of said variants lines ≡ Ok p → 4 ≤ length lines
+problem-there said variants lines p is =
+    let parts = of_parts said variants lines p is in
     let two = start-there variants lines parts.0 parts.1 in
-    let rest = on_there parts.0 (drop 2 lines) p parts.2 in
+    let rest = on_there said parts.0 (drop 2 lines) p parts.2 in
     let long = length-drop 2 lines in
     omega (arith, two, rest, long)
 
@@ -230,39 +228,39 @@ problem-most variants lines =
     let later = unless_most (game_of variants (take 2 lines)) (λ g. lines_on_problem g (drop 2 lines)) 2 (λ g. on_most g (drop 2 lines)) in
     omega (arith, first, later)
 
-goal_first : (x : Line) (more : List Line) → goal_on (x ∷ more) ≡ goal_on (x ∷ [])
+goal_first : {A : Type 0} (said : List ℕ → Option A) (x : Line) (more : List Line) → goal_on said (x ∷ more) ≡ goal_on said (x ∷ [])
 unfolding goal_on
-goal_first TooLong more = refl
-goal_first (Text text) more = refl
+goal_first said TooLong more = refl
+goal_first said (Text text) more = refl
 
-four : (variants : List Named) (x y z w : Line) (more : List Line) (p : Problem) → problem_of variants (x ∷ y ∷ z ∷ w ∷ []) ≡ Ok p
-    → (problem_of variants (x ∷ y ∷ z ∷ w ∷ more) ≡ Ok p) × (4 ≤ lines_of_problem variants (x ∷ y ∷ z ∷ w ∷ more))
-four variants x y z w more p is =
-    let start = of_parts variants (x ∷ y ∷ z ∷ w ∷ []) p is in
-    let moves = on_parts start.0 (z ∷ w ∷ []) p start.2 in
+four : {A : Type 0} (said : List ℕ → Option A) (variants : List Named) (x y z w : Line) (more : List Line) (p : Problem A) → problem_of said variants (x ∷ y ∷ z ∷ w ∷ []) ≡ Ok p
+    → (problem_of said variants (x ∷ y ∷ z ∷ w ∷ more) ≡ Ok p) × (4 ≤ lines_of_problem variants (x ∷ y ∷ z ∷ w ∷ more))
+four said variants x y z w more p is =
+    let start = of_parts said variants (x ∷ y ∷ z ∷ w ∷ []) p is in
+    let moves = on_parts said start.0 (z ∷ w ∷ []) p start.2 in
     let alone : moves_on start.0 (z ∷ []) ≡ Ok moves.0 = sym (moves_first start.0 z (w ∷ [])) ∙ moves.1 in
     let needs = moved_needs start.0 moves.0 z (w ∷ more) alone in
     let two = two_needed variants x y (z ∷ w ∷ more) start.0 start.1 in (
-      start-problem variants (x ∷ y ∷ []) (z ∷ w ∷ more) start.0 refl start.1
-          ∙ moved start.0 moves.0 z (w ∷ more) alone
-          ∙ ap (with_goal moves.0) (goal_first w more)
+      start-problem said variants (x ∷ y ∷ []) (z ∷ w ∷ more) start.0 refl start.1
+          ∙ moved said start.0 moves.0 z (w ∷ more) alone
+          ∙ ap (with_goal moves.0) (goal_first said w more)
           ∙ moves.2,
       omega (arith, needs, two),
     )
 
 -- which decide
-pub problem-decided : (variants : List Named) (front more : List Line) (p : Problem) → length front ≡ 4 → problem_of variants front ≡ Ok p → problem_of variants (front ++ more) ≡ Ok p
-problem-decided variants (x ∷ y ∷ z ∷ w ∷ []) more p is says = (four variants x y z w more p says).0
-problem-decided variants [] more p is says = absurd (omega (arith, is))
-problem-decided variants (x ∷ []) more p is says = absurd (omega (arith, is))
-problem-decided variants (x ∷ y ∷ []) more p is says = absurd (omega (arith, is))
-problem-decided variants (x ∷ y ∷ z ∷ []) more p is says = absurd (omega (arith, is))
-problem-decided variants (x ∷ y ∷ z ∷ w ∷ v ∷ front) more p is says = absurd (omega (arith, is))
+pub problem-decided : {A : Type 0} (said : List ℕ → Option A) (variants : List Named) (front more : List Line) (p : Problem A) → length front ≡ 4 → problem_of said variants front ≡ Ok p → problem_of said variants (front ++ more) ≡ Ok p
+problem-decided said variants (x ∷ y ∷ z ∷ w ∷ []) more p is says = (four said variants x y z w more p says).0
+problem-decided said variants [] more p is says = absurd (omega (arith, is))
+problem-decided said variants (x ∷ []) more p is says = absurd (omega (arith, is))
+problem-decided said variants (x ∷ y ∷ []) more p is says = absurd (omega (arith, is))
+problem-decided said variants (x ∷ y ∷ z ∷ []) more p is says = absurd (omega (arith, is))
+problem-decided said variants (x ∷ y ∷ z ∷ w ∷ v ∷ front) more p is says = absurd (omega (arith, is))
 
-pub problem-needs : (variants : List Named) (front more : List Line) (p : Problem) → length front ≡ 4 → problem_of variants front ≡ Ok p → 4 ≤ lines_of_problem variants (front ++ more)
-problem-needs variants (x ∷ y ∷ z ∷ w ∷ []) more p is says = (four variants x y z w more p says).1
-problem-needs variants [] more p is says = absurd (omega (arith, is))
-problem-needs variants (x ∷ []) more p is says = absurd (omega (arith, is))
-problem-needs variants (x ∷ y ∷ []) more p is says = absurd (omega (arith, is))
-problem-needs variants (x ∷ y ∷ z ∷ []) more p is says = absurd (omega (arith, is))
-problem-needs variants (x ∷ y ∷ z ∷ w ∷ v ∷ front) more p is says = absurd (omega (arith, is))
+pub problem-needs : {A : Type 0} (said : List ℕ → Option A) (variants : List Named) (front more : List Line) (p : Problem A) → length front ≡ 4 → problem_of said variants front ≡ Ok p → 4 ≤ lines_of_problem variants (front ++ more)
+problem-needs said variants (x ∷ y ∷ z ∷ w ∷ []) more p is says = (four said variants x y z w more p says).1
+problem-needs said variants [] more p is says = absurd (omega (arith, is))
+problem-needs said variants (x ∷ []) more p is says = absurd (omega (arith, is))
+problem-needs said variants (x ∷ y ∷ []) more p is says = absurd (omega (arith, is))
+problem-needs said variants (x ∷ y ∷ z ∷ []) more p is says = absurd (omega (arith, is))
+problem-needs said variants (x ∷ y ∷ z ∷ w ∷ v ∷ front) more p is says = absurd (omega (arith, is))

@@ -3,9 +3,13 @@ use Rattle.std.specs.Prelude.{ℕ, ◌+◌, nat_lt, Bool, not, List, [], ◌∷�
 use Rattle.std.specs.List.{find, slice_split}
 use Rattle.foundation.specs.Tests.{is_nil}
 use Rattle.foundation.specs.Cuts.{is_blank}
+use Rattle.rules_model.specs.declared.board.Position.{Position}
 use Rattle.rules_model.specs.declared.moves.Move.{Move}
+use Rattle.rules_model.specs.declared.rules.Rules.{Rules}
+use Rattle.rules_model.specs.Legal.{legal}
 use Rattle.rules_model.specs.MoveText.{text_of}
-use Rattle.game_play.specs.Played.{Played, legal_in, longer}
+use Rattle.rules_model.specs.Repeats.{repeat_of}
+use Rattle.game_play.specs.Played.{Played, longer, story}
 use Rattle.game_text.specs.declared.fault.GameFault.{GameFault}
 use Rattle.game_text.specs.declared.fault.GameFault.TheVariants.{BadMove, TooManyMoves}
 
@@ -24,9 +28,13 @@ words_of text = filter is_word (slice_split is_blank text)
 abbrev pub most_plies : ℕ
 most_plies = 8192
 
--- the legal move with this text
-unfoldable pub move_of : Played → List ℕ → Option Move
-move_of g text = find (λ m. bytes_eq (text_of m) text) (legal_in g)
+-- the legal move of the position with this text
+unfoldable pub move_in : Rules → Position → List ℕ → Option Move
+move_in rules p text = find (λ m. bytes_eq (text_of m) text) (legal rules (repeat_of p))
+
+-- that of a game's last position
+abbrev pub move_of : Played → List ℕ → Option Move
+move_of g text = move_in g.rules (story g).last text
 
 -- the game goes on with the move, where one is legal and there is room for it
 abbrev pub goes_on : Played → List ℕ → Option Move → Result Played GameFault

@@ -6,11 +6,14 @@ use Rattle.game_text.specs.declared.fault.NoGame.{NoGame}
 use Rattle.game_text.specs.declared.fault.NoGame.TheVariants.{Faulty, Unread, Memory}
 
 -- the source failed
+abbrev pub IsOfSource : NoGame → Type 0
+IsOfSource (Faulty fault) = ⊥
+IsOfSource Unread = ⊤
+IsOfSource Memory = ⊥
+
 abbrev pub IsUnread : {A : Type 0} → Result A NoGame → Type 0
 IsUnread (Ok x) = ⊥
-IsUnread (Err (Faulty fault)) = ⊥
-IsUnread (Err Unread) = ⊤
-IsUnread (Err Memory) = ⊥
+IsUnread (Err why) = IsOfSource why
 
 -- Texts of moves came to this game, which the code has now, or to this fault. Without memory nothing is known of them.
 abbrev pub Plays : {A : Type 0} → Result Played GameFault → Played → Result A NoGame → Type 0

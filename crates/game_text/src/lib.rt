@@ -14,7 +14,7 @@ mod read;
 
 pub use copies::copy_of;
 pub use fault::{GameFault, NoGame, write_fault};
-pub use goal::{Goal, read_goal_after};
+pub use goal::{Goal, ReadGoal, Stipulation, read_goal_after};
 pub use play::play_move;
-pub use problem::{Problem, read_problem_after};
+pub use problem::{Problem, read_problem, read_problem_after};
 pub use read::read_game;

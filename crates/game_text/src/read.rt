@@ -78,7 +78,8 @@ fn read_position<S: Source>(
 ) -> Result<Game, NoGame>
     requires fit { IsFit rules.now }
     requires start { is_sound rules.now rules.now.start ≡ true }
-    ensures heard { HeardLines (S.left source.old) (S.left source.new) (λ lines. GameText.lines_by rules.now (take 1 lines))
+    ensures heard { HeardLines (S.left source.old) (S.left source.new)
+        (λ lines. GameText.lines_by rules.now (take 1 lines))
         (λ lines. SaysGame (GameText.game_by rules.now (take 1 lines)) result) }
     ensures cause { HasCause (S.faults source.old) (S.faults source.new) (IsUnread result) }
 {
