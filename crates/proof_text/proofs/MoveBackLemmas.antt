@@ -51,7 +51,7 @@ module _ (rules : Rules) (start : Position) where
       let member = legal-there rules (record { earlier = []; last = start }) done m more is.game.legal_moves in
       let named = legal-named rules (story (game_of done)).last m is.fit sound member in
       play-longer (game_of done) (text_of m) m
-      (plays-named (game_of done) (text_of m) is.fit sound m named member)
+      (plays-named rules (story (game_of done)).last (text_of m) is.fit sound m named member)
       (omega (arith, few, length-append done (m ∷ more)))
 
   -- the lines of the moves after some moves lead to the whole game

@@ -15,6 +15,7 @@ use Rattle.rules_model.specs.declared.board.Position.{Position}
 use Rattle.rules_model.specs.declared.rules.Rules.{Rules}
 use Rattle.fen_model.specs.declared.fault.FenFault.{FenFault}
 use Rattle.game_play.specs.Played.{Played}
+use Rattle.game_text.specs.HeardLines.{HeardLines}
 use Rattle.game_text.proofs.HeardLemmas.{heard_end, heard_line, heard_none, heard_nothing}
 use Rattle.proof_text.specs.declared.fault.ProofFault.{ProofFault}
 use Rattle.proof_text.specs.declared.fault.ProofFault.TheVariants.{Header, BadRules, RefusedRules, BadStart, BadHistory, BadBody, Memory}
@@ -257,14 +258,17 @@ cut_lines xs ys lines pieces is are =
     ap (map line_of) is ∙ map_line-append pieces (pieces_of ys) ∙ ap (λ l. l ++ lines_of ys) are
 
 -- what was heard of a text holds of its lines
-pub text-heard : (xs ys : List ℕ) (on : Reading) (P : Result Proof ProofFault → Type 0) → Hears (Some xs) (Some ys) on P → P (on.says (lines_of xs))
-text-heard xs ys on P heard =
+pub text-holds : (xs ys : List ℕ) (needed : List Line → ℕ) (P : List Line → Type 0) → HeardLines (Some xs) (Some ys) needed P → P (lines_of xs)
+text-holds xs ys needed P heard =
     let took = heard.took in
     let all = cut_lines xs ys heard.lines took.0 took.1 took.2 in
     elim heard.holds [
-      | inl (ended, holds) ↦ subst (λ lines. P (on.says lines)) (sym (all ∙ ap (λ l. heard.lines ++ lines_of l) ended ∙ append-nil heard.lines)) holds
-      | inr holds ↦ subst (λ lines. P (on.says lines)) (sym all) (holds (lines_of ys))
+      | inl (ended, holds) ↦ subst P (sym (all ∙ ap (λ l. heard.lines ++ lines_of l) ended ∙ append-nil heard.lines)) holds
+      | inr holds ↦ subst P (sym all) (holds (lines_of ys))
     ]
+
+pub text-heard : (xs ys : List ℕ) (on : Reading) (P : Result Proof ProofFault → Type 0) → Hears (Some xs) (Some ys) on P → P (on.says (lines_of xs))
+text-heard xs ys on P heard = text-holds xs ys on.needs (λ lines. P (on.says lines)) heard
 
 -- ---- a line of a text
 

@@ -1,5 +1,5 @@
 -- What the code answers of a source's lines, as the definitions have it.
-use Rattle.std.specs.Prelude.{◌≡◌, ◌≤◌, ◌⊎◌, ℕ, ◌+◌, Bool, true, false, List, [], ◌∷◌, ◌++◌, Option, Some, None, Result, Ok, Err, ⊤, length, if◌then◌else◌}
+use Rattle.std.specs.Prelude.{◌≡◌, ◌≤◌, ◌⊎◌, ℕ, ◌+◌, Bool, true, false, List, [], ◌∷◌, ◌++◌, Option, Some, None, Result, Ok, Err, ⊤, length, option_and_then, if◌then◌else◌}
 use Rattle.std.specs.Io.KnownBytes.{IsAtEnd}
 use Rattle.game_text.specs.HeardLines.{HeardLines}
 use Rattle.io_ports.specs.Lines.{Line, Text, TooLong}
@@ -50,9 +50,17 @@ abbrev pub or_fault : {A : Type 0} → ProofFault → Option A → Result A Proo
 or_fault fault None = Err fault
 or_fault fault (Some x) = Ok x
 
+-- what a text says, where there is one, or the fault of a line that says nothing
+abbrev pub text_said : {A : Type 0} → ProofFault → (List ℕ → Option A) → Option (List ℕ) → Result A ProofFault
+text_said fault said text = or_fault fault (option_and_then said text)
+
 -- lines were taken, no more than are needed, which say so with any others after them
 abbrev pub Hears : Option (List ℕ) → Option (List ℕ) → Reading → (Result Proof ProofFault → Type 0) → Type 0
 Hears left left' on Says = HeardLines left left' on.needs (λ lines. Says (on.says lines))
+
+-- which say this proof, or that is why nothing was read
+abbrev pub HearsProof : Option (List ℕ) → Option (List ℕ) → Reading → Result Proof NoProof → Type 0
+HearsProof left left' on result = Hears left left' on (λ said. SaysProof said result)
 
 -- ---- part after part
 

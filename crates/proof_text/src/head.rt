@@ -30,7 +30,8 @@ pub(crate) fn take_version<S: Source>(source: &mut S, line: &mut LineBuf) -> Res
 
 /// Takes `rules K`.
 pub(crate) fn take_rules<S: Source>(source: &mut S, line: &mut LineBuf) -> Result<u16, NoProof>
-    ensures reads { Reads (S.left source.old) (S.left source.new) Said.rules_on (λ count. Said.pairs_on count 3 []) result }
+    ensures reads { Reads (S.left source.old) (S.left source.new)
+        Said.rules_on (λ count. Said.pairs_on count 3 []) result }
     ensures within { IfOk result (λ count. count ≤ 512) }
     ensures cause { HasCause (S.faults source.old) (S.faults source.new) (IsUnread result) }
 {

@@ -1,9 +1,9 @@
 //! Plays the moves of the history.
-ghost use Rattle.std.specs.Prelude.{◌≡◌, ◌+◌, ◌<◌, ◌^◌, ℕ, suc, Ok, MatchResult, option_and_then};
+ghost use Rattle.std.specs.Prelude.{◌≡◌, ◌+◌, ◌<◌, ◌^◌, ℕ, suc, Ok, MatchResult};
 ghost use Rattle.std.specs.Option.{option_copied};
 ghost use Rattle.io_ports.specs.Cause.{HasCause};
 ghost use Rattle.proof_text.specs.Reading.{goal_on, moves_on, played_by};
-ghost use Rattle.proof_text.specs.TakingView.{HasWhy, IsUnread, Reads, or_fault};
+ghost use Rattle.proof_text.specs.TakingView.{HasWhy, IsUnread, Reads, text_said};
 
 use crate::fault::ProofFault;
 use crate::taking::{NoProof, take_text, text_if};
@@ -19,7 +19,8 @@ fn play_text(
     game: &mut Game,
     text: Option<&[u8]>,
 ) -> Result<(), NoProof>
-    ensures says { let said = or_fault (ProofFault.BadHistory number) (option_and_then (played_by game.old) (option_copied text.entry)) in
+    ensures says { let text = option_copied text.entry in
+        let said = text_said (ProofFault.BadHistory number) (played_by game.old) text in
         MatchResult result (λ _. said ≡ Ok game.new) (HasWhy said) }
     ensures heard { ¬ (IsUnread result) }
 {

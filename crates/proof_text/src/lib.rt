@@ -24,5 +24,6 @@ pub use proof::Proof;
 pub use reading::{read_proof, read_proof_after};
 pub use strategy_lines::{NoStrategy, read_strategy};
 pub use taking::NoProof;
+pub use text_source::TextSource;
 pub use words::is_version;
 pub use writing::write_proof;

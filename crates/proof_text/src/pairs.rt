@@ -1,5 +1,5 @@
 //! Takes the lines of the rules.
-ghost use Rattle.std.specs.Prelude.{◌≡◌, ◌+◌, ◌++◌, ◌<◌, ◌^◌, ◌∷◌, [], ℕ, suc, List, Ok, IfOk, MatchResult, option_and_then};
+ghost use Rattle.std.specs.Prelude.{◌≡◌, ◌+◌, ◌++◌, ◌<◌, ◌^◌, ◌∷◌, [], ℕ, suc, List, Ok, IfOk, MatchResult};
 ghost use Rattle.std.specs.Option.{option_copied};
 ghost use Rattle.io_ports.specs.Cause.{HasCause};
 ghost use Rattle.variant_ini.specs.declared.key_line.KeyLine.{KeyLine as KeyPair};
@@ -8,7 +8,7 @@ ghost use Rattle.variant_ini.specs.LineView.{pair_view};
 ghost use Rattle.variant_ini.specs.Section.{key_line};
 ghost use Rattle.proof_text.specs.Pairs as Pairs;
 ghost use Rattle.proof_text.specs.Reading.{pairs_on, rules_of, with_rules};
-ghost use Rattle.proof_text.specs.TakingView.{HasWhy, IsUnread, Reads, or_fault};
+ghost use Rattle.proof_text.specs.TakingView.{HasWhy, IsUnread, Reads, text_said};
 
 use crate::fault::ProofFault;
 use crate::taking::{NoProof, take_text, text_if};
@@ -77,7 +77,7 @@ fn read_pair(alloc: Global, text: &[u8]) -> Result<Option<KeyLine>, AllocError>
 
 // The pair that a text says; the line of this number has no text where it is missing or too long.
 fn pair_in(alloc: Global, number: u64, text: Option<&[u8]>) -> Result<KeyLine, NoProof>
-    ensures says { let said = or_fault (ProofFault.BadRules number) (option_and_then Pairs.pair_said (option_copied text.entry)) in
+    ensures says { let said = text_said (ProofFault.BadRules number) Pairs.pair_said (option_copied text.entry) in
         MatchResult result (λ pair. said ≡ Ok pair) (HasWhy said) }
     ensures heard { ¬ (IsUnread result) }
 {

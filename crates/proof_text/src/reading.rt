@@ -10,7 +10,7 @@ ghost use Rattle.variant_rules.specs.Entries.{entries};
 ghost use Rattle.variant_rules.specs.Playable.{IsPlayable};
 ghost use Rattle.variant_rules.specs.View.{lent};
 ghost use Rattle.proof_text.specs.Reading as Said;
-ghost use Rattle.proof_text.specs.TakingView.{Hears, IsUnread, SaysProof};
+ghost use Rattle.proof_text.specs.TakingView.{HearsProof, IsUnread, SaysProof};
 
 use crate::body::body_why;
 use crate::fault::ProofFault;
@@ -42,7 +42,7 @@ fn read_on_body<S: Source>(
     goal: Goal,
 ) -> Result<Proof, NoProof>
     requires low { 2 ≤ number }
-    ensures heard { Hears (S.left source.old) (S.left source.new) (Said.body_on number game goal) (λ said. SaysProof said result) }
+    ensures heard { HearsProof (S.left source.old) (S.left source.new) (Said.body_on number game goal) result }
     ensures sound { IfOk result (λ p. AreSound p.game.rules p.strategy.nodes) }
     ensures cause { HasCause (S.faults source.old) (S.faults source.new) (IsUnread result) }
 {
@@ -69,7 +69,7 @@ fn read_on_goal<S: Source>(
 ) -> Result<Proof, NoProof>
     requires low { 1 ≤ number }
     requires high { number ≤ 8710 }
-    ensures heard { Hears (S.left source.old) (S.left source.new) (Said.goal_on number game) (λ said. SaysProof said result) }
+    ensures heard { HearsProof (S.left source.old) (S.left source.new) (Said.goal_on number game) result }
     ensures sound { IfOk result (λ p. AreSound p.game.rules p.strategy.nodes) }
     ensures cause { HasCause (S.faults source.old) (S.faults source.new) (IsUnread result) }
 {
@@ -87,7 +87,7 @@ fn read_on_history<S: Source>(
 ) -> Result<Proof, NoProof>
     requires low { 1 ≤ number }
     requires high { number ≤ 516 }
-    ensures heard { Hears (S.left source.old) (S.left source.new) (Said.history_on number game) (λ said. SaysProof said result) }
+    ensures heard { HearsProof (S.left source.old) (S.left source.new) (Said.history_on number game) result }
     ensures sound { IfOk result (λ p. AreSound p.game.rules p.strategy.nodes) }
     ensures cause { HasCause (S.faults source.old) (S.faults source.new) (IsUnread result) }
 {
@@ -107,7 +107,7 @@ fn read_on_start<S: Source>(
     requires fit { IsFit rules.now }
     requires low { 1 ≤ number }
     requires high { number ≤ 515 }
-    ensures heard { Hears (S.left source.old) (S.left source.new) (Said.start_on number rules.now) (λ said. SaysProof said result) }
+    ensures heard { HearsProof (S.left source.old) (S.left source.new) (Said.start_on number rules.now) result }
     ensures sound { IfOk result (λ p. AreSound p.game.rules p.strategy.nodes) }
     ensures cause { HasCause (S.faults source.old) (S.faults source.new) (IsUnread result) }
 {
@@ -134,8 +134,8 @@ fn read_on_entry<S: Source>(
     requires playable { IfOk found (λ rules. IsPlayable rules.now) }
     requires low { 1 ≤ number }
     requires high { number ≤ 515 }
-    ensures heard { Hears (S.left source.old) (S.left source.new)
-        (Said.with_rules number (lent found.entry)) (λ said. SaysProof said result) }
+    ensures heard { HearsProof (S.left source.old) (S.left source.new)
+        (Said.with_rules number (lent found.entry)) result }
     ensures sound { IfOk result (λ p. AreSound p.game.rules p.strategy.nodes) }
     ensures cause { HasCause (S.faults source.old) (S.faults source.new) (IsUnread result) }
 {
@@ -155,8 +155,8 @@ fn read_on_pairs<S: Source>(
 ) -> Result<Proof, NoProof>
     requires low { 1 ≤ number }
     requires high { number ≤ 515 }
-    ensures heard { Hears (S.left source.old) (S.left source.new)
-        (Said.with_rules number (Said.rules_of pairs.now)) (λ said. SaysProof said result) }
+    ensures heard { HearsProof (S.left source.old) (S.left source.new)
+        (Said.with_rules number (Said.rules_of pairs.now)) result }
     ensures sound { IfOk result (λ p. AreSound p.game.rules p.strategy.nodes) }
     ensures cause { HasCause (S.faults source.old) (S.faults source.new) (IsUnread result) }
 {
@@ -171,7 +171,7 @@ fn read_on_rules<S: Source>(
     source: &mut S,
     line: &mut LineBuf,
 ) -> Result<Proof, NoProof>
-    ensures heard { Hears (S.left source.old) (S.left source.new) Said.rules_on (λ said. SaysProof said result) }
+    ensures heard { HearsProof (S.left source.old) (S.left source.new) Said.rules_on result }
     ensures sound { IfOk result (λ p. AreSound p.game.rules p.strategy.nodes) }
     ensures cause { HasCause (S.faults source.old) (S.faults source.new) (IsUnread result) }
 {
@@ -182,8 +182,9 @@ fn read_on_rules<S: Source>(
 
 /// Reads a proof text from a source, after its first line, which was taken already, to its end or to its first faulty line.
 ///
-/// The answer is the proof, or the first fault in the order of the text; the rules are judged after the last of their lines. No line after the
-/// first faulty one is taken. `Unread` is the answer where the source failed; then nothing is known of the text.
+/// The answer is the proof, or the first fault in the order of the text; the rules are judged after the last of their lines.
+/// No line after the first faulty one is taken. `Unread` is the answer where the source failed; then nothing is known of the
+/// text.
 pub fn read_proof_after<S: Source>(
     alloc: Global,
     first: &[u8],
@@ -204,7 +205,7 @@ pub fn read_proof_after<S: Source>(
 
 // Reads a proof text from a source.
 fn read_from<S: Source>(alloc: Global, source: &mut S) -> Result<Proof, NoProof>
-    ensures heard { Hears (S.left source.old) (S.left source.new) Said.proof_on (λ said. SaysProof said result) }
+    ensures heard { HearsProof (S.left source.old) (S.left source.new) Said.proof_on result }
     ensures sound { IfOk result (λ p. AreSound p.game.rules p.strategy.nodes) }
     ensures cause { HasCause (S.faults source.old) (S.faults source.new) (IsUnread result) }
 {

@@ -7,13 +7,14 @@ ghost use Rattle.io_ports.specs.Source.{Takes, Untold, got_lines, polled_lines};
 use io_ports::{Got, LineBuf, MAX_LINE, Polled, Source};
 use strategy::cut_line;
 
-/// What is left of a text. It never fails.
+/// What is left of a text in memory, as a source of its lines. It never fails.
 #[derive(Drop)]
-pub(crate) struct TextSource<'a> {
+pub struct TextSource<'a> {
     rest: &'a [u8],
 }
 
 impl<'a> TextSource<'a> {
+    /// All of the text.
     pub fn new(text: &'a [u8]) -> TextSource<'a>
         ensures { result.rest.now ≡ text.now }
     {
