@@ -1,0 +1,71 @@
+//! How a position is ended, looked at without its history.
+ghost use Rattle.std.specs.Prelude.{◌≡◌};
+ghost use Rattle.forced_wins.specs.Views as Views;
+ghost use Rattle.forced_wins.specs.Wins.{is_in};
+ghost use Rattle.mate_fact.specs.InFrame.{end_in};
+ghost use Rattle.rules_model.specs.Games as Games;
+ghost use Rattle.rules_model.specs.Legal as Legal;
+ghost use Rattle.rules_model.specs.Repeats as Repeats;
+
+use mate_core::Frame;
+use rules_model::{Blocked, Cause, Outcome, Position, Rules, Side, is_same_repeat, repeat_of};
+
+fn is_repetition(cause: Cause) -> bool
+    ensures { result ≡ Views.is_repetition cause }
+{
+    match cause {
+        Cause::Repetition => true,
+        _ => false,
+    }
+}
+
+/// Whether the side has won by the outcome, if that is an end: no repetition is a win.
+pub fn won_by(side: Side, outcome: Outcome) -> Option<bool>
+    ensures { result ≡ Views.won_by side outcome }
+{
+    match outcome {
+        Outcome::Ongoing => None,
+        Outcome::Won(winner, cause) => Some(winner.is(side) && !is_repetition(cause)),
+        Outcome::Drawn(_) => Some(false),
+    }
+}
+
+// Whether the counter of plies has reached the move-count rule.
+#[tactic(auto, unfolding(rules_model::specs::Games::is_run_out))]
+fn is_run_out(rules: &Rules, counter: u16) -> bool
+    ensures { result ≡ Games.is_run_out rules.now counter }
+{
+    rules.n_move != 0 && u32::from(counter) >= 2 * u32::from(rules.n_move)
+}
+
+/// Whether the position may not be entered again.
+pub fn is_blocked(blocked: &Blocked, p: &Position) -> bool
+    ensures { result ≡ is_in blocked.now (Repeats.repeat_of p.now) }
+{
+    if blocked.items.is_empty() {
+        return false;
+    }
+    let repeat = repeat_of(p);
+    blocked
+        .items
+        .iter()
+        .any(|barred| is_same_repeat(&repeat, barred))
+}
+
+/// How the position is ended in the frame: whether the attacker has won; None where it is ongoing. `own` is the end
+/// that it has by itself. One that may not be entered again, or whose counter has run out, is not won.
+#[tactic(auto, unfolding(forced_wins::specs::Wins::near_end))]
+pub fn end_of(frame: &Frame, p: &Position, own: Outcome) -> Option<bool>
+    requires own { own ≡ Legal.own_end frame.now.rules (Repeats.repeat_of p.now) }
+    ensures { result ≡ end_in frame.now p.now }
+{
+    let won = won_by(frame.attacker, own);
+    if won.is_some() {
+        return won;
+    }
+    if is_blocked(&frame.blocked, p) || is_run_out(&frame.rules, p.counter) {
+        Some(false)
+    } else {
+        None
+    }
+}

@@ -1,0 +1,15 @@
+//! The six ways in which a fact on a position follows from facts on the positions after its moves. Each call makes one
+//! fact, exactly that of its way, and it is true in the frame where the facts that it is made of are.
+#![tactic(auto)]
+
+mod ends;
+mod refuted;
+#[cfg(test)]
+mod tests;
+mod won;
+
+pub use ends::{end_of, is_blocked, won_by};
+pub use refuted::{
+    refuted_by_all, refuted_by_all_within, refuted_by_move, refuted_now, refuted_where,
+};
+pub use won::{by_all, by_all_within, by_move, won_now, won_where};

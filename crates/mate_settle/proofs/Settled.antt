@@ -1,0 +1,272 @@
+-- How facts follow from those of the moves.
+use Rattle.std.proofs.Common.{◌≡◌, ◌⊎◌, inl, inr, ℕ, zero, suc, ◌+◌, ◌<◌, ◌≤◌, List, [], ◌∷◌, ◌++◌, take, Bool, true, false, not, nat_le, Option, Some, None, slice_get, refl, ap, sym, ◌∙◌, subst, arith, min, max}
+use Rattle.std.proofs.lemmas.Bool.{and_parts, leb-true}
+use Rattle.std.proofs.lemmas.Bool.Decides.{nat_tests}
+use Rattle.std.specs.Option.{IfSome}
+use mathlib.Core.Bool.{beq}
+use Rattle.foundation.specs.Member.{Member, Appends, Lists}
+use Rattle.rules_model.specs.declared.board.Position.{Position}
+use Rattle.rules_model.specs.declared.moves.Move.{Move}
+use Rattle.rules_model.specs.declared.rules.Rules.{Rules}
+use Rattle.rules_model.specs.Legal.{legal}
+use Rattle.rules_model.specs.Next.{next}
+use Rattle.rules_model.specs.Repeats.{repeat_of}
+use Rattle.rules_model.specs.Sound.{is_sound}
+use Rattle.sound_play.proofs.SoundLaws.{position_parts}
+use Rattle.forced_wins.specs.declared.fact.Fact.{Fact}
+use Rattle.forced_wins.specs.Facts.{Says, covers, serves, fact_of, smaller, WonNow, RefutedNow, EndedLost, OutOfMoves}
+use Rattle.forced_wins.proofs.Counts.{not_true, true_false, le_true, and_true}
+use Rattle.forced_wins.proofs.ContestLaws.{all_intro}
+use Rattle.forced_wins.proofs.FactLaws.{near-more}
+use Rattle.forced_wins.proofs.TableLaws.{any_member, all_member}
+use Rattle.mate_core.proofs.AnswerLemmas.{served, serves-from}
+use Rattle.mate_core.specs.declared.frame.Frame.{Frame}
+use Rattle.mate_core.specs.Runs.{IsTrueIn}
+use Rattle.mate_fact.specs.InFrame as In
+use Rattle.playing.specs.Stance.{Stance, after, legal_in}
+use Rattle.mate_settle.specs.Choices.{some_wins, all_win}
+use Rattle.mate_settle.specs.Known.{Answers}
+use Rattle.mate_settle.specs.Steps.{left_after, far_at_first, farther_of, after_one, after_all, IsFar, NoneDecides}
+
+-- ---- what a fact that serves covers
+
+le_of : (m n : ℕ) → nat_le m n ≡ true → m ≤ n
+le_of m n h = leb-true m n h
+
+pub record CoversAt (k : Fact) (w : Bool) (c n : ℕ) : Type 0 where
+  pub won : w ≡ true → (k.moves ≤ n) × (c ≤ k.counter)
+  pub lost : w ≡ false → (n ≤ k.moves) × (k.counter ≤ c)
+
+pub covers-at : (k : Fact) (w : Bool) (c n : ℕ) → covers k w c n ≡ true → CoversAt k w c n
+covers-at k true c n h = let p = and_parts _ _ h in record { won = λ e. (le_of _ _ p.0, le_of _ _ p.1); lost = λ e. absurd (let x = e in cc) }
+covers-at k false c n h = let p = and_parts _ _ h in record { won = λ e. absurd (let x = e in cc); lost = λ e. (le_of _ _ p.0, le_of _ _ p.1) }
+
+pub covers-from : (k : Fact) (w : Bool) (c n : ℕ) → CoversAt k w c n → covers k w c n ≡ true
+covers-from k true c n h = let p = h.won refl in and_true _ _ (le_true _ _ p.0) (le_true _ _ p.1)
+covers-from k false c n h = let p = h.lost refl in and_true _ _ (le_true _ _ p.0) (le_true _ _ p.1)
+
+pub none-taken : {X : Type 0} (x : X) (ms : List X) → Member x (take 0 ms) → ⊥
+none-taken x [] k = k
+none-taken x (y ∷ ms) k = k
+
+module _ (f : Frame) where
+  abbrev N : ℕ → Position → Bool
+  N n p = In.near_in f n p
+
+  more : (k n : ℕ) (p : Position) → k ≤ n → N k p ≡ true → N n p ≡ true
+  more k n p = near-more f.rules f.attacker f.blocked k n p
+
+  fewer : (k n : ℕ) (p : Position) → k ≤ n → N n p ≡ false → N k p ≡ false
+  fewer k n p h e = not_true (N k p) (λ t. true_false _ (more k n p h t) e)
+
+  says_own : (w : Bool) (k : Fact) (q : Position) (n : ℕ) → Says f.rules f.blocked f.attacker k w → k.repeat ≡ repeat_of q → CoversAt k w q.counter n → N k.moves q ≡ w
+  says_own true k q n s e c = s q (sym e) (c.won refl).1
+  says_own false k q n s e c = s q (sym e) (c.lost refl).1
+
+  says_at : (w : Bool) (k : Fact) (q : Position) (n : ℕ) → N k.moves q ≡ w → CoversAt k w q.counter n → N n q ≡ w
+  says_at true k q n h c = more k.moves n q (c.won refl).0 h
+  says_at false k q n h c = fewer n k.moves q (c.lost refl).0 h
+
+  -- what a true fact says of a position for which it answers
+  pub record Told (k : Fact) (q : Position) (n : ℕ) : Type 0 where
+    pub same : k.repeat ≡ repeat_of q
+    pub covers : CoversAt k k.wins q.counter n
+    pub own : N k.moves q ≡ k.wins
+    pub asked : N n q ≡ k.wins
+
+  pub told : (k : Fact) (q : Position) (n : ℕ) → IsTrueIn f k → serves k (repeat_of q) q.counter n ≡ true → Told k q n
+  told k q n t s =
+      let p = served k (repeat_of q) q.counter n s in
+      let c = covers-at k k.wins q.counter n p.1 in
+      let own = says_own k.wins k q n t p.0 c in
+      record { same = p.0; covers = c; own = own; asked = says_at k.wins k q n own c }
+
+  cover_own : (w : Bool) (k : Fact) (c n : ℕ) → CoversAt k w c n → CoversAt k w c k.moves
+  cover_own true k c n h = record { won = λ e. (omega arith, (h.won e).1); lost = λ e. absurd (let x = e in cc) }
+  cover_own false k c n h = record { won = λ e. absurd (let x = e in cc); lost = λ e. (omega arith, (h.lost e).1) }
+
+  -- it serves the move that leads there
+  pub serves-move : (k : Fact) (p : Position) (m : Move) (n : ℕ) (a : Bool) → Told k (next f.rules p m) n → k.wins ≡ a → In.ServesMoveIn f p m a k
+  serves-move k p m n a t e = record {
+    kind = e;
+    serves = serves-from k (repeat_of (next f.rules p m)) (next f.rules p m).counter k.moves t.same (covers-from k k.wins (next f.rules p m).counter k.moves (cover_own k.wins k (next f.rules p m).counter n t.covers));
+  }
+
+  pub short-of : (k : Fact) (q : Position) (n : ℕ) (a : Bool) → Told k q n → k.wins ≡ a → a ≡ true → k.moves ≤ n
+  short-of k q n a t e h = (t.covers.won (e ∙ h)).0
+
+  -- what one move decides answers the question
+  pub one-answers : (a : Bool) (k : Fact) (p q : Position) (best : Option Move) (left n : ℕ) → Told k q left → k.wins ≡ a → left ≡ left_after a n → (a ≡ true → 0 < n) → serves (fact_of p f.attacker (after_one a k.moves) best a) (repeat_of p) p.counter n ≡ true
+  one-answers a k p q best left n t e h some =
+      let x = fact_of p f.attacker (after_one a k.moves) best a in
+      serves-from x (repeat_of p) p.counter n refl (covers-from x a p.counter n (by_side a t.covers e h some))
+    where
+      by_side : (a : Bool) → CoversAt k k.wins q.counter left → k.wins ≡ a → left ≡ left_after a n → (a ≡ true → 0 < n) → CoversAt (fact_of p f.attacker (after_one a k.moves) best a) a p.counter n
+      by_side true c e h some = let u = (c.won e).0 in let z = some refl in record { won = λ x. (omega arith, omega arith); lost = λ x. absurd (let y = x in cc) }
+      by_side false c e h some = let u = (c.lost e).0 in record { won = λ x. absurd (let y = x in cc); lost = λ x. (omega arith, omega arith) }
+
+  -- ---- none of the first moves decides
+
+  pub far-first : (a : Bool) (left : ℕ) → left ≤ 65535 → IsFar a left (far_at_first a)
+  far-first true left h = h
+  far-first false left h = omega arith
+
+  pub none-first : (p : Position) (a : Bool) (far : ℕ) (ms : List Move) → NoneDecides f p a far (take 0 ms)
+  none-first p a far ms = record { each = λ m k. absurd (none-taken m ms k) }
+
+  pub far-more : (a : Bool) (left far : ℕ) (k : Fact) (q : Position) → IsFar a left far → Told k q left → k.wins ≡ not a → IsFar a left (farther_of a far k.moves)
+  far-more true left far k q h t e = let c = (t.covers.lost e).0 in omega arith
+  far-more false left far k q h t e = let c = (t.covers.won e).0 in omega arith
+
+  near_farther : (a : Bool) (far k : ℕ) (q : Position) → N far q ≡ not a → N (farther_of a far k) q ≡ not a
+  near_farther true far k q h = fewer (min far k) far q (omega arith) h
+  near_farther false far k q h = more far (max far k) q (omega arith) h
+
+  near_nearer : (a : Bool) (far k : ℕ) (q : Position) → N k q ≡ not a → N (farther_of a far k) q ≡ not a
+  near_nearer true far k q h = fewer (min far k) k q (omega arith) h
+  near_nearer false far k q h = more k (max far k) q (omega arith) h
+
+-- ---- lists that are gone through
+
+pub member-at : {X : Type 0} (ms : List X) (i : ℕ) (x : X) → slice_get ms i ≡ Some x → Member x ms
+member-at [] i x h = cc
+member-at (y ∷ ms) zero x h = inl (let e : ◌≡◌ {A = Option _} (Some y) (Some x) = h in cc)
+member-at (y ∷ ms) (suc i) x h = inr (member-at ms i x h)
+
+pub take-more : {X : Type 0} (ms : List X) (i : ℕ) (x y : X) → slice_get ms i ≡ Some x → Member y (take (suc i) ms) → Member y (take i ms) ⊎ (x ≡ y)
+take-more [] i x y h k = cc
+take-more (z ∷ ms) zero x y h (inl e) = inr (let u : ◌≡◌ {A = Option _} (Some z) (Some x) = h in cc)
+take-more (z ∷ ms) zero x y h (inr k) = absurd (none-taken y ms k)
+take-more (z ∷ ms) (suc i) x y h (inl e) = inl (inl e)
+take-more (z ∷ ms) (suc i) x y h (inr k) = widen (take-more ms i x y h k)
+  where
+    widen : Member y (take i ms) ⊎ (x ≡ y) → Member y (take (suc i) (z ∷ ms)) ⊎ (x ≡ y)
+    widen (inl m) = inl (inr m)
+    widen (inr e) = inr e
+
+pub each-more : {X : Type 0} {Q : X → Type 0} (ms : List X) (i : ℕ) (x : X) → slice_get ms i ≡ Some x → ((y : X) → Member y (take i ms) → Q y) → Q x → (y : X) → Member y (take (i + 1) ms) → Q y
+each-more {X = X} {Q = Q} ms i x h f q y k = cases (take-more ms i x y h (subst (λ j. Member y (take j ms)) one k))
+  where
+    one : i + 1 ≡ suc i
+    one = omega arith
+
+    cases : Member y (take i ms) ⊎ (x ≡ y) → Q y
+    cases (inl m) = f y m
+    cases (inr e) = subst Q e q
+
+module _ (f : Frame) (p : Position) where
+  pub none-more : (a : Bool) (far i : ℕ) (ms : List Move) (x : Move) (k : Fact) (left : ℕ) → slice_get ms i ≡ Some x → NoneDecides f p a far (take i ms) → Told f k (next f.rules p x) left → k.wins ≡ not a → NoneDecides f p a (farther_of a far k.moves) (take (i + 1) ms)
+  none-more a far i ms x k left h n t e = record {
+    each = each-more {Q = λ m. In.near_in f (farther_of a far k.moves) (next f.rules p m) ≡ not a} ms i x h
+        (λ m is. near_farther f a far k.moves (next f.rules p m) (n.each m is))
+        (near_nearer f a far k.moves (next f.rules p x) (t.own ∙ e));
+  }
+
+  pub none-all : (a : Bool) (far : ℕ) (ms : List Move) → Lists (λ m. Member m (In.legal_in f p)) ms → NoneDecides f p a far ms → NoneDecides f p a far (In.legal_in f p)
+  none-all a far ms all n = record { each = λ m is. n.each m (all.complete m is) }
+
+  -- what all moves come to answers the question
+  pub each-answers : (a : Bool) (left far n : ℕ) → IsFar a left far → n ≤ 1000 → left ≡ left_after a n → serves (fact_of p f.attacker (after_all a far) None (not a)) (repeat_of p) p.counter n ≡ true
+  each-answers a left far n h small e =
+      let x = fact_of p f.attacker (after_all a far) None (not a) in
+      serves-from x (repeat_of p) p.counter n refl (covers-from x (not a) p.counter n (by_side a h e))
+    where
+      enough : n ≤ far + 1 → n ≤ smaller (far + 1) 65535
+      enough k = grind (arith, nat_tests, k, small)
+
+      by_side : (a : Bool) → IsFar a left far → left ≡ left_after a n → CoversAt (fact_of p f.attacker (after_all a far) None (not a)) (not a) p.counter n
+      by_side true h e = record { won = λ x. absurd (let y = x in cc); lost = λ x. (enough (omega arith), omega arith) }
+      by_side false h e = record { won = λ x. (omega arith, omega arith); lost = λ x. absurd (let y = x in cc) }
+
+-- ---- tests
+
+pub same_bool-from : (w a : Bool) → beq w a ≡ true → w ≡ a
+same_bool-from true true f = refl
+same_bool-from true false f = cc
+same_bool-from false true f = cc
+same_bool-from false false f = refl
+
+pub not_same : (w a : Bool) → beq w a ≡ false → w ≡ not a
+not_same true true f = cc
+not_same true false f = refl
+not_same false true f = refl
+not_same false false f = cc
+
+pub not-true : (w : Bool) → not w ≡ true → w ≡ false
+not-true true e = cc
+not-true false e = refl
+
+pub not-false : (w : Bool) → not w ≡ false → w ≡ true
+not-false true e = refl
+not-false false e = cc
+
+pub is_none : {X : Type 0} (o : Option X) → ((x : X) → o ≡ Some x → ⊥) → o ≡ None
+is_none None f = refl
+is_none (Some x) f = absurd (f x refl)
+
+-- ---- ends
+
+module _ (f : Frame) (p : Position) (n : ℕ) where
+  pub won-answers : (o : Option Fact) → p.counter ≤ 9999 → IfSome o (WonNow f.rules f.blocked f.attacker p) → IfSome o (λ k. serves k (repeat_of p) p.counter n ≡ true)
+  won-answers None low w = tt
+  won-answers (Some k) low w =
+      let x = record (fact_of p f.attacker 0 None true) { counter = 9999 } in
+      let e : serves x (repeat_of p) p.counter n ≡ true = serves-from x (repeat_of p) p.counter n refl (covers-from x true p.counter n (record { won = λ y. (omega arith, low); lost = λ y. absurd (let z = y in cc) })) in
+      subst (λ y. serves y (repeat_of p) p.counter n ≡ true) (sym w.is) e
+
+  lost_at : (moves : ℕ) → n ≤ moves → serves (fact_of p f.attacker moves None false) (repeat_of p) p.counter n ≡ true
+  lost_at moves few =
+      let x = fact_of p f.attacker moves None false in
+      serves-from x (repeat_of p) p.counter n refl (covers-from x false p.counter n (record { won = λ y. absurd (let z = y in cc); lost = λ y. (few, omega arith) }))
+
+  pub lost-answers : (o : Option Fact) → n ≤ 65535 → (In.end_in f p ≡ None → n ≡ 0) → IfSome o (RefutedNow f.rules f.blocked f.attacker p) → IfSome o (λ k. serves k (repeat_of p) p.counter n ≡ true)
+  lost-answers None few last w = tt
+  lost-answers (Some k) few last w = by_end w.is
+    where
+      by_end : EndedLost f.rules f.blocked f.attacker p k ⊎ OutOfMoves f.rules f.blocked f.attacker p k → serves k (repeat_of p) p.counter n ≡ true
+      by_end (inl e) = subst (λ y. serves y (repeat_of p) p.counter n ≡ true) (sym e.1) (lost_at 65535 few)
+      by_end (inr e) = let z = last e.0 in subst (λ y. serves y (repeat_of p) p.counter n ≡ true) (sym e.2) (lost_at 0 (omega arith))
+
+pub counter-low : (rules : Rules) (p : Position) → is_sound rules p ≡ true → p.counter ≤ 9999
+counter-low rules p h = (position_parts rules p h).1.counter
+
+-- ---- as the loops read them
+
+-- the position after the move that is read
+pub after-is : (rules : Rules) (f : Frame) (s t : Stance) (m : Move) → s.rules ≡ f.rules → t ≡ after s m → t.position ≡ next f.rules s.position m
+after-is rules f s t m e d = ap (λ (x : Stance). x.position) d ∙ ap (λ (x : Rules). next x s.position m) e
+
+pub moves-of : (f : Frame) (s : Stance) (ms : List Move) → s.rules ≡ f.rules → Lists (λ m. Member m (legal_in s)) ms → Lists (λ m. Member m (In.legal_in f s.position)) ms
+moves-of f s ms e all = subst (λ (x : Rules). Lists (λ m. Member m (legal x (repeat_of s.position))) ms) e all
+
+-- what the fact on it says
+pub one-told : (f g : Frame) (t : Stance) (q : Position) (k : Fact) (n : ℕ) → g ≡ f → t.position ≡ q → IsTrueIn g k → Answers t n k → Told f k q n
+one-told f g t q k n e d u a = told f k q n (subst (λ x. IsTrueIn x k) e u) (subst (λ (y : Position). serves k (repeat_of y) y.counter n ≡ true) d a)
+
+pub none-moved : (f g : Frame) (p q : Position) (a : Bool) (far : ℕ) → g ≡ f → q ≡ p → NoneDecides f p a far (In.legal_in f p) → NoneDecides g q a far (In.legal_in g q)
+none-moved f g p q a far e d h = subst (λ x. NoneDecides x q a far (In.legal_in x q)) (sym e) (subst (λ y. NoneDecides f y a far (In.legal_in f y)) (sym d) h)
+
+pub serves-as : (f g : Frame) (p q : Position) (k : Fact) (moves n : ℕ) (best : Option Move) (w : Bool) → g ≡ f → q ≡ p → k ≡ fact_of q g.attacker moves best w → serves (fact_of p f.attacker moves best w) (repeat_of p) p.counter n ≡ true → serves k (repeat_of p) p.counter n ≡ true
+serves-as f g p q k moves n best w e d is h =
+    let same : k ≡ fact_of p f.attacker moves best w = is ∙ (λ i. fact_of (d i) (e i).attacker moves best w) in
+    subst (λ x. serves x (repeat_of p) p.counter n ≡ true) (sym same) h
+
+-- what is appended to no list is the whole list
+pub appended-all : {X : Type 0} (P : X → Type 0) (old new : List X) → old ≡ [] → Appends P old new → Lists P new
+appended-all P old new e a = subst (Lists P) (sym (a.is ∙ ap (λ l. l ++ a.added) e)) a.each
+
+-- ---- what the moves come to
+
+module _ (f : Frame) (n : ℕ) (p : Position) (ms : List Move) (all : Lists (λ m. Member m (In.legal_in f p)) ms) where
+  abbrev won : Move → Bool
+  won m = In.near_in f n (next f.rules p m)
+
+  pub none-wins : ((m : Move) → Member m ms → won m ≡ false) → some_wins f n p ≡ false
+  none-wins h = not_true (some_wins f n p) (λ t.
+      let u = any_member won (In.legal_in f p) t in true_false (won u.0) u.2 (h u.0 (all.complete u.0 u.1)))
+
+  pub each-wins : ((m : Move) → Member m ms → won m ≡ true) → all_win f n p ≡ true
+  each-wins h = all_intro won (In.legal_in f p) (λ m k. h m (all.complete m k))
+
+  pub one-fails : (m : Move) → Member m (In.legal_in f p) → won m ≡ false → all_win f n p ≡ false
+  one-fails m k e = not_true (all_win f n p) (λ t. true_false (won m) (all_member won (In.legal_in f p) t m k) e)

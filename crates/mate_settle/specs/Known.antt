@@ -1,0 +1,17 @@
+-- What is known, and what it answers.
+use Rattle.std.specs.Prelude.{◌≡◌, ℕ, true, List, Option, IfSome}
+use Rattle.std.specs.List.{All}
+use Rattle.forced_wins.specs.declared.fact.Fact.{Fact}
+use Rattle.forced_wins.specs.Facts.{serves}
+use Rattle.mate_core.specs.declared.frame.Frame.{Frame}
+use Rattle.mate_core.specs.Runs.{IsTrueIn}
+use Rattle.mate_settle.specs.declared.known.Kept.{Kept}
+use Rattle.playing.specs.Stance.{Stance, repeat_in}
+
+-- each kept fact is true in the frame
+abbrev pub HoldTruth : Frame → List (Option Kept) → Type 0
+HoldTruth f slots = All (λ o. IfSome o (λ k. IsTrueIn f k.fact)) slots
+
+-- the fact says whether the attacker wins from the position within n moves
+abbrev pub Answers : Stance → ℕ → Fact → Type 0
+Answers s n f = serves f (repeat_in s) s.position.counter n ≡ true

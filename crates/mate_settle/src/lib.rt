@@ -1,0 +1,13 @@
+//! Whether a position is won by force within some number of moves, exactly, looked at without its history: a search
+//! that is depth first and keeps facts.
+#![tactic(auto)]
+
+mod choosing;
+mod known;
+mod settling;
+#[cfg(test)]
+mod tests;
+
+pub use choosing::{Choice, all_won, choose};
+pub use known::FactTable;
+pub use settling::settle;

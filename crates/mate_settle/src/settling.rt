@@ -1,0 +1,174 @@
+//! Whether a position is won within so many moves of the attacker, exactly.
+ghost use Rattle.std.specs.Prelude.{◌≡◌, ◌≤◌, ◌<◌, ◌+◌, true, not, None, Some, IfOk, OnOk, IfSome, IsErrOf};
+ghost use Rattle.foundation.specs.Member.{Member, Lists};
+ghost use Rattle.forced_wins.specs.Facts as Facts;
+ghost use Rattle.mate_core.specs.Runs.{IsTrueIn};
+ghost use Rattle.mate_fact.specs.InFrame as In;
+ghost use Rattle.mate_settle.specs.Known.{Answers};
+ghost use Rattle.mate_settle.specs.Lines.{lines_within, seen_in};
+ghost use Rattle.mate_settle.specs.Steps as Steps;
+ghost use Rattle.playing.specs.Stance.{legal_in};
+ghost use Rattle.rules_model.specs.Sides.{same_side};
+ghost use Rattle.watching.specs.declared.halt.Halt.{Halt};
+
+use crate::known::FactTable;
+use mate_core::{Fact, Frame};
+use mate_fact::{
+    by_all_within, by_move, end_of, refuted_by_all_within, refuted_by_move, refuted_where,
+    won_where,
+};
+use playing::Board;
+use rules_model::{Memory, Move, MoveList, Position};
+use std::alloc::Global;
+use watching::{Halt, Watch};
+
+// The legal moves, each once.
+fn legal_list(alloc: Global, board: &Board) -> Result<MoveList, Memory>
+    ensures { IfOk result (Lists (λ m. Member m (legal_in board.now))) }
+{
+    let mut moves = MoveList {
+        items: Vec::new(alloc),
+    };
+    board.push_legal(&mut moves)?;
+    Ok(moves)
+}
+
+/// The legal moves in the order in which they are tried.
+pub(crate) fn moves_to_try(alloc: Global, board: &Board) -> Result<Vec<Move>, Memory>
+    ensures { IfOk result (λ ms. Lists (λ m. Member m (legal_in board.now)) ms.items) }
+{
+    let moves = legal_list(alloc, board)?;
+    Ok(moves.items)
+}
+
+/// The fact that needs no other: the position is ended, or the attacker, who is to move, has no move left.
+fn known_now(frame: &Frame, board: &Board, n: u16) -> Option<Fact>
+    requires rules { board.now.rules ≡ frame.now.rules }
+    ensures serves { IfSome result (Answers board.now n) }
+    ensures truth { IfSome result (IsTrueIn frame.now) }
+    ensures ongoing { result ≡ None → In.end_in frame.now board.now.position ≡ None }
+    ensures more { result ≡ None → same_side board.now.position.side frame.now.attacker ≡ true → 0 < n }
+{
+    board.is_ready();
+    let p = board.position();
+    let end = end_of(frame, p, board.own_end());
+    match end {
+        Some(true) => won_where(frame, p, end),
+        Some(false) => refuted_where(frame, p, end),
+        None => {
+            if n > 0 {
+                return None;
+            }
+            refuted_where(frame, p, end)
+        }
+    }
+}
+
+fn moves_left(attacking: bool, n: u16) -> u16
+    requires { attacking ≡ true → 0 < n }
+    ensures { result ≡ Steps.left_after attacking n }
+{
+    if attacking { n - 1 } else { n }
+}
+
+fn none_yet(attacking: bool) -> u16
+    ensures { result ≡ Steps.far_at_first attacking }
+{
+    if attacking { u16::MAX } else { 0 }
+}
+
+fn farther(attacking: bool, far: u16, moves: u16) -> u16
+    ensures { result ≡ Steps.farther_of attacking far moves }
+{
+    if attacking {
+        far.min(moves)
+    } else {
+        far.max(moves)
+    }
+}
+
+/// What a single move decides.
+fn by_one(frame: &Frame, board: &Board, m: &Move, attacking: bool, known: &Fact) -> Fact
+    requires ongoing { In.end_in frame.now board.now.position ≡ None }
+    requires turn { same_side board.now.position.side frame.now.attacker ≡ attacking }
+    requires legal { Member m.now (In.legal_in frame.now board.now.position) }
+    requires serves { In.ServesMoveIn frame.now board.now.position m.now attacking known.now }
+    requires short { attacking ≡ true → known.now.moves < 65535 }
+    requires truth { IsTrueIn frame.now known.now }
+    ensures is { result ≡ Facts.fact_of board.now.position frame.now.attacker (Steps.after_one attacking known.now.moves)
+        (Some m.now) attacking }
+    ensures truth { IsTrueIn frame.now result }
+{
+    let p = board.position();
+    if attacking {
+        by_move(frame, board.tables(), p, m, known)
+    } else {
+        refuted_by_move(frame, board.tables(), p, m, known)
+    }
+}
+
+/// What all moves together decide.
+fn by_each(frame: &Frame, p: &Position, attacking: bool, far: u16) -> Fact
+    requires ongoing { In.end_in frame.now p.now ≡ None }
+    requires turn { same_side p.now.side frame.now.attacker ≡ attacking }
+    requires none { Steps.NoneDecides frame.now p.now attacking far (In.legal_in frame.now p.now) }
+    ensures is { result ≡ Facts.fact_of p.now frame.now.attacker (Steps.after_all attacking far) None (not attacking) }
+    ensures truth { IsTrueIn frame.now result }
+{
+    if attacking {
+        refuted_by_all_within(frame, p, far)
+    } else {
+        by_all_within(frame, p, far)
+    }
+}
+
+/// Whether the attacker wins from the position within n of his moves, the position being looked at without its history:
+/// a true fact that says it.
+///
+/// # Errors
+///
+/// What ends the watch; or `Memory`.
+pub fn settle<W: Watch>(
+    alloc: Global,
+    board: &Board,
+    n: u16,
+    facts: &mut FactTable,
+    watch: &mut W,
+) -> Result<Fact, Halt>
+    requires rules { board.now.rules ≡ facts.old.rules }
+    requires small { n ≤ 1000 }
+    ensures frame { facts.new ≡ facts.old }
+    ensures truth { IfOk result (IsTrueIn facts.old) }
+    ensures serves { IfOk result (Answers board.now n) }
+    ensures gone { OnOk result (W.gone watch.old watch.new (lines_within (seen_in facts.old) n board.now.position)) }
+    ensures ended { (why : Halt) → IsErrOf result why →
+        W.ended watch.old watch.new (lines_within (seen_in facts.old) n board.now.position) why }
+{
+    watch.enter()?;
+    if let Some(fact) = facts.look(board, n) {
+        return Ok(fact);
+    }
+    let frame = facts.frame();
+    if let Some(fact) = known_now(frame, board, n) {
+        facts.keep(board, fact);
+        return Ok(fact);
+    }
+    let attacking = board.position().side.is(frame.attacker);
+    let left = moves_left(attacking, n);
+    let mut far = none_yet(attacking);
+    let moves = moves_to_try(alloc, board)?;
+    for i in 0..moves.len() {
+        let chosen = moves[i];
+        let next = board.after(&chosen);
+        let fact = settle(alloc, &next, left, facts, watch)?;
+        if fact.wins == attacking {
+            let found = by_one(frame, board, &chosen, attacking, &fact);
+            facts.keep(board, found);
+            return Ok(found);
+        }
+        far = farther(attacking, far, fact.moves);
+    }
+    let found = by_each(frame, board.position(), attacking, far);
+    facts.keep(board, found);
+    Ok(found)
+}
