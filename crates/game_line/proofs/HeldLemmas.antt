@@ -1,5 +1,5 @@
 -- What a `Line` holds, when a move is put on it and when one is taken off.
-use Rattle.std.proofs.Common.{◌≡◌, ℕ, zero, suc, ◌+◌, ◌-◌, ◌<◌, ◌≤◌, true, List, [], ◌∷◌, ◌++◌, map, length, take, drop, get_or, refl, ap, sym, ◌∙◌, subst, arith}
+use Rattle.std.proofs.Common.{◌≡◌, ℕ, ◌+◌, ◌-◌, ◌<◌, true, List, [], ◌∷◌, ◌++◌, length, take, drop, get_or, refl, ap, sym, ◌∙◌, subst, arith}
 use Rattle.std.proofs.lemmas.List.{length-append, length-map, map_push, take_more, take_at, take-map, drop-map}
 use Rattle.std.proofs.Math.Seq.{get_or-append_seam, take-length}
 use Rattle.foundation.specs.Member.{Member}

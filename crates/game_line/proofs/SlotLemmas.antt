@@ -1,5 +1,5 @@
 -- Keys counted in slots and taken back.
-use Rattle.std.proofs.Common.{◌≡◌, ℕ, ◌+◌, ◌-◌, ◌%◌, ◌<◌, ◌≤◌, ◌==◌, cond, inl, inr, true, false, List, [], ◌∷◌, ◌++◌, length, replicate, slice_index, slice_set, get_or, set, refl, ap, sym, ◌∙◌, arith}
+use Rattle.std.proofs.Common.{◌≡◌, ℕ, ◌+◌, ◌-◌, ◌%◌, ◌<◌, ◌≤◌, ◌==◌, cond, inl, inr, true, false, List, [], ◌∷◌, ◌++◌, length, replicate, slice_index, get_or, set, ap, sym, ◌∙◌, arith}
 use Rattle.std.proofs.lemmas.List.{get_or_read, length-set, get_or-set_same, get_or-set_other, get_or-replicate, length-replicate}
 use Rattle.std.proofs.lemmas.List.Sums.{sum_by_push, count_by-le-length}
 use Rattle.std.proofs.lemmas.Bool.{cases_eq}

@@ -42,7 +42,10 @@ fn push_all(rt: &impl Abort, line: &mut Line, moves: &str) {
 
 /// Takes all moves off the line.
 fn back_all(line: &mut Line) {
-    for _ply in 0..line.moves().len() {
+    for _ply in 0..line.room() {
+        if line.moves().is_empty() {
+            return;
+        }
         line.back();
     }
 }
@@ -65,26 +68,39 @@ const QUEEN: &str = "kh8 Kf6 Qg6";
 /// Both kings go one square, and come back.
 const ROUND: &str = "e1d1 e8d8 d1e1 d8e8";
 
-/// A line's moves after a game's from the pieces, at a count of moves, and how they stand.
-type Row = (&'static str, u16, &'static str, &'static str, Outcome);
-
-/// Asserts that the line stands so, and where it is after the moves; also once more, after all were taken off.
-fn expect_line(rt: &impl Abort, alloc: Global, row: &Row) -> Result<(), Fail> {
-    let (pieces, counter, played, moves, outcome) = *row;
+/// The game of the moves from the pieces, at a count of moves.
+fn game(
+    rt: &impl Abort,
+    alloc: Global,
+    pieces: &str,
+    counter: u16,
+    moves: &str,
+) -> Result<Game, Fail> {
     let (rules, start) = (chess(), at_count(pieces, counter));
     assert!(rt; sound(&rules, &start));
     let mut game = Game::new(alloc, &rules, &start)?;
-    play_all(rt, &mut game, played);
-    let mut whole = Game::new(alloc, &rules, &start)?;
-    play_all(rt, &mut whole, played);
-    play_all(rt, &mut whole, moves);
+    play_all(rt, &mut game, moves);
+    Ok(game)
+}
+
+/// Asserts that the line stands so.
+fn expect_stands(rt: &impl Abort, line: &Line, outcome: Outcome) {
+    let any = line.board().any_legal();
+    assert_eq!(rt; line.outcome(), outcome);
+    assert_eq!(rt; line.outcome_where(any), outcome);
+}
+
+/// Pieces and a count of moves, a game's moves from there, a line's moves after it, and how the line stands.
+type Row = (&'static str, u16, &'static str, &'static str, Outcome);
+
+/// Asserts that the line stands so, each time that its moves are put on it.
+fn expect_line(rt: &impl Abort, alloc: Global, row: &Row) -> Result<(), Fail> {
+    let (pieces, counter, played, moves, outcome) = *row;
+    let game = game(rt, alloc, pieces, counter, played)?;
     let mut line = Line::new(alloc, &game, 8)?;
     for _time in 0..3 {
         push_all(rt, &mut line, moves);
-        let any = line.board().any_legal();
-        assert_eq!(rt; line.outcome(), outcome, "{played} {moves}");
-        assert_eq!(rt; line.outcome_where(any), outcome, "{played} {moves}");
-        assert!(rt; *line.board().position() == *whole.position());
+        expect_stands(rt, &line, outcome);
         back_all(&mut line);
     }
     assert!(rt; *line.board().position() == *game.position());
@@ -125,18 +141,15 @@ fn is_sendable<T: Send>(_value: &T) {}
 
 #[test]
 fn lines_are_copied(rt: HostRuntime) -> Result<(), Fail> {
-    let (rules, start) = (chess(), position(KINGS));
-    assert!(rt; sound(&rules, &start));
-    let mut game = Game::new(rt.alloc(), &rules, &start)?;
-    play_all(&rt, &mut game, ROUND);
+    let game = game(&rt, rt.alloc(), KINGS, 0, ROUND)?;
     let mut line = Line::new(rt.alloc(), &game, 4)?;
     push_all(&rt, &mut line, "e1d1 e8d8 d1e1");
     let mut copy = line.copied(rt.alloc())?;
     is_sendable(&copy);
-    assert!(rt; copy.moves() == line.moves());
-    assert_eq!(rt; (copy.key(), copy.rules().n_fold), (line.key(), 3));
+    assert_eq!(rt; copy.key(), line.key());
+    assert_eq!(rt; copy.rules().n_fold, 3);
     push_all(&rt, &mut copy, "d8e8");
-    let ends = (line.outcome(), copy.outcome());
-    assert_eq!(rt; ends, (Outcome::Ongoing, Outcome::Drawn(Cause::Repetition)));
+    expect_stands(&rt, &line, Outcome::Ongoing);
+    expect_stands(&rt, &copy, Outcome::Drawn(Cause::Repetition));
     Ok(())
 }

@@ -1,4 +1,4 @@
-use Rattle.std.proofs.Common.{◌≡◌, ◌<◌, length, ap, arith}
+use Rattle.std.proofs.Common.{◌≡◌, length, ap, arith}
 use Rattle.game_play.specs.Played.{story}
 use Rattle.game_line.specs.Lined.{Lined}
 use Rattle.game_line.proofs.HeldLemmas.{held-count, held-front}

@@ -1,5 +1,4 @@
 use Rattle.std.proofs.Common.{◌≡◌, take}
-use Rattle.game_line.specs.Lined.{Lined}
 use Rattle.game_line.proofs.line.Line.copied.Given as goal
 
 abbrev pub invariant-loop-m : goal.invariant-loop-m

@@ -1,4 +1,4 @@
-use Rattle.std.proofs.Common.{◌+◌, ◌%◌, ◌≤◌, length, take, get_or, sym, subst, List, ℕ, arith}
+use Rattle.std.proofs.Common.{◌%◌, take, get_or, sym, subst, List, ℕ, arith}
 use Rattle.std.proofs.lemmas.List.{length-take, take_more}
 use Rattle.game_line.specs.Slots.{AreCounts}
 use Rattle.game_line.proofs.SlotLemmas.{few}

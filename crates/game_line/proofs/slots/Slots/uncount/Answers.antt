@@ -1,4 +1,4 @@
-use Rattle.std.proofs.Common.{◌≡◌, sym, subst, List, ℕ, ◌++◌, ◌∷◌, []}
+use Rattle.std.proofs.Common.{sym, subst, ◌++◌, ◌∷◌, []}
 use Rattle.game_line.specs.Slots.{AreCounts}
 use Rattle.game_line.proofs.SlotLemmas.{uncounted}
 use Rattle.game_line.proofs.slots.Slots.uncount.Goals as goal
