@@ -6,3 +6,4 @@ pub mod RuleLaws
 pub mod FoundLaws
 pub mod SearchLemmas
 pub mod MateLaws
+mod worked

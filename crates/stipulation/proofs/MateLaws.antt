@@ -138,3 +138,65 @@ module _ (rules : Rules) (n : ℕ) (g : Story) where
   pub least-none : (t : ℕ) → 2 * n < t → help_found rules n g ≡ least_found games (2 * n + 1 - t) t g → help_found rules n g ≡ None
   unfolding least_found
   least-none t m is = let none : 2 * n + 1 - t ≡ 0 = omega (arith, m) in is ∙ ap (λ k. least_found games k t g) none
+
+  -- ---- what it comes to
+
+  least-by : (more t : ℕ) (ss : List Step) (o : Option (List Step)) → found games t 0 g ≡ o → least_found games (suc more) t g ≡ Some ss
+      → (least_found games more (t + 1) g ≡ Some ss → (k : ℕ) × (k < t + 1 + more) × (found games k 0 g ≡ Some ss)) → (k : ℕ) × (k < t + suc more) × (found games k 0 g ≡ Some ss)
+  unfolding least_found
+  least-by more t ss (Some rs) is e later =
+      let same : Some rs ≡ Some ss = sym (ap (λ o. option_or o (least_found games more (t + 1) g)) is) ∙ e in
+      (t, omega arith, is ∙ same)
+  least-by more t ss None is e later =
+      let rest : least_found games more (t + 1) g ≡ Some ss = sym (ap (λ o. option_or o (least_found games more (t + 1) g)) is) ∙ e in
+      let k = later rest in
+      let below = k.1 in
+      (k.0, omega (arith, below), k.2)
+
+  least-parts : (more t : ℕ) (ss : List Step) → least_found games more t g ≡ Some ss → (k : ℕ) × (k < t + more) × (found games k 0 g ≡ Some ss)
+  unfolding least_found
+  least-parts zero t ss e = cc
+  least-parts (suc more) t ss e = least-by more t ss (found games t 0 g) refl e (least-parts more (t + 1) ss)
+
+  least-misses : (more t : ℕ) → least_found games (suc more) t g ≡ None → found games (t + more) 0 g ≡ None
+  unfolding least_found
+  least-misses zero t e = let here : t + 0 ≡ t = omega arith in ap (λ k. found games k 0 g) here ∙ first_none (found games t 0 g) refl
+    where
+      first_none : (o : Option (List Step)) → found games t 0 g ≡ o → found games t 0 g ≡ None
+      first_none None is = is
+      first_none (Some rs) is = let bad : Some rs ≡ None = sym (ap (λ o. option_or o (least_found games zero (t + 1) g)) is) ∙ e in cc
+  least-misses (suc more) t e =
+      let last : t + suc more ≡ t + 1 + more = omega arith in
+      ap (λ k. found games k 0 g) last ∙ least-misses more (t + 1) (rest_none (found games t 0 g) refl)
+    where
+      rest_none : (o : Option (List Step)) → found games t 0 g ≡ o → least_found games (suc more) (t + 1) g ≡ None
+      rest_none None is = sym (ap (λ o. option_or o (least_found games (suc more) (t + 1) g)) is) ∙ e
+      rest_none (Some rs) is = let bad : Some rs ≡ None = sym (ap (λ o. option_or o (least_found games (suc more) (t + 1) g)) is) ∙ e in cc
+
+  found-if : (ss : List Step) (b : Bool) → is_ended games g ≡ b → help_found rules n g ≡ Some ss → help_verdict rules n g ss ≡ Holds
+  found-if ss true is e = let none = least-ended true (sym is) refl in cc
+  found-if ss false is e =
+      let parts = least-parts (2 * n) 1 ss (sym (begun-is false (sym is) refl) ∙ e) in
+      let below = parts.1 in
+      help-found rules n g false parts.0 ss (sym is) refl (omega (arith, below)) parts.2
+
+  -- the steps that were found hold
+  pub help-least : (ss : List Step) → help_found rules n g ≡ Some ss → help_verdict rules n g ss ≡ Holds
+  help-least ss e = found-if ss (is_ended games g) refl e
+
+  unfound-if : (b : Bool) → is_ended games g ≡ b → help_found rules n g ≡ None → HelpWins rules n g → ⊥
+  unfound-if true is e = help-ended rules n g true (sym is) refl
+  unfound-if false is e = by_moves n refl
+    where
+      by_moves : (k : ℕ) → n ≡ k → HelpWins rules n g → ⊥
+      by_moves zero none = help-none rules n g (subst (λ t. within games t g ≡ false) (let no_ply : 0 ≡ 2 * n = omega (arith, none) in no_ply) (help-begun rules n g false (sym is) refl))
+      by_moves (suc k) some =
+          let plies : 2 * n ≡ suc (2 * n - 1) = omega (arith, some) in
+          let last : 1 + (2 * n - 1) ≡ 2 * n = omega (arith, some) in
+          let nothing : least_found games (suc (2 * n - 1)) 1 g ≡ None = ap (λ m. least_found games m 1 g) (sym plies) ∙ sym (begun-is false (sym is) refl) ∙ e in
+          let missed : found games (2 * n) 0 g ≡ None = ap (λ m. found games m 0 g) (sym last) ∙ least-misses (2 * n - 1) 1 nothing in
+          help-none rules n g (help-missed rules n g (2 * n) missed)
+
+  -- where none was found there is no helpmate
+  pub help-unfound : help_found rules n g ≡ None → HelpWins rules n g → ⊥
+  help-unfound e = unfound-if (is_ended games g) refl e

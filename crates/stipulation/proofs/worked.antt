@@ -1,0 +1,2 @@
+-- Small theorems on worked trees, each with its near miss.
+mod Toy
