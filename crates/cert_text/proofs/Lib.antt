@@ -1,0 +1,5 @@
+pub mod PathLemmas
+pub mod LineLemmas
+pub mod WriteLemmas
+pub mod BackLaws
+mod worked

@@ -1,0 +1,2 @@
+-- Small theorems on worked texts, each with its near miss.
+mod Sample
