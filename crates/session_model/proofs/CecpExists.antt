@@ -11,7 +11,7 @@ use Rattle.session_model.specs.CecpSession as Session
 use Rattle.session_model.specs.CecpSession.{cecp, answer_of, depth_for, is_given_up, lowered, move_line, saying, time_for}
 use Rattle.session_model.specs.CecpState.{State, played, thinks}
 use Rattle.io_ports.specs.Heard.{stops}
-use Rattle.watching.specs.Events.{Event, Hears, Says, AreUnstopped, lines_of as heard, opened, said}
+use Rattle.watching.specs.Events.{Event, Hears, Says, AreUnstopped, lines_of as heard, opened, readings, said}
 use Rattle.session_model.specs.Events.{IsStopped, clocked}
 use Rattle.session_model.specs.Laws.{HasOutput}
 use Rattle.session_model.specs.Thinking.{Interrupted, InSearch}
@@ -66,7 +66,15 @@ none_opened_then : (lines : List Line) (text : List ℕ) → opened (map Hears l
 none_opened_then [] text = refl
 none_opened_then (line ∷ lines) text = none_opened_then lines text
 
--- a text before events hears nothing and opens nothing
+none_read : (lines : List Line) → readings (map Hears lines) ≡ []
+none_read [] = refl
+none_read (line ∷ lines) = none_read lines
+
+none_read_then : (lines : List Line) (text : List ℕ) → readings (map Hears lines ++ Says text ∷ []) ≡ []
+none_read_then [] text = refl
+none_read_then (line ∷ lines) text = none_read_then lines text
+
+-- a text before events hears nothing, opens nothing and reads nothing
 saying_heard : (text : List ℕ) (events : List Event) → heard (saying text ++ events) ≡ heard events
 saying_heard [] events = refl
 saying_heard (byte ∷ bytes) events = refl
@@ -74,6 +82,14 @@ saying_heard (byte ∷ bytes) events = refl
 saying_opened : (text : List ℕ) (events : List Event) → opened (saying text ++ events) ≡ opened events
 saying_opened [] events = refl
 saying_opened (byte ∷ bytes) events = refl
+
+saying_readings : (text : List ℕ) (events : List Event) → readings (saying text ++ events) ≡ readings events
+saying_readings [] events = refl
+saying_readings (byte ∷ bytes) events = refl
+
+readings_alone : (text : List ℕ) → readings (saying text) ≡ []
+readings_alone [] = refl
+readings_alone (byte ∷ bytes) = refl
 
 saying_alone : (text : List ℕ) → heard (saying text) ≡ []
 saying_alone [] = refl
@@ -110,6 +126,7 @@ module _ (state : State) (asked : Line) (lines : List Line) (files : Contents) w
     lines_are : lines ≡ heard events ++ rest
     answers : Session.ThinksFrom thinking moves (Unit {0}) (answer_of state asked) (record { line = asked; events = events; after = after }) rest
     unread : opened events ≡ []
+    quiet : readings events ≡ []
 
   -- the engine does not think
   quiet : (thinking : Bool) (moves : List Move)
@@ -123,6 +140,7 @@ module _ (state : State) (asked : Line) (lines : List Line) (files : Contents) w
     lines_are = rw (saying_alone (answer_of state asked).text);
     answers = h;
     unread = opened_alone (answer_of state asked).text;
+    quiet = readings_alone (answer_of state asked).text;
   }
 
   -- it thinks, and is cut before its first depth
@@ -143,6 +161,7 @@ module _ (state : State) (asked : Line) (lines : List Line) (files : Contents) w
         concludes = rw is (refl, refl);
       };
       unread = rw (saying_opened (answer_of state asked).text (map Hears h.before)) (none_opened h.before);
+      quiet = rw (saying_readings (answer_of state asked).text (map Hears h.before)) (none_read h.before);
     }
 
     moves_on : is_given_up h.rest ≡ false → Thought true (first ∷ moves)
@@ -169,6 +188,11 @@ module _ (state : State) (asked : Line) (lines : List Line) (files : Contents) w
         saying_opened (answer_of state asked).text (map Hears h.before ++ Says (move_line first ++ (played (answer_of state asked).state first).text) ∷ []),
       )
           (none_opened_then h.before (move_line first ++ (played (answer_of state asked).state first).text));
+      quiet = rw (
+        append_assoc (saying (answer_of state asked).text) (map Hears h.before) (Says (move_line first ++ (played (answer_of state asked).state first).text) ∷ []),
+        saying_readings (answer_of state asked).text (map Hears h.before ++ Says (move_line first ++ (played (answer_of state asked).state first).text) ∷ []),
+      )
+          (none_read_then h.before (move_line first ++ (played (answer_of state asked).state first).text));
     }
 
     by_next : (b : Bool) → is_given_up h.rest ≡ b → Thought true (first ∷ moves)
@@ -189,6 +213,7 @@ module _ (state : State) (asked : Line) (lines : List Line) (files : Contents) w
     answers = t.answers;
     found = rw t.unread tt;
     faultless = rw t.unread;
+    quiet = t.quiet;
   }
 
 cecp_steps : (state : State) (asked : Line) (lines : List Line) (files : Contents) → cecp.quits asked ≡ false

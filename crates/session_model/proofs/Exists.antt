@@ -9,7 +9,7 @@ use Rattle.io_ports.specs.Trace.{faults_in}
 use Rattle.rules_model.specs.declared.moves.Move.{Move}
 use Rattle.game_play.specs.Played.{legal_in}
 use Rattle.io_ports.specs.Heard.{stops}
-use Rattle.watching.specs.Events.{Event, Hears, Says, Opens, AreUnstopped, lines_of as heard, opened, said}
+use Rattle.watching.specs.Events.{Event, Hears, Says, Opens, AreUnstopped, lines_of as heard, opened, readings, said}
 use Rattle.session_model.specs.Events.{IsStopped}
 use Rattle.session_model.specs.Laws.{HasOutput}
 use Rattle.session_model.proofs.Outputs
@@ -61,6 +61,10 @@ pub said_hears : (lines : List Line) → said (map Hears lines) ≡ []
 said_hears [] = refl
 said_hears (line ∷ lines) = said_hears lines
 
+readings_hears : (lines : List Line) (text : List ℕ) → readings (map Hears lines ++ Says text ∷ []) ≡ []
+readings_hears [] text = refl
+readings_hears (line ∷ lines) text = readings_hears lines text
+
 pub opened_hears : (lines : List Line) (text : List ℕ) → opened (map Hears lines ++ Says text ∷ []) ≡ []
 opened_hears [] text = refl
 opened_hears (line ∷ lines) text = opened_hears lines text
@@ -102,6 +106,7 @@ record Step (A : Type 0) (state : State) (line : Line) (lines : List Line) (file
   answers : UciSession.Answers A state (record { line = line; events = events; after = after }) rest command
   found : Finds (Some files) (opened events)
   faultless : faults_in (opened events) ≡ 0
+  quiet : readings events ≡ []
 
 at_least_one : (most n : ℕ) → 0 < cut_to most n
 at_least_one most n = omega arith
@@ -118,6 +123,7 @@ module _ (A : Type 0) (a : A) (state : State) (asked : Line) (lines : List Line)
     answers = h;
     found = tt;
     faultless = refl;
+    quiet = refl;
   }
 
   silent : (command : Command) (after : State)
@@ -131,6 +137,7 @@ module _ (A : Type 0) (a : A) (state : State) (asked : Line) (lines : List Line)
     answers = h;
     found = tt;
     faultless = refl;
+    quiet = refl;
   }
 
   -- what a line sets, or its fault
@@ -163,6 +170,7 @@ module _ (A : Type 0) (a : A) (state : State) (asked : Line) (lines : List Line)
         value name (Ok after) named is (record { after_is = refl; events_are = refl });
     found = ((is_right (files name)).found, tt);
     faultless = rw (is_right (files name)).faultless;
+    quiet = refl;
   }
   loads_by value name named (Err fault) is = record {
     events = Opens (record { name = name; found = found_of (files name) }) ∷ Says (error_line fault) ∷ [];
@@ -178,6 +186,7 @@ module _ (A : Type 0) (a : A) (state : State) (asked : Line) (lines : List Line)
         value name (Err fault) named is (record { after_is = refl; events_are = refl });
     found = ((is_right (files name)).found, tt);
     faultless = rw (is_right (files name)).faultless;
+    quiet = refl;
   }
 
   loads : (value file : Option (List ℕ)) → file_named value ≡ file
@@ -220,6 +229,7 @@ module _ (A : Type 0) (a : A) (state : State) (asked : Line) (lines : List Line)
     lines_are : lines ≡ heard events ++ rest
     answers : UciSession.GoesBy perft mate legal A state go (record { line = asked; events = events; after = after }) rest
     unread : opened events ≡ []
+    quiet : readings events ≡ []
 
   goes_nowhere : (go : Go) (mate : Option ℕ) (b : Bool) → is_held go (mover state.game) ≡ b → GoStep go None mate []
   goes_nowhere go mate true is = record {
@@ -241,6 +251,7 @@ module _ (A : Type 0) (a : A) (state : State) (asked : Line) (lines : List Line)
           after_is = refl;
         });
     unread = opened_hears heard_part.before no_best_line;
+    quiet = readings_hears heard_part.before no_best_line;
   }
   goes_nowhere go mate false is = record {
     events = Says no_best_line ∷ [];
@@ -252,6 +263,7 @@ module _ (A : Type 0) (a : A) (state : State) (asked : Line) (lines : List Line)
         (record { line = asked; events = Says no_best_line ∷ []; after = UciSession.forgotten state }) lines)
         (sym is) (record { after_is = refl; events_are = refl });
     unread = refl;
+    quiet = refl;
   }
 
   goes_by : (go : Go) (perft mate : Option ℕ) (legal : List Move) → GoStep go perft mate legal
@@ -262,6 +274,7 @@ module _ (A : Type 0) (a : A) (state : State) (asked : Line) (lines : List Line)
     lines_are = refl;
     answers = record { after_is = refl; events_are = refl };
     unread = refl;
+    quiet = refl;
   }
   goes_by go None mate [] = goes_nowhere go mate (is_held go (mover state.game)) refl
   goes_by go None (Some n) (first ∷ legal) = record {
@@ -285,6 +298,7 @@ module _ (A : Type 0) (a : A) (state : State) (asked : Line) (lines : List Line)
       ),
     );
     unread = opened_hears heard_part.before (best_line first);
+    quiet = readings_hears heard_part.before (best_line first);
   }
   goes_by go None None (first ∷ legal) = record {
     events = map Hears heard_part.before ++ Says (best_line (first_of first (task_of state go).roots)) ∷ [];
@@ -299,6 +313,7 @@ module _ (A : Type 0) (a : A) (state : State) (asked : Line) (lines : List Line)
           heard_part.unstopped heard_part.stopped refl;
     };
     unread = opened_hears heard_part.before (best_line (first_of first (task_of state go).roots));
+    quiet = readings_hears heard_part.before (best_line (first_of first (task_of state go).roots));
   }
 
   goes : (go : Go) → Step A state asked lines files (line.Go go)
@@ -313,6 +328,7 @@ module _ (A : Type 0) (a : A) (state : State) (asked : Line) (lines : List Line)
         answers = g.answers;
         found = rw g.unread tt;
         faultless = rw g.unread;
+        quiet = g.quiet;
       }
 
   -- ---- any line but `quit`
@@ -346,6 +362,7 @@ uci_steps state asked lines files is = as_step (step (Unit {0}) tt state asked l
       answers = s.answers;
       found = s.found;
       faultless = s.faultless;
+      quiet = s.quiet;
     }
 
 pub uci_has_output : HasOutput uci

@@ -5,7 +5,7 @@ use Rattle.io_ports.specs.Files.{Contents, Read, Finds, IsFound}
 use Rattle.io_ports.specs.Lines.{Line}
 use Rattle.io_ports.specs.Source.{Untold}
 use Rattle.io_ports.specs.Trace.{faults_in}
-use Rattle.watching.specs.Events.{Event, lines_of as heard, opened}
+use Rattle.watching.specs.Events.{Event, lines_of as heard, opened, readings}
 use Rattle.session_model.specs.Laws.{HasOutput}
 use Rattle.session_model.specs.Turns.{Protocol, Turn, Turns, IsOver, lines_in, output_in, reads_in, readings_in}
 
@@ -33,6 +33,7 @@ module _ {S : Type 0} (p : Protocol S) where
     pub answers : p.answers (Unit {0}) state (record { line = asked; events = events; after = after }) rest
     pub found : Finds (Some files) (opened events)
     pub faultless : faults_in (opened events) ≡ 0
+    pub quiet : readings events ≡ []
 
   record Spoken (state : S) (lines : List Line) (files : Contents) : Type 0 where
     turns : List (Turn S)
@@ -42,10 +43,11 @@ module _ {S : Type 0} (p : Protocol S) where
     allowed : (used : ℕ) → Turns p Untold used state turns rest
     found : Finds (Some files) (reads_in turns)
     faultless : faults_in (reads_in turns) ≡ 0
+    quiet : readings_in turns ≡ []
 
   none_spoken : (state : S) (lines : List Line) (files : Contents) → IsOver p lines → Spoken state lines files
   none_spoken state lines files over =
-      record { turns = []; rest = lines; lines_are = refl; over = over; allowed = λ used. tt; found = tt; faultless = refl }
+      record { turns = []; rest = lines; lines_are = refl; over = over; allowed = λ used. tt; found = tt; faultless = refl; quiet = refl }
 
   then_spoken : (state : S) (asked : Line) (lines : List Line) (files : Contents) → p.quits asked ≡ false
       → (s : Step state asked lines files) → Spoken s.after s.rest files → Spoken state (asked ∷ lines) files
@@ -62,6 +64,7 @@ module _ {S : Type 0} (p : Protocol S) where
     );
     found = all_append (λ read. IsFound (files read.name) read.found) (opened s.events) (reads_in r.turns) s.found r.found;
     faultless = rw (faults_in-append (opened s.events) (reads_in r.turns), s.faultless, r.faultless);
+    quiet = rw s.quiet r.quiet;
   }
 
   module _ (steps : (state : S) (asked : Line) (lines : List Line) (files : Contents) → p.quits asked ≡ false → Step state asked lines files) where
@@ -89,7 +92,6 @@ module _ {S : Type 0} (p : Protocol S) where
     has_output state files lines =
         let s : Spoken state lines files = spoken (length lines) state lines files (omega arith) in (
           reads_in s.turns,
-          readings_in s.turns,
           output_in p.dialect s.turns,
           record {
             turns = s.turns;
@@ -99,7 +101,7 @@ module _ {S : Type 0} (p : Protocol S) where
             allowed = s.allowed 0;
             reads_are = refl;
             found = s.found;
-            readings_are = refl;
+            readings_are = sym s.quiet;
             output_is = refl;
           },
           s.faultless,

@@ -36,7 +36,7 @@ module _ (A B : Type 0) (f : A → B) where
   may_end_wider dialect t done taken following (InSolve report n cause) h =
       (h.0, h.1, may_cut_wider dialect t.share t.time _ taken following cause h.2)
 
-  deepens_wider : (dialect : Dialect) (t : Task) (reports : List Report) (ending : Ending) (taken : List ℕ) (following : List Line)
+  pub deepens_wider : (dialect : Dialect) (t : Task) (reports : List Report) (ending : Ending) (taken : List ℕ) (following : List Line)
       → Deepens dialect A t reports ending taken following → Deepens dialect B t reports ending taken following
   deepens_wider dialect t reports ending taken following h = record {
     valued = h.valued;

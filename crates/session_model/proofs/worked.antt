@@ -6,3 +6,6 @@ mod Lines
 mod CecpLines
 mod Rows
 mod Sessions
+mod CecpThinking
+mod Bounds
+mod States

@@ -124,18 +124,23 @@ shown_name named = if bytes_eq named.name (codes "chess") then codes "normal" el
 abbrev pub rules_named : State → List ℕ → Option (Result Rules SectionFault)
 rules_named state name = found (entries state.sections) name
 
--- a variant that is not there, or is refused, is unknown
-abbrev pub set_variant : State → Line → Option (Result Rules SectionFault) → Answer
-set_variant state line None = says state (error (codes "unknown variant") line)
-set_variant state line (Some (Err fault)) = says state (error (codes "unknown variant") line)
-set_variant state line (Some (Ok rules)) = silent (with_game state (started rules rules.start))
+-- The start of a variant, in this state as it is changed. A variant that is not there, or is refused, is unknown and
+-- changes nothing.
+abbrev pub set_variant : State → (State → State) → Line → Option (Result Rules SectionFault) → Answer
+set_variant state changed line None = says state (error (codes "unknown variant") line)
+set_variant state changed line (Some (Err fault)) = says state (error (codes "unknown variant") line)
+set_variant state changed line (Some (Ok rules)) = silent (with_game (changed state) (started rules rules.start))
 
 -- what `new` sets besides the game
 abbrev pub renewed : State → State
 renewed state = record state { plays = Some Black; sd = None }
 
+-- the names of those that are accepted, separated by commas
+abbrev pub names_text : List Named → List ℕ
+names_text sections = join_with_byte 44 (map shown_name (filter is_accepted sections))
+
 abbrev pub variant_names : List Section → List ℕ
-variant_names sections = join_with_byte 44 (map shown_name (filter is_accepted (entries sections)))
+variant_names sections = names_text (entries sections)
 
 abbrev pub feature_line : List Section → List ℕ
 feature_line sections =
@@ -148,8 +153,8 @@ feature_line sections =
 abbrev pub answer_to : State → Line → Command → Answer
 answer_to state line Idle = silent state
 answer_to state line Protover = says state (feature_line state.sections)
-answer_to state line New = set_variant (renewed state) line (rules_named state (codes "chess"))
-answer_to state line (Variant name) = set_variant state line (rules_named state (section_name name))
+answer_to state line New = set_variant state renewed line (rules_named state (codes "chess"))
+answer_to state line (Variant name) = set_variant state (λ state. state) line (rules_named state (section_name name))
 answer_to state line Force = silent (record state { plays = None })
 answer_to state line Go = silent (record state { plays = Some (mover state.game) })
 answer_to state line PlayOther = silent (record state { plays = Some (other (mover state.game)) })

@@ -1,5 +1,5 @@
 -- What both protocols share of a search: depth after depth, mates that scores stand for, and what may cut it.
-use Rattle.std.specs.Prelude.{◌≡◌, ℕ, ◌+◌, ◌≤◌, ◌<◌, List, [], ◌∷◌, ◌++◌, length, Option, Some, None, ◌==◌, if◌then◌else◌, ℤ, pos, negsuc}
+use Rattle.std.specs.Prelude.{◌≡◌, ℕ, ◌+◌, ◌^◌, ◌≤◌, ◌<◌, List, [], ◌∷◌, ◌++◌, length, Option, Some, None, ◌==◌, if◌then◌else◌, ℤ, pos, negsuc}
 use Rattle.io_ports.specs.declared.dialect.Dialect.{Dialect}
 use Rattle.io_ports.specs.Lines.{Line}
 use Rattle.rules_model.specs.declared.moves.Move.{Move}
@@ -84,6 +84,7 @@ IsScore t depth (Mated n s) best unsettled =
 pub record IsReport (t : Task) (depth : ℕ) (report : Report) : Type 0 where
   pub scored : IsScore t depth report.score report.best report.unsettled
   pub few : report.nodes ≤ search_bound t.game.rules depth (story t.game)
+  pub counted : report.nodes < 2 ^ 64
 
 -- true reports, of one depth after another without a gap
 abbrev pub AreReports : Task → ℕ → List Report → Type 0
@@ -97,6 +98,7 @@ pub record IsOpen (t : Task) (depth n : ℕ) (report : Report) : Type 0 where
   pub sought : mate_sought t depth ≡ Some n
   pub unsettled : report.unsettled ≡ None
   pub few : report.nodes ≤ search_bound t.game.rules depth (story t.game)
+  pub counted : report.nodes < 2 ^ 64
 
 -- ---- what may cut a search
 

@@ -48,8 +48,9 @@ bound_in p used state (turn ∷ turns) = bound_in p (used + p.bound state turn.l
 
 -- ---- turns
 
--- One turn after another, with these lines behind them. No line of a turn ends the session. `used` is the sum of the bounds of the lines before. A search
--- is interrupted only where fewer polls are owed at the start of the session than the bounds of the lines up to it.
+-- One turn after another, with these lines after them. No line of a turn ends the session. `used` is the sum of the
+-- bounds of the lines before. A search is interrupted only where fewer polls are owed at the start of the session than
+-- the bounds of the lines up to it.
 abbrev pub Turns : {S : Type 0} → Protocol S → Owed → ℕ → S → List (Turn S) → List Line → Type 0
 Turns p owed used state [] following = Unit {0}
 Turns p owed used state (turn ∷ turns) following =

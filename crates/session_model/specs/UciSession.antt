@@ -153,7 +153,8 @@ GoesNowhere false state turn following = IsPlain turn (forgotten state) (Says no
 abbrev pub GoesBy : Option ℕ → Option ℕ → List Move → Type 0 → State → Go → Turn State → List Line → Type 0
 GoesBy (Some plies) mate legal Interrupts state go turn following =
     IsPlain turn (forgotten state) (Says (perft_line plies state.game) ∷ [])
-GoesBy None mate [] Interrupts state go turn following = GoesNowhere (is_held go (mover state.game)) state turn following
+GoesBy None mate [] Interrupts state go turn following =
+    GoesNowhere (is_held go (mover state.game)) state turn following
 GoesBy None (Some n) (first ∷ legal) Interrupts state go turn following =
     (answer : MateAnswer) × AnswersMate Interrupts state go (last_mate n) first turn following answer
 GoesBy None None (first ∷ legal) Interrupts state go turn following =
