@@ -11,8 +11,10 @@ use Rattle.game_text.specs.declared.fault.GameFault.{GameFault}
 use Rattle.game_text.specs.declared.fault.GameFault.TheVariants.{LineTooLong, Missing}
 use Rattle.game_text.specs.declared.fault.NoGame.{NoGame}
 use Rattle.game_text.specs.declared.fault.NoGame.TheVariants as no_game
+use Rattle.game_text.specs.declared.goal.Goal.{Goal}
 use Rattle.game_text.specs.declared.problem.Problem.{Problem}
 use Rattle.game_text.specs.GameText.{game_of, lines_of_game}
+use Rattle.game_text.specs.Goal.{goal_said}
 use Rattle.game_text.specs.HeardLines.{HeardLines}
 use Rattle.game_text.specs.Problem.{lines_of_problem, problem_of}
 use Rattle.game_text.specs.ReadView as read
@@ -53,16 +55,16 @@ use Rattle.vengine.specs.HaltView.{Answers, IsUnheard, game_halt, proof_halt, st
 -- ---- what was read, as halts have it
 
 -- of a problem
-pub problem_bad : (input : List Line) (r : Result Problem GameFault) (why : NoGame) → read.Tells {A = Problem} r (Err why) → States (by_problem r input) (Err (game_halt why))
+pub problem_bad : (input : List Line) (r : Result (Problem Goal) GameFault) (why : NoGame) → read.Tells {A = Problem Goal} r (Err why) → States (by_problem r input) (Err (game_halt why))
 problem_bad input r (no_game.Faulty bad) is = ap (λ x. by_problem x input) is
 problem_bad input r no_game.Unread is = tt
 problem_bad input r no_game.Memory is = tt
 
 -- of the strategy after it
-strategy_fault : (p : Problem) (r : Result Strategy StrategyFault) (bad : StrategyFault) → r ≡ Err bad → with_strategy p r ≡ Err (fault.Strategy bad)
+strategy_fault : (p : Problem Goal) (r : Result Strategy StrategyFault) (bad : StrategyFault) → r ≡ Err bad → with_strategy p r ≡ Err (fault.Strategy bad)
 strategy_fault p r bad is = ap (with_strategy p) is
 
-pub strategy_bad : (p : Problem) (r : Result Strategy StrategyFault) (why : NoStrategy) → HasWhy r why → States (with_strategy p r) (Err (strategy_halt why))
+pub strategy_bad : (p : Problem Goal) (r : Result Strategy StrategyFault) (why : NoStrategy) → HasWhy r why → States (with_strategy p r) (Err (strategy_halt why))
 strategy_bad p r Unread says = tt
 strategy_bad p r (Faulty Memory) says = tt
 strategy_bad p r (Faulty (Header line)) says = strategy_fault p r (Header line) says
@@ -72,7 +74,7 @@ strategy_bad p r (Faulty (BadMove line)) says = strategy_fault p r (BadMove line
 strategy_bad p r (Faulty (BadNumber line)) says = strategy_fault p r (BadNumber line) says
 strategy_bad p r (Faulty (Ended line)) says = strategy_fault p r (Ended line) says
 
-pub strategy_good : (p : Problem) (r : Result Strategy StrategyFault) (s : Strategy) → r ≡ Ok s → with_strategy p r ≡ Ok (stated p s)
+pub strategy_good : (p : Problem Goal) (r : Result Strategy StrategyFault) (s : Strategy) → r ≡ Ok s → with_strategy p r ≡ Ok (stated p s)
 strategy_good p r s is = ap (with_strategy p) is
 
 -- of a proof text
@@ -94,7 +96,7 @@ proof_good r p is = ap by_proof is
 
 -- ---- why nothing was read
 
-pub problem_unheard : (why : NoGame) → IsUnheard {A = Proof} (Err (game_halt why)) → read.IsUnread {A = Problem} (Err why)
+pub problem_unheard : (why : NoGame) → IsUnheard {A = Proof} (Err (game_halt why)) → read.IsUnread {A = Problem Goal} (Err why)
 problem_unheard (no_game.Faulty bad) unheard = absurd unheard
 problem_unheard no_game.Unread unheard = tt
 problem_unheard no_game.Memory unheard = absurd unheard
@@ -127,11 +129,11 @@ pub rules_heard : (a b : Option (List ℕ)) (rules rules' : Rules) (P : Result S
 rules_heard a b rules rules' P is heard = subst (λ (r : Rules). HeardLines a b (lines_of_strategy r) (λ lines. P (strategy_of r lines))) is heard
 
 -- of variants, by theirs
-pub variants_heard : (a b : Option (List ℕ)) (variants variants' : List Named) (x : Line) (r : Result Problem NoGame) → variants ≡ variants'
-    → HeardLines a b (λ lines. lines_of_problem variants (x ∷ lines) - 1) (λ lines. read.Tells (problem_of variants (x ∷ lines)) r)
-    → HeardLines a b (λ lines. lines_of_problem variants' (x ∷ lines) - 1) (λ lines. read.Tells (problem_of variants' (x ∷ lines)) r)
+pub variants_heard : (a b : Option (List ℕ)) (variants variants' : List Named) (x : Line) (r : Result (Problem Goal) NoGame) → variants ≡ variants'
+    → HeardLines a b (λ lines. lines_of_problem variants (x ∷ lines) - 1) (λ lines. read.Tells (problem_of goal_said variants (x ∷ lines)) r)
+    → HeardLines a b (λ lines. lines_of_problem variants' (x ∷ lines) - 1) (λ lines. read.Tells (problem_of goal_said variants' (x ∷ lines)) r)
 variants_heard a b variants variants' x r is heard =
-    subst (λ (v : List Named). HeardLines a b (λ lines. lines_of_problem v (x ∷ lines) - 1) (λ lines. read.Tells (problem_of v (x ∷ lines)) r)) is heard
+    subst (λ (v : List Named). HeardLines a b (λ lines. lines_of_problem v (x ∷ lines) - 1) (λ lines. read.Tells (problem_of goal_said v (x ∷ lines)) r)) is heard
 
 pub problem_first : (variants : List Named) (x : Line) (lines : List Line) → lines_of_problem variants (x ∷ lines) - 1 ≤ lines_of_stated variants (x ∷ lines) - 1
 unfolding lines_of_stated
@@ -140,12 +142,12 @@ problem_first variants x lines = omega arith
 drop_front : {A : Type 0} (k : ℕ) (front rest : List A) → length front ≡ k → drop k (front ++ rest) ≡ rest
 drop_front k front rest is = ap (λ n. drop n (front ++ rest)) (sym is) ∙ drop-append_seam front rest
 
-module _ (variants : List Named) (x : Line) (front rest : List Line) (p : Problem) (three : length front ≡ 3) (is : problem_of variants (x ∷ front) ≡ Ok p) where
+module _ (variants : List Named) (x : Line) (front rest : List Line) (p : Problem Goal) (three : length front ≡ 3) (is : problem_of goal_said variants (x ∷ front) ≡ Ok p) where
   four : length (x ∷ front) ≡ 4
   four = omega (arith, three)
 
-  whole : problem_of variants (x ∷ front ++ rest) ≡ Ok p
-  whole = problem-decided variants (x ∷ front) rest p four is
+  whole : problem_of goal_said variants (x ∷ front ++ rest) ≡ Ok p
+  whole = problem-decided goal_said variants (x ∷ front) rest p four is
 
   rest_is : drop 4 (x ∷ front ++ rest) ≡ rest
   rest_is = drop_front 4 (x ∷ front) rest four
@@ -158,26 +160,26 @@ module _ (variants : List Named) (x : Line) (front rest : List Line) (p : Proble
 
   pub stated_needs : 3 + lines_of_strategy p.game.rules rest ≤ lines_of_stated variants (x ∷ front ++ rest) - 1
   stated_needs =
-      let low = problem-needs variants (x ∷ front) rest p four is in
+      let low = problem-needs goal_said variants (x ∷ front) rest p four is in
       let all = lines_are in
       omega (arith, low, all)
 
-  pub stated_is : by_problem (problem_of variants (x ∷ front ++ rest)) (x ∷ front ++ rest) ≡ with_strategy p (strategy_of p.game.rules rest)
+  pub stated_is : by_problem (problem_of goal_said variants (x ∷ front ++ rest)) (x ∷ front ++ rest) ≡ with_strategy p (strategy_of p.game.rules rest)
   stated_is =
       ap (λ r. by_problem r (x ∷ front ++ rest)) whole
       ∙ ap (λ (l : List Line). with_strategy p (strategy_of p.game.rules l)) rest_is
 
-stated_there : (variants : List Named) (x : Line) (lines : List Line) (p : Problem) → problem_of variants (x ∷ lines) ≡ Ok p → 3 ≤ length lines
-stated_there variants x lines p is = let there = problem-there variants (x ∷ lines) p is in omega (arith, there)
+stated_there : (variants : List Named) (x : Line) (lines : List Line) (p : Problem Goal) → problem_of goal_said variants (x ∷ lines) ≡ Ok p → 3 ≤ length lines
+stated_there variants x lines p is = let there = problem-there goal_said variants (x ∷ lines) p is in omega (arith, there)
 
 stated_most : (variants : List Named) (x : Line) (lines : List Line) → lines_of_problem variants (x ∷ lines) - 1 ≤ 3
 stated_most variants x lines = let most = problem-most variants (x ∷ lines) in omega (arith, most)
 
 -- the problem, and the strategy after it
-pub stated_heard : (a b c : Option (List ℕ)) (variants : List Named) (x : Line) (p : Problem) (P : Result Strategy StrategyFault → Type 0) (R : Result Proof Fault → Type 0)
-    → HeardLines a b (λ lines. lines_of_problem variants (x ∷ lines) - 1) (λ lines. problem_of variants (x ∷ lines) ≡ Ok p) → HeardLines b c (lines_of_strategy p.game.rules) (λ lines. P (strategy_of p.game.rules lines))
+pub stated_heard : (a b c : Option (List ℕ)) (variants : List Named) (x : Line) (p : Problem Goal) (P : Result Strategy StrategyFault → Type 0) (R : Result Proof Fault → Type 0)
+    → HeardLines a b (λ lines. lines_of_problem variants (x ∷ lines) - 1) (λ lines. problem_of goal_said variants (x ∷ lines) ≡ Ok p) → HeardLines b c (lines_of_strategy p.game.rules) (λ lines. P (strategy_of p.game.rules lines))
     → ((r : Result Strategy StrategyFault) → P r → R (with_strategy p r))
-    → HeardLines a c (λ lines. lines_of_stated variants (x ∷ lines) - 1) (λ lines. R (by_problem (problem_of variants (x ∷ lines)) (x ∷ lines)))
+    → HeardLines a c (λ lines. lines_of_stated variants (x ∷ lines) - 1) (λ lines. R (by_problem (problem_of goal_said variants (x ∷ lines)) (x ∷ lines)))
 stated_heard a b c variants x p P R first later so =
     heard_then a b c 3 _ _ _ _ _ _ first later (λ lines is. stated_there variants x lines p is) (stated_most variants x)
     (λ front rest three is. stated_needs variants x front rest p three is)
@@ -209,21 +211,21 @@ proof_heard a b variants text first P is same heard =
 
 -- a problem
 pub other_heard : (a b : Option (List ℕ)) (variants : List Named) (text : List ℕ) (P : Result Proof Fault → Type 0) → is_version text ≡ false
-    → HeardLines a b (λ lines. lines_of_stated variants (Text text ∷ lines) - 1) (λ lines. P (by_problem (problem_of variants (Text text ∷ lines)) (Text text ∷ lines)))
+    → HeardLines a b (λ lines. lines_of_stated variants (Text text ∷ lines) - 1) (λ lines. P (by_problem (problem_of goal_said variants (Text text ∷ lines)) (Text text ∷ lines)))
     → HeardLines a b (λ lines. lines_of_check variants (Text text ∷ lines) - 1) (λ lines. P (stated_in variants (Text text ∷ lines)))
 other_heard a b variants text P is heard =
     heard_so a b _ _ _ _ heard (λ lines. let all = lines_are_by variants text lines false is in omega (arith, all))
     (λ lines says. subst P (sym (states_by variants text lines false is)) says)
 
 -- a line that is missing or too long
-none_first : (variants : List Named) → problem_of variants [] ≡ Err (Missing 1)
+none_first : (variants : List Named) → problem_of goal_said variants [] ≡ Err (Missing 1)
 unfolding problem_of game_of
 none_first variants = refl
 
 pub states_none : (variants : List Named) → stated_in variants [] ≡ Err (fault.Game (Missing 1))
 states_none variants = ap (λ r. by_problem r []) (none_first variants)
 
-long_first : (variants : List Named) (lines : List Line) → problem_of variants (TooLong ∷ lines) ≡ Err (LineTooLong 1)
+long_first : (variants : List Named) (lines : List Line) → problem_of goal_said variants (TooLong ∷ lines) ≡ Err (LineTooLong 1)
 unfolding problem_of game_of
 long_first variants lines = refl
 
@@ -253,7 +255,7 @@ check_needed variants text lines = let one = by_needed variants text lines (is_p
 -- ---- the answers
 
 -- the faults of an input have the status 3
-problem_status : (r : Result Problem GameFault) (input : List Line) (why : Fault) → by_problem r input ≡ Err why → fault_status why ≡ 3
+problem_status : (r : Result (Problem Goal) GameFault) (input : List Line) (why : Fault) → by_problem r input ≡ Err why → fault_status why ≡ 3
 problem_status (Err bad) input why is = let same : fault.Game bad ≡ why = cc in ap fault_status (sym same)
 problem_status (Ok p) input why is = strategy_status (strategy_of p.game.rules (drop 4 input)) is
   where
@@ -267,7 +269,7 @@ proof_status (Err bad) why is = let same : fault.Proof bad ≡ why = cc in ap fa
 
 stated_status : (t : Bool) (variants : List Named) (input : List Line) (why : Fault) → stated_by t variants input ≡ Err why → fault_status why ≡ 3
 stated_status true variants input why is = proof_status (proof_of input) why is
-stated_status false variants input why is = problem_status (problem_of variants input) input why is
+stated_status false variants input why is = problem_status (problem_of goal_said variants input) input why is
 
 -- a halt without a statement is that of the check
 pub states_bad : (variants : List Named) (input : List Line) (why : Halt) → States (stated_in variants input) (Err why) → Answers (Err why) (SaysCheck variants input)

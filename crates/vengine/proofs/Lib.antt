@@ -1,4 +1,5 @@
 mod AnswerLemmas
+mod CertLemmas
 mod CheckLemmas
 mod FileLemmas
 mod HeardLemmas

@@ -23,14 +23,14 @@ use Rattle.game_text.specs.declared.fault.GameFault.{GameFault}
 use Rattle.game_text.specs.Fault as game
 use Rattle.game_text.specs.GameText.{game_of}
 use Rattle.words.specs.Asked.{Asked}
-use Rattle.words.specs.Command.{Command, Uci, Xboard, Moves, Status, Perft, Check, Variants, Reach}
+use Rattle.words.specs.Command.{Command, Uci, Xboard, Moves, Status, Perft, Check, SelfMate, HelpMate, CheckCert, Variants, Reach}
 use Rattle.words.specs.Options.{Text}
 use Rattle.vengine.specs.declared.fault.Fault.{Fault}
 use Rattle.vengine.specs.declared.fault.Fault.TheVariants as fault
 use Rattle.vengine.specs.declared.fault.FileFault.TheVariants.{Failed}
 use Rattle.vengine.specs.Commands.{IsOneShot, asks_input, reads_input}
 use Rattle.vengine.specs.Fault.{FaultClass, OfFile, OfInput, class_status, error_line, facts, fault_status, fault_text, unplaced_text}
-use Rattle.vengine.specs.GameTexts.{moves_of, status_of, perft_of}
+use Rattle.vengine.specs.GameTexts.{moves_of, status_of, perft_of, self_mate_of, help_mate_of}
 use Rattle.vengine.specs.ReachText.{reach_text}
 use Rattle.vengine.specs.Looked.{TellsReads}
 use Rattle.vengine.specs.Run.{IsCut, IsDone, IsUnreadable, NamesFile}
@@ -39,6 +39,7 @@ use Rattle.vengine.specs.Setup.{Unplaced, setup_of}
 use Rattle.vengine.specs.Shot.{Shot, Says, SaysAsked, SaysCommand, SaysFault, SaysLoaded, SaysOf, SaysReach, reached, faulty_word, faulty_square, usage_line}
 use Rattle.vengine.specs.Variants.{AreFirstReads, AreReadsOf, fault_found, fault_in, sections_in}
 use Rattle.vengine.specs.VariantsText.{variants_text}
+use Rattle.vengine.proofs.CertLemmas.{cert_done, cert_once, cert_some}
 use Rattle.vengine.proofs.CheckLemmas.{check_done, check_once, check_some}
 use Rattle.vengine.proofs.FileLemmas.{same_reads, why_unread}
 
@@ -70,6 +71,9 @@ command_some sections Moves input one = game_some moves_of (game_of (entries sec
 command_some sections Status input one = game_some status_of (game_of (entries sections) input)
 command_some sections (Perft plies) input one = game_some (perft_of plies) (game_of (entries sections) input)
 command_some sections Check input one = check_some (entries sections) input
+command_some sections (SelfMate moves) input one = game_some (self_mate_of moves) (game_of (entries sections) input)
+command_some sections (HelpMate moves) input one = game_some (help_mate_of moves) (game_of (entries sections) input)
+command_some sections CheckCert input one = cert_some (entries sections) input
 command_some sections Variants input one = (0, variants_text (entries sections), (refl, refl))
 
 loaded_some : (o : Option Fault) (Says : ℕ → List ℕ → Type 0) → (status : ℕ) × (text : List ℕ) × Says status text → (status : ℕ) × (text : List ℕ) × SaysLoaded o Says status text
@@ -122,6 +126,9 @@ command_done sections Moves input status text says = game_done moves_of (game_of
 command_done sections Status input status text says = game_done status_of (game_of (entries sections) input) status text says
 command_done sections (Perft plies) input status text says = game_done (perft_of plies) (game_of (entries sections) input) status text says
 command_done sections Check input status text says = check_done (entries sections) input status text says
+command_done sections (SelfMate moves) input status text says = game_done (self_mate_of moves) (game_of (entries sections) input) status text says
+command_done sections (HelpMate moves) input status text says = game_done (help_mate_of moves) (game_of (entries sections) input) status text says
+command_done sections CheckCert input status text says = cert_done (entries sections) input status text says
 command_done sections Variants input status text says = inl says.0
 
 class_done : (c : FaultClass) → (class_status c ≡ 3) ⊎ (class_status c ≡ 6)
@@ -219,6 +226,9 @@ command_once sections Moves input s s' t t' says says' = game_once moves_of (gam
 command_once sections Status input s s' t t' says says' = game_once status_of (game_of (entries sections) input) s s' t t' says says'
 command_once sections (Perft plies) input s s' t t' says says' = game_once (perft_of plies) (game_of (entries sections) input) s s' t t' says says'
 command_once sections Check input s s' t t' says says' = check_once (entries sections) input s s' t t' says says'
+command_once sections (SelfMate moves) input s s' t t' says says' = game_once (self_mate_of moves) (game_of (entries sections) input) s s' t t' says says'
+command_once sections (HelpMate moves) input s s' t t' says says' = game_once (help_mate_of moves) (game_of (entries sections) input) s s' t t' says says'
+command_once sections CheckCert input s s' t t' says says' = cert_once (entries sections) input s s' t t' says says'
 command_once sections Variants input s s' t t' says says' = (says.0 ∙ sym says'.0, says.1 ∙ sym says'.1)
 
 loaded_once : (o : Option Fault) (Says : ℕ → List ℕ → Type 0) (s s' : ℕ) (t t' : List ℕ) → (Says s t → Says s' t' → (s ≡ s') × (t ≡ t')) → SaysLoaded o Says s t → SaysLoaded o Says s' t' → (s ≡ s') × (t ≡ t')
@@ -277,6 +287,9 @@ command_without sections (Reach word square own enemy) input input' status text 
 command_without sections Variants input input' status text reads says = says
 command_without sections Moves input input' status text reads says = absurd (false≢true (sym reads))
 command_without sections Check input input' status text reads says = absurd (false≢true (sym reads))
+command_without sections (SelfMate moves) input input' status text reads says = absurd (false≢true (sym reads))
+command_without sections (HelpMate moves) input input' status text reads says = absurd (false≢true (sym reads))
+command_without sections CheckCert input input' status text reads says = absurd (false≢true (sym reads))
 command_without sections Status input input' status text reads says = absurd (false≢true (sym reads))
 command_without sections (Perft plies) input input' status text reads says = absurd (false≢true (sym reads))
 

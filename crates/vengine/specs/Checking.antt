@@ -7,7 +7,9 @@ use Rattle.forced_wins.specs.Wins.{wins}
 use Rattle.variant_rules.specs.Entries.{Named}
 use Rattle.game_play.specs.Played.{story}
 use Rattle.game_text.specs.declared.fault.GameFault.{GameFault}
+use Rattle.game_text.specs.declared.goal.Goal.{Goal}
 use Rattle.game_text.specs.declared.problem.Problem.{Problem}
+use Rattle.game_text.specs.Goal.{goal_said}
 use Rattle.game_text.specs.Problem.{lines_of_problem, problem_of}
 use Rattle.strategy.specs.declared.fault.StrategyFault.{StrategyFault}
 use Rattle.strategy.specs.declared.nodes.Strategy.{Strategy}
@@ -27,15 +29,15 @@ use Rattle.vengine.specs.Fault.{error_line, fault_text}
 -- ---- what the input states: a game, the goal of a side and a strategy
 
 -- the game and the goal of a problem with a strategy
-abbrev pub stated : Problem → Strategy → Proof
+abbrev pub stated : Problem Goal → Strategy → Proof
 stated p s = record { game = p.game; attacker = p.goal.attacker; n = p.goal.moves; strategy = s }
 
-abbrev pub with_strategy : Problem → Result Strategy StrategyFault → Result Proof Fault
+abbrev pub with_strategy : Problem Goal → Result Strategy StrategyFault → Result Proof Fault
 with_strategy p (Ok s) = Ok (stated p s)
 with_strategy p (Err why) = Err (fault.Strategy why)
 
 -- a problem, and the strategy that the lines after its four say
-abbrev pub by_problem : Result Problem GameFault → List Line → Result Proof Fault
+abbrev pub by_problem : Result (Problem Goal) GameFault → List Line → Result Proof Fault
 by_problem (Ok p) input = with_strategy p (strategy_of p.game.rules (drop 4 input))
 by_problem (Err why) input = Err (fault.Game why)
 
@@ -45,7 +47,7 @@ by_proof (Err why) = Err (fault.Proof why)
 
 abbrev pub stated_by : Bool → List Named → List Line → Result Proof Fault
 stated_by true variants input = by_proof (proof_of input)
-stated_by false variants input = by_problem (problem_of variants input) input
+stated_by false variants input = by_problem (problem_of goal_said variants input) input
 
 -- what the input states where there are these variants, or its first fault
 abbrev pub stated_in : List Named → List Line → Result Proof Fault
@@ -84,12 +86,12 @@ pub record IsWon (variants : List Named) (input : List Line) : Type 0 where
 
 -- ---- how many lines tell it: all of them, or those up to the first faulty one
 
-abbrev pub lines_after : Result Problem GameFault → List Line → ℕ
+abbrev pub lines_after : Result (Problem Goal) GameFault → List Line → ℕ
 lines_after (Ok p) lines = lines_of_strategy p.game.rules lines
 lines_after (Err fault) lines = 0
 
 unfoldable pub lines_of_stated : List Named → List Line → ℕ
-lines_of_stated variants input = lines_of_problem variants input + lines_after (problem_of variants input) (drop 4 input)
+lines_of_stated variants input = lines_of_problem variants input + lines_after (problem_of goal_said variants input) (drop 4 input)
 
 abbrev pub lines_by : Bool → List Named → List Line → ℕ
 lines_by true variants input = lines_of_proof input

@@ -7,9 +7,10 @@ use Rattle.variant_ini.specs.Section.{Section}
 use Rattle.variant_rules.specs.Entries.{entries}
 use Rattle.game_text.specs.GameText.{lines_of_game}
 use Rattle.words.specs.Asked.{Asked}
-use Rattle.words.specs.Command.{Command, Uci, Xboard, Moves, Status, Perft, Check, Variants, Reach}
+use Rattle.words.specs.Command.{Command, Uci, Xboard, Moves, Status, Perft, Check, SelfMate, HelpMate, CheckCert, Variants, Reach}
 use Rattle.vengine.specs.declared.fault.Fault.{Fault}
 use Rattle.vengine.specs.Checking.{lines_of_check}
+use Rattle.vengine.specs.Certificates.{lines_of_cert_check}
 use Rattle.vengine.specs.Sessions.{is_session, lines_wanted}
 use Rattle.vengine.specs.Variants.{fault_in, sections_in}
 
@@ -21,6 +22,9 @@ reads_input Moves = true
 reads_input Status = true
 reads_input (Perft plies) = true
 reads_input Check = true
+reads_input (SelfMate moves) = true
+reads_input (HelpMate moves) = true
+reads_input CheckCert = true
 reads_input Variants = false
 reads_input (Reach word square own enemy) = false
 
@@ -37,6 +41,9 @@ lines_needed sections Moves input = lines_of_game (entries sections) input
 lines_needed sections Status input = lines_of_game (entries sections) input
 lines_needed sections (Perft plies) input = lines_of_game (entries sections) input
 lines_needed sections Check input = lines_of_check (entries sections) input
+lines_needed sections (SelfMate moves) input = lines_of_game (entries sections) input
+lines_needed sections (HelpMate moves) input = lines_of_game (entries sections) input
+lines_needed sections CheckCert input = lines_of_cert_check (entries sections) input
 lines_needed sections Variants input = 0
 lines_needed sections (Reach word square own enemy) input = 0
 

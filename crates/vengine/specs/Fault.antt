@@ -7,12 +7,14 @@ use Rattle.game_text.specs.Fault as game
 use Rattle.strategy.specs.Fault as strategy
 use Rattle.proof_text.specs.Fault as proof
 use Rattle.strategy_check.specs.Verdicts.{verdict_text}
+use Rattle.stipulation.specs.Verdicts as stipulation
+use Rattle.cert_text.specs.Fault as cert
 use Rattle.variant_ini.specs.declared.fault.IniFault.{IniFault}
 use Rattle.variant_ini.specs.declared.fault.IniFault.TheVariants as ini
 use Rattle.vengine.specs.declared.fault.FileFault.{FileFault}
 use Rattle.vengine.specs.declared.fault.FileFault.TheVariants as file
 use Rattle.vengine.specs.declared.fault.Fault.{Fault}
-use Rattle.vengine.specs.declared.fault.Fault.TheVariants.{Betza, Reach, Game, Strategy, Proof, Verdict, Ini, File}
+use Rattle.vengine.specs.declared.fault.Fault.TheVariants.{Betza, Reach, Game, Strategy, Proof, Verdict, Cert, CertFailure, Ini, File}
 use Rattle.vengine.specs.declared.setup.ReachFault.{ReachFault}
 use Rattle.vengine.specs.Setup.{Unplaced, NoSquare, Taken}
 use Rattle.vengine.specs.UnplacedView.{unplaced_of}
@@ -56,6 +58,8 @@ facts (Game fault) = (game.fault_text fault, OfInput)
 facts (Strategy fault) = (strategy.fault_text fault, OfInput)
 facts (Proof fault) = (proof.fault_text fault, OfInput)
 facts (Verdict verdict) = (verdict_text verdict, OfInput)
+facts (Cert fault) = (cert.fault_text fault, OfInput)
+facts (CertFailure verdict) = (stipulation.verdict_text verdict, OfInput)
 facts (Ini fault) = (ini_fault_text fault, OfInput)
 facts (File fault) = (file_fault_text fault, OfFile)
 

@@ -1,10 +1,13 @@
 -- What the commands print of a game.
-use Rattle.std.specs.Prelude.{ℕ, ◌-◌, ◌^◌, min, List, ◌++◌, codes}
+use Rattle.std.specs.Prelude.{ℕ, ◌-◌, ◌^◌, min, Bool, false, true, List, ◌++◌, Option, None, Some, codes}
 use Rattle.std.specs.Fmt.{decimal}
 use Rattle.rules_model.specs.Games.{result}
 use Rattle.fen_model.specs.Printing.{fen_text}
 use Rattle.game_play.specs.Perft.{perft}
 use Rattle.game_play.specs.Played.{Played, legal_in, story}
+use Rattle.stipulation.specs.declared.cert.Step.{Step}
+use Rattle.stipulation.specs.Searches.{help_found, self_found}
+use Rattle.cert_text.specs.Writing.{cert_text}
 use Rattle.vengine.specs.MovesText.{moves_text}
 use Rattle.vengine.specs.OutcomeText.{outcome_text}
 
@@ -19,3 +22,16 @@ status_of g = outcome_text (result g.rules (story g)) ++ codes "\n" ++ fen_text 
 -- `perft N`: how many lists of this many legal moves in turn there are; the greatest number of 128 bits stands for more, too
 unfoldable pub perft_of : ℕ → Played → List ℕ
 perft_of plies g = decimal (min (perft g.rules plies (story g).last) (2 ^ 128 - 1)) ++ codes "\n"
+
+-- the text of the certificate that was found: of a helpmate, or else of a selfmate
+abbrev pub cert_or_none : Bool → Option (List Step) → List ℕ
+cert_or_none help None = codes "none\n"
+cert_or_none help (Some steps) = cert_text help steps
+
+-- `stipulate self N`: a selfmate of the side that is to move, within this number of moves
+unfoldable pub self_mate_of : ℕ → Played → List ℕ
+self_mate_of moves g = cert_or_none false (self_found g.rules moves (story g))
+
+-- `stipulate help N`: a helpmate within this number of moves of each side
+unfoldable pub help_mate_of : ℕ → Played → List ℕ
+help_mate_of moves g = cert_or_none true (help_found g.rules moves (story g))

@@ -11,13 +11,16 @@ use Rattle.variant_ini.specs.declared.fault.IniFault.{IniFault}
 use Rattle.variant_ini.specs.declared.fault.IniFault.TheVariants as ini
 use Rattle.variant_ini.specs.Section.{Section}
 use Rattle.vengine.specs.declared.fault.Fault.{Fault}
-use Rattle.vengine.specs.declared.fault.Fault.TheVariants.{Betza, Game, Strategy, Proof, Ini}
+use Rattle.vengine.specs.declared.fault.Fault.TheVariants.{Betza, Game, Strategy, Proof, Cert, Ini}
 use Rattle.game_text.specs.declared.fault.NoGame.{NoGame}
 use Rattle.game_text.specs.declared.fault.NoGame.TheVariants as no_game
 use Rattle.strategy.specs.declared.fault.StrategyFault.TheVariants as strategy
 use Rattle.proof_text.specs.declared.fault.ProofFault.TheVariants as proof
 use Rattle.proof_text.specs.declared.taking.NoProof.{NoProof}
 use Rattle.proof_text.specs.declared.taking.NoProof.TheVariants as no_proof
+use Rattle.cert_text.specs.declared.fault.CertFault.TheVariants as cert
+use Rattle.cert_text.specs.declared.fault.NoCert.{NoCert}
+use Rattle.cert_text.specs.declared.fault.NoCert.TheVariants as no_cert
 use Rattle.vengine.specs.declared.halt.Halt.{Halt}
 use Rattle.vengine.specs.declared.halt.Halt.TheVariants as halt
 use Rattle.vengine.specs.declared.answers.Answer.{Answer}
@@ -84,6 +87,13 @@ proof_halt (no_proof.Faulty (proof.RefusedRules why)) = halt.Fault (Proof (proof
 proof_halt (no_proof.Faulty (proof.BadStart line why)) = halt.Fault (Proof (proof.BadStart line why))
 proof_halt (no_proof.Faulty (proof.BadHistory line)) = halt.Fault (Proof (proof.BadHistory line))
 proof_halt (no_proof.Faulty (proof.BadBody why)) = halt.Fault (Proof (proof.BadBody why))
+
+-- nor of a certificate
+abbrev pub cert_halt : NoCert → Halt
+cert_halt no_cert.Unread = halt.Stop stop.Source
+cert_halt (no_cert.Faulty cert.Memory) = halt.Stop stop.Memory
+cert_halt (no_cert.Faulty (cert.BadLine line)) = halt.Fault (Cert (cert.BadLine line))
+cert_halt (no_cert.Faulty (cert.Ended line)) = halt.Fault (Cert (cert.Ended line))
 
 -- this holds of the status and the text of the outcome. A run that was cut short has none. The sink has not cut it
 -- short, since it was given nothing yet

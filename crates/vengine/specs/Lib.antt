@@ -1,4 +1,6 @@
 pub mod Checking
+pub mod Certificates
+pub mod CertView
 pub mod CheckView
 pub mod Commands
 pub mod Fault

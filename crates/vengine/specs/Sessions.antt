@@ -9,7 +9,7 @@ use Rattle.io_ports.specs.Source.{Owed}
 use Rattle.game_text.specs.Playing.{words_of}
 use Rattle.variant_ini.specs.Section.{Section}
 use Rattle.words.specs.Asked.{Asked, asked}
-use Rattle.words.specs.Command.{Command, Uci, Xboard, Moves, Status, Perft, Check, Variants, Reach}
+use Rattle.words.specs.Command.{Command, Uci, Xboard, Moves, Status, Perft, Check, SelfMate, HelpMate, CheckCert, Variants, Reach}
 
 -- the protocol of a command that is a session
 abbrev pub dialect_of : Command → Option Dialect
@@ -19,6 +19,9 @@ dialect_of Moves = None
 dialect_of Status = None
 dialect_of (Perft plies) = None
 dialect_of Check = None
+dialect_of (SelfMate moves) = None
+dialect_of (HelpMate moves) = None
+dialect_of CheckCert = None
 dialect_of Variants = None
 dialect_of (Reach word square own enemy) = None
 

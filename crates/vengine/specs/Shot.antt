@@ -16,11 +16,12 @@ use Rattle.game_text.specs.declared.fault.GameFault.{GameFault}
 use Rattle.game_text.specs.Fault as game
 use Rattle.game_text.specs.GameText.{game_of}
 use Rattle.words.specs.Asked.{Asked}
-use Rattle.words.specs.Command.{Command, Uci, Xboard, Moves, Status, Perft, Check, Variants, Reach}
+use Rattle.words.specs.Command.{Command, Uci, Xboard, Moves, Status, Perft, Check, SelfMate, HelpMate, CheckCert, Variants, Reach}
 use Rattle.vengine.specs.declared.fault.Fault.{Fault}
+use Rattle.vengine.specs.Certificates.{SaysCertCheck}
 use Rattle.vengine.specs.Checking.{SaysCheck}
 use Rattle.vengine.specs.Fault.{error_line, fault_status, fault_text, unplaced_text}
-use Rattle.vengine.specs.GameTexts.{moves_of, status_of, perft_of}
+use Rattle.vengine.specs.GameTexts.{moves_of, status_of, perft_of, self_mate_of, help_mate_of}
 use Rattle.vengine.specs.ReachText.{reach_text}
 use Rattle.vengine.specs.Sessions.{to_do}
 use Rattle.vengine.specs.Setup.{Unplaced, setup_of}
@@ -59,6 +60,9 @@ SaysCommand sections Moves input status text = SaysOfGame moves_of sections inpu
 SaysCommand sections Status input status text = SaysOfGame status_of sections input status text
 SaysCommand sections (Perft plies) input status text = SaysOfGame (perft_of plies) sections input status text
 SaysCommand sections Check input status text = SaysCheck (entries sections) input status text
+SaysCommand sections (SelfMate moves) input status text = SaysOfGame (self_mate_of moves) sections input status text
+SaysCommand sections (HelpMate moves) input status text = SaysOfGame (help_mate_of moves) sections input status text
+SaysCommand sections CheckCert input status text = SaysCertCheck (entries sections) input status text
 SaysCommand sections Variants input status text = (status ≡ 0) × (text ≡ variants_text (entries sections))
 SaysCommand sections (Reach word square own enemy) input status text = SaysReach word square own enemy status text
 

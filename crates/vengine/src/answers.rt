@@ -13,8 +13,9 @@ ghost use Rattle.vengine.specs.StopView.{IsUnread, IsUnsaid};
 ghost use Rattle.vengine.specs.VariantsText.{variants_text};
 ghost use Rattle.words.specs.View.{HasPlies, command_seen};
 
+use crate::certificates::cert_check_text;
 use crate::checking::check_text;
-use crate::game::{game_in, moves_of, perft_of, status_of};
+use crate::game::{game_in, help_mate_of, moves_of, perft_of, self_mate_of, status_of};
 use crate::halt::Halt;
 use crate::opening::Opened;
 use crate::reach::reach_text;
@@ -102,6 +103,40 @@ fn perft<S: Source>(
     Ok(perft_of(alloc, plies, &game)?)
 }
 
+// The text of `stipulate self N`, whose input is a game text.
+fn self_mate<S: Source>(
+    alloc: Global,
+    moves: u16,
+    sections: &Sections,
+    source: &mut S,
+) -> Result<Text, Halt<'static>>
+    requires least { 1 ≤ moves }
+    requires most { moves ≤ 6 }
+    ensures heard { HeardLines (S.left source.old) (S.left source.new) (lines_of_game (entries sections.now))
+        (λ lines. Answers result (SaysOfGame (print.self_mate_of moves) sections.now lines)) }
+    ensures cause { HasCause (S.faults source.old) (S.faults source.new) (IsUnheard result) }
+{
+    let game = game_in(alloc, sections, source)?;
+    Ok(self_mate_of(alloc, moves, &game)?)
+}
+
+// The text of `stipulate help N`, whose input is a game text.
+fn help_mate<S: Source>(
+    alloc: Global,
+    moves: u16,
+    sections: &Sections,
+    source: &mut S,
+) -> Result<Text, Halt<'static>>
+    requires least { 1 ≤ moves }
+    requires most { moves ≤ 6 }
+    ensures heard { HeardLines (S.left source.old) (S.left source.new) (lines_of_game (entries sections.now))
+        (λ lines. Answers result (SaysOfGame (print.help_mate_of moves) sections.now lines)) }
+    ensures cause { HasCause (S.faults source.old) (S.faults source.new) (IsUnheard result) }
+{
+    let game = game_in(alloc, sections, source)?;
+    Ok(help_mate_of(alloc, moves, &game)?)
+}
+
 // The text of `variants`.
 fn variants(alloc: Global, sections: &Sections) -> Result<Text, Halt<'static>>
     ensures answers { Answers result (λ status text. (status ≡ 0) × (text ≡ variants_text (entries sections.now))) }
@@ -131,6 +166,9 @@ fn command_text<'a, S: Source>(
         Command::Status => status(alloc, sections, source),
         Command::Perft(plies) => perft(alloc, plies, sections, source),
         Command::Check => check_text(alloc, sections, source),
+        Command::SelfMate(moves) => self_mate(alloc, moves, sections, source),
+        Command::HelpMate(moves) => help_mate(alloc, moves, sections, source),
+        Command::CheckCert => cert_check_text(alloc, sections, source),
         Command::Variants => variants(alloc, sections),
         Command::Reach {
             word,

@@ -16,7 +16,7 @@ use crate::halt::Halt;
 use crate::stop::Stop;
 use crate::strategy_lines::read_strategy;
 use foundation::{Memory, Text};
-use game_text::{GameFault, read_problem_after};
+use game_text::{GameFault, Goal, Problem, read_problem_after};
 use io_ports::{Got, LineBuf, Source};
 use proof_text::{Proof, is_version, read_proof_after};
 use std::alloc::{AllocError, Global};
@@ -54,7 +54,7 @@ fn state_problem<S: Source>(
     ensures cause { HasCause (S.faults source.old) (S.faults source.new) (IsUnheard result) }
 {
     let variants = load(alloc, sections)?;
-    let problem = read_problem_after(alloc, &variants, source, line)?;
+    let problem: Problem<Goal> = read_problem_after(alloc, &variants, source, line)?;
     let game = &problem.game;
     // Tells the prover that the game's rules are fit and that it has at most 8,192 plies. Nothing is done.
     game.is_played();

@@ -5,11 +5,13 @@ ghost use Rattle.vengine.specs.Fault.{error_line, fault_status, fault_text};
 
 use crate::setup::ReachFault;
 use betza_text::BetzaFault;
+use cert_text::CertFault;
 use foundation::{Memory, Text};
 use game_text::{GameFault, write_fault};
 use proof_text::ProofFault;
 use std::alloc::{AllocError, Global};
 use std::fmt;
+use stipulation::CertVerdict;
 use strategy::StrategyFault;
 use strategy_check::Verdict;
 use variant_ini::IniFault;
@@ -80,6 +82,10 @@ pub enum Fault<'a> {
     Proof(ProofFault),
     /// The strategy of the input is not good.
     Verdict(Verdict),
+    /// The input says no certificate for its game.
+    Cert(CertFault),
+    /// The certificate of the input does not hold.
+    CertFailure(CertVerdict),
     /// The file of variants is not of its format.
     Ini(IniFault),
     /// The file of variants was not read.
@@ -119,6 +125,8 @@ impl<'a> Fault<'a> {
             Fault::Strategy(fault) => format!(in alloc; "error {fault}\n")?.into_bytes(),
             Fault::Proof(fault) => format!(in alloc; "error {fault}\n")?.into_bytes(),
             Fault::Verdict(verdict) => format!(in alloc; "error {verdict}\n")?.into_bytes(),
+            Fault::Cert(fault) => format!(in alloc; "error {fault}\n")?.into_bytes(),
+            Fault::CertFailure(verdict) => format!(in alloc; "error {verdict}\n")?.into_bytes(),
             Fault::Ini(fault) => format!(in alloc; "error {}\n", PrintedIni(*fault))?.into_bytes(),
             Fault::File(fault) => format!(in alloc; "error {fault}\n")?.into_bytes(),
         };

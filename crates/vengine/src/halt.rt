@@ -3,13 +3,14 @@ ghost use Rattle.std.specs.Prelude.{◌≡◌};
 ghost use Rattle.vengine.specs.declared.halt.Halt.TheVariants as halt;
 ghost use Rattle.vengine.specs.declared.fault.Fault.TheVariants as fault;
 ghost use Rattle.vengine.specs.declared.stop.Stop.TheVariants as stop;
-ghost use Rattle.vengine.specs.HaltView.{betza_halt, game_halt, ini_halt, proof_halt, strategy_halt};
+ghost use Rattle.vengine.specs.HaltView.{betza_halt, cert_halt, game_halt, ini_halt, proof_halt, strategy_halt};
 
 use crate::fault::Fault;
 use crate::setup::ReachFault;
 use crate::stop::Stop;
 use crate::strategy_lines::NoStrategy;
 use betza_text::BetzaFault;
+use cert_text::{CertFault, NoCert};
 use foundation::Memory;
 use game_text::NoGame;
 use proof_text::{NoProof, ProofFault};
@@ -106,6 +107,18 @@ impl<'a> From<NoProof> for Halt<'a> {
             NoProof::Faulty(ProofFault::Memory) => Halt::Stop(Stop::Memory),
             NoProof::Faulty(fault) => Halt::Fault(Fault::Proof(fault)),
             NoProof::Unread => Halt::Stop(Stop::Source),
+        }
+    }
+}
+
+impl<'a> From<NoCert> for Halt<'a> {
+    ghost from_gives = { λ why given. given ≡ cert_halt why };
+
+    fn from(why: NoCert) -> Self {
+        match why {
+            NoCert::Faulty(CertFault::Memory) => Halt::Stop(Stop::Memory),
+            NoCert::Faulty(fault) => Halt::Fault(Fault::Cert(fault)),
+            NoCert::Unread => Halt::Stop(Stop::Source),
         }
     }
 }

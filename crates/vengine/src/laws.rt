@@ -1,13 +1,16 @@
 //! What the definition of the program's answers comes to, as laws.
 ghost use Rattle.std.specs.Prelude.{◌≡◌, ◌<◌, ℕ, List, Some};
+ghost use Rattle.game_play.specs.Played.{Played};
 ghost use Rattle.io_ports.specs.Files.{Contents, Read};
 ghost use Rattle.io_ports.specs.Lines.{Line};
 ghost use Rattle.io_ports.specs.Trace.{faults_in};
 ghost use Rattle.vengine.specs.declared.fault.Fault.TheVariants.{File};
 ghost use Rattle.vengine.specs.declared.fault.FileFault.TheVariants.{Failed};
 ghost use Rattle.variant_rules.specs.Entries.{Named};
+ghost use Rattle.vengine.specs.Certificates.{IsMet, PrintsHelp, PrintsSelf, SaysCertCheck};
 ghost use Rattle.vengine.specs.Checking.{IsWon, SaysCheck};
 ghost use Rattle.vengine.specs.Commands.{IsOneShot};
+ghost use Rattle.vengine.specs.GameTexts.{help_mate_of, self_mate_of};
 ghost use Rattle.vengine.specs.Looked.{TellsReads};
 ghost use Rattle.vengine.specs.Sessions.{to_do};
 ghost use Rattle.vengine.specs.Shot.{SaysFault, Shot};
@@ -39,3 +42,17 @@ pub fn checked_games_are_won()
 {
     good_strategies_win::<Node, Edge>();
 }
+
+/// What `stipulate self N` and `stipulate help N` print of a game is the text of a certificate that holds within that many moves, or
+/// `none` exactly where there is no such selfmate or helpmate.
+pub fn printed_certificates_hold()
+    ensures selfmates { (g : Played) (n : ℕ) → PrintsSelf g n (self_mate_of n g) }
+    ensures helpmates { (g : Played) (n : ℕ) → PrintsHelp g n (help_mate_of n g) }
+{}
+
+/// `stipulate check` answers `holds` only where the certificate of the input holds, and then the stipulation can be met in the game of
+/// the input, whatever its history.
+pub fn checked_certificates_hold()
+    ensures { (variants : List Named) (input : List Line) (text : List ℕ)
+        → SaysCertCheck variants input 0 text → IsMet variants input }
+{}

@@ -2,6 +2,7 @@
 #![tactic(auto)]
 
 mod answers;
+mod certificates;
 mod checking;
 mod fault;
 mod game;
