@@ -1,0 +1,9 @@
+pub mod WindowLaws
+pub mod TrialLaws
+pub mod RootLaws
+pub mod NodeLaws
+pub mod GoingLaws
+pub mod HaltLaws
+pub mod PushLaws
+pub mod CopyLaws
+pub mod ListLaws

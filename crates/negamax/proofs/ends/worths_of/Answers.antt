@@ -1,0 +1,6 @@
+use Rattle.std.proofs.Common.{subst, sym}
+use Rattle.rules_model.specs.Fit.{IsFit}
+use Rattle.negamax.proofs.ends.worths_of.Goals as goal
+
+pub of-requires : goal.of-requires
+of-requires c = subst IsFit (sym c.rules.ensures) c.is_ready.ensures.fit

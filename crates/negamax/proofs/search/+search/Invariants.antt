@@ -1,0 +1,24 @@
+use Rattle.std.proofs.Common.{◌≡◌, ◌+◌, ◌-◌, length}
+use Rattle.game_line.specs.Lined.{legal_in, story_of_line}
+use Rattle.game_values.specs.Values.{play, tree_size, value}
+use Rattle.rules_model.specs.Games.{played}
+use Rattle.negamax.proofs.GoingLaws.{Going}
+use Rattle.negamax.proofs.search.+search.Given as goal
+
+abbrev pub decreases-search : goal.decreases-search
+decreases-search g l = l.depth
+
+abbrev pub decreases-loop-best : goal.decreases-loop-best
+decreases-loop-best g l = length l.desk.waiting.items
+
+abbrev pub invariant-loop-best : goal.invariant-loop-best
+invariant-loop-best g l =
+    let rules = l.fn.line.rules in
+    let story = story_of_line l.fn.line in
+    record {
+      line : l.line ≡ l.fn.line;
+      first : l.first ≡ length l.fn.desk.waiting.items;
+      going : Going g.W.Watch.gone (legal_in l.fn.line) (played rules story) (value (play rules) (l.depth - 1) (l.ply + 1))
+          (tree_size rules (l.depth - 1 + 4)) l.fn.desk.waiting.items l.window.alpha l.window.beta (value (play rules) l.depth l.ply story)
+          (tree_size rules (l.depth + 4) story) l.fn.watch l.watch l.desk.waiting.items l.best;
+    }

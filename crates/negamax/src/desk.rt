@@ -1,0 +1,183 @@
+//! What a worker keeps while it searches.
+ghost use Rattle.std.specs.Prelude.{◌≡◌, filter, All, IsErrOf, OnOk};
+ghost use Rattle.foundation.specs.Member.{Lists, Member};
+ghost use Rattle.playing.specs.Stance.{legal_in, repeat_in};
+ghost use Rattle.rules_model.specs.Next as Next;
+ghost use Rattle.io_ports.specs.declared.limits.SearchFault.TheVariants as fault;
+ghost use Rattle.watching.specs.declared.halt.Halt.{Halt};
+ghost use Rattle.watching.specs.declared.halt.Halt.TheVariants as halt;
+ghost use Rattle.negamax.specs.Trials.{captures_in, Copies, Pushes};
+
+use crate::candidates::Candidate;
+use crate::order::{NO_SLOT, Order, Slot, taking_score};
+use evaluation::Worths;
+use foundation::Memory;
+use hint_table::{Hint, HintTable};
+use io_ports::SearchFault;
+use playing::Board;
+use rules_model::{Move, MoveList, Position};
+use std::alloc::{AllocError, Global};
+use watching::Halt;
+
+/// What a worker keeps from one search to the next: the moves that wait to be searched, and what orders them. Two desks
+/// find the same values.
+#[derive(Drop)]
+pub struct Desk<'h> {
+    hints: &'h HintTable,
+    pub(crate) waiting: Vec<Candidate>,
+    listed: MoveList,
+    order: Order,
+}
+
+impl<'h> Desk<'h> {
+    /// An empty desk, some 200 KB, that takes its hints from the table and leaves its own there; or `Memory`.
+    pub fn new(alloc: Global, hints: &'h HintTable) -> Result<Desk<'h>, Memory> {
+        Ok(Desk {
+            hints,
+            waiting: Vec::new(alloc),
+            listed: MoveList {
+                items: Vec::new(alloc),
+            },
+            order: Order::new(alloc)?,
+        })
+    }
+
+    /// The slot that the table gives for the key. It may be that of another position.
+    pub(crate) fn hint(&self, key: u64) -> Slot {
+        self.hints.get(key).map_or(NO_SLOT, |hint| hint.slot)
+    }
+
+    /// Leaves in the table what a search came to, and remembers a move that cut.
+    pub(crate) fn leave(&mut self, key: u64, depth: u8, ply: u8, slot: Slot, best: i32, beta: i32)
+        ensures { self.new.waiting.items ≡ self.old.waiting.items }
+    {
+        let bound = best.clamp(-32_001, 32_001) as i16;
+        self.hints.put(key, Hint { depth, slot, bound });
+        if best >= beta {
+            self.order.remember(slot, ply, depth);
+        }
+    }
+
+    /// No move waits.
+    pub(crate) fn clear(&mut self) {
+        self.waiting.clear();
+    }
+
+    /// Lists the legal moves.
+    fn list(&mut self, board: &Board) -> Result<(), Memory>
+        ensures listed { OnOk result (Lists (λ m. Member m (legal_in board.now)) self.new.listed) }
+        ensures waiting { OnOk result (self.new.waiting.items ≡ self.old.waiting.items) }
+    {
+        self.listed.items.clear();
+        board.push_legal(&mut self.listed)?;
+        Ok(())
+    }
+
+    /// Has all legal moves wait, so many plies from the root.
+    fn wait_all(
+        &mut self,
+        board: &Board,
+        worths: &Worths,
+        hint: Slot,
+        ply: u8,
+    ) -> Result<(), Memory>
+        ensures { OnOk result
+            (Pushes (λ m. Member m (legal_in board.now)) self.old.waiting.items self.new.waiting.items) }
+    {
+        self.list(board)?;
+        push_all(
+            &mut self.waiting,
+            self.listed.items.as_slice(),
+            &self.order,
+            worths,
+            board.position(),
+            hint,
+            ply,
+        )?;
+        Ok(())
+    }
+
+    /// Has all legal captures wait.
+    fn wait_captures(&mut self, board: &Board, worths: &Worths) -> Result<(), Memory>
+        ensures { OnOk result
+            (Pushes (λ m. Member m (captures_in board.now)) self.old.waiting.items self.new.waiting.items) }
+    {
+        self.list(board)?;
+        push_taking(
+            &mut self.waiting,
+            self.listed.items.as_slice(),
+            board,
+            worths,
+        )?;
+        Ok(())
+    }
+
+    /// Has all legal moves wait, so many plies from the root; or what ends the search where there is no memory.
+    pub(crate) fn push_moves(
+        &mut self,
+        board: &Board,
+        worths: &Worths,
+        hint: Slot,
+        ply: u8,
+    ) -> Result<(), Halt>
+        ensures pushes { OnOk result
+            (Pushes (λ m. Member m (legal_in board.now)) self.old.waiting.items self.new.waiting.items) }
+        ensures memory { (why : Halt) → IsErrOf result why → why ≡ halt.Fault fault.Memory }
+    {
+        match self.wait_all(board, worths, hint, ply) {
+            Ok(()) => Ok(()),
+            Err(_) => Err(Halt::Fault(SearchFault::Memory)),
+        }
+    }
+
+    /// Has all legal captures wait; or what ends the search where there is no memory.
+    pub(crate) fn push_captures(&mut self, board: &Board, worths: &Worths) -> Result<(), Halt>
+        ensures pushes { OnOk result
+            (Pushes (λ m. Member m (captures_in board.now)) self.old.waiting.items self.new.waiting.items) }
+        ensures memory { (why : Halt) → IsErrOf result why → why ≡ halt.Fault fault.Memory }
+    {
+        match self.wait_captures(board, worths) {
+            Ok(()) => Ok(()),
+            Err(_) => Err(Halt::Fault(SearchFault::Memory)),
+        }
+    }
+}
+
+/// Has all the moves wait.
+fn push_all(
+    waiting: &mut Vec<Candidate>,
+    listed: &[Move],
+    order: &Order,
+    worths: &Worths,
+    p: &Position,
+    hint: Slot,
+    ply: u8,
+) -> Result<(), AllocError>
+    ensures { OnOk result (Copies listed.now waiting.old.items waiting.new.items) }
+{
+    for m in listed {
+        let score = order.score(worths, p, m, hint, ply);
+        waiting.push(Candidate { chosen: *m, score })?;
+    }
+    Ok(())
+}
+
+/// Has those of the legal moves wait that capture.
+fn push_taking(
+    waiting: &mut Vec<Candidate>,
+    listed: &[Move],
+    board: &Board,
+    worths: &Worths,
+) -> Result<(), AllocError>
+    requires { All (λ m. Member m (legal_in board.now)) listed.now }
+    ensures { OnOk result (Copies (filter (Next.captures board.now.rules (repeat_in board.now)) listed.now)
+        waiting.old.items waiting.new.items) }
+{
+    for m in listed {
+        if board.captures(m) {
+            let score = taking_score(worths, board.position(), m).unwrap_or(0);
+            waiting.push(Candidate { chosen: *m, score })?;
+        }
+    }
+    Ok(())
+}

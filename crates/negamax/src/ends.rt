@@ -1,0 +1,71 @@
+//! What ends are worth, and moves on the line.
+ghost use Rattle.std.specs.Prelude.{◌≡◌, ◌<◌, length};
+ghost use Rattle.evaluation.specs.Tallies.{IsTally};
+ghost use Rattle.foundation.specs.Member.{Member};
+ghost use Rattle.game_line.specs.Lined.{legal_in, pushed, story_of_line};
+ghost use Rattle.game_values.specs.Laws.{Within};
+ghost use Rattle.game_values.specs.Values as Values;
+ghost use Rattle.rules_model.specs.Games.{played};
+
+use evaluation::{Tally, Worths};
+use game_line::Line;
+use rules_model::{Move, Outcome, Side};
+
+/// The worth of a win at the root.
+const WIN: i32 = 32_000;
+
+/// What an end is worth to the side to move, so many plies from the root; `None` where the game goes on.
+fn worth(mover: Side, ply: u8, outcome: Outcome) -> Option<i32>
+    ensures { result ≡ Values.worth mover ply outcome }
+{
+    match outcome {
+        Outcome::Ongoing => None,
+        Outcome::Won(side, _) => {
+            let won = WIN - i32::from(ply);
+            Some(if side.is(mover) { won } else { -won })
+        }
+        Outcome::Drawn(_) => Some(0),
+    }
+}
+
+/// What the end of the line is worth to the side to move, so many plies from the root; `None` where it goes on.
+pub(crate) fn end_of(line: &Line, ply: u8) -> Option<i32>
+    ensures { result ≡ (Values.play line.now.rules).ended (story_of_line line.now) ply }
+{
+    worth(line.board().position().side, ply, line.outcome())
+}
+
+/// What kinds and squares are worth by the rules of the line.
+pub(crate) fn worths_of(line: &Line) -> Worths
+    ensures { result ≡ line.now.rules }
+{
+    let board = line.board();
+    board.is_ready();
+    Worths::of(board.rules())
+}
+
+/// What the last position is worth at a glance to the side to move.
+pub(crate) fn stand_pat(line: &Line, tally: Tally) -> i32
+    requires { IsTally line.now.rules (story_of_line line.now).last tally }
+    ensures is { result ≡ (Values.play line.now.rules).eval (story_of_line line.now) }
+    ensures within { Within result }
+{
+    tally.value(line.board().position().side)
+}
+
+/// Plays the legal move, and gives the sums of the position after it.
+pub(crate) fn play(line: &mut Line, worths: &Worths, tally: Tally, m: &Move) -> Tally
+    requires worths { worths.now ≡ line.old.rules }
+    requires tally { IsTally line.old.rules (story_of_line line.old).last tally }
+    requires legal { Member m.now (legal_in line.old) }
+    requires room { length line.old.moves < line.old.room }
+    ensures line { line.new ≡ pushed line.old m.now }
+    ensures story { story_of_line line.new ≡ played line.old.rules (story_of_line line.old) m.now }
+    ensures tally { IsTally line.new.rules (story_of_line line.new).last result }
+{
+    let board = line.board();
+    board.is_ready();
+    let next = worths.tally_after(tally, board.rules(), board.position(), m);
+    line.push(m);
+    next
+}

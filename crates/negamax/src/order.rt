@@ -1,0 +1,138 @@
+//! In which order moves are searched. No contract says anything of it, and no result depends on it.
+use evaluation::Worths;
+use foundation::Memory;
+use rules_model::{Move, Position, Promo, cell_at};
+use std::alloc::Global;
+
+/// A plain move as 16 bits: its form, where it goes from, or the kind that is dropped, and where it goes to.
+pub(crate) type Slot = u16;
+
+/// The slot of all moves that have none of their own: castles, promotions, gates.
+pub(crate) const NO_SLOT: Slot = 0;
+
+const GO: Slot = 1 << 14;
+
+const DROP: Slot = 2 << 14;
+
+/// How many slots there are.
+const SLOTS: usize = 3 << 14;
+
+/// How many plies from the root killers are kept.
+const PLIES: usize = 72;
+
+/// What the groups of moves are scored from, each above all scores of the next one.
+const HINTED: u32 = 1 << 31;
+
+const TAKING: u32 = 1 << 30;
+
+const KILLING: u32 = 1 << 29;
+
+/// The most that history counts of a move.
+const MOST_HISTORY: u32 = 1 << 28;
+
+pub(crate) fn slot_of(m: &Move) -> Slot {
+    match *m {
+        Move::Go {
+            from,
+            to,
+            promo: Promo::Stays,
+            gate: None,
+        } => GO | u16::from(from.0 & 127) << 7 | u16::from(to.0 & 127),
+        Move::Drop { kind, to } => DROP | u16::from(kind.0 & 127) << 7 | u16::from(to.0 & 127),
+        _ => NO_SLOT,
+    }
+}
+
+/// What moves did before: the last two that cut at each ply, and how often each cut.
+#[derive(Drop)]
+pub(crate) struct Order {
+    killers: [[Slot; 2]; PLIES],
+    history: Vec<u32>,
+}
+
+impl Order {
+    pub fn new(alloc: Global) -> Result<Order, Memory> {
+        let mut history = Vec::with_capacity(alloc, SLOTS)?;
+        for _ in 0..SLOTS {
+            history.push(0)?;
+        }
+        Ok(Order {
+            killers: [[NO_SLOT; 2]; PLIES],
+            history,
+        })
+    }
+
+    /// Remembers that the move cut so many plies from the root, with so many plies left.
+    pub fn remember(&mut self, slot: Slot, ply: u8, depth: u8) {
+        if slot == NO_SLOT {
+            return;
+        }
+        if let Some(killers) = self.killers.get_mut(ply as usize) {
+            if killers[0] != slot {
+                killers[1] = killers[0];
+                killers[0] = slot;
+            }
+        }
+        if let Some(count) = self.history.get_mut(slot as usize) {
+            let more = u32::from(depth) * u32::from(depth);
+            *count = count.saturating_add(more).min(MOST_HISTORY);
+        }
+    }
+
+    /// The score of a move that does not capture.
+    fn quiet_score(&self, slot: Slot, ply: u8) -> u32 {
+        if slot == NO_SLOT {
+            return 0;
+        }
+        if let Some(killers) = self.killers.get(ply as usize) {
+            if killers[0] == slot {
+                return KILLING + 1;
+            }
+            if killers[1] == slot {
+                return KILLING;
+            }
+        }
+        self.history.get(slot as usize).copied().unwrap_or(0)
+    }
+
+    /// The score of a move so many plies from the root, where a hint names a move.
+    pub fn score(&self, worths: &Worths, p: &Position, m: &Move, hint: Slot, ply: u8) -> u32 {
+        let slot = slot_of(m);
+        if slot != NO_SLOT && slot == hint {
+            return HINTED;
+        }
+        match taking_score(worths, p, m) {
+            Some(score) => TAKING.saturating_add(score),
+            None => self.quiet_score(slot, ply),
+        }
+    }
+}
+
+/// The most valuable victim first, and the least valuable piece that takes it.
+pub(crate) fn taking_score(worths: &Worths, p: &Position, m: &Move) -> Option<u32> {
+    let Move::Go {
+        from,
+        to,
+        promo,
+        ..
+    } = *m
+    else {
+        return None;
+    };
+    let victim = cell_at(&p.cells, to).map(|cell| u32::from(worths.kind(cell.kind)));
+    let raised = if promo == Promo::Stays { 0 } else { 1 << 10 };
+    if victim.is_none() && raised == 0 {
+        return None;
+    }
+    let own = cell_at(&p.cells, from).map_or(0, |cell| u32::from(worths.kind(cell.kind)));
+    Some((victim.unwrap_or(0) + raised) * 16 + (8192 - own.min(8192)) / 512)
+}
+
+/// The slot of the move, where it scored above the floor: the other side answers it by this. Else the slot so far.
+pub(crate) fn better(slot: Slot, m: &Move, floor: i32, answered: i32) -> Slot {
+    if floor < answered.saturating_neg() {
+        slot_of(m)
+    } else {
+        slot
+    }
+}

@@ -1,0 +1,73 @@
+//! The search of captures at the end of a line.
+ghost use Rattle.std.specs.Prelude.{◌≡◌, ◌+◌, ◌≤◌, length, IfOk, OnOk, IsErrOf};
+ghost use Rattle.evaluation.specs.Tallies.{IsTally};
+ghost use Rattle.game_line.specs.Lined.{story_of_line};
+ghost use Rattle.game_values.specs.Laws.{Within};
+ghost use Rattle.game_values.specs.Values.{play, quiet, tree_size};
+ghost use Rattle.watching.specs.declared.halt.Halt.{Halt};
+ghost use Rattle.negamax.specs.Windows.{Bounds};
+
+use crate::candidates::take_best;
+use crate::desk::Desk;
+use crate::ends::{end_of, play, stand_pat};
+use crate::window::{Window, raised};
+use evaluation::{Tally, Worths};
+use game_line::Line;
+use watching::{Halt, Watch};
+
+/// What the window asks of the value of standing pat, or of the best line of at most so many captures.
+pub(crate) fn search_quiet<W: Watch>(
+    line: &mut Line,
+    worths: &Worths,
+    desk: &mut Desk,
+    watch: &mut W,
+    tally: Tally,
+    limit: u8,
+    ply: u8,
+    window: Window,
+) -> Result<i32, Halt>
+    requires worths { worths.now ≡ line.old.rules }
+    requires tally { IsTally line.old.rules (story_of_line line.old).last tally }
+    requires room { length line.old.moves + limit ≤ line.old.room }
+    requires plies { ply + limit ≤ 80 }
+    ensures bounds { IfOk result (λ v. Bounds window.alpha window.beta v
+        (quiet (play line.old.rules) limit ply (story_of_line line.old))) }
+    ensures within { IfOk result Within }
+    ensures gone { OnOk result (W.gone watch.old watch.new (tree_size line.old.rules limit (story_of_line line.old))) }
+    ensures ended { (why : Halt) → IsErrOf result why
+        → W.ended watch.old watch.new (tree_size line.old.rules limit (story_of_line line.old)) why }
+    ensures line { OnOk result (line.new ≡ line.old) }
+    ensures waiting { OnOk result (desk.new.waiting.items ≡ desk.old.waiting.items) }
+{
+    watch.enter()?;
+    if let Some(worth) = end_of(line, ply) {
+        return Ok(worth);
+    }
+    let mut best = stand_pat(line, tally);
+    if limit == 0 {
+        return Ok(best);
+    }
+    if best >= window.beta {
+        return Ok(best);
+    }
+    let first = desk.waiting.len();
+    desk.push_captures(line.board(), worths)?;
+    while best < window.beta && desk.waiting.len() > first {
+        let m = take_best(&mut desk.waiting, first);
+        let next = play(line, worths, tally, &m);
+        let found = search_quiet(
+            line,
+            worths,
+            desk,
+            watch,
+            next,
+            limit - 1,
+            ply + 1,
+            window.of_reply(best),
+        )?;
+        line.back();
+        best = raised(best, found);
+    }
+    desk.waiting.truncate(first);
+    Ok(best)
+}

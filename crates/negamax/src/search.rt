@@ -1,0 +1,81 @@
+//! The search of all moves, ply by ply.
+ghost use Rattle.std.specs.Prelude.{◌≡◌, ◌+◌, ◌≤◌, length, IfOk, OnOk, IsErrOf};
+ghost use Rattle.evaluation.specs.Tallies.{IsTally};
+ghost use Rattle.game_line.specs.Lined.{story_of_line};
+ghost use Rattle.game_values.specs.Laws.{Within};
+ghost use Rattle.game_values.specs.Values.{play, tree_size, value};
+ghost use Rattle.watching.specs.declared.halt.Halt.{Halt};
+ghost use Rattle.negamax.specs.Windows.{Bounds};
+
+use crate::candidates::take_best;
+use crate::desk::Desk;
+use crate::ends::{end_of, play};
+use crate::order::better;
+use crate::quiet::search_quiet;
+use crate::window::{WORST, Window, raised};
+use evaluation::{Tally, Worths};
+use game_line::Line;
+use watching::{Halt, Watch};
+
+/// How many captures are searched behind the last ply.
+const CAPTURES: u8 = 4;
+
+/// What the window asks of the value of the line at a depth, so many plies from the root.
+pub(crate) fn search<W: Watch>(
+    line: &mut Line,
+    worths: &Worths,
+    desk: &mut Desk,
+    watch: &mut W,
+    tally: Tally,
+    depth: u8,
+    ply: u8,
+    window: Window,
+) -> Result<i32, Halt>
+    requires worths { worths.now ≡ line.old.rules }
+    requires tally { IsTally line.old.rules (story_of_line line.old).last tally }
+    requires room { length line.old.moves + depth + 4 ≤ line.old.room }
+    requires plies { ply + depth ≤ 70 }
+    ensures bounds { IfOk result (λ v. Bounds window.alpha window.beta v
+        (value (play line.old.rules) depth ply (story_of_line line.old))) }
+    ensures within { IfOk result Within }
+    ensures gone { OnOk result
+        (W.gone watch.old watch.new (tree_size line.old.rules (depth + 4) (story_of_line line.old))) }
+    ensures ended { (why : Halt) → IsErrOf result why
+        → W.ended watch.old watch.new (tree_size line.old.rules (depth + 4) (story_of_line line.old)) why }
+    ensures line { OnOk result (line.new ≡ line.old) }
+    ensures waiting { OnOk result (desk.new.waiting.items ≡ desk.old.waiting.items) }
+{
+    if depth == 0 {
+        let resting = search_quiet(line, worths, desk, watch, tally, CAPTURES, ply, window)?;
+        return Ok(resting);
+    }
+    watch.enter()?;
+    if let Some(worth) = end_of(line, ply) {
+        return Ok(worth);
+    }
+    let key = line.key();
+    let mut slot = desk.hint(key);
+    let first = desk.waiting.len();
+    desk.push_moves(line.board(), worths, slot, ply)?;
+    let mut best = WORST;
+    while best < window.beta && desk.waiting.len() > first {
+        let m = take_best(&mut desk.waiting, first);
+        let next = play(line, worths, tally, &m);
+        let found = search(
+            line,
+            worths,
+            desk,
+            watch,
+            next,
+            depth - 1,
+            ply + 1,
+            window.of_reply(best),
+        )?;
+        line.back();
+        slot = better(slot, &m, window.alpha.max(best), found);
+        best = raised(best, found);
+    }
+    desk.waiting.truncate(first);
+    desk.leave(key, depth, ply, slot, best, window.beta);
+    Ok(best)
+}
