@@ -1,0 +1,4 @@
+pub mod DistinctLemmas
+pub mod LineLemmas
+pub mod RootLaws
+pub mod SearchLaws

@@ -1,0 +1,5 @@
+use Rattle.alpha_beta.specs.Workers.{AreTrueFacts}
+use Rattle.alpha_beta.proofs.searching.gather.Given as goal
+
+abbrev pub invariant-loop-job : goal.invariant-loop-job
+invariant-loop-job l = AreTrueFacts l.game l.depth l.facts.items

@@ -1,0 +1,4 @@
+pub mod Roots
+pub mod Bests
+pub mod Workers
+pub mod Searches

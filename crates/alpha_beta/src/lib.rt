@@ -1,0 +1,14 @@
+//! The search: the exact value of a game at a depth, by workers that race over the root moves. The first of them runs
+//! in the caller and hears the outside.
+#![tactic(auto)]
+
+mod race;
+mod roots;
+mod searching;
+mod shared;
+#[cfg(test)]
+mod tests;
+mod work;
+
+pub use io_ports::{Limits, SearchFault, Stopped};
+pub use searching::{Searched, search};
