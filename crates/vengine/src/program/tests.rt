@@ -508,10 +508,10 @@ fn stipulations_are_answered(rt: HostRuntime) -> Result<(), Fail> {
         ),
         (
             &["help", "1"],
-            "xiangqi\n3k5/8R/9/p8/9/9/9/9/9/4K3R b - - 0 1\n",
+            "xiangqi\n3k5/8R/9/p8/9/9/9/9/9/4K2R1 b - - 0 1\n",
             "",
             "",
-            "helpmate 1\n1 a7a6\n2 i1i10\nend\n",
+            "helpmate 1\n1 a7a6\n2 h1h10\nend\n",
         ),
         (&["check"], FORCED, "\nself 1\n", FORCED_SELFMATE, "holds\n"),
         (&["check"], HELPED, "\nhelp 6\n", HELPMATE, "holds\n"),
@@ -531,7 +531,7 @@ fn stipulations_are_answered(rt: HostRuntime) -> Result<(), Fail> {
         ),
         (
             &["check"],
-            "xiangqi\n3k5/8R/9/p8/9/9/9/9/9/4K3R b - - 0 1\n",
+            "xiangqi\n3k5/8R/9/p8/9/9/9/9/9/4K2R1 b - - 0 1\n",
             "\nhelp 1\n",
             "helpmate 1\n1 a7a6\n2 i9i10\nend\n",
             "error CertVerdict 6 Unfinished 2\n",
