@@ -61,10 +61,6 @@ module _ {W X : Type 0} (gone : W → W → ℕ → Type 0) (legal : List Move) 
           let there : Member t.taken h.rest = member-permutation t.taken (t.taken ∷ t.rest) h.rest (IsPermutation-sym h.rest (t.taken ∷ t.rest) are) (inl refl) in
           subst (λ n. Member n legal) (sym t.chosen) (h.legal_moves t.taken there)
 
-      -- some waits
-      pub going_some : (first : ℕ) → first ≡ length front → first < length list → 0 < length h.rest
-      going_some first e l = let k = ap length h.is in let n = length-append front h.rest in omega arith
-
       -- the nodes of one move more fit
       pub going_fits : (first : ℕ) (list' : List Candidate) (m : Move) (y : X) → first ≡ length front → Takes first list list' m → y ≡ after m
           → h.entered.nodes + size y ≤ most

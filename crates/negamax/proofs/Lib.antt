@@ -4,6 +4,5 @@ pub mod RootLaws
 pub mod NodeLaws
 pub mod GoingLaws
 pub mod HaltLaws
-pub mod PushLaws
 pub mod CopyLaws
 pub mod ListLaws
