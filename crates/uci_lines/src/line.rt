@@ -1,0 +1,67 @@
+//! The command of a line.
+ghost use Rattle.std.specs.Prelude.{◌≡◌};
+ghost use Rattle.std.specs.List.{filter};
+ghost use Rattle.std.specs.Option.{option_copied};
+ghost use Rattle.foundation.specs.Cuts.{is_blank, parts_after};
+ghost use Rattle.game_text.specs.Playing.{is_word};
+ghost use Rattle.session_model.specs.UciLines.{command_of};
+ghost use Rattle.uci_lines.specs.View.{command_with, kind_named, line_got};
+
+use io_ports::{Got, UciWord, find_command};
+
+/// What a line asks, but for what the words after its command say.
+#[derive(Clone, Copy, Debug, PartialEq, Eq)]
+pub enum Kind {
+    Uci,
+    IsReady,
+    NewGame,
+    SetOption,
+    Position,
+    Go,
+    /// `stop` and `ponderhit`, which stop a search and do nothing else.
+    Stop,
+    /// `debug`, `register`, and a line without a command word, which do nothing.
+    Idle,
+    Moves,
+    Status,
+    Strategy,
+    Quit,
+    /// The line is longer than a line may be.
+    TooLong,
+}
+
+fn kind_named(word: UciWord) -> Kind
+    ensures { result ≡ kind_named word }
+{
+    match word {
+        UciWord::Uci => Kind::Uci,
+        UciWord::IsReady => Kind::IsReady,
+        UciWord::UciNewGame => Kind::NewGame,
+        UciWord::SetOption => Kind::SetOption,
+        UciWord::Position => Kind::Position,
+        UciWord::Go => Kind::Go,
+        UciWord::Stop => Kind::Stop,
+        UciWord::PonderHit => Kind::Stop,
+        UciWord::Debug => Kind::Idle,
+        UciWord::Register => Kind::Idle,
+        UciWord::Moves => Kind::Moves,
+        UciWord::Status => Kind::Status,
+        UciWord::Strategy => Kind::Strategy,
+        UciWord::Quit => Kind::Quit,
+    }
+}
+
+/// The command of the line that was taken, and the text after its command word, where the line goes on. What stands
+/// before the command word is skipped.
+pub fn read_line<'a>(next: Got, line: &'a [u8]) -> (Kind, Option<&'a [u8]>)
+    ensures { command_with result.0 (filter is_word (parts_after is_blank (option_copied result.1)))
+        ≡ command_of (line_got next line.now) }
+{
+    match next {
+        Got::Line => match find_command(line) {
+            Some((word, after)) => (kind_named(word), after),
+            None => (Kind::Idle, None),
+        },
+        Got::TooLong | Got::End | Got::Failed => (Kind::TooLong, None),
+    }
+}

@@ -1,0 +1,127 @@
+use super::*;
+use io_ports::Got;
+use rules_model::{Move, Promo, Side, Square};
+use std::alloc::Global;
+use std::test::Fail;
+
+// The `go` of a line.
+fn go_of<'a>(alloc: Global, line: &'a [u8]) -> Result<Go<'a>, Fail> {
+    let (_kind, rest) = read_line(Got::Line, line);
+    let words = words_in(alloc, rest).map_err(|_| "no memory")?;
+    Ok(read_go(alloc, &words).map_err(|_| "no memory")?)
+}
+
+fn go(from: u8, to: u8) -> Move {
+    Move::Go {
+        from: Square(from),
+        to: Square(to),
+        promo: Promo::Stays,
+        gate: None,
+    }
+}
+
+// Each row: a line, its command, and the words after that, joined again.
+#[test]
+fn commands(rt: HostRuntime) -> Result<(), Fail> {
+    let alloc = rt.alloc();
+    let rows: [(&[u8], Kind, &[u8]); 16] = [
+        (b"uci", Kind::Uci, b""),
+        (b" \t isready now", Kind::IsReady, b"now"),
+        (b"ucinewgame", Kind::NewGame, b""),
+        (
+            b"setoption name Hash  value\t7",
+            Kind::SetOption,
+            b"name Hash value 7",
+        ),
+        (b"position startpos", Kind::Position, b"startpos"),
+        (b"please go depth 3", Kind::Go, b"depth 3"),
+        (b"stop", Kind::Stop, b""),
+        (b"ponderhit", Kind::Stop, b""),
+        (b"debug on", Kind::Idle, b"on"),
+        (b"register later", Kind::Idle, b"later"),
+        (b"moves status", Kind::Moves, b"status"),
+        (b"status", Kind::Status, b""),
+        (b"strategy", Kind::Strategy, b""),
+        (b"x quit y", Kind::Quit, b"y"),
+        (b"QUIT", Kind::Idle, b""),
+        (b"", Kind::Idle, b""),
+    ];
+    for (line, want, rest) in rows {
+        let (kind, after) = read_line(Got::Line, line);
+        assert!(rt; kind == want, "{line:?}: {kind:?}");
+        let words = words_in(alloc, after).map_err(|_| "no memory")?;
+        let text = joined(alloc, &words).map_err(|_| "no memory")?;
+        assert!(rt; text.items.as_slice() == rest, "{line:?}");
+    }
+    assert!(rt;
+        read_line(Got::TooLong, b"quit").0 == Kind::TooLong,
+        "too long"
+    );
+    Ok(())
+}
+
+// Each row: a line, the last depth, the share of each of four workers, White's time, and whether the best move is held.
+#[test]
+fn limits(rt: HostRuntime) -> Result<(), Fail> {
+    let rows: [(&[u8], u8, Option<u64>, Option<u64>, bool); 14] = [
+        (b"go", 64, None, None, true),
+        (b"go depth 3", 3, None, None, false),
+        (b"go depth 0", 1, None, None, false),
+        (b"go depth 99", 64, None, None, false),
+        (b"go depth 3 depth x", 3, None, None, false),
+        (b"go depth nodes 10", 64, Some(3), None, false),
+        (
+            b"go nodes 18446744073709551615",
+            64,
+            Some(4_611_686_018_427_387_904),
+            None,
+            false,
+        ),
+        (b"go nodes 18446744073709551616", 64, None, None, true),
+        (b"go infinite depth 2", 2, None, None, true),
+        (
+            b"go wtime 60000 winc 10 movestogo 60",
+            64,
+            None,
+            Some(1005),
+            false,
+        ),
+        (b"go wtime 1000 movestogo 1", 64, None, Some(500), false),
+        (b"go btime 60000", 64, None, None, true),
+        (b"go movetime 5 wtime 60000", 64, None, Some(5), false),
+        (b"go mate 3 ponder", 64, None, None, true),
+    ];
+    for (line, depth, share, time, held) in rows {
+        let go = go_of(rt.alloc(), line)?;
+        assert!(rt; last_depth(&go) == depth, "{line:?}: depth");
+        assert!(rt; share_of(&go, 4) == share, "{line:?}: share");
+        assert!(rt; time_for(&go, Side::White) == time, "{line:?}: time");
+        assert!(rt; is_held(&go, Side::White) == held, "{line:?}: held");
+    }
+    assert!(rt;
+        last_mate(101) == 100 && last_mate(0) == 1 && number(b"+1").is_none(),
+        "numbers"
+    );
+    Ok(())
+}
+
+// The pawns' moves from d2 and e2 are legal: squares are 12 * rank + file, both counted from 0.
+#[test]
+fn roots(rt: HostRuntime) -> Result<(), Fail> {
+    let legal = [go(15, 27), go(15, 39), go(16, 28), go(16, 40)];
+    let rows: [(&[u8], &[Move]); 4] = [
+        (b"go", &[go(15, 27), go(15, 39), go(16, 28), go(16, 40)]),
+        (b"go searchmoves e2e4 d2d4 e2e4", &[go(15, 39), go(16, 40)]),
+        (b"go searchmoves e2e4 depth d2d4", &[go(16, 40)]),
+        (
+            b"go searchmoves e7e5",
+            &[go(15, 27), go(15, 39), go(16, 28), go(16, 40)],
+        ),
+    ];
+    for (line, want) in rows {
+        let go = go_of(rt.alloc(), line)?;
+        let roots = roots_of(rt.alloc(), &go, &legal).map_err(|_| "no memory")?;
+        assert!(rt; roots.as_slice() == want, "{line:?}");
+    }
+    Ok(())
+}

@@ -1,0 +1,58 @@
+//! The words of a line.
+ghost use Rattle.std.specs.Prelude.{◌≡◌, ◌∷◌, ◌++◌, IfOk, OnOk};
+ghost use Rattle.std.specs.List.{filter, join_with_byte};
+ghost use Rattle.std.specs.Option.{option_copied};
+ghost use Rattle.foundation.specs.Cuts.{is_blank, parts_after};
+ghost use Rattle.game_text.specs.Playing.{is_word};
+ghost use Rattle.session_model.specs.UciWords as UciWords;
+ghost use Rattle.uci_lines.specs.View.{texts};
+
+use foundation::{Memory, Text, cut_word};
+use std::alloc::Global;
+
+/// The words of a text, which spaces and tabs separate. No text has none.
+pub fn words_in<'a>(alloc: Global, text: Option<&'a [u8]>) -> Result<Vec<&'a [u8]>, Memory>
+    ensures { IfOk result (λ words. texts words.items ≡ filter is_word (parts_after is_blank (option_copied text.entry))) }
+{
+    let mut words = Vec::new(alloc);
+    let mut left = text;
+    while let Some(rest) = left {
+        let (word, after) = cut_word(rest);
+        if !word.is_empty() {
+            words.push(word)?;
+        }
+        left = after;
+    }
+    Ok(words)
+}
+
+fn append_word(text: &mut Text, word: &[u8]) -> Result<(), Memory>
+    ensures { OnOk result (text.new ≡ text.old ++ 32 ∷ word.now) }
+{
+    text.items.push(b' ')?;
+    text.items.extend_from_slice(word)?;
+    Ok(())
+}
+
+// Appends a blank and a word for each.
+fn append_others(items: Vec<u8>, words: &[&[u8]]) -> Result<Text, Memory>
+    ensures { IfOk result (λ text. text ≡ join_with_byte 32 (items.items ∷ texts words.now)) }
+{
+    let mut text = Text { items };
+    for word in words {
+        append_word(&mut text, word)?;
+    }
+    Ok(text)
+}
+
+/// The words, joined by single blanks.
+pub fn joined(alloc: Global, words: &[&[u8]]) -> Result<Text, Memory>
+    ensures { IfOk result (λ text. text ≡ UciWords.joined (texts words.now)) }
+{
+    let mut items = Vec::new(alloc);
+    let Some((first, others)) = words.split_first() else {
+        return Ok(Text { items });
+    };
+    items.extend_from_slice(first)?;
+    append_others(items, others)
+}
