@@ -1,12 +1,15 @@
 -- The words of a line, one after another.
-use Rattle.std.proofs.Common.{◌≡◌, ◌∙◌, ℕ, zero, suc, ◌+◌, ◌-◌, ◌*◌, ◌/◌, ◌%◌, ◌≤◌, ◌<◌, min, ◌||◌, arith, List, [], ◌∷◌, ◌++◌, length, take, get_or, Some, None, refl, sym, ap, add-one}
+use Rattle.std.proofs.Common.{◌≡◌, ◌∙◌, ℕ, Option, zero, suc, ◌+◌, ◌-◌, ◌*◌, ◌/◌, ◌%◌, ◌≤◌, ◌<◌, min, ◌||◌, arith, List, [], ◌∷◌, ◌++◌, length, take, drop, Bool, true, false, if◌then◌else◌, append_assoc, get_or, Some, None, refl, sym, ap, add-one}
+use Rattle.std.specs.Prelude.{codes, option_and_then, unwrap_or}
+use Rattle.std.specs.Str.{str_to_ascii_lowercase}
+use Rattle.std.specs.Option.{option_map}
 use Rattle.std.specs.Borrow.{Bor}
 use Rattle.std.specs.Str.{bytes_eq}
 use Rattle.std.specs.List.{list_any, filter, join_with_byte, slice_split}
 use Rattle.std.proofs.Math.Nat.{add-div_right, div-add-mod', mod-lt}
 use Rattle.std.proofs.lemmas.Nat.{div-mul-add}
 use Rattle.std.proofs.Math.Seq.{take-suc}
-use Rattle.std.proofs.lemmas.List.{map-append, take_all}
+use Rattle.std.proofs.lemmas.List.{append-nil, drop_all, map-append, take_all}
 use Rattle.foundation.specs.Cuts.{is_blank}
 use Rattle.io_ports.specs.Command.{first_command}
 use Rattle.io_ports.specs.Lines as lines
@@ -20,8 +23,8 @@ use Rattle.session_model.proofs.Lists.{join_snoc}
 use Rattle.session_model.specs.UciGo.{Go, GoRead, Nothing, asks_nothing, go_read, go_word, go_words}
 use Rattle.session_model.specs.Numbers.{shared}
 use Rattle.session_model.specs.UciLines as UciLines
-use Rattle.session_model.specs.UciLines.{command_found, command_named, command_of}
-use Rattle.session_model.specs.UciWords.{Word}
+use Rattle.session_model.specs.UciLines.{command_found, command_named, command_of, name_words, setting_named, setting_of, value_said, value_text}
+use Rattle.session_model.specs.UciWords.{Word, joined, words_before, words_behind}
 use Rattle.uci_lines.specs.View.{command_with, kind_named, line_got, texts}
 
 -- ---- commands
@@ -127,3 +130,87 @@ pub joined_more : (first : List ℕ) (words : List (Bor (List ℕ))) (i : ℕ) (
 joined_more first words i d text after below so here =
     here ∙ ap (λ t. t ++ 32 ∷ (get_or words i d).now) so
     ∙ sym (ap (λ ws. join_with_byte 32 (first ∷ ws)) (texts_more words i d below) ∙ join_more first (texts (take i words)) (get_or words i d).now)
+
+-- ---- the words before and after a word
+
+drop_suc : {X : Type 0} (xs : List X) (i : ℕ) (d : X) → i < length xs → drop i xs ≡ get_or xs i d ∷ drop (suc i) xs
+drop_suc [] i d below = absurd (omega (arith, below))
+drop_suc (x ∷ xs) zero d below = refl
+drop_suc (x ∷ xs) (suc i) d below = drop_suc xs i d (omega (arith, below))
+
+drop_here : {X : Type 0} (xs : List X) (i : ℕ) (d : X) → i < length xs → drop i xs ≡ get_or xs i d ∷ drop (i + 1) xs
+drop_here xs i d below = let next : suc i ≡ i + 1 = omega arith in drop_suc xs i d below ∙ ap (λ n. get_or xs i d ∷ drop n xs) next
+
+-- the words before the first such word, as far as these
+abbrev pub IsBefore : List ℕ → List (Bor (List ℕ)) → ℕ → Type 0
+IsBefore word words i = words_before word (texts words) ≡ texts (take i words) ++ words_before word (texts (drop i words))
+
+-- the words after it, as far as these
+abbrev pub IsBehind : List ℕ → List (Bor (List ℕ)) → ℕ → Type 0
+IsBehind word words i = words_behind word (texts words) ≡ words_behind word (texts (drop i words))
+
+module _ (word : List ℕ) (words : List (Bor (List ℕ))) (i : ℕ) (d : Bor (List ℕ)) (below : i < length words) where
+  before_as : (b : Bool) → bytes_eq (get_or words i d).now word ≡ b
+      → words_before word (texts (drop i words)) ≡ (if b then [] else (get_or words i d).now ∷ words_before word (texts (drop (i + 1) words)))
+  unfolding words_before
+  before_as b is =
+      ap (λ ws. words_before word (texts ws)) (drop_here words i d below)
+      ∙ ap (λ b. if b then [] else (get_or words i d).now ∷ words_before word (texts (drop (i + 1) words))) is
+
+  pub before_next : bytes_eq (get_or words i d).now word ≡ false → IsBefore word words i → IsBefore word words (i + 1)
+  before_next differs so =
+      so ∙ ap (λ ws. texts (take i words) ++ ws) (before_as false differs)
+      ∙ sym (ap (λ ws. ws ++ words_before word (texts (drop (i + 1) words))) (texts_more words i d below)
+      ∙ append_assoc (texts (take i words)) ((get_or words i d).now ∷ []) (words_before word (texts (drop (i + 1) words))))
+
+  pub before_here : bytes_eq (get_or words i d).now word ≡ true → IsBefore word words i → texts (take i words) ≡ words_before word (texts words)
+  before_here same so = sym (so ∙ ap (λ ws. texts (take i words) ++ ws) (before_as true same) ∙ append-nil (texts (take i words)))
+
+  behind_as : (b : Bool) → bytes_eq (get_or words i d).now word ≡ b
+      → words_behind word (texts (drop i words)) ≡ (if b then Some (texts (drop (i + 1) words)) else words_behind word (texts (drop (i + 1) words)))
+  unfolding words_behind
+  behind_as b is =
+      ap (λ ws. words_behind word (texts ws)) (drop_here words i d below)
+      ∙ ap (λ b. if b then Some (texts (drop (i + 1) words)) else words_behind word (texts (drop (i + 1) words))) is
+
+  pub behind_next : bytes_eq (get_or words i d).now word ≡ false → IsBehind word words i → IsBehind word words (i + 1)
+  behind_next differs so = so ∙ behind_as false differs
+
+  pub behind_here : bytes_eq (get_or words i d).now word ≡ true → IsBehind word words i → Some (texts (drop (i + 1) words)) ≡ words_behind word (texts words)
+  behind_here same so = sym (so ∙ behind_as true same)
+
+pub before_all : (word : List ℕ) (words : List (Bor (List ℕ))) (i : ℕ) → length words ≤ i → IsBefore word words i → texts words ≡ words_before word (texts words)
+unfolding words_before
+before_all word words i all so =
+    sym (so ∙ ap (λ ws. texts (take i words) ++ words_before word (texts ws)) (drop_all i words all)
+    ∙ append-nil (texts (take i words)) ∙ ap texts (take_all i words all))
+
+pub behind_all : (word : List ℕ) (words : List (Bor (List ℕ))) (i : ℕ) → length words ≤ i → IsBehind word words i → None ≡ words_behind word (texts words)
+unfolding words_behind
+behind_all word words i all so = sym (so ∙ ap (λ ws. words_behind word (texts ws)) (drop_all i words all))
+
+-- those after it, or none
+pub behind_or : (found : Option (Bor (List (Bor (List ℕ))))) (other : Bor (List (Bor (List ℕ)))) → other.now ≡ []
+    → texts (unwrap_or found other).now ≡ unwrap_or (option_map (λ ws. texts ws.now) found) []
+behind_or None other none = ap texts none
+behind_or (Some words) other none = refl
+
+-- ---- options
+
+value_where : (name : Word) (found : Option (List Word)) → words_behind name (unwrap_or found []) ≡ option_and_then (words_behind name) found
+unfolding words_behind
+value_where name None = refl
+value_where name (Some words) = refl
+
+pub setting_from : (words said : List Word) (name : List ℕ) (value : Option (List ℕ))
+    → said ≡ unwrap_or (words_behind (codes "name") words) []
+    → name ≡ str_to_ascii_lowercase (joined (words_before (codes "value") said))
+    → value ≡ value_text (words_behind (codes "value") said) → setting_named name value ≡ setting_of words
+unfolding setting_of
+setting_from words said name value are named valued =
+    let same_name : name ≡ str_to_ascii_lowercase (joined (name_words words)) =
+    named ∙ ap (λ ws. str_to_ascii_lowercase (joined (words_before (codes "value") ws))) are in
+    let same_value : value ≡ value_said words =
+    valued ∙ ap (λ ws. value_text (words_behind (codes "value") ws)) are
+    ∙ ap value_text (value_where (codes "value") (words_behind (codes "name") words)) in
+    ap (λ n. setting_named n value) same_name ∙ ap (setting_named (str_to_ascii_lowercase (joined (name_words words)))) same_value

@@ -132,7 +132,8 @@ fn set_number(go: &mut Go, key: Key, word: &[u8])
 
 // Another word is what the one before it waits for, or is skipped.
 fn fill<'a>(go: &mut Go<'a>, awaited: Awaited, word: &'a [u8]) -> Result<Awaited, Memory>
-    ensures { IfOk result (λ after. read_seen go.new after ≡ UciGo.filled (go_seen go.old) (awaited_seen awaited) word.now) }
+    ensures { IfOk result (λ after. read_seen go.new after
+        ≡ UciGo.filled (go_seen go.old) (awaited_seen awaited) word.now) }
 {
     match awaited {
         Awaited::Nothing => Ok(Awaited::Nothing),
@@ -148,7 +149,8 @@ fn fill<'a>(go: &mut Go<'a>, awaited: Awaited, word: &'a [u8]) -> Result<Awaited
 }
 
 fn take_word<'a>(go: &mut Go<'a>, awaited: Awaited, word: &'a [u8]) -> Result<Awaited, Memory>
-    ensures { IfOk result (λ after. read_seen go.new after ≡ go_read (UciGo.go_word word.now) (read_seen go.old awaited) word.now) }
+    ensures { IfOk result (λ after. read_seen go.new after
+        ≡ go_read (UciGo.go_word word.now) (read_seen go.old awaited) word.now) }
 {
     match go_word(word) {
         Some(GoWord::Takes(key)) => Ok(Awaited::Number(key)),

@@ -5,10 +5,10 @@ ghost use Rattle.session_model.specs.UciGo as UciGo;
 ghost use Rattle.uci_lines.specs.GoView.{go_seen};
 ghost use Rattle.uci_lines.specs.View.{texts};
 ghost use Rattle.std.specs.List.{list_any};
-ghost use Rattle.std.specs.Str.{bytes_eq};
 ghost use Rattle.rules_model.specs.MoveText.{text_of};
 
 use crate::Go;
+use crate::words::is_text;
 use foundation::Memory;
 use move_text::write_move;
 use rules_model::{Move, Side};
@@ -57,8 +57,8 @@ pub fn allowance(left: u64, increment: u64, moves: Option<u64>) -> u64
     within.max(1)
 }
 
-/// The time from the first reading of the clock to the deadline, in milliseconds, where a side is to move and there is a
-/// deadline.
+/// The time from the first reading of the clock to the deadline, in milliseconds, where a side is to move and there is
+/// a deadline.
 pub fn time_for(go: &Go, side: Side) -> Option<u64>
     ensures { result ≡ UciGo.time_for (go_seen go.now) side }
 {
@@ -81,12 +81,6 @@ pub fn is_held(go: &Go, side: Side) -> bool
             && go.nodes.is_none()
             && go.mate.is_none()
             && time_for(go, side).is_none()
-}
-
-fn is_text(word: &[u8], text: &[u8]) -> bool
-    ensures { result ≡ bytes_eq word.now text.now }
-{
-    word == text
 }
 
 fn is_named(words: &[&[u8]], m: &Move) -> bool

@@ -1,4 +1,5 @@
 use super::*;
+use foundation::Text;
 use io_ports::Got;
 use rules_model::{Move, Promo, Side, Square};
 use std::alloc::Global;
@@ -9,6 +10,18 @@ fn go_of<'a>(alloc: Global, line: &'a [u8]) -> Result<Go<'a>, Fail> {
     let (_kind, rest) = read_line(Got::Line, line);
     let words = words_in(alloc, rest).map_err(|_| "no memory")?;
     Ok(read_go(alloc, &words).map_err(|_| "no memory")?)
+}
+
+// The name of an option, and its value.
+fn shown(setting: &Setting) -> (&'static str, Option<&Text>) {
+    match setting {
+        Setting::Threads(value) => ("Threads", value.as_ref()),
+        Setting::Hash(value) => ("Hash", value.as_ref()),
+        Setting::MateFacts(value) => ("MateFacts", value.as_ref()),
+        Setting::VariantPath(value) => ("VariantPath", value.as_ref()),
+        Setting::Variant(value) => ("UCI_Variant", value.as_ref()),
+        Setting::Unknown => ("", None),
+    }
 }
 
 fn go(from: u8, to: u8) -> Move {
@@ -122,6 +135,75 @@ fn roots(rt: HostRuntime) -> Result<(), Fail> {
         let go = go_of(rt.alloc(), line)?;
         let roots = roots_of(rt.alloc(), &go, &legal).map_err(|_| "no memory")?;
         assert!(rt; roots.as_slice() == want, "{line:?}");
+    }
+    Ok(())
+}
+
+// Each row: the words after `setoption`, the option, and its value.
+#[test]
+fn options(rt: HostRuntime) -> Result<(), Fail> {
+    let alloc = rt.alloc();
+    let rows: [(&[u8], &str, Option<&[u8]>); 9] = [
+        (b"name tHREADS value 4", "Threads", Some(b"4")),
+        (b"name Hash value 1 \t 2", "Hash", Some(b"1 2")),
+        (b"value 7 name Hash", "Hash", None),
+        (b"name MateFacts value", "MateFacts", None),
+        (
+            b"name VariantPath value a value b",
+            "VariantPath",
+            Some(b"a value b"),
+        ),
+        (
+            b"name UCI_Variant value chess",
+            "UCI_Variant",
+            Some(b"chess"),
+        ),
+        (b"name UCI Variant value chess", "", None),
+        (b"Hash value 7", "", None),
+        (b"", "", None),
+    ];
+    for (line, option, value) in rows {
+        let words = words_in(alloc, Some(line)).map_err(|_| "no memory")?;
+        let setting = read_setting(alloc, &words).map_err(|_| "no memory")?;
+        let (name, said) = shown(&setting);
+        assert!(rt; name == option, "{line:?}: {name}");
+        match said {
+            Some(text) => assert!(rt; value == Some(text.items.as_slice()), "{line:?}: value"),
+            None => assert!(rt; value.is_none(), "{line:?}: no value"),
+        }
+    }
+    Ok(())
+}
+
+// Each row: the words after `position`, the start, and how many moves follow.
+#[test]
+fn positions(rt: HostRuntime) -> Result<(), Fail> {
+    let alloc = rt.alloc();
+    let rows: [(&[u8], &[u8], usize); 6] = [
+        (b"startpos moves e2e4 e7e5", b"startpos", 2),
+        (b"startpos now moves e2e4", b"startpos", 1),
+        (b"startpos e2e4", b"startpos", 0),
+        (b"fen 8/8  w - moves a1a2", b"8/8 w -", 1),
+        (b"fen", b"", 0),
+        (b"now startpos", b"none", 0),
+    ];
+    for (line, start, count) in rows {
+        let words = words_in(alloc, Some(line)).map_err(|_| "no memory")?;
+        match read_placing(alloc, &words).map_err(|_| "no memory")? {
+            Placing::Startpos(moves) => {
+                assert!(rt;
+                    start == b"startpos".as_slice() && moves.len() == count,
+                    "{line:?}"
+                );
+            }
+            Placing::Fen(fen, moves) => {
+                assert!(rt;
+                    start == fen.items.as_slice() && moves.len() == count,
+                    "{line:?}"
+                );
+            }
+            Placing::NoPosition => assert!(rt; start == b"none".as_slice(), "{line:?}"),
+        }
     }
     Ok(())
 }
