@@ -8,8 +8,6 @@ mod judging;
 mod node_table;
 mod plan;
 mod solving;
-#[cfg(test)]
-mod tests;
 
 pub use answer::Settled;
 pub use solving::solve_watched;

@@ -75,7 +75,7 @@ fn setting_named(name: &[u8], value: Option<Text>) -> Setting
     }
 }
 
-// The words after `name`, or none.
+// The words after the first of this word, or none.
 fn behind_or_none<'b, 'a>(words: &'b [&'a [u8]], word: &[u8]) -> &'b [&'a [u8]]
     ensures { texts result.now ≡ unwrap_or (words_behind word.now (texts words.now)) [] }
 {

@@ -166,7 +166,7 @@ fn options(rt: HostRuntime) -> Result<(), Fail> {
         let words = words_in(alloc, Some(line)).map_err(|_| "no memory")?;
         let setting = read_setting(alloc, &words).map_err(|_| "no memory")?;
         let (name, said) = shown(&setting);
-        assert!(rt; name == option, "{line:?}: {name}");
+        assert!(rt; name == option, "{line:?}: option");
         match said {
             Some(text) => assert!(rt; value == Some(text.items.as_slice()), "{line:?}: value"),
             None => assert!(rt; value.is_none(), "{line:?}: no value"),
