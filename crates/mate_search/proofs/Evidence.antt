@@ -41,8 +41,8 @@ module _ (rules : Rules) (a : Side) (g : Story) where
     counter = ap (λ (p : Position). p.counter) (behind-is g.last h.line) ∙ h.counter;
   }
 
-  pub evidence : (n : ℕ) (h : AnyLines.IsUnsettled Position Repeat Move (seen_by rules a) n (as_any g)) (x : Repeat) (cs : List ℕ) → h.repeat ≡ x → h.counters ≡ cs → IsEvidence rules g a n x cs
-  evidence n h x cs d e =
+  pub evidence : (n : ℕ) (h : AnyLines.IsUnsettled Position Repeat Move (seen_by rules a) n (as_any g)) (x : Repeat) (cs : List ℕ) → h.repeat ≡ x → h.counters ≡ cs → 0 < length cs → IsEvidence rules g a n x cs
+  evidence n h x cs d e some =
       let counted = h.counted in
       let near = h.close in
       record {
@@ -58,4 +58,5 @@ module _ (rules : Rules) (a : Side) (g : Story) where
         };
         repeat = d;
         counters = e;
+        some = some;
       }

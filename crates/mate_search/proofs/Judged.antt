@@ -24,7 +24,7 @@ use Rattle.mate_search.specs.Reached.{OnLine}
 use Rattle.mate_search.specs.Tables.{nodes, highest, most, GoesOnAt, IsNext, IsSound}
 use Rattle.mate_search.specs.Mates.{moves_win, counters_at, stands_often, IsTabled}
 use Rattle.mate_settle.proofs.Lines.{lines-some, lines-mono, lines-after}
-use Rattle.mate_search.proofs.Shown.{good-inside, good-near}
+use Rattle.mate_search.proofs.Shown.{good-inside, good-near, low-rank}
 
 -- ---- counts
 
@@ -214,6 +214,9 @@ module _ (r : Game Position Repeat Move) (l : GameLaws Position Repeat Move r) (
       (λ i v h e. let k = (clear i v h).0 in let f = (l.decides (r.repeat v.position) (r.repeat g.last)).1 e in cc)
       (λ i v h f. below_fold r.fold _ (clear i v h).1 f)
 
+  pub low-ranks : (i : ℕ) (v : Node) → slice_get s i ≡ Some v → v.rank ≤ most
+  low-ranks = low-rank r l once g plan.whole plan s b t.same t.root t.sound t.stands.0 t.stands.1 t.small start_open t.played t.capped t.low
+
   -- ---- evidence
 
   on_win : plan.exact ≡ true → (i : ℕ) (v : Node) → slice_get s i ≡ Some v → OnWin Position Repeat Move r plan.whole g (r.repeat v.position) (r.counter v.position)
@@ -317,6 +320,14 @@ module _ {X : Type 0} (f : X → ℕ) (test : X → Bool) where
   thin-member (x ∷ xs) c h = by_cases (test x)
       (λ e. first_member x xs c (subst (Member c) (thin-more x xs e) h) e (thin-member xs c))
       (λ e. later x xs c (thin-member xs c (subst (Member c) (thin-less x xs e) h)))
+
+  -- a list with a member that passes
+  pub thin-some : (xs : List X) (i : ℕ) (w : X) → slice_get xs i ≡ Some w → test w ≡ true → 0 < length (thinned xs)
+  thin-some [] i w h e = cc
+  thin-some (x ∷ xs) zero w h e = let k : x ≡ w = cc in subst (λ ys. 0 < length ys) (sym (thin-more x xs (ap test k ∙ e))) (omega arith)
+  thin-some (x ∷ xs) (suc i) w h e = by_cases (test x)
+      (λ z. subst (λ ys. 0 < length ys) (sym (thin-more x xs z)) (omega arith))
+      (λ z. subst (λ ys. 0 < length ys) (sym (thin-less x xs z)) (thin-some xs i w h e))
 
   abbrev IsApart : List X → Type 0
   IsApart xs = (i j : ℕ) (x y : X) → slice_get xs i ≡ Some x → slice_get xs j ≡ Some y → test x ≡ true → test y ≡ true → f x ≡ f y → i ≡ j

@@ -49,7 +49,7 @@ use Rattle.mate_search.specs.Counts.{nodes_at, counters_of, is_often, IsTabledIn
 use Rattle.mate_search.specs.Mates.{stands_often, IsTabled}
 use Rattle.mate_search.specs.Tabled.{IsKept}
 use Rattle.mate_search.specs.Tables.{nodes, most, IsNext, Stands}
-use Rattle.mate_search.proofs.Judged.{attack-found, attack-lines, defence-lines, root-next, inside-good, near-good, root-again-at, too-often, whole-lines}
+use Rattle.mate_search.proofs.Judged.{attack-found, attack-lines, defence-lines, root-next, inside-good, near-good, root-again-at, too-often, low-ranks, thin-some, whole-lines}
 use Rattle.mate_search.proofs.Evidence.{evidence}
 
 -- ---- the frame of a game
@@ -116,8 +116,8 @@ module _ (f : Frame) (g : Story) where
   all-from {P = P} [] h = All-nil P
   all-from {P = P} (v ∷ s) h = All-cons P v s (h 0 v refl) (all-from s (λ i u e. h (suc i) u e))
 
-  as-evidence : (n : ℕ) (x : Repeat) (cs : List ℕ) (u : AnyLines.IsUnsettled Position Repeat Move (seen_in f) n (as_any g)) → u.repeat ≡ x → u.counters ≡ cs → IsEvidence f.rules g f.attacker n x cs
-  as-evidence n x cs u d e = evidence f.rules f.attacker g n u x cs d e
+  as-evidence : (n : ℕ) (x : Repeat) (cs : List ℕ) (u : AnyLines.IsUnsettled Position Repeat Move (seen_in f) n (as_any g)) → u.repeat ≡ x → u.counters ≡ cs → 0 < length cs → IsEvidence f.rules g f.attacker n x cs
+  as-evidence n x cs u d e some = evidence f.rules f.attacker g n u x cs d e some
 
   often-seen : (s : List Node) (x : Repeat) → is_often f.rules.n_fold g s x ≡ stands_often (seen_in f) (as_any g) s x
   unfolding nodes_of
@@ -145,6 +145,7 @@ module _ (f : Frame) (g : Story) where
       good = of_own f.rules f.attacker nodes g plan.whole s good;
       sound = all-from s (λ i v h. (kept.written i v h).sound);
       numbers = all-from s (λ i v h. (kept.written i v h).number);
+      ranks = all-from {P = λ (v : Node). v.rank ≤ 65535} s (λ i v h. let low = low-ranks (seen_in f) (laws f.rules f.attacker) once (is_in f.blocked) plan (as_any g) s t i v h in omega arith);
     }
 
     pub inside-shown : IsKept f plan s → plan.exact ≡ false → IsShown f.rules g f.attacker plan.whole (record { attacker = f.attacker; nodes = s })
@@ -157,12 +158,14 @@ module _ (f : Frame) (g : Story) where
     pub again-evidence : plan.exact ≡ true → (i : ℕ) (v : Node) (cs : List ℕ) → 0 < i → slice_get s i ≡ Some v → repeat_of v.position ≡ repeat_of g.last → cs ≡ g.last.counter ∷ v.position.counter ∷ [] → IsEvidence f.rules g f.attacker plan.whole (repeat_of g.last) cs
     again-evidence z i v cs o h e d =
         let u = root-again-at (seen_in f) (laws f.rules f.attacker) once (is_in f.blocked) plan (as_any g) s t z i v o h e in
-        as-evidence plan.whole (repeat_of g.last) cs u.0 u.1 (u.2 ∙ sym d)
+        as-evidence plan.whole (repeat_of g.last) cs u.0 u.1 (u.2 ∙ sym d) (subst (λ ys. 0 < length ys) (sym d) (omega arith))
 
-    pub often-evidence : plan.exact ≡ true → (x : Position) (cs : List ℕ) → (repeat_of x ≡ repeat_of g.last → ⊥) → is_often f.rules.n_fold g s (repeat_of x) ≡ true → cs ≡ counters_of (repeat_of x) s → IsEvidence f.rules g f.attacker plan.whole (repeat_of x) cs
-    often-evidence z x cs n h d =
-        let u = too-often (seen_in f) (laws f.rules f.attacker) once (is_in f.blocked) plan (as_any g) s t z x n (sym (often-seen s (repeat_of x)) ∙ h) in
-        as-evidence plan.whole (repeat_of x) cs u.0 u.1 (u.2 ∙ sym d)
+    pub often-evidence : plan.exact ≡ true → (i : ℕ) (v : Node) (cs : List ℕ) → slice_get s i ≡ Some v → (repeat_of v.position ≡ repeat_of g.last → ⊥) → is_often f.rules.n_fold g s (repeat_of v.position) ≡ true → cs ≡ counters_of (repeat_of v.position) s → IsEvidence f.rules g f.attacker plan.whole (repeat_of v.position) cs
+    often-evidence z i v cs at n h d =
+        let x = repeat_of v.position in
+        let u = too-often (seen_in f) (laws f.rules f.attacker) once (is_in f.blocked) plan (as_any g) s t z v.position n (sym (often-seen s x) ∙ h) in
+        let some : 0 < length (counters_of x s) = thin-some (λ (w : Node). w.position.counter) (λ (w : Node). same_repeat (repeat_of w.position) x) s i v at ((repeat-decides x x).1 refl) in
+        as-evidence plan.whole x cs u.0 u.1 (u.2 ∙ sym d) (subst (λ ys. 0 < length ys) (sym d) some)
 
 pub played-in : (g : Played) (f : Frame) → f.rules ≡ g.rules → IsPlayed g → AnyGame.IsPlayed (seen_in f) (as_any (story g))
 played-in g f e h = subst (λ (x : Rules). AnyGame.IsPlayed (seen_by x f.attacker) (as_any (story g))) (sym e) (game-played g.rules f.attacker g.start g.moves h.game)

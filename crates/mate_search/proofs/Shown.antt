@@ -58,12 +58,12 @@ module _ (r : Game Position Repeat Move) (l : GameLaws Position Repeat Move r) (
     top-at : slice_get s 0 ≡ Some top.node
     top-at = subst (λ i. slice_get s i ≡ Some top.node) top-first top.at
 
-    all_made : (i : ℕ) (v : Node) → slice_get s i ≡ Some v → v.rank ≤ most
-    all_made zero v h = let e : top.node ≡ v = let a = top-at in cc in let low = top.low in subst (λ (x : Node). x.rank ≤ most) e (omega arith)
-    all_made (suc i) v h = sound.done i v h
+    pub low-rank : (i : ℕ) (v : Node) → slice_get s i ≡ Some v → v.rank ≤ most
+    low-rank zero v h = let e : top.node ≡ v = let a = top-at in cc in let low = top.low in subst (λ (x : Node). x.rank ≤ most) e (omega arith)
+    low-rank (suc i) v h = sound.done i v h
 
     row : (i : ℕ) (v : Node) → slice_get s i ≡ Some v → IsRow r plan s v
-    row i v h = sound.rows i v h (all_made i v h)
+    row i v h = sound.rows i v h (low-rank i v h)
 
     -- an edge leads to a node of fewer plies
     plies_down : (v w : Node) (m : Move) → r.repeat w.position ≡ r.repeat (r.next v.position m) → w.rank ≤ left_after (r.attacking v.position) v.rank → (r.attacking v.position ≡ true → 0 < v.rank) → plies r w.rank w.position < plies r v.rank v.position

@@ -45,7 +45,7 @@ returns-then-is_often c =
     let often : is_often f.rules.n_fold g s (repeat_of v.position) ≡ true = subst (λ z. is_often f.rules.n_fold g z (repeat_of v.position) ≡ true) c.as_slice.ensures.value (sym c.is_often.ensures ∙ c.if-is_often.true) in
     let cs : c.in_ok-counters-2.counters ≡ counters_of (repeat_of v.position) s = subst (λ z. c.in_ok-counters-2.counters ≡ counters_of (repeat_of v.position) z) c.as_slice-then-is_often.ensures.value c.in_ok-counters-2.ensures in
     subst (λ x. IsEvidence f.rules g f.attacker plan.whole x c.in_ok-counters-2.counters) (sym c.repeat_of-then-is_often.ensures)
-    (often-evidence f g plan s t c.requires.exact v.position c.in_ok-counters-2.counters other often cs)
+    (often-evidence f g plan s t c.requires.exact i v c.in_ok-counters-2.counters at other often cs)
 
 pub loop-i-preserved : goal.loop-i-preserved
 loop-i-preserved c =
