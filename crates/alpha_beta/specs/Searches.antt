@@ -1,6 +1,5 @@
 -- What a search answers, and what it did meanwhile.
 use Rattle.std.specs.Prelude.{◌≡◌, ℕ, ◌≤◌, List, Option, Some, None}
-use Rattle.std.specs.Borrow.{MutBor}
 use Rattle.std.specs.declared.result.Result.{Result}
 use Rattle.rules_model.specs.declared.moves.Move.{Move}
 use Rattle.io_ports.specs.declared.dialect.Dialect.{Dialect}
@@ -8,6 +7,7 @@ use Rattle.io_ports.specs.declared.limits.Limits.{Limits}
 use Rattle.io_ports.specs.declared.limits.SearchFault.{SearchFault}
 use Rattle.io_ports.specs.declared.limits.Stopped.{Stopped}
 use Rattle.io_ports.specs.declared.limits.Stopped.TheVariants as stopped
+use Rattle.io_ports.specs.declared.ports.Ports.{Ports}
 use Rattle.game_play.specs.Played.{Played, story}
 use Rattle.game_values.specs.Bounds.{search_bound}
 use Rattle.watching.specs.declared.halt.Cut.{Cut}
@@ -77,9 +77,10 @@ module _ {S K C : Type 0} (w : World S K C) where
     pub entered : ℕ
     pub watched : Watched w dialect limits a (moment source sink clock entered) text bound end
 
--- the same ports are lent
-pub record AreSamePorts {S K C : Type 0} (source source' : MutBor S) (sink sink' : MutBor K) (clock clock' : MutBor C)
-    : Type 0 where
-  pub source_is : source'.ghost_name ≡ source.ghost_name
-  pub sink_is : sink'.ghost_name ≡ sink.ghost_name
-  pub clock_is : clock'.ghost_name ≡ clock.ghost_name
+-- the same ports are lent, with the same gate, in the same dialect
+pub record AreSamePorts {S K C G : Type 0} (ports ports' : Ports S K C G) : Type 0 where
+  pub source_is : ports'.source.ghost_name ≡ ports.source.ghost_name
+  pub sink_is : ports'.sink.ghost_name ≡ ports.sink.ghost_name
+  pub clock_is : ports'.clock.ghost_name ≡ ports.clock.ghost_name
+  pub gate_is : ports'.gate ≡ ports.gate
+  pub dialect_is : ports'.dialect ≡ ports.dialect

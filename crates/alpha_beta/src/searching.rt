@@ -309,8 +309,7 @@ pub fn search<R: Threads + Sync, S: Source, K: Sink, C: Clock, G: Gate + Sync>(
         (world S.left S.owed S.faults K.taken K.faults C.given C.count C.last) ports.entry.now.dialect
         (moment ports.entry.now.source.now ports.entry.now.sink.now ports.entry.now.clock.now 0)
         ports.exit.now.source.now ports.exit.now.sink.now ports.exit.now.clock.now (bound_of game.now depth) why }
-    ensures same { AreSamePorts ports.entry.now.source ports.exit.now.source
-        ports.entry.now.sink ports.exit.now.sink ports.entry.now.clock ports.exit.now.clock }
+    ensures same { AreSamePorts ports.entry.now ports.exit.now }
 {
     let mut line = LineBuf::new(alloc)?;
     let outcome = search_lent(
