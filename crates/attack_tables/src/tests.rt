@@ -186,12 +186,11 @@ fn kings_are_attacked(rt: HostRuntime) -> Result<(), Memory> {
         ("Ra2", false, false),
     ] {
         let p = position(pieces);
-        assert_eq!(rt; tables.king_attacked(&p, Side::White), white, "{pieces}");
-        assert_eq!(rt; tables.king_attacked(&p, Side::Black), black, "{pieces}");
-        assert_eq!(rt;
-            tables.occupied(&p),
-            men(&p.cells, Side::White).or(men(&p.cells, Side::Black))
-        );
+        let found = [
+            tables.king_attacked(&p, Side::White),
+            tables.king_attacked(&p, Side::Black),
+        ];
+        assert_eq!(rt; found, [white, black], "{pieces}");
     }
     Ok(())
 }
@@ -317,24 +316,27 @@ struct Goers<'a> {
 fn expect_masks(rt: &impl Abort, tables: &Tables, row: &Goers) {
     let masks = tables.pawn_masks(row.side);
     let plain = masks.plain.and(block(row.board.0, row.board.1));
-    assert_eq!(rt; plain, set_of_blocks(row.plain), "plain");
-    assert_eq!(rt; plain.and(masks.once), set_of_blocks(row.once), "once");
-    assert_eq!(rt; plain.and(masks.twice), set_of_blocks(row.twice), "twice");
-    assert_eq!(rt; plain.and(masks.left), set_of_blocks(row.left), "left");
-    assert_eq!(rt; plain.and(masks.right), set_of_blocks(row.right), "right");
+    let rows = [
+        (plain, row.plain),
+        (plain.and(masks.once), row.once),
+        (plain.and(masks.twice), row.twice),
+        (plain.and(masks.left), row.left),
+        (plain.and(masks.right), row.right),
+    ];
+    for (k, (found, blocks)) in rows.iter().enumerate() {
+        assert_eq!(rt; *found, set_of_blocks(blocks), "row {k}");
+    }
 }
 
 #[test]
 fn pawns_shift(rt: HostRuntime) -> Result<(), Memory> {
     let tables = Tables::new(rt.alloc(), &chess())?;
     let white = tables.pawn_masks(Side::White);
-    assert_eq!(rt; white.ahead, Shift::Up(12));
-    assert_eq!(rt; white.leftward, Shift::Up(11));
-    assert_eq!(rt; white.rightward, Shift::Up(13));
+    let found = [white.ahead, white.leftward, white.rightward];
+    assert_eq!(rt; found, [Shift::Up(12), Shift::Up(11), Shift::Up(13)]);
     let black = tables.pawn_masks(Side::Black);
-    assert_eq!(rt; black.ahead, Shift::Down(12));
-    assert_eq!(rt; black.leftward, Shift::Down(11));
-    assert_eq!(rt; black.rightward, Shift::Down(13));
+    let found = [black.ahead, black.leftward, black.rightward];
+    assert_eq!(rt; found, [Shift::Down(12), Shift::Down(11), Shift::Down(13)]);
     Ok(())
 }
 

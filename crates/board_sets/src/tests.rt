@@ -78,10 +78,9 @@ fn leads_to<R: Abort>(
         ..position(pieces)
     };
     let sets = sets_of(&rules, &p.cells, p.side).after(&rules, &p, m);
-    assert_eq!(rt; sets.own, set_of(own), "{m:?}");
-    assert_eq!(rt; sets.enemies, set_of(enemies), "{m:?}");
-    assert_eq!(rt; sets.kings, set_of(kings), "{m:?}");
-    assert_eq!(rt; sets.enemy_kings, set_of(&["d8"]), "{m:?}");
+    let found = [sets.own, sets.enemies, sets.kings, sets.enemy_kings];
+    let wanted = [set_of(own), set_of(enemies), set_of(kings), set_of(&["d8"])];
+    assert_eq!(rt; found, wanted, "{m:?}");
 }
 
 #[test]
@@ -89,25 +88,32 @@ fn sets_are_those_of_the_board(rt: HostRuntime) {
     let rules = chess();
     let p = position("Ke1 Pe4 Ke5 kd8 pd5 qh5");
     let white = sets_of(&rules, &p.cells, Side::White);
-    assert_eq!(rt; white.own, set_of(&["e1", "e4", "e5"]));
-    assert_eq!(rt; white.enemies, set_of(&["d8", "d5", "h5"]));
-    assert_eq!(rt; white.kings, set_of(&["e1", "e5"]));
-    assert_eq!(rt; white.enemy_kings, set_of(&["d8"]));
-    assert_eq!(rt; white.pawns, set_of(&["e4", "d5"]));
-    assert_eq!(rt; white.own_pawns(), set_of(&["e4"]));
-    assert_eq!(rt; white.own_pieces(), set_of(&["e1", "e5"]));
-    assert_eq!(rt;
-        white.occupied(),
-        set_of(&["e1", "e4", "e5", "d8", "d5", "h5"])
-    );
+    let rows: [(Set, &[&str]); 8] = [
+        (white.own, &["e1", "e4", "e5"]),
+        (white.enemies, &["d8", "d5", "h5"]),
+        (white.kings, &["e1", "e5"]),
+        (white.enemy_kings, &["d8"]),
+        (white.pawns, &["e4", "d5"]),
+        (white.own_pawns(), &["e4"]),
+        (white.own_pieces(), &["e1", "e5"]),
+        (white.occupied(), &["e1", "e4", "e5", "d8", "d5", "h5"]),
+    ];
+    for (row, (set, squares)) in rows.iter().enumerate() {
+        assert_eq!(rt; *set, set_of(squares), "row {row}");
+    }
+}
+
+#[test]
+fn sets_are_turned_and_put(rt: HostRuntime) {
+    let rules = chess();
+    let p = position("Ke1 Pe4 Ke5 kd8 pd5 qh5");
+    let white = sets_of(&rules, &p.cells, Side::White);
     assert_eq!(rt; white.turned(), sets_of(&rules, &p.cells, Side::Black));
     let empty = white.put(&rules, Side::White, square("d8"), None);
-    assert_eq!(rt; empty.enemies, set_of(&["d5", "h5"]));
-    assert_eq!(rt; empty.enemy_kings, EMPTY);
-    assert_eq!(rt;
-        white.put(&rules, Side::White, Square(120), p.cells[0]),
-        white
-    );
+    let found = [empty.enemies, empty.enemy_kings];
+    assert_eq!(rt; found, [set_of(&["d5", "h5"]), EMPTY]);
+    let beyond = white.put(&rules, Side::White, Square(120), p.cells[0]);
+    assert_eq!(rt; beyond, white);
 }
 
 #[test]

@@ -40,26 +40,40 @@ fn the_last_check_ends_the_game(rt: HostRuntime) {
     assert_eq!(rt; end_of(&rules, &p, Side::Black), won);
 }
 
+/// Chess where a side loses that has none of its queens any more, or wins so.
+fn queens_are_wanted(value: Value) -> Rules {
+    let mut rules = chess();
+    rules.extinction = Some(value);
+    rules.extinct_kinds[kind(b'q').0 as usize] = true;
+    rules
+}
+
 #[test]
 fn a_side_dies_out(rt: HostRuntime) {
-    let mut rules = chess();
-    rules.extinction = Some(Value::Loss);
-    rules.extinct_kinds[kind(b'q').0 as usize] = true;
+    let mut rules = queens_are_wanted(Value::Loss);
     let p = position("Ke1 Qd1 ke8");
     let won = Outcome::Won(Side::White, Cause::Extinction);
-    assert_eq!(rt; end_of(&rules, &p, Side::White), won);
-    assert_eq!(rt; end_of(&rules, &p, Side::Black), won);
+    let ends = [
+        end_of(&rules, &p, Side::White),
+        end_of(&rules, &p, Side::Black),
+    ];
+    assert_eq!(rt; ends, [won, won]);
     // the other side has too few queens
     rules.extinct_least = 2;
     assert_eq!(rt; end_of(&rules, &p, Side::White), Outcome::Ongoing);
-    // all kinds together: Black has one piece and White two
+}
+
+// All kinds together: Black has one piece and White two.
+#[test]
+fn a_side_has_few_pieces(rt: HostRuntime) {
+    let mut rules = queens_are_wanted(Value::Win);
+    let p = position("Ke1 Qd1 ke8");
+    rules.extinct_least = 2;
     rules.extinct_all = true;
     assert_eq!(rt; end_of(&rules, &p, Side::White), Outcome::Ongoing);
     rules.extinct_most = 1;
+    let won = Outcome::Won(Side::Black, Cause::Extinction);
     assert_eq!(rt; end_of(&rules, &p, Side::White), won);
-    rules.extinction = Some(Value::Win);
-    let lost = Outcome::Won(Side::Black, Cause::Extinction);
-    assert_eq!(rt; end_of(&rules, &p, Side::White), lost);
 }
 
 #[test]

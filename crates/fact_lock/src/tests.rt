@@ -1,6 +1,6 @@
 ghost use Rattle.std.specs.Prelude.{◌≡◌, ◌+◌, ◌^◌, ◌<◌, ◌≤◌, length, vec_len, vec_capacity, nat_lt, if◌then◌else◌, Some, None};
 ghost use Rattle.std.specs.Option.{option_and_then};
-ghost use Rattle.fact_lock.specs.Passes.{IsPassOf};
+ghost use Rattle.fact_lock.specs.Passes.{IsPassOf, all_parts};
 
 use crate::{Journal, Lock, Pass};
 use std::sync::Wait;
@@ -105,40 +105,40 @@ fn strays(numbers: &Numbers, end: u64) -> usize {
         .count()
 }
 
-#[test]
-fn two_threads_add_each_entry_once(rt: HostRuntime) -> Result<(), Fail> {
-    let items = Vec::with_capacity(rt.alloc(), 200)?;
-    let (lock, pass) = Lock::new(rt.alloc(), Numbers { most: 200, items })?;
-    let (one, other) = lock.split(pass);
-    let (pass, grows) = add_two_hundred(&rt, &lock, one, other, 0);
-    let numbers = lock.close(pass);
-    assert!(rt; grows);
-    assert_eq!(rt; (numbers.len(), strays(&numbers, 200)), (200, 0));
-    Ok(())
+// Four threads add a hundred numbers each.
+fn add_four_hundred<R: Threads + Wait + Sync>(
+    rt: &R,
+    lock: &Lock<Numbers>,
+    pass: Pass<Numbers>,
+) -> (Pass<Numbers>, bool)
+    requires lock { IsPassOf lock.now pass }
+    requires parts { pass.parts ≡ all_parts }
+    ensures { IsPassOf lock.now result.0 × (result.0.parts ≡ all_parts) }
+{
+    let (a, b) = lock.split(pass);
+    let (a, c) = lock.split(a);
+    let (a, d) = lock.split(a);
+    let ((one, one_grows), (other, other_grows)) = join(
+        rt,
+        move || -> (Pass<Numbers>, bool)
+            requires { IsPassOf lock.now a × IsPassOf lock.now b }
+            ensures { IsPassOf lock.entry.now result.0 × (result.0.parts ≡ a.parts + b.parts) }
+        { add_two_hundred(rt, lock, a, b, 0) },
+        move || -> (Pass<Numbers>, bool)
+            requires { IsPassOf lock.now c × IsPassOf lock.now d }
+            ensures { IsPassOf lock.entry.now result.0 × (result.0.parts ≡ c.parts + d.parts) }
+        { add_two_hundred(rt, lock, c, d, 200) },
+    );
+    (lock.join(one, other), one_grows && other_grows)
 }
 
 #[test]
 fn four_threads_add_each_entry_once(rt: HostRuntime) -> Result<(), Fail> {
     let items = Vec::with_capacity(rt.alloc(), 400)?;
     let (lock, pass) = Lock::new(rt.alloc(), Numbers { most: 400, items })?;
-    let shared = &lock;
-    let (a, b) = shared.split(pass);
-    let (a, c) = shared.split(a);
-    let (a, d) = shared.split(a);
-    let ((one, one_grows), (other, other_grows)) = join(
-        &rt,
-        || -> (Pass<Numbers>, bool)
-            requires { IsPassOf shared.now a × IsPassOf shared.now b }
-            ensures { IsPassOf shared.entry.now result.0 × (result.0.parts ≡ a.parts + b.parts) }
-        { add_two_hundred(&rt, shared, a, b, 0) },
-        || -> (Pass<Numbers>, bool)
-            requires { IsPassOf shared.now c × IsPassOf shared.now d }
-            ensures { IsPassOf shared.entry.now result.0 × (result.0.parts ≡ c.parts + d.parts) }
-        { add_two_hundred(&rt, shared, c, d, 200) },
-    );
-    let pass = shared.join(one, other);
+    let (pass, grows) = add_four_hundred(&rt, &lock, pass);
     let numbers = lock.close(pass);
-    assert!(rt; one_grows && other_grows);
+    assert!(rt; grows);
     assert_eq!(rt; (numbers.len(), strays(&numbers, 400)), (400, 0));
     Ok(())
 }

@@ -1,11 +1,12 @@
 ghost use Rattle.rules_model.specs.Fit.{IsFit};
+ghost use Rattle.rules_model.specs.Ready.{IsReady};
 
 use super::*;
 use attack_tables::Tables;
 use board_sets::sets_of;
 use foundation::Memory;
 use move_text::write_move;
-use rules_model::{Cause, Move, Outcome, Position, Promo, Rules, Side, sound};
+use rules_model::{Cause, Move, MoveList, Outcome, Position, Promo, Rules, Side, sound};
 use sample_rules::{capablanca, chess, hand_of, kind, position, shouse, square, xiangqi};
 use std::alloc::Global;
 use std::process::Abort;
@@ -66,6 +67,30 @@ fn ten_ranks() -> Rules
     rules
 }
 
+/// Whether the moves have these texts, in this order.
+fn are_named(moves: &MoveList, texts: &str) -> bool {
+    let mut found = 0;
+    for text in texts.split(' ') {
+        if !text.is_empty() {
+            match moves.items.get(found) {
+                Some(m) if write_move(m).items.as_slice() == text.as_bytes() => found += 1,
+                _ => return false,
+            }
+        }
+    }
+    found == moves.items.len()
+}
+
+/// Whether these are the legal moves by each of the calls that answer no list.
+fn are_legal(rules: &Rules, tables: &Tables, p: &Position, moves: &MoveList) -> bool
+    requires ready { IsReady rules.now tables.now p.now }
+{
+    let count = moves.items.len();
+    moves.items.iter().all(|m| is_legal(rules, tables, p, m))
+        && count_legal(rules, tables, p) == count as u128
+        && any_legal(rules, tables, p) == (count > 0)
+}
+
 /// Asserts that the position has these legal moves, in this order, by each of the calls.
 fn has_moves<R: Abort>(
     rt: &R,
@@ -79,26 +104,12 @@ fn has_moves<R: Abort>(
     let tables = Tables::new(alloc, rules)?;
     assert!(rt; sound(rules, p));
     let moves = legal_moves(alloc, rules, &tables, p)?;
-    let mut found = 0;
-    for text in texts.split(' ').filter(|text| !text.is_empty()) {
-        let listed = moves.items.get(found);
-        assert!(rt;
-            listed.is_some_and(|m| write_move(m).items.as_slice() == text.as_bytes()),
-            "{text}"
-        );
-        assert!(rt;
-            listed.is_some_and(|m| is_legal(rules, &tables, p, m)),
-            "{text}"
-        );
-        found += 1;
-    }
-    assert_eq!(rt; moves.items.len(), found, "{texts}");
-    assert_eq!(rt; count_legal(rules, &tables, p), found as u128);
-    assert_eq!(rt; any_legal(rules, &tables, p), found > 0);
+    assert!(rt; are_named(&moves, texts), "{texts}");
+    assert!(rt; are_legal(rules, &tables, p, &moves), "{texts}");
     Ok(())
 }
 
-/// Asserts what `has_moves` does of the pieces of a text, with White to move.
+/// Asserts what `has_moves` does of the pieces of each text, with White to move.
 fn have_moves<R: Abort>(
     rt: &R,
     alloc: Global,
@@ -109,6 +120,25 @@ fn have_moves<R: Abort>(
 {
     for (pieces, texts) in rows {
         has_moves(rt, alloc, rules, &position(*pieces), *texts)?;
+    }
+    Ok(())
+}
+
+/// Asserts the same where a pawn of Black has just gone from d7 to d5.
+fn passing_moves<R: Abort>(
+    rt: &R,
+    alloc: Global,
+    rules: &Rules,
+    rows: &[(&str, &str)],
+) -> Result<(), Fail>
+    requires fit { IsFit rules.now }
+{
+    for (pieces, texts) in rows {
+        let p = Position {
+            ep: Some(square("d6")),
+            ..position(*pieces)
+        };
+        has_moves(rt, alloc, rules, &p, *texts)?;
     }
     Ok(())
 }
@@ -130,33 +160,31 @@ fn kings_are_kept_safe(rt: HostRuntime) -> Result<(), Fail> {
         // of two pinned pawns, one goes along its line
         ("Ke1 Pd2 Pe2 re8 ba5 kh8", "e1d1 e1f1 e1f2 e2e3 e2e4"),
     ];
-    have_moves(&rt, rt.alloc(), &chess(), &rows)?;
-    // en passant would take both pawns from the rank of the king and a rook
-    let p = Position {
-        ep: Some(square("d6")),
-        ..position("Ka5 Pe5 pd5 rh5 ke8")
-    };
-    has_moves(
-        &rt,
-        rt.alloc(),
-        &chess(),
-        &p,
-        "a5a4 a5a6 a5b4 a5b5 a5b6 e5e6",
-    )?;
-    // without a king no piece is kept safe
-    have_moves(
-        &rt,
-        rt.alloc(),
-        &kingless(),
-        &[("Ka1 ra8 kh8", "a1a2 a1b1 a1b2")],
-    )?;
-    // and where kings fly, neither leaves the other's file open
-    have_moves(
-        &rt,
-        rt.alloc(),
-        &xiangqi(),
-        &[("Ke1 Ne4 ke10", "e1d1 e1e2 e1f1")],
-    )
+    have_moves(&rt, rt.alloc(), &chess(), &rows)
+}
+
+// A king that goes nowhere else is one piece among others, and kings that fly leave no file open between them.
+#[test]
+fn kings_of_other_variants(rt: HostRuntime) -> Result<(), Fail> {
+    let row = [("Ka1 ra8 kh8", "a1a2 a1b1 a1b2")];
+    have_moves(&rt, rt.alloc(), &kingless(), &row)?;
+    let row = [("Ke1 Ne4 ke10", "e1d1 e1e2 e1f1")];
+    have_moves(&rt, rt.alloc(), &xiangqi(), &row)
+}
+
+// En passant may not take both pawns from the rank of the king and a rook. It ends the check of the pawn that it takes, and
+// not that of a rook.
+#[test]
+fn en_passant_keeps_the_king_safe(rt: HostRuntime) -> Result<(), Fail> {
+    let rows = [
+        ("Ka5 Pe5 pd5 rh5 ke8", "a5a4 a5a6 a5b4 a5b5 a5b6 e5e6"),
+        (
+            "Ke4 Pc5 pd5 kh8",
+            "c5d6 e4d3 e4d4 e4d5 e4e3 e4e5 e4f3 e4f4 e4f5",
+        ),
+        ("Ka1 Pe5 pd5 ra8 kh8", "a1b1 a1b2"),
+    ];
+    passing_moves(&rt, rt.alloc(), &chess(), &rows)
 }
 
 #[test]
@@ -167,13 +195,14 @@ fn pinned_pieces_are_not_free(rt: HostRuntime) -> Result<(), Fail> {
     let p = position("Ke1 Re2 Nc3 Pa2 ke8 re7");
     assert!(rt; sound(&rules, &p));
     let free = free(&rules, &tables, &p);
-    for (at, is_free) in [
+    let rows = [
         ("e1", false),
         ("e2", false),
         ("c3", true),
         ("a2", true),
         ("e8", false),
-    ] {
+    ];
+    for (at, is_free) in rows {
         assert_eq!(rt; free.has(square(at).0), is_free, "{at}");
     }
     Ok(())
@@ -202,23 +231,7 @@ fn checks_of_chess_are_ended(rt: HostRuntime) -> Result<(), Fail> {
             "a4a3 a4a5 a4b3 a4b5 c3c4 e2e4 g3g4 g3h4",
         ),
     ];
-    have_moves(&rt, rt.alloc(), &chess(), &rows)?;
-    // the pawn that gives check is taken in passing; a rook's check is not ended so
-    let passing = [
-        (
-            "Ke4 Pc5 pd5 kh8",
-            "c5d6 e4d3 e4d4 e4d5 e4e3 e4e5 e4f3 e4f4 e4f5",
-        ),
-        ("Ka1 Pe5 pd5 ra8 kh8", "a1b1 a1b2"),
-    ];
-    for (pieces, texts) in &passing {
-        let p = Position {
-            ep: Some(square("d6")),
-            ..position(*pieces)
-        };
-        has_moves(&rt, rt.alloc(), &chess(), &p, *texts)?;
-    }
-    Ok(())
+    have_moves(&rt, rt.alloc(), &chess(), &rows)
 }
 
 #[test]
@@ -237,6 +250,19 @@ fn checks_of_cannons_and_horses_are_ended(rt: HostRuntime) -> Result<(), Fail> {
         ("Ke1 Ra2 Ae2 nd3 kf10", "a2d2 e1d1 e2d3"),
     ];
     have_moves(&rt, rt.alloc(), &xiangqi(), &rows)
+}
+
+/// The legal moves of White with pieces in hand and gates.
+fn has_moves_of_hand<R: Abort>(
+    rt: &R,
+    alloc: Global,
+    row: &(&str, &[u8], u16, &str),
+) -> Result<(), Fail> {
+    let (pieces, hand, gates, texts) = *row;
+    let mut p = position(pieces);
+    p.hands[0] = hand_of(hand);
+    p.gates[0] = gates;
+    has_moves(rt, alloc, &shouse(), &p, texts)
 }
 
 // Drops on the squares between, and pieces that come in where one leaves.
@@ -266,11 +292,8 @@ fn checks_are_ended_from_the_hand(rt: HostRuntime) -> Result<(), Fail> {
             "E@e2 E@e3 E@e4 E@e5 E@e6 E@e7 c1e2e e1d1 e1d2 e1f1 e1f2",
         ),
     ];
-    for (pieces, hand, gates, texts) in rows {
-        let mut p = position(pieces);
-        p.hands[0] = hand_of(hand);
-        p.gates[0] = gates;
-        has_moves(&rt, rt.alloc(), &shouse(), &p, texts)?;
+    for row in &rows {
+        has_moves_of_hand(&rt, rt.alloc(), row)?;
     }
     Ok(())
 }
@@ -287,30 +310,38 @@ fn captures_are_forced(rt: HostRuntime) -> Result<(), Fail> {
         ("Ka1 Nb6 pd5 ra8 kh8", "b6a8"),
     ];
     have_moves(&rt, rt.alloc(), &forced(), &rows)?;
-    let p = Position {
-        ep: Some(square("d6")),
-        ..position("Ka1 Pe5 pd5 kh8")
-    };
-    has_moves(&rt, rt.alloc(), &forced(), &p, "e5d6")
+    let row = [("Ka1 Pe5 pd5 kh8", "e5d6")];
+    passing_moves(&rt, rt.alloc(), &forced(), &row)
 }
 
 #[test]
-fn variants_forbid_moves(rt: HostRuntime) -> Result<(), Fail> {
+fn pieces_stay_mobile(rt: HostRuntime) -> Result<(), Fail> {
     let row = [("Ka1 Pg7 kd4", "a1a2 a1b1 a1b2 g7g8b g7g8n g7g8q g7g8r")];
-    have_moves(&rt, rt.alloc(), &mobile(), &row)?;
+    have_moves(&rt, rt.alloc(), &mobile(), &row)
+}
+
+/// Whether White may drop a rook there.
+fn may_drop_rook(rules: &Rules, tables: &Tables, p: &Position, to: &str) -> bool
+    requires ready { IsReady rules.now tables.now p.now }
+{
+    let m = Move::Drop {
+        kind: kind(b'r'),
+        to: square(to),
+    };
+    is_legal(rules, tables, p, &m)
+}
+
+// A rook on the rank or the file of the king gives check: 14 of the 62 squares. The king has three moves.
+#[test]
+fn drops_give_no_check(rt: HostRuntime) -> Result<(), Fail> {
     let rules = quiet_drops();
     let tables = Tables::new(rt.alloc(), &rules)?;
     let mut p = position("Ka1 kh8");
-    p.hands[0][kind(b'r').0 as usize] = 1;
+    p.hands[0] = hand_of(b"r");
     assert!(rt; sound(&rules, &p));
-    // a rook on the rank or the file of the king gives check: 14 of the 62 squares. The king has three moves
     assert_eq!(rt; count_legal(&rules, &tables, &p), 51);
-    for (to, is_allowed) in [("a2", true), ("h7", false), ("b8", false)] {
-        let m = Move::Drop {
-            kind: kind(b'r'),
-            to: square(to),
-        };
-        assert_eq!(rt; is_legal(&rules, &tables, &p, &m), is_allowed, "{to}");
+    for (to, may) in [("a2", true), ("h7", false), ("b8", false)] {
+        assert_eq!(rt; may_drop_rook(&rules, &tables, &p, to), may, "{to}");
     }
     Ok(())
 }
@@ -347,37 +378,47 @@ fn pawns_of_black_go_down_high_boards(rt: HostRuntime) -> Result<(), Fail> {
     black_has_moves(&rt, rt.alloc(), &ten_ranks(), &ten)
 }
 
+/// The king's moves beside those of a rook on f1, with the right to castle short.
+fn castler_has_moves<R: Abort>(
+    rt: &R,
+    alloc: Global,
+    pieces: &str,
+    texts: &str,
+) -> Result<(), Fail> {
+    let mut p = position(pieces);
+    p.rights[0][0] = true;
+    let texts = format!(in alloc; "{texts} f1f2 f1f3 f1f4 f1f5 f1f6 f1f7 f1f8 f1g1 f1h1")?;
+    has_moves(rt, alloc, &chess(), &p, texts.as_str())
+}
+
 // The castling rook stands on f1, between the king and its target. A rook of Black attacks g1, or f1 alone.
 #[test]
 fn a_rook_between_king_and_target_castles(rt: HostRuntime) -> Result<(), Fail> {
-    let rook = "f1f2 f1f3 f1f4 f1f5 f1f6 f1f7 f1f8 f1g1 f1h1";
     let rows = [
         ("Ke1 Rf1 ka8", "e1d1 e1d2 e1e2 e1f2 e1g1"),
         ("Ke1 Rf1 ka8 rg8", "e1d1 e1d2 e1e2 e1f2"),
         ("Ke1 Rf1 ka8 rf8", "e1d1 e1d2 e1e2"),
     ];
-    for (pieces, texts) in &rows {
-        let mut p = position(*pieces);
-        p.rights[0][0] = true;
-        let texts = format!(in rt.alloc(); "{texts} {rook}")?;
-        has_moves(&rt, rt.alloc(), &chess(), &p, texts.as_str())?;
+    for (pieces, texts) in rows {
+        castler_has_moves(&rt, rt.alloc(), pieces, texts)?;
     }
     Ok(())
 }
 
-fn starts_with(alloc: Global, rules: &Rules, moves: u128) -> Result<bool, Memory>
+fn starts_with(rt: &impl Abort, alloc: Global, rules: &Rules, moves: u128) -> Result<(), Memory>
     requires { IsFit rules.now }
 {
     let tables = Tables::new(alloc, rules)?;
-    Ok(sound(rules, &rules.start) && count_legal(rules, &tables, &rules.start) == moves)
+    assert!(rt; sound(rules, &rules.start));
+    assert_eq!(rt; count_legal(rules, &tables, &rules.start), moves);
+    Ok(())
 }
 
 #[test]
-fn starts_have_their_moves(rt: HostRuntime) -> Result<(), Fail> {
-    assert!(rt; starts_with(rt.alloc(), &chess(), 20)?);
-    assert!(rt; starts_with(rt.alloc(), &capablanca(), 28)?);
-    assert!(rt; starts_with(rt.alloc(), &xiangqi(), 44)?);
-    Ok(())
+fn starts_have_their_moves(rt: HostRuntime) -> Result<(), Memory> {
+    starts_with(&rt, rt.alloc(), &chess(), 20)?;
+    starts_with(&rt, rt.alloc(), &capablanca(), 28)?;
+    starts_with(&rt, rt.alloc(), &xiangqi(), 44)
 }
 
 /// Chess where a king on the last rank wins.
@@ -391,10 +432,29 @@ fn flagged() -> Rules
     rules
 }
 
+/// Asserts that the game ends so where Black is to move, and that just then no move is legal.
+fn ends_with(
+    rt: &impl Abort,
+    alloc: Global,
+    rules: &Rules,
+    row: &(&str, Outcome),
+) -> Result<(), Fail>
+    requires { IsFit rules.now }
+{
+    let (pieces, end) = *row;
+    let tables = Tables::new(alloc, rules)?;
+    let mut p = position(pieces);
+    p.side = Side::Black;
+    assert!(rt; sound(rules, &p));
+    assert_eq!(rt; own_end(rules, &tables, &p), end, "{pieces}");
+    let has_moves = any_legal(rules, &tables, &p);
+    assert_eq!(rt; has_moves, end == Outcome::Ongoing, "{pieces}");
+    Ok(())
+}
+
 #[test]
 fn games_end(rt: HostRuntime) -> Result<(), Fail> {
     let rules = flagged();
-    let tables = Tables::new(rt.alloc(), &rules)?;
     let flag = Outcome::Won(Side::White, Cause::Flag);
     let mate = Outcome::Won(Side::White, Cause::Checkmate);
     let rows = [
@@ -408,40 +468,41 @@ fn games_end(rt: HostRuntime) -> Result<(), Fail> {
         ("Kf6 Qd5 kf8", Outcome::Ongoing),
         ("Kf7 Pg6 kh8", Outcome::Drawn(Cause::Stalemate)),
     ];
-    for (pieces, end) in &rows {
-        let mut p = position(*pieces);
-        p.side = Side::Black;
-        assert!(rt; sound(&rules, &p));
-        assert_eq!(rt; own_end(&rules, &tables, &p), *end, "{pieces}");
-        assert_eq!(rt; any_legal(&rules, &tables, &p), *end == Outcome::Ongoing);
-        let moves = legal_moves(rt.alloc(), &rules, &tables, &p)?;
-        assert_eq!(rt;
-            moves.items.is_empty(),
-            *end != Outcome::Ongoing,
-            "{pieces}"
-        );
+    for row in &rows {
+        ends_with(&rt, rt.alloc(), &rules, row)?;
     }
     Ok(())
 }
 
+/// White's knight of e4 goes there.
+fn knight_to(to: &str) -> Move {
+    Move::Go {
+        from: square("e4"),
+        to: square(to),
+        promo: Promo::Stays,
+        gate: None,
+    }
+}
+
+/// Plays the knight's move, and asserts whether it gives check.
+fn plays(rt: &impl Abort, alloc: Global, rules: &Rules, to: &str, gives: bool) -> Result<(), Memory>
+    requires { IsFit rules.now }
+{
+    let tables = Tables::new(alloc, rules)?;
+    let mut p = position("Ka1 Ne4 ke8");
+    let m = knight_to(to);
+    assert!(rt; sound(rules, &p));
+    assert!(rt; is_legal(rules, &tables, &p, &m), "{to}");
+    assert_eq!(rt; gives_check(rules, &tables, &p, &m), gives, "{to}");
+    apply(rules, &tables, &mut p, &m);
+    assert_eq!(rt; (p.side, p.counter), (Side::Black, 1), "{to}");
+    Ok(())
+}
+
 #[test]
-fn a_move_is_played(rt: HostRuntime) -> Result<(), Fail> {
-    let rules = chess();
-    let tables = Tables::new(rt.alloc(), &rules)?;
+fn a_move_is_played(rt: HostRuntime) -> Result<(), Memory> {
     for (to, gives) in [("f6", true), ("d6", true), ("c3", false)] {
-        let mut p = position("Ka1 Ne4 ke8");
-        let m = Move::Go {
-            from: square("e4"),
-            to: square(to),
-            promo: Promo::Stays,
-            gate: None,
-        };
-        assert!(rt; sound(&rules, &p));
-        assert!(rt; is_legal(&rules, &tables, &p, &m), "{to}");
-        assert_eq!(rt; gives_check(&rules, &tables, &p, &m), gives, "{to}");
-        apply(&rules, &tables, &mut p, &m);
-        assert_eq!(rt; (p.side, p.counter), (Side::Black, 1), "{to}");
-        assert!(rt; sound(&rules, &p));
+        plays(&rt, rt.alloc(), &chess(), to, gives)?;
     }
     Ok(())
 }
@@ -455,28 +516,31 @@ fn checks_counted() -> Rules
     rules
 }
 
+/// Makes the knight's move with the sets of the board, and asserts how many checks White has left.
+fn leaves_checks(
+    rt: &impl Abort,
+    alloc: Global,
+    rules: &Rules,
+    to: &str,
+    left: u8,
+) -> Result<(), Memory>
+    requires { IsFit rules.now }
+{
+    let tables = Tables::new(alloc, rules)?;
+    let mut p = position("Ka1 Ne4 ke8");
+    p.checks = [3, 3];
+    let m = knight_to(to);
+    assert!(rt; sound(rules, &p));
+    assert!(rt; is_legal(rules, &tables, &p, &m), "{to}");
+    let sets = sets_of(rules, &p.cells, p.side);
+    let after = apply_with(rules, &tables, &mut p, &sets, &m);
+    assert_eq!(rt; p.checks, [left, 3], "{to}");
+    assert_eq!(rt; after, sets_of(rules, &p.cells, p.side), "{to}");
+    Ok(())
+}
+
 #[test]
 fn a_move_is_made_with_the_sets_of_the_board(rt: HostRuntime) -> Result<(), Memory> {
-    let rules = checks_counted();
-    let tables = Tables::new(rt.alloc(), &rules)?;
-    for (to, left) in [("f6", 2), ("c3", 3)] {
-        let mut p = Position {
-            checks: [3, 3],
-            ..position("Ka1 Ne4 ke8")
-        };
-        let m = Move::Go {
-            from: square("e4"),
-            to: square(to),
-            promo: Promo::Stays,
-            gate: None,
-        };
-        assert!(rt; sound(&rules, &p));
-        assert!(rt; is_legal(&rules, &tables, &p, &m), "{to}");
-        let sets = sets_of(&rules, &p.cells, p.side);
-        let after = apply_with(&rules, &tables, &mut p, &sets, &m);
-        assert_eq!(rt; p.checks, [left, 3], "{to}");
-        assert_eq!(rt; after, sets_of(&rules, &p.cells, p.side), "{to}");
-        assert!(rt; sound(&rules, &p));
-    }
-    Ok(())
+    leaves_checks(&rt, rt.alloc(), &checks_counted(), "f6", 2)?;
+    leaves_checks(&rt, rt.alloc(), &checks_counted(), "c3", 3)
 }

@@ -7,6 +7,7 @@ use forced_wins::Fact;
 use rules_model::{Blocked, Cell, Kind, Repeat, Side};
 use sample_rules::leapers;
 use std::alloc::{AllocError, Global};
+use std::process::Abort;
 use std::test::Fail;
 
 fn bare() -> Repeat {
@@ -54,9 +55,8 @@ fn the_least_moves_and_of_those_the_first(rt: HostRuntime) {
     }
 }
 
-#[test]
-fn every_part_of_a_repeat_counts(rt: HostRuntime) {
-    let win = fact(true, 3, 10);
+// Repeats that differ from the bare one in one part each.
+fn others() -> [Repeat; 7] {
     let mut others = [bare(); 7];
     others[0].hands[1][25] = 1;
     others[1].checks[0] = 1;
@@ -64,16 +64,26 @@ fn every_part_of_a_repeat_counts(rt: HostRuntime) {
     others[3].gates[1] = 1;
     others[4].rights[1][1] = true;
     others[5].ep = Some(rules_model::Square(50));
-    others[6].cells[119] = Some(Cell {
-        side: Side::White,
+    others[6].cells[119] = king_of(Side::White);
+    others
+}
+
+fn king_of(side: Side) -> Option<Cell> {
+    Some(Cell {
+        side,
         kind: Kind(10),
         origin: None,
-    });
-    assert!(rt; serves(&win, &bare(), 10, 3));
-    assert_eq!(rt; hash_of(&bare()), hash_of(&win.repeat));
-    for (place, other) in others.iter().enumerate() {
-        assert!(rt; !serves(&win, other, 10, 3), "part {place}");
-        assert!(rt; hash_of(other) != hash_of(&bare()), "part {place}");
+    })
+}
+
+#[test]
+fn every_part_of_a_repeat_counts(rt: HostRuntime) {
+    let win = fact(true, 3, 10);
+    let is_same = serves(&win, &bare(), 10, 3) && hash_of(&win.repeat) == hash_of(&bare());
+    assert!(rt; is_same);
+    for (place, other) in others().iter().enumerate() {
+        let differs = !serves(&win, other, 10, 3) && hash_of(other) != hash_of(&bare());
+        assert!(rt; differs, "part {place}");
     }
 }
 
@@ -89,8 +99,11 @@ fn as_good_is_no_slower_at_no_lower_a_counter(rt: HostRuntime) {
         (fact(false, 2, 5), fact(false, 2, 4), false),
         (fact(false, 2, 5), fact(true, 2, 5), false),
     ] {
-        assert_eq!(rt; is_as_good(&known, &given), want);
-        assert_eq!(rt; has_better(&[fact(true, 9, 0), known], &given), want);
+        let found = [
+            is_as_good(&known, &given),
+            has_better(&[fact(true, 9, 0), known], &given),
+        ];
+        assert_eq!(rt; found, [want; 2]);
     }
 }
 
@@ -100,11 +113,7 @@ fn shards_share_the_repeats(rt: HostRuntime) {
     let mut filled = [false; 16];
     for square in 0..120 {
         let mut repeat = bare();
-        repeat.cells[square] = Some(Cell {
-            side: Side::Black,
-            kind: Kind(10),
-            origin: None,
-        });
+        repeat.cells[square] = king_of(Side::Black);
         assert_eq!(rt; shard_of(&repeat, 1), 0);
         filled[shard_of(&repeat, 16) as usize] = true;
     }
@@ -159,24 +168,45 @@ fn look(number: u8) -> Event {
     }
 }
 
+/// The name of a reply; of a fact that was found, its number.
+fn name_of(reply: &Reply) -> (&'static str, Option<u8>) {
+    match reply {
+        Reply::Stored => ("stored", None),
+        Reply::Full => ("full", None),
+        Reply::KnownBetter => ("known better", None),
+        Reply::Found(found) => ("found", found.map(|fact| fact.repeat.hands[0][0])),
+        Reply::Nothing => ("nothing", None),
+    }
+}
+
+// The store after the event, which has this reply.
+fn after(
+    rt: &impl Abort,
+    store: Store,
+    event: &Event,
+    wanted: (&str, Option<u8>),
+) -> Result<Store, Fail> {
+    let (store, reply) = step(store, event)?;
+    assert_eq!(rt; name_of(&reply), wanted);
+    Ok(store)
+}
+
 #[test]
 fn a_shard_of_sixteen_places(rt: HostRuntime) -> Result<(), Fail> {
     let mut store = small(rt.alloc())?;
     for number in 0..16 {
-        let (next, reply) = step(store, &publish(number))?;
-        store = next;
-        assert!(rt; matches!(reply, Reply::Stored), "fact {number}");
+        store = after(&rt, store, &publish(number), ("stored", None))?;
     }
-    let (store, reply) = step(store, &publish(16))?;
-    assert!(rt; matches!(reply, Reply::Full));
-    let (store, reply) = step(store, &publish(0))?;
-    assert!(rt; matches!(reply, Reply::KnownBetter));
-    let (store, reply) = step(store, &look(0))?;
-    assert!(rt; matches!(reply, Reply::Found(Some(found)) if found == numbered(0)));
-    let (store, reply) = step(store, &look(16))?;
-    assert!(rt; matches!(reply, Reply::Found(None)));
-    let (store, reply) = step(store, &Event::Hint { word: 3, value: 5 })?;
-    assert!(rt; matches!(reply, Reply::Nothing));
+    let rows = [
+        (publish(16), ("full", None)),
+        (publish(0), ("known better", None)),
+        (look(0), ("found", Some(0))),
+        (look(16), ("found", None)),
+        (Event::Hint { word: 3, value: 5 }, ("nothing", None)),
+    ];
+    for (event, wanted) in &rows {
+        store = after(&rt, store, event, *wanted)?;
+    }
     let list = store.shards.items.get(0);
     assert!(rt; list.is_some_and(|list| list.items.len() == 16));
     Ok(())

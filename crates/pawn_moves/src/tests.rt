@@ -49,32 +49,6 @@ fn moves_of(alloc: Global, rules: &Rules, p: &Position) -> Result<MoveList, Memo
     Ok(found)
 }
 
-/// The pawns' moves are those from the one square to the others with each of the letters, each once, and no others.
-fn expect_moves(
-    rt: &impl Abort,
-    alloc: Global,
-    rules: &Rules,
-    p: &Position,
-    from: &str,
-    targets: &str,
-    letters: &str,
-) -> Result<(), Memory>
-    requires fit { IsFit rules.now }
-{
-    let found = moves_of(alloc, rules, p)?;
-    let mut wanted: usize = 0;
-    for to in targets.split(' ') {
-        for letter in letters.as_bytes() {
-            let m = go(square(from), square(to), promo_of(*letter));
-            assert!(rt; found.items.contains(&m), "{m:?}");
-            assert!(rt; is_candidate(rules, p, &m), "{m:?}");
-            wanted = wanted.saturating_add(1);
-        }
-    }
-    assert_eq!(rt; found.items.len(), wanted, "{from}");
-    Ok(())
-}
-
 /// The move that a text as "a7-b8-q" tells, or "a7-a8" where the pawn becomes nothing else.
 fn move_of(text: &str) -> Move {
     let mut parts = text.split('-');
@@ -101,50 +75,77 @@ fn expect_all(
     let found = moves_of(alloc, rules, p)?;
     let mut wanted: usize = 0;
     for text in moves.split(' ') {
-        let m = move_of(text);
-        assert!(rt; found.items.contains(&m), "{text}");
-        assert!(rt; is_candidate(rules, p, &m), "{text}");
-        wanted = wanted.saturating_add(1);
+        if !text.is_empty() {
+            let m = move_of(text);
+            let is_given = found.items.contains(&m) && is_candidate(rules, p, &m);
+            assert!(rt; is_given, "{text}");
+            wanted = wanted.saturating_add(1);
+        }
     }
     assert_eq!(rt; found.items.len(), wanted, "{moves}");
     Ok(())
 }
 
-#[test]
-fn each_move_of_chess_once(rt: HostRuntime) -> Result<(), Memory> {
-    let rules = chess();
-    let rows = [
-        ("Pe2 nd3", Side::White, "", "e2", "e3 e4 d3", "-"),
-        ("Pe2 Nd3", Side::White, "", "e2", "e3 e4", "-"),
-        // over no piece, and onto none straight forward
-        ("Pe2 ne4", Side::White, "", "e2", "e3", "-"),
-        ("Pe2 ne3", Side::White, "", "e2", "", ""),
-        // one step from another rank, to the edge of the board and no further
-        ("Pe3", Side::White, "", "e3", "e4", "-"),
-        ("Ph4 ni5", Side::White, "", "h4", "h5", "-"),
-        ("Pe8 nd9", Side::White, "", "e8", "", ""),
-        // en passant, also where an enemy is on the square
-        ("Pe5 pd5", Side::White, "d6", "e5", "e6 d6", "-"),
-        ("Pe5 nd6", Side::White, "d6", "e5", "e6 d6", "-"),
-        ("Pa5 pd5", Side::White, "d6", "a5", "a6", "-"),
-        // promotions, which a pawn may not decline
-        ("Pe7 nd8", Side::White, "", "e7", "e8 d8", "nbrq"),
-        // Black's pawns go down the board
-        ("pe7 Nf6", Side::Black, "", "e7", "e6 e5 f6", "-"),
-        ("pe6 Nf7", Side::Black, "", "e6", "e5", "-"),
-        ("pd4 Pe4", Side::Black, "e3", "d4", "d3 e3", "-"),
-        ("pa2 Nb1", Side::Black, "", "a2", "a1 b1", "nbrq"),
-    ];
-    for (pieces, side, ep, from, targets, letters) in rows {
-        let p = position_of(pieces, side, ep);
-        expect_moves(&rt, rt.alloc(), &rules, &p, from, targets, letters)?;
+/// Pieces, the side to move, an en passant square, and the pawns' moves.
+type Row<'a> = (&'a str, Side, &'a str, &'a str);
+
+/// Asserts what `expect_all` does of each row.
+fn expect_rows(rt: &impl Abort, alloc: Global, rules: &Rules, rows: &[Row]) -> Result<(), Memory>
+    requires fit { IsFit rules.now }
+{
+    for (pieces, side, ep, moves) in rows {
+        let p = position_of(*pieces, *side, *ep);
+        expect_all(rt, alloc, rules, &p, *moves)?;
     }
     Ok(())
 }
 
 #[test]
+fn each_move_of_a_pawn_once(rt: HostRuntime) -> Result<(), Memory> {
+    let rows = [
+        ("Pe2 nd3", Side::White, "", "e2-e3 e2-e4 e2-d3"),
+        ("Pe2 Nd3", Side::White, "", "e2-e3 e2-e4"),
+        // over no piece, and onto none straight forward
+        ("Pe2 ne4", Side::White, "", "e2-e3"),
+        ("Pe2 ne3", Side::White, "", ""),
+        // one step from another rank, to the edge of the board and no further
+        ("Pe3", Side::White, "", "e3-e4"),
+        ("Ph4 ni5", Side::White, "", "h4-h5"),
+        ("Pe8 nd9", Side::White, "", ""),
+        // Black's pawns go down the board
+        ("pe7 Nf6", Side::Black, "", "e7-e6 e7-e5 e7-f6"),
+        ("pe6 Nf7", Side::Black, "", "e6-e5"),
+    ];
+    expect_rows(&rt, rt.alloc(), &chess(), &rows)
+}
+
+#[test]
+fn pawns_pass_and_promote(rt: HostRuntime) -> Result<(), Memory> {
+    let rows = [
+        // en passant, also where an enemy is on the square
+        ("Pe5 pd5", Side::White, "d6", "e5-e6 e5-d6"),
+        ("Pe5 nd6", Side::White, "d6", "e5-e6 e5-d6"),
+        ("Pa5 pd5", Side::White, "d6", "a5-a6"),
+        ("pd4 Pe4", Side::Black, "e3", "d4-d3 d4-e3"),
+        // promotions, which a pawn may not decline
+        (
+            "Pe7 nd8",
+            Side::White,
+            "",
+            "e7-e8-n e7-e8-b e7-e8-r e7-e8-q e7-d8-n e7-d8-b e7-d8-r e7-d8-q",
+        ),
+        (
+            "pa2 Nb1",
+            Side::Black,
+            "",
+            "a2-a1-n a2-a1-b a2-a1-r a2-a1-q a2-b1-n a2-b1-b a2-b1-r a2-b1-q",
+        ),
+    ];
+    expect_rows(&rt, rt.alloc(), &chess(), &rows)
+}
+
+#[test]
 fn moves_of_many_pawns(rt: HostRuntime) -> Result<(), Memory> {
-    let rules = chess();
     let rows = [
         // on the edge files, with pieces where a shift from there would lead beyond the edge
         (
@@ -202,48 +203,44 @@ fn moves_of_many_pawns(rt: HostRuntime) -> Result<(), Memory> {
             "a2-a1-n a2-a1-b a2-a1-r a2-a1-q b3-b2 c4-c3",
         ),
     ];
-    for (pieces, side, ep, moves) in rows {
-        expect_all(
-            &rt,
-            rt.alloc(),
-            &rules,
-            &position_of(pieces, side, ep),
-            moves,
-        )?;
-    }
-    Ok(())
+    expect_rows(&rt, rt.alloc(), &chess(), &rows)
 }
 
 // With pieces, and a square behind a double step, to which a shift from the edge would lead on.
 #[test]
 fn no_move_around_the_edge(rt: HostRuntime) -> Result<(), Memory> {
-    let rules = wide_chess();
     let rows = [
         ("Pa6 Pl3 na5 nl6", Side::White, "", "a6-a7 l3-l4"),
         ("Pb5 Pl4 pa5", Side::White, "a6", "b5-b6 b5-a6 l4-l5"),
         ("pa7 pl4 Nl5 Na4", Side::Black, "", "a7-a6 a7-a5 l4-l3"),
     ];
-    for (pieces, side, ep, moves) in rows {
-        let p = position_of(pieces, side, ep);
-        expect_all(&rt, rt.alloc(), &rules, &p, moves)?;
-    }
-    Ok(())
+    expect_rows(&rt, rt.alloc(), &wide_chess(), &rows)
 }
 
+// Variants with other kinds to become, and without the chess pawn: the soldier is not one.
 #[test]
 fn moves_in_other_variants(rt: HostRuntime) -> Result<(), Memory> {
     let alloc = rt.alloc();
-    let rules = capablanca();
-    let p = position("Pj2 ni3");
-    expect_moves(&rt, alloc, &rules, &p, "j2", "j3 j4 i3", "-")?;
-    let p = position_of("pj2", Side::Black, "");
-    expect_moves(&rt, alloc, &rules, &p, "j2", "j1", "acnbrq")?;
-    let p = position("Pd7");
-    expect_moves(&rt, alloc, &shouse(), &p, "d7", "d8", "ehnbrq")?;
-    // variants without the chess pawn: the soldier is not one
-    let p = position("Pa4");
-    expect_moves(&rt, alloc, &xiangqi(), &p, "a4", "", "")?;
-    expect_moves(&rt, alloc, &leapers(), &p, "a4", "", "")
+    let rows = [
+        ("Pj2 ni3", Side::White, "", "j2-j3 j2-j4 j2-i3"),
+        (
+            "pj2",
+            Side::Black,
+            "",
+            "j2-j1-a j2-j1-c j2-j1-n j2-j1-b j2-j1-r j2-j1-q",
+        ),
+    ];
+    expect_rows(&rt, alloc, &capablanca(), &rows)?;
+    let promotions = "d7-d8-e d7-d8-h d7-d8-n d7-d8-b d7-d8-r d7-d8-q";
+    expect_rows(
+        &rt,
+        alloc,
+        &shouse(),
+        &[("Pd7", Side::White, "", promotions)],
+    )?;
+    let none = [("Pa4", Side::White, "", "")];
+    expect_rows(&rt, alloc, &xiangqi(), &none)?;
+    expect_rows(&rt, alloc, &leapers(), &none)
 }
 
 #[test]
@@ -290,19 +287,37 @@ fn near_misses(rt: HostRuntime) {
 
 #[test]
 fn promotions_by_the_rules(rt: HostRuntime) {
-    let mut rules = chess();
+    let rules = chess();
     let (stays, knight) = (Promo::Stays, promo_of(b'n'));
-    assert!(rt; promotes(&rules, Side::White, true, square("e8")));
-    assert!(rt; !promotes(&rules, Side::White, true, square("e7")));
-    assert!(rt; !promotes(&rules, Side::Black, true, square("e8")));
-    assert!(rt; !becomes(&rules, true, true, false, stays));
-    assert!(rt; becomes(&rules, true, true, false, knight));
-    // a pawn that passes another stays one, whatever it may become by going there
-    assert!(rt; becomes(&rules, true, true, true, stays));
+    let rows = [
+        (promotes(&rules, Side::White, true, square("e8")), true),
+        (promotes(&rules, Side::White, true, square("e7")), false),
+        (promotes(&rules, Side::Black, true, square("e8")), false),
+        (becomes(&rules, true, true, false, stays), false),
+        (becomes(&rules, true, true, false, knight), true),
+        // a pawn that passes another stays one, whatever it may become by going there
+        (becomes(&rules, true, true, true, stays), true),
+    ];
+    for (row, (found, wanted)) in rows.iter().enumerate() {
+        assert_eq!(rt; found, wanted, "row {row}");
+    }
+}
+
+// Where a pawn need not become another piece, and where it can become none.
+#[test]
+fn promotions_by_other_rules(rt: HostRuntime) {
+    let (stays, knight) = (Promo::Stays, promo_of(b'n'));
+    let mut rules = chess();
     rules.must_promote_pawn = false;
-    assert!(rt; becomes(&rules, true, true, false, stays));
-    assert!(rt; becomes(&rules, true, true, false, knight));
+    let may = [
+        becomes(&rules, true, true, false, stays),
+        becomes(&rules, true, true, false, knight),
+    ];
+    assert_eq!(rt; may, [true, true]);
     rules.promotion_kinds = [false; 26];
-    assert!(rt; !promotes(&rules, Side::White, true, square("e8")));
-    assert!(rt; !becomes(&rules, true, true, false, knight));
+    let may = [
+        promotes(&rules, Side::White, true, square("e8")),
+        becomes(&rules, true, true, false, knight),
+    ];
+    assert_eq!(rt; may, [false, false]);
 }

@@ -18,13 +18,19 @@ fn go(from: &str, to: &str, promo: Promo) -> Move {
     }
 }
 
-/// The moves of the pieces are those between these squares, each once, and no others.
+/// The move of a text as `e2e4`, without promotion.
+fn move_of(text: &str) -> Move {
+    let (from, to) = text.split_at_checked(2).unwrap_or(("", ""));
+    go(from, to, Promo::Stays)
+}
+
+/// The moves of the pieces are those of the texts as `e2e4`, each once, and no others.
 fn expect_moves(
     rt: &impl Abort,
     alloc: Global,
     rules: &Rules,
     pieces: &str,
-    moves: &[(&str, &str)],
+    moves: &str,
 ) -> Result<(), Memory>
     requires { IsFit rules.now }
 {
@@ -35,78 +41,42 @@ fn expect_moves(
     };
     let sets = sets_of(rules, &p.cells, p.side);
     push_moves(rules, &tables, &p, &sets, &mut found)?;
-    for (from, to) in moves {
-        let m = go(from, to, Promo::Stays);
-        assert!(rt; found.items.contains(&m), "{m:?}");
-        assert!(rt; is_candidate(rules, &tables, &p, &m), "{m:?}");
+    let mut wanted: usize = 0;
+    for text in moves.split(' ') {
+        let m = move_of(text);
+        let is_given = found.items.contains(&m) && is_candidate(rules, &tables, &p, &m);
+        assert!(rt; is_given, "{text}");
+        wanted = wanted.saturating_add(1);
     }
-    assert_eq!(rt; found.items.len(), moves.len());
+    assert_eq!(rt; found.items.len(), wanted, "{pieces}");
     Ok(())
 }
 
 // The moves of pawns are none of these.
 #[test]
 fn each_move_of_chess_once(rt: HostRuntime) -> Result<(), Memory> {
-    let moves = [
-        ("a2", "a3"),
-        ("a2", "a4"),
-        ("a2", "a5"),
-        ("a2", "a6"),
-        ("b1", "a3"),
-        ("b1", "c3"),
-        ("b1", "d2"),
-    ];
-    expect_moves(&rt, rt.alloc(), &chess(), "Ka1 Nb1 Ra2 Pb2 na6 ka8", &moves)
+    let moves = "a2a3 a2a4 a2a5 a2a6 b1a3 b1c3 b1d2";
+    expect_moves(&rt, rt.alloc(), &chess(), "Ka1 Nb1 Ra2 Pb2 na6 ka8", moves)
 }
 
 #[test]
 fn each_move_of_xiangqi_once(rt: HostRuntime) -> Result<(), Memory> {
-    let rules = xiangqi();
-    let alloc = rt.alloc();
-    // the elephant stays on its side of the river
-    let elephant = [
-        ("c5", "a3"),
-        ("c5", "e3"),
-        ("e1", "d1"),
-        ("e1", "e2"),
-        ("e1", "f1"),
+    let rows = [
+        // the elephant stays on its side of the river
+        ("Bc5 Ke1 kd10", "c5a3 c5e3 e1d1 e1e2 e1f1"),
+        // the king blocks no step of the horse, which goes over the empty squares beside it
+        ("Ne2 Ke1 ke10", "e1d1 e1f1 e2c1 e2c3 e2d4 e2f4 e2g1 e2g3"),
+        // the cannon takes over the soldier, which goes forward alone before the river
+        (
+            "Ca1 Pa4 na7 Ke1 kd10",
+            "a1a2 a1a3 a1a7 a1b1 a1c1 a1d1 a4a5 e1d1 e1e2 e1f1",
+        ),
+        ("Pe6 Ke1 kd10", "e1d1 e1e2 e1f1 e6d6 e6e7 e6f6"),
     ];
-    expect_moves(&rt, alloc, &rules, "Bc5 Ke1 kd10", &elephant)?;
-    // the king blocks no step of the horse, which goes over the empty squares beside it
-    let horse = [
-        ("e1", "d1"),
-        ("e1", "f1"),
-        ("e2", "c1"),
-        ("e2", "c3"),
-        ("e2", "d4"),
-        ("e2", "f4"),
-        ("e2", "g1"),
-        ("e2", "g3"),
-    ];
-    expect_moves(&rt, alloc, &rules, "Ne2 Ke1 ke10", &horse)?;
-    // the cannon takes over the soldier, which goes forward alone before the river
-    let cannon = [
-        ("a1", "a2"),
-        ("a1", "a3"),
-        ("a1", "a7"),
-        ("a1", "b1"),
-        ("a1", "c1"),
-        ("a1", "d1"),
-        ("a4", "a5"),
-        ("e1", "d1"),
-        ("e1", "e2"),
-        ("e1", "f1"),
-    ];
-    expect_moves(&rt, alloc, &rules, "Ca1 Pa4 na7 Ke1 kd10", &cannon)?;
-    let soldier = [
-        ("e1", "d1"),
-        ("e1", "e2"),
-        ("e1", "f1"),
-        ("e6", "d6"),
-        ("e6", "e7"),
-        ("e6", "f6"),
-    ];
-    expect_moves(&rt, alloc, &rules, "Pe6 Ke1 kd10", &soldier)
+    for (pieces, moves) in rows {
+        expect_moves(&rt, rt.alloc(), &xiangqi(), pieces, moves)?;
+    }
+    Ok(())
 }
 
 // An own piece's moves alone, each with what it places; an enemy and an empty square have none.
@@ -144,22 +114,19 @@ fn near_misses(rt: HostRuntime) -> Result<(), Memory> {
     let tables = Tables::new(rt.alloc(), &rules)?;
     let p = position("Ca1 Pa4 na7 Ke1 kd10");
     // no own piece, an own piece on the target, a hop without taking, a take without hopping, sideways before the
-    // river, out of the palace
+    // river, out of the palace; and no piece of xiangqi is promoted
     let rows = [
-        ("b2", "b3"),
-        ("a7", "b5"),
-        ("a1", "a4"),
-        ("a1", "a5"),
-        ("a1", "a8"),
-        ("a4", "b4"),
-        ("e1", "e3"),
+        move_of("b2b3"),
+        move_of("a7b5"),
+        move_of("a1a4"),
+        move_of("a1a5"),
+        move_of("a1a8"),
+        move_of("a4b4"),
+        move_of("e1e3"),
+        go("a1", "a2", Promo::Plus),
     ];
-    for (from, to) in rows {
-        let m = go(from, to, Promo::Stays);
+    for m in rows {
         assert!(rt; !is_candidate(&rules, &tables, &p, &m), "{m:?}");
     }
-    // no piece of xiangqi is promoted
-    let promoted = go("a1", "a2", Promo::Plus);
-    assert!(rt; !is_candidate(&rules, &tables, &p, &promoted));
     Ok(())
 }

@@ -48,32 +48,35 @@ fn has_pieces(p: &Position, pieces: &[(Side, u8, u8)]) -> bool {
 #[test]
 fn positions_are_placed(rt: HostRuntime) {
     let king = (Side::White, b'k', 4);
-    assert!(rt; has_pieces(&position(""), &[]));
-    assert!(rt; has_pieces(&position("Ke1"), &[king]));
-    assert!(rt;
-        has_pieces(
-            &position("Ke1 kh8 cb10"),
-            &[king, (Side::Black, b'k', 91), (Side::Black, b'c', 109)]
-        )
-    );
-    assert!(rt; has_pieces(&position("Ke1 1a2 Q"), &[king]));
-    assert!(rt; leapers().start == position("Kd1 Cf1 Ng1 nb8 cc8 ke8"));
+    let black = [king, (Side::Black, b'k', 91), (Side::Black, b'c', 109)];
+    let rows: [(&str, &[(Side, u8, u8)]); 4] = [
+        ("", &[]),
+        ("Ke1", &[king]),
+        ("Ke1 kh8 cb10", &black),
+        ("Ke1 1a2 Q", &[king]),
+    ];
+    for (text, pieces) in rows {
+        assert!(rt; has_pieces(&position(text), pieces), "{text}");
+    }
 }
 
-fn has_start(rules: &Rules, pieces: usize) -> bool
+/// The start is sound, and has so many pieces.
+fn expect_start(rt: &impl Abort, rules: &Rules, pieces: usize)
     requires { IsFit rules.now }
 {
-    sound(rules, &rules.start) && rules.start.cells.iter().flatten().count() == pieces
+    assert!(rt; sound(rules, &rules.start));
+    assert_eq!(rt; rules.start.cells.iter().flatten().count(), pieces);
 }
 
 #[test]
 fn starts_are_sound(rt: HostRuntime) {
-    assert!(rt; has_start(&leapers(), 6));
-    assert!(rt; has_start(&chess(), 32));
-    assert!(rt; has_start(&capablanca(), 40));
-    assert!(rt; has_start(&shouse(), 32));
-    assert!(rt; has_start(&generals(), 9));
-    assert!(rt; has_start(&xiangqi(), 32));
+    expect_start(&rt, &leapers(), 6);
+    expect_start(&rt, &chess(), 32);
+    expect_start(&rt, &capablanca(), 40);
+    expect_start(&rt, &shouse(), 32);
+    expect_start(&rt, &generals(), 9);
+    expect_start(&rt, &xiangqi(), 32);
+    assert!(rt; leapers().start == position("Kd1 Cf1 Ng1 nb8 cc8 ke8"));
 }
 
 /// White: king e1, rooks a1 and h1 with both rights, pawn e4. Black: king e8, pawn d5.
@@ -84,11 +87,22 @@ fn castling_side() -> Position {
     }
 }
 
+/// Whether the side attacks the square, by both calls.
+fn attacks(rules: &Rules, p: &Position, by: Side, to: &str) -> [bool; 2]
+    requires { IsFit rules.now }
+{
+    let to = square(to);
+    [
+        attacks_plain(rules, p, by, to),
+        is_attacked(rules, &p.cells, by, to),
+    ]
+}
+
 #[test]
 fn sides_attack(rt: HostRuntime) {
     let rules = chess();
     let p = castling_side();
-    for (by, to, attacked) in [
+    let rows = [
         (Side::White, "d5", true),
         (Side::White, "f5", true),
         (Side::White, "e5", false),
@@ -102,66 +116,111 @@ fn sides_attack(rt: HostRuntime) {
         (Side::Black, "d4", false),
         (Side::Black, "e6", false),
         (Side::Black, "f7", true),
-    ] {
-        assert_eq!(rt; attacks_plain(&rules, &p, by, square(to)), attacked, "{to}");
-        assert_eq!(rt;
-            is_attacked(&rules, &p.cells, by, square(to)),
-            attacked,
-            "{to}"
-        );
+    ];
+    for (by, to, attacked) in rows {
+        assert_eq!(rt; attacks(&rules, &p, by, to), [attacked; 2], "{to}");
     }
-    assert!(rt; !king_attacked(&rules, &p.cells, Side::Black));
-    assert!(rt; king_attacked(&rules, &position("Ke1 Pd7 ke8").cells, Side::Black));
-    assert!(rt; pawn_could_take(&rules, &p.cells, Side::Black, square("e4")));
-    assert!(rt; !pawn_could_take(&rules, &p.cells, Side::Black, square("e5")));
+}
+
+// A pawn takes on its diagonals, a piece of any side there or none.
+#[test]
+fn pawns_attack(rt: HostRuntime) {
+    let rules = chess();
+    let (safe, checked) = (position("Ke1 Pe7 ke8"), position("Ke1 Pd7 ke8"));
+    let rows = [
+        (king_attacked(&rules, &safe.cells, Side::Black), false),
+        (king_attacked(&rules, &checked.cells, Side::Black), true),
+        (
+            pawn_could_take(&rules, &safe.cells, Side::White, square("d8")),
+            true,
+        ),
+        (
+            pawn_could_take(&rules, &safe.cells, Side::White, square("e8")),
+            false,
+        ),
+    ];
+    for (row, (found, wanted)) in rows.iter().enumerate() {
+        assert_eq!(rt; found, wanted, "row {row}");
+    }
+}
+
+/// The position is sound by the rules of chess, or not.
+fn expect_sound(rt: &impl Abort, p: &Position, is_sound: bool, name: &str) {
+    assert_eq!(rt; sound(&chess(), p), is_sound, "{name}");
 }
 
 #[test]
 fn positions_are_sound(rt: HostRuntime) {
-    let rules = chess();
-    let start = castling_side();
-    let mut late = start;
-    late.counter = 10000;
-    let mut early = start;
-    early.number = 0;
-    let mut held = start;
-    held.hands[0][17] = 1;
-    let mut gated = start;
-    gated.gates[0] = 1;
-    let mut passed = start;
-    passed.ep = Some(square("d6"));
-    let mut promoted = start;
-    promoted.cells[0] = Some(Cell {
-        side: Side::White,
-        kind: kind(b'r'),
-        origin: Some(kind(b'p')),
-    });
+    let rows = [
+        ("Ke1 Ra1 Rh1 Pe4 ke8 pd5", true),
+        // a king too many, a king that could be taken, and a piece beyond the edge
+        ("Ke1 Ke2 ke8", false),
+        ("Ke1 Pd7 ke8", false),
+        ("Ke1 Ri1 ke8", false),
+    ];
+    for (pieces, is_sound) in rows {
+        expect_sound(&rt, &position(pieces), is_sound, pieces);
+    }
     let mut to_answer = position("Ke1 Pd7 ke8");
     to_answer.side = Side::Black;
-    let right = Position {
-        rights: [[true, false], [false, false]],
-        ..position("Ke1 Ra1 ke8")
-    };
-    let rows = [
-        (start, true),
-        (right, false),
-        (position("Ke1 Ke2 ke8"), false),
-        (position("Ke1 Pd7 ke8"), false),
-        (to_answer, true),
-        (late, false),
-        (early, false),
-        (held, false),
-        (gated, false),
-        (position("Ke1 Ri1 ke8"), false),
-        (passed, false),
-        (promoted, false),
-    ];
-    for (row, (p, is_sound)) in rows.iter().enumerate() {
-        assert_eq!(rt; sound(&rules, p), *is_sound, "{row}");
+    expect_sound(&rt, &to_answer, true, "Black answers the check");
+}
+
+#[test]
+fn rights_and_marks_are_sound(rt: HostRuntime) {
+    expect_sound(&rt, &castling_side(), true, "both rights");
+    let mut right = position("Ke1 Ra1 ke8");
+    right.rights[0][0] = true;
+    expect_sound(&rt, &right, false, "a right without its rook");
+    let mut passed = castling_side();
+    passed.ep = Some(square("d6"));
+    expect_sound(&rt, &passed, false, "en passant where no pawn has passed");
+    let mut promoted = castling_side();
+    if let Some(rook) = &mut promoted.cells[0] {
+        rook.origin = Some(kind(b'p'));
     }
-    assert_eq!(rt; repeat_of(&late) == repeat_of(&start), true);
-    assert_eq!(rt; repeat_of(&held) == repeat_of(&start), false);
-    assert_eq!(rt; repeat_of(&gated) == repeat_of(&start), false);
+    expect_sound(&rt, &promoted, false, "a mark where none is kept");
+}
+
+/// Asserts that the position is not sound, and whether its repeat is that of the start.
+fn expect_fault(rt: &impl Abort, p: &Position, is_repeat: bool) {
+    expect_sound(rt, p, false, "a fault");
+    assert_eq!(rt; repeat_of(p) == repeat_of(&castling_side()), is_repeat);
+}
+
+#[test]
+fn counts_and_hands_are_sound(rt: HostRuntime) {
+    let start = castling_side();
+    let counter = 10000;
+    expect_fault(&rt, &Position { counter, ..start }, true);
+    expect_fault(&rt, &Position { number: 0, ..start }, true);
+    let gates = [1, 0];
+    expect_fault(&rt, &Position { gates, ..start }, false);
+    let hands = [hand_of(b"r"), [0; 26]];
+    expect_fault(&rt, &Position { hands, ..start }, false);
+}
+
+#[test]
+fn castling_is_read(rt: HostRuntime) {
+    let rules = chess();
+    let p = castling_side();
+    let files = [
+        rook_file(&rules, &p.cells, Side::White, Wing::Kingside),
+        rook_file(&rules, &p.cells, Side::White, Wing::Queenside),
+        rook_file(&rules, &p.cells, Side::Black, Wing::Kingside),
+    ];
+    assert_eq!(rt; files, [Some(7), Some(0), None]);
+    assert_eq!(rt; castling_square(&rules, Side::Black, 2), square("c8"));
+    if castling_on(&rules) {
+        let castle = castle_of(&rules, &p.cells, Side::White, Wing::Queenside);
+        let squares = CastleSquares {
+            king: square("e1"),
+            king_to: square("c1"),
+            rook: square("a1"),
+            rook_to: square("d1"),
+        };
+        assert_eq!(rt; castle, Some(squares));
+    }
 }
 
 #[test]
@@ -169,94 +228,106 @@ fn rules_are_read(rt: HostRuntime) {
     let rules = chess();
     let p = castling_side();
     let (king, pawn, rook) = (kind(b'k'), kind(b'p'), kind(b'r'));
-    assert!(rt; castling_on(&rules));
-    assert_eq!(rt; castling_square(&rules, Side::Black, 2), square("c8"));
-    for (side, wing, file) in [
-        (Side::White, Wing::Kingside, Some(7)),
-        (Side::White, Wing::Queenside, Some(0)),
-        (Side::Black, Wing::Kingside, None),
-    ] {
-        assert_eq!(rt; rook_file(&rules, &p.cells, side, wing), file);
+    let (white, black, a8) = (Side::White, Side::Black, square("a8").0);
+    let rows = [
+        (castling_on(&rules), true),
+        (holds_right(&p.rights, white, Wing::Queenside), true),
+        (holds_right(&p.rights, black, Wing::Queenside), false),
+        (has_gate(&[5, 0], white, 2), true),
+        (has_gate(&[5, 0], white, 1), false),
+        (has_kind(&rules, pawn), true),
+        (has_kind(&rules, kind(b'a')), false),
+        (names(rules.king, king), true),
+        (names(rules.flag_kind, king), false),
+        (masks(&rules.castle_rooks, rook), true),
+        (masks(&rules.castle_rooks, pawn), false),
+        (in_region(&rules.promotion, white, a8), true),
+        (in_region(&rules.promotion, black, a8), false),
+    ];
+    for (row, (found, wanted)) in rows.iter().enumerate() {
+        assert_eq!(rt; found, wanted, "row {row}");
     }
-    assert!(rt; holds_right(&p.rights, Side::White, Wing::Queenside));
-    assert!(rt; !holds_right(&p.rights, Side::Black, Wing::Queenside));
-    assert!(rt; has_gate(&[5, 0], Side::White, 2));
-    assert!(rt; !has_gate(&[5, 0], Side::White, 1));
-    assert!(rt; has_kind(&rules, pawn));
-    assert!(rt; !has_kind(&rules, kind(b'a')));
-    assert!(rt; names(rules.king, king));
-    assert!(rt; !names(rules.flag_kind, king));
-    assert!(rt; masks(&rules.castle_rooks, rook));
-    assert!(rt; !masks(&rules.castle_rooks, pawn));
-    assert!(rt; in_region(&rules.promotion, Side::White, square("a8").0));
-    assert!(rt; !in_region(&rules.promotion, Side::Black, square("a8").0));
-    assert_eq!(rt; in_hand(&p.hands, Side::White, rook), 0);
-    assert_eq!(rt; in_hand(&shouse().start.hands, Side::Black, kind(b'h')), 1);
+}
+
+#[test]
+fn sizes_and_hands_are_read(rt: HostRuntime) {
+    let rules = chess();
+    let (p, e4) = (castling_side(), square("e4"));
+    position_sizes(&p);
+    rules_letters(&rules);
+    let found = [
+        e4.file(),
+        e4.rank(),
+        rank_for(&rules, Side::White, e4),
+        rank_for(&rules, Side::Black, e4),
+        in_hand(&p.hands, Side::White, kind(b'r')),
+        in_hand(&shouse().start.hands, Side::Black, kind(b'h')),
+    ];
+    assert_eq!(rt; found, [4, 3, 4, 5, 0, 1]);
 }
 
 #[test]
 fn movement_is_read(rt: HostRuntime) {
     let rules = chess();
-    let p = castling_side();
-    let rook = kind(b'r');
-    let (a1, e4, e8) = (square("a1"), square("e4"), square("e8"));
-    position_sizes(&p);
-    rules_letters(&rules);
-    assert_eq!(rt; (e4.file(), e4.rank()), (4, 3));
-    assert_eq!(rt; rank_for(&rules, Side::White, e4), 4);
-    assert_eq!(rt; rank_for(&rules, Side::Black, e4), 5);
-    assert!(rt; in_mobility(&rules, Side::White, rook, e4));
-    assert!(rt; !in_mobility(&rules, Side::White, rook, square("i4")));
-    assert!(rt; !is_held_back(&rules, Side::White, rook, e4));
-    assert!(rt; kind_takes(&rules, &p.cells, Side::White, rook, a1, square("a8")));
-    assert!(rt; !kind_takes(&rules, &p.cells, Side::White, rook, a1, e4));
-    assert!(rt; !flies_to(&rules, &position("Ke1 ke8").cells, Side::White, e8));
-    if castling_on(&rules) {
-        let squares = CastleSquares {
-            king: square("e1"),
-            king_to: square("c1"),
-            rook: a1,
-            rook_to: square("d1"),
-        };
-        assert_eq!(rt;
-            castle_of(&rules, &p.cells, Side::White, Wing::Queenside),
-            Some(squares)
-        );
+    let cells = castling_side().cells;
+    let (white, rook) = (Side::White, kind(b'r'));
+    let (a1, e4) = (square("a1"), square("e4"));
+    let rows = [
+        (in_mobility(&rules, white, rook, e4), true),
+        (in_mobility(&rules, white, rook, square("i4")), false),
+        (is_held_back(&rules, white, rook, e4), false),
+        (
+            kind_takes(&rules, &cells, white, rook, a1, square("a8")),
+            true,
+        ),
+        (kind_takes(&rules, &cells, white, rook, a1, e4), false),
+    ];
+    for (row, (found, wanted)) in rows.iter().enumerate() {
+        assert_eq!(rt; found, wanted, "row {row}");
     }
 }
 
 #[test]
-fn soldiers_and_palaces(rt: HostRuntime) {
+fn soldiers_are_held_back(rt: HostRuntime) {
     let rules = xiangqi();
-    let (king, soldier) = (kind(b'k'), kind(b'p'));
     for (side, at, held) in [
         (Side::White, "e5", true),
         (Side::White, "e6", false),
         (Side::Black, "e6", true),
         (Side::Black, "e5", false),
     ] {
-        assert_eq!(rt;
-            is_held_back(&rules, side, soldier, square(at)),
-            held,
-            "{at}"
-        );
+        let found = is_held_back(&rules, side, kind(b'p'), square(at));
+        assert_eq!(rt; found, held, "{at}");
     }
+}
+
+#[test]
+fn kings_keep_to_palaces(rt: HostRuntime) {
+    let rules = xiangqi();
+    for (side, at, inside) in [
+        (Side::White, "d3", true),
+        (Side::White, "d4", false),
+        (Side::Black, "f8", true),
+        (Side::Black, "f7", false),
+    ] {
+        let found = in_mobility(&rules, side, kind(b'k'), square(at));
+        assert_eq!(rt; found, inside, "{at}");
+    }
+}
+
+#[test]
+fn kings_face_each_other(rt: HostRuntime) {
+    let to = square("e10");
     for (pieces, faces) in [
         ("Ke1 ke10", true),
         ("Ke1 Pe4 ke10", false),
         ("Ke1 kd10", false),
     ] {
-        let cells = position(pieces).cells;
-        assert_eq!(rt;
-            flies_to(&rules, &cells, Side::White, square("e10")),
-            faces,
-            "{pieces}"
-        );
+        let found = flies_to(&xiangqi(), &position(pieces).cells, Side::White, to);
+        assert_eq!(rt; found, faces, "{pieces}");
     }
-    assert!(rt; in_mobility(&rules, Side::White, king, square("d3")));
-    assert!(rt; !in_mobility(&rules, Side::White, king, square("d4")));
-    assert!(rt; in_mobility(&rules, Side::Black, king, square("f8")));
-    assert!(rt; !in_mobility(&rules, Side::Black, king, square("f7")));
+    let cells = position("Ke1 ke8").cells;
+    assert!(rt; !flies_to(&chess(), &cells, Side::White, square("e8")));
 }
 
 /// Whether the kind goes from the one square to the other, to take where a piece is there.

@@ -24,9 +24,9 @@ fn sets_are_joined_and_cut(rt: HostRuntime) {
     ];
     for (set, squares) in rows {
         assert_eq!(rt; set, set_of(squares));
-        for square in 0..128 {
-            assert_eq!(rt; set.has(square), squares.contains(&square));
-        }
+    }
+    for square in 0..128 {
+        assert_eq!(rt; low.has(square), [0, 5, 64].contains(&square));
     }
 }
 
@@ -41,15 +41,14 @@ fn squares_are_taken_in_order(rt: HostRuntime) {
         (&[127], Some(127), 1),
     ];
     for (squares, first, count) in rows {
-        let mut rest = set_of(squares);
-        assert_eq!(rt; rest.first(), first);
-        assert_eq!(rt; rest.count(), count);
-        assert_eq!(rt; rest.is_empty(), count == 0);
+        let set = set_of(squares);
+        let found = (set.first(), set.count(), set.is_empty());
+        assert_eq!(rt; found, (first, count, count == 0));
+        let mut rest = set;
         for square in squares {
             assert_eq!(rt; rest.take_first(), Some(*square));
         }
-        assert_eq!(rt; rest.take_first(), None);
-        assert_eq!(rt; rest, EMPTY);
+        assert_eq!(rt; (rest.take_first(), rest), (None, EMPTY));
     }
 }
 
@@ -67,10 +66,10 @@ fn a_shift_leads_each_square_on(rt: HostRuntime) {
     for (shifted, squares) in rows {
         assert_eq!(rt; shifted, set_of(squares));
     }
-    assert_eq!(rt; Shift::Up(12).origin(23), 11);
-    assert_eq!(rt; Shift::Down(12).origin(52), 64);
-    assert_eq!(rt; Shift::Up(12).back(), Shift::Down(12));
-    assert_eq!(rt; Shift::Down(12).twice(), Shift::Down(24));
+    let origins = [Shift::Up(12).origin(23), Shift::Down(12).origin(52)];
+    assert_eq!(rt; origins, [11, 64]);
+    let shifts = [Shift::Up(12).back(), Shift::Down(12).twice()];
+    assert_eq!(rt; shifts, [Shift::Down(12), Shift::Down(24)]);
 }
 
 #[test]
@@ -80,22 +79,28 @@ fn all_squares_of_the_largest_board_are_120(rt: HostRuntime) {
         all = all.with(square);
     }
     assert_eq!(rt; all, BOARD);
-    assert_eq!(rt; all.count(), 120);
-    assert_eq!(rt; all.first(), Some(0));
+    assert_eq!(rt; (all.count(), all.first()), (120, Some(0)));
 }
 
-// Of 40 and 90: up to 40 where numbers rise, from 90 on where they fall.
+// Of 40 and 90: up to 40 where numbers rise, from 90 on where they fall. Of none, all squares.
 #[test]
 fn a_cover_ends_with_the_first(rt: HostRuntime) {
-    let set = set_of(&[40, 90]);
-    for square in 0..128 {
-        assert_eq!(rt; set.cover(true).has(square), square <= 40);
-        assert_eq!(rt; set.cover(false).has(square), square >= 90);
-        assert!(rt; EMPTY.cover(true).has(square) && EMPTY.cover(false).has(square));
-        assert_eq!(rt; set_of(&[0]).cover(true).has(square), square == 0);
-        assert_eq!(rt; set_of(&[127]).cover(false).has(square), square == 127);
-        assert!(rt;
-            set_of(&[0]).cover(false).has(square) && set_of(&[127]).cover(true).has(square)
-        );
+    // the squares, whether numbers rise, and from where to where the cover goes
+    let rows: [(&[u8], bool, u8, u8); 8] = [
+        (&[40, 90], true, 0, 40),
+        (&[40, 90], false, 90, 127),
+        (&[], true, 0, 127),
+        (&[], false, 0, 127),
+        (&[0], true, 0, 0),
+        (&[0], false, 0, 127),
+        (&[127], true, 0, 127),
+        (&[127], false, 127, 127),
+    ];
+    for (squares, rising, low, high) in rows {
+        let cover = set_of(squares).cover(rising);
+        for square in 0..128 {
+            let is_covered = low <= square && square <= high;
+            assert_eq!(rt; cover.has(square), is_covered, "{square} of {squares:?}");
+        }
     }
 }
