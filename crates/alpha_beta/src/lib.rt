@@ -6,6 +6,8 @@ mod race;
 mod roots;
 mod searching;
 mod shared;
+#[cfg(test)]
+mod tests;
 mod work;
 
 pub use io_ports::{Limits, SearchFault, Stopped};
