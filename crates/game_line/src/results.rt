@@ -57,7 +57,8 @@ impl Line<'_> {
 
     /// Whether the last position may have stood so often: its slot says no where it has not so many keys.
     fn may_have_stood(&self, fold: u16) -> bool
-        ensures { result ≡ false → times (repeat_of (story_of_line self.now).last) (Games.history (story_of_line self.now)) < fold }
+        ensures { result ≡ false
+            → times (repeat_of (story_of_line self.now).last) (Games.history (story_of_line self.now)) < fold }
     {
         self.slots.at(self.key()) >= fold
     }

@@ -69,7 +69,8 @@ fn least(known: &[Fact]) -> u16
 pub fn refuted_by_all(frame: &Frame, _tables: &Tables, p: &Position, known: &[Fact]) -> Fact
     requires attack { In.IsAttackIn frame.now p.now }
     requires each { In.ServeMovesIn frame.now p.now false known.now }
-    ensures is { result ≡ Facts.fact_of p.now frame.now.attacker (Facts.smaller (Facts.least known.now + 1) 65535) None false }
+    ensures is { result
+        ≡ Facts.fact_of p.now frame.now.attacker (Facts.smaller (Facts.least known.now + 1) 65535) None false }
     ensures derives { In.DerivesIn frame.now known.now p.now result }
     ensures truth { In.TruthPasses frame.now known.now result }
 {

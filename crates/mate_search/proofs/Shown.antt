@@ -62,8 +62,8 @@ module _ (r : Game Position Repeat Move) (l : GameLaws Position Repeat Move r) (
     low-rank zero v h = let e : top.node ≡ v = let a = top-at in cc in let low = top.low in subst (λ (x : Node). x.rank ≤ most) e (omega arith)
     low-rank (suc i) v h = sound.done i v h
 
-    row : (i : ℕ) (v : Node) → slice_get s i ≡ Some v → IsRow r plan s v
-    row i v h = sound.rows i v h (low-rank i v h)
+    row_of : (i : ℕ) (v : Node) → slice_get s i ≡ Some v → IsRow r plan s v
+    row_of i v h = sound.rows i v h (low-rank i v h)
 
     -- an edge leads to a node of fewer plies
     plies_down : (v w : Node) (m : Move) → r.repeat w.position ≡ r.repeat (r.next v.position m) → w.rank ≤ left_after (r.attacking v.position) v.rank → (r.attacking v.position ≡ true → 0 < v.rank) → plies r w.rank w.position < plies r v.rank v.position
@@ -80,8 +80,8 @@ module _ (r : Game Position Repeat Move) (l : GameLaws Position Repeat Move r) (
         by_cases plan.exact
         (λ z. let c = y.counter z in omega arith)
         (λ z.
-        let a = (row i v h).count z in
-        let d = (row e.to y.node y.at).count z in
+        let a = (row_of i v h).count z in
+        let d = (row_of e.to y.node y.at).count z in
         let a0 = a.0 in
         let a1 = a.1 in
         let d0 = d.0 in
@@ -101,7 +101,7 @@ module _ (r : Game Position Repeat Move) (l : GameLaws Position Repeat Move r) (
     }
 
     edges-at : (i : ℕ) (v : Node) → slice_get s i ≡ Some v → (o : Option Bool) (a : Bool) → r.own v.position ≡ o → r.attacking v.position ≡ a → AreEdges r plan.exact s v.position v.rank v.edges o a
-    edges-at i v h o a e f = subst (λ z. AreEdges r plan.exact s v.position v.rank v.edges z a) e (subst (λ z. AreEdges r plan.exact s v.position v.rank v.edges (r.own v.position) z) f (row i v h).edges)
+    edges-at i v h o a e f = subst (λ z. AreEdges r plan.exact s v.position v.rank v.edges z a) e (subst (λ z. AreEdges r plan.exact s v.position v.rank v.edges (r.own v.position) z) f (row_of i v h).edges)
 
     ended : (i : ℕ) (v : Node) → slice_get s i ≡ Some v → (w : Bool) → r.own v.position ≡ Some w → (w ≡ true) × (v.edges ≡ [])
     ended i v h w e = edges-at i v h (Some w) (r.attacking v.position) e refl
@@ -126,7 +126,7 @@ module _ (r : Game Position Repeat Move) (l : GameLaws Position Repeat Move r) (
       root-covers = by_cases plan.exact
           (λ z. let c = top.counter z ∙ ap r.counter is_root in omega arith)
           (λ z.
-          let a = (row 0 top.node top-at).count z in
+          let a = (row_of 0 top.node top-at).count z in
           let a0 = a.0 in
           let e = room z in
           let turn : r.attacking top.node.position ≡ r.attacking g.last = l.same_turn top.node.position g.last root-same in
@@ -192,7 +192,7 @@ module _ (r : Game Position Repeat Move) (l : GameLaws Position Repeat Move r) (
     counted-inside : plan.exact ≡ false → (r.limit ≡ 0) ⊎ (plan.room ≤ r.limit) → (i : ℕ) (v : Node) → slice_get s i ≡ Some v → r.own v.position ≡ None → run_out r (r.counter v.position) ≡ false
     unfolding run_out
     counted-inside z low i v h e =
-        let a = (row i v h).count z in
+        let a = (row_of i v h).count z in
         let a0 = a.0 in
         let a1 = a.1 in
         let some = some-plies i v h e in
@@ -208,7 +208,7 @@ module _ (r : Game Position Repeat Move) (l : GameLaws Position Repeat Move r) (
     -- ---- near it
 
     counted-near : plan.exact ≡ true → (i : ℕ) (v : Node) → slice_get s i ≡ Some v → r.own v.position ≡ None → run_out r (r.counter v.position) ≡ false
-    counted-near z i v h e = (row i v h).counted e z
+    counted-near z i v h e = (row_of i v h).counted e z
 
     pub good-near : plan.exact ≡ true → ((i : ℕ) (v : Node) → slice_get s (suc i) ≡ Some v → r.repeat v.position ≡ r.repeat g.last → ⊥) → ((i : ℕ) (v : Node) → slice_get s (suc i) ≡ Some v → 0 < r.fold → times r (r.repeat v.position) (history g) + nodes_of r nodes (r.repeat v.position) s < r.fold) → IsGood r nodes true s g n
     good-near z alone few = good (λ e. absurd (let y = z in cc)) (counted-near z) alone few

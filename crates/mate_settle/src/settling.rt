@@ -95,8 +95,8 @@ fn by_one(frame: &Frame, board: &Board, m: &Move, attacking: bool, known: &Fact)
     requires serves { In.ServesMoveIn frame.now board.now.position m.now attacking known.now }
     requires short { attacking ≡ true → known.now.moves < 65535 }
     requires truth { IsTrueIn frame.now known.now }
-    ensures is { result ≡ Facts.fact_of board.now.position frame.now.attacker (Steps.after_one attacking known.now.moves)
-        (Some m.now) attacking }
+    ensures is { result ≡ Facts.fact_of board.now.position frame.now.attacker
+        (Steps.after_one attacking known.now.moves) (Some m.now) attacking }
     ensures truth { IsTrueIn frame.now result }
 {
     let p = board.position();

@@ -73,7 +73,8 @@ fn settle<W: Watch>(
     requires legal { Member chosen.now (legal_in line.old) }
     requires within { Within best.value }
     requires known { All (IsTrueFact line.old.rules depth (story_of_line line.old)) facts.now }
-    ensures settles { IfOk result (λ after. Settles line.old.rules depth (story_of_line line.old) chosen.now best after) }
+    ensures settles { IfOk result
+        (λ after. Settles line.old.rules depth (story_of_line line.old) chosen.now best after) }
     ensures gone { OnOk result
         (W.gone watch.old watch.new (root_tree line.old.rules depth (story_of_line line.old) chosen.now)) }
     ensures ended { (why : Halt) → IsErrOf result why
@@ -114,7 +115,8 @@ pub fn combine<W: Watch>(
     requires some { 0 < length roots.now }
     requires legal { All (λ m. Member m (legal_in line.old)) roots.now }
     requires known { All (IsTrueFact line.old.rules depth (story_of_line line.old)) facts.now }
-    ensures value { IfOk result (λ best. best.value ≡ value_of line.old.rules depth (story_of_line line.old) roots.now) }
+    ensures value { IfOk result
+        (λ best. best.value ≡ value_of line.old.rules depth (story_of_line line.old) roots.now) }
     ensures attains { IfOk result (λ best.
         Attains line.old.rules depth (story_of_line line.old) roots.now best.value best.chosen) }
     ensures gone { OnOk result (W.gone watch.old watch.new

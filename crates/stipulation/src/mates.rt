@@ -47,7 +47,8 @@ impl Task<'_> {
 pub fn self_mate(alloc: Global, game: &Game, n: u16) -> Result<Option<Cert>, Memory>
     requires least { 1 ≤ n }
     requires most { n ≤ 6 }
-    ensures is { IfOk result (λ answer. Searches.steps_of answer ≡ Searches.self_found game.now.rules n (story game.now)) }
+    ensures is { IfOk result
+        (λ answer. Searches.steps_of answer ≡ Searches.self_found game.now.rules n (story game.now)) }
     ensures found { IfOk result (λ answer. MatchOption answer
         (self_wins game.now.rules n (story game.now) (story game.now).last.side ≡ false)
         (λ cert. Verdicts.self_verdict game.now.rules n (story game.now) cert.steps ≡ Said.Holds)) }
@@ -63,7 +64,8 @@ pub fn self_mate(alloc: Global, game: &Game, n: u16) -> Result<Option<Cert>, Mem
 pub fn help_mate(alloc: Global, game: &Game, n: u16) -> Result<Option<Cert>, Memory>
     requires least { 1 ≤ n }
     requires most { n ≤ 6 }
-    ensures is { IfOk result (λ answer. Searches.steps_of answer ≡ Searches.help_found game.now.rules n (story game.now)) }
+    ensures is { IfOk result
+        (λ answer. Searches.steps_of answer ≡ Searches.help_found game.now.rules n (story game.now)) }
     ensures found { IfOk result (λ answer. MatchOption answer
         (HelpWins game.now.rules n (story game.now) → ⊥)
         (λ cert. Verdicts.help_verdict game.now.rules n (story game.now) cert.steps ≡ Said.Holds)) }

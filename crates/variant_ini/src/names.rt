@@ -63,7 +63,8 @@ pub(crate) fn names_of(
 
 /// The place of the first section of a name above a place.
 pub(crate) fn first_above(names: &Names, name: &[u8], place: usize) -> Option<usize>
-    ensures { (sections : List Section) → FindsFirst names.now sections → result ≡ first_named (take place sections) name.now }
+    ensures { (sections : List Section) → FindsFirst names.now sections
+        → result ≡ first_named (take place sections) name.now }
 {
     let first = *names.get(name)?;
     if first < place { Some(first) } else { None }
