@@ -1,0 +1,4 @@
+pub mod LeastLaws
+pub mod ReadLemmas
+pub mod ReportLemmas
+mod worked
