@@ -31,8 +31,8 @@ pub const MOST_PROBLEMS: usize = 1000;
 /// Problems in the order of their lines, and the numbers of these lines.
 #[derive(Drop)]
 pub struct Suite {
-    pub lines: Vec<u64>,
-    pub problems: Vec<Problem>,
+    lines: Vec<u64>,
+    problems: Vec<Problem>,
 }
 
 impl Model for Suite {
@@ -41,6 +41,22 @@ impl Model for Suite {
     ghost Value = { Listed };
 
     ghost view = { λ s. record { lines = s.lines.items; problems = s.problems.items } };
+}
+
+impl Suite {
+    /// The number of the line of each problem.
+    pub fn lines(&self) -> &[u64]
+        ensures { result.now ≡ self.now.lines }
+    {
+        self.lines.as_slice()
+    }
+
+    /// The problems.
+    pub fn problems(&self) -> &[Problem]
+        ensures { result.now ≡ self.now.problems }
+    {
+        self.problems.as_slice()
+    }
 }
 
 fn nothing_listed(alloc: Global) -> Suite
