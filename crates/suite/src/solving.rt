@@ -58,12 +58,7 @@ fn put_all(slots: &mut Vec<Option<Answer>>, mut found: Vec<Found>, problems: &[P
 }
 
 // Puts the answers of all workers in the order of the problems.
-fn gather(
-    slots: &mut Vec<Option<Answer>>,
-    mine: Job,
-    mut jobs: Vec<Job>,
-    problems: &[Problem],
-)
+fn gather(slots: &mut Vec<Option<Answer>>, mine: Job, mut jobs: Vec<Job>, problems: &[Problem])
     requires slots { AreSlots problems.now slots.old.items }
     requires mine { HasFound problems.now mine }
     requires found { HaveFound problems.now jobs.items }
@@ -147,9 +142,7 @@ pub fn solve_all<R: Threads + Sync, G: Gate + Sync>(
         found: Vec::new(alloc),
     };
     let mut jobs = jobs_for(alloc, workers - 1);
-    race(
-        rt, alloc, &mut mine, &mut jobs, &queue, gate, problems,
-    );
+    race(rt, alloc, &mut mine, &mut jobs, &queue, gate, problems);
     gather(&mut slots, mine, jobs, problems);
     complete(alloc, &mut slots, gate, problems)
 }

@@ -110,14 +110,7 @@ fn faults(rt: HostRuntime) -> Result<(), Fail> {
         ("lost 0 startpos\nnowhere 1 x\n", "SuiteFault 1 BadLine 1"),
     ];
     for (lines, wanted) in rows {
-        answers(
-            &rt,
-            rt.alloc(),
-            &variants,
-            lines.as_bytes(),
-            1,
-            wanted,
-        )?;
+        answers(&rt, rt.alloc(), &variants, lines.as_bytes(), 1, wanted)?;
     }
     Ok(())
 }
@@ -138,7 +131,14 @@ fn long_suites(rt: HostRuntime) -> Result<(), Fail> {
     let many = repeated(alloc, b"chess 1 startpos\n", 1001)?;
     let long = repeated(alloc, b"x", 131_073)?;
     answers(&rt, alloc, &variants, &many, 1, "SuiteFault 6 TooMany 1001")?;
-    answers(&rt, alloc, &variants, &long, 1, "SuiteFault 7 LineTooLong 1")
+    answers(
+        &rt,
+        alloc,
+        &variants,
+        &long,
+        1,
+        "SuiteFault 7 LineTooLong 1",
+    )
 }
 
 #[test]
