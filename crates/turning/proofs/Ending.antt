@@ -85,10 +85,10 @@ module _ {State : Type 0} where
 
   module _ (p : Protocol State) where
     -- the same session, with its reads and its output in other words
-    session_at : (start : State) (contents : Option Contents) (reads reads' : List Read) (lines : List Line) (taken output output' : List ℕ)
+    session_at : {start : State} {contents : Option Contents} {reads reads' : List Read} {lines : List Line} {taken output output' : List ℕ}
         → Session State p Untold start contents reads lines taken output → reads ≡ reads' → output ≡ output'
         → Session State p Untold start contents reads' lines taken output'
-    session_at start contents reads reads' lines taken output output' s same_reads same_output = record {
+    session_at {contents = contents} s same_reads same_output = record {
       turns = s.turns;
       rest = s.rest;
       lines_are = s.lines_are;
@@ -243,7 +243,7 @@ module _ {State : Type 0} (p : Protocol State) where
         asks = asks;
         more = further_more contents un.further whole.reads later whole.more;
         few = whole.few;
-        allowed = session_at p start contents _ _ _ _ _ _ whole.session
+        allowed = session_at p {reads = reads_in (us ++ u ∷ []) ++ whole.reads} whole.session
             (ap (λ r. r ++ whole.reads) (sym reads_are) ∙ append_assoc done un.further whole.reads)
             (ap (λ o. o ++ whole.output) wrote ∙ append_assoc front un.back whole.output);
       }
