@@ -143,6 +143,27 @@ module _ {State : Type 0} where
               (rest_few behind (lines_in vs) s.rest held s.lines_are);
         }
 
+    -- a front part of what they read and write was read and written
+    part_of : {moved : Moved} {asked : List Read → Type 0} {contents : Option Contents} {start : State} {us : List (Turn State)} {behind : List Line}
+        (done further : List Read) (front back : List ℕ) → Completed contents start us behind
+        → done ++ further ≡ reads_in us → output_in p.dialect us ≡ front ++ back → moved (lines_in us ++ behind) front (readings_in us)
+        → asked done → Further contents further → SpokePart p moved asked contents start
+    part_of {contents = contents} {us = us} {behind = behind} done further front back whole reads_are wrote moves asks more = record {
+      lines = lines_in us ++ behind;
+      readings = readings_in us;
+      reads = done;
+      further = further ++ whole.reads;
+      front = front;
+      back = back ++ whole.output;
+      moves = moves;
+      asks = asks;
+      more = further_more contents further whole.reads more whole.more;
+      few = whole.few;
+      allowed = session_at whole.session
+          (ap (λ r. r ++ whole.reads) (sym reads_are) ∙ append_assoc done further whole.reads)
+          (ap (λ o. o ++ whole.output) wrote ∙ append_assoc front back whole.output);
+    }
+
 module _ {State : Type 0} (p : Protocol State) where
   -- ---- faults
 
@@ -183,20 +204,9 @@ module _ {State : Type 0} (p : Protocol State) where
       let allowed : Turns p Untold 0 start us behind =
       subst (λ (l : List Line). Turns p Untold 0 start us l) (append-nil behind)
       (turns_untold p laws.wider owed 0 0 start us (behind ++ []) (so.allowed [] (none_follows next))) in
-      let whole = completed p laws contents start us behind (held_got next text) (finds (reads_in us) so.asks) allowed in
-      record {
-        lines = lines_in us ++ behind;
-        readings = readings_in us;
-        reads = reads_in us;
-        further = whole.reads;
-        front = output_in p.dialect us;
-        back = whole.output;
-        moves = so.went;
-        asks = so.asks;
-        more = whole.more;
-        few = whole.few;
-        allowed = whole.session;
-      }
+      part_of p (reads_in us) [] (output_in p.dialect us) []
+      (completed p laws contents start us behind (held_got next text) (finds (reads_in us) so.asks) allowed)
+      (append-nil (reads_in us)) (sym (append-nil (output_in p.dialect us))) so.went so.asks (further_none contents)
 
   -- in the middle of a turn
   pub part_broken : {S K C : Type 0} {left : S → Option (List ℕ)} {taken : K → Option (List ℕ)} {given : C → Option (List ℕ)} {count last : C → ℕ}
@@ -226,27 +236,13 @@ module _ {State : Type 0} (p : Protocol State) where
       ∙ flat_more (λ t. opened t.events) us u in
       let found : Finds contents (reads_in (us ++ u ∷ [])) =
       subst (λ (r : List Read). Finds contents r) reads_are (finds_both contents done un.further (finds done asks) later.found) in
-      let whole = completed p laws contents start (us ++ u ∷ []) behind un.is_held found allowed in
-      let front : List ℕ = output_in p.dialect us ++ un.front in
-      let wrote : output_in p.dialect (us ++ u ∷ []) ≡ front ++ un.back =
+      let wrote : output_in p.dialect (us ++ u ∷ []) ≡ (output_in p.dialect us ++ un.front) ++ un.back =
       sym (flat_more (λ t. written p.dialect t.events) us u) ∙ ap (λ o. output_in p.dialect us ++ o) un.wrote
       ∙ sym (append_assoc (output_in p.dialect us) un.front un.back) in
-      record {
-        lines = lines_in (us ++ u ∷ []) ++ behind;
-        readings = readings_in (us ++ u ∷ []);
-        reads = done;
-        further = un.further ++ whole.reads;
-        front = front;
-        back = un.back ++ whole.output;
-        moves = moves_at (moves_more so.went un.went) (lines_since us u next text has refl behind) refl
-            (flat_more (λ t. readings t.events) us u);
-        asks = asks;
-        more = further_more contents un.further whole.reads later whole.more;
-        few = whole.few;
-        allowed = session_at p {reads = reads_in (us ++ u ∷ []) ++ whole.reads} whole.session
-            (ap (λ r. r ++ whole.reads) (sym reads_are) ∙ append_assoc done un.further whole.reads)
-            (ap (λ o. o ++ whole.output) wrote ∙ append_assoc front un.back whole.output);
-      }
+      part_of p done un.further (output_in p.dialect us ++ un.front) un.back
+      (completed p laws contents start (us ++ u ∷ []) behind un.is_held found allowed) reads_are wrote
+      (moves_at (moves_more so.went un.went) (lines_since us u next text has refl behind) refl (flat_more (λ t. readings t.events) us u))
+      asks later
 
   -- ---- the end
 

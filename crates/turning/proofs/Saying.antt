@@ -47,6 +47,12 @@ next_follows (Some cut.End) left left' text next text' following is may =
 next_follows (Some (cut.Quota quota)) left left' text next text' following is may = tt
 next_follows (Some (cut.Deadline reading)) left left' text next text' following is may = tt
 
+-- where no line is held, the next one is taken
+pub next_taken : {why : Option Cut} {left left' : Option (List ℕ)} {text : List ℕ} {next : Got} {text' : List ℕ} → held why text ≡ []
+    → IsNext why left left' text next text' → Takes left left' (got_lines next text')
+next_taken {left = left} {left' = left'} unheld is =
+    subst (λ (l : List Line). Takes left left' l) (ap (λ l. l ++ is.lines) (sym unheld) ∙ is.lines_are) is.takes
+
 -- the lines that follow a wait begin with one that stops a search, or are none
 pub waited_stops : (dialect : Dialect) (why : Cut) (text : List ℕ) (following : List Line) → StopsBy dialect text why
     → Follows (Some why) text following → IsStopped dialect following
@@ -109,6 +115,12 @@ module _ {S K C : Type 0} {left : S → Option (List ℕ)} {taken : K → Option
         (append-nil (written dialect a.events)) (append-nil (readings a.events));
     holds = a.holds;
   }
+
+  -- the next line was taken then
+  pub ran_next_of : {s s' s'' : S} {k k' : K} {c c' : C} {P : List Event → Type 0} (why : Option Cut) (text : List ℕ) {next : Got} {text' : List ℕ}
+      → Ran dialect (Moves left taken given count last s s' k k' c c') (held why text) P → IsNext why (left s') (left s'') text next text'
+      → Ran dialect (Moves left taken given count last s s'' k k' c c') (got_lines next text') P
+  ran_next_of why text a is = ran_next is.lines a is.takes is.lines_are
 
   -- ---- lines that are heard without a reading of the clock
 
