@@ -1,0 +1,2 @@
+pub mod SessionView
+pub mod Outcomes

@@ -1,0 +1,10 @@
+//! A UCI session: what it keeps between lines, and what it answers to each.
+#![tactic(auto)]
+
+mod moves;
+mod refusal;
+mod session;
+mod texts;
+
+pub use refusal::Refusal;
+pub use session::{Kept, UciSession};
