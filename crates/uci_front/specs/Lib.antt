@@ -1,2 +1,3 @@
 pub mod SessionView
 pub mod Outcomes
+pub mod Plain

@@ -1,5 +1,5 @@
 -- A session as the definitions of sessions have it, and what is true of each.
-use Rattle.std.specs.Prelude.{◌≡◌, ℕ, ◌<◌, ◌≤◌, List, length, Option, Some, None, Ok}
+use Rattle.std.specs.Prelude.{◌≡◌, ℕ, ◌<◌, ◌≤◌, List, ◌++◌, length, Option, Some, None, Ok}
 use Rattle.rules_model.specs.declared.rules.Rules.{Rules}
 use Rattle.game_play.specs.Played.{Played}
 use Rattle.seeking.specs.Mind.{Options}
@@ -8,6 +8,7 @@ use Rattle.session_model.specs.UciState.{State}
 use Rattle.strategy.specs.Reading.{AreSound}
 use Rattle.uci_front.specs.declared.session.Kept.{Kept}
 use Rattle.variant_ini.specs.Section.{Section}
+use Rattle.variant_model.specs.Builtin.{builtin_sections}
 use Rattle.variant_model.specs.Entry.{entry}
 use Rattle.variant_rules.specs.Entries.{Named, entries}
 
@@ -38,3 +39,7 @@ pub record IsSession (sections : List Section) (variants : List Named) (place : 
   pub there : place < length sections
   pub accepted : entry sections place ≡ Ok game.rules
   pub printable : IsPrintable game.rules kept
+
+-- the first sections are those that are built in
+abbrev pub BeginsBuiltIn : List Section → Type 0
+BeginsBuiltIn sections = (more : List Section) × (sections ≡ builtin_sections ++ more)

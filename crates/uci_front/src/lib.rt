@@ -2,6 +2,7 @@
 #![tactic(auto)]
 
 mod moves;
+mod plain;
 mod refusal;
 mod session;
 mod texts;

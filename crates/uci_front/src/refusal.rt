@@ -3,11 +3,13 @@ ghost use Rattle.std.specs.Prelude.{◌≡◌, ◌++◌, IfOk, OnOk, OnErr, code
 ghost use Rattle.fen_model.specs.Fault as fen;
 ghost use Rattle.variant_model.specs.Fault as section;
 ghost use Rattle.session_model.specs.UciState as UciState;
+ghost use Rattle.variant_files.specs.Loading.{load_fault_text};
 ghost use Rattle.uci_front.specs.Outcomes.{Refuses};
 
 use foundation::{Memory, Text};
 use game_text::GameFault;
 use std::alloc::{AllocError, Global};
+use variant_files::LoadFault;
 use variant_fen::FenFault;
 use variant_model::SectionFault;
 
@@ -63,6 +65,18 @@ pub(crate) fn unknown_variant(alloc: Global, name: &[u8]) -> Refusal
 /// The variant is refused.
 pub(crate) fn refused_variant(alloc: Global, fault: &SectionFault) -> Refusal
     ensures { Refuses (section.fault_text fault.now) result }
+{
+    match format!(in alloc; "{fault}") {
+        Ok(text) => Refusal::Fault(Text {
+            items: text.into_bytes(),
+        }),
+        Err(_) => Refusal::Memory,
+    }
+}
+
+/// The file of variants is refused.
+pub(crate) fn refused_file(alloc: Global, fault: LoadFault) -> Refusal
+    ensures { Refuses (load_fault_text fault) result }
 {
     match format!(in alloc; "{fault}") {
         Ok(text) => Refusal::Fault(Text {

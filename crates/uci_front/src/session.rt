@@ -7,12 +7,12 @@ ghost use Rattle.session_model.specs.UciState as UciState;
 ghost use Rattle.session_model.specs.UciState.{first_state};
 ghost use Rattle.session_model.specs.UciTexts as UciTexts;
 ghost use Rattle.uci_lines.specs.SettingView.{placing_seen, setting_seen};
-ghost use Rattle.uci_front.specs.Outcomes.{IsOutcome, Starts};
+ghost use Rattle.uci_front.specs.Outcomes.{IsNumber, IsOutcome, Starts};
 ghost use Rattle.uci_front.specs.SessionView.{BeginsBuiltIn};
 
 use crate::moves::placed;
 use crate::refusal::{Refusal, bad_value, refused_variant, unknown_variant};
-use crate::texts::NO_STRATEGY;
+use crate::texts::{NO_STRATEGY, uci_text};
 use foundation::{Memory, Text};
 use game_play::Game;
 use proof_text::write_proof;
@@ -147,13 +147,6 @@ impl UciSession {
             mind,
             kept: None,
         })
-    }
-
-    // Sets a game by the rules of the section at the place.
-    fn set_game(&mut self, place: usize, game: Game) {
-        self.place = place;
-        self.game = game;
-        self.kept = None;
     }
 
     /// Sets the variant of this name, at its start. After an error the session is what it was.
