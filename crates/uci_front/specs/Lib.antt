@@ -1,3 +1,4 @@
+pub mod TextView
 pub mod SessionView
 pub mod Outcomes
 pub mod Plain

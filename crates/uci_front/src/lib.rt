@@ -4,8 +4,10 @@
 mod moves;
 mod plain;
 mod refusal;
+mod serve;
 mod session;
 mod texts;
 
 pub use refusal::Refusal;
+pub use serve::{Ended, serve};
 pub use session::{Kept, UciSession};

@@ -1,10 +1,11 @@
 //! The lines that a UCI session writes.
-ghost use Rattle.std.specs.Prelude.{◌≡◌, ◌≤◌, ◌++◌, IfOk, List, OnOk};
+ghost use Rattle.std.specs.Prelude.{◌≡◌, ◌≤◌, ◌<◌, ◌++◌, IfOk, List, OnOk, length};
 ghost use Rattle.std.specs.List.{filter, flat_map};
 ghost use Rattle.session_model.specs.UciTexts as UciTexts;
 ghost use Rattle.session_model.specs.UciTexts.{variant_choice};
 ghost use Rattle.variant_ini.specs.Section.{Section};
 ghost use Rattle.variant_rules.specs.Entries.{entries, is_accepted};
+ghost use Rattle.uci_front.specs.TextView.{choice_at};
 
 use foundation::{Memory, Text};
 use game_play::Game;
@@ -40,17 +41,26 @@ pub fn error_line(alloc: Global, fault: &[u8]) -> Result<Text, Memory>
     Ok(Text { items })
 }
 
+// Appends the name of the variant at a place, where it is accepted.
+fn push_choice(text: &mut Vec<u8>, variants: &Variants, place: usize) -> Result<(), AllocError>
+    requires { place < length variants.now }
+    ensures { OnOk result (text.new.items ≡ text.old.items ++ choice_at variants.now place) }
+{
+    let (name, entry) = variants.entry(place);
+    if entry.is_err() {
+        return Ok(());
+    }
+    text.extend_from_slice(b" var ")?;
+    text.extend_from_slice(name)
+}
+
 // Appends the names of the variants that are accepted.
 fn push_choices(text: &mut Vec<u8>, variants: &Variants) -> Result<(), AllocError>
     ensures { OnOk result (text.new.items
         ≡ text.old.items ++ flat_map variant_choice (filter is_accepted variants.now)) }
 {
     for place in 0..variants.len() {
-        let (name, entry) = variants.entry(place);
-        if entry.is_ok() {
-            text.extend_from_slice(b" var ")?;
-            text.extend_from_slice(name)?;
-        }
+        push_choice(text, variants, place)?;
     }
     Ok(())
 }
