@@ -1,10 +1,11 @@
 -- The choices among variants, one after another.
 use Rattle.std.proofs.Common.{◌≡◌, ◌<◌, ◌+◌, ℕ, zero, suc, List, [], ◌∷◌, ◌++◌, length, take, Bool, true, false, refl, sym, ap, ◌∙◌, append_assoc, add-one, arith}
-use Rattle.std.specs.Prelude.{if◌then◌else◌}
+use Rattle.std.specs.Prelude.{codes, if◌then◌else◌}
 use Rattle.std.specs.List.{filter, flat_map}
 use Rattle.std.proofs.lemmas.List.{append-nil, take_all}
-use Rattle.variant_rules.specs.Entries.{Named, is_accepted}
-use Rattle.session_model.specs.UciTexts.{variant_choice}
+use Rattle.variant_ini.specs.Section.{Section}
+use Rattle.variant_rules.specs.Entries.{Named, entries, is_accepted}
+use Rattle.session_model.specs.UciTexts.{uci_text, variant_choice}
 use Rattle.uci_front.specs.TextView.{choice_at, choice_of}
 
 choices-more : (variants : List Named) (place : ℕ) → place < length variants
@@ -27,12 +28,13 @@ choices_more old text after variants place below is here =
 
 accepted_choices : (variants : List Named) → flat_map choice_of variants ≡ flat_map variant_choice (filter is_accepted variants)
 accepted_choices [] = refl
-accepted_choices (v ∷ vs) = by_verdict (is_accepted v)
+accepted_choices (v ∷ vs) = by_verdict (is_accepted v) (accepted_choices vs)
   where
-    by_verdict : (b : Bool) → (if b then variant_choice v else []) ++ flat_map choice_of vs
+    by_verdict : (b : Bool) → flat_map choice_of vs ≡ flat_map variant_choice (filter is_accepted vs)
+        → (if b then variant_choice v else []) ++ flat_map choice_of vs
         ≡ flat_map variant_choice (if b then v ∷ filter is_accepted vs else filter is_accepted vs)
-    by_verdict true = ap (λ (l : List ℕ). variant_choice v ++ l) (accepted_choices vs)
-    by_verdict false = accepted_choices vs
+    by_verdict true later = ap (λ (l : List ℕ). variant_choice v ++ l) later
+    by_verdict false later = later
 
 -- all of them
 pub choices_all : (old text : List ℕ) (variants : List Named) (n : ℕ) → n ≡ length variants
@@ -40,3 +42,23 @@ pub choices_all : (old text : List ℕ) (variants : List Named) (n : ℕ) → n 
     → text ≡ old ++ flat_map variant_choice (filter is_accepted variants)
 choices_all old text variants n all is =
     is ∙ ap (λ (l : List ℕ). old ++ l) (ap (flat_map choice_of) (take_all n variants (omega (arith, all))) ∙ accepted_choices variants)
+
+-- what stands before the choices
+abbrev pub introduction : List ℕ
+introduction =
+    codes "id name vengine\nid author vengine\n"
+    ++ (codes "option name Threads type spin default 1 min 1 max 64\n"
+    ++ (codes "option name Hash type spin default 16 min 1 max 1024\n"
+    ++ (codes "option name MateFacts type spin default 4096 min 16 max 65536\n"
+    ++ (codes "option name VariantPath type string default <empty>\n"
+    ++ codes "option name UCI_Variant type combo default chess"))))
+
+-- an introduction, the choices and the end
+pub introduced : (variants : List Named) (sections : List Section) (first second last : List ℕ) → variants ≡ entries sections
+    → first ≡ introduction → second ≡ first ++ flat_map variant_choice (filter is_accepted variants)
+    → last ≡ second ++ codes "\nuciok\n" → last ≡ uci_text sections
+introduced variants sections first second last is one two three =
+    three
+    ∙ ap (λ t. t ++ codes "\nuciok\n") (two ∙ ap (λ t. t ++ flat_map variant_choice (filter is_accepted variants)) one)
+    ∙ append_assoc introduction (flat_map variant_choice (filter is_accepted variants)) (codes "\nuciok\n")
+    ∙ ap (λ vs. introduction ++ (flat_map variant_choice (filter is_accepted vs) ++ codes "\nuciok\n")) is

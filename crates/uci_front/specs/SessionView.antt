@@ -2,7 +2,7 @@
 use Rattle.std.specs.Prelude.{◌≡◌, ℕ, ◌<◌, ◌≤◌, List, ◌++◌, length, Option, Some, None, Ok}
 use Rattle.rules_model.specs.declared.rules.Rules.{Rules}
 use Rattle.game_play.specs.Played.{Played}
-use Rattle.seeking.specs.Mind.{Options}
+use Rattle.seeking.specs.Settings.{Settings}
 use Rattle.session_model.specs.Mates.{Announced}
 use Rattle.session_model.specs.UciState.{State}
 use Rattle.strategy.specs.Reading.{AreSound}
@@ -16,7 +16,7 @@ abbrev pub kept_seen : Option Kept → Option Announced
 kept_seen None = None
 kept_seen (Some kept) = Some (record { strategy = kept.strategy; moves = kept.moves })
 
-abbrev pub state_of : List Section → ℕ → Played → Options → Option Kept → State
+abbrev pub state_of : List Section → ℕ → Played → Settings → Option Kept → State
 state_of sections place game mind kept = record {
   sections = sections;
   place = place;

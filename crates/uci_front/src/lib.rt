@@ -3,11 +3,12 @@
 
 mod moves;
 mod plain;
+mod plan;
 mod refusal;
-mod serve;
+mod serving;
 mod session;
 mod texts;
 
 pub use refusal::Refusal;
-pub use serve::{Ended, serve};
+pub use serving::{Ended, serve};
 pub use session::{Kept, UciSession};

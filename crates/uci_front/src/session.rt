@@ -17,13 +17,11 @@ use foundation::{Memory, Text};
 use game_play::Game;
 use proof_text::write_proof;
 use seeking::Mind;
-use session_model::variants_have_places;
 use std::alloc::Global;
 use std::marker::Model;
 use strategy::Strategy;
 use uci_lines::{Placing, Setting, number};
 use variant_ini::Sections;
-use variant_rules::laws::accepted_rules_are_playable;
 use variant_rules::{Found, Variants, builtin, load};
 
 /// A mate that was announced.
@@ -67,7 +65,6 @@ fn start_in(
     requires judged { variants.now ≡ entries sections.now }
     ensures { Starts sections.now name.now result }
 {
-    variants_have_places();
     match variants.find(name) {
         Found::Rules(rules) => {
             let game = Game::new(alloc, rules, &rules.start)?;
@@ -81,7 +78,7 @@ fn start_in(
 
 // The number that the value of an option is, where it is one of a range.
 fn number_said(low: u32, high: u32, value: Option<&[u8]>) -> Option<u32>
-    ensures { result ≡ UciState.number_said low high (option_copied value) }
+    ensures { result ≡ UciState.number_said low high (option_copied value.entry) }
 {
     let read = number(value?)?;
     if u64::from(low) <= read && read <= u64::from(high) {
@@ -129,11 +126,9 @@ impl UciSession {
     ) -> Result<UciSession, Memory>
         requires begins { BeginsBuiltIn sections }
         requires judged { variants ≡ entries sections }
-        requires some { 1 ≤ threads }
-        requires few { threads ≤ 64 }
+        requires threads { (1 ≤ threads) × (threads ≤ 64) }
         ensures { IfOk result (λ session. first_state sections threads ≡ Some session) }
     {
-        variants_have_places();
         let mind = Mind::new(alloc, threads)?;
         let (place, game) = match start_in(alloc, &sections, &variants, b"chess") {
             Ok(start) => start,
@@ -213,7 +208,6 @@ impl UciSession {
         ensures outcome { IsOutcome (UciState.place self.old (placing_seen placing.now)) self.new result }
         ensures refused { OnErr result (self.new ≡ self.old) }
     {
-        accepted_rules_are_playable();
         self.game = placed(alloc, self.game.rules(), placing)?;
         self.kept = None;
         Ok(())
@@ -225,7 +219,6 @@ impl UciSession {
         ensures begun { OnOk result (self.new ≡ UciState.new_game self.old) }
         ensures refused { OnErr result (self.new ≡ self.old) }
     {
-        accepted_rules_are_playable();
         let rules = self.game.rules();
         self.game = Game::new(alloc, rules, &rules.start)?;
         self.kept = None;
@@ -263,5 +256,13 @@ impl UciSession {
         ensures { result.now ≡ self.now.game }
     {
         &self.game
+    }
+
+    /// The number of threads.
+    pub(crate) fn threads(&self) -> u32
+        ensures is { result ≡ self.now.threads }
+        ensures in_range { (1 ≤ result) × (result ≤ 64) }
+    {
+        self.mind.threads()
     }
 }

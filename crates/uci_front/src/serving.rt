@@ -10,7 +10,7 @@ ghost use Rattle.watching.specs.Stopping.{AreSamePorts};
 use crate::session::UciSession;
 use io_ports::{Clock, Files, Gate, Ports, SearchFault, Sink, Source};
 use std::alloc::Global;
-use std::process::Wait;
+use std::sync::Wait;
 use std::thread::Threads;
 
 /// How a session ended.

@@ -1,0 +1,6 @@
+//! stub
+#![tactic(auto)]
+
+mod mind;
+
+pub use mind::Mind;
