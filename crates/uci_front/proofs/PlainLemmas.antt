@@ -1,6 +1,6 @@
 -- What is answered to a line that asks no search.
 use Rattle.std.proofs.Common.{◌≡◌, ◌∙◌, ◌⊎◌, inl, inr, ℕ, List, [], ◌∷◌, ◌++◌, Option, Some, None, Result, Ok, Err, refl, sym, ap, subst}
-use Rattle.std.specs.Prelude.{OnErr, map}
+use Rattle.std.specs.Prelude.{IfOk, OnErr, map}
 use Rattle.std.proofs.lemmas.List.{append-nil}
 use Rattle.io_ports.specs.declared.dialect.Dialect.{Dialect}
 use Rattle.io_ports.specs.Files.{Found, Read}
@@ -12,7 +12,7 @@ use Rattle.session_model.specs.UciState.{State, Outcome, file_named, load, set}
 use Rattle.uci_front.specs.declared.refusal.Refusal.{Refusal}
 use Rattle.uci_front.specs.declared.refusal.Refusal.TheVariants.{Fault, Memory}
 use Rattle.uci_front.specs.Outcomes.{IsOutcome, LoadsFile, SetsBy}
-use Rattle.uci_front.specs.Plain.{IsNamedRead, IsTold, file_of, outcome_said, plain_events, saying}
+use Rattle.uci_front.specs.Plain.{IsNamedRead, IsTold, Plainly, file_of, outcome_said, plain_events, saying}
 use Rattle.variant_files.specs.Looked.{OneRead}
 use Rattle.watching.specs.Events.{Event, Says, Opens, lines_of, opened, readings, written}
 
@@ -151,3 +151,14 @@ option_read (line.Hash value) old new reads outcome sets = inl sets.0
 option_read (line.MateFacts value) old new reads outcome sets = inl sets.0
 option_read (line.Variant value) old new reads outcome sets = inl sets.0
 option_read line.Unknown old new reads outcome sets = inl sets.0
+
+-- what is answered to the setting of some words
+pub option_answered : {A E : Type 0} (setting said : Setting) (old new : State) (reads : List Read) (outcome : Result A Refusal)
+    (result : Result (Option (List ℕ)) E) → setting ≡ said → SetsBy (file_of setting) old new setting reads outcome
+    → OnErr outcome (new ≡ old) → IfOk result (λ text. (text ≡ outcome_said outcome) × IsTold outcome)
+    → Plainly old new (line.SetOption said) reads result
+option_answered setting said old new reads outcome (Ok text) same sets refused told = λ turn following after events.
+    subst (λ s. SetsOption turn old s) same
+    (option_said setting old new reads outcome text sets refused told.0 told.1 turn after events)
+option_answered setting said old new reads outcome (Err why) same sets refused told =
+    subst (λ s. (reads ≡ []) ⊎ IsNamedRead (line.SetOption s) reads) same (option_read setting old new reads outcome sets)

@@ -2,10 +2,13 @@
 use Rattle.std.proofs.Common.{◌≡◌, ◌<◌, ◌+◌, ℕ, zero, suc, List, [], ◌∷◌, ◌++◌, length, take, Bool, true, false, refl, sym, ap, ◌∙◌, append_assoc, add-one, arith}
 use Rattle.std.specs.Prelude.{codes, if◌then◌else◌}
 use Rattle.std.specs.List.{filter, flat_map}
+use Rattle.std.specs.Fmt.{decimal}
 use Rattle.std.proofs.lemmas.List.{append-nil, take_all}
+use Rattle.game_play.specs.Played.{Played}
+use Rattle.game_reports.specs.GameTexts.{perft_of}
 use Rattle.variant_ini.specs.Section.{Section}
 use Rattle.variant_rules.specs.Entries.{Named, entries, is_accepted}
-use Rattle.session_model.specs.UciTexts.{uci_text, variant_choice}
+use Rattle.session_model.specs.UciTexts.{perft_line, uci_text, variant_choice}
 use Rattle.uci_front.specs.TextView.{choice_at, choice_of}
 
 choices-more : (variants : List Named) (place : ℕ) → place < length variants
@@ -62,3 +65,14 @@ introduced variants sections first second last is one two three =
     ∙ ap (λ t. t ++ codes "\nuciok\n") (two ∙ ap (λ t. t ++ flat_map variant_choice (filter is_accepted variants)) one)
     ∙ append_assoc introduction (flat_map variant_choice (filter is_accepted variants)) (codes "\nuciok\n")
     ∙ ap (λ vs. introduction ++ (flat_map variant_choice (filter is_accepted vs) ++ codes "\nuciok\n")) is
+
+-- a count behind its introduction
+pub perft_said : (plies : ℕ) (g : Played) (first count whole : List ℕ)
+    → first ≡ codes "info string perft " ++ (decimal plies ++ codes " ") → count ≡ perft_of plies g
+    → whole ≡ first ++ count → whole ≡ perft_line plies g
+unfolding perft_line
+perft_said plies g first count whole one two three =
+    three ∙ ap (λ t. t ++ count) one
+    ∙ append_assoc (codes "info string perft ") (decimal plies ++ codes " ") count
+    ∙ ap (λ t. codes "info string perft " ++ t) (append_assoc (decimal plies) (codes " ") count)
+    ∙ ap (λ t. codes "info string perft " ++ (decimal plies ++ (codes " " ++ t))) two

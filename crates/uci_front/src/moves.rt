@@ -1,5 +1,5 @@
 //! The game that the words of a position come to.
-ghost use Rattle.std.specs.Prelude.{◌≡◌, true};
+ghost use Rattle.std.specs.Prelude.{◌≡◌, true, IfOk};
 ghost use Rattle.rules_model.specs.Fit.{IsFit};
 ghost use Rattle.rules_model.specs.Sound.{is_sound};
 ghost use Rattle.game_text.specs.GameText.{started};
@@ -38,8 +38,9 @@ fn game_of(
 ) -> Result<Game, Refusal>
     requires fit { IsFit rules.now }
     requires sound { is_sound rules.now start.now ≡ true }
-    ensures { (state : State)
+    ensures leads { (state : State)
         → Leads state (after_moves state (play_all (started rules.now start.now) (texts words.now))) result }
+    ensures rules { IfOk result (λ game. game.rules ≡ rules.now) }
 {
     let mut game = Game::new(alloc, rules, start)?;
     match play_words(alloc, &mut game, words) {
@@ -54,8 +55,9 @@ fn game_of(
 pub(crate) fn placed(alloc: Global, rules: &Rules, placing: &Placing) -> Result<Game, Refusal>
     requires fit { IsFit rules.now }
     requires start { is_sound rules.now rules.now.start ≡ true }
-    ensures { (state : State) → state.game.rules ≡ rules.now
+    ensures leads { (state : State) → state.game.rules ≡ rules.now
         → Leads state (UciState.place state (placing_seen placing.now)) result }
+    ensures rules { IfOk result (λ game. game.rules ≡ rules.now) }
 {
     match placing {
         Placing::Startpos(words) => game_of(alloc, rules, &rules.start, words),

@@ -10,7 +10,7 @@ loop-word-preserved c =
 pub returns-in_err-play_move : goal.returns-in_err-play_move
 returns-in_err-play_move c =
     let p = err_from_is_err_and c.from_residual.result c.from_residual.ensures.1 in
-    rw (p.1, p.2) (word_refused _ c.args.words.now _ c.loop-word.game c.play_move.new.game c.play_move.new.game c.loop-word.word-index _ c.in_err-play_move.field-0.0 (omega arith) c.loop-word.invariant c.in_err-play_move.ensures)
+    rw (p.1, p.2) (word_refused c.args.words.now _ (Unit {0}) c.loop-word.game c.play_move.new.game c.play_move.new.game c.loop-word.word-index _ c.in_err-play_move.field-0.0 (omega arith) c.loop-word.invariant c.in_err-play_move.ensures)
 
 pub returns : goal.returns
 returns c = words_played c.args.words.now _ c.loop-word.game c.loop-word.word-index (omega arith) c.loop-word.invariant

@@ -1,6 +1,0 @@
-//! stub
-#![tactic(auto)]
-
-mod mind;
-
-pub use mind::Mind;
