@@ -11,3 +11,6 @@ mod waiting;
 
 pub use next_line::next_of;
 pub use waiting::{settle, wait};
+
+#[cfg(test)]
+mod tests;
