@@ -1,15 +1,9 @@
--- What the commands print of a game.
-use Rattle.std.specs.Prelude.{ℕ, ◌-◌, ◌^◌, min, Bool, false, true, List, ◌++◌, Option, None, Some, codes}
-use Rattle.std.specs.Fmt.{decimal}
-use Rattle.rules_model.specs.Games.{result}
-use Rattle.fen_model.specs.Printing.{fen_text}
-use Rattle.game_play.specs.Perft.{perft}
-use Rattle.game_play.specs.Played.{Played, legal_in, story}
+-- What `stipulate` prints of a game.
+use Rattle.std.specs.Prelude.{ℕ, Bool, false, true, List, Option, None, Some, codes}
+use Rattle.game_play.specs.Played.{Played, story}
 use Rattle.stipulation.specs.declared.cert.Step.{Step}
 use Rattle.stipulation.specs.Searches.{help_found, self_found}
 use Rattle.cert_text.specs.Writing.{cert_text}
-use Rattle.vengine.specs.MovesText.{moves_text}
-use Rattle.vengine.specs.OutcomeText.{outcome_text}
 
 -- the text of the certificate that was found: of a helpmate, or else of a selfmate
 abbrev pub cert_or_none : Bool → Option (List Step) → List ℕ

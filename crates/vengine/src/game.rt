@@ -1,26 +1,22 @@
-//! The game that a command reads, and what the commands print of it.
+//! The game that a command reads, and what `stipulate` prints of it.
 ghost use Rattle.std.specs.Prelude.{◌≡◌, ◌≤◌, IfOk};
 ghost use Rattle.io_ports.specs.Cause.{HasCause};
 ghost use Rattle.variant_rules.specs.Entries.{entries};
 ghost use Rattle.game_text.specs.GameText.{game_of, lines_of_game};
 ghost use Rattle.game_text.specs.HeardLines.{HeardLines};
 ghost use Rattle.stipulation.specs.Searches.{steps_of};
-ghost use Rattle.vengine.specs.GameTexts.{cert_or_none, help_mate_of, moves_of, perft_of, self_mate_of, status_of};
+ghost use Rattle.vengine.specs.GameTexts.{cert_or_none, help_mate_of, self_mate_of};
 ghost use Rattle.vengine.specs.GameView.{SaysGame};
 ghost use Rattle.vengine.specs.HaltView.{IsUnheard};
 
 use crate::halt::Halt;
-use crate::moves::text_of_moves;
-use crate::outcome::Printed;
 use cert_text::write_cert;
 use foundation::{Memory, Text};
 use game_play::Game;
 use game_text::read_game;
 use io_ports::Source;
-use legality::legal_moves;
 use std::alloc::Global;
 use stipulation::{Cert, help_mate, self_mate};
-use variant_fen::write_fen;
 use variant_ini::Sections;
 use variant_rules::load;
 
