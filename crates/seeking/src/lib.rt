@@ -1,6 +1,7 @@
 //! One search and one solve of a session: what the session sets for them, the ports lent singly, and why they end.
 #![tactic(auto)]
 
+mod cutting;
 mod mind;
 mod search;
 mod solve;
