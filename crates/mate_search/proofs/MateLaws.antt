@@ -1,5 +1,5 @@
 -- Answers of whole solves.
-use Rattle.std.proofs.Common.{◌≡◌, ℕ, zero, suc, ◌+◌, ◌*◌, ◌<◌, ◌≤◌, List, [], Option, Some, None, refl, sym, subst, arith}
+use Rattle.std.proofs.Common.{◌≡◌, ℕ, zero, suc, ◌+◌, ◌*◌, ◌<◌, ◌≤◌, List, [], Some, None, refl, sym, subst, arith}
 use Rattle.io_ports.specs.declared.dialect.Dialect.{Dialect}
 use Rattle.io_ports.specs.declared.limits.Limits.{Limits}
 use Rattle.io_ports.specs.declared.limits.SearchFault.{SearchFault}
@@ -16,7 +16,7 @@ use Rattle.watching.specs.declared.halt.Cut.TheVariants as cut
 use Rattle.watching.specs.CallerLaws.{gone_none, ended_memory}
 use Rattle.watching.specs.LookLaws.{looked_none}
 use Rattle.watching.specs.Stopping.{Fails}
-use Rattle.watching.specs.Watched.{World, Moment, moment, Gone}
+use Rattle.watching.specs.Watched.{World, moment, Gone}
 use Rattle.mate_search.specs.declared.answer.Mate.TheVariants as mate
 use Rattle.mate_search.specs.declared.answer.Settled.{Settled}
 use Rattle.mate_search.specs.declared.answer.Settled.TheVariants as settled

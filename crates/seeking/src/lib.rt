@@ -5,6 +5,8 @@ mod cutting;
 mod mind;
 mod search;
 mod solve;
+#[cfg(test)]
+mod tests;
 
 pub use mind::Mind;
 pub use search::{Search, search_once};
