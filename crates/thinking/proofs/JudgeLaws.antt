@@ -83,10 +83,10 @@ module _ {S K C : Type 0} (w : World S K C) (dialect : Dialect) where
     }
 
     -- it came to its end, and then a mate was looked for
-    pub explored_found : {d : Moment S K C} (text' : List ℕ) (nodes : ℕ) (judged : Judged) → Gone w dialect limits a b text (search_at t depth) None → nodes ≤ search_at t depth
+    pub explored_found : (d : Moment S K C) (text' : List ℕ) (nodes : ℕ) (judged : Judged) → Gone w dialect limits a b text (search_at t depth) None → nodes ≤ search_at t depth
         → IsJudged dialect (MovesOn w b d) (w.owed b.source) (w.owed d.source) t depth (record { quota = option_map (λ number. number - nodes) limits.quota; deadline = limits.deadline }) text' judged
         → IsExplored dialect (MovesOn w a d) (w.owed a.source) (w.owed d.source) t depth limits text' (explored.Found judged)
-    explored_found {d = d} text' nodes judged gone few j = record {
+    explored_found d text' nodes judged gone few j = record {
       ran = ran_more dialect _ (λ x y p q. (listens_more dialect x y p.0 q.0, by_cut judged.cut x y q.1)) gone.looked.ran j.ran;
       is = j.is;
       spends = spends_more (w.owed a.source) (w.owed b.source) (w.owed d.source) (search_at t depth) (asked_at t depth) gone.looked.spends j.spends;
@@ -102,9 +102,9 @@ module _ {S K C : Type 0} (w : World S K C) (dialect : Dialect) where
             (solve_bound-some t.game.rules solve.moves (story t.game)) may)
 
     -- a fault came in what followed it
-    pub explored_broke : {d : Moment S K C} → Gone w dialect limits a b text (search_at t depth) None
+    pub explored_broke : (d : Moment S K C) → Gone w dialect limits a b text (search_at t depth) None
         → Broke dialect (MovesOn w b d) (Listens dialect) → Broke dialect (MovesOn w a d) (Listens dialect)
-    explored_broke gone broke = broke_more dialect (Listens dialect) (λ x y p q. listens_more dialect x y p.0 q) gone.looked.ran broke
+    explored_broke d gone broke = broke_more dialect (Listens dialect) (λ x y p q. listens_more dialect x y p.0 q) gone.looked.ran broke
 
   -- no mate is looked for
   pub judged_none : (a : Moment S K C) (t : Task) (depth : ℕ) (limits : Limits) (text : List ℕ) (found : Found) → IsFinding t depth found None
@@ -134,7 +134,7 @@ module _ (dialect : Dialect) (style : Style) (t : Task) (first depth : ℕ) (lim
       → ((why : Cut) (reach : ℕ) → CutsBy dialect o (bound_at t depth) limits.quota limits.deadline reach (readings a) text why → CutsBy dialect o' (bound_at t depth) limits.quota limits.deadline reach (readings a) text why)
       → Listens dialect a × IfSome (solve_cut cut) (CutsBy dialect o (bound_at t depth) limits.quota limits.deadline (search_at t depth + solve_reach t cut) (readings a) text)
       → Told o' found reading cut (a ++ told style reading (texts_of found reading))
-  told_then o o' found reading cut a as p = (
+  told_then o o' found reading cut a weaker p = (
     listens_tells dialect style t.game.rules first a (told style reading (texts_of found reading)) depth (report_of found reading ∷ []) p.0 (tells_told dialect style t.game.rules first depth (report_of found reading)),
     by_cut cut p.1,
   )
@@ -145,7 +145,7 @@ module _ (dialect : Dialect) (style : Style) (t : Task) (first depth : ℕ) (lim
       by_cut (Some solve) may =
           subst (λ (l : List ℕ). CutsBy dialect o' (bound_at t depth) limits.quota limits.deadline (search_at t depth + solve_within t solve.moves) l text solve.why) (sym (readings-append a (told style reading (texts_of found reading))))
           (cuts_more dialect solve.why o' (bound_at t depth) limits.quota limits.deadline (search_at t depth + solve_within t solve.moves) (readings a) (readings (told style reading (texts_of found reading))) text
-          (as solve.why (search_at t depth + solve_within t solve.moves) may))
+          (weaker solve.why (search_at t depth + solve_within t solve.moves) may))
 
 module _ {S K C : Type 0} {left : S → Option (List ℕ)} {taken : K → Option (List ℕ)} {given : C → Option (List ℕ)} {count last : C → ℕ} (dialect : Dialect) (style : Style) (t : Task) (first depth : ℕ) (limits : Limits) (text : List ℕ) where
   pub deeper_off : {s s' : S} {k k' : K} {c c' : C} {o o' : Owed} (why : Cut)
