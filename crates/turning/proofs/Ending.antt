@@ -2,16 +2,16 @@
 use Rattle.std.proofs.Common.{◌≡◌, inl, inr, ℕ, ◌+◌, ◌≤◌, List, [], ◌∷◌, ◌++◌, length, map, Some, None, true, false, arith, refl, sym, ap, subst, ◌∙◌, append_assoc, length-append}
 use Rattle.std.specs.declared.option.Option.{Option}
 use Rattle.std.specs.Io.KnownBytes.{IsAtEnd}
-use Rattle.std.specs.Prelude.{⊤}
 use Rattle.std.proofs.lemmas.List.{append-nil}
 use Rattle.std.proofs.lemmas.Grind.{flat_map-append}
 use Rattle.io_ports.specs.Files.{Contents, Finds, Read}
 use Rattle.io_ports.specs.Lines.{Line, Text, TooLong, line_of, lines_of, pieces_of}
 use Rattle.io_ports.specs.Owing.{Lacks}
 use Rattle.io_ports.specs.Source.{Owed, Untold, Takes, got_lines}
-use Rattle.io_ports.specs.Trace.{Moves, faults_in}
+use Rattle.io_ports.specs.Trace.{Moves, Reads, faults_in}
 use Rattle.io_ports.specs.declared.source.Got.{Got}
 use Rattle.io_ports.specs.declared.source.Got.TheVariants as got
+use Rattle.io_ports.proofs.Asked.{reads_more}
 use Rattle.io_ports.proofs.Moved.{map_line-append, moves_at, moves_more, moves_none}
 use Rattle.watching.specs.Events.{lines_of as heard, opened, readings, written}
 use Rattle.watching.specs.Looks.{Moved}
@@ -19,7 +19,7 @@ use Rattle.session_model.specs.Turns.{Protocol, Session, Turn, Turns, after_turn
 use Rattle.session_model.proofs.Joined.{quiet_output, turns_joined, turns_untold}
 use Rattle.turning.specs.Lines.{HasLine, Held, none, one, got_line}
 use Rattle.turning.specs.Turned.{Further, IsLawful, Turned, Unserved, turn_of}
-use Rattle.turning.specs.Spoken.{IsInput, Spoke, SpokePart}
+use Rattle.turning.specs.Spoken.{IsInput, Spoke, SpokePart, TookQuit}
 use Rattle.turning.proofs.Turning.{flat_more, line_followed, line_taken, lines_since, none_follows, turns_more}
 
 -- ---- reads
@@ -46,6 +46,22 @@ further_more contents xs ys first then = record {
   found = finds_both contents xs ys first.found then.found;
   works = faultless_both xs ys first.works then.works;
 }
+
+-- what a protocol's turns ask of files: nothing, or of these files
+
+pub nothing_found : (contents : Option Contents) (reads : List Read) → reads ≡ [] → Finds contents reads
+nothing_found contents reads no_reads = subst (λ (r : List Read). Finds contents r) (sym no_reads) (finds_none contents)
+
+pub nothing_more : (xs ys : List Read) → xs ≡ [] → ys ≡ [] → xs ++ ys ≡ []
+nothing_more xs ys first then = ap (λ r. r ++ ys) first ∙ then
+
+module _ {F : Type 0} {contents : F → Option Contents} {faults : F → ℕ} where
+  pub reads_found : {files files' : F} (reads : List Read) → Reads contents faults files files' reads → Finds (contents files) reads
+  reads_found reads asks = asks.found
+
+  pub reads_both : {files files' files'' : F} (xs ys : List Read) → Reads contents faults files files' xs → Reads contents faults files' files'' ys
+      → Reads contents faults files files'' (xs ++ ys)
+  reads_both xs ys first then = reads_more first then
 
 -- ---- lines that are held
 
@@ -288,6 +304,17 @@ module _ {State : Type 0} (p : Protocol State) where
         }
 
     -- the next line ends the session
+    pub took_quit : HasLine next → p.quits (got_line next text) ≡ true
+        → TookQuit p (Moves left taken given count last s s' k k' c c')
+    took_quit has quits = record {
+      before = lines_in so.turns;
+      line = got_line next text;
+      output = output_in p.dialect so.turns;
+      readings = readings_in so.turns;
+      moves = moves_at so.went (ap (λ l. lines_in so.turns ++ l) (line_taken next text has)) refl refl;
+      quits = quits;
+    }
+
     pub spoke_quit : HasLine next → p.quits (got_line next text) ≡ true
         → Spoke p (Moves left taken given count last s s' k k' c c') asked owed contents (left s) start
     spoke_quit has quits =

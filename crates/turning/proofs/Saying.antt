@@ -1,5 +1,5 @@
 -- What is said and heard while a line is answered, and the turn that comes of it.
-use Rattle.std.proofs.Common.{◌≡◌, ℕ, List, [], ◌∷◌, ◌++◌, Bool, true, false, not, ◌&&◌, Some, None, refl, ap, sym, subst, ◌∙◌, append_assoc}
+use Rattle.std.proofs.Common.{◌≡◌, ℕ, List, [], ◌∷◌, ◌++◌, Bool, true, false, Some, None, refl, ap, sym, subst, ◌∙◌, append_assoc}
 use Rattle.std.specs.Prelude.{⊤}
 use Rattle.std.specs.declared.option.Option.{Option}
 use Rattle.std.specs.Io.KnownBytes.{Appends}
@@ -14,8 +14,7 @@ use Rattle.io_ports.specs.Trace.{Moves}
 use Rattle.io_ports.specs.declared.dialect.Dialect.{Dialect}
 use Rattle.io_ports.specs.declared.limits.SearchFault.{SearchFault}
 use Rattle.io_ports.specs.declared.source.Got.{Got}
-use Rattle.io_ports.specs.declared.source.Got.TheVariants as got
-use Rattle.io_ports.proofs.Moved.{appends_none, moves_at, moves_more, moves_none, moves_sink, moves_source}
+use Rattle.io_ports.proofs.Moved.{appends_none, moves_at, moves_more, moves_sink, moves_source}
 use Rattle.io_ports.proofs.Owing.{spends_none}
 use Rattle.watching.specs.declared.halt.Cut.{Cut}
 use Rattle.watching.specs.declared.halt.Cut.TheVariants as cut
@@ -24,7 +23,7 @@ use Rattle.watching.specs.EventLaws.{lines_of-append, readings-append, written-a
 use Rattle.watching.specs.Looks.{Broke, Moved, Ran, held}
 use Rattle.session_model.specs.Events.{IsStopped}
 use Rattle.session_model.specs.Turns.{Protocol}
-use Rattle.turning.specs.Lines.{Exchanges, Follows, HeardPart, Held, IsNext, MayFollow, Settled, SettledBy, StopsBy, Waited, is_interrupted, must_wait, none, one}
+use Rattle.turning.specs.Lines.{Exchanges, Follows, HeardPart, Held, IsNext, MayFollow, Settled, SettledBy, StopsBy, is_interrupted, must_wait, none, one}
 use Rattle.turning.specs.Turned.{Further, RanPart, Served, Unserved, turn_of}
 
 -- ---- the line that comes next

@@ -1,6 +1,6 @@
 -- What a turn of a session leaves, and one turn after another. `moved` says what went through the source, the sink and
 -- the clock, and `asked` which files were asked for.
-use Rattle.std.specs.Prelude.{◌≡◌, ℕ, List, [], ◌++◌, Option, ⊤}
+use Rattle.std.specs.Prelude.{◌≡◌, ℕ, List, ◌++◌, Option, ⊤}
 use Rattle.io_ports.specs.Files.{Contents, Finds, Read}
 use Rattle.io_ports.specs.Lines.{Line}
 use Rattle.io_ports.specs.Owing.{Spends, Lacks}
