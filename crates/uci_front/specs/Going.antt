@@ -16,13 +16,13 @@ use Rattle.session_model.specs.Events.{IsStopped}
 use Rattle.session_model.specs.Mates.{Announced, mover}
 use Rattle.session_model.specs.Turns.{Turn}
 use Rattle.session_model.specs.UciGo.{Go, is_held}
-use Rattle.session_model.specs.UciLines as line
+use Rattle.session_model.specs.UciLines as UciLines
 use Rattle.session_model.specs.UciLines.{command_of}
 use Rattle.session_model.specs.UciSession.{Goes, announced, go_bound, uci}
 use Rattle.session_model.specs.UciState.{State}
 use Rattle.session_model.specs.UciTexts.{best_line, no_best_line}
 use Rattle.turning.specs.Lines.{Follows, Held}
-use Rattle.turning.specs.Saying.{RanPart}
+use Rattle.turning.specs.Turned.{RanPart}
 use Rattle.turning.specs.Turned.{Served, Unserved}
 use Rattle.uci_front.specs.declared.plan.Plan.{Plan}
 use Rattle.uci_front.specs.declared.searching.Came.{Came}
@@ -34,13 +34,13 @@ use Rattle.uci_front.specs.SessionView.{IsPrintable, kept_seen}
 -- the line that asks this `go` was answered, and the next one is there; no file was read
 abbrev pub ServesGo : Moved → Owed → Owed → State → State → Plan → Got → List ℕ → Type 0
 ServesGo moved owed owed' state after plan next text =
-    (line : Line) (asked : Go) → command_of line ≡ line.Go asked → IsPlan state asked plan
+    (line : Line) (asked : Go) → command_of line ≡ UciLines.Go asked → IsPlan state asked plan
     → Served uci moved (λ reads. reads ≡ []) owed owed' state after line next text
 
 -- a fault ended the answer to it
 abbrev pub UnservesGo : Moved → State → Plan → Type 0
 UnservesGo moved state plan =
-    (contents : Option Contents) (line : Line) (asked : Go) → command_of line ≡ line.Go asked → IsPlan state asked plan
+    (contents : Option Contents) (line : Line) (asked : Go) → command_of line ≡ UciLines.Go asked → IsPlan state asked plan
     → Unserved uci moved (λ reads. reads ≡ []) contents state line
 
 -- ---- before its best move

@@ -1,11 +1,11 @@
 //! The answer to `go`.
-ghost use Rattle.std.specs.Prelude.{◌≡◌, IfOk, OnErr, IsErrOf, Some};
+ghost use Rattle.std.specs.Prelude.{◌≡◌, [], true, None, IfOk, OnErr, IsErrOf};
 ghost use Rattle.std.specs.Io.KnownBytes.{IsAtEnd};
 ghost use Rattle.io_ports.specs.Cause.{Rose};
 ghost use Rattle.io_ports.specs.Trace.{Moves};
 ghost use Rattle.turning.specs.Lines.{Causes};
 ghost use Rattle.uci_front.specs.Going.{ServesGo, UnservesGo};
-ghost use Rattle.uci_front.specs.PlanView.{IsAtOnce};
+ghost use Rattle.uci_front.specs.PlanView.{ArePlies, SaidAtOnce};
 
 use crate::plan::Plan;
 use crate::searching::{Came, search};
@@ -24,7 +24,7 @@ use watching::say;
 // What is said at once, without a search: a count, or that no move is legal where no best move is held back.
 fn at_once(alloc: Global, game: &Game, plan: &Plan) -> Result<Option<Text>, Memory>
     requires { ArePlies plan.now.perft }
-    ensures { IfOk result (IsAtOnce game.now plan.now) }
+    ensures { IfOk result (SaidAtOnce game.now plan.now) }
 {
     if let Some(plies) = plan.perft {
         return Ok(Some(perft_line(alloc, plies, game)?));
