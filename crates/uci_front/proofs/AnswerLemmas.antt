@@ -19,9 +19,13 @@ use Rattle.session_model.specs.UciSession.{Answers, LoadsFrom, Sets, is_quit, uc
 use Rattle.session_model.specs.UciState.{State, Outcome, file_named, load}
 use Rattle.session_model.specs.UciTexts.{error_line}
 use Rattle.turning.proofs.Ending.{further_none}
+use Rattle.turning.proofs.Lawful.{uci_is_lawful}
+use Rattle.io_ports.proofs.Moved.{appends_none}
+use Rattle.uci_front.proofs.Unanswered.{unserved_quiet}
+use Rattle.watching.specs.Looks.{Moved}
 use Rattle.turning.proofs.Saying.{AnswersAlways, served_plain, unserved_plain}
 use Rattle.turning.specs.Lines.{got_line}
-use Rattle.turning.specs.Turned.{Further, Served, Unserved, turn_of}
+use Rattle.turning.specs.Turned.{Served, Unserved, turn_of}
 use Rattle.uci_front.proofs.PlainLemmas.{plain_lines, plain_opened, plain_readings, plain_written}
 use Rattle.uci_front.specs.Plain.{Answering, IsNamedRead, Plainly, plain_events, saying, text_said}
 use Rattle.uci_lines.specs.declared.line.Kind.{Kind}
@@ -109,3 +113,49 @@ named_answer state command reads (value, name, found, command_is, named, reads_a
             sets = sets turn (Opens (record { name = name; found = found }) ∷ []) is (events ∙ ap (λ r. plain_events r text) reads_are);
           })),
     )
+
+-- ---- files
+
+-- no file was read
+pub served_unread : {moved : Moved} {owed owed' : Owed} {state after : State} {line : Line} {next : Got} {text : List ℕ}
+    (asked : List Read → Type 0) → asked [] → Served uci moved (λ reads. reads ≡ []) owed owed' state after line next text
+    → Served uci moved asked owed owed' state after line next text
+served_unread asked none s = record {
+  events = s.events;
+  went = s.went;
+  asks = subst asked (sym s.asks) none;
+  answers = s.answers;
+  spends = s.spends;
+}
+
+pub unserved_unread : {moved : Moved} {contents : Option Contents} {state : State} {line : Line}
+    (asked : List Read → Type 0) → asked [] → Unserved uci moved (λ reads. reads ≡ []) contents state line
+    → Unserved uci moved asked contents state line
+unserved_unread asked none u = record {
+  events = u.events;
+  after = u.after;
+  behind = u.behind;
+  is_held = u.is_held;
+  front = u.front;
+  back = u.back;
+  wrote = u.wrote;
+  went = u.went;
+  done = u.done;
+  further = u.further;
+  reads_are = u.reads_are;
+  asks = subst asked (sym u.asks) none;
+  more = u.more;
+  answers = u.answers;
+}
+
+-- there was no memory, before a file was read or after it
+pub unserved_read : {S K C : Type 0} {left : S → Option (List ℕ)} {taken : K → Option (List ℕ)} {given : C → Option (List ℕ)} {count last : C → ℕ}
+    (s : S) (k : K) (c : C) (asked : List Read → Type 0) (contents : Option Contents) (state : State) (line : Line) (command : Command)
+    (reads : List Read) → command ≡ command_of line → uci.quits line ≡ false → asked reads → (reads ≡ []) ⊎ IsNamedRead command reads
+    → Unserved uci (Moves left taken given count last s s k k c c) asked contents state line
+unserved_read s k c asked contents state line command reads is goes_on asks (inl none) =
+    unserved_quiet uci uci_is_lawful.output s k c asked contents state line goes_on (subst asked none asks)
+unserved_read {taken = taken} s k c asked contents state line command reads is goes_on asks (inr named) =
+    let (after, text, answers) = named_answer state command reads named in
+    unserved_plainly s c asked contents reads text after command is answers asks
+    (record { front = []; back = text_said text; whole = refl; took = appends_none (taken k) })

@@ -223,8 +223,8 @@ module _ {moved : Moved} {owed : Owed} (state : State) (plan : Plan) (came : Cam
   pub unserved_told : (contents : Option Contents) {behind : List Line} → RanPart Uci moved behind (Told owed state plan came text) → Held behind
       → (is_held asked (mover state.game) ≡ true → IsStopped Uci behind) → Follows came.why text behind
       → Unserved uci moved (λ reads. reads ≡ []) contents state line
-  unserved_told contents {behind = behind} part one stopped follows =
-      unserved_part uci (λ reads. reads ≡ []) (announced state (kept_seen came.kept)) part one refl (told_shut owed state plan came text)
+  unserved_told contents {behind = behind} part single stopped follows =
+      unserved_part uci (λ reads. reads ≡ []) (announced state (kept_seen came.kept)) part single refl (told_shut owed state plan came text)
       (λ events told.
           uci_is_wider (Lacks owed (go_bound state asked)) (Unit {0}) (λ few. tt) state (turn_of line events (announced state (kept_seen came.kept))) behind
           (as_go (Lacks owed (go_bound state asked)) state (announced state (kept_seen came.kept)) line asked events behind asks
@@ -248,8 +248,7 @@ unserved_broke state plan line asked contents asks is b part =
 
 -- ---- what is said at once
 
-module _ {S K C : Type 0} {left : S → Maybe (List ℕ)} {taken : K → Maybe (List ℕ)} {given : C → Maybe (List ℕ)} {count last : C → ℕ}
-    (state after : State) (plan : Plan) (game : Played) (text said : List ℕ) (game_is : game ≡ state.game)
+module _ (state after : State) (plan : Plan) (game : Played) (text said : List ℕ) (game_is : game ≡ state.game)
     (once : SaidAtOnce game plan (Some text)) (said_is : said ≡ text) (after_is : after ≡ forgotten state) where
   once_goes : (line : Line) (asked : Go) → command_of line ≡ UciLines.Go asked → IsPlan state asked plan
       → AnswersAlways uci state after line (Says said ∷ [])
@@ -259,14 +258,14 @@ module _ {S K C : Type 0} {left : S → Maybe (List ℕ)} {taken : K → Maybe (
       (said_goes A state plan asked text (record { line = line; events = Says said ∷ []; after = after }) following is
       (subst (λ g. SaidAtOnce g plan (Some text)) game_is once) after_is (ap (λ t. Says t ∷ []) said_is))
 
-  pub served_once : {s s' : S} {k k' : K} (c : C) {owed owed' : Owed} {next : Got} {text' : List ℕ}
+  pub served_once : {S K C : Type 0} {left : S → Maybe (List ℕ)} {taken : K → Maybe (List ℕ)} {given : C → Maybe (List ℕ)} {count last : C → ℕ} {s s' : S} {k k' : K} (c : C) {owed owed' : Owed} {next : Got} {text' : List ℕ}
       → Appends (taken k) (taken k') said → Takes (left s) (left s') (got_lines next text') → owed' ≡ owed
       → (line : Line) (asked : Go) → command_of line ≡ UciLines.Go asked → IsPlan state asked plan
       → Served uci (Moves left taken given count last s s' k k' c c) (λ reads. reads ≡ []) owed owed' state after line next text'
   served_once c wrote takes same line asked asks is =
       served_said uci c (λ reads. reads ≡ []) said (once_goes line asked asks is) refl wrote takes same
 
-  pub unserved_once : (s : S) {k k' : K} (c : C) → AppendsFront (taken k) (taken k') said → (contents : Option Contents)
+  pub unserved_once : {S K C : Type 0} {left : S → Maybe (List ℕ)} {taken : K → Maybe (List ℕ)} {given : C → Maybe (List ℕ)} {count last : C → ℕ} (s : S) {k k' : K} (c : C) → AppendsFront (taken k) (taken k') said → (contents : Option Contents)
       (line : Line) (asked : Go) → command_of line ≡ UciLines.Go asked → IsPlan state asked plan
       → Unserved uci (Moves left taken given count last s s k k' c c) (λ reads. reads ≡ []) contents state line
   unserved_once s c wrote contents line asked asks is =
@@ -293,3 +292,7 @@ if_told (Err why) Q R p q f = tt
 pub if_untold : {T E P Q R : Type 0} (r : Result T E) → OnErr r P → OnErr r Q → (P → Q → R) → OnErr r R
 if_untold (Ok x) p q f = tt
 if_untold (Err why) p q f = f p q
+
+pub if_ok : {T E : Type 0} (r : Result T E) (P R : T → Type 0) → IfOk r P → ((x : T) → P x → R x) → IfOk r R
+if_ok (Ok x) P R p f = f x p
+if_ok (Err why) P R p f = tt

@@ -58,19 +58,19 @@ module _ {S : Type 0} (p : Protocol S) where
       }
       by_rest : (heard : List Line) → heard ≡ lines_of turn.events → (rest : List Line) → rest ≡ session.rest
           → line ∷ [] ≡ ((turn.line ∷ heard) ++ []) ++ rest → Quiet contents state line
-      by_rest [] none [] ended is =
+      by_rest [] unheard [] ended is =
           let same : turn.line ≡ line = cc in
           record {
             events = turn.events;
             after = turn.after;
-            heard = sym none;
+            heard = sym unheard;
             unread = unread;
             more = more;
             answers = subst (λ line. p.answers (Unit {0}) state (turn_of line turn.events turn.after) []) same
                 (subst (λ rest. p.answers (Unit {0}) state turn rest) (sym ended) allowed.1);
           }
-      by_rest [] none (l ∷ rest) ended is = cc
-      by_rest (l ∷ heard) none rest ended is = cc
+      by_rest [] unheard (l ∷ rest) ended is = cc
+      by_rest (l ∷ heard) unheard rest ended is = cc
 
   pub quiet_answer : HasOutput p → (contents : Option Contents) (state : S) (line : Line) → p.quits line ≡ false
       → Quiet contents state line

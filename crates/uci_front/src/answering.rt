@@ -10,7 +10,7 @@ ghost use Rattle.turning.specs.Turned.{Served, Unserved};
 use crate::going::answer_go;
 use crate::plain::answer_plain;
 use crate::plan::read_plan;
-use crate::session::UciSession;
+use crate::session::{UciSession, bytes_of};
 use crate::telling::tell;
 use io_ports::{Clock, Files, Gate, Got, LineBuf, SearchFault, Sink, Source};
 use std::alloc::Global;
@@ -66,13 +66,14 @@ where
     ensures files { F.contents files.new ≡ F.contents files.old }
 {
     let (kind, rest) = read_line(next, line.text());
-    if matches!(kind, Kind::Go) {
-        let plan = read_plan(alloc, session, rest)?;
-        return answer_go(rt, alloc, session, &plan, source, sink, clock, gate, line);
-    }
-    let text = answer_plain(alloc, session, files, kind, rest)?;
-    match &text {
-        Some(text) => tell(source, sink, line, Some(text.items.as_slice())),
-        None => tell(source, sink, line, None),
+    match kind {
+        Kind::Go => {
+            let plan = read_plan(alloc, session, rest)?;
+            answer_go(rt, alloc, session, &plan, source, sink, clock, gate, line)
+        }
+        _ => {
+            let text = answer_plain(alloc, session, files, kind, rest)?;
+            tell(source, sink, line, bytes_of(&text))
+        }
     }
 }

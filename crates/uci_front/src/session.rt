@@ -90,7 +90,7 @@ fn number_said(low: u32, high: u32, value: Option<&[u8]>) -> Option<u32>
 }
 
 // The bytes of a text, where there is one.
-fn bytes_of(value: &Option<Text>) -> Option<&[u8]>
+pub(crate) fn bytes_of(value: &Option<Text>) -> Option<&[u8]>
     ensures { option_copied result ≡ value.now }
 {
     match value {
