@@ -1,0 +1,8 @@
+//! CECP sessions: a session's state, what its lines set and answer, and how the engine thinks and moves.
+#![tactic(auto)]
+
+mod answers;
+mod session;
+mod texts;
+
+pub use session::CecpSession;
