@@ -15,7 +15,7 @@ use Rattle.watching.specs.LookLaws.{on_ok_of}
 use Rattle.watching.specs.Watched.{World, Moment, moment, Gone, Ended, Watched}
 use Rattle.alpha_beta.specs.declared.work.Job.{Job}
 use Rattle.alpha_beta.specs.Bests.{IsBest}
-use Rattle.alpha_beta.specs.Searches.{Partly}
+use Rattle.watching.specs.Stopping.{Partly}
 use Rattle.alpha_beta.specs.Workers.{most_nodes}
 
 err_of : {T : Type 0} → Halt → Result T Halt → Halt

@@ -3,10 +3,11 @@ ghost use Rattle.std.specs.Prelude.{◌≡◌, ◌<◌, ◌*◌, ◌≤◌, [], 
 ghost use Rattle.std.specs.List.{All};
 ghost use Rattle.io_ports.specs.declared.limits.SearchFault.{SearchFault};
 ghost use Rattle.game_play.specs.Played.{story};
+ghost use Rattle.watching.specs.Stopping.{AreSamePorts, Fails, Partly};
 ghost use Rattle.watching.specs.Watched.{Watched, moment, world};
 ghost use Rattle.alpha_beta.specs.Bests.{IsBest};
 ghost use Rattle.alpha_beta.specs.Roots.{AreLegal, root_lines};
-ghost use Rattle.alpha_beta.specs.Searches.{AreSamePorts, Fails, Finds, Heard, IsStop, Partly, bound_of};
+ghost use Rattle.alpha_beta.specs.Searches.{Finds, Heard, bound_of};
 ghost use Rattle.alpha_beta.specs.Workers.{AreTrueFacts, HasNone, IsSound, most_nodes};
 
 use crate::race::race;
@@ -21,7 +22,7 @@ use negamax::{Best, RootFact};
 use rules_model::Move;
 use std::alloc::Global;
 use std::thread::Threads;
-use watching::{Caller, Cut, Halt};
+use watching::{Caller, Halt, stopped_by};
 
 /// What a search answers.
 #[derive(Drop)]
@@ -257,18 +258,6 @@ fn search_lent<R: Threads + Sync, S: Source, K: Sink, C: Clock, G: Gate + Sync>(
         rt, alloc, &mut jobs, source, sink, clock, line, dialect, limits, gate, &shared, game,
         depth, &tried, hints, &mut facts,
     )
-}
-
-/// The answer to a cut.
-fn stopped_by(why: Cut, line: LineBuf) -> Stopped
-    ensures { IsStop why line result }
-{
-    match why {
-        Cut::Line => Stopped::Line(line),
-        Cut::End => Stopped::InputEnded,
-        Cut::Quota(quota) => Stopped::Quota(quota),
-        Cut::Deadline(reading) => Stopped::Deadline(reading),
-    }
 }
 
 /// The value of the game at a depth from 1 to 64 over root moves, at least one and all legal, and one of them that

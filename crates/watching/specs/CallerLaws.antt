@@ -8,7 +8,7 @@ use Rattle.io_ports.specs.declared.limits.SearchFault.TheVariants as fault
 use Rattle.watching.specs.declared.halt.Cut.{Cut}
 use Rattle.watching.specs.declared.caller.Caller.{Caller}
 use Rattle.watching.specs.Events.{Listens}
-use Rattle.watching.specs.EventLaws.{broke_more, ran_off, listens_more}
+use Rattle.watching.specs.EventLaws.{broke_more, broke_more_back, ran_off, ran_off_whole, listens_more}
 use Rattle.io_ports.proofs.Owing.{spends_more, spends_wider}
 use Rattle.watching.specs.declared.halt.Halt.{Halt}
 use Rattle.watching.specs.declared.halt.Halt.TheVariants as halt
@@ -53,6 +53,7 @@ module _ {S K C : Type 0} (w : World S K C) where
           let e = p.entered in
           record {
             broke = p.broke;
+            whole = p.whole;
             spends = spends_wider (w.owed a.source) (w.owed b.source) m n p.spends le;
             entered = omega (arith, e, le);
             later = p.later;
@@ -63,6 +64,7 @@ module _ {S K C : Type 0} (w : World S K C) where
           → Ended w dialect limits a b text m (halt.Fault fault.Memory)
       ended_memory m p = record {
         broke = ran_off dialect (λ events h. h.0) p.looked.ran;
+        whole = λ f. ran_off_whole dialect (λ events h. h.0) p.looked.ran;
         spends = p.looked.spends;
         entered = p.looked.entered;
         later = p.later;
@@ -85,6 +87,7 @@ module _ {S K C : Type 0} (w : World S K C) where
             let le = p.looked.entered in let le' = q.entered in
             record {
               broke = broke_more dialect (Listens dialect) (λ x y h k. listens_more dialect x y h.0 k) p.looked.ran q.broke;
+              whole = λ f. broke_more_back dialect (Listens dialect) (λ x y h k. listens_more dialect x y h.0 k) p.looked.ran q.broke ∙ q.whole f;
               spends = spends_more (w.owed a.source) (w.owed b.source) (w.owed c.source) m n p.looked.spends q.spends;
               entered = omega (arith, le, le');
               later = later_more a b c p.later q.later;

@@ -60,6 +60,11 @@ pub ran_off : {moved : Moved} {P Q : List Event → Type 0} (dialect : Dialect)
     → ((events : List Event) → P events → Q events) → Ran dialect moved [] P → Broke dialect moved Q
 ran_off {moved = moved} dialect f r = record { events = r.events; front = written dialect r.events; back = []; wrote = sym (append-nil (written dialect r.events)); went = subst (λ (l : List Line). moved l (written dialect r.events) (readings r.events)) (append-nil (lines_of r.events)) r.went; holds = f r.events r.holds }
 
+pub ran_off_whole : {moved : Moved} {P Q : List Event → Type 0} (dialect : Dialect)
+    (f : (events : List Event) → P events → Q events) (r : Ran dialect moved [] P) → (ran_off dialect f r).back ≡ []
+unfolding ran_off
+ran_off_whole dialect f r = refl
+
 module _ {S K C : Type 0} {left : S → Option (List ℕ)} {taken : K → Option (List ℕ)} {given : C → Option (List ℕ)} {count last : C → ℕ} (dialect : Dialect) where
   pub ran_none : (s : S) (k : K) (c : C) {P : List Event → Type 0} → P []
       → Ran dialect (Moves left taken given count last s s k k c c) [] P
@@ -95,6 +100,13 @@ module _ {S K C : Type 0} {left : S → Option (List ℕ)} {taken : K → Option
     holds = f a.events b.events a.holds b.holds;
   }
 
+  pub broke_more_back : {s s' s'' : S} {k k' k'' : K} {c c' c'' : C} {P Q : List Event → Type 0} (R : List Event → Type 0)
+      (f : (a b : List Event) → P a → Q b → R (a ++ b))
+      (a : Ran dialect (Moves left taken given count last s s' k k' c c') [] P)
+      (b : Broke dialect (Moves left taken given count last s' s'' k' k'' c' c'') Q) → (broke_more R f a b).back ≡ b.back
+  unfolding broke_more
+  broke_more_back R f a b = refl
+
   -- lines were taken, and then answered
   pub ran_source : {s s' : S} {k k' : K} (c : C) {lines behind : List Line} {P : List Event → Type 0}
       → Takes (left s) (left s') lines → Ran dialect (Replies lines (Appends (taken k) (taken k'))) behind P
@@ -103,9 +115,11 @@ module _ {S K C : Type 0} {left : S → Option (List ℕ)} {taken : K → Option
       let (heard_is, wrote, unread) = r.went in
       record { events = r.events; went = moves_at (moves_more (moves_source k c takes) (moves_sink s' c wrote)) (append-nil lines ∙ sym heard_is) refl (sym unread); holds = r.holds }
 
-  pub broke_source : {s s' : S} {k k' : K} (c : C) {lines : List Line} {P : List Event → Type 0}
-      → Takes (left s) (left s') lines → Broke dialect (Replies lines (Appends (taken k) (taken k'))) P
-      → Broke dialect (Moves left taken given count last s s' k k' c c) P
-  broke_source {s' = s'} {k = k} c {lines = lines} takes r =
-      let (heard_is, wrote, unread) = r.went in
-      record { events = r.events; front = r.front; back = r.back; wrote = r.wrote; went = moves_at (moves_more (moves_source k c takes) (moves_sink s' c wrote)) (append-nil lines ∙ sym heard_is) refl (sym unread); holds = r.holds }
+  pub broke_source : {s s' : S} {k k' : K} (c : C) {lines : List Line} {P : List Event → Type 0} (W : List ℕ → Type 0)
+      → Takes (left s) (left s') lines → (r : Broke dialect (Replies lines (Appends (taken k) (taken k'))) P) → W r.back
+      → (b : Broke dialect (Moves left taken given count last s s' k k' c c) P) × W b.back
+  broke_source {s' = s'} {k = k} c {lines = lines} W takes r unwritten =
+      let (heard_is, wrote, unread) = r.went in (
+        record { events = r.events; front = r.front; back = r.back; wrote = r.wrote; went = moves_at (moves_more (moves_source k c takes) (moves_sink s' c wrote)) (append-nil lines ∙ sym heard_is) refl (sym unread); holds = r.holds },
+        unwritten,
+      )

@@ -5,4 +5,5 @@ pub mod HelperLaws
 pub mod LookLaws
 pub mod Looks
 pub mod PollLaws
+pub mod Stopping
 pub mod Watched

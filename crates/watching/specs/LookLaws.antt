@@ -65,6 +65,10 @@ module _ (dialect : Dialect) (appends : List ℕ → Type 0) (answer : Polled) (
       → Broke dialect (Replies (polled_lines answer text) appends) (Listens dialect)
   broke_none e took = record { events = []; front = []; back = []; wrote = refl; went = (sym e, took, refl); holds = tt }
 
+  pub broke_none_whole : (e : polled_lines answer text ≡ []) (took : appends []) → (broke_none e took).back ≡ []
+  unfolding broke_none
+  broke_none_whole e took = refl
+
 -- ---- a search, one part after another
 
 -- the same cut, after a part that was not cut
@@ -182,12 +186,12 @@ module _ (dialect : Dialect) (appends : List ℕ → Type 0) (answer : Polled) (
   pub wrote_fault : why ≡ halt.Fault fault.WriteFault → Rose sink sink'
       → Broke dialect (Replies (polled_lines answer text) appends) (Listens dialect)
       → HeedsEnd dialect appends answer text sink sink' why
-  wrote_fault e rose broke = subst (λ (w : Halt). HeedsEnd dialect appends answer text sink sink' w) (sym e) (broke, ((λ f. absurd (cc)), (λ f. rose)))
+  wrote_fault e rose broke = subst (λ (w : Halt). HeedsEnd dialect appends answer text sink sink' w) (sym e) (broke, ((λ f. absurd (f refl)), ((λ f. absurd (cc)), (λ f. rose))))
 
   pub read_fault : why ≡ halt.Fault fault.ReadFault → answer ≡ polled.Failed
-      → Broke dialect (Replies (polled_lines answer text) appends) (Listens dialect)
+      → (broke : Broke dialect (Replies (polled_lines answer text) appends) (Listens dialect)) → broke.back ≡ []
       → HeedsEnd dialect appends answer text sink sink' why
-  read_fault e is broke = subst (λ (w : Halt). HeedsEnd dialect appends answer text sink sink' w) (sym e) (broke, ((λ f. is), (λ f. absurd (cc))))
+  read_fault e is broke whole = subst (λ (w : Halt). HeedsEnd dialect appends answer text sink sink' w) (sym e) (broke, ((λ f. whole), ((λ f. is), (λ f. absurd (cc)))))
 
 pub on_ok_of : {T E P Q : Type 0} (r : Result T E) → OnOk r P → (P → Q) → OnOk r Q
 on_ok_of (Ok x) p f = f p

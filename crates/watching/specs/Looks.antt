@@ -94,6 +94,10 @@ pub record Looked (dialect : Dialect) (moved : Moved) (owed owed' : Owed) (limit
   pub spends : Spends owed owed' bound
   pub entered : nodes' ≤ nodes + bound
 
+-- a fault of the sink alone leaves something unwritten
+abbrev pub IsWholeBut : SearchFault → List ℕ → Type 0
+IsWholeBut why back = (why ≡ fault.WriteFault → ⊥) → back ≡ []
+
 -- a fault of the source or of the sink comes only where its count rose
 abbrev pub IsCaused : ℕ → ℕ → ℕ → ℕ → SearchFault → Type 0
 IsCaused source source' sink sink' fault.ReadFault = Rose source source'
@@ -104,5 +108,6 @@ IsCaused source source' sink sink' fault.Memory = Unit {0}
 abbrev pub HeedsEnd : Dialect → (List ℕ → Type 0) → Polled → List ℕ → ℕ → ℕ → Halt → Type 0
 HeedsEnd dialect appends answer text sink sink' (halt.Cut why) = Heeds dialect appends answer text (Some why)
 HeedsEnd dialect appends answer text sink sink' (halt.Fault why) =
-    Broke dialect (Replies (polled_lines answer text) appends) (Listens dialect)
-    × ((why ≡ fault.ReadFault → answer ≡ polled.Failed) × (why ≡ fault.WriteFault → Rose sink sink'))
+    (broke : Broke dialect (Replies (polled_lines answer text) appends) (Listens dialect))
+    × (IsWholeBut why broke.back
+    × ((why ≡ fault.ReadFault → answer ≡ polled.Failed) × (why ≡ fault.WriteFault → Rose sink sink')))

@@ -13,7 +13,7 @@ use Rattle.watching.specs.declared.halt.Cut.TheVariants as cut
 use Rattle.watching.specs.declared.halt.Halt.{Halt}
 use Rattle.watching.specs.declared.halt.Halt.TheVariants as halt
 use Rattle.watching.specs.EventLaws.{broke_source}
-use Rattle.watching.specs.Looks.{Heeds, HeedsEnd, IsHeardAs, MayCut, held}
+use Rattle.watching.specs.Looks.{Heeds, HeedsEnd, IsHeardAs, IsWholeBut, MayCut, held}
 use Rattle.watching.specs.LookLaws.{looked_poll, looked_read, looked_more, caused_by}
 use Rattle.io_ports.proofs.Owing.{spends_poll}
 use Rattle.watching.specs.Watched.{World, moment, Gone, Ended}
@@ -38,13 +38,16 @@ module _ {S K C : Type 0} (w : World S K C) (dialect : Dialect) (limits : Limits
     later = record { source_later = cause.later; sink_later = later };
     end = λ e. end (heard_end dialect answer text why heeds.why_is e);
   }
-  ended_poll s s' k k' c nodes nodes' answer text (halt.Fault why) takes end owes cause heeds later le = record {
-    broke = broke_source dialect c takes heeds.0;
-    spends = spends_poll (w.owed s) (w.owed s') answer owes;
-    entered = le;
-    later = record { source_later = cause.later; sink_later = later };
-    caused = caused_by why _ _ _ _ (λ e. cause.failed (heeds.1.0 e)) heeds.1.1;
-  }
+  ended_poll s s' k k' c nodes nodes' answer text (halt.Fault why) takes end owes cause heeds later le =
+      let broke = broke_source dialect c (IsWholeBut why) takes heeds.0 heeds.1.0 in
+      record {
+        broke = broke.0;
+        whole = broke.1;
+        spends = spends_poll (w.owed s) (w.owed s') answer owes;
+        entered = le;
+        later = record { source_later = cause.later; sink_later = later };
+        caused = caused_by why _ _ _ _ (λ e. cause.failed (heeds.1.1.0 e)) heeds.1.1.1;
+      }
 
   -- a line, if any, was answered, and the clock gave this reading
   pub gone_read : (s s' : S) (k k' : K) (c c' : C) (nodes nodes' : ℕ) (answer : Polled) (text : List ℕ) (reading : ℕ) (why : Option Cut)

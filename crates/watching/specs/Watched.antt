@@ -15,7 +15,7 @@ use Rattle.watching.specs.declared.halt.Cut.TheVariants as cut
 use Rattle.watching.specs.declared.halt.Halt.{Halt}
 use Rattle.watching.specs.declared.halt.Halt.TheVariants as halt
 use Rattle.watching.specs.Events.{Listens}
-use Rattle.watching.specs.Looks.{Broke, Looked, IsCaused}
+use Rattle.watching.specs.Looks.{Broke, Looked, IsCaused, IsWholeBut}
 
 -- what a source, a sink and a clock tell of themselves
 pub record World (S K C : Type 0) : Type 0 where
@@ -73,6 +73,7 @@ module _ {S K C : Type 0} where
   pub record Failed (w : World S K C) (dialect : Dialect) (a b : Moment S K C) (bound : ℕ)
       (why : SearchFault) : Type 0 where
     pub broke : Broke dialect (MovesOn w a b) (Listens dialect)
+    pub whole : IsWholeBut why broke.back
     pub spends : Spends (w.owed a.source) (w.owed b.source) bound
     pub entered : b.nodes ≤ a.nodes + bound
     pub later : Later w a b

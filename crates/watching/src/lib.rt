@@ -10,12 +10,15 @@ mod flag;
 mod halt;
 mod helper;
 mod listen;
+mod stopping;
 mod watch;
 
 pub use caller::Caller;
 pub use flag::StopFlag;
 pub use halt::{Cut, Halt};
 pub use helper::Helper;
+pub use listen::{heed, say};
+pub use stopping::stopped_by;
 pub use watch::Watch;
 
 #[cfg(test)]

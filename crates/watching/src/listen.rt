@@ -9,8 +9,12 @@ ghost use Rattle.watching.specs.Looks.{Heeds, HeedsEnd, end_line};
 use crate::halt::{Cut, Halt};
 use io_ports::{Dialect, Heard, LineBuf, Polled, SearchFault, Sink, hear, too_long_answer};
 
-// Writes a text.
-fn say<K: Sink>(sink: &mut K, text: &[u8]) -> Result<(), SearchFault>
+/// Writes a text whole.
+///
+/// # Errors
+///
+/// `WriteFault`, where the sink took a front part of it and counted a fault.
+pub fn say<K: Sink>(sink: &mut K, text: &[u8]) -> Result<(), SearchFault>
     ensures ok { OnOk result (Appends (K.taken sink.old) (K.taken sink.new) text.now) }
     ensures err { OnErr result (AppendsFront (K.taken sink.old) (K.taken sink.new) text.now) }
     ensures only { IfErr result (λ fault. fault ≡ SearchFault.WriteFault) }
@@ -34,6 +38,10 @@ fn say_line<K: Sink>(sink: &mut K, text: &[u8]) -> Result<(), SearchFault>
 }
 
 /// Answers what was heard, or says that it ends the search.
+///
+/// # Errors
+///
+/// A cut by a line that stops the search or by the end of the lines; or the fault of the source or of the sink.
 pub fn heed<K: Sink>(
     sink: &mut K,
     dialect: Dialect,

@@ -5,7 +5,8 @@ use Rattle.watching.specs.declared.halt.Halt.{Halt}
 use Rattle.watching.specs.declared.halt.Halt.TheVariants as halt
 use Rattle.watching.specs.CallerLaws.{gone_none, ended_memory}
 use Rattle.watching.specs.Watched.{moment, world}
-use Rattle.alpha_beta.specs.Searches.{Fails, bound_of}
+use Rattle.alpha_beta.specs.Searches.{bound_of}
+use Rattle.watching.specs.Stopping.{Fails}
 use Rattle.alpha_beta.proofs.searching.search.Goals as goal
 
 pub returns-in_err-line-clause-fails : goal.returns-in_err-line-clause-fails
