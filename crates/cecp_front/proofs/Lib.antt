@@ -1,0 +1,2 @@
+mod ThoughtLaws
+mod TurnLaws

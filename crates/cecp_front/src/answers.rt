@@ -152,7 +152,7 @@ impl CecpSession {
     }
 
     // The side that is to move.
-    fn mover(&self) -> Side
+    pub(crate) fn mover(&self) -> Side
         ensures { result ≡ mover self.now.game }
     {
         self.game.position().side

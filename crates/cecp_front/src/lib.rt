@@ -2,7 +2,9 @@
 #![tactic(auto)]
 
 mod answers;
+mod serve;
 mod session;
 mod texts;
 
+pub use serve::serve;
 pub use session::CecpSession;

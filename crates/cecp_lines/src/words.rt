@@ -50,9 +50,12 @@ pub(crate) fn is_base(word: &[u8]) -> bool
     ensures { result ≡ CecpLines.is_base word.now }
 {
     let (minutes, after) = cut_at(word, b':');
-    let Some(seconds) = after else {
+    let Some(rest) = after else {
         return number(minutes).is_some();
     };
-    let (seconds, more) = cut_at(seconds, b':');
-    more.is_none() && number(minutes).is_some() && number(seconds).is_some()
+    let (seconds, more) = cut_at(rest, b':');
+    if more.is_some() {
+        return false;
+    }
+    number(minutes).is_some() && number(seconds).is_some()
 }
