@@ -13,7 +13,7 @@ use Rattle.io_ports.specs.declared.source.Got.TheVariants as got
 use Rattle.watching.specs.declared.halt.Cut.{Cut}
 use Rattle.watching.specs.declared.halt.Cut.TheVariants as cut
 use Rattle.watching.specs.Events.{Listens}
-use Rattle.watching.specs.Looks.{Moved, Ran, held}
+use Rattle.watching.specs.Looks.{Broke, IsWholeBut, Moved, Ran, held}
 
 -- ---- the next line
 
@@ -81,6 +81,11 @@ StopsBy dialect text (cut.Deadline reading) = ⊥
 pub record Waited (dialect : Dialect) (moved : Moved) (text : List ℕ) (why : Cut) : Type 0 where
   pub ran : Ran dialect moved (held (Some why) text) (Listens dialect)
   pub stopped : StopsBy dialect text why
+
+-- A fault ended it while lines were heard. Those are answered, and only where the sink failed the last one in part.
+pub record HeardPart (dialect : Dialect) (moved : Moved) (why : SearchFault) : Type 0 where
+  pub broke : Broke dialect moved (Listens dialect)
+  pub whole : IsWholeBut why broke.back
 
 -- a line or the end of the lines cut it
 abbrev pub is_interrupted : Option Cut → Bool

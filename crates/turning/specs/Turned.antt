@@ -6,6 +6,7 @@ use Rattle.io_ports.specs.Lines.{Line}
 use Rattle.io_ports.specs.Owing.{Spends, Lacks}
 use Rattle.io_ports.specs.Source.{Owed, got_lines}
 use Rattle.io_ports.specs.Trace.{faults_in}
+use Rattle.io_ports.specs.declared.dialect.Dialect.{Dialect}
 use Rattle.io_ports.specs.declared.source.Got.{Got}
 use Rattle.watching.specs.Events.{Event, lines_of, opened, readings, written}
 use Rattle.watching.specs.Looks.{Moved}
@@ -27,6 +28,16 @@ turn_of line events after = record { line = line; events = events; after = after
 pub record Further (contents : Option Contents) (further : List Read) : Type 0 where
   pub found : Finds contents further
   pub works : faults_in further ≡ 0
+
+-- Events were gone through of which this holds, and these lines stand behind them. Only a front part of what the events
+-- write was written.
+pub record RanPart (dialect : Dialect) (moved : Moved) (behind : List Line) (Holds : List Event → Type 0) : Type 0 where
+  pub events : List Event
+  pub front : List ℕ
+  pub back : List ℕ
+  pub wrote : written dialect events ≡ front ++ back
+  pub went : moved (lines_of events ++ behind) front (readings events)
+  pub holds : Holds events
 
 -- A line was answered, and the next one is there. The answer is one for whatever lines follow, and its search may be
 -- interrupted only where fewer polls than the bound of the line were owed at its start.

@@ -1,9 +1,7 @@
 //! Lines that are heard while a best move is held back.
-ghost use Rattle.std.specs.Prelude.{◌≡◌, true, IfOk, OnErr, IsErrOf, Some};
+ghost use Rattle.std.specs.Prelude.{◌≡◌, true, IfOk, IfErr, OnErr, IsErrOf, Some};
 ghost use Rattle.std.specs.Io.KnownBytes.{IsAtEnd};
-ghost use Rattle.watching.specs.Events.{Listens};
-ghost use Rattle.watching.specs.Looks.{Broke};
-ghost use Rattle.turning.specs.Lines.{Causes, Exchanges, Settled, Waited, must_wait};
+ghost use Rattle.turning.specs.Lines.{Causes, Exchanges, HeardPart, Settled, Waited, must_wait};
 
 use io_ports::{Dialect, LineBuf, SearchFault, Sink, Source};
 use watching::{Cut, Halt, heed};
@@ -12,7 +10,8 @@ use watching::{Cut, Halt, heed};
 ///
 /// # Errors
 ///
-/// The fault of the source or of the sink. The lines that were heard until then are answered, the last one in part.
+/// The fault of the source or of the sink. The lines that were heard until then are answered, and only where the sink
+/// failed the last one in part.
 pub fn wait<S: Source, K: Sink>(
     source: &mut S,
     sink: &mut K,
@@ -21,8 +20,8 @@ pub fn wait<S: Source, K: Sink>(
 ) -> Result<Cut, SearchFault>
     ensures waited { IfOk result
         (Waited dialect (Exchanges S.left K.taken source.old source.new sink.old sink.new) line.new) }
-    ensures broken { OnErr result
-        (Broke dialect (Exchanges S.left K.taken source.old source.new sink.old sink.new) (Listens dialect)) }
+    ensures broken { IfErr result
+        (HeardPart dialect (Exchanges S.left K.taken source.old source.new sink.old sink.new)) }
     ensures end { IfOk result (λ why. why ≡ Cut.End → IsAtEnd (S.left source.new)) }
     ensures owed { S.owed source.new ≡ S.owed source.old }
     ensures causes { Causes (S.faults source.old) (S.faults source.new) (K.faults sink.old) (K.faults sink.new)
@@ -55,8 +54,8 @@ pub fn settle<S: Source, K: Sink>(
 ) -> Result<Option<Cut>, SearchFault>
     ensures settled { IfOk result (Settled dialect
         (Exchanges S.left K.taken source.old source.new sink.old sink.new) holds line.old why line.new) }
-    ensures broken { OnErr result
-        (Broke dialect (Exchanges S.left K.taken source.old source.new sink.old sink.new) (Listens dialect)) }
+    ensures broken { IfErr result
+        (HeardPart dialect (Exchanges S.left K.taken source.old source.new sink.old sink.new)) }
     ensures waits { OnErr result (must_wait holds why ≡ true) }
     ensures end { IfOk result (λ why'. why' ≡ Some Cut.End → (why ≡ Some Cut.End → IsAtEnd (S.left source.old))
         → IsAtEnd (S.left source.new)) }

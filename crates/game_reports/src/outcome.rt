@@ -1,6 +1,6 @@
 //! How outcomes print.
 ghost use Rattle.std.specs.Prelude.{◌≡◌};
-ghost use Rattle.vengine.specs.OutcomeText.{cause_name, side_name};
+ghost use Rattle.game_reports.specs.OutcomeText.{cause_name, side_name};
 
 use rules_model::{Cause, Outcome, Side};
 use std::fmt;
@@ -14,7 +14,8 @@ fn side_name(side: Side) -> &'static str
     }
 }
 
-fn cause_name(cause: Cause) -> &'static str
+/// The word of a cause, as `checkmate`.
+pub fn cause_name(cause: Cause) -> &'static str
     ensures { result.now ≡ cause_name cause }
 {
     match cause {
@@ -34,7 +35,7 @@ pub struct Printed(pub Outcome);
 
 impl fmt::Display for Printed {
     ghost use Rattle.std.specs.Prelude.{Some};
-    ghost use Rattle.vengine.specs.OutcomeText.{outcome_text};
+    ghost use Rattle.game_reports.specs.OutcomeText.{outcome_text};
 
     ghost output = { λ printed. Some (outcome_text printed.0) };
 

@@ -1,7 +1,7 @@
 use Rattle.std.proofs.Common.{◌≡◌, rules}
 use Rattle.std.proofs.lemmas.Result.{err_from_is_err_and}
-use Rattle.vengine.proofs.FileLemmas.{faulty_refused, file_taken, looked_so, unkept_refused, unread_refused}
-use Rattle.vengine.proofs.sections.read_sections.Goals as goal
+use Rattle.variant_files.proofs.FileLemmas.{faulty_refused, file_taken, looked_so, unkept_refused, unread_refused}
+use Rattle.variant_files.proofs.sections.read_sections.Goals as goal
 
 pub returns-in_err-bytes : goal.returns-in_err-bytes
 returns-in_err-bytes g c =
