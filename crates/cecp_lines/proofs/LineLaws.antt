@@ -1,10 +1,14 @@
 -- Commands by their verbs, and the parts of a base.
 use Rattle.std.proofs.Common.{◌≡◌, ◌∙◌, ℕ, ◌+◌, List, [], ◌∷◌, length, Option, Some, None, Bool, true, false, refl, ap, sym, arith}
-use Rattle.std.specs.Prelude.{◌==◌, is_some, if◌then◌else◌}
+use Rattle.std.specs.Prelude.{◌==◌, ◌&&◌, is_some, if◌then◌else◌}
+use Rattle.std.specs.Borrow.{Bor}
+use Rattle.std.specs.Option.{option_copied}
+use Rattle.foundation.specs.Cuts.{IsFirstPart, parts_after}
 use Rattle.std.specs.List.{count_by, slice_split}
 use Rattle.std.proofs.lemmas.List.Splits.{length-slice_split}
-use Rattle.foundation.specs.Numbers.{are_digits}
-use Rattle.session_model.specs.CecpLines.{Command, are_numbers, by_number, gives_up, level_by, level_of, ping_of}
+use Rattle.io_ports.specs.Lines.{Text}
+use Rattle.game_text.specs.Playing.{words_of}
+use Rattle.session_model.specs.CecpLines.{Command, are_numbers, by_number, command_in, command_named, command_of, gives_up, level_by, level_of, ping_of}
 use Rattle.session_model.specs.CecpLines as CecpLines
 use Rattle.session_model.specs.Numbers.{number_read}
 use Rattle.session_model.specs.UciWords.{Word, first_word}
@@ -66,3 +70,38 @@ pub more_parts : (minutes seconds : Word) (parts : List Word) (rest : List ℕ) 
 more_parts minutes seconds [] rest is =
     let some : 0 ≡ count_by (λ b. b == 58) rest + 1 = ap length is ∙ length-slice_split (λ b. b == 58) rest in absurd (omega arith)
 more_parts minutes seconds (part ∷ parts) rest is = refl
+
+-- ---- the first word
+
+-- a line with a first word has the command of that word
+pub text_by : (line : List ℕ) (word : Word) (words : List Word) → words_of line ≡ word ∷ words
+    → command_named word words ≡ command_of (Text line)
+unfolding command_of
+text_by [] word words is = absurd (cc)
+text_by (byte ∷ bytes) word words is = sym (ap command_in is)
+
+module _ (word minutes seconds : Word) (after more : Option (Bor (List ℕ))) (rest : Bor (List ℕ))
+    (first : IsFirstPart (λ b. b == 58) word minutes (option_copied after)) (there : after ≡ Some rest)
+    (second : IsFirstPart (λ b. b == 58) rest.now seconds (option_copied more)) where
+  base_as : CecpLines.is_base word ≡ are_numbers (minutes ∷ seconds ∷ parts_after (λ b. b == 58) (option_copied more))
+  base_as =
+      ap are_numbers (first ∙ ap (λ left. minutes ∷ parts_after (λ b. b == 58) (option_copied left)) there
+      ∙ ap (λ parts. minutes ∷ parts) second)
+
+  pub base_long : (b : Bool) → b ≡ is_some more → b ≡ true → false ≡ CecpLines.is_base word
+  base_long b is long = sym (base_as ∙ by_more more (sym is ∙ long))
+    where
+      by_more : (more : Option (Bor (List ℕ))) → is_some more ≡ true
+          → are_numbers (minutes ∷ seconds ∷ parts_after (λ b. b == 58) (option_copied more)) ≡ false
+      by_more None h = absurd (cc)
+      by_more (Some more) h = more_parts minutes seconds _ more.now refl
+
+  pub base_two : (b : Bool) → b ≡ is_some more → b ≡ false
+      → (is_some (number_read minutes) && is_some (number_read seconds)) ≡ CecpLines.is_base word
+  base_two b is short = sym (base_as ∙ by_more more (sym is ∙ short))
+    where
+      by_more : (more : Option (Bor (List ℕ))) → is_some more ≡ false
+          → are_numbers (minutes ∷ seconds ∷ parts_after (λ b. b == 58) (option_copied more))
+          ≡ (is_some (number_read minutes) && is_some (number_read seconds))
+      by_more None h = refl
+      by_more (Some more) h = absurd (cc)
