@@ -1,2 +1,1 @@
-mod ThoughtLaws
-mod TurnLaws
+mod SessionLaws

@@ -1,3 +1,2 @@
 pub mod Answers
-pub mod Serving
-pub mod Thought
+pub mod Taken

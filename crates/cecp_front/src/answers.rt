@@ -1,26 +1,32 @@
 //! What the lines of a session set, and what they answer before the engine thinks.
-ghost use Rattle.std.specs.Prelude.{◌≡◌, ◌<◌, ◌≤◌, IfOk, OnErr, if◌then◌else◌, length, not};
+ghost use Rattle.std.specs.Prelude.{◌≡◌, ◌<◌, ◌≤◌, [], IfOk, IfSome, OnErr, OnOk, length};
 ghost use Rattle.cecp_lines.specs.View.{command_seen, limit_seen};
-ghost use Rattle.game_play.specs.Played.{shorter};
-ghost use Rattle.game_text.specs.Playing.{move_of};
-ghost use Rattle.fen_model.specs.Reading.{fen_of};
+ghost use Rattle.foundation.specs.Member.{Member};
+ghost use Rattle.game_play.specs.Played.{legal_in, longer, shorter};
+ghost use Rattle.game_text.specs.Playing.{most_plies, move_of};
 ghost use Rattle.io_ports.specs.Lines.{Text as TextLine};
-ghost use Rattle.session_model.specs.CecpSession as CecpSession;
+ghost use Rattle.session_model.specs.CecpLines as CecpLines;
+ghost use Rattle.session_model.specs.CecpSession.{answer_of};
 ghost use Rattle.session_model.specs.CecpState as CecpState;
+ghost use Rattle.session_model.specs.Mates.{mover};
 ghost use Rattle.uci_lines.specs.View.{line_got};
 ghost use Rattle.cecp_front.specs.Answers.{answered, begun, is_known};
 
 use crate::session::CecpSession;
-use crate::texts::{error_line, feature_line, illegal_line, pong_line, result_line, text_from};
+use crate::texts::{error_line, feature_line, illegal_line, long_line, pong_line, result_line};
 use cecp_lines::{Command, Limit, read_line};
 use foundation::{Memory, Text};
-use game_play::Game;
-use game_text::{GameFault, NoGame, play_move};
-use io_ports::{Dialect, Got, too_long_answer};
-use rules_model::{Outcome, Side};
+use game_play::{Game, PlayFault};
+use io_ports::Got;
+use legality::is_legal;
+use move_names::read_move;
+use rules_model::{Move, Outcome, Side};
 use std::alloc::Global;
 use variant_fen::read_fen;
 use variant_rules::Found;
+
+/// The most plies of a game.
+pub(crate) const MOST_PLIES: usize = 8192;
 
 // No text.
 fn silent(alloc: Global) -> Text
@@ -37,6 +43,16 @@ fn undo_one(game: &mut Game)
     ensures { game.new ≡ shorter game.old }
 {
     let _ = game.undo();
+}
+
+// Takes so many plies back.
+fn undo_plies(game: &mut Game, plies: u8)
+    requires { plies ≤ length game.old.moves }
+    ensures { game.new ≡ CecpState.without_last plies game.old }
+{
+    for _ply in 0..plies {
+        undo_one(game);
+    }
 }
 
 // `normal` is chess.
@@ -106,22 +122,49 @@ impl CecpSession {
         Ok(silent(alloc))
     }
 
+    // The legal move with this text.
+    fn move_of(&self, text: &[u8]) -> Option<Move>
+        ensures is { result ≡ move_of self.now.game text.now }
+        ensures legal { IfSome result (λ m. Member m (legal_in self.now.game)) }
+    {
+        self.game.is_played();
+        let rules = self.game.rules();
+        let position = self.game.position();
+        let m = read_move(rules, position, text)?;
+        if is_legal(rules, self.game.tables(), position, &m) {
+            Some(m)
+        } else {
+            None
+        }
+    }
+
+    // Plays a legal move, for which there is room.
+    pub(crate) fn play(&mut self, m: &Move) -> Result<(), Memory>
+        requires legal { Member m.now (legal_in self.old.game) }
+        requires room { length self.old.game.moves < most_plies }
+        ensures { OnOk result (self.new ≡ record self.old { game = longer self.old.game m.now }) }
+    {
+        match self.game.play(m) {
+            Ok(()) => Ok(()),
+            Err(PlayFault::Memory) => Err(Memory),
+            Err(PlayFault::Illegal) | Err(PlayFault::TooLong) => unreachable!(),
+        }
+    }
+
     // `usermove M`.
     fn user_move(&mut self, alloc: Global, line: &[u8], text: &[u8]) -> Result<Text, Memory>
         ensures { IfOk result (λ answer. answered self.new answer
             ≡ CecpState.answer_to self.old (TextLine line.now) (CecpLines.UserMove text.now)) }
     {
-        match play_move(alloc, &mut self.game, text) {
-            Ok(()) => {
-                let outcome = self.close();
-                result_line(alloc, outcome)
-            }
-            Err(NoGame::Faulty(GameFault::TooManyMoves)) => {
-                error_line(alloc, b"too many moves", line)
-            }
-            Err(NoGame::Faulty(_)) => illegal_line(alloc, text),
-            Err(NoGame::Memory | NoGame::Unread) => Err(Memory),
+        let Some(m) = self.move_of(text) else {
+            return illegal_line(alloc, text);
+        };
+        if self.game.moves().len() >= MOST_PLIES {
+            return error_line(alloc, b"too many moves", line);
         }
+        self.play(&m)?;
+        let outcome = self.close();
+        result_line(alloc, outcome)
     }
 
     // How the game stands after a move, which may have ended it.
@@ -144,9 +187,7 @@ impl CecpSession {
         if self.game.moves().len() < usize::from(plies) {
             return error_line(alloc, b"nothing played", line);
         }
-        for _ in 0..plies {
-            undo_one(&mut self.game);
-        }
+        undo_plies(&mut self.game, plies);
         self.is_over = false;
         Ok(silent(alloc))
     }
@@ -206,7 +247,7 @@ impl CecpSession {
             }
             Command::BadNumber => error_line(alloc, b"bad number", line),
             Command::Unknown => error_line(alloc, b"unknown command", line),
-            Command::TooLong => text_from(alloc, &[too_long_answer(Dialect::Cecp)]),
+            Command::TooLong => long_line(alloc),
         }
     }
 
@@ -218,16 +259,14 @@ impl CecpSession {
         line: &[u8],
     ) -> Result<Text, Memory>
         ensures { IfOk result (λ text. answered self.new text
-            ≡ CecpSession.answer_of self.old (line_got next line.now)) }
+            ≡ answer_of self.old (line_got next line.now)) }
     {
         match next {
             Got::Line => {
                 let command = read_line(alloc, Got::Line, line)?;
                 self.answer(alloc, line, &command)
             }
-            Got::TooLong | Got::End | Got::Failed => {
-                text_from(alloc, &[too_long_answer(Dialect::Cecp)])
-            }
+            Got::TooLong | Got::End | Got::Failed => long_line(alloc),
         }
     }
 }

@@ -2,9 +2,12 @@
 #![tactic(auto)]
 
 mod answers;
-mod serve;
+mod serving;
 mod session;
 mod texts;
 
-pub use serve::serve;
+pub use serving::serve;
 pub use session::CecpSession;
+
+#[cfg(test)]
+mod tests;

@@ -1,6 +1,7 @@
 //! What a session writes, but for the lines of depths.
-ghost use Rattle.std.specs.Prelude.{◌≡◌, ◌++◌, IfOk, codes, map};
-ghost use Rattle.std.specs.List.{concat, filter};
+ghost use Rattle.std.specs.Prelude.{◌≡◌, ◌++◌, IfOk, bytes_eq, codes, if◌then◌else◌, map};
+ghost use Rattle.std.specs.List.{filter, flat_map};
+ghost use Rattle.io_ports.specs.Heard.{too_long};
 ghost use Rattle.rules_model.specs.MoveText.{text_of};
 ghost use Rattle.session_model.specs.CecpSession as CecpSession;
 ghost use Rattle.session_model.specs.CecpState as CecpState;
@@ -9,6 +10,7 @@ ghost use Rattle.variant_rules.specs.Entries.{is_accepted};
 
 use foundation::{Memory, Text};
 use game_reports::cause_name;
+use io_ports::{Dialect, too_long_answer};
 use move_text::write_move;
 use rules_model::{Move, Outcome, Side};
 use std::alloc::Global;
@@ -17,7 +19,7 @@ use variant_rules::Variants;
 
 /// These pieces, one after another.
 pub(crate) fn text_from(alloc: Global, pieces: &[&[u8]]) -> Result<Text, Memory>
-    ensures { IfOk result (λ text. text ≡ concat (texts pieces.now)) }
+    ensures { IfOk result (λ text. text ≡ flat_map (λ piece. piece.now) pieces.now) }
 {
     let mut items = Vec::new(alloc);
     for piece in pieces {
@@ -39,6 +41,14 @@ pub(crate) fn illegal_line(alloc: Global, text: &[u8]) -> Result<Text, Memory>
     ensures { IfOk result (λ line. line ≡ CecpState.illegal text.now) }
 {
     text_from(alloc, &[b"Illegal move: ", text, b"\n"])
+}
+
+/// The answer to a line that is too long.
+pub(crate) fn long_line(alloc: Global) -> Result<Text, Memory>
+    ensures { IfOk result (λ line. line ≡ too_long Dialect.Cecp) }
+{
+    let items = too_long_answer(Dialect::Cecp).to_vec(alloc)?;
+    Ok(Text { items })
 }
 
 /// `pong N`.
@@ -83,7 +93,9 @@ pub(crate) fn move_lines(alloc: Global, m: &Move, outcome: Outcome) -> Result<Te
 }
 
 // Chess is `normal`.
-fn shown_name(name: &[u8]) -> &[u8] {
+fn shown_name(name: &[u8]) -> &[u8]
+    ensures { result.now ≡ (if bytes_eq name.now (codes "chess") then codes "normal" else name.now) }
+{
     if name == b"chess".as_slice() {
         b"normal"
     } else {

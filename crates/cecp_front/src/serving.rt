@@ -7,12 +7,12 @@ ghost use Rattle.session_model.specs.CecpSession.{cecp};
 ghost use Rattle.turning.specs.Lines.{Causes};
 ghost use Rattle.turning.specs.Spoken.{Spoke, SpokePart};
 ghost use Rattle.watching.specs.Stopping.{AreSamePorts};
-ghost use Rattle.cecp_front.specs.Serving.{NoReads, TookQuit};
+ghost use Rattle.cecp_front.specs.Taken.{NoReads, TookQuit};
 
 use crate::session::CecpSession;
 use io_ports::{Clock, Dialect, Gate, Ports, SearchFault, Sink, Source};
 use std::alloc::Global;
-use std::process::Wait;
+use std::sync::Wait;
 use std::thread::Threads;
 use turning::Ended;
 
@@ -35,7 +35,7 @@ where
     K: Sink,
     C: Clock,
     G: Gate + Sync,
-    requires dialect { ports.entry.now.dialect ≡ Dialect.Cecp }
+    requires dialect { ports.old.dialect ≡ Dialect.Cecp }
     ensures spoke { (contents : Option Contents) → OnOk result (Spoke cecp
         (Moves S.left K.taken C.given C.count C.last
             ports.entry.now.source.now ports.exit.now.source.now
