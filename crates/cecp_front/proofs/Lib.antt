@@ -1,1 +1,3 @@
 mod SessionLaws
+mod ThoughtLaws
+mod TurnLaws

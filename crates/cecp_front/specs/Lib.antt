@@ -1,2 +1,4 @@
 pub mod Answers
 pub mod Taken
+pub mod Cuts
+pub mod Thought
