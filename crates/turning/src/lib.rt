@@ -13,3 +13,6 @@ mod waiting;
 pub use ended::Ended;
 pub use next_line::next_of;
 pub use waiting::{settle, wait};
+
+#[cfg(test)]
+mod tests;
