@@ -2,6 +2,7 @@
 use Rattle.std.proofs.Common.{◌≡◌, ℕ, ◌+◌, ◌≤◌, ◌<◌, ◌^◌, List, [], ◌∷◌, length, Option, Some, None, true, refl, sym, ap, subst, ◌∙◌, inl, inr, arith, ℤ, pos, negsuc, ◌≤ℤ◌, ◌<ℤ◌}
 use Rattle.std.specs.Prelude.{IfSome, slice_index_or}
 use Rattle.std.specs.List.{All}
+use Rattle.std.proofs.lemmas.Int.{ints}
 use Rattle.foundation.specs.Member.{Member}
 use Rattle.rules_model.specs.declared.moves.Move.{Move}
 use Rattle.rules_model.specs.declared.board.Repeat.{Repeat}
@@ -49,16 +50,16 @@ root_there g n s shown some none = by_legal (legal_in g) refl some
 
 pub favours_mover : (side : Side) (v : ℤ) → pos 0 ≤ℤ v → (IsAhead v) × (favoured side v ≡ side)
 favours_mover side (pos v) h = (tt, refl)
-favours_mover side (negsuc v) h = absurd h
+favours_mover side (negsuc v) h = absurd (omega (arith, ints))
 
 pub favours_other : (side : Side) (v : ℤ) → v <ℤ pos 0 → (IsBehind v) × (favoured side v ≡ other side)
-favours_other side (pos v) h = absurd (omega arith)
+favours_other side (pos v) h = absurd (omega (arith, ints))
 favours_other side (negsuc v) h = (tt, refl)
 
 -- ---- evidence
 
-evidence_with : (e : Mates.Evidence) → e ≡ record { repeat = e.repeat; first = e.first; others = e.others }
-evidence_with e = refl
+abbrev evidence_made : Repeat → ℕ → List ℕ → Mates.Evidence
+evidence_made r n ns = record { repeat = r; first = n; others = ns }
 
 pub evidence_same : (a b : Mates.Evidence) → a.repeat ≡ b.repeat → counters_of a ≡ counters_of b → a ≡ b
 evidence_same a b repeat counters =
@@ -67,7 +68,7 @@ evidence_same a b repeat counters =
     by_parts a.repeat b.repeat a.first b.first a.others b.others repeat first others
   where
     by_parts : (r r' : Repeat) (n n' : ℕ) (ns ns' : List ℕ) → r ≡ r' → n ≡ n' → ns ≡ ns'
-        → record { repeat = r; first = n; others = ns } ≡ record { repeat = r'; first = n'; others = ns' }
+        → evidence_made r n ns ≡ evidence_made r' n' ns'
     by_parts r r' n n' ns ns' p q s = cc
 
 -- ---- reports
