@@ -23,7 +23,7 @@ use Rattle.session_model.specs.CecpState.{State, played}
 use Rattle.session_model.specs.Thinking.{Cause, Interrupted, OutOfNodes, OutOfTime, Deepens, Ending, Whole, InSearch, InSolve, Report, last_best, reported}
 use Rattle.session_model.specs.Turns.{Turn}
 use Rattle.session_model.proofs.Wider.{deepens_wider}
-use Rattle.cecp_front.specs.Cuts.{IsEndedBy, cause_of}
+use Rattle.thinking.specs.Cuts.{IsEndedBy, cause_of}
 use Rattle.turning.specs.Lines.{Follows, Held, IsNext, MayFollow, none, one}
 use Rattle.turning.specs.Turned.{turn_of}
 use Rattle.cecp_front.specs.Thought.{BrokeSeeking, Sought, Thought, Unthought, is_dropped, move_text}

@@ -27,7 +27,7 @@ use Rattle.session_model.specs.Mates.{mover}
 use Rattle.session_model.specs.Thinking.{Interrupted, InSearch}
 use Rattle.turning.specs.Lines.{MayFollow, none}
 use Rattle.turning.specs.Turned.{Further, Served, Unserved, turn_of}
-use Rattle.cecp_front.specs.Taken.{NoReads}
+use Rattle.cecp_front.specs.Reading.{NoReads}
 use Rattle.cecp_front.specs.Thought.{IsFirst, Thought, Unthought, move_text}
 use Rattle.cecp_front.proofs.ThoughtLaws.{closed, closing, thinks_at}
 

@@ -1,4 +1,3 @@
 pub mod Answers
-pub mod Taken
-pub mod Cuts
+pub mod Reading
 pub mod Thought

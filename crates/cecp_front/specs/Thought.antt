@@ -16,7 +16,9 @@ use Rattle.session_model.specs.CecpLines.{command_of, gives_up}
 use Rattle.session_model.specs.CecpSession.{Posts, Thinks, bound_from, move_line, task_of}
 use Rattle.session_model.specs.CecpState.{State, played}
 use Rattle.session_model.specs.Thinking.{Deepens, Ending, Report, last_best, reported}
-use Rattle.cecp_front.specs.Cuts.{IsEndedBy}
+use Rattle.thinking.specs.Cuts.{IsEndedBy}
+use Rattle.thinking.specs.declared.style.Style.{Style}
+use Rattle.thinking.specs.declared.style.Style.TheVariants as style
 use Rattle.turning.specs.Lines.{Follows, Held, MayFollow}
 use Rattle.turning.specs.Turned.{turn_of}
 
@@ -25,6 +27,11 @@ abbrev pub IsFirst : State → Move → Type 0
 IsFirst state first = (more : List Move) × (legal_in state.game ≡ first ∷ more)
 
 -- ---- the search
+
+-- a line for each depth, or none
+abbrev pub style_of : Bool → Style
+style_of true = style.Post
+style_of false = style.Silent
 
 -- Depths were searched from a state, with their lines, and this is the best move, or what cut it. What follows begins
 -- with the line that cut it, where one did.

@@ -5,6 +5,7 @@ mod answers;
 mod serving;
 mod session;
 mod texts;
+mod thinking;
 
 pub use serving::serve;
 pub use session::CecpSession;

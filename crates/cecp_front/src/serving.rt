@@ -7,7 +7,7 @@ ghost use Rattle.session_model.specs.CecpSession.{cecp};
 ghost use Rattle.turning.specs.Lines.{Causes};
 ghost use Rattle.turning.specs.Spoken.{Spoke, SpokePart};
 ghost use Rattle.watching.specs.Stopping.{AreSamePorts};
-ghost use Rattle.cecp_front.specs.Taken.{NoReads, TookQuit};
+ghost use Rattle.cecp_front.specs.Reading.{NoReads};
 
 use crate::session::CecpSession;
 use io_ports::{Clock, Dialect, Gate, Ports, SearchFault, Sink, Source};
