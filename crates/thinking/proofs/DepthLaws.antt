@@ -1,5 +1,5 @@
 -- One depth after another: what each part adds.
-use Rattle.std.proofs.Common.{◌≡◌, ℕ, zero, suc, ◌+◌, ◌-◌, ◌≤◌, ◌<◌, List, [], ◌∷◌, ◌++◌, length, Option, Some, None, refl, sym, ap, subst, ◌∙◌, ◌⊎◌, inl, inr, arith}
+use Rattle.std.proofs.Common.{◌≡◌, ℕ, zero, suc, ◌+◌, ◌-◌, ◌≤◌, ◌<◌, List, [], ◌∷◌, ◌++◌, length, get_or, Option, Some, None, refl, sym, ap, subst, ◌∙◌, ◌⊎◌, inl, inr, arith}
 use Rattle.std.specs.Prelude.{IfSome, ⊤}
 use Rattle.std.specs.Option.{option_map}
 use Rattle.std.specs.Io.KnownBytes.{Appends}
@@ -25,6 +25,7 @@ use Rattle.session_model.proofs.Reports.{depths_grow, depths_more, last_announce
 use Rattle.session_model.specs.Deadlines.{deadline_of}
 use Rattle.session_model.specs.Mates.{Announced}
 use Rattle.session_model.specs.Thinking.{Task, Report, Cause, Ending, Interrupted, Whole, InSearch, InSolve, AreReports, Deepens, IsOpen, IsReport, MayCut, MayEnd, announced_by, last_announced, last_best, open_report, reported, searches_upto, solve_within}
+use Rattle.session_model.specs.UciSession.{first_of}
 use Rattle.turning.specs.Lines.{Follows, Held, none, one}
 use Rattle.thinking.specs.declared.depth.Depth.{Depth}
 use Rattle.thinking.specs.declared.depth.Depth.TheVariants.{Done, Off}
@@ -40,6 +41,11 @@ use Rattle.thinking.specs.Views.{kept_seen, report_of}
 use Rattle.thinking.proofs.CutLaws.{cuts_after, cuts_as, cuts_untold, cuts_wider}
 use Rattle.thinking.proofs.RanLaws.{broke_held_more}
 use Rattle.thinking.proofs.TellLaws.{tells_listens, tells_more, tells_none}
+
+-- the first root move
+pub first_read : (roots : List Move) (other past : Move) → 0 < length roots → get_or roots 0 past ≡ first_of other roots
+first_read [] other past some = absurd (omega arith)
+first_read (m ∷ roots) other past some = refl
 
 -- ---- how a search may end
 
@@ -139,14 +145,14 @@ follows_held (cut.Deadline reading) text = tt
 -- ---- one depth after another
 
 module _ {S K C : Type 0} {left : S → Option (List ℕ)} {taken : K → Option (List ℕ)} {given : C → Option (List ℕ)} {count last : C → ℕ} (dialect : Dialect) (style : Style) where
-  pub deepening_none : (s : S) (k : K) (c : C) (o : Owed) (t : Task) (root : Move) (first : ℕ)
-      → Deepening dialect style (Moves left taken given count last s s k k c c) o o t root first 0 0 root None
-  deepening_none s k c o t root first = record {
+  pub deepening_none : (s : S) (k : K) (c : C) (o : Owed) (t : Task) (root best : Move) (first : ℕ) → best ≡ root
+      → Deepening dialect style (Moves left taken given count last s s k k c c) o o t root first 0 0 best None
+  deepening_none s k c o t root best first is = record {
     reports = [];
     ran = ran_none dialect s k c (tells_none dialect style t.game.rules first 1);
     valued = tt;
     counted = refl;
-    best_is = refl;
+    best_is = is;
     kept_is = refl;
     spends = spends_none o (depths_bound t.game.rules 0 (story t.game));
     few = omega arith;
@@ -217,6 +223,7 @@ module _ {S K C : Type 0} {left : S → Option (List ℕ)} {taken : K → Option
             kept_is = sym kept_is ∙ ap (announced_by report.score) so.kept_is ∙ sym (last_announced_snoc None so.reports report);
             spends = spends_all o o' o'' t done le so.spends d.spends;
           }
+
       -- a fault came
       pub deepening_broke : BrokeDepth dialect style (Moves left taken given count last s' s'' k' k'' c' c'') t first (done + 1) limits
           → BrokeOff dialect style (Moves left taken given count last s s'' k k'' c c'') t first

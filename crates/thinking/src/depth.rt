@@ -107,7 +107,15 @@ pub fn deeper<R: Threads + Wait + Sync, S: Source, K: Sink, C: Clock, G: Gate + 
             let Judged { found, cut } = judged;
             let reading = reading_for(style, clock);
             task.game.is_played();
-            let text = lines_of(alloc, style, task.game.rules(), first, depth, &found, reading)?;
+            let text = lines_of(
+                alloc,
+                style,
+                task.game.rules(),
+                first,
+                depth,
+                &found,
+                reading,
+            )?;
             say_some(sink, text.items.as_slice())?;
             Ok(Depth::Done {
                 found,

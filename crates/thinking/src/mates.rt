@@ -29,9 +29,15 @@ pub enum Tried {
         best: Move,
     },
     /// It stays unsettled whether the mover mates within this number of moves.
-    Unsettled { moves: u16, unsettled: Evidence },
+    Unsettled {
+        moves: u16,
+        unsettled: Evidence,
+    },
     /// The solve within this number of moves was cut.
-    Stopped { moves: u16, why: Cut },
+    Stopped {
+        moves: u16,
+        why: Cut,
+    },
     /// The mover has no mate.
     NoMate,
 }
