@@ -29,7 +29,8 @@ use Rattle.vengine.specs.Commands.{IsOneShot, asks_file, asks_input, lines_asked
 use Rattle.vengine.specs.HaltView.{Finishes, Opens, OutcomeOf}
 use Rattle.game_text.specs.HeardLines.{HeardLines}
 use Rattle.game_text.proofs.HeardLemmas.{heard_nothing, heard_so}
-use Rattle.vengine.specs.Looked.{Looked, TellsReads}
+use Rattle.variant_files.specs.Looked.{Looked}
+use Rattle.vengine.specs.Looked.{TellsReads}
 use Rattle.vengine.specs.Run.{BeginsSession, Completes, CompletesSession, Decide, Did, FilesFailed, Further, HasFileCause, IsCut, IsDone, IsInput, May, PartOf, ShotPart, TellsInput}
 use Rattle.vengine.specs.Sessions.{dialect_of, is_session, served, serves, to_do}
 use Rattle.vengine.specs.Shot.{Shot, Says, SaysCommand}
