@@ -2,16 +2,16 @@
 use Rattle.std.proofs.Common.{◌≡◌, inl, inr, ℕ, ◌+◌, ◌≤◌, List, [], ◌∷◌, ◌++◌, length, map, Some, None, true, false, arith, refl, sym, ap, subst, ◌∙◌, append_assoc, length-append}
 use Rattle.std.specs.declared.option.Option.{Option}
 use Rattle.std.specs.Io.KnownBytes.{IsAtEnd}
-use Rattle.std.specs.Prelude.{⊤}
 use Rattle.std.proofs.lemmas.List.{append-nil}
 use Rattle.std.proofs.lemmas.Grind.{flat_map-append}
 use Rattle.io_ports.specs.Files.{Contents, Finds, Read}
 use Rattle.io_ports.specs.Lines.{Line, Text, TooLong, line_of, lines_of, pieces_of}
 use Rattle.io_ports.specs.Owing.{Lacks}
 use Rattle.io_ports.specs.Source.{Owed, Untold, Takes, got_lines}
-use Rattle.io_ports.specs.Trace.{Moves, faults_in}
+use Rattle.io_ports.specs.Trace.{Moves, Reads, faults_in}
 use Rattle.io_ports.specs.declared.source.Got.{Got}
 use Rattle.io_ports.specs.declared.source.Got.TheVariants as got
+use Rattle.io_ports.proofs.Asked.{reads_more}
 use Rattle.io_ports.proofs.Moved.{map_line-append, moves_at, moves_more, moves_none}
 use Rattle.watching.specs.Events.{lines_of as heard, opened, readings, written}
 use Rattle.watching.specs.Looks.{Moved}
@@ -19,7 +19,7 @@ use Rattle.session_model.specs.Turns.{Protocol, Session, Turn, Turns, after_turn
 use Rattle.session_model.proofs.Joined.{quiet_output, turns_joined, turns_untold}
 use Rattle.turning.specs.Lines.{HasLine, Held, none, one, got_line}
 use Rattle.turning.specs.Turned.{Further, IsLawful, Turned, Unserved, turn_of}
-use Rattle.turning.specs.Spoken.{IsInput, Spoke, SpokePart}
+use Rattle.turning.specs.Spoken.{IsInput, Spoke, SpokePart, TookQuit}
 use Rattle.turning.proofs.Turning.{flat_more, line_followed, line_taken, lines_since, none_follows, turns_more}
 
 -- ---- reads
@@ -46,6 +46,22 @@ further_more contents xs ys first then = record {
   found = finds_both contents xs ys first.found then.found;
   works = faultless_both xs ys first.works then.works;
 }
+
+-- what a protocol's turns ask of files: nothing, or of these files
+
+pub nothing_found : (contents : Option Contents) (reads : List Read) → reads ≡ [] → Finds contents reads
+nothing_found contents reads no_reads = subst (λ (r : List Read). Finds contents r) (sym no_reads) (finds_none contents)
+
+pub nothing_more : (xs ys : List Read) → xs ≡ [] → ys ≡ [] → xs ++ ys ≡ []
+nothing_more xs ys first then = ap (λ r. r ++ ys) first ∙ then
+
+module _ {F : Type 0} {contents : F → Option Contents} {faults : F → ℕ} where
+  pub reads_found : {files files' : F} (reads : List Read) → Reads contents faults files files' reads → Finds (contents files) reads
+  reads_found reads asks = asks.found
+
+  pub reads_both : {files files' files'' : F} (xs ys : List Read) → Reads contents faults files files' xs → Reads contents faults files' files'' ys
+      → Reads contents faults files files'' (xs ++ ys)
+  reads_both xs ys first then = reads_more first then
 
 -- ---- lines that are held
 
@@ -107,7 +123,7 @@ module _ {State : Type 0} where
         subst (λ (l : List Line). length l ≤ lines_wanted p l) (sym is)
         (let count = length-append (lines_in turns) rest in omega (arith, count, wanted, few))
 
-    -- turns, with at most one line behind them, completed to a session of these lines
+    -- turns, with at most one line after them, completed to a session of these lines
     record Completed (contents : Option Contents) (start : State) (us : List (Turn State)) (behind : List Line) : Type 0 where
       reads : List Read
       output : List ℕ
@@ -142,6 +158,27 @@ module _ {State : Type 0} where
           few = wanted_few (lines_in us ++ behind) (us ++ vs) s.rest lines (laws.wanted Untold 0 start (us ++ vs) s.rest turns s.over)
               (rest_few behind (lines_in vs) s.rest held s.lines_are);
         }
+
+    -- a front part of what they read and write was read and written
+    part_of : {moved : Moved} {asked : List Read → Type 0} {contents : Option Contents} {start : State} {us : List (Turn State)} {behind : List Line}
+        (done further : List Read) (front back : List ℕ) → Completed contents start us behind
+        → done ++ further ≡ reads_in us → output_in p.dialect us ≡ front ++ back → moved (lines_in us ++ behind) front (readings_in us)
+        → asked done → Further contents further → SpokePart p moved asked contents start
+    part_of {contents = contents} {us = us} {behind = behind} done further front back whole reads_are wrote moves asks more = record {
+      lines = lines_in us ++ behind;
+      readings = readings_in us;
+      reads = done;
+      further = further ++ whole.reads;
+      front = front;
+      back = back ++ whole.output;
+      moves = moves;
+      asks = asks;
+      more = further_more contents further whole.reads more whole.more;
+      few = whole.few;
+      allowed = session_at whole.session
+          (ap (λ r. r ++ whole.reads) (sym reads_are) ∙ append_assoc done further whole.reads)
+          (ap (λ o. o ++ whole.output) wrote ∙ append_assoc front back whole.output);
+    }
 
 module _ {State : Type 0} (p : Protocol State) where
   -- ---- faults
@@ -183,20 +220,9 @@ module _ {State : Type 0} (p : Protocol State) where
       let allowed : Turns p Untold 0 start us behind =
       subst (λ (l : List Line). Turns p Untold 0 start us l) (append-nil behind)
       (turns_untold p laws.wider owed 0 0 start us (behind ++ []) (so.allowed [] (none_follows next))) in
-      let whole = completed p laws contents start us behind (held_got next text) (finds (reads_in us) so.asks) allowed in
-      record {
-        lines = lines_in us ++ behind;
-        readings = readings_in us;
-        reads = reads_in us;
-        further = whole.reads;
-        front = output_in p.dialect us;
-        back = whole.output;
-        moves = so.went;
-        asks = so.asks;
-        more = whole.more;
-        few = whole.few;
-        allowed = whole.session;
-      }
+      part_of p (reads_in us) [] (output_in p.dialect us) []
+      (completed p laws contents start us behind (held_got next text) (finds (reads_in us) so.asks) allowed)
+      (append-nil (reads_in us)) (sym (append-nil (output_in p.dialect us))) so.went so.asks (further_none contents)
 
   -- in the middle of a turn
   pub part_broken : {S K C : Type 0} {left : S → Option (List ℕ)} {taken : K → Option (List ℕ)} {given : C → Option (List ℕ)} {count last : C → ℕ}
@@ -226,27 +252,13 @@ module _ {State : Type 0} (p : Protocol State) where
       ∙ flat_more (λ t. opened t.events) us u in
       let found : Finds contents (reads_in (us ++ u ∷ [])) =
       subst (λ (r : List Read). Finds contents r) reads_are (finds_both contents done un.further (finds done asks) later.found) in
-      let whole = completed p laws contents start (us ++ u ∷ []) behind un.is_held found allowed in
-      let front : List ℕ = output_in p.dialect us ++ un.front in
-      let wrote : output_in p.dialect (us ++ u ∷ []) ≡ front ++ un.back =
+      let wrote : output_in p.dialect (us ++ u ∷ []) ≡ (output_in p.dialect us ++ un.front) ++ un.back =
       sym (flat_more (λ t. written p.dialect t.events) us u) ∙ ap (λ o. output_in p.dialect us ++ o) un.wrote
       ∙ sym (append_assoc (output_in p.dialect us) un.front un.back) in
-      record {
-        lines = lines_in (us ++ u ∷ []) ++ behind;
-        readings = readings_in (us ++ u ∷ []);
-        reads = done;
-        further = un.further ++ whole.reads;
-        front = front;
-        back = un.back ++ whole.output;
-        moves = moves_at (moves_more so.went un.went) (lines_since us u next text has refl behind) refl
-            (flat_more (λ t. readings t.events) us u);
-        asks = asks;
-        more = further_more contents un.further whole.reads later whole.more;
-        few = whole.few;
-        allowed = session_at p {reads = reads_in (us ++ u ∷ []) ++ whole.reads} whole.session
-            (ap (λ r. r ++ whole.reads) (sym reads_are) ∙ append_assoc done un.further whole.reads)
-            (ap (λ o. o ++ whole.output) wrote ∙ append_assoc front un.back whole.output);
-      }
+      part_of p done un.further (output_in p.dialect us ++ un.front) un.back
+      (completed p laws contents start (us ++ u ∷ []) behind un.is_held found allowed) reads_are wrote
+      (moves_at (moves_more so.went un.went) (lines_since us u next text has refl behind) refl (flat_more (λ t. readings t.events) us u))
+      asks later
 
   -- ---- the end
 
@@ -292,6 +304,17 @@ module _ {State : Type 0} (p : Protocol State) where
         }
 
     -- the next line ends the session
+    pub took_quit : HasLine next → p.quits (got_line next text) ≡ true
+        → TookQuit p (Moves left taken given count last s s' k k' c c')
+    took_quit has quits = record {
+      before = lines_in so.turns;
+      line = got_line next text;
+      output = output_in p.dialect so.turns;
+      readings = readings_in so.turns;
+      moves = moves_at so.went (ap (λ l. lines_in so.turns ++ l) (line_taken next text has)) refl refl;
+      quits = quits;
+    }
+
     pub spoke_quit : HasLine next → p.quits (got_line next text) ≡ true
         → Spoke p (Moves left taken given count last s s' k k' c c') asked owed contents (left s) start
     spoke_quit has quits =

@@ -1,5 +1,5 @@
 -- Lines that are heard one after another, with no reading of the clock.
-use Rattle.std.proofs.Common.{◌≡◌, ℕ, List, [], ◌∷◌, ◌++◌, refl, ap, sym, subst, ◌∙◌, append_assoc, true, Some, None, inl, inr}
+use Rattle.std.proofs.Common.{◌≡◌, ℕ, List, [], ◌++◌, refl, ap, sym, subst, ◌∙◌, append_assoc, Some}
 use Rattle.std.specs.declared.option.Option.{Option}
 use Rattle.std.specs.Io.KnownBytes.{Appends}
 use Rattle.std.proofs.lemmas.List.{append-nil}
@@ -7,7 +7,6 @@ use Rattle.io_ports.specs.Lines.{Line}
 use Rattle.io_ports.specs.Source.{Takes, got_lines, polled_lines, polled_of}
 use Rattle.io_ports.specs.declared.dialect.Dialect.{Dialect}
 use Rattle.io_ports.specs.declared.limits.SearchFault.{SearchFault}
-use Rattle.io_ports.specs.declared.limits.SearchFault.TheVariants as fault
 use Rattle.io_ports.specs.declared.source.Got.{Got}
 use Rattle.io_ports.specs.declared.source.Got.TheVariants as got
 use Rattle.io_ports.specs.declared.source.Polled.{Polled}
@@ -18,7 +17,7 @@ use Rattle.watching.specs.declared.halt.Cut.TheVariants as cut
 use Rattle.watching.specs.Events.{Event, Listens, lines_of, readings, written}
 use Rattle.watching.specs.EventLaws.{lines_of-append, listens_more, readings-append, written-append}
 use Rattle.watching.specs.Looks.{Broke, Heeds, IsHeardAs, IsWholeBut, Ran, Replies, held}
-use Rattle.turning.specs.Lines.{Exchanges, HeardPart, StopsBy, Waited}
+use Rattle.turning.specs.Lines.{Exchanges, HeardPart, StopsBy}
 
 -- a poll would have taken the same lines
 polled_as_got : (answer : Got) (text : List ℕ) → polled_lines (polled_of answer) text ≡ got_lines answer text

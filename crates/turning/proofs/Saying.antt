@@ -1,5 +1,5 @@
 -- What is said and heard while a line is answered, and the turn that comes of it.
-use Rattle.std.proofs.Common.{◌≡◌, ℕ, List, [], ◌∷◌, ◌++◌, Bool, true, false, not, ◌&&◌, Some, None, refl, ap, sym, subst, ◌∙◌, append_assoc}
+use Rattle.std.proofs.Common.{◌≡◌, ℕ, List, [], ◌∷◌, ◌++◌, Bool, true, false, Some, None, refl, ap, sym, subst, ◌∙◌, append_assoc}
 use Rattle.std.specs.Prelude.{⊤}
 use Rattle.std.specs.declared.option.Option.{Option}
 use Rattle.std.specs.Io.KnownBytes.{Appends}
@@ -14,8 +14,7 @@ use Rattle.io_ports.specs.Trace.{Moves}
 use Rattle.io_ports.specs.declared.dialect.Dialect.{Dialect}
 use Rattle.io_ports.specs.declared.limits.SearchFault.{SearchFault}
 use Rattle.io_ports.specs.declared.source.Got.{Got}
-use Rattle.io_ports.specs.declared.source.Got.TheVariants as got
-use Rattle.io_ports.proofs.Moved.{appends_none, moves_at, moves_more, moves_none, moves_sink, moves_source}
+use Rattle.io_ports.proofs.Moved.{appends_none, moves_at, moves_more, moves_sink, moves_source}
 use Rattle.io_ports.proofs.Owing.{spends_none}
 use Rattle.watching.specs.declared.halt.Cut.{Cut}
 use Rattle.watching.specs.declared.halt.Cut.TheVariants as cut
@@ -24,7 +23,7 @@ use Rattle.watching.specs.EventLaws.{lines_of-append, readings-append, written-a
 use Rattle.watching.specs.Looks.{Broke, Moved, Ran, held}
 use Rattle.session_model.specs.Events.{IsStopped}
 use Rattle.session_model.specs.Turns.{Protocol}
-use Rattle.turning.specs.Lines.{Exchanges, Follows, HeardPart, Held, IsNext, MayFollow, Settled, SettledBy, StopsBy, Waited, is_interrupted, must_wait, none, one}
+use Rattle.turning.specs.Lines.{Exchanges, Follows, HeardPart, Held, IsNext, MayFollow, Settled, SettledBy, StopsBy, is_interrupted, must_wait, none, one}
 use Rattle.turning.specs.Turned.{Further, RanPart, Served, Unserved, turn_of}
 
 -- ---- the line that comes next
@@ -46,6 +45,12 @@ next_follows (Some cut.End) left left' text next text' following is may =
     ap (λ l. l ++ following) (sym is.lines_are) ∙ is.ended refl following may
 next_follows (Some (cut.Quota quota)) left left' text next text' following is may = tt
 next_follows (Some (cut.Deadline reading)) left left' text next text' following is may = tt
+
+-- where no line is held, the next one is taken
+pub next_taken : {why : Option Cut} {left left' : Option (List ℕ)} {text : List ℕ} {next : Got} {text' : List ℕ} → held why text ≡ []
+    → IsNext why left left' text next text' → Takes left left' (got_lines next text')
+next_taken {left = left} {left' = left'} unheld is =
+    subst (λ (l : List Line). Takes left left' l) (ap (λ l. l ++ is.lines) (sym unheld) ∙ is.lines_are) is.takes
 
 -- the lines that follow a wait begin with one that stops a search, or are none
 pub waited_stops : (dialect : Dialect) (why : Cut) (text : List ℕ) (following : List Line) → StopsBy dialect text why
@@ -91,14 +96,14 @@ module _ {S K C : Type 0} {left : S → Option (List ℕ)} {taken : K → Option
     holds = f a.events a.holds;
   }
 
-  -- or nothing of it, for want of memory
+  -- or nothing of it, where there is no memory
   pub unsaid : {s s' : S} {k k' : K} {c c' : C} {behind : List Line} {P : List Event → Type 0} (R : List Event → Type 0) (text : List ℕ)
       → ((a : List Event) → P a → R (a ++ Says text ∷ []))
       → Ran dialect (Moves left taken given count last s s' k k' c c') behind P
       → RanPart dialect (Moves left taken given count last s s' k k' c c') behind R
   unsaid {k' = k'} R text f a = broke_say R text f a (record { front = []; back = text; whole = refl; took = appends_none (taken k') })
 
-  -- lines were taken then, which stand behind
+  -- lines were taken then, which come after
   pub ran_next : {s s' s'' : S} {k k' : K} {c c' : C} {behind behind' : List Line} {P : List Event → Type 0} (lines : List Line)
       → Ran dialect (Moves left taken given count last s s' k k' c c') behind P → Takes (left s') (left s'') lines → behind ++ lines ≡ behind'
       → Ran dialect (Moves left taken given count last s s'' k k' c c') behind' P
@@ -109,6 +114,12 @@ module _ {S K C : Type 0} {left : S → Option (List ℕ)} {taken : K → Option
         (append-nil (written dialect a.events)) (append-nil (readings a.events));
     holds = a.holds;
   }
+
+  -- the next line was taken then
+  pub ran_next_of : {s s' s'' : S} {k k' : K} {c c' : C} {P : List Event → Type 0} (why : Option Cut) (text : List ℕ) {next : Got} {text' : List ℕ}
+      → Ran dialect (Moves left taken given count last s s' k k' c c') (held why text) P → IsNext why (left s') (left s'') text next text'
+      → Ran dialect (Moves left taken given count last s s'' k k' c c') (got_lines next text') P
+  ran_next_of why text a is = ran_next is.lines a is.takes is.lines_are
 
   -- ---- lines that are heard without a reading of the clock
 
@@ -123,7 +134,7 @@ module _ {S K C : Type 0} {left : S → Option (List ℕ)} {taken : K → Option
 
   -- ---- parts
 
-  -- a part with no line behind it
+  -- a part with no line after it
   pub part_of_broke : {s s' : S} {k k' : K} {c c' : C} {P : List Event → Type 0}
       → Broke dialect (Moves left taken given count last s s' k k' c c') P
       → RanPart dialect (Moves left taken given count last s s' k k' c c') [] P
@@ -382,7 +393,7 @@ module _ {State : Type 0} (p : Protocol State) where
         unserved_plain s c asked contents after (Says said ∷ []) [] [] refl refl answers refl asks more
         (subst (λ (o : List ℕ). AppendsFront (taken k) (taken k') o) (sym (append-nil said)) wrote)
 
-    -- nothing of what these events write, for want of memory
+    -- nothing of what these events write, where there is no memory
     pub unserved_none : (s : S) (k : K) (c : C) (asked : List Read → Type 0) (contents : Option Contents) {state : State} (after : State) {line : Line}
         (events : List Event) (done further : List Read) → lines_of events ≡ [] → readings events ≡ []
         → AnswersAlways state after line events → opened events ≡ done ++ further → asked done → Further contents further

@@ -1,5 +1,5 @@
 -- Turns of a session, one after another.
-use Rattle.std.proofs.Common.{◌≡◌, ℕ, ◌+◌, List, [], ◌∷◌, ◌++◌, false, refl, sym, ap, subst, ◌∙◌, append_assoc}
+use Rattle.std.proofs.Common.{◌≡◌, ◌≢◌, ℕ, ◌+◌, List, [], ◌∷◌, ◌++◌, false, refl, sym, ap, subst, ◌∙◌, append_assoc}
 use Rattle.std.specs.declared.option.Option.{Option}
 use Rattle.std.specs.List.{flat_map}
 use Rattle.std.proofs.lemmas.List.{append-nil}
@@ -14,11 +14,18 @@ use Rattle.io_ports.proofs.Moved.{moves_at, moves_more, moves_source}
 use Rattle.io_ports.proofs.Owing.{lacks_before, spends_more, spends_none}
 use Rattle.watching.specs.Events.{lines_of as heard, opened, readings, written}
 use Rattle.session_model.specs.Laws.{IsWider}
-use Rattle.session_model.specs.Turns.{Protocol, Turn, Turns, after_turns, bound_in, lines_in, output_in, reads_in, readings_in}
+use Rattle.session_model.specs.Turns.{Protocol, Turn, Turns, after_turns, bound_in, lines_in, reads_in}
 use Rattle.turning.specs.Lines.{HasLine, MayFollow, got_line}
 use Rattle.turning.specs.Turned.{Served, Turned, turn_of}
 
 -- ---- the next line
+
+-- an answer is a line where it is neither the end nor a failure
+pub has_line : (next : Got) → next ≢ got.End → next ≢ got.Failed → HasLine next
+has_line got.Line goes_on works = tt
+has_line got.TooLong goes_on works = tt
+has_line got.End goes_on works = absurd (goes_on refl)
+has_line got.Failed goes_on works = absurd (works refl)
 
 -- where there is a line, it is the one that was taken
 pub line_taken : (next : Got) (text : List ℕ) → HasLine next → got_lines next text ≡ got_line next text ∷ []

@@ -1,5 +1,5 @@
 -- What a session leaves that spoke to its end, or to a fault.
-use Rattle.std.specs.Prelude.{◌≡◌, ◌≤◌, ◌⊎◌, ℕ, List, [], ◌++◌, length, Option, Some, None, ⊤}
+use Rattle.std.specs.Prelude.{◌≡◌, ◌≤◌, ◌⊎◌, ℕ, List, [], ◌∷◌, ◌++◌, length, true, Option, Some, None, ⊤}
 use Rattle.io_ports.specs.Files.{Contents, Read}
 use Rattle.io_ports.specs.Lines.{Line, lines_of}
 use Rattle.io_ports.specs.Source.{Owed, Untold}
@@ -32,6 +32,15 @@ pub record Spoke {State : Type 0} (p : Protocol State) (moved : Moved) (asked : 
   pub few : length lines ≤ lines_wanted p (lines ++ rest)
   pub decided : Decide lines rest (λ input. Session State p owed start contents reads input readings output)
   pub allowed : Session State p owed start contents reads (lines ++ rest) readings output
+
+-- the last of the lines that were taken ends the session
+pub record TookQuit {State : Type 0} (p : Protocol State) (moved : Moved) : Type 0 where
+  pub before : List Line
+  pub line : Line
+  pub output : List ℕ
+  pub readings : List ℕ
+  pub moves : moved (before ++ line ∷ []) output readings
+  pub quits : p.quits line ≡ true
 
 -- A session wrote a front part of what it may write to the lines that were taken, and to no more: as if the input ended
 -- after them, and with any answers to its polls.

@@ -6,8 +6,13 @@
 //! that comes next, which a search may have heard already, and waits for a line while a best move is held back.
 #![tactic(auto)]
 
+mod ended;
 mod next_line;
 mod waiting;
 
+pub use ended::Ended;
 pub use next_line::next_of;
 pub use waiting::{settle, wait};
+
+#[cfg(test)]
+mod tests;
