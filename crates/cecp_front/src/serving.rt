@@ -5,7 +5,7 @@ ghost use Rattle.io_ports.specs.Files.{Contents};
 ghost use Rattle.io_ports.specs.Trace.{Moves};
 ghost use Rattle.session_model.specs.CecpSession.{cecp};
 ghost use Rattle.turning.specs.Lines.{Causes};
-ghost use Rattle.turning.specs.Spoken.{Spoke, SpokePart};
+ghost use Rattle.turning.specs.Spoken.{Spoke, SpokePart, TookQuit};
 ghost use Rattle.watching.specs.Stopping.{AreSamePorts};
 ghost use Rattle.cecp_front.specs.Reading.{NoReads};
 
@@ -48,7 +48,7 @@ where
             ports.entry.now.sink.now ports.exit.now.sink.now
             ports.entry.now.clock.now ports.exit.now.clock.now)
         NoReads contents session.old) }
-    ensures quit { result ≡ Ok Ended.Quit → TookQuit
+    ensures quit { result ≡ Ok Ended.Quit → TookQuit cecp
         (Moves S.left K.taken C.given C.count C.last
             ports.entry.now.source.now ports.exit.now.source.now
             ports.entry.now.sink.now ports.exit.now.sink.now
