@@ -4,3 +4,5 @@ mod SessionLemmas
 mod PlainLemmas
 mod PlanLemmas
 mod Unanswered
+mod GoLemmas
+mod AnswerLemmas

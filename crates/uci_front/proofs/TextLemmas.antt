@@ -9,7 +9,7 @@ use Rattle.game_reports.specs.GameTexts.{perft_of}
 use Rattle.variant_ini.specs.Section.{Section}
 use Rattle.variant_rules.specs.Entries.{Named, entries, is_accepted}
 use Rattle.session_model.specs.UciTexts.{perft_line, uci_text, variant_choice}
-use Rattle.uci_front.specs.TextView.{choice_at, choice_of}
+use Rattle.uci_front.specs.TextView.{choice_at, choice_of, introduction}
 
 choices-more : (variants : List Named) (place : ℕ) → place < length variants
     → flat_map choice_of (take (suc place) variants) ≡ flat_map choice_of (take place variants) ++ choice_at variants place
@@ -45,16 +45,6 @@ pub choices_all : (old text : List ℕ) (variants : List Named) (n : ℕ) → n 
     → text ≡ old ++ flat_map variant_choice (filter is_accepted variants)
 choices_all old text variants n all is =
     is ∙ ap (λ (l : List ℕ). old ++ l) (ap (flat_map choice_of) (take_all n variants (omega (arith, all))) ∙ accepted_choices variants)
-
--- what stands before the choices
-abbrev pub introduction : List ℕ
-introduction =
-    codes "id name vengine\nid author vengine\n"
-    ++ (codes "option name Threads type spin default 1 min 1 max 64\n"
-    ++ (codes "option name Hash type spin default 16 min 1 max 1024\n"
-    ++ (codes "option name MateFacts type spin default 4096 min 16 max 65536\n"
-    ++ (codes "option name VariantPath type string default <empty>\n"
-    ++ codes "option name UCI_Variant type combo default chess"))))
 
 -- an introduction, the choices and the end
 pub introduced : (variants : List Named) (sections : List Section) (first second last : List ℕ) → variants ≡ entries sections

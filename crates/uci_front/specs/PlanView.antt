@@ -1,11 +1,23 @@
 -- What `go` asks of a game, as the code keeps it while it searches.
-use Rattle.std.specs.Prelude.{◌≡◌, ℕ, ◌≤◌, Option, Some, None}
+use Rattle.std.specs.Prelude.{◌≡◌, ℕ, ◌≤◌, Bool, true, false, List, [], ◌∷◌, Option, Some, None}
 use Rattle.std.specs.Option.{option_map}
-use Rattle.game_play.specs.Played.{legal_in}
+use Rattle.game_play.specs.Played.{Played, legal_in}
+use Rattle.rules_model.specs.declared.moves.Move.{Move}
 use Rattle.session_model.specs.Mates.{mover}
 use Rattle.session_model.specs.UciGo.{Go, is_held, last_depth, last_mate, roots_of, share_of, time_for}
 use Rattle.session_model.specs.UciState.{State}
+use Rattle.session_model.specs.UciTexts.{no_best_line, perft_line}
 use Rattle.uci_front.specs.declared.plan.Plan.{Plan}
+
+-- what is said at once, by the plies, the legal moves, and whether a best move is held back
+abbrev pub SaidBy : Played → Option ℕ → List Move → Bool → Option (List ℕ) → Type 0
+SaidBy g (Some plies) legal holds text = text ≡ Some (perft_line plies g)
+SaidBy g None [] true text = text ≡ None
+SaidBy g None [] false text = text ≡ Some no_best_line
+SaidBy g None (m ∷ ms) holds text = text ≡ None
+
+abbrev pub SaidAtOnce : Played → Plan → Option (List ℕ) → Type 0
+SaidAtOnce g plan text = SaidBy g plan.perft plan.legal plan.holds text
 
 -- where `perft` is asked, of 1 to 9 plies
 abbrev pub ArePlies : Option ℕ → Type 0

@@ -8,7 +8,8 @@ ghost use Rattle.session_model.specs.UciState.{first_state};
 ghost use Rattle.session_model.specs.UciTexts as UciTexts;
 ghost use Rattle.uci_lines.specs.SettingView.{placing_seen, setting_seen};
 ghost use Rattle.uci_front.specs.Outcomes.{IsNumber, IsOutcome, Starts};
-ghost use Rattle.uci_front.specs.SessionView.{BeginsBuiltIn};
+ghost use Rattle.session_model.specs.UciSession.{announced, forgotten};
+ghost use Rattle.uci_front.specs.SessionView.{BeginsBuiltIn, IsPrintable, kept_seen};
 
 use crate::moves::placed;
 use crate::refusal::{Refusal, bad_value, refused_variant, unknown_variant};
@@ -89,7 +90,7 @@ fn number_said(low: u32, high: u32, value: Option<&[u8]>) -> Option<u32>
 }
 
 // The bytes of a text, where there is one.
-fn bytes_of(value: &Option<Text>) -> Option<&[u8]>
+pub(crate) fn bytes_of(value: &Option<Text>) -> Option<&[u8]>
     ensures { option_copied result ≡ value.now }
 {
     match value {
@@ -249,6 +250,21 @@ impl UciSession {
             kept.moves,
             &kept.strategy,
         )
+    }
+
+    /// Forgets the mate that was announced last.
+    pub(crate) fn forget_mate(&mut self)
+        ensures { self.new ≡ forgotten self.old }
+    {
+        self.kept = None;
+    }
+
+    /// Keeps the mate that was announced last, if any.
+    pub(crate) fn keep(&mut self, kept: Option<Kept>)
+        requires { IsPrintable self.old.game.rules kept }
+        ensures { self.new ≡ announced self.old (kept_seen kept) }
+    {
+        self.kept = kept;
     }
 
     /// The game.

@@ -5,7 +5,8 @@ ghost use Rattle.session_model.specs.UciTexts as UciTexts;
 ghost use Rattle.session_model.specs.UciTexts.{variant_choice};
 ghost use Rattle.variant_ini.specs.Section.{Section};
 ghost use Rattle.variant_rules.specs.Entries.{entries, is_accepted};
-ghost use Rattle.uci_front.specs.TextView.{choice_at};
+ghost use Rattle.uci_front.specs.Going.{last_line};
+ghost use Rattle.uci_front.specs.TextView.{choice_at, introduction};
 
 use foundation::{Memory, Text};
 use game_play::Game;
@@ -65,12 +66,18 @@ fn push_choices(text: &mut Vec<u8>, variants: &Variants) -> Result<(), AllocErro
     Ok(())
 }
 
+fn introduction() -> &'static [u8]
+    ensures { result.now ≡ introduction }
+{
+    INTRODUCTION
+}
+
 /// What `uci` answers where these are the variants of the sections.
 pub fn uci_text(alloc: Global, variants: &Variants) -> Result<Text, Memory>
     ensures { (sections : List Section) → variants.now ≡ entries sections
         → IfOk result (λ text. text ≡ UciTexts.uci_text sections) }
 {
-    let mut items = INTRODUCTION.to_vec(alloc)?;
+    let mut items = introduction().to_vec(alloc)?;
     push_choices(&mut items, variants)?;
     items.extend_from_slice(b"\nuciok\n")?;
     Ok(Text { items })
@@ -97,11 +104,15 @@ pub fn no_mate_line(alloc: Global, moves: u16) -> Result<Text, Memory>
     Ok(Text { items })
 }
 
-/// The line of the best move.
-pub fn best_line(alloc: Global, best: &Move) -> Result<Text, Memory>
-    ensures { IfOk result (λ text. text ≡ UciTexts.best_line best.now) }
+/// The line of the best move, or that there is none.
+pub fn last_line(alloc: Global, best: Option<Move>) -> Result<Text, Memory>
+    ensures { IfOk result (λ text. text ≡ last_line best) }
 {
-    let written = write_move(best);
+    let Some(best) = best else {
+        let items = b"bestmove (none)\n".to_vec(alloc)?;
+        return Ok(Text { items });
+    };
+    let written = write_move(&best);
     let mut items = b"bestmove ".to_vec(alloc)?;
     items.extend_from_slice(written.items.as_slice())?;
     items.extend_from_slice(b"\n")?;

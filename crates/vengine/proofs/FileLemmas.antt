@@ -19,7 +19,8 @@ use Rattle.vengine.specs.Commands.{asks_file}
 use Rattle.vengine.specs.Fault.{fault_status}
 use Rattle.vengine.specs.HaltView.{AreFirstOrNone, HasSections, load_halt}
 use Rattle.vengine.specs.Looked.{IsTooLarge, TellsReads}
-use Rattle.vengine.specs.Run.{Further, IsUnreadable}
+use Rattle.turning.specs.Turned.{Further}
+use Rattle.vengine.specs.Run.{IsUnreadable}
 use Rattle.vengine.specs.Variants.{AreFirstReads, AreReadsOf, fault_found, fault_in, sections_in}
 use Rattle.words.specs.Asked.{Asked}
 use Rattle.words.specs.Options.{Text}

@@ -1,0 +1,3 @@
+mod SessionLaws
+mod ThoughtLaws
+mod TurnLaws
