@@ -1,8 +1,13 @@
-ghost use Rattle.std.specs.Prelude.{◌≡◌, ◌≤◌};
+ghost use Rattle.std.specs.Prelude.{◌≡◌, ◌≤◌, None};
 
-use crate::{Depths, Evidence, Found, Score, Start, Style, Task, Tried, deepen, depth_line, lines_of, try_mates, unsettled_line};
+use crate::{
+    Depths, Evidence, Found, Score, Start, Style, Task, Tried, deepen, depth_line, lines_of,
+    try_mates, unsettled_line,
+};
 use game_play::Game;
-use io_ports::{Dialect, Limits, LineBuf, ListClock, MemSink, MemSource, OpenGate, PollsOwed, SearchFault};
+use io_ports::{
+    Dialect, Limits, LineBuf, ListClock, MemSink, MemSource, OpenGate, PollsOwed, SearchFault,
+};
 use legality::legal_moves;
 use rules_model::{Move, Position, Promo, Side, repeat_of, sound};
 use sample_rules::{chess, position, square};
@@ -35,8 +40,23 @@ fn no_strategy(alloc: Global) -> Strategy {
     }
 }
 
+/// A score, without the strategy of a mate.
+#[derive(Clone, Copy)]
+enum Scored {
+    Points(i32),
+    Mates(u16),
+    Mated(u16),
+}
+
 /// What is found where the best move is e2e4, after 77 nodes.
-fn found(score: Score) -> Found {
+fn found(alloc: Global, scored: Scored) -> Found
+    ensures { result.unsettled ≡ None }
+{
+    let score = match scored {
+        Scored::Points(points) => Score::Points(points),
+        Scored::Mates(moves) => Score::Mates(moves, no_strategy(alloc)),
+        Scored::Mated(moves) => Score::Mated(moves, no_strategy(alloc)),
+    };
     Found {
         score,
         best: go("e2e4"),
@@ -49,20 +69,34 @@ fn found(score: Score) -> Found {
 fn lines_of_depths(rt: HostRuntime) -> Result<(), Fail> {
     let alloc = rt.alloc();
     let rules = chess();
-    let points = found(Score::Points(-12));
-    let mates = found(Score::Mates(2, no_strategy(alloc)));
-    let mated = found(Score::Mated(5, no_strategy(alloc)));
+    let (points, mates, mated) = (Scored::Points(-12), Scored::Mates(2), Scored::Mated(5));
     let rows = [
-        (&points, Style::Uci, 900u64, "info depth 3 score cp -12 pv e2e4\n"),
-        (&mates, Style::Uci, 900, "info depth 3 score mate 2 pv e2e4\n"),
-        (&mated, Style::Uci, 900, "info depth 3 score mate -5 pv e2e4\n"),
-        (&points, Style::Post, 1234, "3 -12 113 77 e2e4\n"),
-        (&mates, Style::Post, 109, "3 100002 0 77 e2e4\n"),
-        (&mated, Style::Post, 5, "3 -100005 0 77 e2e4\n"),
-        (&mated, Style::Silent, 900, ""),
+        (
+            points,
+            Style::Uci,
+            900u64,
+            "info depth 3 score cp -12 pv e2e4\n",
+        ),
+        (
+            mates,
+            Style::Uci,
+            900,
+            "info depth 3 score mate 2 pv e2e4\n",
+        ),
+        (
+            mated,
+            Style::Uci,
+            900,
+            "info depth 3 score mate -5 pv e2e4\n",
+        ),
+        (points, Style::Post, 1234, "3 -12 113 77 e2e4\n"),
+        (mates, Style::Post, 109, "3 100002 0 77 e2e4\n"),
+        (mated, Style::Post, 5, "3 -100005 0 77 e2e4\n"),
+        (mated, Style::Silent, 900, ""),
     ];
-    for (found, style, clock, text) in rows {
-        let written = lines_of(alloc, style, &rules, 100, 3, found, clock)?;
+    for (scored, style, clock, text) in rows {
+        let found = found(alloc, scored);
+        let written = lines_of(alloc, style, &rules, 100, 3, &found, clock)?;
         assert!(rt; written.items.as_slice() == text.as_bytes());
     }
     Ok(())
@@ -124,7 +158,7 @@ fn deepened<R: Threads + Wait + Abort + Sync>(
     assert!(rt; sound(&rules, &start));
     let game = Game::new(alloc, &rules, &start)?;
     let roots = legal_moves(alloc, game.rules(), game.tables(), game.position())?;
-    assert!(rt; !roots.items.is_empty());
+    assert!(rt; 0 < roots.items.len());
     let task = Task {
         game: &game,
         roots: roots.items.as_slice(),
