@@ -250,7 +250,7 @@ module _ {S K C : Type 0} {left : S → Option (List ℕ)} {taken : K → Option
             ending = InSearch (cause_of why);
             behind = held (Some why) b.text;
             is_held = held_one why b.text;
-            stopped = held_stops dialect why b.text Untold _ _ _ _ _ broke.holds.1;
+            stopped = held_stops dialect why b.text Untold (bound_at t (done + 1)) limits.quota limits.deadline (reach_at t (done + 1) (Off why)) (readings broke.events) broke.holds.1;
             broke = broke_held_more dialect _
                 (λ x y p q. (
                   tells_more dialect style t.game.rules first x y 1 (done + 1) so.reports [] p q.0 (next_depth done so.reports so.counted),
@@ -284,7 +284,7 @@ module _ {S K C : Type 0} {left : S → Option (List ℕ)} {taken : K → Option
                 ending = InSolve report solve.moves (cause_of solve.why);
                 behind = held (Some solve.why) b.text;
                 is_held = held_one solve.why b.text;
-                stopped = held_stops dialect solve.why b.text Untold _ _ _ _ _ broke.holds.1;
+                stopped = held_stops dialect solve.why b.text Untold (bound_at t (done + 1)) limits.quota limits.deadline (reach_at t (done + 1) (Done found clock (Some solve))) (readings broke.events) broke.holds.1;
                 broke = broke_held_more dialect _
                     (λ x y p q. (
                       tells_more dialect style t.game.rules first x y 1 (done + 1) so.reports (report ∷ []) p q.0 (next_depth done so.reports so.counted),
