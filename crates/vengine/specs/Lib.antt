@@ -8,13 +8,12 @@ pub mod GameView
 pub mod GameTexts
 pub mod HaltView
 pub mod Looked
-pub mod MovesText
-pub mod OutcomeText
 pub mod ReachText
 pub mod Run
 pub mod Sessions
 pub mod Setup
 pub mod Shot
+pub mod Speaking
 pub mod StopView
 pub mod UnplacedView
 pub mod Variants

@@ -8,12 +8,11 @@ mod fault;
 mod game;
 mod halt;
 mod laws;
-mod moves;
 mod opening;
-mod outcome;
 mod program;
 mod reach;
 mod sections;
+mod sessions;
 mod setup;
 mod stop;
 mod strategy_lines;
@@ -21,7 +20,6 @@ mod variants;
 
 use foundation::Memory;
 use io_ports::{MachineClock, MachineFiles, OpenGate, PatientReader, QueuedInput, StandardOutput};
-use program::NO_MEMORY;
 pub use program::run;
 use std::io::{BufReader, ErrorKind, Read};
 use std::process::ExitCode;
@@ -29,6 +27,7 @@ use std::rt::{Clock, Env, Files};
 use std::sync::Wait;
 use std::thread::Threads;
 use std::{env, io};
+use stop::NO_MEMORY;
 
 /// The words after the program's name. Words that are not UTF-8 are given as `--`, which is of no command.
 fn given_words(rt: &(impl Env + AllocGlobal)) -> Result<Vec<String>, Memory> {

@@ -1,0 +1,11 @@
+mod TextLemmas
+mod MoveLemmas
+mod SessionLemmas
+mod PlainLemmas
+mod PlanLemmas
+mod Unanswered
+mod GoLemmas
+mod AnswerLemmas
+mod SearchLemmas
+mod ThinkLemmas
+mod MateLemmas
