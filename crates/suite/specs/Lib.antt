@@ -1,7 +1,6 @@
 pub mod Least
 pub mod Problems
 pub mod Answers
-pub mod Frames
 pub mod Workers
 pub mod Suite
 pub mod Leasts

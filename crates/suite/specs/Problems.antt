@@ -11,7 +11,8 @@ use Rattle.suite.specs.Least.{least}
 abbrev pub game_of : Problem → Story
 game_of p = record { earlier = []; last = p.position }
 
--- a problem may be asked: its rules fit, its position is sound, its number is from 1 to 20, and no move-count rule ends the game within it
+-- a problem may be asked: its rules fit, its position is sound, its number is from 1 to 20, and no move-count rule ends
+-- the game within it
 pub record IsFair (p : Problem) : Type 0 where
   pub fit : IsFit p.rules
   pub sound : is_sound p.rules p.position ≡ true

@@ -41,10 +41,16 @@ abbrev pub row_within : List ℕ → List ℕ → Option ℕ → Option Asked
 row_within name position None = None
 row_within name position (Some moves) = Some (record { name = name; moves = moves; position = position })
 
+-- the position is there, and there is one space before it
+abbrev pub is_apart : List ℕ → Bool
+is_apart [] = false
+is_apart (first ∷ text) = not (first == space)
+
 -- the position stands after the number
 abbrev pub row_after : List ℕ → List ℕ × Option (List ℕ) → Option Asked
 row_after name (number, None) = None
-row_after name (number, Some position) = row_within name position (number_within 1 20 number)
+row_after name (number, Some position) =
+    if is_apart position then row_within name position (number_within 1 20 number) else None
 
 -- and the number after the name, which is not empty
 abbrev pub row_from : List ℕ × Option (List ℕ) → Option Asked
@@ -63,7 +69,8 @@ is_counted rules n p = not (rules.n_move == 0) && nat_le (2 * rules.n_move) (p.c
 
 abbrev pub problem_from : ℕ → Rules → ℕ → Result Position FenFault → Result Problem SuiteFault
 problem_from line rules n (Err why) = Err (BadPosition line why)
-problem_from line rules n (Ok p) = if is_counted rules n p then Err (NearCount line) else Ok (record { rules = rules; position = p; n = n })
+problem_from line rules n (Ok p) =
+    if is_counted rules n p then Err (NearCount line) else Ok (record { rules = rules; position = p; n = n })
 
 abbrev pub problem_by : ℕ → Asked → Option (Result Rules SectionFault) → Result Problem SuiteFault
 problem_by line row None = Err (UnknownVariant line)

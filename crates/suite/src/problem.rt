@@ -1,5 +1,8 @@
 //! Mate problems and their answers.
+ghost use Rattle.std.specs.Prelude.{◌≡◌};
+
 use rules_model::{Position, Rules};
+use std::marker::Model;
 use strategy::Strategy;
 
 /// Within how many of its moves does the side that is to move win the position, looked at without moves before it?
@@ -20,8 +23,26 @@ pub struct Answer {
     pub strategy: Option<Strategy>,
 }
 
-/// The answers to problems, in their order.
+/// The answers to problems, in their order. Contracts see the list of these.
 #[derive(Drop)]
 pub struct Solved {
-    pub answers: Vec<Answer>,
+    pub items: Vec<Answer>,
+}
+
+impl Model for Solved {
+    ghost use Rattle.std.specs.Prelude.{List};
+    ghost use Rattle.suite.specs.declared.problem.Answer.{Answer};
+
+    ghost Value = { List Answer };
+
+    ghost view = { λ s. s.items.items };
+}
+
+impl Solved {
+    /// The answers.
+    pub fn answers(&self) -> &[Answer]
+        ensures { result.now ≡ self.now }
+    {
+        self.items.as_slice()
+    }
 }

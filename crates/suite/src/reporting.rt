@@ -29,7 +29,7 @@ fn report_on<R: Threads + Sync, G: Gate + Sync>(
     ensures { IfOk result (λ text. text ≡ report_of suite.now) }
 {
     let solved = solve_all(rt, alloc, suite.problems(), workers, gate)?;
-    write_report(alloc, suite.lines(), &solved.answers)
+    write_report(alloc, suite.lines(), solved.answers())
 }
 
 /// Reads the problems of a suite, solves them by 1 to 64 workers, and reports on them in the order of their lines.

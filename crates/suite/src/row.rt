@@ -34,6 +34,16 @@ pub(crate) fn is_skipped(text: &[u8]) -> bool
     }
 }
 
+// Whether a position is there, after a single space.
+fn is_apart(text: &[u8]) -> bool
+    ensures { result ≡ Said.is_apart text.now }
+{
+    match text {
+        [] => false,
+        [first, ..] => *first != b' ',
+    }
+}
+
 /// The parts of a line that has the form.
 #[tactic(auto, unfolding(crate::specs::Suite::row_of))]
 pub(crate) fn row_of(text: &[u8]) -> Option<Row<'_>>
@@ -48,6 +58,9 @@ pub(crate) fn row_of(text: &[u8]) -> Option<Row<'_>>
     }
     let (number, position) = cut_at(rest, b' ');
     let position = position?;
+    if !is_apart(position) {
+        return None;
+    }
     let moves = number_within(1, MOST_MOVES, number)?;
     Some(Row {
         name,

@@ -4,34 +4,20 @@ ghost use Rattle.forced_wins.specs.Wins.{IsInLimit};
 ghost use Rattle.game_play.specs.Played.{story};
 ghost use Rattle.mate_search.specs.Answers.{IsFrameOf};
 ghost use Rattle.suite.specs.Answers.{IsAnswer, IsSettledBy};
-ghost use Rattle.suite.specs.Frames.{IsFrameFor};
 ghost use Rattle.suite.specs.Problems.{IsFair};
 
-use crate::copies::copy_of;
 use crate::problem::{Answer, Problem};
 use crate::watch::Undisturbed;
 use forced_wins::by_rules::good_strategies_win;
 use game_play::Game;
-use mate_core::Frame;
-use mate_search::{Settled, solve_watched};
+use mate_search::{Settled, frame_of, solve_watched};
 use mate_settle::FactTable;
-use rules_model::{Memory, Side};
+use rules_model::Memory;
 use std::alloc::Global;
 use strategy::{Edge, Node, Strategy};
 
 /// How many facts are kept of a problem.
 const FACTS: usize = 4096;
-
-// The frame of the game for the side.
-fn frame_of(alloc: Global, game: &Game, attacker: Side) -> Result<Frame, Memory>
-    ensures { IfOk result (IsFrameFor game.now attacker) }
-{
-    Ok(Frame {
-        rules: copy_of(game.rules()),
-        blocked: game.blocked(alloc)?,
-        attacker,
-    })
-}
 
 // How the side that attacks in the frame of the facts wins within k moves, where it does.
 fn settled_within(

@@ -103,14 +103,14 @@ fn complete<G: Gate>(
 ) -> Result<Solved, Memory>
     requires fair { All IsFair problems.now }
     requires slots { AreSlots problems.now slots.old.items }
-    ensures { IfOk result (λ solved. AreAnswers problems.now solved.answers.items) }
+    ensures { IfOk result (AreAnswers problems.now) }
 {
     let mut answers = Vec::with_capacity(alloc, problems.len())?;
     for at in 0..problems.len() {
         let answer = answer_at(alloc, slots, gate, problems, at)?;
         answers.push(answer)?;
     }
-    Ok(Solved { answers })
+    Ok(Solved { items: answers })
 }
 
 /// The answers to at most 1,000 problems, in their order, by 1 to 64 workers, or by fewer where there is no memory for
@@ -134,7 +134,7 @@ pub fn solve_all<R: Threads + Sync, G: Gate + Sync>(
     requires fair { All IsFair problems.now }
     requires few { length problems.now ≤ 1000 }
     requires workers { (0 < workers) × (workers ≤ 64) }
-    ensures { IfOk result (λ solved. AreAnswers problems.now solved.answers.items) }
+    ensures { IfOk result (AreAnswers problems.now) }
 {
     let queue = Queue::new();
     let mut slots = slots_for(alloc, problems)?;

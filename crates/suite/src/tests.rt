@@ -93,6 +93,7 @@ fn faults(rt: HostRuntime) -> Result<(), Fail> {
         ("#\nchess 1\n", "SuiteFault 1 BadLine 2"),
         ("chess 21 startpos\n", "SuiteFault 1 BadLine 1"),
         ("chess  1 startpos\n", "SuiteFault 1 BadLine 1"),
+        ("chess 1  startpos\n", "SuiteFault 1 BadLine 1"),
         ("nowhere 1 startpos\n", "SuiteFault 2 UnknownVariant 1"),
         (
             "lost 1 startpos\n",
@@ -155,7 +156,7 @@ fn two_workers_run_beside_each_other(rt: HostRuntime) -> Result<(), Fail> {
     let solved = solve_all(&rt, alloc, suite.problems(), 2, &gate)?;
     assert!(rt; !gate.gave_up());
     for (i, least, shown) in [(0usize, Some(2u16), true), (1, None, false)] {
-        let answer = solved.answers.get(i).ok_or("no answer")?;
+        let answer = solved.answers().get(i).ok_or("no answer")?;
         assert_eq!(rt; answer.least, least);
         assert_eq!(rt; answer.strategy.is_some(), shown);
     }

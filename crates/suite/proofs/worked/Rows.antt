@@ -31,6 +31,14 @@ two_spaces : row_of (codes "chess  1 startpos") ≡ None
 unfolding row_of cut number_of is_number are_digits value_after
 two_spaces = refl
 
+two_later : row_of (codes "chess 1  startpos") ≡ None
+unfolding row_of cut number_of is_number are_digits value_after
+two_later = refl
+
+empty_position : row_of (codes "chess 1 ") ≡ None
+unfolding row_of cut number_of is_number are_digits value_after
+empty_position = refl
+
 no_name : row_of (codes " 1 startpos") ≡ None
 unfolding row_of cut number_of is_number are_digits value_after
 no_name = refl
