@@ -1,7 +1,7 @@
 -- The first number that passes a test.
-use Rattle.std.proofs.Common.{◌≡◌, ◌≤◌, ◌<◌, ℕ, zero, suc, ◌+◌, ◌-◌, arith, Bool, true, false, Option, Some, None, refl, sym, ap, subst, ◌∙◌, inl, inr, if◌then◌else◌}
+use Rattle.std.proofs.Common.{◌≡◌, ◌≤◌, ℕ, zero, suc, ◌+◌, ◌-◌, arith, Bool, true, false, Option, Some, None, refl, ap, subst, ◌∙◌, inl, inr, if◌then◌else◌}
 use Rattle.std.proofs.Math.Nat.{eq-or-lt_of_le}
-use Rattle.suite.specs.Least.{IsFirst, IsFirstWithin, first_within, if_passes, or_later}
+use Rattle.suite.specs.Least.{IsFirstWithin, first_within, if_passes, or_later}
 
 module _ (test : ℕ → Bool) where
   -- ---- one number more

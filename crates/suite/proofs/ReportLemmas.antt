@@ -1,9 +1,8 @@
 -- Reports, line by line.
-use Rattle.std.proofs.Common.{◌≡◌, ◌≤◌, ◌<◌, ℕ, zero, suc, ◌+◌, add-one, arith, List, [], ◌∷◌, ◌++◌, length, take, map, get_or, Option, None, Result, Ok, Err, IfOk, is_some, count_by, refl, sym, ap, subst, ◌∙◌, append_assoc}
+use Rattle.std.proofs.Common.{◌≡◌, ◌<◌, ℕ, zero, suc, ◌+◌, add-one, arith, List, [], ◌∷◌, ◌++◌, length, take, map, get_or, Option, Result, Ok, Err, IfOk, is_some, count_by, refl, sym, ap, subst, ◌∙◌, append_assoc}
 use Rattle.std.proofs.lemmas.List.{append-nil}
 use Rattle.foundation.specs.Tests.{one_if}
 use Rattle.foundation.proofs.SetLemmas.{count_by-cons}
-use Rattle.io_ports.specs.Lines.{Line}
 use Rattle.game_text.specs.HeardLines.{HeardLines}
 use Rattle.game_text.proofs.HeardLemmas.{heard_so, same_needed}
 use Rattle.variant_rules.specs.Entries.{Named}

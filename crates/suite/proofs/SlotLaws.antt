@@ -1,6 +1,6 @@
 -- Answers in their places.
 use Rattle.std.proofs.Common.{◌≡◌, ◌⊎◌, ◌<◌, ℕ, zero, suc, ◌+◌, add-one, arith, List, [], ◌∷◌, ◌++◌, length, take, map, get_or, Option, Some, None, refl, ap, subst, sym, ◌∙◌, inl, inr, slice_get, slice_set}
-use Rattle.std.specs.List.{All, AllZip}
+use Rattle.std.specs.List.{All}
 use Rattle.std.proofs.lemmas.List.Elements.{All-nil, All-same, All-weaker}
 use Rattle.std.proofs.lemmas.Option.{get_or_from_slice_get, slice_get-get_or, slice_get_within}
 use Rattle.suite.specs.declared.problem.Answer.{Answer}

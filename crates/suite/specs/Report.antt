@@ -1,5 +1,5 @@
 -- What is told of a suite: a line for each problem, and how many of them are won.
-use Rattle.std.specs.Prelude.{ℕ, List, [], ◌∷◌, ◌++◌, Option, Some, None, Result, Ok, Err, codes, count_by, is_some, length, map}
+use Rattle.std.specs.Prelude.{ℕ, List, [], ◌∷◌, ◌++◌, Option, Some, None, Result, Ok, codes, count_by, is_some, length, map}
 use Rattle.std.specs.Fmt.{decimal}
 use Rattle.io_ports.specs.Lines.{Line}
 use Rattle.variant_rules.specs.Entries.{Named}

@@ -1,5 +1,5 @@
 -- The first number from 1 on that passes a test, and near misses.
-use Rattle.std.proofs.Common.{◌≡◌, ℕ, Bool, true, false, Some, None, refl, nat_le, ◌==◌, ◌||◌}
+use Rattle.std.proofs.Common.{◌≡◌, Some, None, refl, nat_le, ◌==◌, ◌||◌}
 use Rattle.suite.specs.Least.{first_within}
 
 -- the first that passes, and not a later one

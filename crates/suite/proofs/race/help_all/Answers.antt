@@ -1,4 +1,4 @@
-use Rattle.std.proofs.Common.{◌<◌, arith, length, subst, sym}
+use Rattle.std.proofs.Common.{arith, subst, sym}
 use Rattle.suite.specs.declared.work.Job.{Job}
 use Rattle.suite.specs.Workers.{HasFound}
 use Rattle.suite.proofs.race.help_all.Goals as goal

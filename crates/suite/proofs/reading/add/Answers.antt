@@ -1,4 +1,4 @@
-use Rattle.std.proofs.Common.{◌≡◌, ◌<◌, ◌∷◌, [], arith, length, length-append, sym, ◌∙◌}
+use Rattle.std.proofs.Common.{◌<◌, ◌∷◌, [], arith, length, length-append, sym, ◌∙◌}
 use Rattle.std.proofs.lemmas.Bool.{ltb-true}
 use Rattle.std.proofs.lemmas.List.Elements.{All-push}
 use Rattle.suite.specs.Problems.{IsFair}

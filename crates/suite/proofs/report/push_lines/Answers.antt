@@ -1,4 +1,4 @@
-use Rattle.std.proofs.Common.{◌≡◌, arith, append_assoc, take, get_or}
+use Rattle.std.proofs.Common.{arith, append_assoc, take, get_or}
 use Rattle.suite.specs.Leasts.{leasts}
 use Rattle.suite.specs.Report.{told_of, told_of_all}
 use Rattle.suite.proofs.ReportLemmas.{told-next}

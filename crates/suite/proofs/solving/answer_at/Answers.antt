@@ -1,5 +1,5 @@
 use Rattle.std.proofs.Common.{◌<◌, arith, length, sym, ◌∙◌}
-use Rattle.suite.proofs.SlotLaws.{answer-at, slot-there, slots-taken}
+use Rattle.suite.proofs.SlotLaws.{slot-there, slots-taken}
 use Rattle.suite.proofs.solving.answer_at.Goals as goal
 
 pub returns-in-Some-clause-slots : goal.returns-in-Some-clause-slots
