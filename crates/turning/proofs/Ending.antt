@@ -123,7 +123,7 @@ module _ {State : Type 0} where
         subst (λ (l : List Line). length l ≤ lines_wanted p l) (sym is)
         (let count = length-append (lines_in turns) rest in omega (arith, count, wanted, few))
 
-    -- turns, with at most one line behind them, completed to a session of these lines
+    -- turns, with at most one line after them, completed to a session of these lines
     record Completed (contents : Option Contents) (start : State) (us : List (Turn State)) (behind : List Line) : Type 0 where
       reads : List Read
       output : List ℕ

@@ -96,14 +96,14 @@ module _ {S K C : Type 0} {left : S → Option (List ℕ)} {taken : K → Option
     holds = f a.events a.holds;
   }
 
-  -- or nothing of it, for want of memory
+  -- or nothing of it, where there is no memory
   pub unsaid : {s s' : S} {k k' : K} {c c' : C} {behind : List Line} {P : List Event → Type 0} (R : List Event → Type 0) (text : List ℕ)
       → ((a : List Event) → P a → R (a ++ Says text ∷ []))
       → Ran dialect (Moves left taken given count last s s' k k' c c') behind P
       → RanPart dialect (Moves left taken given count last s s' k k' c c') behind R
   unsaid {k' = k'} R text f a = broke_say R text f a (record { front = []; back = text; whole = refl; took = appends_none (taken k') })
 
-  -- lines were taken then, which stand behind
+  -- lines were taken then, which come after
   pub ran_next : {s s' s'' : S} {k k' : K} {c c' : C} {behind behind' : List Line} {P : List Event → Type 0} (lines : List Line)
       → Ran dialect (Moves left taken given count last s s' k k' c c') behind P → Takes (left s') (left s'') lines → behind ++ lines ≡ behind'
       → Ran dialect (Moves left taken given count last s s'' k k' c c') behind' P
@@ -134,7 +134,7 @@ module _ {S K C : Type 0} {left : S → Option (List ℕ)} {taken : K → Option
 
   -- ---- parts
 
-  -- a part with no line behind it
+  -- a part with no line after it
   pub part_of_broke : {s s' : S} {k k' : K} {c c' : C} {P : List Event → Type 0}
       → Broke dialect (Moves left taken given count last s s' k k' c c') P
       → RanPart dialect (Moves left taken given count last s s' k k' c c') [] P
@@ -393,7 +393,7 @@ module _ {State : Type 0} (p : Protocol State) where
         unserved_plain s c asked contents after (Says said ∷ []) [] [] refl refl answers refl asks more
         (subst (λ (o : List ℕ). AppendsFront (taken k) (taken k') o) (sym (append-nil said)) wrote)
 
-    -- nothing of what these events write, for want of memory
+    -- nothing of what these events write, where there is no memory
     pub unserved_none : (s : S) (k : K) (c : C) (asked : List Read → Type 0) (contents : Option Contents) {state : State} (after : State) {line : Line}
         (events : List Event) (done further : List Read) → lines_of events ≡ [] → readings events ≡ []
         → AnswersAlways state after line events → opened events ≡ done ++ further → asked done → Further contents further

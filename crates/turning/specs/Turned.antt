@@ -29,7 +29,7 @@ pub record Further (contents : Option Contents) (further : List Read) : Type 0 w
   pub found : Finds contents further
   pub works : faults_in further ≡ 0
 
--- Events were gone through of which this holds, and these lines stand behind them. Only a front part of what the events
+-- Events were gone through of which this holds, and these lines come after them. Only a front part of what the events
 -- write was written.
 pub record RanPart (dialect : Dialect) (moved : Moved) (behind : List Line) (Holds : List Event → Type 0) : Type 0 where
   pub events : List Event
