@@ -34,7 +34,8 @@ use Rattle.session_model.specs.CecpLines.{command_of}
 use Rattle.session_model.specs.CecpSession.{answer_of}
 use Rattle.session_model.specs.CecpState.{State, first_state, rules_said, shown_name, state_by, without_last}
 use Rattle.cecp_front.specs.Answers.{answered}
-use Rattle.uci_lines.specs.View.{line_got, texts}
+use Rattle.turning.specs.Lines.{got_line}
+use Rattle.uci_lines.specs.View.{texts}
 
 -- ---- the start
 
@@ -133,20 +134,20 @@ module _ (g : Played) (rules : Rules) (p : Position) (text : List ℕ) (played :
 
 -- ---- lines that are too long
 
-pub long_answer : (state : State) (next : Got) (line text : List ℕ) → line_got next line ≡ lines.TooLong → text ≡ too_long Cecp
-    → answered state text ≡ answer_of state (line_got next line)
+pub long_answer : (state : State) (next : Got) (line text : List ℕ) → got_line next line ≡ lines.TooLong → text ≡ too_long Cecp
+    → answered state text ≡ answer_of state (got_line next line)
 unfolding command_of
 long_answer state next line text long is =
     ap (answered state) is ∙ sym (ap (answer_of state) long)
 
 pub long_answers : {E : Type 0} (state : State) (next : Got) (line : List ℕ) (r : Result (List ℕ) E)
     → (next ≡ got.TooLong) ⊎ ((next ≡ got.End) ⊎ (next ≡ got.Failed)) → IfOk r (λ text. text ≡ too_long Cecp)
-    → IfOk r (λ text. answered state text ≡ answer_of state (line_got next line))
+    → IfOk r (λ text. answered state text ≡ answer_of state (got_line next line))
 long_answers state next line (Ok text) is h = long_answer state next line text (elim is [
-  | inl long ↦ ap (λ n. line_got n line) long
+  | inl long ↦ ap (λ n. got_line n line) long
   | inr other ↦ elim other [
-    | inl end ↦ ap (λ n. line_got n line) end
-    | inr failed ↦ ap (λ n. line_got n line) failed
+    | inl end ↦ ap (λ n. got_line n line) end
+    | inr failed ↦ ap (λ n. got_line n line) failed
   ]
 ]) h
 long_answers state next line (Err why) is h = tt

@@ -63,7 +63,7 @@ held_one (Some (cut.Quota quota)) text = none
 held_one (Some (cut.Deadline reading)) text = none
 
 -- the line that is held comes first
-follows_held : (why : Option Cut) (text : List ℕ) (rest : List Line) → (why ≡ Some cut.End → rest ≡ []) → Follows why text (held why text ++ rest)
+pub follows_held : (why : Option Cut) (text : List ℕ) (rest : List Line) → (why ≡ Some cut.End → rest ≡ []) → Follows why text (held why text ++ rest)
 follows_held None text rest end = tt
 follows_held (Some cut.Line) text rest end = (rest, refl)
 follows_held (Some cut.End) text rest end = end refl
@@ -235,3 +235,34 @@ module _ {S K C : Type 0} {left : S → Option (List ℕ)} {taken : K → Option
             (moveless why s.ending text (held why text) s.ended follows ∙ kept) s.best_is s.unstopped s.posts
             (deepens_wider (Lacks o (bound_from true state)) ⊤ (λ h. tt) Cecp (task_of state) s.reports s.ending (readings s.events) (held why text) (s.deepens (held why text) follows));
       }
+
+-- ---- the same, as the code comes to it: with the session as it is now, which a search leaves as it was
+
+module _ {S K C : Type 0} {left : S → Option (List ℕ)} {taken : K → Option (List ℕ)} {given : C → Option (List ℕ)} {count last : C → ℕ}
+    {s s' : S} {k k' : K} {c c' : C} {o o' : Owed} (state now : State) (same : now ≡ state) (first best : Move) (text : List ℕ)
+    (why : Option Cut) (sought : Sought (Moves left taken given count last s s' k k' c c') o o' state first best text why)
+    (dropped : Bool) (is : dropped ≡ is_dropped why text) where
+  pub think_dropped : {s'' : S} (o'' : Owed) (next : Got) (text' : List ℕ) → dropped ≡ true → o'' ≡ o'
+      → IsNext why (left s') (left s'') text next text'
+      → Thought (Moves left taken given count last s s'' k k' c c') o o'' state now first next text'
+  think_dropped {s'' = s''} o'' next text' gone spent n =
+      subst (λ (x : Owed). Thought (Moves left taken given count last s s'' k k' c c') o x state now first next text') (sym spent)
+      (subst (λ (x : State). Thought (Moves left taken given count last s s'' k k' c c') o o' state x first next text') (sym same)
+      (thought_dropped state first best text text' why next sought (sym is ∙ gone) n))
+
+  pub think_moved : {s'' : S} {k'' : K} (after : State) (o'' : Owed) (next : Got) (text' : List ℕ) → dropped ≡ false
+      → after ≡ (played now best).state → Appends (taken k') (taken k'') (move_text now best) → o'' ≡ o'
+      → IsNext why (left s') (left s'') text next text'
+      → Thought (Moves left taken given count last s s'' k k'' c c') o o'' state after first next text'
+  think_moved {s'' = s''} {k'' = k''} after o'' next text' kept made wrote spent n =
+      subst (λ (x : Owed). Thought (Moves left taken given count last s s'' k k'' c c') o x state after first next text') (sym spent)
+      (subst (λ (x : State). Thought (Moves left taken given count last s s'' k k'' c c') o o' state x first next text')
+      (sym (made ∙ ap (λ x. (played x best).state) same))
+      (thought_moved state first best text text' why next sought (sym is ∙ kept)
+      (subst (λ (x : State). Appends (taken k') (taken k'') (move_text x best)) same wrote) n))
+
+  pub think_broke : {k'' : K} → dropped ≡ false → AppendsFront (taken k') (taken k'') (move_text now best)
+      → Unthought (Moves left taken given count last s s' k k'' c c') state first
+  think_broke {k'' = k''} kept wrote =
+      unthought_moving state first best text why sought (sym is ∙ kept)
+      (subst (λ (x : State). AppendsFront (taken k') (taken k'') (move_text x best)) same wrote)

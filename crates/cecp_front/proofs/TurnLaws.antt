@@ -1,11 +1,12 @@
 -- How the answer to a line and a thinking make a turn.
-use Rattle.std.proofs.Common.{◌≡◌, ◌∙◌, ℕ, ◌<◌, List, [], ◌∷◌, ◌++◌, length, Option, Some, None, Bool, true, false, ◌&&◌, refl, sym, ap, subst, append_assoc, arith}
+use Rattle.std.proofs.Common.{◌≡◌, ◌∙◌, ℕ, ◌<◌, ◌≤◌, List, [], ◌∷◌, ◌++◌, length, Option, Some, None, Result, Ok, Err, IfOk, OnErr, Bool, true, false, ◌&&◌, ◌⊎◌, inl, inr, refl, sym, ap, subst, append_assoc, arith}
 use Rattle.std.specs.Prelude.{⊤, if◌then◌else◌, is_some, not, nat_lt}
 use Rattle.std.specs.Io.KnownBytes.{Appends}
 use Rattle.std.proofs.lemmas.Bool.{and_parts, ltb-true}
 use Rattle.std.proofs.lemmas.List.{append-nil}
 use Rattle.foundation.specs.Tests.{is_nil}
 use Rattle.io_ports.specs.declared.dialect.Dialect.TheVariants.{Cecp}
+use Rattle.io_ports.specs.Cause.{Rose}
 use Rattle.io_ports.specs.Files.{Contents}
 use Rattle.io_ports.specs.Lines.{Line}
 use Rattle.io_ports.specs.Owing.{Lacks, Spends}
@@ -13,19 +14,21 @@ use Rattle.io_ports.specs.Sink.{AppendsFront}
 use Rattle.io_ports.specs.Source.{Owed, Takes, got_lines}
 use Rattle.io_ports.specs.Trace.{Moves}
 use Rattle.io_ports.specs.declared.source.Got.{Got}
-use Rattle.io_ports.proofs.Moved.{moves_at, moves_more, moves_sink, moves_source}
+use Rattle.io_ports.specs.declared.source.Got.TheVariants as got
+use Rattle.io_ports.proofs.Moved.{appends_none, moves_at, moves_more, moves_sink, moves_source}
 use Rattle.io_ports.proofs.Owing.{spends_none}
 use Rattle.rules_model.specs.declared.moves.Move.{Move}
 use Rattle.game_play.specs.Played.{legal_in}
 use Rattle.game_text.specs.Playing.{most_plies}
 use Rattle.watching.specs.EventLaws.{written-append}
 use Rattle.watching.specs.Events.{Event, Says, lines_of, opened, readings, written}
+use Rattle.session_model.specs.CecpLines.{command_of}
 use Rattle.session_model.specs.CecpSession.{Answers, Posts, Thinks, ThinksFrom, answer_of, bound_from, bound_of, cecp, depth_for, lowered, saying, task_of, time_for}
 use Rattle.session_model.specs.CecpState.{State, is_turn, played, thinks}
 use Rattle.session_model.specs.Events.{clocked}
 use Rattle.session_model.specs.Mates.{mover}
 use Rattle.session_model.specs.Thinking.{Interrupted, InSearch}
-use Rattle.turning.specs.Lines.{MayFollow, none}
+use Rattle.turning.specs.Lines.{HasLine, MayFollow, got_line, none}
 use Rattle.turning.specs.Turned.{Further, Served, Unserved, turn_of}
 use Rattle.cecp_front.specs.Reading.{NoReads}
 use Rattle.cecp_front.specs.Thought.{IsFirst, Thought, Unthought, move_text}
@@ -262,3 +265,60 @@ module _ {S K C : Type 0} {left : S → Option (List ℕ)} {taken : K → Option
         more = none_further contents;
         answers = thinking_turn ⊤ state line first more (saying answer.text ++ t.events) t.after t.behind thinking is (t.thinks (saying answer.text) line);
       }
+
+-- ---- a line, as the code comes to it
+
+pub rose_later : (a b c : ℕ) → a ≤ b → Rose b c → Rose a c
+rose_later a b c le rose = omega arith
+
+-- nothing of a text was written
+pub front_none : (taken : Option (List ℕ)) (text : List ℕ) → AppendsFront taken taken text
+front_none taken text = record { front = []; back = text; whole = refl; took = appends_none taken }
+
+-- what is no line ends no session
+pub long_goes_on : (next : Got) (text : List ℕ) → (next ≡ got.TooLong) ⊎ ((next ≡ got.End) ⊎ (next ≡ got.Failed))
+    → false ≡ cecp.quits (got_line next text)
+unfolding command_of
+long_goes_on next text is = elim is [
+  | inl long ↦ ap (λ n. cecp.quits (got_line n text)) (sym long)
+  | inr other ↦ elim other [
+    | inl end ↦ ap (λ n. cecp.quits (got_line n text)) (sym end)
+    | inr failed ↦ ap (λ n. cecp.quits (got_line n text)) (sym failed)
+  ]
+]
+
+pub is_line : (next : Got) → (next ≡ got.Line) ⊎ (next ≡ got.TooLong) → HasLine next
+is_line next (inl line) = subst HasLine (sym line) tt
+is_line next (inr long) = subst HasLine (sym long) tt
+
+module _ {S K C : Type 0} (left : S → Option (List ℕ)) (taken : K → Option (List ℕ)) (given : C → Option (List ℕ)) (count last : C → ℕ)
+    (s s' : S) (k k' : K) (c : C) (o o' : Owed) (state st : State) (line : Line) (told : st ≡ (answer_of state line).state)
+    (wrote : Appends (taken k) (taken k') (answer_of state line).text) (b : Bool) (is : b ≡ thinks st) where
+  pub line_silent : b ≡ false → (next : Got) (text : List ℕ) → Takes (left s) (left s') (got_lines next text) → o' ≡ o
+      → Served cecp (Moves left taken given count last s s' k k' c c) NoReads o o' state st line next text
+  line_silent quiet next text takes same =
+      subst (λ (x : State). Served cecp (Moves left taken given count last s s' k k' c c) NoReads o o' state x line next text) (sym told)
+      (served_silent state line c o o' next text (ap thinks (sym told) ∙ sym is ∙ quiet) wrote takes same)
+
+  module _ (k'' : K) (c' : C) (thinking : b ≡ true) where
+    thinks_here : thinks (answer_of state line).state ≡ true
+    thinks_here = ap thinks (sym told) ∙ sym is ∙ thinking
+
+    pub line_thought : {E : Type 0} (after : State) (text : List ℕ) (r : Result Got E)
+        → IfOk r (λ next. (first : Move) → IsFirst st first
+        → Thought (Moves left taken given count last s s' k' k'' c c') o o' st after first next text)
+        → IfOk r (λ next. Served cecp (Moves left taken given count last s s' k k'' c c') NoReads o o' state after line next text)
+    line_thought after text (Err why) h = tt
+    line_thought after text (Ok next) h =
+        let some = has_first (answer_of state line).state thinks_here in
+        served_thought state line after some.0 next text thinks_here some.1 wrote
+        (subst (λ (x : State). (first : Move) → IsFirst x first → Thought (Moves left taken given count last s s' k' k'' c c') o o' x after first next text) told h some.0 some.1)
+
+    pub line_unthought : {A E : Type 0} (contents : Option Contents) (r : Result A E)
+        → OnErr r ((first : Move) → IsFirst st first → Unthought (Moves left taken given count last s s' k' k'' c c') st first)
+        → OnErr r (Unserved cecp (Moves left taken given count last s s' k k'' c c') NoReads contents state line)
+    line_unthought contents (Ok x) h = tt
+    line_unthought contents (Err why) h =
+        let some = has_first (answer_of state line).state thinks_here in
+        unserved_thought state line contents some.0 thinks_here some.1 wrote
+        (subst (λ (x : State). (first : Move) → IsFirst x first → Unthought (Moves left taken given count last s s' k' k'' c c') x first) told h some.0 some.1)

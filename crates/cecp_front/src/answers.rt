@@ -9,7 +9,7 @@ ghost use Rattle.session_model.specs.CecpLines as CecpLines;
 ghost use Rattle.session_model.specs.CecpSession.{answer_of};
 ghost use Rattle.session_model.specs.CecpState as CecpState;
 ghost use Rattle.session_model.specs.Mates.{mover};
-ghost use Rattle.uci_lines.specs.View.{line_got};
+ghost use Rattle.turning.specs.Lines.{got_line};
 ghost use Rattle.cecp_front.specs.Answers.{answered, begun, is_known};
 
 use crate::session::CecpSession;
@@ -259,7 +259,7 @@ impl CecpSession {
         line: &[u8],
     ) -> Result<Text, Memory>
         ensures { IfOk result (λ text. answered self.new text
-            ≡ answer_of self.old (line_got next line.now)) }
+            ≡ answer_of self.old (got_line next line.now)) }
     {
         match next {
             Got::Line => {

@@ -10,9 +10,10 @@ use Rattle.io_ports.specs.Lines.{Text}
 use Rattle.game_text.specs.Playing.{words_of}
 use Rattle.session_model.specs.CecpLines.{Command, are_numbers, by_number, command_in, command_named, command_of, gives_up, level_by, level_of, ping_of}
 use Rattle.session_model.specs.CecpLines as CecpLines
+use Rattle.session_model.specs.CecpSession.{is_quit}
 use Rattle.session_model.specs.Numbers.{number_read}
 use Rattle.session_model.specs.UciWords.{Word, first_word}
-use Rattle.cecp_lines.specs.View.{command_by, verb_gives_up}
+use Rattle.cecp_lines.specs.View.{command_by, verb_gives_up, verb_quits}
 use Rattle.cecp_lines.specs.declared.verb.Verb.{Verb}
 use Rattle.cecp_lines.specs.declared.verb.Verb.TheVariants as verb
 
@@ -61,6 +62,52 @@ given_up verb.Time words = sym (number_stays (number_read (first_word words)) _ 
 given_up verb.OpponentTime words = sym (number_stays (number_read (first_word words)) _ (λ n. refl))
 given_up verb.Quit words = refl
 given_up verb.Unknown words = refl
+
+-- ---- the end of a session
+
+number_goes_on : (number : Option ℕ) (make : ℕ → Command) → ((n : ℕ) → is_quit (make n) ≡ false) → is_quit (by_number number make) ≡ false
+number_goes_on None make h = refl
+number_goes_on (Some n) make h = h n
+
+level_goes_on : (moves : Option ℕ) (base : Bool) (increment : Option ℕ) → is_quit (level_by moves base increment) ≡ false
+level_goes_on None base increment = refl
+level_goes_on (Some moves) true (Some increment) = refl
+level_goes_on (Some moves) true None = refl
+level_goes_on (Some moves) false increment = refl
+
+levels_go_on : (words : List Word) → is_quit (level_of words) ≡ false
+levels_go_on [] = refl
+levels_go_on (moves ∷ []) = refl
+levels_go_on (moves ∷ base ∷ []) = refl
+levels_go_on (moves ∷ base ∷ increment ∷ more) = level_goes_on (number_read moves) (CecpLines.is_base base) (number_read increment)
+
+ping_goes_on : (b : Bool) (word : Word) → is_quit (if b then CecpLines.Ping word else CecpLines.BadNumber) ≡ false
+ping_goes_on true word = refl
+ping_goes_on false word = refl
+
+-- what ends a session goes by the verb alone
+pub ended_by : (v : Verb) (words : List Word) → verb_quits v ≡ is_quit (command_by v words)
+ended_by verb.Idle words = refl
+ended_by verb.Protover words = sym (number_goes_on (number_read (first_word words)) _ (λ n. refl))
+ended_by verb.New words = refl
+ended_by verb.Variant words = refl
+ended_by verb.Force words = refl
+ended_by verb.Go words = refl
+ended_by verb.PlayOther words = refl
+ended_by verb.UserMove words = refl
+ended_by verb.SetBoard words = refl
+ended_by verb.Ping words = sym (ping_goes_on _ (first_word words))
+ended_by verb.Undo words = refl
+ended_by verb.Remove words = refl
+ended_by verb.Post words = refl
+ended_by verb.NoPost words = refl
+ended_by verb.St words = sym (number_goes_on (number_read (first_word words)) _ (λ n. refl))
+ended_by verb.Sd words = sym (number_goes_on (number_read (first_word words)) _ (λ n. refl))
+ended_by verb.Level words = sym (levels_go_on words)
+ended_by verb.Time words = sym (number_goes_on (number_read (first_word words)) _ (λ n. refl))
+ended_by verb.OpponentTime words = sym (number_goes_on (number_read (first_word words)) _ (λ n. refl))
+ended_by verb.Quit words = refl
+ended_by verb.Unknown words = refl
 
 -- ---- bases
 

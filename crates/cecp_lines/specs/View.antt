@@ -94,3 +94,27 @@ verb_gives_up verb.Time = false
 verb_gives_up verb.OpponentTime = false
 verb_gives_up verb.Quit = true
 verb_gives_up verb.Unknown = false
+
+-- such a line ends a session
+abbrev pub verb_quits : Verb → Bool
+verb_quits verb.Idle = false
+verb_quits verb.Protover = false
+verb_quits verb.New = false
+verb_quits verb.Variant = false
+verb_quits verb.Force = false
+verb_quits verb.Go = false
+verb_quits verb.PlayOther = false
+verb_quits verb.UserMove = false
+verb_quits verb.SetBoard = false
+verb_quits verb.Ping = false
+verb_quits verb.Undo = false
+verb_quits verb.Remove = false
+verb_quits verb.Post = false
+verb_quits verb.NoPost = false
+verb_quits verb.St = false
+verb_quits verb.Sd = false
+verb_quits verb.Level = false
+verb_quits verb.Time = false
+verb_quits verb.OpponentTime = false
+verb_quits verb.Quit = true
+verb_quits verb.Unknown = false

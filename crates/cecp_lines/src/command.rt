@@ -3,6 +3,7 @@ ghost use Rattle.std.specs.Prelude.{◌≡◌, IfOk};
 ghost use Rattle.io_ports.specs.Lines.{Text as TextLine};
 ghost use Rattle.game_text.specs.Playing.{words_of};
 ghost use Rattle.session_model.specs.CecpLines as CecpLines;
+ghost use Rattle.session_model.specs.CecpSession.{is_quit};
 ghost use Rattle.cecp_lines.specs.View.{command_by, command_seen, verb_gives_up};
 ghost use Rattle.uci_lines.specs.View.{line_got, texts};
 
@@ -144,6 +145,17 @@ pub fn gives_up(line: &[u8]) -> bool
 {
     match find_word(line) {
         Some((word, _)) => read_verb(word).gives_up(),
+        None => false,
+    }
+}
+
+/// Whether the line ends a session.
+#[tactic(auto, unfolding(session_model::specs::CecpLines::command_of))]
+pub fn quits(line: &[u8]) -> bool
+    ensures { result ≡ is_quit (CecpLines.command_of (TextLine line.now)) }
+{
+    match find_word(line) {
+        Some((word, _)) => read_verb(word).quits(),
         None => false,
     }
 }

@@ -6,7 +6,7 @@ mod limits;
 mod verb;
 mod words;
 
-pub use command::{Command, Limit, gives_up, read_line};
+pub use command::{Command, Limit, gives_up, quits, read_line};
 pub use limits::{depth_for, time_for};
 
 #[cfg(test)]

@@ -2,7 +2,7 @@
 ghost use Rattle.std.specs.Prelude.{◌≡◌, List};
 ghost use Rattle.session_model.specs.CecpLines as CecpLines;
 ghost use Rattle.session_model.specs.UciWords.{Word};
-ghost use Rattle.cecp_lines.specs.View.{command_by, limit_named, verb_gives_up};
+ghost use Rattle.cecp_lines.specs.View.{command_by, limit_named, verb_gives_up, verb_quits};
 
 /// What the first word of a line asks.
 #[derive(Clone, Copy, Debug, PartialEq, Eq)]
@@ -46,6 +46,13 @@ impl Verb {
                 | Verb::Undo
                 | Verb::Remove
         )
+    }
+
+    /// Whether the line of this verb ends a session.
+    pub(crate) fn quits(self) -> bool
+        ensures { result ≡ verb_quits self }
+    {
+        matches!(self, Verb::Quit)
     }
 }
 

@@ -40,7 +40,7 @@ use Rattle.uci_front.specs.declared.plan.Plan.{Plan}
 use Rattle.uci_front.specs.declared.searching.Came.{Came}
 use Rattle.uci_front.specs.Going.{BrokeGoing, Completes, Gone, last_line}
 use Rattle.uci_front.specs.PlanView.{IsPlan, SaidAtOnce, SaidBy}
-use Rattle.uci_front.specs.SessionView.{kept_seen}
+use Rattle.thinking.specs.Views.{kept_seen}
 use Rattle.uci_front.proofs.Unanswered.{unserved_quiet}
 
 -- ---- the line
@@ -66,6 +66,7 @@ said_goes A state plan asked text turn following is said after events =
   where
     just : (t : List ℕ) → ◌≡◌ {A = Option (List ℕ)} (Some text) (Some t) → IsPlain turn (forgotten state) (Says t ∷ [])
     just t h = let same : text ≡ t = cc in record { after_is = after; events_are = events ∙ ap (λ t. Says t ∷ []) same }
+
     by_plan : (perft : Option ℕ) (legal : List Move) (holds : Bool) → perft ≡ asked.perft → legal ≡ legal_in state.game
         → holds ≡ is_held asked (mover state.game) → SaidBy state.game perft legal holds (Some text)
         → Goes A state asked turn following
@@ -211,10 +212,10 @@ module _ {moved : Moved} {owed owed' : Owed} (state after : State) (plan : Plan)
   served_told {next = next} {text' = text'} ran after_is stopped follows spends =
       served_ran uci (λ reads. reads ≡ []) ran (told_shut owed state plan came text)
       (λ events told following may.
-          subst (λ n. uci.answers (Lacks owed n) state (turn_of line events after) (got_lines next text' ++ following)) (sym (go_is state line asked asks))
-          (as_go (Lacks owed (go_bound state asked)) state after line asked events (got_lines next text' ++ following) asks
-          (told_goes owed state plan came text asked after line events (got_lines next text' ++ following) is after_is told
-          (stopped following may) (follows following may))))
+      subst (λ n. uci.answers (Lacks owed n) state (turn_of line events after) (got_lines next text' ++ following)) (sym (go_is state line asked asks))
+      (as_go (Lacks owed (go_bound state asked)) state after line asked events (got_lines next text' ++ following) asks
+      (told_goes owed state plan came text asked after line events (got_lines next text' ++ following) is after_is told
+      (stopped following may) (follows following may))))
       (subst (λ n. Spends owed owed' n) (sym (go_is state line asked asks)) spends)
 
 module _ {moved : Moved} {owed : Owed} (state : State) (plan : Plan) (came : Came) (text : List ℕ)
@@ -226,9 +227,9 @@ module _ {moved : Moved} {owed : Owed} (state : State) (plan : Plan) (came : Cam
   unserved_told contents {behind = behind} part single stopped follows =
       unserved_part uci (λ reads. reads ≡ []) (announced state (kept_seen came.kept)) part single refl (told_shut owed state plan came text)
       (λ events told.
-          uci_is_wider (Lacks owed (go_bound state asked)) (Unit {0}) (λ few. tt) state (turn_of line events (announced state (kept_seen came.kept))) behind
-          (as_go (Lacks owed (go_bound state asked)) state (announced state (kept_seen came.kept)) line asked events behind asks
-          (told_goes owed state plan came text asked (announced state (kept_seen came.kept)) line events behind is refl told stopped follows)))
+      uci_is_wider (Lacks owed (go_bound state asked)) (Unit {0}) (λ few. tt) state (turn_of line events (announced state (kept_seen came.kept))) behind
+      (as_go (Lacks owed (go_bound state asked)) state (announced state (kept_seen came.kept)) line asked events behind asks
+      (told_goes owed state plan came text asked (announced state (kept_seen came.kept)) line events behind is refl told stopped follows)))
       (further_none contents)
 
 -- a search that broke off, with its best move
@@ -240,10 +241,10 @@ unfolding turn_of
 unserved_broke state plan line asked contents asks is b part =
     unserved_part uci (λ reads. reads ≡ []) (announced state b.kept) part b.is_held refl
     (λ events told.
-        ap opened told.1 ∙ flat_map-append opened_at told.0 (Says (last_line b.best) ∷ []) ∙ append-nil (opened told.0) ∙ unstopped_shut told.0 told.2.unstopped)
+    ap opened told.1 ∙ flat_map-append opened_at told.0 (Says (last_line b.best) ∷ []) ∙ append-nil (opened told.0) ∙ unstopped_shut told.0 told.2.unstopped)
     (λ events told.
-        as_go (Unit {0}) state (announced state b.kept) line asked events b.behind asks
-        (told.2.answers asked is (record { line = line; events = events; after = announced state b.kept }) told.1 refl))
+    as_go (Unit {0}) state (announced state b.kept) line asked events b.behind asks
+    (told.2.answers asked is (record { line = line; events = events; after = announced state b.kept }) told.1 refl))
     (further_none contents)
 
 -- ---- what is said at once

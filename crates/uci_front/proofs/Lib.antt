@@ -6,3 +6,6 @@ mod PlanLemmas
 mod Unanswered
 mod GoLemmas
 mod AnswerLemmas
+mod SearchLemmas
+mod ThinkLemmas
+mod MateLemmas

@@ -5,10 +5,14 @@ use Rattle.std.specs.List.{filter, flat_map}
 use Rattle.std.specs.Fmt.{decimal}
 use Rattle.std.proofs.lemmas.List.{append-nil, take_all}
 use Rattle.game_play.specs.Played.{Played}
+use Rattle.rules_model.specs.declared.moves.Move.{Move}
+use Rattle.rules_model.specs.MoveText.{text_of}
+use Rattle.session_model.specs.Thinking.{Mates}
+use Rattle.strategy.specs.declared.nodes.Strategy.{Strategy}
 use Rattle.game_reports.specs.GameTexts.{perft_of}
 use Rattle.variant_ini.specs.Section.{Section}
 use Rattle.variant_rules.specs.Entries.{Named, entries, is_accepted}
-use Rattle.session_model.specs.UciTexts.{perft_line, uci_text, variant_choice}
+use Rattle.session_model.specs.UciTexts.{depth_line, perft_line, uci_text, variant_choice}
 use Rattle.uci_front.specs.TextView.{choice_at, choice_of, introduction}
 
 choices-more : (variants : List Named) (place : ℕ) → place < length variants
@@ -66,3 +70,15 @@ perft_said plies g first count whole one two three =
     ∙ append_assoc (codes "info string perft ") (decimal plies ++ codes " ") count
     ∙ ap (λ t. codes "info string perft " ++ t) (append_assoc (decimal plies) (codes " ") count)
     ∙ ap (λ t. codes "info string perft " ++ (decimal plies ++ (codes " " ++ t))) two
+
+regrouped : (a d b b' n p t l : List ℕ)
+    → ((a ++ (d ++ ((b ++ b') ++ (n ++ p)))) ++ t) ++ l ≡ a ++ (d ++ (b ++ ((b' ++ n) ++ (p ++ (t ++ l)))))
+regrouped a d b b' n p t l = simp append_assoc
+
+-- the line of a mate
+pub mate_said : (d n : ℕ) (s : Strategy) (best : Move) (first text second whole : List ℕ)
+    → first ≡ codes "info depth " ++ (decimal d ++ (codes " score mate " ++ (decimal n ++ codes " pv "))) → text ≡ text_of best
+    → second ≡ first ++ text → whole ≡ second ++ codes "\n" → whole ≡ depth_line d (Mates n s) best
+mate_said d n s best first text second whole one two three four =
+    four ∙ ap (λ t. t ++ codes "\n") (three ∙ ap (λ f. f ++ text) one ∙ ap (λ t. (codes "info depth " ++ (decimal d ++ (codes " score mate " ++ (decimal n ++ codes " pv ")))) ++ t) two)
+    ∙ regrouped (codes "info depth ") (decimal d) (codes " score ") (codes "mate ") (decimal n) (codes " pv ") (text_of best) (codes "\n")

@@ -10,7 +10,6 @@ use Rattle.session_model.proofs.Joined.{quiet_output}
 use Rattle.session_model.specs.Laws.{HasOutput}
 use Rattle.session_model.specs.Turns.{Protocol, Turn, Turns, IsOver, Session, lines_in, reads_in, readings_in}
 use Rattle.io_ports.proofs.Moved.{moves_at, moves_none}
-
 use Rattle.turning.specs.Lines.{none}
 use Rattle.turning.specs.Turned.{Further, Unserved, turn_of}
 
@@ -47,15 +46,19 @@ module _ {S : Type 0} (p : Protocol S) where
     where
       allowed : Turns p Untold 0 state (turn ∷ []) session.rest
       allowed = subst (λ turns. Turns p Untold 0 state turns session.rest) (sym are) session.allowed
+
       unread : readings turn.events ≡ []
       unread = sym (append-nil (readings turn.events)) ∙ sym (session.readings_are ∙ ap readings_in (sym are))
+
       reads_are : reads ≡ opened turn.events
       reads_are = session.reads_are ∙ ap reads_in (sym are) ∙ append-nil (opened turn.events)
+
       more : Further contents (opened turn.events)
       more = record {
         found = subst (λ reads. Finds contents reads) reads_are session.found;
         works = ap faults_in (sym reads_are) ∙ faultless;
       }
+
       by_rest : (heard : List Line) → heard ≡ lines_of turn.events → (rest : List Line) → rest ≡ session.rest
           → line ∷ [] ≡ ((turn.line ∷ heard) ++ []) ++ rest → Quiet contents state line
       by_rest [] unheard [] ended is =

@@ -21,13 +21,14 @@ use Rattle.session_model.specs.UciLines.{command_of}
 use Rattle.session_model.specs.UciSession.{Goes, announced, go_bound, uci}
 use Rattle.session_model.specs.UciState.{State}
 use Rattle.session_model.specs.UciTexts.{best_line, no_best_line}
+use Rattle.thinking.specs.Views.{kept_seen}
 use Rattle.turning.specs.Lines.{Follows, Held}
 use Rattle.turning.specs.Turned.{RanPart}
 use Rattle.turning.specs.Turned.{Served, Unserved}
 use Rattle.uci_front.specs.declared.plan.Plan.{Plan}
 use Rattle.uci_front.specs.declared.searching.Came.{Came}
 use Rattle.uci_front.specs.PlanView.{IsPlan}
-use Rattle.uci_front.specs.SessionView.{IsPrintable, kept_seen}
+use Rattle.uci_front.specs.SessionView.{IsPrintable}
 
 -- ---- an answer to `go`
 

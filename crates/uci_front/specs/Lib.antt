@@ -4,3 +4,4 @@ pub mod Outcomes
 pub mod Plain
 pub mod PlanView
 pub mod Going
+pub mod Trying

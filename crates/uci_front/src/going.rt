@@ -5,7 +5,7 @@ ghost use Rattle.io_ports.specs.Cause.{Rose};
 ghost use Rattle.io_ports.specs.Trace.{Moves};
 ghost use Rattle.turning.specs.Lines.{Causes};
 ghost use Rattle.uci_front.specs.Going.{ServesGo, UnservesGo};
-ghost use Rattle.uci_front.specs.PlanView.{ArePlies, SaidAtOnce};
+ghost use Rattle.uci_front.specs.PlanView.{ArePlies, IsAsked, SaidAtOnce};
 
 use crate::plan::Plan;
 use crate::searching::{Came, search};
@@ -47,6 +47,7 @@ fn go_on<R: Threads + Wait + Sync, S: Source, K: Sink, C: Clock, G: Gate + Sync>
     gate: &G,
     line: &mut LineBuf,
 ) -> Result<Got, SearchFault>
+    requires asked { IsAsked session.old plan.now }
     requires perft { plan.now.perft ≡ None }
     requires held { plan.now.legal ≡ [] → plan.now.holds ≡ true }
     ensures served { IfOk result (λ next. ServesGo
@@ -86,7 +87,7 @@ pub(crate) fn answer_go<R: Threads + Wait + Sync, S: Source, K: Sink, C: Clock, 
     gate: &G,
     line: &mut LineBuf,
 ) -> Result<Got, SearchFault>
-    requires { ArePlies plan.now.perft }
+    requires { IsAsked session.old plan.now }
     ensures served { IfOk result (λ next. ServesGo
         (Moves S.left K.taken C.given C.count C.last source.old source.new sink.old sink.new clock.old clock.new)
         (S.owed source.old) (S.owed source.new) session.old session.new plan.now next line.new) }

@@ -14,5 +14,5 @@ mod telling;
 mod texts;
 
 pub use serving::serve;
-pub use session::{Kept, UciSession};
+pub use session::UciSession;
 pub use turning::Ended;

@@ -88,22 +88,22 @@ where
     F: Files,
     ensures spoke { OnOk result (Spoke uci
         (Moves S.left K.taken C.given C.count C.last
-            ports.entry.now.source.now ports.exit.now.source.now
-            ports.entry.now.sink.now ports.exit.now.sink.now
-            ports.entry.now.clock.now ports.exit.now.clock.now)
+        ports.entry.now.source.now ports.exit.now.source.now
+        ports.entry.now.sink.now ports.exit.now.sink.now
+        ports.entry.now.clock.now ports.exit.now.clock.now)
         (Reads F.contents F.faults files.old files.new)
         (S.owed ports.entry.now.source.now) (F.contents files.old) (S.left ports.entry.now.source.now) session.old) }
     ensures part { OnErr result (SpokePart uci
         (Moves S.left K.taken C.given C.count C.last
-            ports.entry.now.source.now ports.exit.now.source.now
-            ports.entry.now.sink.now ports.exit.now.sink.now
-            ports.entry.now.clock.now ports.exit.now.clock.now)
+        ports.entry.now.source.now ports.exit.now.source.now
+        ports.entry.now.sink.now ports.exit.now.sink.now
+        ports.entry.now.clock.now ports.exit.now.clock.now)
         (Reads F.contents F.faults files.old files.new) (F.contents files.old) session.old) }
     ensures quit { result ≡ Ok Ended.Quit → TookQuit uci
         (Moves S.left K.taken C.given C.count C.last
-            ports.entry.now.source.now ports.exit.now.source.now
-            ports.entry.now.sink.now ports.exit.now.sink.now
-            ports.entry.now.clock.now ports.exit.now.clock.now) }
+        ports.entry.now.source.now ports.exit.now.source.now
+        ports.entry.now.sink.now ports.exit.now.sink.now
+        ports.entry.now.clock.now ports.exit.now.clock.now) }
     ensures end { result ≡ Ok Ended.InputEnded → IsAtEnd (S.left ports.exit.now.source.now) }
     ensures causes { Causes (S.faults ports.entry.now.source.now) (S.faults ports.exit.now.source.now)
         (K.faults ports.entry.now.sink.now) (K.faults ports.exit.now.sink.now) (IsErrOf result) }

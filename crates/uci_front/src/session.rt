@@ -9,7 +9,8 @@ ghost use Rattle.session_model.specs.UciTexts as UciTexts;
 ghost use Rattle.uci_lines.specs.SettingView.{placing_seen, setting_seen};
 ghost use Rattle.uci_front.specs.Outcomes.{IsNumber, IsOutcome, Starts};
 ghost use Rattle.session_model.specs.UciSession.{announced, forgotten};
-ghost use Rattle.uci_front.specs.SessionView.{BeginsBuiltIn, IsPrintable, kept_seen};
+ghost use Rattle.thinking.specs.Views.{kept_seen};
+ghost use Rattle.uci_front.specs.SessionView.{BeginsBuiltIn, IsPrintable};
 
 use crate::moves::placed;
 use crate::refusal::{Refusal, bad_value, refused_variant, unknown_variant};
@@ -20,18 +21,10 @@ use proof_text::write_proof;
 use seeking::Mind;
 use std::alloc::Global;
 use std::marker::Model;
-use strategy::Strategy;
+use thinking::Kept;
 use uci_lines::{Placing, Setting, number};
 use variant_ini::Sections;
 use variant_rules::{Found, Variants, builtin, load};
-
-/// A mate that was announced.
-#[derive(Drop)]
-pub struct Kept {
-    pub strategy: Strategy,
-    /// Within how many moves of its side.
-    pub moves: u16,
-}
 
 /// What a UCI session keeps between lines: sections and their variants, the place of the variant that is set, the game,
 /// the options with what searches remember, and the mate that was announced last.
@@ -40,8 +33,8 @@ pub struct UciSession {
     sections: Sections,
     variants: Variants,
     place: usize,
-    game: Game,
-    mind: Mind,
+    pub(crate) game: Game,
+    pub(crate) mind: Mind,
     kept: Option<Kept>,
 }
 
@@ -197,9 +190,7 @@ impl UciSession {
                 Ok(())
             }
             Setting::VariantPath(_) => self.load(alloc, builtin(alloc)?),
-            Setting::Variant(value) => {
-                self.set_variant(alloc, bytes_of(value).unwrap_or(b""))
-            }
+            Setting::Variant(value) => { self.set_variant(alloc, bytes_of(value).unwrap_or(b"")) }
             Setting::Unknown => Ok(()),
         }
     }

@@ -1,7 +1,9 @@
 //! The lines that a UCI session writes.
-ghost use Rattle.std.specs.Prelude.{◌≡◌, ◌≤◌, ◌<◌, ◌++◌, IfOk, List, OnOk, length};
+ghost use Rattle.std.specs.Prelude.{◌≡◌, ◌≤◌, ◌<◌, ◌-◌, ◌*◌, ◌++◌, IfOk, List, OnOk, length};
 ghost use Rattle.std.specs.List.{filter, flat_map};
+ghost use Rattle.session_model.specs.Thinking.{Mates};
 ghost use Rattle.session_model.specs.UciTexts as UciTexts;
+ghost use Rattle.strategy.specs.declared.nodes.Strategy.{Strategy};
 ghost use Rattle.session_model.specs.UciTexts.{variant_choice};
 ghost use Rattle.variant_ini.specs.Section.{Section};
 ghost use Rattle.variant_rules.specs.Entries.{entries, is_accepted};
@@ -28,6 +30,9 @@ const INTRODUCTION: &[u8] = b"\
 
 /// What `isready` answers.
 pub(crate) const READY: &[u8] = b"readyok\n";
+
+/// Where a solve of `go mate` was cut.
+pub(crate) const STOPPED: &[u8] = b"info string stopped\n";
 
 /// Where no mate was announced.
 pub(crate) const NO_STRATEGY: &[u8] = b"info string no strategy\n";
@@ -93,6 +98,20 @@ pub fn perft_line(alloc: Global, plies: u8, game: &Game) -> Result<Text, Memory>
     let count = perft_of(alloc, plies, game)?;
     let mut items = format!(in alloc; "info string perft {plies} ")?.into_bytes();
     items.extend_from_slice(count.items.as_slice())?;
+    Ok(Text { items })
+}
+
+/// That the mover mates within this number of moves, with this move first.
+pub fn mate_line(alloc: Global, moves: u16, best: &Move) -> Result<Text, Memory>
+    requires some { 1 ≤ moves }
+    requires few { moves ≤ 100 }
+    ensures { (s : Strategy) → IfOk result
+        (λ text. text ≡ UciTexts.depth_line (2 * moves - 1) (Mates moves s) best.now) }
+{
+    let depth = 2 * moves - 1;
+    let mut items = format!(in alloc; "info depth {depth} score mate {moves} pv ")?.into_bytes();
+    items.extend_from_slice(write_move(best).items.as_slice())?;
+    items.extend_from_slice(b"\n")?;
     Ok(Text { items })
 }
 

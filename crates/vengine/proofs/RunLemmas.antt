@@ -1,12 +1,9 @@
 -- What a run has done.
-use Rattle.std.proofs.Common.{◌≡◌, ℕ, zero, suc, ◌+◌, ◌<◌, ◌≤◌, Bool, true, false, List, [], ◌++◌, length, inl, inr, refl, sym, ap, subst, ◌∙◌, Option, Some, None, Ok, Err, IfOk, IsErr, ◌⊎◌, ◌↔◌, IsNone, arith, is_some}
+use Rattle.std.proofs.Common.{◌≡◌, ℕ, zero, suc, ◌<◌, ◌≤◌, Bool, true, false, List, [], ◌++◌, length, inl, inr, refl, sym, subst, ◌∙◌, Option, Some, None, Ok, Err, IfOk, IsErr, ◌⊎◌, ◌↔◌, IsNone, arith}
 use Rattle.std.proofs.lemmas.Bool.{false≢true}
 use Rattle.std.proofs.lemmas.List.{append-nil}
-use Rattle.std.specs.Prelude.{if◌then◌else◌}
 use Rattle.std.specs.declared.result.Result.{Result}
 use Rattle.std.specs.Io.KnownBytes.{Appends}
-use Rattle.io_ports.specs.declared.dialect.Dialect.{Dialect}
-use Rattle.io_ports.specs.declared.dialect.Dialect.TheVariants as dialect
 use Rattle.io_ports.specs.Cause.{Rose, RoseBy}
 use Rattle.io_ports.specs.Files.{Contents, Finds, Read}
 use Rattle.io_ports.specs.Lines.{Line}
@@ -33,7 +30,7 @@ use Rattle.turning.specs.Spoken.{Decide, IsInput}
 use Rattle.turning.specs.Turned.{Further}
 use Rattle.variant_files.specs.Looked.{Looked}
 use Rattle.vengine.specs.Looked.{TellsReads}
-use Rattle.vengine.specs.Run.{BeginsSession, Completes, CompletesSession, Did, FilesFailed, HasFileCause, IsCut, IsDone, May, PartBy, PartOf, ShotPart, TellsInput}
+use Rattle.vengine.specs.Run.{Completes, Did, FilesFailed, HasFileCause, IsCut, IsDone, May, PartBy, PartOf, ShotPart, TellsInput}
 use Rattle.vengine.specs.Sessions.{is_session, to_do}
 use Rattle.vengine.specs.Shot.{Shot, Says, SaysCommand}
 use Rattle.vengine.specs.StopView.{IsUnread, IsUnsaid}

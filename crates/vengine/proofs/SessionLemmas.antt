@@ -1,5 +1,5 @@
 -- What a run leaves whose words ask for a session.
-use Rattle.std.proofs.Common.{◌≡◌, ℕ, ◌+◌, ◌<◌, ◌≤◌, Bool, true, false, List, [], ◌∷◌, ◌++◌, append_assoc, length, inl, inr, ◌⊎◌, ◌↔◌, refl, sym, ap, subst, ◌∙◌, Option, Some, None, Ok, Err, IsErrOf, IsNone, is_some, option_map, arith}
+use Rattle.std.proofs.Common.{◌≡◌, ℕ, ◌+◌, ◌≤◌, true, List, [], ◌∷◌, ◌++◌, append_assoc, length, inl, inr, refl, sym, ap, subst, ◌∙◌, Option, Some, None, Ok, Err, is_some, arith}
 use Rattle.std.proofs.lemmas.Bool.{false≢true}
 use Rattle.std.proofs.lemmas.List.{append-nil}
 use Rattle.std.specs.Prelude.{IsSomeAnd, ⊤}
@@ -9,26 +9,23 @@ use Rattle.io_ports.specs.declared.dialect.Dialect.{Dialect}
 use Rattle.io_ports.specs.declared.dialect.Dialect.TheVariants as dialect
 use Rattle.io_ports.specs.declared.limits.SearchFault.{SearchFault}
 use Rattle.io_ports.specs.declared.limits.SearchFault.TheVariants as fault
-use Rattle.io_ports.specs.Cause.{Rose}
 use Rattle.io_ports.specs.Files.{Contents, Found, Finds, Read}
 use Rattle.io_ports.specs.Files as found
 use Rattle.io_ports.specs.Lines.{Line}
 use Rattle.io_ports.specs.Sink.{AppendsFront}
 use Rattle.io_ports.specs.Source.{Owed, Untold}
 use Rattle.io_ports.specs.Trace.{Moves, Reads, faults_in}
-use Rattle.io_ports.proofs.Asked.{reads_more, reads_none}
+use Rattle.io_ports.proofs.Asked.{reads_more}
 use Rattle.io_ports.proofs.Moved.{appends_none, takes_none}
 use Rattle.session_model.specs.CecpSession.{cecp}
 use Rattle.session_model.specs.CecpState as CecpState
-use Rattle.session_model.specs.Laws.{SessionsBegin}
 use Rattle.session_model.specs.Speaks.{SessionFrom, Speaks}
 use Rattle.session_model.specs.Turns.{Protocol, Session}
 use Rattle.session_model.specs.Turns as turns
 use Rattle.session_model.specs.UciSession.{uci}
 use Rattle.session_model.specs.UciState as UciState
 use Rattle.session_model.proofs.Variants.{sessions_begin}
-use Rattle.turning.specs.Spoken.{Decide, IsInput, Spoke, SpokePart}
-use Rattle.turning.specs.Turned.{Further}
+use Rattle.turning.specs.Spoken.{Spoke, SpokePart}
 use Rattle.turning.proofs.Ending.{further_none, part_none}
 use Rattle.variant_files.specs.Loading.{found_sections}
 use Rattle.variant_files.specs.Looked.{Looked}
@@ -45,18 +42,18 @@ use Rattle.vengine.specs.declared.halt.Halt.{Halt}
 use Rattle.vengine.specs.declared.opening.Opened.{Opened}
 use Rattle.vengine.specs.declared.stop.Stop.{Stop}
 use Rattle.vengine.specs.declared.stop.Stop.TheVariants as stop
-use Rattle.vengine.specs.Commands.{IsOneShot, asks_file, asks_input, lines_asked, lines_needed}
+use Rattle.vengine.specs.Commands.{IsOneShot, asks_file, lines_asked, lines_needed}
 use Rattle.vengine.specs.Fault.{error_line, fault_status, fault_text}
 use Rattle.vengine.specs.HaltView.{Finishes, Opens, OutcomeOf}
 use Rattle.vengine.specs.Looked.{TellsReads}
 use Rattle.vengine.specs.Run as run
 use Rattle.vengine.specs.Run.{Completes, CompletesSession, Did, DidPart, FilesFailed, IsCut, IsDone, May, MaySpeak, PartOf}
 use Rattle.vengine.specs.Sessions.{dialect_of, is_session, lines_wanted, to_do}
-use Rattle.vengine.specs.Shot.{Shot, Says}
+use Rattle.vengine.specs.Shot.{Says}
 use Rattle.vengine.specs.Speaking.{BeginsBuiltIn, BrokeFrom, BrokeIn, SpokeFrom, SpokeIn, Talks, ended_status}
 use Rattle.vengine.specs.Variants.{Accepts, AreFirstReads, AreReadsOf, fault_found, fault_in, sections_in}
 use Rattle.vengine.proofs.FileLemmas.{no_further, reads_on, same_reads}
-use Rattle.vengine.proofs.RunLemmas.{decide_so, four, five, seven, may_shot, not_done, part_by, refused_first, refused_says, session_says, some_reads, tells_found}
+use Rattle.vengine.proofs.RunLemmas.{decide_so, four, five, seven, may_shot, part_by, refused_first, refused_says, session_says, some_reads, tells_found}
 use Rattle.vengine.proofs.ShotLemmas.{done_whole, says_done, says_shot, shot_asks, shot_says}
 
 -- ---- the start of a session
@@ -186,7 +183,7 @@ may_spoke owed words contents reads input readings text a d is served spoke =
 module _ {State : Type 0} (p : Protocol State) (start : Option State) (words : List Text) (a : Asked) (d : Dialect) (is : to_do words ≡ Some a) (served : dialect_of a.command ≡ Some d) (first : List Read)
     (accepted : Accepts a.variants first)
     (speaks : (owed : Owed) (contents : Option Contents) (reads : List Read) (input : List Line) (readings output : List ℕ) → SessionFrom State p start owed contents reads input readings output
-        → Speaks d (sections_in a.variants first) a.threads owed contents reads input readings output)
+    → Speaks d (sections_in a.variants first) a.threads owed contents reads input readings output)
     (wanted : (lines : List Line) → lines_wanted d lines ≡ turns.lines_wanted p lines) where
   may_session : (owed : Owed) (contents : Option Contents) (later : List Read) (input : List Line) (readings output : List ℕ) (state : State) → start ≡ Some state → Session State p owed state contents later input readings output
       → May owed words contents (first ++ later) input readings 0 output
@@ -350,7 +347,7 @@ module _ {F : Type 0} {contents : F → Option Contents} {faults : F → ℕ} {f
       let asks : AreFirstReads (Some a) reads = subst (λ (x : Option Asked). AreFirstReads x reads) is (shot_asks words reads input s t shot) in
       let told : asks_file (Some a) ≡ true → TellsReads (contents f) reads = λ named. tells_files (subst (λ (x : Option Asked). asks_file x ≡ true) (sym is) named) in
       let same = same_reads (Some a) (contents f) looked.reads reads accepted.0 asks
-          (λ named. tells_found (contents f) looked.reads reads looked.asks.found (accepted_works a.variants looked.reads accepted) (told named)) told in
+      (λ named. tells_found (contents f) looked.reads reads looked.asks.found (accepted_works a.variants looked.reads accepted) (told named)) told in
       let says : Says (Some a) looked.reads input s t =
       subst (λ (x : List Read). Says (Some a) x input s t) (sym same) (subst (λ (x : Option Asked). Says x reads input s t) is (shot_says words reads input s t shot)) in
       absurd (session_says (sections_in a.variants looked.reads) a.command session_asked input s t (rw accepted.1 at says))
@@ -369,8 +366,8 @@ may_some words contents a d is served reads first = go (fault_in a.variants read
           fault_status why,
           error_line (fault_text why),
           may_shot Untold words contents reads [] (fault_status why) (error_line (fault_text why))
-          (says_shot words reads [] (fault_status why) (error_line (fault_text why)) (subst (λ (x : Option Asked). AreFirstReads x reads) (sym is) first)
-          (subst (λ (x : Option Asked). Says x reads [] (fault_status why) (error_line (fault_text why))) (sym is) says)),
+              (says_shot words reads [] (fault_status why) (error_line (fault_text why)) (subst (λ (x : Option Asked). AreFirstReads x reads) (sym is) first)
+              (subst (λ (x : Option Asked). Says x reads [] (fault_status why) (error_line (fault_text why))) (sym is) says)),
         )
 
 dialect_in : (c : Command) → is_session c ≡ true → (d : Dialect) × (dialect_of c ≡ Some d)

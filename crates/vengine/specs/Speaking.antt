@@ -59,7 +59,7 @@ abbrev pub moved_between : {S K C G : Type 0} → (S → Option (List ℕ)) → 
     → (C → ℕ) → (C → ℕ) → Ports S K C G → Ports S K C G → Moved
 moved_between left taken given count last ports ports' =
     Moves left taken given count last ports.source.now ports'.source.now ports.sink.now ports'.sink.now
-        ports.clock.now ports'.clock.now
+    ports.clock.now ports'.clock.now
 
 -- the first sections are those that are built in
 abbrev pub BeginsBuiltIn : List Section → Type 0

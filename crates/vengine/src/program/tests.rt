@@ -880,7 +880,7 @@ fn a_run_fails_with_its_source(rt: HostRuntime) -> Result<(), Fail> {
     }
     let lines = b"isready\nisready\n";
     let (answered, sink) = ran(&rt, &mut files, &["uci"], lines, &[1], 1000)?;
-    assert!(rt; answered == 4 && sink.taken() == b"readyok\n");
+    assert!(rt; answered == 4 && sink.taken() == b"readyok\n".as_slice());
     answers(
         &rt,
         &mut files,

@@ -54,8 +54,8 @@ returns-in_ok-text-in_default-clause-served g c =
     c.read_line-kind.ensures ∙ ap (λ t. command_of (line_got c.args.next t)) c.text.ensures.bytes ∙ ap command_of (line_is c.args.next c.args.line.now) in
     let looked = c.in_ok-text-in_default.ensures in
     if_told c.tell.result _ _ c.tell.ensures.said c.tell.ensures.takes (λ next wrote takes.
-        served_plainly c.args.clock.now (Reads g.F.Files.contents g.F.Files.faults c.args.files.now c.answer_plain.new.files) looked.reads c.in_ok-text-in_default.text _ is looked.holds looked.asks
-        (rw c.bytes_of.ensures at wrote) takes c.tell.ensures.owed)
+    served_plainly c.args.clock.now (Reads g.F.Files.contents g.F.Files.faults c.args.files.now c.answer_plain.new.files) looked.reads c.in_ok-text-in_default.text _ is looked.holds looked.asks
+    (rw c.bytes_of.ensures at wrote) takes c.tell.ensures.owed)
 
 pub returns-in_ok-text-in_default-clause-unserved : goal.returns-in_ok-text-in_default-clause-unserved
 returns-in_ok-text-in_default-clause-unserved g c =
@@ -63,5 +63,5 @@ returns-in_ok-text-in_default-clause-unserved g c =
     c.read_line-kind.ensures ∙ ap (λ t. command_of (line_got c.args.next t)) c.text.ensures.bytes ∙ ap command_of (line_is c.args.next c.args.line.now) in
     let looked = c.in_ok-text-in_default.ensures in
     if_untold c.tell.result c.tell.ensures.part c.tell.ensures.still (λ wrote still.
-        rw still (unserved_plainly c.args.source.now c.args.clock.now (Reads g.F.Files.contents g.F.Files.faults c.args.files.now c.answer_plain.new.files) _ looked.reads c.in_ok-text-in_default.text c.answer_plain.new.session _ is looked.holds looked.asks
-        (rw c.bytes_of.ensures at wrote)))
+    rw still (unserved_plainly c.args.source.now c.args.clock.now (Reads g.F.Files.contents g.F.Files.faults c.args.files.now c.answer_plain.new.files) _ looked.reads c.in_ok-text-in_default.text c.answer_plain.new.session _ is looked.holds looked.asks
+    (rw c.bytes_of.ensures at wrote)))
