@@ -1,7 +1,7 @@
 -- The second walk: what it asks of the moves, what it makes of their nodes, and how many nodes it enters.
 use Rattle.std.proofs.Common.{◌≡◌, ◌⊎◌, inl, inr, ℕ, zero, suc, ◌+◌, ◌-◌, ◌*◌, ◌<◌, ◌≤◌, List, [], ◌∷◌, ◌++◌, map, take, length, slice_get, Bool, true, false, ◌||◌, Option, Some, None, refl, ap, sym, ◌∙◌, subst, arith}
 use Rattle.std.specs.List.{list_any, list_all, sum_by}
-use Rattle.std.proofs.lemmas.List.Sums.{sum_by_more, sum_by-take-le, sum_by-le-sum_by, get_or-le-sum_by}
+use Rattle.std.proofs.lemmas.List.Sums.{sum_by-take-le}
 use Rattle.rules_model.specs.declared.board.Position.{Position}
 use Rattle.rules_model.specs.declared.board.Repeat.{Repeat}
 use Rattle.rules_model.specs.declared.moves.Move.{Move}
@@ -10,16 +10,15 @@ use Rattle.forced_wins.specs.Lines.{moves_left, IsWonAlong}
 use Rattle.forced_wins.specs.Lines.{behind}
 use Rattle.forced_wins.specs.Games.{Game, GameLaws, run_out, lost_if, or_end, of_positions, near}
 use Rattle.forced_wins.proofs.Counts.{by_cases, not_true}
-use Rattle.forced_wins.proofs.ContestLaws.{all_intro}
 use Rattle.forced_wins.proofs.ClaimLaws.{forced-ended, forced-zero, forced-attack, forced-defence, forced-mono}
 use Rattle.strategy.specs.declared.nodes.Node.{Node}
 use Rattle.strategy.specs.declared.nodes.Edge.{Edge}
 use Rattle.mate_search.specs.declared.plan.Plan.{Plan}
-use Rattle.mate_settle.specs.Lines.{plies, lines, lines_within, lines_after}
+use Rattle.mate_settle.specs.Lines.{plies, lines_within, lines_after}
 use Rattle.mate_search.specs.Reached.{left_along, IsReached}
 use Rattle.mate_settle.specs.Steps.{left_after}
 use Rattle.mate_search.specs.Tables.{most, GoesOnAt, GoesOn, IsNext, Stands, IsLed, IsLedTo, AreEdges, Grows}
-use Rattle.mate_settle.proofs.Lines.{lines-some, lines-mono, lines-after, plies-up, plies-fall, plies-after, within-mono, member-sum, sum-more, part-whole}
+use Rattle.mate_settle.proofs.Lines.{lines-some, lines-after, plies-up, plies-fall, plies-after, within-mono, member-sum, sum-more}
 use Rattle.mate_search.proofs.Growth.{stands-grows}
 
 none_lost : (o : Option Bool) (y z : Bool) → o ≡ None → (y || z) ≡ true → or_end o (lost_if (y || z)) ≡ Some false

@@ -12,7 +12,7 @@ use Rattle.forced_wins.specs.Games as AnyGame
 use Rattle.forced_wins.specs.Lines as AnyLines
 use Rattle.forced_wins.specs.Views.{seen_by, as_any}
 use Rattle.forced_wins.specs.Wins.{near, blocked, is_in}
-use Rattle.forced_wins.specs.Strategies.{moves_left, IsWonAlong, behind, OnWin, IsUnsettled}
+use Rattle.forced_wins.specs.Strategies.{moves_left, IsWonAlong, behind, OnWin}
 use Rattle.forced_wins.proofs.ClaimLaws.{near-barred}
 use Rattle.forced_wins.proofs.Rules.{laws, near-is, times-is}
 use Rattle.forced_wins.proofs.Blocked.{in-blocked, near_root-is}

@@ -21,9 +21,9 @@ use Rattle.strategy.specs.declared.nodes.Node.{Node}
 use Rattle.mate_search.specs.declared.plan.Plan.{Plan}
 use Rattle.mate_settle.specs.Lines.{plies, lines, lines_within, lines_after}
 use Rattle.mate_search.specs.Reached.{OnLine}
-use Rattle.mate_search.specs.Tables.{nodes, highest, most, GoesOnAt, IsNext, IsSound}
+use Rattle.mate_search.specs.Tables.{nodes, most, GoesOnAt, IsNext, IsSound}
 use Rattle.mate_search.specs.Mates.{moves_win, counters_at, stands_often, IsTabled}
-use Rattle.mate_settle.proofs.Lines.{lines-some, lines-mono, lines-after}
+use Rattle.mate_settle.proofs.Lines.{lines-mono, lines-after}
 use Rattle.mate_search.proofs.Shown.{good-inside, good-near, low-rank}
 
 -- ---- counts

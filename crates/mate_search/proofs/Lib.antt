@@ -6,3 +6,4 @@ mod Kept
 mod Walk
 mod Evidence
 mod Root
+mod MateLaws

@@ -1,5 +1,5 @@
 -- From the root, by the rules of play.
-use Rattle.std.proofs.Common.{◌≡◌, ◌⊎◌, inl, inr, ℕ, zero, suc, ◌+◌, ◌-◌, ◌*◌, ◌<◌, ◌≤◌, List, [], ◌∷◌, map, length, Bool, true, false, ◌&&◌, nat_lt, nat_le, Option, Some, None, slice_get, refl, ap, sym, ◌∙◌, subst, arith}
+use Rattle.std.proofs.Common.{◌≡◌, ◌⊎◌, inl, inr, ℕ, zero, suc, ◌+◌, ◌-◌, ◌*◌, ◌<◌, ◌≤◌, List, [], ◌∷◌, length, Bool, true, false, ◌&&◌, nat_lt, nat_le, Some, None, slice_get, refl, ap, sym, ◌∙◌, subst, arith}
 use Rattle.std.specs.List.{All, sum_by}
 use Rattle.std.proofs.lemmas.List.Elements.{All-nil, All-cons}
 use Rattle.foundation.specs.Member.{IsEachOnce}
@@ -9,13 +9,12 @@ use Rattle.rules_model.specs.declared.board.Side.{Side}
 use Rattle.rules_model.specs.declared.moves.Move.{Move}
 use Rattle.rules_model.specs.declared.rules.Rules.{Rules}
 use Rattle.rules_model.specs.Fit.{IsFit}
-use Rattle.rules_model.specs.Games.{Story, history, played, times, result, same_repeat}
+use Rattle.rules_model.specs.Games.{Story, history, played, result, same_repeat}
 use Rattle.rules_model.specs.Legal.{legal}
 use Rattle.rules_model.specs.Next.{next}
 use Rattle.rules_model.proofs.EqualLaws.{repeat-decides}
 use Rattle.rules_model.specs.Repeats.{repeat_of}
 use Rattle.rules_model.specs.Sides.{same_side}
-use Rattle.rules_model.specs.Sound.{is_sound}
 use Rattle.rules_model.proofs.LegalLaws.{legal-once}
 use Rattle.rules_model.proofs.GameLaws.{next_counter-range}
 use Rattle.rules_model.proofs.PlayLaws.{next-counter}
@@ -23,33 +22,31 @@ use Rattle.forced_wins.specs.Games as AnyGame
 use Rattle.forced_wins.specs.Lines as AnyLines
 use Rattle.forced_wins.specs.Tables as T
 use Rattle.forced_wins.specs.Tables.{nodes_of}
-use Rattle.forced_wins.specs.Strategies.{IsGood, IsUnsettled}
 use Rattle.forced_wins.specs.Views.{won_by, seen_by, as_any}
 use Rattle.forced_wins.specs.Wins.{wins, near_root, near_attack, blocked, is_in, IsInLimit}
 use Rattle.forced_wins.proofs.Blocked.{blocked-is, near_root-is, near_root-free, wins-near}
-use Rattle.forced_wins.proofs.Counts.{not_true, true_false, by_cases}
+use Rattle.forced_wins.proofs.Counts.{not_true, true_false}
 use Rattle.forced_wins.proofs.ContestLaws.{any_intro}
 use Rattle.forced_wins.proofs.FactLaws.{near-more}
 use Rattle.forced_wins.proofs.Played.{game-played}
 use Rattle.forced_wins.proofs.Rules.{laws, times-is}
-use Rattle.forced_wins.proofs.StrategyLaws.{of_own, unsettled}
+use Rattle.forced_wins.proofs.StrategyLaws.{of_own}
 use Rattle.game_play.specs.Played.{Played, IsPlayed, story}
 use Rattle.game_values.specs.Bounds.{solve_bound}
 use Rattle.game_values.specs.Values.{play, tree}
 use Rattle.mate_core.specs.declared.frame.Frame.{Frame}
 use Rattle.mate_fact.specs.InFrame as In
-use Rattle.mate_settle.specs.Choices.{some_wins, all_win, lines_of_moves, IsChoice}
+use Rattle.mate_settle.specs.Choices.{some_wins, all_win, IsChoice}
 use Rattle.mate_settle.specs.declared.choosing.Choice.{Choice}
-use Rattle.mate_settle.specs.Lines.{plies, lines, lines_within, lines_after, seen_in}
+use Rattle.mate_settle.specs.Lines.{plies, lines, lines_within, seen_in}
 use Rattle.strategy.specs.declared.nodes.Node.{Node}
-use Rattle.strategy.specs.declared.nodes.Strategy.{Strategy}
 use Rattle.mate_search.specs.declared.plan.Plan.{Plan}
 use Rattle.mate_search.specs.Answers.{IsFrameOf, IsShown, IsEvidence}
 use Rattle.mate_search.specs.Counts.{nodes_at, counters_of, is_often, IsTabledIn}
-use Rattle.mate_search.specs.Mates.{stands_often, IsTabled}
+use Rattle.mate_search.specs.Mates.{stands_often}
 use Rattle.mate_search.specs.Tabled.{IsKept}
 use Rattle.mate_search.specs.Tables.{nodes, most, IsNext, Stands}
-use Rattle.mate_search.proofs.Judged.{attack-found, attack-lines, defence-lines, root-next, inside-good, near-good, root-again-at, too-often, low-ranks, thin-some, whole-lines}
+use Rattle.mate_search.proofs.Judged.{root-next, inside-good, near-good, root-again-at, too-often, low-ranks, thin-some, whole-lines}
 use Rattle.mate_search.proofs.Evidence.{evidence}
 
 -- ---- the frame of a game

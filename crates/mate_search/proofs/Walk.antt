@@ -1,5 +1,5 @@
 -- The second walk, as the code reads tables and frames.
-use Rattle.std.proofs.Common.{◌≡◌, ◌⊎◌, ℕ, ◌+◌, ◌-◌, ◌*◌, ◌<◌, ◌≤◌, List, [], ◌∷◌, take, Bool, true, false, Option, Some, None, slice_get, refl, ap, sym, ◌∙◌, subst, arith}
+use Rattle.std.proofs.Common.{◌≡◌, ℕ, ◌+◌, ◌-◌, ◌*◌, ◌<◌, ◌≤◌, List, Bool, true, false, None, refl, sym, ◌∙◌, subst, arith}
 use Rattle.std.specs.List.{list_any, list_all, sum_by}
 use Rattle.foundation.specs.Member.{Member}
 use Rattle.rules_model.specs.declared.board.Position.{Position}
@@ -15,13 +15,13 @@ use Rattle.mate_core.specs.declared.frame.Frame.{Frame}
 use Rattle.mate_fact.specs.InFrame as In
 use Rattle.mate_settle.specs.Choices.{some_wins, all_win, IsChoice}
 use Rattle.mate_settle.specs.declared.choosing.Choice.{Choice}
-use Rattle.mate_settle.specs.Lines.{plies, lines_within, lines_after, seen_in}
+use Rattle.mate_settle.specs.Lines.{lines_within, lines_after, seen_in}
 use Rattle.mate_settle.specs.Steps.{left_after}
 use Rattle.strategy.specs.declared.nodes.Edge.{Edge}
 use Rattle.strategy.specs.declared.nodes.Node.{Node}
 use Rattle.mate_search.specs.declared.plan.Plan.{Plan}
 use Rattle.mate_search.specs.Tabled.{Tabled, rules_of, IsNextIn, StandsIn, AreEdgesIn, GrowsTo}
-use Rattle.mate_search.specs.Tables.{most, AreEdges, Grows, IsNext, IsLedTo, Stands}
+use Rattle.mate_search.specs.Tables.{AreEdges, Grows, IsNext, IsLedTo, Stands}
 use Rattle.mate_search.proofs.Builds.{goes-attack, goes-defence, next-after, attack_lines, plies_less, plies_next}
 use Rattle.mate_search.proofs.Growth.{grows-none, grows-on}
 

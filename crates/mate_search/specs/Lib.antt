@@ -4,3 +4,4 @@ pub mod Mates
 pub mod Tabled
 pub mod Counts
 pub mod Answers
+pub mod Solves

@@ -4,10 +4,16 @@
 
 mod answer;
 mod building;
+mod frame;
 mod judging;
 mod node_table;
 mod plan;
 mod solving;
+#[cfg(test)]
+mod tests;
+mod whole;
 
-pub use answer::Settled;
+pub use answer::{Mate, Settled};
+pub use frame::frame_of;
 pub use solving::solve_watched;
+pub use whole::solve;

@@ -1,9 +1,12 @@
 //! One search and one solve of a session: what the session sets for them, the ports lent singly, and why they end.
 #![tactic(auto)]
 
+mod cutting;
 mod mind;
 mod search;
 mod solve;
+#[cfg(test)]
+mod tests;
 
 pub use mind::Mind;
 pub use search::{Search, search_once};

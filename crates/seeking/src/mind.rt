@@ -51,6 +51,11 @@ impl Mind {
         self.threads
     }
 
+    /// The hints, which searches share.
+    pub(crate) fn hints(&self) -> &HintTable {
+        &self.hints
+    }
+
     /// Sets how many workers search, from 1 to 64.
     pub fn set_threads(&mut self, threads: u32)
         requires threads { (1 ≤ threads) × (threads ≤ 64) }

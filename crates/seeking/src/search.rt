@@ -8,9 +8,11 @@ ghost use Rattle.watching.specs.Stopping.{Fails};
 ghost use Rattle.watching.specs.Watched.{moment, world};
 ghost use Rattle.seeking.specs.Seeks.{GoneBy, IsFound, cut_of_search};
 
+use crate::cutting::cut_by;
 use crate::mind::Mind;
+use alpha_beta::{Searched, search};
 use game_play::Game;
-use io_ports::{Clock, Dialect, Gate, Limits, LineBuf, SearchFault, Sink, Source};
+use io_ports::{Clock, Dialect, Gate, Limits, LineBuf, Ports, SearchFault, Sink, Source};
 use rules_model::Move;
 use std::alloc::Global;
 use std::thread::Threads;
@@ -59,5 +61,26 @@ pub fn search_once<R: Threads + Sync, S: Source, K: Sink, C: Clock, G: Gate + Sy
         (moment source.old sink.old clock.old 0) source.new sink.new clock.new
         (search_bound game.now.rules depth (story game.now)) why }
 {
-    Err(SearchFault::Memory)
+    let mut ports = Ports {
+        source,
+        sink,
+        clock,
+        gate,
+        dialect,
+    };
+    let searched = search(
+        rt,
+        alloc,
+        game,
+        depth,
+        roots,
+        mind.hints(),
+        limits,
+        mind.threads(),
+        &mut ports,
+    )?;
+    match searched {
+        Searched::Done { value, best, nodes } => Ok(Search::Done { value, best, nodes }),
+        Searched::Stopped(why) => Ok(Search::Cut(cut_by(why, line))),
+    }
 }

@@ -6,9 +6,11 @@ ghost use Rattle.watching.specs.Stopping.{Fails};
 ghost use Rattle.watching.specs.Watched.{moment, world};
 ghost use Rattle.seeking.specs.Seeks.{GoneBy, IsRight, cut_of_solve};
 
+use crate::cutting::cut_by;
 use crate::mind::Mind;
 use game_play::Game;
-use io_ports::{Clock, Dialect, Gate, Limits, LineBuf, SearchFault, Sink, Source};
+use io_ports::{Clock, Dialect, Gate, Limits, LineBuf, Ports, SearchFault, Sink, Source};
+use mate_search::{Mate, solve};
 use rules_model::{Repeat, Side};
 use std::alloc::Global;
 use std::sync::Wait;
@@ -62,5 +64,17 @@ pub fn solve_once<R: Threads + Wait + Sync, S: Source, K: Sink, C: Clock, G: Gat
         (solve_bound game.now.rules n (story game.now)) why }
     ensures same { mind.new ≡ mind.old }
 {
-    Err(SearchFault::Memory)
+    let mut ports = Ports {
+        source,
+        sink,
+        clock,
+        gate,
+        dialect,
+    };
+    match solve(alloc, game, attacker, n, limits, &mut ports)? {
+        Mate::Shown(strategy) => Ok(Solve::Shown(strategy)),
+        Mate::NoMate => Ok(Solve::NoMate),
+        Mate::Unsettled { repeat, counters } => Ok(Solve::Unsettled { repeat, counters }),
+        Mate::Stopped(why) => Ok(Solve::Cut(cut_by(why, line))),
+    }
 }

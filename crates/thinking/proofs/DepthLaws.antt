@@ -24,6 +24,7 @@ use Rattle.watching.specs.Looks.{Broke, Moved, Ran, held}
 use Rattle.session_model.proofs.Reports.{depths_grow, depths_more, last_announced_snoc, last_best_snoc, reports_snoc, search_bound-some, searches_more, solve_bound-some}
 use Rattle.session_model.specs.Deadlines.{deadline_of}
 use Rattle.session_model.specs.Mates.{Announced}
+use Rattle.session_model.specs.Events.{IsStopped}
 use Rattle.session_model.specs.Thinking.{Task, Report, Cause, Ending, Interrupted, Whole, InSearch, InSolve, AreReports, Deepens, IsOpen, IsReport, MayCut, MayEnd, announced_by, last_announced, last_best, open_report, reported, searches_upto, solve_within}
 use Rattle.session_model.specs.UciSession.{first_of}
 use Rattle.turning.specs.Lines.{Follows, Held, none, one}
@@ -48,6 +49,14 @@ first_read [] other past some = absurd (omega arith)
 first_read (m ∷ roots) other past some = refl
 
 -- ---- how a search may end
+
+-- the line that is held stops a search
+held_stops : (dialect : Dialect) (why : Cut) (text : List ℕ) (owed : Owed) (bound : ℕ) (share deadline : Option ℕ) (reach : ℕ) (taken : List ℕ)
+    → CutsBy dialect owed bound share deadline reach taken text why → IsStopped dialect (held (Some why) text)
+held_stops dialect cut.Line text owed bound share deadline reach taken may = may.1
+held_stops dialect cut.End text owed bound share deadline reach taken may = tt
+held_stops dialect (cut.Quota quota) text owed bound share deadline reach taken may = tt
+held_stops dialect (cut.Deadline reading) text owed bound share deadline reach taken may = tt
 
 -- what cut a part, after depths that were not cut
 cut_late : (dialect : Dialect) (why : Cut) (o o' : Owed) (t : Task) (done entered reach : ℕ) (quota deadline : Option ℕ) (first : ℕ) (x y : List Event) (text : List ℕ) (following : List Line)
@@ -241,6 +250,7 @@ module _ {S K C : Type 0} {left : S → Option (List ℕ)} {taken : K → Option
             ending = InSearch (cause_of why);
             behind = held (Some why) b.text;
             is_held = held_one why b.text;
+            stopped = held_stops dialect why b.text Untold (bound_at t (done + 1)) limits.quota limits.deadline (reach_at t (done + 1) (Off why)) (readings broke.events) broke.holds.1;
             broke = broke_held_more dialect _
                 (λ x y p q. (
                   tells_more dialect style t.game.rules first x y 1 (done + 1) so.reports [] p q.0 (next_depth done so.reports so.counted),
@@ -259,6 +269,7 @@ module _ {S K C : Type 0} {left : S → Option (List ℕ)} {taken : K → Option
                 ending = ending;
                 behind = [];
                 is_held = none;
+                stopped = tt;
                 broke = broke_held_more dialect _
                     (λ x y p q. (
                       subst (λ rs. Tells dialect style t.game.rules first 1 rs (x ++ y)) (sym (ap (λ rs. (so.reports ++ report ∷ []) ++ rs) closed ∙ append-nil (so.reports ++ report ∷ [])))
@@ -273,6 +284,7 @@ module _ {S K C : Type 0} {left : S → Option (List ℕ)} {taken : K → Option
                 ending = InSolve report solve.moves (cause_of solve.why);
                 behind = held (Some solve.why) b.text;
                 is_held = held_one solve.why b.text;
+                stopped = held_stops dialect solve.why b.text Untold (bound_at t (done + 1)) limits.quota limits.deadline (reach_at t (done + 1) (Done found clock (Some solve))) (readings broke.events) broke.holds.1;
                 broke = broke_held_more dialect _
                     (λ x y p q. (
                       tells_more dialect style t.game.rules first x y 1 (done + 1) so.reports (report ∷ []) p q.0 (next_depth done so.reports so.counted),

@@ -1,5 +1,5 @@
 -- What is found at a depth is a true report.
-use Rattle.std.proofs.Common.{◌≡◌, ℕ, ◌+◌, ◌≤◌, ◌<◌, ◌^◌, List, [], ◌∷◌, length, Option, Some, None, true, refl, sym, ap, subst, ◌∙◌, inl, inr, arith, ℤ, pos, negsuc, ◌≤ℤ◌, ◌<ℤ◌}
+use Rattle.std.proofs.Common.{◌≡◌, ℕ, zero, suc, get_or, eq-eqb, ◌+◌, ◌≤◌, ◌<◌, ◌^◌, List, [], ◌∷◌, length, Option, Some, None, true, refl, sym, ap, subst, ◌∙◌, inl, inr, arith, ℤ, pos, negsuc, ◌≤ℤ◌, ◌<ℤ◌}
 use Rattle.std.specs.Prelude.{IfSome, slice_index_or}
 use Rattle.std.specs.List.{All}
 use Rattle.std.proofs.lemmas.Int.{ints}
@@ -21,8 +21,9 @@ use Rattle.thinking.specs.declared.found.Evidence.{Evidence}
 use Rattle.thinking.specs.declared.found.Found.{Found}
 use Rattle.thinking.specs.declared.found.Score.{Score}
 use Rattle.thinking.specs.declared.found.Score.TheVariants as score
+use Rattle.thinking.specs.declared.task.Task.{Task as Asked}
 use Rattle.thinking.specs.Judging.{IsFinding, search_at}
-use Rattle.thinking.specs.Views.{evidence_of, evidence_seen, report_of, score_seen}
+use Rattle.thinking.specs.Views.{IsTask, evidence_of, evidence_seen, report_of, score_seen}
 
 -- ---- legal moves
 
@@ -34,6 +35,25 @@ member_some x (y ∷ ys) there = omega arith
 pub legal_some : (roots legal : List Move) → All (λ m. Member m legal) roots → 0 < length roots → 0 < length legal
 legal_some [] legal all some = absurd (omega arith)
 legal_some (m ∷ roots) legal all some = member_some m legal (all 0 m (omega arith))
+
+member_at : {X : Type 0} (xs : List X) (i : ℕ) (d : X) → i < length xs → Member (get_or xs i d) xs
+member_at [] i d below = absurd (omega arith)
+member_at (x ∷ xs) zero d below = inl refl
+member_at (x ∷ xs) (suc i) d below = inr (member_at xs i d (omega arith))
+
+same_members : (xs ys : List Move) → xs ≡ ys → All (λ m. Member m ys) xs
+same_members xs ys is = subst (λ (zs : List Move). All (λ m. Member m zs) xs) is (λ i d below. member_at xs i d below)
+
+-- all legal moves are root moves
+pub whole_task : (t : Asked) → t.roots.now ≡ legal_in t.game.now → 0 < length t.roots.now → t.all ≡ true → 1 ≤ t.depths → t.depths ≤ 64
+    → IsTask t
+whole_task t is some all least most = record {
+  legal = same_members t.roots.now (legal_in t.game.now) is;
+  some = some;
+  all = all ∙ sym (eq-eqb (length t.roots.now) (length (legal_in t.game.now)) (ap length is));
+  least = least;
+  most = most;
+}
 
 -- a strategy that is shown for the mover has a move at its root
 pub root_there : (g : Played) (n : ℕ) (s : Strategy) → IsShown g n (mover g) s → 0 < length (legal_in g) → root_move s ≡ None → ⊥

@@ -11,6 +11,7 @@ use Rattle.game_values.specs.Bounds.{depths_bound}
 use Rattle.watching.specs.declared.halt.Cut.{Cut}
 use Rattle.watching.specs.Events.{readings}
 use Rattle.watching.specs.Looks.{Moved, Ran, held}
+use Rattle.session_model.specs.Events.{IsStopped}
 use Rattle.session_model.specs.Mates.{Announced}
 use Rattle.session_model.specs.Thinking.{Task, Report, Ending, AreReports, Deepens, IsOpen, IsReport, last_announced, last_best, reported, searches_upto, solve_within}
 use Rattle.turning.specs.Lines.{Follows, Held}
@@ -97,12 +98,13 @@ pub record Deepened (dialect : Dialect) (style : Style) (moved : Moved) (owed ow
   pub kept_is : kept_seen depths.kept ≡ last_announced None (reported reports ending)
   pub spends : Spends owed owed' (depths_bound t.game.rules t.depths (story t.game))
 
--- A fault came, completed: no line is left, unless one cut the solve whose line was being written.
+-- A fault came, completed: no line is left, unless one that stops a search cut what was being told.
 pub record BrokeOff (dialect : Dialect) (style : Style) (moved : Moved) (t : Task) (first : ℕ) : Type 0 where
   pub reports : List Report
   pub ending : Ending
   pub behind : List Line
   pub is_held : Held behind
+  pub stopped : IsStopped dialect behind
   pub broke : BrokeHeld dialect moved behind (λ events.
       Tells dialect style t.game.rules first 1 (reported reports ending) events
       × Deepens dialect ⊤ t reports ending (first ∷ readings events) behind)

@@ -4,7 +4,7 @@ mod CheckLemmas
 mod FileLemmas
 mod HeardLemmas
 mod RunLemmas
-mod SessionCases
+mod SessionLemmas
 mod SetupLemmas
 mod ShotLemmas
 mod VariantLemmas

@@ -1,11 +1,11 @@
 -- What a run says.
-use Rattle.std.proofs.Common.{◌≡◌, ℕ, ◌<◌, Bool, true, false, List, [], ◌∷◌, ◌++◌, inl, inr, refl, sym, ap, subst, ◌∙◌, Option, Some, None, Ok, Err, IsNone, ◌≢◌, ◌↔◌, ◌⊎◌, arith}
+use Rattle.std.proofs.Common.{◌≡◌, ℕ, ◌<◌, false, List, [], ◌∷◌, inl, inr, refl, sym, ap, subst, ◌∙◌, Option, Some, None, Ok, Err, IsNone, ◌↔◌, ◌⊎◌, arith}
 use Rattle.std.specs.Prelude.{IsSomeAnd}
 use Rattle.std.proofs.lemmas.Bool.{false≢true}
 use Rattle.std.specs.declared.result.Result.{Result}
 use Rattle.betza_text.specs.declared.part.Part.{Part}
 use Rattle.betza_text.specs.declared.fault.BetzaFault.{BetzaFault}
-use Rattle.betza_text.specs.Word.{Spells, BetzaBad}
+use Rattle.betza_text.specs.Word.{Spells}
 use Rattle.betza_text.specs.Fault.{fault_text as betza_text}
 use Rattle.betza_text.proofs.WordLaws.{word_or_fault, one_word, one_fault, not_both}
 use Rattle.betza_compile.specs.Terms.{terms}

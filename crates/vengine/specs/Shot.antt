@@ -1,5 +1,5 @@
 -- What a run of one command says: a status and a text, for the words, the reads of files and the lines of the input.
-use Rattle.std.specs.Prelude.{◌≡◌, ℕ, List, [], ◌++◌, Option, Some, None, Result, Ok, Err, codes}
+use Rattle.std.specs.Prelude.{◌≡◌, ℕ, List, Option, Some, None, Result, Ok, Err, codes}
 use Rattle.io_ports.specs.Files.{Read}
 use Rattle.io_ports.specs.Lines.{Line}
 use Rattle.betza_text.specs.declared.part.Part.{Part}

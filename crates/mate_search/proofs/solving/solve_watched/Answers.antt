@@ -2,7 +2,6 @@ use Rattle.std.proofs.Common.{◌≡◌, ◌⊎◌, ℕ, ◌+◌, ◌*◌, ◌<�
 use Rattle.rules_model.specs.declared.board.Position.{Position}
 use Rattle.rules_model.specs.declared.rules.Rules.{Rules}
 use Rattle.rules_model.specs.Fit.{IsFit}
-use Rattle.forced_wins.specs.Views.{as_any}
 use Rattle.forced_wins.specs.Wins.{is_in, near_root, wins}
 use Rattle.game_play.specs.Played.{story}
 use Rattle.game_values.specs.Bounds.{solve_bound}

@@ -1,0 +1,45 @@
+use Rattle.std.proofs.Common.{◌≡◌, Some, Err, rules}
+use Rattle.io_ports.specs.declared.limits.SearchFault.TheVariants as fault
+use Rattle.watching.specs.declared.halt.Halt.{Halt}
+use Rattle.watching.specs.declared.halt.Halt.TheVariants as halt
+use Rattle.mate_search.proofs.MateLaws.{fails-memory, heard-unsearched}
+use Rattle.mate_search.proofs.whole.solve.Goals as goal
+
+pub returns-then-eq-clause-heard : goal.returns-then-eq-clause-heard
+returns-then-eq-clause-heard g c =
+    let is : c.args.limits.quota ≡ Some 0 = search rules in
+    heard-unsearched _ c.args.ports.now.dialect c.args.limits _ _ _ c.args.game.now c.args.n is
+
+pub returns-in_err-line-clause-fails : goal.returns-in_err-line-clause-fails
+returns-in_err-line-clause-fails g c why is =
+    let memory : why ≡ fault.Memory = search rules in
+    fails-memory _ c.args.ports.now.dialect c.args.limits _ _ _ _ why memory
+
+pub returns-in_err-frame-clause-fails : goal.returns-in_err-frame-clause-fails
+returns-in_err-frame-clause-fails g c why is =
+    let memory : why ≡ fault.Memory = search rules in
+    fails-memory _ c.args.ports.now.dialect c.args.limits _ _ _ _ why memory
+
+pub returns-in_err-facts-clause-fails : goal.returns-in_err-facts-clause-fails
+returns-in_err-facts-clause-fails g c why is =
+    let memory : why ≡ fault.Memory = search rules in
+    fails-memory _ c.args.ports.now.dialect c.args.limits _ _ _ _ why memory
+
+pub returns-in-Err-Cut-clause-heard : goal.returns-in-Err-Cut-clause-heard
+returns-in-Err-Cut-clause-heard g c =
+    let why : Halt = halt.Cut c.in-Err-Cut.why in
+    let end : c.lead-led.result.end ≡ Err why = search rules in
+    record {
+      entered = c.lead-led.result.nodes;
+      text = c.lead-led.new.line;
+      why = Some c.in-Err-Cut.why;
+      gone = c.lead-led.ensures.watched.ended why end;
+      answers = c.stopped_by.ensures;
+    }
+
+pub returns-in-Err-Fault-clause-fails : goal.returns-in-Err-Fault-clause-fails
+returns-in-Err-Fault-clause-fails g c why is =
+    let same : c.in-Err-Fault.why ≡ why = search rules in
+    let back : Halt = halt.Fault why in
+    let end : c.lead-led.result.end ≡ Err back = search rules in
+    record { entered = c.lead-led.result.nodes; failed = c.lead-led.ensures.watched.ended back end }
