@@ -20,9 +20,7 @@ fn unknown_variant(alloc: Global, name: &str) -> Result<Halt<'static>, AllocErro
     ensures { IfOk result (λ halt. halt ≡ Halt.Fault (Fault.Game (GameFault.UnknownVariant name.now))) }
 {
     let items = name.as_bytes().to_vec(alloc)?;
-    Ok(Halt::Fault(Fault::Game(GameFault::UnknownVariant(Text {
-        items,
-    }))))
+    Ok(Halt::Fault(Fault::Game(GameFault::UnknownVariant(Text { items }))))
 }
 
 fn refused_variant(alloc: Global, why: &SectionFault) -> Result<Halt<'static>, AllocError>
