@@ -75,6 +75,14 @@ fn words_of_the_set_are_read(rt: HostRuntime) -> Result<(), Fail> {
             &["reach", "N", "b1", "a1,a2", "c3"],
             reach("N", "b1", "a1,a2", "c3"),
         ),
+        (
+            &["generate", "chess", "18446744073709551615", "08192"],
+            command(Command::Generate {
+                name: "chess",
+                number: u64::MAX,
+                plies: 8192,
+            }),
+        ),
         (&["--threads", "4", "moves"], moves_with(None, 4)),
         (&["--threads=64", "moves"], moves_with(None, 64)),
         (
