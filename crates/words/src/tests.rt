@@ -47,7 +47,7 @@ fn owned(alloc: Global, words: &[&str]) -> Result<Vec<String>, Fail> {
 
 #[test]
 fn words_of_the_set_are_read(rt: HostRuntime) -> Result<(), Fail> {
-    let rows: [(&[&str], Asked<'static>); 24] = [
+    let rows: [(&[&str], Asked<'static>); 25] = [
         (&[], command(Command::Uci)),
         (&["uci"], command(Command::Uci)),
         (&["xboard"], command(Command::Xboard)),
