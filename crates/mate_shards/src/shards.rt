@@ -1,10 +1,14 @@
 //! The shards and the passes for them.
-ghost use Rattle.std.specs.Prelude.{◌≡◌, ◌<◌, ◌≤◌, [], All, IfOk, length};
+ghost use Rattle.std.specs.Prelude.{◌≡◌, ◌↔◌, ◌<◌, ◌≤◌, ℕ, [], Bool, true, All, IfOk, IfSome, Some, length};
+ghost use Rattle.rules_model.specs.declared.board.Repeat.{Repeat as RepeatView};
 ghost use Rattle.rules_model.specs.Repeats as Repeats;
+ghost use Rattle.forced_wins.specs.Facts.{serves};
 ghost use Rattle.mate_core.specs.Runs.{IsTrueIn};
-ghost use Rattle.fact_lock.specs.Passes.{IsPassOf};
+ghost use Rattle.fact_lock.specs.Passes.{IsPassOf, all_parts};
 ghost use Rattle.std.specs.Option.{option_map};
 ghost use Rattle.mate_core.specs.Claims.{fact_with};
+ghost use Rattle.mate_shards.specs.Answers.{SeeAnswer, SeeAnswerOrFull, kind_of};
+ghost use Rattle.mate_shards.specs.Grown.{HaveGrown, HaveParts};
 ghost use Rattle.mate_shards.specs.Views.{ArePassesOf, IsFresh};
 ghost use Rattle.mate_core.specs.Hash.{shard_of_hash};
 ghost use Rattle.mate_shards.specs.Shard.{Fits};
@@ -73,6 +77,7 @@ impl Shards {
         ensures sizes { IfOk result (λ made. (made.0.capacity ≡ capacity) × (length made.0.locks ≡ shards)) }
         ensures passes { IfOk result (λ made. ArePassesOf made.0 made.1) }
         ensures fresh { IfOk result (λ made. All (IsFresh []) made.1) }
+        ensures parts { IfOk result (λ made. HaveParts all_parts made.1) }
     {
         let count = shards as usize;
         let mut locks = Vec::with_capacity(alloc, count)?;
@@ -90,6 +95,13 @@ impl Shards {
         Ok((shards, Passes { items }))
     }
 
+    /// The frame in which all facts are true.
+    pub fn frame(&self) -> &Frame
+        ensures { result.now ≡ self.now.frame }
+    {
+        &self.frame
+    }
+
     /// Puts a true fact into the shard of its repeat, unless a fact as good stands there or the shard is full. It takes
     /// no memory.
     pub fn publish<R: Wait>(&self, rt: &R, passes: &mut Passes, fact: &Fact) -> Published
@@ -97,6 +109,10 @@ impl Shards {
         requires truth { IsTrueIn self.now.frame fact.now }
         ensures passes { ArePassesOf self.now passes.new }
         ensures turn { PublishTurn self.now passes.old fact.now result passes.new }
+        ensures grown { HaveGrown passes.old passes.new }
+        ensures parts { (n : ℕ) → HaveParts n passes.old → HaveParts n passes.new }
+        ensures known { (repeat : RepeatView) (counter moves : ℕ) → serves fact.now repeat counter moves ≡ true →
+            SeeAnswerOrFull self.now passes.new fact.now.wins repeat counter moves }
     {
         let given = PackedFact::of(fact);
         let shard = self.home(given.hash());
@@ -118,6 +134,12 @@ impl Shards {
         requires passes { ArePassesOf self.now passes.old }
         ensures passes { ArePassesOf self.now passes.new }
         ensures turn { LookTurn self.now passes.old p.now moves result passes.new }
+        ensures grown { HaveGrown passes.old passes.new }
+        ensures parts { (n : ℕ) → HaveParts n passes.old → HaveParts n passes.new }
+        ensures truth { IfSome result (IsTrueIn self.now.frame) }
+        ensures serves { IfSome result (λ fact. serves fact (Repeats.repeat_of p.now) p.now.counter moves ≡ true) }
+        ensures known { (wins : Bool) → (kind_of result ≡ Some wins)
+            ↔ SeeAnswer self.now passes.new wins (Repeats.repeat_of p.now) p.now.counter moves }
     {
         let query = Query {
             repeat: Packed::of_position(p),
