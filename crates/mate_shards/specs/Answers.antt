@@ -4,6 +4,7 @@ use Rattle.std.specs.Option.{option_map}
 use Rattle.rules_model.specs.declared.board.Repeat.{Repeat}
 use Rattle.forced_wins.specs.declared.fact.Fact.{Fact}
 use Rattle.forced_wins.specs.Facts.{serves}
+use Rattle.mate_core.specs.declared.packed_fact.Claim.{Claim}
 use Rattle.mate_shards.specs.Turns.{home_of}
 use Rattle.mate_shards.specs.Views.{ShardsView, ShardPass}
 
@@ -33,3 +34,7 @@ SeeAnswerOrFull s passes wins repeat counter moves = SeeAnswer s passes wins rep
 -- whether a fact that was found wins
 abbrev pub kind_of : Option Fact → Option Bool
 kind_of found = option_map (λ f. f.wins) found
+
+-- the same of what a fact says
+abbrev pub claim_kind : Option Claim → Option Bool
+claim_kind found = option_map (λ c. c.wins) found
