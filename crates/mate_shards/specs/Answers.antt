@@ -22,7 +22,7 @@ pub record SeeAnswer (s : ShardsView) (passes : List ShardPass) (wins : Bool) (r
   pub at : slice_get passes (home_of s repeat) ≡ Some pass
   pub has : HasAnswer pass.seen wins repeat counter moves
 
--- that list has as many facts as its capacity
+-- that list has as many facts as its capacity; no list has more
 pub record SeeFull (s : ShardsView) (passes : List ShardPass) (repeat : Repeat) : Type 0 where
   pub pass : ShardPass
   pub at : slice_get passes (home_of s repeat) ≡ Some pass
