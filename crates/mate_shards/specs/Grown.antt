@@ -22,7 +22,8 @@ stored_by Full = 0
 -- for each shard the later pass has seen at least as much
 pub record HaveSeen (before after : List ShardPass) : Type 0 where
   pub count : length after ≡ length before
-  pub each : (k : ℕ) (p q : ShardPass) → slice_get before k ≡ Some p → slice_get after k ≡ Some q → IsPrefix p.seen q.seen
+  pub each : (k : ℕ) (p q : ShardPass) → slice_get before k ≡ Some p → slice_get after k ≡ Some q
+      → IsPrefix p.seen q.seen
 
 -- one pass owns each place that the other owns
 abbrev pub OwnsAll : ShardPass → ShardPass → Type 0
