@@ -185,7 +185,7 @@ module _ {S K C : Type 0} {left : S → Option (List ℕ)} {taken : K → Option
     seek_ended {o = o} {o' = o'} first text depths (more, legal) all =
         let root : first_of first t.roots ≡ first = ap (λ u. first_of first u.roots) is ∙ ap (first_of first) legal in
         let d = subst (λ (m : Move). Deepened Cecp (style_of state.posts) (Moves left taken given count last s s' k k' c' c'') o o' (task_of state) m reading text depths) root
-            (subst (λ (u : Task). Deepened Cecp (style_of state.posts) (Moves left taken given count last s s' k k' c' c'') o o' u (first_of first t.roots) reading text depths) is (all first)) in
+        (subst (λ (u : Task). Deepened Cecp (style_of state.posts) (Moves left taken given count last s s' k k' c' c'') o o' u (first_of first t.roots) reading text depths) is (all first)) in
         let follows = follows_held depths.why text [] (λ e. refl) in
         record {
           events = Reads reading ∷ d.ran.events;

@@ -2,10 +2,10 @@
 #![tactic(auto)]
 
 mod answers;
+mod moving;
 mod serving;
 mod session;
 mod texts;
-mod thinking;
 
 pub use serving::serve;
 pub use session::CecpSession;

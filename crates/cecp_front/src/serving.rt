@@ -170,21 +170,21 @@ where
     requires dialect { ports.old.dialect ≡ Dialect.Cecp }
     ensures spoke { (contents : Option Contents) → OnOk result (Spoke cecp
         (Moves S.left K.taken C.given C.count C.last
-            ports.entry.now.source.now ports.exit.now.source.now
-            ports.entry.now.sink.now ports.exit.now.sink.now
-            ports.entry.now.clock.now ports.exit.now.clock.now)
+        ports.entry.now.source.now ports.exit.now.source.now
+        ports.entry.now.sink.now ports.exit.now.sink.now
+        ports.entry.now.clock.now ports.exit.now.clock.now)
         NoReads (S.owed ports.entry.now.source.now) contents (S.left ports.entry.now.source.now) session.old) }
     ensures part { (contents : Option Contents) → OnErr result (SpokePart cecp
         (Moves S.left K.taken C.given C.count C.last
-            ports.entry.now.source.now ports.exit.now.source.now
-            ports.entry.now.sink.now ports.exit.now.sink.now
-            ports.entry.now.clock.now ports.exit.now.clock.now)
+        ports.entry.now.source.now ports.exit.now.source.now
+        ports.entry.now.sink.now ports.exit.now.sink.now
+        ports.entry.now.clock.now ports.exit.now.clock.now)
         NoReads contents session.old) }
     ensures quit { result ≡ Ok Ended.Quit → TookQuit cecp
         (Moves S.left K.taken C.given C.count C.last
-            ports.entry.now.source.now ports.exit.now.source.now
-            ports.entry.now.sink.now ports.exit.now.sink.now
-            ports.entry.now.clock.now ports.exit.now.clock.now) }
+        ports.entry.now.source.now ports.exit.now.source.now
+        ports.entry.now.sink.now ports.exit.now.sink.now
+        ports.entry.now.clock.now ports.exit.now.clock.now) }
     ensures end { result ≡ Ok Ended.InputEnded → IsAtEnd (S.left ports.exit.now.source.now) }
     ensures causes { Causes (S.faults ports.entry.now.source.now) (S.faults ports.exit.now.source.now)
         (K.faults ports.entry.now.sink.now) (K.faults ports.exit.now.sink.now) (IsErrOf result) }

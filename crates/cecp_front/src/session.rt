@@ -43,15 +43,15 @@ impl Model for CecpSession {
     ghost Value = { State };
 
     ghost view = { λ s. record {
-        sections = s.sections;
-        game = s.game;
-        plays = s.plays;
-        posts = s.posts;
-        sd = s.sd;
-        st = s.st;
-        level = s.level;
-        time = s.time;
-        is_over = s.is_over;
+      sections = s.sections;
+      game = s.game;
+      plays = s.plays;
+      posts = s.posts;
+      sd = s.sd;
+      st = s.st;
+      level = s.level;
+      time = s.time;
+      is_over = s.is_over;
     } };
 
     ghost invariant = { λ s. s.variants ≡ entries s.sections };

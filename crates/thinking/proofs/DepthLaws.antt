@@ -2,10 +2,7 @@
 use Rattle.std.proofs.Common.{◌≡◌, ℕ, zero, suc, ◌+◌, ◌-◌, ◌≤◌, ◌<◌, List, [], ◌∷◌, ◌++◌, length, get_or, Option, Some, None, refl, sym, ap, subst, ◌∙◌, ◌⊎◌, inl, inr, arith}
 use Rattle.std.specs.Prelude.{IfSome, ⊤}
 use Rattle.std.specs.Option.{option_map}
-use Rattle.std.specs.Io.KnownBytes.{Appends}
-use Rattle.std.specs.List.{concat}
 use Rattle.std.proofs.lemmas.List.{append-nil, length-append}
-use Rattle.io_ports.specs.Clock.{GivesReadings, count_after, last_after}
 use Rattle.io_ports.specs.declared.dialect.Dialect.{Dialect}
 use Rattle.io_ports.specs.declared.limits.Limits.{Limits}
 use Rattle.io_ports.specs.Lines.{Line, Text}
@@ -15,17 +12,17 @@ use Rattle.io_ports.specs.Trace.{Moves}
 use Rattle.io_ports.proofs.Owing.{spends_more, spends_none, spends_wider}
 use Rattle.rules_model.specs.declared.moves.Move.{Move}
 use Rattle.game_play.specs.Played.{story}
-use Rattle.game_values.specs.Bounds.{asked_bound, depths_bound, search_bound}
+use Rattle.game_values.specs.Bounds.{depths_bound, search_bound}
 use Rattle.watching.specs.declared.halt.Cut.{Cut}
 use Rattle.watching.specs.declared.halt.Cut.TheVariants as cut
-use Rattle.watching.specs.EventLaws.{listens_more, ran_holds, ran_more, ran_none, readings-append}
-use Rattle.watching.specs.Events.{Event, Listens, readings}
-use Rattle.watching.specs.Looks.{Broke, Moved, Ran, held}
-use Rattle.session_model.proofs.Reports.{depths_grow, depths_more, last_announced_snoc, last_best_snoc, reports_snoc, search_bound-some, searches_more, solve_bound-some}
+use Rattle.watching.specs.EventLaws.{ran_holds, ran_more, ran_none, readings-append}
+use Rattle.watching.specs.Events.{Event, readings}
+use Rattle.watching.specs.Looks.{held}
+use Rattle.session_model.proofs.Reports.{depths_grow, depths_more, last_announced_snoc, last_best_snoc, reports_snoc, search_bound-some, searches_more}
 use Rattle.session_model.specs.Deadlines.{deadline_of}
 use Rattle.session_model.specs.Mates.{Announced}
 use Rattle.session_model.specs.Events.{IsStopped}
-use Rattle.session_model.specs.Thinking.{Task, Report, Cause, Ending, Interrupted, Whole, InSearch, InSolve, AreReports, Deepens, IsOpen, IsReport, MayCut, MayEnd, announced_by, last_announced, last_best, open_report, reported, searches_upto, solve_within}
+use Rattle.session_model.specs.Thinking.{Task, Report, Cause, Ending, Interrupted, Whole, InSearch, InSolve, AreReports, Deepens, IsOpen, IsReport, MayCut, MayEnd, announced_by, last_announced, last_best, open_report, searches_upto, solve_within}
 use Rattle.session_model.specs.UciSession.{first_of}
 use Rattle.turning.specs.Lines.{Follows, Held, none, one}
 use Rattle.thinking.specs.declared.depth.Depth.{Depth}
@@ -39,9 +36,9 @@ use Rattle.thinking.specs.Depths.{BrokeDepth, BrokeOff, Deepened, Deepening, Dee
 use Rattle.thinking.specs.Judging.{bound_at}
 use Rattle.thinking.specs.Tells.{BrokeHeld, Tells}
 use Rattle.thinking.specs.Views.{kept_seen, report_of}
-use Rattle.thinking.proofs.CutLaws.{cuts_after, cuts_as, cuts_untold, cuts_wider}
+use Rattle.thinking.proofs.CutLaws.{cuts_after, cuts_as, cuts_wider}
 use Rattle.thinking.proofs.RanLaws.{broke_held_more}
-use Rattle.thinking.proofs.TellLaws.{tells_listens, tells_more, tells_none}
+use Rattle.thinking.proofs.TellLaws.{tells_more, tells_none}
 
 -- the first root move
 pub first_read : (roots : List Move) (other past : Move) → 0 < length roots → get_or roots 0 past ≡ first_of other roots

@@ -1,6 +1,6 @@
 -- What is found at a depth is a true report.
-use Rattle.std.proofs.Common.{◌≡◌, ℕ, zero, suc, get_or, eq-eqb, ◌+◌, ◌≤◌, ◌<◌, ◌^◌, List, [], ◌∷◌, length, Option, Some, None, true, refl, sym, ap, subst, ◌∙◌, inl, inr, arith, ℤ, pos, negsuc, ◌≤ℤ◌, ◌<ℤ◌}
-use Rattle.std.specs.Prelude.{IfSome, slice_index_or}
+use Rattle.std.proofs.Common.{◌≡◌, ℕ, zero, suc, get_or, eq-eqb, ◌≤◌, ◌<◌, ◌^◌, List, [], ◌∷◌, length, Option, Some, None, true, refl, sym, ap, subst, ◌∙◌, inl, inr, arith, ℤ, pos, negsuc, ◌≤ℤ◌, ◌<ℤ◌}
+use Rattle.std.specs.Prelude.{IfSome}
 use Rattle.std.specs.List.{All}
 use Rattle.std.proofs.lemmas.Int.{ints}
 use Rattle.foundation.specs.Member.{Member}
@@ -9,7 +9,7 @@ use Rattle.rules_model.specs.declared.board.Repeat.{Repeat}
 use Rattle.rules_model.specs.declared.board.Side.{Side}
 use Rattle.rules_model.specs.Sides.{other}
 use Rattle.rules_model.specs.Sound.{is_sound}
-use Rattle.game_play.specs.Played.{Played, IsPlayed, legal_in, story}
+use Rattle.game_play.specs.Played.{Played, IsPlayed, legal_in}
 use Rattle.session_model.proofs.Shown.{evidence_is_sound, roots_of_shown}
 use Rattle.session_model.specs.Mates as Mates
 use Rattle.session_model.specs.Mates.{IsEvidence, IsShown, counters_of, favoured, mover, position_at, root_move}
@@ -23,7 +23,7 @@ use Rattle.thinking.specs.declared.found.Score.{Score}
 use Rattle.thinking.specs.declared.found.Score.TheVariants as score
 use Rattle.thinking.specs.declared.task.Task.{Task as Asked}
 use Rattle.thinking.specs.Judging.{IsFinding, search_at}
-use Rattle.thinking.specs.Views.{IsTask, evidence_of, evidence_seen, report_of, score_seen}
+use Rattle.thinking.specs.Views.{IsTask, evidence_of, evidence_seen, score_seen}
 
 -- ---- legal moves
 

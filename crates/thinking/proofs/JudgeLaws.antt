@@ -7,7 +7,6 @@ use Rattle.std.specs.List.{concat}
 use Rattle.io_ports.specs.Clock.{GivesReadings, count_after, last_after}
 use Rattle.io_ports.specs.declared.dialect.Dialect.{Dialect}
 use Rattle.io_ports.specs.declared.limits.Limits.{Limits}
-use Rattle.io_ports.specs.Owing.{Spends}
 use Rattle.io_ports.specs.Sink.{AppendsFront}
 use Rattle.io_ports.specs.Source.{Owed, Untold}
 use Rattle.io_ports.specs.Trace.{Moves}
@@ -18,11 +17,10 @@ use Rattle.watching.specs.declared.halt.Cut.{Cut}
 use Rattle.watching.specs.declared.halt.Cut.TheVariants as cut
 use Rattle.watching.specs.EventLaws.{broke_more, listens_more, ran_holds, ran_more, ran_none, readings-append}
 use Rattle.watching.specs.Events.{Event, Listens, readings}
-use Rattle.watching.specs.Looks.{Broke, Moved, Ran, held}
+use Rattle.watching.specs.Looks.{Broke}
 use Rattle.watching.specs.Watched.{World, Moment, MovesOn, Gone}
 use Rattle.session_model.proofs.Reports.{solve_bound-some, sought_is_near}
-use Rattle.session_model.specs.Thinking.{Task, IsOpen, IsReport, mate_sought, solve_within}
-use Rattle.thinking.specs.declared.depth.Depth.{Depth}
+use Rattle.session_model.specs.Thinking.{Task, mate_sought, solve_within}
 use Rattle.thinking.specs.declared.depth.Depth.TheVariants.{Done, Off}
 use Rattle.thinking.specs.declared.found.CutSolve.{CutSolve}
 use Rattle.thinking.specs.declared.found.Found.{Found}
@@ -30,12 +28,12 @@ use Rattle.thinking.specs.declared.judging.Explored.TheVariants as explored
 use Rattle.thinking.specs.declared.judging.Judged.{Judged}
 use Rattle.thinking.specs.declared.style.Style.{Style}
 use Rattle.thinking.specs.Cuts.{CutsBy}
-use Rattle.thinking.specs.Depths.{BrokeDepth, Deeper, IsDepth, cut_in, reach_at, reports_in}
+use Rattle.thinking.specs.Depths.{BrokeDepth, Deeper, IsDepth}
 use Rattle.thinking.specs.Judging.{IsExplored, IsFinding, IsJudged, asked_at, bound_at, search_at, solve_cut, solve_reach}
-use Rattle.thinking.specs.Tells.{BrokeHeld, Tells, lines_by, reads_by}
+use Rattle.thinking.specs.Tells.{Tells, lines_by, reads_by}
 use Rattle.thinking.specs.Views.{report_of}
 use Rattle.thinking.proofs.CutLaws.{cuts_after, cuts_more, cuts_of_watch, cuts_untold, cuts_wider}
-use Rattle.thinking.proofs.RanLaws.{broke_held, broke_told, ran_told, readings_told, told, told_moves}
+use Rattle.thinking.proofs.RanLaws.{broke_held, broke_told, ran_told, told, told_moves}
 use Rattle.thinking.proofs.TellLaws.{listens_none, listens_tells, tells_told}
 
 -- what holds of a judgement with these parts

@@ -1,10 +1,10 @@
 -- What is told of one depth after another.
-use Rattle.std.proofs.Common.{◌≡◌, ℕ, ◌+◌, List, [], ◌∷◌, ◌++◌, map, length, Option, Some, None, refl, sym, ap, subst, ◌∙◌, arith}
+use Rattle.std.proofs.Common.{◌≡◌, ℕ, ◌+◌, List, [], ◌∷◌, ◌++◌, map, length, Option, Some, refl, sym, ap, subst, ◌∙◌}
 use Rattle.std.proofs.lemmas.List.{append-nil, map-append}
 use Rattle.io_ports.specs.declared.dialect.Dialect.{Dialect}
 use Rattle.rules_model.specs.declared.rules.Rules.{Rules}
 use Rattle.watching.specs.EventLaws.{listens_silent, listens_unstopped}
-use Rattle.watching.specs.Events.{Event, Says, Reads, AreUnstopped, Listens, said}
+use Rattle.watching.specs.Events.{Event, Listens, said}
 use Rattle.session_model.proofs.Joined.{clock_left, clocked_append, clocked_listens, said-append, unstopped_more}
 use Rattle.session_model.proofs.Reports.{depth_lines-append, post_lines-append}
 use Rattle.session_model.specs.Events.{clocked}

@@ -1,5 +1,5 @@
 -- Solves within 1, 2, .. moves, one after another.
-use Rattle.std.proofs.Common.{◌≡◌, ℕ, zero, suc, ◌+◌, ◌-◌, ◌≤◌, ◌<◌, List, [], ◌++◌, Option, Some, None, refl, sym, subst, arith}
+use Rattle.std.proofs.Common.{◌≡◌, ℕ, zero, suc, ◌+◌, ◌-◌, ◌≤◌, List, [], ◌++◌, Option, Some, None, sym, subst, arith}
 use Rattle.io_ports.specs.declared.dialect.Dialect.{Dialect}
 use Rattle.io_ports.specs.declared.limits.Limits.{Limits}
 use Rattle.io_ports.specs.Owing.{Spends}
@@ -13,12 +13,11 @@ use Rattle.watching.specs.EventLaws.{broke_more, listens_more, ran_holds, ran_mo
 use Rattle.watching.specs.Events.{Event, Listens, readings}
 use Rattle.watching.specs.Looks.{Broke, MayCut, Ran, held}
 use Rattle.watching.specs.Watched.{World, Moment, MovesOn, Gone, moment}
-use Rattle.session_model.proofs.Reports.{solve_bound-some}
 use Rattle.session_model.proofs.Shown.{no_shorter_more, no_shorter_than_one}
-use Rattle.session_model.specs.Mates.{HasNoShorter, IsNoWin, mover}
+use Rattle.session_model.specs.Mates.{IsNoWin, mover}
 use Rattle.session_model.specs.UciSession.{Decides}
 use Rattle.thinking.specs.declared.mates.Tried.{Tried}
-use Rattle.thinking.specs.declared.mates.Tried.TheVariants.{Stopped, NoMate}
+use Rattle.thinking.specs.declared.mates.Tried.TheVariants.{NoMate}
 use Rattle.thinking.specs.Cuts.{CutsBy}
 use Rattle.thinking.specs.Tries.{BrokeTrying, IsCutBy, IsMate, IsTried, Trying, answer_seen, cut_in}
 use Rattle.thinking.proofs.CutLaws.{cuts_later, cuts_of_watch, cuts_wider}

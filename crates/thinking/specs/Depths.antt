@@ -13,7 +13,7 @@ use Rattle.watching.specs.Events.{readings}
 use Rattle.watching.specs.Looks.{Moved, Ran, held}
 use Rattle.session_model.specs.Events.{IsStopped}
 use Rattle.session_model.specs.Mates.{Announced}
-use Rattle.session_model.specs.Thinking.{Task, Report, Ending, AreReports, Deepens, IsOpen, IsReport, last_announced, last_best, reported, searches_upto, solve_within}
+use Rattle.session_model.specs.Thinking.{Task, Report, Ending, AreReports, Deepens, IsOpen, IsReport, last_announced, last_best, reported, searches_upto}
 use Rattle.turning.specs.Lines.{Follows, Held}
 use Rattle.thinking.specs.Cuts.{CutsBy, IsEndedBy}
 use Rattle.thinking.specs.Judging.{bound_at, search_at, solve_cut, solve_reach}
@@ -22,8 +22,6 @@ use Rattle.thinking.specs.Views.{kept_seen, report_of}
 use Rattle.thinking.specs.declared.deepening.Depths.{Depths}
 use Rattle.thinking.specs.declared.depth.Depth.{Depth}
 use Rattle.thinking.specs.declared.depth.Depth.TheVariants.{Done, Off}
-use Rattle.thinking.specs.declared.found.CutSolve.{CutSolve}
-use Rattle.thinking.specs.declared.found.Found.{Found}
 use Rattle.thinking.specs.declared.style.Style.{Style}
 
 -- ---- one depth

@@ -1,8 +1,8 @@
-use Rattle.std.proofs.Common.{◌≡◌, ◌∙◌, ◌+◌, ◌-◌, ◌<◌, ◌≤◌, ℕ, [], Option, Some, None, Ok, Err, refl, sym, ap, subst, arith, rules}
+use Rattle.std.proofs.Common.{◌≡◌, ◌∙◌, ◌-◌, Err, refl, sym, arith, rules}
 use Rattle.std.specs.Option.{option_map}
 use Rattle.session_model.specs.UciSession.{first_of}
 use Rattle.thinking.specs.Views.{kept_seen, task_seen}
-use Rattle.thinking.proofs.DepthLaws.{deepening_broke, deepening_left, deepening_more, deepening_none, deepening_off, deepening_whole, first_read}
+use Rattle.thinking.proofs.DepthLaws.{deepening_broke, deepening_left, deepening_more, deepening_none, deepening_off, first_read}
 use Rattle.thinking.proofs.deepening.deepen.Goals as goal
 
 pub loop-done-init : goal.loop-done-init

@@ -1,4 +1,4 @@
-use Rattle.std.proofs.Common.{◌≡◌, ◌∙◌, ◌+◌, ◌-◌, ◌<◌, ◌≤◌, ℕ, [], ◌∷◌, Option, Some, None, Ok, Err, refl, sym, ap, subst, arith, rules}
+use Rattle.std.proofs.Common.{◌≡◌, ◌∙◌, [], ◌∷◌, refl}
 use Rattle.std.specs.List.{concat}
 use Rattle.io_ports.proofs.Moved.{appends_none}
 use Rattle.thinking.specs.Tells.{lines_by}

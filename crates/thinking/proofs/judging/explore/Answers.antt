@@ -1,4 +1,4 @@
-use Rattle.std.proofs.Common.{◌≡◌, ◌∙◌, ◌<◌, ◌≤◌, ◌^◌, ℕ, Option, Some, None, Ok, Err, refl, sym, ap, subst, arith, rules, pos, ◌≤ℤ◌, ◌<ℤ◌}
+use Rattle.std.proofs.Common.{◌≡◌, Err, refl, rules}
 use Rattle.io_ports.specs.declared.limits.SearchFault.TheVariants as fault
 use Rattle.watching.specs.LookLaws.{on_err}
 use Rattle.watching.specs.Watched.{moment, world}

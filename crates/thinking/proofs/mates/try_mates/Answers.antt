@@ -1,14 +1,14 @@
-use Rattle.std.proofs.Common.{◌≡◌, ◌∙◌, ◌+◌, ◌-◌, ◌<◌, ◌≤◌, ℕ, [], Option, Some, None, Ok, Err, refl, sym, ap, subst, arith, rules}
+use Rattle.std.proofs.Common.{◌≡◌, ◌∙◌, ◌+◌, Some, None, Err, refl, sym, ap, subst, arith, rules}
 use Rattle.io_ports.specs.declared.limits.SearchFault.TheVariants as fault
 use Rattle.rules_model.specs.declared.board.Position.{Position}
 use Rattle.rules_model.specs.declared.board.Side.{Side}
 use Rattle.watching.specs.Watched.{moment, world}
 use Rattle.session_model.specs.Mates as Mates
 use Rattle.session_model.specs.Mates.{IsEvidence, IsNoWin, IsShown}
-use Rattle.thinking.specs.declared.mates.Tried.TheVariants.{Shown, Unsettled, Stopped, NoMate}
+use Rattle.thinking.specs.declared.mates.Tried.TheVariants.{Shown, Unsettled, Stopped}
 use Rattle.thinking.specs.Views.{evidence_of}
 use Rattle.thinking.proofs.FindingLaws.{evidence_same, root_there}
-use Rattle.thinking.proofs.TryLaws.{stopped_by, trying_broke, trying_decides, trying_done, trying_more, trying_none, trying_whole}
+use Rattle.thinking.proofs.TryLaws.{stopped_by, trying_broke, trying_decides, trying_done, trying_more}
 use Rattle.thinking.proofs.mates.try_mates.Goals as goal
 
 pub returns-in_err-solved-clause-broke : goal.returns-in_err-solved-clause-broke

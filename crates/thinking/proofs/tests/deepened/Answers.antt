@@ -1,4 +1,4 @@
-use Rattle.std.proofs.Common.{◌∙◌, ◌<◌, refl, length, arith, rules}
+use Rattle.std.proofs.Common.{◌∙◌, ◌<◌, refl, length, arith}
 use Rattle.std.proofs.lemmas.Grind.{common_steps}
 use Rattle.thinking.proofs.FindingLaws.{whole_task}
 use Rattle.thinking.proofs.tests.deepened.Goals as goal
