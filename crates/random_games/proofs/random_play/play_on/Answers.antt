@@ -2,7 +2,7 @@ use Rattle.std.proofs.Common.{◌≡◌, ◌-◌, ◌<◌, ◌∙◌, sym, arith
 use Rattle.session_model.specs.Generate.{random_game}
 use Rattle.random_games.specs.Steps.{PlaysOne}
 use Rattle.random_games.proofs.StepLemmas.{none_left, stopped}
-use Rattle.random_games.proofs.playing.play_on.Goals as goal
+use Rattle.random_games.proofs.random_play.play_on.Goals as goal
 
 pub returns-then-not-branch : goal.returns-then-not-branch
 returns-then-not-branch c =

@@ -1,6 +1,6 @@
 use Rattle.std.proofs.Common.{◌%◌, ◌<◌, length, arith}
 use Rattle.random_games.proofs.StepLemmas.{picks_at}
-use Rattle.random_games.proofs.playing.picked.Goals as goal
+use Rattle.random_games.proofs.random_play.picked.Goals as goal
 
 pub returns : goal.returns
 returns c =

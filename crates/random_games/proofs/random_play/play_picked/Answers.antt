@@ -4,7 +4,7 @@ use Rattle.rules_model.specs.declared.moves.Move.{Move}
 use Rattle.game_play.specs.Played.{Played, legal_in}
 use Rattle.session_model.specs.Generate.{random_game}
 use Rattle.random_games.proofs.StepLemmas.{stepped, stuck}
-use Rattle.random_games.proofs.playing.play_picked.Goals as goal
+use Rattle.random_games.proofs.random_play.play_picked.Goals as goal
 
 pub returns-in-Ok-clause-plays : goal.returns-in-Ok-clause-plays
 returns-in-Ok-clause-plays c =

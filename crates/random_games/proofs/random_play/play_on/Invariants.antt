@@ -1,6 +1,6 @@
 use Rattle.std.proofs.Common.{◌≡◌, ◌+◌, ◌-◌, ◌≤◌, length}
 use Rattle.session_model.specs.Generate.{random_game}
-use Rattle.random_games.proofs.playing.play_on.Given as goal
+use Rattle.random_games.proofs.random_play.play_on.Given as goal
 
 abbrev pub invariant-loop-ply : goal.invariant-loop-ply
 invariant-loop-ply l =

@@ -1,6 +1,6 @@
 use Rattle.std.proofs.Common.{sym, arith}
 use Rattle.random_games.proofs.StepLemmas.{ended}
-use Rattle.random_games.proofs.playing.play_one.Goals as goal
+use Rattle.random_games.proofs.random_play.play_one.Goals as goal
 
 pub returns-in_default : goal.returns-in_default
 returns-in_default c = record {
