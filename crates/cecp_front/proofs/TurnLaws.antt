@@ -287,6 +287,11 @@ long_goes_on next text is = elim is [
   ]
 ]
 
+-- the line that was taken ends the session or does not, by its text
+pub last_as : (next : Got) (text line : List ℕ) (r b : Bool) → text ≡ line → r ≡ cecp.quits (got_line next text) → r ≡ b
+    → cecp.quits (got_line next line) ≡ b
+last_as next text line r b same is said = ap (λ t. cecp.quits (got_line next t)) (sym same) ∙ sym is ∙ said
+
 pub is_line : (next : Got) → (next ≡ got.Line) ⊎ (next ≡ got.TooLong) → HasLine next
 is_line next (inl line) = subst HasLine (sym line) tt
 is_line next (inr long) = subst HasLine (sym long) tt
