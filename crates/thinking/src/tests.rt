@@ -1,8 +1,8 @@
 ghost use Rattle.std.specs.Prelude.{◌≡◌, ◌≤◌, None};
 
 use crate::{
-    Depths, Evidence, Found, Score, Start, Style, Task, Tried, deepen, depth_line, lines_of,
-    try_mates, unsettled_line,
+    Depths, Evidence, Found, Score, Style, Task, Tried, begin, deepen, lines_of, try_mates,
+    unsettled_line,
 };
 use game_play::Game;
 use io_ports::{
@@ -129,16 +129,20 @@ fn lines_on_evidence(rt: HostRuntime) -> Result<(), Fail> {
 /// King and queen against a king: g6g7 mates.
 const MATE: &str = "kh8 Kf6 Qg6";
 
-/// Lines that are heard, and how many polls come before them.
+/// Lines that are heard, how many polls come before them, and limits.
 #[derive(Clone, Copy)]
 struct Heard<'l> {
     lines: &'l [u8],
     owed: PollsOwed,
+    share: Option<u64>,
+    deadline: Option<u64>,
 }
 
 const NOTHING: Heard<'static> = Heard {
     lines: b"",
     owed: PollsOwed::Endless,
+    share: None,
+    deadline: None,
 };
 
 /// What one depth after another comes to over all legal moves, and what is written.
@@ -164,16 +168,13 @@ fn deepened<R: Threads + Wait + Abort + Sync>(
         roots: roots.items.as_slice(),
         all: true,
         depths,
-        share: None,
-        time: None,
-    };
-    let begun = Start {
-        first: 100,
-        deadline: None,
+        share: heard.share,
+        time: heard.deadline,
     };
     let mut source = MemSource::new(alloc, heard.lines, heard.owed, &[])?;
     let mut sink = MemSink::new(alloc, 1000)?;
-    let mut clock = ListClock::new(alloc, &[130, 90])?;
+    let mut clock = ListClock::new(alloc, &[100, 130, 90])?;
+    let begun = begin(&mut clock, task.time);
     let mut line = LineBuf::new(alloc)?;
     let mut mind = Mind::new(alloc, 1)?;
     let depths = deepen(
@@ -211,16 +212,45 @@ fn depths_are_told(rt: HostRuntime) -> Result<(), Fail> {
     let stop = Heard {
         lines: b"isready\nstop\n",
         owed: PollsOwed::Number(0),
+        ..NOTHING
+    };
+    let one_node = Heard {
+        share: Some(1),
+        ..NOTHING
+    };
+    let soon = Heard {
+        deadline: Some(20),
+        ..NOTHING
     };
     let rows = [
         (
             MATE,
-            Style::Uci,
+            Style::Silent,
             2u8,
+            one_node,
+            "f6e5",
+            Some(Cut::Quota(1)),
+            0u16,
+            "",
+        ),
+        (
+            MATE,
+            Style::Silent,
+            2,
+            soon,
+            "f6e5",
+            Some(Cut::Deadline(130)),
+            0,
+            "",
+        ),
+        (
+            MATE,
+            Style::Uci,
+            2,
             NOTHING,
             "g6g7",
             None,
-            1u16,
+            1,
             "info depth 1 score mate 1 pv g6g7\ninfo depth 2 score mate 1 pv g6g7\n",
         ),
         (MATE, Style::Silent, 2, NOTHING, "g6g7", None, 1, ""),
@@ -256,6 +286,22 @@ fn depths_are_told(rt: HostRuntime) -> Result<(), Fail> {
             assert_eq!(rt; kept_moves(&told), kept);
         }
     }
+    Ok(())
+}
+
+// The first reading is 100, and those after the depths are 130 and 90.
+#[test]
+fn times_and_nodes_are_told(rt: HostRuntime) -> Result<(), Fail> {
+    let mut written = Vec::new(rt.alloc());
+    let told = deepened(&rt, rt.alloc(), MATE, Style::Post, 2, NOTHING, &mut written)?;
+    assert!(rt; told.is_ok());
+    let text = written.as_slice();
+    assert!(rt; text.starts_with(b"1 100001 3 "));
+    assert!(rt; !text.starts_with(b"1 100001 3 0 "));
+    assert!(rt; text.ends_with(b" g6g7\n"));
+    let (first, second) = text.split_at(text.iter().position(|byte| *byte == b'\n').unwrap_or(0));
+    assert!(rt; first.ends_with(b" g6g7"));
+    assert!(rt; second.starts_with(b"\n2 100001 0 "));
     Ok(())
 }
 
@@ -327,6 +373,7 @@ fn mates_are_tried(rt: HostRuntime) -> Result<(), Fail> {
     let stop = Heard {
         lines: b"stop\n",
         owed: PollsOwed::Number(0),
+        ..NOTHING
     };
     let rows = [
         (MATE, 3u16, free, NOTHING, Answer::Shown(1, go("g6g7"))),

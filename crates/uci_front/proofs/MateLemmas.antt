@@ -9,7 +9,9 @@ use Rattle.io_ports.specs.Heard.{stops}
 use Rattle.io_ports.specs.Lines.{Line, Text}
 use Rattle.io_ports.specs.Owing.{Lacks, Spends}
 use Rattle.io_ports.specs.Source.{Owed}
+use Rattle.io_ports.specs.Sink.{AppendsFront}
 use Rattle.io_ports.specs.Trace.{Moves}
+use Rattle.std.specs.Io.KnownBytes.{Appends}
 use Rattle.game_play.specs.Played.{Played, IsPlayed, legal_in, story}
 use Rattle.game_values.specs.Bounds.{depths_bound, mates_bound, solve_bound, solves_bound}
 use Rattle.rules_model.specs.declared.moves.Move.{Move}
@@ -24,8 +26,8 @@ use Rattle.session_model.specs.Mates.{Announced, IsEvidence, IsShown, mover, roo
 use Rattle.session_model.specs.Thinking as Thinking
 use Rattle.session_model.specs.Thinking.{Task, Report, Ending, InSearch, Cause, Interrupted, Deepens, MayCut, last_announced, last_best, reported}
 use Rattle.session_model.specs.Turns.{Turn}
-use Rattle.session_model.specs.UciGo.{Go, is_held, last_mate}
-use Rattle.session_model.specs.UciSession.{AnswersMate, Decides, Goes, MateAnswer, Searches, Shown, Unsettled, Stopped, NoMate, announced, go_bound, task_after_mate}
+use Rattle.session_model.specs.UciGo.{Go, is_held, last_mate, time_for}
+use Rattle.session_model.specs.UciSession.{AnswersMate, Decides, Goes, MateAnswer, Searches, Shown, Unsettled, Stopped, NoMate, announced, first_of, go_bound, task_after_mate}
 use Rattle.session_model.specs.UciState.{State}
 use Rattle.session_model.specs.UciTexts.{best_line, depth_line, depth_lines, no_mate_line, stopped_line, unsettled_line}
 use Rattle.strategy.specs.declared.nodes.Strategy.{Strategy}
@@ -40,7 +42,7 @@ use Rattle.thinking.specs.Depths.{BrokeOff, Deepened}
 use Rattle.thinking.specs.Tells.{Tells}
 use Rattle.thinking.specs.Tries.{BrokeTrying, IsCutBy, IsMate, IsTried, answer_seen, cut_in}
 use Rattle.thinking.specs.Views.{evidence_of, kept_seen}
-use Rattle.turning.proofs.Saying.{held_cut, part_more, part_of_broke, part_then}
+use Rattle.turning.proofs.Saying.{broke_say, held_cut, part_more, part_of_broke, part_then, ran_say, unsaid}
 use Rattle.turning.specs.Lines.{Follows, none}
 use Rattle.turning.specs.Turned.{RanPart}
 use Rattle.uci_front.specs.declared.plan.Plan.{Plan}
@@ -50,7 +52,7 @@ use Rattle.uci_front.specs.PlanView.{IsPlan, IsSayable, mate_said}
 use Rattle.uci_front.specs.Trying.{came_by}
 use Rattle.uci_front.proofs.GoLemmas.{held_follows, held_stopped}
 use Rattle.uci_front.proofs.SearchLemmas.{bound_mate, concludes_of, deepens_kept, deepens_timeless, goes_mate, listens_said, listens_unstopped, may_cut_read, may_cut_wider, searches_of, shown_sound, turn_readings}
-use Rattle.uci_front.proofs.ThinkLemmas.{came_of, depths_stop, mate_some, perft_none, printable_of, read_part}
+use Rattle.uci_front.proofs.ThinkLemmas.{came_of, depths_stop, mate_some, perft_none, printable_of, read_part, read_then}
 use Rattle.watching.specs.declared.halt.Cut.{Cut}
 use Rattle.watching.specs.declared.halt.Cut.TheVariants as cut
 use Rattle.watching.specs.Events.{Event, Says, Reads, AreUnstopped, Listens, lines_of, readings, said, written}
@@ -132,7 +134,7 @@ module _ (A : Type 0) (state : State) (plan : Plan) (asked : Go) (is : IsPlan st
         ∙ ap (λ r. r ++ readings heard) (mate_readings reading events stopped_line) in
         as_mate turn following (Stopped n cause) (
           decides,
-          subst (λ share. MayCut Uci A share _ bound (readings turn.events) following cause) is.share_is
+          subst (λ share. MayCut Uci A share (time_for asked (mover state.game)) bound (readings turn.events) following cause) is.share_is
               (subst (λ time. MayCut Uci A plan.share time bound (readings turn.events) following cause) is.time_is
               (subst (λ r. MayCut Uci A plan.share plan.time bound r following cause) (sym taken)
               (may_cut_read A plan.share plan.time bound reading (readings events) (readings heard) following cause cut))),
@@ -361,6 +363,10 @@ searched_after (tried.Stopped n why) first is = cc
 searched_after (tried.Unsettled n e) first is = tt
 searched_after tried.NoMate first is = tt
 
+-- no line is held
+pub ran_unheld : {moved : Moved} {behind : List Line} {P : List Event → Type 0} → behind ≡ [] → Ran Uci moved behind P → Ran Uci moved [] P
+ran_unheld {moved = moved} {P = P} is ran = subst (λ behind. Ran Uci moved behind P) is ran
+
 pub uncut_after : (t : Tried) (first : Move) (text : List ℕ) → came_by first t ≡ None → held (cut_in t) text ≡ []
 uncut_after (tried.Shown n s best) first text is = cc
 uncut_after (tried.Stopped n why) first text is = cc
@@ -380,15 +386,14 @@ one_is state plan asked is = ap at is.legal_is
 module _ {S K C : Type 0} {left : S → Option (List ℕ)} {taken : K → Option (List ℕ)} {given : C → Option (List ℕ)} {count last_of : C → ℕ}
     (state : State) (plan : Plan) (perft : plan.perft ≡ None) (last : ℕ) (mate : plan.mate ≡ Some last)
     (first : Move) (more : List Move) (legal : plan.legal ≡ first ∷ more) (reading : ℕ) where
-  module _ {s s' s'' : S} {k k' k'' : K} {c c' c'' : C} {owed owed' : Owed} (limits : Limits) (text' said : List ℕ) (t : Tried) (m : IsMate state.game last (answer_seen t)) (is_after : IsAfter (answer_seen t))
+  module _ {s s' s'' : S} {k k' k'' : K} {c c' c'' : C} {owed : Owed} (limits : Limits) (text' said : List ℕ) (t : Tried) (m : IsMate state.game last (answer_seen t)) (is_after : IsAfter (answer_seen t))
       (said_is : said ≡ mate_said state.game.rules last (answer_seen t))
-      (spends : Spends owed owed' (solves_bound state.game.rules last (story state.game)))
       (told : Ran Uci (Moves left taken given count last_of s s' k k' c c') [] (MateTold owed limits state.game last reading text' t said)) where
     -- depth 1 was searched, or cut
-    pub after_comes : {owed'' : Owed} (text : List ℕ) (depths : Depths)
-        → Deepened Uci style.Uci (Moves left taken given count last_of s' s'' k' k'' c' c'') owed' owed'' (depth_one state plan) first reading text depths
+    pub after_comes : {owed' owed'' : Owed} → Spends owed owed' (solves_bound state.game.rules last (story state.game)) → (text : List ℕ) (depths : Depths)
+        → Deepened Uci style.Uci (Moves left taken given count last_of s' s'' k' k'' c' c'') owed' owed'' (depth_one state plan) (first_of first plan.legal) reading text depths
         → HasCome (Moves left taken given count last_of s s'' k k'' c c'') owed owed'' state plan text (came_of depths)
-    after_comes {owed'' = owed''} text depths d = record {
+    after_comes {owed' = owed'} {owed'' = owed''} spends text depths d = record {
       ran = record {
         events = told.events ++ d.ran.events;
         went = moves_at (moves_more told.went d.ran.went)
@@ -410,7 +415,8 @@ module _ {S K C : Type 0} {left : S → Option (List ℕ)} {taken : K → Option
               Uci (task_after_mate state) d.reports d.ending (reading ∷ readings d.ran.events) following
               (subst (λ t. Deepens Uci (Lacks owed' (depths_bound state.game.rules 1 (story state.game))) t d.reports d.ending (reading ∷ readings d.ran.events) following)
               (one_is state plan asked is) (d.ran.holds.1 following follows)))
-              d.ran.holds.0.unstopped d.ran.holds.0.lines_are d.best_is d.kept_is
+              d.ran.holds.0.unstopped d.ran.holds.0.lines_are
+              (d.best_is ∙ ap (λ l. last_best (first_of first l) (reported d.reports d.ending)) legal) d.kept_is
               (events_are ∙ ap (λ e. ((e ++ d.ran.events) ++ heard) ++ Says (best_line depths.best) ∷ []) (told.holds.events_are ∙ ap (mate_events reading told.holds.heard) said_is)) after;
         };
       };
@@ -432,11 +438,12 @@ module _ {S K C : Type 0} {left : S → Option (List ℕ)} {taken : K → Option
       behind = b.behind;
       is_held = b.is_held;
       part = part_more Uci (Completes state plan (Some (last_best first (reported b.reports b.ending))) (last_announced None (reported b.reports b.ending)) b.behind)
-          (λ x y p q. record {
+          (λ (x : List Event) (y : List Event) (p : MateTold owed limits state.game last reading text' t said x)
+              (q : Tells Uci style.Uci state.game.rules reading 1 (reported b.reports b.ending) y × Deepens Uci (Unit {0}) (depth_one state plan) b.reports b.ending (reading ∷ readings y) b.behind). record {
             unstopped = unstopped_more Uci x y (subst (AreUnstopped Uci) (sym p.events_are) (mate_unstopped reading p.heard said p.listens)) q.0.unstopped;
             answers = λ asked is turn events_are after.
                 depth_answer (Unit {0}) state plan asked is perft last mate first more legal reading p.heard [] p.listens tt turn b.behind (λ h. b.stopped)
-                (answer_seen t) m is_after b.reports b.ending y _ _ (reading ∷ readings y)
+                (answer_seen t) m is_after b.reports b.ending y (last_best first (reported b.reports b.ending)) (last_announced None (reported b.reports b.ending)) (reading ∷ readings y)
                 (subst (λ t. Deepens Uci (Unit {0}) t b.reports b.ending (reading ∷ readings y) b.behind) (one_is state plan asked is) q.1)
                 q.0.unstopped q.0.lines_are refl refl
                 (events_are ∙ ap (λ e. e ++ Says (best_line (last_best first (reported b.reports b.ending))) ∷ [])
@@ -469,3 +476,39 @@ module _ {S K C : Type 0} {left : S → Option (List ℕ)} {taken : K → Option
         })
         (read_part (λ events. (heard : List Event) × (events ≡ Reads reading ∷ heard) × Listens Uci heard) (λ events h. (events, refl, h)) start (part_of_broke Uci b.broke));
   }
+
+-- ---- what was tried
+
+pub tried_at : {moved : Moved} {owed owed' : Owed} {limits : Limits} {last : ℕ} {text : List ℕ} {t : Tried} (g g' : Played) → g ≡ g'
+    → IsTried Uci moved owed owed' limits g last text t → IsTried Uci moved owed owed' limits g' last text t
+tried_at {moved = moved} {owed = owed} {owed' = owed'} {limits = limits} {last = last} {text = text} {t = t} g g' same h =
+    subst (λ g. IsTried Uci moved owed owed' limits g last text t) same h
+
+pub trying_at : {moved : Moved} {last : ℕ} (g g' : Played) → g ≡ g' → BrokeTrying Uci moved g last → BrokeTrying Uci moved g' last
+trying_at {moved = moved} {last = last} g g' same h = subst (λ g. BrokeTrying Uci moved g last) same h
+
+module _ {S K C : Type 0} {left : S → Option (List ℕ)} {taken : K → Option (List ℕ)} {given : C → Option (List ℕ)} {count last_of : C → ℕ}
+    {s s' : S} {k k' : K} {c c' c'' : C} {owed owed' : Owed} (limits : Limits) (g : Played) (last reading : ℕ) (text : List ℕ) (t : Tried)
+    (start : Moves left taken given count last_of s s k k c c' [] [] (reading ∷ []))
+    (h : IsTried Uci (Moves left taken given count last_of s s' k k' c' c'') owed owed' limits g last text t) where
+  tried_heard : Ran Uci (Moves left taken given count last_of s s' k k' c c'') (held (cut_in t) text)
+      (λ events. (heard : List Event) × (events ≡ Reads reading ∷ heard) × Listens Uci heard × IsCutBy Uci owed limits g last (readings heard) text t)
+  tried_heard =
+      read_then (λ events. (heard : List Event) × (events ≡ Reads reading ∷ heard) × Listens Uci heard × IsCutBy Uci owed limits g last (readings heard) text t)
+      (λ events p. (events, refl, p.0, p.1)) start h.ran
+
+  -- and what is told of it
+  pub tried_told : {k'' : K} (said : List ℕ) → Appends (taken k') (taken k'') said
+      → Ran Uci (Moves left taken given count last_of s s' k k'' c c'') (held (cut_in t) text) (MateTold owed limits g last reading text t said)
+  tried_told said app =
+      ran_say Uci (MateTold owed limits g last reading text t said) said (told_mate owed limits g last reading text t said) tried_heard app
+
+  pub tried_part : {k'' : K} (said : List ℕ) → AppendsFront (taken k') (taken k'') said
+      → RanPart Uci (Moves left taken given count last_of s s' k k'' c c'') (held (cut_in t) text) (MateTold owed limits g last reading text t said)
+  tried_part said app =
+      broke_say Uci (MateTold owed limits g last reading text t said) said (told_mate owed limits g last reading text t said) tried_heard app
+
+  pub tried_unsaid : (said : List ℕ)
+      → RanPart Uci (Moves left taken given count last_of s s' k k' c c'') (held (cut_in t) text) (MateTold owed limits g last reading text t said)
+  tried_unsaid said =
+      unsaid Uci (MateTold owed limits g last reading text t said) said (told_mate owed limits g last reading text t said) tried_heard

@@ -1,5 +1,5 @@
 -- Searches, and what is told of them, as answers to `go`.
-use Rattle.std.proofs.Common.{◌≡◌, ◌∙◌, ◌≤◌, ℕ, zero, suc, ◌+◌, List, [], ◌∷◌, ◌++◌, length, get_or, Option, Some, None, true, refl, sym, ap, subst, inl, inr, append_assoc, arith}
+use Rattle.std.proofs.Common.{◌≡◌, ◌∙◌, ◌≤◌, ◌<◌, ℕ, zero, suc, ◌+◌, List, [], ◌∷◌, ◌++◌, length, get_or, Option, Some, None, true, refl, sym, ap, subst, inl, inr, append_assoc, arith}
 use Rattle.std.specs.Prelude.{All}
 use Rattle.std.specs.List.{flat_map}
 use Rattle.std.proofs.lemmas.List.{append-nil}
@@ -194,7 +194,7 @@ AreKept rules (Some a) = IsKept rules a
 pub all_of : {X : Type 0} (P : X → Type 0) (xs : List X) → ((x : X) → Member x xs → P x) → All P xs
 all_of P xs h = λ i d below. h (get_or xs i d) (there xs i d below)
   where
-    there : {X : Type 0} (xs : List X) (i : ℕ) (d : X) → i + 1 ≤ length xs → Member (get_or xs i d) xs
+    there : {X : Type 0} (xs : List X) (i : ℕ) (d : X) → i < length xs → Member (get_or xs i d) xs
     there [] i d below = absurd (omega arith)
     there (x ∷ xs) zero d below = inl refl
     there (x ∷ xs) (suc i) d below = inr (there xs i d (omega arith))

@@ -1,5 +1,5 @@
 -- What one depth after another, and mates that are looked for, come to as answers to `go`.
-use Rattle.std.proofs.Common.{◌≡◌, ◌∙◌, ◌⊎◌, inl, inr, ◌≤◌, ◌<◌, ℕ, ◌+◌, ◌*◌, ◌-◌, List, [], ◌∷◌, ◌++◌, length, Bool, true, false, Option, Some, None, refl, sym, ap, subst, append_assoc, arith, eq-eqb}
+use Rattle.std.proofs.Common.{◌≡◌, ◌∙◌, ◌⊎◌, inl, inr, ◌≤◌, ◌<◌, ℕ, ◌+◌, ◌*◌, ◌-◌, List, [], ◌∷◌, ◌++◌, length, Bool, true, false, Option, Some, None, refl, sym, ap, subst, append_assoc, arith, eq-eqb, eqb-true}
 use Rattle.std.specs.Prelude.{All, ◌==◌}
 use Rattle.std.specs.Option.{option_map}
 use Rattle.foundation.specs.Member.{Member}
@@ -40,7 +40,8 @@ use Rattle.thinking.specs.declared.style.Style.TheVariants as style
 use Rattle.thinking.specs.Depths.{BrokeOff, Deepened}
 use Rattle.thinking.specs.Tells.{Tells}
 use Rattle.thinking.specs.Tries.{BrokeTrying, IsCutBy, IsMate, IsTried, answer_seen, cut_in}
-use Rattle.thinking.specs.Views.{kept_seen}
+use Rattle.thinking.specs.declared.task.Task.{Task as Lent}
+use Rattle.thinking.specs.Views.{IsTask, kept_seen}
 use Rattle.turning.proofs.Saying.{held_cut}
 use Rattle.turning.specs.Lines.{Follows, none}
 use Rattle.turning.specs.Turned.{RanPart}
@@ -209,11 +210,14 @@ module _ {S K C : Type 0} {left : S → Option (List ℕ)} {taken : K → Option
     kept = last_announced None (reported b.reports b.ending);
     behind = b.behind;
     is_held = b.is_held;
-    part = read_part _ (λ events holds. record {
+    part = read_part {P = λ events. Tells Uci style.Uci state.game.rules reading 1 (reported b.reports b.ending) events × Deepens Uci (Unit {0}) (plan_task state plan) b.reports b.ending (reading ∷ readings events) b.behind}
+        (Completes state plan (Some (last_best (first_of first plan.roots.items) (reported b.reports b.ending))) (last_announced None (reported b.reports b.ending)) b.behind) (λ events holds. record {
       unstopped = (tt, holds.0.unstopped);
       answers = λ asked is turn events_are after.
-          depths_answer (Unit {0}) state plan asked is perft mate first more legal reading b.reports b.ending events [] _ _ turn b.behind
-          holds.1 holds.0 tt refl refl (events_are ∙ ap (λ e. e ++ _) (sym (append-nil (Reads reading ∷ events)))) after (λ held. b.stopped);
+          depths_answer (Unit {0}) state plan asked is perft mate first more legal reading b.reports b.ending events []
+          (last_best (first_of first plan.roots.items) (reported b.reports b.ending)) (last_announced None (reported b.reports b.ending)) turn b.behind
+          holds.1 holds.0 tt refl refl
+          (events_are ∙ ap (λ e. e ++ Says (best_line (last_best (first_of first plan.roots.items) (reported b.reports b.ending))) ∷ []) (sym (append-nil (Reads reading ∷ events)))) after (λ held. b.stopped);
     }) start (record {
       events = b.broke.events;
       front = b.broke.front;
@@ -309,3 +313,18 @@ ready_one legal g legal_is roots roots_is some = (
 pub mate_range : (plan : Plan) (asked : Go) (state : State) (last : ℕ) → IsPlan state asked plan → plan.mate ≡ Some last → (1 ≤ last) × (last ≤ 100)
 mate_range plan asked state last is some =
     let (n, asks, same) = mate_some plan asked state last is some in (omega (arith, same), omega (arith, same))
+
+-- the same with the plan that the code has open
+pub task_of_plan : (state : State) (g : Played) (roots : List Move) (p plan : Plan) → g ≡ state.game → roots ≡ p.roots.items → p ≡ plan
+    → ◌≡◌ {A = Task} (record { game = g; roots = roots; depths = p.depths; share = p.share; time = p.time }) (plan_task state plan)
+task_of_plan state g roots p plan game_is roots_are plan_is =
+    task_at state g roots p.roots.items p.depths p.share p.time game_is roots_are ∙ ap (plan_task state) plan_is
+
+pub as_task : (t : Lent) → All (λ m. Member m (legal_in t.game.now)) t.roots.now → 0 < length t.roots.now
+    → t.all ≡ (length t.roots.now == length (legal_in t.game.now)) → 1 ≤ t.depths → t.depths ≤ 64 → IsTask t
+as_task t legal some all least most = record { legal = legal; some = some; all = all; least = least; most = most }
+
+-- a list without elements is empty
+pub empty_by : (xs : List Move) (len : ℕ) → len ≡ length xs → (len == 0) ≡ true → xs ≡ []
+empty_by [] len is none_there = refl
+empty_by (x ∷ xs) len is none_there = let zero_is = eqb-true len 0 none_there in absurd (omega (arith, zero_is, is))

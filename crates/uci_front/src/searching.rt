@@ -72,10 +72,12 @@ fn search_depths<R: Threads + Wait + Sync, S: Source, K: Sink, C: Clock, G: Gate
     ensures same { session.new ≡ session.old }
 {
     let start = begin(clock, plan.time);
+    let roots = plan.roots.as_slice();
+    let legal = plan.legal.items.as_slice();
     let task = Task {
         game: &session.game,
-        roots: plan.roots.as_slice(),
-        all: plan.roots.len() == plan.legal.items.len(),
+        roots,
+        all: roots.len() == legal.len(),
         depths: plan.depths,
         share: plan.share,
         time: plan.time,

@@ -2,6 +2,7 @@ mod AnswerLemmas
 mod CertLemmas
 mod CheckLemmas
 mod FileLemmas
+mod GenerateLemmas
 mod HeardLemmas
 mod RunLemmas
 mod SessionLemmas

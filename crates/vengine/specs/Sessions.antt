@@ -7,7 +7,7 @@ use Rattle.session_model.specs.CecpSession.{cecp}
 use Rattle.session_model.specs.Turns as turns
 use Rattle.session_model.specs.UciSession.{uci}
 use Rattle.words.specs.Asked.{Asked, asked}
-use Rattle.words.specs.Command.{Command, Uci, Xboard, Moves, Status, Perft, Check, SelfMate, HelpMate, CheckCert, Variants, Reach}
+use Rattle.words.specs.Command.{Command, Uci, Xboard, Moves, Status, Perft, Check, SelfMate, HelpMate, CheckCert, Variants, Reach, Generate}
 
 -- the protocol of a command that is a session
 abbrev pub dialect_of : Command → Option Dialect
@@ -22,6 +22,7 @@ dialect_of (HelpMate moves) = None
 dialect_of CheckCert = None
 dialect_of Variants = None
 dialect_of (Reach word square own enemy) = None
+dialect_of (Generate name number plies) = None
 
 -- The command is a session. Every other command has one text and one status: it is a one-shot command.
 abbrev pub is_session : Command → Bool

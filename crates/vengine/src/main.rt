@@ -6,6 +6,7 @@ mod certificates;
 mod checking;
 mod fault;
 mod game;
+mod generating;
 mod halt;
 mod laws;
 mod opening;

@@ -142,6 +142,37 @@ fn other_words_are_answered_by_the_usage_line(rt: HostRuntime) -> Result<(), Fai
     Ok(())
 }
 
+/// The texts are those of another program.
+#[test]
+fn random_games_are_generated(rt: HostRuntime) -> Result<(), Fail> {
+    let rows: [(&[&str], u8, &str); 3] = [
+        (
+            &["generate", "extinction", "718", "300"],
+            0,
+            "generated extinction 718 77\n\
+                7r/2p1n3/bpkr1p1p/p2p1ppN/PP1P2P1/2P1P1KP/1B6/R5QR b - - 0 39\n\
+                won white extinction\nperft2 0\nvalue2 none\n",
+        ),
+        (
+            &["generate", "xiangqi", "8942364694563039783", "0"],
+            0,
+            "generated xiangqi 8942364694563039783 0\n\
+                rnbakabnr/9/1c5c1/p1p1p1p1p/9/9/P1P1P1P1P/1C5C1/9/RNBAKABNR w - - 0 1\n\
+                ongoing\nperft2 1920\nvalue2 0\n",
+        ),
+        (
+            &["generate", "none", "0", "1"],
+            3,
+            "error GameFault 2 UnknownVariant none\n",
+        ),
+    ];
+    let mut files = MemFiles::new(rt.alloc());
+    for (words, status, text) in rows {
+        answers(&rt, &mut files, words, b"", status, text.as_bytes())?;
+    }
+    Ok(())
+}
+
 /// The lines of a session end at `quit`, or with the input. Without words it is UCI's.
 #[test]
 fn sessions_are_held(rt: HostRuntime) -> Result<(), Fail> {
