@@ -1,9 +1,8 @@
 -- A search of depth after depth as a session has it.
-use Rattle.std.proofs.Common.{◌≡◌, ◌∙◌, ℕ, zero, suc, ◌+◌, ◌<◌, ◌≤◌, List, [], ◌∷◌, ◌++◌, length, Option, Some, None, Result, Ok, Err, IfOk, IsErrOf, OnErr, Bool, true, false, nat_eq, ◌==◌, ◌⊎◌, inl, inr, refl, sym, ap, subst, arith, if◌then◌else◌}
-use Rattle.std.specs.Prelude.{⊤, is_some}
+use Rattle.std.proofs.Common.{◌≡◌, ◌∙◌, ℕ, zero, suc, ◌+◌, ◌<◌, ◌≤◌, List, [], ◌∷◌, ◌++◌, length, Option, Some, None, Result, Ok, Err, IfOk, IsErrOf, OnErr, Bool, true, false, ◌==◌, inl, inr, refl, sym, ap, subst, arith, if◌then◌else◌}
+use Rattle.std.specs.Prelude.{is_some}
 use Rattle.std.proofs.lemmas.Bool.{eq-eqb}
 use Rattle.std.specs.List.{All, slice_index_or}
-use Rattle.std.proofs.lemmas.List.{append-nil}
 use Rattle.foundation.specs.Member.{Member}
 use Rattle.io_ports.specs.Clock.{GivesReadings, count_after}
 use Rattle.io_ports.specs.declared.dialect.Dialect.TheVariants.{Cecp}
@@ -27,14 +26,13 @@ use Rattle.session_model.specs.CecpSession.{Posts, bound_from, depth_for, lowere
 use Rattle.session_model.specs.CecpState.{State}
 use Rattle.session_model.specs.Events.{clocked}
 use Rattle.session_model.specs.Mates.{Evidence, IsShown, mover, root_move}
-use Rattle.session_model.specs.Thinking.{Task, Report, Score, Points, Mates, Mated, Ending, Whole, InSearch, InSolve, Interrupted, AreReports, Deepens, IsReport, IsScore, MayEnd, last_best, open_report, reported}
+use Rattle.session_model.specs.Thinking.{Task, Report, Score, Points, Mates, Mated, Ending, Whole, InSearch, InSolve, Interrupted, AreReports, Deepens, IsScore, MayEnd, last_best, open_report, reported}
 use Rattle.session_model.specs.UciSession.{first_of}
 use Rattle.thinking.specs.Depths.{BrokeOff, Deepened}
 use Rattle.thinking.specs.Tells.{Tells}
-use Rattle.thinking.specs.Views.{IsTask}
 use Rattle.thinking.specs.declared.deepening.Depths.{Depths}
 use Rattle.thinking.specs.declared.style.Style.{Style}
-use Rattle.turning.specs.Lines.{Follows, none}
+use Rattle.turning.specs.Lines.{none}
 use Rattle.cecp_front.specs.Thought.{BrokeSeeking, IsFirst, Sought, style_of}
 use Rattle.cecp_front.proofs.ThoughtLaws.{follows_held}
 

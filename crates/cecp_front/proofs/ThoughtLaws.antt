@@ -7,7 +7,7 @@ use Rattle.io_ports.specs.declared.dialect.Dialect.TheVariants.{Cecp}
 use Rattle.io_ports.specs.Lines.{Line, Text}
 use Rattle.io_ports.specs.Owing.{Lacks}
 use Rattle.io_ports.specs.Sink.{AppendsFront}
-use Rattle.io_ports.specs.Source.{Owed, Takes, got_lines}
+use Rattle.io_ports.specs.Source.{Owed, got_lines}
 use Rattle.io_ports.specs.Trace.{Moves}
 use Rattle.io_ports.specs.declared.source.Got.{Got}
 use Rattle.io_ports.proofs.Moved.{moves_at, moves_more, moves_sink, moves_source}
@@ -17,11 +17,9 @@ use Rattle.watching.specs.declared.halt.Cut.TheVariants as cut
 use Rattle.watching.specs.EventLaws.{lines_of-append, readings-append, written-append}
 use Rattle.watching.specs.Events.{Event, Hears, Says, Reads, Opens, AreUnstopped, lines_of, opened, readings, written}
 use Rattle.watching.specs.Looks.{Moved, held}
-use Rattle.session_model.specs.CecpLines.{command_of, gives_up}
 use Rattle.session_model.specs.CecpSession.{Concludes, Posts, Thinks, bound_from, gives_up_by, is_moveless, task_of}
 use Rattle.session_model.specs.CecpState.{State, played}
-use Rattle.session_model.specs.Thinking.{Cause, Interrupted, OutOfNodes, OutOfTime, Deepens, Ending, Whole, InSearch, InSolve, Report, last_best, reported}
-use Rattle.session_model.specs.Turns.{Turn}
+use Rattle.session_model.specs.Thinking.{Interrupted, Deepens, Ending, Whole, InSearch, InSolve, Report, last_best, reported}
 use Rattle.session_model.proofs.Wider.{deepens_wider}
 use Rattle.thinking.specs.Cuts.{IsEndedBy, cause_of}
 use Rattle.turning.specs.Lines.{Follows, Held, IsNext, MayFollow, none, one}

@@ -1,6 +1,6 @@
 -- How the answer to a line and a thinking make a turn.
-use Rattle.std.proofs.Common.{◌≡◌, ◌∙◌, ℕ, ◌<◌, ◌≤◌, List, [], ◌∷◌, ◌++◌, length, Option, Some, None, Result, Ok, Err, IfOk, OnErr, Bool, true, false, ◌&&◌, ◌⊎◌, inl, inr, refl, sym, ap, subst, append_assoc, arith}
-use Rattle.std.specs.Prelude.{⊤, if◌then◌else◌, is_some, not, nat_lt}
+use Rattle.std.proofs.Common.{◌≡◌, ◌∙◌, ℕ, ◌<◌, ◌≤◌, List, [], ◌∷◌, ◌++◌, length, Option, Some, None, Result, Ok, Err, IfOk, OnErr, Bool, true, false, ◌⊎◌, inl, inr, refl, sym, ap, subst, append_assoc, arith}
+use Rattle.std.specs.Prelude.{⊤, if◌then◌else◌, is_some, not}
 use Rattle.std.specs.Io.KnownBytes.{Appends}
 use Rattle.std.proofs.lemmas.Bool.{and_parts, ltb-true}
 use Rattle.std.proofs.lemmas.List.{append-nil}
@@ -21,17 +21,17 @@ use Rattle.rules_model.specs.declared.moves.Move.{Move}
 use Rattle.game_play.specs.Played.{legal_in}
 use Rattle.game_text.specs.Playing.{most_plies}
 use Rattle.watching.specs.EventLaws.{written-append}
-use Rattle.watching.specs.Events.{Event, Says, lines_of, opened, readings, written}
+use Rattle.watching.specs.Events.{Event, lines_of, opened, readings, written}
 use Rattle.session_model.specs.CecpLines.{command_of}
-use Rattle.session_model.specs.CecpSession.{Answers, Posts, Thinks, ThinksFrom, answer_of, bound_from, bound_of, cecp, depth_for, lowered, saying, task_of, time_for}
-use Rattle.session_model.specs.CecpState.{State, is_turn, played, thinks}
+use Rattle.session_model.specs.CecpSession.{Answers, Posts, Thinks, ThinksFrom, answer_of, bound_from, bound_of, cecp, depth_for, lowered, saying, time_for}
+use Rattle.session_model.specs.CecpState.{State, is_turn, thinks}
 use Rattle.session_model.specs.Events.{clocked}
 use Rattle.session_model.specs.Mates.{mover}
 use Rattle.session_model.specs.Thinking.{Interrupted, InSearch}
-use Rattle.turning.specs.Lines.{HasLine, MayFollow, got_line, none}
+use Rattle.turning.specs.Lines.{HasLine, got_line, none}
 use Rattle.turning.specs.Turned.{Further, Served, Unserved, turn_of}
 use Rattle.cecp_front.specs.Reading.{NoReads}
-use Rattle.cecp_front.specs.Thought.{IsFirst, Thought, Unthought, move_text}
+use Rattle.cecp_front.specs.Thought.{IsFirst, Thought, Unthought}
 use Rattle.cecp_front.proofs.ThoughtLaws.{closed, closing, thinks_at}
 
 -- ---- where the engine thinks
@@ -286,6 +286,11 @@ long_goes_on next text is = elim is [
     | inr failed ↦ ap (λ n. cecp.quits (got_line n text)) (sym failed)
   ]
 ]
+
+-- the line that was taken ends the session or does not, by its text
+pub last_as : (next : Got) (text line : List ℕ) (r b : Bool) → text ≡ line → r ≡ cecp.quits (got_line next text) → r ≡ b
+    → cecp.quits (got_line next line) ≡ b
+last_as next text line r b same is said = ap (λ t. cecp.quits (got_line next t)) (sym same) ∙ sym is ∙ said
 
 pub is_line : (next : Got) → (next ≡ got.Line) ⊎ (next ≡ got.TooLong) → HasLine next
 is_line next (inl line) = subst HasLine (sym line) tt

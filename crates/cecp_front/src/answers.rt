@@ -16,7 +16,7 @@ use crate::session::CecpSession;
 use crate::texts::{error_line, feature_line, illegal_line, long_line, pong_line, result_line};
 use cecp_lines::{Command, Limit, read_line};
 use foundation::{Memory, Text};
-use game_play::{Game, PlayFault};
+use game_play::{Game, MOST_PLIES, PlayFault};
 use io_ports::Got;
 use legality::is_legal;
 use move_names::read_move;
@@ -24,9 +24,6 @@ use rules_model::{Move, Outcome, Side};
 use std::alloc::Global;
 use variant_fen::read_fen;
 use variant_rules::Found;
-
-/// The most plies of a game.
-pub(crate) const MOST_PLIES: usize = 8192;
 
 // No text.
 fn silent(alloc: Global) -> Text

@@ -1,24 +1,23 @@
 //! How the engine thinks and moves.
-ghost use Rattle.std.specs.Prelude.{◌≡◌, ◌<◌, true, IfOk, OnErr, OnOk, IsErrOf, Some, length};
+ghost use Rattle.std.specs.Prelude.{◌≡◌, ◌<◌, true, IfOk, OnErr, OnOk, IsErrOf, Some, length, not};
 ghost use Rattle.std.specs.Io.KnownBytes.{Appends, IsAtEnd};
 ghost use Rattle.foundation.specs.Member.{Member};
 ghost use Rattle.foundation.specs.Tests.{is_nil};
-ghost use Rattle.std.specs.Prelude.{not};
 ghost use Rattle.game_play.specs.Played.{legal_in};
 ghost use Rattle.game_text.specs.Playing.{most_plies};
 ghost use Rattle.io_ports.specs.Cause.{HasCause, Rose};
 ghost use Rattle.io_ports.specs.Sink.{AppendsFront};
 ghost use Rattle.io_ports.specs.Trace.{Moves};
-ghost use Rattle.rules_model.specs.declared.moves.Move.{Move as LegalMove};
+ghost use Rattle.rules_model.specs.declared.moves.Move as moves;
 ghost use Rattle.session_model.specs.CecpState as CecpState;
 ghost use Rattle.session_model.specs.Mates.{mover};
 ghost use Rattle.turning.specs.Lines.{Causes};
 ghost use Rattle.cecp_front.specs.Thought.{BrokeSeeking, IsFirst, Sought, Thought, Unthought, is_dropped, move_text, style_of};
 
-use crate::answers::MOST_PLIES;
 use crate::session::CecpSession;
 use crate::texts::move_lines;
 use cecp_lines::{depth_for, gives_up, time_for};
+use game_play::MOST_PLIES;
 use io_ports::{Clock, Dialect, Gate, Got, LineBuf, SearchFault, Sink, Source};
 use legality::{any_legal, legal_moves};
 use rules_model::Move;
@@ -117,7 +116,7 @@ impl CecpSession {
         C: Clock,
         G: Gate + Sync,
         requires thinks { CecpState.thinks self.old ≡ true }
-        ensures sought { IfOk result (λ depths. (first : LegalMove) → IsFirst self.old first → Sought
+        ensures sought { IfOk result (λ depths. (first : moves.Move) → IsFirst self.old first → Sought
             (Moves S.left K.taken C.given C.count C.last source.old source.new sink.old sink.new clock.old clock.new)
             (S.owed source.old) (S.owed source.new) self.old first depths.best line.new depths.why) }
         ensures broke { OnErr result (BrokeSeeking
@@ -179,10 +178,10 @@ impl CecpSession {
         C: Clock,
         G: Gate + Sync,
         requires thinks { CecpState.thinks self.old ≡ true }
-        ensures thought { IfOk result (λ next. (first : LegalMove) → IsFirst self.old first → Thought
+        ensures thought { IfOk result (λ next. (first : moves.Move) → IsFirst self.old first → Thought
             (Moves S.left K.taken C.given C.count C.last source.old source.new sink.old sink.new clock.old clock.new)
             (S.owed source.old) (S.owed source.new) self.old self.new first next line.new) }
-        ensures unthought { OnErr result ((first : LegalMove) → IsFirst self.old first → Unthought
+        ensures unthought { OnErr result ((first : moves.Move) → IsFirst self.old first → Unthought
             (Moves S.left K.taken C.given C.count C.last source.old source.new sink.old sink.new clock.old clock.new)
             self.old first) }
         ensures end { IfOk result (λ next. next ≡ Got.End → IsAtEnd (S.left source.new)) }

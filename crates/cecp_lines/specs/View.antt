@@ -1,5 +1,5 @@
 -- Commands as the definitions of sessions have them.
-use Rattle.std.specs.Prelude.{ℕ, Bool, true, false, List, bytes_eq, codes, if◌then◌else◌}
+use Rattle.std.specs.Prelude.{Bool, true, false, List, bytes_eq, codes, if◌then◌else◌}
 use Rattle.session_model.specs.CecpLines as CecpLines
 use Rattle.session_model.specs.CecpLines.{level_of, ping_of, with_number}
 use Rattle.session_model.specs.UciWords.{Word, first_word, joined}

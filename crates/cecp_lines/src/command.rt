@@ -82,11 +82,7 @@ fn read_level(words: &[&[u8]]) -> Command<'static>
 }
 
 // The command of a verb, with the words after it.
-fn read_command<'a>(
-    alloc: Global,
-    verb: Verb,
-    words: &[&'a [u8]],
-) -> Result<Command<'a>, Memory>
+fn read_command<'a>(alloc: Global, verb: Verb, words: &[&'a [u8]]) -> Result<Command<'a>, Memory>
     ensures { IfOk result (λ command. command_seen command ≡ command_by verb (texts words.now)) }
 {
     Ok(match verb {
@@ -104,10 +100,19 @@ fn read_command<'a>(
         Verb::Remove => Command::TakeBack(2),
         Verb::Post => Command::Post(true),
         Verb::NoPost => Command::Post(false),
-        Verb::St => first_number(words).map_or(Command::BadNumber, |n| Command::Limit(Limit::St(n))),
-        Verb::Sd => first_number(words).map_or(Command::BadNumber, |n| Command::Limit(Limit::Sd(n))),
+        Verb::St => first_number(words).map_or(
+            Command::BadNumber,
+            |n| Command::Limit(Limit::St(n)),
+        ),
+        Verb::Sd => first_number(words).map_or(
+            Command::BadNumber,
+            |n| Command::Limit(Limit::Sd(n)),
+        ),
         Verb::Level => read_level(words),
-        Verb::Time => first_number(words).map_or(Command::BadNumber, |n| Command::Limit(Limit::Time(n))),
+        Verb::Time => first_number(words).map_or(
+            Command::BadNumber,
+            |n| Command::Limit(Limit::Time(n)),
+        ),
         Verb::OpponentTime => first_number(words).map_or(Command::BadNumber, |_| Command::Idle),
         Verb::Quit => Command::Quit,
         Verb::Unknown => Command::Unknown,

@@ -40,7 +40,14 @@ fn commands(rt: HostRuntime) -> Result<(), Fail> {
         (b"protover 2", "protover", b"", 0, 0, false),
         (b"protover two", "bad number", b"", 0, 0, false),
         (b"\tnew  now", "new", b"", 0, 0, true),
-        (b"variant crazyhouse x", "variant", b"crazyhouse", 0, 0, true),
+        (
+            b"variant crazyhouse x",
+            "variant",
+            b"crazyhouse",
+            0,
+            0,
+            true,
+        ),
         (b"variant", "variant", b"", 0, 0, true),
         (b"force", "force", b"", 0, 0, true),
         (b"result 1-0 {mate}", "force", b"", 0, 0, true),
@@ -48,8 +55,22 @@ fn commands(rt: HostRuntime) -> Result<(), Fail> {
         (b"playother", "playother", b"", 0, 0, false),
         (b"usermove e2e4", "usermove", b"e2e4", 0, 0, false),
         (b"setboard 8/8  w -", "setboard", b"8/8 w -", 0, 0, true),
-        (b"ping 00000000000000000001", "ping", b"00000000000000000001", 0, 0, false),
-        (b"ping 000000000000000000001", "bad number", b"", 0, 0, false),
+        (
+            b"ping 00000000000000000001",
+            "ping",
+            b"00000000000000000001",
+            0,
+            0,
+            false,
+        ),
+        (
+            b"ping 000000000000000000001",
+            "bad number",
+            b"",
+            0,
+            0,
+            false,
+        ),
         (b"ping -1", "bad number", b"", 0, 0, false),
         (b"undo", "back", b"", 1, 0, true),
         (b"remove", "back", b"", 2, 0, true),
@@ -61,7 +82,14 @@ fn commands(rt: HostRuntime) -> Result<(), Fail> {
         (b"level 0 5 0.5", "bad number", b"", 0, 0, false),
         (b"level 40 2:3:0 12", "bad number", b"", 0, 0, false),
         (b"level 40 5", "bad number", b"", 0, 0, false),
-        (b"time 18446744073709551615", "time", b"", u64::MAX, 0, false),
+        (
+            b"time 18446744073709551615",
+            "time",
+            b"",
+            u64::MAX,
+            0,
+            false,
+        ),
         (b"time 18446744073709551616", "bad number", b"", 0, 0, false),
         (b"otim 1", "idle", b"", 0, 0, false),
         (b"quit now", "quit", b"", 0, 0, true),
@@ -70,7 +98,7 @@ fn commands(rt: HostRuntime) -> Result<(), Fail> {
     for (line, name, text, first, second, given_up) in rows {
         let command = read_line(rt.alloc(), Got::Line, line).map_err(|_| "no memory")?;
         let (is, said, one, two) = shown(&command);
-        assert!(rt; is == name, "{line:?}: {is}");
+        assert!(rt; is == name, "{line:?}: name");
         assert!(rt; said == text, "{line:?}: text");
         assert!(rt; one == first && two == second, "{line:?}: numbers");
         assert!(rt; gives_up(line) == given_up, "{line:?}: given up");
@@ -101,7 +129,10 @@ fn limits(rt: HostRuntime) {
         (None, Some((1, 0)), Some(1), None, Some(5), 64),
     ];
     for (st, level, left, sd, time, depth) in rows {
-        assert!(rt; time_for(st, level, left) == time, "{st:?} {level:?} {left:?}");
+        assert!(rt;
+            time_for(st, level, left) == time,
+            "{st:?} {level:?} {left:?}"
+        );
         assert!(rt; depth_for(time, sd) == depth, "{sd:?}");
     }
 }

@@ -1,13 +1,12 @@
-use Rattle.std.proofs.Common.{◌≡◌, ◌∙◌, ap, sym, refl, arith}
+use Rattle.std.proofs.Common.{true, false, refl, arith}
 use Rattle.session_model.proofs.Wider.{cecp_is_wider}
 use Rattle.session_model.specs.CecpSession.{cecp}
-use Rattle.turning.specs.Lines.{got_line}
-use Rattle.turning.proofs.Ending.{nothing_found, nothing_more, part_broken, part_here, part_none, spoke_end, spoke_quit, took_quit}
+use Rattle.turning.proofs.Ending.{nothing_found, nothing_more, part_broken, part_here, part_none, spoke_end, spoke_quit}
 use Rattle.turning.proofs.Lawful.{cecp_is_lawful}
 use Rattle.turning.proofs.Turning.{first_turn, next_turn}
 use Rattle.cecp_front.specs.Reading.{NoReads}
 use Rattle.cecp_front.proofs.SeekLaws.{on_error}
-use Rattle.cecp_front.proofs.TurnLaws.{is_line, rose_later}
+use Rattle.cecp_front.proofs.TurnLaws.{is_line, last_as, rose_later}
 use Rattle.cecp_front.proofs.serving.serve_lent.Goals as goal
 
 pub returns-in_err-line-clause-part : goal.returns-in_err-line-clause-part
@@ -38,14 +37,14 @@ pub returns-then-is_last-clause-spoke : goal.returns-then-is_last-clause-spoke
 returns-then-is_last-clause-spoke g c contents =
     spoke_quit cecp contents cecp_is_lawful (nothing_found contents) c.loop-turn.invariant.so_far
     (is_line c.loop-turn.next c.in-Line.is)
-    (ap (λ text. cecp.quits (got_line c.loop-turn.next text)) (sym c.text.ensures.bytes) ∙ sym c.is_last.ensures ∙ c.if-is_last.true)
+    (last_as c.loop-turn.next c.text.result.now c.loop-turn.line c.is_last.result true c.text.ensures.bytes c.is_last.ensures c.if-is_last.true)
 
 pub returns-in_err-next-in-Line-clause-part : goal.returns-in_err-next-in-Line-clause-part
 returns-in_err-next-in-Line-clause-part g c contents =
     on_error c.from_residual-in_err-next-in-Line.result
     (part_broken cecp contents contents cecp_is_lawful (nothing_found contents) nothing_more refl
     (is_line c.loop-turn.next c.in-Line.is)
-    (ap (λ text. cecp.quits (got_line c.loop-turn.next text)) (sym c.text.ensures.bytes) ∙ sym c.is_last.ensures ∙ c.if-is_last.false)
+    (last_as c.loop-turn.next c.text.result.now c.loop-turn.line c.is_last.result false c.text.ensures.bytes c.is_last.ensures c.if-is_last.false)
     c.loop-turn.invariant.so_far (c.in_err-next-in-Line.ensures.unserved contents))
 
 pub loop-turn-preserved : goal.loop-turn-preserved
@@ -56,7 +55,7 @@ loop-turn-preserved g c =
     let sink_since = c.in_ok-next-in-Line.ensures.causes.sink_later in
     record {
       so_far = next_turn cecp cecp_is_wider nothing_more (is_line c.loop-turn.next c.in-Line.is)
-          (ap (λ text. cecp.quits (got_line c.loop-turn.next text)) (sym c.text.ensures.bytes) ∙ sym c.is_last.ensures ∙ c.if-is_last.false)
+          (last_as c.loop-turn.next c.text.result.now c.loop-turn.line c.is_last.result false c.text.ensures.bytes c.is_last.ensures c.if-is_last.false)
           c.loop-turn.invariant.so_far c.in_ok-next-in-Line.ensures.served;
       at_end = c.in_ok-next-in-Line.ensures.end;
       failed = λ is. rose_later _ _ _ c.loop-turn.invariant.source_later (c.in_ok-next-in-Line.ensures.failed is);

@@ -1,5 +1,3 @@
-use Rattle.std.proofs.Common.{◌≡◌, ◌∙◌, ap, sym, subst}
-use Rattle.session_model.specs.CecpSession.{answer_of}
 use Rattle.turning.specs.Lines.{got_line}
 use Rattle.cecp_front.proofs.SeekLaws.{on_error}
 use Rattle.cecp_front.proofs.TurnLaws.{line_silent, line_thought, line_unthought, unserved_answer}

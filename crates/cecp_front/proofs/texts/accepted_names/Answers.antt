@@ -1,4 +1,4 @@
-use Rattle.std.proofs.Common.{◌≡◌, ◌∙◌, ap, sym}
+use Rattle.std.proofs.Common.{◌∙◌, ap, sym}
 use Rattle.uci_lines.specs.View.{texts}
 use Rattle.cecp_front.proofs.SessionLaws.{names_accepted, names_refused}
 use Rattle.cecp_front.proofs.texts.accepted_names.Goals as goal

@@ -1,7 +1,6 @@
-use Rattle.std.proofs.Common.{◌≡◌, ◌∙◌, Some, Ok, ap, sym}
+use Rattle.std.proofs.Common.{◌∙◌, Some, ap, sym}
 use Rattle.std.specs.Prelude.{codes}
 use Rattle.variant_rules.specs.Entries.{found}
-use Rattle.variant_rules.specs.View.{found_view}
 use Rattle.session_model.specs.CecpState.{state_by}
 use Rattle.cecp_front.proofs.SessionLaws.{begins, found_chess, has_chess}
 use Rattle.cecp_front.proofs.session.CecpSession.new.Goals as goal

@@ -2,7 +2,6 @@ use Rattle.std.proofs.Common.{◌≡◌, ◌∙◌, ◌≤◌, ap, sym, subst, i
 use Rattle.std.specs.Prelude.{is_some}
 use Rattle.game_play.specs.Played.{legal_in}
 use Rattle.session_model.specs.CecpSession.{depth_for, lowered, time_for}
-use Rattle.session_model.specs.Thinking.{Task}
 use Rattle.cecp_front.specs.Thought.{style_of}
 use Rattle.cecp_front.proofs.SeekLaws.{all_members, counts_same, depth_least, depth_most, legal_here, on_error, seek_fault, seek_none, seek_result, some_depth, some_first, task_is}
 use Rattle.cecp_front.proofs.TurnLaws.{has_first}

@@ -1,4 +1,4 @@
-use Rattle.std.proofs.Common.{◌≡◌, ◌<◌, length, ap, sym, subst}
+use Rattle.std.proofs.Common.{◌<◌, length, sym, subst}
 use Rattle.foundation.specs.Member.{Member}
 use Rattle.game_play.specs.Played.{legal_in}
 use Rattle.game_text.specs.Playing.{most_plies}
