@@ -31,8 +31,8 @@ def missing():
 def play(variant, games, folder):
     """Runs a match, and returns XBoard's results and the lines of its debug file."""
     words = ["xvfb-run", "-a", "xboard", "-noGUI", "-fcp", f"{VENGINE} xboard", "-scp", "fairy-stockfish", "-fd", folder, "-sd", folder,
-             "-variant", OF_XBOARD.get(variant, variant), "-mg", str(games), "-tc", "0:20", "-mps", "40", "-inc", "0", "-xponder",
-             "-sgf", f"{folder}/games.pgn", "-debug", "-nameOfDebugFile", f"{folder}/debug.log"]
+             "-variant", OF_XBOARD.get(variant, variant), "-mg", str(games), "-tc", "0:20", "-inc", "0", "-xponder",
+             "-soundProgram", "true", "-sgf", f"{folder}/games.pgn", "-debug", "-nameOfDebugFile", f"{folder}/debug.log"]
     with open(f"{folder}/said.log", "w") as said:
         match = subprocess.Popen(words, stdout=said, stderr=said, env={**os.environ, "PATH": PATH}, start_new_session=True)
     end = time.monotonic() + LONGEST
@@ -51,6 +51,8 @@ def games_in(lines):
     """The moves of each game as Vengine met them, and what it refused."""
     games, refused = [], []
     for line in lines:
+        # XBoard writes a move in two pieces, and its file has the time and the name of the engine before each.
+        line = re.sub(r"(>first *: usermove )\d+ >first *: ", r"\1", line)
         sent, heard = re.search(r">first *: (.*)", line), re.search(r"<first *: (.*)", line)
         if sent and sent.group(1).strip() == "new":
             games.append([])

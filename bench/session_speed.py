@@ -1,0 +1,129 @@
+#!/usr/bin/env python3
+"""Measures a UCI session: start-up, memory, how soon `isready` is answered during a search, and how soon `stop` is.
+
+Usage: bench/session_speed.py [PROGRAM] [--times N]     (crates/vengine/out/vengine and 20 by default)
+
+Prints for each figure the median and the worst of N times: from the start of the program to `uciok`; a whole run of `reach N b1`; from
+`isready` to `readyok` in a `go infinite` of the chess start, and from `stop` to `bestmove` in it, and also where mates are being looked
+for. Memory is what the kernel gives of the process (VmRSS and VmHWM in /proc), after `uci`, after `go depth 6` and after `go mate 4`
+with the options as they are, and with `Hash` and `MateFacts` at their ends. Times on a machine that does other work are longer.
+"""
+import argparse
+import os
+import subprocess
+import time
+
+TOP = os.path.join(os.path.dirname(os.path.abspath(__file__)), "..")
+PROGRAM = os.path.join(TOP, "crates", "vengine", "out", "vengine")
+START = "position startpos"
+MATED = "position fen r5k1/7p/pp4p1/2P5/P5qP/Q3pr2/1PPn2K1/4RB1R w - - 4 28"
+
+
+class Session:
+    def __init__(self, program):
+        self.process = subprocess.Popen([program], stdin=subprocess.PIPE, stdout=subprocess.PIPE)
+
+    def say(self, line):
+        self.process.stdin.write(line.encode() + b"\n")
+        self.process.stdin.flush()
+
+    def ask(self, line, word):
+        """Seconds until a line that begins with the word."""
+        begun = time.monotonic()
+        self.say(line)
+        while True:
+            said = self.process.stdout.readline()
+            if not said:
+                raise SystemExit(f"session_speed: the session ended after {line!r}")
+            if said.startswith(word.encode()):
+                return time.monotonic() - begun
+
+    def memory(self):
+        """What is in memory now and what was at most, in MiB."""
+        kept = {}
+        with open(f"/proc/{self.process.pid}/status") as file:
+            for line in file:
+                name, _, rest = line.partition(":")
+                if name in ("VmRSS", "VmHWM"):
+                    kept[name] = int(rest.split()[0]) / 1024
+        return kept["VmRSS"], kept["VmHWM"]
+
+    def close(self):
+        self.say("quit")
+        self.process.wait()
+
+
+def tell(name, seconds):
+    ordered = sorted(1000 * one for one in seconds)
+    print(f"{name}: {ordered[len(ordered) // 2]:.1f} ms, at worst {ordered[-1]:.1f} ms", flush=True)
+
+
+def starts(program, times):
+    took = []
+    for _ in range(times):
+        begun = time.monotonic()
+        session = Session(program)
+        session.ask("uci", "uciok")
+        took.append(time.monotonic() - begun)
+        session.close()
+    return took
+
+
+def reaches(program, times):
+    took = []
+    for _ in range(times):
+        begun = time.monotonic()
+        subprocess.run([program, "reach", "N", "b1"], capture_output=True, check=True)
+        took.append(time.monotonic() - begun)
+    return took
+
+
+def in_search(program, times, position, line, word):
+    """Seconds from a line to its answer, at different moments of a search."""
+    took = []
+    session = Session(program)
+    for turn in range(times):
+        session.say(position)
+        session.ask("isready", "readyok")
+        session.say("go infinite")
+        time.sleep(0.2 + 0.07 * (turn % 10))
+        took.append(session.ask(line, word))
+        if line != "stop":
+            session.ask("stop", "bestmove")
+    session.close()
+    return took
+
+
+def tell_memory(program, options):
+    session = Session(program)
+    session.ask("uci", "uciok")
+    for name, value in options:
+        session.say(f"setoption name {name} value {value}")
+    session.ask("isready", "readyok")
+    said = [f"at first {session.memory()[0]:.0f}"]
+    for line in ("go depth 6", "go mate 4"):
+        session.say("ucinewgame")
+        session.ask(line, "bestmove")
+        said.append(f"after {line} {session.memory()[0]:.0f}")
+    said.append(f"at most {session.memory()[1]:.0f}")
+    session.close()
+    shown = ", ".join(f"{name} {value}" for name, value in options) or "default options"
+    print(f"memory in MiB, {shown}: {', '.join(said)}", flush=True)
+
+
+def main():
+    parser = argparse.ArgumentParser(description=__doc__, formatter_class=argparse.RawDescriptionHelpFormatter)
+    parser.add_argument("program", nargs="?", default=PROGRAM)
+    parser.add_argument("--times", type=int, default=20)
+    given = parser.parse_args()
+    tell("from the start to uciok", starts(given.program, given.times))
+    tell("a run of reach", reaches(given.program, given.times))
+    tell("isready in a search", in_search(given.program, given.times, START, "isready", "readyok"))
+    tell("stop in a search", in_search(given.program, given.times, START, "stop", "bestmove"))
+    tell("stop where mates are looked for", in_search(given.program, given.times, MATED, "stop", "bestmove"))
+    for options in ([], [("Hash", 1), ("MateFacts", 16)], [("Hash", 256), ("MateFacts", 65536)]):
+        tell_memory(given.program, options)
+
+
+if __name__ == "__main__":
+    main()
