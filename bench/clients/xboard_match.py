@@ -97,6 +97,8 @@ def main():
         if len(results) != int(games):
             faults += 1
             print(f"{variant}: {len(results)} of {games} games were played to an end")
+        sent = sorted(set(re.findall(r">first *: (\w+)", "\n".join(re.sub(r"usermove.*", "usermove", line) for line in lines))))
+        print(f"{variant}: XBoard sent the commands {', '.join(sent)}")
         for line in refused:
             faults += line.startswith("Illegal move")
             print(f"{variant}: Vengine said: {line}")
