@@ -1,4 +1,5 @@
--- Passes may go to other threads, and shards may be shared by them.
+-- Passes may go to other threads, and shards may be shared by them. A caller that lends or moves them to a thread answers its goals by
+-- `search shards_cross depth 30`. A generic function says `CanCross` among its premises, so that the search has it there.
 use denote.Param.Send.{IsSend, IsSync, sendable}
 use Rattle.std.proofs.Crossing.{crosses}
 use Rattle.fact_lock.proofs.lock.Lock.TheSendSync as lock
@@ -35,3 +36,12 @@ shard-sync = search (sendable, crosses, fact-sync) depth 30
 
 pub shards-sync : IsSync Shards.the_row
 shards-sync = search (sendable, crosses, lock.the_sync, frame.the_field_sync, shard-send) depth 30
+
+-- threads may share shards, and passes may go from one to another
+abbrev pub CanCross : Type 0
+CanCross = IsSync Shards.the_row × IsSend Passes.the_row
+
+pub can-cross : CanCross
+can-cross = (shards-sync, passes-send)
+
+pub ruleset shards_cross = (sendable, crosses, passes-send, shards-sync)
