@@ -1,5 +1,5 @@
 -- What a list of true facts says of a query, and that a longer list says it too.
-use Rattle.std.proofs.Common.{◌≡◌, ◌↔◌, ◌⊎◌, inl, inr, ℕ, zero, suc, ◌≤◌, Bool, true, false, ◌||◌, ◌&&◌, nat_le, List, [], ◌∷◌, ◌++◌, length, Option, Some, None, refl, ap, sym, ◌∙◌, subst, arith, append-nil, if◌then◌else◌, length-append}
+use Rattle.std.proofs.Common.{◌≡◌, ◌↔◌, ◌⊎◌, inl, inr, ℕ, zero, suc, ◌≤◌, Bool, true, false, ◌||◌, List, [], ◌∷◌, ◌++◌, length, Option, Some, None, refl, ap, sym, ◌∙◌, subst, arith, append-nil, if◌then◌else◌, length-append}
 use Rattle.std.specs.Prelude.{slice_get, IfSome}
 use Rattle.std.specs.List.{list_any}
 use Rattle.std.specs.Option.{option_map}
@@ -17,7 +17,7 @@ use Rattle.forced_wins.proofs.FactLaws.{near-more}
 use Rattle.mate_core.specs.declared.frame.Frame.{Frame}
 use Rattle.mate_core.specs.declared.packed_fact.Claim.{Claim}
 use Rattle.mate_core.specs.Claims.{fact_with}
-use Rattle.mate_core.specs.Best.{best, has_better, is_full, is_as_good, stored, IsFirstOfLeast}
+use Rattle.mate_core.specs.Best.{best, has_better, is_full, is_as_good, IsFirstOfLeast}
 use Rattle.mate_core.specs.Runs.{IsTrueIn}
 use Rattle.mate_core.specs.Steps.{grown, facts}
 use Rattle.mate_core.proofs.AnswerLemmas.{served, as_good-decides, best-none, best-some}

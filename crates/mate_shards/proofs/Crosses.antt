@@ -5,7 +5,6 @@ use Rattle.std.proofs.Crossing.{crosses}
 use Rattle.fact_lock.proofs.lock.Lock.TheSendSync as lock
 use Rattle.fact_lock.proofs.lock.Pass.TheSendSync as pass
 use Rattle.mate_core.proofs.frame.Frame.TheSendSync as frame
-use Rattle.position_key.proofs.rest.Rest.TheSendSync as rest
 use Rattle.position_key.specs.contracts.packed.Packed as Packed
 use Rattle.mate_core.proofs.packed_fact.Claim.TheSendSync as claim
 use Rattle.mate_core.specs.contracts.packed_fact.PackedFact as PackedFact
@@ -14,10 +13,10 @@ use Rattle.mate_shards.specs.contracts.shards.Passes as Passes
 use Rattle.mate_shards.specs.contracts.shards.Shards as Shards
 
 packed-send : IsSend Packed.the_row
-packed-send = search (sendable, crosses, rest.the_send) depth 30
+packed-send = search (sendable, crosses) depth 30
 
 packed-sync : IsSync Packed.the_row
-packed-sync = search (sendable, crosses, rest.the_sync) depth 30
+packed-sync = search (sendable, crosses) depth 30
 
 fact-send : IsSend PackedFact.the_row
 fact-send = search (sendable, crosses, claim.the_field_send, packed-send) depth 30

@@ -105,15 +105,15 @@ look-grows s before after p moves answer turn =
 
 module _ (s : ShardsView) (ps left right : List ShardPass) (are : ArePassesOf s ps) (first : ArePassesOf s left) (second : ArePassesOf s right) where
   module _ (halves : AreHalved ps left right) where
-    by_first : (k : ℕ) (p a : ShardPass) → slice_get ps k ≡ Some p → slice_get left k ≡ Some a → (b : ShardPass) × IsHalved p a b
-    by_first k p a e f =
+    pub halved-first : (k : ℕ) (p a : ShardPass) → slice_get ps k ≡ Some p → slice_get left k ≡ Some a → (b : ShardPass) × IsHalved p a b
+    halved-first k p a e f =
         let w = slice_get_within ps k p e in
         let n = are.count in
         let m = second.count in
         let b = some-at right k (omega arith) in (b.0, halves k p a b.0 e f b.1)
 
-    by_second : (k : ℕ) (b : ShardPass) → slice_get right k ≡ Some b → (p : ShardPass) × (a : ShardPass) × (slice_get ps k ≡ Some p) × IsHalved p a b
-    by_second k b f =
+    pub halved-second : (k : ℕ) (b : ShardPass) → slice_get right k ≡ Some b → (p : ShardPass) × (a : ShardPass) × (slice_get ps k ≡ Some p) × IsHalved p a b
+    halved-second k b f =
         let w = slice_get_within right k b f in
         let n = are.count in
         let l = first.count in
@@ -126,11 +126,11 @@ module _ (s : ShardsView) (ps left right : List ShardPass) (are : ArePassesOf s 
       seen = record {
         count = first.count ∙ sym are.count;
         each = λ k p a e f.
-            let h = by_first k p a e f in
+            let h = halved-first k p a e f in
             subst (λ (l : List Fact). IsPrefix p.seen l) (sym h.1.seen.0) (whole p.seen);
       };
       own = λ k p a e f place has.
-          let h = by_first k p a e f in
+          let h = halved-first k p a e f in
           subst (λ (l : List ℕ). Contains l place) (sym h.1.own.0) has;
     }
 
@@ -138,14 +138,14 @@ module _ (s : ShardsView) (ps left right : List ShardPass) (are : ArePassesOf s 
     split-sees = record {
       count = second.count ∙ sym are.count;
       each = λ k p b e f.
-          let h = by_second k b f in
+          let h = halved-second k b f in
           let same : h.0 ≡ p = some_is (sym h.2 ∙ e) in
           subst (λ (x : ShardPass). IsPrefix x.seen b.seen) same
           (subst (λ (l : List Fact). IsPrefix h.0.seen l) (sym h.3.seen.1) (whole h.0.seen));
     }
 
     pub split-part : HaveParts 1 right
-    split-part = all-from (λ p. p.parts ≡ 1) right (λ k b f. (by_second k b f).3.parts.1)
+    split-part = all-from (λ p. p.parts ≡ 1) right (λ k b f. (halved-second k b f).3.parts.1)
 
   module _ (joined : AreJoined left right ps) where
     with_first : (k : ℕ) (a p : ShardPass) → slice_get left k ≡ Some a → slice_get ps k ≡ Some p → (b : ShardPass) × (slice_get right k ≡ Some b) × IsJoined a b p

@@ -7,5 +7,6 @@ pub mod RebaseLemmas
 pub mod DrawnRules
 pub mod PartLaws
 pub mod GrownLaws
+pub mod OwnedLaws
 pub mod AnswerLaws
 pub mod Crosses

@@ -103,6 +103,13 @@ module _ (s : ShardsView) (ps : List ShardPass) (new : Frame) (are : ArePassesOf
       let d = are.count in
       let p = some-at ps j (omega arith) in (all.rebased j p.0 q p.1 here).parts)
 
+  pub rebased-own : (closing : List (LockView Key)) (given : List ShardPass) (locks : List (LockView Key)) (items : List ShardPass) → Rebasing s ps new closing given locks items (length s.locks) → (j : ℕ) (q : ShardPass) → slice_get items j ≡ Some q → q.own ≡ []
+  rebased-own closing given locks items all j q here =
+      let w = slice_get_within items j q here in
+      let c = all.items_count in
+      let d = are.count in
+      let p = some-at ps j (omega arith) in (all.rebased j p.0 q p.1 here).own
+
   pub rebased-passes : (made : ShardsView) (items : List ShardPass) (closing : List (LockView Key)) (given : List ShardPass) → Rebasing s ps new closing given made.locks items (length s.locks) → ArePassesOf made items
   rebased-passes made items closing given all = record {
     count = all.items_count ∙ sym all.count;

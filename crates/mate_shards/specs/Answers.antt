@@ -17,19 +17,21 @@ pub record HasAnswer (fs : List Fact) (wins : Bool) (repeat : Repeat) (counter m
   pub serves_it : serves fact repeat counter moves ≡ true
 
 -- the list that the pass of the repeat's shard has seen has such a fact
-pub record SeeAnswer (s : ShardsView) (passes : List ShardPass) (wins : Bool) (repeat : Repeat) (counter moves : ℕ) : Type 0 where
+pub record SeeAnswer (s : ShardsView) (passes : List ShardPass) (wins : Bool) (repeat : Repeat) (counter moves : ℕ)
+    : Type 0 where
   pub pass : ShardPass
   pub at : slice_get passes (home_of s repeat) ≡ Some pass
   pub has : HasAnswer pass.seen wins repeat counter moves
 
--- that list has as many facts as its capacity
+-- that list has as many facts as its capacity; no list has more
 pub record SeeFull (s : ShardsView) (passes : List ShardPass) (repeat : Repeat) : Type 0 where
   pub pass : ShardPass
   pub at : slice_get passes (home_of s repeat) ≡ Some pass
   pub full : s.capacity ≤ length pass.seen
 
 abbrev pub SeeAnswerOrFull : ShardsView → List ShardPass → Bool → Repeat → ℕ → ℕ → Type 0
-SeeAnswerOrFull s passes wins repeat counter moves = SeeAnswer s passes wins repeat counter moves ⊎ SeeFull s passes repeat
+SeeAnswerOrFull s passes wins repeat counter moves =
+    SeeAnswer s passes wins repeat counter moves ⊎ SeeFull s passes repeat
 
 -- whether a fact that was found wins
 abbrev pub kind_of : Option Fact → Option Bool

@@ -1,7 +1,7 @@
 //! Passes are handed to other threads and taken back.
 ghost use Rattle.std.specs.Prelude.{◌≡◌, ℕ, ◌+◌, ◌<◌, ◌≤◌, All, IfOk, IfErr, vec_len, vec_capacity};
 ghost use Rattle.std.specs.List.{insert};
-ghost use Rattle.mate_shards.specs.Grown.{HaveGrown, HaveParts, HaveSeen};
+ghost use Rattle.mate_shards.specs.Grown.{HaveGrown, HaveParts, HaveSeen, owned};
 ghost use Rattle.mate_shards.specs.Views.{ArePassesOf, AreHalved, AreJoined};
 
 use crate::shard::Shard;
@@ -25,6 +25,7 @@ impl Shards {
         ensures part { IfOk result (λ halves. HaveParts 1 halves.1) }
         ensures grown { IfOk result (λ halves. HaveGrown passes halves.0) }
         ensures seen { IfOk result (λ halves. HaveSeen passes halves.1) }
+        ensures owned { IfOk result (λ halves. (owned halves.0 ≡ owned passes) × (owned halves.1 ≡ 0)) }
         ensures back { IfErr result (λ back. back ≡ passes) }
     {
         let count = self.locks.len();
@@ -49,6 +50,7 @@ impl Shards {
         ensures parts { (m n : ℕ) → HaveParts m a → HaveParts n b → HaveParts (m + n) result }
         ensures first_grown { HaveGrown a result }
         ensures second_grown { HaveGrown b result }
+        ensures owned { owned result ≡ owned a + owned b }
     {
         let Passes { mut items } = a;
         let Passes { items: mut others } = b;

@@ -1,7 +1,7 @@
 //! A change of the frame, between two searches.
 ghost use Rattle.std.specs.Prelude.{◌≡◌, IfOk, length};
 ghost use Rattle.fact_lock.specs.Passes.{IsPassOf, all_parts};
-ghost use Rattle.mate_shards.specs.Grown.{HaveParts};
+ghost use Rattle.mate_shards.specs.Grown.{HaveParts, owned};
 ghost use Rattle.mate_shards.specs.Keeps.{AreKeeps};
 ghost use Rattle.mate_shards.specs.Views.{ArePassesOf, AreRebased, IsRebased};
 
@@ -30,6 +30,7 @@ impl Shards {
         ensures passes { IfOk result (λ made. ArePassesOf made.0 made.1) }
         ensures kept { IfOk result (λ made. AreRebased self.frame frame passes made.1) }
         ensures parts { IfOk result (λ made. HaveParts all_parts made.1) }
+        ensures owned { IfOk result (λ made. owned made.1 ≡ 0) }
     {
         let Shards {
             frame: old,

@@ -1,5 +1,5 @@
 //! The shards and the passes for them.
-ghost use Rattle.std.specs.Prelude.{◌≡◌, ◌↔◌, ◌<◌, ◌≤◌, ℕ, [], Bool, true, All, IfOk, IfSome, Some, length};
+ghost use Rattle.std.specs.Prelude.{◌≡◌, ◌↔◌, ◌+◌, ◌<◌, ◌≤◌, ℕ, [], Bool, true, All, IfOk, IfSome, Some, length};
 ghost use Rattle.rules_model.specs.declared.board.Repeat.{Repeat as RepeatView};
 ghost use Rattle.rules_model.specs.Repeats as Repeats;
 ghost use Rattle.position_key.specs.Key.{IsBoardKey};
@@ -9,7 +9,7 @@ ghost use Rattle.fact_lock.specs.Passes.{IsPassOf, all_parts};
 ghost use Rattle.std.specs.Option.{option_map};
 ghost use Rattle.mate_core.specs.Claims.{fact_with};
 ghost use Rattle.mate_shards.specs.Answers.{SeeAnswer, SeeAnswerOrFull, claim_kind, kind_of};
-ghost use Rattle.mate_shards.specs.Grown.{HaveGrown, HaveParts};
+ghost use Rattle.mate_shards.specs.Grown.{HaveGrown, HaveParts, owned, stored_by};
 ghost use Rattle.mate_shards.specs.Views.{ArePassesOf, IsFresh};
 ghost use Rattle.mate_core.specs.Hash.{shard_of_hash};
 ghost use Rattle.mate_shards.specs.Shard.{Fits};
@@ -79,6 +79,7 @@ impl Shards {
         ensures passes { IfOk result (λ made. ArePassesOf made.0 made.1) }
         ensures fresh { IfOk result (λ made. All (IsFresh []) made.1) }
         ensures parts { IfOk result (λ made. HaveParts all_parts made.1) }
+        ensures owned { IfOk result (λ made. owned made.1 ≡ 0) }
     {
         let count = shards as usize;
         let mut locks = Vec::with_capacity(alloc, count)?;
@@ -112,6 +113,7 @@ impl Shards {
         ensures turn { PublishTurn self.now passes.old fact.now result passes.new }
         ensures grown { HaveGrown passes.old passes.new }
         ensures parts { (n : ℕ) → HaveParts n passes.old → HaveParts n passes.new }
+        ensures owned { owned passes.new ≡ owned passes.old + stored_by result }
         ensures known { (repeat : RepeatView) (counter moves : ℕ) → serves fact.now repeat counter moves ≡ true →
             SeeAnswerOrFull self.now passes.new fact.now.wins repeat counter moves }
     {
@@ -137,6 +139,7 @@ impl Shards {
         ensures turn { LookTurn self.now passes.old p.now moves result passes.new }
         ensures grown { HaveGrown passes.old passes.new }
         ensures parts { (n : ℕ) → HaveParts n passes.old → HaveParts n passes.new }
+        ensures owned { owned passes.new ≡ owned passes.old }
         ensures truth { IfSome result (IsTrueIn self.now.frame) }
         ensures serves { IfSome result (λ fact. serves fact (Repeats.repeat_of p.now) p.now.counter moves ≡ true) }
         ensures known { (wins : Bool) → (kind_of result ≡ Some wins)
@@ -162,6 +165,7 @@ impl Shards {
             (option_map (fact_with (Repeats.repeat_of p.now)) result) passes.new }
         ensures grown { HaveGrown passes.old passes.new }
         ensures parts { (n : ℕ) → HaveParts n passes.old → HaveParts n passes.new }
+        ensures owned { owned passes.new ≡ owned passes.old }
         ensures truth { IfSome result (λ claim. IsTrueIn self.now.frame (fact_with (Repeats.repeat_of p.now) claim)) }
         ensures known { (wins : Bool) → (claim_kind result ≡ Some wins)
             ↔ SeeAnswer self.now passes.new wins (Repeats.repeat_of p.now) p.now.counter moves }

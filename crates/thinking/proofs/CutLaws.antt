@@ -1,10 +1,9 @@
 -- What cuts one part after another, and what it says in a session.
-use Rattle.std.proofs.Common.{◌≡◌, ℕ, ◌+◌, ◌-◌, ◌≤◌, ◌<◌, List, [], ◌∷◌, ◌++◌, Option, Some, None, refl, sym, subst, ap, inl, inr, arith}
+use Rattle.std.proofs.Common.{◌≡◌, ℕ, ◌+◌, ◌-◌, ◌≤◌, ◌<◌, List, [], ◌∷◌, ◌++◌, Option, Some, None, sym, subst, inl, arith}
 use Rattle.std.specs.Option.{option_map}
 use Rattle.io_ports.specs.declared.dialect.Dialect.{Dialect}
 use Rattle.io_ports.specs.declared.limits.Limits.{Limits}
-use Rattle.io_ports.specs.Heard.{stops}
-use Rattle.io_ports.specs.Lines.{Line, Text}
+use Rattle.io_ports.specs.Lines.{Line}
 use Rattle.io_ports.specs.Owing.{Lacks, Spends}
 use Rattle.io_ports.specs.Source.{Owed, Untold}
 use Rattle.io_ports.proofs.Owing.{lacks_before, lacks_wider}

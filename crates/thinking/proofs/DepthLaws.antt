@@ -1,11 +1,8 @@
 -- One depth after another: what each part adds.
-use Rattle.std.proofs.Common.{◌≡◌, ℕ, zero, suc, ◌+◌, ◌-◌, ◌≤◌, ◌<◌, List, [], ◌∷◌, ◌++◌, length, Option, Some, None, refl, sym, ap, subst, ◌∙◌, ◌⊎◌, inl, inr, arith}
+use Rattle.std.proofs.Common.{◌≡◌, ℕ, zero, suc, ◌+◌, ◌-◌, ◌≤◌, ◌<◌, List, [], ◌∷◌, ◌++◌, length, get_or, Option, Some, None, refl, sym, ap, subst, ◌∙◌, ◌⊎◌, inl, inr, arith}
 use Rattle.std.specs.Prelude.{IfSome, ⊤}
 use Rattle.std.specs.Option.{option_map}
-use Rattle.std.specs.Io.KnownBytes.{Appends}
-use Rattle.std.specs.List.{concat}
 use Rattle.std.proofs.lemmas.List.{append-nil, length-append}
-use Rattle.io_ports.specs.Clock.{GivesReadings, count_after, last_after}
 use Rattle.io_ports.specs.declared.dialect.Dialect.{Dialect}
 use Rattle.io_ports.specs.declared.limits.Limits.{Limits}
 use Rattle.io_ports.specs.Lines.{Line, Text}
@@ -15,16 +12,18 @@ use Rattle.io_ports.specs.Trace.{Moves}
 use Rattle.io_ports.proofs.Owing.{spends_more, spends_none, spends_wider}
 use Rattle.rules_model.specs.declared.moves.Move.{Move}
 use Rattle.game_play.specs.Played.{story}
-use Rattle.game_values.specs.Bounds.{asked_bound, depths_bound, search_bound}
+use Rattle.game_values.specs.Bounds.{depths_bound, search_bound}
 use Rattle.watching.specs.declared.halt.Cut.{Cut}
 use Rattle.watching.specs.declared.halt.Cut.TheVariants as cut
-use Rattle.watching.specs.EventLaws.{listens_more, ran_holds, ran_more, ran_none, readings-append}
-use Rattle.watching.specs.Events.{Event, Listens, readings}
-use Rattle.watching.specs.Looks.{Broke, Moved, Ran, held}
-use Rattle.session_model.proofs.Reports.{depths_grow, depths_more, last_announced_snoc, last_best_snoc, reports_snoc, search_bound-some, searches_more, solve_bound-some}
+use Rattle.watching.specs.EventLaws.{ran_holds, ran_more, ran_none, readings-append}
+use Rattle.watching.specs.Events.{Event, readings}
+use Rattle.watching.specs.Looks.{held}
+use Rattle.session_model.proofs.Reports.{depths_grow, depths_more, last_announced_snoc, last_best_snoc, reports_snoc, search_bound-some, searches_more}
 use Rattle.session_model.specs.Deadlines.{deadline_of}
 use Rattle.session_model.specs.Mates.{Announced}
-use Rattle.session_model.specs.Thinking.{Task, Report, Cause, Ending, Interrupted, Whole, InSearch, InSolve, AreReports, Deepens, IsOpen, IsReport, MayCut, MayEnd, announced_by, last_announced, last_best, open_report, reported, searches_upto, solve_within}
+use Rattle.session_model.specs.Events.{IsStopped}
+use Rattle.session_model.specs.Thinking.{Task, Report, Cause, Ending, Interrupted, Whole, InSearch, InSolve, AreReports, Deepens, IsOpen, IsReport, MayCut, MayEnd, announced_by, last_announced, last_best, open_report, searches_upto, solve_within}
+use Rattle.session_model.specs.UciSession.{first_of}
 use Rattle.turning.specs.Lines.{Follows, Held, none, one}
 use Rattle.thinking.specs.declared.depth.Depth.{Depth}
 use Rattle.thinking.specs.declared.depth.Depth.TheVariants.{Done, Off}
@@ -37,11 +36,24 @@ use Rattle.thinking.specs.Depths.{BrokeDepth, BrokeOff, Deepened, Deepening, Dee
 use Rattle.thinking.specs.Judging.{bound_at}
 use Rattle.thinking.specs.Tells.{BrokeHeld, Tells}
 use Rattle.thinking.specs.Views.{kept_seen, report_of}
-use Rattle.thinking.proofs.CutLaws.{cuts_after, cuts_as, cuts_untold, cuts_wider}
+use Rattle.thinking.proofs.CutLaws.{cuts_after, cuts_as, cuts_wider}
 use Rattle.thinking.proofs.RanLaws.{broke_held_more}
-use Rattle.thinking.proofs.TellLaws.{tells_listens, tells_more, tells_none}
+use Rattle.thinking.proofs.TellLaws.{tells_more, tells_none}
+
+-- the first root move
+pub first_read : (roots : List Move) (other past : Move) → 0 < length roots → get_or roots 0 past ≡ first_of other roots
+first_read [] other past some = absurd (omega arith)
+first_read (m ∷ roots) other past some = refl
 
 -- ---- how a search may end
+
+-- the line that is held stops a search
+held_stops : (dialect : Dialect) (why : Cut) (text : List ℕ) (owed : Owed) (bound : ℕ) (share deadline : Option ℕ) (reach : ℕ) (taken : List ℕ)
+    → CutsBy dialect owed bound share deadline reach taken text why → IsStopped dialect (held (Some why) text)
+held_stops dialect cut.Line text owed bound share deadline reach taken may = may.1
+held_stops dialect cut.End text owed bound share deadline reach taken may = tt
+held_stops dialect (cut.Quota quota) text owed bound share deadline reach taken may = tt
+held_stops dialect (cut.Deadline reading) text owed bound share deadline reach taken may = tt
 
 -- what cut a part, after depths that were not cut
 cut_late : (dialect : Dialect) (why : Cut) (o o' : Owed) (t : Task) (done entered reach : ℕ) (quota deadline : Option ℕ) (first : ℕ) (x y : List Event) (text : List ℕ) (following : List Line)
@@ -88,6 +100,24 @@ module _ (dialect : Dialect) (A : Type 0) (t : Task) (reports : List Report) (do
         );
       }
 
+next_depth : (done : ℕ) (reports : List Report) → length reports ≡ done → done + 1 ≡ 1 + length reports
+next_depth done reports counted = omega (arith, counted)
+
+spends_next : (o o' o'' : Owed) (t : Task) (done : ℕ) → Spends o o' (depths_bound t.game.rules done (story t.game)) → Spends o' o'' (bound_at t (done + 1))
+    → Spends o o'' (depths_bound t.game.rules (done + 1) (story t.game))
+spends_next o o' o'' t done before spends =
+    let more = depths_more t.game.rules done (story t.game) in
+    spends_wider o o'' (depths_bound t.game.rules done (story t.game) + bound_at t (done + 1)) (depths_bound t.game.rules (done + 1) (story t.game))
+    (spends_more o o' o'' (depths_bound t.game.rules done (story t.game)) (bound_at t (done + 1)) before spends) (omega (arith, more))
+
+spends_all : (o o' o'' : Owed) (t : Task) (done : ℕ) → done + 1 ≤ t.depths → Spends o o' (depths_bound t.game.rules done (story t.game)) → Spends o' o'' (bound_at t (done + 1))
+    → Spends o o'' (depths_bound t.game.rules t.depths (story t.game))
+spends_all o o' o'' t done le before spends = spends_wider o o'' (depths_bound t.game.rules (done + 1) (story t.game)) (depths_bound t.game.rules t.depths (story t.game))
+    (spends_next o o' o'' t done before spends) (depths_grow t.game.rules (done + 1) t.depths (story t.game) le)
+
+reach_some : (t : Task) (depth moves : ℕ) → 0 < search_bound t.game.rules depth (story t.game) + solve_within t moves
+reach_some t depth moves = let some = search_bound-some t.game.rules depth (story t.game) in omega (arith, some)
+
 less_or_same : (m n : ℕ) → m ≤ n → (m < n) ⊎ (m ≡ n)
 less_or_same zero zero le = inr refl
 less_or_same zero (suc n) le = inl (omega arith)
@@ -121,65 +151,53 @@ follows_held (cut.Deadline reading) text = tt
 -- ---- one depth after another
 
 module _ {S K C : Type 0} {left : S → Option (List ℕ)} {taken : K → Option (List ℕ)} {given : C → Option (List ℕ)} {count last : C → ℕ} (dialect : Dialect) (style : Style) where
-  pub deepening_none : (s : S) (k : K) (c : C) (o : Owed) (t : Task) (root : Move) (first : ℕ)
-      → Deepening dialect style (Moves left taken given count last s s k k c c) o o t root first 0 0 root None
-  deepening_none s k c o t root first = record {
+  pub deepening_none : (s : S) (k : K) (c : C) (o : Owed) (t : Task) (root best : Move) (first : ℕ) → best ≡ root
+      → Deepening dialect style (Moves left taken given count last s s k k c c) o o t root first 0 0 best None
+  deepening_none s k c o t root best first is = record {
     reports = [];
     ran = ran_none dialect s k c (tells_none dialect style t.game.rules first 1);
     valued = tt;
     counted = refl;
-    best_is = refl;
+    best_is = is;
     kept_is = refl;
     spends = spends_none o (depths_bound t.game.rules 0 (story t.game));
     few = omega arith;
   }
 
-  module _ {s s' s'' : S} {k k' k'' : K} {c c' c'' : C} {o o' o'' : Owed} (t : Task) (root : Move) (first done entered : ℕ) (best : Move) (kept : Option Announced)
+  module _ {s s' s'' : S} {k k' k'' : K} {c c' c'' : C} {o o' : Owed} (t : Task) (root : Move) (first done entered : ℕ) (best : Move) (kept : Option Announced)
       (so : Deepening dialect style (Moves left taken given count last s s' k k' c c') o o' t root first done entered best kept) where
-    next_depth : done + 1 ≡ 1 + length so.reports
-    next_depth = let n = so.counted in omega (arith, n)
-
-    spends_next : Spends o' o'' (bound_at t (done + 1)) → Spends o o'' (depths_bound t.game.rules (done + 1) (story t.game))
-    spends_next spends =
-        let more = depths_more t.game.rules done (story t.game) in
-        spends_wider o o'' (depths_bound t.game.rules done (story t.game) + bound_at t (done + 1)) (depths_bound t.game.rules (done + 1) (story t.game))
-        (spends_more o o' o'' (depths_bound t.game.rules done (story t.game)) (bound_at t (done + 1)) so.spends spends) (omega (arith, more))
-
     -- a depth is done
-    pub deepening_more : (limits : Limits) (text : List ℕ) (found : Found) (clock entered' : ℕ)
+    pub deepening_more : {o'' : Owed} (limits : Limits) (text : List ℕ) (found : Found) (clock entered' : ℕ)
         → Deeper dialect style (Moves left taken given count last s' s'' k' k'' c' c'') o' o'' t first (done + 1) limits text (Done found clock None)
         → entered' ≤ entered + found.nodes
         → Deepening dialect style (Moves left taken given count last s s'' k k'' c c'') o o'' t root first (done + 1) entered' found.best (announced_by (report_of found clock).score kept)
-    deepening_more limits text found clock entered' d le =
+    deepening_more {o'' = o''} limits text found clock entered' d le =
         let report = report_of found clock in
         let before = so.few in let few = d.is.few in let searches = searches_more t done in
         record {
           reports = so.reports ++ report ∷ [];
           ran = ran_more dialect (Tells dialect style t.game.rules first 1 (so.reports ++ report ∷ []))
-              (λ x y p q. tells_more dialect style t.game.rules first x y 1 (done + 1) so.reports (report ∷ []) p q.0 next_depth) so.ran d.ran;
-          valued = reports_snoc t 1 so.reports report so.valued (subst (λ n. IsReport t n report) next_depth d.is);
+              (λ x y p q. tells_more dialect style t.game.rules first x y 1 (done + 1) so.reports (report ∷ []) p q.0 (next_depth done so.reports so.counted)) so.ran d.ran;
+          valued = reports_snoc t 1 so.reports report so.valued (subst (λ n. IsReport t n report) (next_depth done so.reports so.counted) d.is);
           counted = length-append so.reports (report ∷ []) ∙ ap (λ n. n + 1) so.counted;
           best_is = sym (last_best_snoc root so.reports report);
           kept_is = ap (announced_by report.score) so.kept_is ∙ sym (last_announced_snoc None so.reports report);
-          spends = spends_next d.spends;
+          spends = spends_next o o' o'' t done so.spends d.spends;
           few = omega (arith, before, few, searches, le);
         }
 
     module _ (limits : Limits) (text : List ℕ) (le : done + 1 ≤ t.depths) (quota_is : limits.quota ≡ option_map (λ number. number - entered) t.share)
         (start : (more : List ℕ) → limits.deadline ≡ deadline_of t.time (first ∷ more)) where
-      spends_all : Spends o' o'' (bound_at t (done + 1)) → Spends o o'' (depths_bound t.game.rules t.depths (story t.game))
-      spends_all spends = spends_wider o o'' _ _ (spends_next spends) (depths_grow t.game.rules (done + 1) t.depths (story t.game) le)
-
       -- its search was cut
-      pub deepening_off : (kept_at : Option Kept) (why : Cut) → kept ≡ kept_seen kept_at
+      pub deepening_off : {o'' : Owed} (kept_at : Option Kept) (why : Cut) → kept ≡ kept_seen kept_at
           → Deeper dialect style (Moves left taken given count last s' s'' k' k'' c' c'') o' o'' t first (done + 1) limits text (Off why)
           → Deepened dialect style (Moves left taken given count last s s'' k k'' c c'') o o'' t root first text (record { best = best; kept = kept_at; why = Some why })
-      deepening_off kept_at why kept_is d = record {
+      deepening_off {o'' = o''} kept_at why kept_is d = record {
         reports = so.reports;
         ending = InSearch (cause_of why);
         ran = ran_more dialect _
             (λ x y p q. (
-              tells_more dialect style t.game.rules first x y 1 (done + 1) so.reports [] p q.0 next_depth,
+              tells_more dialect style t.game.rules first x y 1 (done + 1) so.reports [] p q.0 (next_depth done so.reports so.counted),
               λ following follows. deepens_off dialect (Lacks o (depths_bound t.game.rules t.depths (story t.game))) t so.reports done (first ∷ readings (x ++ y)) following so.valued so.counted le (cause_of why)
                   (cut_late dialect why o o' t done entered (search_bound t.game.rules (done + 1) (story t.game)) limits.quota limits.deadline first x y text following so.spends so.few
                   (search_bound-some t.game.rules (done + 1) (story t.game)) le quota_is start q.1 follows),
@@ -187,33 +205,30 @@ module _ {S K C : Type 0} {left : S → Option (List ℕ)} {taken : K → Option
         ended = refl;
         best_is = so.best_is ∙ ap (last_best root) (sym (append-nil so.reports));
         kept_is = sym kept_is ∙ so.kept_is ∙ ap (last_announced None) (sym (append-nil so.reports));
-        spends = spends_all d.spends;
+        spends = spends_all o o' o'' t done le so.spends d.spends;
       }
 
       -- the solve after it was cut
-      pub deepening_left : (found : Found) (clock : ℕ) (solve : CutSolve) (kept_at : Option Kept) → announced_by (report_of found clock).score kept ≡ kept_seen kept_at
+      pub deepening_left : {o'' : Owed} (found : Found) (clock : ℕ) (solve : CutSolve) (kept_at : Option Kept) → announced_by (report_of found clock).score kept ≡ kept_seen kept_at
           → Deeper dialect style (Moves left taken given count last s' s'' k' k'' c' c'') o' o'' t first (done + 1) limits text (Done found clock (Some solve))
           → Deepened dialect style (Moves left taken given count last s s'' k k'' c c'') o o'' t root first text (record { best = found.best; kept = kept_at; why = Some solve.why })
-      deepening_left found clock solve kept_at kept_is d =
+      deepening_left {o'' = o''} found clock solve kept_at kept_is d =
           let report = report_of found clock in
           record {
             reports = so.reports;
             ending = InSolve report solve.moves (cause_of solve.why);
             ran = ran_more dialect _
                 (λ x y p q. (
-                  tells_more dialect style t.game.rules first x y 1 (done + 1) so.reports (report ∷ []) p q.0 next_depth,
+                  tells_more dialect style t.game.rules first x y 1 (done + 1) so.reports (report ∷ []) p q.0 (next_depth done so.reports so.counted),
                   λ following follows. deepens_left dialect (Lacks o (depths_bound t.game.rules t.depths (story t.game))) t so.reports done (first ∷ readings (x ++ y)) following so.valued so.counted le report solve.moves (cause_of solve.why) d.is
                       (cut_late dialect solve.why o o' t done entered (search_bound t.game.rules (done + 1) (story t.game) + solve_within t solve.moves) limits.quota limits.deadline first x y text following so.spends so.few
-                      (reach_some solve.moves) le quota_is start q.1 follows),
+                      (reach_some t (done + 1) solve.moves) le quota_is start q.1 follows),
                 )) so.ran d.ran;
             ended = refl;
             best_is = sym (last_best_snoc root so.reports report);
             kept_is = sym kept_is ∙ ap (announced_by report.score) so.kept_is ∙ sym (last_announced_snoc None so.reports report);
-            spends = spends_all d.spends;
+            spends = spends_all o o' o'' t done le so.spends d.spends;
           }
-        where
-          reach_some : (moves : ℕ) → 0 < search_bound t.game.rules (done + 1) (story t.game) + solve_within t moves
-          reach_some moves = let some = search_bound-some t.game.rules (done + 1) (story t.game) in omega (arith, some)
 
       -- a fault came
       pub deepening_broke : BrokeDepth dialect style (Moves left taken given count last s' s'' k' k'' c' c'') t first (done + 1) limits
@@ -232,9 +247,10 @@ module _ {S K C : Type 0} {left : S → Option (List ℕ)} {taken : K → Option
             ending = InSearch (cause_of why);
             behind = held (Some why) b.text;
             is_held = held_one why b.text;
+            stopped = held_stops dialect why b.text Untold (bound_at t (done + 1)) limits.quota limits.deadline (reach_at t (done + 1) (Off why)) (readings broke.events) broke.holds.1;
             broke = broke_held_more dialect _
                 (λ x y p q. (
-                  tells_more dialect style t.game.rules first x y 1 (done + 1) so.reports [] p q.0 next_depth,
+                  tells_more dialect style t.game.rules first x y 1 (done + 1) so.reports [] p q.0 (next_depth done so.reports so.counted),
                   deepens_off dialect ⊤ t so.reports done (first ∷ readings (x ++ y)) (held (Some why) b.text) so.valued so.counted le (cause_of why)
                       (cut_late dialect why Untold Untold t done entered (search_bound t.game.rules (done + 1) (story t.game)) limits.quota limits.deadline first x y b.text (held (Some why) b.text) untold so.few
                       (search_bound-some t.game.rules (done + 1) (story t.game)) le quota_is start q.1 (follows_held why b.text)),
@@ -243,17 +259,18 @@ module _ {S K C : Type 0} {left : S → Option (List ℕ)} {taken : K → Option
           by_depth (Done found clock None) broke is =
               let report = report_of found clock in
               let counted : length (so.reports ++ report ∷ []) ≡ done + 1 = length-append so.reports (report ∷ []) ∙ ap (λ n. n + 1) so.counted in
-              let valued = reports_snoc t 1 so.reports report so.valued (subst (λ n. IsReport t n report) next_depth is) in
-              let (ending, ends, open) = done_or_cut dialect t (so.reports ++ report ∷ []) (subst (λ n. n ≤ t.depths) (sym counted) le) in
+              let valued = reports_snoc t 1 so.reports report so.valued (subst (λ n. IsReport t n report) (next_depth done so.reports so.counted) is) in
+              let (ending, ends, closed) = done_or_cut dialect t (so.reports ++ report ∷ []) (subst (λ n. n ≤ t.depths) (sym counted) le) in
               record {
                 reports = so.reports ++ report ∷ [];
                 ending = ending;
                 behind = [];
                 is_held = none;
+                stopped = tt;
                 broke = broke_held_more dialect _
                     (λ x y p q. (
-                      subst (λ rs. Tells dialect style t.game.rules first 1 rs (x ++ y)) (sym (ap (λ rs. (so.reports ++ report ∷ []) ++ rs) open ∙ append-nil (so.reports ++ report ∷ [])))
-                          (tells_more dialect style t.game.rules first x y 1 (done + 1) so.reports (report ∷ []) p q.0 next_depth),
+                      subst (λ rs. Tells dialect style t.game.rules first 1 rs (x ++ y)) (sym (ap (λ rs. (so.reports ++ report ∷ []) ++ rs) closed ∙ append-nil (so.reports ++ report ∷ [])))
+                          (tells_more dialect style t.game.rules first x y 1 (done + 1) so.reports (report ∷ []) p q.0 (next_depth done so.reports so.counted)),
                       record { valued = valued; ended = ends (first ∷ readings (x ++ y)) },
                     )) so.ran broke;
               }
@@ -264,17 +281,15 @@ module _ {S K C : Type 0} {left : S → Option (List ℕ)} {taken : K → Option
                 ending = InSolve report solve.moves (cause_of solve.why);
                 behind = held (Some solve.why) b.text;
                 is_held = held_one solve.why b.text;
+                stopped = held_stops dialect solve.why b.text Untold (bound_at t (done + 1)) limits.quota limits.deadline (reach_at t (done + 1) (Done found clock (Some solve))) (readings broke.events) broke.holds.1;
                 broke = broke_held_more dialect _
                     (λ x y p q. (
-                      tells_more dialect style t.game.rules first x y 1 (done + 1) so.reports (report ∷ []) p q.0 next_depth,
+                      tells_more dialect style t.game.rules first x y 1 (done + 1) so.reports (report ∷ []) p q.0 (next_depth done so.reports so.counted),
                       deepens_left dialect ⊤ t so.reports done (first ∷ readings (x ++ y)) (held (Some solve.why) b.text) so.valued so.counted le report solve.moves (cause_of solve.why) is
                           (cut_late dialect solve.why Untold Untold t done entered (search_bound t.game.rules (done + 1) (story t.game) + solve_within t solve.moves) limits.quota limits.deadline first x y b.text (held (Some solve.why) b.text) untold so.few
-                          (reach_some' solve.moves) le quota_is start q.1 (follows_held solve.why b.text)),
+                          (reach_some t (done + 1) solve.moves) le quota_is start q.1 (follows_held solve.why b.text)),
                     )) so.ran broke;
               }
-
-          reach_some' : (moves : ℕ) → 0 < search_bound t.game.rules (done + 1) (story t.game) + solve_within t moves
-          reach_some' moves = let some = search_bound-some t.game.rules (done + 1) (story t.game) in omega (arith, some)
 
   -- all depths are done
   pub deepening_whole : {s s' : S} {k k' : K} {c c' : C} {o o' : Owed} (t : Task) (root : Move) (first entered : ℕ) (best : Move) (kept : Option Announced) (kept_at : Option Kept) (text : List ℕ)

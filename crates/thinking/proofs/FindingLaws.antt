@@ -1,14 +1,15 @@
 -- What is found at a depth is a true report.
-use Rattle.std.proofs.Common.{◌≡◌, ℕ, ◌+◌, ◌≤◌, ◌<◌, ◌^◌, List, [], ◌∷◌, length, Option, Some, None, true, refl, sym, ap, subst, ◌∙◌, inl, inr, arith, ℤ, pos, negsuc, ◌≤ℤ◌, ◌<ℤ◌}
-use Rattle.std.specs.Prelude.{IfSome, slice_index_or}
+use Rattle.std.proofs.Common.{◌≡◌, ℕ, zero, suc, get_or, eq-eqb, ◌≤◌, ◌<◌, ◌^◌, List, [], ◌∷◌, length, Option, Some, None, true, refl, sym, ap, subst, ◌∙◌, inl, inr, arith, ℤ, pos, negsuc, ◌≤ℤ◌, ◌<ℤ◌}
+use Rattle.std.specs.Prelude.{IfSome}
 use Rattle.std.specs.List.{All}
+use Rattle.std.proofs.lemmas.Int.{ints}
 use Rattle.foundation.specs.Member.{Member}
 use Rattle.rules_model.specs.declared.moves.Move.{Move}
 use Rattle.rules_model.specs.declared.board.Repeat.{Repeat}
 use Rattle.rules_model.specs.declared.board.Side.{Side}
 use Rattle.rules_model.specs.Sides.{other}
 use Rattle.rules_model.specs.Sound.{is_sound}
-use Rattle.game_play.specs.Played.{Played, IsPlayed, legal_in, story}
+use Rattle.game_play.specs.Played.{Played, IsPlayed, legal_in}
 use Rattle.session_model.proofs.Shown.{evidence_is_sound, roots_of_shown}
 use Rattle.session_model.specs.Mates as Mates
 use Rattle.session_model.specs.Mates.{IsEvidence, IsShown, counters_of, favoured, mover, position_at, root_move}
@@ -20,8 +21,9 @@ use Rattle.thinking.specs.declared.found.Evidence.{Evidence}
 use Rattle.thinking.specs.declared.found.Found.{Found}
 use Rattle.thinking.specs.declared.found.Score.{Score}
 use Rattle.thinking.specs.declared.found.Score.TheVariants as score
+use Rattle.thinking.specs.declared.task.Task.{Task as Asked}
 use Rattle.thinking.specs.Judging.{IsFinding, search_at}
-use Rattle.thinking.specs.Views.{evidence_of, evidence_seen, report_of, score_seen}
+use Rattle.thinking.specs.Views.{IsTask, evidence_of, evidence_seen, score_seen}
 
 -- ---- legal moves
 
@@ -33,6 +35,25 @@ member_some x (y ∷ ys) there = omega arith
 pub legal_some : (roots legal : List Move) → All (λ m. Member m legal) roots → 0 < length roots → 0 < length legal
 legal_some [] legal all some = absurd (omega arith)
 legal_some (m ∷ roots) legal all some = member_some m legal (all 0 m (omega arith))
+
+member_at : {X : Type 0} (xs : List X) (i : ℕ) (d : X) → i < length xs → Member (get_or xs i d) xs
+member_at [] i d below = absurd (omega arith)
+member_at (x ∷ xs) zero d below = inl refl
+member_at (x ∷ xs) (suc i) d below = inr (member_at xs i d (omega arith))
+
+same_members : (xs ys : List Move) → xs ≡ ys → All (λ m. Member m ys) xs
+same_members xs ys is = subst (λ (zs : List Move). All (λ m. Member m zs) xs) is (λ i d below. member_at xs i d below)
+
+-- all legal moves are root moves
+pub whole_task : (t : Asked) → t.roots.now ≡ legal_in t.game.now → 0 < length t.roots.now → t.all ≡ true → 1 ≤ t.depths → t.depths ≤ 64
+    → IsTask t
+whole_task t is some all least most = record {
+  legal = same_members t.roots.now (legal_in t.game.now) is;
+  some = some;
+  all = all ∙ sym (eq-eqb (length t.roots.now) (length (legal_in t.game.now)) (ap length is));
+  least = least;
+  most = most;
+}
 
 -- a strategy that is shown for the mover has a move at its root
 pub root_there : (g : Played) (n : ℕ) (s : Strategy) → IsShown g n (mover g) s → 0 < length (legal_in g) → root_move s ≡ None → ⊥
@@ -49,16 +70,16 @@ root_there g n s shown some none = by_legal (legal_in g) refl some
 
 pub favours_mover : (side : Side) (v : ℤ) → pos 0 ≤ℤ v → (IsAhead v) × (favoured side v ≡ side)
 favours_mover side (pos v) h = (tt, refl)
-favours_mover side (negsuc v) h = absurd h
+favours_mover side (negsuc v) h = absurd (omega (arith, ints))
 
 pub favours_other : (side : Side) (v : ℤ) → v <ℤ pos 0 → (IsBehind v) × (favoured side v ≡ other side)
-favours_other side (pos v) h = absurd (omega arith)
+favours_other side (pos v) h = absurd (omega (arith, ints))
 favours_other side (negsuc v) h = (tt, refl)
 
 -- ---- evidence
 
-evidence_with : (e : Mates.Evidence) → e ≡ record { repeat = e.repeat; first = e.first; others = e.others }
-evidence_with e = refl
+abbrev evidence_made : Repeat → ℕ → List ℕ → Mates.Evidence
+evidence_made r n ns = record { repeat = r; first = n; others = ns }
 
 pub evidence_same : (a b : Mates.Evidence) → a.repeat ≡ b.repeat → counters_of a ≡ counters_of b → a ≡ b
 evidence_same a b repeat counters =
@@ -67,7 +88,7 @@ evidence_same a b repeat counters =
     by_parts a.repeat b.repeat a.first b.first a.others b.others repeat first others
   where
     by_parts : (r r' : Repeat) (n n' : ℕ) (ns ns' : List ℕ) → r ≡ r' → n ≡ n' → ns ≡ ns'
-        → record { repeat = r; first = n; others = ns } ≡ record { repeat = r'; first = n'; others = ns' }
+        → evidence_made r n ns ≡ evidence_made r' n' ns'
     by_parts r r' n n' ns ns' p q s = cc
 
 -- ---- reports

@@ -1,5 +1,5 @@
 -- A search, and the solve after it: what both add.
-use Rattle.std.proofs.Common.{◌≡◌, ℕ, ◌+◌, ◌-◌, ◌≤◌, ◌<◌, List, [], ◌∷◌, ◌++◌, Option, Some, None, refl, sym, subst, arith}
+use Rattle.std.proofs.Common.{◌≡◌, ℕ, ◌+◌, ◌-◌, ◌≤◌, ◌<◌, List, [], ◌∷◌, ◌++◌, length, Option, Some, None, refl, sym, subst, arith}
 use Rattle.std.specs.Prelude.{IfSome}
 use Rattle.std.specs.Option.{option_map}
 use Rattle.std.specs.Io.KnownBytes.{Appends}
@@ -7,21 +7,20 @@ use Rattle.std.specs.List.{concat}
 use Rattle.io_ports.specs.Clock.{GivesReadings, count_after, last_after}
 use Rattle.io_ports.specs.declared.dialect.Dialect.{Dialect}
 use Rattle.io_ports.specs.declared.limits.Limits.{Limits}
-use Rattle.io_ports.specs.Owing.{Spends}
 use Rattle.io_ports.specs.Sink.{AppendsFront}
 use Rattle.io_ports.specs.Source.{Owed, Untold}
 use Rattle.io_ports.specs.Trace.{Moves}
 use Rattle.io_ports.proofs.Owing.{spends_more, spends_none, spends_wider}
+use Rattle.rules_model.specs.declared.moves.Move.{Move}
 use Rattle.game_play.specs.Played.{story}
 use Rattle.watching.specs.declared.halt.Cut.{Cut}
 use Rattle.watching.specs.declared.halt.Cut.TheVariants as cut
 use Rattle.watching.specs.EventLaws.{broke_more, listens_more, ran_holds, ran_more, ran_none, readings-append}
 use Rattle.watching.specs.Events.{Event, Listens, readings}
-use Rattle.watching.specs.Looks.{Broke, Moved, Ran, held}
+use Rattle.watching.specs.Looks.{Broke}
 use Rattle.watching.specs.Watched.{World, Moment, MovesOn, Gone}
-use Rattle.session_model.proofs.Reports.{solve_bound-some}
-use Rattle.session_model.specs.Thinking.{Task, IsOpen, IsReport, solve_within}
-use Rattle.thinking.specs.declared.depth.Depth.{Depth}
+use Rattle.session_model.proofs.Reports.{solve_bound-some, sought_is_near}
+use Rattle.session_model.specs.Thinking.{Task, mate_sought, solve_within}
 use Rattle.thinking.specs.declared.depth.Depth.TheVariants.{Done, Off}
 use Rattle.thinking.specs.declared.found.CutSolve.{CutSolve}
 use Rattle.thinking.specs.declared.found.Found.{Found}
@@ -29,33 +28,47 @@ use Rattle.thinking.specs.declared.judging.Explored.TheVariants as explored
 use Rattle.thinking.specs.declared.judging.Judged.{Judged}
 use Rattle.thinking.specs.declared.style.Style.{Style}
 use Rattle.thinking.specs.Cuts.{CutsBy}
-use Rattle.thinking.specs.Depths.{BrokeDepth, Deeper, IsDepth, cut_in, reach_at, reports_in}
+use Rattle.thinking.specs.Depths.{BrokeDepth, Deeper, IsDepth}
 use Rattle.thinking.specs.Judging.{IsExplored, IsFinding, IsJudged, asked_at, bound_at, search_at, solve_cut, solve_reach}
-use Rattle.thinking.specs.Tells.{BrokeHeld, Tells, lines_by, reads_by}
+use Rattle.thinking.specs.Tells.{Tells, lines_by, reads_by}
 use Rattle.thinking.specs.Views.{report_of}
 use Rattle.thinking.proofs.CutLaws.{cuts_after, cuts_more, cuts_of_watch, cuts_untold, cuts_wider}
-use Rattle.thinking.proofs.RanLaws.{broke_held, broke_told, ran_told, readings_told, told, told_moves}
+use Rattle.thinking.proofs.RanLaws.{broke_held, broke_told, ran_told, told, told_moves}
 use Rattle.thinking.proofs.TellLaws.{listens_none, listens_tells, tells_told}
+
+-- what holds of a judgement with these parts
+judged_is : (P : Judged → Type 0) (j : Judged) {found : Found} {cut : Option CutSolve} → j.found ≡ found → j.cut ≡ cut
+    → P (record { found = found; cut = cut }) → P j
+judged_is P j {found = found} {cut = cut} f e p =
+    subst (λ (x : Found). P (record { found = x; cut = j.cut })) (sym f) (subst (λ (y : Option CutSolve). P (record { found = found; cut = y })) (sym e) p)
+
+-- a solve for the mate that a value stands for stays within what its depth allows
+pub near_of : (t : Task) (depth n : ℕ) → 0 < length t.roots → 0 < depth → mate_sought t depth ≡ Some n → solve_within t n ≤ asked_at t depth
+near_of t depth n some least sought = by_roots t.roots refl some
+  where
+    by_roots : (roots : List Move) → t.roots ≡ roots → 0 < length roots → solve_within t n ≤ asked_at t depth
+    by_roots [] are some = absurd (omega arith)
+    by_roots (first ∷ roots) are some = sought_is_near t depth n first roots are least sought
 
 module _ {S K C : Type 0} (w : World S K C) (dialect : Dialect) where
   module _ {a b : Moment S K C} (t : Task) (depth : ℕ) (limits : Limits) (text : List ℕ) (begins : a.nodes ≡ 0) where
     -- ---- a solve
 
     -- it came to its end
-    pub judged_solved : (n : ℕ) (found : Found) → Gone w dialect limits a b text (solve_within t n) None → solve_within t n ≤ asked_at t depth
+    pub judged_solved : (n : ℕ) (judged : Judged) {found : Found} → judged.found ≡ found → judged.cut ≡ None → Gone w dialect limits a b text (solve_within t n) None → solve_within t n ≤ asked_at t depth
         → IsFinding t depth found None
-        → IsJudged dialect (MovesOn w a b) (w.owed a.source) (w.owed b.source) t depth limits text (record { found = found; cut = None })
-    judged_solved n found gone near is = record {
+        → IsJudged dialect (MovesOn w a b) (w.owed a.source) (w.owed b.source) t depth limits text judged
+    judged_solved n judged f e gone near is = judged_is (IsJudged dialect (MovesOn w a b) (w.owed a.source) (w.owed b.source) t depth limits text) judged f e (record {
       ran = ran_holds dialect (λ events p. (p.0, tt)) gone.looked.ran;
       is = is;
       spends = spends_wider (w.owed a.source) (w.owed b.source) (solve_within t n) (asked_at t depth) gone.looked.spends near;
-    }
+    })
 
     -- it was cut
-    pub judged_cut : (solve : CutSolve) (found : Found) → Gone w dialect limits a b text (solve_within t solve.moves) (Some solve.why) → solve_within t solve.moves ≤ asked_at t depth
+    pub judged_cut : (solve : CutSolve) {found found' : Found} → found' ≡ found → Gone w dialect limits a b text (solve_within t solve.moves) (Some solve.why) → solve_within t solve.moves ≤ asked_at t depth
         → IsFinding t depth found (Some solve)
-        → IsJudged dialect (MovesOn w a b) (w.owed a.source) (w.owed b.source) t depth limits text (record { found = found; cut = Some solve })
-    judged_cut solve found gone near is = record {
+        → IsJudged dialect (MovesOn w a b) (w.owed a.source) (w.owed b.source) t depth limits text (record { found = found'; cut = Some solve })
+    judged_cut solve {found' = found'} f gone near is = judged_is (IsJudged dialect (MovesOn w a b) (w.owed a.source) (w.owed b.source) t depth limits text) (record { found = found'; cut = Some solve }) f refl (record {
       ran = ran_holds dialect
           (λ events p. (
             p.0,
@@ -64,7 +77,7 @@ module _ {S K C : Type 0} (w : World S K C) (dialect : Dialect) where
           )) gone.looked.ran;
       is = is;
       spends = spends_wider (w.owed a.source) (w.owed b.source) (solve_within t solve.moves) (asked_at t depth) gone.looked.spends near;
-    }
+    })
 
     -- ---- a search
 
@@ -83,10 +96,10 @@ module _ {S K C : Type 0} (w : World S K C) (dialect : Dialect) where
     }
 
     -- it came to its end, and then a mate was looked for
-    pub explored_found : {d : Moment S K C} (text' : List ℕ) (nodes : ℕ) (judged : Judged) → Gone w dialect limits a b text (search_at t depth) None → nodes ≤ search_at t depth
+    pub explored_found : (d : Moment S K C) (text' : List ℕ) (nodes : ℕ) (judged : Judged) → Gone w dialect limits a b text (search_at t depth) None → nodes ≤ search_at t depth
         → IsJudged dialect (MovesOn w b d) (w.owed b.source) (w.owed d.source) t depth (record { quota = option_map (λ number. number - nodes) limits.quota; deadline = limits.deadline }) text' judged
         → IsExplored dialect (MovesOn w a d) (w.owed a.source) (w.owed d.source) t depth limits text' (explored.Found judged)
-    explored_found {d = d} text' nodes judged gone few j = record {
+    explored_found d text' nodes judged gone few j = record {
       ran = ran_more dialect _ (λ x y p q. (listens_more dialect x y p.0 q.0, by_cut judged.cut x y q.1)) gone.looked.ran j.ran;
       is = j.is;
       spends = spends_more (w.owed a.source) (w.owed b.source) (w.owed d.source) (search_at t depth) (asked_at t depth) gone.looked.spends j.spends;
@@ -102,18 +115,19 @@ module _ {S K C : Type 0} (w : World S K C) (dialect : Dialect) where
             (solve_bound-some t.game.rules solve.moves (story t.game)) may)
 
     -- a fault came in what followed it
-    pub explored_broke : {d : Moment S K C} → Gone w dialect limits a b text (search_at t depth) None
+    pub explored_broke : (d : Moment S K C) → Gone w dialect limits a b text (search_at t depth) None
         → Broke dialect (MovesOn w b d) (Listens dialect) → Broke dialect (MovesOn w a d) (Listens dialect)
-    explored_broke gone broke = broke_more dialect (Listens dialect) (λ x y p q. listens_more dialect x y p.0 q) gone.looked.ran broke
+    explored_broke d gone broke = broke_more dialect (Listens dialect) (λ x y p q. listens_more dialect x y p.0 q) gone.looked.ran broke
 
   -- no mate is looked for
-  pub judged_none : (a : Moment S K C) (t : Task) (depth : ℕ) (limits : Limits) (text : List ℕ) (found : Found) → IsFinding t depth found None
-      → IsJudged dialect (MovesOn w a a) (w.owed a.source) (w.owed a.source) t depth limits text (record { found = found; cut = None })
-  judged_none a t depth limits text found is = record {
+  pub judged_none : (a : Moment S K C) (t : Task) (depth : ℕ) (limits : Limits) (text : List ℕ) (judged : Judged) {found : Found} → judged.found ≡ found → judged.cut ≡ None
+      → IsFinding t depth found None
+      → IsJudged dialect (MovesOn w a a) (w.owed a.source) (w.owed a.source) t depth limits text judged
+  judged_none a t depth limits text judged f e is = judged_is (IsJudged dialect (MovesOn w a a) (w.owed a.source) (w.owed a.source) t depth limits text) judged f e (record {
     ran = ran_none dialect a.source a.sink a.clock (tt, tt);
     is = is;
     spends = spends_none (w.owed a.source) (asked_at t depth);
-  }
+  })
 
 -- ---- and its lines
 
@@ -134,7 +148,7 @@ module _ (dialect : Dialect) (style : Style) (t : Task) (first depth : ℕ) (lim
       → ((why : Cut) (reach : ℕ) → CutsBy dialect o (bound_at t depth) limits.quota limits.deadline reach (readings a) text why → CutsBy dialect o' (bound_at t depth) limits.quota limits.deadline reach (readings a) text why)
       → Listens dialect a × IfSome (solve_cut cut) (CutsBy dialect o (bound_at t depth) limits.quota limits.deadline (search_at t depth + solve_reach t cut) (readings a) text)
       → Told o' found reading cut (a ++ told style reading (texts_of found reading))
-  told_then o o' found reading cut a as p = (
+  told_then o o' found reading cut a weaker p = (
     listens_tells dialect style t.game.rules first a (told style reading (texts_of found reading)) depth (report_of found reading ∷ []) p.0 (tells_told dialect style t.game.rules first depth (report_of found reading)),
     by_cut cut p.1,
   )
@@ -145,7 +159,7 @@ module _ (dialect : Dialect) (style : Style) (t : Task) (first depth : ℕ) (lim
       by_cut (Some solve) may =
           subst (λ (l : List ℕ). CutsBy dialect o' (bound_at t depth) limits.quota limits.deadline (search_at t depth + solve_within t solve.moves) l text solve.why) (sym (readings-append a (told style reading (texts_of found reading))))
           (cuts_more dialect solve.why o' (bound_at t depth) limits.quota limits.deadline (search_at t depth + solve_within t solve.moves) (readings a) (readings (told style reading (texts_of found reading))) text
-          (as solve.why (search_at t depth + solve_within t solve.moves) may))
+          (weaker solve.why (search_at t depth + solve_within t solve.moves) may))
 
 module _ {S K C : Type 0} {left : S → Option (List ℕ)} {taken : K → Option (List ℕ)} {given : C → Option (List ℕ)} {count last : C → ℕ} (dialect : Dialect) (style : Style) (t : Task) (first depth : ℕ) (limits : Limits) (text : List ℕ) where
   pub deeper_off : {s s' : S} {k k' : K} {c c' : C} {o o' : Owed} (why : Cut)

@@ -7,7 +7,6 @@ use Rattle.std.proofs.lemmas.List.{append-nil}
 use Rattle.io_ports.specs.Clock.{GivesReadings, count_after, last_after}
 use Rattle.io_ports.specs.declared.dialect.Dialect.{Dialect}
 use Rattle.io_ports.specs.Lines.{Line}
-use Rattle.io_ports.specs.Sink.{AppendsFront}
 use Rattle.io_ports.specs.Trace.{Moves}
 use Rattle.io_ports.proofs.Moved.{moves_at, moves_more, takes_none}
 use Rattle.watching.specs.EventLaws.{lines_of-append, readings-append, written-append}

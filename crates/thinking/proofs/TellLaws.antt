@@ -1,10 +1,10 @@
 -- What is told of one depth after another.
-use Rattle.std.proofs.Common.{◌≡◌, ℕ, ◌+◌, List, [], ◌∷◌, ◌++◌, map, length, Option, Some, None, refl, sym, ap, subst, ◌∙◌, arith}
+use Rattle.std.proofs.Common.{◌≡◌, ℕ, ◌+◌, List, [], ◌∷◌, ◌++◌, map, length, Option, Some, refl, sym, ap, subst, ◌∙◌}
 use Rattle.std.proofs.lemmas.List.{append-nil, map-append}
 use Rattle.io_ports.specs.declared.dialect.Dialect.{Dialect}
 use Rattle.rules_model.specs.declared.rules.Rules.{Rules}
 use Rattle.watching.specs.EventLaws.{listens_silent, listens_unstopped}
-use Rattle.watching.specs.Events.{Event, Says, Reads, AreUnstopped, Listens, said}
+use Rattle.watching.specs.Events.{Event, Listens, said}
 use Rattle.session_model.proofs.Joined.{clock_left, clocked_append, clocked_listens, said-append, unstopped_more}
 use Rattle.session_model.proofs.Reports.{depth_lines-append, post_lines-append}
 use Rattle.session_model.specs.Events.{clocked}
@@ -55,16 +55,16 @@ no_clocks style.Uci = tt
 no_clocks style.Post = λ last. refl
 no_clocks style.Silent = tt
 
+no_lines : (style : Style) (rules : Rules) (first depth : ℕ) → [] ≡ lines_by style rules first depth []
+no_lines style.Uci rules first depth = refl
+no_lines style.Post rules first depth = refl
+no_lines style.Silent rules first depth = refl
+
 -- ---- what is told
 
 module _ (dialect : Dialect) (style : Style) (rules : Rules) (first : ℕ) where
   pub tells_none : (depth : ℕ) → Tells dialect style rules first depth [] []
-  tells_none depth = record { unstopped = tt; lines_are = none style; clocks_are = no_clocks style }
-    where
-      none : (style : Style) → [] ≡ lines_by style rules first depth []
-      none style.Uci = refl
-      none style.Post = refl
-      none style.Silent = refl
+  tells_none depth = record { unstopped = tt; lines_are = no_lines style rules first depth; clocks_are = no_clocks style }
 
   -- the lines of reports, and then those of later ones
   pub tells_more : (a b : List Event) (depth depth' : ℕ) (reports more : List Report) → Tells dialect style rules first depth reports a

@@ -1,5 +1,5 @@
 -- Solves within 1, 2, .. moves, one after another.
-use Rattle.std.proofs.Common.{◌≡◌, ℕ, zero, suc, ◌+◌, ◌-◌, ◌≤◌, ◌<◌, List, [], ◌++◌, Option, Some, None, refl, sym, subst, arith}
+use Rattle.std.proofs.Common.{◌≡◌, ℕ, zero, suc, ◌+◌, ◌-◌, ◌≤◌, List, [], ◌++◌, Option, Some, None, sym, subst, arith}
 use Rattle.io_ports.specs.declared.dialect.Dialect.{Dialect}
 use Rattle.io_ports.specs.declared.limits.Limits.{Limits}
 use Rattle.io_ports.specs.Owing.{Spends}
@@ -13,12 +13,11 @@ use Rattle.watching.specs.EventLaws.{broke_more, listens_more, ran_holds, ran_mo
 use Rattle.watching.specs.Events.{Event, Listens, readings}
 use Rattle.watching.specs.Looks.{Broke, MayCut, Ran, held}
 use Rattle.watching.specs.Watched.{World, Moment, MovesOn, Gone, moment}
-use Rattle.session_model.proofs.Reports.{solve_bound-some}
 use Rattle.session_model.proofs.Shown.{no_shorter_more, no_shorter_than_one}
-use Rattle.session_model.specs.Mates.{HasNoShorter, IsNoWin, mover}
+use Rattle.session_model.specs.Mates.{IsNoWin, mover}
 use Rattle.session_model.specs.UciSession.{Decides}
 use Rattle.thinking.specs.declared.mates.Tried.{Tried}
-use Rattle.thinking.specs.declared.mates.Tried.TheVariants.{Stopped, NoMate}
+use Rattle.thinking.specs.declared.mates.Tried.TheVariants.{NoMate}
 use Rattle.thinking.specs.Cuts.{CutsBy}
 use Rattle.thinking.specs.Tries.{BrokeTrying, IsCutBy, IsMate, IsTried, Trying, answer_seen, cut_in}
 use Rattle.thinking.proofs.CutLaws.{cuts_later, cuts_of_watch, cuts_wider}
@@ -30,14 +29,19 @@ unfolding solves_bound
 solves_more rules n g = let next : n + 1 ≡ suc n = omega arith in rw next
 
 solves_beyond : (rules : Rules) (n more : ℕ) (g : Story) → solves_bound rules n g ≤ solves_bound rules (more + n) g
-solves_beyond rules n zero g = subst (λ m. solves_bound rules n g ≤ solves_bound rules m g) (omega arith) (omega arith)
+solves_beyond rules n zero g =
+    let same : n ≡ 0 + n = omega arith in
+    subst (λ m. solves_bound rules n g ≤ solves_bound rules m g) same (omega arith)
 solves_beyond rules n (suc more) g =
     let less = solves_beyond rules n more g in
     let next = solves_more rules (more + n) g in
-    subst (λ m. solves_bound rules n g ≤ solves_bound rules m g) (omega arith) (omega (arith, less, next))
+    let same : more + n + 1 ≡ suc more + n = omega arith in
+    subst (λ m. solves_bound rules n g ≤ solves_bound rules m g) same (omega (arith, less, next))
 
 solves_grow : (rules : Rules) (n last : ℕ) (g : Story) → n ≤ last → solves_bound rules n g ≤ solves_bound rules last g
-solves_grow rules n last g le = subst (λ m. solves_bound rules n g ≤ solves_bound rules m g) (omega arith) (solves_beyond rules n (last - n) g)
+solves_grow rules n last g le =
+    let same : (last - n) + n ≡ last = omega arith in
+    subst (λ m. solves_bound rules n g ≤ solves_bound rules m g) same (solves_beyond rules n (last - n) g)
 
 -- ---- one solve after another
 
@@ -49,21 +53,21 @@ trying_none w dialect a g = record {
   spends = spends_none (w.owed a.source) (solves_bound g.rules 0 (story g));
 }
 
-module _ {S K C : Type 0} (w : World S K C) (dialect : Dialect) (g : Played) (last before : ℕ) {a b : Moment S K C}
+module _ {S K C : Type 0} (w : World S K C) (dialect : Dialect) (g : Played) (last before : ℕ) (a b : Moment S K C)
     (so : Trying dialect (MovesOn w a b) (w.owed a.source) (w.owed b.source) g before) where
   -- the number that is tried next decides, if any does
   pub trying_decides : before + 1 ≤ last → Decides g last (before + 1)
   trying_decides le = record { some = omega arith; few = le; first = so.none }
 
   -- a fault came
-  pub trying_broke : {d : Moment S K C} → before + 1 ≤ last → Broke dialect (MovesOn w b d) (Listens dialect) → BrokeTrying dialect (MovesOn w a d) g last
-  trying_broke le broke = record {
+  pub trying_broke : (d : Moment S K C) → before + 1 ≤ last → Broke dialect (MovesOn w b d) (Listens dialect) → BrokeTrying dialect (MovesOn w a d) g last
+  trying_broke d le broke = record {
     moves = before + 1;
     decides = trying_decides le;
     broke = broke_more dialect (Listens dialect) (λ x y p q. listens_more dialect x y p q) so.ran broke;
   }
 
-  module _ {d : Moment S K C} (limits : Limits) (text : List ℕ) (why : Option Cut)
+  module _ (d : Moment S K C) (limits : Limits) (text : List ℕ) (why : Option Cut)
       (gone : Gone w dialect limits (moment b.source b.sink b.clock 0) d text (solve_bound g.rules (before + 1) (story g)) why) where
     spends_next : Spends (w.owed a.source) (w.owed d.source) (solves_bound g.rules (before + 1) (story g))
     spends_next =
@@ -73,9 +77,9 @@ module _ {S K C : Type 0} (w : World S K C) (dialect : Dialect) (g : Played) (la
 
     -- there is no mate within this number
     pub trying_more : why ≡ None → IsNoWin g (before + 1) (mover g) → Trying dialect (MovesOn w a d) (w.owed a.source) (w.owed d.source) g (before + 1)
-    trying_more is no = record {
+    trying_more is lost = record {
       ran = ran_more dialect (Listens dialect) (λ x y p q. listens_more dialect x y p q.0) so.ran (uncut why is gone.looked.ran);
-      none = no_shorter_more g (before + 1) so.none no;
+      none = no_shorter_more g (before + 1) so.none lost;
       spends = spends_next;
     }
       where
@@ -111,10 +115,10 @@ module _ {S K C : Type 0} (w : World S K C) (dialect : Dialect) (g : Played) (la
         (cuts_of_watch dialect why' (w.owed b.source) n limits n d.nodes taken text may))
 
 -- all numbers were tried
-pub trying_whole : {S K C : Type 0} (w : World S K C) (dialect : Dialect) (g : Played) (last : ℕ) {a b : Moment S K C} (limits : Limits) (text : List ℕ)
+pub trying_whole : {S K C : Type 0} (w : World S K C) (dialect : Dialect) (g : Played) (last : ℕ) (a b : Moment S K C) (limits : Limits) (text : List ℕ)
     → Trying dialect (MovesOn w a b) (w.owed a.source) (w.owed b.source) g last
     → IsTried dialect (MovesOn w a b) (w.owed a.source) (w.owed b.source) limits g last text NoMate
-trying_whole w dialect g last limits text so = record {
+trying_whole w dialect g last a b limits text so = record {
   ran = ran_holds dialect (λ events p. (p, tt)) so.ran;
   is = so.none;
   spends = so.spends;

@@ -11,8 +11,9 @@ use Rattle.game_values.specs.Bounds.{depths_bound}
 use Rattle.watching.specs.declared.halt.Cut.{Cut}
 use Rattle.watching.specs.Events.{readings}
 use Rattle.watching.specs.Looks.{Moved, Ran, held}
+use Rattle.session_model.specs.Events.{IsStopped}
 use Rattle.session_model.specs.Mates.{Announced}
-use Rattle.session_model.specs.Thinking.{Task, Report, Ending, AreReports, Deepens, IsOpen, IsReport, last_announced, last_best, reported, searches_upto, solve_within}
+use Rattle.session_model.specs.Thinking.{Task, Report, Ending, AreReports, Deepens, IsOpen, IsReport, last_announced, last_best, reported, searches_upto}
 use Rattle.turning.specs.Lines.{Follows, Held}
 use Rattle.thinking.specs.Cuts.{CutsBy, IsEndedBy}
 use Rattle.thinking.specs.Judging.{bound_at, search_at, solve_cut, solve_reach}
@@ -21,8 +22,6 @@ use Rattle.thinking.specs.Views.{kept_seen, report_of}
 use Rattle.thinking.specs.declared.deepening.Depths.{Depths}
 use Rattle.thinking.specs.declared.depth.Depth.{Depth}
 use Rattle.thinking.specs.declared.depth.Depth.TheVariants.{Done, Off}
-use Rattle.thinking.specs.declared.found.CutSolve.{CutSolve}
-use Rattle.thinking.specs.declared.found.Found.{Found}
 use Rattle.thinking.specs.declared.style.Style.{Style}
 
 -- ---- one depth
@@ -97,12 +96,13 @@ pub record Deepened (dialect : Dialect) (style : Style) (moved : Moved) (owed ow
   pub kept_is : kept_seen depths.kept ≡ last_announced None (reported reports ending)
   pub spends : Spends owed owed' (depths_bound t.game.rules t.depths (story t.game))
 
--- A fault came, completed: no line is left, unless one cut the solve whose line was being written.
+-- A fault came, completed: no line is left, unless one that stops a search cut what was being told.
 pub record BrokeOff (dialect : Dialect) (style : Style) (moved : Moved) (t : Task) (first : ℕ) : Type 0 where
   pub reports : List Report
   pub ending : Ending
   pub behind : List Line
   pub is_held : Held behind
+  pub stopped : IsStopped dialect behind
   pub broke : BrokeHeld dialect moved behind (λ events.
       Tells dialect style t.game.rules first 1 (reported reports ending) events
       × Deepens dialect ⊤ t reports ending (first ∷ readings events) behind)

@@ -1,5 +1,5 @@
 -- What is found at a depth: a search, and the mate that its value stands for.
-use Rattle.std.specs.Prelude.{◌≡◌, ℕ, ◌+◌, List, Option, Some, None, IfSome}
+use Rattle.std.specs.Prelude.{ℕ, ◌+◌, List, Option, Some, None, IfSome}
 use Rattle.io_ports.specs.declared.dialect.Dialect.{Dialect}
 use Rattle.io_ports.specs.declared.limits.Limits.{Limits}
 use Rattle.io_ports.specs.Owing.{Spends}

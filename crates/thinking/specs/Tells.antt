@@ -1,9 +1,9 @@
 -- The lines of depths, by the protocol.
-use Rattle.std.specs.Prelude.{◌≡◌, ℕ, List, [], ◌∷◌, ◌++◌, map, Option, Some, None}
+use Rattle.std.specs.Prelude.{◌≡◌, ℕ, List, [], ◌∷◌, ◌++◌, map, Option, Some}
 use Rattle.io_ports.specs.declared.dialect.Dialect.{Dialect}
 use Rattle.io_ports.specs.Lines.{Line}
 use Rattle.rules_model.specs.declared.rules.Rules.{Rules}
-use Rattle.watching.specs.Events.{Event, Says, Reads, AreUnstopped, lines_of, readings, said, written}
+use Rattle.watching.specs.Events.{Event, AreUnstopped, lines_of, readings, said, written}
 use Rattle.watching.specs.Looks.{Moved}
 use Rattle.session_model.specs.CecpSession.{post_lines}
 use Rattle.session_model.specs.Events.{clocked}

@@ -75,8 +75,20 @@ pub fn deepen<R: Threads + Wait + Sync, S: Source, K: Sink, C: Clock, G: Gate + 
             deadline: start.deadline,
         };
         let depth = deeper(
-            rt, alloc, mind, task, style, start.first, done + 1, limits, source, sink, clock, gate,
-            dialect, line,
+            rt,
+            alloc,
+            mind,
+            task,
+            style,
+            start.first,
+            done + 1,
+            limits,
+            source,
+            sink,
+            clock,
+            gate,
+            dialect,
+            line,
         )?;
         match depth {
             Depth::Off(why) => {
@@ -88,7 +100,10 @@ pub fn deepen<R: Threads + Wait + Sync, S: Source, K: Sink, C: Clock, G: Gate + 
             }
             Depth::Done { found, cut, .. } => {
                 let Found {
-                    score, best: chosen, nodes, ..
+                    score,
+                    best: chosen,
+                    nodes,
+                    ..
                 } = found;
                 best = chosen;
                 kept = kept_by(kept, score);

@@ -106,7 +106,16 @@ pub fn deeper<R: Threads + Wait + Sync, S: Source, K: Sink, C: Clock, G: Gate + 
         Explored::Found(judged) => {
             let Judged { found, cut } = judged;
             let reading = reading_for(style, clock);
-            let text = lines_of(alloc, style, task.game.rules(), first, depth, &found, reading)?;
+            task.game.is_played();
+            let text = lines_of(
+                alloc,
+                style,
+                task.game.rules(),
+                first,
+                depth,
+                &found,
+                reading,
+            )?;
             say_some(sink, text.items.as_slice())?;
             Ok(Depth::Done {
                 found,

@@ -53,7 +53,7 @@ pub struct Kept {
 }
 
 /// A repeat and its counters as evidence.
-pub fn evidence(repeat: Repeat, mut counters: Counters) -> Evidence
+pub fn evidence_at(repeat: Repeat, mut counters: Counters) -> Evidence
     requires { 0 < length counters }
     ensures repeat { result.repeat ≡ repeat }
     ensures counters { counters_of (evidence_of result) ≡ counters }

@@ -11,7 +11,7 @@ ghost use Rattle.turning.specs.Lines.{Causes};
 ghost use Rattle.thinking.specs.Judging.{IsJudged, IsExplored, explored_cut, solve_cut};
 ghost use Rattle.thinking.specs.Views.{IsTask, task_seen};
 
-use crate::found::{CutSolve, Evidence, Found, Score, evidence};
+use crate::found::{CutSolve, Evidence, Found, Score, evidence_at};
 use crate::scores::{favoured, mate_sought, root_move};
 use crate::task::{Task, quota_left};
 use io_ports::{Clock, Dialect, Gate, Limits, LineBuf, SearchFault, Sink, Source};
@@ -99,7 +99,7 @@ pub fn judge<R: Threads + Wait + Sync, S: Source, K: Sink, C: Clock, G: Gate + S
     match solved {
         Solve::NoMate => Ok(settled(Score::Points(value), best, None, nodes)),
         Solve::Unsettled { repeat, counters } => {
-            let unsettled = Some(evidence(repeat, counters));
+            let unsettled = Some(evidence_at(repeat, counters));
             Ok(settled(Score::Points(value), best, unsettled, nodes))
         }
         Solve::Shown(strategy) => {

@@ -11,15 +11,16 @@ mod mates;
 mod scores;
 mod style;
 mod task;
-#[cfg(test)]
-mod tests;
 
 pub use deepening::{Depths, deepen};
 pub use depth::{Depth, deeper};
-pub use found::{CutSolve, Evidence, Found, Kept, Score, evidence};
+pub use found::{CutSolve, Evidence, Found, Kept, Score, evidence_at};
 pub use judging::{Explored, Judged, explore, judge};
 pub use lines::{depth_line, lines_of, unsettled_line};
 pub use mates::{Tried, try_mates};
 pub use scores::{favoured, mate_in, mate_sought, root_move};
 pub use style::Style;
-pub use task::{Start, Task, quota_left, start};
+pub use task::{Start, Task, begin, quota_left};
+
+#[cfg(test)]
+mod tests;

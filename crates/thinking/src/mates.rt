@@ -7,7 +7,7 @@ ghost use Rattle.game_play.specs.Played.{legal_in};
 ghost use Rattle.turning.specs.Lines.{Causes};
 ghost use Rattle.thinking.specs.Tries.{BrokeTrying, IsTried, cut_in};
 
-use crate::found::{Evidence, evidence};
+use crate::found::{Evidence, evidence_at};
 use crate::scores::root_move;
 use game_play::Game;
 use io_ports::{Clock, Dialect, Gate, Limits, LineBuf, SearchFault, Sink, Source};
@@ -29,9 +29,15 @@ pub enum Tried {
         best: Move,
     },
     /// It stays unsettled whether the mover mates within this number of moves.
-    Unsettled { moves: u16, unsettled: Evidence },
+    Unsettled {
+        moves: u16,
+        unsettled: Evidence,
+    },
     /// The solve within this number of moves was cut.
-    Stopped { moves: u16, why: Cut },
+    Stopped {
+        moves: u16,
+        why: Cut,
+    },
     /// The mover has no mate.
     NoMate,
 }
@@ -91,7 +97,7 @@ pub fn try_mates<R: Threads + Wait + Sync, S: Source, K: Sink, C: Clock, G: Gate
             Solve::Unsettled { repeat, counters } => {
                 return Ok(Tried::Unsettled {
                     moves,
-                    unsettled: evidence(repeat, counters),
+                    unsettled: evidence_at(repeat, counters),
                 });
             }
             Solve::Cut(why) => return Ok(Tried::Stopped { moves, why }),

@@ -31,7 +31,7 @@ pub struct Start {
 }
 
 /// Reads the clock, from which on the time counts. A sum above 2^64 - 1 stands as that number.
-pub fn start<C: Clock>(clock: &mut C, time: Option<u64>) -> Start
+pub fn begin<C: Clock>(clock: &mut C, time: Option<u64>) -> Start
     ensures given { GivesReadings (C.count clock.new) (C.given clock.old) (C.given clock.new) (result.first ∷ []) }
     ensures count { C.count clock.new ≡ count_after (C.count clock.old) (result.first ∷ []) }
     ensures last { C.last clock.new ≡ result.first }

@@ -4,3 +4,8 @@ mod SessionLemmas
 mod PlainLemmas
 mod PlanLemmas
 mod Unanswered
+mod GoLemmas
+mod AnswerLemmas
+mod SearchLemmas
+mod ThinkLemmas
+mod MateLemmas

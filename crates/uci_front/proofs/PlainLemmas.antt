@@ -12,16 +12,11 @@ use Rattle.session_model.specs.UciState.{State, Outcome, file_named, load, set}
 use Rattle.uci_front.specs.declared.refusal.Refusal.{Refusal}
 use Rattle.uci_front.specs.declared.refusal.Refusal.TheVariants.{Fault, Memory}
 use Rattle.uci_front.specs.Outcomes.{IsOutcome, LoadsFile, SetsBy}
-use Rattle.uci_front.specs.Plain.{IsNamedRead, IsTold, Plainly, file_of, outcome_said, plain_events, saying}
+use Rattle.uci_front.specs.Plain.{IsNamedRead, IsTold, Plainly, file_of, outcome_said, plain_events, saying, text_said}
 use Rattle.variant_files.specs.Looked.{OneRead}
 use Rattle.watching.specs.Events.{Event, Says, Opens, lines_of, opened, readings, written}
 
 -- ---- what such events take and leave
-
--- the text that is said
-abbrev pub text_said : Option (List ℕ) → List ℕ
-text_said None = []
-text_said (Some text) = text
 
 pub plain_lines : (reads : List Read) (text : Option (List ℕ)) → lines_of (plain_events reads text) ≡ []
 plain_lines [] None = refl

@@ -89,6 +89,7 @@ file_taken {A = A} name old new sections reads result has set = by_result result
     load_is =
         ap (loaded old (sections_with has.found)) (ap (option_map load_fault_text) has.holds.0)
         ∙ ap (λ sections. set_variant old sections (codes "chess")) (sym has.holds.1)
+
     by_result : (result : Result A Refusal) → IsOutcome (set_variant old sections (codes "chess")) new result
         → LoadsFile name old new reads result
     by_result (Ok x) set = record { found = has.found; reads_are = has.reads_are; holds = load_is ∙ set }

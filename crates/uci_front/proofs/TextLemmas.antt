@@ -5,11 +5,15 @@ use Rattle.std.specs.List.{filter, flat_map}
 use Rattle.std.specs.Fmt.{decimal}
 use Rattle.std.proofs.lemmas.List.{append-nil, take_all}
 use Rattle.game_play.specs.Played.{Played}
+use Rattle.rules_model.specs.declared.moves.Move.{Move}
+use Rattle.rules_model.specs.MoveText.{text_of}
+use Rattle.session_model.specs.Thinking.{Mates}
+use Rattle.strategy.specs.declared.nodes.Strategy.{Strategy}
 use Rattle.game_reports.specs.GameTexts.{perft_of}
 use Rattle.variant_ini.specs.Section.{Section}
 use Rattle.variant_rules.specs.Entries.{Named, entries, is_accepted}
-use Rattle.session_model.specs.UciTexts.{perft_line, uci_text, variant_choice}
-use Rattle.uci_front.specs.TextView.{choice_at, choice_of}
+use Rattle.session_model.specs.UciTexts.{depth_line, perft_line, uci_text, variant_choice}
+use Rattle.uci_front.specs.TextView.{choice_at, choice_of, introduction}
 
 choices-more : (variants : List Named) (place : ℕ) → place < length variants
     → flat_map choice_of (take (suc place) variants) ≡ flat_map choice_of (take place variants) ++ choice_at variants place
@@ -46,16 +50,6 @@ pub choices_all : (old text : List ℕ) (variants : List Named) (n : ℕ) → n 
 choices_all old text variants n all is =
     is ∙ ap (λ (l : List ℕ). old ++ l) (ap (flat_map choice_of) (take_all n variants (omega (arith, all))) ∙ accepted_choices variants)
 
--- what stands before the choices
-abbrev pub introduction : List ℕ
-introduction =
-    codes "id name vengine\nid author vengine\n"
-    ++ (codes "option name Threads type spin default 1 min 1 max 64\n"
-    ++ (codes "option name Hash type spin default 16 min 1 max 1024\n"
-    ++ (codes "option name MateFacts type spin default 4096 min 16 max 65536\n"
-    ++ (codes "option name VariantPath type string default <empty>\n"
-    ++ codes "option name UCI_Variant type combo default chess"))))
-
 -- an introduction, the choices and the end
 pub introduced : (variants : List Named) (sections : List Section) (first second last : List ℕ) → variants ≡ entries sections
     → first ≡ introduction → second ≡ first ++ flat_map variant_choice (filter is_accepted variants)
@@ -76,3 +70,15 @@ perft_said plies g first count whole one two three =
     ∙ append_assoc (codes "info string perft ") (decimal plies ++ codes " ") count
     ∙ ap (λ t. codes "info string perft " ++ t) (append_assoc (decimal plies) (codes " ") count)
     ∙ ap (λ t. codes "info string perft " ++ (decimal plies ++ (codes " " ++ t))) two
+
+regrouped : (a d b b' n p t l : List ℕ)
+    → ((a ++ (d ++ ((b ++ b') ++ (n ++ p)))) ++ t) ++ l ≡ a ++ (d ++ (b ++ ((b' ++ n) ++ (p ++ (t ++ l)))))
+regrouped a d b b' n p t l = simp append_assoc
+
+-- the line of a mate
+pub mate_said : (d n : ℕ) (s : Strategy) (best : Move) (first text second whole : List ℕ)
+    → first ≡ codes "info depth " ++ (decimal d ++ (codes " score mate " ++ (decimal n ++ codes " pv "))) → text ≡ text_of best
+    → second ≡ first ++ text → whole ≡ second ++ codes "\n" → whole ≡ depth_line d (Mates n s) best
+mate_said d n s best first text second whole one two three four =
+    four ∙ ap (λ t. t ++ codes "\n") (three ∙ ap (λ f. f ++ text) one ∙ ap (λ t. (codes "info depth " ++ (decimal d ++ (codes " score mate " ++ (decimal n ++ codes " pv ")))) ++ t) two)
+    ∙ regrouped (codes "info depth ") (decimal d) (codes " score ") (codes "mate ") (decimal n) (codes " pv ") (text_of best) (codes "\n")

@@ -3,3 +3,5 @@ pub mod SessionView
 pub mod Outcomes
 pub mod Plain
 pub mod PlanView
+pub mod Going
+pub mod Trying

@@ -44,6 +44,10 @@ abbrev pub saying : Option (List ℕ) → List Event
 saying None = []
 saying (Some text) = Says text ∷ []
 
+abbrev pub text_said : Option (List ℕ) → List ℕ
+text_said None = []
+text_said (Some text) = text
+
 -- files were read, and then this text is to be said, if any
 abbrev pub plain_events : List Read → Option (List ℕ) → List Event
 plain_events reads text = map Opens reads ++ saying text

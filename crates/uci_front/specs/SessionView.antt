@@ -3,18 +3,14 @@ use Rattle.std.specs.Prelude.{◌≡◌, ℕ, ◌<◌, ◌≤◌, List, ◌++◌
 use Rattle.rules_model.specs.declared.rules.Rules.{Rules}
 use Rattle.game_play.specs.Played.{Played}
 use Rattle.seeking.specs.Settings.{Settings}
-use Rattle.session_model.specs.Mates.{Announced}
 use Rattle.session_model.specs.UciState.{State}
 use Rattle.strategy.specs.Reading.{AreSound}
-use Rattle.uci_front.specs.declared.session.Kept.{Kept}
+use Rattle.thinking.specs.declared.found.Kept.{Kept}
+use Rattle.thinking.specs.Views.{kept_seen}
 use Rattle.variant_ini.specs.Section.{Section}
 use Rattle.variant_model.specs.Builtin.{builtin_sections}
 use Rattle.variant_model.specs.Entry.{entry}
 use Rattle.variant_rules.specs.Entries.{Named, entries}
-
-abbrev pub kept_seen : Option Kept → Option Announced
-kept_seen None = None
-kept_seen (Some kept) = Some (record { strategy = kept.strategy; moves = kept.moves })
 
 abbrev pub state_of : List Section → ℕ → Played → Settings → Option Kept → State
 state_of sections place game mind kept = record {

@@ -1,5 +1,5 @@
 -- The name of a variant among the choices of its option.
-use Rattle.std.specs.Prelude.{ℕ, List, [], Option, Some, None, slice_get, if◌then◌else◌}
+use Rattle.std.specs.Prelude.{ℕ, List, [], ◌++◌, codes, Option, Some, None, slice_get, if◌then◌else◌}
 use Rattle.variant_rules.specs.Entries.{Named, is_accepted}
 use Rattle.session_model.specs.UciTexts.{variant_choice}
 
@@ -14,3 +14,13 @@ choice_in (Some named) = choice_of named
 
 abbrev pub choice_at : List Named → ℕ → List ℕ
 choice_at variants place = choice_in (slice_get variants place)
+
+-- what `uci` answers before the choices
+abbrev pub introduction : List ℕ
+introduction =
+    codes "id name vengine\nid author vengine\n"
+    ++ (codes "option name Threads type spin default 1 min 1 max 64\n"
+    ++ (codes "option name Hash type spin default 16 min 1 max 1024\n"
+    ++ (codes "option name MateFacts type spin default 4096 min 16 max 65536\n"
+    ++ (codes "option name VariantPath type string default <empty>\n"
+    ++ codes "option name UCI_Variant type combo default chess"))))

@@ -1,14 +1,18 @@
 //! A UCI session: what it keeps between lines, and what it answers to each.
 #![tactic(auto)]
 
+mod answering;
+mod going;
 mod moves;
 mod plain;
 mod plan;
 mod refusal;
+mod searching;
 mod serving;
 mod session;
+mod telling;
 mod texts;
 
-pub use refusal::Refusal;
-pub use serving::{Ended, serve};
-pub use session::{Kept, UciSession};
+pub use serving::serve;
+pub use session::UciSession;
+pub use turning::Ended;

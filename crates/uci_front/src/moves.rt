@@ -30,12 +30,7 @@ fn play_words(alloc: Global, game: &mut Game, words: &[&[u8]]) -> Result<(), NoG
 }
 
 // The game from this position with the moves of these words.
-fn game_of(
-    alloc: Global,
-    rules: &Rules,
-    start: &Position,
-    words: &[&[u8]],
-) -> Result<Game, Refusal>
+fn game_of(alloc: Global, rules: &Rules, start: &Position, words: &[&[u8]]) -> Result<Game, Refusal>
     requires fit { IsFit rules.now }
     requires sound { is_sound rules.now start.now ≡ true }
     ensures leads { (state : State)

@@ -9,8 +9,8 @@ ghost use Rattle.uci_front.specs.Outcomes.{Refuses};
 use foundation::{Memory, Text};
 use game_text::GameFault;
 use std::alloc::{AllocError, Global};
-use variant_files::LoadFault;
 use variant_fen::FenFault;
+use variant_files::LoadFault;
 use variant_model::SectionFault;
 
 /// Why a line sets nothing: its fault in words, or there was no memory.

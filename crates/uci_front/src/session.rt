@@ -8,7 +8,9 @@ ghost use Rattle.session_model.specs.UciState.{first_state};
 ghost use Rattle.session_model.specs.UciTexts as UciTexts;
 ghost use Rattle.uci_lines.specs.SettingView.{placing_seen, setting_seen};
 ghost use Rattle.uci_front.specs.Outcomes.{IsNumber, IsOutcome, Starts};
-ghost use Rattle.uci_front.specs.SessionView.{BeginsBuiltIn};
+ghost use Rattle.session_model.specs.UciSession.{announced, forgotten};
+ghost use Rattle.thinking.specs.Views.{kept_seen};
+ghost use Rattle.uci_front.specs.SessionView.{BeginsBuiltIn, IsPrintable};
 
 use crate::moves::placed;
 use crate::refusal::{Refusal, bad_value, refused_variant, unknown_variant};
@@ -19,18 +21,10 @@ use proof_text::write_proof;
 use seeking::Mind;
 use std::alloc::Global;
 use std::marker::Model;
-use strategy::Strategy;
+use thinking::Kept;
 use uci_lines::{Placing, Setting, number};
 use variant_ini::Sections;
 use variant_rules::{Found, Variants, builtin, load};
-
-/// A mate that was announced.
-#[derive(Drop)]
-pub struct Kept {
-    pub strategy: Strategy,
-    /// Within how many moves of its side.
-    pub moves: u16,
-}
 
 /// What a UCI session keeps between lines: sections and their variants, the place of the variant that is set, the game,
 /// the options with what searches remember, and the mate that was announced last.
@@ -39,8 +33,8 @@ pub struct UciSession {
     sections: Sections,
     variants: Variants,
     place: usize,
-    game: Game,
-    mind: Mind,
+    pub(crate) game: Game,
+    pub(crate) mind: Mind,
     kept: Option<Kept>,
 }
 
@@ -89,7 +83,7 @@ fn number_said(low: u32, high: u32, value: Option<&[u8]>) -> Option<u32>
 }
 
 // The bytes of a text, where there is one.
-fn bytes_of(value: &Option<Text>) -> Option<&[u8]>
+pub(crate) fn bytes_of(value: &Option<Text>) -> Option<&[u8]>
     ensures { option_copied result ≡ value.now }
 {
     match value {
@@ -196,9 +190,7 @@ impl UciSession {
                 Ok(())
             }
             Setting::VariantPath(_) => self.load(alloc, builtin(alloc)?),
-            Setting::Variant(value) => {
-                self.set_variant(alloc, bytes_of(value).unwrap_or(b""))
-            }
+            Setting::Variant(value) => { self.set_variant(alloc, bytes_of(value).unwrap_or(b"")) }
             Setting::Unknown => Ok(()),
         }
     }
@@ -249,6 +241,21 @@ impl UciSession {
             kept.moves,
             &kept.strategy,
         )
+    }
+
+    /// Forgets the mate that was announced last.
+    pub(crate) fn forget_mate(&mut self)
+        ensures { self.new ≡ forgotten self.old }
+    {
+        self.kept = None;
+    }
+
+    /// Keeps the mate that was announced last, if any.
+    pub(crate) fn keep(&mut self, kept: Option<Kept>)
+        requires { IsPrintable self.old.game.rules kept }
+        ensures { self.new ≡ announced self.old (kept_seen kept) }
+    {
+        self.kept = kept;
     }
 
     /// The game.

@@ -1,11 +1,14 @@
 //! The lines that a UCI session writes.
-ghost use Rattle.std.specs.Prelude.{◌≡◌, ◌≤◌, ◌<◌, ◌++◌, IfOk, List, OnOk, length};
+ghost use Rattle.std.specs.Prelude.{◌≡◌, ◌≤◌, ◌<◌, ◌-◌, ◌*◌, ◌++◌, IfOk, List, OnOk, length};
 ghost use Rattle.std.specs.List.{filter, flat_map};
+ghost use Rattle.session_model.specs.Thinking.{Mates};
 ghost use Rattle.session_model.specs.UciTexts as UciTexts;
+ghost use Rattle.strategy.specs.declared.nodes.Strategy.{Strategy};
 ghost use Rattle.session_model.specs.UciTexts.{variant_choice};
 ghost use Rattle.variant_ini.specs.Section.{Section};
 ghost use Rattle.variant_rules.specs.Entries.{entries, is_accepted};
-ghost use Rattle.uci_front.specs.TextView.{choice_at};
+ghost use Rattle.uci_front.specs.Going.{last_line};
+ghost use Rattle.uci_front.specs.TextView.{choice_at, introduction};
 
 use foundation::{Memory, Text};
 use game_play::Game;
@@ -27,6 +30,9 @@ const INTRODUCTION: &[u8] = b"\
 
 /// What `isready` answers.
 pub(crate) const READY: &[u8] = b"readyok\n";
+
+/// Where a solve of `go mate` was cut.
+pub(crate) const STOPPED: &[u8] = b"info string stopped\n";
 
 /// Where no mate was announced.
 pub(crate) const NO_STRATEGY: &[u8] = b"info string no strategy\n";
@@ -65,12 +71,18 @@ fn push_choices(text: &mut Vec<u8>, variants: &Variants) -> Result<(), AllocErro
     Ok(())
 }
 
+fn introduction() -> &'static [u8]
+    ensures { result.now ≡ introduction }
+{
+    INTRODUCTION
+}
+
 /// What `uci` answers where these are the variants of the sections.
 pub fn uci_text(alloc: Global, variants: &Variants) -> Result<Text, Memory>
     ensures { (sections : List Section) → variants.now ≡ entries sections
         → IfOk result (λ text. text ≡ UciTexts.uci_text sections) }
 {
-    let mut items = INTRODUCTION.to_vec(alloc)?;
+    let mut items = introduction().to_vec(alloc)?;
     push_choices(&mut items, variants)?;
     items.extend_from_slice(b"\nuciok\n")?;
     Ok(Text { items })
@@ -89,6 +101,20 @@ pub fn perft_line(alloc: Global, plies: u8, game: &Game) -> Result<Text, Memory>
     Ok(Text { items })
 }
 
+/// That the mover mates within this number of moves, with this move first.
+pub fn mate_line(alloc: Global, moves: u16, best: &Move) -> Result<Text, Memory>
+    requires some { 1 ≤ moves }
+    requires few { moves ≤ 100 }
+    ensures { (s : Strategy) → IfOk result
+        (λ text. text ≡ UciTexts.depth_line (2 * moves - 1) (Mates moves s) best.now) }
+{
+    let depth = 2 * moves - 1;
+    let mut items = format!(in alloc; "info depth {depth} score mate {moves} pv ")?.into_bytes();
+    items.extend_from_slice(write_move(best).items.as_slice())?;
+    items.extend_from_slice(b"\n")?;
+    Ok(Text { items })
+}
+
 /// That the mover has no mate within this number of moves.
 pub fn no_mate_line(alloc: Global, moves: u16) -> Result<Text, Memory>
     ensures { IfOk result (λ text. text ≡ UciTexts.no_mate_line moves) }
@@ -97,11 +123,15 @@ pub fn no_mate_line(alloc: Global, moves: u16) -> Result<Text, Memory>
     Ok(Text { items })
 }
 
-/// The line of the best move.
-pub fn best_line(alloc: Global, best: &Move) -> Result<Text, Memory>
-    ensures { IfOk result (λ text. text ≡ UciTexts.best_line best.now) }
+/// The line of the best move, or that there is none.
+pub fn last_line(alloc: Global, best: Option<Move>) -> Result<Text, Memory>
+    ensures { IfOk result (λ text. text ≡ last_line best) }
 {
-    let written = write_move(best);
+    let Some(best) = best else {
+        let items = b"bestmove (none)\n".to_vec(alloc)?;
+        return Ok(Text { items });
+    };
+    let written = write_move(&best);
     let mut items = b"bestmove ".to_vec(alloc)?;
     items.extend_from_slice(written.items.as_slice())?;
     items.extend_from_slice(b"\n")?;

@@ -120,16 +120,17 @@ shared_is n w some = shared_by n w (n % w) some refl
 
 -- ---- joined
 
-join_more : (first : List ℕ) (words : List (List ℕ)) (word : List ℕ)
-    → join_with_byte 32 (first ∷ (words ++ word ∷ [])) ≡ join_with_byte 32 (first ∷ words) ++ 32 ∷ word
-join_more first words word = join_snoc 32 (first ∷ words) word
+join_more : (byte : ℕ) (first : List ℕ) (words : List (List ℕ)) (word : List ℕ)
+    → join_with_byte byte (first ∷ (words ++ word ∷ [])) ≡ join_with_byte byte (first ∷ words) ++ byte ∷ word
+join_more byte first words word = join_snoc byte (first ∷ words) word
 
-pub joined_more : (first : List ℕ) (words : List (Bor (List ℕ))) (i : ℕ) (d : Bor (List ℕ)) (text after : List ℕ) → i < length words
-    → text ≡ join_with_byte 32 (first ∷ texts (take i words)) → after ≡ text ++ 32 ∷ (get_or words i d).now
-    → after ≡ join_with_byte 32 (first ∷ texts (take (i + 1) words))
-joined_more first words i d text after below so here =
-    here ∙ ap (λ t. t ++ 32 ∷ (get_or words i d).now) so
-    ∙ sym (ap (λ ws. join_with_byte 32 (first ∷ ws)) (texts_more words i d below) ∙ join_more first (texts (take i words)) (get_or words i d).now)
+pub joined_more : (byte : ℕ) (first : List ℕ) (words : List (Bor (List ℕ))) (i : ℕ) (d : Bor (List ℕ)) (text after : List ℕ)
+    → i < length words → text ≡ join_with_byte byte (first ∷ texts (take i words)) → after ≡ text ++ byte ∷ (get_or words i d).now
+    → after ≡ join_with_byte byte (first ∷ texts (take (i + 1) words))
+joined_more byte first words i d text after below so here =
+    here ∙ ap (λ t. t ++ byte ∷ (get_or words i d).now) so
+    ∙ sym (ap (λ ws. join_with_byte byte (first ∷ ws)) (texts_more words i d below)
+    ∙ join_more byte first (texts (take i words)) (get_or words i d).now)
 
 -- ---- the words before and after a word
 

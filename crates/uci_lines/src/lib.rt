@@ -14,7 +14,7 @@ pub use limits::{allowance, is_held, last_depth, last_mate, roots_of, share_of, 
 pub use line::{Kind, read_line};
 pub use numbers::number;
 pub use setting::{Placing, Setting, read_placing, read_setting};
-pub use words::{joined, words_in};
+pub use words::{joined, joined_by, words_in};
 
 #[cfg(test)]
 mod tests;

@@ -30,35 +30,42 @@ pub fn words_in<'a>(alloc: Global, text: Option<&'a [u8]>) -> Result<Vec<&'a [u8
     Ok(words)
 }
 
-fn append_word(text: &mut Text, word: &[u8]) -> Result<(), Memory>
-    ensures { OnOk result (text.new ≡ text.old ++ 32 ∷ word.now) }
+fn append_word(text: &mut Text, byte: u8, word: &[u8]) -> Result<(), Memory>
+    ensures { OnOk result (text.new ≡ text.old ++ byte ∷ word.now) }
 {
-    text.items.push(b' ')?;
+    text.items.push(byte)?;
     text.items.extend_from_slice(word)?;
     Ok(())
 }
 
-// Appends a blank and a word for each.
-fn append_others(items: Vec<u8>, words: &[&[u8]]) -> Result<Text, Memory>
-    ensures { IfOk result (λ text. text ≡ join_with_byte 32 (items.items ∷ texts words.now)) }
+// Appends the byte and a word for each.
+fn append_others(items: Vec<u8>, byte: u8, words: &[&[u8]]) -> Result<Text, Memory>
+    ensures { IfOk result (λ text. text ≡ join_with_byte byte (items.items ∷ texts words.now)) }
 {
     let mut text = Text { items };
     for word in words {
-        append_word(&mut text, word)?;
+        append_word(&mut text, byte, word)?;
     }
     Ok(text)
 }
 
-/// The words, joined by single blanks.
-pub fn joined(alloc: Global, words: &[&[u8]]) -> Result<Text, Memory>
-    ensures { IfOk result (λ text. text ≡ UciWords.joined (texts words.now)) }
+/// The words, with this byte between them.
+pub fn joined_by(alloc: Global, byte: u8, words: &[&[u8]]) -> Result<Text, Memory>
+    ensures { IfOk result (λ text. text ≡ join_with_byte byte (texts words.now)) }
 {
     let mut items = Vec::new(alloc);
     let Some((first, others)) = words.split_first() else {
         return Ok(Text { items });
     };
     items.extend_from_slice(first)?;
-    append_others(items, others)
+    append_others(items, byte, others)
+}
+
+/// The words, joined by single blanks.
+pub fn joined(alloc: Global, words: &[&[u8]]) -> Result<Text, Memory>
+    ensures { IfOk result (λ text. text ≡ UciWords.joined (texts words.now)) }
+{
+    joined_by(alloc, b' ', words)
 }
 
 // Whether a word is this text.

@@ -1,8 +1,6 @@
 -- What the outcomes of commands come to.
-use Rattle.std.proofs.Common.{◌≡◌, ℕ, List, inl, inr, refl, sym, subst, ap, ◌∙◌, Option, Some, None, Ok, Err, IfOk, option_map, ◌≤◌, arith}
-use Rattle.std.specs.Prelude.{⊤}
+use Rattle.std.proofs.Common.{◌≡◌, ℕ, List, refl, sym, subst, Option, Ok, Err, IfOk}
 use Rattle.std.specs.declared.result.Result.{Result}
-use Rattle.io_ports.specs.Lines.{Line}
 use Rattle.betza_text.specs.declared.part.Part.{Part}
 use Rattle.betza_text.specs.declared.fault.BetzaFault.{BetzaFault}
 use Rattle.betza_text.specs.declared.fault.BetzaFault.TheVariants as betza
@@ -30,7 +28,7 @@ use Rattle.vengine.specs.GameView.{SaysGame}
 use Rattle.vengine.specs.HaltView.{Answers, IsUnheard, OutcomeOf, betza_halt, game_halt}
 use Rattle.vengine.specs.ReachText.{reach_text}
 use Rattle.vengine.specs.Setup.{setup_of}
-use Rattle.vengine.specs.Shot.{SaysOf, SaysReach, reached, faulty_word, faulty_square}
+use Rattle.vengine.specs.Shot.{SaysOf, SaysReach, reached, faulty_word}
 use Rattle.vengine.specs.StopView.{IsUnread, IsUnsaid}
 use Rattle.vengine.proofs.ShotLemmas.{says_at}
 

@@ -1,11 +1,8 @@
 -- What was found of files.
-use Rattle.std.proofs.Common.{◌≡◌, ℕ, ◌+◌, ◌<◌, ◌≤◌, Bool, true, false, cond, nat_lt, ltb-true, lt-ltb, le-ltb, List, [], ◌∷◌, ◌++◌, length, inl, inr, ◌⊎◌, refl, sym, ap, ◌∙◌, subst, Option, Some, None, Ok, Err, option_map, arith, is_some}
-use Rattle.std.proofs.lemmas.Bool.{false≢true}
+use Rattle.std.proofs.Common.{◌≡◌, ℕ, ◌<◌, Bool, true, false, cond, nat_lt, ltb-true, List, [], ◌∷◌, ◌++◌, length, inl, inr, ◌⊎◌, refl, sym, ap, ◌∙◌, subst, Option, Some, None, Ok, Err, option_map, arith, is_some}
 use Rattle.std.proofs.lemmas.List.{append-nil}
-use Rattle.std.specs.declared.result.Result.{Result}
 use Rattle.io_ports.specs.declared.files.TheConstants.{MAX_FILE}
 use Rattle.io_ports.specs.Files.{Contents, Read, Found, Bytes, Missing, TooLarge, Fault, Finds, IsFound, found_of, faults_of}
-use Rattle.io_ports.specs.Trace.{faults_in}
 use Rattle.variant_ini.specs.declared.fault.IniFault.{IniFault}
 use Rattle.variant_ini.specs.Reading.{fault_of}
 use Rattle.variant_ini.specs.Section.{Section}
@@ -19,7 +16,8 @@ use Rattle.vengine.specs.Commands.{asks_file}
 use Rattle.vengine.specs.Fault.{fault_status}
 use Rattle.vengine.specs.HaltView.{AreFirstOrNone, HasSections, load_halt}
 use Rattle.vengine.specs.Looked.{IsTooLarge, TellsReads}
-use Rattle.vengine.specs.Run.{Further, IsUnreadable}
+use Rattle.turning.specs.Turned.{Further}
+use Rattle.vengine.specs.Run.{IsUnreadable}
 use Rattle.vengine.specs.Variants.{AreFirstReads, AreReadsOf, fault_found, fault_in, sections_in}
 use Rattle.words.specs.Asked.{Asked}
 use Rattle.words.specs.Options.{Text}

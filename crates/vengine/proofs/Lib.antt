@@ -2,9 +2,10 @@ mod AnswerLemmas
 mod CertLemmas
 mod CheckLemmas
 mod FileLemmas
+mod GenerateLemmas
 mod HeardLemmas
 mod RunLemmas
-mod SessionCases
+mod SessionLemmas
 mod SetupLemmas
 mod ShotLemmas
 mod VariantLemmas

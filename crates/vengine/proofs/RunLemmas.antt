@@ -1,12 +1,9 @@
 -- What a run has done.
-use Rattle.std.proofs.Common.{◌≡◌, ℕ, zero, suc, ◌+◌, ◌<◌, ◌≤◌, Bool, true, false, List, [], ◌++◌, length, inl, inr, refl, sym, ap, subst, ◌∙◌, Option, Some, None, Ok, Err, IfOk, IsErr, ◌⊎◌, ◌↔◌, IsNone, arith, is_some}
+use Rattle.std.proofs.Common.{◌≡◌, ℕ, zero, suc, ◌<◌, ◌≤◌, Bool, true, false, List, [], ◌++◌, length, inl, inr, refl, sym, subst, ◌∙◌, Option, Some, None, Ok, Err, IfOk, IsErr, ◌⊎◌, ◌↔◌, IsNone, arith}
 use Rattle.std.proofs.lemmas.Bool.{false≢true}
 use Rattle.std.proofs.lemmas.List.{append-nil}
-use Rattle.std.specs.Prelude.{if◌then◌else◌}
 use Rattle.std.specs.declared.result.Result.{Result}
 use Rattle.std.specs.Io.KnownBytes.{Appends}
-use Rattle.io_ports.specs.declared.dialect.Dialect.{Dialect}
-use Rattle.io_ports.specs.declared.dialect.Dialect.TheVariants as dialect
 use Rattle.io_ports.specs.Cause.{Rose, RoseBy}
 use Rattle.io_ports.specs.Files.{Contents, Finds, Read}
 use Rattle.io_ports.specs.Lines.{Line}
@@ -16,7 +13,7 @@ use Rattle.io_ports.specs.Trace.{Moves, Reads, faults_in}
 use Rattle.io_ports.proofs.Moved.{appends_none}
 use Rattle.variant_ini.specs.Section.{Section}
 use Rattle.words.specs.Asked.{Asked, asked}
-use Rattle.words.specs.Command.{Command}
+use Rattle.words.specs.Command.{Command, Uci, Xboard, Moves as MovesOf, Status, Perft, Check, SelfMate, HelpMate, CheckCert, Variants, Reach, Generate}
 use Rattle.words.specs.Options.{Text}
 use Rattle.words.specs.View.{asked_seen, command_seen}
 use Rattle.vengine.specs.declared.answers.Answer.{Answer}
@@ -29,9 +26,12 @@ use Rattle.vengine.specs.Commands.{IsOneShot, asks_file, asks_input, lines_asked
 use Rattle.vengine.specs.HaltView.{Finishes, Opens, OutcomeOf}
 use Rattle.game_text.specs.HeardLines.{HeardLines}
 use Rattle.game_text.proofs.HeardLemmas.{heard_nothing, heard_so}
-use Rattle.vengine.specs.Looked.{Looked, TellsReads}
-use Rattle.vengine.specs.Run.{BeginsSession, Completes, CompletesSession, Decide, Did, FilesFailed, Further, HasFileCause, IsCut, IsDone, IsInput, May, PartOf, ShotPart, TellsInput}
-use Rattle.vengine.specs.Sessions.{dialect_of, is_session, served, serves, to_do}
+use Rattle.turning.specs.Spoken.{Decide, IsInput}
+use Rattle.turning.specs.Turned.{Further}
+use Rattle.variant_files.specs.Looked.{Looked}
+use Rattle.vengine.specs.Looked.{TellsReads}
+use Rattle.vengine.specs.Run.{Completes, Did, FilesFailed, HasFileCause, IsCut, IsDone, May, PartBy, PartOf, ShotPart, TellsInput}
+use Rattle.vengine.specs.Sessions.{is_session, to_do}
 use Rattle.vengine.specs.Shot.{Shot, Says, SaysCommand}
 use Rattle.vengine.specs.StopView.{IsUnread, IsUnsaid}
 use Rattle.vengine.specs.Variants.{AreFirstReads, fault_in, sections_in}
@@ -41,23 +41,18 @@ use Rattle.vengine.proofs.ShotLemmas.{command_done, done_whole, says_done, says_
 
 -- ---- what a run does
 
--- no front serves a session
-one_shot_served : (c : Option Asked) → IsOneShot (served c)
-one_shot_served None = tt
-one_shot_served (Some a) = go (dialect_of a.command) refl
-  where
-    go : (d : Option Dialect) → dialect_of a.command ≡ d → IsOneShot (if serves d then Some a else None)
-    go None is = ap is_some is
-    go (Some dialect.Uci) is = tt
-    go (Some dialect.Cecp) is = tt
-
-pub one_shot : (words : List Text) → IsOneShot (to_do words)
-unfolding to_do
-one_shot words = one_shot_served (asked words)
-
 pub part_of : (c : Option Asked) (Shots Spoken : Type 0) → IsOneShot c → Shots → PartOf c Shots Spoken
 part_of None Shots Spoken one part = part
 part_of (Some a) Shots Spoken one part = rw one part
+
+-- a front part of an answer, by what is asked
+pub part_by : (c : Option Asked) (Shots Spoken : Type 0) → (IsOneShot c → Shots) → ((a : Asked) → c ≡ Some a → is_session a.command ≡ true → Spoken) → PartOf c Shots Spoken
+part_by None Shots Spoken shots spoken = shots tt
+part_by (Some a) Shots Spoken shots spoken = go (is_session a.command) refl
+  where
+    go : (b : Bool) → is_session a.command ≡ b → PartBy b Shots Spoken
+    go false is = shots is
+    go true is = spoken a refl is
 
 -- ---- the answer of a run
 
@@ -111,7 +106,7 @@ reached contents asks left left' words o r looked heard =
     }
 
 -- none was
-refused_says : (c : Option Asked) (reads : List Read) (why : Halt) (r : Result Answer Stop) (lines : List Line) → Opens c reads (Err why) → OutcomeOf (Err why) r
+pub refused_says : (c : Option Asked) (reads : List Read) (why : Halt) (r : Result Answer Stop) (lines : List Line) → Opens c reads (Err why) → OutcomeOf (Err why) r
     → IfOk r (λ answer. Says c reads lines answer.status answer.text)
 refused_says c reads why (Err cut) lines opens is = tt
 refused_says None reads halt.Usage (Ok answer) lines opens is = is
@@ -120,7 +115,7 @@ refused_says None reads (halt.Fault fault) (Ok answer) lines opens is = absurd o
 refused_says (Some a) reads (halt.Fault fault) (Ok answer) lines opens is = rw opens.1 is
 refused_says c reads (halt.Stop why) (Ok answer) lines opens is = absurd is
 
-refused_first : (c : Option Asked) (reads : List Read) (why : Halt) (r : Result Answer Stop) (answer : Answer) → Opens c reads (Err why) → OutcomeOf (Err why) r → r ≡ Ok answer → AreFirstReads c reads
+pub refused_first : (c : Option Asked) (reads : List Read) (why : Halt) (r : Result Answer Stop) (answer : Answer) → Opens c reads (Err why) → OutcomeOf (Err why) r → r ≡ Ok answer → AreFirstReads c reads
 refused_first None reads halt.Usage r answer opens is ok = opens.1
 refused_first (Some a) reads halt.Usage r answer opens is ok = cc
 refused_first None reads (halt.Fault fault) r answer opens is ok = absurd opens
@@ -129,7 +124,7 @@ refused_first c reads (halt.Stop why) (Ok x) answer opens is ok = absurd is
 refused_first c reads (halt.Stop why) (Err x) answer opens is ok = cc
 
 -- the reads that were done, or none of them
-some_reads : (c : Option Asked) (reads : List Read) (why : Halt) → Opens c reads (Err why) → (reads ≡ []) ⊎ AreFirstReads c reads
+pub some_reads : (c : Option Asked) (reads : List Read) (why : Halt) → Opens c reads (Err why) → (reads ≡ []) ⊎ AreFirstReads c reads
 some_reads c reads halt.Usage opens = inl opens.1
 some_reads None reads (halt.Fault fault) opens = absurd opens
 some_reads (Some a) reads (halt.Fault fault) opens = inr opens.0
@@ -166,12 +161,12 @@ refused contents asks left words why (Err cut) looked is =
 
 -- ---- the text of it
 
-may_shot : (owed : Owed) (words : List Text) (contents : Option Contents) (reads : List Read) (input : List Line) (status : ℕ) (text : List ℕ) → Shot words reads input status text
+pub may_shot : (owed : Owed) (words : List Text) (contents : Option Contents) (reads : List Read) (input : List Line) (status : ℕ) (text : List ℕ) → Shot words reads input status text
     → May owed words contents reads input [] status text
 unfolding May
 may_shot owed words contents reads input status text shot = inl (shot, refl)
 
-decide_so : (lines rest : List Line) (P Q : List Line → Type 0) → ((input : List Line) → P input → Q input) → Decide lines rest P → Decide lines rest Q
+pub decide_so : (lines rest : List Line) (P Q : List Line → Type 0) → ((input : List Line) → P input → Q input) → Decide lines rest P → Decide lines rest Q
 decide_so lines rest P Q so decided = elim decided [ inl none ↦ inl none | inr holds ↦ inr (λ more. so (lines ++ more) (holds more)) ]
 
 same_input : (left : Option (List ℕ)) (input input' : List Line) → IsInput left input → TellsInput left input' → input ≡ input'
@@ -179,16 +174,16 @@ same_input None input input' is told = absurd told
 same_input (Some bytes) input input' is told = sym is ∙ told
 
 -- a status of a run that was cut short is none of a run that was not
-not_done : (status n : ℕ) → status ≡ n → IsCut n → IsDone status → ⊥
+pub not_done : (status n : ℕ) → status ≡ n → IsCut n → IsDone status → ⊥
 not_done status n is cut done = done_whole status done (subst IsCut (sym is) cut)
 
-four : IsCut 4
+pub four : IsCut 4
 four = inl refl
 
-five : IsCut 5
+pub five : IsCut 5
 five = inr (inl refl)
 
-seven : IsCut 7
+pub seven : IsCut 7
 seven = inr (inr refl)
 
 module _ (contents : Option Contents) (asks : List Read → Type 0) (left left' : Option (List ℕ)) (words : List Text) where
@@ -258,11 +253,11 @@ module _ {S K C F : Type 0} {left : S → Option (List ℕ)} {taken : K → Opti
       }
 
   -- nothing was
-  wrote_none : (s s' : S) (k k' : K) (c : C) (f f' : F) (words : List Text) (r : Result Answer Stop) → Answered (contents f) (Reads contents faults f f') (left s) (left s') words r → Appends (taken k) (taken k') []
+  wrote_none : (s s' : S) (k k' : K) (c : C) (f f' : F) (words : List Text) (r : Result Answer Stop) → IsOneShot (to_do words) → Answered (contents f) (Reads contents faults f f') (left s) (left s') words r → Appends (taken k) (taken k') []
       → ShotPart (Moves left taken given count last s s' k k' c c) (Reads contents faults f f') (contents f) (left s) words
-  wrote_none s s' k k' c f f' words r answered wrote =
+  wrote_none s s' k k' c f f' words r one answered wrote =
       let settled = settle (left s) (left s') _ _ answered.heard in
-      let (status, text, says) = shot_some words answered.all (answered.heard.lines ++ settled.rest) (one_shot words) answered.first in
+      let (status, text, says) = shot_some words answered.all (answered.heard.lines ++ settled.rest) one answered.first in
       record {
         lines = answered.heard.lines;
         rest = settled.rest;
@@ -281,19 +276,39 @@ module _ {S K C F : Type 0} {left : S → Option (List ℕ)} {taken : K → Opti
       }
 
   pub run_part : (s s' : S) (k k' : K) (c : C) (f f' : F) (words : List Text) (before now : ℕ) (r : Result Answer Stop) (status : ℕ)
-      → Answered (contents f) (Reads contents faults f f') (left s) (left s') words r → Finishes r (taken k) (taken k') before now status → IsCut status
+      → IsOneShot (to_do words) → Answered (contents f) (Reads contents faults f f') (left s) (left s') words r → Finishes r (taken k) (taken k') before now status → IsCut status
       → ShotPart (Moves left taken given count last s s' k k' c c) (Reads contents faults f f') (contents f) (left s) words
-  run_part s s' k k' c f f' words before now (Ok answer) status answered (inl wrote) cut =
+  run_part s s' k k' c f f' words before now (Ok answer) status one answered (inl wrote) cut =
       absurd (done_whole status (subst IsDone (sym wrote.0) (answer_done (contents f) (Reads contents faults f f') (left s) (left s') words answer answered)) cut)
-  run_part s s' k k' c f f' words before now (Ok answer) status answered (inr failed) cut = wrote_part s s' k k' c f f' words answer answered failed.1
-  run_part s s' k k' c f f' words before now (Err stop.Source) status answered wrote cut = wrote_none s s' k k' c f f' words (Err stop.Source) answered wrote.1
-  run_part s s' k k' c f f' words before now (Err stop.Sink) status answered wrote cut = wrote_none s s' k k' c f f' words (Err stop.Sink) answered wrote.1
-  run_part s s' k k' c f f' words before now (Err stop.Memory) status answered wrote cut = wrote_none s s' k k' c f f' words (Err stop.Memory) answered wrote.1
+  run_part s s' k k' c f f' words before now (Ok answer) status one answered (inr failed) cut = wrote_part s s' k k' c f f' words answer answered failed.1
+  run_part s s' k k' c f f' words before now (Err stop.Source) status one answered wrote cut = wrote_none s s' k k' c f f' words (Err stop.Source) one answered wrote.1
+  run_part s s' k k' c f f' words before now (Err stop.Sink) status one answered wrote cut = wrote_none s s' k k' c f f' words (Err stop.Sink) one answered wrote.1
+  run_part s s' k k' c f f' words before now (Err stop.Memory) status one answered wrote cut = wrote_none s s' k k' c f f' words (Err stop.Memory) one answered wrote.1
+
+-- reads that found what the files tell, without a fault, are told
+pub tells_found : (contents : Option Contents) (reads reads' : List Read) → Finds contents reads → faults_in reads ≡ 0 → TellsReads contents reads' → TellsReads contents reads
+tells_found None reads reads' finds works told = told
+tells_found (Some files) reads reads' finds works told = (finds, works)
+
+-- a session has no text
+pub session_says : (sections : List Section) (c : Command) → is_session c ≡ true → (lines : List Line) (status : ℕ) (text : List ℕ) → SaysCommand sections c lines status text → ⊥
+session_says sections Uci is lines status text says = says
+session_says sections Xboard is lines status text says = says
+session_says sections MovesOf is lines status text says = absurd (false≢true is)
+session_says sections Status is lines status text says = absurd (false≢true is)
+session_says sections (Perft plies) is lines status text says = absurd (false≢true is)
+session_says sections Check is lines status text says = absurd (false≢true is)
+session_says sections (SelfMate moves) is lines status text says = absurd (false≢true is)
+session_says sections (HelpMate moves) is lines status text says = absurd (false≢true is)
+session_says sections CheckCert is lines status text says = absurd (false≢true is)
+session_says sections Variants is lines status text says = absurd (false≢true is)
+session_says sections (Reach word square own enemy) is lines status text says = absurd (false≢true is)
+session_says sections (Generate name number plies) is lines status text says = absurd (false≢true is)
 
 -- ---- the status
 
 -- it is that of the answer, or of a run that was cut short
-ends : (r : Result Answer Stop) (old new : Option (List ℕ)) (before now status : ℕ) → Finishes r old new before now status → ((answer : Answer) × (r ≡ Ok answer) × (status ≡ answer.status)) ⊎ IsCut status
+pub ends : (r : Result Answer Stop) (old new : Option (List ℕ)) (before now status : ℕ) → Finishes r old new before now status → ((answer : Answer) × (r ≡ Ok answer) × (status ≡ answer.status)) ⊎ IsCut status
 ends (Ok answer) old new before now status (inl wrote) = inl (answer, refl, wrote.0)
 ends (Ok answer) old new before now status (inr failed) = inr (inr (inl failed.0))
 ends (Err stop.Source) old new before now status wrote = inr (inl wrote.0)
@@ -330,11 +345,7 @@ module _ (contents : Option Contents) (asks : List Read → Type 0) (left left' 
 
   module _ (before now : ℕ) (rose : (reads : List Read) → asks reads → RoseBy before now (faults_in reads)) (found : (reads : List Read) → asks reads → Finds contents reads) where
     tells : (reads reads' : List Read) → asks reads → faults_in reads ≡ 0 → TellsReads contents reads' → TellsReads contents reads
-    tells reads reads' asked works told = go contents (found reads asked) told
-      where
-        go : (o : Option Contents) → Finds o reads → TellsReads o reads' → TellsReads o reads
-        go None finds none = none
-        go (Some files) finds some = (finds, works)
+    tells reads reads' asked works told = tells_found contents reads reads' (found reads asked) works told
 
     answer_complete : (answer : Answer) → Answered contents asks left left' words (Ok answer) → Completes contents left words (FilesFailed before now) answer.status
     answer_complete answer a reads input s t tells_files tells_input shot = go (faults_in a.reads) refl
@@ -368,14 +379,6 @@ module _ (contents : Option Contents) (asks : List Read → Type 0) (left left' 
           says_since contents before now (to_do words) a.all (a.heard.lines ++ settled.rest) answer.status answer.text (rw a.whole (found a.reads a.asked)) (rw a.whole (rose a.reads a.asked)) a.first settled.holds (sym same ∙ six)
       | inr cut ↦ absurd (done_whole status (inr (inr (inr six))) cut)
     ]
-
--- no session begins
-pub run_session : (contents : Option Contents) (words : List Text) (Failed : ℕ → Type 0) (status : ℕ) → CompletesSession contents words Failed status
-run_session contents words Failed status reads tells begins = go (to_do words) (one_shot words) begins
-  where
-    go : (c : Option Asked) → IsOneShot c → BeginsSession c reads → (status ≡ 0) ⊎ IsCut status ⊎ Failed status
-    go None one begins = absurd begins
-    go (Some a) one begins = absurd (false≢true (sym one ∙ begins.0))
 
 -- ---- its causes
 

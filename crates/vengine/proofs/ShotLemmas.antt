@@ -1,11 +1,11 @@
 -- What a run says.
-use Rattle.std.proofs.Common.{◌≡◌, ℕ, ◌<◌, Bool, true, false, List, [], ◌∷◌, ◌++◌, inl, inr, refl, sym, ap, subst, ◌∙◌, Option, Some, None, Ok, Err, IsNone, ◌≢◌, ◌↔◌, ◌⊎◌, arith}
+use Rattle.std.proofs.Common.{◌≡◌, ℕ, ◌<◌, false, List, [], ◌∷◌, inl, inr, refl, sym, ap, subst, ◌∙◌, Option, Some, None, Ok, Err, IsNone, ◌↔◌, ◌⊎◌, arith}
 use Rattle.std.specs.Prelude.{IsSomeAnd}
 use Rattle.std.proofs.lemmas.Bool.{false≢true}
 use Rattle.std.specs.declared.result.Result.{Result}
 use Rattle.betza_text.specs.declared.part.Part.{Part}
 use Rattle.betza_text.specs.declared.fault.BetzaFault.{BetzaFault}
-use Rattle.betza_text.specs.Word.{Spells, BetzaBad}
+use Rattle.betza_text.specs.Word.{Spells}
 use Rattle.betza_text.specs.Fault.{fault_text as betza_text}
 use Rattle.betza_text.proofs.WordLaws.{word_or_fault, one_word, one_fault, not_both}
 use Rattle.betza_compile.specs.Terms.{terms}
@@ -23,7 +23,7 @@ use Rattle.game_text.specs.declared.fault.GameFault.{GameFault}
 use Rattle.game_text.specs.Fault as game
 use Rattle.game_text.specs.GameText.{game_of}
 use Rattle.words.specs.Asked.{Asked}
-use Rattle.words.specs.Command.{Command, Uci, Xboard, Moves, Status, Perft, Check, SelfMate, HelpMate, CheckCert, Variants, Reach}
+use Rattle.words.specs.Command.{Command, Uci, Xboard, Moves, Status, Perft, Check, SelfMate, HelpMate, CheckCert, Variants, Reach, Generate}
 use Rattle.words.specs.Options.{Text}
 use Rattle.vengine.specs.declared.fault.Fault.{Fault}
 use Rattle.vengine.specs.declared.fault.Fault.TheVariants as fault
@@ -44,6 +44,7 @@ use Rattle.vengine.specs.VariantsText.{variants_text}
 use Rattle.vengine.proofs.CertLemmas.{cert_done, cert_once, cert_some}
 use Rattle.vengine.proofs.CheckLemmas.{check_done, check_once, check_some}
 use Rattle.vengine.proofs.FileLemmas.{same_reads, why_unread}
+use Rattle.vengine.proofs.GenerateLemmas.{generate_done, generate_once, generate_some}
 
 -- ---- some answer
 
@@ -69,6 +70,7 @@ command_some : (sections : List Section) (c : Command) (input : List Line) → i
 command_some sections Uci input one = absurd (false≢true (sym one))
 command_some sections Xboard input one = absurd (false≢true (sym one))
 command_some sections (Reach word square own enemy) input one = reach_some word square own enemy
+command_some sections (Generate name number plies) input one = generate_some sections name number plies
 command_some sections Moves input one = game_some moves_of (game_of (entries sections) input)
 command_some sections Status input one = game_some status_of (game_of (entries sections) input)
 command_some sections (Perft plies) input one = game_some (perft_of plies) (game_of (entries sections) input)
@@ -124,6 +126,7 @@ pub command_done : (sections : List Section) (c : Command) (input : List Line) (
 command_done sections Uci input status text says = absurd says
 command_done sections Xboard input status text says = absurd says
 command_done sections (Reach word square own enemy) input status text says = reach_done word square own enemy status text says
+command_done sections (Generate name number plies) input status text says = generate_done sections name number plies status text says
 command_done sections Moves input status text says = game_done moves_of (game_of (entries sections) input) status text says
 command_done sections Status input status text says = game_done status_of (game_of (entries sections) input) status text says
 command_done sections (Perft plies) input status text says = game_done (perft_of plies) (game_of (entries sections) input) status text says
@@ -224,6 +227,7 @@ command_once : (sections : List Section) (c : Command) (input : List Line) (s s'
 command_once sections Uci input s s' t t' says says' = absurd says
 command_once sections Xboard input s s' t t' says says' = absurd says
 command_once sections (Reach word square own enemy) input s s' t t' says says' = reach_once word square own enemy s s' t t' says says'
+command_once sections (Generate name number plies) input s s' t t' says says' = generate_once sections name number plies s s' t t' says says'
 command_once sections Moves input s s' t t' says says' = game_once moves_of (game_of (entries sections) input) s s' t t' says says'
 command_once sections Status input s s' t t' says says' = game_once status_of (game_of (entries sections) input) s s' t t' says says'
 command_once sections (Perft plies) input s s' t t' says says' = game_once (perft_of plies) (game_of (entries sections) input) s s' t t' says says'
@@ -286,6 +290,7 @@ command_without : (sections : List Section) (c : Command) (input input' : List L
 command_without sections Uci input input' status text reads says = absurd (false≢true (sym reads))
 command_without sections Xboard input input' status text reads says = absurd (false≢true (sym reads))
 command_without sections (Reach word square own enemy) input input' status text reads says = says
+command_without sections (Generate name number plies) input input' status text reads says = says
 command_without sections Variants input input' status text reads says = says
 command_without sections Moves input input' status text reads says = absurd (false≢true (sym reads))
 command_without sections Check input input' status text reads says = absurd (false≢true (sym reads))

@@ -1,9 +1,9 @@
 -- The lines of `variants`.
-use Rattle.std.proofs.Common.{◌≡◌, ◌<◌, ◌+◌, ℕ, zero, suc, List, [], ◌∷◌, ◌++◌, length, take, slice_get, Option, Some, None, refl, sym, ap, ◌∙◌, append_assoc, add-one, arith}
+use Rattle.std.proofs.Common.{◌≡◌, ◌<◌, ◌+◌, ℕ, zero, suc, List, [], ◌∷◌, ◌++◌, length, take, sym, ap, ◌∙◌, append_assoc, add-one, arith}
 use Rattle.std.specs.List.{flat_map}
 use Rattle.std.proofs.lemmas.List.{append-nil, take_all}
 use Rattle.variant_rules.specs.Entries.{Named}
-use Rattle.vengine.specs.VariantsText.{line_at, line_of, variant_line, variants_text}
+use Rattle.vengine.specs.VariantsText.{line_at, variant_line, variants_text}
 
 lines-more : (variants : List Named) (place : ℕ) → place < length variants → flat_map variant_line (take (suc place) variants) ≡ flat_map variant_line (take place variants) ++ line_at variants place
 lines-more [] place below = absurd (omega arith)

@@ -1,6 +1,6 @@
 -- What `check` says: whether the strategy of the input wins the game of the input, by its goal. The input is a proof text where line 1 is
 -- `strategy 2`, and otherwise a problem and a strategy after it.
-use Rattle.std.specs.Prelude.{◌≡◌, ℕ, ◌+◌, ◌-◌, Bool, List, ◌∷◌, length, drop, Result, Ok, Err, codes, true, false}
+use Rattle.std.specs.Prelude.{◌≡◌, ℕ, ◌+◌, ◌-◌, Bool, List, ◌∷◌, drop, Result, Ok, Err, codes, true, false}
 use Rattle.io_ports.specs.Lines.{Line, Text}
 use Rattle.forced_wins.specs.Strategies.{IsGood}
 use Rattle.forced_wins.specs.Wins.{wins}

@@ -7,7 +7,7 @@ use Rattle.variant_ini.specs.Section.{Section}
 use Rattle.variant_rules.specs.Entries.{entries}
 use Rattle.game_text.specs.GameText.{lines_of_game}
 use Rattle.words.specs.Asked.{Asked}
-use Rattle.words.specs.Command.{Command, Uci, Xboard, Moves, Status, Perft, Check, SelfMate, HelpMate, CheckCert, Variants, Reach}
+use Rattle.words.specs.Command.{Command, Uci, Xboard, Moves, Status, Perft, Check, SelfMate, HelpMate, CheckCert, Variants, Reach, Generate}
 use Rattle.vengine.specs.declared.fault.Fault.{Fault}
 use Rattle.vengine.specs.Checking.{lines_of_check}
 use Rattle.vengine.specs.Certificates.{lines_of_cert_check}
@@ -27,6 +27,7 @@ reads_input (HelpMate moves) = true
 reads_input CheckCert = true
 reads_input Variants = false
 reads_input (Reach word square own enemy) = false
+reads_input (Generate name number plies) = false
 
 abbrev pub asks_input : Option Asked → Bool
 asks_input None = false
@@ -46,6 +47,7 @@ lines_needed sections (HelpMate moves) input = lines_of_game (entries sections) 
 lines_needed sections CheckCert input = lines_of_cert_check (entries sections) input
 lines_needed sections Variants input = 0
 lines_needed sections (Reach word square own enemy) input = 0
+lines_needed sections (Generate name number plies) input = 0
 
 -- this number of lines, or none where the file of variants has a fault
 abbrev pub lines_reached : Option Fault → ℕ → ℕ

@@ -12,7 +12,6 @@ use Rattle.variant_files.specs.declared.fault.LoadFault.TheVariants.{File, Ini}
 use Rattle.variant_files.specs.Loading.{file_fault_text, ini_fault_text}
 use Rattle.vengine.specs.declared.fault.Fault.{Fault}
 use Rattle.vengine.specs.declared.fault.Fault.TheVariants.{Betza, Reach, Game, Strategy, Proof, Verdict, Cert, CertFailure, Load}
-use Rattle.vengine.specs.declared.setup.ReachFault.{ReachFault}
 use Rattle.vengine.specs.Setup.{Unplaced, NoSquare, Taken}
 use Rattle.vengine.specs.UnplacedView.{unplaced_of}
 

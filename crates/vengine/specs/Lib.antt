@@ -13,6 +13,7 @@ pub mod Run
 pub mod Sessions
 pub mod Setup
 pub mod Shot
+pub mod Speaking
 pub mod StopView
 pub mod UnplacedView
 pub mod Variants

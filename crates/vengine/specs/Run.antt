@@ -2,32 +2,24 @@
 use Rattle.std.specs.Prelude.{◌≡◌, ◌≤◌, ◌⊎◌, ℕ, Bool, true, false, List, [], ◌++◌, length, Option, Some, None, IsSomeAnd, ⊤}
 use Rattle.io_ports.specs.declared.dialect.Dialect.{Dialect}
 use Rattle.io_ports.specs.Cause.{Rose}
-use Rattle.io_ports.specs.Files.{Contents, Finds, Read}
+use Rattle.io_ports.specs.Files.{Contents, Read}
 use Rattle.io_ports.specs.Lines.{Line, lines_of}
 use Rattle.io_ports.specs.Source.{Owed, Untold}
-use Rattle.io_ports.specs.Trace.{faults_in}
+use Rattle.session_model.specs.Speaks.{Speaks}
+use Rattle.turning.specs.Spoken.{Decide, IsInput}
+use Rattle.turning.specs.Turned.{Further}
 use Rattle.vengine.specs.Commands.{asks_file, asks_input, lines_asked}
 use Rattle.vengine.specs.Looked.{IsTooLarge, TellsReads}
-use Rattle.vengine.specs.Sessions.{Speaks, dialect_of, is_session, to_do}
+use Rattle.vengine.specs.Sessions.{dialect_of, is_session, to_do}
 use Rattle.vengine.specs.Shot.{Shot}
 use Rattle.vengine.specs.Variants.{Accepts, sections_in}
 use Rattle.words.specs.Asked.{Asked}
 use Rattle.words.specs.Options.{Text}
 
--- the input, where the source tells its bytes: their lines; any, where it tells none
-abbrev pub IsInput : Option (List ℕ) → List Line → Type 0
-IsInput None input = ⊤
-IsInput (Some bytes) input = lines_of bytes ≡ input
-
 -- the source tells its bytes, and the input is their lines
 abbrev pub TellsInput : Option (List ℕ) → List Line → Type 0
 TellsInput None input = ⊥
 TellsInput (Some bytes) input = lines_of bytes ≡ input
-
--- The lines that were taken decide: no lines of the input are left, or this holds of the lines taken and any others
--- after them.
-abbrev pub Decide : List Line → List Line → (List Line → Type 0) → Type 0
-Decide lines rest Holds = (rest ≡ []) ⊎ ((more : List Line) → Holds (lines ++ more))
 
 -- ---- what a run may do
 
@@ -74,11 +66,6 @@ pub record Did (owed : Owed) (moved : List Line → List ℕ → List ℕ → Ty
   pub few : length lines ≤ lines_asked (to_do words) reads (lines ++ rest)
   pub decided : Decide lines rest (λ input. May owed words contents reads input readings status text)
   pub allowed : May owed words contents reads (lines ++ rest) readings status text
-
--- reads that a run did not come to find what the files tell, without a fault
-pub record Further (contents : Option Contents) (further : List Read) : Type 0 where
-  pub found : Finds contents further
-  pub works : faults_in further ≡ 0
 
 -- A run of a one-shot command wrote a front part of the text of its answer, or nothing while the lines taken do not
 -- decide it yet.

@@ -1,5 +1,5 @@
 -- What a run of one command says: a status and a text, for the words, the reads of files and the lines of the input.
-use Rattle.std.specs.Prelude.{◌≡◌, ℕ, List, [], ◌++◌, Option, Some, None, Result, Ok, Err, codes}
+use Rattle.std.specs.Prelude.{◌≡◌, ℕ, List, Option, Some, None, Result, Ok, Err, codes}
 use Rattle.io_ports.specs.Files.{Read}
 use Rattle.io_ports.specs.Lines.{Line}
 use Rattle.betza_text.specs.declared.part.Part.{Part}
@@ -15,8 +15,9 @@ use Rattle.game_play.specs.Played.{Played}
 use Rattle.game_text.specs.declared.fault.GameFault.{GameFault}
 use Rattle.game_text.specs.Fault as game
 use Rattle.game_text.specs.GameText.{game_of}
+use Rattle.session_model.specs.Generate.{SaysGenerate}
 use Rattle.words.specs.Asked.{Asked}
-use Rattle.words.specs.Command.{Command, Uci, Xboard, Moves, Status, Perft, Check, SelfMate, HelpMate, CheckCert, Variants, Reach}
+use Rattle.words.specs.Command.{Command, Uci, Xboard, Moves, Status, Perft, Check, SelfMate, HelpMate, CheckCert, Variants, Reach, Generate}
 use Rattle.vengine.specs.declared.fault.Fault.{Fault}
 use Rattle.vengine.specs.Certificates.{SaysCertCheck}
 use Rattle.vengine.specs.Checking.{SaysCheck}
@@ -66,6 +67,7 @@ SaysCommand sections (HelpMate moves) input status text = SaysOfGame (help_mate_
 SaysCommand sections CheckCert input status text = SaysCertCheck (entries sections) input status text
 SaysCommand sections Variants input status text = (status ≡ 0) × (text ≡ variants_text (entries sections))
 SaysCommand sections (Reach word square own enemy) input status text = SaysReach word square own enemy status text
+SaysCommand sections (Generate name number plies) input status text = SaysGenerate sections name number plies status text
 
 -- the status and the line of a fault
 abbrev pub SaysFault : Fault → ℕ → List ℕ → Type 0

@@ -17,6 +17,7 @@ ghost use Rattle.words.specs.View.{HasPlies, command_seen};
 use crate::certificates::cert_check_text;
 use crate::checking::check_text;
 use crate::game::{game_in, help_mate_of, self_mate_of};
+use crate::generating::generate;
 use crate::halt::Halt;
 use crate::opening::Opened;
 use crate::reach::reach_text;
@@ -29,6 +30,7 @@ use foundation::{Memory, Text};
 use game_reports::{moves_of, perft_of, status_of};
 use io_ports::Source;
 use std::alloc::{AllocError, Global};
+use std::thread::Threads;
 use variant_ini::Sections;
 use words::Command;
 
@@ -148,7 +150,8 @@ fn variants(alloc: Global, sections: &Sections) -> Result<Text, Halt<'static>>
 }
 
 // The text of a command, where there are these sections.
-fn command_text<'a, S: Source>(
+fn command_text<'a, R: Threads + Sync, S: Source>(
+    rt: &R,
     alloc: Global,
     command: Command<'a>,
     sections: &Sections,
@@ -178,6 +181,11 @@ fn command_text<'a, S: Source>(
             own,
             enemy,
         } => reach(alloc, word, square, own, enemy),
+        Command::Generate {
+            name,
+            number,
+            plies,
+        } => generate(rt, alloc, sections, name, number, plies),
     }
 }
 
@@ -207,7 +215,12 @@ pub fn answer_of<'a>(alloc: Global, outcome: Result<Text, Halt<'a>>) -> Result<A
 }
 
 /// The answer of a one-shot command, with what it reads of the source.
-pub fn answer_to<S: Source>(alloc: Global, opened: &Opened, source: &mut S) -> Result<Answer, Stop>
+pub fn answer_to<R: Threads + Sync, S: Source>(
+    rt: &R,
+    alloc: Global,
+    opened: &Opened,
+    source: &mut S,
+) -> Result<Answer, Stop>
     requires one_shot { is_session (command_seen opened.now.asked.command) ≡ false }
     requires plies { HasPlies opened.now.asked.command }
     ensures heard { HeardLines (S.left source.old) (S.left source.new)
@@ -217,6 +230,6 @@ pub fn answer_to<S: Source>(alloc: Global, opened: &Opened, source: &mut S) -> R
     ensures unsaid { ¬ (IsUnsaid result) }
     ensures unread { reads_input (command_seen opened.now.asked.command) ≡ false → source.new ≡ source.old }
 {
-    let outcome = command_text(alloc, opened.asked.command, &opened.sections, source);
+    let outcome = command_text(rt, alloc, opened.asked.command, &opened.sections, source);
     answer_of(alloc, outcome)
 }

@@ -6,12 +6,14 @@ mod certificates;
 mod checking;
 mod fault;
 mod game;
+mod generating;
 mod halt;
 mod laws;
 mod opening;
 mod program;
 mod reach;
 mod sections;
+mod sessions;
 mod setup;
 mod stop;
 mod strategy_lines;
@@ -19,7 +21,6 @@ mod variants;
 
 use foundation::Memory;
 use io_ports::{MachineClock, MachineFiles, OpenGate, PatientReader, QueuedInput, StandardOutput};
-use program::NO_MEMORY;
 pub use program::run;
 use std::io::{BufReader, ErrorKind, Read};
 use std::process::ExitCode;
@@ -27,6 +28,7 @@ use std::rt::{Clock, Env, Files};
 use std::sync::Wait;
 use std::thread::Threads;
 use std::{env, io};
+use stop::NO_MEMORY;
 
 /// The words after the program's name. Words that are not UTF-8 are given as `--`, which is of no command.
 fn given_words(rt: &(impl Env + AllocGlobal)) -> Result<Vec<String>, Memory> {

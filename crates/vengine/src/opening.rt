@@ -1,18 +1,18 @@
 //! What a run does first: it reads its words, and the file of variants that they name.
-ghost use Rattle.std.specs.Prelude.{◌≡◌, false, IfOk, map, string_bytes};
+ghost use Rattle.std.specs.Prelude.{◌≡◌, ◌≤◌, false, IfOk, map, string_bytes};
 ghost use Rattle.io_ports.specs.Trace.{Reads};
 ghost use Rattle.vengine.specs.Commands.{asks_file};
 ghost use Rattle.vengine.specs.HaltView.{IsToDo, Opens};
 ghost use Rattle.variant_files.specs.Looked.{Looked};
-ghost use Rattle.vengine.specs.Sessions.{dialect_of, is_session, serves, to_do};
-ghost use Rattle.words.specs.View.{HasPlies, command_seen};
+ghost use Rattle.vengine.specs.Sessions.{to_do};
+ghost use Rattle.words.specs.View.{HasPlies};
 
 use crate::halt::Halt;
 use crate::sections::sections_with;
 use io_ports::Files;
 use std::alloc::Global;
 use variant_ini::Sections;
-use words::{Asked, Command, read_words};
+use words::{Asked, read_words};
 
 /// What a run does, with the sections of variants that there are.
 #[derive(Drop)]
@@ -23,29 +23,22 @@ pub struct Opened<'a> {
     pub sections: Sections,
 }
 
-// Whether a run does this: no front serves a session yet.
-fn is_served(command: &Command) -> bool
-    ensures { result ≡ serves (dialect_of (command_seen command.now)) }
-{
-    !matches!(command, Command::Uci | Command::Xboard)
-}
-
-// What the words ask that a run does.
+// What the words ask.
 #[tactic(auto, unfolding(crate::specs::Sessions::to_do))]
 fn read_asked<'a>(alloc: Global, words: &'a [String]) -> Result<Asked<'a>, Halt<'a>>
     ensures is { IsToDo (to_do (map string_bytes words.now)) result }
-    ensures one_shot { IfOk result (λ a. is_session (command_seen a.command) ≡ false) }
+    ensures threads { IfOk result (λ a. (1 ≤ a.threads) × (a.threads ≤ 64)) }
     ensures plies { IfOk result (λ a. HasPlies a.command) }
 {
     match read_words(alloc, words)? {
-        Some(asked) if is_served(&asked.command) => Ok(asked),
-        _ => Err(Halt::Usage),
+        Some(asked) => Ok(asked),
+        None => Err(Halt::Usage),
     }
 }
 
 /// Reads the words of a run, and then the file of variants, where one is named.
 ///
-/// The error is the usage line where a run does nothing of what the words ask, or why the file of variants is refused.
+/// The error is the usage line where the words are not of the command set, or why the file of variants is refused.
 pub fn open<'a, F: Files>(
     alloc: Global,
     words: &'a [String],
@@ -54,7 +47,7 @@ pub fn open<'a, F: Files>(
     ensures opens { Looked (Reads F.contents F.faults files.old files.new)
         (λ reads. Opens (to_do (map string_bytes words.now)) reads result) }
     ensures unnamed { asks_file (to_do (map string_bytes words.now)) ≡ false → files.new ≡ files.old }
-    ensures one_shot { IfOk result (λ o. is_session (command_seen o.asked.command) ≡ false) }
+    ensures threads { IfOk result (λ o. (1 ≤ o.asked.threads) × (o.asked.threads ≤ 64)) }
     ensures plies { IfOk result (λ o. HasPlies o.asked.command) }
 {
     let asked = read_asked(alloc, words)?;

@@ -10,20 +10,12 @@ ghost use Rattle.vengine.specs.Sessions.{to_do};
 
 use crate::answers::{Answer, answer_of, answer_to};
 use crate::opening::open;
-use crate::stop::Stop;
+use crate::sessions::{dialect_of, speak, status_of};
+use crate::stop::{NO_MEMORY, SINK_FAILED, SOURCE_FAILED, Stop};
 use io_ports::{Clock, Files, Gate, Sink, Source};
 use std::alloc::Global;
 use std::sync::Wait;
 use std::thread::Threads;
-
-/// The status of a run whose source failed.
-pub const SOURCE_FAILED: u8 = 4;
-
-/// The status of a run whose sink failed.
-pub const SINK_FAILED: u8 = 5;
-
-/// The status of a run that found no memory.
-pub const NO_MEMORY: u8 = 7;
 
 // Writes the text of an answer, and gives the status.
 fn finish<K: Sink>(answer: Result<Answer, Stop>, sink: &mut K) -> u8
@@ -46,10 +38,10 @@ fn finish<K: Sink>(answer: Result<Answer, Stop>, sink: &mut K) -> u8
 ///
 /// | status | only where |
 /// |---|---|
-/// | 0 | the command wrote its whole text |
-/// | 2 | the words are not of the command set, or ask for a session, and the usage line was written |
+/// | 0 | the command wrote its whole text, or the session came to `quit` or the end of its lines |
+/// | 2 | the words are not of the command set, and the usage line was written |
 /// | 3 | an argument, the file of variants or the input has the fault that was written as a line `error FAULT` |
-/// | 4 | the source's count of faults rose; nothing was written |
+/// | 4 | the source's count of faults rose; a one-shot command wrote nothing |
 /// | 5 | the sink's count of faults rose |
 /// | 6 | the file of variants was not read, as the line `error FileFault ..` says that was written |
 /// | 7 | there was no memory |
@@ -108,7 +100,25 @@ where
         → asks_file (to_do (map string_bytes words.now)) ≡ false → files.new ≡ files.old }
 {
     match open(alloc, words, files) {
-        Ok(opened) => finish(answer_to(alloc, &opened, source), sink),
+        Ok(opened) => match dialect_of(&opened.asked.command) {
+            None => finish(answer_to(rt, alloc, &opened, source), sink),
+            Some(dialect) => {
+                let threads = opened.asked.threads as u32;
+                let ended = speak(
+                    rt,
+                    alloc,
+                    dialect,
+                    opened.sections,
+                    threads,
+                    source,
+                    sink,
+                    files,
+                    clock,
+                    gate,
+                );
+                status_of(ended)
+            }
+        },
         Err(halt) => finish(answer_of(alloc, Err(halt)), sink),
     }
 }

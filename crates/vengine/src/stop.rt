@@ -2,6 +2,15 @@
 use foundation::Memory as NoMemory;
 use std::alloc::AllocError;
 
+/// The status of a run whose source failed.
+pub const SOURCE_FAILED: u8 = 4;
+
+/// The status of a run whose sink failed.
+pub const SINK_FAILED: u8 = 5;
+
+/// The status of a run that found no memory.
+pub const NO_MEMORY: u8 = 7;
+
 /// Why a run is cut short.
 #[derive(Clone, Copy, Debug, PartialEq, Eq)]
 pub enum Stop {

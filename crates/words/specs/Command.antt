@@ -1,5 +1,5 @@
 -- The commands, by their names and arguments.
-use Rattle.std.specs.Prelude.{ℕ, List, [], ◌∷◌, Option, Some, None, bytes_eq, codes, if◌then◌else◌}
+use Rattle.std.specs.Prelude.{ℕ, ◌-◌, ◌^◌, List, [], ◌∷◌, Option, Some, None, bytes_eq, codes, if◌then◌else◌}
 use Rattle.std.specs.Option.{option_map}
 use Rattle.words.specs.Number.{number_in}
 use Rattle.words.specs.Options.{Text}
@@ -28,6 +28,8 @@ pub data Command : Type 0 where
   Variants : Command
   -- `reach WORD SQUARE [OWN [ENEMY]]`: a Betza word, a square, and the lists of own and of enemy squares
   Reach : Text → Text → Text → Text → Command
+  -- `generate NAME START N`: a variant, the number from which a random game goes, and the most plies that it has
+  Generate : Text → ℕ → ℕ → Command
 
 -- the list of no square
 abbrev pub no_squares : Text
@@ -74,6 +76,16 @@ reach_in (word ∷ square ∷ own ∷ []) = Some (Reach word square own no_squar
 reach_in (word ∷ square ∷ own ∷ enemy ∷ []) = Some (Reach word square own enemy)
 reach_in arguments = None
 
+-- a number below 2^64, and up to 8,192 plies
+abbrev pub generate_by : Text → Option ℕ → Option ℕ → Option Command
+generate_by name (Some number) (Some plies) = Some (Generate name number plies)
+generate_by name number plies = None
+
+abbrev pub generate_in : List Text → Option Command
+generate_in (name ∷ number ∷ plies ∷ []) =
+    generate_by name (number_in 0 (2 ^ 64 - 1) number) (number_in 0 8192 plies)
+generate_in arguments = None
+
 -- the command of this name with these arguments
 abbrev pub command_named : Text → List Text → Option Command
 command_named name arguments =
@@ -85,7 +97,8 @@ command_named name arguments =
     else (if bytes_eq name (codes "check") then without_arguments Check arguments
     else (if bytes_eq name (codes "stipulate") then stipulate_in arguments
     else (if bytes_eq name (codes "variants") then without_arguments Variants arguments
-    else (if bytes_eq name (codes "reach") then reach_in arguments else None))))))))
+    else (if bytes_eq name (codes "reach") then reach_in arguments
+    else (if bytes_eq name (codes "generate") then generate_in arguments else None)))))))))
 
 -- the command that words without options are; that of no words is the session of `uci`
 abbrev pub command_in : List Text → Option Command

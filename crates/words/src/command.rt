@@ -1,7 +1,9 @@
 //! The commands, by their names and arguments.
-ghost use Rattle.std.specs.Prelude.{◌≡◌, IfSome, option_map};
+ghost use Rattle.std.specs.Prelude.{◌≡◌, ◌-◌, ◌^◌, IfSome, option_map};
 ghost use Rattle.words.specs.Command.{Reach, check_of, command_in, command_named, help_mate_of, mate_in, perft_in};
 ghost use Rattle.words.specs.Command.{perft_of, reach_in, self_mate_of, stipulate_in, without_arguments};
+ghost use Rattle.words.specs.Command.{generate_by, generate_in};
+ghost use Rattle.words.specs.Number.{number_in as NumberIn};
 ghost use Rattle.words.specs.View.{HasPlies, command_seen, texts};
 
 use crate::number::number_in;
@@ -11,6 +13,9 @@ const NO_SQUARES: &str = "none";
 
 /// The most plies that `perft` counts.
 const MOST_PLIES: u64 = 9;
+
+/// The most plies of a random game.
+const MOST_GAME_PLIES: u64 = 8192;
 
 /// The most moves of a selfmate, and of each side in a helpmate.
 const MOST_MATE_MOVES: u64 = 6;
@@ -48,6 +53,13 @@ pub enum Command<'a> {
         square: &'a str,
         own: &'a str,
         enemy: &'a str,
+    },
+    /// `generate NAME START N`: a game of random legal moves in this variant, which goes from this number and has at most
+    /// this many plies, up to 8,192.
+    Generate {
+        name: &'a str,
+        number: u64,
+        plies: u16,
     },
 }
 
@@ -154,6 +166,31 @@ fn reach_in<'a>(arguments: &[&'a str]) -> Option<Command<'a>>
     }
 }
 
+// A number below 2^64, and up to 8,192 plies.
+fn generate<'a>(name: &'a str, number: &str, plies: &str) -> Option<Command<'a>>
+    ensures is { option_map command_seen result
+        ≡ generate_by name.now (NumberIn 0 (2 ^ 64 - 1) number.now) (NumberIn 0 8192 plies.now) }
+    ensures plies { IfSome result HasPlies }
+{
+    let number = number_in(0, u64::MAX, number)?;
+    let plies = number_in(0, MOST_GAME_PLIES, plies)?;
+    Some(Command::Generate {
+        name,
+        number,
+        plies: plies as u16,
+    })
+}
+
+fn generate_in<'a>(arguments: &[&'a str]) -> Option<Command<'a>>
+    ensures is { option_map command_seen result ≡ generate_in (texts arguments.now) }
+    ensures plies { IfSome result HasPlies }
+{
+    match arguments {
+        [name, number, plies] => generate(name, number, plies),
+        _ => None,
+    }
+}
+
 fn command_named<'a>(name: &str, arguments: &[&'a str]) -> Option<Command<'a>>
     ensures is { option_map command_seen result ≡ command_named name.now (texts arguments.now) }
     ensures plies { IfSome result HasPlies }
@@ -168,6 +205,7 @@ fn command_named<'a>(name: &str, arguments: &[&'a str]) -> Option<Command<'a>>
         "stipulate" => stipulate_in(arguments),
         "variants" => without_arguments(Command::Variants, arguments),
         "reach" => reach_in(arguments),
+        "generate" => generate_in(arguments),
         _ => None,
     }
 }

@@ -47,7 +47,7 @@ fn owned(alloc: Global, words: &[&str]) -> Result<Vec<String>, Fail> {
 
 #[test]
 fn words_of_the_set_are_read(rt: HostRuntime) -> Result<(), Fail> {
-    let rows: [(&[&str], Asked<'static>); 24] = [
+    let rows: [(&[&str], Asked<'static>); 25] = [
         (&[], command(Command::Uci)),
         (&["uci"], command(Command::Uci)),
         (&["xboard"], command(Command::Xboard)),
@@ -74,6 +74,14 @@ fn words_of_the_set_are_read(rt: HostRuntime) -> Result<(), Fail> {
         (
             &["reach", "N", "b1", "a1,a2", "c3"],
             reach("N", "b1", "a1,a2", "c3"),
+        ),
+        (
+            &["generate", "chess", "18446744073709551615", "08192"],
+            command(Command::Generate {
+                name: "chess",
+                number: u64::MAX,
+                plies: 8192,
+            }),
         ),
         (&["--threads", "4", "moves"], moves_with(None, 4)),
         (&["--threads=64", "moves"], moves_with(None, 64)),

@@ -127,15 +127,9 @@ fn reach_says_where_a_piece_goes(rt: HostRuntime) -> Result<(), Fail> {
     Ok(())
 }
 
-/// Words of a session have the same answer, since no front serves one yet.
 #[test]
 fn other_words_are_answered_by_the_usage_line(rt: HostRuntime) -> Result<(), Fail> {
-    let rows: [&[&str]; 9] = [
-        &[],
-        &["uci"],
-        &["xboard"],
-        &["--variants", "none"],
-        &["--threads", "2"],
+    let rows: [&[&str]; 4] = [
         &["moves", "chess"],
         &["--"],
         &["--threads", "65", "moves"],
@@ -144,6 +138,55 @@ fn other_words_are_answered_by_the_usage_line(rt: HostRuntime) -> Result<(), Fai
     let mut files = MemFiles::new(rt.alloc());
     for words in rows {
         answers(&rt, &mut files, words, b"quit\n", 2, USAGE_LINE.as_bytes())?;
+    }
+    Ok(())
+}
+
+/// The texts are those of another program.
+#[test]
+fn random_games_are_generated(rt: HostRuntime) -> Result<(), Fail> {
+    let rows: [(&[&str], u8, &str); 3] = [
+        (
+            &["generate", "extinction", "718", "300"],
+            0,
+            "generated extinction 718 77\n\
+                7r/2p1n3/bpkr1p1p/p2p1ppN/PP1P2P1/2P1P1KP/1B6/R5QR b - - 0 39\n\
+                won white extinction\nperft2 0\nvalue2 none\n",
+        ),
+        (
+            &["generate", "xiangqi", "8942364694563039783", "0"],
+            0,
+            "generated xiangqi 8942364694563039783 0\n\
+                rnbakabnr/9/1c5c1/p1p1p1p1p/9/9/P1P1P1P1P/1C5C1/9/RNBAKABNR w - - 0 1\n\
+                ongoing\nperft2 1920\nvalue2 0\n",
+        ),
+        (
+            &["generate", "none", "0", "1"],
+            3,
+            "error GameFault 2 UnknownVariant none\n",
+        ),
+    ];
+    let mut files = MemFiles::new(rt.alloc());
+    for (words, status, text) in rows {
+        answers(&rt, &mut files, words, b"", status, text.as_bytes())?;
+    }
+    Ok(())
+}
+
+/// The lines of a session end at `quit`, or with the input. Without words it is UCI's.
+#[test]
+fn sessions_are_held(rt: HostRuntime) -> Result<(), Fail> {
+    let rows: [(&[&str], &str, &str); 6] = [
+        (&[], "isready\nquit\nisready\n", "readyok\n"),
+        (&["--threads", "2"], "please isready now", "readyok\n"),
+        (&["uci"], "stop\nquit\n", ""),
+        (&["uci"], "", ""),
+        (&["xboard"], "ping 7\nquit\nping 8\n", "pong 7\n"),
+        (&["xboard"], "ping 7\nping 8\n", "pong 7\npong 8\n"),
+    ];
+    let mut files = MemFiles::new(rt.alloc());
+    for (words, input, text) in rows {
+        answers(&rt, &mut files, words, input.as_bytes(), 0, text.as_bytes())?;
     }
     Ok(())
 }
@@ -766,7 +809,7 @@ fn the_file_of_variants_is_judged_before_the_command(rt: HostRuntime) -> Result<
     files.add(b"largest", bytes.as_slice())?;
     bytes.push(b'#')?;
     files.add(b"larger", bytes.as_slice())?;
-    let rows: [(&[&str], u8, &str); 8] = [
+    let rows: [(&[&str], u8, &str); 9] = [
         (
             &["--variants=none", "reach", "fN", "i9"],
             6,
@@ -783,7 +826,16 @@ fn the_file_of_variants_is_judged_before_the_command(rt: HostRuntime) -> Result<
             "error IniFault 4 NoSection 1\n",
         ),
         (&["--variants", "pair", "reach", "N"], 2, USAGE_LINE),
-        (&["--variants", "none", "uci"], 2, USAGE_LINE),
+        (
+            &["--variants", "none", "uci"],
+            6,
+            "error FileFault 1 Missing\n",
+        ),
+        (
+            &["--variants", "pair", "xboard"],
+            3,
+            "error IniFault 4 NoSection 1\n",
+        ),
         (&["--variants", "largest", "moves"], 4, ""),
         (&["moves"], 4, ""),
         (
@@ -833,6 +885,13 @@ fn a_run_fails_with_its_sink(rt: HostRuntime) -> Result<(), Fail> {
         LINES,
         b"a1a2\na1b1\na1b2\nmoves 3\n",
     )?;
+    is_cut(
+        &rt,
+        &mut files,
+        &["uci"],
+        b"isready\nisready\n",
+        b"readyok\nreadyok\n",
+    )?;
     let words = ["--variants", "f", "moves"].as_slice();
     is_cut(
         &rt,
@@ -850,6 +909,9 @@ fn a_run_fails_with_its_source(rt: HostRuntime) -> Result<(), Fail> {
         let (answered, sink) = ran(&rt, &mut files, &["moves"], LINES, &[call], 1000)?;
         assert!(rt; answered == 4 && sink.taken().is_empty());
     }
+    let lines = b"isready\nisready\n";
+    let (answered, sink) = ran(&rt, &mut files, &["uci"], lines, &[1], 1000)?;
+    assert!(rt; answered == 4 && sink.taken() == b"readyok\n".as_slice());
     answers(
         &rt,
         &mut files,

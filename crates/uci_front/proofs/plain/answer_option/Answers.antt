@@ -13,4 +13,4 @@ returns g c =
     c.in_ok-setting.ensures ∙ ap (λ ws. setting_of (texts ws)) c.deref.ensures.value ∙ ap setting_of c.in_ok-words.ensures in
     looked_so _ _ _ c.set_option-outcome.ensures.sets
     (λ reads sets. option_answered (setting_seen c.in_ok-setting.setting) (setting_of (words_said c.args.rest)) c.args.session.now
-        c.set_option-outcome.new.session reads c.set_option-outcome.result c.outcome_text.result seen sets c.set_option-outcome.ensures.refused c.outcome_text.ensures)
+    c.set_option-outcome.new.session reads c.set_option-outcome.result c.outcome_text.result seen sets c.set_option-outcome.ensures.refused c.outcome_text.ensures)

@@ -5,4 +5,4 @@ use Rattle.uci_lines.proofs.words.append_others.Given as goal
 
 -- the first word and those so far
 abbrev pub invariant-loop-word : goal.invariant-loop-word
-invariant-loop-word l = l.text ≡ join_with_byte 32 (l.fn.items.items ∷ texts (take l.word-index l.words))
+invariant-loop-word l = l.text ≡ join_with_byte l.byte (l.fn.items.items ∷ texts (take l.word-index l.words))

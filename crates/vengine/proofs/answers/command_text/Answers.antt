@@ -43,3 +43,12 @@ returns-in-Reach-clause-heard g c = rw c.in-Reach.is (heard_nothing _ _ _ (λ li
 
 pub returns-in-Reach-clause-cause : goal.returns-in-Reach-clause-cause
 returns-in-Reach-clause-cause g c = record { later = omega arith; failed = λ unheard. absurd (c.reach.ensures.reads_nothing unheard) }
+
+pub generate-requires : goal.generate-requires
+generate-requires g c = (c.type_bounds.sync-R, rw c.in-Generate.is at c.requires.plies)
+
+pub returns-in-Generate-clause-heard : goal.returns-in-Generate-clause-heard
+returns-in-Generate-clause-heard g c = rw c.in-Generate.is (heard_nothing _ _ _ (λ lines. c.generate.ensures.answers))
+
+pub returns-in-Generate-clause-cause : goal.returns-in-Generate-clause-cause
+returns-in-Generate-clause-cause g c = record { later = omega arith; failed = λ unheard. absurd (c.generate.ensures.reads_nothing unheard) }

@@ -2,6 +2,7 @@ use Rattle.std.proofs.Common.{◌≡◌, ◌+◌, ◌<◌, List, length, get_or,
 use Rattle.std.specs.List.{insert, remove}
 use Rattle.mate_shards.specs.Views.{ShardsView, ShardPass, IsJoined}
 use Rattle.mate_shards.proofs.GrownLaws.{join-grows_first, join-grows_second, join-parts}
+use Rattle.mate_shards.proofs.OwnedLaws.{join-owned}
 use Rattle.mate_shards.proofs.PassLemmas.{Joining, put-back, join-starts, join-goes-on, joined-passes, are-joined, join-lock, join-first, join-second, join-is}
 use Rattle.mate_shards.proofs.shards.Shards.join.Goals as goal
 
@@ -90,3 +91,7 @@ returns-clause-first_grown c =
 pub returns-clause-second_grown : goal.returns-clause-second_grown
 returns-clause-second_grown c =
     join-grows_second c.args.self.now _ c.args.a c.args.b (returns-clause-passes c) c.requires.first c.requires.second (returns-clause-joined c)
+
+pub returns-clause-owned : goal.returns-clause-owned
+returns-clause-owned c =
+    join-owned c.args.self.now _ c.args.a c.args.b (returns-clause-passes c) c.requires.first c.requires.second (returns-clause-joined c)

@@ -1,4 +1,4 @@
-use Rattle.std.proofs.Common.{List, Option, sym, subst}
+use Rattle.std.proofs.Common.{Option, sym, subst}
 use Rattle.forced_wins.specs.declared.fact.Fact.{Fact}
 use Rattle.mate_shards.specs.Turns.{LookTurn}
 use Rattle.mate_shards.proofs.AnswerLaws.{look-true, look-serves, look-known}

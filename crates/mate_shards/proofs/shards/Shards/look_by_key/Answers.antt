@@ -2,6 +2,7 @@ use Rattle.std.proofs.Common.{ap, ◌∙◌, refl, length}
 use Rattle.mate_core.specs.Hash.{hash_of, shard_of_hash}
 use Rattle.mate_shards.proofs.AnswerLaws.{claim-true, claim-known}
 use Rattle.mate_shards.proofs.GrownLaws.{look-grows}
+use Rattle.mate_shards.proofs.OwnedLaws.{look-owned}
 use Rattle.mate_shards.proofs.PartLaws.{parts-stay}
 use Rattle.mate_shards.proofs.TurnLemmas.{looks}
 use Rattle.mate_shards.proofs.shards.Shards.look_by_key.Goals as goal
@@ -24,3 +25,6 @@ returns-clause-truth g c = claim-true c.args.self.now _ _ c.args.p.now c.args.mo
 
 pub returns-clause-known : goal.returns-clause-known
 returns-clause-known g c = claim-known c.args.self.now _ _ c.args.p.now c.args.moves c.in-Found.found (returns-clause-turn g c)
+
+pub returns-clause-owned : goal.returns-clause-owned
+returns-clause-owned g c = look-owned c.args.self.now _ _ _ _ _ (returns-clause-turn g c)

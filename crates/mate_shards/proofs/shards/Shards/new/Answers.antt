@@ -3,6 +3,8 @@ use Rattle.std.proofs.lemmas.List.Elements.{All-weaker}
 use Rattle.fact_lock.specs.Passes.{LockView, all_parts}
 use Rattle.mate_shards.specs.Shard.{Key}
 use Rattle.mate_shards.specs.Views.{ShardPass, IsFresh}
+use Rattle.mate_shards.proofs.OwnedLaws.{none-owned}
+use Rattle.mate_shards.proofs.TurnLemmas.{all-at}
 use Rattle.mate_shards.proofs.PassLemmas.{AreMade, one-more, made-passes}
 use Rattle.mate_shards.proofs.shards.Shards.new.Goals as goal
 
@@ -30,3 +32,7 @@ returns-clause-passes c =
 pub returns-clause-parts : goal.returns-clause-parts
 returns-clause-parts c =
     All-weaker (IsFresh []) (λ p. p.parts ≡ all_parts) (λ p fresh. fresh.parts) _ c.loop-alloc.invariant.0.all_fresh
+
+pub returns-clause-owned : goal.returns-clause-owned
+returns-clause-owned c =
+    none-owned _ (λ k p e. (all-at (IsFresh []) _ k p c.loop-alloc.invariant.0.all_fresh e).own)

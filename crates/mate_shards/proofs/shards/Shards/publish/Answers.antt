@@ -6,6 +6,7 @@ use Rattle.mate_shards.specs.declared.request.Request.TheVariants.{Publish}
 use Rattle.mate_shards.specs.Turns.{AskTurn}
 use Rattle.mate_shards.proofs.AnswerLaws.{publish-known}
 use Rattle.mate_shards.proofs.GrownLaws.{publish-grows}
+use Rattle.mate_shards.proofs.OwnedLaws.{publish-owned}
 use Rattle.mate_shards.proofs.PartLaws.{parts-stay}
 use Rattle.mate_shards.proofs.TurnLemmas.{publishes}
 use Rattle.mate_shards.proofs.shards.Shards.publish.Goals as goal
@@ -26,3 +27,6 @@ returns-clause-parts g c = λ n. parts-stay _ _ _ _ _ _ n (returns-clause-turn g
 
 pub returns-clause-known : goal.returns-clause-known
 returns-clause-known g c = publish-known c.args.self.now _ _ _ _ (returns-clause-turn g c)
+
+pub returns-clause-owned : goal.returns-clause-owned
+returns-clause-owned g c = publish-owned c.args.self.now _ _ _ _ (returns-clause-turn g c)

@@ -2,6 +2,7 @@ use Rattle.std.proofs.Common.{◌≡◌, ◌+◌, ◌<◌, ◌≤◌, List, leng
 use Rattle.std.specs.List.{insert}
 use Rattle.mate_shards.specs.Views.{ShardsView, ShardPass}
 use Rattle.mate_shards.proofs.GrownLaws.{split-grows, split-sees, split-part}
+use Rattle.mate_shards.proofs.OwnedLaws.{split-owned}
 use Rattle.mate_shards.proofs.TurnLemmas.{all-at}
 use Rattle.mate_shards.proofs.PassLemmas.{Splitting, put-back, split-starts, split-goes-on, first-passes, second-passes, are-halved, halved-parts, split-lock, split-was, split-is}
 use Rattle.mate_shards.proofs.shards.Shards.split.Goals as goal
@@ -112,3 +113,7 @@ returns-clause-grown c =
 pub returns-clause-seen : goal.returns-clause-seen
 returns-clause-seen c =
     split-sees c.args.self.now c.args.passes _ _ c.requires.passes (returns-clause-first c) (returns-clause-second c) (returns-clause-halves c)
+
+pub returns-clause-owned : goal.returns-clause-owned
+returns-clause-owned c =
+    split-owned c.args.self.now c.args.passes _ _ c.requires.passes (returns-clause-first c) (returns-clause-second c) (returns-clause-halves c)

@@ -1,0 +1,105 @@
+#!/usr/bin/env python3
+"""Has XBoard play matches between Vengine (CECP) and Fairy-Stockfish, and compares what came of them with `status`.
+
+Usage: bench/clients/xboard_match.py [VARIANT:GAMES ..]     (chess:4 crazyhouse:2 capablanca:2 by default)
+
+Wants Debian's packages xboard, xvfb and fairy-stockfish; what is missing is named, and nothing is played. XBoard runs under a virtual
+display with `-mg`. Its debug file has each line between it and Vengine, so the moves of a game are those that Vengine was sent and
+answered. For each game it prints XBoard's result beside what `status` says after these moves, and each line with which Vengine refused
+something. It ends with 1 where a result that the rules decide differs, or where Vengine called an opponent's move illegal.
+"""
+import os
+import re
+import shutil
+import signal
+import subprocess
+import sys
+import tempfile
+import time
+
+TOP = os.path.abspath(os.path.join(os.path.dirname(os.path.abspath(__file__)), "..", ".."))
+VENGINE = os.path.join(TOP, "vengine")
+PATH = os.environ.get("PATH", "") + ":/usr/games"
+LONGEST = 1200
+OF_XBOARD = {"chess": "normal"}
+
+
+def missing():
+    return [name for name in ("xboard", "xvfb-run", "fairy-stockfish") if shutil.which(name, path=PATH) is None]
+
+
+def play(variant, games, folder):
+    """Runs a match, and returns XBoard's results and the lines of its debug file."""
+    words = ["xvfb-run", "-a", "xboard", "-noGUI", "-fcp", f"{VENGINE} xboard", "-scp", "fairy-stockfish", "-fd", folder, "-sd", folder,
+             "-variant", OF_XBOARD.get(variant, variant), "-mg", str(games), "-tc", "0:20", "-mps", "40", "-inc", "0", "-xponder",
+             "-sgf", f"{folder}/games.pgn", "-debug", "-nameOfDebugFile", f"{folder}/debug.log"]
+    with open(f"{folder}/said.log", "w") as said:
+        match = subprocess.Popen(words, stdout=said, stderr=said, env={**os.environ, "PATH": PATH}, start_new_session=True)
+    end = time.monotonic() + LONGEST
+    # XBoard shows the score in a window at the end, and waits for a click.
+    while match.poll() is None and time.monotonic() < end and "final score" not in open(f"{folder}/said.log").read():
+        time.sleep(1)
+    os.killpg(match.pid, signal.SIGTERM)
+    match.wait()
+    text = open(f"{folder}/games.pgn").read() if os.path.exists(f"{folder}/games.pgn") else ""
+    results = re.findall(r'^\[Result "(.*)"\]', text, re.M)
+    reasons = re.findall(r"\{([^{}]*)\} (?:1-0|0-1|1/2-1/2|\*)", text)
+    return list(zip(results, reasons + [""] * len(results))), open(f"{folder}/debug.log", errors="replace").read().splitlines()
+
+
+def games_in(lines):
+    """The moves of each game as Vengine met them, and what it refused."""
+    games, refused = [], []
+    for line in lines:
+        sent, heard = re.search(r">first *: (.*)", line), re.search(r"<first *: (.*)", line)
+        if sent and sent.group(1).strip() == "new":
+            games.append([])
+        elif sent and sent.group(1).startswith("usermove ") and games:
+            games[-1].append(sent.group(1).split()[1])
+        elif heard and heard.group(1).startswith("move ") and games:
+            games[-1].append(heard.group(1).split()[1])
+        elif heard and re.match(r"(Illegal move|Error)", heard.group(1)):
+            refused.append(heard.group(1))
+    return [moves for moves in games if moves], refused
+
+
+def status(variant, moves):
+    text = f"{variant}\nstartpos\n{' '.join(moves)}\n"
+    return subprocess.run([VENGINE, "status"], input=text, capture_output=True, text=True).stdout.splitlines()[0]
+
+
+def told(state):
+    """The result that the rules decide, or none."""
+    words = state.split()
+    if words[0] == "won":
+        return "1-0" if words[1] == "white" else "0-1"
+    return "1/2-1/2" if words[0] == "drawn" else None
+
+
+def main():
+    lacks = missing()
+    if lacks:
+        print(f"xboard_match: skipped, for there is no {' and no '.join(lacks)}")
+        return 0
+    wanted = [word.split(":") for word in sys.argv[1:]] or [["chess", "4"], ["crazyhouse", "2"], ["capablanca", "2"]]
+    faults = 0
+    for variant, games in wanted:
+        with tempfile.TemporaryDirectory() as folder:
+            results, lines = play(variant, int(games), folder)
+        played, refused = games_in(lines)
+        for (result, reason), moves in zip(results, played):
+            state = status(variant, moves)
+            differs = told(state) not in (None, result)
+            faults += differs
+            print(f"{variant}: {result} after {len(moves)} plies ({reason or 'no reason'}); status: {state}{' DIFFERS' if differs else ''}")
+        if len(results) != int(games):
+            faults += 1
+            print(f"{variant}: {len(results)} of {games} games were played to an end")
+        for line in refused:
+            faults += line.startswith("Illegal move")
+            print(f"{variant}: Vengine said: {line}")
+    return 1 if faults else 0
+
+
+if __name__ == "__main__":
+    sys.exit(main())

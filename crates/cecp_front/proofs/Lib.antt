@@ -1,0 +1,4 @@
+mod SessionLaws
+mod ThoughtLaws
+mod TurnLaws
+mod SeekLaws

@@ -1,0 +1,21 @@
+use Rattle.std.proofs.Common.{◌≡◌, ◌≤◌}
+use Rattle.std.specs.Io.KnownBytes.{IsAtEnd}
+use Rattle.io_ports.specs.Cause.{Rose}
+use Rattle.io_ports.specs.Trace.{Moves}
+use Rattle.io_ports.specs.declared.source.Got.TheVariants as got
+use Rattle.session_model.specs.CecpSession.{cecp}
+use Rattle.turning.specs.Turned.{Turned}
+use Rattle.cecp_front.specs.Reading.{NoReads}
+use Rattle.cecp_front.proofs.serving.serve_lent.Given as goal
+
+-- the turns so far, and the next line
+abbrev pub invariant-loop-turn : goal.invariant-loop-turn
+invariant-loop-turn g l = record {
+  so_far : Turned cecp
+      (Moves g.S.Source.left g.K.Sink.taken g.C.Clock.given g.C.Clock.count g.C.Clock.last l.fn.source l.source l.fn.sink l.sink l.fn.clock l.clock)
+      NoReads (g.S.Source.owed l.fn.source) (g.S.Source.owed l.source) l.fn.session l.session l.next l.line;
+  at_end : l.next ≡ got.End → IsAtEnd (g.S.Source.left l.source);
+  failed : l.next ≡ got.Failed → Rose (g.S.Source.faults l.fn.source) (g.S.Source.faults l.source);
+  source_later : g.S.Source.faults l.fn.source ≤ g.S.Source.faults l.source;
+  sink_later : g.K.Sink.faults l.fn.sink ≤ g.K.Sink.faults l.sink;
+}

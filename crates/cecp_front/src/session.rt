@@ -1,0 +1,94 @@
+//! What a session keeps between lines.
+ghost use Rattle.std.specs.Prelude.{◌≡◌, ◌++◌, ◌≤◌, IfOk, List, Some};
+ghost use Rattle.session_model.specs.CecpState as CecpState;
+ghost use Rattle.variant_ini.specs.Section.{Section};
+ghost use Rattle.variant_model.specs.Builtin.{builtin_sections};
+ghost use Rattle.variant_rules.specs.Entries.{entries};
+
+use foundation::Memory;
+use game_play::Game;
+use rules_model::Side;
+use seeking::Mind;
+use std::alloc::Global;
+use std::marker::Model;
+use variant_ini::Sections;
+use variant_rules::{Found, Variants};
+
+/// A CECP session: its game, what its lines have set, and what its searches keep.
+#[derive(Drop)]
+pub struct CecpSession {
+    pub(crate) sections: Sections,
+    pub(crate) variants: Variants,
+    pub(crate) game: Game,
+    /// The side that the engine plays, if any.
+    pub(crate) plays: Option<Side>,
+    /// Thinking output is on.
+    pub(crate) posts: bool,
+    pub(crate) sd: Option<u64>,
+    pub(crate) st: Option<u64>,
+    /// The moves of a session, and the increment in seconds.
+    pub(crate) level: Option<(u64, u64)>,
+    /// The centiseconds that are left.
+    pub(crate) time: Option<u64>,
+    /// A move ended the game, which has not changed since but by moves.
+    pub(crate) is_over: bool,
+    pub(crate) mind: Mind,
+}
+
+impl Model for CecpSession {
+    ghost use Rattle.std.specs.Prelude.{◌≡◌};
+    ghost use Rattle.session_model.specs.CecpState.{State};
+    ghost use Rattle.variant_rules.specs.Entries.{entries};
+
+    ghost Value = { State };
+
+    ghost view = { λ s. record {
+      sections = s.sections;
+      game = s.game;
+      plays = s.plays;
+      posts = s.posts;
+      sd = s.sd;
+      st = s.st;
+      level = s.level;
+      time = s.time;
+      is_over = s.is_over;
+    } };
+
+    ghost invariant = { λ s. s.variants ≡ entries s.sections };
+}
+
+impl CecpSession {
+    /// A session that begins with chess, its start and the engine playing Black, without thinking output and without
+    /// limits. The sections begin with those that are built in, and the variants were loaded from them; from 1 to 64
+    /// workers search.
+    pub fn new(
+        alloc: Global,
+        sections: Sections,
+        variants: Variants,
+        threads: u32,
+    ) -> Result<CecpSession, Memory>
+        requires begins { (more : List Section) × (sections ≡ builtin_sections ++ more) }
+        requires loaded { variants ≡ entries sections }
+        requires threads { (1 ≤ threads) × (threads ≤ 64) }
+        ensures { IfOk result (λ session. CecpState.first_state sections ≡ Some session) }
+    {
+        let mind = Mind::new(alloc, threads)?;
+        let game = match variants.find(b"chess") {
+            Found::Rules(rules) => Game::new(alloc, rules, &rules.start)?,
+            Found::Refused(_) | Found::Unknown => unreachable!(),
+        };
+        Ok(CecpSession {
+            sections,
+            variants,
+            game,
+            plays: Some(Side::Black),
+            posts: false,
+            sd: None,
+            st: None,
+            level: None,
+            time: None,
+            is_over: false,
+            mind,
+        })
+    }
+}

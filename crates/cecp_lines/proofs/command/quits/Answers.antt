@@ -1,0 +1,14 @@
+use Rattle.std.proofs.Common.{◌∙◌, ap}
+use Rattle.std.specs.List.{filter}
+use Rattle.std.specs.Option.{option_copied}
+use Rattle.foundation.specs.Cuts.{is_blank, parts_after}
+use Rattle.game_text.specs.Playing.{is_word}
+use Rattle.session_model.specs.CecpSession.{is_quit}
+use Rattle.cecp_lines.proofs.LineLaws.{ended_by, text_by}
+use Rattle.cecp_lines.proofs.command.quits.Goals as goal
+
+pub returns-in-Some : goal.returns-in-Some
+returns-in-Some c =
+    let words = filter is_word (parts_after is_blank (option_copied c.in-Some.field-0-1)) in
+    c.quits.ensures ∙ ended_by c.read_verb.result words
+    ∙ ap is_quit (c.read_verb.ensures words ∙ text_by c.args.line.now c.in-Some.word.now words c.in-Some.ensures)

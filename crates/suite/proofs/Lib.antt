@@ -1,0 +1,6 @@
+pub mod LeastLaws
+pub mod AnswerLaws
+pub mod SlotLaws
+pub mod ReadLemmas
+pub mod ReportLemmas
+mod worked

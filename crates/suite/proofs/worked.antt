@@ -1,0 +1,4 @@
+-- Worked examples.
+pub mod Numbers
+pub mod Rows
+pub mod Told

@@ -1,0 +1,71 @@
+//! The worker in the caller, and the others beside it.
+ghost use Rattle.std.specs.Prelude.{◌<◌, ◌≤◌, length};
+ghost use Rattle.std.specs.List.{All};
+ghost use Rattle.suite.specs.Problems.{IsFair};
+ghost use Rattle.suite.specs.Workers.{HasFound, HaveFound};
+
+use crate::problem::Problem;
+use crate::queue::Queue;
+use crate::work::{Job, work};
+use io_ports::Gate;
+use std::alloc::Global;
+use std::thread::{Threads, for_each_mut, join_mut};
+
+// The workers beside the first.
+fn help_all<R: Threads + Sync, G: Gate + Sync>(
+    rt: &R,
+    alloc: Global,
+    jobs: &mut [Job],
+    queue: &Queue,
+    gate: &G,
+    problems: &[Problem],
+)
+    requires fair { All IsFair problems.now }
+    requires found { HaveFound problems.now jobs.old }
+    requires count { (0 < length jobs.old) × (length jobs.old ≤ 63) }
+    ensures found { HaveFound problems.now jobs.new }
+{
+    let count = jobs.len();
+    for_each_mut(
+        rt,
+        jobs,
+        count,
+        &|k: usize, job: &mut Job|
+            requires { HasFound problems.now job.now × All IsFair problems.now × (k < 63) }
+            ensures { HasFound problems.entry.now job.exit.now }
+        { work(alloc, job, queue, gate, k as u32 + 1, problems) },
+    );
+}
+
+/// The worker in the caller, whose job is the first one, and the others beside it. It returns once all have ended.
+pub(crate) fn race<R: Threads + Sync, G: Gate + Sync>(
+    rt: &R,
+    alloc: Global,
+    mine: &mut Job,
+    jobs: &mut [Job],
+    queue: &Queue,
+    gate: &G,
+    problems: &[Problem],
+)
+    requires fair { All IsFair problems.now }
+    requires mine { HasFound problems.now mine.old }
+    requires found { HaveFound problems.now jobs.old }
+    requires count { length jobs.old ≤ 63 }
+    ensures mine { HasFound problems.now mine.new }
+    ensures found { HaveFound problems.now jobs.new }
+{
+    if jobs.is_empty() {
+        work(alloc, mine, queue, gate, 0, problems);
+        return;
+    }
+    let mut others = ||
+        requires { HaveFound problems.now jobs.now × All IsFair problems.now
+            × (0 < length jobs.now) × (length jobs.now ≤ 63) }
+        ensures { HaveFound problems.entry.now jobs.exit.now }
+    { help_all(rt, alloc, jobs, queue, gate, problems) };
+    let mut first = ||
+        requires { HasFound problems.now mine.now × All IsFair problems.now }
+        ensures { HasFound problems.entry.now mine.exit.now }
+    { work(alloc, mine, queue, gate, 0, problems) };
+    join_mut(rt, &mut others, &mut first);
+}
