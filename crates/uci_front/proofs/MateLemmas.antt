@@ -439,7 +439,7 @@ module _ {S K C : Type 0} {left : S → Option (List ℕ)} {taken : K → Option
       is_held = b.is_held;
       part = part_more Uci (Completes state plan (Some (last_best first (reported b.reports b.ending))) (last_announced None (reported b.reports b.ending)) b.behind)
           (λ (x : List Event) (y : List Event) (p : MateTold owed limits state.game last reading text' t said x)
-              (q : Tells Uci style.Uci state.game.rules reading 1 (reported b.reports b.ending) y × Deepens Uci (Unit {0}) (depth_one state plan) b.reports b.ending (reading ∷ readings y) b.behind). record {
+          (q : Tells Uci style.Uci state.game.rules reading 1 (reported b.reports b.ending) y × Deepens Uci (Unit {0}) (depth_one state plan) b.reports b.ending (reading ∷ readings y) b.behind). record {
             unstopped = unstopped_more Uci x y (subst (AreUnstopped Uci) (sym p.events_are) (mate_unstopped reading p.heard said p.listens)) q.0.unstopped;
             answers = λ asked is turn events_are after.
                 depth_answer (Unit {0}) state plan asked is perft last mate first more legal reading p.heard [] p.listens tt turn b.behind (λ h. b.stopped)

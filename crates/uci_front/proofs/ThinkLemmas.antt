@@ -212,20 +212,20 @@ module _ {S K C : Type 0} {left : S → Option (List ℕ)} {taken : K → Option
     is_held = b.is_held;
     part = read_part {P = λ events. Tells Uci style.Uci state.game.rules reading 1 (reported b.reports b.ending) events × Deepens Uci (Unit {0}) (plan_task state plan) b.reports b.ending (reading ∷ readings events) b.behind}
         (Completes state plan (Some (last_best (first_of first plan.roots.items) (reported b.reports b.ending))) (last_announced None (reported b.reports b.ending)) b.behind) (λ events holds. record {
-      unstopped = (tt, holds.0.unstopped);
-      answers = λ asked is turn events_are after.
-          depths_answer (Unit {0}) state plan asked is perft mate first more legal reading b.reports b.ending events []
-          (last_best (first_of first plan.roots.items) (reported b.reports b.ending)) (last_announced None (reported b.reports b.ending)) turn b.behind
-          holds.1 holds.0 tt refl refl
-          (events_are ∙ ap (λ e. e ++ Says (best_line (last_best (first_of first plan.roots.items) (reported b.reports b.ending))) ∷ []) (sym (append-nil (Reads reading ∷ events)))) after (λ held. b.stopped);
-    }) start (record {
-      events = b.broke.events;
-      front = b.broke.front;
-      back = b.broke.back;
-      wrote = b.broke.wrote;
-      went = b.broke.went;
-      holds = b.broke.holds;
-    });
+          unstopped = (tt, holds.0.unstopped);
+          answers = λ asked is turn events_are after.
+              depths_answer (Unit {0}) state plan asked is perft mate first more legal reading b.reports b.ending events []
+              (last_best (first_of first plan.roots.items) (reported b.reports b.ending)) (last_announced None (reported b.reports b.ending)) turn b.behind
+              holds.1 holds.0 tt refl refl
+              (events_are ∙ ap (λ e. e ++ Says (best_line (last_best (first_of first plan.roots.items) (reported b.reports b.ending))) ∷ []) (sym (append-nil (Reads reading ∷ events)))) after (λ held. b.stopped);
+        }) start (record {
+          events = b.broke.events;
+          front = b.broke.front;
+          back = b.broke.back;
+          wrote = b.broke.wrote;
+          went = b.broke.went;
+          holds = b.broke.holds;
+        });
   }
 
 -- where no move is legal, nothing is told before the best move is
