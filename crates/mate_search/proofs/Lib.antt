@@ -7,3 +7,4 @@ mod Walk
 mod Evidence
 mod Root
 mod MateLaws
+mod HandedLaws

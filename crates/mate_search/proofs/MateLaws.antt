@@ -1,5 +1,5 @@
 -- Answers of whole solves.
-use Rattle.std.proofs.Common.{◌≡◌, ℕ, zero, suc, ◌+◌, ◌*◌, ◌<◌, ◌≤◌, List, [], Some, None, refl, sym, subst, arith}
+use Rattle.std.proofs.Common.{◌≡◌, ◌⊎◌, inl, inr, ℕ, zero, suc, ◌+◌, ◌*◌, ◌<◌, ◌≤◌, List, [], Some, None, refl, sym, subst, arith}
 use Rattle.io_ports.specs.declared.dialect.Dialect.{Dialect}
 use Rattle.io_ports.specs.declared.limits.Limits.{Limits}
 use Rattle.io_ports.specs.declared.limits.SearchFault.{SearchFault}
@@ -17,27 +17,12 @@ use Rattle.watching.specs.CallerLaws.{gone_none, ended_memory}
 use Rattle.watching.specs.LookLaws.{looked_none}
 use Rattle.watching.specs.Stopping.{Fails}
 use Rattle.watching.specs.Watched.{World, moment, Gone}
+use Rattle.mate_search.specs.declared.answer.Mate.{Mate}
 use Rattle.mate_search.specs.declared.answer.Mate.TheVariants as mate
 use Rattle.mate_search.specs.declared.answer.Settled.{Settled}
 use Rattle.mate_search.specs.declared.answer.Settled.TheVariants as settled
 use Rattle.mate_search.specs.Answers.{IsDecided, IsRight}
 use Rattle.mate_search.specs.Solves.{Heard, IsAnswer, IsDecidedMate, IsRightMate, bound_of, mate_of}
-
-pub mate-right : (game : Played) (a : Side) (n : ℕ) (s : Settled) → IsRight game.rules (story game) a n s
-    → IsRightMate game a n (mate_of s)
-mate-right game a n (settled.Shown s) h = h
-mate-right game a n settled.NoMate h = h
-mate-right game a n (settled.Unsettled x counters) h = h
-
-pub mate-decided : (s : Settled) → IsDecided s → IsDecidedMate (mate_of s)
-mate-decided (settled.Shown s) h = h
-mate-decided settled.NoMate h = h
-mate-decided (settled.Unsettled x counters) h = h
-
-pub mate-whole : (text : List ℕ) (s : Settled) → IsAnswer None text (mate_of s)
-mate-whole text (settled.Shown s) = tt
-mate-whole text settled.NoMate = tt
-mate-whole text (settled.Unsettled x counters) = tt
 
 product-some : (a b : ℕ) → 1 ≤ b → 0 < 4 * (a + 1) * b
 product-some a zero h = elim h [ ]
@@ -57,7 +42,7 @@ module _ {S K C : Type 0} (w : World S K C) (dialect : Dialect) (limits : Limits
     end = λ e. absurd (cc);
   }
 
-  pub heard-unsearched : (game : Played) (n : ℕ) → limits.quota ≡ Some 0
+  heard-unsearched : (game : Played) (n : ℕ) → limits.quota ≡ Some 0
       → Heard w dialect limits (moment s k c 0) s k c (bound_of game n) (mate.Stopped (stopped.Quota 0))
   heard-unsearched game n is = record {
     entered = 0;
@@ -66,6 +51,18 @@ module _ {S K C : Type 0} (w : World S K C) (dialect : Dialect) (limits : Limits
     gone = gone-unsearched (bound_of game n) (bound-some game.rules n (story game)) is;
     answers = refl;
   }
+
+  -- where the shards alone were asked
+  pub heard-looked : (game : Played) (n : ℕ) (answer : Mate) → limits.quota ≡ Some 0
+      → (answer ≡ mate.NoMate) ⊎ (answer ≡ mate.Stopped (stopped.Quota 0))
+      → Heard w dialect limits (moment s k c 0) s k c (bound_of game n) answer
+  heard-looked game n answer is either =
+      let a = moment s k c 0 in
+      let at : Mate → Type 0 = λ m. Heard w dialect limits a s k c (bound_of game n) m in
+      elim either [
+        | inl e ↦ subst at (sym e) (record { entered = 0; text = []; why = None; gone = gone_none w dialect limits a (bound_of game n) []; answers = tt })
+        | inr e ↦ subst at (sym e) (heard-unsearched game n is)
+      ]
 
   -- no memory was found before the first node
   pub fails-memory : (bound : ℕ) (why : SearchFault) → why ≡ fault.Memory

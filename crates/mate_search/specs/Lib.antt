@@ -5,3 +5,4 @@ pub mod Tabled
 pub mod Counts
 pub mod Answers
 pub mod Solves
+pub mod Handed

@@ -1,7 +1,8 @@
 -- What a whole solve answers, and what it did meanwhile.
-use Rattle.std.specs.Prelude.{◌≡◌, ℕ, List, Option, Some, None, false}
+use Rattle.std.specs.Prelude.{◌≡◌, ◌⊎◌, ◌↔◌, ℕ, List, Option, Some, None, false}
 use Rattle.io_ports.specs.declared.dialect.Dialect.{Dialect}
 use Rattle.io_ports.specs.declared.limits.Limits.{Limits}
+use Rattle.io_ports.specs.declared.limits.Stopped.TheVariants as stopped
 use Rattle.io_ports.specs.declared.ports.Ports.{Ports}
 use Rattle.rules_model.specs.declared.board.Side.{Side}
 use Rattle.forced_wins.specs.Wins.{wins}
@@ -11,7 +12,9 @@ use Rattle.mate_core.specs.declared.frame.Frame.{Frame}
 use Rattle.watching.specs.declared.halt.Cut.{Cut}
 use Rattle.watching.specs.Stopping.{IsStop}
 use Rattle.watching.specs.Watched.{World, Moment, moment, Gone}
+use Rattle.mate_shards.specs.Views.{ShardPass, ShardsView}
 use Rattle.mate_search.specs.Answers.{IsEvidence, IsFrameOf, IsShown}
+use Rattle.mate_search.specs.Handed.{RootIsRefuted}
 use Rattle.mate_search.specs.declared.answer.Mate.{Mate}
 use Rattle.mate_search.specs.declared.answer.Settled.{Settled}
 use Rattle.mate_search.specs.declared.answer.Settled.TheVariants as settled
@@ -39,6 +42,19 @@ IsDecidedMate (mate.Shown s) = Unit {0}
 IsDecidedMate mate.NoMate = Unit {0}
 IsDecidedMate (mate.Unsettled x counters) = ⊥
 IsDecidedMate (mate.Stopped why) = Unit {0}
+
+-- it was not cut
+abbrev pub IsUncut : Mate → Type 0
+IsUncut (mate.Shown s) = Unit {0}
+IsUncut mate.NoMate = Unit {0}
+IsUncut (mate.Unsettled x counters) = Unit {0}
+IsUncut (mate.Stopped why) = ⊥
+
+-- what the shards alone answer: no win where the root's list has a fact that says so, and a cut elsewhere
+pub record IsLookedUp (s : ShardsView) (passes : List ShardPass) (game : Played) (n : ℕ) (answer : Mate)
+    : Type 0 where
+  pub refuted : (answer ≡ mate.NoMate) ↔ RootIsRefuted s passes game n
+  pub either : (answer ≡ mate.NoMate) ⊎ (answer ≡ mate.Stopped (stopped.Quota 0))
 
 -- the answer of a solve that was not cut
 abbrev pub mate_of : Settled → Mate

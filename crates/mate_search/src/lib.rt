@@ -8,12 +8,14 @@ mod frame;
 mod judging;
 mod node_table;
 mod plan;
+mod shared_root;
 mod solving;
 #[cfg(test)]
 mod tests;
+mod unwatched;
 mod whole;
 
 pub use answer::{Mate, Settled};
 pub use frame::frame_of;
 pub use solving::solve_watched;
-pub use whole::solve;
+pub use whole::{settle, solve};

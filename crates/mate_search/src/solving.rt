@@ -1,10 +1,12 @@
 //! What a game comes to within some number of moves, exactly.
-ghost use Rattle.std.specs.Prelude.{◌≡◌, ◌+◌, ◌*◌, ◌≤◌, ◌<◌, ℕ, IfOk, OnOk, IsErrOf};
+ghost use Rattle.std.specs.Prelude.{◌≡◌, ◌+◌, ◌*◌, ◌≤◌, ◌<◌, ℕ, true, IfOk, OnOk, IsErrOf};
 ghost use Rattle.forced_wins.specs.Wins.{IsInLimit, is_in, near_root};
 ghost use Rattle.game_play.specs.Played.{story};
 ghost use Rattle.game_values.specs.Bounds.{solve_bound};
 ghost use Rattle.mate_settle.specs.Lines.{lines_within, seen_in};
+ghost use Rattle.mate_shards.specs.Views.{ArePassesOf};
 ghost use Rattle.mate_search.specs.Answers.{IsDecided, IsFrameOf, IsRight};
+ghost use Rattle.mate_search.specs.Handed.{AreHandedBack, RootIsShared};
 ghost use Rattle.mate_search.specs.Tabled.{IsKept};
 ghost use Rattle.mate_search.specs.Tables as Tables;
 ghost use Rattle.watching.specs.declared.halt.Halt.{Halt};
@@ -14,13 +16,19 @@ use crate::building::build;
 use crate::judging::{judge, shown};
 use crate::node_table::NodeTable;
 use crate::plan::{Plan, plan_for};
+use crate::shared_root::{is_refuted, publish_root, publish_wins};
 use game_play::Game;
 use mate_fact::{is_blocked, won_by};
 use mate_settle::{FactTable, all_won, choose, settle};
+use mate_shards::{Passes, Shards};
 use playing::Board;
 use std::alloc::Global;
+use std::sync::Wait;
 use strategy::Node;
 use watching::{Halt, Watch};
+
+/// How many facts a worker keeps.
+const ROOM: usize = 1 << 16;
 
 /// Whether the game is won, the positions after its last one being looked at without their history. Where its repeat may
 /// stand again, its fact settles it.
@@ -86,6 +94,41 @@ fn tabulate<W: Watch>(
     Ok(table.into_nodes())
 }
 
+/// The strategy of a root that is won where positions are looked at without their history, or what keeps it from being
+/// shown.
+fn show<W: Watch>(
+    alloc: Global,
+    game: &Game,
+    board: &Board,
+    n: u16,
+    facts: &mut FactTable,
+    watch: &mut W,
+) -> Result<Settled, Halt>
+    requires frame { IsFrameOf game.now facts.old }
+    requires board { board.now ≡ record { rules = game.now.rules; position = (story game.now).last } }
+    requires some { 0 < n }
+    requires small { n ≤ 100 }
+    requires won { near_root facts.old.rules n (story game.now) facts.old.attacker ≡ true }
+    ensures frame { facts.new ≡ facts.old }
+    ensures right { IfOk result (IsRight game.now.rules (story game.now) facts.old.attacker n) }
+    ensures decided { IfOk result (λ m. IsInLimit game.now.rules n (story game.now) → IsDecided m) }
+    ensures gone { OnOk result (W.gone watch.old watch.new
+        ((n + 1) * lines_within (seen_in facts.old) n board.now.position)) }
+    ensures ended { (why : Halt) → IsErrOf result why → W.ended watch.old watch.new
+        ((n + 1) * lines_within (seen_in facts.old) n board.now.position) why }
+{
+    game.is_played();
+    board.is_ready();
+    let frame = facts.frame();
+    let plan = plan_for(frame, board.position(), n);
+    let nodes = tabulate(alloc, board, plan, facts, watch)?;
+    if plan.exact {
+        let answer = judge(alloc, game, frame, &plan, nodes)?;
+        return Ok(answer);
+    }
+    Ok(shown(frame.attacker, nodes))
+}
+
 /// What the game comes to within n moves of the side that attacks in the frame of the facts, n from 1 to 100.
 ///
 /// # Errors
@@ -108,18 +151,46 @@ pub fn solve_watched<W: Watch>(
     ensures ended { (why : Halt) → IsErrOf result why →
         W.ended watch.old watch.new (solve_bound game.now.rules n (story game.now)) why }
 {
-    game.is_played();
     let board = Board::new(game.tables(), game.position());
     if !is_won(alloc, game, &board, n, facts, watch)? {
         return Ok(Settled::NoMate);
     }
-    board.is_ready();
-    let frame = facts.frame();
-    let plan = plan_for(frame, board.position(), n);
-    let nodes = tabulate(alloc, &board, plan, facts, watch)?;
-    if plan.exact {
-        let answer = judge(alloc, game, frame, &plan, nodes)?;
-        return Ok(answer);
+    show(alloc, game, &board, n, facts, watch)
+}
+
+/// The same with a table of its own. What the shards know of the root serves it; the wins that it comes to know are
+/// published, and what it knows of the root.
+pub(crate) fn settle_shared<R: Wait, W: Watch>(
+    rt: &R,
+    alloc: Global,
+    game: &Game,
+    n: u16,
+    shards: &Shards,
+    passes: &mut Passes,
+    watch: &mut W,
+) -> Result<Settled, Halt>
+    requires frame { IsFrameOf game.now shards.now.frame }
+    requires passes { ArePassesOf shards.now passes.old }
+    requires some { 0 < n }
+    requires small { n ≤ 100 }
+    ensures handed { AreHandedBack shards.now passes.old passes.new }
+    ensures shared { OnOk result (RootIsShared shards.now passes.new game.now n) }
+    ensures right { IfOk result (IsRight game.now.rules (story game.now) shards.now.frame.attacker n) }
+    ensures decided { IfOk result (λ m. IsInLimit game.now.rules n (story game.now) → IsDecided m) }
+    ensures gone { OnOk result (W.gone watch.old watch.new (solve_bound game.now.rules n (story game.now))) }
+    ensures ended { (why : Halt) → IsErrOf result why →
+        W.ended watch.old watch.new (solve_bound game.now.rules n (story game.now)) why }
+{
+    if is_refuted(rt, shards, passes, game, n) {
+        return Ok(Settled::NoMate);
     }
-    Ok(shown(frame.attacker, nodes))
+    let mut facts = FactTable::new(alloc, shards.frame(), ROOM)?;
+    let board = Board::new(game.tables(), game.position());
+    let won = is_won(alloc, game, &board, n, &mut facts, watch)?;
+    publish_wins(rt, shards, passes, &facts);
+    publish_root(rt, shards, passes, game, n, won);
+    if !won {
+        return Ok(Settled::NoMate);
+    }
+    show(alloc, game, &board, n, &mut facts, watch)
 }

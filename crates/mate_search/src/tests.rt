@@ -1,15 +1,19 @@
-ghost use Rattle.std.specs.Prelude.{◌≡◌, ◌<◌, ◌≤◌};
+ghost use Rattle.std.specs.Prelude.{◌≡◌, ◌<◌, ◌≤◌, IfOk};
+ghost use Rattle.mate_search.specs.Solves.{IsFrameFor};
+ghost use Rattle.mate_shards.specs.Views.{ArePassesOf};
 
-use crate::{Mate, solve};
+use crate::{Mate, Settled, frame_of, settle, solve};
 use game_play::Game;
 use io_ports::{
     Dialect, Limits, ListClock, MemSink, MemSource, OpenGate, PollsOwed, Ports, SearchFault,
     Stopped,
 };
-use rules_model::{Position, sound};
+use mate_shards::{Passes, Shards};
+use rules_model::{Memory, Position, Side, sound};
 use sample_rules::{chess, position};
 use std::alloc::Global;
 use std::process::Abort;
+use std::sync::Wait;
 use std::test::Fail;
 
 const NONE: Limits = Limits {
@@ -43,26 +47,44 @@ fn told_of(answer: &Result<Mate, SearchFault>) -> Told {
     }
 }
 
-/// What the solve answers of a game of chess that starts from the position, for the side that is to move.
-fn answer_to<R: Abort>(
-    rt: &R,
-    alloc: Global,
-    p: &Position,
+fn shards_for(alloc: Global, game: &Game, attacker: Side) -> Result<(Shards, Passes), Memory>
+    ensures frame { IfOk result (λ made. IsFrameFor game.now attacker made.0.frame) }
+    ensures passes { IfOk result (λ made. ArePassesOf made.0 made.1) }
+{
+    let frame = frame_of(alloc, game, attacker)?;
+    let (shards, passes) = Shards::new(alloc, frame, 4, 64)?;
+    Ok((shards, passes))
+}
+
+/// What is solved, beside the game and the shards.
+#[derive(Clone, Copy)]
+struct Run<'l> {
     n: u16,
-    lines: &[u8],
+    lines: &'l [u8],
     owed: PollsOwed,
     limits: Limits,
-) -> Result<Told, Fail>
-    requires some { 0 < n }
-    requires small { n ≤ 100 }
+}
+
+/// What the solve answers for a side, with these shards.
+fn answer_with<R: Wait>(
+    rt: &R,
+    alloc: Global,
+    game: &Game,
+    attacker: Side,
+    run: Run,
+    shards: &Shards,
+    passes: Passes,
+) -> Result<(Passes, Told), Fail>
+    requires frame { IsFrameFor game.now attacker shards.now.frame }
+    requires passes { ArePassesOf shards.now passes }
+    requires some { 0 < run.n }
+    requires small { run.n ≤ 100 }
+    ensures { IfOk result (λ answer. ArePassesOf shards.now answer.0) }
 {
-    let rules = chess();
-    assert!(rt; sound(&rules, p));
-    let game = Game::new(alloc, &rules, p)?;
-    let mut source = MemSource::new(alloc, lines, owed, &[])?;
+    let mut source = MemSource::new(alloc, run.lines, run.owed, &[])?;
     let mut sink = MemSink::new(alloc, 100)?;
     let mut clock = ListClock::new(alloc, &[5, 7])?;
-    let answer = {
+    let (passes, answer) = {
         let mut ports = Ports {
             source: &mut source,
             sink: &mut sink,
@@ -70,9 +92,49 @@ fn answer_to<R: Abort>(
             gate: &OpenGate,
             dialect: Dialect::Uci,
         };
-        solve(alloc, &game, p.side, n, limits, &mut ports)
+        solve(
+            rt, alloc, game, attacker, run.n, shards, passes, run.limits, &mut ports,
+        )
     };
-    Ok(told_of(&answer))
+    Ok((passes, told_of(&answer)))
+}
+
+/// What the solve answers of a game of chess that starts from the position, for the side that is to move.
+fn answer_to<R: Wait + Abort>(rt: &R, alloc: Global, p: &Position, run: Run) -> Result<Told, Fail>
+    requires some { 0 < run.n }
+    requires small { run.n ≤ 100 }
+{
+    let rules = chess();
+    assert!(rt; sound(&rules, p));
+    let game = Game::new(alloc, &rules, p)?;
+    let (shards, passes) = shards_for(alloc, &game, p.side)?;
+    let (_, told) = answer_with(rt, alloc, &game, p.side, run, &shards, passes)?;
+    Ok(told)
+}
+
+/// A solve that nothing cuts.
+fn whole(n: u16) -> Run<'static>
+    ensures { result.n ≡ n }
+{
+    Run {
+        n,
+        lines: b"",
+        owed: PollsOwed::Endless,
+        limits: NONE,
+    }
+}
+
+/// A solve that asks the shards alone.
+fn unsearched(n: u16) -> Run<'static>
+    ensures { result.n ≡ n }
+{
+    Run {
+        limits: Limits {
+            quota: Some(0),
+            deadline: None,
+        },
+        ..whole(n)
+    }
 }
 
 // A mate in one, two problems of two moves, a stalemate and a mated side; then the limit of the counter: at 99 the move
@@ -101,11 +163,11 @@ fn least_numbers_of_moves(rt: HostRuntime) -> Result<(), Fail> {
         let mut p = position(pieces);
         p.counter = counter;
         for n in 1..least {
-            let shorter = answer_to(&rt, rt.alloc(), &p, n, b"", PollsOwed::Endless, NONE)?;
+            let shorter = answer_to(&rt, rt.alloc(), &p, whole(n))?;
             assert_eq!(rt; shorter, Told::NoMate, "{pieces} within {n}");
         }
         if least > 0 && least <= 100 {
-            let found = answer_to(&rt, rt.alloc(), &p, least, b"", PollsOwed::Endless, NONE)?;
+            let found = answer_to(&rt, rt.alloc(), &p, whole(least))?;
             assert_eq!(rt; found, end, "{pieces} at {counter} within {least}");
         }
     }
@@ -135,8 +197,54 @@ fn what_cuts_a_solve(rt: HostRuntime) -> Result<(), Fail> {
             Told::Deadline(7),
         ),
     ] {
-        let told = answer_to(&rt, rt.alloc(), &p, 4, lines, owed, limits)?;
+        let run = Run {
+            n: 4,
+            lines,
+            owed,
+            limits,
+        };
+        let told = answer_to(&rt, rt.alloc(), &p, run)?;
         assert_eq!(rt; told, end);
     }
+    Ok(())
+}
+
+// King and rook win within 2 moves, and not within 1. A quota of 0 leaves the answer to the shards. Then they know that
+// the game is won, and a position two plies on.
+#[test]
+fn shards_know_the_root(rt: HostRuntime) -> Result<(), Fail> {
+    let alloc = rt.alloc();
+    let (rules, p) = (chess(), position("Kf6 Ra7 kh8"));
+    assert!(rt; sound(&rules, &p));
+    let game = Game::new(alloc, &rules, &p)?;
+    let (shards, passes) = shards_for(alloc, &game, p.side)?;
+    let (passes, before) = answer_with(&rt, alloc, &game, p.side, unsearched(1), &shards, passes)?;
+    let (passes, searched) = answer_with(&rt, alloc, &game, p.side, whole(1), &shards, passes)?;
+    let (passes, after) = answer_with(&rt, alloc, &game, p.side, unsearched(1), &shards, passes)?;
+    let (passes, shown) = answer_with(&rt, alloc, &game, p.side, whole(2), &shards, passes)?;
+    let (mut passes, won) = answer_with(&rt, alloc, &game, p.side, unsearched(2), &shards, passes)?;
+    assert_eq!(rt; before, Told::Quota(0));
+    assert_eq!(rt; searched, Told::NoMate);
+    assert_eq!(rt; after, Told::NoMate);
+    assert_eq!(rt; shown, Told::Shown);
+    assert_eq!(rt; won, Told::Quota(0));
+    let root = shards.look(&rt, &mut passes, &p, 2);
+    let near = shards.look(&rt, &mut passes, &position("Kg6 Ra7 kg8"), 1);
+    assert!(rt; root.is_some_and(|fact| fact.wins));
+    assert!(rt; near.is_some_and(|fact| fact.wins));
+    Ok(())
+}
+
+#[test]
+fn settled_without_ports(rt: HostRuntime) -> Result<(), Fail> {
+    let alloc = rt.alloc();
+    let (rules, p) = (chess(), position("Kf6 Ra7 kh8"));
+    assert!(rt; sound(&rules, &p));
+    let game = Game::new(alloc, &rules, &p)?;
+    let (shards, passes) = shards_for(alloc, &game, p.side)?;
+    let (passes, one) = settle(&rt, alloc, &game, p.side, 1, &shards, passes);
+    let (_, two) = settle(&rt, alloc, &game, p.side, 2, &shards, passes);
+    assert!(rt; matches!(one, Ok(Settled::NoMate)));
+    assert!(rt; matches!(two, Ok(Settled::Shown(_))));
     Ok(())
 }

@@ -1,25 +1,26 @@
-//! The whole solve, over ports.
-ghost use Rattle.std.specs.Prelude.{◌≡◌, ◌<◌, ◌≤◌, IfOk, IsErrOf, Ok, Some};
+//! The whole solve, over shards and ports.
+ghost use Rattle.std.specs.Prelude.{◌≡◌, ◌<◌, ◌≤◌, IfOk, IsOkAnd, OnOk, IsErrOf, Some};
 ghost use Rattle.forced_wins.specs.Wins.{IsInLimit};
 ghost use Rattle.game_play.specs.Played.{story};
 ghost use Rattle.io_ports.specs.declared.limits.SearchFault.{SearchFault};
+ghost use Rattle.mate_shards.specs.Views.{ArePassesOf};
 ghost use Rattle.watching.specs.Stopping.{AreSamePorts, Fails};
 ghost use Rattle.watching.specs.Watched.{Watched, moment, world};
 ghost use Rattle.mate_search.specs.Answers.{IsDecided, IsFrameOf, IsRight};
-ghost use Rattle.mate_search.specs.Solves.{Heard, IsDecidedMate, IsRightMate, IsUnmoved, bound_of};
+ghost use Rattle.mate_search.specs.Handed.{AreHandedBack, RootIsShared};
+ghost use Rattle.mate_search.specs.Solves.{Heard, IsDecidedMate, IsFrameFor, IsLookedUp, IsRightMate, IsUncut, IsUnmoved, bound_of};
 
 use crate::answer::{Mate, Settled};
-use crate::frame::frame_of;
-use crate::solving::solve_watched;
+use crate::shared_root::is_refuted;
+use crate::solving::settle_shared;
+use crate::unwatched::Unwatched;
 use game_play::Game;
 use io_ports::{Clock, Dialect, Limits, LineBuf, Ports, SearchFault, Sink, Source, Stopped};
-use mate_settle::FactTable;
-use rules_model::Side;
+use mate_shards::{Passes, Shards};
+use rules_model::{Memory, Side};
 use std::alloc::Global;
+use std::sync::Wait;
 use watching::{Caller, Halt, stopped_by};
-
-/// How many facts the worker keeps.
-const ROOM: usize = 1 << 16;
 
 /// How the worker in the caller ended, and how many nodes it entered.
 #[derive(Drop)]
@@ -29,11 +30,13 @@ struct Led {
 }
 
 /// The worker in the caller.
-fn lead<S: Source, K: Sink, C: Clock>(
+fn lead<R: Wait, S: Source, K: Sink, C: Clock>(
+    rt: &R,
     alloc: Global,
     game: &Game,
     n: u16,
-    facts: &mut FactTable,
+    shards: &Shards,
+    passes: &mut Passes,
     limits: Limits,
     source: &mut S,
     sink: &mut K,
@@ -41,10 +44,13 @@ fn lead<S: Source, K: Sink, C: Clock>(
     line: &mut LineBuf,
     dialect: Dialect,
 ) -> Led
-    requires frame { IsFrameOf game.now facts.old }
+    requires frame { IsFrameOf game.now shards.now.frame }
+    requires passes { ArePassesOf shards.now passes.old }
     requires some { 0 < n }
     requires small { n ≤ 100 }
-    ensures right { IfOk result.end (IsRight game.now.rules (story game.now) facts.old.attacker n) }
+    ensures handed { AreHandedBack shards.now passes.old passes.new }
+    ensures shared { OnOk result.end (RootIsShared shards.now passes.new game.now n) }
+    ensures right { IfOk result.end (IsRight game.now.rules (story game.now) shards.now.frame.attacker n) }
     ensures decided { IfOk result.end (λ s. IsInLimit game.now.rules n (story game.now) → IsDecided s) }
     ensures watched { Watched (world S.left S.owed S.faults K.taken K.faults C.given C.count C.last) dialect limits
         (moment source.old sink.old clock.old 0) (moment source.new sink.new clock.new result.nodes) line.new
@@ -59,58 +65,88 @@ fn lead<S: Source, K: Sink, C: Clock>(
         limits,
         nodes: 0,
     };
-    let end = solve_watched(alloc, game, n, facts, &mut watch);
+    let end = settle_shared(rt, alloc, game, n, shards, passes, &mut watch);
     Led {
         nodes: watch.nodes,
         end,
     }
 }
 
-/// Whether the game is won by the side within n of its moves, from 1 to 100, and how.
+/// What the shards alone know of the root.
+fn look_up<R: Wait>(rt: &R, shards: &Shards, passes: &mut Passes, game: &Game, n: u16) -> Mate
+    requires frame { IsFrameOf game.now shards.now.frame }
+    requires passes { ArePassesOf shards.now passes.old }
+    ensures handed { AreHandedBack shards.now passes.old passes.new }
+    ensures looked { IsLookedUp shards.now passes.new game.now n result }
+    ensures right { IsRightMate game.now shards.now.frame.attacker n result }
+{
+    if is_refuted(rt, shards, passes, game, n) {
+        Mate::NoMate
+    } else {
+        Mate::Stopped(Stopped::Quota(0))
+    }
+}
+
+/// Whether the game is won by the side within n of its moves, from 1 to 100, and how. The shards are those of the game's
+/// rules and blocked positions and of this attacker.
 ///
 /// The worker polls the source each 1,024 nodes, answers the lines that it hears, and is cut by a line that stops the
-/// search, by the end of the lines, by the deadline, or once it has entered as many nodes as the quota says. With a
-/// quota of 0 nothing is searched. It enters no more nodes than four times n and one times the lines of at most as many
-/// legal moves as twice n and one, so a quota of this number never cuts a solve.
+/// search, by the end of the lines, by the deadline, or once it has entered as many nodes as the quota says. It enters no
+/// more nodes than four times n and one times the lines of at most as many legal moves as twice n and one, so a quota of
+/// this number never cuts a solve. With a quota of 0 nothing is searched: the answer is what the shards know of the root.
+///
+/// The passes are handed back with every answer. Where the solve was not cut and the root's repeat is not blocked, its
+/// shard then has a fact that serves the root, or is full.
 ///
 /// # Errors
 ///
 /// A fault of the source or the sink, whose count of faults has risen; or no memory.
-pub fn solve<S: Source, K: Sink, C: Clock, G>(
+pub fn solve<R: Wait, S: Source, K: Sink, C: Clock, G>(
+    rt: &R,
     alloc: Global,
     game: &Game,
     attacker: Side,
     n: u16,
+    shards: &Shards,
+    passes: Passes,
     limits: Limits,
     ports: &mut Ports<S, K, C, G>,
-) -> Result<Mate, SearchFault>
+) -> (Passes, Result<Mate, SearchFault>)
+    requires frame { IsFrameFor game.now attacker shards.now.frame }
+    requires passes { ArePassesOf shards.now passes }
     requires some { 0 < n }
     requires small { n ≤ 100 }
-    ensures right { IfOk result (IsRightMate game.now attacker n) }
-    ensures decided { IfOk result (λ m. IsInLimit game.now.rules n (story game.now) → IsDecidedMate m) }
-    ensures unsearched { limits.quota ≡ Some 0 → (result ≡ Ok (Mate.Stopped (Stopped.Quota 0)))
-        × IsUnmoved ports.entry.now ports.exit.now }
-    ensures heard { IfOk result (Heard
+    ensures handed { AreHandedBack shards.now passes result.0 }
+    ensures shared { IfOk result.1 (λ m. IsUncut m → RootIsShared shards.now result.0 game.now n) }
+    ensures right { IfOk result.1 (IsRightMate game.now attacker n) }
+    ensures decided { IfOk result.1 (λ m. IsInLimit game.now.rules n (story game.now) → IsDecidedMate m) }
+    ensures looked { limits.quota ≡ Some 0 → IsOkAnd result.1 (IsLookedUp shards.now result.0 game.now n) }
+    ensures unmoved { limits.quota ≡ Some 0 → IsUnmoved ports.entry.now ports.exit.now }
+    ensures heard { IfOk result.1 (Heard
         (world S.left S.owed S.faults K.taken K.faults C.given C.count C.last) ports.entry.now.dialect limits
         (moment ports.entry.now.source.now ports.entry.now.sink.now ports.entry.now.clock.now 0)
         ports.exit.now.source.now ports.exit.now.sink.now ports.exit.now.clock.now (bound_of game.now n)) }
-    ensures fails { (why : SearchFault) → IsErrOf result why → Fails
+    ensures fails { (why : SearchFault) → IsErrOf result.1 why → Fails
         (world S.left S.owed S.faults K.taken K.faults C.given C.count C.last) ports.entry.now.dialect
         (moment ports.entry.now.source.now ports.entry.now.sink.now ports.entry.now.clock.now 0)
         ports.exit.now.source.now ports.exit.now.sink.now ports.exit.now.clock.now (bound_of game.now n) why }
     ensures same { AreSamePorts ports.entry.now ports.exit.now }
 {
+    let mut passes = passes;
     if limits.quota == Some(0) {
-        return Ok(Mate::Stopped(Stopped::Quota(0)));
+        let answer = look_up(rt, shards, &mut passes, game, n);
+        return (passes, Ok(answer));
     }
-    let mut line = LineBuf::new(alloc)?;
-    let frame = frame_of(alloc, game, attacker)?;
-    let mut facts = FactTable::new(alloc, &frame, ROOM)?;
+    let Ok(mut line) = LineBuf::new(alloc) else {
+        return (passes, Err(SearchFault::Memory));
+    };
     let led = lead(
+        rt,
         alloc,
         game,
         n,
-        &mut facts,
+        shards,
+        &mut passes,
         limits,
         ports.source,
         ports.sink,
@@ -119,8 +155,40 @@ pub fn solve<S: Source, K: Sink, C: Clock, G>(
         ports.dialect,
     );
     match led.end {
-        Ok(settled) => Ok(settled.into()),
-        Err(Halt::Cut(why)) => Ok(Mate::Stopped(stopped_by(why, line))),
-        Err(Halt::Fault(why)) => Err(why),
+        Ok(settled) => (passes, Ok(settled.into())),
+        Err(Halt::Cut(why)) => (passes, Ok(Mate::Stopped(stopped_by(why, line)))),
+        Err(Halt::Fault(why)) => (passes, Err(why)),
+    }
+}
+
+/// The same without ports and limits.
+///
+/// # Errors
+///
+/// `Memory` where there is none.
+pub fn settle<R: Wait>(
+    rt: &R,
+    alloc: Global,
+    game: &Game,
+    attacker: Side,
+    n: u16,
+    shards: &Shards,
+    passes: Passes,
+) -> (Passes, Result<Settled, Memory>)
+    requires frame { IsFrameFor game.now attacker shards.now.frame }
+    requires passes { ArePassesOf shards.now passes }
+    requires some { 0 < n }
+    requires small { n ≤ 100 }
+    ensures handed { AreHandedBack shards.now passes result.0 }
+    ensures shared { OnOk result.1 (RootIsShared shards.now result.0 game.now n) }
+    ensures right { IfOk result.1 (IsRight game.now.rules (story game.now) attacker n) }
+    ensures decided { IfOk result.1 (λ s. IsInLimit game.now.rules n (story game.now) → IsDecided s) }
+{
+    let mut passes = passes;
+    let mut watch = Unwatched;
+    match settle_shared(rt, alloc, game, n, shards, &mut passes, &mut watch) {
+        Ok(settled) => (passes, Ok(settled)),
+        Err(Halt::Fault(_)) => (passes, Err(Memory)),
+        Err(Halt::Cut(_)) => unreachable!(),
     }
 }

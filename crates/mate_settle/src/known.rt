@@ -61,6 +61,21 @@ impl<'f> FactTable<'f> {
         self.frame
     }
 
+    /// How many facts there is room for.
+    pub fn room(&self) -> usize {
+        self.slots.len()
+    }
+
+    /// The fact that is kept at a place, if there is one: a true one.
+    pub fn at(&self, place: usize) -> Option<Fact>
+        ensures { IfSome result (IsTrueIn self.now) }
+    {
+        match self.slots.get(place) {
+            Some(Some(kept)) => Some(kept.fact),
+            _ => None,
+        }
+    }
+
     /// A kept fact that says whether the position is won within this many moves, if one is found at once.
     pub fn look(&self, board: &Board, moves: u16) -> Option<Fact>
         ensures serves { IfSome result (Answers board.now moves) }

@@ -3,6 +3,7 @@
 
 mod cutting;
 mod mind;
+mod pool;
 mod search;
 mod solve;
 #[cfg(test)]

@@ -2,18 +2,21 @@
 ghost use Rattle.std.specs.Prelude.{◌≡◌, ◌≤◌, OnOk, OnErr, IfOk};
 ghost use Rattle.seeking.specs.Settings.{first_settings};
 
+use crate::pool::Pool;
 use foundation::Memory;
 use hint_table::HintTable;
+use mate_core::Frame;
 use std::alloc::Global;
 use std::marker::Model;
 
 /// How many words of hints fill a MiB.
 const WORDS: usize = 1 << 17;
 
-/// The hints of a session's searches, and what it sets for them. Contracts see what it sets.
+/// The hints and facts of a session's searches, and what it sets for them. Contracts see what it sets.
 #[derive(Drop)]
 pub struct Mind {
     hints: HintTable,
+    pool: Option<Pool>,
     threads: u32,
     hash: u32,
     mate_facts: u32,
@@ -37,6 +40,7 @@ impl Mind {
     {
         Ok(Mind {
             hints: HintTable::new(alloc, 16 * WORDS)?,
+            pool: None,
             threads,
             hash: 16,
             mate_facts: 4096,
@@ -76,18 +80,38 @@ impl Mind {
         Ok(())
     }
 
-    /// Sets how many facts of mates a shard keeps, from 16 to 65,536.
+    /// Sets how many facts of mates a shard keeps, from 16 to 65,536, and forgets them.
     pub fn set_mate_facts(&mut self, mate_facts: u32)
         requires facts { (16 ≤ mate_facts) × (mate_facts ≤ 65536) }
         ensures { self.new ≡ record self.old { mate_facts = mate_facts } }
     {
+        self.pool = None;
         self.mate_facts = mate_facts;
     }
 
-    /// Forgets the hints.
+    /// Forgets hints and facts.
     pub fn forget(&mut self)
         ensures { self.new ≡ self.old }
     {
+        self.pool = None;
         self.hints.fill(0);
+    }
+
+    /// Takes out the facts that are true in the frame. Out of memory, they are forgotten.
+    pub(crate) fn take_pool(&mut self, alloc: Global, frame: Frame) -> Result<Pool, Memory>
+        ensures same { self.new ≡ self.old }
+        ensures frame { IfOk result (λ pool. pool ≡ frame) }
+    {
+        match self.pool.take() {
+            Some(pool) => pool.rebased(frame),
+            None => Pool::new(alloc, frame, self.mate_facts),
+        }
+    }
+
+    /// Keeps facts for the next solve.
+    pub(crate) fn put_pool(&mut self, pool: Pool)
+        ensures { self.new ≡ self.old }
+    {
+        self.pool = Some(pool);
     }
 }

@@ -8,9 +8,10 @@ ghost use Rattle.seeking.specs.Seeks.{GoneBy, IsRight, cut_of_solve};
 
 use crate::cutting::cut_by;
 use crate::mind::Mind;
+use crate::pool::Pool;
 use game_play::Game;
 use io_ports::{Clock, Dialect, Gate, Limits, LineBuf, Ports, SearchFault, Sink, Source};
-use mate_search::{Mate, solve};
+use mate_search::{Mate, frame_of, solve};
 use rules_model::{Repeat, Side};
 use std::alloc::Global;
 use std::sync::Wait;
@@ -64,6 +65,8 @@ pub fn solve_once<R: Threads + Wait + Sync, S: Source, K: Sink, C: Clock, G: Gat
         (solve_bound game.now.rules n (story game.now)) why }
     ensures same { mind.new ≡ mind.old }
 {
+    let frame = frame_of(alloc, game, attacker)?;
+    let (shards, passes) = mind.take_pool(alloc, frame)?.into_parts();
     let mut ports = Ports {
         source,
         sink,
@@ -71,7 +74,11 @@ pub fn solve_once<R: Threads + Wait + Sync, S: Source, K: Sink, C: Clock, G: Gat
         gate,
         dialect,
     };
-    match solve(alloc, game, attacker, n, limits, &mut ports)? {
+    let (passes, answer) = solve(
+        rt, alloc, game, attacker, n, &shards, passes, limits, &mut ports,
+    );
+    mind.put_pool(Pool::of(shards, passes));
+    match answer? {
         Mate::Shown(strategy) => Ok(Solve::Shown(strategy)),
         Mate::NoMate => Ok(Solve::NoMate),
         Mate::Unsettled { repeat, counters } => Ok(Solve::Unsettled { repeat, counters }),

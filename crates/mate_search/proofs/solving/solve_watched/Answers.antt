@@ -8,6 +8,7 @@ use Rattle.game_values.specs.Bounds.{solve_bound}
 use Rattle.mate_core.specs.declared.frame.Frame.{Frame}
 use Rattle.mate_settle.specs.Lines.{lines_within, seen_in}
 use Rattle.playing.specs.Stance.{Stance}
+use Rattle.watching.specs.LookLaws.{on_ok_of}
 use Rattle.strategy.specs.declared.nodes.Strategy.{Strategy}
 use Rattle.mate_search.specs.declared.answer.Settled.TheVariants.{Shown}
 use Rattle.mate_search.specs.Answers.{IsRight, IsShown}
@@ -59,163 +60,29 @@ returns-then-not-branch-clause-right g c =
     subst (λ (x : Rules). wins x n game f.attacker ≡ false) e
     (not-won f game bl n (sym c.if-not-branch.true ∙ c.in_ok-is_won.ensures.won))
 
-pub plan_for-plan-requires-clause-low : goal.plan_for-plan-requires-clause-low
-plan_for-plan-requires-clause-low g c =
-    let low = counter-low c.new-board.result.rules c.new-board.result.position c.is_ready.ensures.sound in
-    subst (λ (y : Position). y.counter ≤ 9999) (sym c.position-2.ensures) low
-
-pub tabulate-requires-clause-next : goal.tabulate-requires-clause-next
-tabulate-requires-clause-next g c =
-    let f = c.args.facts.now in
-    let r = seen_in f in
-    let game = story c.args.game.now in
-    let by = c.args.game.now.rules in
-    let n = c.args.n in
-    let p = c.new-board.result.position in
-    let last : p ≡ game.last = ap (λ (x : Stance). x.position) c.new-board.ensures ∙ c.position.ensures.is in
-    let e : f.rules ≡ by = c.requires.frame.rules in
-    let bl = frame-blocked c.args.game.now f c.requires.frame in
-    let kept : c.is_won.new.facts ≡ f = c.is_won.ensures.frame in
-    let frame : c.frame-frame.result.now ≡ f = c.frame-frame.ensures ∙ kept in
-    let plan = c.plan_for-plan.result in
-    let whole : plan.whole ≡ n = c.plan_for-plan.ensures.whole in
-    let won : near_root f.rules plan.whole game f.attacker ≡ true = ap (λ k. near_root f.rules k game f.attacker) whole ∙ sym c.in_ok-is_won.ensures.won ∙ c.if-not-branch.false in
-    let fit : IsFit f.rules = subst IsFit (sym e) c.is_played.ensures.fit in
-    let root : plan.root ≡ p = c.plan_for-plan.ensures.root ∙ c.position-2.ensures in
-    let room = room-as f c.frame-frame.result.now p c.position-2.result.now n plan.whole plan.room frame c.position-2.ensures whole c.plan_for-plan.ensures.room in
-    let some : 0 < plan.whole = let k = c.requires.some in omega arith in
-    subst (λ (x : Frame). IsNext (seen_in x) (is_in x.blocked) plan plan.whole p) (sym kept) (plan-next f game bl fit plan p last some won root room)
-
-pub returns-in_err-nodes-clause-ended : goal.returns-in_err-nodes-clause-ended
-returns-in_err-nodes-clause-ended g c why is =
-    let f = c.args.facts.now in
-    let r = seen_in f in
-    let game = story c.args.game.now in
-    let by = c.args.game.now.rules in
-    let n = c.args.n in
-    let p = c.new-board.result.position in
-    let last : p ≡ game.last = ap (λ (x : Stance). x.position) c.new-board.ensures ∙ c.position.ensures.is in
-    let e : f.rules ≡ by = c.requires.frame.rules in
-    let lines = solve-lines by f game n p e last in
-    let kept : c.is_won.new.facts ≡ f = c.is_won.ensures.frame in
-    let plan = c.plan_for-plan.result in
-    let whole : plan.whole ≡ n = c.plan_for-plan.ensures.whole in
-    let walk = walk-lines f c.is_won.new.facts plan.whole n p p kept whole refl in
-    let back : c.tabulate.result ≡ Err why = search rules in
-    g.met.W.Watch.ends_wider _ _ _ _ why (g.met.W.Watch.ends _ _ _ (lines_within r n p) ((plan.whole + 1) * lines_within (seen_in c.is_won.new.facts) plan.whole p) why c.in_ok-is_won.ensures.gone (c.tabulate.ensures.ended why back)) (omega arith)
-
-pub judge-requires-clause-tabled : goal.judge-requires-clause-tabled
-judge-requires-clause-tabled g c =
-    let f = c.args.facts.now in
-    let r = seen_in f in
-    let game = story c.args.game.now in
-    let by = c.args.game.now.rules in
-    let n = c.args.n in
-    let p = c.new-board.result.position in
-    let last : p ≡ game.last = ap (λ (x : Stance). x.position) c.new-board.ensures ∙ c.position.ensures.is in
-    let e : f.rules ≡ by = c.requires.frame.rules in
-    let bl = frame-blocked c.args.game.now f c.requires.frame in
-    let kept : c.is_won.new.facts ≡ f = c.is_won.ensures.frame in
-    let frame : c.frame-frame.result.now ≡ f = c.frame-frame.ensures ∙ kept in
-    let plan = c.plan_for-plan.result in
-    let whole : plan.whole ≡ n = c.plan_for-plan.ensures.whole in
-    let won : near_root f.rules plan.whole game f.attacker ≡ true = ap (λ k. near_root f.rules k game f.attacker) whole ∙ sym c.in_ok-is_won.ensures.won ∙ c.if-not-branch.false in
-    let fit : IsFit f.rules = subst IsFit (sym e) c.is_played.ensures.fit in
-    let root : plan.root ≡ p = c.plan_for-plan.ensures.root ∙ c.position-2.ensures in
-    let room = room-as f c.frame-frame.result.now p c.position-2.result.now n plan.whole plan.room frame c.position-2.ensures whole c.plan_for-plan.ensures.room in
-    let s = c.in_ok-nodes.nodes.items in
-    let table : IsKept f plan s = subst (λ (x : Frame). IsKept x plan s) kept c.in_ok-nodes.ensures.kept in
-    let stands : (i : ℕ) × Stands r plan.exact s p plan.whole i = subst (λ (x : Frame). (i : ℕ) × Stands (seen_in x) plan.exact s p plan.whole i) kept c.in_ok-nodes.ensures.stands in
-    let low = counter-low c.new-board.result.rules p c.is_ready.ensures.sound in
-    let small : plan.whole ≤ most = let k = c.requires.small in omega arith in
-    let near : plan.exact ≡ true → (0 < 2 * f.rules.n_move) × (2 * f.rules.n_move ≤ p.counter + (plan.whole + plan.whole)) = λ z. subst (λ k. (0 < 2 * f.rules.n_move) × (2 * f.rules.n_move ≤ p.counter + (k + k))) (sym whole) (near-as f c.frame-frame.result.now p c.position-2.result.now n frame c.position-2.ensures (c.plan_for-plan.ensures.near z)) in
-    let inside : plan.exact ≡ false → (2 * f.rules.n_move ≡ 0) ⊎ (p.counter + (plan.whole + plan.whole) < 2 * f.rules.n_move) = λ z. subst (λ k. (2 * f.rules.n_move ≡ 0) ⊎ (p.counter + (k + k) < 2 * f.rules.n_move)) (sym whole) (inside-as f c.frame-frame.result.now p c.position-2.result.now n frame c.position-2.ensures (c.plan_for-plan.ensures.inside z)) in
-    let t = tabled f game bl fit plan s p last root small table stands won (played-in c.args.game.now f e c.is_played.ensures) low near inside room in
-    subst (λ (x : Frame). IsTabledIn game x plan s) (sym frame) t
-
-pub returns-in_err-answer-clause-ended : goal.returns-in_err-answer-clause-ended
-returns-in_err-answer-clause-ended g c why is =
-    let f = c.args.facts.now in
-    let r = seen_in f in
-    let game = story c.args.game.now in
-    let by = c.args.game.now.rules in
-    let n = c.args.n in
-    let p = c.new-board.result.position in
-    let last : p ≡ game.last = ap (λ (x : Stance). x.position) c.new-board.ensures ∙ c.position.ensures.is in
-    let e : f.rules ≡ by = c.requires.frame.rules in
-    let lines = solve-lines by f game n p e last in
-    let kept : c.is_won.new.facts ≡ f = c.is_won.ensures.frame in
-    let plan = c.plan_for-plan.result in
-    let whole : plan.whole ≡ n = c.plan_for-plan.ensures.whole in
-    let walk = walk-lines f c.is_won.new.facts plan.whole n p p kept whole refl in
-    let total = g.met.W.Watch.wider _ _ _ (solve_bound by n game) (g.met.W.Watch.more _ _ _ (lines_within r n p) ((plan.whole + 1) * lines_within (seen_in c.is_won.new.facts) plan.whole p) c.in_ok-is_won.ensures.gone c.in_ok-nodes.ensures.gone) (omega arith) in
-    let memory = g.met.W.Watch.memory _ _ _ total in
-    search rules
-
-pub returns-then-plan-clause-gone : goal.returns-then-plan-clause-gone
-returns-then-plan-clause-gone g c =
-    let f = c.args.facts.now in
-    let r = seen_in f in
-    let game = story c.args.game.now in
-    let by = c.args.game.now.rules in
-    let n = c.args.n in
-    let p = c.new-board.result.position in
-    let last : p ≡ game.last = ap (λ (x : Stance). x.position) c.new-board.ensures ∙ c.position.ensures.is in
-    let e : f.rules ≡ by = c.requires.frame.rules in
-    let lines = solve-lines by f game n p e last in
-    let kept : c.is_won.new.facts ≡ f = c.is_won.ensures.frame in
-    let plan = c.plan_for-plan.result in
-    let whole : plan.whole ≡ n = c.plan_for-plan.ensures.whole in
-    let walk = walk-lines f c.is_won.new.facts plan.whole n p p kept whole refl in
-    let total = g.met.W.Watch.wider _ _ _ (solve_bound by n game) (g.met.W.Watch.more _ _ _ (lines_within r n p) ((plan.whole + 1) * lines_within (seen_in c.is_won.new.facts) plan.whole p) c.in_ok-is_won.ensures.gone c.in_ok-nodes.ensures.gone) (omega arith) in
-    total
-
 pub returns-clause-gone : goal.returns-clause-gone
 returns-clause-gone g c =
     let f = c.args.facts.now in
-    let r = seen_in f in
     let game = story c.args.game.now in
     let by = c.args.game.now.rules in
     let n = c.args.n in
     let p = c.new-board.result.position in
     let last : p ≡ game.last = ap (λ (x : Stance). x.position) c.new-board.ensures ∙ c.position.ensures.is in
-    let e : f.rules ≡ by = c.requires.frame.rules in
-    let lines = solve-lines by f game n p e last in
+    let lines = solve-lines by f game n p c.requires.frame.rules last in
     let kept : c.is_won.new.facts ≡ f = c.is_won.ensures.frame in
-    let plan = c.plan_for-plan.result in
-    let whole : plan.whole ≡ n = c.plan_for-plan.ensures.whole in
-    let walk = walk-lines f c.is_won.new.facts plan.whole n p p kept whole refl in
-    let total = g.met.W.Watch.wider _ _ _ (solve_bound by n game) (g.met.W.Watch.more _ _ _ (lines_within r n p) ((plan.whole + 1) * lines_within (seen_in c.is_won.new.facts) plan.whole p) c.in_ok-is_won.ensures.gone c.in_ok-nodes.ensures.gone) (omega arith) in
-    total
+    let walk = walk-lines f c.is_won.new.facts n n p p kept refl refl in
+    on_ok_of c.show.result c.show.ensures.gone (λ rest.
+    g.met.W.Watch.wider _ _ _ (solve_bound by n game) (g.met.W.Watch.more _ _ _ (lines_within (seen_in f) n p) ((n + 1) * lines_within (seen_in c.is_won.new.facts) n p) c.in_ok-is_won.ensures.gone rest) (omega arith))
 
-pub returns-clause-right : goal.returns-clause-right
-returns-clause-right g c =
+pub returns-clause-ended : goal.returns-clause-ended
+returns-clause-ended g c why is =
     let f = c.args.facts.now in
-    let r = seen_in f in
     let game = story c.args.game.now in
     let by = c.args.game.now.rules in
     let n = c.args.n in
     let p = c.new-board.result.position in
     let last : p ≡ game.last = ap (λ (x : Stance). x.position) c.new-board.ensures ∙ c.position.ensures.is in
-    let e : f.rules ≡ by = c.requires.frame.rules in
-    let bl = frame-blocked c.args.game.now f c.requires.frame in
+    let lines = solve-lines by f game n p c.requires.frame.rules last in
     let kept : c.is_won.new.facts ≡ f = c.is_won.ensures.frame in
-    let frame : c.frame-frame.result.now ≡ f = c.frame-frame.ensures ∙ kept in
-    let plan = c.plan_for-plan.result in
-    let whole : plan.whole ≡ n = c.plan_for-plan.ensures.whole in
-    let won : near_root f.rules plan.whole game f.attacker ≡ true = ap (λ k. near_root f.rules k game f.attacker) whole ∙ sym c.in_ok-is_won.ensures.won ∙ c.if-not-branch.false in
-    let fit : IsFit f.rules = subst IsFit (sym e) c.is_played.ensures.fit in
-    let root : plan.root ≡ p = c.plan_for-plan.ensures.root ∙ c.position-2.ensures in
-    let room = room-as f c.frame-frame.result.now p c.position-2.result.now n plan.whole plan.room frame c.position-2.ensures whole c.plan_for-plan.ensures.room in
-    let s = c.in_ok-nodes.nodes.items in
-    let table : IsKept f plan s = subst (λ (x : Frame). IsKept x plan s) kept c.in_ok-nodes.ensures.kept in
-    let stands : (i : ℕ) × Stands r plan.exact s p plan.whole i = subst (λ (x : Frame). (i : ℕ) × Stands (seen_in x) plan.exact s p plan.whole i) kept c.in_ok-nodes.ensures.stands in
-    let low = counter-low c.new-board.result.rules p c.is_ready.ensures.sound in
-    let small : plan.whole ≤ most = let k = c.requires.small in omega arith in
-    let near : plan.exact ≡ true → (0 < 2 * f.rules.n_move) × (2 * f.rules.n_move ≤ p.counter + (plan.whole + plan.whole)) = λ z. subst (λ k. (0 < 2 * f.rules.n_move) × (2 * f.rules.n_move ≤ p.counter + (k + k))) (sym whole) (near-as f c.frame-frame.result.now p c.position-2.result.now n frame c.position-2.ensures (c.plan_for-plan.ensures.near z)) in
-    let inside : plan.exact ≡ false → (2 * f.rules.n_move ≡ 0) ⊎ (p.counter + (plan.whole + plan.whole) < 2 * f.rules.n_move) = λ z. subst (λ k. (2 * f.rules.n_move ≡ 0) ⊎ (p.counter + (k + k) < 2 * f.rules.n_move)) (sym whole) (inside-as f c.frame-frame.result.now p c.position-2.result.now n frame c.position-2.ensures (c.plan_for-plan.ensures.inside z)) in
-    let t = tabled f game bl fit plan s p last root small table stands won (played-in c.args.game.now f e c.is_played.ensures) low near inside room in
-    let found : Strategy = record { attacker = f.attacker; nodes = s } in
-    let is : c.shown.result ≡ Shown found = c.shown.ensures ∙ ap (λ (x : Frame). Shown (record { attacker = x.attacker; nodes = s })) frame in
-    subst (IsRight by game f.attacker n) (sym is)
-    (subst (λ (x : Rules). IsShown x game f.attacker n found) e (subst (λ k. IsShown f.rules game f.attacker k found) whole (inside-shown f game plan s t table c.if-plan.false)))
+    let walk = walk-lines f c.is_won.new.facts n n p p kept refl refl in
+    g.met.W.Watch.ends_wider _ _ _ (solve_bound by n game) why (g.met.W.Watch.ends _ _ _ (lines_within (seen_in f) n p) ((n + 1) * lines_within (seen_in c.is_won.new.facts) n p) why c.in_ok-is_won.ensures.gone (c.show.ensures.ended why is)) (omega arith)

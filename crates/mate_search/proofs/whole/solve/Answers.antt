@@ -2,26 +2,16 @@ use Rattle.std.proofs.Common.{◌≡◌, Some, Err, rules}
 use Rattle.io_ports.specs.declared.limits.SearchFault.TheVariants as fault
 use Rattle.watching.specs.declared.halt.Halt.{Halt}
 use Rattle.watching.specs.declared.halt.Halt.TheVariants as halt
-use Rattle.mate_search.proofs.MateLaws.{fails-memory, heard-unsearched}
+use Rattle.mate_search.proofs.MateLaws.{fails-memory, heard-looked}
 use Rattle.mate_search.proofs.whole.solve.Goals as goal
 
 pub returns-then-eq-clause-heard : goal.returns-then-eq-clause-heard
 returns-then-eq-clause-heard g c =
     let is : c.args.limits.quota ≡ Some 0 = search rules in
-    heard-unsearched _ c.args.ports.now.dialect c.args.limits _ _ _ c.args.game.now c.args.n is
+    heard-looked _ c.args.ports.now.dialect c.args.limits _ _ _ c.args.game.now c.args.n c.look_up-answer.result is c.look_up-answer.ensures.looked.either
 
-pub returns-in_err-line-clause-fails : goal.returns-in_err-line-clause-fails
-returns-in_err-line-clause-fails g c why is =
-    let memory : why ≡ fault.Memory = search rules in
-    fails-memory _ c.args.ports.now.dialect c.args.limits _ _ _ _ why memory
-
-pub returns-in_err-frame-clause-fails : goal.returns-in_err-frame-clause-fails
-returns-in_err-frame-clause-fails g c why is =
-    let memory : why ≡ fault.Memory = search rules in
-    fails-memory _ c.args.ports.now.dialect c.args.limits _ _ _ _ why memory
-
-pub returns-in_err-facts-clause-fails : goal.returns-in_err-facts-clause-fails
-returns-in_err-facts-clause-fails g c why is =
+pub returns-in_default-clause-fails : goal.returns-in_default-clause-fails
+returns-in_default-clause-fails g c why is =
     let memory : why ≡ fault.Memory = search rules in
     fails-memory _ c.args.ports.now.dialect c.args.limits _ _ _ _ why memory
 
