@@ -1,2 +1,6 @@
 pub mod NumberLemmas
 pub mod Carried
+pub mod Lists
+pub mod Standing
+pub mod Descent
+pub mod Grown
