@@ -1,7 +1,7 @@
 -- The way down a tree leads to nodes at their positions, by legal moves.
-use Rattle.std.proofs.Common.{◌≡◌, ◌⊎◌, inl, inr, ℕ, zero, suc, ◌+◌, ◌-◌, ◌<◌, ◌≤◌, ◌==◌, min, List, [], ◌∷◌, take, drop, length, Bool, true, false, Option, Some, None, slice_get, option_and_then, position, refl, ap, sym, ◌∙◌, subst, arith}
+use Rattle.std.proofs.Common.{◌≡◌, ◌⊎◌, inl, inr, ℕ, zero, suc, ◌+◌, ◌-◌, ◌<◌, ◌≤◌, ◌==◌, min, List, [], ◌∷◌, take, drop, length, get_or, Bool, true, false, Option, Some, None, slice_get, option_and_then, position, refl, ap, sym, ◌∙◌, subst, arith}
 use Rattle.std.specs.Option.{option_map}
-use Rattle.std.proofs.lemmas.List.{length-take, length-drop}
+use Rattle.std.proofs.lemmas.List.{length-take, get_or_default}
 use Rattle.std.proofs.lemmas.List.Quantifiers.{position-Some}
 use Rattle.std.proofs.lemmas.Option.{slice_get_within}
 use Rattle.foundation.specs.Member.{Member}
@@ -17,6 +17,7 @@ use Rattle.pn_search.specs.declared.node.State.TheVariants.{Open, Won, Lost, Inn
 use Rattle.pn_search.specs.declared.numbers.Pair.{Pair}
 use Rattle.pn_search.specs.Numbers.{own_number, of_children, first_child, open_pair, pair_at}
 use Rattle.pn_search.specs.Trees.{Spot, best_child, best_child_at, chosen_at, child_spot, position_after, go_on, descend}
+use Rattle.pn_search.proofs.Carried.{no_pair}
 use Rattle.pn_search.proofs.Lists.{there_is, some_same}
 use Rattle.pn_search.proofs.Standing.{AreRooted, StandsAt, IsStateOf, HasChildren, IsChild}
 
@@ -102,3 +103,24 @@ pub descend-stop : (f : Frame) (nodes : List Node) (ps : List Pair) (d : ℕ) (s
 unfolding descend
 descend-stop f nodes ps zero s e = refl
 descend-stop f nodes ps (suc d) s e = ap (λ o. go_on (descend f.rules nodes ps d) s (option_map (child_spot f.rules nodes s) o)) e
+
+-- ---- the best child, as it is read
+
+module _ (nodes : List Node) (ps : List Pair) (at : ℕ) (v : Node) (stands : slice_get nodes at ≡ Some v) where
+  pub best-found : (first count number : ℕ) (xs : List Pair) (o : Option ℕ) → v.state ≡ Inner first count → at < length ps → number ≡ own_number v.attacking (get_or ps at no_pair) → xs ≡ take count (drop first ps) → o ≡ position (λ c. own_number v.attacking c == number) xs → option_map (λ k. first + k) o ≡ best_child_at nodes ps at
+  best-found first count number xs o state within is part found =
+      let same : number ≡ own_number v.attacking (pair_at ps at) = is ∙ ap (own_number v.attacking) (get_or_default ps at no_pair open_pair within) in
+      ap (option_map (λ k. first + k)) found
+      ∙ ap (λ k. option_map (λ j. first + j) (position (λ c. own_number v.attacking c == k) xs)) same
+      ∙ ap (λ ys. option_map (λ j. first + j) (position (λ c. own_number v.attacking c == own_number v.attacking (pair_at ps at)) ys)) part
+      ∙ ap (λ s. option_map (λ k. first_child s + k) (position (λ c. own_number v.attacking c == own_number v.attacking (pair_at ps at)) (of_children s ps))) (sym state)
+      ∙ ap (option_and_then (best_child ps at)) (sym stands)
+
+  pub best-none : ((first count : ℕ) → v.state ≡ Inner first count → ⊥) → ◌≡◌ {A = Option ℕ} None (best_child_at nodes ps at)
+  best-none none = by_state v.state none ∙ ap (option_and_then (best_child ps at)) (sym stands)
+    where
+      by_state : (s : State) → ((first count : ℕ) → s ≡ Inner first count → ⊥) → ◌≡◌ {A = Option ℕ} None (option_map (λ k. first_child s + k) (position (λ c. own_number v.attacking c == own_number v.attacking (pair_at ps at)) (of_children s ps)))
+      by_state Open h = refl
+      by_state Won h = refl
+      by_state Lost h = refl
+      by_state (Inner first count) h = absurd (h first count refl)

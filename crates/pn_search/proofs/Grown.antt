@@ -1,13 +1,20 @@
 -- The nodes of each tree that has grown stand at their positions.
-use Rattle.std.proofs.Common.{◌≡◌, ◌⊎◌, inl, inr, ℕ, zero, suc, ◌+◌, ◌<◌, List, [], ◌∷◌, length, Bool, true, false, Option, Some, None, slice_get, option_and_then, cond, refl, ap, sym, ◌∙◌, subst, arith}
+use Rattle.std.proofs.Common.{◌≡◌, ◌⊎◌, inl, inr, ℕ, zero, suc, ◌+◌, ◌<◌, ◌≤◌, List, [], ◌∷◌, length, get_or, Bool, true, false, Option, Some, None, slice_get, option_and_then, cond, refl, ap, sym, ◌∙◌, subst, arith}
+use Rattle.std.proofs.lemmas.Option.{slice_get-get_or}
+use Rattle.foundation.specs.Member.{Member}
 use Rattle.rules_model.specs.declared.board.Position.{Position}
+use Rattle.rules_model.specs.declared.moves.Move.{Move}
+use Rattle.rules_model.specs.Legal.{legal}
+use Rattle.rules_model.specs.Repeats.{repeat_of}
 use Rattle.mate_core.specs.declared.frame.Frame.{Frame}
 use Rattle.pn_search.specs.declared.node.Node.{Node}
+use Rattle.pn_search.specs.declared.numbers.Pair.{Pair}
 use Rattle.pn_search.specs.Numbers.{pairs_of}
-use Rattle.pn_search.specs.Trees.{ProofTree, Spot, root_node, new_tree, is_settled, most_proving, nodes_after, expanded_at, expanded, grown, pn, descend}
+use Rattle.pn_search.specs.Shapes.{AreInPlace}
+use Rattle.pn_search.specs.Trees.{ProofTree, Spot, root_node, new_tree, is_settled, most_proving, nodes_after, expanded_at, expanded, grown, pn, HasGrown, descend, best_child_at, chosen_at, child_spot, position_after}
 use Rattle.pn_search.proofs.Lists.{there_is}
-use Rattle.pn_search.proofs.Standing.{AreRooted, StandsAt, expanded-rooted}
-use Rattle.pn_search.proofs.Descent.{IsOn, root-on, descend-on}
+use Rattle.pn_search.proofs.Standing.{AreRooted, StandsAt, in_place, expanded-rooted}
+use Rattle.pn_search.proofs.Descent.{IsOn, IsBelow, child_on, root-on, descend-on, descend-step, descend-stop}
 
 abbrev pub IsRooted : ProofTree → Type 0
 IsRooted t = AreRooted t.frame t.root t.moves t.nodes
@@ -56,3 +63,72 @@ pn-rooted f root n (suc k) t h = by_earlier (λ u. pn-rooted f root n k u) (pn f
     by_earlier : ((u : ProofTree) → pn f root n k ≡ Some u → IsRooted u) → (o : Option ProofTree) → pn f root n k ≡ o → option_and_then grown o ≡ Some t → IsRooted t
     by_earlier rooted None e g = cc
     by_earlier rooted (Some u) e g = subst IsRooted (grown-expanded u t g).1 (expanded-grows u (rooted u e))
+
+-- ---- the way down
+
+-- the place and the position are on the way to the most-proving leaf
+pub record GoesDown (t : ProofTree) (place : ℕ) (p : Position) : Type 0 where
+  pub rooted : IsRooted t
+  pub on : IsOn t.frame t.root t.moves t.nodes rooted (record { place = place; position = p })
+  pub steps : ℕ
+  pub enough : length t.nodes ≤ place + steps
+  pub rest : descend t.frame.rules t.nodes (pairs_of t.nodes) steps (record { place = place; position = p }) ≡ most_proving t
+
+pub down-root : (t : ProofTree) → HasGrown t → GoesDown t 0 t.root
+unfolding most_proving
+down-root t g =
+    let r = pn-rooted t.frame t.root t.moves g.expansions t g.is in
+    record {
+      rooted = r;
+      on = root-on t.frame t.root t.moves t.nodes r;
+      steps = length t.nodes;
+      enough = omega arith;
+      rest = refl;
+    }
+
+module _ (t : ProofTree) (place : ℕ) (p : Position) (g : GoesDown t place p) where
+  pub down-placed : AreInPlace t.nodes
+  down-placed = in_place t.frame t.root t.moves t.nodes g.rooted
+
+  pub down-within : place < length t.nodes
+  down-within = g.on.within
+
+  down-below : (i : ℕ) → best_child_at t.nodes (pairs_of t.nodes) place ≡ Some i → IsBelow t.frame t.root t.moves t.nodes g.rooted (record { place = place; position = p }) i
+  down-below i e = child_on t.frame t.root t.moves t.nodes g.rooted (pairs_of t.nodes) (record { place = place; position = p }) g.on i e
+
+  pub down-deeper : (i : ℕ) → best_child_at t.nodes (pairs_of t.nodes) place ≡ Some i → (place < i) × (i < length t.nodes)
+  down-deeper i e = let b = down-below i e in (b.deeper, b.on.within)
+
+  pub down-legal : (i : ℕ) (m : Move) → best_child_at t.nodes (pairs_of t.nodes) place ≡ Some i → chosen_at t.nodes i ≡ Some m → Member m (legal t.frame.rules (repeat_of p))
+  down-legal i m e c = (down-below i e).is_legal m c
+
+  pub down-child : (i : ℕ) (q : Position) → best_child_at t.nodes (pairs_of t.nodes) place ≡ Some i → q ≡ position_after t.frame.rules p (chosen_at t.nodes i) → GoesDown t i q
+  down-child i q e same = subst (GoesDown t i) (sym same) (by_steps g.steps g.enough g.rest)
+    where
+      b : IsBelow t.frame t.root t.moves t.nodes g.rooted (record { place = place; position = p }) i
+      b = down-below i e
+
+      by_steps : (d : ℕ) → length t.nodes ≤ place + d → descend t.frame.rules t.nodes (pairs_of t.nodes) d (record { place = place; position = p }) ≡ most_proving t → GoesDown t i (position_after t.frame.rules p (chosen_at t.nodes i))
+      by_steps zero enough rest = absurd (let w = g.on.within in omega arith)
+      by_steps (suc d) enough rest = record {
+        rooted = g.rooted;
+        on = b.on;
+        steps = d;
+        enough = let a = b.deeper in omega arith;
+        rest = sym (descend-step t.frame t.nodes (pairs_of t.nodes) d (record { place = place; position = p }) i e) ∙ rest;
+      }
+
+  pub down-end : best_child_at t.nodes (pairs_of t.nodes) place ≡ None → ◌≡◌ {A = Spot} (record { place = place; position = p }) (most_proving t)
+  down-end e = sym (descend-stop t.frame t.nodes (pairs_of t.nodes) g.steps (record { place = place; position = p }) e) ∙ g.rest
+
+-- the move to a node, as it is read
+pub chosen-read : (nodes : List Node) (i : ℕ) (d : Node) → i < length nodes → (get_or nodes i d).chosen ≡ chosen_at nodes i
+chosen-read nodes i d h = sym (ap (option_and_then (λ (v : Node). v.chosen)) (slice_get-get_or nodes i d h))
+
+pub index-chosen : (nodes nodes' : List Node) (i : ℕ) (x : Node) → nodes ≡ nodes' → i < length nodes' → x ≡ get_or nodes i x → x.chosen ≡ chosen_at nodes' i
+index-chosen nodes nodes' i x e h is =
+    ap (λ (v : Node). v.chosen) (is ∙ ap (λ xs. get_or xs i x) e) ∙ chosen-read nodes' i x h
+
+-- the best child of a tree, as it is read
+pub best-read : (t : ProofTree) (nodes : List Node) (ps : List Pair) (place : ℕ) (o : Option ℕ) → nodes ≡ t.nodes → ps ≡ pairs_of t.nodes → o ≡ best_child_at nodes ps place → best_child_at t.nodes (pairs_of t.nodes) place ≡ o
+best-read t nodes ps place o e k h = sym (h ∙ ap (λ xs. best_child_at xs ps place) e ∙ ap (λ qs. best_child_at t.nodes qs place) k)

@@ -4,3 +4,5 @@ pub mod Lists
 pub mod Standing
 pub mod Descent
 pub mod Grown
+pub mod KeptLemmas
+pub mod Expanded

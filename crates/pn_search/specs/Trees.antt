@@ -144,3 +144,11 @@ pn f root n (suc k) = option_and_then grown (pn f root n k)
 -- it is that after k expansions from its root
 abbrev pub IsPn : ℕ → ProofTree → Type 0
 IsPn k t = pn t.frame t.root t.moves k ≡ Some t
+
+-- it is the tree after some number of expansions
+pub record HasGrown (t : ProofTree) : Type 0 where
+  pub expansions : ℕ
+  pub is : IsPn expansions t
+
+abbrev pub spot_at : ℕ → Position → Spot
+spot_at place p = record { place = place; position = p }

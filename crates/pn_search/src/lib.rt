@@ -3,8 +3,15 @@
 #![tactic(auto)]
 
 mod carrying;
+mod copying;
+mod descending;
+mod expanding;
+mod grew;
 mod node;
 mod numbers;
+mod tree;
 
+pub use grew::Grew;
 pub use node::{Node, State};
 pub use numbers::{INFINITE, Pair};
+pub use tree::Tree;

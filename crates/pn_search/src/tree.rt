@@ -1,0 +1,112 @@
+//! Proof trees.
+ghost use Rattle.std.specs.Prelude.{◌≡◌, ◌<◌, ◌≤◌, IfOk, length, true, None};
+ghost use Rattle.rules_model.specs.Sound.{is_sound};
+ghost use Rattle.pn_search.specs.Numbers as Numbers;
+ghost use Rattle.pn_search.specs.Trees as Trees;
+
+use crate::copying::frame_of;
+use crate::descending::{Leaf, best_child, stepped};
+use crate::node::{Node, State};
+use crate::numbers::{OPEN, Pair};
+use attack_tables::Tables;
+use mate_core::Frame;
+use playing::Board;
+use rules_model::{Memory, Position};
+use std::alloc::Global;
+use std::marker::Model;
+
+/// A proof tree: the nodes in the order in which they were made, and the pair of each. Contracts see the frame, the root's
+/// position, the number of moves and the nodes.
+#[derive(Drop)]
+pub struct Tree {
+    frame: Frame,
+    root: Position,
+    moves: u16,
+    nodes: Vec<Node>,
+    pairs: Vec<Pair>,
+}
+
+impl Model for Tree {
+    ghost use Rattle.pn_search.specs.Trees.{ProofTree};
+    ghost use Rattle.pn_search.specs.Kept.{IsKept};
+
+    ghost Value = { ProofTree };
+
+    ghost view = { λ t. record { frame = t.frame; root = t.root; moves = t.moves; nodes = t.nodes.items } };
+
+    ghost invariant = { λ t.
+        IsKept (record { frame = t.frame; root = t.root; moves = t.moves; nodes = t.nodes.items }) t.pairs.items };
+}
+
+impl Tree {
+    /// The tree of one open node for a win from the root within n moves of the attacker in the frame, which is copied.
+    ///
+    /// # Errors
+    ///
+    /// `Memory` where there is none.
+    pub fn new(alloc: Global, frame: &Frame, root: &Position, n: u16) -> Result<Tree, Memory>
+        requires sound { is_sound frame.now.rules root.now ≡ true }
+        requires ongoing { Trees.end_at frame.now 0 root.now ≡ None }
+        requires some { 0 < n }
+        requires small { n ≤ 100 }
+        ensures { IfOk result (λ t. t ≡ Trees.new_tree frame.now root.now n) }
+    {
+        let mut nodes = Vec::new(alloc);
+        nodes.push(Node {
+            parent: 0,
+            state: State::Open,
+            chosen: None,
+            left: n as u8,
+            attacking: root.side.is(frame.attacker),
+        })?;
+        let mut pairs = Vec::new(alloc);
+        pairs.push(OPEN)?;
+        Ok(Tree {
+            frame: frame_of(alloc, frame)?,
+            root: *root,
+            moves: n,
+            nodes,
+            pairs,
+        })
+    }
+
+    /// How many nodes there are.
+    pub fn len(&self) -> u64
+        ensures { result ≡ length self.now.nodes }
+    {
+        self.nodes.len() as u64
+    }
+
+    /// The proof number and the disproof number of the node with the number.
+    pub fn numbers(&self, node: u64) -> (u32, u32)
+        requires { node < length self.now.nodes }
+        ensures proof { result.0 ≡ (Numbers.pair_at (Numbers.pairs_of self.now.nodes) node).proof }
+        ensures disproof { result.1 ≡ (Numbers.pair_at (Numbers.pairs_of self.now.nodes) node).disproof }
+    {
+        let pair = self.pairs[node as usize];
+        (pair.proof, pair.disproof)
+    }
+
+    /// It is a tree after some number of expansions. Nothing is done: the call tells a proof.
+    pub fn has_grown(&self)
+        ensures { Trees.HasGrown self.now }
+    {
+        let _moves = self.moves;
+    }
+
+    // The most-proving leaf.
+    fn most_proving<'t>(&self, tables: &'t Tables) -> Leaf<'t>
+        requires tables { tables.now ≡ self.now.frame.rules }
+        ensures rules { result.board.rules ≡ self.now.frame.rules }
+        ensures place { result.place ≡ (Trees.most_proving self.now).place }
+        ensures position { result.board.position ≡ (Trees.most_proving self.now).position }
+    {
+        let mut place = 0;
+        let mut board = Board::new(tables, &self.root);
+        while let Some(child) = best_child(self.nodes.as_slice(), self.pairs.as_slice(), place) {
+            board = stepped(board, &self.nodes[child].chosen);
+            place = child;
+        }
+        Leaf { place, board }
+    }
+}
