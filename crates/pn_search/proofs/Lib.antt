@@ -6,3 +6,6 @@ pub mod Descent
 pub mod Grown
 pub mod KeptLemmas
 pub mod Expanded
+pub mod Meaning
+pub mod Fair
+pub mod worked

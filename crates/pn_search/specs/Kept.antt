@@ -41,3 +41,8 @@ written_child at v m = record {
   attacking = not v.attacking;
   state = Open;
 }
+
+-- how many expansions a call has made
+abbrev pub expansions : Grew → ℕ
+expansions (Expanded at) = 1
+expansions Settled = 0

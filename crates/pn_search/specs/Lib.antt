@@ -2,3 +2,4 @@ pub mod Numbers
 pub mod Trees
 pub mod Shapes
 pub mod Kept
+pub mod Meaning

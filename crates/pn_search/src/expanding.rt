@@ -1,5 +1,5 @@
 //! What becomes of a leaf that is expanded.
-ghost use Rattle.std.specs.Prelude.{◌≡◌, ◌+◌, ◌<◌, ◌++◌, ◌^◌, ℕ, true, Some, None, IfOk, OnOk, OnErr, length, map, take, replicate, slice_get, slice_set};
+ghost use Rattle.std.specs.Prelude.{◌≡◌, ◌+◌, ◌<◌, ◌≤◌, ◌++◌, ◌^◌, ℕ, true, Some, None, IfOk, OnOk, OnErr, length, map, take, replicate, slice_get, slice_set};
 ghost use Rattle.playing.specs.Stance.{legal_in};
 ghost use Rattle.pn_search.specs.declared.node.Node.{Node};
 ghost use Rattle.pn_search.specs.declared.node.State.TheVariants.{Inner};
@@ -148,6 +148,7 @@ pub(crate) fn expand(
     ensures nodes { OnOk result (nodes.new.items
         ≡ Trees.nodes_after frame.now nodes.old.items (Trees.spot_at leaf.now.place leaf.now.board.position)) }
     ensures len { OnOk result (length pairs.new.items ≡ length nodes.new.items) }
+    ensures longer { OnOk result (length nodes.old.items ≤ length nodes.new.items) }
     ensures others { OnOk result
         ((i : ℕ) → (i ≡ leaf.now.place → ⊥) → Shapes.IsNumbered nodes.new.items pairs.new.items i) }
     ensures few { OnOk result (length nodes.new.items < 2 ^ 32) }
@@ -155,11 +156,10 @@ pub(crate) fn expand(
     ensures same_pairs { OnErr result (pairs.new.items ≡ pairs.old.items) }
 {
     let node = nodes[leaf.place];
-    match state_by(end_at(frame, leaf), &node) {
-        Some(state) => {
-            nodes[leaf.place].state = state;
-            Ok(())
-        }
-        None => open(leaf, nodes, pairs),
+    if let Some(state) = state_by(end_at(frame, leaf), &node) {
+        nodes[leaf.place].state = state;
+        return Ok(());
     }
+    open(leaf, nodes, pairs)?;
+    Ok(())
 }

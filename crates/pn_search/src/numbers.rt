@@ -1,6 +1,7 @@
 //! Proof and disproof numbers.
 ghost use Rattle.std.specs.Prelude.{◌≡◌, map};
 ghost use Rattle.pn_search.specs.Numbers as Numbers;
+ghost use Rattle.pn_search.specs.Trees as Trees;
 
 /// The number of what cannot be.
 pub const INFINITE: u32 = u32::MAX;
@@ -83,4 +84,11 @@ pub(crate) fn inner_pair(attacking: bool, children: &[Pair]) -> Pair
         least(attacking, children),
         sum(!attacking, children),
     )
+}
+
+/// Whether one of the numbers is infinite.
+pub(crate) fn is_settled_pair(pair: &Pair) -> bool
+    ensures { result ≡ Trees.is_settled_pair pair.now }
+{
+    pair.proof == INFINITE || pair.disproof == INFINITE
 }

@@ -1,13 +1,18 @@
 //! Proof trees.
-ghost use Rattle.std.specs.Prelude.{◌≡◌, ◌<◌, ◌≤◌, IfOk, length, true, None};
+ghost use Rattle.std.specs.Prelude.{◌≡◌, ◌<◌, ◌≤◌, ◌+◌, ℕ, IfOk, OnErr, length, true, None};
 ghost use Rattle.rules_model.specs.Sound.{is_sound};
+ghost use Rattle.pn_search.specs.Kept as Kept;
+ghost use Rattle.pn_search.specs.Meaning.{PairDecides};
 ghost use Rattle.pn_search.specs.Numbers as Numbers;
 ghost use Rattle.pn_search.specs.Trees as Trees;
 
+use crate::carrying::carry;
 use crate::copying::frame_of;
 use crate::descending::{Leaf, best_child, stepped};
+use crate::expanding::expand;
+use crate::grew::Grew;
 use crate::node::{Node, State};
-use crate::numbers::{OPEN, Pair};
+use crate::numbers::{OPEN, Pair, is_settled_pair};
 use attack_tables::Tables;
 use mate_core::Frame;
 use playing::Board;
@@ -87,11 +92,21 @@ impl Tree {
         (pair.proof, pair.disproof)
     }
 
-    /// It is a tree after some number of expansions. Nothing is done: the call tells a proof.
+    /// It is a tree after some number of expansions, and where its root is proved or disproved, its moves win or do not.
+    /// Nothing is done: the call tells a proof.
     pub fn has_grown(&self)
-        ensures { Trees.HasGrown self.now }
+        ensures grown { Trees.HasGrown self.now }
+        ensures decides { PairDecides self.now }
     {
         let _moves = self.moves;
+    }
+
+    // Whether one of the root's numbers is infinite.
+    fn is_settled(&self) -> bool
+        ensures { result ≡ Trees.is_settled self.now }
+    {
+        let root = self.pairs[0];
+        is_settled_pair(&root)
     }
 
     // The most-proving leaf.
@@ -108,5 +123,26 @@ impl Tree {
             place = child;
         }
         Leaf { place, board }
+    }
+
+    /// Expands the most-proving leaf, unless one of the root's numbers is infinite. The numbers of the leaf are carried up as
+    /// far as they change.
+    ///
+    /// # Errors
+    ///
+    /// `Memory` where there is none, or where a node would have no number of 32 bits. The tree is as before.
+    pub fn grow(&mut self, tables: &Tables) -> Result<Grew, Memory>
+        requires tables { tables.now ≡ self.old.frame.rules }
+        ensures grows { IfOk result (Kept.Grows self.old self.new) }
+        ensures tree { (k : ℕ) → Trees.IsPn k self.old → IfOk result (λ g. Trees.IsPn (k + Kept.expansions g) self.new) }
+        ensures err { OnErr result (self.new ≡ self.old) }
+    {
+        if self.is_settled() {
+            return Ok(Grew::Settled);
+        }
+        let leaf = self.most_proving(tables);
+        expand(&self.frame, &leaf, &mut self.nodes, &mut self.pairs)?;
+        carry(self.nodes.as_slice(), self.pairs.as_mut_slice(), leaf.place);
+        Ok(Grew::Expanded(leaf.place as u64))
     }
 }

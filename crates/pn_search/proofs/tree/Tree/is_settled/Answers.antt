@@ -1,0 +1,20 @@
+use Rattle.std.proofs.Common.{◌≡◌, ℕ, ◌<◌, ◌==◌, ◌||◌, Bool, true, length, ap, sym, ◌∙◌, arith, rules}
+use Rattle.std.proofs.lemmas.Bool.Decides.{nat_tests}
+use Rattle.pn_search.specs.declared.numbers.Pair.{Pair}
+use Rattle.pn_search.specs.Numbers.{infinite, pairs_of, pair_at}
+use Rattle.pn_search.specs.Trees.{ProofTree, is_settled, is_settled_pair}
+use Rattle.pn_search.proofs.KeptLemmas.{pair-read, pairs-long, pairs-are, some-nodes}
+use Rattle.pn_search.proofs.tree.Tree.is_settled.Goals as goal
+
+pub index-root-requires : goal.index-root-requires
+index-root-requires c =
+    let long = pairs-long c.args.self.now.nodes c.self.inside.pairs.items (pairs-are _ c.args.self.now _ c.self.view_is c.self.invariant.pairs) in
+    let some = some-nodes _ c.args.self.now c.self.view_is c.self.invariant.has_grown in
+    let own = c.self.inside.pairs.ok in
+    omega arith
+
+pub returns : goal.returns
+unfolding is_settled
+returns c =
+    let read = pair-read c.args.self.now.nodes c.self.inside.pairs.items 0 c.index-root.result.now (pairs-are _ c.args.self.now _ c.self.view_is c.self.invariant.pairs) (some-nodes _ c.args.self.now c.self.view_is c.self.invariant.has_grown) c.index-root.ensures in
+    c.is_settled_pair.ensures ∙ ap is_settled_pair read
