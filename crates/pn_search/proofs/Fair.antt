@@ -42,7 +42,7 @@ step a b l s (between p q r t) (between w x y z) = let k = plus-finite b s t z i
 abbrev pub IsFair : Pair → Type 0
 IsFair q = AreFair q.proof q.disproof
 
-own-fair : (a : Bool) (q : Pair) → IsFair q → AreFair (own_number a q) (own_number (not a) q)
+pub own-fair : (a : Bool) (q : Pair) → IsFair q → AreFair (own_number a q) (own_number (not a) q)
 own-fair true q h = h
 own-fair false q h = turned q.proof q.disproof h
 

@@ -8,4 +8,5 @@ pub mod KeptLemmas
 pub mod Expanded
 pub mod Meaning
 pub mod Fair
+pub mod Progress
 pub mod worked

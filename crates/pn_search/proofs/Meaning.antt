@@ -29,6 +29,7 @@ use Rattle.pn_search.specs.Shapes.{AreInPlace}
 use Rattle.pn_search.specs.Trees.{ProofTree, left_after, end_at, IsPn}
 use Rattle.pn_search.proofs.Carried.{numbered, length-pairs}
 use Rattle.pn_search.proofs.Expanded.{end-inner}
+use Rattle.pn_search.proofs.Fair.{IsFair, fair_at, settled-won, settled-lost}
 use Rattle.pn_search.proofs.Grown.{IsRooted, pn-rooted}
 use Rattle.pn_search.proofs.Lists.{there_is, some_same}
 use Rattle.pn_search.proofs.Standing.{AreRooted, StandsAt, IsStateOf, HasChildren, IsChild, in_place}
@@ -257,7 +258,7 @@ module _ (f : Frame) where
 -- ---- the root
 
 pub pair_decides : (k : ℕ) (t : ProofTree) → IsPn k t → end_at t.frame 0 t.root ≡ None → PairDecides t
-pair_decides k t is ongoing = record { won = won; lost = lost }
+pair_decides k t is ongoing = record { won = won; lost = lost; proved = settled-won (root_pair t) fair; disproved = settled-lost (root_pair t) fair }
   where
     r : IsRooted t
     r = pn-rooted t.frame t.root t.moves k t is
@@ -270,6 +271,9 @@ pair_decides k t is ongoing = record { won = won; lost = lost }
 
     root-worth : worth t.frame 0 t.moves t.root ≡ moves_win t.frame t.moves t.root
     root-worth = worth-root t.frame t.moves t.root ongoing
+
+    fair : IsFair (root_pair t)
+    fair = fair_at t.nodes 0 (let l = length-pairs t.nodes in let s = r.some in omega arith)
 
     won : root_pair t ≡ won_pair → moves_win t.frame t.moves t.root ≡ true
     won e = sym root-worth ∙ root-says.proved (ap (λ (y : Pair). y.proof) e)

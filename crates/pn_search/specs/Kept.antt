@@ -1,5 +1,5 @@
 -- What is kept of a tree, and how a call changes it.
-use Rattle.std.specs.Prelude.{◌≡◌, ℕ, ◌<◌, ◌^◌, List, length, Bool, true, not, Option, Some, None, slice_get}
+use Rattle.std.specs.Prelude.{◌≡◌, ℕ, ◌+◌, ◌-◌, ◌*◌, ◌<◌, ◌^◌, List, [], ◌∷◌, length, Bool, true, not, Option, Some, None, slice_get}
 use Rattle.rules_model.specs.declared.board.Position.{Position}
 use Rattle.rules_model.specs.declared.moves.Move.{Move}
 use Rattle.rules_model.specs.Sides.{same_side}
@@ -8,7 +8,8 @@ use Rattle.mate_core.specs.declared.frame.Frame.{Frame}
 use Rattle.pn_search.specs.declared.grew.Grew.{Grew}
 use Rattle.pn_search.specs.declared.grew.Grew.TheVariants.{Expanded, Settled}
 use Rattle.pn_search.specs.declared.node.Node.{Node}
-use Rattle.pn_search.specs.declared.node.State.TheVariants.{Open}
+use Rattle.pn_search.specs.declared.node.State.{State}
+use Rattle.pn_search.specs.declared.node.State.TheVariants.{Open, Won, Lost, Inner}
 use Rattle.pn_search.specs.declared.numbers.Pair.{Pair}
 use Rattle.pn_search.specs.Numbers.{pairs_of}
 use Rattle.pn_search.specs.Trees.{ProofTree, HasGrown, Spot, left_after, end_at, grown, is_settled, most_proving}
@@ -46,3 +47,24 @@ written_child at v m = record {
 abbrev pub expansions : Grew → ℕ
 expansions (Expanded at) = 1
 expansions Settled = 0
+
+-- ---- what is left to do
+
+abbrev pub open_leaf : State → ℕ
+open_leaf Open = 1
+open_leaf Won = 0
+open_leaf Lost = 0
+open_leaf (Inner first count) = 0
+
+unfoldable pub open_leaves : List Node → ℕ
+open_leaves [] = 0
+open_leaves (v ∷ vs) = open_leaf v.state + open_leaves vs
+
+-- room for nodes counts twice, and each leaf that was not looked at once
+unfoldable pub work_left : ProofTree → ℕ
+work_left t = 2 * (2 ^ 32 - length t.nodes) + open_leaves t.nodes
+
+-- an expansion leaves less to do
+abbrev pub LeavesLess : ProofTree → ProofTree → Grew → Type 0
+LeavesLess old new (Expanded at) = work_left new < work_left old
+LeavesLess old new Settled = Unit {0}

@@ -27,3 +27,6 @@ moves_win f n p =
 pub record PairDecides (t : ProofTree) : Type 0 where
   pub won : root_pair t ≡ won_pair → moves_win t.frame t.moves t.root ≡ true
   pub lost : root_pair t ≡ lost_pair → moves_win t.frame t.moves t.root ≡ false
+  -- one infinite number says which of the two it is
+  pub proved : (root_pair t).disproof ≡ infinite → root_pair t ≡ won_pair
+  pub disproved : (root_pair t).proof ≡ infinite → root_pair t ≡ lost_pair

@@ -1,6 +1,8 @@
 //! What becomes of a leaf that is expanded.
 ghost use Rattle.std.specs.Prelude.{◌≡◌, ◌+◌, ◌<◌, ◌≤◌, ◌++◌, ◌^◌, ℕ, true, Some, None, IfOk, OnOk, OnErr, length, map, take, replicate, slice_get, slice_set};
 ghost use Rattle.playing.specs.Stance.{legal_in};
+ghost use Rattle.rules_model.specs.Games as Games;
+ghost use Rattle.rules_model.specs.Ready.{IsReady};
 ghost use Rattle.pn_search.specs.declared.node.Node.{Node};
 ghost use Rattle.pn_search.specs.declared.node.State.TheVariants.{Inner};
 ghost use Rattle.pn_search.specs.Kept as Kept;
@@ -11,14 +13,42 @@ ghost use Rattle.pn_search.specs.Trees as Trees;
 use crate::descending::Leaf;
 use crate::node::{Node, State};
 use crate::numbers::{OPEN, Pair};
+use attack_tables::Tables;
+use legality::own_end;
 use mate_core::Frame;
-use mate_fact::end_of;
+use mate_fact::{end_of, won_by};
 use playing::Board;
-use rules_model::{Memory, Move};
+use rules_model::{Memory, Move, Position, Rules};
 use std::alloc::Global;
 
 /// More nodes than these have no numbers of 32 bits.
 const MOST_NODES: usize = u32::MAX as usize;
+
+// Whether the counter of plies has reached the move-count rule.
+#[tactic(auto, unfolding(rules_model::specs::Games::is_run_out))]
+fn is_run_out(rules: &Rules, counter: u16) -> bool
+    ensures { result ≡ Games.is_run_out rules.now counter }
+{
+    rules.n_move != 0 && u32::from(counter) >= 2 * u32::from(rules.n_move)
+}
+
+/// How the position is ended as the root of a tree, whose repeat is not looked up: whether the attacker has won; None where
+/// it is ongoing.
+#[tactic(auto, unfolding(crate::specs::Trees::end_at, forced_wins::specs::Wins::near_end))]
+pub fn root_end(frame: &Frame, tables: &Tables, p: &Position) -> Option<bool>
+    requires { IsReady frame.now.rules tables.now p.now }
+    ensures { result ≡ Trees.end_at frame.now 0 p.now }
+{
+    let won = won_by(frame.attacker, own_end(&frame.rules, tables, p));
+    if won.is_some() {
+        return won;
+    }
+    if is_run_out(&frame.rules, p.counter) {
+        Some(false)
+    } else {
+        None
+    }
+}
 
 // How the leaf's position is ended. The root's is ongoing, and its repeat is not looked up.
 fn end_at(frame: &Frame, leaf: &Leaf) -> Option<bool>
@@ -26,10 +56,9 @@ fn end_at(frame: &Frame, leaf: &Leaf) -> Option<bool>
     requires root { leaf.now.place ≡ 0 → Trees.end_at frame.now 0 leaf.now.board.position ≡ None }
     ensures { result ≡ Trees.end_at frame.now leaf.now.place leaf.now.board.position }
 {
-    if leaf.place == 0 {
-        None
-    } else {
-        end_of(frame, leaf.board.position(), leaf.board.own_end())
+    match leaf.place {
+        0 => None,
+        _ => end_of(frame, leaf.board.position(), leaf.board.own_end()),
     }
 }
 

@@ -9,8 +9,11 @@ mod expanding;
 mod grew;
 mod node;
 mod numbers;
+#[cfg(test)]
+mod tests;
 mod tree;
 
+pub use expanding::root_end;
 pub use grew::Grew;
 pub use node::{Node, State};
 pub use numbers::{INFINITE, Pair};

@@ -77,7 +77,8 @@ impl Tree {
 
     /// How many nodes there are.
     pub fn len(&self) -> u64
-        ensures { result ≡ length self.now.nodes }
+        ensures nodes { result ≡ length self.now.nodes }
+        ensures some { 0 < result }
     {
         self.nodes.len() as u64
     }
@@ -134,7 +135,11 @@ impl Tree {
     pub fn grow(&mut self, tables: &Tables) -> Result<Grew, Memory>
         requires tables { tables.now ≡ self.old.frame.rules }
         ensures grows { IfOk result (Kept.Grows self.old self.new) }
+        ensures less { IfOk result (Kept.LeavesLess self.old self.new) }
         ensures tree { (k : ℕ) → Trees.IsPn k self.old → IfOk result (λ g. Trees.IsPn (k + Kept.expansions g) self.new) }
+        ensures frame { self.new.frame ≡ self.old.frame }
+        ensures root { self.new.root ≡ self.old.root }
+        ensures moves { self.new.moves ≡ self.old.moves }
         ensures err { OnErr result (self.new ≡ self.old) }
     {
         if self.is_settled() {

@@ -3,11 +3,12 @@ use Rattle.std.proofs.lemmas.List.{with_items_is}
 use Rattle.rules_model.specs.declared.board.Position.{Position}
 use Rattle.pn_search.specs.declared.node.Node.{Node}
 use Rattle.pn_search.specs.declared.numbers.Pair.{Pair}
-use Rattle.pn_search.specs.Kept.{IsExpandable, IsKept}
+use Rattle.pn_search.specs.Kept.{IsExpandable, IsKept, work_left}
 use Rattle.pn_search.specs.Numbers.{pairs_of}
 use Rattle.pn_search.specs.Shapes.{AreInPlace}
 use Rattle.pn_search.specs.Trees.{ProofTree, Spot, IsPn, spot_at, most_proving, nodes_after, is_settled, grown, pn}
-use Rattle.pn_search.proofs.KeptLemmas.{leaf-expandable, kept-placed, after-in-place, kept-grown, grows-one, pn-more, same-spot}
+use Rattle.pn_search.proofs.KeptLemmas.{kept-rooted, leaf-expandable, kept-placed, after-in-place, kept-grown, grows-one, pn-more, same-spot}
+use Rattle.pn_search.proofs.Progress.{less-left}
 use Rattle.pn_search.proofs.tree.Tree.grow.Goals as goal
 
 pub expand-requires-clause-leaf : goal.expand-requires-clause-leaf
@@ -66,3 +67,12 @@ returns-clause-tree c =
     let one : suc k ≡ k + 1 = omega arith in
     subst (λ n. pn t.frame t.root t.moves n ≡ Some (record t { nodes = c.expand.new.nodes.items })) one
     (pn-more k t c.expand.new.nodes.items (subst (IsPn k) (sym c.self.view_is) is) open_root after)
+
+pub returns-clause-less : goal.returns-clause-less
+returns-clause-less c =
+    let t : ProofTree = record { frame = c.self.inside.frame; root = c.self.inside.root; moves = c.self.inside.moves; nodes = c.self.inside.nodes.items } in
+    let spot = same-spot t c.args.self.now c.most_proving-leaf.result.place c.most_proving-leaf.result.board.position c.self.view_is c.most_proving-leaf.ensures.place c.most_proving-leaf.ensures.position in
+    let after = c.in_ok-expand.ensures.nodes ∙ ap (nodes_after t.frame t.nodes) spot in
+    let open_root : is_settled t ≡ false = ap is_settled c.self.view_is ∙ sym c.is_settled.ensures ∙ c.if-is_settled.false in
+    subst (λ (u : ProofTree). work_left (record t { nodes = c.expand.new.nodes.items }) < work_left u) c.self.view_is
+    (less-left t c.expand.new.nodes.items c.in_ok-expand.ensures.few (kept-rooted t c.self.inside.pairs.items c.self.invariant) open_root after)
