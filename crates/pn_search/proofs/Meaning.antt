@@ -218,7 +218,7 @@ module _ (f : Frame) where
             let some : 0 < first + k = omega arith in
             let s = later (first + k) x.child behind x.stands in
             let same : worth (first + k) x.child.left (r.position (first + k)) ≡ near_in (left_after v.attacking v.left) (next f.rules p m) =
-                worth-later (first + k) x.child.left (r.position (first + k)) some ∙ ap (λ n. near_in n (r.position (first + k))) x.left ∙ ap (near_in (left_after v.attacking v.left)) x.leads in
+            worth-later (first + k) x.child.left (r.position (first + k)) some ∙ ap (λ n. near_in n (r.position (first + k))) x.left ∙ ap (near_in (left_after v.attacking v.left)) x.leads in
             let own = own_child k low in
             record {
               proved = λ z. sym same ∙ s.proved (ap (λ (y : Pair). y.proof) (sym own) ∙ z);

@@ -114,9 +114,9 @@ module _ (f : Frame) (root : Position) (n : ℕ) (nodes : List Node) (r : AreRoo
       let few = length-take count (drop first ps) in
       let in_count : j.0 < count = let b = at.0 in omega arith in
       let best : best_child_at nodes ps i ≡ Some (first + j.0) =
-          ap (option_and_then (best_child ps i)) stands
-          ∙ ap (λ s. option_map (λ y. first_child s + y) (position (λ c. own_number a c == own_number a q) (of_children s ps))) state
-          ∙ ap (option_map (λ y. first + y)) j.1 in
+      ap (option_and_then (best_child ps i)) stands
+      ∙ ap (λ s. option_map (λ y. first_child s + y) (position (λ c. own_number a c == own_number a q) (of_children s ps))) state
+      ∙ ap (option_map (λ y. first + y)) j.1 in
       let child : get_or cs j.0 open_pair ≡ pair_at ps (first + j.0) = get_or-take count (drop first ps) j.0 open_pair in_count ∙ get_or-drop first ps j.0 open_pair in
       let same : own_number a (pair_at ps (first + j.0)) ≡ own_number a q = ap (own_number a) (sym child) ∙ eq_from (own_number a (get_or cs j.0 open_pair)) (own_number a q) at.1 in
       let own_of_child : IsMiddle (own_number a (pair_at ps (first + j.0))) = subst IsMiddle (sym same) m in

@@ -130,7 +130,7 @@ fn open(leaf: &Leaf, nodes: &mut Vec<Node>, pairs: &mut Vec<Pair>) -> Result<(),
     requires more { (v : Node) → slice_get nodes.old.items leaf.now.place ≡ Some v → v.attacking ≡ true → 0 < v.left }
     ensures nodes { OnOk result ((v : Node) → slice_get nodes.old.items leaf.now.place ≡ Some v →
         nodes.new.items ≡ slice_set nodes.old.items leaf.now.place
-            (record v { state = Inner (length nodes.old.items) (length (legal_in leaf.now.board)) })
+        (record v { state = Inner (length nodes.old.items) (length (legal_in leaf.now.board)) })
         ++ map (Kept.written_child leaf.now.place v) (legal_in leaf.now.board)) }
     ensures pairs { OnOk result
         (pairs.new.items ≡ pairs.old.items ++ replicate (length (legal_in leaf.now.board)) Numbers.open_pair) }

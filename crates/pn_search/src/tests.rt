@@ -78,9 +78,17 @@ fn roots_are_settled(rt: HostRuntime) -> Result<(), Fail> {
             continue;
         };
         for n in 1..least {
-            assert_eq!(rt; settled(rt.alloc(), &frame, &tables, &p, n)?, lost, "{pieces} within {n}");
+            assert_eq!(rt;
+                settled(rt.alloc(), &frame, &tables, &p, n)?,
+                lost,
+                "{pieces} within {n}"
+            );
         }
-        assert_eq!(rt; settled(rt.alloc(), &frame, &tables, &p, least)?, won, "{pieces}");
+        assert_eq!(rt;
+            settled(rt.alloc(), &frame, &tables, &p, least)?,
+            won,
+            "{pieces}"
+        );
     }
     Ok(())
 }

@@ -64,7 +64,7 @@ loop-child-preserved c =
     let chosen = index-chosen c.self.inside.nodes.items t.nodes c.in-Some.child c.index.result.now (nodes-are _ t c.self.view_is) deeper.1 c.index.ensures in
     let rules = c.loop-child.invariant.rules in
     let there : c.stepped-board.result.position ≡ position_after t.frame.rules p (chosen_at t.nodes c.in-Some.child) =
-        c.stepped-board.ensures.position ∙ ap (λ (x : Rules). position_after x p c.index.result.now.chosen) rules ∙ ap (position_after t.frame.rules p) chosen in
+    c.stepped-board.ensures.position ∙ ap (λ (x : Rules). position_after x p c.index.result.now.chosen) rules ∙ ap (position_after t.frame.rules p) chosen in
     record { rules = c.stepped-board.ensures.rules ∙ rules; down = down-child t c.loop-child.place p down c.in-Some.child c.stepped-board.result.position best there }
 
 pub loop-child-smaller : goal.loop-child-smaller
