@@ -6,4 +6,7 @@ pub mod SameLemmas
 pub mod RebaseLemmas
 pub mod DrawnRules
 pub mod PartLaws
+pub mod GrownLaws
+pub mod OwnedLaws
+pub mod AnswerLaws
 pub mod Crosses

@@ -7,6 +7,7 @@ use Rattle.std.proofs.lemmas.List.Elements.{All-push}
 use Rattle.std.proofs.lemmas.Option.{slice_get_within}
 use Rattle.fact_lock.specs.Passes.{LockView, IsPassOf, all_parts}
 use Rattle.mate_core.specs.declared.frame.Frame.{Frame}
+use Rattle.mate_shards.specs.Grown.{HaveParts}
 use Rattle.mate_shards.specs.Shard.{Key}
 use Rattle.mate_shards.specs.Views.{ShardsView, ShardPass, ArePassesOf, IsRebased}
 use Rattle.mate_shards.proofs.TurnLemmas.{read-at, all-at}
@@ -93,17 +94,25 @@ module _ (s : ShardsView) (ps : List ShardPass) (new : Frame) (are : ArePassesOf
         some_of : {x y : ShardPass} → ◌≡◌ {A = Option ShardPass} (Some x) (Some y) → x ≡ y
         some_of e = cc
 
+  pub rebased-parts : (closing : List (LockView Key)) (given : List ShardPass) (locks : List (LockView Key)) (items : List ShardPass) → Rebasing s ps new closing given locks items (length s.locks) → HaveParts all_parts items
+  rebased-parts closing given locks items all =
+      all-from (λ v. v.parts ≡ all_parts) items
+      (λ j q here.
+      let w = slice_get_within items j q here in
+      let c = all.items_count in
+      let d = are.count in
+      let p = some-at ps j (omega arith) in (all.rebased j p.0 q p.1 here).parts)
+
+  pub rebased-own : (closing : List (LockView Key)) (given : List ShardPass) (locks : List (LockView Key)) (items : List ShardPass) → Rebasing s ps new closing given locks items (length s.locks) → (j : ℕ) (q : ShardPass) → slice_get items j ≡ Some q → q.own ≡ []
+  rebased-own closing given locks items all j q here =
+      let w = slice_get_within items j q here in
+      let c = all.items_count in
+      let d = are.count in
+      let p = some-at ps j (omega arith) in (all.rebased j p.0 q p.1 here).own
+
   pub rebased-passes : (made : ShardsView) (items : List ShardPass) (closing : List (LockView Key)) (given : List ShardPass) → Rebasing s ps new closing given made.locks items (length s.locks) → ArePassesOf made items
   rebased-passes made items closing given all = record {
     count = all.items_count ∙ sym all.count;
     each = all.each;
-    parts = (
-      all_parts,
-      all-from (λ v. v.parts ≡ all_parts) items
-          (λ j q here.
-          let w = slice_get_within items j q here in
-          let c = all.items_count in
-          let d = are.count in
-          let p = some-at ps j (omega arith) in (all.rebased j p.0 q p.1 here).parts),
-    );
+    parts = (all_parts, rebased-parts closing given made.locks items all);
   }

@@ -18,7 +18,6 @@ use Rattle.mate_core.specs.declared.event.Reply.TheVariants as replies
 use Rattle.mate_core.specs.declared.store.Store.{Store}
 use Rattle.mate_core.specs.Best.{best, has_better, is_full, stored}
 use Rattle.mate_core.proofs.AnswerLemmas.{served, best-some}
-use Rattle.mate_core.specs.Runs.{AreTrueIn}
 use Rattle.mate_core.specs.Steps.{facts, published, grown, told, publish_at, look_at, step}
 use Rattle.mate_shards.specs.declared.published.Published.{Published}
 use Rattle.mate_core.specs.declared.packed_fact.Claim.{Claim}
@@ -29,7 +28,7 @@ use Rattle.mate_shards.specs.declared.request.Query.{Query}
 use Rattle.mate_shards.specs.declared.request.Request.{Request}
 use Rattle.mate_shards.specs.declared.request.Request.TheVariants.{Publish, Look}
 use Rattle.mate_core.specs.Claims.{claim_of, fact_with}
-use Rattle.mate_shards.specs.Shard.{Key, verdict, reply, added}
+use Rattle.mate_shards.specs.Shard.{Key, IsListOf, verdict, reply, added}
 use Rattle.mate_shards.specs.Turns.{reply_of, home_of, AskTurn, PublishTurn, LookTurn}
 use Rattle.mate_shards.specs.Views.{ShardsView, ShardPass, ArePassesOf}
 
@@ -77,8 +76,8 @@ module _ (s : ShardsView) (ps : List ShardPass) (are : ArePassesOf s ps) (k : �
           subst (λ x. IsPassOf x v) same_lock (subst (λ x. IsPassOf l x) same_pass is))
           (λ apart. are.each j m v lock (sym (slice_get-set_other ps k j q (λ e. apart (sym e))) ∙ pass))
 
-  pub asks : (keys : All (λ m. m.key ≡ (s.frame, s.capacity)) s.locks) (request : Request) (answer : Answer) (q : ShardPass) → LockTurn reply added l.key p request answer q → AreTrueIn l.key.0 q.seen → OwnsSeen q → q.parts ≡ p.parts → AskTurn s ps k request answer (set ps k q)
-  asks keys request answer q turn truth owns parts =
+  pub asks : (keys : All (λ m. m.key ≡ (s.frame, s.capacity)) s.locks) (request : Request) (answer : Answer) (q : ShardPass) → LockTurn reply added l.key p request answer q → IsListOf l.key q.seen → OwnsSeen q → q.parts ≡ p.parts → AskTurn s ps k request answer (set ps k q)
+  asks keys request answer q turn holds owns parts =
       let key = all-at (λ m. m.key ≡ (s.frame, s.capacity)) s.locks k l keys lock_at in
       let t = subst (λ x. LockTurn reply added x p request answer q) key turn in
       record {
@@ -92,7 +91,8 @@ module _ (s : ShardsView) (ps : List ShardPass) (are : ArePassesOf s ps) (k : �
           own = t.own;
           places_are = owns;
           parts = parts;
-          true_facts = let P : Key → Type 0 = λ x. AreTrueIn x.0 q.seen in subst P key truth;
+          true_facts = let P : Key → Type 0 = λ x. IsListOf x q.seen in (subst P key holds).true_facts;
+          few = let P : Key → Type 0 = λ x. IsListOf x q.seen in (subst P key holds).few;
         };
         answered = t.answered;
         seen = t.seen;

@@ -1,3 +1,5 @@
+pub mod Answers
+pub mod Grown
 pub mod Index
 pub mod Keeps
 pub mod Kept

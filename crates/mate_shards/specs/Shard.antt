@@ -1,10 +1,10 @@
 -- What lies under the lock of one shard.
-use Rattle.std.specs.Prelude.{ℕ, List, Option, None, if◌then◌else◌}
+use Rattle.std.specs.Prelude.{◌≤◌, ℕ, List, length, Option, None, if◌then◌else◌}
 use Rattle.std.specs.Option.{option_map}
 use Rattle.forced_wins.specs.declared.fact.Fact.{Fact}
 use Rattle.mate_core.specs.declared.frame.Frame.{Frame}
 use Rattle.mate_core.specs.Best.{best, has_better, if_serves, is_full, sooner, stored}
-use Rattle.mate_core.specs.Runs.{IsTrueIn}
+use Rattle.mate_core.specs.Runs.{IsTrueIn, AreTrueIn}
 use Rattle.mate_shards.specs.declared.published.Published.{Published}
 use Rattle.mate_shards.specs.declared.published.Published.TheVariants.{Stored, KnownBetter, Full}
 use Rattle.mate_shards.specs.declared.request.Answer.{Answer}
@@ -22,6 +22,11 @@ Key = Frame × ℕ
 abbrev pub Fits : Key → Request → Type 0
 Fits key (Publish f) = IsTrueIn key.0 f
 Fits key (Look query) = Unit {0}
+
+-- every list of a shard: its facts are true in the frame, and it has no more of them than its capacity
+pub record IsListOf (key : Key) (facts : List Fact) : Type 0 where
+  pub true_facts : AreTrueIn key.0 facts
+  pub few : length facts ≤ key.1
 
 -- the best answer to a query
 abbrev pub best_for : Query → List Fact → Option Fact

@@ -1,5 +1,5 @@
 -- One call of a worker: one turn at one shard.
-use Rattle.std.specs.Prelude.{◌≡◌, ℕ, List, ◌++◌, length, Option, Some, None, slice_get, slice_set}
+use Rattle.std.specs.Prelude.{◌≡◌, ◌≤◌, ℕ, List, ◌++◌, length, Option, Some, None, slice_get, slice_set}
 use mathlib.Core.List.{IsPrefix}
 use Rattle.rules_model.specs.declared.board.Position.{Position}
 use Rattle.rules_model.specs.declared.board.Repeat.{Repeat}
@@ -49,6 +49,7 @@ pub record Turn (s : ShardsView) (before after : List ShardPass) (shard : ℕ) (
   pub places_are : OwnsSeen pass
   pub parts : pass.parts ≡ old.parts
   pub true_facts : AreTrueIn s.frame pass.seen
+  pub few : length pass.seen ≤ s.capacity
 
 -- a shard was asked
 pub record AskTurn (s : ShardsView) (before : List ShardPass) (shard : ℕ) (request : Request) (answer : Answer) (after : List ShardPass) : Type 0 where

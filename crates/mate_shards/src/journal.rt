@@ -1,7 +1,6 @@
 //! A shard as a value under a lock.
 ghost use Rattle.std.specs.Prelude.{◌≡◌};
-ghost use Rattle.mate_core.specs.Runs.{AreTrueIn};
-ghost use Rattle.mate_shards.specs.Shard.{Fits, reply, added};
+ghost use Rattle.mate_shards.specs.Shard.{Fits, IsListOf, reply, added};
 
 use crate::request::{Answer, Request};
 use crate::shard::Shard;
@@ -23,7 +22,7 @@ impl Journal for Shard {
 
     ghost fits = { Fits };
 
-    ghost holds = { λ key facts. AreTrueIn key.0 facts };
+    ghost holds = { IsListOf };
 
     ghost reply = { reply };
 

@@ -1,6 +1,7 @@
 //! Passes are handed to other threads and taken back.
 ghost use Rattle.std.specs.Prelude.{◌≡◌, ℕ, ◌+◌, ◌<◌, ◌≤◌, All, IfOk, IfErr, vec_len, vec_capacity};
 ghost use Rattle.std.specs.List.{insert};
+ghost use Rattle.mate_shards.specs.Grown.{HaveGrown, HaveParts, HaveSeen, owned};
 ghost use Rattle.mate_shards.specs.Views.{ArePassesOf, AreHalved, AreJoined};
 
 use crate::shard::Shard;
@@ -20,8 +21,11 @@ impl Shards {
         ensures first { IfOk result (λ halves. ArePassesOf self.now halves.0) }
         ensures second { IfOk result (λ halves. ArePassesOf self.now halves.1) }
         ensures halves { IfOk result (λ halves. AreHalved passes halves.0 halves.1) }
-        ensures parts { IfOk result (λ halves.
-            (n : ℕ) → All (λ p. p.parts ≡ n + 1) passes → All (λ p. p.parts ≡ n) halves.0) }
+        ensures parts { IfOk result (λ halves. (n : ℕ) → HaveParts (n + 1) passes → HaveParts n halves.0) }
+        ensures part { IfOk result (λ halves. HaveParts 1 halves.1) }
+        ensures grown { IfOk result (λ halves. HaveGrown passes halves.0) }
+        ensures seen { IfOk result (λ halves. HaveSeen passes halves.1) }
+        ensures owned { IfOk result (λ halves. (owned halves.0 ≡ owned passes) × (owned halves.1 ≡ 0)) }
         ensures back { IfErr result (λ back. back ≡ passes) }
     {
         let count = self.locks.len();
@@ -43,6 +47,10 @@ impl Shards {
         requires second { ArePassesOf self.now b }
         ensures passes { ArePassesOf self.now result }
         ensures joined { AreJoined a b result }
+        ensures parts { (m n : ℕ) → HaveParts m a → HaveParts n b → HaveParts (m + n) result }
+        ensures first_grown { HaveGrown a result }
+        ensures second_grown { HaveGrown b result }
+        ensures owned { owned result ≡ owned a + owned b }
     {
         let Passes { mut items } = a;
         let Passes { items: mut others } = b;

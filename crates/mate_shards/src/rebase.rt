@@ -1,6 +1,7 @@
 //! A change of the frame, between two searches.
-ghost use Rattle.std.specs.Prelude.{◌≡◌, All, IfOk, length};
+ghost use Rattle.std.specs.Prelude.{◌≡◌, IfOk, length};
 ghost use Rattle.fact_lock.specs.Passes.{IsPassOf, all_parts};
+ghost use Rattle.mate_shards.specs.Grown.{HaveParts, owned};
 ghost use Rattle.mate_shards.specs.Keeps.{AreKeeps};
 ghost use Rattle.mate_shards.specs.Views.{ArePassesOf, AreRebased, IsRebased};
 
@@ -22,12 +23,14 @@ impl Shards {
     /// `Memory` where there is none. The shards are then given up.
     pub fn rebase(self, passes: Passes, frame: Frame) -> Result<(Shards, Passes), Memory>
         requires passes { ArePassesOf self passes }
-        requires parts { All (λ p. p.parts ≡ all_parts) passes }
+        requires parts { HaveParts all_parts passes }
         ensures frame { IfOk result (λ made. made.0.frame ≡ frame) }
         ensures capacity { IfOk result (λ made. made.0.capacity ≡ self.capacity) }
         ensures shards { IfOk result (λ made. length made.0.locks ≡ length self.locks) }
         ensures passes { IfOk result (λ made. ArePassesOf made.0 made.1) }
         ensures kept { IfOk result (λ made. AreRebased self.frame frame passes made.1) }
+        ensures parts { IfOk result (λ made. HaveParts all_parts made.1) }
+        ensures owned { IfOk result (λ made. owned made.1 ≡ 0) }
     {
         let Shards {
             frame: old,

@@ -1,10 +1,15 @@
 //! The shards and the passes for them.
-ghost use Rattle.std.specs.Prelude.{◌≡◌, ◌<◌, ◌≤◌, [], All, IfOk, length};
+ghost use Rattle.std.specs.Prelude.{◌≡◌, ◌↔◌, ◌+◌, ◌<◌, ◌≤◌, ℕ, [], Bool, true, All, IfOk, IfSome, Some, length};
+ghost use Rattle.rules_model.specs.declared.board.Repeat.{Repeat as RepeatView};
 ghost use Rattle.rules_model.specs.Repeats as Repeats;
+ghost use Rattle.position_key.specs.Key.{IsBoardKey};
+ghost use Rattle.forced_wins.specs.Facts.{serves};
 ghost use Rattle.mate_core.specs.Runs.{IsTrueIn};
-ghost use Rattle.fact_lock.specs.Passes.{IsPassOf};
+ghost use Rattle.fact_lock.specs.Passes.{IsPassOf, all_parts};
 ghost use Rattle.std.specs.Option.{option_map};
 ghost use Rattle.mate_core.specs.Claims.{fact_with};
+ghost use Rattle.mate_shards.specs.Answers.{SeeAnswer, SeeAnswerOrFull, claim_kind, kind_of};
+ghost use Rattle.mate_shards.specs.Grown.{HaveGrown, HaveParts, owned, stored_by};
 ghost use Rattle.mate_shards.specs.Views.{ArePassesOf, IsFresh};
 ghost use Rattle.mate_core.specs.Hash.{shard_of_hash};
 ghost use Rattle.mate_shards.specs.Shard.{Fits};
@@ -15,7 +20,7 @@ use crate::request::{Answer, Query, Request};
 use crate::shard::Shard;
 use fact_lock::{Lock, Pass};
 use mate_core::{Claim, Fact, Frame, PackedFact, shard_of_hash};
-use position_key::Packed;
+use position_key::{BoardKey, Packed};
 use rules_model::{Memory, Position, repeat_of};
 use std::alloc::Global;
 use std::marker::Model;
@@ -73,6 +78,8 @@ impl Shards {
         ensures sizes { IfOk result (λ made. (made.0.capacity ≡ capacity) × (length made.0.locks ≡ shards)) }
         ensures passes { IfOk result (λ made. ArePassesOf made.0 made.1) }
         ensures fresh { IfOk result (λ made. All (IsFresh []) made.1) }
+        ensures parts { IfOk result (λ made. HaveParts all_parts made.1) }
+        ensures owned { IfOk result (λ made. owned made.1 ≡ 0) }
     {
         let count = shards as usize;
         let mut locks = Vec::with_capacity(alloc, count)?;
@@ -90,6 +97,13 @@ impl Shards {
         Ok((shards, Passes { items }))
     }
 
+    /// The frame in which all facts are true.
+    pub fn frame(&self) -> &Frame
+        ensures { result.now ≡ self.now.frame }
+    {
+        &self.frame
+    }
+
     /// Puts a true fact into the shard of its repeat, unless a fact as good stands there or the shard is full. It takes
     /// no memory.
     pub fn publish<R: Wait>(&self, rt: &R, passes: &mut Passes, fact: &Fact) -> Published
@@ -97,6 +111,11 @@ impl Shards {
         requires truth { IsTrueIn self.now.frame fact.now }
         ensures passes { ArePassesOf self.now passes.new }
         ensures turn { PublishTurn self.now passes.old fact.now result passes.new }
+        ensures grown { HaveGrown passes.old passes.new }
+        ensures parts { (n : ℕ) → HaveParts n passes.old → HaveParts n passes.new }
+        ensures owned { owned passes.new ≡ owned passes.old + stored_by result }
+        ensures known { (repeat : RepeatView) (counter moves : ℕ) → serves fact.now repeat counter moves ≡ true →
+            SeeAnswerOrFull self.now passes.new fact.now.wins repeat counter moves }
     {
         let given = PackedFact::of(fact);
         let shard = self.home(given.hash());
@@ -107,7 +126,7 @@ impl Shards {
     }
 
     /// The first of the facts with the least moves among those that say whether the attacker wins the position within so
-    /// many moves, if there is one. It takes no memory.
+    /// many moves, if there is one: a true one. It takes no memory.
     pub fn look<R: Wait>(
         &self,
         rt: &R,
@@ -118,15 +137,47 @@ impl Shards {
         requires passes { ArePassesOf self.now passes.old }
         ensures passes { ArePassesOf self.now passes.new }
         ensures turn { LookTurn self.now passes.old p.now moves result passes.new }
+        ensures grown { HaveGrown passes.old passes.new }
+        ensures parts { (n : ℕ) → HaveParts n passes.old → HaveParts n passes.new }
+        ensures owned { owned passes.new ≡ owned passes.old }
+        ensures truth { IfSome result (IsTrueIn self.now.frame) }
+        ensures serves { IfSome result (λ fact. serves fact (Repeats.repeat_of p.now) p.now.counter moves ≡ true) }
+        ensures known { (wins : Bool) → (kind_of result ≡ Some wins)
+            ↔ SeeAnswer self.now passes.new wins (Repeats.repeat_of p.now) p.now.counter moves }
+    {
+        let found = self.look_by_key(rt, passes, p, BoardKey::of(p), moves);
+        fact_of(found, p)
+    }
+
+    /// What that fact says of the position's repeat, where the key of its board and hands is known.
+    pub fn look_by_key<R: Wait>(
+        &self,
+        rt: &R,
+        passes: &mut Passes,
+        p: &Position,
+        key: BoardKey,
+        moves: u16,
+    ) -> Option<Claim>
+        requires passes { ArePassesOf self.now passes.old }
+        requires key { IsBoardKey key (Repeats.repeat_of p.now) }
+        ensures passes { ArePassesOf self.now passes.new }
+        ensures turn { LookTurn self.now passes.old p.now moves
+            (option_map (fact_with (Repeats.repeat_of p.now)) result) passes.new }
+        ensures grown { HaveGrown passes.old passes.new }
+        ensures parts { (n : ℕ) → HaveParts n passes.old → HaveParts n passes.new }
+        ensures owned { owned passes.new ≡ owned passes.old }
+        ensures truth { IfSome result (λ claim. IsTrueIn self.now.frame (fact_with (Repeats.repeat_of p.now) claim)) }
+        ensures known { (wins : Bool) → (claim_kind result ≡ Some wins)
+            ↔ SeeAnswer self.now passes.new wins (Repeats.repeat_of p.now) p.now.counter moves }
     {
         let query = Query {
-            repeat: Packed::of_position(p),
+            repeat: Packed::with_key(p, key),
             counter: p.counter,
             moves,
         };
         let shard = self.home(query.repeat.hash());
         match self.ask(rt, passes, shard, Request::Look(query)) {
-            Answer::Found(found) => fact_of(found, p),
+            Answer::Found(found) => found,
             Answer::Published(_) => unreachable!(),
         }
     }

@@ -1,5 +1,6 @@
-ghost use Rattle.std.specs.Prelude.{◌≡◌, ◌≤◌, false, All, IfOk};
+ghost use Rattle.std.specs.Prelude.{◌≡◌, ◌≤◌, false, IfOk};
 ghost use Rattle.fact_lock.specs.Passes.{all_parts};
+ghost use Rattle.mate_shards.specs.Grown.{HaveParts};
 ghost use Rattle.mate_shards.specs.Refuted.{RefutesAll};
 ghost use Rattle.mate_shards.specs.Views.{ArePassesOf};
 
@@ -40,7 +41,7 @@ fn drawn_shards(
     requires capacity { (16 ≤ capacity) × (capacity ≤ 65536) }
     ensures truth { IfOk result (λ made. RefutesAll made.0.frame) }
     ensures passes { IfOk result (λ made. ArePassesOf made.0 made.1) }
-    ensures parts { IfOk result (λ made. All (λ p. p.parts ≡ all_parts) made.1) }
+    ensures parts { IfOk result (λ made. HaveParts all_parts made.1) }
 {
     let (shards, passes) = Shards::new(alloc, drawn(blocked), count, capacity)?;
     Ok((shards, passes))
@@ -115,7 +116,7 @@ fn joined(shards: &Shards, one: Done, other: Done) -> Done
 // Passes for four threads.
 fn in_four(shards: &Shards, passes: Passes) -> Result<(Passes, Passes, Passes, Passes), Memory>
     requires passes { ArePassesOf shards.now passes }
-    requires parts { All (λ p. p.parts ≡ all_parts) passes }
+    requires parts { HaveParts all_parts passes }
     ensures first { IfOk result (λ four. ArePassesOf shards.now four.0) }
     ensures second { IfOk result (λ four. ArePassesOf shards.now four.1) }
     ensures third { IfOk result (λ four. ArePassesOf shards.now four.2) }
@@ -208,7 +209,7 @@ fn publish_in_four<R: Threads + Wait + Sync>(
     passes: Passes,
 ) -> Result<Done, Memory>
     requires passes { ArePassesOf shards.now passes }
-    requires parts { All (λ p. p.parts ≡ all_parts) passes }
+    requires parts { HaveParts all_parts passes }
     requires truth { RefutesAll shards.now.frame }
     ensures { IfOk result (λ done. ArePassesOf shards.now done.passes) }
 {
@@ -238,6 +239,20 @@ fn four_threads_store_each_fact_once(rt: HostRuntime) -> Result<(), Fail> {
     Ok(())
 }
 
+// Cuts passes in two, joins them, and makes the shards anew for another frame.
+fn reopened(shards: Shards, passes: Passes, frame: Frame) -> Result<(Shards, Passes), Memory>
+    requires passes { ArePassesOf shards passes }
+    requires parts { HaveParts all_parts passes }
+    ensures passes { IfOk result (λ made. ArePassesOf made.0 made.1) }
+    ensures parts { IfOk result (λ made. HaveParts all_parts made.1) }
+{
+    let Ok((kept, part)) = shards.split(passes) else {
+        return Err(Memory);
+    };
+    let joined = shards.join(kept, part);
+    shards.rebase(joined, frame)
+}
+
 // Whether a refutation is still found after the blocked positions changed.
 fn stays<R: Wait>(
     rt: &R,
@@ -247,7 +262,7 @@ fn stays<R: Wait>(
 ) -> Result<bool, Memory> {
     let (shards, mut passes) = drawn_shards(alloc, before, 4, 16)?;
     shards.publish(rt, &mut passes, &refutation(0));
-    let (shards, mut passes) = shards.rebase(passes, drawn(after))?;
+    let (shards, mut passes) = reopened(shards, passes, drawn(after))?;
     Ok(shards.look(rt, &mut passes, &numbered(0), 2) == Some(refutation(0)))
 }
 

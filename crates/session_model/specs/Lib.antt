@@ -4,10 +4,6 @@ pub mod Events
 pub mod Turns
 pub mod Mates
 pub mod Thinking
-pub mod MovesText
-pub mod OutcomeText
-pub mod GameTexts
-pub mod Loading
 pub mod UciWords
 pub mod UciGo
 pub mod UciLines

@@ -4,47 +4,25 @@ use Rattle.std.proofs.lemmas.Bool.{false≢true}
 use Rattle.std.proofs.lemmas.List.{append-nil}
 use Rattle.std.specs.declared.result.Result.{Result}
 use Rattle.io_ports.specs.declared.files.TheConstants.{MAX_FILE}
-use Rattle.io_ports.specs.declared.files.Given.{Given}
-use Rattle.io_ports.specs.declared.files.Given.TheVariants as given
-use Rattle.io_ports.specs.Cause.{HasCause}
-use Rattle.io_ports.specs.Files.{Contents, Read, Found, Bytes, Missing, TooLarge, Fault, Finds, IsFound, found_of, faults_of, given_reads}
-use Rattle.io_ports.specs.Trace.{Reads, faults_in}
-use Rattle.io_ports.proofs.Asked.{reads_none, reads_call}
+use Rattle.io_ports.specs.Files.{Contents, Read, Found, Bytes, Missing, TooLarge, Fault, Finds, IsFound, found_of, faults_of}
+use Rattle.io_ports.specs.Trace.{faults_in}
 use Rattle.variant_ini.specs.declared.fault.IniFault.{IniFault}
-use Rattle.variant_ini.specs.declared.fault.IniFault.TheVariants as ini
-use Rattle.variant_ini.specs.Reading.{IsFaultOrMemory, fault_of, sections_in as sections_of_bytes}
+use Rattle.variant_ini.specs.Reading.{fault_of}
 use Rattle.variant_ini.specs.Section.{Section}
-use Rattle.variant_model.specs.Builtin.{builtin_sections}
-use Rattle.vengine.specs.declared.fault.FileFault.TheVariants as file_fault
 use Rattle.vengine.specs.declared.fault.Fault.{Fault as Why}
-use Rattle.vengine.specs.declared.fault.Fault.TheVariants.{Ini, File}
-use Rattle.vengine.specs.declared.halt.Halt.{Halt}
-use Rattle.vengine.specs.declared.halt.Halt.TheVariants as halt
-use Rattle.vengine.specs.declared.stop.Stop.TheVariants as stop
+use Rattle.vengine.specs.declared.fault.Fault.TheVariants.{Load}
+use Rattle.variant_files.specs.declared.fault.LoadFault.TheVariants.{Ini}
+use Rattle.variant_files.specs.declared.fault.NoSections.{NoSections}
+use Rattle.variant_files.specs.declared.fault.NoSections.TheVariants as no_sections
+use Rattle.variant_files.specs.Looked.{HasSections as Loads}
 use Rattle.vengine.specs.Commands.{asks_file}
 use Rattle.vengine.specs.Fault.{fault_status}
-use Rattle.vengine.specs.HaltView.{AreFirstOrNone, HasFile, HasSections, ini_halt}
-use Rattle.vengine.specs.Looked.{IsTooLarge, Looked, TellsReads}
+use Rattle.vengine.specs.HaltView.{AreFirstOrNone, HasSections, load_halt}
+use Rattle.vengine.specs.Looked.{IsTooLarge, TellsReads}
 use Rattle.vengine.specs.Run.{Further, IsUnreadable}
-use Rattle.vengine.specs.Variants.{AreFirstReads, AreReadsOf, Accepts, Refuses, fault_found, fault_in, sections_in}
+use Rattle.vengine.specs.Variants.{AreFirstReads, AreReadsOf, fault_found, fault_in, sections_in}
 use Rattle.words.specs.Asked.{Asked}
 use Rattle.words.specs.Options.{Text}
-
--- ---- calls
-
-module _ {F : Type 0} {contents : F → Option Contents} {faults : F → ℕ} where
-  -- nothing was read
-  pub looked_none : (f : F) (Holds : List Read → Type 0) → Holds [] → Looked (Reads contents faults f f) Holds
-  looked_none f Holds holds = record { reads = []; asks = reads_none f; holds = holds }
-
-  -- a file was read
-  pub looked_call : (a b : F) (name : List ℕ) (answer : Given) (out : List ℕ) (Holds : List Read → Type 0) → Finds (contents a) (given_reads name answer out) → contents b ≡ contents a
-      → HasCause (faults a) (faults b) (answer ≡ given.Failed) → Holds (given_reads name answer out) → Looked (Reads contents faults a b) Holds
-  looked_call a b name answer out Holds finds same cause holds = record { reads = given_reads name answer out; asks = reads_call a b name answer out finds same cause; holds = holds }
-
--- what follows from it
-pub looked_so : (asked : List Read → Type 0) (P Q : List Read → Type 0) → Looked asked P → ((reads : List Read) → P reads → Q reads) → Looked asked Q
-looked_so asked P Q looked so = record { reads = looked.reads; asks = looked.asks; holds = so looked.reads looked.holds }
 
 -- ---- what is found of a file
 
@@ -116,46 +94,22 @@ same_reads (Some a) contents reads reads' are are' tells tells' = go a.variants 
     go None are are' tells tells' = are ∙ sym are'
     go (Some name) are are' tells tells' = same_named contents name reads reads' are are' (tells refl) (tells' refl)
 
--- ---- the fault of a file
+-- ---- why the file of variants gives no sections
 
--- a file that was read has the fault of its bytes
-read_fault : (name : Text) (reads : List Read) (bytes : List ℕ) → HasFile name reads (Ok bytes) → fault_in (Some name) reads ≡ option_map Ini (fault_of bytes)
-read_fault name reads bytes has = ap (fault_in (Some name)) has.0 ∙ (rw (le-ltb MAX_FILE (length bytes) has.1) refl)
+-- the one read of it is a read of this name
+reads_of_name : (name : Text) (reads : List Read) (found : Found) → reads ≡ record { name = name; found = found } ∷ [] → AreReadsOf (Some name) reads
+reads_of_name name reads found are = subst (AreReadsOf (Some name)) (sym are) refl
 
--- one that has too many bytes is too large
-pub large_fault : (bytes : List ℕ) → MAX_FILE < length bytes → fault_found (Bytes bytes) ≡ Some (File file_fault.TooLarge)
-large_fault bytes large = rw (lt-ltb MAX_FILE (length bytes) large) refl
+-- it is the reason of the run
+pub load_refused : (name : Text) (reads : List Read) (why : NoSections) → Loads name reads (Err why) → HasSections (Some name) reads (Err (load_halt why))
+load_refused name reads (no_sections.Fault fault) has = (reads_of_name name reads has.found has.reads_are, ap (fault_in (Some name)) has.reads_are ∙ ap (option_map Load) has.holds)
+load_refused name reads no_sections.Memory (inl none) = inl none
+load_refused name reads no_sections.Memory (inr one) = inr (reads_of_name name reads one.found one.reads_are)
 
-has_reads : (name : Text) (reads : List Read) (bytes : List ℕ) → HasFile name reads (Ok bytes) → AreReadsOf (Some name) reads
-has_reads name reads bytes has = subst (AreReadsOf (Some name)) (sym has.0) refl
-
--- why a file was not read is why it is refused
-pub unread_refused : (name : Text) (reads : List Read) (why : Halt) → HasFile name reads (Err why) → HasSections (Some name) reads (Err why)
-unread_refused name reads halt.Usage has = has
-unread_refused name reads (halt.Fault why) has = has
-unread_refused name reads (halt.Stop stop.Source) has = has
-unread_refused name reads (halt.Stop stop.Sink) has = has
-unread_refused name reads (halt.Stop stop.Memory) has = inl has
-
--- there was no memory for what was read
-pub unkept_refused : (name : Text) (reads : List Read) (bytes : List ℕ) → HasFile name reads (Ok bytes) → HasSections (Some name) reads (Err (halt.Stop stop.Memory))
-unkept_refused name reads bytes has = inr (has_reads name reads bytes has)
-
--- the fault of its bytes is why it is refused
-pub faulty_refused : (name : Text) (reads : List Read) (bytes : List ℕ) (why : IniFault) → HasFile name reads (Ok bytes) → IsFaultOrMemory (fault_of bytes) why → HasSections (Some name) reads (Err (ini_halt why))
-faulty_refused name reads bytes ini.Memory has is = unkept_refused name reads bytes has
-faulty_refused name reads bytes ini.TooLarge has is = (has_reads name reads bytes has, read_fault name reads bytes has ∙ ap (option_map Ini) is)
-faulty_refused name reads bytes (ini.NotAscii line) has is = (has_reads name reads bytes has, read_fault name reads bytes has ∙ ap (option_map Ini) is)
-faulty_refused name reads bytes (ini.LineTooLong line) has is = (has_reads name reads bytes has, read_fault name reads bytes has ∙ ap (option_map Ini) is)
-faulty_refused name reads bytes (ini.NoSection line) has is = (has_reads name reads bytes has, read_fault name reads bytes has ∙ ap (option_map Ini) is)
-faulty_refused name reads bytes (ini.BadLine line) has is = (has_reads name reads bytes has, read_fault name reads bytes has ∙ ap (option_map Ini) is)
-faulty_refused name reads bytes (ini.TooManySections line) has is = (has_reads name reads bytes has, read_fault name reads bytes has ∙ ap (option_map Ini) is)
-
--- else the file has its sections
-pub file_taken : (name : Text) (reads : List Read) (bytes : List ℕ) (sections : List Section) → HasFile name reads (Ok bytes) → fault_of bytes ≡ None → sections ≡ builtin_sections ++ sections_of_bytes bytes
-    → HasSections (Some name) reads (Ok sections)
-file_taken name reads bytes sections has none are =
-    ((has_reads name reads bytes has, read_fault name reads bytes has ∙ ap (option_map Ini) none), are ∙ sym (ap (sections_in (Some name)) has.0))
+-- else it was taken
+pub load_taken : (name : Text) (reads : List Read) (sections : List Section) → Loads name reads (Ok sections) → HasSections (Some name) reads (Ok sections)
+load_taken name reads sections has =
+    ((reads_of_name name reads has.found has.reads_are, ap (fault_in (Some name)) has.reads_are ∙ ap (option_map Load) has.holds.0), has.holds.1 ∙ sym (ap (sections_in (Some name)) has.reads_are))
 
 -- ---- why a run has the status of a file that was not read
 
@@ -193,6 +147,6 @@ why_unread (Some files) name TooLarge why finds is six = inl (inr (found_large (
 why_unread (Some files) name Fault why finds is six = inr (omega arith)
 why_unread (Some files) name (Bytes bytes) why finds is six = go (fault_of bytes) (rw (found_fits (files name) bytes finds.0) at is)
   where
-    go : (o : Option IniFault) → option_map Ini o ≡ Some why → IsUnreadable (Some files) name ⊎ (0 < faults_of (Bytes bytes))
+    go : (o : Option IniFault) → option_map Load (option_map Ini o) ≡ Some why → IsUnreadable (Some files) name ⊎ (0 < faults_of (Bytes bytes))
     go None is = cc
-    go (Some fault) is = let same : Ini fault ≡ why = cc in absurd (omega (arith, subst (λ (x : Why). fault_status x ≡ 6) (sym same) six))
+    go (Some fault) is = let same : Load (Ini fault) ≡ why = cc in absurd (omega (arith, subst (λ (x : Why). fault_status x ≡ 6) (sym same) six))

@@ -27,10 +27,12 @@ use Rattle.words.specs.Command.{Command, Uci, Xboard, Moves, Status, Perft, Chec
 use Rattle.words.specs.Options.{Text}
 use Rattle.vengine.specs.declared.fault.Fault.{Fault}
 use Rattle.vengine.specs.declared.fault.Fault.TheVariants as fault
-use Rattle.vengine.specs.declared.fault.FileFault.TheVariants.{Failed}
+use Rattle.variant_files.specs.declared.fault.FileFault.TheVariants.{Failed}
+use Rattle.variant_files.specs.declared.fault.LoadFault.TheVariants.{File}
 use Rattle.vengine.specs.Commands.{IsOneShot, asks_input, reads_input}
 use Rattle.vengine.specs.Fault.{FaultClass, OfFile, OfInput, class_status, error_line, facts, fault_status, fault_text, unplaced_text}
-use Rattle.vengine.specs.GameTexts.{moves_of, status_of, perft_of, self_mate_of, help_mate_of}
+use Rattle.game_reports.specs.GameTexts.{moves_of, status_of, perft_of}
+use Rattle.vengine.specs.GameTexts.{self_mate_of, help_mate_of}
 use Rattle.vengine.specs.ReachText.{reach_text}
 use Rattle.vengine.specs.Looked.{TellsReads}
 use Rattle.vengine.specs.Run.{IsCut, IsDone, IsUnreadable, NamesFile}
@@ -255,13 +257,13 @@ shot_told words files reads reads' input s s' t t' tells tells' shot shot' =
 -- ---- files that fail
 
 named_failing : (name : Option Text) (reads : List Read) (Says : ℕ → List ℕ → Type 0) (status : ℕ) (text : List ℕ) → 0 < faults_in reads → AreReadsOf name reads → SaysLoaded (fault_in name reads) Says status text
-    → SaysFault (fault.File Failed) status text
+    → SaysFault (fault.Load (File Failed)) status text
 named_failing None reads Says status text some are says = let none = ap faults_in are in absurd (omega (arith, some, none))
 named_failing (Some name) [] Says status text some are says = absurd are
 named_failing (Some name) (x ∷ y ∷ reads) Says status text some are says = absurd are
 named_failing (Some name) (x ∷ []) Says status text some are says = go x.found (omega (arith, some)) says
   where
-    go : (f : Found) → 0 < faults_of f → SaysLoaded (fault_found f) Says status text → SaysFault (fault.File Failed) status text
+    go : (f : Found) → 0 < faults_of f → SaysLoaded (fault_found f) Says status text → SaysFault (fault.Load (File Failed)) status text
     go (found.Bytes bytes) some says = absurd (omega (arith, some))
     go found.Missing some says = absurd (omega (arith, some))
     go found.TooLarge some says = absurd (omega (arith, some))
@@ -269,11 +271,11 @@ named_failing (Some name) (x ∷ []) Says status text some are says = go x.found
 
 -- an answer by a read that failed says so
 pub says_failing : (c : Option Asked) (reads : List Read) (input : List Line) (status : ℕ) (text : List ℕ) → 0 < faults_in reads → AreFirstReads c reads → Says c reads input status text
-    → SaysFault (fault.File Failed) status text
+    → SaysFault (fault.Load (File Failed)) status text
 says_failing None reads input status text some are says = let none = ap faults_in are in absurd (omega (arith, some, none))
 says_failing (Some a) reads input status text some are says = named_failing a.variants reads _ status text some are says
 
-pub shot_failing : (words : List Text) (reads : List Read) (input : List Line) (status : ℕ) (text : List ℕ) → 0 < faults_in reads → Shot words reads input status text → SaysFault (fault.File Failed) status text
+pub shot_failing : (words : List Text) (reads : List Read) (input : List Line) (status : ℕ) (text : List ℕ) → 0 < faults_in reads → Shot words reads input status text → SaysFault (fault.Load (File Failed)) status text
 unfolding Shot
 shot_failing words reads input status text some shot = says_failing (to_do words) reads input status text some shot.asks shot.says
 

@@ -1,7 +1,6 @@
 -- How faults print: the type's name, the fault's number, its name and its fields, separated by single blanks. A fault inside
 -- a fault prints whole.
 use Rattle.std.specs.Prelude.{ℕ, List, ◌++◌, codes}
-use Rattle.std.specs.Fmt.{decimal}
 use Rattle.betza_text.specs.Fault as betza
 use Rattle.game_text.specs.Fault as game
 use Rattle.strategy.specs.Fault as strategy
@@ -9,29 +8,13 @@ use Rattle.proof_text.specs.Fault as proof
 use Rattle.strategy_check.specs.Verdicts.{verdict_text}
 use Rattle.stipulation.specs.Verdicts as stipulation
 use Rattle.cert_text.specs.Fault as cert
-use Rattle.variant_ini.specs.declared.fault.IniFault.{IniFault}
-use Rattle.variant_ini.specs.declared.fault.IniFault.TheVariants as ini
-use Rattle.vengine.specs.declared.fault.FileFault.{FileFault}
-use Rattle.vengine.specs.declared.fault.FileFault.TheVariants as file
+use Rattle.variant_files.specs.declared.fault.LoadFault.TheVariants.{File, Ini}
+use Rattle.variant_files.specs.Loading.{file_fault_text, ini_fault_text}
 use Rattle.vengine.specs.declared.fault.Fault.{Fault}
-use Rattle.vengine.specs.declared.fault.Fault.TheVariants.{Betza, Reach, Game, Strategy, Proof, Verdict, Cert, CertFailure, Ini, File}
+use Rattle.vengine.specs.declared.fault.Fault.TheVariants.{Betza, Reach, Game, Strategy, Proof, Verdict, Cert, CertFailure, Load}
 use Rattle.vengine.specs.declared.setup.ReachFault.{ReachFault}
 use Rattle.vengine.specs.Setup.{Unplaced, NoSquare, Taken}
 use Rattle.vengine.specs.UnplacedView.{unplaced_of}
-
-abbrev pub file_fault_text : FileFault → List ℕ
-file_fault_text file.Missing = codes "FileFault 1 Missing"
-file_fault_text file.TooLarge = codes "FileFault 2 TooLarge"
-file_fault_text file.Failed = codes "FileFault 3 Failed"
-
-abbrev pub ini_fault_text : IniFault → List ℕ
-ini_fault_text ini.TooLarge = codes "IniFault 1 TooLarge"
-ini_fault_text (ini.NotAscii line) = codes "IniFault 2 NotAscii " ++ decimal line
-ini_fault_text (ini.LineTooLong line) = codes "IniFault 3 LineTooLong " ++ decimal line
-ini_fault_text (ini.NoSection line) = codes "IniFault 4 NoSection " ++ decimal line
-ini_fault_text (ini.BadLine line) = codes "IniFault 5 BadLine " ++ decimal line
-ini_fault_text (ini.TooManySections line) = codes "IniFault 6 TooManySections " ++ decimal line
-ini_fault_text ini.Memory = codes "IniFault Memory"
 
 -- a text that names no square, or one on which a piece stands already
 abbrev pub unplaced_text : Unplaced → List ℕ
@@ -60,8 +43,8 @@ facts (Proof fault) = (proof.fault_text fault, OfInput)
 facts (Verdict verdict) = (verdict_text verdict, OfInput)
 facts (Cert fault) = (cert.fault_text fault, OfInput)
 facts (CertFailure verdict) = (stipulation.verdict_text verdict, OfInput)
-facts (Ini fault) = (ini_fault_text fault, OfInput)
-facts (File fault) = (file_fault_text fault, OfFile)
+facts (Load (Ini fault)) = (ini_fault_text fault, OfInput)
+facts (Load (File fault)) = (file_fault_text fault, OfFile)
 
 abbrev pub fault_text : Fault → List ℕ
 fault_text fault = (facts fault).0

@@ -1,17 +1,16 @@
 -- What the code answers, as the definitions have it.
-use Rattle.std.specs.Prelude.{◌≡◌, ◌≤◌, ◌⊎◌, ℕ, List, [], ◌∷◌, length, Option, Some, None, Result, Ok, Err, ⊤}
+use Rattle.std.specs.Prelude.{◌≡◌, ◌⊎◌, ℕ, List, [], Option, Some, None, Result, Ok, Err, ⊤}
 use Rattle.std.specs.Io.KnownBytes.{Appends}
 use Rattle.betza_text.specs.declared.fault.BetzaFault.{BetzaFault}
 use Rattle.betza_text.specs.declared.fault.BetzaFault.TheVariants as betza
-use Rattle.io_ports.specs.declared.files.TheConstants.{MAX_FILE}
 use Rattle.io_ports.specs.Cause.{Rose}
-use Rattle.io_ports.specs.Files.{Bytes, Read}
+use Rattle.io_ports.specs.Files.{Read}
 use Rattle.io_ports.specs.Sink.{AppendsFront}
-use Rattle.variant_ini.specs.declared.fault.IniFault.{IniFault}
-use Rattle.variant_ini.specs.declared.fault.IniFault.TheVariants as ini
+use Rattle.variant_files.specs.declared.fault.NoSections.{NoSections}
+use Rattle.variant_files.specs.declared.fault.NoSections.TheVariants as no_sections
 use Rattle.variant_ini.specs.Section.{Section}
 use Rattle.vengine.specs.declared.fault.Fault.{Fault}
-use Rattle.vengine.specs.declared.fault.Fault.TheVariants.{Betza, Game, Strategy, Proof, Cert, Ini}
+use Rattle.vengine.specs.declared.fault.Fault.TheVariants.{Betza, Game, Strategy, Proof, Cert, Load}
 use Rattle.game_text.specs.declared.fault.NoGame.{NoGame}
 use Rattle.game_text.specs.declared.fault.NoGame.TheVariants as no_game
 use Rattle.strategy.specs.declared.fault.StrategyFault.TheVariants as strategy
@@ -51,15 +50,10 @@ betza_halt (betza.BadHopper place) = halt.Fault (Betza (betza.BadHopper place))
 betza_halt (betza.BadNumber place) = halt.Fault (Betza (betza.BadNumber place))
 betza_halt (betza.TooManyTerms place) = halt.Fault (Betza (betza.TooManyTerms place))
 
--- nor of a file
-abbrev pub ini_halt : IniFault → Halt
-ini_halt ini.Memory = halt.Stop stop.Memory
-ini_halt ini.TooLarge = halt.Fault (Ini ini.TooLarge)
-ini_halt (ini.NotAscii line) = halt.Fault (Ini (ini.NotAscii line))
-ini_halt (ini.LineTooLong line) = halt.Fault (Ini (ini.LineTooLong line))
-ini_halt (ini.NoSection line) = halt.Fault (Ini (ini.NoSection line))
-ini_halt (ini.BadLine line) = halt.Fault (Ini (ini.BadLine line))
-ini_halt (ini.TooManySections line) = halt.Fault (Ini (ini.TooManySections line))
+-- nor of the file of variants
+abbrev pub load_halt : NoSections → Halt
+load_halt (no_sections.Fault fault) = halt.Fault (Load fault)
+load_halt no_sections.Memory = halt.Stop stop.Memory
 
 abbrev pub game_halt : NoGame → Halt
 game_halt (no_game.Faulty fault) = halt.Fault (Game fault)
@@ -124,16 +118,6 @@ IsToDo asked (Err (halt.Fault fault)) = ⊥
 IsToDo asked (Err (halt.Stop stop.Source)) = ⊥
 IsToDo asked (Err (halt.Stop stop.Sink)) = ⊥
 IsToDo asked (Err (halt.Stop stop.Memory)) = ⊤
-
--- the bytes that were found of the file of this name, or why it is refused; nothing was, where there was no memory
-abbrev pub HasFile : Text → List Read → Result (List ℕ) Halt → Type 0
-HasFile name reads (Ok bytes) =
-    (reads ≡ record { name = name; found = Bytes bytes } ∷ []) × (length bytes ≤ MAX_FILE)
-HasFile name reads (Err halt.Usage) = ⊥
-HasFile name reads (Err (halt.Fault fault)) = Refuses (Some name) reads fault
-HasFile name reads (Err (halt.Stop stop.Source)) = ⊥
-HasFile name reads (Err (halt.Stop stop.Sink)) = ⊥
-HasFile name reads (Err (halt.Stop stop.Memory)) = reads ≡ []
 
 -- all reads of the file of variants were done, or none
 abbrev pub AreReadsOrNone : Option Text → List Read → Type 0

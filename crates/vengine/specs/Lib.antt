@@ -8,8 +8,6 @@ pub mod GameView
 pub mod GameTexts
 pub mod HaltView
 pub mod Looked
-pub mod MovesText
-pub mod OutcomeText
 pub mod ReachText
 pub mod Run
 pub mod Sessions

@@ -13,9 +13,3 @@ IsTooLarge (Some bytes) = MAX_FILE < length bytes
 abbrev pub TellsReads : Option Contents → List Read → Type 0
 TellsReads None reads = ⊥
 TellsReads (Some files) reads = Finds (Some files) reads × (faults_in reads ≡ 0)
-
--- files were asked for, and this holds of what was found
-pub record Looked (asked : List Read → Type 0) (Holds : List Read → Type 0) : Type 0 where
-  pub reads : List Read
-  pub asks : asked reads
-  pub holds : Holds reads

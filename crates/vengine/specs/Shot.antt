@@ -21,7 +21,8 @@ use Rattle.vengine.specs.declared.fault.Fault.{Fault}
 use Rattle.vengine.specs.Certificates.{SaysCertCheck}
 use Rattle.vengine.specs.Checking.{SaysCheck}
 use Rattle.vengine.specs.Fault.{error_line, fault_status, fault_text, unplaced_text}
-use Rattle.vengine.specs.GameTexts.{moves_of, status_of, perft_of, self_mate_of, help_mate_of}
+use Rattle.game_reports.specs.GameTexts.{moves_of, status_of, perft_of}
+use Rattle.vengine.specs.GameTexts.{self_mate_of, help_mate_of}
 use Rattle.vengine.specs.ReachText.{reach_text}
 use Rattle.vengine.specs.Sessions.{to_do}
 use Rattle.vengine.specs.Setup.{Unplaced, setup_of}

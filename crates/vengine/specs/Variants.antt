@@ -1,14 +1,11 @@
 -- The file of variants, read and judged before the command.
-use Rattle.std.specs.Prelude.{◌≡◌, ◌⊎◌, ℕ, nat_lt, List, length, Option, Some, None, option_map, if◌then◌else◌, [], ◌∷◌, ◌++◌}
-use Rattle.io_ports.specs.declared.files.TheConstants.{MAX_FILE}
-use Rattle.io_ports.specs.Files as files
-use Rattle.io_ports.specs.Files.{Found, Bytes, Read}
-use Rattle.variant_ini.specs.Reading.{fault_of, sections_in as sections_of_bytes}
+use Rattle.std.specs.Prelude.{◌≡◌, List, [], ◌∷◌, Option, Some, None, option_map}
+use Rattle.io_ports.specs.Files.{Found, Read}
+use Rattle.variant_files.specs.Loading.{refusal, sections_with}
 use Rattle.variant_ini.specs.Section.{Section}
 use Rattle.variant_model.specs.Builtin.{builtin_sections}
-use Rattle.vengine.specs.declared.fault.FileFault.TheVariants.{Missing, TooLarge, Failed}
 use Rattle.vengine.specs.declared.fault.Fault.{Fault}
-use Rattle.vengine.specs.declared.fault.Fault.TheVariants.{Ini, File}
+use Rattle.vengine.specs.declared.fault.Fault.TheVariants.{Load}
 use Rattle.words.specs.Asked.{Asked}
 use Rattle.words.specs.Options.{Text}
 
@@ -26,19 +23,9 @@ AreFirstReads (Some a) reads = AreReadsOf a.variants reads
 
 -- ---- what was found of it
 
--- the fault of what was found: no file, too many bytes, a file that was not read, or the first faulty line
+-- the fault of what was found
 abbrev pub fault_found : Found → Option Fault
-fault_found (Bytes bytes) =
-    if nat_lt MAX_FILE (length bytes) then Some (File TooLarge) else option_map Ini (fault_of bytes)
-fault_found files.Missing = Some (File Missing)
-fault_found files.TooLarge = Some (File TooLarge)
-fault_found files.Fault = Some (File Failed)
-
-abbrev pub sections_found : Found → List Section
-sections_found (Bytes bytes) = sections_of_bytes bytes
-sections_found files.Missing = []
-sections_found files.TooLarge = []
-sections_found files.Fault = []
+fault_found found = option_map Load (refusal found)
 
 -- the fault of what the first read found, where a file of variants is named
 abbrev pub fault_in : Option Text → List Read → Option Fault
@@ -50,7 +37,7 @@ fault_in (Some name) (read ∷ reads) = fault_found read.found
 abbrev pub sections_in : Option Text → List Read → List Section
 sections_in None reads = builtin_sections
 sections_in (Some name) [] = builtin_sections
-sections_in (Some name) (read ∷ reads) = builtin_sections ++ sections_found read.found
+sections_in (Some name) (read ∷ reads) = sections_with read.found
 
 -- ---- what follows
 

@@ -5,7 +5,8 @@ ghost use Rattle.vengine.specs.Commands.{lines_needed, reads_input};
 ghost use Rattle.variant_rules.specs.Entries.{entries};
 ghost use Rattle.game_text.specs.GameText.{lines_of_game};
 ghost use Rattle.game_text.specs.HeardLines.{HeardLines};
-ghost use Rattle.vengine.specs.GameTexts as print;
+ghost use Rattle.game_reports.specs.GameTexts as print;
+ghost use Rattle.vengine.specs.GameTexts as stipulate;
 ghost use Rattle.vengine.specs.HaltView.{Answers, IsUnheard, OutcomeOf};
 ghost use Rattle.vengine.specs.Sessions.{is_session};
 ghost use Rattle.vengine.specs.Shot.{SaysCommand, SaysOfGame, SaysReach, usage_line};
@@ -15,7 +16,7 @@ ghost use Rattle.words.specs.View.{HasPlies, command_seen};
 
 use crate::certificates::cert_check_text;
 use crate::checking::check_text;
-use crate::game::{game_in, help_mate_of, moves_of, perft_of, self_mate_of, status_of};
+use crate::game::{game_in, help_mate_of, self_mate_of};
 use crate::halt::Halt;
 use crate::opening::Opened;
 use crate::reach::reach_text;
@@ -25,6 +26,7 @@ use crate::variants::variants_of;
 use betza_compile::compile;
 use betza_text::parse;
 use foundation::{Memory, Text};
+use game_reports::{moves_of, perft_of, status_of};
 use io_ports::Source;
 use std::alloc::{AllocError, Global};
 use variant_ini::Sections;
@@ -113,7 +115,7 @@ fn self_mate<S: Source>(
     requires least { 1 ≤ moves }
     requires most { moves ≤ 6 }
     ensures heard { HeardLines (S.left source.old) (S.left source.new) (lines_of_game (entries sections.now))
-        (λ lines. Answers result (SaysOfGame (print.self_mate_of moves) sections.now lines)) }
+        (λ lines. Answers result (SaysOfGame (stipulate.self_mate_of moves) sections.now lines)) }
     ensures cause { HasCause (S.faults source.old) (S.faults source.new) (IsUnheard result) }
 {
     let game = game_in(alloc, sections, source)?;
@@ -130,7 +132,7 @@ fn help_mate<S: Source>(
     requires least { 1 ≤ moves }
     requires most { moves ≤ 6 }
     ensures heard { HeardLines (S.left source.old) (S.left source.new) (lines_of_game (entries sections.now))
-        (λ lines. Answers result (SaysOfGame (print.help_mate_of moves) sections.now lines)) }
+        (λ lines. Answers result (SaysOfGame (stipulate.help_mate_of moves) sections.now lines)) }
     ensures cause { HasCause (S.faults source.old) (S.faults source.new) (IsUnheard result) }
 {
     let game = game_in(alloc, sections, source)?;

@@ -9,63 +9,11 @@ use cert_text::CertFault;
 use foundation::{Memory, Text};
 use game_text::{GameFault, write_fault};
 use proof_text::ProofFault;
-use std::alloc::{AllocError, Global};
-use std::fmt;
+use std::alloc::Global;
 use stipulation::CertVerdict;
 use strategy::StrategyFault;
 use strategy_check::Verdict;
-use variant_ini::IniFault;
-
-/// Why a file was not read.
-#[derive(Clone, Copy, Debug, PartialEq, Eq)]
-pub enum FileFault {
-    /// There is no file of this name.
-    Missing,
-    /// The file has more than 1,048,576 bytes.
-    TooLarge,
-    /// The files failed.
-    Failed,
-}
-
-impl fmt::Display for FileFault {
-    ghost use Rattle.std.specs.Prelude.{Some};
-    ghost use Rattle.vengine.specs.Fault.{file_fault_text};
-
-    ghost output = { λ fault. Some (file_fault_text fault) };
-
-    /// The type's name, the fault's number and its name, as `FileFault 1 Missing`.
-    fn fmt<W: fmt::Write>(&self, f: &mut fmt::Formatter<W>) -> fmt::Result {
-        f.write_str(match *self {
-            FileFault::Missing => "FileFault 1 Missing",
-            FileFault::TooLarge => "FileFault 2 TooLarge",
-            FileFault::Failed => "FileFault 3 Failed",
-        })
-    }
-}
-
-/// How the fault of a file of variants prints.
-#[derive(Drop)]
-struct PrintedIni(IniFault);
-
-impl fmt::Display for PrintedIni {
-    ghost use Rattle.std.specs.Prelude.{Some};
-    ghost use Rattle.vengine.specs.Fault.{ini_fault_text};
-
-    ghost output = { λ fault. Some (ini_fault_text fault.0) };
-
-    /// The type's name, the fault's number, its name and its line, as `IniFault 4 NoSection 1`.
-    fn fmt<W: fmt::Write>(&self, f: &mut fmt::Formatter<W>) -> fmt::Result {
-        match self.0 {
-            IniFault::TooLarge => f.write_str("IniFault 1 TooLarge"),
-            IniFault::NotAscii(line) => write!(f, "IniFault 2 NotAscii {line}"),
-            IniFault::LineTooLong(line) => write!(f, "IniFault 3 LineTooLong {line}"),
-            IniFault::NoSection(line) => write!(f, "IniFault 4 NoSection {line}"),
-            IniFault::BadLine(line) => write!(f, "IniFault 5 BadLine {line}"),
-            IniFault::TooManySections(line) => write!(f, "IniFault 6 TooManySections {line}"),
-            IniFault::Memory => f.write_str("IniFault Memory"),
-        }
-    }
-}
+use variant_files::LoadFault;
 
 /// The fault of an argument, of the file of variants, or of the input.
 #[derive(Drop)]
@@ -86,10 +34,8 @@ pub enum Fault<'a> {
     Cert(CertFault),
     /// The certificate of the input does not hold.
     CertFailure(CertVerdict),
-    /// The file of variants is not of its format.
-    Ini(IniFault),
-    /// The file of variants was not read.
-    File(FileFault),
+    /// The file of variants is refused.
+    Load(LoadFault),
 }
 
 // The line of the fault of a game text, whose names and texts may be any bytes.
@@ -109,7 +55,7 @@ impl<'a> Fault<'a> {
         ensures { result ≡ fault_status self.now }
     {
         match self {
-            Fault::File(_) => 6,
+            Fault::Load(LoadFault::File(_)) => 6,
             _ => 3,
         }
     }
@@ -127,8 +73,7 @@ impl<'a> Fault<'a> {
             Fault::Verdict(verdict) => format!(in alloc; "error {verdict}\n")?.into_bytes(),
             Fault::Cert(fault) => format!(in alloc; "error {fault}\n")?.into_bytes(),
             Fault::CertFailure(verdict) => format!(in alloc; "error {verdict}\n")?.into_bytes(),
-            Fault::Ini(fault) => format!(in alloc; "error {}\n", PrintedIni(*fault))?.into_bytes(),
-            Fault::File(fault) => format!(in alloc; "error {fault}\n")?.into_bytes(),
+            Fault::Load(fault) => format!(in alloc; "error {fault}\n")?.into_bytes(),
         };
         Ok(Text { items })
     }

@@ -1,26 +1,22 @@
-//! The game that a command reads, and what the commands print of it.
+//! The game that a command reads, and what `stipulate` prints of it.
 ghost use Rattle.std.specs.Prelude.{◌≡◌, ◌≤◌, IfOk};
 ghost use Rattle.io_ports.specs.Cause.{HasCause};
 ghost use Rattle.variant_rules.specs.Entries.{entries};
 ghost use Rattle.game_text.specs.GameText.{game_of, lines_of_game};
 ghost use Rattle.game_text.specs.HeardLines.{HeardLines};
 ghost use Rattle.stipulation.specs.Searches.{steps_of};
-ghost use Rattle.vengine.specs.GameTexts.{cert_or_none, help_mate_of, moves_of, perft_of, self_mate_of, status_of};
+ghost use Rattle.vengine.specs.GameTexts.{cert_or_none, help_mate_of, self_mate_of};
 ghost use Rattle.vengine.specs.GameView.{SaysGame};
 ghost use Rattle.vengine.specs.HaltView.{IsUnheard};
 
 use crate::halt::Halt;
-use crate::moves::text_of_moves;
-use crate::outcome::Printed;
 use cert_text::write_cert;
 use foundation::{Memory, Text};
 use game_play::Game;
 use game_text::read_game;
 use io_ports::Source;
-use legality::legal_moves;
 use std::alloc::Global;
 use stipulation::{Cert, help_mate, self_mate};
-use variant_fen::write_fen;
 use variant_ini::Sections;
 use variant_rules::load;
 
@@ -36,41 +32,6 @@ pub fn game_in<S: Source>(
 {
     let variants = load(alloc, sections)?;
     Ok(read_game(alloc, &variants, source)?)
-}
-
-/// The legal moves of the game's last position, one a line in the order of their texts, and then their number.
-pub fn moves_of(alloc: Global, game: &Game) -> Result<Text, Memory>
-    ensures { IfOk result (λ text. text ≡ moves_of game.now) }
-{
-    game.is_played();
-    let moves = legal_moves(alloc, game.rules(), game.tables(), game.position())?;
-    Ok(text_of_moves(alloc, moves.items.as_slice())?)
-}
-
-/// How the game stands, and on a second line its last position.
-#[tactic(auto, unfolding(crate::specs::GameTexts::status_of))]
-pub fn status_of(alloc: Global, game: &Game) -> Result<Text, Memory>
-    ensures { IfOk result (λ text. text ≡ status_of game.now) }
-{
-    game.is_played();
-    let fen = write_fen(alloc, game.rules(), game.position())?;
-    let standing = format!(in alloc; "{}\n", Printed(game.outcome()))?;
-    let mut items = standing.into_bytes();
-    items.extend_from_slice(fen.items.as_slice())?;
-    items.push(b'\n')?;
-    Ok(Text { items })
-}
-
-/// How many lists of this many legal moves in turn there are from the game's last position.
-#[tactic(auto, unfolding(crate::specs::GameTexts::perft_of))]
-pub fn perft_of(alloc: Global, plies: u8, game: &Game) -> Result<Text, Memory>
-    requires least { 1 ≤ plies }
-    requires most { plies ≤ 9 }
-    ensures { IfOk result (λ text. text ≡ perft_of plies game.now) }
-{
-    let count = game.perft(alloc, plies)?;
-    let items = format!(in alloc; "{count}\n")?.into_bytes();
-    Ok(Text { items })
 }
 
 // The text of the certificate, where one was found: of a helpmate, or else of a selfmate.

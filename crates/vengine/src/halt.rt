@@ -3,7 +3,7 @@ ghost use Rattle.std.specs.Prelude.{◌≡◌};
 ghost use Rattle.vengine.specs.declared.halt.Halt.TheVariants as halt;
 ghost use Rattle.vengine.specs.declared.fault.Fault.TheVariants as fault;
 ghost use Rattle.vengine.specs.declared.stop.Stop.TheVariants as stop;
-ghost use Rattle.vengine.specs.HaltView.{betza_halt, cert_halt, game_halt, ini_halt, proof_halt, strategy_halt};
+ghost use Rattle.vengine.specs.HaltView.{betza_halt, cert_halt, game_halt, load_halt, proof_halt, strategy_halt};
 
 use crate::fault::Fault;
 use crate::setup::ReachFault;
@@ -16,7 +16,7 @@ use game_text::NoGame;
 use proof_text::{NoProof, ProofFault};
 use std::alloc::AllocError;
 use strategy::StrategyFault;
-use variant_ini::IniFault;
+use variant_files::NoSections;
 
 /// Why a command has no text.
 #[derive(Drop)]
@@ -64,13 +64,13 @@ impl<'a> From<BetzaFault> for Halt<'a> {
     }
 }
 
-impl<'a> From<IniFault> for Halt<'a> {
-    ghost from_gives = { λ why given. given ≡ ini_halt why };
+impl<'a> From<NoSections> for Halt<'a> {
+    ghost from_gives = { λ why given. given ≡ load_halt why };
 
-    fn from(why: IniFault) -> Self {
+    fn from(why: NoSections) -> Self {
         match why {
-            IniFault::Memory => Halt::Stop(Stop::Memory),
-            why => Halt::Fault(Fault::Ini(why)),
+            NoSections::Fault(fault) => Halt::Fault(Fault::Load(fault)),
+            NoSections::Memory => Halt::Stop(Stop::Memory),
         }
     }
 }

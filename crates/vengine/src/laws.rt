@@ -4,9 +4,10 @@ ghost use Rattle.game_play.specs.Played.{Played};
 ghost use Rattle.io_ports.specs.Files.{Contents, Read};
 ghost use Rattle.io_ports.specs.Lines.{Line};
 ghost use Rattle.io_ports.specs.Trace.{faults_in};
-ghost use Rattle.vengine.specs.declared.fault.Fault.TheVariants.{File};
-ghost use Rattle.vengine.specs.declared.fault.FileFault.TheVariants.{Failed};
+ghost use Rattle.variant_files.specs.declared.fault.FileFault.TheVariants.{Failed};
+ghost use Rattle.variant_files.specs.declared.fault.LoadFault.TheVariants.{File};
 ghost use Rattle.variant_rules.specs.Entries.{Named};
+ghost use Rattle.vengine.specs.declared.fault.Fault.TheVariants.{Load};
 ghost use Rattle.vengine.specs.Certificates.{IsMet, PrintsHelp, PrintsSelf, SaysCertCheck};
 ghost use Rattle.vengine.specs.Checking.{IsWon, SaysCheck};
 ghost use Rattle.vengine.specs.Commands.{IsOneShot};
@@ -31,7 +32,7 @@ pub fn words_have_one_answer()
         (s s' : ℕ) (t t' : List ℕ) → TellsReads (Some files) reads → TellsReads (Some files) reads'
         → Shot words reads input s t → Shot words reads' input s' t' → (s ≡ s') × (t ≡ t') }
     ensures failing { (words : List (List ℕ)) (reads : List Read) (input : List Line) (status : ℕ) (text : List ℕ)
-        → 0 < faults_in reads → Shot words reads input status text → SaysFault (File Failed) status text }
+        → 0 < faults_in reads → Shot words reads input status text → SaysFault (Load (File Failed)) status text }
 {}
 
 /// `check` answers `wins` only where the side of the goal wins the game of the input within the moves of the goal, against every

@@ -3,7 +3,7 @@ ghost use Rattle.std.specs.Prelude.{◌≡◌, false, IfOk, map, string_bytes};
 ghost use Rattle.io_ports.specs.Trace.{Reads};
 ghost use Rattle.vengine.specs.Commands.{asks_file};
 ghost use Rattle.vengine.specs.HaltView.{IsToDo, Opens};
-ghost use Rattle.vengine.specs.Looked.{Looked};
+ghost use Rattle.variant_files.specs.Looked.{Looked};
 ghost use Rattle.vengine.specs.Sessions.{dialect_of, is_session, serves, to_do};
 ghost use Rattle.words.specs.View.{HasPlies, command_seen};
 

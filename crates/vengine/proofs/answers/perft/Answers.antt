@@ -1,6 +1,6 @@
 use Rattle.std.proofs.lemmas.Result.{err_from_is_err_and}
 use Rattle.game_text.proofs.HeardLemmas.{heard_so, same_needed}
-use Rattle.vengine.specs.GameTexts.{perft_of}
+use Rattle.game_reports.specs.GameTexts.{perft_of}
 use Rattle.vengine.proofs.AnswerLemmas.{game_answers, no_game_answers}
 use Rattle.vengine.proofs.answers.perft.Goals as goal
 

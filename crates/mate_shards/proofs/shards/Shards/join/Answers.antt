@@ -1,6 +1,8 @@
 use Rattle.std.proofs.Common.{◌≡◌, ◌+◌, ◌<◌, List, length, get_or, set, sym, ap, ◌∙◌, subst, arith}
 use Rattle.std.specs.List.{insert, remove}
 use Rattle.mate_shards.specs.Views.{ShardsView, ShardPass, IsJoined}
+use Rattle.mate_shards.proofs.GrownLaws.{join-grows_first, join-grows_second, join-parts}
+use Rattle.mate_shards.proofs.OwnedLaws.{join-owned}
 use Rattle.mate_shards.proofs.PassLemmas.{Joining, put-back, join-starts, join-goes-on, joined-passes, are-joined, join-lock, join-first, join-second, join-is}
 use Rattle.mate_shards.proofs.shards.Shards.join.Goals as goal
 
@@ -77,3 +79,19 @@ returns-clause-joined c =
     let size = ap (λ (v : List ShardPass). length v) c.a.view_is in
     let e : c.loop-k.k ≡ length c.args.a = omega (arith, c.len-k-end.ensures, c.a.inside.items.ok.0) in
     are-joined c.args.self.now c.args.a c.args.b c.requires.first c.requires.second c.loop-k.items.items c.loop-k.others.items (subst (Joining c.args.self.now c.args.a c.args.b c.loop-k.items.items c.loop-k.others.items) e c.loop-k.invariant)
+
+pub returns-clause-parts : goal.returns-clause-parts
+returns-clause-parts c =
+    join-parts c.args.self.now _ c.args.a c.args.b (returns-clause-passes c) c.requires.first c.requires.second (returns-clause-joined c)
+
+pub returns-clause-first_grown : goal.returns-clause-first_grown
+returns-clause-first_grown c =
+    join-grows_first c.args.self.now _ c.args.a c.args.b (returns-clause-passes c) c.requires.first c.requires.second (returns-clause-joined c)
+
+pub returns-clause-second_grown : goal.returns-clause-second_grown
+returns-clause-second_grown c =
+    join-grows_second c.args.self.now _ c.args.a c.args.b (returns-clause-passes c) c.requires.first c.requires.second (returns-clause-joined c)
+
+pub returns-clause-owned : goal.returns-clause-owned
+returns-clause-owned c =
+    join-owned c.args.self.now _ c.args.a c.args.b (returns-clause-passes c) c.requires.first c.requires.second (returns-clause-joined c)

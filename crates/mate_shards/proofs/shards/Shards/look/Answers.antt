@@ -1,11 +1,19 @@
-use Rattle.std.proofs.Common.{ap, ◌∙◌, refl, length}
-use Rattle.mate_core.specs.Hash.{hash_of, shard_of_hash}
-use Rattle.mate_shards.proofs.TurnLemmas.{looks}
+use Rattle.std.proofs.Common.{List, Option, sym, subst}
+use Rattle.forced_wins.specs.declared.fact.Fact.{Fact}
+use Rattle.mate_shards.specs.Turns.{LookTurn}
+use Rattle.mate_shards.proofs.AnswerLaws.{look-true, look-serves, look-known}
 use Rattle.mate_shards.proofs.shards.Shards.look.Goals as goal
 
 pub returns-clause-turn : goal.returns-clause-turn
 returns-clause-turn g c =
-    looks c.args.self.now c.args.passes.now c.ask.new.passes c.args.p.now _ c.args.moves c.in-Found.found c.fact_of.result c.home-shard.result
-    c.of_position.ensures refl refl c.fact_of.ensures
-    (c.home-shard.ensures.is ∙ ap (λ h. shard_of_hash h (length c.args.self.now.locks)) (c.hash.ensures ∙ ap hash_of c.of_position.ensures))
-    c.in-Found.ensures.turn
+    let P : Option Fact → Type 0 = λ o. LookTurn c.args.self.now c.args.passes.now c.args.p.now c.args.moves o c.look_by_key-found.new.passes in
+    subst P (sym c.fact_of.ensures) c.look_by_key-found.ensures.turn
+
+pub returns-clause-truth : goal.returns-clause-truth
+returns-clause-truth g c = look-true c.args.self.now _ _ _ _ _ (returns-clause-turn g c)
+
+pub returns-clause-serves : goal.returns-clause-serves
+returns-clause-serves g c = look-serves c.args.self.now _ _ _ _ _ (returns-clause-turn g c)
+
+pub returns-clause-known : goal.returns-clause-known
+returns-clause-known g c = look-known c.args.self.now _ _ _ _ _ (returns-clause-turn g c)

@@ -1,7 +1,10 @@
-use Rattle.std.proofs.Common.{◌≤◌, List, [], ◌∷◌, ◌++◌, vec_len, sym, ◌∙◌, subst, arith}
-use Rattle.fact_lock.specs.Passes.{LockView}
+use Rattle.std.proofs.Common.{◌≡◌, ◌≤◌, List, [], ◌∷◌, ◌++◌, vec_len, sym, ◌∙◌, subst, arith}
+use Rattle.std.proofs.lemmas.List.Elements.{All-weaker}
+use Rattle.fact_lock.specs.Passes.{LockView, all_parts}
 use Rattle.mate_shards.specs.Shard.{Key}
-use Rattle.mate_shards.specs.Views.{ShardPass}
+use Rattle.mate_shards.specs.Views.{ShardPass, IsFresh}
+use Rattle.mate_shards.proofs.OwnedLaws.{none-owned}
+use Rattle.mate_shards.proofs.TurnLemmas.{all-at}
 use Rattle.mate_shards.proofs.PassLemmas.{AreMade, one-more, made-passes}
 use Rattle.mate_shards.proofs.shards.Shards.new.Goals as goal
 
@@ -25,3 +28,11 @@ loop-alloc-preserved c =
 pub returns-clause-passes : goal.returns-clause-passes
 returns-clause-passes c =
     made-passes (record { frame = c.args.frame; capacity = c.args.capacity; locks = c.loop-alloc.locks.items }) c.loop-alloc.items.items c.loop-alloc.invariant.0
+
+pub returns-clause-parts : goal.returns-clause-parts
+returns-clause-parts c =
+    All-weaker (IsFresh []) (λ p. p.parts ≡ all_parts) (λ p fresh. fresh.parts) _ c.loop-alloc.invariant.0.all_fresh
+
+pub returns-clause-owned : goal.returns-clause-owned
+returns-clause-owned c =
+    none-owned _ (λ k p e. (all-at (IsFresh []) _ k p c.loop-alloc.invariant.0.all_fresh e).own)

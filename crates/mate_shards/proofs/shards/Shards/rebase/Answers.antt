@@ -6,7 +6,8 @@ use Rattle.mate_core.specs.declared.frame.Frame.{Frame}
 use Rattle.mate_shards.specs.Shard.{Key}
 use Rattle.mate_shards.specs.Views.{ShardsView, ShardPass, AreLocksOf, IsRebased}
 use Rattle.mate_shards.proofs.TurnLemmas.{all-at}
-use Rattle.mate_shards.proofs.RebaseLemmas.{Rebasing, rebase-starts, given-some, pass-here, rebase-is, rebase-key, rebase-goes-on, rebased-passes}
+use Rattle.mate_shards.proofs.RebaseLemmas.{Rebasing, rebase-starts, given-some, pass-here, rebase-is, rebase-key, rebase-goes-on, rebased-parts, rebased-own, rebased-passes}
+use Rattle.mate_shards.proofs.OwnedLaws.{none-owned}
 use Rattle.mate_shards.proofs.shards.Shards.rebase.Goals as goal
 
 pub loop-k-init : goal.loop-k-init
@@ -128,3 +129,18 @@ returns-clause-passes c =
 
 pub returns-clause-kept : goal.returns-clause-kept
 returns-clause-kept c = c.loop-k.invariant.0.rebased
+
+pub returns-clause-parts : goal.returns-clause-parts
+returns-clause-parts c =
+    let s = c.args.self in
+    let locks = ap (λ (v : ShardsView). length v.locks) c.self.view_is in
+    let e : c.loop-k._k ≡ length s.locks = omega (arith, c.len-count.ensures, c.self.inside.locks.ok.0) in
+    rebased-parts s c.args.passes c.args.frame c.requires.passes c.loop-k.closing.items c.loop-k.given.items c.loop-k.locks.items c.loop-k.items.items (subst (Rebasing s c.args.passes c.args.frame c.loop-k.closing.items c.loop-k.given.items c.loop-k.locks.items c.loop-k.items.items) e c.loop-k.invariant.0)
+
+pub returns-clause-owned : goal.returns-clause-owned
+returns-clause-owned c =
+    let s = c.args.self in
+    let locks = ap (λ (v : ShardsView). length v.locks) c.self.view_is in
+    let e : c.loop-k._k ≡ length s.locks = omega (arith, c.len-count.ensures, c.self.inside.locks.ok.0) in
+    none-owned c.loop-k.items.items
+    (rebased-own s c.args.passes c.args.frame c.requires.passes c.loop-k.closing.items c.loop-k.given.items c.loop-k.locks.items c.loop-k.items.items (subst (Rebasing s c.args.passes c.args.frame c.loop-k.closing.items c.loop-k.given.items c.loop-k.locks.items c.loop-k.items.items) e c.loop-k.invariant.0))

@@ -1,6 +1,8 @@
 use Rattle.std.proofs.Common.{◌≡◌, ◌+◌, ◌<◌, ◌≤◌, List, length, get_or, set, sym, ap, ◌∙◌, subst, arith}
 use Rattle.std.specs.List.{insert}
 use Rattle.mate_shards.specs.Views.{ShardsView, ShardPass}
+use Rattle.mate_shards.proofs.GrownLaws.{split-grows, split-sees, split-part}
+use Rattle.mate_shards.proofs.OwnedLaws.{split-owned}
 use Rattle.mate_shards.proofs.TurnLemmas.{all-at}
 use Rattle.mate_shards.proofs.PassLemmas.{Splitting, put-back, split-starts, split-goes-on, first-passes, second-passes, are-halved, halved-parts, split-lock, split-was, split-is}
 use Rattle.mate_shards.proofs.shards.Shards.split.Goals as goal
@@ -99,3 +101,19 @@ returns-clause-parts c =
     let passes = c.requires.passes.count in
     let e : c.loop-k.k ≡ length c.args.passes = omega (arith, c.len-count.ensures, c.self.inside.locks.ok.0) in
     halved-parts c.args.self.now c.args.passes c.requires.passes c.loop-k.items.items c.loop-k.given.items (subst (Splitting c.args.self.now c.args.passes c.loop-k.items.items c.loop-k.given.items) e c.loop-k.invariant.0)
+
+pub returns-clause-part : goal.returns-clause-part
+returns-clause-part c =
+    split-part c.args.self.now c.args.passes _ _ c.requires.passes (returns-clause-first c) (returns-clause-second c) (returns-clause-halves c)
+
+pub returns-clause-grown : goal.returns-clause-grown
+returns-clause-grown c =
+    split-grows c.args.self.now c.args.passes _ _ c.requires.passes (returns-clause-first c) (returns-clause-second c) (returns-clause-halves c)
+
+pub returns-clause-seen : goal.returns-clause-seen
+returns-clause-seen c =
+    split-sees c.args.self.now c.args.passes _ _ c.requires.passes (returns-clause-first c) (returns-clause-second c) (returns-clause-halves c)
+
+pub returns-clause-owned : goal.returns-clause-owned
+returns-clause-owned c =
+    split-owned c.args.self.now c.args.passes _ _ c.requires.passes (returns-clause-first c) (returns-clause-second c) (returns-clause-halves c)

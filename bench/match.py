@@ -1,0 +1,191 @@
+#!/usr/bin/env python3
+"""Plays a match between two UCI engines, with Vengine's own commands as the arbiter.
+
+Usage: bench/match.py FIRST SECOND [--variant NAME] [--games N] [--movetime MS | --clock MS+MS] [--plies N] [--seed N]
+
+FIRST and SECOND are the commands of two engines, as `./vengine` or `/usr/games/fairy-stockfish`. By default they play 100 games of
+chess with `go movetime 100`; `--clock 60000+600` gives each side a clock by the wall, with an increment. Each pair of games begins
+with the same four random moves, and colours change. After each move `status` says how the game stands; a move that `moves` does not
+list loses, and so does a move that comes later than its time and a tenth of a second, or not within 20 seconds. Prints a line for
+each game that did not end by the rules, and then the result, the causes of the ends, and the slowest move of each engine.
+"""
+import argparse
+import collections
+import os
+import queue
+import random
+import shlex
+import subprocess
+import sys
+import threading
+import time
+
+TOP = os.path.join(os.path.dirname(os.path.abspath(__file__)), "..")
+ARBITER = os.path.join(TOP, "vengine")
+GRACE = 0.1
+HANGS = 20.0
+
+
+def ask(command, variant, played):
+    """What the arbiter prints of a game."""
+    text = f"{variant}\nstartpos\n{' '.join(played)}\n"
+    done = subprocess.run([ARBITER, command], input=text, capture_output=True, text=True)
+    if done.returncode != 0:
+        sys.exit(f"match: {command} of {variant} after {' '.join(played)}: {done.stdout}")
+    return done.stdout.splitlines()
+
+
+class Engine:
+    """A UCI engine in a process of its own; a thread takes its lines with the times at which they came."""
+
+    def __init__(self, command, variant):
+        self.process = subprocess.Popen(shlex.split(command), stdin=subprocess.PIPE, stdout=subprocess.PIPE, text=True, bufsize=1)
+        self.lines = queue.Queue()
+        self.slowest = 0.0
+        threading.Thread(target=self.take, daemon=True).start()
+        self.say("uci")
+        self.wait_for("uciok", HANGS)
+        self.say(f"setoption name UCI_Variant value {variant}")
+        self.ready()
+
+    def take(self):
+        for line in self.process.stdout:
+            self.lines.put((time.monotonic(), line.strip()))
+        self.lines.put((time.monotonic(), None))
+
+    def say(self, line):
+        self.process.stdin.write(line + "\n")
+        self.process.stdin.flush()
+
+    def wait_for(self, word, seconds):
+        """The first line that begins with the word, and when it came; or nothing."""
+        end = time.monotonic() + seconds
+        while True:
+            try:
+                at, line = self.lines.get(timeout=max(0.0, end - time.monotonic()))
+            except queue.Empty:
+                return None, None
+            if line is None:
+                return None, None
+            if line.split()[:1] == [word]:
+                return at, line
+
+    def ready(self):
+        self.say("isready")
+        if self.wait_for("readyok", HANGS)[1] is None:
+            sys.exit("match: an engine does not answer isready")
+
+    def new_game(self):
+        self.say("ucinewgame")
+        self.ready()
+
+    def move(self, played, go, limit):
+        """The move that it chooses and how long it took, or why there is none."""
+        self.say("position startpos" + (" moves " + " ".join(played) if played else ""))
+        begun = time.monotonic()
+        self.say(go)
+        at, line = self.wait_for("bestmove", max(limit, HANGS))
+        if line is None:
+            return None, "hangs"
+        took = at - begun
+        self.slowest = max(self.slowest, took)
+        if took > limit + GRACE:
+            return None, f"loses on time, {took:.2f} s"
+        return line.split()[1], took
+
+    def close(self):
+        self.say("quit")
+        self.process.wait(timeout=HANGS)
+
+
+def opening(variant, chance):
+    """Four random moves, after which the game goes on."""
+    while True:
+        played = []
+        while len(played) < 4:
+            listed = ask("moves", variant, played)[:-1]
+            if not listed:
+                break
+            played.append(chance.choice(listed))
+        if ask("status", variant, played)[0] == "ongoing":
+            return played
+
+
+class Clocks:
+    """What each side has left, by the wall; or the same time for each move."""
+
+    def __init__(self, given):
+        self.movetime = given.movetime
+        self.left = None
+        if given.clock:
+            base, step = (int(part) for part in given.clock.split("+"))
+            self.left, self.step = [base, base], step
+
+    def go(self):
+        if self.left is None:
+            return f"go movetime {self.movetime}"
+        return f"go wtime {self.left[0]} btime {self.left[1]} winc {self.step} binc {self.step}"
+
+    def limit(self, side):
+        return (self.movetime if self.left is None else self.left[side]) / 1000
+
+    def spend(self, side, took):
+        if self.left is not None:
+            self.left[side] = max(1, self.left[side] - int(took * 1000)) + self.step
+
+
+def play(variant, pair, start, given):
+    """The result for White, 1, 0 or -1, and its cause; the pair has White first."""
+    played, clocks = start[:], Clocks(given)
+    for engine in pair:
+        engine.new_game()
+    while len(played) < given.plies:
+        state = ask("status", variant, played)[0].split()
+        if state[0] == "won":
+            return (1 if state[1] == "white" else -1), state[2]
+        if state[0] == "drawn":
+            return 0, state[1]
+        side = len(played) % 2
+        text, took = pair[side].move(played, clocks.go(), clocks.limit(side))
+        fault = took if text is None else None
+        if fault is None and text not in ask("moves", variant, played)[:-1]:
+            fault = f"plays {text}, which is not legal"
+        if fault:
+            print(f"{'white' if side == 0 else 'black'} {fault} after {' '.join(played)}", flush=True)
+            return (-1 if side == 0 else 1), "fault"
+        clocks.spend(side, took)
+        played.append(text)
+    return 0, "length"
+
+
+def main():
+    parser = argparse.ArgumentParser(description=__doc__, formatter_class=argparse.RawDescriptionHelpFormatter)
+    parser.add_argument("first")
+    parser.add_argument("second")
+    parser.add_argument("--variant", default="chess")
+    parser.add_argument("--games", type=int, default=100)
+    parser.add_argument("--movetime", type=int, default=100)
+    parser.add_argument("--clock")
+    parser.add_argument("--plies", type=int, default=400)
+    parser.add_argument("--seed", type=int, default=1)
+    given = parser.parse_args()
+    chance = random.Random(given.seed)
+    engines = [Engine(given.first, given.variant), Engine(given.second, given.variant)]
+    counts, causes, start = collections.Counter(), collections.Counter(), []
+    for game in range(given.games):
+        if game % 2 == 0:
+            start = opening(given.variant, chance)
+        is_first_white = game % 2 == 0
+        value, cause = play(given.variant, engines if is_first_white else engines[::-1], start, given)
+        counts[value if is_first_white else -value] += 1
+        causes[cause] += 1
+    for engine in engines:
+        engine.close()
+    print(f"{given.variant}: the first won {counts[1]}, lost {counts[-1]}, drew {counts[0]}")
+    print("ends: " + ", ".join(f"{cause} {count}" for cause, count in sorted(causes.items())))
+    print("slowest moves: " + ", ".join(f"{engine.slowest:.2f} s" for engine in engines))
+    sys.exit(1 if causes["fault"] else 0)
+
+
+if __name__ == "__main__":
+    main()

@@ -1,0 +1,3 @@
+pub mod MovesText
+pub mod OutcomeText
+pub mod GameTexts

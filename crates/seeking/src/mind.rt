@@ -1,0 +1,88 @@
+//! What a session keeps for its searches.
+ghost use Rattle.std.specs.Prelude.{◌≡◌, ◌≤◌, OnOk, OnErr, IfOk};
+ghost use Rattle.seeking.specs.Settings.{first_settings};
+
+use foundation::Memory;
+use hint_table::HintTable;
+use std::alloc::Global;
+use std::marker::Model;
+
+/// How many words of hints fill a MiB.
+const WORDS: usize = 1 << 17;
+
+/// The hints of a session's searches, and what it sets for them. Contracts see what it sets.
+#[derive(Drop)]
+pub struct Mind {
+    hints: HintTable,
+    threads: u32,
+    hash: u32,
+    mate_facts: u32,
+}
+
+impl Model for Mind {
+    ghost use Rattle.seeking.specs.Settings.{Settings, AreInRange};
+
+    ghost Value = { Settings };
+
+    ghost view = { λ m. record { threads = m.threads; hash = m.hash; mate_facts = m.mate_facts } };
+
+    ghost invariant = { λ m. AreInRange (record { threads = m.threads; hash = m.hash; mate_facts = m.mate_facts }) };
+}
+
+impl Mind {
+    /// Without a hint, with 16 MiB for hints and 4,096 facts a shard.
+    pub fn new(alloc: Global, threads: u32) -> Result<Mind, Memory>
+        requires threads { (1 ≤ threads) × (threads ≤ 64) }
+        ensures { IfOk result (λ m. m ≡ first_settings threads) }
+    {
+        Ok(Mind {
+            hints: HintTable::new(alloc, 16 * WORDS)?,
+            threads,
+            hash: 16,
+            mate_facts: 4096,
+        })
+    }
+
+    /// How many workers search.
+    pub fn threads(&self) -> u32
+        ensures is { result ≡ self.now.threads }
+        ensures in_range { (1 ≤ result) × (result ≤ 64) }
+    {
+        self.threads
+    }
+
+    /// Sets how many workers search, from 1 to 64.
+    pub fn set_threads(&mut self, threads: u32)
+        requires threads { (1 ≤ threads) × (threads ≤ 64) }
+        ensures { self.new ≡ record self.old { threads = threads } }
+    {
+        self.threads = threads;
+    }
+
+    /// Sets the MiB of hints, from 1 to 1,024, and forgets them. Out of memory, all stays as it was.
+    pub fn set_hash(&mut self, alloc: Global, hash: u32) -> Result<(), Memory>
+        requires hash { (1 ≤ hash) × (hash ≤ 1024) }
+        ensures ok { OnOk result (self.new ≡ record self.old { hash = hash }) }
+        ensures err { OnErr result (self.new ≡ self.old) }
+    {
+        let hints = HintTable::new(alloc, hash as usize * WORDS)?;
+        self.hints = hints;
+        self.hash = hash;
+        Ok(())
+    }
+
+    /// Sets how many facts of mates a shard keeps, from 16 to 65,536.
+    pub fn set_mate_facts(&mut self, mate_facts: u32)
+        requires facts { (16 ≤ mate_facts) × (mate_facts ≤ 65536) }
+        ensures { self.new ≡ record self.old { mate_facts = mate_facts } }
+    {
+        self.mate_facts = mate_facts;
+    }
+
+    /// Forgets the hints.
+    pub fn forget(&mut self)
+        ensures { self.new ≡ self.old }
+    {
+        self.hints.fill(0);
+    }
+}

@@ -1,0 +1,194 @@
+-- A search, and the solve after it: what both add.
+use Rattle.std.proofs.Common.{◌≡◌, ℕ, ◌+◌, ◌-◌, ◌≤◌, ◌<◌, List, [], ◌∷◌, ◌++◌, Option, Some, None, refl, sym, subst, arith}
+use Rattle.std.specs.Prelude.{IfSome}
+use Rattle.std.specs.Option.{option_map}
+use Rattle.std.specs.Io.KnownBytes.{Appends}
+use Rattle.std.specs.List.{concat}
+use Rattle.io_ports.specs.Clock.{GivesReadings, count_after, last_after}
+use Rattle.io_ports.specs.declared.dialect.Dialect.{Dialect}
+use Rattle.io_ports.specs.declared.limits.Limits.{Limits}
+use Rattle.io_ports.specs.Owing.{Spends}
+use Rattle.io_ports.specs.Sink.{AppendsFront}
+use Rattle.io_ports.specs.Source.{Owed, Untold}
+use Rattle.io_ports.specs.Trace.{Moves}
+use Rattle.io_ports.proofs.Owing.{spends_more, spends_none, spends_wider}
+use Rattle.game_play.specs.Played.{story}
+use Rattle.watching.specs.declared.halt.Cut.{Cut}
+use Rattle.watching.specs.declared.halt.Cut.TheVariants as cut
+use Rattle.watching.specs.EventLaws.{broke_more, listens_more, ran_holds, ran_more, ran_none, readings-append}
+use Rattle.watching.specs.Events.{Event, Listens, readings}
+use Rattle.watching.specs.Looks.{Broke, Moved, Ran, held}
+use Rattle.watching.specs.Watched.{World, Moment, MovesOn, Gone}
+use Rattle.session_model.proofs.Reports.{solve_bound-some}
+use Rattle.session_model.specs.Thinking.{Task, IsOpen, IsReport, solve_within}
+use Rattle.thinking.specs.declared.depth.Depth.{Depth}
+use Rattle.thinking.specs.declared.depth.Depth.TheVariants.{Done, Off}
+use Rattle.thinking.specs.declared.found.CutSolve.{CutSolve}
+use Rattle.thinking.specs.declared.found.Found.{Found}
+use Rattle.thinking.specs.declared.judging.Explored.TheVariants as explored
+use Rattle.thinking.specs.declared.judging.Judged.{Judged}
+use Rattle.thinking.specs.declared.style.Style.{Style}
+use Rattle.thinking.specs.Cuts.{CutsBy}
+use Rattle.thinking.specs.Depths.{BrokeDepth, Deeper, IsDepth, cut_in, reach_at, reports_in}
+use Rattle.thinking.specs.Judging.{IsExplored, IsFinding, IsJudged, asked_at, bound_at, search_at, solve_cut, solve_reach}
+use Rattle.thinking.specs.Tells.{BrokeHeld, Tells, lines_by, reads_by}
+use Rattle.thinking.specs.Views.{report_of}
+use Rattle.thinking.proofs.CutLaws.{cuts_after, cuts_more, cuts_of_watch, cuts_untold, cuts_wider}
+use Rattle.thinking.proofs.RanLaws.{broke_held, broke_told, ran_told, readings_told, told, told_moves}
+use Rattle.thinking.proofs.TellLaws.{listens_none, listens_tells, tells_told}
+
+module _ {S K C : Type 0} (w : World S K C) (dialect : Dialect) where
+  module _ {a b : Moment S K C} (t : Task) (depth : ℕ) (limits : Limits) (text : List ℕ) (begins : a.nodes ≡ 0) where
+    -- ---- a solve
+
+    -- it came to its end
+    pub judged_solved : (n : ℕ) (found : Found) → Gone w dialect limits a b text (solve_within t n) None → solve_within t n ≤ asked_at t depth
+        → IsFinding t depth found None
+        → IsJudged dialect (MovesOn w a b) (w.owed a.source) (w.owed b.source) t depth limits text (record { found = found; cut = None })
+    judged_solved n found gone near is = record {
+      ran = ran_holds dialect (λ events p. (p.0, tt)) gone.looked.ran;
+      is = is;
+      spends = spends_wider (w.owed a.source) (w.owed b.source) (solve_within t n) (asked_at t depth) gone.looked.spends near;
+    }
+
+    -- it was cut
+    pub judged_cut : (solve : CutSolve) (found : Found) → Gone w dialect limits a b text (solve_within t solve.moves) (Some solve.why) → solve_within t solve.moves ≤ asked_at t depth
+        → IsFinding t depth found (Some solve)
+        → IsJudged dialect (MovesOn w a b) (w.owed a.source) (w.owed b.source) t depth limits text (record { found = found; cut = Some solve })
+    judged_cut solve found gone near is = record {
+      ran = ran_holds dialect
+          (λ events p. (
+            p.0,
+            cuts_wider dialect solve.why (w.owed a.source) (solve_within t solve.moves) (asked_at t depth) limits.quota limits.deadline (a.nodes + solve_within t solve.moves) (solve_within t solve.moves) (readings events) text near (omega (arith, begins))
+                (cuts_of_watch dialect solve.why (w.owed a.source) (solve_within t solve.moves) limits (a.nodes + solve_within t solve.moves) b.nodes (readings events) text p.1),
+          )) gone.looked.ran;
+      is = is;
+      spends = spends_wider (w.owed a.source) (w.owed b.source) (solve_within t solve.moves) (asked_at t depth) gone.looked.spends near;
+    }
+
+    -- ---- a search
+
+    -- it was cut
+    pub explored_off : (why : Cut) → Gone w dialect limits a b text (search_at t depth) (Some why)
+        → IsExplored dialect (MovesOn w a b) (w.owed a.source) (w.owed b.source) t depth limits text (explored.Off why)
+    explored_off why gone = record {
+      ran = ran_holds dialect
+          (λ events p. (
+            p.0,
+            cuts_wider dialect why (w.owed a.source) (search_at t depth) (bound_at t depth) limits.quota limits.deadline (a.nodes + search_at t depth) (search_at t depth) (readings events) text (omega arith) (omega (arith, begins))
+                (cuts_of_watch dialect why (w.owed a.source) (search_at t depth) limits (a.nodes + search_at t depth) b.nodes (readings events) text p.1),
+          )) gone.looked.ran;
+      is = tt;
+      spends = spends_wider (w.owed a.source) (w.owed b.source) (search_at t depth) (bound_at t depth) gone.looked.spends (omega arith);
+    }
+
+    -- it came to its end, and then a mate was looked for
+    pub explored_found : {d : Moment S K C} (text' : List ℕ) (nodes : ℕ) (judged : Judged) → Gone w dialect limits a b text (search_at t depth) None → nodes ≤ search_at t depth
+        → IsJudged dialect (MovesOn w b d) (w.owed b.source) (w.owed d.source) t depth (record { quota = option_map (λ number. number - nodes) limits.quota; deadline = limits.deadline }) text' judged
+        → IsExplored dialect (MovesOn w a d) (w.owed a.source) (w.owed d.source) t depth limits text' (explored.Found judged)
+    explored_found {d = d} text' nodes judged gone few j = record {
+      ran = ran_more dialect _ (λ x y p q. (listens_more dialect x y p.0 q.0, by_cut judged.cut x y q.1)) gone.looked.ran j.ran;
+      is = j.is;
+      spends = spends_more (w.owed a.source) (w.owed b.source) (w.owed d.source) (search_at t depth) (asked_at t depth) gone.looked.spends j.spends;
+    }
+      where
+        by_cut : (cut : Option CutSolve) (x y : List Event)
+            → IfSome (solve_cut cut) (CutsBy dialect (w.owed b.source) (asked_at t depth) (option_map (λ number. number - nodes) limits.quota) limits.deadline (solve_reach t cut) (readings y) text')
+            → IfSome (solve_cut cut) (CutsBy dialect (w.owed a.source) (bound_at t depth) limits.quota limits.deadline (search_at t depth + solve_reach t cut) (readings (x ++ y)) text')
+        by_cut None x y may = tt
+        by_cut (Some solve) x y may =
+            subst (λ (l : List ℕ). CutsBy dialect (w.owed a.source) (bound_at t depth) limits.quota limits.deadline (search_at t depth + solve_within t solve.moves) l text' solve.why) (sym (readings-append x y))
+            (cuts_after dialect solve.why (w.owed a.source) (w.owed b.source) (search_at t depth) (asked_at t depth) limits.quota limits.deadline nodes (search_at t depth) (solve_within t solve.moves) (readings x) (readings y) text' gone.looked.spends few
+            (solve_bound-some t.game.rules solve.moves (story t.game)) may)
+
+    -- a fault came in what followed it
+    pub explored_broke : {d : Moment S K C} → Gone w dialect limits a b text (search_at t depth) None
+        → Broke dialect (MovesOn w b d) (Listens dialect) → Broke dialect (MovesOn w a d) (Listens dialect)
+    explored_broke gone broke = broke_more dialect (Listens dialect) (λ x y p q. listens_more dialect x y p.0 q) gone.looked.ran broke
+
+  -- no mate is looked for
+  pub judged_none : (a : Moment S K C) (t : Task) (depth : ℕ) (limits : Limits) (text : List ℕ) (found : Found) → IsFinding t depth found None
+      → IsJudged dialect (MovesOn w a a) (w.owed a.source) (w.owed a.source) t depth limits text (record { found = found; cut = None })
+  judged_none a t depth limits text found is = record {
+    ran = ran_none dialect a.source a.sink a.clock (tt, tt);
+    is = is;
+    spends = spends_none (w.owed a.source) (asked_at t depth);
+  }
+
+-- ---- and its lines
+
+module _ (dialect : Dialect) (style : Style) (t : Task) (first depth : ℕ) (limits : Limits) (text : List ℕ) where
+  abbrev Told : Owed → Found → ℕ → Option CutSolve → List Event → Type 0
+  Told owed found reading cut events =
+      Tells dialect style t.game.rules first depth (report_of found reading ∷ []) events
+      × IfSome (solve_cut cut) (CutsBy dialect owed (bound_at t depth) limits.quota limits.deadline (search_at t depth + solve_reach t cut) (readings events) text)
+
+  abbrev texts_of : Found → ℕ → List (List ℕ)
+  texts_of found reading = lines_by style t.game.rules first depth (report_of found reading ∷ [])
+
+  is_depth : (found : Found) (reading : ℕ) (cut : Option CutSolve) → IsFinding t depth found cut → IsDepth t depth (Done found reading cut)
+  is_depth found reading None is = is reading
+  is_depth found reading (Some solve) is = is reading
+
+  told_then : (o o' : Owed) (found : Found) (reading : ℕ) (cut : Option CutSolve) (a : List Event)
+      → ((why : Cut) (reach : ℕ) → CutsBy dialect o (bound_at t depth) limits.quota limits.deadline reach (readings a) text why → CutsBy dialect o' (bound_at t depth) limits.quota limits.deadline reach (readings a) text why)
+      → Listens dialect a × IfSome (solve_cut cut) (CutsBy dialect o (bound_at t depth) limits.quota limits.deadline (search_at t depth + solve_reach t cut) (readings a) text)
+      → Told o' found reading cut (a ++ told style reading (texts_of found reading))
+  told_then o o' found reading cut a as p = (
+    listens_tells dialect style t.game.rules first a (told style reading (texts_of found reading)) depth (report_of found reading ∷ []) p.0 (tells_told dialect style t.game.rules first depth (report_of found reading)),
+    by_cut cut p.1,
+  )
+    where
+      by_cut : (cut : Option CutSolve) → IfSome (solve_cut cut) (CutsBy dialect o (bound_at t depth) limits.quota limits.deadline (search_at t depth + solve_reach t cut) (readings a) text)
+          → IfSome (solve_cut cut) (CutsBy dialect o' (bound_at t depth) limits.quota limits.deadline (search_at t depth + solve_reach t cut) (readings (a ++ told style reading (texts_of found reading))) text)
+      by_cut None may = tt
+      by_cut (Some solve) may =
+          subst (λ (l : List ℕ). CutsBy dialect o' (bound_at t depth) limits.quota limits.deadline (search_at t depth + solve_within t solve.moves) l text solve.why) (sym (readings-append a (told style reading (texts_of found reading))))
+          (cuts_more dialect solve.why o' (bound_at t depth) limits.quota limits.deadline (search_at t depth + solve_within t solve.moves) (readings a) (readings (told style reading (texts_of found reading))) text
+          (as solve.why (search_at t depth + solve_within t solve.moves) may))
+
+module _ {S K C : Type 0} {left : S → Option (List ℕ)} {taken : K → Option (List ℕ)} {given : C → Option (List ℕ)} {count last : C → ℕ} (dialect : Dialect) (style : Style) (t : Task) (first depth : ℕ) (limits : Limits) (text : List ℕ) where
+  pub deeper_off : {s s' : S} {k k' : K} {c c' : C} {o o' : Owed} (why : Cut)
+      → IsExplored dialect (Moves left taken given count last s s' k k' c c') o o' t depth limits text (explored.Off why)
+      → Deeper dialect style (Moves left taken given count last s s' k k' c c') o o' t first depth limits text (Off why)
+  deeper_off why e = record {
+    ran = ran_holds dialect (λ events p. (listens_none dialect style t.game.rules first events depth p.0, p.1)) e.ran;
+    is = tt;
+    spends = e.spends;
+  }
+
+  -- a fault came before its lines
+  pub broke_before : {s s' : S} {k k' : K} {c c' : C}
+      → Broke dialect (Moves left taken given count last s s' k k' c c') (Listens dialect)
+      → BrokeDepth dialect style (Moves left taken given count last s s' k k' c c') t first depth limits
+  broke_before broke = record {
+    text = text;
+    d = Off cut.End;
+    broke = broke_held dialect (λ events p. (listens_none dialect style t.game.rules first events depth p, tt)) broke;
+    is = tt;
+  }
+
+  module _ {s s' : S} {k k' k'' : K} {c c' c'' : C} {o o' : Owed} (judged : Judged) (reading : ℕ)
+      (e : IsExplored dialect (Moves left taken given count last s s' k k' c c') o o' t depth limits text (explored.Found judged))
+      (gives : GivesReadings (count c'') (given c') (given c'') (reads_by style reading)) (counts : count c'' ≡ count_after (count c') (reads_by style reading))
+      (lasts : last c'' ≡ last_after (last c') (reads_by style reading)) where
+    pub deeper_done : Appends (taken k') (taken k'') (concat (lines_by style t.game.rules first depth (report_of judged.found reading ∷ [])))
+        → Deeper dialect style (Moves left taken given count last s s' k k'' c c'') o o' t first depth limits text (Done judged.found reading judged.cut)
+    deeper_done app = record {
+      ran = ran_told dialect (Told dialect style t first depth limits text o judged.found reading judged.cut) style reading (lines_by style t.game.rules first depth (report_of judged.found reading ∷ []))
+          (λ a p. told_then dialect style t first depth limits text o o judged.found reading judged.cut a (λ why reach may. may) p) e.ran (told_moves dialect s' style reading app gives counts lasts);
+      is = is_depth dialect style t first depth limits text judged.found reading judged.cut e.is;
+      spends = e.spends;
+    }
+
+    -- a fault came in its lines
+    pub broke_in : AppendsFront (taken k') (taken k'') (concat (lines_by style t.game.rules first depth (report_of judged.found reading ∷ [])))
+        → BrokeDepth dialect style (Moves left taken given count last s s' k k'' c c'') t first depth limits
+    broke_in app = record {
+      text = text;
+      d = Done judged.found reading judged.cut;
+      broke = broke_told dialect (Told dialect style t first depth limits text Untold judged.found reading judged.cut) style reading (lines_by style t.game.rules first depth (report_of judged.found reading ∷ [])) app.front app.back
+          (λ a p. told_then dialect style t first depth limits text o Untold judged.found reading judged.cut a (λ why reach may. cuts_untold dialect why o (bound_at t depth) (bound_at t depth) limits.quota limits.deadline reach (readings a) text may) p)
+          e.ran app.whole (told_moves dialect s' style reading app.took gives counts lasts);
+      is = is_depth dialect style t first depth limits text judged.found reading judged.cut e.is;
+    }

@@ -1,0 +1,118 @@
+//! One depth, with its lines.
+ghost use Rattle.std.specs.Prelude.{◌≡◌, ◌≤◌, [], IfOk, IfErr, OnOk, OnErr, IsErr, IsErrOf, Some};
+ghost use Rattle.std.specs.Io.KnownBytes.{Appends, IsAtEnd};
+ghost use Rattle.io_ports.specs.Cause.{HasCause};
+ghost use Rattle.io_ports.specs.Clock.{GivesReadings, count_after, last_after};
+ghost use Rattle.io_ports.specs.Sink.{AppendsFront};
+ghost use Rattle.io_ports.specs.Trace.{Moves};
+ghost use Rattle.io_ports.specs.declared.limits.SearchFault.{SearchFault};
+ghost use Rattle.turning.specs.Lines.{Causes};
+ghost use Rattle.thinking.specs.Depths.{BrokeDepth, Deeper, cut_in};
+ghost use Rattle.thinking.specs.Tells.{reads_by};
+ghost use Rattle.thinking.specs.Views.{IsTask, task_seen};
+
+use crate::found::{CutSolve, Found};
+use crate::judging::{Explored, Judged, explore};
+use crate::lines::lines_of;
+use crate::style::Style;
+use crate::task::Task;
+use io_ports::{Clock, Dialect, Gate, Limits, LineBuf, SearchFault, Sink, Source};
+use seeking::Mind;
+use std::alloc::Global;
+use std::sync::Wait;
+use std::thread::Threads;
+use watching::{Cut, say};
+
+/// How one depth ended.
+#[derive(Drop)]
+pub enum Depth {
+    /// It was searched: what was found, the reading of the clock after it where lines have times, and the solve that was
+    /// cut after its search, where one was.
+    Done {
+        found: Found,
+        clock: u64,
+        cut: Option<CutSolve>,
+    },
+    /// Its search was cut.
+    Off(Cut),
+}
+
+// Reads the clock where lines have times.
+fn reading_for<C: Clock>(style: Style, clock: &mut C) -> u64
+    ensures given { GivesReadings (C.count clock.new) (C.given clock.old) (C.given clock.new) (reads_by style result) }
+    ensures count { C.count clock.new ≡ count_after (C.count clock.old) (reads_by style result) }
+    ensures last { C.last clock.new ≡ last_after (C.last clock.old) (reads_by style result) }
+{
+    match style {
+        Style::Post => clock.now(),
+        Style::Uci | Style::Silent => 0,
+    }
+}
+
+// Writes a text, if it has a byte.
+fn say_some<K: Sink>(sink: &mut K, text: &[u8]) -> Result<(), SearchFault>
+    ensures ok { OnOk result (Appends (K.taken sink.old) (K.taken sink.new) text.now) }
+    ensures err { OnErr result (AppendsFront (K.taken sink.old) (K.taken sink.new) text.now) }
+    ensures only { IfErr result (λ fault. fault ≡ SearchFault.WriteFault) }
+    ensures cause { HasCause (K.faults sink.old) (K.faults sink.new) (IsErr result) }
+{
+    if text.is_empty() {
+        return Ok(());
+    }
+    say(sink, text)
+}
+
+/// Searches the task to one depth, after a first reading of the clock, and tells of it. A mate that the value stands for
+/// is looked for.
+///
+/// # Errors
+///
+/// The fault of the source or of the sink; or no memory. What was written until then can be completed.
+pub fn deeper<R: Threads + Wait + Sync, S: Source, K: Sink, C: Clock, G: Gate + Sync>(
+    rt: &R,
+    alloc: Global,
+    mind: &mut Mind,
+    task: &Task,
+    style: Style,
+    first: u64,
+    depth: u8,
+    limits: Limits,
+    source: &mut S,
+    sink: &mut K,
+    clock: &mut C,
+    gate: &G,
+    dialect: Dialect,
+    line: &mut LineBuf,
+) -> Result<Depth, SearchFault>
+    requires task { IsTask task.now }
+    requires least { 1 ≤ depth }
+    requires most { depth ≤ 64 }
+    ensures deeper { IfOk result (Deeper dialect style
+        (Moves S.left K.taken C.given C.count C.last source.old source.new sink.old sink.new clock.old clock.new)
+        (S.owed source.old) (S.owed source.new) (task_seen task.now) first depth limits line.new) }
+    ensures broke { (why : SearchFault) → IsErrOf result why → BrokeDepth dialect style
+        (Moves S.left K.taken C.given C.count C.last source.old source.new sink.old sink.new clock.old clock.new)
+        (task_seen task.now) first depth limits }
+    ensures end { IfOk result (λ d. cut_in d ≡ Some Cut.End → IsAtEnd (S.left source.new)) }
+    ensures causes { Causes (S.faults source.old) (S.faults source.new) (K.faults sink.old) (K.faults sink.new)
+        (IsErrOf result) }
+    ensures same { mind.new ≡ mind.old }
+{
+    let explored = explore(
+        rt, alloc, mind, task, depth, limits, source, sink, clock, gate, dialect, line,
+    )?;
+    match explored {
+        Explored::Off(why) => Ok(Depth::Off(why)),
+        Explored::Found(judged) => {
+            let Judged { found, cut } = judged;
+            let reading = reading_for(style, clock);
+            let text = lines_of(alloc, style, task.game.rules(), first, depth, &found, reading)?;
+            say_some(sink, text.items.as_slice())?;
+            Ok(Depth::Done {
+                found,
+                clock: reading,
+                cut,
+            })
+        }
+    }
+}

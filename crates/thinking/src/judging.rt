@@ -1,0 +1,176 @@
+//! Mates that the value of a depth stands for.
+ghost use Rattle.std.specs.Prelude.{◌≡◌, ◌≤◌, ◌<◌, IfOk, OnErr, IsErrOf, Some, None};
+ghost use Rattle.std.specs.Io.KnownBytes.{IsAtEnd};
+ghost use Rattle.io_ports.specs.Trace.{Moves};
+ghost use Rattle.game_play.specs.Played.{story};
+ghost use Rattle.game_values.specs.Bounds.{search_bound};
+ghost use Rattle.watching.specs.Events.{Listens};
+ghost use Rattle.watching.specs.Looks.{Broke};
+ghost use Rattle.session_model.specs.Thinking as Thinking;
+ghost use Rattle.turning.specs.Lines.{Causes};
+ghost use Rattle.thinking.specs.Judging.{IsJudged, IsExplored, explored_cut, solve_cut};
+ghost use Rattle.thinking.specs.Views.{IsTask, task_seen};
+
+use crate::found::{CutSolve, Evidence, Found, Score, evidence};
+use crate::scores::{favoured, mate_sought, root_move};
+use crate::task::{Task, quota_left};
+use io_ports::{Clock, Dialect, Gate, Limits, LineBuf, SearchFault, Sink, Source};
+use rules_model::Move;
+use seeking::{Mind, Search, Solve, search_once, solve_once};
+use std::alloc::Global;
+use std::sync::Wait;
+use std::thread::Threads;
+use watching::Cut;
+
+/// What is found at a depth, and the solve that was cut after its search, where one was.
+#[derive(Drop)]
+pub struct Judged {
+    pub found: Found,
+    pub cut: Option<CutSolve>,
+}
+
+/// What a depth comes to: what is found, or a search that was cut.
+#[derive(Drop)]
+pub enum Explored {
+    Found(Judged),
+    Off(Cut),
+}
+
+// A depth that no cut leaves open.
+fn settled(score: Score, best: Move, unsettled: Option<Evidence>, nodes: u64) -> Judged
+    ensures found { result.found ≡ record { score = score; best = best; unsettled = unsettled; nodes = nodes } }
+    ensures cut { result.cut ≡ None }
+{
+    let found = Found {
+        score,
+        best,
+        unsettled,
+        nodes,
+    };
+    Judged { found, cut: None }
+}
+
+/// Looks for the mate that the value of a depth stands for, where all legal moves are root moves.
+///
+/// # Errors
+///
+/// The fault of the source or of the sink; or no memory. The lines that were heard until then are answered, the last one
+/// in part.
+pub fn judge<R: Threads + Wait + Sync, S: Source, K: Sink, C: Clock, G: Gate + Sync>(
+    rt: &R,
+    alloc: Global,
+    mind: &mut Mind,
+    task: &Task,
+    depth: u8,
+    value: i32,
+    best: Move,
+    nodes: u64,
+    limits: Limits,
+    source: &mut S,
+    sink: &mut K,
+    clock: &mut C,
+    gate: &G,
+    dialect: Dialect,
+    line: &mut LineBuf,
+) -> Result<Judged, SearchFault>
+    requires task { IsTask task.now }
+    requires least { 1 ≤ depth }
+    requires value { value ≡ Thinking.value_at (task_seen task.now) depth }
+    requires best { Thinking.AttainsAt (task_seen task.now) depth best }
+    requires few { nodes ≤ search_bound task.now.game.now.rules depth (story task.now.game.now) }
+    ensures judged { IfOk result (IsJudged dialect
+        (Moves S.left K.taken C.given C.count C.last source.old source.new sink.old sink.new clock.old clock.new)
+        (S.owed source.old) (S.owed source.new) (task_seen task.now) depth limits line.new) }
+    ensures broken { OnErr result (Broke dialect
+        (Moves S.left K.taken C.given C.count C.last source.old source.new sink.old sink.new clock.old clock.new)
+        (Listens dialect)) }
+    ensures end { IfOk result (λ judged. solve_cut judged.cut ≡ Some Cut.End → IsAtEnd (S.left source.new)) }
+    ensures causes { Causes (S.faults source.old) (S.faults source.new) (K.faults sink.old) (K.faults sink.new)
+        (IsErrOf result) }
+    ensures same { mind.new ≡ mind.old }
+{
+    let Some(moves) = mate_sought(task, value) else {
+        return Ok(settled(Score::Points(value), best, None, nodes));
+    };
+    let side = favoured(task.game.position().side, value);
+    let solved = solve_once(
+        rt, alloc, mind, task.game, side, moves, limits, source, sink, clock, gate, dialect, line,
+    )?;
+    match solved {
+        Solve::NoMate => Ok(settled(Score::Points(value), best, None, nodes)),
+        Solve::Unsettled { repeat, counters } => {
+            let unsettled = Some(evidence(repeat, counters));
+            Ok(settled(Score::Points(value), best, unsettled, nodes))
+        }
+        Solve::Shown(strategy) => {
+            if value < 0 {
+                return Ok(settled(Score::Mated(moves, strategy), best, None, nodes));
+            }
+            let Some(chosen) = root_move(&strategy) else {
+                unreachable!();
+            };
+            Ok(settled(Score::Mates(moves, strategy), chosen, None, nodes))
+        }
+        Solve::Cut(why) => {
+            let Judged { found, .. } = settled(Score::Points(value), best, None, nodes);
+            Ok(Judged {
+                found,
+                cut: Some(CutSolve { moves, why }),
+            })
+        }
+    }
+}
+
+/// Searches the task to one depth, and looks for the mate that the value stands for.
+///
+/// # Errors
+///
+/// The fault of the source or of the sink; or no memory. The lines that were heard until then are answered, the last one
+/// in part.
+pub fn explore<R: Threads + Wait + Sync, S: Source, K: Sink, C: Clock, G: Gate + Sync>(
+    rt: &R,
+    alloc: Global,
+    mind: &mut Mind,
+    task: &Task,
+    depth: u8,
+    limits: Limits,
+    source: &mut S,
+    sink: &mut K,
+    clock: &mut C,
+    gate: &G,
+    dialect: Dialect,
+    line: &mut LineBuf,
+) -> Result<Explored, SearchFault>
+    requires task { IsTask task.now }
+    requires least { 1 ≤ depth }
+    requires most { depth ≤ 64 }
+    ensures explored { IfOk result (IsExplored dialect
+        (Moves S.left K.taken C.given C.count C.last source.old source.new sink.old sink.new clock.old clock.new)
+        (S.owed source.old) (S.owed source.new) (task_seen task.now) depth limits line.new) }
+    ensures broken { OnErr result (Broke dialect
+        (Moves S.left K.taken C.given C.count C.last source.old source.new sink.old sink.new clock.old clock.new)
+        (Listens dialect)) }
+    ensures end { IfOk result (λ e. explored_cut e ≡ Some Cut.End → IsAtEnd (S.left source.new)) }
+    ensures causes { Causes (S.faults source.old) (S.faults source.new) (K.faults sink.old) (K.faults sink.new)
+        (IsErrOf result) }
+    ensures same { mind.new ≡ mind.old }
+{
+    let searched = search_once(
+        rt, alloc, mind, task.game, task.roots, depth, limits, source, sink, clock, gate, dialect,
+        line,
+    )?;
+    match searched {
+        Search::Cut(why) => Ok(Explored::Off(why)),
+        Search::Done { value, best, nodes } => {
+            let left = Limits {
+                quota: quota_left(limits.quota, nodes),
+                deadline: limits.deadline,
+            };
+            let judged = judge(
+                rt, alloc, mind, task, depth, value, best, nodes, left, source, sink, clock, gate,
+                dialect, line,
+            )?;
+            Ok(Explored::Found(judged))
+        }
+    }
+}

@@ -1,0 +1,25 @@
+//! What both protocols share of a search: one depth after another, with a line for each; scores that stand for mates,
+//! and the strategies that show them; mates that are looked for within 1, 2, .. moves; and what cuts all this.
+#![tactic(auto)]
+
+mod deepening;
+mod depth;
+mod found;
+mod judging;
+mod lines;
+mod mates;
+mod scores;
+mod style;
+mod task;
+#[cfg(test)]
+mod tests;
+
+pub use deepening::{Depths, deepen};
+pub use depth::{Depth, deeper};
+pub use found::{CutSolve, Evidence, Found, Kept, Score, evidence};
+pub use judging::{Explored, Judged, explore, judge};
+pub use lines::{depth_line, lines_of, unsettled_line};
+pub use mates::{Tried, try_mates};
+pub use scores::{favoured, mate_in, mate_sought, root_move};
+pub use style::Style;
+pub use task::{Start, Task, quota_left, start};

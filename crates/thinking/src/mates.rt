@@ -1,0 +1,101 @@
+//! Mates that are looked for within 1, 2, .. moves.
+ghost use Rattle.std.specs.Prelude.{◌≡◌, ◌≤◌, ◌<◌, IfOk, IsErrOf, Some, length};
+ghost use Rattle.std.specs.Io.KnownBytes.{IsAtEnd};
+ghost use Rattle.io_ports.specs.Trace.{Moves};
+ghost use Rattle.io_ports.specs.declared.limits.SearchFault.{SearchFault};
+ghost use Rattle.game_play.specs.Played.{legal_in};
+ghost use Rattle.turning.specs.Lines.{Causes};
+ghost use Rattle.thinking.specs.Tries.{BrokeTrying, IsTried, cut_in};
+
+use crate::found::{Evidence, evidence};
+use crate::scores::root_move;
+use game_play::Game;
+use io_ports::{Clock, Dialect, Gate, Limits, LineBuf, SearchFault, Sink, Source};
+use rules_model::Move;
+use seeking::{Mind, Solve, solve_once};
+use std::alloc::Global;
+use std::sync::Wait;
+use std::thread::Threads;
+use strategy::Strategy;
+use watching::Cut;
+
+/// The first answer of solves within 1, 2, .. moves that is not that there is no mate; or that there is none.
+#[derive(Drop)]
+pub enum Tried {
+    /// The mover mates within this number of moves, and so, with this move first.
+    Shown {
+        moves: u16,
+        strategy: Strategy,
+        best: Move,
+    },
+    /// It stays unsettled whether the mover mates within this number of moves.
+    Unsettled { moves: u16, unsettled: Evidence },
+    /// The solve within this number of moves was cut.
+    Stopped { moves: u16, why: Cut },
+    /// The mover has no mate.
+    NoMate,
+}
+
+/// Looks for a mate of the mover within 1, 2, .. moves, up to the last number.
+///
+/// # Errors
+///
+/// The fault of the source or of the sink; or no memory. The lines that were heard until then are answered, the last one
+/// in part.
+pub fn try_mates<R: Threads + Wait + Sync, S: Source, K: Sink, C: Clock, G: Gate + Sync>(
+    rt: &R,
+    alloc: Global,
+    mind: &mut Mind,
+    game: &Game,
+    last: u16,
+    limits: Limits,
+    source: &mut S,
+    sink: &mut K,
+    clock: &mut C,
+    gate: &G,
+    dialect: Dialect,
+    line: &mut LineBuf,
+) -> Result<Tried, SearchFault>
+    requires some { 0 < length (legal_in game.now) }
+    requires least { 1 ≤ last }
+    requires most { last ≤ 100 }
+    ensures tried { IfOk result (IsTried dialect
+        (Moves S.left K.taken C.given C.count C.last source.old source.new sink.old sink.new clock.old clock.new)
+        (S.owed source.old) (S.owed source.new) limits game.now last line.new) }
+    ensures broke { (why : SearchFault) → IsErrOf result why → BrokeTrying dialect
+        (Moves S.left K.taken C.given C.count C.last source.old source.new sink.old sink.new clock.old clock.new)
+        game.now last }
+    ensures end { IfOk result (λ tried. cut_in tried ≡ Some Cut.End → IsAtEnd (S.left source.new)) }
+    ensures causes { Causes (S.faults source.old) (S.faults source.new) (K.faults sink.old) (K.faults sink.new)
+        (IsErrOf result) }
+    ensures same { mind.new ≡ mind.old }
+{
+    let mover = game.position().side;
+    for before in 0..last {
+        let moves = before + 1;
+        let solved = solve_once(
+            rt, alloc, mind, game, mover, moves, limits, source, sink, clock, gate, dialect, line,
+        )?;
+        match solved {
+            Solve::NoMate => {}
+            Solve::Shown(strategy) => {
+                let Some(best) = root_move(&strategy) else {
+                    unreachable!();
+                };
+                return Ok(Tried::Shown {
+                    moves,
+                    strategy,
+                    best,
+                });
+            }
+            Solve::Unsettled { repeat, counters } => {
+                return Ok(Tried::Unsettled {
+                    moves,
+                    unsettled: evidence(repeat, counters),
+                });
+            }
+            Solve::Cut(why) => return Ok(Tried::Stopped { moves, why }),
+        }
+    }
+    Ok(Tried::NoMate)
+}

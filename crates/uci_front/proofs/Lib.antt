@@ -1,0 +1,6 @@
+mod TextLemmas
+mod MoveLemmas
+mod SessionLemmas
+mod PlainLemmas
+mod PlanLemmas
+mod Unanswered

@@ -1,0 +1,5 @@
+pub mod TextView
+pub mod SessionView
+pub mod Outcomes
+pub mod Plain
+pub mod PlanView

@@ -1,0 +1,45 @@
+-- A session as the definitions of sessions have it, and what is true of each.
+use Rattle.std.specs.Prelude.{◌≡◌, ℕ, ◌<◌, ◌≤◌, List, ◌++◌, length, Option, Some, None, Ok}
+use Rattle.rules_model.specs.declared.rules.Rules.{Rules}
+use Rattle.game_play.specs.Played.{Played}
+use Rattle.seeking.specs.Settings.{Settings}
+use Rattle.session_model.specs.Mates.{Announced}
+use Rattle.session_model.specs.UciState.{State}
+use Rattle.strategy.specs.Reading.{AreSound}
+use Rattle.uci_front.specs.declared.session.Kept.{Kept}
+use Rattle.variant_ini.specs.Section.{Section}
+use Rattle.variant_model.specs.Builtin.{builtin_sections}
+use Rattle.variant_model.specs.Entry.{entry}
+use Rattle.variant_rules.specs.Entries.{Named, entries}
+
+abbrev pub kept_seen : Option Kept → Option Announced
+kept_seen None = None
+kept_seen (Some kept) = Some (record { strategy = kept.strategy; moves = kept.moves })
+
+abbrev pub state_of : List Section → ℕ → Played → Settings → Option Kept → State
+state_of sections place game mind kept = record {
+  sections = sections;
+  place = place;
+  game = game;
+  threads = mind.threads;
+  hash = mind.hash;
+  mate_facts = mind.mate_facts;
+  kept = kept_seen kept;
+}
+
+-- the mate that was announced can be printed: it has from 1 to 100 moves, and the positions of its strategy are sound
+abbrev pub IsPrintable : Rules → Option Kept → Type 0
+IsPrintable rules None = Unit {0}
+IsPrintable rules (Some kept) = (1 ≤ kept.moves) × (kept.moves ≤ 100) × AreSound rules kept.strategy.nodes
+
+-- the variants are those of the sections, and the game goes by the rules of the section at the place
+pub record IsSession (sections : List Section) (variants : List Named) (place : ℕ) (game : Played)
+    (kept : Option Kept) : Type 0 where
+  pub judged : variants ≡ entries sections
+  pub there : place < length sections
+  pub accepted : entry sections place ≡ Ok game.rules
+  pub printable : IsPrintable game.rules kept
+
+-- the first sections are those that are built in
+abbrev pub BeginsBuiltIn : List Section → Type 0
+BeginsBuiltIn sections = (more : List Section) × (sections ≡ builtin_sections ++ more)

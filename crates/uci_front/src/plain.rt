@@ -1,0 +1,162 @@
+//! What is answered to a line that asks no search.
+ghost use Rattle.std.specs.Prelude.{◌≡◌, [], IfOk, OnErr};
+ghost use Rattle.std.specs.Option.{option_copied};
+ghost use Rattle.io_ports.specs.Trace.{Reads};
+ghost use Rattle.variant_files.specs.Looked.{Looked};
+ghost use Rattle.uci_lines.specs.SettingView.{setting_seen};
+ghost use Rattle.uci_lines.specs.View.{command_with};
+ghost use Rattle.uci_front.specs.Outcomes.{LoadsFile, SetsBy};
+ghost use Rattle.uci_front.specs.Plain.{IsAtOnce, IsPlainKind, IsTold, Plainly, file_of, outcome_said, words_said};
+
+use crate::refusal::{Refusal, refused_file};
+use crate::session::UciSession;
+use crate::texts::{READY, error_line};
+use foundation::{Memory, Text};
+use game_reports::{moves_of, status_of};
+use io_ports::{Dialect, Files, too_long_answer};
+use std::alloc::Global;
+use uci_lines::{Kind, Setting, read_placing, read_setting, words_in};
+use variant_files::{NoSections, read_sections};
+
+// Loads the sections that are built in and those of a file, and sets chess.
+fn load_file<F: Files>(
+    alloc: Global,
+    session: &mut UciSession,
+    files: &mut F,
+    name: &[u8],
+) -> Result<(), Refusal>
+    ensures loads { Looked (Reads F.contents F.faults files.old files.new)
+        (λ reads. LoadsFile name.now session.old session.new reads result) }
+    ensures refused { OnErr result (session.new ≡ session.old) }
+{
+    match read_sections(alloc, files, name) {
+        Ok(sections) => session.load(alloc, sections),
+        Err(NoSections::Fault(fault)) => Err(refused_file(alloc, fault)),
+        Err(NoSections::Memory) => Err(Refusal::Memory),
+    }
+}
+
+// The name of the file that a setting reads, where it reads one.
+fn file_named(setting: &Setting) -> Option<&[u8]>
+    ensures { option_copied result ≡ file_of (setting_seen setting.now) }
+{
+    let Setting::VariantPath(Some(name)) = setting else {
+        return None;
+    };
+    let name = name.items.as_slice();
+    if name == b"<empty>".as_slice() {
+        None
+    } else {
+        Some(name)
+    }
+}
+
+// Sets an option.
+fn set_option<F: Files>(
+    alloc: Global,
+    session: &mut UciSession,
+    files: &mut F,
+    setting: &Setting,
+) -> Result<(), Refusal>
+    ensures sets { Looked (Reads F.contents F.faults files.old files.new)
+        (λ reads. SetsBy (file_of (setting_seen setting.now)) session.old session.new (setting_seen setting.now) reads result) }
+    ensures refused { OnErr result (session.new ≡ session.old) }
+{
+    match file_named(setting) {
+        Some(name) => load_file(alloc, session, files, name),
+        None => session.set(alloc, setting),
+    }
+}
+
+// What is said of what a line set: nothing, or its fault.
+fn outcome_text(alloc: Global, outcome: Result<(), Refusal>) -> Result<Option<Text>, Memory>
+    ensures { IfOk result (λ text. (text ≡ outcome_said outcome) × IsTold outcome) }
+{
+    match outcome {
+        Ok(()) => Ok(None),
+        Err(Refusal::Fault(fault)) => Ok(Some(error_line(alloc, fault.items.as_slice())?)),
+        Err(Refusal::Memory) => Err(Memory),
+    }
+}
+
+// What is answered to `setoption` with these words.
+fn answer_option<F: Files>(
+    alloc: Global,
+    session: &mut UciSession,
+    files: &mut F,
+    rest: Option<&[u8]>,
+) -> Result<Option<Text>, Memory>
+    ensures { Looked (Reads F.contents F.faults files.old files.new)
+        (λ reads. Plainly session.old session.new (command_with Kind.SetOption (words_said rest.entry)) reads result) }
+{
+    let words = words_in(alloc, rest)?;
+    let setting = read_setting(alloc, &words)?;
+    let outcome = set_option(alloc, session, files, &setting);
+    outcome_text(alloc, outcome)
+}
+
+// What is answered to `position` with these words.
+fn answer_position(
+    alloc: Global,
+    session: &mut UciSession,
+    rest: Option<&[u8]>,
+) -> Result<Option<Text>, Memory>
+    ensures { Plainly session.old session.new (command_with Kind.Position (words_said rest.entry)) [] result }
+{
+    let words = words_in(alloc, rest)?;
+    let placing = read_placing(alloc, &words)?;
+    let outcome = session.place(alloc, &placing);
+    outcome_text(alloc, outcome)
+}
+
+fn copy_of(alloc: Global, bytes: &[u8]) -> Result<Text, Memory>
+    ensures { IfOk result (λ text. text ≡ bytes.now) }
+{
+    let items = bytes.to_vec(alloc)?;
+    Ok(Text { items })
+}
+
+// What is answered without a file.
+fn answer_at_once(
+    alloc: Global,
+    session: &mut UciSession,
+    kind: Kind,
+    rest: Option<&[u8]>,
+) -> Result<Option<Text>, Memory>
+    requires { IsAtOnce kind }
+    ensures { Plainly session.old session.new (command_with kind (words_said rest.entry)) [] result }
+{
+    match kind {
+        Kind::Uci => Ok(Some(session.uci_text(alloc)?)),
+        Kind::IsReady => Ok(Some(copy_of(alloc, READY)?)),
+        Kind::NewGame => {
+            session.new_game(alloc)?;
+            Ok(None)
+        }
+        Kind::Position => answer_position(alloc, session, rest),
+        Kind::Stop | Kind::Idle => Ok(None),
+        Kind::Moves => Ok(Some(moves_of(alloc, session.game())?)),
+        Kind::Status => Ok(Some(status_of(alloc, session.game())?)),
+        Kind::Strategy => Ok(Some(session.strategy_text(alloc)?)),
+        Kind::TooLong => Ok(Some(copy_of(alloc, too_long_answer(Dialect::Uci))?)),
+        Kind::SetOption | Kind::Go | Kind::Quit => unreachable!(),
+    }
+}
+
+/// What is answered to a line that asks no search, where anything is; what it sets is set.
+pub(crate) fn answer_plain<F: Files>(
+    alloc: Global,
+    session: &mut UciSession,
+    files: &mut F,
+    kind: Kind,
+    rest: Option<&[u8]>,
+) -> Result<Option<Text>, Memory>
+    requires { IsPlainKind kind }
+    ensures { Looked (Reads F.contents F.faults files.old files.new)
+        (λ reads. Plainly session.old session.new (command_with kind (words_said rest.entry)) reads result) }
+{
+    match kind {
+        Kind::SetOption => answer_option(alloc, session, files, rest),
+        _ => answer_at_once(alloc, session, kind, rest),
+    }
+}

@@ -1,0 +1,3 @@
+pub mod Loading
+pub mod FaultView
+pub mod Looked
