@@ -1,19 +1,25 @@
 -- The nodes of each tree that has grown stand at their positions.
-use Rattle.std.proofs.Common.{◌≡◌, ◌⊎◌, inl, inr, ℕ, zero, suc, ◌+◌, ◌<◌, ◌≤◌, List, [], ◌∷◌, length, get_or, Bool, true, false, Option, Some, None, slice_get, option_and_then, cond, refl, ap, sym, ◌∙◌, subst, arith}
-use Rattle.std.proofs.lemmas.Option.{slice_get-get_or}
+use Rattle.std.proofs.Common.{◌≡◌, ◌⊎◌, inl, inr, ℕ, zero, suc, ◌+◌, ◌<◌, ◌≤◌, List, [], ◌∷◌, length, get_or, Bool, true, false, Option, Some, None, slice_get, option_and_then, cond, ◌==◌, refl, ap, sym, ◌∙◌, subst, arith}
+use Rattle.std.proofs.lemmas.Bool.{cases_lt}
+use Rattle.std.proofs.lemmas.Bool.Decides.{nat_tests}
+use Rattle.std.proofs.lemmas.Option.{slice_get-get_or, slice_get_within}
 use Rattle.foundation.specs.Member.{Member}
 use Rattle.rules_model.specs.declared.board.Position.{Position}
 use Rattle.rules_model.specs.declared.moves.Move.{Move}
 use Rattle.rules_model.specs.Legal.{legal}
+use Rattle.rules_model.specs.Next.{next}
 use Rattle.rules_model.specs.Repeats.{repeat_of}
 use Rattle.mate_core.specs.declared.frame.Frame.{Frame}
+use Rattle.forced_wins.proofs.Counts.{eq_to}
+use Rattle.forced_wins.proofs.Lists.{listed}
 use Rattle.pn_search.specs.declared.node.Node.{Node}
+use Rattle.pn_search.specs.declared.node.State.TheVariants.{Inner}
 use Rattle.pn_search.specs.declared.numbers.Pair.{Pair}
 use Rattle.pn_search.specs.Numbers.{pairs_of}
 use Rattle.pn_search.specs.Shapes.{AreInPlace}
-use Rattle.pn_search.specs.Trees.{ProofTree, Spot, root_node, new_tree, is_settled, most_proving, nodes_after, expanded_at, expanded, grown, pn, HasGrown, descend, best_child_at, chosen_at, child_spot, position_after}
-use Rattle.pn_search.proofs.Lists.{there_is}
-use Rattle.pn_search.proofs.Standing.{AreRooted, StandsAt, in_place, expanded-rooted}
+use Rattle.pn_search.specs.Trees.{ProofTree, Spot, root_node, new_tree, is_settled, most_proving, nodes_after, expanded_at, expanded, grown, pn, HasGrown, descend, best_child_at, chosen_at, child_spot, position_after, position_by, position_step, position_of}
+use Rattle.pn_search.proofs.Lists.{there_is, some_same}
+use Rattle.pn_search.proofs.Standing.{AreRooted, StandsAt, IsStateOf, HasChildren, IsChild, in_place, expanded-rooted}
 use Rattle.pn_search.proofs.Descent.{IsOn, IsBelow, child_on, root-on, descend-on, descend-step, descend-stop}
 
 abbrev pub IsRooted : ProofTree → Type 0
@@ -31,7 +37,7 @@ new-rooted f root n = record {
   left = λ v h. ap (λ (x : Node). x.left) (sym (one_at (root_node f root n) 0 v h).1);
   each = λ i v h.
       let e = one_at (root_node f root n) i v h in
-      subst (StandsAt f (root_node f root n ∷ []) (λ j. root) i) e.1 (record { turn = refl; parent = λ z. let a = e.0 in omega arith; state = tt });
+      subst (StandsAt f (root_node f root n ∷ []) (λ j. root) i) e.1 (record { turn = refl; parent = λ z. let a = e.0 in omega arith; leads = λ z. absurd (let a = e.0 in omega arith); state = tt });
 }
 
 pub most_proving-on : (t : ProofTree) (r : IsRooted t) → IsOn t.frame t.root t.moves t.nodes r (most_proving t)
@@ -132,3 +138,56 @@ index-chosen nodes nodes' i x e h is =
 -- the best child of a tree, as it is read
 pub best-read : (t : ProofTree) (nodes : List Node) (ps : List Pair) (place : ℕ) (o : Option ℕ) → nodes ≡ t.nodes → ps ≡ pairs_of t.nodes → o ≡ best_child_at nodes ps place → best_child_at t.nodes (pairs_of t.nodes) place ≡ o
 best-read t nodes ps place o e k h = sym (h ∙ ap (λ xs. best_child_at xs ps place) e ∙ ap (λ qs. best_child_at t.nodes qs place) k)
+
+-- ---- positions
+
+if_zero : (b : Bool) (root p q : Position) → root ≡ q → p ≡ q → cond b root p ≡ q
+if_zero true root p q e h = e
+if_zero false root p q e h = h
+
+position-by : (t : ProofTree) (r : IsRooted t) (d i : ℕ) → i ≤ d → i < length t.nodes → position_by t.frame.rules t.root t.nodes d i ≡ r.position i
+unfolding position_by
+position-by t r zero i low within = sym r.starts ∙ ap r.position (let e : 0 ≡ i = omega arith in e)
+position-by t r (suc d) i low within = by_place (cases_lt 0 i) (there_is t.nodes i within) (λ j h k. position-by t r d j h k)
+  where
+    by_place : (0 < i) ⊎ (i ≤ 0) → (v : Node) × (slice_get t.nodes i ≡ Some v) → ((j : ℕ) → j ≤ d → j < length t.nodes → position_by t.frame.rules t.root t.nodes d j ≡ r.position j) → cond (i == 0) t.root (position_step t.frame.rules t.root (position_by t.frame.rules t.root t.nodes d) (slice_get t.nodes i)) ≡ r.position i
+    by_place (inr e) v more =
+        let zero_is : i ≡ 0 = omega arith in
+        let test : (i == 0) ≡ true = eq_to i 0 zero_is in
+        ap (λ b. cond b t.root (position_step t.frame.rules t.root (position_by t.frame.rules t.root t.nodes d) (slice_get t.nodes i))) test ∙ sym r.starts ∙ ap r.position (sym zero_is)
+    by_place (inl some) (v, stands) more =
+        let s = r.each i v stands in
+        let below = s.parent some in
+        let up = more v.parent (omega arith) (omega arith) in
+        let test : (i == 0) ≡ false = grind (arith, nat_tests) in
+        ap (λ b. cond b t.root (position_step t.frame.rules t.root (position_by t.frame.rules t.root t.nodes d) (slice_get t.nodes i))) test
+        ∙ ap (position_step t.frame.rules t.root (position_by t.frame.rules t.root t.nodes d)) stands
+        ∙ ap (λ p. position_after t.frame.rules p v.chosen) up
+        ∙ sym (s.leads some)
+
+pub position-is : (t : ProofTree) (r : IsRooted t) (i : ℕ) → i < length t.nodes → position_of t i ≡ r.position i
+position-is t r i within = position-by t r i i (omega arith) within
+
+-- a child of a node, where that is and whether its move is legal
+pub record IsChildOf (t : ProofTree) (i j : ℕ) (m : Option Move) : Type 0 where
+  pub deeper : i < j
+  pub within : j < length t.nodes
+  pub is_legal : (x : Move) → m ≡ Some x → Member x (legal t.frame.rules (repeat_of (position_of t i)))
+  pub leads : position_after t.frame.rules (position_of t i) m ≡ position_of t j
+
+pub child-of : (t : ProofTree) → IsRooted t → (i k : ℕ) (v : Node) (first count : ℕ) → slice_get t.nodes i ≡ Some v → v.state ≡ Inner first count → k < count → (w : Node) → slice_get t.nodes (first + k) ≡ Some w → IsChildOf t i (first + k) w.chosen
+child-of t r i k v first count stands state low w there =
+    let c = subst (IsStateOf t.frame t.nodes r.position i (r.position i) v) state (r.each i v stands).state in
+    let m = there_is (legal t.frame.rules (repeat_of (r.position i))) k (let a = c.all in omega arith) in
+    let x = c.each k m.0 m.1 in
+    let same : x.child ≡ w = some_same (slice_get t.nodes (first + k)) x.child w x.stands there in
+    let chosen : w.chosen ≡ Some m.0 = ap (λ (y : Node). y.chosen) (sym same) ∙ x.chosen in
+    let own = position-is t r i (slice_get_within t.nodes i v stands) in
+    let within = slice_get_within t.nodes (first + k) w there in
+    let after = c.after in
+    record {
+      deeper = omega arith;
+      within = within;
+      is_legal = λ y e. subst (λ z. Member z (legal t.frame.rules (repeat_of (position_of t i)))) (some_same w.chosen m.0 y chosen e) (subst (λ p. Member m.0 (legal t.frame.rules (repeat_of p))) (sym own) (listed (legal t.frame.rules (repeat_of (r.position i))) k m.0 m.1));
+      leads = ap (position_after t.frame.rules (position_of t i)) chosen ∙ ap (λ p. next t.frame.rules p m.0) own ∙ sym x.leads ∙ sym (position-is t r (first + k) within);
+    }

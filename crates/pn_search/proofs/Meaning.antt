@@ -97,7 +97,7 @@ module _ (f : Frame) where
     worth-defence zero n e turn = root-defence n e turn
     worth-defence (suc i) n e turn = near-defence f.rules f.attacker f.blocked n p (inner-end i p ∙ e) turn
 
-  worth-later : (i n : ℕ) (p : Position) → 0 < i → worth i n p ≡ near_in n p
+  pub worth-later : (i n : ℕ) (p : Position) → 0 < i → worth i n p ≡ near_in n p
   unfolding worth
   worth-later zero n p h = absurd (omega arith)
   worth-later (suc i) n p h = refl
@@ -251,7 +251,7 @@ module _ (f : Frame) where
       node-says : ((j : ℕ) (w : Node) → i < j → slice_get nodes j ≡ Some w → Says (pair_at ps j) j w.left (r.position j)) → Says q i v.left p
       node-says later = subst (λ y. Says y i v.left p) (sym (numbered nodes placed i v stands)) (by_state later v.state (r.each i v stands).state)
 
-    says : (d i : ℕ) → length nodes ≤ i + d → (v : Node) → slice_get nodes i ≡ Some v → Says (pair_at ps i) i v.left (r.position i)
+    pub says : (d i : ℕ) → length nodes ≤ i + d → (v : Node) → slice_get nodes i ≡ Some v → Says (pair_at ps i) i v.left (r.position i)
     says zero i far v h = absurd (let w = slice_get_within nodes i v h in omega arith)
     says (suc d) i far v h = node-says i v h (λ j w later k. says d j (omega arith) w k)
 

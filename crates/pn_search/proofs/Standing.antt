@@ -18,7 +18,7 @@ use Rattle.pn_search.specs.declared.node.State.{State}
 use Rattle.pn_search.specs.declared.node.State.TheVariants.{Open, Won, Lost, Inner}
 use Rattle.pn_search.specs.declared.numbers.Pair.{Pair}
 use Rattle.pn_search.specs.Shapes.{AreItsChildren, IsInPlace, AreInPlace}
-use Rattle.pn_search.specs.Trees.{Spot, left_after, child_node, children_of, end_at, state_by, expanded_with, expanded_at, nodes_after, root_node}
+use Rattle.pn_search.specs.Trees.{Spot, position_after, left_after, child_node, children_of, end_at, state_by, expanded_with, expanded_at, nodes_after, root_node}
 use Rattle.pn_search.proofs.Lists.{get-left, get-right, there_is, some_same}
 
 module _ (f : Frame) where
@@ -49,6 +49,7 @@ module _ (f : Frame) where
   pub record StandsAt (nodes : List Node) (position : ℕ → Position) (at : ℕ) (v : Node) : Type 0 where
     pub turn : v.attacking ≡ same_side (position at).side f.attacker
     pub parent : 0 < at → v.parent < at
+    pub leads : 0 < at → position at ≡ position_after f.rules (position v.parent) v.chosen
     pub state : IsStateOf nodes position at (position at) v v.state
 
   -- the nodes of a tree for n moves from the root
@@ -118,6 +119,7 @@ module _ (f : Frame) where
         record {
           turn = s.turn ∙ ap (λ (p : Position). same_side p.side f.attacker) (sym e);
           parent = s.parent;
+          leads = λ z. e ∙ s.leads z ∙ ap (λ p. position_after f.rules p v.chosen) (sym (k.there v.parent (let low = s.parent z in omega arith)));
           state = subst (λ p. IsStateOf nodes' position' at p v v.state) (sym e) (state-kept at (position at) v v.state s.state);
         }
 
@@ -225,6 +227,7 @@ module _ (f : Frame) where
               record {
                 turn = old.turn ∙ ap (λ (q : Position). same_side q.side f.attacker) (sym (keeps.there at within));
                 parent = old.parent;
+                leads = λ z. keeps.there at within ∙ old.leads z ∙ ap (λ y. position_after f.rules y v.chosen) (sym (keeps.there v.parent (let low = old.parent z in let high = within in omega arith)));
                 state = subst (λ q. IsStateOf nodes' position' at q w s) (sym same) (state-like s state);
               }
             where
@@ -249,6 +252,7 @@ module _ (f : Frame) where
               (record {
                 turn = ap (λ (q : Position). same_side q.side f.attacker) (sym leads);
                 parent = λ z. let a = within in omega arith;
+                leads = λ z. leads ∙ ap (λ y. next f.rules y m.0) (sym (keeps.there at within ∙ here));
                 state = tt;
               })
 

@@ -3,3 +3,4 @@ pub mod Trees
 pub mod Shapes
 pub mod Kept
 pub mod Meaning
+pub mod Finds

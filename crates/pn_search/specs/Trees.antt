@@ -152,3 +152,19 @@ pub record HasGrown (t : ProofTree) : Type 0 where
 
 abbrev pub spot_at : ℕ → Position → Spot
 spot_at place p = record { place = place; position = p }
+
+-- ---- the position of a node
+
+abbrev pub position_step : Rules → Position → (ℕ → Position) → Option Node → Position
+position_step rules root at None = root
+position_step rules root at (Some v) = position_after rules (at v.parent) v.chosen
+
+-- that of the node with the number i, at most so many moves from the root
+unfoldable pub position_by : Rules → Position → List Node → ℕ → ℕ → Position
+position_by rules root nodes zero i = root
+position_by rules root nodes (suc d) i =
+    if i == 0 then root else position_step rules root (position_by rules root nodes d) (slice_get nodes i)
+
+-- a node's parent has a smaller number, so its own is enough
+abbrev pub position_of : ProofTree → ℕ → Position
+position_of t i = position_by t.frame.rules t.root t.nodes i i

@@ -6,6 +6,7 @@ mod carrying;
 mod copying;
 mod descending;
 mod expanding;
+mod finding;
 mod grew;
 mod node;
 mod numbers;
@@ -14,6 +15,7 @@ mod tests;
 mod tree;
 
 pub use expanding::root_end;
+pub use finding::{Found, find};
 pub use grew::Grew;
 pub use node::{Node, State};
 pub use numbers::{INFINITE, Pair};

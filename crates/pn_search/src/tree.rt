@@ -1,8 +1,10 @@
 //! Proof trees.
-ghost use Rattle.std.specs.Prelude.{◌≡◌, ◌<◌, ◌≤◌, ◌+◌, ℕ, IfOk, OnErr, length, true, None};
+ghost use Rattle.std.specs.Prelude.{◌≡◌, ◌<◌, ◌≤◌, ◌+◌, ℕ, ◌==◌, IfOk, IfSome, OnErr, length, true, None};
 ghost use Rattle.rules_model.specs.Sound.{is_sound};
+ghost use Rattle.mate_core.specs.Runs.{IsTrueIn};
+ghost use Rattle.pn_search.specs.Finds.{IsAt};
 ghost use Rattle.pn_search.specs.Kept as Kept;
-ghost use Rattle.pn_search.specs.Meaning.{PairDecides};
+ghost use Rattle.pn_search.specs.Meaning.{PairDecides, root_pair};
 ghost use Rattle.pn_search.specs.Numbers as Numbers;
 ghost use Rattle.pn_search.specs.Trees as Trees;
 
@@ -14,9 +16,9 @@ use crate::grew::Grew;
 use crate::node::{Node, State};
 use crate::numbers::{OPEN, Pair, is_settled_pair};
 use attack_tables::Tables;
-use mate_core::Frame;
+use mate_core::{Fact, Frame};
 use playing::Board;
-use rules_model::{Memory, Position};
+use rules_model::{Memory, Position, repeat_of};
 use std::alloc::Global;
 use std::marker::Model;
 
@@ -54,7 +56,10 @@ impl Tree {
         requires ongoing { Trees.end_at frame.now 0 root.now ≡ None }
         requires some { 0 < n }
         requires small { n ≤ 100 }
-        ensures { IfOk result (λ t. t ≡ Trees.new_tree frame.now root.now n) }
+        ensures tree { IfOk result (λ t. t ≡ Trees.new_tree frame.now root.now n) }
+        ensures frame { IfOk result (λ t. t.frame ≡ frame.now) }
+        ensures root { IfOk result (λ t. t.root ≡ root.now) }
+        ensures moves { IfOk result (λ t. t.moves ≡ n) }
     {
         let mut nodes = Vec::new(alloc);
         nodes.push(Node {
@@ -108,6 +113,75 @@ impl Tree {
     {
         let root = self.pairs[0];
         is_settled_pair(&root)
+    }
+
+    /// Whether the root is proved.
+    pub(crate) fn is_won(&self) -> bool
+        ensures { result ≡ ((root_pair self.now).proof == 0) }
+    {
+        let root = self.pairs[0];
+        root.proof == 0
+    }
+
+    /// What is known of a settled node below the root, whose position this is.
+    pub(crate) fn known_at(&self, place: usize, p: &Position) -> Option<Fact>
+        requires below { 0 < place }
+        requires at { IsAt self.now place p.now }
+        ensures { IfSome result (IsTrueIn self.now.frame) }
+    {
+        let pair = self.pairs[place];
+        if !is_settled_pair(&pair) {
+            return None;
+        }
+        Some(Fact {
+            repeat: repeat_of(p),
+            attacker: self.frame.attacker,
+            moves: u16::from(self.nodes[place].left),
+            counter: p.counter,
+            best: None,
+            wins: pair.proof == 0,
+        })
+    }
+
+    /// How many children the node has.
+    pub(crate) fn count_at(&self, place: usize) -> u32
+        requires { place < length self.now.nodes }
+    {
+        match self.nodes[place].state {
+            State::Inner { first: _, count } => count,
+            _ => 0,
+        }
+    }
+
+    /// The child of the node at this place among its children, if it is settled.
+    pub(crate) fn settled_child<'t>(
+        &self,
+        place: usize,
+        k: u32,
+        board: &Board<'t>,
+    ) -> Option<Leaf<'t>>
+        requires rules { board.now.rules ≡ self.now.frame.rules }
+        requires at { IsAt self.now place board.now.position }
+        ensures deeper { IfSome result (λ leaf. place < leaf.place) }
+        ensures rules { IfSome result (λ leaf. leaf.board.rules ≡ self.now.frame.rules) }
+        ensures at { IfSome result (λ leaf. IsAt self.now leaf.place leaf.board.position) }
+    {
+        let node = self.nodes[place];
+        let State::Inner { first, count } = node.state else {
+            return None;
+        };
+        if k >= count {
+            return None;
+        }
+        let child = first as usize + k as usize;
+        if !is_settled_pair(&self.pairs[child]) {
+            return None;
+        }
+        let m = self.nodes[child].chosen?;
+        Some(Leaf {
+            place: child,
+            board: board.after(&m),
+        })
     }
 
     // The most-proving leaf.
