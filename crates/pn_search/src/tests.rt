@@ -41,7 +41,7 @@ fn settled(
         return Ok(None);
     }
     let mut tree = Tree::new(alloc, frame, p, n)?;
-    for _ in 0..100_000 {
+    'growing: for _ in 0..100_000 {
         match tree.grow(tables)? {
             Grew::Expanded(_) => {}
             Grew::Settled => {

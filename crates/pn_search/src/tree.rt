@@ -54,7 +54,10 @@ impl Tree {
         requires ongoing { Trees.end_at frame.now 0 root.now ≡ None }
         requires some { 0 < n }
         requires small { n ≤ 100 }
-        ensures { IfOk result (λ t. t ≡ Trees.new_tree frame.now root.now n) }
+        ensures tree { IfOk result (λ t. t ≡ Trees.new_tree frame.now root.now n) }
+        ensures frame { IfOk result (λ t. t.frame ≡ frame.now) }
+        ensures root { IfOk result (λ t. t.root ≡ root.now) }
+        ensures moves { IfOk result (λ t. t.moves ≡ n) }
     {
         let mut nodes = Vec::new(alloc);
         nodes.push(Node {

@@ -17,8 +17,8 @@ invariant_of-result c =
     kept-new c.args.frame.now c.in_ok-frame_of.field-0 c.args.root.now c.args.n c.push.new.self.items c.push-2.new.self.items
     c.in_ok-frame_of.ensures one_node one_pair c.requires.sound c.requires.ongoing
 
-pub returns : goal.returns
-returns c =
+pub returns-clause-tree : goal.returns-clause-tree
+returns-clause-tree c =
     let one_node : c.push.new.self.items ≡ root_node c.args.frame.now c.args.root.now c.args.n ∷ [] =
     c.in_ok-push.ensures.items
     ∙ ap (λ xs. xs ++ record { parent = 0; state = Open; chosen = None; left = c.args.n; attacking = c.is.result } ∷ []) c.new-nodes.ensures.items
