@@ -1,5 +1,5 @@
 -- The nodes of each tree that has grown stand at their positions.
-use Rattle.std.proofs.Common.{◌≡◌, ◌⊎◌, inl, inr, ℕ, zero, suc, ◌+◌, ◌<◌, ◌≤◌, List, [], ◌∷◌, length, get_or, Bool, true, false, Option, Some, None, slice_get, option_and_then, cond, refl, ap, sym, ◌∙◌, subst, arith}
+use Rattle.std.proofs.Common.{◌≡◌, ℕ, zero, suc, ◌+◌, ◌<◌, ◌≤◌, List, [], ◌∷◌, length, get_or, Bool, true, false, Option, Some, None, slice_get, option_and_then, cond, refl, ap, sym, ◌∙◌, subst, arith}
 use Rattle.std.proofs.lemmas.Option.{slice_get-get_or}
 use Rattle.foundation.specs.Member.{Member}
 use Rattle.rules_model.specs.declared.board.Position.{Position}
@@ -11,7 +11,7 @@ use Rattle.pn_search.specs.declared.node.Node.{Node}
 use Rattle.pn_search.specs.declared.numbers.Pair.{Pair}
 use Rattle.pn_search.specs.Numbers.{pairs_of}
 use Rattle.pn_search.specs.Shapes.{AreInPlace}
-use Rattle.pn_search.specs.Trees.{ProofTree, Spot, root_node, new_tree, is_settled, most_proving, nodes_after, expanded_at, expanded, grown, pn, HasGrown, descend, best_child_at, chosen_at, child_spot, position_after}
+use Rattle.pn_search.specs.Trees.{ProofTree, Spot, root_node, new_tree, is_settled, most_proving, nodes_after, expanded_at, expanded, grown, pn, HasGrown, descend, best_child_at, chosen_at, position_after}
 use Rattle.pn_search.proofs.Lists.{there_is}
 use Rattle.pn_search.proofs.Standing.{AreRooted, StandsAt, in_place, expanded-rooted}
 use Rattle.pn_search.proofs.Descent.{IsOn, IsBelow, child_on, root-on, descend-on, descend-step, descend-stop}

@@ -1,5 +1,5 @@
 -- Each node of a tree stands at the position to which the moves lead.
-use Rattle.std.proofs.Common.{◌≡◌, ◌⊎◌, inl, inr, ℕ, zero, suc, ◌+◌, ◌-◌, ◌<◌, ◌≤◌, ◌==◌, nat_lt, List, [], ◌∷◌, ◌++◌, map, take, drop, length, set, Bool, true, false, ◌&&◌, not, Option, Some, None, slice_get, option_and_then, position, cond, refl, ap, sym, ◌∙◌, subst, arith}
+use Rattle.std.proofs.Common.{◌≡◌, ◌⊎◌, inl, inr, ℕ, ◌+◌, ◌-◌, ◌<◌, ◌≤◌, ◌==◌, nat_lt, List, [], ◌++◌, map, length, set, Bool, true, false, ◌&&◌, Option, Some, None, slice_get, position, cond, refl, ap, sym, ◌∙◌, subst, arith}
 use Rattle.std.proofs.lemmas.Bool.{and_parts, cases_lt, cases_eq, eqb-true}
 use Rattle.std.proofs.lemmas.Bool.Decides.{nat_tests}
 use Rattle.std.proofs.lemmas.List.{length-set, length-append, length-map, append-nil}
@@ -16,9 +16,8 @@ use Rattle.forced_wins.proofs.Lists.{mapped, map_at}
 use Rattle.pn_search.specs.declared.node.Node.{Node}
 use Rattle.pn_search.specs.declared.node.State.{State}
 use Rattle.pn_search.specs.declared.node.State.TheVariants.{Open, Won, Lost, Inner}
-use Rattle.pn_search.specs.declared.numbers.Pair.{Pair}
-use Rattle.pn_search.specs.Shapes.{AreItsChildren, IsInPlace, AreInPlace}
-use Rattle.pn_search.specs.Trees.{Spot, left_after, child_node, children_of, end_at, state_by, expanded_with, expanded_at, nodes_after, root_node}
+use Rattle.pn_search.specs.Shapes.{AreItsChildren, AreInPlace}
+use Rattle.pn_search.specs.Trees.{left_after, child_node, children_of, end_at, state_by, expanded_with, expanded_at}
 use Rattle.pn_search.proofs.Lists.{get-left, get-right, there_is, some_same}
 
 module _ (f : Frame) where
