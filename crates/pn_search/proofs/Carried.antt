@@ -1,15 +1,14 @@
 -- Pairs that are worked out node by node, and the pairs of all nodes.
-use Rattle.std.proofs.Common.{◌≡◌, ◌⊎◌, inl, inr, ℕ, zero, suc, ◌+◌, ◌-◌, ◌<◌, ◌≤◌, List, [], ◌∷◌, take, drop, length, get_or, set, Bool, true, false, ◌&&◌, ◌==◌, Option, Some, None, slice_get, slice_index_or, refl, ap, sym, ◌∙◌, subst, arith}
+use Rattle.std.proofs.Common.{◌≡◌, ◌⊎◌, inl, inr, ℕ, zero, suc, ◌+◌, ◌-◌, ◌<◌, ◌≤◌, List, [], ◌∷◌, take, drop, length, get_or, set, true, false, ◌&&◌, ◌==◌, Option, Some, None, slice_get, refl, ap, sym, ◌∙◌, subst, arith}
 use Rattle.std.proofs.lemmas.Bool.{and_parts, cases_lt}
-use Rattle.std.proofs.lemmas.List.{drop-set-lt, drop-set-add, take-set-le, drop-drop, get_or-drop, get_or-set_same, get_or-set_other, length-set}
-use Rattle.std.proofs.lemmas.Option.{slice_get_within}
+use Rattle.std.proofs.lemmas.List.{drop-set-lt, drop-set-add, take-set-le, drop-drop, get_or-drop, get_or-set_same, get_or-set_other}
 use Rattle.std.proofs.lemmas.Bool.{eqb-true}
 use Rattle.pn_search.specs.declared.node.Node.{Node}
 use Rattle.pn_search.specs.declared.node.State.{State}
 use Rattle.pn_search.specs.declared.node.State.TheVariants.{Open, Won, Lost, Inner}
 use Rattle.pn_search.specs.declared.numbers.Pair.{Pair}
 use Rattle.pn_search.specs.Numbers.{open_pair, of_children, of_children_from, pair_at, pair_of, pairs_from, pairs_of}
-use Rattle.pn_search.specs.Shapes.{AreWithin, AreItsChildren, IsInPlace, AreInPlace, IsNumbered}
+use Rattle.pn_search.specs.Shapes.{AreWithin, AreItsChildren, AreInPlace, IsNumbered}
 
 -- what a read past the end would give
 abbrev pub no_node : Node

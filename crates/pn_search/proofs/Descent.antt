@@ -1,5 +1,5 @@
 -- The way down a tree leads to nodes at their positions, by legal moves.
-use Rattle.std.proofs.Common.{◌≡◌, ◌⊎◌, inl, inr, ℕ, zero, suc, ◌+◌, ◌-◌, ◌<◌, ◌≤◌, ◌==◌, min, List, [], ◌∷◌, take, drop, length, get_or, Bool, true, false, Option, Some, None, slice_get, option_and_then, position, refl, ap, sym, ◌∙◌, subst, arith}
+use Rattle.std.proofs.Common.{◌≡◌, ℕ, zero, suc, ◌+◌, ◌<◌, ◌==◌, List, take, drop, length, get_or, Bool, Option, Some, None, slice_get, option_and_then, position, refl, ap, sym, ◌∙◌, subst, arith}
 use Rattle.std.specs.Option.{option_map}
 use Rattle.std.proofs.lemmas.List.{length-take, get_or_default}
 use Rattle.std.proofs.lemmas.List.Quantifiers.{position-Some}
@@ -19,7 +19,7 @@ use Rattle.pn_search.specs.Numbers.{own_number, of_children, first_child, open_p
 use Rattle.pn_search.specs.Trees.{Spot, best_child, best_child_at, chosen_at, child_spot, position_after, go_on, descend}
 use Rattle.pn_search.proofs.Carried.{no_pair}
 use Rattle.pn_search.proofs.Lists.{there_is, some_same}
-use Rattle.pn_search.proofs.Standing.{AreRooted, StandsAt, IsStateOf, HasChildren, IsChild}
+use Rattle.pn_search.proofs.Standing.{AreRooted, IsStateOf, HasChildren}
 
 -- the best child is one of the children
 pub found_among : (a : Bool) (number : ℕ) (s : State) (ps : List Pair) (i : ℕ) → option_map (λ k. first_child s + k) (position (λ c. own_number a c == number) (of_children s ps)) ≡ Some i → (first : ℕ) × (count : ℕ) × (k : ℕ) × (s ≡ Inner first count) × (k < count) × (i ≡ first + k)

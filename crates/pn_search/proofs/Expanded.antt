@@ -1,5 +1,5 @@
 -- The nodes and the pairs after a leaf was expanded.
-use Rattle.std.proofs.Common.{◌≡◌, ◌⊎◌, inl, inr, ℕ, zero, suc, ◌+◌, ◌-◌, ◌<◌, ◌≤◌, ◌==◌, List, [], ◌∷◌, ◌++◌, map, take, drop, length, replicate, get_or, set, Bool, true, false, ◌&&◌, not, Option, Some, None, slice_get, cond, refl, ap, sym, ◌∙◌, subst, arith}
+use Rattle.std.proofs.Common.{◌≡◌, ◌⊎◌, inl, inr, ℕ, ◌+◌, ◌-◌, ◌<◌, ◌≤◌, ◌==◌, List, [], ◌∷◌, ◌++◌, map, take, drop, length, replicate, get_or, set, Bool, true, false, ◌&&◌, not, Option, Some, None, slice_get, cond, refl, ap, sym, ◌∙◌, subst, arith}
 use Rattle.std.proofs.lemmas.Bool.{cases_lt}
 use Rattle.std.proofs.lemmas.Bool.Decides.{nat_tests}
 use Rattle.std.proofs.lemmas.List.{length-set, length-map, length-drop, length-append, length-replicate, get_or_append_left, get_or-append_right, get_or-replicate, set-append_left, drop-append-le, take-append-le}
@@ -22,7 +22,7 @@ use Rattle.pn_search.specs.declared.node.State.TheVariants.{Open, Won, Lost, Inn
 use Rattle.pn_search.specs.declared.numbers.Pair.{Pair}
 use Rattle.pn_search.specs.Kept.{written_child}
 use Rattle.pn_search.specs.Numbers.{open_pair, of_children, pair_at, pair_of, pairs_of}
-use Rattle.pn_search.specs.Shapes.{AreInPlace, AreItsChildren, IsNumbered}
+use Rattle.pn_search.specs.Shapes.{AreInPlace, IsNumbered}
 use Rattle.pn_search.specs.Trees.{spot_at, child_node, children_of, end_at, state_by, expanded_with, expanded_at, nodes_after}
 use Rattle.pn_search.proofs.Carried.{numbered, length-pairs}
 use Rattle.pn_search.proofs.Lists.{get-left, get-right}

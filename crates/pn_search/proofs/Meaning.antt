@@ -1,5 +1,5 @@
 -- A node that is proved is won, and one that is disproved is not.
-use Rattle.std.proofs.Common.{◌≡◌, ◌⊎◌, inl, inr, ℕ, zero, suc, ◌+◌, ◌-◌, ◌<◌, ◌≤◌, ◌==◌, min, List, [], ◌∷◌, map, take, drop, length, get_or, Bool, true, false, ◌||◌, not, Option, Some, None, slice_get, cond, refl, ap, sym, ◌∙◌, subst, arith}
+use Rattle.std.proofs.Common.{◌≡◌, inl, inr, ℕ, zero, suc, ◌+◌, ◌<◌, ◌≤◌, List, [], ◌∷◌, map, take, drop, length, get_or, Bool, true, false, Some, None, slice_get, cond, refl, ap, sym, ◌∙◌, subst, arith}
 use Rattle.std.specs.List.{list_any, list_all}
 use Rattle.std.proofs.lemmas.Bool.Decides.{nat_tests}
 use Rattle.std.proofs.lemmas.List.{length-take, length-drop, get_or-take, get_or-drop}
@@ -14,7 +14,7 @@ use Rattle.rules_model.specs.Sides.{same_side}
 use Rattle.forced_wins.specs.Contests.{decided}
 use Rattle.forced_wins.specs.Wins.{near, near_end, near_attack, near_defence}
 use Rattle.forced_wins.proofs.ContestLaws.{any_intro, all_intro}
-use Rattle.forced_wins.proofs.Counts.{by_cases, not_true, true_false}
+use Rattle.forced_wins.proofs.Counts.{not_true, true_false}
 use Rattle.forced_wins.proofs.Lists.{listed}
 use Rattle.forced_wins.proofs.Sentences.{near-ended, near-zero, near-attack, near-defence}
 use Rattle.forced_wins.proofs.TableLaws.{any_member, all_member}
@@ -24,15 +24,15 @@ use Rattle.pn_search.specs.declared.node.State.{State}
 use Rattle.pn_search.specs.declared.node.State.TheVariants.{Open, Won, Lost, Inner}
 use Rattle.pn_search.specs.declared.numbers.Pair.{Pair}
 use Rattle.pn_search.specs.Meaning.{moves_win, root_pair, won_pair, lost_pair, PairDecides}
-use Rattle.pn_search.specs.Numbers.{infinite, plus, sum_of, least_of, own_number, inner_pair, open_pair, of_children, pair_at, pair_of, pairs_of}
+use Rattle.pn_search.specs.Numbers.{plus, sum_of, least_of, own_number, inner_pair, open_pair, of_children, pair_at, pair_of, pairs_of}
 use Rattle.pn_search.specs.Shapes.{AreInPlace}
 use Rattle.pn_search.specs.Trees.{ProofTree, left_after, end_at, IsPn}
 use Rattle.pn_search.proofs.Carried.{numbered, length-pairs}
 use Rattle.pn_search.proofs.Expanded.{end-inner}
 use Rattle.pn_search.proofs.Fair.{IsFair, fair_at, settled-won, settled-lost}
 use Rattle.pn_search.proofs.Grown.{IsRooted, pn-rooted}
-use Rattle.pn_search.proofs.Lists.{there_is, some_same}
-use Rattle.pn_search.proofs.Standing.{AreRooted, StandsAt, IsStateOf, HasChildren, IsChild, in_place}
+use Rattle.pn_search.proofs.Lists.{there_is}
+use Rattle.pn_search.proofs.Standing.{AreRooted, IsStateOf, HasChildren, in_place}
 
 -- ---- least numbers and sums that are 0
 

@@ -1,10 +1,10 @@
 -- The leaf that is expanded was not looked at yet, so less is left to do afterwards.
-use Rattle.std.proofs.Common.{◌≡◌, ◌⊎◌, inl, inr, ℕ, zero, suc, ◌+◌, ◌-◌, ◌*◌, ◌^◌, ◌<◌, ◌≤◌, ◌==◌, min, nat_lt, List, [], ◌∷◌, ◌++◌, map, take, drop, length, set, get_or, count_by, Bool, true, false, ◌&&◌, ◌||◌, not, Option, Some, None, slice_get, option_and_then, position, cond, refl, ap, sym, ◌∙◌, subst, arith}
+use Rattle.std.proofs.Common.{◌≡◌, ◌⊎◌, inl, inr, ℕ, zero, suc, ◌+◌, ◌^◌, ◌<◌, ◌≤◌, ◌==◌, min, nat_lt, List, [], ◌∷◌, ◌++◌, map, take, drop, length, set, get_or, Bool, true, false, ◌&&◌, not, Option, Some, None, slice_get, option_and_then, position, cond, refl, ap, sym, ◌∙◌, subst, arith}
 use Rattle.std.specs.Option.{option_map}
 use Rattle.std.specs.List.{position_or_len}
 use Rattle.std.proofs.lemmas.Bool.{cases_lt}
 use Rattle.std.proofs.lemmas.Bool.Decides.{nat_tests}
-use Rattle.std.proofs.lemmas.List.{length-take, length-drop, get_or-take, get_or-drop, length-set, length-append, length-map}
+use Rattle.std.proofs.lemmas.List.{length-take, get_or-take, get_or-drop, length-set, length-append, length-map}
 use Rattle.std.proofs.lemmas.List.Quantifiers.{position-Some}
 use Rattle.std.proofs.lemmas.List.Sums.{fails_before_first}
 use Rattle.std.proofs.lemmas.Option.{slice_get_within}
@@ -20,13 +20,13 @@ use Rattle.pn_search.specs.declared.node.State.TheVariants.{Open, Won, Lost, Inn
 use Rattle.pn_search.specs.declared.numbers.Pair.{Pair}
 use Rattle.pn_search.specs.Kept.{open_leaf, open_leaves, work_left}
 use Rattle.pn_search.specs.Numbers.{infinite, sum_of, least_of, own_number, pair_with, inner_pair, open_pair, of_children, first_child, pair_at, pair_of, pairs_of}
-use Rattle.pn_search.specs.Shapes.{AreInPlace, AreItsChildren}
+use Rattle.pn_search.specs.Shapes.{AreInPlace}
 use Rattle.pn_search.specs.Trees.{ProofTree, Spot, best_child, best_child_at, child_spot, child_node, children_of, descend, end_at, expanded_at, expanded_with, most_proving, nodes_after, is_settled, is_settled_pair, state_by}
 use Rattle.pn_search.proofs.Carried.{numbered, length-pairs}
 use Rattle.pn_search.proofs.Descent.{IsOn, child_on, root-on, descend-step, descend-stop, best-none}
 use Rattle.pn_search.proofs.Fair.{IsFair, AreFair, reached, barred, between, own-fair, fair_at}
 use Rattle.pn_search.proofs.Grown.{IsRooted}
-use Rattle.pn_search.proofs.Lists.{there_is, some_same}
+use Rattle.pn_search.proofs.Lists.{there_is}
 use Rattle.pn_search.proofs.Standing.{AreRooted, in_place}
 
 -- neither 0 nor infinite

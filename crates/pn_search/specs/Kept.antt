@@ -1,5 +1,5 @@
 -- What is kept of a tree, and how a call changes it.
-use Rattle.std.specs.Prelude.{◌≡◌, ℕ, ◌+◌, ◌-◌, ◌*◌, ◌<◌, ◌^◌, List, [], ◌∷◌, length, Bool, true, not, Option, Some, None, slice_get}
+use Rattle.std.specs.Prelude.{◌≡◌, ℕ, ◌+◌, ◌-◌, ◌*◌, ◌<◌, ◌^◌, List, [], ◌∷◌, length, true, not, Some, None, slice_get}
 use Rattle.rules_model.specs.declared.board.Position.{Position}
 use Rattle.rules_model.specs.declared.moves.Move.{Move}
 use Rattle.rules_model.specs.Sides.{same_side}
@@ -12,7 +12,7 @@ use Rattle.pn_search.specs.declared.node.State.{State}
 use Rattle.pn_search.specs.declared.node.State.TheVariants.{Open, Won, Lost, Inner}
 use Rattle.pn_search.specs.declared.numbers.Pair.{Pair}
 use Rattle.pn_search.specs.Numbers.{pairs_of}
-use Rattle.pn_search.specs.Trees.{ProofTree, HasGrown, Spot, left_after, end_at, grown, is_settled, most_proving}
+use Rattle.pn_search.specs.Trees.{ProofTree, HasGrown, left_after, end_at, grown, is_settled, most_proving}
 
 -- it has grown from an ongoing root, and these are the pairs of its nodes
 pub record IsKept (t : ProofTree) (ps : List Pair) : Type 0 where

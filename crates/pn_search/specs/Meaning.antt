@@ -1,5 +1,5 @@
 -- What the root's pair says.
-use Rattle.std.specs.Prelude.{◌≡◌, ℕ, Bool, true, false, None, if◌then◌else◌}
+use Rattle.std.specs.Prelude.{◌≡◌, ℕ, Bool, true, false, if◌then◌else◌}
 use Rattle.rules_model.specs.declared.board.Position.{Position}
 use Rattle.rules_model.specs.Sides.{same_side}
 use Rattle.forced_wins.specs.Wins.{near_attack, near_defence}

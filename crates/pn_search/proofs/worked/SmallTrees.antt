@@ -8,8 +8,8 @@ use Rattle.pn_search.specs.declared.node.State.{State}
 use Rattle.pn_search.specs.declared.node.State.TheVariants.{Open, Won, Lost, Inner}
 use Rattle.pn_search.specs.declared.numbers.Pair.{Pair}
 use Rattle.pn_search.specs.Meaning.{won_pair, lost_pair}
-use Rattle.pn_search.specs.Numbers.{infinite, plus, sum_of, least_of, inner_pair, open_pair, pair_at, pairs_from, pairs_of}
-use Rattle.pn_search.specs.Trees.{Spot, best_child_at, descend, end_at, expanded_with, is_settled, most_proving, new_tree, root_node, spot_at, state_by}
+use Rattle.pn_search.specs.Numbers.{plus, sum_of, least_of, inner_pair, open_pair, pair_at, pairs_from, pairs_of}
+use Rattle.pn_search.specs.Trees.{best_child_at, descend, end_at, expanded_with, is_settled, most_proving, new_tree, spot_at, state_by}
 
 abbrev pair : ℕ → ℕ → Pair
 pair p d = record { proof = p; disproof = d }

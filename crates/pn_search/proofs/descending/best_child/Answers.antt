@@ -1,7 +1,5 @@
-use Rattle.std.proofs.Common.{rules, ◌≡◌, ℕ, ◌+◌, ◌<◌, ◌≤◌, Option, Some, None, slice_get, get_or, length, refl, ap, sym, ◌∙◌, subst, arith}
+use Rattle.std.proofs.Common.{◌<◌, Some, None, get_or, length, ◌∙◌, arith}
 use Rattle.std.proofs.lemmas.Option.{slice_get-get_or}
-use Rattle.pn_search.specs.declared.node.Node.{Node}
-use Rattle.pn_search.specs.declared.node.State.TheVariants.{Inner}
 use Rattle.pn_search.proofs.Carried.{no_node}
 use Rattle.pn_search.proofs.Descent.{best-found, best-none}
 use Rattle.pn_search.proofs.descending.best_child.Goals as goal

@@ -1,4 +1,4 @@
-use Rattle.std.proofs.Common.{◌≡◌, ap, ◌∙◌, arith}
+use Rattle.std.proofs.Common.{ap, ◌∙◌, arith}
 use Rattle.mate_fact.specs.InFrame.{end_in}
 use Rattle.pn_search.proofs.Expanded.{end-inner}
 use Rattle.pn_search.proofs.expanding.end_at.Goals as goal

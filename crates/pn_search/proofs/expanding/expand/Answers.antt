@@ -1,17 +1,14 @@
-use Rattle.std.proofs.Common.{◌≡◌, ◌⊎◌, ℕ, ◌+◌, ◌<◌, ◌≤◌, ◌++◌, List, Option, Some, None, map, length, replicate, set, slice_get, ap, sym, ◌∙◌, subst, arith, rules}
+use Rattle.std.proofs.Common.{◌≡◌, ◌<◌, ◌++◌, map, length, set, slice_get, ap, sym, ◌∙◌, subst, arith}
 use Rattle.std.proofs.lemmas.List.{length-set}
-use Rattle.rules_model.specs.declared.moves.Move.{Move}
 use Rattle.rules_model.specs.declared.rules.Rules.{Rules}
 use Rattle.rules_model.specs.Legal.{legal}
 use Rattle.rules_model.specs.Repeats.{repeat_of}
 use Rattle.playing.specs.Stance.{legal_in}
 use Rattle.pn_search.specs.declared.node.Node.{Node}
 use Rattle.pn_search.specs.declared.node.State.TheVariants.{Inner}
-use Rattle.pn_search.specs.declared.numbers.Pair.{Pair}
 use Rattle.pn_search.specs.Kept.{written_child}
-use Rattle.pn_search.specs.Numbers.{open_pair}
 use Rattle.pn_search.specs.Shapes.{IsNumbered}
-use Rattle.pn_search.specs.Trees.{end_at, state_by}
+use Rattle.pn_search.specs.Trees.{state_by}
 use Rattle.pn_search.proofs.Expanded.{stands-read, closed-is, after-opened, some_left, closed-others, opened-others, length-opened, length-paired}
 use Rattle.pn_search.proofs.KeptLemmas.{pairs-long}
 use Rattle.pn_search.proofs.Lists.{some_same}

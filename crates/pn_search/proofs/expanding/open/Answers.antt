@@ -1,4 +1,4 @@
-use Rattle.std.proofs.Common.{◌≡◌, ◌++◌, map, length, ap, sym, ◌∙◌, arith, rules}
+use Rattle.std.proofs.Common.{◌≡◌, ◌++◌, map, length, ap, ◌∙◌, arith}
 use Rattle.playing.specs.Stance.{legal_in}
 use Rattle.pn_search.specs.Kept.{written_child}
 use Rattle.pn_search.proofs.Expanded.{opened-is}

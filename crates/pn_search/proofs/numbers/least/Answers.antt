@@ -1,5 +1,4 @@
-use Rattle.std.proofs.Common.{◌≡◌, ◌≤◌, get_or, drop, map, refl, ap, ◌∙◌, arith}
-use Rattle.pn_search.specs.Numbers.{infinite, least_of, own_number}
+use Rattle.std.proofs.Common.{arith}
 use Rattle.pn_search.proofs.NumberLemmas.{least-none, least-more, least-all}
 use Rattle.pn_search.proofs.numbers.least.Goals as goal
 

@@ -1,6 +1,5 @@
-use Rattle.std.proofs.Common.{◌≡◌, ◌≤◌, get_or, drop, map, refl, ap, ◌∙◌, arith}
-use Rattle.pn_search.specs.Numbers.{infinite, plus, sum_of, own_number}
-use Rattle.pn_search.proofs.NumberLemmas.{sum-none, sum-more, sum-all, plus-low}
+use Rattle.std.proofs.Common.{arith}
+use Rattle.pn_search.proofs.NumberLemmas.{sum-none, sum-more, sum-all}
 use Rattle.pn_search.proofs.numbers.sum.Goals as goal
 
 pub loop-child-init : goal.loop-child-init

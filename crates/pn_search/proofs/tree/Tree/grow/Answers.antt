@@ -1,12 +1,9 @@
-use Rattle.std.proofs.Common.{◌≡◌, ℕ, suc, ◌+◌, ◌<◌, ◌≤◌, List, Option, Some, false, length, ap, sym, ◌∙◌, subst, arith, rules}
+use Rattle.std.proofs.Common.{◌≡◌, suc, ◌+◌, ◌<◌, Some, false, length, ap, sym, ◌∙◌, subst, arith}
 use Rattle.std.proofs.lemmas.List.{with_items_is}
-use Rattle.rules_model.specs.declared.board.Position.{Position}
-use Rattle.pn_search.specs.declared.node.Node.{Node}
-use Rattle.pn_search.specs.declared.numbers.Pair.{Pair}
-use Rattle.pn_search.specs.Kept.{IsExpandable, IsKept, work_left}
+use Rattle.pn_search.specs.Kept.{IsExpandable, work_left}
 use Rattle.pn_search.specs.Numbers.{pairs_of}
 use Rattle.pn_search.specs.Shapes.{AreInPlace}
-use Rattle.pn_search.specs.Trees.{ProofTree, Spot, IsPn, spot_at, most_proving, nodes_after, is_settled, grown, pn}
+use Rattle.pn_search.specs.Trees.{ProofTree, Spot, IsPn, nodes_after, is_settled, grown, pn}
 use Rattle.pn_search.proofs.KeptLemmas.{kept-rooted, leaf-expandable, kept-placed, after-in-place, kept-grown, grows-one, pn-more, same-spot}
 use Rattle.pn_search.proofs.Progress.{less-left}
 use Rattle.pn_search.proofs.tree.Tree.grow.Goals as goal

@@ -1,6 +1,6 @@
-use Rattle.std.proofs.Common.{◌≡◌, ap, sym, ◌∙◌, subst}
+use Rattle.std.proofs.Common.{subst}
 use Rattle.pn_search.specs.Meaning.{PairDecides}
-use Rattle.pn_search.specs.Trees.{ProofTree, HasGrown}
+use Rattle.pn_search.specs.Trees.{HasGrown}
 use Rattle.pn_search.proofs.Meaning.{pair_decides}
 use Rattle.pn_search.proofs.tree.Tree.has_grown.Goals as goal
 

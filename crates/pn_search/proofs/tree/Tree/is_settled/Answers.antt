@@ -1,8 +1,5 @@
-use Rattle.std.proofs.Common.{◌≡◌, ℕ, ◌<◌, ◌==◌, ◌||◌, Bool, true, length, ap, sym, ◌∙◌, arith, rules}
-use Rattle.std.proofs.lemmas.Bool.Decides.{nat_tests}
-use Rattle.pn_search.specs.declared.numbers.Pair.{Pair}
-use Rattle.pn_search.specs.Numbers.{infinite, pairs_of, pair_at}
-use Rattle.pn_search.specs.Trees.{ProofTree, is_settled, is_settled_pair}
+use Rattle.std.proofs.Common.{ap, ◌∙◌, arith}
+use Rattle.pn_search.specs.Trees.{is_settled, is_settled_pair}
 use Rattle.pn_search.proofs.KeptLemmas.{pair-read, pairs-long, pairs-are, some-nodes}
 use Rattle.pn_search.proofs.tree.Tree.is_settled.Goals as goal
 

@@ -1,4 +1,4 @@
-use Rattle.std.proofs.Common.{◌≡◌, length, ap, arith}
+use Rattle.std.proofs.Common.{length, ap, arith}
 use Rattle.pn_search.proofs.KeptLemmas.{some-nodes, nodes-are}
 use Rattle.pn_search.proofs.tree.Tree.len.Goals as goal
 

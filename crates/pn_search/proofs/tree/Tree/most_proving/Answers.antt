@@ -1,17 +1,13 @@
-use Rattle.std.proofs.Common.{◌≡◌, ℕ, ◌-◌, ◌<◌, length, List, Option, Some, None, ap, sym, ◌∙◌, subst, arith}
+use Rattle.std.proofs.Common.{◌≡◌, ℕ, ◌-◌, ◌<◌, length, Some, None, ap, sym, ◌∙◌, subst, arith}
 use Rattle.foundation.specs.Member.{Member}
-use Rattle.rules_model.specs.declared.board.Position.{Position}
-use Rattle.rules_model.specs.declared.moves.Move.{Move}
 use Rattle.rules_model.specs.declared.rules.Rules.{Rules}
 use Rattle.rules_model.specs.Legal.{legal}
-use Rattle.rules_model.specs.Next.{next}
 use Rattle.rules_model.specs.Repeats.{repeat_of}
 use Rattle.playing.specs.Stance.{Stance}
-use Rattle.pn_search.specs.declared.node.Node.{Node}
 use Rattle.pn_search.specs.Shapes.{AreInPlace}
 use Rattle.pn_search.specs.Numbers.{pairs_of}
-use Rattle.pn_search.specs.Trees.{ProofTree, Spot, HasGrown, best_child_at, chosen_at, position_after}
-use Rattle.pn_search.proofs.Grown.{GoesDown, down-root, down-placed, down-within, down-legal, down-deeper, down-child, down-end, index-chosen, best-read}
+use Rattle.pn_search.specs.Trees.{ProofTree, Spot, HasGrown, chosen_at, position_after}
+use Rattle.pn_search.proofs.Grown.{GoesDown, down-root, down-placed, down-legal, down-deeper, down-child, down-end, index-chosen, best-read}
 use Rattle.pn_search.proofs.KeptLemmas.{nodes-are, pairs-are, pairs-long}
 use Rattle.pn_search.proofs.tree.Tree.most_proving.Goals as goal
 

@@ -1,7 +1,5 @@
-use Rattle.std.proofs.Common.{◌≡◌, List, [], ◌∷◌, ◌++◌, None, ap, ◌∙◌}
-use Rattle.pn_search.specs.declared.node.Node.{Node}
+use Rattle.std.proofs.Common.{◌≡◌, [], ◌∷◌, ◌++◌, None, ap, ◌∙◌}
 use Rattle.pn_search.specs.declared.node.State.TheVariants.{Open}
-use Rattle.pn_search.specs.declared.numbers.Pair.{Pair}
 use Rattle.pn_search.specs.Numbers.{open_pair}
 use Rattle.pn_search.specs.Trees.{root_node}
 use Rattle.pn_search.proofs.KeptLemmas.{kept-new, new-is}
