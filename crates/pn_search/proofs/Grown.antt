@@ -191,3 +191,9 @@ child-of t r i k v first count stands state low w there =
       is_legal = λ y e. subst (λ z. Member z (legal t.frame.rules (repeat_of (position_of t i)))) (some_same w.chosen m.0 y chosen e) (subst (λ p. Member m.0 (legal t.frame.rules (repeat_of p))) (sym own) (listed (legal t.frame.rules (repeat_of (r.position i))) k m.0 m.1));
       leads = ap (position_after t.frame.rules (position_of t i)) chosen ∙ ap (λ p. next t.frame.rules p m.0) own ∙ sym x.leads ∙ sym (position-is t r (first + k) within);
     }
+
+-- the place of a child, before it is read
+pub child-within : (t : ProofTree) → IsRooted t → (i k : ℕ) (v : Node) (first count : ℕ) → slice_get t.nodes i ≡ Some v → v.state ≡ Inner first count → k < count → first + k < length t.nodes
+child-within t r i k v first count stands state low =
+    let within = ((in_place t.frame t.root t.moves t.nodes r i v stands).children first count state).within in
+    omega arith

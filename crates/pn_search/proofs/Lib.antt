@@ -9,5 +9,5 @@ pub mod Expanded
 pub mod Meaning
 pub mod Fair
 pub mod Progress
-pub mod Found
+pub mod Sought
 pub mod worked

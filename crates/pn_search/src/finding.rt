@@ -83,7 +83,7 @@ fn publish_below<R: Wait>(
 }
 
 // The same as `find`, with passes that are lent.
-fn found<R: Wait>(
+fn find_lent<R: Wait>(
     rt: &R,
     alloc: Global,
     game: &Game,
@@ -134,6 +134,6 @@ pub fn find<R: Wait>(
 {
     let _attacker = attacker;
     let mut passes = passes;
-    let answer = found(rt, alloc, game, n, shards, &mut passes);
+    let answer = find_lent(rt, alloc, game, n, shards, &mut passes);
     (passes, answer)
 }

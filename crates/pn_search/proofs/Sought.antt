@@ -2,7 +2,7 @@
 use Rattle.std.proofs.Common.{◌≡◌, ◌⊎◌, inl, inr, ℕ, ◌<◌, ◌≤◌, ◌==◌, List, [], Bool, true, false, ◌||◌, Option, Some, None, cond, length, get_or, refl, ap, sym, ◌∙◌, subst, arith, slice_get}
 use Rattle.std.specs.Prelude.{nat_le}
 use Rattle.std.proofs.lemmas.Bool.Decides.{nat_tests}
-use Rattle.std.proofs.lemmas.Bool.{or_parts, eqb-true}
+use Rattle.std.proofs.lemmas.Bool.{eqb-true}
 use Rattle.std.proofs.lemmas.Option.{slice_get_within}
 use Rattle.rules_model.specs.declared.board.Position.{Position}
 use Rattle.rules_model.specs.declared.board.Side.{Side}
@@ -13,8 +13,8 @@ use Rattle.rules_model.specs.declared.moves.Outcome.TheVariants.{Ongoing, Won, D
 use Rattle.rules_model.specs.declared.moves.Value.{Value}
 use Rattle.rules_model.specs.declared.moves.Value.TheVariants.{Win, Loss, Draw}
 use Rattle.rules_model.specs.declared.rules.Rules.{Rules}
-use Rattle.rules_model.specs.Ends.{valued}
-use Rattle.rules_model.specs.Games.{Story, result, or_end, is_repeated, is_run_out}
+use Rattle.rules_model.specs.Ends.{valued, or_end}
+use Rattle.rules_model.specs.Games.{Story, result, is_repeated, is_run_out}
 use Rattle.rules_model.specs.Legal.{own_end}
 use Rattle.rules_model.specs.Repeats.{repeat_of}
 use Rattle.rules_model.specs.Sides.{same_side}
@@ -42,7 +42,7 @@ use Rattle.pn_search.specs.Trees.{ProofTree, HasGrown, end_at, is_settled, is_se
 use Rattle.pn_search.proofs.Carried.{length-pairs}
 use Rattle.pn_search.proofs.Fair.{IsFair, fair_at, settled-won, settled-lost}
 use Rattle.pn_search.proofs.Grown.{IsRooted, pn-rooted, position-is}
-use Rattle.pn_search.proofs.Meaning.{Says, says, worth, worth-later}
+use Rattle.pn_search.proofs.Meaning.{Says as NodeSays, says, worth, worth-later}
 
 -- ---- passes
 
@@ -92,8 +92,13 @@ near_root-moves f g n h e =
 wins-moves : (f : Frame) (g : Story) (n : ℕ) → result f.rules g ≡ Ongoing → f.blocked ≡ blocked f.rules g → IsInLimit f.rules n g → wins f.rules n g f.attacker ≡ moves_win f n g.last
 wins-moves f g n h e limit = wins-near-same f.rules n g f.attacker limit ∙ near_root-moves f g n h e
 
+either : (a b : Bool) → (a || b) ≡ true → (a ≡ true) ⊎ (b ≡ true)
+either true b h = inl refl
+either false true h = inr refl
+either false false h = cc
+
 settled-either : (q : Pair) → is_settled_pair q ≡ true → (q.proof ≡ infinite) ⊎ (q.disproof ≡ infinite)
-settled-either q h = by_parts (or_parts (q.proof == infinite) (q.disproof == infinite) h)
+settled-either q h = by_parts (either (q.proof == infinite) (q.disproof == infinite) h)
   where
     by_parts : ((q.proof == infinite) ≡ true) ⊎ ((q.disproof == infinite) ≡ true) → (q.proof ≡ infinite) ⊎ (q.disproof ≡ infinite)
     by_parts (inl e) = inl (eqb-true q.proof infinite e)
@@ -149,7 +154,7 @@ node-near t r i v p some stands at settled = by_pair (settled-either q settled)
     within : i < length t.nodes
     within = slice_get_within t.nodes i v stands
 
-    s : Says t.frame q i v.left (r.position i)
+    s : NodeSays t.frame q i v.left (r.position i)
     s = says t.frame t.root t.moves t.nodes r (length t.nodes) i (omega arith) v stands
 
     near-is : In.near_in t.frame v.left p ≡ worth t.frame i v.left (r.position i)
