@@ -17,9 +17,9 @@ use Rattle.pn_search.specs.declared.node.State.TheVariants.{Inner}
 use Rattle.pn_search.specs.declared.numbers.Pair.{Pair}
 use Rattle.pn_search.specs.Numbers.{pairs_of}
 use Rattle.pn_search.specs.Shapes.{AreInPlace}
-use Rattle.pn_search.specs.Trees.{ProofTree, Spot, root_node, new_tree, is_settled, most_proving, nodes_after, expanded_at, expanded, grown, pn, HasGrown, descend, best_child_at, chosen_at, child_spot, position_after, position_by, position_step, position_of}
+use Rattle.pn_search.specs.Trees.{ProofTree, Spot, root_node, new_tree, is_settled, most_proving, nodes_after, expanded_at, expanded, grown, pn, HasGrown, descend, best_child_at, chosen_at, position_after, position_by, position_step, position_of}
 use Rattle.pn_search.proofs.Lists.{there_is, some_same}
-use Rattle.pn_search.proofs.Standing.{AreRooted, StandsAt, IsStateOf, HasChildren, IsChild, in_place, expanded-rooted}
+use Rattle.pn_search.proofs.Standing.{AreRooted, StandsAt, IsStateOf, in_place, expanded-rooted}
 use Rattle.pn_search.proofs.Descent.{IsOn, IsBelow, child_on, root-on, descend-on, descend-step, descend-stop}
 
 abbrev pub IsRooted : ProofTree → Type 0

@@ -1,7 +1,5 @@
 -- A game that is sought in a frame is found in its tree.
-use Rattle.std.proofs.Common.{◌≡◌, ◌⊎◌, inl, inr, ℕ, ◌<◌, ◌≤◌, ◌==◌, List, [], Bool, true, false, ◌||◌, Option, Some, None, cond, length, get_or, refl, ap, sym, ◌∙◌, subst, arith, slice_get}
-use Rattle.std.specs.Prelude.{nat_le}
-use Rattle.std.proofs.lemmas.Bool.Decides.{nat_tests}
+use Rattle.std.proofs.Common.{◌≡◌, ◌⊎◌, inl, inr, ℕ, ◌<◌, ◌==◌, List, Bool, true, false, ◌||◌, Some, None, cond, length, refl, ap, sym, ◌∙◌, subst, arith, slice_get}
 use Rattle.std.proofs.lemmas.Bool.{eqb-true}
 use Rattle.std.proofs.lemmas.Option.{slice_get_within}
 use Rattle.rules_model.specs.declared.board.Position.{Position}
@@ -12,7 +10,6 @@ use Rattle.rules_model.specs.declared.moves.Outcome.{Outcome}
 use Rattle.rules_model.specs.declared.moves.Outcome.TheVariants.{Ongoing, Won, Drawn}
 use Rattle.rules_model.specs.declared.moves.Value.{Value}
 use Rattle.rules_model.specs.declared.moves.Value.TheVariants.{Win, Loss, Draw}
-use Rattle.rules_model.specs.declared.rules.Rules.{Rules}
 use Rattle.rules_model.specs.Ends.{valued, or_end}
 use Rattle.rules_model.specs.Games.{Story, result, is_repeated, is_run_out}
 use Rattle.rules_model.specs.Legal.{own_end}

@@ -16,9 +16,8 @@ use Rattle.forced_wins.proofs.Lists.{mapped, map_at}
 use Rattle.pn_search.specs.declared.node.Node.{Node}
 use Rattle.pn_search.specs.declared.node.State.{State}
 use Rattle.pn_search.specs.declared.node.State.TheVariants.{Open, Won, Lost, Inner}
-use Rattle.pn_search.specs.declared.numbers.Pair.{Pair}
-use Rattle.pn_search.specs.Shapes.{AreItsChildren, IsInPlace, AreInPlace}
-use Rattle.pn_search.specs.Trees.{Spot, position_after, left_after, child_node, children_of, end_at, state_by, expanded_with, expanded_at, nodes_after, root_node}
+use Rattle.pn_search.specs.Shapes.{AreItsChildren, AreInPlace}
+use Rattle.pn_search.specs.Trees.{position_after, left_after, child_node, children_of, end_at, state_by, expanded_with, expanded_at}
 use Rattle.pn_search.proofs.Lists.{get-left, get-right, there_is, some_same}
 
 module _ (f : Frame) where

@@ -1,5 +1,4 @@
-use Rattle.std.proofs.Common.{◌≡◌, None, ap, sym, ◌∙◌, subst}
-use Rattle.rules_model.specs.declared.board.Position.{Position}
+use Rattle.std.proofs.Common.{ap, sym, ◌∙◌, subst}
 use Rattle.rules_model.specs.declared.rules.Rules.{Rules}
 use Rattle.rules_model.specs.Games.{result}
 use Rattle.game_play.specs.Played.{story}

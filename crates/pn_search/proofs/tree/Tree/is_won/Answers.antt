@@ -1,4 +1,4 @@
-use Rattle.std.proofs.Common.{◌≡◌, ◌==◌, length, ap, arith}
+use Rattle.std.proofs.Common.{◌==◌, ap, arith}
 use Rattle.pn_search.specs.declared.numbers.Pair.{Pair}
 use Rattle.pn_search.proofs.KeptLemmas.{pair-read, pairs-long, pairs-are, some-nodes}
 use Rattle.pn_search.proofs.tree.Tree.is_won.Goals as goal

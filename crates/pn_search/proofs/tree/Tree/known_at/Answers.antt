@@ -1,6 +1,5 @@
-use Rattle.std.proofs.Common.{◌≡◌, ◌==◌, ◌<◌, Bool, true, Some, None, nat_eq, slice_get, length, refl, ap, sym, ◌∙◌, subst, arith, rules}
+use Rattle.std.proofs.Common.{◌≡◌, ◌==◌, ◌<◌, true, Some, None, nat_eq, slice_get, length, refl, ap, sym, ◌∙◌, subst, arith, rules}
 use Rattle.forced_wins.specs.declared.fact.Fact.{Fact}
-use Rattle.pn_search.specs.declared.node.Node.{Node}
 use Rattle.pn_search.specs.declared.numbers.Pair.{Pair}
 use Rattle.pn_search.specs.Numbers.{pair_at, pairs_of}
 use Rattle.pn_search.specs.Trees.{is_settled_pair}
