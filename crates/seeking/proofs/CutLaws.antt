@@ -60,10 +60,10 @@ module _ {S K C : Type 0} (w : World S K C) (dialect : Dialect) (limits : Limits
   gone_as why why' text text' stop p q gone =
       let same : why ≡ why' = cut_is why text stop p ∙ sym (cut_is why' text' stop q) in
       let line : Some why ≡ Some cut.Line → text ≡ text' = λ h.
-          let is : why ≡ cut.Line = cc in
-          let is' : why' ≡ cut.Line = sym same ∙ is in
-          line_is text stop (subst (λ (y : Cut). IsStop y text stop) is p)
-          ∙ sym (line_is text' stop (subst (λ (y : Cut). IsStop y text' stop) is' q)) in
+      let is : why ≡ cut.Line = cc in
+      let is' : why' ≡ cut.Line = sym same ∙ is in
+      line_is text stop (subst (λ (y : Cut). IsStop y text stop) is p)
+      ∙ sym (line_is text' stop (subst (λ (y : Cut). IsStop y text' stop) is' q)) in
       subst (λ (y : Cut). Gone w dialect limits a b text' bound (Some y)) same (with_text (Some why) text text' line gone)
 
   cut_by_answer : (why : Option Cut) (why' : Cut) (text text' : List ℕ) (stop : Stopped)
