@@ -1,5 +1,5 @@
 -- The answer to any line.
-use Rattle.std.proofs.Common.{◌≡◌, ◌∙◌, ◌⊎◌, inl, inr, ℕ, List, [], ◌∷◌, ◌++◌, Bool, true, false, Option, Some, None, Result, Ok, Err, refl, sym, ap, subst}
+use Rattle.std.proofs.Common.{◌≡◌, ◌∙◌, ◌⊎◌, inl, inr, ℕ, List, [], ◌∷◌, ◌++◌, Bool, true, false, Option, Some, None, Ok, Err, refl, sym, ap, subst}
 use Rattle.std.proofs.lemmas.List.{append-nil}
 use Rattle.std.specs.Io.KnownBytes.{Appends}
 use Rattle.io_ports.specs.declared.dialect.Dialect.TheVariants.{Uci}
@@ -7,7 +7,6 @@ use Rattle.io_ports.specs.declared.source.Got.{Got}
 use Rattle.io_ports.specs.declared.source.Got.TheVariants as got
 use Rattle.io_ports.specs.Files.{Contents, Read}
 use Rattle.io_ports.specs.Lines.{Line}
-use Rattle.io_ports.specs.Owing.{Lacks}
 use Rattle.io_ports.specs.Sink.{AppendsFront}
 use Rattle.io_ports.specs.Source.{Owed, Takes, got_lines}
 use Rattle.io_ports.specs.Trace.{Moves}
@@ -16,7 +15,7 @@ use Rattle.session_model.specs.Turns.{Turn}
 use Rattle.session_model.specs.UciLines as line
 use Rattle.session_model.specs.UciLines.{Command, command_of}
 use Rattle.session_model.specs.UciSession.{Answers, LoadsFrom, Sets, is_quit, uci}
-use Rattle.session_model.specs.UciState.{State, Outcome, file_named, load}
+use Rattle.session_model.specs.UciState.{State, Outcome, load}
 use Rattle.session_model.specs.UciTexts.{error_line}
 use Rattle.turning.proofs.Ending.{further_none}
 use Rattle.turning.proofs.Lawful.{uci_is_lawful}
@@ -27,11 +26,11 @@ use Rattle.turning.proofs.Saying.{AnswersAlways, served_plain, unserved_plain}
 use Rattle.turning.specs.Lines.{got_line}
 use Rattle.turning.specs.Turned.{Served, Unserved, turn_of}
 use Rattle.uci_front.proofs.PlainLemmas.{plain_lines, plain_opened, plain_readings, plain_written}
-use Rattle.uci_front.specs.Plain.{Answering, IsNamedRead, Plainly, plain_events, saying, text_said}
+use Rattle.uci_front.specs.Plain.{Answering, IsNamedRead, plain_events, saying, text_said}
 use Rattle.uci_lines.specs.declared.line.Kind.{Kind}
 use Rattle.uci_lines.specs.declared.line.Kind.TheVariants as kind
 use Rattle.uci_lines.specs.View.{command_with, line_got}
-use Rattle.watching.specs.Events.{Event, Says, Opens, lines_of, opened, readings, written}
+use Rattle.watching.specs.Events.{Event, Opens}
 
 -- the same line
 pub line_is : (next : Got) (text : List ℕ) → line_got next text ≡ got_line next text

@@ -1,14 +1,13 @@
 -- The answer to `go`.
-use Rattle.std.proofs.Common.{◌≡◌, ◌∙◌, ℕ, List, [], ◌∷◌, ◌++◌, Bool, true, false, Option, Some, None, refl, sym, ap, subst, append_assoc}
+use Rattle.std.proofs.Common.{◌≡◌, ◌∙◌, ℕ, List, [], ◌∷◌, ◌++◌, Bool, true, false, Option, Some, None, refl, sym, ap, subst}
 use Rattle.std.proofs.lemmas.Grind.{flat_map-append}
 use Rattle.std.proofs.lemmas.List.{append-nil}
 use Rattle.std.specs.Io.KnownBytes.{Appends}
 use Rattle.std.specs.Prelude.{Result, Ok, Err, IfOk, OnOk, OnErr}
 use Rattle.std.specs.declared.option.Option.{Option as Maybe}
 use Rattle.io_ports.specs.declared.dialect.Dialect.TheVariants.{Uci}
-use Rattle.io_ports.specs.declared.limits.SearchFault.{SearchFault}
 use Rattle.io_ports.specs.declared.source.Got.{Got}
-use Rattle.io_ports.specs.Files.{Contents, Read}
+use Rattle.io_ports.specs.Files.{Contents}
 use Rattle.io_ports.specs.Heard.{stops}
 use Rattle.io_ports.specs.Lines.{Line, Text}
 use Rattle.io_ports.specs.Owing.{Lacks, Spends}
@@ -19,11 +18,11 @@ use Rattle.rules_model.specs.declared.moves.Move.{Move}
 use Rattle.game_play.specs.Played.{Played, legal_in}
 use Rattle.watching.specs.declared.halt.Cut.{Cut}
 use Rattle.watching.specs.declared.halt.Cut.TheVariants as cut
-use Rattle.watching.specs.Events.{Event, Hears, Says, Reads, Opens, AreUnstopped, Listens, lines_of, opened, opened_at, readings, written}
+use Rattle.watching.specs.Events.{Event, Hears, Says, Reads, Opens, AreUnstopped, Listens, opened, opened_at}
 use Rattle.watching.specs.Looks.{Moved, Ran, held}
 use Rattle.session_model.proofs.Wider.{uci_is_wider}
 use Rattle.session_model.specs.Events.{IsStopped}
-use Rattle.session_model.specs.Mates.{Announced, mover}
+use Rattle.session_model.specs.Mates.{mover}
 use Rattle.session_model.specs.Turns.{Turn}
 use Rattle.session_model.specs.UciGo.{Go, is_held}
 use Rattle.session_model.specs.UciLines as UciLines

@@ -1,5 +1,5 @@
 -- Mates that are looked for, as answers to `go mate`.
-use Rattle.std.proofs.Common.{◌≡◌, ◌∙◌, ◌⊎◌, inl, inr, ◌≤◌, ◌<◌, ℕ, ◌+◌, List, [], ◌∷◌, ◌++◌, length, Option, Some, None, true, refl, sym, ap, subst, append_assoc, arith}
+use Rattle.std.proofs.Common.{◌≡◌, ◌∙◌, ◌≤◌, ◌<◌, ℕ, ◌+◌, List, [], ◌∷◌, ◌++◌, Option, Some, None, true, refl, sym, ap, subst, append_assoc, arith}
 use Rattle.std.proofs.lemmas.List.{append-nil}
 use Rattle.io_ports.proofs.Moved.{moves_at, moves_more}
 use Rattle.io_ports.proofs.Owing.{lacks_before, lacks_wider, spends_more, spends_wider}
@@ -12,7 +12,7 @@ use Rattle.io_ports.specs.Source.{Owed}
 use Rattle.io_ports.specs.Sink.{AppendsFront}
 use Rattle.io_ports.specs.Trace.{Moves}
 use Rattle.std.specs.Io.KnownBytes.{Appends}
-use Rattle.game_play.specs.Played.{Played, IsPlayed, legal_in, story}
+use Rattle.game_play.specs.Played.{Played, IsPlayed, story}
 use Rattle.game_values.specs.Bounds.{depths_bound, mates_bound, solve_bound, solves_bound}
 use Rattle.rules_model.specs.declared.moves.Move.{Move}
 use Rattle.rules_model.specs.declared.rules.Rules.{Rules}
@@ -22,32 +22,30 @@ use Rattle.session_model.proofs.Shown.{evidence_is_sound}
 use Rattle.session_model.proofs.Wider.{deepens_wider}
 use Rattle.session_model.specs.Deadlines.{deadline_of}
 use Rattle.session_model.specs.Events.{IsStopped}
-use Rattle.session_model.specs.Mates.{Announced, IsEvidence, IsShown, mover, root_move}
-use Rattle.session_model.specs.Thinking as Thinking
+use Rattle.session_model.specs.Mates.{Announced, mover}
 use Rattle.session_model.specs.Thinking.{Task, Report, Ending, InSearch, Cause, Interrupted, Deepens, MayCut, last_announced, last_best, reported}
 use Rattle.session_model.specs.Turns.{Turn}
-use Rattle.session_model.specs.UciGo.{Go, is_held, last_mate, time_for}
+use Rattle.session_model.specs.UciGo.{Go, is_held, time_for}
 use Rattle.session_model.specs.UciSession.{AnswersMate, Decides, Goes, MateAnswer, Searches, Shown, Unsettled, Stopped, NoMate, announced, first_of, go_bound, task_after_mate}
 use Rattle.session_model.specs.UciState.{State}
-use Rattle.session_model.specs.UciTexts.{best_line, depth_line, depth_lines, no_mate_line, stopped_line, unsettled_line}
+use Rattle.session_model.specs.UciTexts.{best_line, depth_lines, stopped_line}
 use Rattle.strategy.specs.declared.nodes.Strategy.{Strategy}
 use Rattle.thinking.proofs.CutLaws.{cuts_as}
 use Rattle.thinking.specs.Cuts.{CutsBy, cause_of}
 use Rattle.thinking.specs.declared.deepening.Depths.{Depths}
-use Rattle.thinking.specs.declared.found.Evidence.{Evidence as Shows}
 use Rattle.thinking.specs.declared.mates.Tried.{Tried}
 use Rattle.thinking.specs.declared.mates.Tried.TheVariants as tried
 use Rattle.thinking.specs.declared.style.Style.TheVariants as style
 use Rattle.thinking.specs.Depths.{BrokeOff, Deepened}
 use Rattle.thinking.specs.Tells.{Tells}
 use Rattle.thinking.specs.Tries.{BrokeTrying, IsCutBy, IsMate, IsTried, answer_seen, cut_in}
-use Rattle.thinking.specs.Views.{evidence_of, kept_seen}
+use Rattle.thinking.specs.Views.{kept_seen}
 use Rattle.turning.proofs.Saying.{broke_say, held_cut, part_more, part_of_broke, part_then, ran_say, unsaid}
 use Rattle.turning.specs.Lines.{Follows, none}
 use Rattle.turning.specs.Turned.{RanPart}
 use Rattle.uci_front.specs.declared.plan.Plan.{Plan}
 use Rattle.uci_front.specs.declared.searching.Came.{Came}
-use Rattle.uci_front.specs.Going.{BrokeGoing, Completes, Gone, HasCome}
+use Rattle.uci_front.specs.Going.{BrokeGoing, Completes, HasCome}
 use Rattle.uci_front.specs.PlanView.{IsPlan, IsSayable, mate_said}
 use Rattle.uci_front.specs.Trying.{came_by}
 use Rattle.uci_front.proofs.GoLemmas.{held_follows, held_stopped}
@@ -55,8 +53,8 @@ use Rattle.uci_front.proofs.SearchLemmas.{bound_mate, concludes_of, deepens_kept
 use Rattle.uci_front.proofs.ThinkLemmas.{came_of, depths_stop, mate_some, perft_none, printable_of, read_part, read_then}
 use Rattle.watching.specs.declared.halt.Cut.{Cut}
 use Rattle.watching.specs.declared.halt.Cut.TheVariants as cut
-use Rattle.watching.specs.Events.{Event, Says, Reads, AreUnstopped, Listens, lines_of, readings, said, written}
-use Rattle.watching.specs.Looks.{Broke, Moved, Ran, held}
+use Rattle.watching.specs.Events.{Event, Says, Reads, AreUnstopped, Listens, lines_of, readings, said}
+use Rattle.watching.specs.Looks.{Moved, Ran, held}
 use Rattle.watching.specs.EventLaws.{lines_of-append, written-append}
 
 -- ---- what is told

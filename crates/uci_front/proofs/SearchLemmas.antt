@@ -1,24 +1,22 @@
 -- Searches, and what is told of them, as answers to `go`.
-use Rattle.std.proofs.Common.{◌≡◌, ◌∙◌, ◌≤◌, ◌<◌, ℕ, zero, suc, ◌+◌, List, [], ◌∷◌, ◌++◌, length, get_or, Option, Some, None, true, refl, sym, ap, subst, inl, inr, append_assoc, arith}
+use Rattle.std.proofs.Common.{◌≡◌, ◌∙◌, ◌≤◌, ◌<◌, ℕ, zero, suc, ◌+◌, List, [], ◌∷◌, ◌++◌, length, get_or, Option, Some, None, true, refl, sym, ap, subst, inl, inr, arith}
 use Rattle.std.specs.Prelude.{All}
-use Rattle.std.specs.List.{flat_map}
 use Rattle.std.proofs.lemmas.List.{append-nil}
-use Rattle.io_ports.proofs.Owing.{lacks_wider}
 use Rattle.io_ports.specs.declared.dialect.Dialect.{Dialect}
 use Rattle.io_ports.specs.declared.dialect.Dialect.TheVariants.{Uci}
 use Rattle.io_ports.specs.Lines.{Line}
 use Rattle.foundation.specs.Member.{Member}
 use Rattle.game_play.specs.Played.{Played, legal_in, story}
-use Rattle.game_values.specs.Bounds.{depths_bound, mates_bound, solves_bound}
+use Rattle.game_values.specs.Bounds.{depths_bound, mates_bound}
 use Rattle.rules_model.specs.declared.moves.Move.{Move}
 use Rattle.rules_model.specs.declared.rules.Rules.{Rules}
 use Rattle.rules_model.specs.Sound.{is_sound}
-use Rattle.session_model.proofs.Joined.{deadline_first, reached_before, readings-append, readings_said, said-append, unstopped_more}
+use Rattle.session_model.proofs.Joined.{reached_before, readings-append, readings_said, said-append, unstopped_more}
 use Rattle.session_model.proofs.Reports.{deepens_read, sought_range}
 use Rattle.session_model.specs.Events.{IsStopped}
 use Rattle.session_model.specs.Mates.{Announced, IsShown, mover}
-use Rattle.session_model.specs.Thinking.{Task, Report, Score, Points, Mates, Mated, Ending, Whole, InSearch, InSolve, Cause, Interrupted, OutOfNodes, OutOfTime, AreReports, Deepens, IsOpen, IsReport, IsScore, MayCut, MayEnd, announced_by, last_announced, last_best, open_report, reported}
-use Rattle.session_model.specs.Deadlines.{IsReached, deadline_of}
+use Rattle.session_model.specs.Thinking.{Task, Report, Score, Points, Mates, Mated, Ending, Whole, InSearch, InSolve, Cause, Interrupted, OutOfNodes, OutOfTime, AreReports, Deepens, IsReport, IsScore, MayCut, MayEnd, announced_by, last_announced, last_best, open_report, reported}
+use Rattle.session_model.specs.Deadlines.{deadline_of}
 use Rattle.session_model.specs.Turns.{Turn}
 use Rattle.session_model.specs.UciGo.{Go, is_held, last_depth, last_mate}
 use Rattle.session_model.specs.UciSession.{Concludes, Goes, GoesBy, GoesNowhere, Searches, AnswersMate, MateAnswer, announced, bound_by, first_of, go_bound, task_of}
@@ -28,8 +26,6 @@ use Rattle.strategy.specs.declared.nodes.Node.{Node}
 use Rattle.strategy.specs.declared.nodes.Strategy.{Strategy}
 use Rattle.strategy.specs.Reading.{AreSound}
 use Rattle.watching.specs.Events.{Event, Hears, Says, Reads, Opens, AreUnstopped, Listens, readings, said}
-use Rattle.uci_front.specs.declared.plan.Plan.{Plan}
-use Rattle.uci_front.specs.PlanView.{IsPlan}
 
 -- ---- events
 

@@ -1,20 +1,20 @@
 -- What is true of a session, and of what lines set.
-use Rattle.std.proofs.Common.{◌≡◌, ◌∙◌, ℕ, ◌<◌, List, [], length, Option, Some, None, Result, Ok, Err, inl, inr, refl, sym, ap, subst}
+use Rattle.std.proofs.Common.{◌≡◌, ◌∙◌, ℕ, ◌<◌, List, length, Option, Some, None, Result, Ok, Err, inr, sym, ap, subst}
 use Rattle.std.specs.Prelude.{codes, option_map, unwrap_or}
 use Rattle.io_ports.specs.Files.{Found, Read}
 use Rattle.rules_model.specs.declared.rules.Rules.{Rules}
 use Rattle.game_play.specs.Played.{Played}
 use Rattle.game_text.specs.GameText.{started}
 use Rattle.session_model.proofs.Variants.{variant_places}
-use Rattle.session_model.specs.UciState.{State, Outcome, in_variant, load, loaded, set_variant, with_rules}
+use Rattle.session_model.specs.UciState.{State, in_variant, load, loaded, set_variant, with_rules}
 use Rattle.uci_front.specs.declared.refusal.Refusal.{Refusal}
 use Rattle.uci_front.specs.declared.refusal.Refusal.TheVariants.{Fault, Memory}
 use Rattle.uci_front.specs.Outcomes.{IsOutcome, LoadsFile, Refuses, Starts, StartsIn, variant_fault}
-use Rattle.uci_front.specs.SessionView.{IsSession, state_of}
+use Rattle.uci_front.specs.SessionView.{IsSession}
 use Rattle.variant_files.specs.declared.fault.LoadFault.{LoadFault}
 use Rattle.variant_files.specs.declared.fault.NoSections.TheVariants as no_sections
 use Rattle.variant_files.specs.Loading.{found_fault, load_fault_text, refusal, sections_with}
-use Rattle.variant_files.specs.Looked.{HasSections, OneRead}
+use Rattle.variant_files.specs.Looked.{HasSections}
 use Rattle.variant_ini.specs.OptionValue.{first_named}
 use Rattle.variant_ini.specs.Section.{Section}
 use Rattle.variant_model.specs.Entry.{entry}

@@ -1,11 +1,11 @@
 -- What one depth after another, and mates that are looked for, come to as answers to `go`.
-use Rattle.std.proofs.Common.{◌≡◌, ◌∙◌, ◌⊎◌, inl, inr, ◌≤◌, ◌<◌, ℕ, ◌+◌, ◌*◌, ◌-◌, List, [], ◌∷◌, ◌++◌, length, Bool, true, false, Option, Some, None, refl, sym, ap, subst, append_assoc, arith, eq-eqb, eqb-true}
+use Rattle.std.proofs.Common.{◌≡◌, ◌∙◌, ◌≤◌, ◌<◌, ℕ, ◌+◌, List, [], ◌∷◌, ◌++◌, length, true, Option, Some, None, refl, sym, ap, subst, arith, eq-eqb, eqb-true}
 use Rattle.std.specs.Prelude.{All, ◌==◌}
 use Rattle.std.specs.Option.{option_map}
 use Rattle.foundation.specs.Member.{Member}
 use Rattle.std.proofs.lemmas.List.{append-nil}
 use Rattle.io_ports.proofs.Moved.{appends_none, moves_at, moves_more, moves_none, takes_none}
-use Rattle.io_ports.proofs.Owing.{lacks_before, lacks_wider, spends_more, spends_none, spends_wider}
+use Rattle.io_ports.proofs.Owing.{spends_none}
 use Rattle.io_ports.specs.Clock.{GivesReadings, count_after}
 use Rattle.io_ports.specs.declared.dialect.Dialect.TheVariants.{Uci}
 use Rattle.io_ports.specs.Heard.{stops}
@@ -13,49 +13,40 @@ use Rattle.io_ports.specs.Lines.{Line, Text}
 use Rattle.io_ports.specs.Owing.{Lacks, Spends}
 use Rattle.io_ports.specs.Source.{Owed}
 use Rattle.io_ports.specs.Trace.{Moves}
-use Rattle.game_play.specs.Played.{Played, IsPlayed, legal_in, story}
-use Rattle.game_values.specs.Bounds.{depths_bound, mates_bound, solve_bound, solves_bound}
+use Rattle.game_play.specs.Played.{Played, legal_in, story}
+use Rattle.game_values.specs.Bounds.{depths_bound}
 use Rattle.rules_model.specs.declared.moves.Move.{Move}
 use Rattle.rules_model.specs.declared.rules.Rules.{Rules}
-use Rattle.session_model.proofs.Joined.{said-append, readings-append, readings_said, unstopped_more}
 use Rattle.session_model.proofs.Lists.{roots_legal, roots_some}
-use Rattle.session_model.specs.Deadlines.{deadline_of}
 use Rattle.session_model.specs.Events.{IsStopped}
-use Rattle.session_model.specs.Mates.{Announced, IsEvidence, IsShown, mover, root_move}
-use Rattle.session_model.specs.Thinking as Thinking
-use Rattle.session_model.specs.Thinking.{Task, Report, Ending, Whole, InSearch, InSolve, Cause, Interrupted, Deepens, MayCut, MayEnd, last_announced, last_best, reported, searches_upto, solve_within}
+use Rattle.session_model.specs.Mates.{Announced, mover}
+use Rattle.session_model.specs.Thinking.{Task, Report, Ending, Whole, InSearch, InSolve, Deepens, MayCut, MayEnd, last_announced, last_best, reported, searches_upto, solve_within}
 use Rattle.session_model.specs.Turns.{Turn}
 use Rattle.session_model.specs.UciGo.{Go, is_held, last_depth, last_mate, roots_of}
-use Rattle.session_model.specs.UciSession.{AnswersMate, Decides, Goes, GoesNowhere, MateAnswer, Searches, Shown, Unsettled, Stopped, NoMate, announced, first_of, go_bound, task_after_mate, task_of}
+use Rattle.session_model.specs.UciSession.{Goes, GoesNowhere, announced, first_of, go_bound, task_of}
 use Rattle.session_model.specs.UciState.{State}
-use Rattle.session_model.specs.UciTexts.{best_line, depth_line, depth_lines, no_mate_line, stopped_line, unsettled_line}
-use Rattle.strategy.specs.declared.nodes.Strategy.{Strategy}
-use Rattle.thinking.proofs.CutLaws.{cuts_as}
-use Rattle.thinking.specs.Cuts.{CutsBy, IsEndedBy, cause_of}
+use Rattle.session_model.specs.UciTexts.{best_line}
+use Rattle.thinking.specs.Cuts.{IsEndedBy}
 use Rattle.thinking.specs.declared.deepening.Depths.{Depths}
 use Rattle.thinking.specs.declared.found.Kept.{Kept}
-use Rattle.thinking.specs.declared.mates.Tried.{Tried}
-use Rattle.thinking.specs.declared.mates.Tried.TheVariants as tried
 use Rattle.thinking.specs.declared.style.Style.TheVariants as style
 use Rattle.thinking.specs.Depths.{BrokeOff, Deepened}
 use Rattle.thinking.specs.Tells.{Tells}
-use Rattle.thinking.specs.Tries.{BrokeTrying, IsCutBy, IsMate, IsTried, answer_seen, cut_in}
 use Rattle.thinking.specs.declared.task.Task.{Task as Lent}
 use Rattle.thinking.specs.Views.{IsTask, kept_seen}
-use Rattle.turning.proofs.Saying.{held_cut}
-use Rattle.turning.specs.Lines.{Follows, none}
+use Rattle.turning.specs.Lines.{Follows}
 use Rattle.turning.specs.Turned.{RanPart}
 use Rattle.uci_front.specs.declared.plan.Plan.{Plan}
 use Rattle.uci_front.specs.declared.searching.Came.{Came}
 use Rattle.uci_front.specs.Going.{BrokeGoing, Completes, Gone, HasCome}
-use Rattle.uci_front.specs.PlanView.{IsPlan, mate_said, plan_task}
+use Rattle.uci_front.specs.PlanView.{IsPlan, plan_task}
 use Rattle.uci_front.specs.SessionView.{IsPrintable}
-use Rattle.uci_front.proofs.GoLemmas.{held_follows, held_stopped}
-use Rattle.uci_front.proofs.SearchLemmas.{AreKept, all_of, bound_depths, bound_mate, bound_nowhere, concludes_of, deepens_kept, deepens_timeless, goes_depths, goes_mate, goes_nowhere, listens_said, listens_unstopped, may_cut_read, may_cut_wider, searches_of, shown_sound, turn_readings}
+use Rattle.uci_front.proofs.GoLemmas.{held_follows}
+use Rattle.uci_front.proofs.SearchLemmas.{AreKept, all_of, bound_depths, bound_nowhere, deepens_kept, goes_depths, goes_nowhere, listens_said, listens_unstopped, searches_of}
 use Rattle.watching.specs.declared.halt.Cut.{Cut}
 use Rattle.watching.specs.declared.halt.Cut.TheVariants as cut
-use Rattle.watching.specs.Events.{Event, Says, Reads, AreUnstopped, Listens, lines_of, readings, said, written}
-use Rattle.watching.specs.Looks.{Broke, Moved, Ran, held}
+use Rattle.watching.specs.Events.{Event, Says, Reads, Listens, readings}
+use Rattle.watching.specs.Looks.{Moved, Ran, held}
 
 -- ---- the first reading
 

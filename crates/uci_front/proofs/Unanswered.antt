@@ -1,5 +1,5 @@
 -- A line that was not answered at all could have been: some answer to it takes no line and no reading.
-use Rattle.std.proofs.Common.{◌≡◌, ◌∙◌, ℕ, List, [], ◌∷◌, ◌++◌, Bool, true, false, Option, Some, None, refl, sym, ap, subst}
+use Rattle.std.proofs.Common.{◌≡◌, ◌∙◌, ℕ, List, [], ◌∷◌, ◌++◌, true, false, Option, refl, sym, ap, subst}
 use Rattle.std.proofs.lemmas.List.{append-nil}
 use Rattle.io_ports.specs.Files.{Contents, Finds, Read}
 use Rattle.io_ports.specs.Lines.{Line}

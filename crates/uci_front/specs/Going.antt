@@ -8,7 +8,6 @@ use Rattle.io_ports.specs.Owing.{Lacks, Spends}
 use Rattle.io_ports.specs.Source.{Owed}
 use Rattle.io_ports.specs.declared.source.Got.{Got}
 use Rattle.rules_model.specs.declared.moves.Move.{Move}
-use Rattle.watching.specs.declared.halt.Cut.{Cut}
 use Rattle.watching.specs.declared.halt.Cut.TheVariants as cut
 use Rattle.watching.specs.Events.{Event, Says, AreUnstopped, Listens}
 use Rattle.watching.specs.Looks.{Moved, Ran, held}

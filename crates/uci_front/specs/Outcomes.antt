@@ -6,7 +6,6 @@ use Rattle.game_play.specs.Played.{Played}
 use Rattle.game_text.specs.GameText.{started}
 use Rattle.variant_ini.specs.OptionValue.{first_named}
 use Rattle.variant_ini.specs.Section.{Section}
-use Rattle.variant_model.specs.Entry.{entry}
 use Rattle.variant_model.specs.Fault as section
 use Rattle.variant_model.specs.declared.fault.SectionFault.{SectionFault}
 use Rattle.variant_rules.specs.Entries.{entries, found}

@@ -16,3 +16,6 @@ mod texts;
 pub use serving::serve;
 pub use session::UciSession;
 pub use turning::Ended;
+
+#[cfg(test)]
+mod tests;

@@ -1,4 +1,4 @@
-use Rattle.std.proofs.Common.{◌≡◌, ◌∙◌, ap, refl, sym}
+use Rattle.std.proofs.Common.{◌≡◌, ◌∙◌, ap, sym}
 use Rattle.io_ports.proofs.Asked.{reads_none}
 use Rattle.io_ports.specs.Trace.{Reads}
 use Rattle.session_model.specs.UciGo.{go_of}

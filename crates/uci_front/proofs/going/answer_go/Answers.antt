@@ -1,4 +1,4 @@
-use Rattle.std.proofs.Common.{◌≡◌, ◌∙◌, [], ◌∷◌, Some, refl, sym, ap, subst}
+use Rattle.std.proofs.Common.{◌∙◌}
 use Rattle.uci_front.proofs.GoLemmas.{if_told, if_untold, on_err, served_once, unserved_once, unserved_still}
 use Rattle.uci_front.proofs.going.answer_go.Goals as goal
 

@@ -1,7 +1,5 @@
-use Rattle.std.proofs.Common.{◌≡◌, ◌∙◌, [], ◌∷◌, ◌++◌, List, ℕ, Some, refl, sym, ap, subst}
+use Rattle.std.proofs.Common.{◌≡◌, ◌∙◌, [], ◌∷◌, ◌++◌, List, refl, ap}
 use Rattle.io_ports.specs.declared.dialect.Dialect.TheVariants.{Uci}
-use Rattle.io_ports.specs.Lines.{Line}
-use Rattle.session_model.specs.Mates.{Announced}
 use Rattle.session_model.specs.UciSession.{announced}
 use Rattle.session_model.specs.UciState.{State}
 use Rattle.turning.proofs.Saying.{broke_say, held_cut, next_follows, part_settled, part_then, ran_next_of, ran_say, ran_settled, unsaid}

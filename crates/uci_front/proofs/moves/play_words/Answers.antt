@@ -1,4 +1,4 @@
-use Rattle.std.proofs.Common.{arith, refl}
+use Rattle.std.proofs.Common.{arith}
 use Rattle.std.proofs.lemmas.Result.{err_from_is_err_and}
 use Rattle.uci_front.proofs.MoveLemmas.{word_played, word_refused, words_played}
 use Rattle.uci_front.proofs.moves.play_words.Goals as goal

@@ -1,4 +1,4 @@
-use Rattle.std.proofs.Common.{◌≡◌, ◌∙◌, ◌≤◌, length, ap, arith, refl, sym}
+use Rattle.std.proofs.Common.{◌≡◌, ◌∙◌, length, ap, arith, refl}
 use Rattle.session_model.specs.UciState.{State}
 use Rattle.uci_front.specs.declared.plan.Plan.{Plan}
 use Rattle.uci_front.proofs.GoLemmas.{on_err}

@@ -1,4 +1,4 @@
-use Rattle.std.proofs.Common.{◌≡◌, ◌∙◌, ◌≤◌, ◌<◌, ℕ, List, [], ◌∷◌, None, Some, length, ap, arith, lit≤, refl, subst, sym}
+use Rattle.std.proofs.Common.{◌≡◌, ◌∙◌, ◌<◌, ℕ, List, ◌∷◌, None, length, ap, arith, lit≤, refl, subst, sym}
 use Rattle.game_play.specs.Played.{Played, legal_in}
 use Rattle.rules_model.specs.declared.rules.Rules.{Rules}
 use Rattle.session_model.specs.Deadlines.{deadline_of}

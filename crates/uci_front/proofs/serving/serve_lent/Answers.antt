@@ -1,4 +1,4 @@
-use Rattle.std.proofs.Common.{◌≡◌, ◌∙◌, ◌⊎◌, inl, inr, ap, refl, sym, subst, arith}
+use Rattle.std.proofs.Common.{◌≡◌, ◌∙◌, ◌⊎◌, inl, inr, refl, sym, subst, arith}
 use Rattle.io_ports.proofs.Asked.{reads_more, reads_none}
 use Rattle.io_ports.specs.declared.source.Got.{Got}
 use Rattle.io_ports.specs.declared.source.Got.TheVariants as got

@@ -1,4 +1,4 @@
-use Rattle.std.proofs.Common.{◌≡◌, ◌∙◌, ap, refl, sym}
+use Rattle.std.proofs.Common.{◌≡◌, ◌∙◌, ap, sym}
 use Rattle.std.specs.Prelude.{Some, Ok}
 use Rattle.variant_rules.specs.Entries.{entries, found}
 use Rattle.uci_front.proofs.SessionLemmas.{starts_at}

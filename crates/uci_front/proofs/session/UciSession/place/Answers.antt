@@ -1,7 +1,6 @@
-use Rattle.std.proofs.Common.{◌≡◌, ◌∙◌, ap, refl, sym, subst}
+use Rattle.std.proofs.Common.{◌≡◌, ◌∙◌, ap, sym, subst}
 use Rattle.std.specs.Prelude.{Ok}
 use Rattle.std.proofs.lemmas.Result.{err_from_is_err_and}
-use Rattle.game_play.specs.Played.{Played}
 use Rattle.session_model.specs.UciState.{State}
 use Rattle.variant_rules.proofs.PlayableLaws.{entry_playable}
 use Rattle.variant_rules.specs.Playable.{IsPlayable}
