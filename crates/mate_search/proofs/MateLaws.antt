@@ -1,11 +1,10 @@
 -- Answers of whole solves.
-use Rattle.std.proofs.Common.{◌≡◌, ◌⊎◌, inl, inr, ℕ, zero, suc, ◌+◌, ◌*◌, ◌<◌, ◌≤◌, List, [], Some, None, refl, sym, subst, arith}
+use Rattle.std.proofs.Common.{◌≡◌, ◌⊎◌, inl, inr, ℕ, zero, suc, ◌+◌, ◌*◌, ◌<◌, ◌≤◌, [], Some, None, refl, sym, subst, arith}
 use Rattle.io_ports.specs.declared.dialect.Dialect.{Dialect}
 use Rattle.io_ports.specs.declared.limits.Limits.{Limits}
 use Rattle.io_ports.specs.declared.limits.SearchFault.{SearchFault}
 use Rattle.io_ports.specs.declared.limits.SearchFault.TheVariants as fault
 use Rattle.io_ports.specs.declared.limits.Stopped.TheVariants as stopped
-use Rattle.rules_model.specs.declared.board.Side.{Side}
 use Rattle.rules_model.specs.declared.rules.Rules.{Rules}
 use Rattle.rules_model.specs.Games.{Story}
 use Rattle.game_play.specs.Played.{Played, story}
@@ -19,10 +18,7 @@ use Rattle.watching.specs.Stopping.{Fails}
 use Rattle.watching.specs.Watched.{World, moment, Gone}
 use Rattle.mate_search.specs.declared.answer.Mate.{Mate}
 use Rattle.mate_search.specs.declared.answer.Mate.TheVariants as mate
-use Rattle.mate_search.specs.declared.answer.Settled.{Settled}
-use Rattle.mate_search.specs.declared.answer.Settled.TheVariants as settled
-use Rattle.mate_search.specs.Answers.{IsDecided, IsRight}
-use Rattle.mate_search.specs.Solves.{Heard, IsAnswer, IsDecidedMate, IsRightMate, bound_of, mate_of}
+use Rattle.mate_search.specs.Solves.{Heard, bound_of}
 
 product-some : (a b : ℕ) → 1 ≤ b → 0 < 4 * (a + 1) * b
 product-some a zero h = elim h [ ]

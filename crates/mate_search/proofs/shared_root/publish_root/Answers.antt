@@ -1,4 +1,4 @@
-use Rattle.std.proofs.Common.{◌≡◌, true, false, ap, sym, ◌∙◌, subst, rules}
+use Rattle.std.proofs.Common.{◌≡◌, true, false, sym, ◌∙◌, subst, rules}
 use Rattle.rules_model.specs.declared.board.Position.{Position}
 use Rattle.rules_model.specs.Repeats.{repeat_of}
 use Rattle.forced_wins.specs.Facts.{serves}

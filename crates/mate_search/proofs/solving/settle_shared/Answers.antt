@@ -1,4 +1,4 @@
-use Rattle.std.proofs.Common.{◌≡◌, ◌+◌, ◌*◌, true, false, Err, refl, ap, sym, ◌∙◌, subst, arith, rules}
+use Rattle.std.proofs.Common.{◌≡◌, ◌+◌, ◌*◌, false, Err, refl, ap, sym, ◌∙◌, subst, arith, rules}
 use Rattle.rules_model.specs.declared.rules.Rules.{Rules}
 use Rattle.forced_wins.specs.Wins.{near_root, wins}
 use Rattle.game_play.specs.Played.{story}

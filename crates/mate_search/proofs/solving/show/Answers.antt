@@ -2,9 +2,8 @@ use Rattle.std.proofs.Common.{◌≡◌, ◌⊎◌, ℕ, ◌+◌, ◌*◌, ◌<�
 use Rattle.rules_model.specs.declared.board.Position.{Position}
 use Rattle.rules_model.specs.declared.rules.Rules.{Rules}
 use Rattle.rules_model.specs.Fit.{IsFit}
-use Rattle.forced_wins.specs.Wins.{is_in, near_root, wins}
+use Rattle.forced_wins.specs.Wins.{is_in, near_root}
 use Rattle.game_play.specs.Played.{story}
-use Rattle.game_values.specs.Bounds.{solve_bound}
 use Rattle.mate_core.specs.declared.frame.Frame.{Frame}
 use Rattle.mate_settle.specs.Lines.{lines_within, seen_in}
 use Rattle.playing.specs.Stance.{Stance}
@@ -15,7 +14,7 @@ use Rattle.mate_search.specs.Counts.{IsTabledIn}
 use Rattle.mate_search.specs.Tabled.{IsKept}
 use Rattle.mate_search.specs.Tables.{most, IsNext, Stands}
 use Rattle.mate_search.proofs.Kept.{counter-low}
-use Rattle.mate_search.proofs.Root.{frame-blocked, not-won, plan-next, tabled, inside-shown, played-in, walk-lines, room-as, near-as, inside-as}
+use Rattle.mate_search.proofs.Root.{frame-blocked, plan-next, tabled, inside-shown, played-in, walk-lines, room-as, near-as, inside-as}
 use Rattle.mate_search.proofs.solving.show.Goals as goal
 
 pub plan_for-plan-requires-clause-low : goal.plan_for-plan-requires-clause-low

@@ -1,22 +1,12 @@
-use Rattle.std.proofs.Common.{◌≡◌, ◌⊎◌, ℕ, ◌+◌, ◌*◌, ◌<◌, ◌≤◌, true, false, Err, refl, ap, sym, ◌∙◌, subst, arith, rules}
-use Rattle.rules_model.specs.declared.board.Position.{Position}
+use Rattle.std.proofs.Common.{◌≡◌, ◌+◌, ◌*◌, false, Err, refl, ap, sym, ◌∙◌, subst, arith, rules}
 use Rattle.rules_model.specs.declared.rules.Rules.{Rules}
-use Rattle.rules_model.specs.Fit.{IsFit}
-use Rattle.forced_wins.specs.Wins.{is_in, near_root, wins}
+use Rattle.forced_wins.specs.Wins.{wins}
 use Rattle.game_play.specs.Played.{story}
 use Rattle.game_values.specs.Bounds.{solve_bound}
-use Rattle.mate_core.specs.declared.frame.Frame.{Frame}
 use Rattle.mate_settle.specs.Lines.{lines_within, seen_in}
 use Rattle.playing.specs.Stance.{Stance}
 use Rattle.watching.specs.LookLaws.{on_ok_of}
-use Rattle.strategy.specs.declared.nodes.Strategy.{Strategy}
-use Rattle.mate_search.specs.declared.answer.Settled.TheVariants.{Shown}
-use Rattle.mate_search.specs.Answers.{IsRight, IsShown}
-use Rattle.mate_search.specs.Counts.{IsTabledIn}
-use Rattle.mate_search.specs.Tabled.{IsKept}
-use Rattle.mate_search.specs.Tables.{most, IsNext, Stands}
-use Rattle.mate_search.proofs.Kept.{counter-low}
-use Rattle.mate_search.proofs.Root.{frame-blocked, not-won, plan-next, tabled, inside-shown, played-in, solve-lines, walk-lines, room-as, near-as, inside-as}
+use Rattle.mate_search.proofs.Root.{frame-blocked, not-won, solve-lines, walk-lines}
 use Rattle.mate_search.proofs.solving.solve_watched.Goals as goal
 
 pub returns-in_err-is_won-clause-ended : goal.returns-in_err-is_won-clause-ended

@@ -1,6 +1,5 @@
-use Rattle.std.proofs.Common.{◌≡◌, Option, Some, Ok, IfOk, subst, rules}
+use Rattle.std.proofs.Common.{◌≡◌, Ok, IfOk, subst, rules}
 use Rattle.fact_lock.specs.Passes.{all_parts}
-use Rattle.io_ports.specs.declared.limits.SearchFault.{SearchFault}
 use Rattle.io_ports.specs.declared.limits.SearchFault.TheVariants as fault
 use Rattle.game_play.specs.Played.{story}
 use Rattle.game_values.specs.Bounds.{solve_bound}
@@ -9,7 +8,6 @@ use Rattle.mate_search.specs.declared.answer.Mate.{Mate}
 use Rattle.mate_search.specs.declared.answer.Mate.TheVariants as mate
 use Rattle.mate_search.specs.Answers.{IsEvidence, IsShown}
 use Rattle.mate_search.specs.Solves.{Heard}
-use Rattle.seeking.specs.Seeks.{GoneBy}
 use Rattle.seeking.proofs.AnswerLaws.{shown_of_solved, unsettled_of_solved}
 use Rattle.seeking.proofs.CutLaws.{fails_memory, gone_stopped}
 use Rattle.seeking.proofs.solve.solve_once.Goals as goal

@@ -1,0 +1,13 @@
+pub mod NumberLemmas
+pub mod Carried
+pub mod Lists
+pub mod Standing
+pub mod Descent
+pub mod Grown
+pub mod KeptLemmas
+pub mod Expanded
+pub mod Meaning
+pub mod Fair
+pub mod Progress
+pub mod Sought
+pub mod worked

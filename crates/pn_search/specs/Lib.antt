@@ -1,0 +1,6 @@
+pub mod Numbers
+pub mod Trees
+pub mod Shapes
+pub mod Kept
+pub mod Meaning
+pub mod Finds

@@ -1,0 +1,139 @@
+//! Games that are settled by their proof trees.
+ghost use Rattle.std.specs.Prelude.{◌≡◌, ◌<◌, ◌≤◌, true, OnOk, IfOk};
+ghost use Rattle.mate_shards.specs.Views.{ArePassesOf};
+ghost use Rattle.pn_search.specs.Finds as Finds;
+ghost use Rattle.pn_search.specs.Trees as Trees;
+
+use crate::grew::Grew;
+use crate::tree::Tree;
+use attack_tables::Tables;
+use game_play::Game;
+use mate_shards::{Passes, Shards};
+use playing::Board;
+use rules_model::{Memory, Position, Side};
+use std::alloc::Global;
+use std::sync::Wait;
+
+/// Whether a game is won, and the tree that says so.
+#[derive(Drop)]
+pub struct Found {
+    pub won: bool,
+    pub tree: Tree,
+}
+
+// Grows the tree until its root is settled.
+fn grow_out(tree: &mut Tree, tables: &Tables) -> Result<(), Memory>
+    requires { tables.now ≡ tree.old.frame.rules }
+    ensures settled { OnOk result (Trees.is_settled tree.new ≡ true) }
+    ensures frame { tree.new.frame ≡ tree.old.frame }
+    ensures root { tree.new.root ≡ tree.old.root }
+    ensures moves { tree.new.moves ≡ tree.old.moves }
+{
+    'growing: loop {
+        match tree.grow(tables)? {
+            Grew::Expanded(_) => {}
+            Grew::Settled => return Ok(()),
+        }
+    }
+}
+
+// Publishes what is known of the node.
+fn publish_at<R: Wait>(
+    rt: &R,
+    tree: &Tree,
+    shards: &Shards,
+    passes: &mut Passes,
+    place: usize,
+    p: &Position,
+)
+    requires frame { tree.now.frame ≡ shards.now.frame }
+    requires at { Finds.IsAt tree.now place p.now }
+    requires passes { ArePassesOf shards.now passes.old }
+    ensures { Finds.AreHandedBack shards.now passes.old passes.new }
+{
+    if place == 0 {
+        return;
+    }
+    if let Some(fact) = tree.known_at(place, p) {
+        shards.publish(rt, passes, &fact);
+    }
+}
+
+// Publishes what is known of the node and of the settled nodes below it, as far as settled nodes lead to them.
+fn publish_below<R: Wait>(
+    rt: &R,
+    tree: &Tree,
+    shards: &Shards,
+    passes: &mut Passes,
+    place: usize,
+    board: &Board,
+)
+    requires frame { tree.now.frame ≡ shards.now.frame }
+    requires rules { board.now.rules ≡ tree.now.frame.rules }
+    requires at { Finds.IsAt tree.now place board.now.position }
+    requires passes { ArePassesOf shards.now passes.old }
+    ensures { Finds.AreHandedBack shards.now passes.old passes.new }
+{
+    publish_at(rt, tree, shards, passes, place, board.position());
+    for k in 0..tree.count_at(place) {
+        if let Some(leaf) = tree.settled_child(place, k, board) {
+            publish_below(rt, tree, shards, passes, leaf.place, &leaf.board);
+        }
+    }
+}
+
+// The same as `find`, with passes that are lent.
+fn find_lent<R: Wait>(
+    rt: &R,
+    alloc: Global,
+    game: &Game,
+    n: u16,
+    shards: &Shards,
+    passes: &mut Passes,
+) -> Result<Found, Memory>
+    requires sought { Finds.IsSought game.now shards.now.frame n }
+    requires some { 0 < n }
+    requires small { n ≤ 100 }
+    requires passes { ArePassesOf shards.now passes.old }
+    ensures handed { Finds.AreHandedBack shards.now passes.old passes.new }
+    ensures found { IfOk result (λ f. Finds.IsFound game.now shards.now.frame n f.won f.tree) }
+{
+    let mut tree = Tree::new(alloc, shards.frame(), game.position(), n)?;
+    grow_out(&mut tree, game.tables())?;
+    tree.has_grown();
+    let board = Board::new(game.tables(), game.position());
+    publish_below(rt, &tree, shards, passes, 0, &board);
+    Ok(Found {
+        won: tree.is_won(),
+        tree,
+    })
+}
+
+/// Whether the side wins the ongoing game by force within n of its moves, n from 1 to 100, with the tree that says so. What
+/// is known of the settled nodes is published.
+///
+/// # Errors
+///
+/// `Memory` where there is none, or where the tree has as many nodes as have numbers of 32 bits.
+pub fn find<R: Wait>(
+    rt: &R,
+    alloc: Global,
+    game: &Game,
+    attacker: Side,
+    n: u16,
+    shards: &Shards,
+    passes: Passes,
+) -> (Passes, Result<Found, Memory>)
+    requires attacker { attacker ≡ shards.now.frame.attacker }
+    requires sought { Finds.IsSought game.now shards.now.frame n }
+    requires some { 0 < n }
+    requires small { n ≤ 100 }
+    requires passes { ArePassesOf shards.now passes }
+    ensures handed { Finds.AreHandedBack shards.now passes result.0 }
+    ensures found { IfOk result.1 (λ f. Finds.IsFound game.now shards.now.frame n f.won f.tree) }
+{
+    let _attacker = attacker;
+    let mut passes = passes;
+    let answer = find_lent(rt, alloc, game, n, shards, &mut passes);
+    (passes, answer)
+}

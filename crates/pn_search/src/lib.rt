@@ -1,0 +1,22 @@
+//! A proof-number mate finder: it grows a tree of positions, always at the leaf that proves most, until its root is
+//! settled.
+#![tactic(auto)]
+
+mod carrying;
+mod copying;
+mod descending;
+mod expanding;
+mod finding;
+mod grew;
+mod node;
+mod numbers;
+#[cfg(test)]
+mod tests;
+mod tree;
+
+pub use expanding::root_end;
+pub use finding::{Found, find};
+pub use grew::Grew;
+pub use node::{Node, State};
+pub use numbers::{INFINITE, Pair};
+pub use tree::Tree;
