@@ -27,8 +27,15 @@ use std::sync::Wait;
 use strategy::Node;
 use watching::{Halt, Watch};
 
-/// How many facts a worker keeps.
-const ROOM: usize = 1 << 16;
+/// How many facts a worker keeps while it looks for a win within some number of moves. A short search meets few
+/// positions, and each place costs time and memory before it begins.
+fn room_for(n: u16) -> usize {
+    match n {
+        0 | 1 => 1 << 8,
+        2 => 1 << 12,
+        _ => 1 << 16,
+    }
+}
 
 /// Whether the game is won, the positions after its last one being looked at without their history. Where its repeat may
 /// stand again, its fact settles it.
@@ -184,7 +191,7 @@ pub(crate) fn settle_shared<R: Wait, W: Watch>(
     if is_refuted(rt, shards, passes, game, n) {
         return Ok(Settled::NoMate);
     }
-    let mut facts = FactTable::new(alloc, shards.frame(), ROOM)?;
+    let mut facts = FactTable::new(alloc, shards.frame(), room_for(n))?;
     let board = Board::new(game.tables(), game.position());
     let won = is_won(alloc, game, &board, n, &mut facts, watch)?;
     publish_wins(rt, shards, passes, &facts);
