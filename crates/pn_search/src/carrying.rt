@@ -18,7 +18,8 @@ pub(crate) fn children_of(pairs: &[Pair], first: u32, count: u32) -> &[Pair]
 // The pair of the node by those of its children.
 fn pair_of(node: &Node, pairs: &[Pair]) -> Pair
     requires { Shapes.AreWithin node.now.state (length pairs.now) }
-    ensures { result ≡ Numbers.pair_of node.now.state node.now.attacking (Numbers.of_children node.now.state pairs.now) }
+    ensures { result ≡ Numbers.pair_of node.now.state node.now.attacking
+        (Numbers.of_children node.now.state pairs.now) }
 {
     match node.state {
         State::Open => OPEN,

@@ -210,7 +210,8 @@ impl Tree {
         requires tables { tables.now ≡ self.old.frame.rules }
         ensures grows { IfOk result (Kept.Grows self.old self.new) }
         ensures less { IfOk result (Kept.LeavesLess self.old self.new) }
-        ensures tree { (k : ℕ) → Trees.IsPn k self.old → IfOk result (λ g. Trees.IsPn (k + Kept.expansions g) self.new) }
+        ensures tree { (k : ℕ) → Trees.IsPn k self.old
+            → IfOk result (λ g. Trees.IsPn (k + Kept.expansions g) self.new) }
         ensures frame { self.new.frame ≡ self.old.frame }
         ensures root { self.new.root ≡ self.old.root }
         ensures moves { self.new.moves ≡ self.old.moves }
