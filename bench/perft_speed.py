@@ -9,6 +9,7 @@ prints the count, the millions of moves a second of both, and the ratio. Ends wi
 import os
 import subprocess
 import sys
+import tempfile
 import time
 
 TOP = os.path.join(os.path.dirname(os.path.abspath(__file__)), "..")
@@ -23,6 +24,7 @@ ROWS = [
     ("3check", "startpos", 6),
     ("kingofthehill", "startpos", 6),
     ("antichess", "startpos", 6),
+    ("extinction", "startpos", 5),
     ("losalamos", "startpos", 7),
     ("capablanca", "startpos", 5),
     ("seirawan", "startpos", 5),
@@ -30,48 +32,73 @@ ROWS = [
     ("chess", MIDDLE, 5),
     ("chess", OTHER_MIDDLE, 5),
     ("chess", ENDING, 7),
+    ("wide", "startpos", 4),
 ]
+# 12 files and 10 ranks, the most that there are, with the pieces that both programs know.
+WIDE = """[wide:chess]
+maxFile = 12
+maxRank = 10
+castling = false
+archbishop = a
+chancellor = c
+amazon = m
+centaur = e
+promotionPieceTypes = qcamerbn
+doubleStepRegionWhite = *2
+doubleStepRegionBlack = *9
+promotionRegionWhite = *10
+promotionRegionBlack = *1
+startFen = rnbeqkmcabnr/pppppppppppp/12/12/12/12/12/12/PPPPPPPPPPPP/RNBEQKMCABNR w - - 0 1
+"""
 
 
-def ours(variant, position, plies):
+def ours(file, variant, position, plies):
+    words = [ENGINE, "--variants", file, "perft", str(plies)]
     start = time.perf_counter()
-    done = subprocess.run([ENGINE, "perft", str(plies)], input=f"{variant}\n{position}\n", capture_output=True, text=True)
+    done = subprocess.run(words, input=f"{variant}\n{position}\n", capture_output=True, text=True)
     return int(done.stdout), time.perf_counter() - start
 
 
-def theirs(variant, position, plies):
+def theirs(file, variant, position, plies):
     place = position if position == "startpos" else "fen " + position
-    lines = f"setoption name UCI_Variant value {variant}\nposition {place}\ngo perft {plies}\nquit\n"
+    lines = f"setoption name VariantPath value {file}\nsetoption name UCI_Variant value {variant}\nposition {place}\ngo perft {plies}\nquit\n"
     start = time.perf_counter()
     done = subprocess.run([OTHER], input=lines, capture_output=True, text=True)
     taken = time.perf_counter() - start
     return int(done.stdout.split("Nodes searched:")[1].split()[0]), taken
 
 
-def alternating(variant, position, plies, runs):
+def alternating(file, variant, position, plies, runs):
     """Both counts of the row, and the least time that each program took, over runs of one after the other."""
     counts = [0, 0]
     least = [float("inf"), float("inf")]
     for _ in range(runs):
         for place, count in enumerate((ours, theirs)):
-            counts[place], taken = count(variant, position, plies)
+            counts[place], taken = count(file, variant, position, plies)
             least[place] = min(least[place], taken)
     return counts, least
+
+
+def measured(file, variant, position, plies, runs):
+    """Measures and prints a row; whether both programs count the same."""
+    _, bases = alternating(file, variant, position, 1, runs)
+    counts, least = alternating(file, variant, position, plies, runs)
+    rates = [count / max(taken - base, 1e-6) / 1e6 for count, taken, base in zip(counts, least, bases)]
+    same = counts[0] == counts[1]
+    note = "" if same else f" (there {counts[1]})"
+    print(f"{variant} {position} perft {plies}: {counts[0]}{note}, {rates[0]:.2f} and {rates[1]:.2f} M/s, ratio {rates[0] / rates[1]:.2f}")
+    return same
 
 
 def main():
     runs = int(sys.argv[1]) if len(sys.argv) > 1 else 3
     if OTHER is None:
         sys.exit("perft_speed: wants Debian's package fairy-stockfish")
-    differ = False
-    for variant, position, plies in ROWS:
-        _, bases = alternating(variant, position, 1, runs)
-        counts, least = alternating(variant, position, plies, runs)
-        rates = [count / max(taken - base, 1e-6) / 1e6 for count, taken, base in zip(counts, least, bases)]
-        note = "" if counts[0] == counts[1] else f" (there {counts[1]})"
-        differ = differ or counts[0] != counts[1]
-        print(f"{variant} {position} perft {plies}: {counts[0]}{note}, {rates[0]:.2f} and {rates[1]:.2f} M/s, ratio {rates[0] / rates[1]:.2f}")
-    if differ:
+    with tempfile.NamedTemporaryFile("w", suffix=".ini") as file:
+        file.write(WIDE)
+        file.flush()
+        rows = [measured(file.name, *row, runs) for row in ROWS]
+    if not all(rows):
         sys.exit("perft_speed: the counts differ")
 
 
