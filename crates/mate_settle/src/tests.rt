@@ -8,6 +8,7 @@ use playing::Board;
 use rules_model::{Blocked, Rules, Side, Value, sound};
 use sample_rules::{chess, position};
 use std::alloc::Global;
+use std::process::Abort;
 use std::test::Fail;
 use watching::{Halt, Helper, StopFlag};
 
@@ -112,7 +113,8 @@ fn checks_are_counted() -> Rules
 
 /// Whether White, who has so many checks left to give, wins by its next move.
 fn expect_in_one(
-    rt: &HostRuntime,
+    rt: &impl Abort,
+    alloc: Global,
     rules: Rules,
     pieces: &str,
     checks: u8,
@@ -120,13 +122,13 @@ fn expect_in_one(
 ) -> Result<(), Fail>
     requires { IsFit rules }
 {
-    let frame = frame_of(rt.alloc(), rules);
-    let tables = Tables::new(rt.alloc(), &frame.rules)?;
+    let frame = frame_of(alloc, rules);
+    let tables = Tables::new(alloc, &frame.rules)?;
     let mut p = position(pieces);
     p.checks = [checks; 2];
     assert!(rt; sound(&frame.rules, &p), "{pieces}");
     let board = Board::new(&tables, &p);
-    let found = won(rt.alloc(), &frame, &board, 1, 16);
+    let found = won(alloc, &frame, &board, 1, 16);
     assert!(rt;
         matches!(found, Ok((settled, chosen)) if settled == wins && chosen == wins),
         "{pieces}"
@@ -137,10 +139,10 @@ fn expect_in_one(
 // The pawn's step leaves the king no move, and the rook's check is no mate.
 #[test]
 fn ends_by_the_last_move(rt: HostRuntime) -> Result<(), Fail> {
-    expect_in_one(&rt, chess(), "Kg6 Ph6 kh8", 0, false)?;
-    expect_in_one(&rt, stuck_side_loses(), "Kg6 Ph6 kh8", 0, true)?;
-    expect_in_one(&rt, chess(), "Ke1 Ra2 kh8", 0, false)?;
-    expect_in_one(&rt, checks_are_counted(), "Ke1 Ra2 kh8", 1, true)?;
-    expect_in_one(&rt, checks_are_counted(), "Ke1 Ra2 kh8", 2, false)?;
+    expect_in_one(&rt, rt.alloc(), chess(), "Kg6 Ph6 kh8", 0, false)?;
+    expect_in_one(&rt, rt.alloc(), stuck_side_loses(), "Kg6 Ph6 kh8", 0, true)?;
+    expect_in_one(&rt, rt.alloc(), chess(), "Ke1 Ra2 kh8", 0, false)?;
+    expect_in_one(&rt, rt.alloc(), checks_are_counted(), "Ke1 Ra2 kh8", 1, true)?;
+    expect_in_one(&rt, rt.alloc(), checks_are_counted(), "Ke1 Ra2 kh8", 2, false)?;
     Ok(())
 }
