@@ -142,7 +142,21 @@ fn ends_by_the_last_move(rt: HostRuntime) -> Result<(), Fail> {
     expect_in_one(&rt, rt.alloc(), chess(), "Kg6 Ph6 kh8", 0, false)?;
     expect_in_one(&rt, rt.alloc(), stuck_side_loses(), "Kg6 Ph6 kh8", 0, true)?;
     expect_in_one(&rt, rt.alloc(), chess(), "Ke1 Ra2 kh8", 0, false)?;
-    expect_in_one(&rt, rt.alloc(), checks_are_counted(), "Ke1 Ra2 kh8", 1, true)?;
-    expect_in_one(&rt, rt.alloc(), checks_are_counted(), "Ke1 Ra2 kh8", 2, false)?;
+    expect_in_one(
+        &rt,
+        rt.alloc(),
+        checks_are_counted(),
+        "Ke1 Ra2 kh8",
+        1,
+        true,
+    )?;
+    expect_in_one(
+        &rt,
+        rt.alloc(),
+        checks_are_counted(),
+        "Ke1 Ra2 kh8",
+        2,
+        false,
+    )?;
     Ok(())
 }
