@@ -1,2 +1,4 @@
 pub mod Lines
 pub mod Settled
+pub mod LastMoves
+pub mod OrderLaws

@@ -5,6 +5,7 @@ use Rattle.std.proofs.lemmas.Bool.Decides.{nat_tests}
 use Rattle.std.specs.Option.{IfSome}
 use mathlib.Core.Bool.{beq}
 use Rattle.foundation.specs.Member.{Member, Appends, Lists}
+use Rattle.foundation.specs.Tests.{is_nil}
 use Rattle.rules_model.specs.declared.board.Position.{Position}
 use Rattle.rules_model.specs.declared.moves.Move.{Move}
 use Rattle.rules_model.specs.declared.rules.Rules.{Rules}
@@ -270,3 +271,22 @@ module _ (f : Frame) (n : ℕ) (p : Position) (ms : List Move) (all : Lists (λ 
 
   pub one-fails : (m : Move) → Member m (In.legal_in f p) → won m ≡ false → all_win f n p ≡ false
   one-fails m k e = not_true (all_win f n p) (λ t. true_false (won m) (all_member won (In.legal_in f p) t m k) e)
+
+-- ---- a win that is made for a question answers it
+
+pub win-answers : (f : Frame) (p : Position) (n : ℕ) (best : Option Move) → serves (fact_of p f.attacker n best true) (repeat_of p) p.counter n ≡ true
+win-answers f p n best =
+    let x = fact_of p f.attacker n best true in
+    serves-from x (repeat_of p) p.counter n refl (covers-from x true p.counter n (record { won = λ e. (omega arith, omega arith); lost = λ e. absurd (let z = e in cc) }))
+
+pub loss-answers : (f : Frame) (p : Position) → serves (fact_of p f.attacker (smaller (0 + 1) 65535) None false) (repeat_of p) p.counter 1 ≡ true
+loss-answers f p =
+    let x = fact_of p f.attacker 1 None false in
+    serves-from x (repeat_of p) p.counter 1 refl (covers-from x false p.counter 1 (record { won = λ e. absurd (let z = e in cc); lost = λ e. (omega arith, omega arith) }))
+
+-- where some move is listed, some move is legal
+pub some-listed : (legal ms : List Move) → Lists (λ m. Member m legal) ms → is_nil ms ≡ is_nil legal
+some-listed [] [] all = refl
+some-listed [] (y ∷ ms) all = absurd (all.sound y (inl refl))
+some-listed (x ∷ legal) [] all = absurd (all.complete x (inl refl))
+some-listed (x ∷ legal) (y ∷ ms) all = refl

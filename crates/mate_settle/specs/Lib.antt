@@ -2,3 +2,4 @@ pub mod Lines
 pub mod Steps
 pub mod Known
 pub mod Choices
+pub mod LastMoves

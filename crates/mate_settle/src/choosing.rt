@@ -40,7 +40,7 @@ pub fn choose<W: Watch>(
     ensures ended { (why : Halt) → IsErrOf result why →
         W.ended watch.old watch.new (lines_of_moves facts.old (n - 1) board.now.position) why }
 {
-    let moves = moves_to_try(alloc, board)?;
+    let moves = moves_to_try(alloc, board, n, facts)?;
     for i in 0..moves.len() {
         let chosen = moves[i];
         let next = board.after(&chosen);
@@ -75,7 +75,7 @@ pub fn all_won<W: Watch>(
     ensures ended { (why : Halt) → IsErrOf result why →
         W.ended watch.old watch.new (lines_of_moves facts.old n board.now.position) why }
 {
-    let moves = moves_to_try(alloc, board)?;
+    let moves = moves_to_try(alloc, board, n, facts)?;
     for i in 0..moves.len() {
         let chosen = moves[i];
         let next = board.after(&chosen);

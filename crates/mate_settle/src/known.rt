@@ -5,9 +5,12 @@ ghost use Rattle.mate_settle.specs.Known.{Answers};
 
 use mate_core::{Fact, Frame, serves};
 use playing::Board;
-use rules_model::{Memory, repeat_of};
+use rules_model::{Memory, Move, repeat_of};
 use std::alloc::Global;
 use std::marker::Model;
+
+/// So many questions, by the side to move and the number of the attacker's moves, have a deciding move of their own.
+const QUESTIONS: usize = 32;
 
 /// A fact, and the key of its repeat.
 #[derive(Clone, Copy)]
@@ -20,7 +23,11 @@ pub(crate) struct Kept {
 #[derive(Drop)]
 pub struct FactTable<'f> {
     frame: &'f Frame,
-    slots: Vec<Option<Kept>>,
+    /// For each remainder of a key, the number of the fact that is kept for it, from 1 on; 0 where there is none.
+    numbers: Vec<u32>,
+    kept: Vec<Kept>,
+    /// For each question, the move that decided it last.
+    deciding: [Option<Move>; QUESTIONS],
 }
 
 impl<'f> Model for FactTable<'f> {
@@ -31,15 +38,22 @@ impl<'f> Model for FactTable<'f> {
 
     ghost view = { λ t. t.frame.now };
 
-    ghost invariant = { λ t. HoldTruth t.frame.now t.slots.items };
+    ghost invariant = { λ t. HoldTruth t.frame.now t.kept.items };
 }
 
-// The place for facts of a repeat with this key.
-fn place(key: u64, slots: usize) -> usize
-    requires { 0 < slots }
-    ensures { result < slots }
+// The place for the number of a fact on a repeat with this key.
+fn place(key: u64, places: usize) -> usize
+    requires { 0 < places }
+    ensures { result < places }
 {
-    (key % slots as u64) as usize
+    (key % places as u64) as usize
+}
+
+// The place of the move that decided last.
+fn question(attacking: bool, moves: u16) -> usize
+    ensures { result < 32 }
+{
+    (2 * usize::from(moves) + usize::from(attacking)) % QUESTIONS
 }
 
 impl<'f> FactTable<'f> {
@@ -47,11 +61,17 @@ impl<'f> FactTable<'f> {
     pub fn new(alloc: Global, frame: &'f Frame, room: usize) -> Result<FactTable<'f>, Memory>
         ensures { IfOk result (λ t. t ≡ frame.now) }
     {
-        let mut slots = Vec::with_capacity(alloc, room)?;
+        let mut numbers = Vec::with_capacity(alloc, room)?;
         for _i in 0..room {
-            slots.push(None)?;
+            numbers.push(0)?;
         }
-        Ok(FactTable { frame, slots })
+        let kept = Vec::new(alloc);
+        Ok(FactTable {
+            frame,
+            numbers,
+            kept,
+            deciding: [None; QUESTIONS],
+        })
     }
 
     /// What its facts are true in.
@@ -63,17 +83,27 @@ impl<'f> FactTable<'f> {
 
     /// How many facts there is room for.
     pub fn room(&self) -> usize {
-        self.slots.len()
+        self.numbers.len()
     }
 
     /// The fact that is kept at a place, if there is one: a true one.
     pub fn at(&self, place: usize) -> Option<Fact>
         ensures { IfSome result (IsTrueIn self.now) }
     {
-        match self.slots.get(place) {
-            Some(Some(kept)) => Some(kept.fact),
-            _ => None,
+        match self.kept.get(place) {
+            Some(kept) => Some(kept.fact),
+            None => None,
         }
+    }
+
+    /// What is kept for the number, if it is one of a fact.
+    fn numbered(&self, number: u32) -> Option<&Kept>
+        ensures { IfSome result (λ kept. IsTrueIn self.now kept.now.fact) }
+    {
+        if number == 0 {
+            return None;
+        }
+        self.kept.get(number as usize - 1)
     }
 
     /// A kept fact that says whether the position is won within this many moves, if one is found at once.
@@ -81,12 +111,12 @@ impl<'f> FactTable<'f> {
         ensures serves { IfSome result (Answers board.now moves) }
         ensures truth { IfSome result (IsTrueIn self.now) }
     {
-        if self.slots.is_empty() {
+        if self.numbers.is_empty() {
             return None;
         }
         let key = board.key();
-        let at = place(key, self.slots.len());
-        match &self.slots[at] {
+        let at = place(key, self.numbers.len());
+        match self.numbered(self.numbers[at]) {
             Some(kept) if kept.key == key => {
                 let p = board.position();
                 if serves(&kept.fact, &repeat_of(p), p.counter, moves) {
@@ -99,16 +129,37 @@ impl<'f> FactTable<'f> {
         }
     }
 
-    /// Keeps a fact on the position.
+    /// Keeps a fact on the position, where there is memory for it.
     pub fn keep(&mut self, board: &Board, fact: Fact)
         requires { IsTrueIn self.old fact }
         ensures { self.new ≡ self.old }
     {
-        if self.slots.is_empty() {
+        if self.numbers.is_empty() {
             return;
         }
         let key = board.key();
-        let at = place(key, self.slots.len());
-        self.slots[at] = Some(Kept { key, fact });
+        let at = place(key, self.numbers.len());
+        let number = self.numbers[at] as usize;
+        if 0 < number && number <= self.kept.len() {
+            self.kept[number - 1] = Kept { key, fact };
+            return;
+        }
+        let next = self.kept.len();
+        if next < u32::MAX as usize && self.kept.push(Kept { key, fact }).is_ok() {
+            self.numbers[at] = next as u32 + 1;
+        }
+    }
+
+    /// The move that decided last where this side was to move and the attacker had this many moves left, if one did. It
+    /// may be of another position.
+    pub(crate) fn deciding(&self, attacking: bool, moves: u16) -> Option<Move> {
+        self.deciding[question(attacking, moves)]
+    }
+
+    /// Keeps the move that decides a position.
+    pub(crate) fn keep_deciding(&mut self, attacking: bool, moves: u16, chosen: Move)
+        ensures { self.new ≡ self.old }
+    {
+        self.deciding[question(attacking, moves)] = Some(chosen);
     }
 }

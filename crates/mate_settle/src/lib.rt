@@ -4,6 +4,8 @@
 
 mod choosing;
 mod known;
+mod last_moves;
+mod ordering;
 mod settling;
 #[cfg(test)]
 mod tests;

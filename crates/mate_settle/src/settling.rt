@@ -7,11 +7,14 @@ ghost use Rattle.mate_fact.specs.InFrame as In;
 ghost use Rattle.mate_settle.specs.Known.{Answers};
 ghost use Rattle.mate_settle.specs.Lines.{lines_within, seen_in};
 ghost use Rattle.mate_settle.specs.Steps as Steps;
-ghost use Rattle.playing.specs.Stance.{legal_in};
+ghost use Rattle.playing.specs.Stance.{legal_in, repeat_in};
+ghost use Rattle.rules_model.specs.Legal.{is_stuck};
 ghost use Rattle.rules_model.specs.Sides.{same_side};
 ghost use Rattle.watching.specs.declared.halt.Halt.{Halt};
 
 use crate::known::FactTable;
+use crate::last_moves::{by_last_move, only_movers_win};
+use crate::ordering::{Order, in_order};
 use mate_core::{Fact, Frame};
 use mate_fact::{
     by_all_within, by_move, end_of, refuted_by_all_within, refuted_by_move, refuted_where,
@@ -33,17 +36,35 @@ fn legal_list(alloc: Global, board: &Board) -> Result<MoveList, Memory>
     Ok(moves)
 }
 
-/// The legal moves in the order in which they are tried.
-pub(crate) fn moves_to_try(alloc: Global, board: &Board) -> Result<Vec<Move>, Memory>
+/// The legal moves in the order in which they are tried, where the attacker has this many moves left. Those of his last
+/// move come as they are made.
+pub(crate) fn moves_to_try(
+    alloc: Global,
+    board: &Board,
+    n: u16,
+    facts: &FactTable,
+) -> Result<Vec<Move>, Memory>
     ensures { IfOk result (λ ms. Lists (λ m. Member m (legal_in board.now)) ms.items) }
 {
+    let attacking = board.position().side.is(facts.frame().attacker);
     let moves = legal_list(alloc, board)?;
-    Ok(moves.items)
+    if attacking && n < 2 {
+        return Ok(moves.items);
+    }
+    let order = Order {
+        attacking,
+        moves: n,
+        deciding: facts.deciding(attacking, n),
+    };
+    let ordered = in_order(alloc, board, moves.items.as_slice(), &order)?;
+    Ok(ordered)
 }
 
-/// The fact that needs no other: the position is ended, or the attacker, who is to move, has no move left.
-fn known_now(frame: &Frame, board: &Board, n: u16) -> Option<Fact>
+/// The fact that needs no other: the position is ended, or the attacker, who is to move, has no move left. `any` says
+/// whether some move is legal.
+fn known_now(frame: &Frame, board: &Board, n: u16, any: bool) -> Option<Fact>
     requires rules { board.now.rules ≡ frame.now.rules }
+    requires any { any ≡ not (is_stuck board.now.rules (repeat_in board.now)) }
     ensures serves { IfSome result (Answers board.now n) }
     ensures truth { IfSome result (IsTrueIn frame.now) }
     ensures ongoing { result ≡ None → In.end_in frame.now board.now.position ≡ None }
@@ -51,7 +72,7 @@ fn known_now(frame: &Frame, board: &Board, n: u16) -> Option<Fact>
 {
     board.is_ready();
     let p = board.position();
-    let end = end_of(frame, p, board.own_end());
+    let end = end_of(frame, p, board.end_where(any));
     match end {
         Some(true) => won_where(frame, p, end),
         Some(false) => refuted_where(frame, p, end),
@@ -149,20 +170,26 @@ pub fn settle<W: Watch>(
         return Ok(fact);
     }
     let frame = facts.frame();
-    if let Some(fact) = known_now(frame, board, n) {
+    let moves = moves_to_try(alloc, board, n, facts)?;
+    if let Some(fact) = known_now(frame, board, n, !moves.is_empty()) {
         facts.keep(board, fact);
         return Ok(fact);
     }
     let attacking = board.position().side.is(frame.attacker);
     let left = moves_left(attacking, n);
     let mut far = none_yet(attacking);
-    let moves = moves_to_try(alloc, board)?;
+    if attacking && n == 1 && only_movers_win(&frame.rules) {
+        let found = by_last_move(frame, board, moves.as_slice());
+        facts.keep(board, found);
+        return Ok(found);
+    }
     for i in 0..moves.len() {
         let chosen = moves[i];
         let next = board.after(&chosen);
         let fact = settle(alloc, &next, left, facts, watch)?;
         if fact.wins == attacking {
             let found = by_one(frame, board, &chosen, attacking, &fact);
+            facts.keep_deciding(attacking, n, chosen);
             facts.keep(board, found);
             return Ok(found);
         }

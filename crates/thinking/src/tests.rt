@@ -387,7 +387,7 @@ fn mates_are_tried(rt: HostRuntime) -> Result<(), Fail> {
                 deadline: None,
             },
             NOTHING,
-            Answer::Stopped(1, Cut::Quota(1)),
+            Answer::Stopped(2, Cut::Quota(1)),
         ),
     ];
     for (text, last, limits, heard, answer) in rows {

@@ -2,17 +2,20 @@ use Rattle.std.proofs.Common.{◌≡◌, ◌+◌, ◌<◌, ◌≤◌, length, ta
 use Rattle.std.specs.List.{sum_by}
 use Rattle.std.proofs.lemmas.List.{take_all}
 use Rattle.std.proofs.lemmas.Option.{slice_get_read}
-use Rattle.foundation.specs.Member.{Member}
+use Rattle.foundation.specs.Member.{Member, Lists}
+use Rattle.foundation.specs.Tests.{is_nil}
 use Rattle.forced_wins.proofs.Rules.{laws}
 use Rattle.forced_wins.specs.Facts.{ServesMove}
 use Rattle.mate_core.specs.declared.frame.Frame.{Frame}
 use Rattle.mate_fact.specs.InFrame as In
+use Rattle.playing.specs.Stance.{legal_in, repeat_in}
+use Rattle.rules_model.specs.Legal.{is_stuck}
 use Rattle.rules_model.specs.Next.{next}
 use Rattle.rules_model.specs.Sides.{same_side}
 use Rattle.mate_settle.specs.Lines.{plies, lines_within, lines_after, seen_in}
 use Rattle.mate_settle.specs.Steps.{left_after, IsFar, NoneDecides}
 use Rattle.mate_settle.proofs.Lines.{lines-some, loop-more, loop-whole, loop-last, left-small, plies-fall, same-lines}
-use Rattle.mate_settle.proofs.Settled.{is_none, after-is, moves-of, one-told, member-at, serves-move, short-of, one-answers, each-answers, serves-as, none-moved, none-all, none-more, far-more, same_bool-from, not_same}
+use Rattle.mate_settle.proofs.Settled.{is_none, after-is, moves-of, one-told, member-at, serves-move, short-of, one-answers, each-answers, serves-as, some-listed, none-moved, none-all, none-more, far-more, same_bool-from, not_same}
 use Rattle.mate_settle.proofs.settling.+settle.Goals as goal
 
 pub returns-in_err-enter-clause-ended : goal.returns-in_err-enter-clause-ended
@@ -48,6 +51,31 @@ returns-in_err-moves-clause-ended g t c why is =
     let n = c.args.n in
     let memory = g.met.W.Watch.memory _ _ _ (g.met.W.Watch.wider _ _ _ _ c.in_ok-enter.ensures.gone (lines-some r (plies r n p) p)) in
     search rules
+
+pub known_now-requires-clause-any : goal.known_now-requires-clause-any
+unfolding is_stuck
+known_now-requires-clause-any g t c =
+    let ms = c.in_ok-moves.moves.items in
+    let listed : is_nil ms ≡ is_stuck c.args.board.now.rules (repeat_in c.args.board.now) = some-listed (legal_in c.args.board.now) ms c.in_ok-moves.ensures in
+    search rules
+
+pub by_last_move-found-requires-clause-moves : goal.by_last_move-found-requires-clause-moves
+by_last_move-found-requires-clause-moves g t c =
+    let f = c.args.facts.now in
+    let p = c.args.board.now.position in
+    let ms = c.in_ok-moves.moves.items in
+    let same : c.frame-frame.result.now ≡ f = c.frame-frame.ensures in
+    let all = moves-of f c.args.board.now ms c.requires.rules c.in_ok-moves.ensures in
+    subst (λ ns. Lists (λ m. Member m (In.legal_in c.frame-frame.result.now p)) ns) (sym c.as_slice.ensures.value)
+    (subst (λ h. Lists (λ m. Member m (In.legal_in h p)) ms) (sym same) all)
+
+pub returns-then-only_movers_win-clause-gone : goal.returns-then-only_movers_win-clause-gone
+returns-then-only_movers_win-clause-gone g t c =
+    let f = c.args.facts.now in
+    let r = seen_in f in
+    let p = c.args.board.now.position in
+    let n = c.args.n in
+    g.met.W.Watch.wider _ _ _ _ c.in_ok-enter.ensures.gone (lines-some r (plies r n p) p)
 
 pub after-next-requires : goal.after-next-requires
 after-next-requires g t c =

@@ -1,0 +1,207 @@
+#!/usr/bin/env python3
+"""How long `go mate N` takes, beside Fairy-Stockfish's, on positions with a known mate.
+
+Usage: bench/mates.py FILE [--engine COMMAND] [--limit SECONDS] [--threads N] [--variant NAME] [--most N] [--check] [--each]
+
+FILE is a list in JSON of positions {"variant", "fen", "within", "least"}: the mover mates within the number `within`, and `least` is the
+least such number, or absent. Both programs get `go mate WITHIN` for each position, one after the other in the same run, each in one session
+for all positions of a variant, after `ucinewgame`; the time is that from `go` to `bestmove`. What takes longer than the limit (60 seconds by
+default) is stopped and counted with the limit. The table has a row for each least number: the seconds of both for all of its positions, their
+ratio, the longest of each, and how many each left unsolved.
+
+`--threads` sets `Threads` of both (1 by default), `--variant` and `--most` leave out other variants and greater numbers, `--each` prints a
+line for each position, and `--check` has `vengine check` read every strategy. Without Debian's package fairy-stockfish its columns are
+left out, which is said. Ends with an error where a number that was found is not the file's, or a strategy is not accepted.
+"""
+import argparse
+import collections
+import json
+import os
+import queue
+import shlex
+import subprocess
+import sys
+import threading
+import time
+
+TOP = os.path.join(os.path.dirname(os.path.abspath(__file__)), "..")
+ENGINE = os.path.join(TOP, "vengine")
+OTHER = next((path for path in ("/usr/games/fairy-stockfish", "/usr/bin/fairy-stockfish") if os.path.exists(path)), None)
+HANGS = 60.0
+
+
+class Session:
+    """A UCI engine in a process of its own; a thread takes its lines with the times at which they came."""
+
+    def __init__(self, command, variant, threads):
+        self.process = subprocess.Popen(shlex.split(command), stdin=subprocess.PIPE, stdout=subprocess.PIPE, text=True, bufsize=1)
+        self.lines = queue.Queue()
+        threading.Thread(target=self.take, daemon=True).start()
+        self.say("uci")
+        self.wait_for(lambda words: words == ["uciok"], HANGS)
+        self.say(f"setoption name UCI_Variant value {variant}")
+        self.say(f"setoption name Threads value {threads}")
+
+    def take(self):
+        for line in self.process.stdout:
+            self.lines.put((time.monotonic(), line.rstrip("\n")))
+        self.lines.put((time.monotonic(), None))
+
+    def say(self, line):
+        self.process.stdin.write(line + "\n")
+        self.process.stdin.flush()
+
+    def wait_for(self, is_wanted, seconds):
+        """The lines up to the wanted one, and when that came; None for the time where it did not come."""
+        said, end = [], time.monotonic() + seconds
+        while True:
+            try:
+                at, line = self.lines.get(timeout=max(0.0, end - time.monotonic()))
+            except queue.Empty:
+                return said, None
+            if line is None:
+                sys.exit("mates: an engine ended")
+            said.append(line)
+            if is_wanted(line.split()):
+                return said, at
+
+    def ready(self):
+        self.say("isready")
+        if self.wait_for(lambda words: words == ["readyok"], HANGS)[1] is None:
+            sys.exit("mates: an engine does not answer isready")
+
+    def solve(self, fen, within, limit):
+        """The number of moves that was found, or None, and the seconds that it took; the limit where it was stopped."""
+        self.say("ucinewgame")
+        self.say(f"position fen {fen}")
+        self.ready()
+        begun = time.monotonic()
+        self.say(f"go mate {within}")
+        said, at = self.wait_for(is_best, limit)
+        if at is None:
+            self.say("stop")
+            self.wait_for(is_best, HANGS)
+            return None, limit
+        return mate_in(said), at - begun
+
+    def strategy(self):
+        """The proof text of the mate that was announced last."""
+        self.say("strategy")
+        said, at = self.wait_for(lambda words: words == ["end"], HANGS)
+        return None if at is None else "\n".join(said) + "\n"
+
+    def close(self):
+        self.say("quit")
+        self.process.wait(timeout=HANGS)
+
+
+def is_best(words):
+    return words[:1] == ["bestmove"]
+
+
+def mate_in(lines):
+    """The number of the last line that says within how many moves the mover mates."""
+    found = None
+    for line in lines:
+        words = line.split()
+        if words[:1] == ["info"] and "score" in words:
+            kind, value = words[words.index("score") + 1:][:2]
+            found = int(value) if kind == "mate" and int(value) > 0 else None
+    return found
+
+
+def is_accepted(text):
+    done = subprocess.run(shlex.split(ENGINE) + ["check"], input=text, capture_output=True, text=True)
+    return done.returncode == 0 and done.stdout == "wins\n"
+
+
+class Row:
+    """What both programs took for the positions of one least number."""
+
+    def __init__(self):
+        self.count = 0
+        self.seconds = [0.0, 0.0]
+        self.longest = [0.0, 0.0]
+        self.unsolved = [0, 0]
+
+    def add(self, place, found, taken):
+        self.seconds[place] += taken
+        self.longest[place] = max(self.longest[place], taken)
+        self.unsolved[place] += found is None
+
+    def text(self, places):
+        parts = [f"{self.count:9}"]
+        for place in places:
+            parts.append(f"{self.seconds[place]:9.2f} {self.longest[place]:9.3f} {self.unsolved[place]:8}")
+        if len(places) > 1:
+            parts.append(f"{self.seconds[0] / max(self.seconds[1], 1e-6):8.2f}")
+        return " ".join(parts)
+
+
+def fault_of(row, found, session, checks):
+    """What is wrong with what was found, or None."""
+    if found is None:
+        return None
+    least = row.get("least")
+    if least is not None and found != least:
+        return f"found {found} where the file says {least}"
+    if checks:
+        text = session.strategy()
+        if text is None or not is_accepted(text):
+            return "the strategy is not accepted"
+    return None
+
+
+def measure(variant, positions, given, rows):
+    """Has both programs solve the positions, and says how many went wrong."""
+    commands = [given.engine] + ([OTHER] if OTHER else [])
+    sessions = [Session(command, variant, given.threads) for command in commands]
+    wrong = 0
+    for position in positions:
+        answers = [session.solve(position["fen"], position["within"], given.limit) for session in sessions]
+        row = rows[position.get("least", answers[0][0] or position["within"])]
+        row.count += 1
+        for place, (found, taken) in enumerate(answers):
+            row.add(place, found, taken)
+        fault = fault_of(position, answers[0][0], sessions[0], given.check)
+        wrong += fault is not None
+        if given.each or fault:
+            told = ", ".join(f"{found or 'none'} in {taken:.3f} s" for found, taken in answers)
+            print(f"{variant} {position['fen']} within {position['within']}: {told}{': ' + fault if fault else ''}", flush=True)
+    for session in sessions:
+        session.close()
+    return wrong
+
+
+def main():
+    parser = argparse.ArgumentParser(description=__doc__, formatter_class=argparse.RawDescriptionHelpFormatter)
+    parser.add_argument("file")
+    parser.add_argument("--engine", default=ENGINE)
+    parser.add_argument("--limit", type=float, default=60.0)
+    parser.add_argument("--threads", type=int, default=1)
+    parser.add_argument("--variant")
+    parser.add_argument("--most", type=int, default=100)
+    parser.add_argument("--check", action="store_true")
+    parser.add_argument("--each", action="store_true")
+    given = parser.parse_args()
+    if OTHER is None:
+        print("without Debian's package fairy-stockfish: its columns are left out")
+    with open(given.file, encoding="utf-8") as file:
+        positions = [row for row in json.load(file) if row.get("least", row["within"]) <= given.most]
+    by_variant = collections.defaultdict(list)
+    for position in positions:
+        if given.variant in (None, position["variant"]):
+            by_variant[position["variant"]].append(position)
+    rows, wrong = collections.defaultdict(Row), 0
+    for variant, some in by_variant.items():
+        wrong += measure(variant, some, given, rows)
+    places = [0, 1] if OTHER else [0]
+    heads = [f"{name + ', s':>9} {'longest':>9} {'unsolved':>8}" for name in ("vengine", "fairy")[: len(places)]]
+    print(f"{'moves':5} {'positions':>9} {' '.join(heads)}{'    ratio' if OTHER else ''}")
+    for least in sorted(rows):
+        print(f"{least:5} {rows[least].text(places)}")
+    if wrong:
+        sys.exit(f"mates: {wrong} went wrong")
+
+
+main()

@@ -1,0 +1,143 @@
+//! The attacker's last move, which wins by what it does itself and by no reply to it.
+ghost use Rattle.std.specs.Prelude.{◌≡◌, true, false, None, Some, IfSome};
+ghost use Rattle.foundation.specs.Member.{Member, Lists};
+ghost use Rattle.forced_wins.specs.Facts as Facts;
+ghost use Rattle.mate_core.specs.Runs.{IsTrueIn};
+ghost use Rattle.mate_fact.specs.InFrame as In;
+ghost use Rattle.mate_settle.specs.Known.{Answers};
+ghost use Rattle.mate_settle.specs.LastMoves as Last;
+ghost use Rattle.rules_model.specs.declared.moves.Move.{Move};
+ghost use Rattle.rules_model.specs.Next.{next};
+ghost use Rattle.rules_model.specs.Sides.{same_side};
+
+use mate_core::{Fact, Frame};
+use mate_fact::{refuted_by_all_within, won_by};
+use playing::Board;
+use rules_model::{Move, Position, Rules, Value, repeat_of};
+
+fn is_win(value: Value) -> bool
+    ensures { result ≡ Last.is_win value }
+{
+    match value {
+        Value::Win => true,
+        Value::Loss => false,
+        Value::Draw => false,
+    }
+}
+
+fn is_loss(value: Value) -> bool
+    ensures { result ≡ Last.is_loss value }
+{
+    match value {
+        Value::Win => false,
+        Value::Loss => true,
+        Value::Draw => false,
+    }
+}
+
+fn is_won(end: Option<bool>) -> bool
+    ensures { result ≡ Last.is_won end }
+{
+    match end {
+        Some(won) => won,
+        None => false,
+    }
+}
+
+/// Whether no side wins by having no move or by extinction, so that what a side does never makes the other one win.
+#[tactic(auto, unfolding(crate::specs::LastMoves::only_movers_win))]
+pub(crate) fn only_movers_win(rules: &Rules) -> bool
+    ensures { result ≡ Last.only_movers_win rules.now }
+{
+    rules.extinction.is_none() && (!is_win(rules.checkmate) && !is_win(rules.stalemate))
+}
+
+/// Whether besides no move wins at once that does not attack the king.
+#[tactic(auto, unfolding(crate::specs::LastMoves::only_checks_win))]
+fn only_checks_win(rules: &Rules) -> bool
+    ensures { result ≡ Last.only_checks_win rules.now }
+{
+    only_movers_win(rules) && (rules.flag_kind.is_none() && !is_loss(rules.stalemate))
+}
+
+/// Whether the attacker, who has no move left, wins the position, where the other side is to move.
+fn wins_at_once(frame: &Frame, board: &Board) -> bool
+    requires rules { board.now.rules ≡ frame.now.rules }
+    requires movers { Last.only_movers_win frame.now.rules ≡ true }
+    requires turn { same_side board.now.position.side frame.now.attacker ≡ false }
+    ensures { result ≡ In.near_in frame.now 0 board.now.position }
+{
+    if is_loss(frame.rules.stalemate) || board.in_check() {
+        return is_won(won_by(frame.attacker, board.own_end()));
+    }
+    is_won(won_by(frame.attacker, board.early_end()))
+}
+
+/// Whether the attacker's move wins at once. Where only checks do, no other move is made.
+fn wins_by(frame: &Frame, board: &Board, m: &Move, checks: bool) -> bool
+    requires rules { board.now.rules ≡ frame.now.rules }
+    requires movers { Last.only_movers_win frame.now.rules ≡ true }
+    requires checks { checks ≡ Last.only_checks_win frame.now.rules }
+    requires attack { In.IsAttackIn frame.now board.now.position }
+    requires legal { Member m.now (In.legal_in frame.now board.now.position) }
+    ensures { result ≡ In.near_in frame.now 0 (next frame.now.rules board.now.position m.now) }
+{
+    if checks && !board.gives_check(m) {
+        return false;
+    }
+    let next = board.after(m);
+    wins_at_once(frame, &next)
+}
+
+/// A move that wins at once, if there is one among these.
+fn winning_move(frame: &Frame, board: &Board, moves: &[Move]) -> Option<Move>
+    requires rules { board.now.rules ≡ frame.now.rules }
+    requires movers { Last.only_movers_win frame.now.rules ≡ true }
+    requires attack { In.IsAttackIn frame.now board.now.position }
+    requires legal { (m : Move) → Member m moves.now → Member m (In.legal_in frame.now board.now.position) }
+    ensures listed { IfSome result (λ m. Member m moves.now) }
+    ensures wins { IfSome result (λ m. In.near_in frame.now 0 (next frame.now.rules board.now.position m) ≡ true) }
+    ensures none { result ≡ None → (m : Move) → Member m moves.now →
+        In.near_in frame.now 0 (next frame.now.rules board.now.position m) ≡ false }
+{
+    let checks = only_checks_win(&frame.rules);
+    for i in 0..moves.len() {
+        let chosen = moves[i];
+        if wins_by(frame, board, &chosen, checks) {
+            return Some(chosen);
+        }
+    }
+    None
+}
+
+/// The win of a position within one move, by this one.
+fn win_in_one(frame: &Frame, p: &Position, m: Move) -> Fact
+    requires { In.near_in frame.now 1 p.now ≡ true }
+    ensures is { result ≡ Facts.fact_of p.now frame.now.attacker 1 (Some m) true }
+    ensures truth { IsTrueIn frame.now result }
+{
+    Fact {
+        repeat: repeat_of(p),
+        attacker: frame.attacker,
+        moves: 1,
+        counter: p.counter,
+        best: Some(m),
+        wins: true,
+    }
+}
+
+/// Whether the attacker wins by his last move, which is one of these: a true fact that says it.
+pub(crate) fn by_last_move(frame: &Frame, board: &Board, moves: &[Move]) -> Fact
+    requires rules { board.now.rules ≡ frame.now.rules }
+    requires movers { Last.only_movers_win frame.now.rules ≡ true }
+    requires attack { In.IsAttackIn frame.now board.now.position }
+    requires moves { Lists (λ m. Member m (In.legal_in frame.now board.now.position)) moves.now }
+    ensures serves { Answers board.now 1 result }
+    ensures truth { IsTrueIn frame.now result }
+{
+    let p = board.position();
+    match winning_move(frame, board, moves) {
+        Some(chosen) => win_in_one(frame, p, chosen),
+        None => refuted_by_all_within(frame, p, 0),
+    }
+}
