@@ -1,13 +1,14 @@
 #!/usr/bin/env python3
 """Plays a match between two UCI engines, with Vengine's own commands as the arbiter.
 
-Usage: bench/match.py FIRST SECOND [--variant NAME] [--games N] [--movetime MS | --clock MS+MS] [--plies N] [--seed N]
+Usage: bench/match.py FIRST SECOND [--variant NAME] [--variants FILE] [--games N] [--movetime MS | --clock MS+MS] [--plies N] [--seed N]
 
 FIRST and SECOND are the commands of two engines, as `./vengine` or `/usr/games/fairy-stockfish`. By default they play 100 games of
 chess with `go movetime 100`; `--clock 60000+600` gives each side a clock by the wall, with an increment. Each pair of games begins
-with the same four random moves, and colours change. After each move `status` says how the game stands; a move that `moves` does not
+with the same four random moves, and colours change. Both engines are given the file of variants by their option VariantPath. After each move `status` says how the game stands; a move that `moves` does not
 list loses, and so does a move that comes later than its time and a tenth of a second, or not within 20 seconds. Prints a line for
-each game that did not end by the rules, and then the result, the causes of the ends, and the slowest move of each engine.
+each game that did not end by the rules, and then the result, the causes of the ends, the number of moves, and the slowest move of each
+engine. VENGINE=FILE names another arbiter than `vengine`.
 """
 import argparse
 import collections
@@ -21,7 +22,7 @@ import threading
 import time
 
 TOP = os.path.join(os.path.dirname(os.path.abspath(__file__)), "..")
-ARBITER = os.path.join(TOP, "vengine")
+ARBITER = [os.environ.get("VENGINE", os.path.join(TOP, "vengine"))]
 GRACE = 0.1
 HANGS = 20.0
 
@@ -29,7 +30,7 @@ HANGS = 20.0
 def ask(command, variant, played):
     """What the arbiter prints of a game."""
     text = f"{variant}\nstartpos\n{' '.join(played)}\n"
-    done = subprocess.run([ARBITER, command], input=text, capture_output=True, text=True)
+    done = subprocess.run([*ARBITER, command], input=text, capture_output=True, text=True)
     if done.returncode != 0:
         sys.exit(f"match: {command} of {variant} after {' '.join(played)}: {done.stdout}")
     return done.stdout.splitlines()
@@ -38,13 +39,15 @@ def ask(command, variant, played):
 class Engine:
     """A UCI engine in a process of its own; a thread takes its lines with the times at which they came."""
 
-    def __init__(self, command, variant):
+    def __init__(self, command, variant, path):
         self.process = subprocess.Popen(shlex.split(command), stdin=subprocess.PIPE, stdout=subprocess.PIPE, text=True, bufsize=1)
         self.lines = queue.Queue()
-        self.slowest = 0.0
+        self.slowest, self.moves = 0.0, 0
         threading.Thread(target=self.take, daemon=True).start()
         self.say("uci")
         self.wait_for("uciok", HANGS)
+        if path:
+            self.say(f"setoption name VariantPath value {path}")
         self.say(f"setoption name UCI_Variant value {variant}")
         self.ready()
 
@@ -88,7 +91,7 @@ class Engine:
         if line is None:
             return None, "hangs"
         took = at - begun
-        self.slowest = max(self.slowest, took)
+        self.slowest, self.moves = max(self.slowest, took), self.moves + 1
         if took > limit + GRACE:
             return None, f"loses on time, {took:.2f} s"
         return line.split()[1], took
@@ -163,6 +166,7 @@ def main():
     parser.add_argument("first")
     parser.add_argument("second")
     parser.add_argument("--variant", default="chess")
+    parser.add_argument("--variants", type=os.path.abspath)
     parser.add_argument("--games", type=int, default=100)
     parser.add_argument("--movetime", type=int, default=100)
     parser.add_argument("--clock")
@@ -170,7 +174,9 @@ def main():
     parser.add_argument("--seed", type=int, default=1)
     given = parser.parse_args()
     chance = random.Random(given.seed)
-    engines = [Engine(given.first, given.variant), Engine(given.second, given.variant)]
+    if given.variants:
+        ARBITER.extend(["--variants", given.variants])
+    engines = [Engine(command, given.variant, given.variants) for command in (given.first, given.second)]
     counts, causes, start = collections.Counter(), collections.Counter(), []
     for game in range(given.games):
         if game % 2 == 0:
@@ -183,7 +189,7 @@ def main():
         engine.close()
     print(f"{given.variant}: the first won {counts[1]}, lost {counts[-1]}, drew {counts[0]}")
     print("ends: " + ", ".join(f"{cause} {count}" for cause, count in sorted(causes.items())))
-    print("slowest moves: " + ", ".join(f"{engine.slowest:.2f} s" for engine in engines))
+    print("slowest moves: " + ", ".join(f"{engine.slowest:.2f} s of {engine.moves}" for engine in engines))
     sys.exit(1 if causes["fault"] else 0)
 
 
