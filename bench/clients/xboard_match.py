@@ -3,10 +3,12 @@
 
 Usage: bench/clients/xboard_match.py [--opponent NAME] [VARIANT:GAMES ..]     (chess:4 crazyhouse:2 capablanca:2 by default)
 
-The opponent is fairy-stockfish, gnuchess or sjaakii, each Debian's package of that name; fairy-stockfish by default. Wants it, xboard and
-xvfb; what is missing is named, and nothing is played. XBoard runs under a virtual display with `-mg`. Its debug file has each line between it and Vengine, so the moves of a game are those that Vengine was sent and
-answered. For each game it prints XBoard's result beside what `status` says after these moves, and each line with which Vengine refused
-something. It ends with 1 where a result that the rules decide differs, or where Vengine called an opponent's move illegal.
+The opponent is fairy-stockfish, gnuchess or sjaakii, each Debian's package of that name, or vengine; fairy-stockfish by default. Wants
+it, xboard and xvfb; what is missing is named, and nothing is played. A variant that XBoard does not know is played by Vengine against
+itself, under the name `fairy` or that of a board's size, by a file of one section. XBoard runs under a virtual display with `-mg`. Its
+debug file has each line between it and Vengine, so the moves of a game are those that Vengine was sent and answered. For each game it
+prints XBoard's result beside what `status` says after these moves, and each line with which Vengine refused something. It ends with 1
+where a result that the rules decide differs, or where Vengine called an opponent's move illegal.
 """
 import argparse
 import os
@@ -20,14 +22,32 @@ import time
 from client_log import PATH, VENGINE, ask, is_missing, result_of
 
 LONGEST = 1200
-OF_XBOARD = {"chess": "normal"}
-OPPONENTS = {"fairy-stockfish": "fairy-stockfish", "gnuchess": "gnuchess --xboard", "sjaakii": "sjaakii"}
+OF_XBOARD = {"chess": "normal", "kingofthehill": "fairy", "antichess": "fairy", "extinction": "fairy", "losalamos": "6x6+0_fairy"}
+OPPONENTS = {"fairy-stockfish": "fairy-stockfish", "gnuchess": "gnuchess --xboard", "sjaakii": "sjaakii", "vengine": ""}
+
+
+def commands(opponent, variant, folder):
+    """What starts both engines, and the words by which XBoard takes the variant."""
+    name = OF_XBOARD.get(variant, variant)
+    if not name.endswith("fairy"):
+        return f"{VENGINE} xboard", OPPONENTS[opponent] or f"{VENGINE} xboard", ["-variant", name]
+    with open(f"{folder}/one.ini", "w") as file:
+        file.write(f"[{name}:{variant}]\n")
+    with open(f"{folder}/start.fen", "w") as file:
+        file.write(ask("status", variant, "startpos", [])[1] + "\n")
+    words = ["-variant", "fairy", "-lpf", f"{folder}/start.fen", "-testLegality", "false"]
+    if name != "fairy":
+        files, ranks = name.partition("+")[0].split("x")
+        words += ["-boardWidth", files, "-boardHeight", ranks]
+    engine = f"{VENGINE} --variants {folder}/one.ini xboard"
+    return engine, engine, words
 
 
 def play(opponent, variant, games, folder):
     """Runs a match, and returns XBoard's results and the lines of its debug file."""
-    words = ["xvfb-run", "-a", "xboard", "-noGUI", "-fcp", f"{VENGINE} xboard", "-scp", OPPONENTS[opponent], "-fd", folder, "-sd", folder,
-             "-variant", OF_XBOARD.get(variant, variant), "-mg", str(games), "-tc", "0:20", "-inc", "0", "-xponder",
+    first, second, rules = commands(opponent, variant, folder)
+    words = ["xvfb-run", "-a", "xboard", "-noGUI", "-fcp", first, "-scp", second, "-fd", folder, "-sd", folder,
+             *rules, "-mg", str(games), "-tc", "0:20", "-inc", "0", "-xponder",
              "-soundProgram", "true", "-sgf", f"{folder}/games.pgn", "-debug", "-nameOfDebugFile", f"{folder}/debug.log"]
     with open(f"{folder}/said.log", "w") as said:
         match = subprocess.Popen(words, stdout=said, stderr=said, env={**os.environ, "PATH": PATH}, start_new_session=True)
@@ -66,7 +86,7 @@ def main():
     parser.add_argument("--opponent", choices=OPPONENTS, default="fairy-stockfish")
     parser.add_argument("matches", nargs="*", default=["chess:4", "crazyhouse:2", "capablanca:2"])
     given = parser.parse_args()
-    if is_missing("xboard_match", "xboard", "xvfb-run", given.opponent):
+    if is_missing("xboard_match", "xboard", "xvfb-run", (OPPONENTS[given.opponent] or "xboard").split()[0]):
         return 0
     faults = 0
     for variant, games in (word.split(":") for word in given.matches):
