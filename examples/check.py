@@ -5,8 +5,8 @@ Usage: examples/check.py [PROGRAM]      (../vengine by default)
 
 Beside NAME.ini lies NAME.txt. A line `$ WORDS` in it is a run with `--variants NAME.ini WORDS`, the lines `> TEXT`
 after it are its input, and the other lines are what it prints. A line `% WORDS` is a search: a session with that file is
-given the variant, the position and the moves of the lines `> TEXT` after it, and `go WORDS`; it prints what is said of the search,
-and then what `check`, without the file, says of the strategy. Each file has both, and each prints what it should, and so
+given the variant, the position and the moves of the lines `> TEXT` after it, and `go WORDS`; it prints what is said of mates, without
+the move that comes first, since several may do, and then what `check`, without the file, says of the strategy. Each file has both, and each prints what it should, and so
 does each text of FILE_FAULTS; else the status is 1.
 """
 import glob
@@ -71,7 +71,8 @@ def searched(program, path, words, text):
     strategy = session.ask("strategy", ("end\n", "info string no strategy"))
     session.close()
     checked = subprocess.run([program, "check"], input="".join(strategy).encode(), capture_output=True)
-    return "".join(said) + checked.stdout.decode()
+    mates = [line.split(" pv ")[0].strip() + "\n" for line in said if " mate " in line]
+    return "".join(mates) + checked.stdout.decode()
 
 
 def runs(path):
