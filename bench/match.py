@@ -2,13 +2,15 @@
 """Plays a match between two UCI engines, with Vengine's own commands as the arbiter.
 
 Usage: bench/match.py FIRST SECOND [--variant NAME] [--variants FILE] [--games N] [--movetime MS | --clock MS+MS] [--plies N] [--seed N]
+                      [--grace MS]
 
 FIRST and SECOND are the commands of two engines, as `./vengine` or `/usr/games/fairy-stockfish`. By default they play 100 games of
 chess with `go movetime 100`; `--clock 60000+600` gives each side a clock by the wall, with an increment. Each pair of games begins
 with the same four random moves, and colours change. Both engines are given the file of variants by their option VariantPath. After each move `status` says how the game stands; a move that `moves` does not
-list loses, and so does a move that comes later than its time and a tenth of a second, or not within 20 seconds. Prints a line for
-each game that did not end by the rules, and then the result, the causes of the ends, the number of moves, and the slowest move of each
-engine. VENGINE=FILE names another arbiter than `vengine`.
+list loses, and so does a move that comes later than its time and the grace, a tenth of a second, or not within 20 seconds; on a machine
+that does much else give more. Prints a line for each game that did not end by the rules, and then the result, the causes of the ends,
+and for each engine its slowest move, how many it made, and how many of them came more than a tenth of a second after their time.
+VENGINE=FILE names another arbiter than `vengine`.
 """
 import argparse
 import collections
@@ -23,7 +25,7 @@ import time
 
 TOP = os.path.join(os.path.dirname(os.path.abspath(__file__)), "..")
 ARBITER = [os.environ.get("VENGINE", os.path.join(TOP, "vengine"))]
-GRACE = 0.1
+LATE = 0.1
 HANGS = 20.0
 
 
@@ -39,10 +41,10 @@ def ask(command, variant, played):
 class Engine:
     """A UCI engine in a process of its own; a thread takes its lines with the times at which they came."""
 
-    def __init__(self, command, variant, path):
+    def __init__(self, command, variant, path, grace):
         self.process = subprocess.Popen(shlex.split(command), stdin=subprocess.PIPE, stdout=subprocess.PIPE, text=True, bufsize=1)
         self.lines = queue.Queue()
-        self.slowest, self.moves = 0.0, 0
+        self.grace, self.slowest, self.moves, self.late = grace, 0.0, 0, 0
         threading.Thread(target=self.take, daemon=True).start()
         self.say("uci")
         self.wait_for("uciok", HANGS)
@@ -91,8 +93,8 @@ class Engine:
         if line is None:
             return None, "hangs"
         took = at - begun
-        self.slowest, self.moves = max(self.slowest, took), self.moves + 1
-        if took > limit + GRACE:
+        self.slowest, self.moves, self.late = max(self.slowest, took), self.moves + 1, self.late + (took > limit + LATE)
+        if took > limit + self.grace:
             return None, f"loses on time, {took:.2f} s"
         return line.split()[1], took
 
@@ -172,11 +174,12 @@ def main():
     parser.add_argument("--clock")
     parser.add_argument("--plies", type=int, default=400)
     parser.add_argument("--seed", type=int, default=1)
+    parser.add_argument("--grace", type=int, default=100)
     given = parser.parse_args()
     chance = random.Random(given.seed)
     if given.variants:
         ARBITER.extend(["--variants", given.variants])
-    engines = [Engine(command, given.variant, given.variants) for command in (given.first, given.second)]
+    engines = [Engine(command, given.variant, given.variants, given.grace / 1000) for command in (given.first, given.second)]
     counts, causes, start = collections.Counter(), collections.Counter(), []
     for game in range(given.games):
         if game % 2 == 0:
@@ -189,7 +192,7 @@ def main():
         engine.close()
     print(f"{given.variant}: the first won {counts[1]}, lost {counts[-1]}, drew {counts[0]}")
     print("ends: " + ", ".join(f"{cause} {count}" for cause, count in sorted(causes.items())))
-    print("slowest moves: " + ", ".join(f"{engine.slowest:.2f} s of {engine.moves}" for engine in engines))
+    print("slowest moves: " + ", ".join(f"{engine.slowest:.2f} s of {engine.moves}, {engine.late} late" for engine in engines))
     sys.exit(1 if causes["fault"] else 0)
 
 

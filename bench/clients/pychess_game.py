@@ -1,7 +1,7 @@
 #!/usr/bin/env python3
 """Has PyChess play games of Vengine against itself, while a third Vengine analyses them, and compares what came of them with `status`.
 
-Usage: bench/clients/pychess_game.py [--seconds N] [VARIANT ..]     (10 seconds a side; VENGINE=FILE names another program)
+Usage: bench/clients/pychess_game.py [--seconds N] [VARIANT ..]     (60 seconds a side; VENGINE=FILE names another program)
 
 Wants Debian's packages pychess and xvfb; what is missing is named, and nothing is played. By default a game is played of each variant
 that PyChess and Vengine both have: chess, crazyhouse, 3check, kingofthehill and seirawan. PyChess runs under a virtual display, with a
@@ -24,7 +24,7 @@ import time
 
 from client_log import PATH, ask, is_missing, report, result_of, sessions_of, write_engine
 
-LONGEST = 240
+LONGEST = 600
 OF_PYCHESS = {"chess": "normal"}
 DRIVER = """
 import sys, threading, time
@@ -34,6 +34,7 @@ def begin():
     from pychess.Players.engineNest import discoverer
     from pychess.Utils.GameModel import GameModel
     from pychess.Utils.TimeModel import TimeModel
+    from pychess.Utils import const
     from pychess.Utils.const import ARTIFICIAL, BLACK, WHITE, reprResult
     from pychess.Variants import variants
     from pychess.compat import create_task
@@ -44,7 +45,8 @@ def begin():
     engine = discoverer.getEngineByName("Vengine")
     players = [(ARTIFICIAL, discoverer.initPlayerEngine, [engine, color, 20, variant, {seconds}, 0, 0, True], "Vengine")
                for color in (WHITE, BLACK)]
-    model.connect("game_ended", lambda model, reason: print("RESULT", reprResult[model.status], reason, flush=True))
+    names = {{number: name for name, number in vars(const).items() if name.startswith(("DRAW_", "WON_"))}}
+    model.connect("game_ended", lambda model, reason: print("RESULT", reprResult[model.status], names.get(reason, reason), flush=True))
     perspective_manager.activate_perspective("games")
     create_task(perspective_manager.get_perspective("games").generalStart(model, *players))
 
@@ -118,7 +120,7 @@ def game_of(sessions):
 
 def main():
     parser = argparse.ArgumentParser(description=__doc__, formatter_class=argparse.RawDescriptionHelpFormatter)
-    parser.add_argument("--seconds", type=int, default=10)
+    parser.add_argument("--seconds", type=int, default=60)
     parser.add_argument("variants", nargs="*", default=["chess", "crazyhouse", "3check", "kingofthehill", "seirawan"])
     given = parser.parse_args()
     if is_missing("pychess_game", "pychess", "xvfb-run"):
@@ -134,7 +136,7 @@ def main():
         differs = found is None or result_of(state) not in (None, found.group(1))
         faults += differs
         print(f"pychess, {variant}: {found.group(1) if found else 'no end'} after {len(moves)} plies"
-              f" (reason {found.group(2) if found else '-'}); status: {state}{' DIFFERS' if differs else ''}")
+              f" ({found.group(2) if found else '-'}); status: {state}{' DIFFERS' if differs else ''}")
         faults += report(f"pychess, {variant}", sessions, searches=3)
     return 1 if faults else 0
 

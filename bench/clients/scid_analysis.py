@@ -33,10 +33,14 @@ set ::steps {{
         ::show "the engine window" .engineWin$::id.display.pv.lines
         ::enginewin::stop $::id
     }}
-    {{ expr {{$::enginewin::engState($::id) eq "idle"}} }} {{ destroy .engineWin$::id; makeAnalysisWin 1 0 1 }}
-    {{ ::has_text .analysisWin1.text }} {{ ::play Nc6 }}
-    {{ ::has_text .analysisWin1.text }} {{
-        ::show "the analysis window" .analysisWin1.text
+    {{ expr {{$::enginewin::engState($::id) eq "idle"}} }} {{
+        destroy .engineWin$::id
+        if {{![winfo exists .analysisWin1]}} {{ makeAnalysisWin 1 0 0 }}
+    }}
+    {{ winfo exists .analysisWin1 }} {{ startEngineAnalysis 1 }}
+    {{ ::has_text .analysisWin1.hist.text }} {{ ::play Nc6 }}
+    {{ ::has_text .analysisWin1.hist.text }} {{
+        ::show "the analysis window" .analysisWin1.hist.text
         stopEngineAnalysis 1
     }}
     {{ expr 1 }} {{ destroy .analysisWin1 }}
