@@ -6,7 +6,8 @@ Usage: bench/pages.py [PAGE ..]     (README.md and each page of docs/ by default
 A command is a line `$ COMMAND` of a block that is indented by four spaces or fenced; it goes on after a backslash, and to the end of a
 here-document. The lines up to the next command or the end of the block are what it prints, both streams together. The commands of a page
 run in turn, in one new folder that has `vengine`, `examples` and `crates`, with `vengine` in the path; a command has 60 seconds. Blocks
-without a `$` are not run. Prints each difference and the number of commands of each page; ends with 1 where there is one.
+without a `$` are not run. VENGINE=FILE names another program. Prints each difference and the number of commands of each page, and ends
+with 1 where there is a difference.
 """
 import glob
 import os
@@ -16,6 +17,7 @@ import sys
 import tempfile
 
 TOP = os.path.abspath(os.path.join(os.path.dirname(os.path.abspath(__file__)), ".."))
+PROGRAM = os.environ.get("VENGINE", os.path.join(TOP, "vengine"))
 LONGEST = 60
 # What needs another machine or the registry of the system.
 ELSEWHERE = re.compile(r"\b(apt-get|ssh|scp|xboard_match|polyglot_game|pychess_game|scid_analysis)\b|fairy-stockfish|Fairy-Stockfish")
@@ -38,6 +40,8 @@ def blocks(path):
                     found.append([])
                 inside = True
                 found[-1].append(line[4:])
+            elif line == "" and inside:
+                found[-1].append(line)
             else:
                 inside = False
     return found
@@ -76,7 +80,8 @@ def main():
     for page in sys.argv[1:] or ["README.md", *sorted(glob.glob("docs/*.md"))]:
         ran = skipped = 0
         with tempfile.TemporaryDirectory() as folder:
-            for name in ("vengine", "examples", "crates", "bench", "docs"):
+            os.symlink(PROGRAM, os.path.join(folder, "vengine"))
+            for name in ("examples", "crates", "bench", "docs"):
                 os.symlink(os.path.join(TOP, name), os.path.join(folder, name))
             for text, wanted in (pair for block in blocks(page) for pair in commands(block)):
                 if ELSEWHERE.search(text):
@@ -84,7 +89,9 @@ def main():
                     continue
                 ran += 1
                 got = run(text, folder)
-                if got != [line.rstrip() for line in wanted]:
+                while wanted and not wanted[-1]:
+                    wanted.pop()
+                if got != wanted:
                     faults += 1
                     print(f"{page}: $ {text}", "-- the page", *wanted, "-- printed", *got[:40], sep="\n", flush=True)
         if ran or skipped:
