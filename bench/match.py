@@ -8,8 +8,9 @@ FIRST and SECOND are the commands of two engines, as `./vengine` or `/usr/games/
 chess with `go movetime 100`; `--clock 60000+600` gives each side a clock by the wall, with an increment. Each pair of games begins
 with the same four random moves, and colours change. Both engines are given the file of variants by their option VariantPath. After each move `status` says how the game stands; a move that `moves` does not
 list loses, and so does a move that comes later than its time and the grace, a tenth of a second, or not within 20 seconds; on a machine
-that does much else give more. Prints a line for each game that did not end by the rules, and then the result, the causes of the ends,
-and for each engine its slowest move, how many it made, and how many of them came more than a tenth of a second after their time.
+that does much else give more. Prints a line for each game, and the moves of one that did not end by the rules; then the result, the
+causes of the ends, and for each engine its slowest move, how many it made, and how many of them came more than a tenth of a second after
+their time.
 VENGINE=FILE names another arbiter than `vengine`.
 """
 import argparse
@@ -140,16 +141,16 @@ class Clocks:
 
 
 def play(variant, pair, start, given):
-    """The result for White, 1, 0 or -1, and its cause; the pair has White first."""
+    """The result for White, 1, 0 or -1, its cause, and how many plies were played; the pair has White first."""
     played, clocks = start[:], Clocks(given)
     for engine in pair:
         engine.new_game()
     while len(played) < given.plies:
         state = ask("status", variant, played)[0].split()
         if state[0] == "won":
-            return (1 if state[1] == "white" else -1), state[2]
+            return (1 if state[1] == "white" else -1), state[2], len(played)
         if state[0] == "drawn":
-            return 0, state[1]
+            return 0, state[1], len(played)
         side = len(played) % 2
         text, took = pair[side].move(played, clocks.go(), clocks.limit(side))
         fault = took if text is None else None
@@ -157,10 +158,10 @@ def play(variant, pair, start, given):
             fault = f"plays {text}, which is not legal"
         if fault:
             print(f"{'white' if side == 0 else 'black'} {fault} after {' '.join(played)}", flush=True)
-            return (-1 if side == 0 else 1), "fault"
+            return (-1 if side == 0 else 1), "fault", len(played)
         clocks.spend(side, took)
         played.append(text)
-    return 0, "length"
+    return 0, "length", len(played)
 
 
 def main():
@@ -185,7 +186,8 @@ def main():
         if game % 2 == 0:
             start = opening(given.variant, chance)
         is_first_white = game % 2 == 0
-        value, cause = play(given.variant, engines if is_first_white else engines[::-1], start, given)
+        value, cause, plies = play(given.variant, engines if is_first_white else engines[::-1], start, given)
+        print(f"{game + 1}: {('0-1', '1/2-1/2', '1-0')[value + 1]} {cause} after {plies} plies", flush=True)
         counts[value if is_first_white else -value] += 1
         causes[cause] += 1
     for engine in engines:
