@@ -23,7 +23,7 @@ from client_log import PATH, VENGINE, ask, is_missing, result_of
 
 LONGEST = 1200
 OF_XBOARD = {"chess": "normal", "kingofthehill": "fairy", "antichess": "fairy", "extinction": "fairy", "losalamos": "6x6+0_fairy"}
-OPPONENTS = {"fairy-stockfish": "fairy-stockfish", "gnuchess": "gnuchess --xboard", "sjaakii": "sjaakii", "vengine": ""}
+OPPONENTS = {"fairy-stockfish": "fairy-stockfish", "gnuchess": "gnuchessx", "sjaakii": "sjaakii", "vengine": ""}
 
 
 def commands(opponent, variant, folder):
