@@ -1,13 +1,17 @@
 #!/usr/bin/env python3
 """Plays a match between two UCI engines, with Vengine's own commands as the arbiter.
 
-Usage: bench/match.py FIRST SECOND [--variant NAME] [--games N] [--movetime MS | --clock MS+MS] [--plies N] [--seed N]
+Usage: bench/match.py FIRST SECOND [--variant NAME] [--variants FILE] [--games N] [--movetime MS | --clock MS+MS] [--plies N] [--seed N]
+                      [--grace MS]
 
 FIRST and SECOND are the commands of two engines, as `./vengine` or `/usr/games/fairy-stockfish`. By default they play 100 games of
 chess with `go movetime 100`; `--clock 60000+600` gives each side a clock by the wall, with an increment. Each pair of games begins
-with the same four random moves, and colours change. After each move `status` says how the game stands; a move that `moves` does not
-list loses, and so does a move that comes later than its time and a tenth of a second, or not within 20 seconds. Prints a line for
-each game that did not end by the rules, and then the result, the causes of the ends, and the slowest move of each engine.
+with the same four random moves, and colours change. Both engines are given the file of variants by their option VariantPath. After each move `status` says how the game stands; a move that `moves` does not
+list loses, and so does a move that comes later than its time and the grace, a tenth of a second, or not within 20 seconds; on a machine
+that does much else give more. Prints a line for each game, and the moves of one that did not end by the rules; then the result, the
+causes of the ends, and for each engine its slowest move, how many it made, and how many of them came more than a tenth of a second after
+their time.
+VENGINE=FILE names another arbiter than `vengine`.
 """
 import argparse
 import collections
@@ -21,15 +25,15 @@ import threading
 import time
 
 TOP = os.path.join(os.path.dirname(os.path.abspath(__file__)), "..")
-ARBITER = os.path.join(TOP, "vengine")
-GRACE = 0.1
+ARBITER = [os.environ.get("VENGINE", os.path.join(TOP, "vengine"))]
+LATE = 0.1
 HANGS = 20.0
 
 
 def ask(command, variant, played):
     """What the arbiter prints of a game."""
     text = f"{variant}\nstartpos\n{' '.join(played)}\n"
-    done = subprocess.run([ARBITER, command], input=text, capture_output=True, text=True)
+    done = subprocess.run([*ARBITER, command], input=text, capture_output=True, text=True)
     if done.returncode != 0:
         sys.exit(f"match: {command} of {variant} after {' '.join(played)}: {done.stdout}")
     return done.stdout.splitlines()
@@ -38,13 +42,15 @@ def ask(command, variant, played):
 class Engine:
     """A UCI engine in a process of its own; a thread takes its lines with the times at which they came."""
 
-    def __init__(self, command, variant):
+    def __init__(self, command, variant, path, grace):
         self.process = subprocess.Popen(shlex.split(command), stdin=subprocess.PIPE, stdout=subprocess.PIPE, text=True, bufsize=1)
         self.lines = queue.Queue()
-        self.slowest = 0.0
+        self.grace, self.slowest, self.moves, self.late = grace, 0.0, 0, 0
         threading.Thread(target=self.take, daemon=True).start()
         self.say("uci")
         self.wait_for("uciok", HANGS)
+        if path:
+            self.say(f"setoption name VariantPath value {path}")
         self.say(f"setoption name UCI_Variant value {variant}")
         self.ready()
 
@@ -88,8 +94,8 @@ class Engine:
         if line is None:
             return None, "hangs"
         took = at - begun
-        self.slowest = max(self.slowest, took)
-        if took > limit + GRACE:
+        self.slowest, self.moves, self.late = max(self.slowest, took), self.moves + 1, self.late + (took > limit + LATE)
+        if took > limit + self.grace:
             return None, f"loses on time, {took:.2f} s"
         return line.split()[1], took
 
@@ -135,16 +141,16 @@ class Clocks:
 
 
 def play(variant, pair, start, given):
-    """The result for White, 1, 0 or -1, and its cause; the pair has White first."""
+    """The result for White, 1, 0 or -1, its cause, and how many plies were played; the pair has White first."""
     played, clocks = start[:], Clocks(given)
     for engine in pair:
         engine.new_game()
     while len(played) < given.plies:
         state = ask("status", variant, played)[0].split()
         if state[0] == "won":
-            return (1 if state[1] == "white" else -1), state[2]
+            return (1 if state[1] == "white" else -1), state[2], len(played)
         if state[0] == "drawn":
-            return 0, state[1]
+            return 0, state[1], len(played)
         side = len(played) % 2
         text, took = pair[side].move(played, clocks.go(), clocks.limit(side))
         fault = took if text is None else None
@@ -152,10 +158,10 @@ def play(variant, pair, start, given):
             fault = f"plays {text}, which is not legal"
         if fault:
             print(f"{'white' if side == 0 else 'black'} {fault} after {' '.join(played)}", flush=True)
-            return (-1 if side == 0 else 1), "fault"
+            return (-1 if side == 0 else 1), "fault", len(played)
         clocks.spend(side, took)
         played.append(text)
-    return 0, "length"
+    return 0, "length", len(played)
 
 
 def main():
@@ -163,27 +169,32 @@ def main():
     parser.add_argument("first")
     parser.add_argument("second")
     parser.add_argument("--variant", default="chess")
+    parser.add_argument("--variants", type=os.path.abspath)
     parser.add_argument("--games", type=int, default=100)
     parser.add_argument("--movetime", type=int, default=100)
     parser.add_argument("--clock")
     parser.add_argument("--plies", type=int, default=400)
     parser.add_argument("--seed", type=int, default=1)
+    parser.add_argument("--grace", type=int, default=100)
     given = parser.parse_args()
     chance = random.Random(given.seed)
-    engines = [Engine(given.first, given.variant), Engine(given.second, given.variant)]
+    if given.variants:
+        ARBITER.extend(["--variants", given.variants])
+    engines = [Engine(command, given.variant, given.variants, given.grace / 1000) for command in (given.first, given.second)]
     counts, causes, start = collections.Counter(), collections.Counter(), []
     for game in range(given.games):
         if game % 2 == 0:
             start = opening(given.variant, chance)
         is_first_white = game % 2 == 0
-        value, cause = play(given.variant, engines if is_first_white else engines[::-1], start, given)
+        value, cause, plies = play(given.variant, engines if is_first_white else engines[::-1], start, given)
+        print(f"{game + 1}: {('0-1', '1/2-1/2', '1-0')[value + 1]} {cause} after {plies} plies", flush=True)
         counts[value if is_first_white else -value] += 1
         causes[cause] += 1
     for engine in engines:
         engine.close()
     print(f"{given.variant}: the first won {counts[1]}, lost {counts[-1]}, drew {counts[0]}")
     print("ends: " + ", ".join(f"{cause} {count}" for cause, count in sorted(causes.items())))
-    print("slowest moves: " + ", ".join(f"{engine.slowest:.2f} s" for engine in engines))
+    print("slowest moves: " + ", ".join(f"{engine.slowest:.2f} s of {engine.moves}, {engine.late} late" for engine in engines))
     sys.exit(1 if causes["fault"] else 0)
 
 

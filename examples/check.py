@@ -4,7 +4,9 @@
 Usage: examples/check.py [PROGRAM]      (../vengine by default)
 
 Beside NAME.ini lies NAME.txt. A line `$ WORDS` in it is a run with `--variants NAME.ini WORDS`, the lines `> TEXT`
-after it are its input, and the other lines are what it prints. Each file has both, and each prints what it should, and so
+after it are its input, and the other lines are what it prints. A line `% WORDS` is a search: a session with that file is
+given the variant, the position and the moves of the lines `> TEXT` after it, and `go WORDS`; it prints what is said of mates, without
+the move that comes first, since several may do, and then what `check`, without the file, says of the strategy. Each file has both, and each prints what it should, and so
 does each text of FILE_FAULTS; else the status is 1.
 """
 import glob
@@ -12,6 +14,8 @@ import os
 import subprocess
 import sys
 import tempfile
+
+LONGEST = 120
 
 HERE = os.path.dirname(os.path.abspath(__file__))
 
@@ -32,17 +36,56 @@ def answer(program, path, words, text):
     return done.stdout.decode()
 
 
+class Session:
+    """A session with a file of variants, whose answers are awaited line by line."""
+
+    def __init__(self, program, path):
+        # The session is killed where it takes too long, so that its lines end.
+        words = ["timeout", str(LONGEST), program, "--variants", path]
+        self.process = subprocess.Popen(words, stdin=subprocess.PIPE, stdout=subprocess.PIPE, text=True, bufsize=1)
+
+    def ask(self, line, last):
+        """The lines of the answer, up to one of those that may be the last; only their beginnings are compared."""
+        self.process.stdin.write(line + "\n")
+        said = []
+        while not (said and said[-1].startswith(last)):
+            heard = self.process.stdout.readline()
+            if not heard:
+                break
+            said.append(heard)
+        return said
+
+    def close(self):
+        self.process.stdin.close()
+        self.process.wait()
+
+
+def searched(program, path, words, text):
+    """What a session says of a search, and what is said of its strategy without the file of variants."""
+    variant, position, *moves = [line.strip() for line in text]
+    session = Session(program, path)
+    session.ask(f"setoption name UCI_Variant value {variant}\nisready", ("readyok",))
+    start = position if position == "startpos" else f"fen {position}"
+    session.ask(f"position {start} moves {' '.join(moves)}\nisready", ("readyok",))
+    said = session.ask(f"go {' '.join(words)}", ("bestmove",))
+    strategy = session.ask("strategy", ("end\n", "info string no strategy"))
+    session.close()
+    checked = subprocess.run([program, "check"], input="".join(strategy).encode(), capture_output=True)
+    mates = [line.split(" pv ")[0].strip() + "\n" for line in said if " mate " in line]
+    return "".join(mates) + checked.stdout.decode()
+
+
 def runs(path):
-    """The runs of a file: the words, the input and the lines that are printed."""
+    """The runs of a file: whether it is a search, the words, the input and the lines that are printed."""
     found = []
     with open(path) as file:
         for line in file:
-            if line.startswith("$ "):
-                found.append((line[2:].split(), [], []))
+            if line.startswith(("$ ", "% ")):
+                found.append((line.startswith("%"), line[2:].split(), [], []))
             elif line.startswith("> "):
-                found[-1][1].append(line[2:])
+                found[-1][2].append(line[2:])
             else:
-                found[-1][2].append(line)
+                found[-1][3].append(line)
     return found
 
 
@@ -60,8 +103,9 @@ def main():
     for path in sorted(glob.glob(os.path.join(HERE, "*.ini"))):
         listed = runs(path[:-4] + ".txt")
         judge(path, f"{len(listed) > 0}\n", "True\n")
-        for words, text, lines in listed:
-            judge(f"{path}: {words}", answer(program, path, words, "".join(text).encode()), "".join(lines))
+        for is_search, words, text, lines in listed:
+            got = searched(program, path, words, text) if is_search else answer(program, path, words, "".join(text).encode())
+            judge(f"{path}: {words}", got, "".join(lines))
     for text, fault in FILE_FAULTS:
         with tempfile.NamedTemporaryFile(suffix=".ini") as file:
             file.write(text)

@@ -20,15 +20,13 @@ import tempfile
 import threading
 import time
 
-TOP = os.path.abspath(os.path.join(os.path.dirname(os.path.abspath(__file__)), "..", ".."))
-VENGINE = os.path.join(TOP, "vengine")
-PATH = os.environ.get("PATH", "") + ":/usr/games"
+from client_log import PATH, VENGINE, ask, is_missing
+
 HANGS = 30.0
 
 
-def ask(command, played):
-    text = f"chess\nstartpos\n{' '.join(played)}\n"
-    return subprocess.run([VENGINE, command], input=text, capture_output=True, text=True).stdout.splitlines()
+def of_game(command, played):
+    return ask(command, "chess", "startpos", played)
 
 
 class Polyglot:
@@ -70,16 +68,16 @@ class Polyglot:
 def play(polyglot, plies, chance):
     """The moves of the game, and what went wrong in it or nothing."""
     played = []
-    while len(played) < plies and ask("status", played)[0] == "ongoing":
+    while len(played) < plies and of_game("status", played)[0] == "ongoing":
         if len(played) % 2 == 0:
-            move = chance.choice(ask("moves", played)[:-1])
+            move = chance.choice(of_game("moves", played)[:-1])
             polyglot.say(f"time 1000\notim 1000\nusermove {move}")
         else:
             found = polyglot.wait_for(r"move (\S+)")
             if found is None:
                 return played, "no move came"
             move = found.group(1)
-            if move not in ask("moves", played)[:-1]:
+            if move not in of_game("moves", played)[:-1]:
                 return played, f"{move} is not legal"
         played.append(move)
     return played, None
@@ -90,10 +88,9 @@ def main():
     parser.add_argument("--seed", type=int, default=1)
     parser.add_argument("--plies", type=int, default=200)
     given = parser.parse_args()
-    program = shutil.which("polyglot", path=PATH)
-    if program is None:
-        print("polyglot_game: skipped, for there is no polyglot")
+    if is_missing("polyglot_game", "polyglot"):
         return 0
+    program = shutil.which("polyglot", path=PATH)
     with tempfile.TemporaryDirectory() as folder:
         polyglot = Polyglot(program, folder)
         played, fault = play(polyglot, given.plies, random.Random(given.seed))
@@ -101,7 +98,7 @@ def main():
         polyglot.process.wait(timeout=HANGS)
         with open(f"{folder}/polyglot.log") as file:
             log = file.read()
-    print(f"polyglot: {len(played)} plies, {fault or ask('status', played)[0]}")
+    print(f"polyglot: {len(played)} plies, {fault or of_game('status', played)[0]}")
     sent = sorted(set(re.findall(r"Adapter->Engine: (\w+)", log)))
     print(f"polyglot sent the commands: {', '.join(sent)}")
     for line in re.findall(r"Engine->Adapter: (.*error.*)", log):

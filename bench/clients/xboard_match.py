@@ -1,37 +1,53 @@
 #!/usr/bin/env python3
-"""Has XBoard play matches between Vengine (CECP) and Fairy-Stockfish, and compares what came of them with `status`.
+"""Has XBoard play matches between Vengine (CECP) and another engine, and compares what came of them with `status`.
 
-Usage: bench/clients/xboard_match.py [VARIANT:GAMES ..]     (chess:4 crazyhouse:2 capablanca:2 by default)
+Usage: bench/clients/xboard_match.py [--opponent NAME] [VARIANT:GAMES ..]     (chess:4 crazyhouse:2 capablanca:2 by default)
 
-Wants Debian's packages xboard, xvfb and fairy-stockfish; what is missing is named, and nothing is played. XBoard runs under a virtual
-display with `-mg`. Its debug file has each line between it and Vengine, so the moves of a game are those that Vengine was sent and
-answered. For each game it prints XBoard's result beside what `status` says after these moves, and each line with which Vengine refused
-something. It ends with 1 where a result that the rules decide differs, or where Vengine called an opponent's move illegal.
+The opponent is fairy-stockfish, gnuchess or sjaakii, each Debian's package of that name, or vengine; fairy-stockfish by default. Wants
+it, xboard and xvfb; what is missing is named, and nothing is played. A variant that XBoard does not know is played by Vengine against
+itself, under the name `fairy` or that of a board's size, by a file of one section. XBoard runs under a virtual display with `-mg`. Its
+debug file has each line between it and Vengine, so the moves of a game are those that Vengine was sent and answered. For each game it
+prints XBoard's result beside what `status` says after these moves, and each line with which Vengine refused something. It ends with 1
+where a result that the rules decide differs, or where Vengine called an opponent's move illegal.
 """
+import argparse
 import os
 import re
-import shutil
 import signal
 import subprocess
 import sys
 import tempfile
 import time
 
-TOP = os.path.abspath(os.path.join(os.path.dirname(os.path.abspath(__file__)), "..", ".."))
-VENGINE = os.path.join(TOP, "vengine")
-PATH = os.environ.get("PATH", "") + ":/usr/games"
+from client_log import PATH, VENGINE, ask, is_missing, result_of
+
 LONGEST = 1200
-OF_XBOARD = {"chess": "normal"}
+OF_XBOARD = {"chess": "normal", "kingofthehill": "fairy", "antichess": "fairy", "extinction": "fairy", "losalamos": "6x6+0_fairy"}
+OPPONENTS = {"fairy-stockfish": "fairy-stockfish", "gnuchess": "gnuchessx", "sjaakii": "sjaakii", "vengine": ""}
 
 
-def missing():
-    return [name for name in ("xboard", "xvfb-run", "fairy-stockfish") if shutil.which(name, path=PATH) is None]
+def commands(opponent, variant, folder):
+    """What starts both engines, and the words by which XBoard takes the variant."""
+    name = OF_XBOARD.get(variant, variant)
+    if not name.endswith("fairy"):
+        return f"{VENGINE} xboard", OPPONENTS[opponent] or f"{VENGINE} xboard", ["-variant", name]
+    with open(f"{folder}/one.ini", "w") as file:
+        file.write(f"[{name}:{variant}]\n")
+    with open(f"{folder}/start.fen", "w") as file:
+        file.write(ask("status", variant, "startpos", [])[1] + "\n")
+    words = ["-variant", "fairy", "-lpf", f"{folder}/start.fen", "-testLegality", "false"]
+    if name != "fairy":
+        files, ranks = name.partition("+")[0].split("x")
+        words += ["-boardWidth", files, "-boardHeight", ranks]
+    engine = f"{VENGINE} --variants {folder}/one.ini xboard"
+    return engine, engine, words
 
 
-def play(variant, games, folder):
+def play(opponent, variant, games, folder):
     """Runs a match, and returns XBoard's results and the lines of its debug file."""
-    words = ["xvfb-run", "-a", "xboard", "-noGUI", "-fcp", f"{VENGINE} xboard", "-scp", "fairy-stockfish", "-fd", folder, "-sd", folder,
-             "-variant", OF_XBOARD.get(variant, variant), "-mg", str(games), "-tc", "0:20", "-inc", "0", "-xponder",
+    first, second, rules = commands(opponent, variant, folder)
+    words = ["xvfb-run", "-a", "xboard", "-noGUI", "-fcp", first, "-scp", second, "-fd", folder, "-sd", folder,
+             *rules, "-mg", str(games), "-tc", "0:20", "-inc", "0", "-xponder",
              "-soundProgram", "true", "-sgf", f"{folder}/games.pgn", "-debug", "-nameOfDebugFile", f"{folder}/debug.log"]
     with open(f"{folder}/said.log", "w") as said:
         match = subprocess.Popen(words, stdout=said, stderr=said, env={**os.environ, "PATH": PATH}, start_new_session=True)
@@ -65,33 +81,21 @@ def games_in(lines):
     return [moves for moves in games if moves], refused
 
 
-def status(variant, moves):
-    text = f"{variant}\nstartpos\n{' '.join(moves)}\n"
-    return subprocess.run([VENGINE, "status"], input=text, capture_output=True, text=True).stdout.splitlines()[0]
-
-
-def told(state):
-    """The result that the rules decide, or none."""
-    words = state.split()
-    if words[0] == "won":
-        return "1-0" if words[1] == "white" else "0-1"
-    return "1/2-1/2" if words[0] == "drawn" else None
-
-
 def main():
-    lacks = missing()
-    if lacks:
-        print(f"xboard_match: skipped, for there is no {' and no '.join(lacks)}")
+    parser = argparse.ArgumentParser(description=__doc__, formatter_class=argparse.RawDescriptionHelpFormatter)
+    parser.add_argument("--opponent", choices=OPPONENTS, default="fairy-stockfish")
+    parser.add_argument("matches", nargs="*", default=["chess:4", "crazyhouse:2", "capablanca:2"])
+    given = parser.parse_args()
+    if is_missing("xboard_match", "xboard", "xvfb-run", (OPPONENTS[given.opponent] or "xboard").split()[0]):
         return 0
-    wanted = [word.split(":") for word in sys.argv[1:]] or [["chess", "4"], ["crazyhouse", "2"], ["capablanca", "2"]]
     faults = 0
-    for variant, games in wanted:
+    for variant, games in (word.split(":") for word in given.matches):
         with tempfile.TemporaryDirectory() as folder:
-            results, lines = play(variant, int(games), folder)
+            results, lines = play(given.opponent, variant, int(games), folder)
         played, refused = games_in(lines)
         for (result, reason), moves in zip(results, played):
-            state = status(variant, moves)
-            differs = told(state) not in (None, result)
+            state = ask("status", variant, "startpos", moves)[0]
+            differs = result_of(state) not in (None, result)
             faults += differs
             print(f"{variant}: {result} after {len(moves)} plies ({reason or 'no reason'}); status: {state}{' DIFFERS' if differs else ''}")
         if len(results) != int(games):
