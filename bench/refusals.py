@@ -10,7 +10,9 @@ and in CECP, with 1 and with 4 workers: each line is given when the search befor
 say is that of the same session with a file that cannot be read. With 4 workers one of several best moves may be chosen, and so moves are
 not compared. Nothing may be written to standard error, and no run may take more than 60 seconds.
 
-Of the calls of a kind at most N are refused, spread evenly over all.
+Of the calls of a kind at most N are refused, spread evenly over all. Last, the words of a session's hints are overwritten before each
+depth of a search of the chess start, with 0, with 2^63 and with ones alone: the scores must be the same, and the best move one of that
+score.
 """
 
 import argparse
@@ -78,7 +80,20 @@ void _exit(int status) {
 
 static int is_refused(int kind) { return ++calls[kind] == refused[kind]; }
 
-void *malloc(size_t size) { if (is_refused(ALLOCATIONS)) { errno = ENOMEM; return NULL; } return __libc_malloc(size); }
+/* The words of hints are those of the last block of 1 MiB. They are written before each write of the program. */
+static unsigned long *hints;
+
+static void fill_hints(void) {
+    const char *word = getenv("FILL_HINTS");
+    if (word && hints) for (int i = 0; i < 131072; i++) hints[i] = strtoul(word, NULL, 0);
+}
+
+void *malloc(size_t size) {
+    if (is_refused(ALLOCATIONS)) { errno = ENOMEM; return NULL; }
+    void *block = __libc_malloc(size);
+    if (size == 1048576) hints = block;
+    return block;
+}
 void *calloc(size_t n, size_t size) { if (is_refused(ALLOCATIONS)) { errno = ENOMEM; return NULL; } return __libc_calloc(n, size); }
 void *realloc(void *old, size_t size) { if (is_refused(ALLOCATIONS)) { errno = ENOMEM; return NULL; } return __libc_realloc(old, size); }
 
@@ -90,6 +105,7 @@ ssize_t read(int file, void *bytes, size_t size) {
 }
 
 ssize_t write(int file, const void *bytes, size_t size) {
+    fill_hints();
     long call = ++calls[WRITES];
     if (call == refused[WRITES]) { errno = EIO; return -1; }
     if (call == cut[WRITES] && size > 1) size = 1;
@@ -316,6 +332,9 @@ def tries(runner, words, lines, parts, most, jobs):
     with concurrent.futures.ThreadPoolExecutor(jobs) as pool:
         for kind, place, status in KINDS:
             numbers = chosen(calls[place], most)
+            if kind == "REFUSE_THREAD":
+                # without the first, which reads ahead, a search waits for a line at its first poll
+                numbers = [number for number in numbers if number > 1]
             answers = pool.map(lambda number: runner.run(words, parts, {kind: str(number)}), numbers)
             counts = {}
             for number, answer in zip(numbers, answers):
@@ -325,6 +344,28 @@ def tries(runner, words, lines, parts, most, jobs):
                     print(f"  WRONG: {kind}={number}: status {answer[0]}, {answer[1][-200:]}, standard error {answer[2][:200]}")
             told = ", ".join(f"{count} of status {ended}" for ended, count in sorted(counts.items(), key=str))
             print(f"  {kind}: {len(numbers)} of {calls[place]} ({told})", flush=True)
+    return wrong
+
+
+def scores(runner, workers, words, word):
+    """The scores of the depths 1 to 3 of the chess start, and the best move, where the hints are overwritten with this word."""
+    lines = [("setoption name Hash value 1", None), ("isready", None), ("position startpos", None), (f"go depth 3 {words}", "bestmove"),
+             ("quit", None)]
+    said = runner.run(["--threads", workers, "uci"], parts_of(lines), {"FILL_HINTS": word})[1].decode()
+    return re.findall(r" score (.*) pv ", said), re.findall(r"bestmove (.*)", said)
+
+
+def hinted(runner):
+    """How many searches of the chess start differ by their hints."""
+    own, wrong = scores(runner, "1", "", "0")[0], 0
+    for workers in ("1", "4"):
+        for word in ("0", "0x8000000000000000", "0xffffffffffffffff"):
+            found, best = scores(runner, workers, "", word)
+            alone = [scores(runner, "1", "searchmoves " + move, "0")[0] for move in best]
+            if found != own or len(own) != 3 or [one[-1:] for one in alone] != [own[-1:]]:
+                wrong += 1
+                print(f"  WRONG: hints {word}, {workers} workers: {found}, best {best}, which alone has {alone}")
+    print(f"hints: 6 searches of the chess start to depth 3, scores {', '.join(own)}", flush=True)
     return wrong
 
 
@@ -343,6 +384,8 @@ def main():
         for words, lines, parts in runs:
             if given.only in " ".join(words):
                 wrong += tries(runner, words, lines, parts, given.most, given.jobs)
+        if given.only in "hints":
+            wrong += hinted(runner)
     print(f"{wrong} wrong answers")
     sys.exit(1 if wrong else 0)
 

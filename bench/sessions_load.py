@@ -6,7 +6,7 @@ Usage: bench/sessions_load.py [PROGRAM] [--lines N] [--sessions N] [--minutes M]
 
 1. One session of generated lines: right ones, faulty ones and ones that say nothing. Each `isready`, `go`, `moves` and `status` must have
    its answer, and the session must end with status 0.
-2. So many sessions at once, each with a search of depth 3 and a mate in two. Each must say the same.
+2. So many sessions at once, each with 1 MiB of hints, a search of depth 3 and a mate in two. Each must say the same.
 3. A `go infinite` of so many minutes, with an `isready` each second. Each must be answered within half a second.
 
 Prints the times, and the memory that the kernel gives of a session (VmRSS in /proc). Ends with status 1 where an answer is missing or late.
@@ -71,7 +71,7 @@ def long_session(program, count, seed):
 
 
 def many_sessions(program, count):
-    text = "uci\nposition startpos\ngo depth 3\n"
+    text = "uci\nsetoption name Hash value 1\nsetoption name MateFacts value 64\nposition startpos\ngo depth 3\n"
     begun = time.monotonic()
     held = [subprocess.Popen([program], stdin=subprocess.PIPE, stdout=subprocess.PIPE) for _ in range(count)]
     for session in held:
