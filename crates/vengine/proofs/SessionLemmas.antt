@@ -53,7 +53,7 @@ use Rattle.vengine.specs.Shot.{Says}
 use Rattle.vengine.specs.Speaking.{BeginsBuiltIn, BrokeFrom, BrokeIn, SpokeFrom, SpokeIn, Talks, ended_status}
 use Rattle.vengine.specs.Variants.{Accepts, AreFirstReads, AreReadsOf, fault_found, fault_in, sections_in}
 use Rattle.vengine.proofs.FileLemmas.{no_further, reads_on, same_reads}
-use Rattle.vengine.proofs.RunLemmas.{decide_so, four, five, seven, may_shot, part_by, refused_first, refused_says, session_says, some_reads, tells_found}
+use Rattle.vengine.proofs.RunLemmas.{decide_so, four, five, seven, may_shot, part_by, refused_first, refused_heard, refused_said, refused_says, session_says, some_reads, tells_found}
 use Rattle.vengine.proofs.ShotLemmas.{done_whole, says_done, says_shot, shot_asks, shot_says}
 
 -- ---- the start of a session
@@ -173,12 +173,16 @@ needs_by (Generate name number plies) d is sections lines = cc
 
 -- ---- what a session may do
 
-may_spoke : (owed : Owed) (words : List Text) (contents : Option Contents) (reads : List Read) (input : List Line) (readings text : List ℕ) (a : Asked) (d : Dialect) → to_do words ≡ Some a → dialect_of a.command ≡ Some d
-    → run.Spoke d a owed contents reads input readings 0 text → May owed words contents reads input readings 0 text
+spoke_asked : (owed : Owed) (words : List Text) (contents : Option Contents) (reads : List Read) (input : List Line) (readings text : List ℕ) (a : Asked) (d : Dialect) → to_do words ≡ Some a → dialect_of a.command ≡ Some d
+    → run.Spoke d a owed contents reads input readings 0 text → MaySpeak (to_do words) owed contents reads input readings 0 text
+spoke_asked owed words contents reads input readings text a d is served spoke =
+    subst (λ (c : Option Asked). MaySpeak c owed contents reads input readings 0 text) (sym is)
+    (subst (λ (o : Option Dialect). IsSomeAnd o (λ x. run.Spoke x a owed contents reads input readings 0 text)) (sym served) spoke)
+
+may_asked : (owed : Owed) (words : List Text) (contents : Option Contents) (reads : List Read) (input : List Line) (readings text : List ℕ) → MaySpeak (to_do words) owed contents reads input readings 0 text
+    → May owed words contents reads input readings 0 text
 unfolding May
-may_spoke owed words contents reads input readings text a d is served spoke =
-    inr (subst (λ (c : Option Asked). MaySpeak c owed contents reads input readings 0 text) (sym is)
-    (subst (λ (o : Option Dialect). IsSomeAnd o (λ x. run.Spoke x a owed contents reads input readings 0 text)) (sym served) spoke))
+may_asked owed words contents reads input readings text spoke = inr spoke
 
 -- The session of a run that asks this, after these reads of the file of variants. A session of its protocol from its start is one in its dialect.
 module _ {State : Type 0} (p : Protocol State) (start : Option State) (words : List Text) (a : Asked) (d : Dialect) (is : to_do words ≡ Some a) (served : dialect_of a.command ≡ Some d) (first : List Read)
@@ -186,10 +190,10 @@ module _ {State : Type 0} (p : Protocol State) (start : Option State) (words : L
     (speaks : (owed : Owed) (contents : Option Contents) (reads : List Read) (input : List Line) (readings output : List ℕ) → SessionFrom State p start owed contents reads input readings output
     → Speaks d (sections_in a.variants first) a.threads owed contents reads input readings output)
     (wanted : (lines : List Line) → lines_wanted d lines ≡ turns.lines_wanted p lines) where
-  may_session : (owed : Owed) (contents : Option Contents) (later : List Read) (input : List Line) (readings output : List ℕ) (state : State) → start ≡ Some state → Session State p owed state contents later input readings output
-      → May owed words contents (first ++ later) input readings 0 output
-  may_session owed contents later input readings output state started session =
-      may_spoke owed words contents (first ++ later) input readings output a d is served (record {
+  spoke_session : (owed : Owed) (contents : Option Contents) (later : List Read) (input : List Line) (readings output : List ℕ) (state : State) → start ≡ Some state → Session State p owed state contents later input readings output
+      → MaySpeak (to_do words) owed contents (first ++ later) input readings 0 output
+  spoke_session owed contents later input readings output state started session =
+      spoke_asked owed words contents (first ++ later) input readings output a d is served (record {
         first = first;
         later = later;
         reads_are = refl;
@@ -197,6 +201,11 @@ module _ {State : Type 0} (p : Protocol State) (start : Option State) (words : L
         speaks = speaks owed contents later input readings output (record { state = state; started = started; session = session });
         ended = refl;
       })
+
+  may_session : (owed : Owed) (contents : Option Contents) (later : List Read) (input : List Line) (readings output : List ℕ) (state : State) → start ≡ Some state → Session State p owed state contents later input readings output
+      → May owed words contents (first ++ later) input readings 0 output
+  may_session owed contents later input readings output state started session =
+      may_asked owed words contents (first ++ later) input readings output (spoke_session owed contents later input readings output state started session)
 
   needs_session : (later : List Read) (lines : List Line) → turns.lines_wanted p lines ≤ lines_asked (to_do words) (first ++ later) lines
   needs_session later lines =
@@ -226,8 +235,8 @@ module _ {State : Type 0} (p : Protocol State) (start : Option State) (words : L
           allowed = may (s.lines ++ s.rest) s.allowed;
         }
 
-    part_by_session : BrokeFrom State p start moved asked contents → run.SpokePart moved asked' contents words
-    part_by_session so =
+    part_by_session : (result : ℕ) → BrokeFrom State p start moved asked contents → run.SpokePart moved asked' contents words result
+    part_by_session result so =
         let s = so.part in
         let needs = needs_session (s.reads ++ s.further) s.lines in
         let few = s.few in
@@ -246,6 +255,8 @@ module _ {State : Type 0} (p : Protocol State) (start : Option State) (words : L
           few = subst (λ (x : List Read). length s.lines ≤ lines_asked (to_do words) x s.lines) all (omega (arith, needs, few));
           allowed = subst (λ (x : List Read). May Untold words contents x s.lines s.readings 0 (s.front ++ s.back)) all
               (may_session Untold contents (s.reads ++ s.further) s.lines s.readings (s.front ++ s.back) so.state so.started s.allowed);
+          begun = λ four_is. subst (λ (x : List Read). MaySpeak (to_do words) Untold contents x s.lines s.readings 0 (s.front ++ s.back)) all
+              (spoke_session Untold contents (s.reads ++ s.further) s.lines s.readings (s.front ++ s.back) so.state so.started s.allowed);
         }
 
 -- so in each dialect
@@ -259,11 +270,11 @@ did_in words a dialect.Cecp is served first accepted moved asked asked' joins co
 
 part_in : (words : List Text) (a : Asked) (d : Dialect) → to_do words ≡ Some a → dialect_of a.command ≡ Some d → (first : List Read) → Accepts a.variants first
     → (moved : Moved) (asked asked' : List Read → Type 0) → ((later : List Read) → asked later → asked' (first ++ later)) → (contents : Option Contents) (left : Option (List ℕ))
-    → BrokeIn d (sections_in a.variants first) a.threads moved asked contents → run.SpokePart moved asked' contents words
-part_in words a dialect.Uci is served first accepted moved asked asked' joins contents left so =
-    part_by_session uci (UciState.first_state (sections_in a.variants first) a.threads) words a dialect.Uci is served first accepted (λ o c r i t u from. from) (λ lines. refl) moved asked asked' joins contents left so
-part_in words a dialect.Cecp is served first accepted moved asked asked' joins contents left so =
-    part_by_session cecp (CecpState.first_state (sections_in a.variants first)) words a dialect.Cecp is served first accepted (λ o c r i t u from. from) (λ lines. refl) moved asked asked' joins contents left so
+    → (result : ℕ) → BrokeIn d (sections_in a.variants first) a.threads moved asked contents → run.SpokePart moved asked' contents words result
+part_in words a dialect.Uci is served first accepted moved asked asked' joins contents left result so =
+    part_by_session uci (UciState.first_state (sections_in a.variants first) a.threads) words a dialect.Uci is served first accepted (λ o c r i t u from. from) (λ lines. refl) moved asked asked' joins contents left result so
+part_in words a dialect.Cecp is served first accepted moved asked asked' joins contents left result so =
+    part_by_session cecp (CecpState.first_state (sections_in a.variants first)) words a dialect.Cecp is served first accepted (λ o c r i t u from. from) (λ lines. refl) moved asked asked' joins contents left result so
 
 -- a session without lines may say nothing
 session_none : {State : Type 0} (p : Protocol State) (state : State) (contents : Option Contents) → Session State p Untold state contents [] [] [] []
@@ -333,11 +344,11 @@ module _ {F : Type 0} {contents : F → Option Contents} {faults : F → ℕ} {f
     session_did (Err why) talks done = absurd (done_whole _ done (err_cut why))
 
     pub session_part : {A : Type 0} (r : Result A SearchFault) → Talks d o.sections o.asked.threads moved (Reads contents faults f1 f') owed (contents f1) left r → IsCut (ended_status r)
-        → DidPart moved (Reads contents faults f f') (contents f) left words
+        → DidPart moved (Reads contents faults f f') (contents f) left words (ended_status r)
     session_part {A = A} (Ok x) talks cut = absurd (done_whole 0 (inl refl) cut)
     session_part {A = A} (Err why) talks cut =
         part_by (to_do words) _ _ (λ one. absurd (session_never_one_shot one))
-        (λ a is session. part_in words (asked_seen o.asked) d looked.holds.0 served looked.reads looked.holds.1 moved (Reads contents faults f1 f') (Reads contents faults f f') joined (contents f) left (talked {A = A} (Err why) talks))
+        (λ a is session. part_in words (asked_seen o.asked) d looked.holds.0 served looked.reads looked.holds.1 moved (Reads contents faults f1 f') (Reads contents faults f f') joined (contents f) left (ended_status {A = A} (Err why)) (talked {A = A} (Err why) talks))
 
   -- the file of variants is not told to be refused
   pub session_complete : (left : Option (List ℕ)) (Failed : ℕ → Type 0) (status : ℕ) → Completes (contents f) left words Failed status
@@ -380,10 +391,10 @@ dialect_in c is = go (dialect_of c) refl is
 
 module _ {S K C F : Type 0} {left : S → Option (List ℕ)} {taken : K → Option (List ℕ)} {given : C → Option (List ℕ)} {count last : C → ℕ} {contents : F → Option Contents} {faults : F → ℕ} where
   -- nothing was written
-  unsaid : (s : S) (k k' : K) (c : C) (f f' : F) (words : List Text) (a : Asked) (why : Halt) → to_do words ≡ Some a → is_session a.command ≡ true
+  unsaid : (s : S) (k k' : K) (c : C) (f f' : F) (words : List Text) (a : Asked) (why : Halt) (result : ℕ) → result ≡ 7 → to_do words ≡ Some a → is_session a.command ≡ true
       → Looked (Reads contents faults f f') (λ reads. Opens (to_do words) reads (Err why)) → Appends (taken k) (taken k') []
-      → run.SpokePart (Moves left taken given count last s s k k' c c) (Reads contents faults f f') (contents f) words
-  unsaid s k k' c f f' words a why is session looked wrote =
+      → run.SpokePart (Moves left taken given count last s s k k' c c) (Reads contents faults f f') (contents f) words result
+  unsaid s k k' c f f' words a why result seven_is is session looked wrote =
       let (d, served) = dialect_in a.command session in
       let (further, after, first) = reads_on (contents f) (to_do words) looked.reads (some_reads (to_do words) looked.reads why looked.holds) in
       let (status, text, may) = may_some words (contents f) a d is served (looked.reads ++ further) (subst (λ (x : Option Asked). AreFirstReads x (looked.reads ++ further)) is first) in
@@ -400,13 +411,14 @@ module _ {S K C F : Type 0} {left : S → Option (List ℕ)} {taken : K → Opti
         after = after;
         few = omega arith;
         allowed = may;
+        begun = λ four_is. absurd (omega (arith, four_is, seven_is));
       }
 
   -- a front part of why it was refused
-  said_part : (s : S) (k k' : K) (c : C) (f f' : F) (words : List Text) (why : Halt) (answer : Answer) → Looked (Reads contents faults f f') (λ reads. Opens (to_do words) reads (Err why))
+  said_part : (s : S) (k k' : K) (c : C) (f f' : F) (words : List Text) (why : Halt) (answer : Answer) (result : ℕ) → result ≡ 5 → Looked (Reads contents faults f f') (λ reads. Opens (to_do words) reads (Err why))
       → OutcomeOf (Err why) (Ok answer) → AppendsFront (taken k) (taken k') answer.text
-      → run.SpokePart (Moves left taken given count last s s k k' c c) (Reads contents faults f f') (contents f) words
-  said_part s k k' c f f' words why answer looked is wrote =
+      → run.SpokePart (Moves left taken given count last s s k k' c c) (Reads contents faults f f') (contents f) words result
+  said_part s k k' c f f' words why answer result five_is looked is wrote =
       let first = refused_first (to_do words) looked.reads why (Ok answer) answer looked.holds is refl in
       let says = refused_says (to_do words) looked.reads why (Ok answer) [] looked.holds is in
       let may = may_shot Untold words (contents f) looked.reads [] answer.status answer.text (says_shot words looked.reads [] answer.status answer.text first says) in
@@ -424,16 +436,17 @@ module _ {S K C F : Type 0} {left : S → Option (List ℕ)} {taken : K → Opti
         few = omega arith;
         allowed = subst (λ (x : List Read). May Untold words (contents f) x [] [] answer.status (wrote.front ++ wrote.back)) (sym (append-nil looked.reads))
             (subst (λ (x : List ℕ). May Untold words (contents f) looked.reads [] [] answer.status x) wrote.whole may);
+        begun = λ four_is. absurd (omega (arith, four_is, five_is));
       }
 
   -- a run that was cut short before its session began
   pub refused_part : (s : S) (k k' : K) (c : C) (f f' : F) (words : List Text) (a : Asked) (why : Halt) (before now : ℕ) (r : Result Answer Stop) (status : ℕ) → to_do words ≡ Some a → is_session a.command ≡ true
       → Looked (Reads contents faults f f') (λ reads. Opens (to_do words) reads (Err why)) → OutcomeOf (Err why) r → Finishes r (taken k) (taken k') before now status → IsCut status
-      → run.SpokePart (Moves left taken given count last s s k k' c c) (Reads contents faults f f') (contents f) words
+      → run.SpokePart (Moves left taken given count last s s k k' c c) (Reads contents faults f f') (contents f) words status
   refused_part s k k' c f f' words a why before now (Ok answer) status is session looked outcome (inl wrote) cut =
       let says = refused_says (to_do words) looked.reads why (Ok answer) [] looked.holds outcome in
       absurd (done_whole status (subst IsDone (sym wrote.0) (says_done (to_do words) looked.reads [] answer.status answer.text says)) cut)
-  refused_part s k k' c f f' words a why before now (Ok answer) status is session looked outcome (inr failed) cut = said_part s k k' c f f' words why answer looked outcome failed.1
-  refused_part s k k' c f f' words a why before now (Err stop.Source) status is session looked outcome wrote cut = unsaid s k k' c f f' words a why is session looked wrote.1
-  refused_part s k k' c f f' words a why before now (Err stop.Sink) status is session looked outcome wrote cut = unsaid s k k' c f f' words a why is session looked wrote.1
-  refused_part s k k' c f f' words a why before now (Err stop.Memory) status is session looked outcome wrote cut = unsaid s k k' c f f' words a why is session looked wrote.1
+  refused_part s k k' c f f' words a why before now (Ok answer) status is session looked outcome (inr failed) cut = said_part s k k' c f f' words why answer status failed.0 looked outcome failed.1
+  refused_part s k k' c f f' words a why before now (Err stop.Source) status is session looked outcome wrote cut = absurd (refused_heard (to_do words) looked.reads why (Err stop.Source) looked.holds outcome tt)
+  refused_part s k k' c f f' words a why before now (Err stop.Sink) status is session looked outcome wrote cut = absurd (refused_said (to_do words) looked.reads why (Err stop.Sink) looked.holds outcome tt)
+  refused_part s k k' c f f' words a why before now (Err stop.Memory) status is session looked outcome wrote cut = unsaid s k k' c f f' words a why status wrote.0 is session looked wrote.1

@@ -87,10 +87,11 @@ pub record ShotPart (moved : List Line → List ℕ → List ℕ → Type 0) (re
       ⊎ Decide lines rest (λ input. Shot words (reads ++ further) input status (written ++ back))
   pub allowed : Shot words (reads ++ further) (lines ++ rest) status (written ++ back)
 
--- A run of a session wrote a front part of what it may write to the lines that were taken, and to no more: as if the
--- input ended after them, and with any answers to its polls.
+-- A run of a session that ended with this status wrote a front part of what it may write to the lines that were taken,
+-- and to no more: as if the input ended after them, and with any answers to its polls. A run that is refused before its
+-- session takes no line, and so where the source failed the session had begun, and what was written is the session's.
 pub record SpokePart (moved : List Line → List ℕ → List ℕ → Type 0) (read : List Read → Type 0)
-    (contents : Option Contents) (words : List (List ℕ)) : Type 0 where
+    (contents : Option Contents) (words : List (List ℕ)) (result : ℕ) : Type 0 where
   pub lines : List Line
   pub readings : List ℕ
   pub reads : List Read
@@ -103,6 +104,8 @@ pub record SpokePart (moved : List Line → List ℕ → List ℕ → Type 0) (r
   pub after : Further contents further
   pub few : length lines ≤ lines_asked (to_do words) (reads ++ further) lines
   pub allowed : May Untold words contents (reads ++ further) lines readings status (written ++ back)
+  pub begun : result ≡ 4
+      → MaySpeak (to_do words) Untold contents (reads ++ further) lines readings status (written ++ back)
 
 -- the first of these of a one-shot command, and the second of a session
 abbrev pub PartBy : Bool → Type 0 → Type 0 → Type 0
@@ -113,11 +116,11 @@ abbrev pub PartOf : Option Asked → Type 0 → Type 0 → Type 0
 PartOf None Shot Spoken = Shot
 PartOf (Some a) Shot Spoken = PartBy (is_session a.command) Shot Spoken
 
--- A run wrote a front part of one of its answers.
+-- A run that ended with this status wrote a front part of one of its answers.
 abbrev pub DidPart : (List Line → List ℕ → List ℕ → Type 0) → (List Read → Type 0) → Option Contents → Option (List ℕ)
-    → List (List ℕ) → Type 0
-DidPart moved read contents left words =
-    PartOf (to_do words) (ShotPart moved read contents left words) (SpokePart moved read contents words)
+    → List (List ℕ) → ℕ → Type 0
+DidPart moved read contents left words result =
+    PartOf (to_do words) (ShotPart moved read contents left words) (SpokePart moved read contents words result)
 
 -- ---- statuses
 

@@ -41,7 +41,7 @@ fn finish<K: Sink>(answer: Result<Answer, Stop>, sink: &mut K) -> u8
 /// | 0 | the command wrote its whole text, or the session came to `quit` or the end of its lines |
 /// | 2 | the words are not of the command set, and the usage line was written |
 /// | 3 | an argument, the file of variants or the input has the fault that was written as a line `error FAULT` |
-/// | 4 | the source's count of faults rose; a one-shot command wrote nothing |
+/// | 4 | the source's count of faults rose; a one-shot command wrote nothing, and a session had begun |
 /// | 5 | the sink's count of faults rose |
 /// | 6 | the file of variants was not read, as the line `error FileFault ..` says that was written |
 /// | 7 | there was no memory |
@@ -76,7 +76,7 @@ where
     ensures cut { IsCut result → DidPart
         (Moves S.left K.taken C.given C.count C.last source.old source.new sink.old sink.new clock.old clock.new)
         (Reads F.contents F.faults files.old files.new) (F.contents files.old) (S.left source.old)
-        (map string_bytes words.now) }
+        (map string_bytes words.now) result }
     ensures usage { IsCut result ⊎ ((result ≡ 2) ↔ IsNone (to_do (map string_bytes words.now))) }
     ensures source_failed { result ≡ 4 → Rose (S.faults source.old) (S.faults source.new) }
     ensures silent { IsOneShot (to_do (map string_bytes words.now)) → result ≡ 4 → sink.new ≡ sink.old }

@@ -6,6 +6,8 @@ use std::process::Abort;
 use std::str;
 use std::test::Fail;
 
+mod refusals;
+
 const USAGE_LINE: &str = "usage: vengine [--variants FILE] [--threads N] [COMMAND]\n";
 
 /// The legal moves of the start of chess.
@@ -17,22 +19,19 @@ const BUILTIN: &str =
     "chess ok\ncrazyhouse ok\n3check ok\nkingofthehill ok\nantichess ok\nextinction ok\n\
     losalamos ok\ncapablanca ok\nseirawan ok\nxiangqi ok\n";
 
-/// A run over these files: a source that fails at these calls, and a sink that has room for so many bytes.
-fn ran<R: AllocGlobal + Threads + Wait + Sync, F: Files>(
+/// A run over these files, this source and this sink.
+fn ran_over<R: AllocGlobal + Threads + Wait + Sync, F: Files>(
     rt: &R,
     files: &mut F,
     words: &[&str],
-    input: &[u8],
-    failing: &[u64],
-    room: usize,
+    mut source: MemSource,
+    mut sink: MemSink,
 ) -> Result<(u8, MemSink), Fail> {
     let alloc = rt.alloc();
     let mut list = Vec::new(alloc);
     for word in words {
         list.push(String::from_str(alloc, *word)?)?;
     }
-    let mut source = MemSource::new(alloc, input, PollsOwed::Endless, failing)?;
-    let mut sink = MemSink::new(alloc, room)?;
     let mut clock = ListClock::new(alloc, &[])?;
     let status = run(
         rt,
@@ -45,6 +44,20 @@ fn ran<R: AllocGlobal + Threads + Wait + Sync, F: Files>(
         &OpenGate,
     );
     Ok((status, sink))
+}
+
+/// A run over these files: a source that fails at these calls, and a sink that has room for so many bytes.
+fn ran<R: AllocGlobal + Threads + Wait + Sync, F: Files>(
+    rt: &R,
+    files: &mut F,
+    words: &[&str],
+    input: &[u8],
+    failing: &[u64],
+    room: usize,
+) -> Result<(u8, MemSink), Fail> {
+    let source = MemSource::new(rt.alloc(), input, PollsOwed::Endless, failing)?;
+    let sink = MemSink::new(rt.alloc(), room)?;
+    ran_over(rt, files, words, source, sink)
 }
 
 /// Runs words over these files and this input, with a sink that has room for all, and wants this status and this text.

@@ -1,0 +1,154 @@
+#!/usr/bin/env python3
+"""Loads UCI sessions: many lines, many sessions at once, and a long search.
+
+Usage: bench/sessions_load.py [PROGRAM] [--lines N] [--sessions N] [--minutes M] [--seed N]
+       (crates/vengine/out/vengine, 10000 lines, 200 sessions, 10 minutes and seed 1 by default; 0 leaves a part out)
+
+1. One session of generated lines: right ones, faulty ones and ones that say nothing. Each `isready`, `go`, `moves` and `status` must have
+   its answer, and the session must end with status 0.
+2. So many sessions at once, each with 1 MiB of hints, a search of depth 3 and a mate in two. Each must say the same.
+3. A `go infinite` of so many minutes, with an `isready` each second. Each must be answered within half a second.
+
+Prints the times, and the memory that the kernel gives of a session (VmRSS in /proc). Ends with status 1 where an answer is missing or late.
+"""
+import argparse
+import collections
+import os
+import random
+import subprocess
+import time
+
+TOP = os.path.join(os.path.dirname(os.path.abspath(__file__)), "..")
+PROGRAM = os.path.join(TOP, "crates", "vengine", "out", "vengine")
+MOVES = ["e2e4", "e7e5", "g1f3", "b8c6", "f1b5", "a7a6", "d2d4", "e5d4", "e1g1", "e2e5", "P@e4", "x", "e7e8q"]
+VARIANTS = ["chess", "crazyhouse", "3check", "losalamos", "capablanca", "seirawan", "xiangqi", "nothing", ""]
+FENS = ["8/8 w - - 0 1", "7k/R7/5K2/8/8/8/8/8 w - - 0 1", "k7/8/8/8/8/8/1q6/K7 w - - 0 1", "7k/8/5KQ1/8/8/8/8/8 w - - 99 80", ""]
+OPTIONS = ["Threads", "Hash", "MateFacts", "VariantPath", "UCI_Variant", "Other", ""]
+
+
+def generated(random_numbers):
+    """One line."""
+    pick = random_numbers.choice
+    kind = random_numbers.randrange(12)
+    if kind < 3:
+        moves = [pick(MOVES) for _ in range(random_numbers.randrange(8))]
+        return "position startpos moves " + " ".join(moves)
+    if kind == 3:
+        return "position fen " + pick(FENS)
+    if kind == 4:
+        return f"setoption name {pick(OPTIONS)} value {pick(['1', '2', '16', '0', 'x', ''])}"
+    if kind == 5:
+        return "setoption name UCI_Variant value " + pick(VARIANTS)
+    if kind == 6:
+        return pick(["go depth 1", "go nodes 500", "go mate 1", "go movetime 1", "go depth 2 searchmoves e2e4"])
+    if kind == 7:
+        return "".join(chr(random_numbers.randrange(32, 127)) for _ in range(random_numbers.randrange(60))).replace("go", "")
+    return pick(["isready", "moves", "status", "strategy", "ucinewgame", "stop", "debug on", "", "position", "setoption"])
+
+
+def first_word(line):
+    """The command of a line: its first word that is one."""
+    known = {"uci", "isready", "ucinewgame", "setoption", "position", "go", "stop", "ponderhit", "debug", "register", "moves", "status",
+             "strategy", "quit"}
+    return next((word for word in line.split() if word in known), "")
+
+
+def long_session(program, count, seed):
+    numbers = random.Random(seed)
+    lines = [line for line in (generated(numbers) for _ in range(count)) if first_word(line) not in ("quit", "uci")]
+    asked = collections.Counter(first_word(line) for line in lines)
+    begun = time.monotonic()
+    done = subprocess.run([program], input="\n".join(lines + ["quit", ""]).encode(), capture_output=True, timeout=3600)
+    took = time.monotonic() - begun
+    said = collections.Counter(line.split(b" ")[0].decode() for line in done.stdout.split(b"\n"))
+    states = said["ongoing"] + said["won"] + said["drawn"]
+    pairs = [("isready", said["readyok"]), ("go", said["bestmove"]), ("moves", said["moves"]), ("status", states)]
+    missing = [f"{word}: {asked[word]} asked, {answers} answered" for word, answers in pairs if asked[word] != answers]
+    wrong = bool(missing) or done.returncode != 0 or bool(done.stderr)
+    print(f"a session of {len(lines)} lines: {took:.1f} s, {len(done.stdout)} bytes, status {done.returncode}; "
+          + ("; ".join(missing) or "all answers there"), flush=True)
+    return wrong
+
+
+def many_sessions(program, count):
+    text = "uci\nsetoption name Hash value 1\nsetoption name MateFacts value 64\nposition startpos\ngo depth 3\n"
+    begun = time.monotonic()
+    held = [subprocess.Popen([program], stdin=subprocess.PIPE, stdout=subprocess.PIPE) for _ in range(count)]
+    for session in held:
+        session.stdin.write(text.encode())
+        session.stdin.flush()
+    answers = collections.Counter()
+    for session in held:
+        said = b""
+        for line in session.stdout:
+            said += line
+            if line.startswith(b"bestmove"):
+                break
+        session.stdin.write(b"position fen 7k/R7/5K2/8/8/8/8/8 w - - 0 1\ngo mate 2\n")
+        session.stdin.flush()
+        answers[said] += 1
+    for session in held:
+        ends = session.stdout.readline() + session.stdout.readline()
+        session.stdin.write(b"quit\n")
+        session.stdin.close()
+        answers[(session.wait(), ends + session.stdout.read())] += 1
+    took = time.monotonic() - begun
+    expected = (0, b"info depth 3 score mate 2 pv f6g6\nbestmove f6g6\n")
+    wrong = answers[expected] != count or len(answers) != 2
+    print(f"{count} sessions at once: {took:.1f} s; {'answers that differ' if wrong else 'all say the same'}", flush=True)
+    return wrong
+
+
+def memory(process):
+    with open(f"/proc/{process.pid}/status") as file:
+        return next(int(line.split()[1]) / 1024 for line in file if line.startswith("VmRSS"))
+
+
+def long_search(program, minutes):
+    process = subprocess.Popen([program], stdin=subprocess.PIPE, stdout=subprocess.PIPE)
+
+    def ask(line, word):
+        begun = time.monotonic()
+        process.stdin.write(line.encode() + b"\n")
+        process.stdin.flush()
+        for said in process.stdout:
+            if said.startswith(word):
+                return time.monotonic() - begun
+        raise SystemExit(f"sessions_load: the session ended after {line!r}")
+
+    ask("uci", b"uciok")
+    at_first = memory(process)
+    process.stdin.write(b"position startpos\ngo infinite\n")
+    took, ends = [], time.monotonic() + 60 * minutes
+    while time.monotonic() < ends:
+        time.sleep(1)
+        took.append(ask("isready", b"readyok"))
+    then = memory(process)
+    stopped = ask("stop", b"bestmove")
+    process.stdin.write(b"quit\n")
+    process.stdin.flush()
+    status = process.wait()
+    late = sum(one > 0.5 for one in took)
+    ordered = sorted(1000 * one for one in took)
+    print(f"a search of {minutes:g} minutes: {len(took)} times isready, answered after {ordered[len(ordered) // 2]:.1f} ms, at worst "
+          f"{ordered[-1]:.1f} ms, {late} later than 500 ms; stop after {1000 * stopped:.1f} ms; memory {at_first:.0f} MiB at first, "
+          f"{then:.0f} MiB then; status {status}", flush=True)
+    return late > 0 or status != 0
+
+
+def main():
+    parser = argparse.ArgumentParser(description=__doc__, formatter_class=argparse.RawDescriptionHelpFormatter)
+    parser.add_argument("program", nargs="?", default=PROGRAM)
+    parser.add_argument("--lines", type=int, default=10000)
+    parser.add_argument("--sessions", type=int, default=200)
+    parser.add_argument("--minutes", type=float, default=10)
+    parser.add_argument("--seed", type=int, default=1)
+    given = parser.parse_args()
+    wrong = given.lines > 0 and long_session(given.program, given.lines, given.seed)
+    wrong = (given.sessions > 0 and many_sessions(given.program, given.sessions)) or wrong
+    wrong = (given.minutes > 0 and long_search(given.program, given.minutes)) or wrong
+    raise SystemExit(1 if wrong else 0)
+
+
+if __name__ == "__main__":
+    main()
