@@ -6,6 +6,7 @@ use foundation::{Memory, Text};
 use io_ports::{Gate, HoldingGate, MemSource, OpenGate, PollsOwed};
 use std::alloc::Global;
 use std::process::Abort;
+use std::sync::Wait;
 use std::test::Fail;
 use std::thread::Threads;
 use variant_rules::{Variants, builtin, load};
@@ -34,7 +35,7 @@ fn told(alloc: Global, answer: Result<Text, NoSuite>) -> Result<Text, Memory> {
 }
 
 /// Asserts what the lines of a suite are answered by so many workers.
-fn answers<R: Threads + Abort + Sync>(
+fn answers<R: Threads + Wait + Abort + Sync>(
     rt: &R,
     alloc: Global,
     variants: &Variants,
