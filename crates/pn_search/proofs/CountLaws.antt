@@ -1,14 +1,11 @@
 -- Within how many moves a game is won, case by case.
-use Rattle.std.proofs.Common.{◌≡◌, ◌⊎◌, ℕ, ◌+◌, ◌*◌, ◌<◌, zero, suc, Bool, true, false, not, ◌&&◌, ◌==◌, nat_le, Result, Option, Ok, Err, refl, sym, ap, subst, ◌∙◌, inl, inr, arith, if◌then◌else◌}
-use Rattle.rules_model.specs.declared.board.Position.{Position}
+use Rattle.std.proofs.Common.{◌≡◌, ℕ, Bool, true, false, not, Ok, Err, refl, ap, ◌∙◌, if◌then◌else◌}
 use Rattle.rules_model.specs.declared.moves.Outcome.{Outcome}
 use Rattle.rules_model.specs.declared.moves.Outcome.TheVariants.{Ongoing, Won, Drawn}
 use Rattle.rules_model.specs.declared.rules.Rules.{Rules}
 use Rattle.rules_model.specs.Ends.{is_ongoing}
 use Rattle.rules_model.specs.Games.{Story, result}
-use Rattle.forced_wins.specs.Wins.{IsInLimit}
 use Rattle.mate_search.specs.Least.{is_counted, least}
-use Rattle.pn_search.specs.declared.fault.PnFault.{PnFault}
 use Rattle.pn_search.specs.declared.fault.PnFault.TheVariants.{NearCount, Ended}
 use Rattle.pn_search.specs.MateCount.{mate_count}
 

@@ -10,6 +10,8 @@ mod fault;
 mod finding;
 mod grew;
 mod mating;
+#[cfg(test)]
+mod mirror;
 mod node;
 mod numbers;
 #[cfg(test)]

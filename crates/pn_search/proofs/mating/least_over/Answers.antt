@@ -1,5 +1,4 @@
-use Rattle.std.proofs.Common.{rules, ◌≡◌, ◌+◌, arith, false, true, sym, ◌∙◌, ap, subst}
-use Rattle.rules_model.specs.declared.board.Side.{Side}
+use Rattle.std.proofs.Common.{◌≡◌, ◌+◌, arith, sym, ◌∙◌, ap, subst}
 use Rattle.forced_wins.specs.Wins.{wins}
 use Rattle.game_play.specs.Played.{story}
 use Rattle.mate_search.proofs.LeastLaws.{NoneBefore, least-found, least-none, none-more}
