@@ -1,4 +1,3 @@
-pub mod LeastLaws
 pub mod AnswerLaws
 pub mod SlotLaws
 pub mod ReadLemmas

@@ -1,4 +1,3 @@
 -- Worked examples.
-pub mod Numbers
 pub mod Rows
 pub mod Told

@@ -1,4 +1,3 @@
-pub mod Least
 pub mod Problems
 pub mod Answers
 pub mod Workers

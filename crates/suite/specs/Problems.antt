@@ -4,12 +4,17 @@ use Rattle.rules_model.specs.Fit.{IsFit}
 use Rattle.rules_model.specs.Games.{Story}
 use Rattle.rules_model.specs.Sound.{is_sound}
 use Rattle.forced_wins.specs.Wins.{IsInLimit}
+use Rattle.game_play.specs.Played.{Played}
 use Rattle.suite.specs.declared.problem.Problem.{Problem}
-use Rattle.suite.specs.Least.{least}
+use Rattle.mate_search.specs.Least.{least}
 
 -- the game that is the problem's position alone
 abbrev pub game_of : Problem → Story
 game_of p = record { earlier = []; last = p.position }
+
+-- the same as a game that is kept
+abbrev pub started : Problem → Played
+started p = record { rules = p.rules; start = p.position; moves = [] }
 
 -- a problem may be asked: its rules fit, its position is sound, its number is from 1 to 20, and no move-count rule ends
 -- the game within it

@@ -12,6 +12,7 @@ use Rattle.fen_model.specs.declared.fault.FenFault.{FenFault}
 use Rattle.variant_model.specs.declared.fault.SectionFault.{SectionFault}
 use Rattle.variant_rules.specs.Entries.{Named, found}
 use Rattle.game_text.specs.GameText.{position_of}
+use Rattle.mate_search.specs.Least.{is_counted}
 use Rattle.suite.specs.declared.fault.SuiteFault.{SuiteFault}
 use Rattle.suite.specs.declared.fault.SuiteFault.TheVariants.{BadLine, UnknownVariant, RefusedVariant, BadPosition, NearCount, TooMany, LineTooLong}
 use Rattle.suite.specs.declared.problem.Problem.{Problem}
@@ -62,10 +63,6 @@ unfoldable pub row_of : List ℕ → Option Asked
 row_of text = row_from (cut space text)
 
 -- ---- the problem of a line
-
--- the move-count rule could end the game within n moves
-abbrev pub is_counted : Rules → ℕ → Position → Bool
-is_counted rules n p = not (rules.n_move == 0) && nat_le (2 * rules.n_move) (p.counter + 2 * n)
 
 abbrev pub problem_from : ℕ → Rules → ℕ → Result Position FenFault → Result Problem SuiteFault
 problem_from line rules n (Err why) = Err (BadPosition line why)

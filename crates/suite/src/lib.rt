@@ -3,7 +3,6 @@
 
 mod copies;
 mod fault;
-pub mod laws;
 mod problem;
 mod queue;
 mod race;
@@ -13,7 +12,6 @@ mod reporting;
 mod row;
 mod settling;
 mod solving;
-mod watch;
 mod work;
 
 pub use fault::{NoSuite, SuiteFault, write_fault};

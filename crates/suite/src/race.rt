@@ -9,10 +9,11 @@ use crate::queue::Queue;
 use crate::work::{Job, work};
 use io_ports::Gate;
 use std::alloc::Global;
+use std::sync::Wait;
 use std::thread::{Threads, for_each_mut, join_mut};
 
 // The workers beside the first.
-fn help_all<R: Threads + Sync, G: Gate + Sync>(
+fn help_all<R: Threads + Wait + Sync, G: Gate + Sync>(
     rt: &R,
     alloc: Global,
     jobs: &mut [Job],
@@ -33,12 +34,12 @@ fn help_all<R: Threads + Sync, G: Gate + Sync>(
         &|k: usize, job: &mut Job|
             requires { HasFound problems.now job.now × All IsFair problems.now × (k < 63) }
             ensures { HasFound problems.entry.now job.exit.now }
-        { work(alloc, job, queue, gate, k as u32 + 1, problems) },
+        { work(rt, alloc, job, queue, gate, k as u32 + 1, problems) },
     );
 }
 
 /// The worker in the caller, whose job is the first one, and the others beside it. It returns once all have ended.
-pub(crate) fn race<R: Threads + Sync, G: Gate + Sync>(
+pub(crate) fn race<R: Threads + Wait + Sync, G: Gate + Sync>(
     rt: &R,
     alloc: Global,
     mine: &mut Job,
@@ -55,7 +56,7 @@ pub(crate) fn race<R: Threads + Sync, G: Gate + Sync>(
     ensures found { HaveFound problems.now jobs.new }
 {
     if jobs.is_empty() {
-        work(alloc, mine, queue, gate, 0, problems);
+        work(rt, alloc, mine, queue, gate, 0, problems);
         return;
     }
     let mut others = ||
@@ -66,6 +67,6 @@ pub(crate) fn race<R: Threads + Sync, G: Gate + Sync>(
     let mut first = ||
         requires { HasFound problems.now mine.now × All IsFair problems.now }
         ensures { HasFound problems.entry.now mine.exit.now }
-    { work(alloc, mine, queue, gate, 0, problems) };
+    { work(rt, alloc, mine, queue, gate, 0, problems) };
     join_mut(rt, &mut others, &mut first);
 }

@@ -18,6 +18,7 @@ use crate::row::{Row, is_skipped, row_of};
 use foundation::Memory;
 use game_text::copy_of as copy_of_fault;
 use io_ports::{Got, LineBuf, Source};
+use mate_search::is_counted;
 use rules_model::{Position, Rules};
 use std::alloc::{AllocError, Global};
 use std::marker::Model;
@@ -79,14 +80,6 @@ fn position_of(rules: &Rules, text: &[u8]) -> Result<Position, FenFault>
     } else {
         read_fen(rules, text)
     }
-}
-
-// Whether the move-count rule could end the game within the moves.
-fn is_counted(rules: &Rules, moves: u16, p: &Position) -> bool
-    ensures { result ≡ Said.is_counted rules.now moves p.now }
-{
-    let limit = 2 * u32::from(rules.n_move);
-    rules.n_move != 0 && limit <= u32::from(p.counter) + 2 * u32::from(moves)
 }
 
 // The problem of a line whose variant has these rules.

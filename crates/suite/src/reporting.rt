@@ -13,11 +13,12 @@ use crate::solving::solve_all;
 use foundation::{Memory, Text};
 use io_ports::{Gate, Source};
 use std::alloc::Global;
+use std::sync::Wait;
 use std::thread::Threads;
 use variant_rules::Variants;
 
 /// The report on the problems, by so many workers.
-fn report_on<R: Threads + Sync, G: Gate + Sync>(
+fn report_on<R: Threads + Wait + Sync, G: Gate + Sync>(
     rt: &R,
     alloc: Global,
     suite: &Suite,
@@ -37,7 +38,7 @@ fn report_on<R: Threads + Sync, G: Gate + Sync>(
 /// # Errors
 ///
 /// The first fault of the first faulty line, after which no line is taken; `Unread` where the source failed; `Memory`.
-pub fn solve_suite<R: Threads + Sync, S: Source, G: Gate + Sync>(
+pub fn solve_suite<R: Threads + Wait + Sync, S: Source, G: Gate + Sync>(
     rt: &R,
     alloc: Global,
     variants: &Variants,

@@ -13,6 +13,7 @@ use crate::work::{Found, Job};
 use io_ports::Gate;
 use rules_model::Memory;
 use std::alloc::Global;
+use std::sync::Wait;
 use std::thread::Threads;
 
 // So many workers that found nothing yet, or fewer where there is no memory for more.
@@ -71,7 +72,8 @@ fn gather(slots: &mut Vec<Option<Answer>>, mine: Job, mut jobs: Vec<Job>, proble
 }
 
 // The answer that was found for the problem at the place; else the problem is solved now.
-fn answer_at<G: Gate>(
+fn answer_at<R: Wait, G: Gate>(
+    rt: &R,
     alloc: Global,
     slots: &mut Vec<Option<Answer>>,
     gate: &G,
@@ -88,14 +90,15 @@ fn answer_at<G: Gate>(
         Some(answer) => Ok(answer),
         None => {
             gate.pass(0, at as u64);
-            let answer = solve(alloc, &problems[at])?;
+            let answer = solve(rt, alloc, &problems[at])?;
             Ok(answer)
         }
     }
 }
 
 // The answers in their order.
-fn complete<G: Gate>(
+fn complete<R: Wait, G: Gate>(
+    rt: &R,
     alloc: Global,
     slots: &mut Vec<Option<Answer>>,
     gate: &G,
@@ -107,7 +110,7 @@ fn complete<G: Gate>(
 {
     let mut answers = Vec::with_capacity(alloc, problems.len())?;
     for at in 0..problems.len() {
-        let answer = answer_at(alloc, slots, gate, problems, at)?;
+        let answer = answer_at(rt, alloc, slots, gate, problems, at)?;
         answers.push(answer)?;
     }
     Ok(Solved { items: answers })
@@ -124,7 +127,7 @@ fn complete<G: Gate>(
 /// # Errors
 ///
 /// `Memory` where there is none.
-pub fn solve_all<R: Threads + Sync, G: Gate + Sync>(
+pub fn solve_all<R: Threads + Wait + Sync, G: Gate + Sync>(
     rt: &R,
     alloc: Global,
     problems: &[Problem],
@@ -144,5 +147,5 @@ pub fn solve_all<R: Threads + Sync, G: Gate + Sync>(
     let mut jobs = jobs_for(alloc, workers - 1);
     race(rt, alloc, &mut mine, &mut jobs, &queue, gate, problems);
     gather(&mut slots, mine, jobs, problems);
-    complete(alloc, &mut slots, gate, problems)
+    complete(rt, alloc, &mut slots, gate, problems)
 }

@@ -10,6 +10,7 @@ use crate::settling::solve;
 use io_ports::Gate;
 use rules_model::Memory;
 use std::alloc::Global;
+use std::sync::Wait;
 
 /// The answer to the problem at a place.
 #[derive(Drop)]
@@ -25,7 +26,8 @@ pub(crate) struct Job {
 }
 
 // Solves the problem at the place.
-fn settle(
+fn settle<R: Wait>(
+    rt: &R,
     alloc: Global,
     found: &mut Vec<Found>,
     problems: &[Problem],
@@ -36,13 +38,14 @@ fn settle(
     requires found { AreFound problems.now found.old.items }
     ensures found { AreFound problems.now found.new.items }
 {
-    let answer = solve(alloc, &problems[at])?;
+    let answer = solve(rt, alloc, &problems[at])?;
     found.push(Found { at, answer })?;
     Ok(())
 }
 
 /// Takes problems while there are any. A worker that finds no memory stops, and what it found stays.
-pub(crate) fn work<G: Gate>(
+pub(crate) fn work<R: Wait, G: Gate>(
+    rt: &R,
     alloc: Global,
     job: &mut Job,
     queue: &Queue,
@@ -60,7 +63,7 @@ pub(crate) fn work<G: Gate>(
             return;
         }
         gate.pass(worker, at as u64);
-        if settle(alloc, &mut job.found, problems, at).is_err() {
+        if settle(rt, alloc, &mut job.found, problems, at).is_err() {
             return;
         }
     }

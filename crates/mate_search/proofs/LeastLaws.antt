@@ -1,7 +1,10 @@
--- The first number that passes a test.
+-- The first number that passes a test, and the least number of moves within which a game is won.
 use Rattle.std.proofs.Common.{◌≡◌, ◌≤◌, ℕ, zero, suc, ◌+◌, ◌-◌, arith, Bool, true, false, Option, Some, None, refl, ap, subst, ◌∙◌, inl, inr, if◌then◌else◌}
 use Rattle.std.proofs.Math.Nat.{eq-or-lt_of_le}
-use Rattle.suite.specs.Least.{IsFirstWithin, first_within, if_passes, or_later}
+use Rattle.rules_model.specs.declared.rules.Rules.{Rules}
+use Rattle.rules_model.specs.Games.{Story}
+use Rattle.forced_wins.specs.Wins.{IsInLimit, wins}
+use Rattle.mate_search.specs.Least.{IsFirstWithin, first_within, if_passes, least, mover_wins, or_later}
 
 module _ (test : ℕ → Bool) where
   -- ---- one number more
@@ -51,3 +54,31 @@ module _ (test : ℕ → Bool) where
       let back : suc k - 1 ≡ k = omega arith in
       let on : suc k ≡ (suc k + 1) - 1 = omega arith in
       subst (λ m. first_within test m ≡ None) on (first-not k (subst (λ m. first_within test m ≡ None) back none) fails)
+
+-- ---- the least number of moves of a game
+
+-- a smaller number is within the limit too
+pub limit-within : (rules : Rules) (g : Story) (k n : ℕ) → k ≤ n → IsInLimit rules n g → IsInLimit rules k g
+limit-within rules g k n le (inl off) = inl off
+limit-within rules g k n le (inr low) = inr (omega (arith, le, low))
+
+module _ (rules : Rules) (g : Story) where
+  -- it is not won within fewer than k moves
+  pub record NoneBefore (k : ℕ) : Type 0 where
+    pub none : first_within (mover_wins rules g) (k - 1) ≡ None
+
+  pub none-first : NoneBefore 1
+  none-first = record { none = refl }
+
+  pub none-more : (k : ℕ) → 1 ≤ k → NoneBefore k → wins rules k g g.last.side ≡ false → NoneBefore (k + 1)
+  none-more k some before lost = record { none = first-passed (mover_wins rules g) k some before.none lost }
+
+  pub least-found : (n k : ℕ) → 1 ≤ k → k ≤ n → NoneBefore k → wins rules k g g.last.side ≡ true → least rules n g ≡ Some k
+  unfolding least
+  least-found n k some le before won = first-found (mover_wins rules g) n k some le before.none won
+
+  pub least-none : (n : ℕ) → NoneBefore (n + 1) → least rules n g ≡ None
+  unfolding least
+  least-none n before =
+      let back : (n + 1) - 1 ≡ n = omega arith in
+      subst (λ m. first_within (mover_wins rules g) m ≡ None) back before.none

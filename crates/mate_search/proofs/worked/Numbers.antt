@@ -1,6 +1,6 @@
 -- The first number from 1 on that passes a test, and near misses.
 use Rattle.std.proofs.Common.{◌≡◌, Some, None, refl, nat_le, ◌==◌, ◌||◌}
-use Rattle.suite.specs.Least.{first_within}
+use Rattle.mate_search.specs.Least.{first_within}
 
 -- the first that passes, and not a later one
 found : first_within (λ k. nat_le 2 k) 3 ≡ Some 2

@@ -2,7 +2,7 @@
 ghost use Rattle.std.specs.Prelude.{ℕ};
 ghost use Rattle.rules_model.specs.declared.rules.Rules.{Rules};
 ghost use Rattle.rules_model.specs.Games.{Story};
-ghost use Rattle.suite.specs.Least.{IsFirstWithin, least, mover_wins};
+ghost use Rattle.mate_search.specs.Least.{IsFirstWithin, least, mover_wins};
 
 /// The least number of moves is from 1 to n and wins, and no smaller one from 1 on does; there is none exactly where
 /// none from 1 to n wins.

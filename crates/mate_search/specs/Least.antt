@@ -1,5 +1,6 @@
--- The least number of moves within which a game is won.
-use Rattle.std.specs.Prelude.{◌≡◌, ℕ, zero, suc, ◌≤◌, ◌<◌, Bool, true, false, Option, Some, None, if◌then◌else◌}
+-- The least number of moves within which a game is won, and whether the move-count rule could end it meanwhile.
+use Rattle.std.specs.Prelude.{◌≡◌, ℕ, zero, suc, ◌+◌, ◌*◌, ◌≤◌, ◌<◌, nat_le, Bool, true, false, not, ◌&&◌, ◌==◌, Option, Some, None, if◌then◌else◌}
+use Rattle.rules_model.specs.declared.board.Position.{Position}
 use Rattle.rules_model.specs.declared.rules.Rules.{Rules}
 use Rattle.rules_model.specs.Games.{Story}
 use Rattle.forced_wins.specs.Wins.{wins}
@@ -35,3 +36,7 @@ pub record IsFirst (test : ℕ → Bool) (n k : ℕ) : Type 0 where
 abbrev pub IsFirstWithin : (ℕ → Bool) → ℕ → Option ℕ → Type 0
 IsFirstWithin test n (Some k) = IsFirst test n k
 IsFirstWithin test n None = (j : ℕ) → 1 ≤ j → j ≤ n → test j ≡ false
+
+-- the move-count rule could end the game within n moves from the position
+abbrev pub is_counted : Rules → ℕ → Position → Bool
+is_counted rules n p = not (rules.n_move == 0) && nat_le (2 * rules.n_move) (p.counter + 2 * n)

@@ -1,7 +1,0 @@
-use Rattle.suite.specs.Least.{least, mover_wins}
-use Rattle.suite.proofs.LeastLaws.{first-is}
-use Rattle.suite.proofs.laws.the_least_number_wins_first.Goals as goal
-
-pub returns : goal.returns
-unfolding least
-returns c = record { law = λ rules n g. first-is (mover_wins rules g) n }
