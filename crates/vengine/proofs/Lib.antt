@@ -8,4 +8,5 @@ mod RunLemmas
 mod SessionLemmas
 mod SetupLemmas
 mod ShotLemmas
+mod SuiteLemmas
 mod VariantLemmas

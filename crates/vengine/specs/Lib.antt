@@ -15,6 +15,7 @@ pub mod Setup
 pub mod Shot
 pub mod Speaking
 pub mod StopView
+pub mod Suites
 pub mod UnplacedView
 pub mod Variants
 pub mod VariantsText

@@ -10,6 +10,7 @@ mod generating;
 mod halt;
 mod laws;
 mod opening;
+mod problems;
 mod program;
 mod reach;
 mod sections;

@@ -26,6 +26,8 @@ pub data Command : Type 0 where
   CheckCert : Command
   -- `variants`
   Variants : Command
+  -- `suite`
+  Suite : Command
   -- `reach WORD SQUARE [OWN [ENEMY]]`: a Betza word, a square, and the lists of own and of enemy squares
   Reach : Text → Text → Text → Text → Command
   -- `generate NAME START N`: a variant, the number from which a random game goes, and the most plies that it has
@@ -98,7 +100,8 @@ command_named name arguments =
     else (if bytes_eq name (codes "stipulate") then stipulate_in arguments
     else (if bytes_eq name (codes "variants") then without_arguments Variants arguments
     else (if bytes_eq name (codes "reach") then reach_in arguments
-    else (if bytes_eq name (codes "generate") then generate_in arguments else None)))))))))
+    else (if bytes_eq name (codes "generate") then generate_in arguments
+    else (if bytes_eq name (codes "suite") then without_arguments Suite arguments else None))))))))))
 
 -- the command that words without options are; that of no words is the session of `uci`
 abbrev pub command_in : List Text → Option Command

@@ -46,6 +46,8 @@ pub enum Command<'a> {
     CheckCert,
     /// `variants`: the variants that there are, each with its fault where it has one.
     Variants,
+    /// `suite`: which of the mate problems of the input are solved, and within how many moves.
+    Suite,
     /// `reach WORD SQUARE [OWN [ENEMY]]`: where a piece of this Betza word goes from this square. The lists of squares
     /// of own and of enemy pieces are `none` where they are left out.
     Reach {
@@ -206,6 +208,7 @@ fn command_named<'a>(name: &str, arguments: &[&'a str]) -> Option<Command<'a>>
         "variants" => without_arguments(Command::Variants, arguments),
         "reach" => reach_in(arguments),
         "generate" => generate_in(arguments),
+        "suite" => without_arguments(Command::Suite, arguments),
         _ => None,
     }
 }

@@ -47,7 +47,7 @@ fn owned(alloc: Global, words: &[&str]) -> Result<Vec<String>, Fail> {
 
 #[test]
 fn words_of_the_set_are_read(rt: HostRuntime) -> Result<(), Fail> {
-    let rows: [(&[&str], Asked<'static>); 25] = [
+    let rows: [(&[&str], Asked<'static>); 26] = [
         (&[], command(Command::Uci)),
         (&["uci"], command(Command::Uci)),
         (&["xboard"], command(Command::Xboard)),
@@ -69,6 +69,7 @@ fn words_of_the_set_are_read(rt: HostRuntime) -> Result<(), Fail> {
         (&["stipulate", "help", "06"], command(Command::HelpMate(6))),
         (&["stipulate", "check"], command(Command::CheckCert)),
         (&["variants"], command(Command::Variants)),
+        (&["suite"], command(Command::Suite)),
         (&["reach", "N", "b1"], reach("N", "b1", "none", "none")),
         (&["reach", "", "", ""], reach("", "", "", "none")),
         (
@@ -118,7 +119,7 @@ fn words_of_the_set_are_read(rt: HostRuntime) -> Result<(), Fail> {
 
 #[test]
 fn other_words_ask_nothing(rt: HostRuntime) -> Result<(), Fail> {
-    let rows: [&[&str]; 36] = [
+    let rows: [&[&str]; 37] = [
         &["Uci"],
         &["Moves"],
         &["moves", ""],
@@ -127,6 +128,7 @@ fn other_words_ask_nothing(rt: HostRuntime) -> Result<(), Fail> {
         &["reach", "N", "b1", "-"],
         &["reach", "-N", "b1"],
         &["uci", "f"],
+        &["suite", "f"],
         &["stipulate"],
         &["stipulate", "self", "0"],
         &["stipulate", "help", "7"],

@@ -173,6 +173,72 @@ fn random_games_are_generated(rt: HostRuntime) -> Result<(), Fail> {
     Ok(())
 }
 
+/// A mate in one, a mate in two, and the same position with one move too few.
+const SUITE: &str = "chess 1 7k/8/5KQ1/8/8/8/8/8 w - - 0 1\nchess 2 7k/R7/5K2/8/8/8/8/8 w - - 0 1\n\
+    chess 1 7k/R7/5K2/8/8/8/8/8 w - - 0 1\n";
+
+const SOLVED: &str = "1 mate 1\n2 mate 2\n3 none\nsolved 2 of 3\n";
+
+/// The report does not depend on the number of threads.
+#[test]
+fn suites_are_reported(rt: HostRuntime) -> Result<(), Fail> {
+    let rows: [(&[&str], &str, u8, &str); 6] = [
+        (&["suite"], SUITE, 0, SOLVED),
+        (&["--threads", "3", "suite"], SUITE, 0, SOLVED),
+        (&["suite"], "", 0, "solved 0 of 0\n"),
+        (
+            &["suite"],
+            "chess 1 7k/8/5KQ1/8/8/8/8/8 w - - 99 80\n",
+            3,
+            "error SuiteFault 5 NearCount 1\n",
+        ),
+        (
+            &["suite"],
+            "# mates\n\nchess 21 startpos\n",
+            3,
+            "error SuiteFault 1 BadLine 3\n",
+        ),
+        (
+            &["--variants", "f", "suite"],
+            "d 1 startpos\n",
+            3,
+            "error SuiteFault 3 RefusedVariant 1 SectionFault 4 UnsupportedOption blastOnCapture\n",
+        ),
+    ];
+    let mut files = some_files(rt.alloc())?;
+    for (words, input, status, text) in rows {
+        answers(
+            &rt,
+            &mut files,
+            words,
+            input.as_bytes(),
+            status,
+            text.as_bytes(),
+        )?;
+    }
+    Ok(())
+}
+
+/// Nothing is written where the source fails, and a front part where the sink does.
+#[test]
+fn suites_are_cut_short(rt: HostRuntime) -> Result<(), Fail> {
+    let mut files = MemFiles::new(rt.alloc());
+    for call in 0..4 {
+        let (answered, sink) = ran(
+            &rt,
+            &mut files,
+            &["suite"],
+            SUITE.as_bytes(),
+            &[call],
+            1000,
+        )?;
+        assert!(rt; answered == 4 && sink.taken().is_empty());
+    }
+    let lines = b"chess 1 7k/8/5KQ1/8/8/8/8/8 w - - 0 1\n";
+    let text = b"1 mate 1\nsolved 1 of 1\n";
+    is_cut(&rt, &mut files, &["suite"], lines, text)
+}
+
 /// The lines of a session end at `quit`, or with the input. Without words it is UCI's.
 #[test]
 fn sessions_are_held(rt: HostRuntime) -> Result<(), Fail> {

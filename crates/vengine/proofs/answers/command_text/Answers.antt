@@ -52,3 +52,6 @@ returns-in-Generate-clause-heard g c = rw c.in-Generate.is (heard_nothing _ _ _ 
 
 pub returns-in-Generate-clause-cause : goal.returns-in-Generate-clause-cause
 returns-in-Generate-clause-cause g c = record { later = omega arith; failed = λ unheard. absurd (c.generate.ensures.reads_nothing unheard) }
+
+pub returns-in-Suite-clause-heard : goal.returns-in-Suite-clause-heard
+returns-in-Suite-clause-heard g c = rw c.in-Suite.is c.suite_text.ensures.heard
