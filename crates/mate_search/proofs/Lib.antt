@@ -7,4 +7,6 @@ mod Walk
 mod Evidence
 mod Root
 mod MateLaws
-mod HandedLaws
+pub mod HandedLaws
+pub mod LeastLaws
+mod worked

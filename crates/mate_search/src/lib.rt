@@ -4,8 +4,10 @@
 
 mod answer;
 mod building;
+mod counting;
 mod frame;
 mod judging;
+pub mod laws;
 mod node_table;
 mod plan;
 mod shared_root;
@@ -16,6 +18,7 @@ mod unwatched;
 mod whole;
 
 pub use answer::{Mate, Settled};
+pub use counting::is_counted;
 pub use frame::frame_of;
 pub use solving::solve_watched;
 pub use whole::{settle, solve};

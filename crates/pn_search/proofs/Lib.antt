@@ -10,4 +10,5 @@ pub mod Meaning
 pub mod Fair
 pub mod Progress
 pub mod Sought
+pub mod CountLaws
 pub mod worked

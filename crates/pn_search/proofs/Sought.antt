@@ -28,11 +28,9 @@ use Rattle.game_play.specs.Played.{Played, story}
 use Rattle.mate_core.specs.declared.frame.Frame.{Frame}
 use Rattle.mate_core.specs.Runs.{IsTrueIn}
 use Rattle.mate_fact.specs.InFrame as In
-use Rattle.mate_shards.specs.Views.{ShardsView, ShardPass, ArePassesOf}
-use Rattle.mate_shards.proofs.GrownLaws.{grown-itself, grown-onward}
 use Rattle.pn_search.specs.declared.node.Node.{Node}
 use Rattle.pn_search.specs.declared.numbers.Pair.{Pair}
-use Rattle.pn_search.specs.Finds.{AreHandedBack, IsSought, IsFound, IsAt}
+use Rattle.pn_search.specs.Finds.{IsSought, IsFound, IsAt}
 use Rattle.pn_search.specs.Meaning.{moves_win, root_pair, won_pair, lost_pair, PairDecides}
 use Rattle.pn_search.specs.Numbers.{infinite, pair_at, pairs_of}
 use Rattle.pn_search.specs.Trees.{ProofTree, HasGrown, end_at, is_settled, is_settled_pair, position_by, position_of}
@@ -40,18 +38,6 @@ use Rattle.pn_search.proofs.Carried.{length-pairs}
 use Rattle.pn_search.proofs.Fair.{IsFair, fair_at, settled-won, settled-lost}
 use Rattle.pn_search.proofs.Grown.{IsRooted, pn-rooted, position-is}
 use Rattle.pn_search.proofs.Meaning.{Says as NodeSays, says, worth, worth-later}
-
--- ---- passes
-
-pub handed-itself : (s : ShardsView) (ps : List ShardPass) → ArePassesOf s ps → AreHandedBack s ps ps
-handed-itself s ps are = record { passes = are; parts = λ n all. all; grown = grown-itself ps }
-
-pub handed-onward : (s : ShardsView) (a b c : List ShardPass) → AreHandedBack s a b → AreHandedBack s b c → AreHandedBack s a c
-handed-onward s a b c p q = record {
-  passes = q.passes;
-  parts = λ n all. q.parts n (p.parts n all);
-  grown = grown-onward a b c p.grown q.grown;
-}
 
 -- ---- an ongoing game
 
@@ -109,10 +95,10 @@ found-is g f n t sought frame root moves grown decides settled = by_pair (settle
     same =
         ap (λ h. moves_win h t.moves t.root) frame ∙ ap (λ k. moves_win f k t.root) moves ∙ ap (moves_win f n) root
         ∙ sym (wins-moves f (story g) n
-        (ap (λ r. result r (story g)) sought.rules ∙ sought.ongoing)
-        (sought.blocked ∙ ap (λ r. blocked r (story g)) (sym sought.rules))
-        (subst (λ r. IsInLimit r n (story g)) (sym sought.rules) sought.in_limit))
-        ∙ ap (λ r. wins r n (story g) f.attacker) sought.rules
+        (ap (λ r. result r (story g)) sought.frame.rules ∙ sought.ongoing)
+        (sought.frame.blocked ∙ ap (λ r. blocked r (story g)) (sym sought.frame.rules))
+        (subst (λ r. IsInLimit r n (story g)) (sym sought.frame.rules) sought.in_limit))
+        ∙ ap (λ r. wins r n (story g) f.attacker) sought.frame.rules
 
     by : (q : Pair) (b : Bool) → root_pair t ≡ q → (q.proof == 0) ≡ b → q ≡ cond b won_pair lost_pair → moves_win t.frame t.moves t.root ≡ b → IsFound g f n ((root_pair t).proof == 0) t
     by q b is test pair win =

@@ -1,27 +1,18 @@
--- What is found of a game, and the passes that are handed back.
-use Rattle.std.specs.Prelude.{◌≡◌, ℕ, ◌<◌, List, length, Bool, if◌then◌else◌}
+-- What is found of a game.
+use Rattle.std.specs.Prelude.{◌≡◌, ℕ, ◌<◌, length, Bool, if◌then◌else◌}
 use Rattle.rules_model.specs.declared.board.Position.{Position}
 use Rattle.rules_model.specs.declared.moves.Outcome.TheVariants.{Ongoing}
 use Rattle.rules_model.specs.Games.{result}
-use Rattle.forced_wins.specs.Wins.{wins, blocked, IsInLimit}
+use Rattle.forced_wins.specs.Wins.{wins, IsInLimit}
 use Rattle.game_play.specs.Played.{Played, story}
 use Rattle.mate_core.specs.declared.frame.Frame.{Frame}
-use Rattle.mate_shards.specs.Grown.{HaveGrown, HaveParts}
-use Rattle.mate_shards.specs.Views.{ArePassesOf, ShardPass, ShardsView}
+use Rattle.mate_search.specs.Answers.{IsFrameOf}
 use Rattle.pn_search.specs.Meaning.{root_pair, won_pair, lost_pair}
 use Rattle.pn_search.specs.Trees.{ProofTree, HasGrown, position_of}
 
--- the passes are of the same shards, have seen as much or more, own what they owned, and have as many parts
-pub record AreHandedBack (s : ShardsView) (before after : List ShardPass) : Type 0 where
-  pub passes : ArePassesOf s after
-  pub parts : (n : ℕ) → HaveParts n before → HaveParts n after
-  pub grown : HaveGrown before after
-
--- the game may be searched in the frame: its rules, the repeats that it has used up, it is ongoing, and its counter cannot
--- run out
+-- the game may be searched in the frame, which is its own: it is ongoing, and its counter cannot run out
 pub record IsSought (g : Played) (f : Frame) (n : ℕ) : Type 0 where
-  pub rules : f.rules ≡ g.rules
-  pub blocked : f.blocked ≡ blocked g.rules (story g)
+  pub frame : IsFrameOf g f
   pub ongoing : result g.rules (story g) ≡ Ongoing
   pub in_limit : IsInLimit g.rules n (story g)
 

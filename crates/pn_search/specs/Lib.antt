@@ -4,3 +4,4 @@ pub mod Shapes
 pub mod Kept
 pub mod Meaning
 pub mod Finds
+pub mod MateCount

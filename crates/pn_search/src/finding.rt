@@ -1,5 +1,6 @@
 //! Games that are settled by their proof trees.
 ghost use Rattle.std.specs.Prelude.{◌≡◌, ◌<◌, ◌≤◌, true, OnOk, IfOk};
+ghost use Rattle.mate_search.specs.Handed.{AreHandedBack};
 ghost use Rattle.mate_shards.specs.Views.{ArePassesOf};
 ghost use Rattle.pn_search.specs.Finds as Finds;
 ghost use Rattle.pn_search.specs.Trees as Trees;
@@ -49,7 +50,7 @@ fn publish_at<R: Wait>(
     requires frame { tree.now.frame ≡ shards.now.frame }
     requires at { Finds.IsAt tree.now place p.now }
     requires passes { ArePassesOf shards.now passes.old }
-    ensures { Finds.AreHandedBack shards.now passes.old passes.new }
+    ensures { AreHandedBack shards.now passes.old passes.new }
 {
     if place == 0 {
         return;
@@ -72,7 +73,7 @@ fn publish_below<R: Wait>(
     requires rules { board.now.rules ≡ tree.now.frame.rules }
     requires at { Finds.IsAt tree.now place board.now.position }
     requires passes { ArePassesOf shards.now passes.old }
-    ensures { Finds.AreHandedBack shards.now passes.old passes.new }
+    ensures { AreHandedBack shards.now passes.old passes.new }
 {
     publish_at(rt, tree, shards, passes, place, board.position());
     for k in 0..tree.count_at(place) {
@@ -82,8 +83,8 @@ fn publish_below<R: Wait>(
     }
 }
 
-// The same as `find`, with passes that are lent.
-fn find_lent<R: Wait>(
+/// The same as `find` for the attacker of the shards' frame, with passes that are lent.
+pub(crate) fn find_lent<R: Wait>(
     rt: &R,
     alloc: Global,
     game: &Game,
@@ -95,7 +96,7 @@ fn find_lent<R: Wait>(
     requires some { 0 < n }
     requires small { n ≤ 100 }
     requires passes { ArePassesOf shards.now passes.old }
-    ensures handed { Finds.AreHandedBack shards.now passes.old passes.new }
+    ensures handed { AreHandedBack shards.now passes.old passes.new }
     ensures found { IfOk result (λ f. Finds.IsFound game.now shards.now.frame n f.won f.tree) }
 {
     let mut tree = Tree::new(alloc, shards.frame(), game.position(), n)?;
@@ -129,7 +130,7 @@ pub fn find<R: Wait>(
     requires some { 0 < n }
     requires small { n ≤ 100 }
     requires passes { ArePassesOf shards.now passes }
-    ensures handed { Finds.AreHandedBack shards.now passes result.0 }
+    ensures handed { AreHandedBack shards.now passes result.0 }
     ensures found { IfOk result.1 (λ f. Finds.IsFound game.now shards.now.frame n f.won f.tree) }
 {
     let _attacker = attacker;

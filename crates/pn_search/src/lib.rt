@@ -6,8 +6,10 @@ mod carrying;
 mod copying;
 mod descending;
 mod expanding;
+mod fault;
 mod finding;
 mod grew;
+mod mating;
 mod node;
 mod numbers;
 #[cfg(test)]
@@ -15,8 +17,10 @@ mod tests;
 mod tree;
 
 pub use expanding::root_end;
+pub use fault::{PnFault, write_pn_fault};
 pub use finding::{Found, find};
 pub use grew::Grew;
+pub use mating::least_mate;
 pub use node::{Node, State};
 pub use numbers::{INFINITE, Pair};
 pub use tree::Tree;

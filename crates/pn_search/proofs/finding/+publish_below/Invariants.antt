@@ -1,5 +1,5 @@
 use Rattle.std.proofs.Common.{◌-◌, length}
-use Rattle.pn_search.specs.Finds.{AreHandedBack}
+use Rattle.mate_search.specs.Handed.{AreHandedBack}
 use Rattle.pn_search.proofs.finding.+publish_below.Given as goal
 
 abbrev pub decreases-publish_below : goal.decreases-publish_below

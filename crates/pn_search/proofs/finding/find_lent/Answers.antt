@@ -14,7 +14,7 @@ new-requires-clause-ongoing g c =
     let f = c.args.shards.now.frame in
     let s = story c.args.game.now in
     ap (λ (x : Frame). end_at x 0 c.position.result.now) c.frame.ensures ∙ ap (end_at f 0) c.position.ensures.is
-    ∙ sought-ongoing f s (ap (λ (x : Rules). result x s) c.requires.sought.rules ∙ c.requires.sought.ongoing)
+    ∙ sought-ongoing f s (ap (λ (x : Rules). result x s) c.requires.sought.frame.rules ∙ c.requires.sought.ongoing)
 
 pub publish_below-requires-clause-at : goal.publish_below-requires-clause-at
 publish_below-requires-clause-at g c =
