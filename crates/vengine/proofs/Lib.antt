@@ -4,6 +4,7 @@ mod CheckLemmas
 mod FileLemmas
 mod GenerateLemmas
 mod HeardLemmas
+mod PnMateLemmas
 mod RunLemmas
 mod SessionLemmas
 mod SetupLemmas

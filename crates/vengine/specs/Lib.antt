@@ -8,6 +8,7 @@ pub mod GameView
 pub mod GameTexts
 pub mod HaltView
 pub mod Looked
+pub mod PnMates
 pub mod ReachText
 pub mod Run
 pub mod Sessions

@@ -19,6 +19,7 @@ use crate::checking::check_text;
 use crate::game::{game_in, help_mate_of, self_mate_of};
 use crate::generating::generate;
 use crate::halt::Halt;
+use crate::mate_counts::pn_mate_text;
 use crate::opening::Opened;
 use crate::problems::suite_text;
 use crate::reach::reach_text;
@@ -192,6 +193,7 @@ fn command_text<'a, R: Threads + Wait + Sync, S: Source, G: Gate + Sync>(
             plies,
         } => generate(rt, alloc, sections, name, number, plies),
         Command::Suite => suite_text(rt, alloc, sections, source, threads, gate),
+        Command::PnMate(moves) => pn_mate_text(rt, alloc, moves, sections, source),
     }
 }
 

@@ -9,6 +9,7 @@ mod game;
 mod generating;
 mod halt;
 mod laws;
+mod mate_counts;
 mod opening;
 mod problems;
 mod program;

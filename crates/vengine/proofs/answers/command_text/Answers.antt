@@ -55,3 +55,9 @@ returns-in-Generate-clause-cause g c = record { later = omega arith; failed = λ
 
 pub returns-in-Suite-clause-heard : goal.returns-in-Suite-clause-heard
 returns-in-Suite-clause-heard g c = rw c.in-Suite.is c.suite_text.ensures.heard
+
+pub pn_mate_text-requires : goal.pn_mate_text-requires
+pn_mate_text-requires g c = let moves = rw c.in-PnMate.is at c.requires.plies in record { least = moves.0; most = moves.1 }
+
+pub returns-in-PnMate-clause-heard : goal.returns-in-PnMate-clause-heard
+returns-in-PnMate-clause-heard g c = rw c.in-PnMate.is c.pn_mate_text.ensures.heard
