@@ -4,8 +4,10 @@ mod CheckLemmas
 mod FileLemmas
 mod GenerateLemmas
 mod HeardLemmas
+mod PnMateLemmas
 mod RunLemmas
 mod SessionLemmas
 mod SetupLemmas
 mod ShotLemmas
+mod SuiteLemmas
 mod VariantLemmas

@@ -6,8 +6,9 @@ use Rattle.io_ports.specs.Lines.{Line}
 use Rattle.variant_ini.specs.Section.{Section}
 use Rattle.variant_rules.specs.Entries.{entries}
 use Rattle.game_text.specs.GameText.{lines_of_game}
+use Rattle.suite.specs.Suite.{lines_of_suite}
 use Rattle.words.specs.Asked.{Asked}
-use Rattle.words.specs.Command.{Command, Uci, Xboard, Moves, Status, Perft, Check, SelfMate, HelpMate, CheckCert, Variants, Reach, Generate}
+use Rattle.words.specs.Command.{Command, Uci, Xboard, Moves, Status, Perft, Check, SelfMate, HelpMate, CheckCert, Variants, Reach, Generate, Suite, PnMate}
 use Rattle.vengine.specs.declared.fault.Fault.{Fault}
 use Rattle.vengine.specs.Checking.{lines_of_check}
 use Rattle.vengine.specs.Certificates.{lines_of_cert_check}
@@ -28,6 +29,8 @@ reads_input CheckCert = true
 reads_input Variants = false
 reads_input (Reach word square own enemy) = false
 reads_input (Generate name number plies) = false
+reads_input Suite = true
+reads_input (PnMate moves) = true
 
 abbrev pub asks_input : Option Asked → Bool
 asks_input None = false
@@ -48,6 +51,8 @@ lines_needed sections CheckCert input = lines_of_cert_check (entries sections) i
 lines_needed sections Variants input = 0
 lines_needed sections (Reach word square own enemy) input = 0
 lines_needed sections (Generate name number plies) input = 0
+lines_needed sections Suite input = lines_of_suite (entries sections) input
+lines_needed sections (PnMate moves) input = lines_of_game (entries sections) input
 
 -- this number of lines, or none where the file of variants has a fault
 abbrev pub lines_reached : Option Fault → ℕ → ℕ

@@ -8,10 +8,12 @@ use Rattle.proof_text.specs.Fault as proof
 use Rattle.strategy_check.specs.Verdicts.{verdict_text}
 use Rattle.stipulation.specs.Verdicts as stipulation
 use Rattle.cert_text.specs.Fault as cert
+use Rattle.suite.specs.Fault as suite
+use Rattle.pn_search.specs.MateCount.{pn_fault_text}
 use Rattle.variant_files.specs.declared.fault.LoadFault.TheVariants.{File, Ini}
 use Rattle.variant_files.specs.Loading.{file_fault_text, ini_fault_text}
 use Rattle.vengine.specs.declared.fault.Fault.{Fault}
-use Rattle.vengine.specs.declared.fault.Fault.TheVariants.{Betza, Reach, Game, Strategy, Proof, Verdict, Cert, CertFailure, Load}
+use Rattle.vengine.specs.declared.fault.Fault.TheVariants.{Betza, Reach, Game, Strategy, Proof, Verdict, Cert, CertFailure, Suite, PnMate, Load}
 use Rattle.vengine.specs.Setup.{Unplaced, NoSquare, Taken}
 use Rattle.vengine.specs.UnplacedView.{unplaced_of}
 
@@ -42,6 +44,8 @@ facts (Proof fault) = (proof.fault_text fault, OfInput)
 facts (Verdict verdict) = (verdict_text verdict, OfInput)
 facts (Cert fault) = (cert.fault_text fault, OfInput)
 facts (CertFailure verdict) = (stipulation.verdict_text verdict, OfInput)
+facts (Suite fault) = (suite.fault_text fault, OfInput)
+facts (PnMate fault) = (pn_fault_text fault, OfInput)
 facts (Load (Ini fault)) = (ini_fault_text fault, OfInput)
 facts (Load (File fault)) = (file_fault_text fault, OfFile)
 

@@ -10,7 +10,7 @@ use Rattle.variant_files.specs.declared.fault.NoSections.{NoSections}
 use Rattle.variant_files.specs.declared.fault.NoSections.TheVariants as no_sections
 use Rattle.variant_ini.specs.Section.{Section}
 use Rattle.vengine.specs.declared.fault.Fault.{Fault}
-use Rattle.vengine.specs.declared.fault.Fault.TheVariants.{Betza, Game, Strategy, Proof, Cert, Load}
+use Rattle.vengine.specs.declared.fault.Fault.TheVariants.{Betza, Game, Strategy, Proof, Cert, Suite, Load}
 use Rattle.game_text.specs.declared.fault.NoGame.{NoGame}
 use Rattle.game_text.specs.declared.fault.NoGame.TheVariants as no_game
 use Rattle.strategy.specs.declared.fault.StrategyFault.TheVariants as strategy
@@ -20,6 +20,8 @@ use Rattle.proof_text.specs.declared.taking.NoProof.TheVariants as no_proof
 use Rattle.cert_text.specs.declared.fault.CertFault.TheVariants as cert
 use Rattle.cert_text.specs.declared.fault.NoCert.{NoCert}
 use Rattle.cert_text.specs.declared.fault.NoCert.TheVariants as no_cert
+use Rattle.suite.specs.declared.fault.NoSuite.{NoSuite}
+use Rattle.suite.specs.declared.fault.NoSuite.TheVariants as no_suite
 use Rattle.vengine.specs.declared.halt.Halt.{Halt}
 use Rattle.vengine.specs.declared.halt.Halt.TheVariants as halt
 use Rattle.vengine.specs.declared.answers.Answer.{Answer}
@@ -88,6 +90,11 @@ cert_halt no_cert.Unread = halt.Stop stop.Source
 cert_halt (no_cert.Faulty cert.Memory) = halt.Stop stop.Memory
 cert_halt (no_cert.Faulty (cert.BadLine line)) = halt.Fault (Cert (cert.BadLine line))
 cert_halt (no_cert.Faulty (cert.Ended line)) = halt.Fault (Cert (cert.Ended line))
+
+abbrev pub suite_halt : NoSuite → Halt
+suite_halt (no_suite.Faulty fault) = halt.Fault (Suite fault)
+suite_halt no_suite.Unread = halt.Stop stop.Source
+suite_halt no_suite.Memory = halt.Stop stop.Memory
 
 -- this holds of the status and the text of the outcome. A run that was cut short has none. The sink has not cut it
 -- short, since it was given nothing yet

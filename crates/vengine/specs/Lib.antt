@@ -8,6 +8,7 @@ pub mod GameView
 pub mod GameTexts
 pub mod HaltView
 pub mod Looked
+pub mod PnMates
 pub mod ReachText
 pub mod Run
 pub mod Sessions
@@ -15,6 +16,7 @@ pub mod Setup
 pub mod Shot
 pub mod Speaking
 pub mod StopView
+pub mod Suites
 pub mod UnplacedView
 pub mod Variants
 pub mod VariantsText

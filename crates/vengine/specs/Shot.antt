@@ -17,7 +17,7 @@ use Rattle.game_text.specs.Fault as game
 use Rattle.game_text.specs.GameText.{game_of}
 use Rattle.session_model.specs.Generate.{SaysGenerate}
 use Rattle.words.specs.Asked.{Asked}
-use Rattle.words.specs.Command.{Command, Uci, Xboard, Moves, Status, Perft, Check, SelfMate, HelpMate, CheckCert, Variants, Reach, Generate}
+use Rattle.words.specs.Command.{Command, Uci, Xboard, Moves, Status, Perft, Check, SelfMate, HelpMate, CheckCert, Variants, Reach, Generate, Suite, PnMate}
 use Rattle.vengine.specs.declared.fault.Fault.{Fault}
 use Rattle.vengine.specs.Certificates.{SaysCertCheck}
 use Rattle.vengine.specs.Checking.{SaysCheck}
@@ -26,7 +26,9 @@ use Rattle.game_reports.specs.GameTexts.{moves_of, status_of, perft_of}
 use Rattle.vengine.specs.GameTexts.{self_mate_of, help_mate_of}
 use Rattle.vengine.specs.ReachText.{reach_text}
 use Rattle.vengine.specs.Sessions.{to_do}
+use Rattle.vengine.specs.PnMates.{SaysPnMate}
 use Rattle.vengine.specs.Setup.{Unplaced, setup_of}
+use Rattle.vengine.specs.Suites.{SaysSuite}
 use Rattle.vengine.specs.Variants.{AreFirstReads, fault_in, sections_in}
 use Rattle.vengine.specs.VariantsText.{variants_text}
 
@@ -68,6 +70,8 @@ SaysCommand sections CheckCert input status text = SaysCertCheck (entries sectio
 SaysCommand sections Variants input status text = (status ≡ 0) × (text ≡ variants_text (entries sections))
 SaysCommand sections (Reach word square own enemy) input status text = SaysReach word square own enemy status text
 SaysCommand sections (Generate name number plies) input status text = SaysGenerate sections name number plies status text
+SaysCommand sections Suite input status text = SaysSuite (entries sections) input status text
+SaysCommand sections (PnMate moves) input status text = SaysPnMate moves (entries sections) input status text
 
 -- the status and the line of a fault
 abbrev pub SaysFault : Fault → ℕ → List ℕ → Type 0

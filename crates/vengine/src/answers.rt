@@ -19,7 +19,9 @@ use crate::checking::check_text;
 use crate::game::{game_in, help_mate_of, self_mate_of};
 use crate::generating::generate;
 use crate::halt::Halt;
+use crate::mate_counts::pn_mate_text;
 use crate::opening::Opened;
+use crate::problems::suite_text;
 use crate::reach::reach_text;
 use crate::setup::set_up;
 use crate::stop::Stop;
@@ -28,8 +30,9 @@ use betza_compile::compile;
 use betza_text::parse;
 use foundation::{Memory, Text};
 use game_reports::{moves_of, perft_of, status_of};
-use io_ports::Source;
+use io_ports::{Gate, Source};
 use std::alloc::{AllocError, Global};
+use std::sync::Wait;
 use std::thread::Threads;
 use variant_ini::Sections;
 use words::Command;
@@ -149,16 +152,19 @@ fn variants(alloc: Global, sections: &Sections) -> Result<Text, Halt<'static>>
     Ok(variants_of(alloc, sections)?)
 }
 
-// The text of a command, where there are these sections.
-fn command_text<'a, R: Threads + Sync, S: Source>(
+// The text of a command, where there are these sections. This number of threads may work on it, and they pass the gate.
+fn command_text<'a, R: Threads + Wait + Sync, S: Source, G: Gate + Sync>(
     rt: &R,
     alloc: Global,
     command: Command<'a>,
     sections: &Sections,
     source: &mut S,
+    threads: u32,
+    gate: &G,
 ) -> Result<Text, Halt<'a>>
     requires one_shot { is_session (command_seen command) ≡ false }
     requires plies { HasPlies command }
+    requires threads { (1 ≤ threads) × (threads ≤ 64) }
     ensures heard { HeardLines (S.left source.old) (S.left source.new)
         (lines_needed sections.now (command_seen command.entry))
         (λ lines. Answers result (SaysCommand sections.now (command_seen command.entry) lines)) }
@@ -186,6 +192,8 @@ fn command_text<'a, R: Threads + Sync, S: Source>(
             number,
             plies,
         } => generate(rt, alloc, sections, name, number, plies),
+        Command::Suite => suite_text(rt, alloc, sections, source, threads, gate),
+        Command::PnMate(moves) => pn_mate_text(rt, alloc, moves, sections, source),
     }
 }
 
@@ -214,15 +222,17 @@ pub fn answer_of<'a>(alloc: Global, outcome: Result<Text, Halt<'a>>) -> Result<A
     }
 }
 
-/// The answer of a one-shot command, with what it reads of the source.
-pub fn answer_to<R: Threads + Sync, S: Source>(
+/// The answer of a one-shot command, with what it reads of the source. Workers pass the gate before what they take on.
+pub fn answer_to<R: Threads + Wait + Sync, S: Source, G: Gate + Sync>(
     rt: &R,
     alloc: Global,
     opened: &Opened,
     source: &mut S,
+    gate: &G,
 ) -> Result<Answer, Stop>
     requires one_shot { is_session (command_seen opened.now.asked.command) ≡ false }
     requires plies { HasPlies opened.now.asked.command }
+    requires threads { (1 ≤ opened.now.asked.threads) × (opened.now.asked.threads ≤ 64) }
     ensures heard { HeardLines (S.left source.old) (S.left source.new)
         (lines_needed opened.now.sections (command_seen opened.now.asked.command)) (λ lines. IfOk result (λ answer.
         SaysCommand opened.now.sections (command_seen opened.now.asked.command) lines answer.status answer.text)) }
@@ -230,6 +240,15 @@ pub fn answer_to<R: Threads + Sync, S: Source>(
     ensures unsaid { ¬ (IsUnsaid result) }
     ensures unread { reads_input (command_seen opened.now.asked.command) ≡ false → source.new ≡ source.old }
 {
-    let outcome = command_text(rt, alloc, opened.asked.command, &opened.sections, source);
+    let threads = opened.asked.threads as u32;
+    let outcome = command_text(
+        rt,
+        alloc,
+        opened.asked.command,
+        &opened.sections,
+        source,
+        threads,
+        gate,
+    );
     answer_of(alloc, outcome)
 }

@@ -4,6 +4,7 @@ ghost use Rattle.vengine.specs.declared.halt.Halt.TheVariants as halt;
 ghost use Rattle.vengine.specs.declared.fault.Fault.TheVariants as fault;
 ghost use Rattle.vengine.specs.declared.stop.Stop.TheVariants as stop;
 ghost use Rattle.vengine.specs.HaltView.{betza_halt, cert_halt, game_halt, load_halt, proof_halt, strategy_halt};
+ghost use Rattle.vengine.specs.HaltView.{suite_halt};
 
 use crate::fault::Fault;
 use crate::setup::ReachFault;
@@ -16,6 +17,7 @@ use game_text::NoGame;
 use proof_text::{NoProof, ProofFault};
 use std::alloc::AllocError;
 use strategy::StrategyFault;
+use suite::NoSuite;
 use variant_files::NoSections;
 
 /// Why a command has no text.
@@ -119,6 +121,18 @@ impl<'a> From<NoCert> for Halt<'a> {
             NoCert::Faulty(CertFault::Memory) => Halt::Stop(Stop::Memory),
             NoCert::Faulty(fault) => Halt::Fault(Fault::Cert(fault)),
             NoCert::Unread => Halt::Stop(Stop::Source),
+        }
+    }
+}
+
+impl<'a> From<NoSuite> for Halt<'a> {
+    ghost from_gives = { λ why given. given ≡ suite_halt why };
+
+    fn from(why: NoSuite) -> Self {
+        match why {
+            NoSuite::Faulty(fault) => Halt::Fault(Fault::Suite(fault)),
+            NoSuite::Unread => Halt::Stop(Stop::Source),
+            NoSuite::Memory => Halt::Stop(Stop::Memory),
         }
     }
 }

@@ -101,7 +101,7 @@ where
 {
     match open(alloc, words, files) {
         Ok(opened) => match dialect_of(&opened.asked.command) {
-            None => finish(answer_to(rt, alloc, &opened, source), sink),
+            None => finish(answer_to(rt, alloc, &opened, source, gate), sink),
             Some(dialect) => {
                 let threads = opened.asked.threads as u32;
                 let ended = speak(

@@ -26,6 +26,10 @@ pub data Command : Type 0 where
   CheckCert : Command
   -- `variants`
   Variants : Command
+  -- `suite`
+  Suite : Command
+  -- `pnmate N`: a number of moves
+  PnMate : ℕ → Command
   -- `reach WORD SQUARE [OWN [ENEMY]]`: a Betza word, a square, and the lists of own and of enemy squares
   Reach : Text → Text → Text → Text → Command
   -- `generate NAME START N`: a variant, the number from which a random game goes, and the most plies that it has
@@ -69,6 +73,14 @@ stipulate_in (word ∷ []) = check_of word
 stipulate_in (stipulation ∷ moves ∷ []) = mate_in stipulation moves
 stipulate_in arguments = None
 
+-- from 1 to 100 moves
+abbrev pub pn_mate_of : Text → Option Command
+pn_mate_of moves = option_map PnMate (number_in 1 100 moves)
+
+abbrev pub pn_mate_in : List Text → Option Command
+pn_mate_in (moves ∷ []) = pn_mate_of moves
+pn_mate_in arguments = None
+
 -- a list that is left out has no square
 abbrev pub reach_in : List Text → Option Command
 reach_in (word ∷ square ∷ []) = Some (Reach word square no_squares no_squares)
@@ -98,7 +110,9 @@ command_named name arguments =
     else (if bytes_eq name (codes "stipulate") then stipulate_in arguments
     else (if bytes_eq name (codes "variants") then without_arguments Variants arguments
     else (if bytes_eq name (codes "reach") then reach_in arguments
-    else (if bytes_eq name (codes "generate") then generate_in arguments else None)))))))))
+    else (if bytes_eq name (codes "generate") then generate_in arguments
+    else (if bytes_eq name (codes "suite") then without_arguments Suite arguments
+    else (if bytes_eq name (codes "pnmate") then pn_mate_in arguments else None)))))))))))
 
 -- the command that words without options are; that of no words is the session of `uci`
 abbrev pub command_in : List Text → Option Command

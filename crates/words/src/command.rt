@@ -2,7 +2,7 @@
 ghost use Rattle.std.specs.Prelude.{◌≡◌, ◌-◌, ◌^◌, IfSome, option_map};
 ghost use Rattle.words.specs.Command.{Reach, check_of, command_in, command_named, help_mate_of, mate_in, perft_in};
 ghost use Rattle.words.specs.Command.{perft_of, reach_in, self_mate_of, stipulate_in, without_arguments};
-ghost use Rattle.words.specs.Command.{generate_by, generate_in};
+ghost use Rattle.words.specs.Command.{generate_by, generate_in, pn_mate_in, pn_mate_of};
 ghost use Rattle.words.specs.Number.{number_in as NumberIn};
 ghost use Rattle.words.specs.View.{HasPlies, command_seen, texts};
 
@@ -19,6 +19,9 @@ const MOST_GAME_PLIES: u64 = 8192;
 
 /// The most moves of a selfmate, and of each side in a helpmate.
 const MOST_MATE_MOVES: u64 = 6;
+
+/// The most moves that `pnmate` looks for.
+const MOST_PN_MOVES: u64 = 100;
 
 /// A command with its arguments.
 ///
@@ -46,6 +49,11 @@ pub enum Command<'a> {
     CheckCert,
     /// `variants`: the variants that there are, each with its fault where it has one.
     Variants,
+    /// `suite`: which of the mate problems of the input are solved, and within how many moves.
+    Suite,
+    /// `pnmate N`: within how many moves, up to this number, from 1 to 100, the side that is to move wins the game of the game text
+    /// that is the input.
+    PnMate(u16),
     /// `reach WORD SQUARE [OWN [ENEMY]]`: where a piece of this Betza word goes from this square. The lists of squares
     /// of own and of enemy pieces are `none` where they are left out.
     Reach {
@@ -142,6 +150,24 @@ fn stipulate_in<'a>(arguments: &[&'a str]) -> Option<Command<'a>>
     }
 }
 
+fn pn_mate_of<'a>(moves: &str) -> Option<Command<'a>>
+    ensures is { option_map command_seen result ≡ pn_mate_of moves.now }
+    ensures plies { IfSome result HasPlies }
+{
+    let moves = number_in(1, MOST_PN_MOVES, moves)?;
+    Some(Command::PnMate(moves as u16))
+}
+
+fn pn_mate_in<'a>(arguments: &[&'a str]) -> Option<Command<'a>>
+    ensures is { option_map command_seen result ≡ pn_mate_in (texts arguments.now) }
+    ensures plies { IfSome result HasPlies }
+{
+    match arguments {
+        [moves] => pn_mate_of(moves),
+        _ => None,
+    }
+}
+
 fn reach<'a>(word: &'a str, square: &'a str, own: &'a str, enemy: &'a str) -> Command<'a>
     ensures is { command_seen result ≡ Reach word.now square.now own.now enemy.now }
     ensures plies { HasPlies result }
@@ -206,6 +232,8 @@ fn command_named<'a>(name: &str, arguments: &[&'a str]) -> Option<Command<'a>>
         "variants" => without_arguments(Command::Variants, arguments),
         "reach" => reach_in(arguments),
         "generate" => generate_in(arguments),
+        "suite" => without_arguments(Command::Suite, arguments),
+        "pnmate" => pn_mate_in(arguments),
         _ => None,
     }
 }

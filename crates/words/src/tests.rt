@@ -47,7 +47,7 @@ fn owned(alloc: Global, words: &[&str]) -> Result<Vec<String>, Fail> {
 
 #[test]
 fn words_of_the_set_are_read(rt: HostRuntime) -> Result<(), Fail> {
-    let rows: [(&[&str], Asked<'static>); 25] = [
+    let rows: [(&[&str], Asked<'static>); 27] = [
         (&[], command(Command::Uci)),
         (&["uci"], command(Command::Uci)),
         (&["xboard"], command(Command::Xboard)),
@@ -69,6 +69,8 @@ fn words_of_the_set_are_read(rt: HostRuntime) -> Result<(), Fail> {
         (&["stipulate", "help", "06"], command(Command::HelpMate(6))),
         (&["stipulate", "check"], command(Command::CheckCert)),
         (&["variants"], command(Command::Variants)),
+        (&["suite"], command(Command::Suite)),
+        (&["pnmate", "100"], command(Command::PnMate(100))),
         (&["reach", "N", "b1"], reach("N", "b1", "none", "none")),
         (&["reach", "", "", ""], reach("", "", "", "none")),
         (
@@ -118,7 +120,7 @@ fn words_of_the_set_are_read(rt: HostRuntime) -> Result<(), Fail> {
 
 #[test]
 fn other_words_ask_nothing(rt: HostRuntime) -> Result<(), Fail> {
-    let rows: [&[&str]; 36] = [
+    let rows: [&[&str]; 39] = [
         &["Uci"],
         &["Moves"],
         &["moves", ""],
@@ -127,6 +129,9 @@ fn other_words_ask_nothing(rt: HostRuntime) -> Result<(), Fail> {
         &["reach", "N", "b1", "-"],
         &["reach", "-N", "b1"],
         &["uci", "f"],
+        &["suite", "f"],
+        &["pnmate"],
+        &["pnmate", "101"],
         &["stipulate"],
         &["stipulate", "self", "0"],
         &["stipulate", "help", "7"],

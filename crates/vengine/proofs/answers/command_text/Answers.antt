@@ -52,3 +52,12 @@ returns-in-Generate-clause-heard g c = rw c.in-Generate.is (heard_nothing _ _ _ 
 
 pub returns-in-Generate-clause-cause : goal.returns-in-Generate-clause-cause
 returns-in-Generate-clause-cause g c = record { later = omega arith; failed = λ unheard. absurd (c.generate.ensures.reads_nothing unheard) }
+
+pub returns-in-Suite-clause-heard : goal.returns-in-Suite-clause-heard
+returns-in-Suite-clause-heard g c = rw c.in-Suite.is c.suite_text.ensures.heard
+
+pub pn_mate_text-requires : goal.pn_mate_text-requires
+pn_mate_text-requires g c = let moves = rw c.in-PnMate.is at c.requires.plies in record { least = moves.0; most = moves.1 }
+
+pub returns-in-PnMate-clause-heard : goal.returns-in-PnMate-clause-heard
+returns-in-PnMate-clause-heard g c = rw c.in-PnMate.is c.pn_mate_text.ensures.heard
