@@ -85,7 +85,7 @@ class Session:
     def think(self, variant, fen, depth):
         """The nodes of each depth, and the seconds that all took."""
         name = "normal" if variant == "chess" else variant
-        self.say("new", f"variant {name}", "force", f"setboard {fen}", "post", f"sd {depth}", "ping 1")
+        self.say("new", f"variant {name}", "force", f"setboard {fen}", "post", "st 86400", f"sd {depth}", "ping 1")
         self.read_to("pong 1")
         begun = time.perf_counter()
         self.say("go")
