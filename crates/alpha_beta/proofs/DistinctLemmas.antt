@@ -1,8 +1,10 @@
 -- Moves that are kept once each.
 use Rattle.std.proofs.Common.{◌≡◌, ◌⊎◌, inl, inr, ℕ, ◌+◌, ◌<◌, List, [], ◌∷◌, ◌++◌, take, get_or, length, refl, sym, subst}
+use Rattle.std.specs.List.Sorted.{IsPermutation}
 use Rattle.std.proofs.lemmas.List.{take_more}
+use Rattle.std.proofs.lemmas.List.Sorted.{IsPermutation-sym}
 use Rattle.foundation.specs.Member.{Member, IsEachOnce}
-use Rattle.foundation.proofs.Members.{member-left, member-right, member-append, once-append}
+use Rattle.foundation.proofs.Members.{member-left, member-permutation, member-right, member-append, once-append}
 use Rattle.rules_model.specs.declared.moves.Move.{Move}
 use Rattle.alpha_beta.specs.Roots.{AreDistinct}
 
@@ -35,3 +37,11 @@ module _ (roots moves : List Move) (i : ℕ) (m d : Move) (there : i < length ro
 
   pub distinct-added : (Member m moves → ⊥) → AreDistinct (take (i + 1) roots) (moves ++ m ∷ [])
   distinct-added n = rw (take_more roots i d there, sym is) (added (take i roots) moves m h n)
+
+-- the order of the moves does not matter
+pub distinct-permuted : (roots sorted moves : List Move) → IsPermutation roots sorted → AreDistinct sorted moves → AreDistinct roots moves
+distinct-permuted roots sorted moves same h = record {
+  once = h.once;
+  sound = λ m k. member-permutation m sorted roots (IsPermutation-sym roots sorted same) (h.sound m k);
+  complete = λ m k. h.complete m (member-permutation m roots sorted same k);
+}

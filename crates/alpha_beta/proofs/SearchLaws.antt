@@ -80,7 +80,7 @@ most_rec n start (job ∷ jobs) h all = most_rec n (max start job.nodes) jobs (l
 pub most_within : (n start : ℕ) (jobs : List Job) → start ≤ n → All (λ job. job.nodes ≤ n) jobs → most_nodes start jobs ≤ n
 most_within n start jobs h all = most_rec n start jobs h (recursion_from_All (λ job. job.nodes ≤ n) jobs all)
 
-pub if_ok_map : {T : Type 0} {P Q : T → Type 0} (r : Result T Halt) → ((x : T) → P x → Q x) → IfOk r P → IfOk r Q
+pub if_ok_map : {T E : Type 0} {P Q : T → Type 0} (r : Result T E) → ((x : T) → P x → Q x) → IfOk r P → IfOk r Q
 if_ok_map (Ok x) f p = f x p
 if_ok_map (Err why) f p = tt
 

@@ -3,7 +3,12 @@ ghost use Rattle.std.specs.Prelude.{◌↔◌, IsTrue, IfOk};
 ghost use Rattle.std.specs.List.{Contains};
 ghost use Rattle.alpha_beta.specs.Roots.{AreDistinct};
 
+use crate::shared::WORST;
 use foundation::Memory;
+use game_play::Game;
+use hint_table::HintTable;
+use negamax::{likely_floor, root_rank};
+use playing::Board;
 use rules_model::Move;
 use std::alloc::Global;
 
@@ -14,7 +19,7 @@ fn is_among(moves: &[Move], m: &Move) -> bool
 }
 
 /// Each of the moves once, in the order in which they first stand.
-pub(crate) fn distinct(alloc: Global, roots: &[Move]) -> Result<Vec<Move>, Memory>
+fn distinct(alloc: Global, roots: &[Move]) -> Result<Vec<Move>, Memory>
     ensures { IfOk result (λ moves. AreDistinct roots.now moves.items) }
 {
     let mut moves = Vec::with_capacity(alloc, roots.len())?;
@@ -24,4 +29,26 @@ pub(crate) fn distinct(alloc: Global, roots: &[Move]) -> Result<Vec<Move>, Memor
         }
     }
     Ok(moves)
+}
+
+/// Each of the moves once, those first that promise most by the hints.
+pub(crate) fn ordered(
+    alloc: Global,
+    game: &Game,
+    roots: &[Move],
+    hints: &HintTable,
+) -> Result<Vec<Move>, Memory>
+    ensures { IfOk result (λ moves. AreDistinct roots.now moves.items) }
+{
+    let board = Board::new(game.tables(), game.position());
+    let mut moves = Vec::with_capacity(alloc, roots.len())?;
+    moves.extend_from_slice(roots)?;
+    moves.sort_by_cached_key(|m: &Move| root_rank(&board, hints, m))?;
+    distinct(alloc, &moves)
+}
+
+/// What the best score is taken to be above, before any is known.
+pub(crate) fn floor_for(game: &Game, hints: &HintTable, depth: u8) -> i32 {
+    let board = Board::new(game.tables(), game.position());
+    likely_floor(&board, hints, depth).unwrap_or(WORST)
 }

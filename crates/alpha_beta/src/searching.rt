@@ -11,7 +11,7 @@ ghost use Rattle.alpha_beta.specs.Searches.{Finds, Heard, bound_of};
 ghost use Rattle.alpha_beta.specs.Workers.{AreTrueFacts, HasNone, IsSound, most_nodes};
 
 use crate::race::race;
-use crate::roots::distinct;
+use crate::roots::{floor_for, ordered};
 use crate::shared::Shared;
 use crate::work::{Job, combine_facts};
 use foundation::Memory;
@@ -250,8 +250,8 @@ fn search_lent<R: Threads + Sync, S: Source, K: Sink, C: Clock, G: Gate + Sync>(
     ensures best { IfOk result (λ found. IsBest game.now depth roots.now found.best.value found.best.chosen) }
     ensures nodes { IfOk result (λ found. found.nodes ≤ bound_of game.now depth) }
 {
-    let tried = distinct(alloc, roots)?;
-    let shared = Shared::new(alloc, tried.len())?;
+    let tried = ordered(alloc, game, roots, hints)?;
+    let shared = Shared::new(alloc, tried.len(), floor_for(game, hints, depth))?;
     let mut jobs = jobs_for(alloc, workers - 1);
     let mut facts = Vec::new(alloc);
     search_by(

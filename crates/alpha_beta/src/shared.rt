@@ -22,7 +22,7 @@ const TAKEN: u8 = 1;
 const FINISHED: u8 = 2;
 
 /// Below every value.
-const WORST: i32 = -32_001;
+pub(crate) const WORST: i32 = -32_001;
 
 /// What the workers tell each other: whether they are to stop, the best score so far, and what became of each root
 /// move.
@@ -34,15 +34,15 @@ pub(crate) struct Shared {
 }
 
 impl Shared {
-    /// Nothing is known of so many root moves.
-    pub fn new(alloc: Global, roots: usize) -> Result<Shared, Memory> {
+    /// Nothing is known of so many root moves, and the best score is taken to be above the floor.
+    pub fn new(alloc: Global, roots: usize, floor: i32) -> Result<Shared, Memory> {
         let mut marks = Vec::with_capacity(alloc, roots)?;
         for _root in 0..roots {
             marks.push(AtomicU8::new(FREE))?;
         }
         Ok(Shared {
             flag: StopFlag::new(),
-            bound: AtomicI32::new(WORST),
+            bound: AtomicI32::new(floor),
             marks,
         })
     }

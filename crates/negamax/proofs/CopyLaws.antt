@@ -1,10 +1,16 @@
 -- Moves that are listed, and candidates that are made of them.
-use Rattle.std.proofs.Common.{◌≡◌, List, [], ◌∷◌, ◌++◌, Bool, true, false, cond, filter, sym, ap, ◌∙◌, subst}
+use Rattle.std.proofs.Common.{◌≡◌, ◌⊎◌, inl, inr, ℕ, ◌==◌, List, [], ◌∷◌, ◌++◌, length, take, arith, Bool, true, false, cond, filter, refl, sym, ap, ◌∙◌, subst}
 use Rattle.std.specs.List.{All}
+use Rattle.std.proofs.Math.Seq.{take-append_seam}
+use Rattle.std.proofs.lemmas.Bool.Decides.{nat_tests}
 use Rattle.std.proofs.lemmas.List.Elements.{Contains-get_or}
 use Rattle.foundation.specs.Member.{Appends, IsEachOnce, Lists, Member}
+use Rattle.foundation.specs.Tests.{is_nil}
 use Rattle.foundation.proofs.Members.{filter-member, member-contains, member-filter}
+use Rattle.rules_model.specs.declared.board.Repeat.{Repeat}
 use Rattle.rules_model.specs.declared.moves.Move.{Move}
+use Rattle.rules_model.specs.declared.rules.Rules.{Rules}
+use Rattle.rules_model.specs.Legal.{is_stuck, legal}
 use Rattle.negamax.specs.declared.candidates.Candidate.{Candidate}
 use Rattle.negamax.specs.Trials.{Copies, Pushes}
 
@@ -41,3 +47,22 @@ copies_push all ms ns old old' new h same k from = record {
   is = k.is ∙ ap (λ xs. xs ++ k.added) from;
   each = subst (Lists (λ m. Member m all)) (sym (k.are ∙ same)) h;
 }
+
+-- a list of certain moves, each once, is empty exactly where there are none
+lists-empty : (all ms : List Move) → Lists (λ m. Member m all) ms → is_nil ms ≡ is_nil all
+lists-empty [] [] h = refl
+lists-empty [] (x ∷ ms) h = absurd (h.sound x (inl refl))
+lists-empty (x ∷ all) [] h = absurd (h.complete x (inl refl))
+lists-empty (x ∷ all) (y ∷ ms) h = refl
+
+length-nil : (ms : List Move) → (length ms == 0) ≡ is_nil ms
+length-nil [] = refl
+length-nil (m ∷ ms) = grind (arith, nat_tests)
+
+pub lists-stuck : (rules : Rules) (r : Repeat) (ms : List Move) → Lists (λ m. Member m (legal rules r)) ms → (length ms == 0) ≡ is_stuck rules r
+unfolding is_stuck
+lists-stuck rules r ms h = length-nil ms ∙ lists-empty (legal rules r) ms h
+
+-- those that were appended are cut off again
+pub pushed-cut : (P : Move → Type 0) (first : ℕ) (old new : List Candidate) → Pushes P old new → first ≡ length old → take first new ≡ old
+pushed-cut P first old new p e = ap (take first) p.is ∙ ap (λ k. take k (old ++ p.added)) e ∙ take-append_seam old p.added

@@ -1,5 +1,5 @@
 -- Values and trees of a state, by those of the states after its moves.
-use Rattle.std.proofs.Common.{◌≡◌, ℕ, zero, suc, ◌+◌, ◌-◌, ◌<◌, ◌≤◌, Bool, not, Option, Some, None, filter, sum_by, refl, subst, arith}
+use Rattle.std.proofs.Common.{◌≡◌, ◌⊎◌, inl, inr, ◌∙◌, ℕ, zero, suc, ◌+◌, ◌-◌, ◌<◌, ◌≤◌, Bool, not, Option, Some, None, filter, sum_by, refl, subst, arith}
 use Rattle.std.specs.Prelude.{ℤ, neg_ℤ, ◌<ℤ◌, ◌≤ℤ◌}
 use Rattle.std.proofs.lemmas.List.Filters.{sum_by-filter_both}
 use Rattle.game_values.specs.Laws.{PlayLaws, Within}
@@ -82,6 +82,26 @@ module _ {X M : Type 0} (g : Play X M) (a b r : ℤ) (ply : ℕ) (x : X) (on : g
       let f = λ (m : M). neg_ℤ (quiet g (limit - 1) (ply + 1) (g.after x m)) in
       let floor : g.eval x ≤ℤ quiet g limit ply x = rw (quiet_on g limit ply x on some) (greatest-floor f (g.eval x) (g.captures x)) in
       cut a b r r (quiet g limit ply x) wide high (same a b r) (rw stands floor)
+
+-- no capture is looked at: there is no limit for any, or standing pat is good enough where the line goes on
+module _ {X M : Type 0} (g : Play X M) (laws : PlayLaws g) (a b r : ℤ) (limit ply : ℕ) (x : X) where
+  rests_by : (o : Option ℤ) → g.ended x ply ≡ o → r ≡ quiet g 0 ply x → a <ℤ b → (limit ≡ 0) ⊎ (b ≤ℤ g.eval x)
+      → Bounds a b r (quiet g limit ply x)
+  rests_by o end is wide (inl none) = rw (none, is) (same a b (quiet g 0 ply x))
+  rests_by (Some w) end is wide (inr high) = rw (quiet-ended g limit ply x w end, is, quiet-ended g 0 ply x w end) (same a b w)
+  rests_by None end is wide (inr high) =
+      let stands : r ≡ g.eval x = is ∙ quiet_zero g ply x end in
+      elim (some-or-none limit) as (λ _. Bounds a b r (quiet g limit ply x)) [
+        | inl none ↦ quiet_stands g a b r ply x end stands limit none
+        | inr some ↦ quiet_cut g a b r ply x end stands limit some wide (rw stands high)
+      ]
+    where
+      some-or-none : (n : ℕ) → (n ≡ 0) ⊎ (0 < n)
+      some-or-none zero = inl refl
+      some-or-none (suc n) = inr (omega arith)
+
+  pub quiet_rests : r ≡ quiet g 0 ply x → a <ℤ b → (limit ≡ 0) ⊎ (b ≤ℤ g.eval x) → Bounds a b r (quiet g limit ply x)
+  quiet_rests = rests_by (g.ended x ply) refl
 
 -- behind the last ply only captures are searched
 pub value_resting : {X M : Type 0} (g : Play X M) (a b r : ℤ) (depth ply : ℕ) (x : X) → depth ≡ 0 → Bounds a b r (quiet g 4 ply x)

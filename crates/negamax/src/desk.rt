@@ -1,7 +1,8 @@
 //! What a worker keeps while it searches.
-ghost use Rattle.std.specs.Prelude.{◌≡◌, filter, All, IsErrOf, OnOk};
+ghost use Rattle.std.specs.Prelude.{◌≡◌, ◌==◌, filter, length, not, All, IfOk, IsErrOf, OnOk};
 ghost use Rattle.foundation.specs.Member.{Lists, Member};
 ghost use Rattle.playing.specs.Stance.{legal_in, repeat_in};
+ghost use Rattle.rules_model.specs.Legal.{is_stuck};
 ghost use Rattle.rules_model.specs.Next as Next;
 ghost use Rattle.io_ports.specs.declared.limits.SearchFault.TheVariants as fault;
 ghost use Rattle.watching.specs.declared.halt.Halt.{Halt};
@@ -9,7 +10,8 @@ ghost use Rattle.watching.specs.declared.halt.Halt.TheVariants as halt;
 ghost use Rattle.negamax.specs.Trials.{captures_in, Copies, Pushes};
 
 use crate::candidates::Candidate;
-use crate::order::{NO_SLOT, Order, Slot, taking_score};
+use crate::facts::Best;
+use crate::order::{NO_SLOT, Order, Slot, root_key, slot_of, taking_score};
 use evaluation::Worths;
 use foundation::Memory;
 use hint_table::{Hint, HintTable};
@@ -58,33 +60,44 @@ impl<'h> Desk<'h> {
         }
     }
 
+    /// Leaves in the table what a root came to.
+    pub(crate) fn leave_root(&self, key: u64, depth: u8, best: &Best) {
+        let bound = best.value.clamp(-32_001, 32_001) as i16;
+        let slot = slot_of(&best.chosen);
+        let hint = Hint { depth, slot, bound };
+        self.hints.put(key, hint);
+        self.hints.put(root_key(key, depth), hint);
+    }
+
     /// No move waits.
     pub(crate) fn clear(&mut self) {
         self.waiting.clear();
     }
 
-    /// Lists the legal moves.
-    fn list(&mut self, board: &Board) -> Result<(), Memory>
+    /// Lists the legal moves, and tells whether there are any.
+    fn list(&mut self, board: &Board) -> Result<bool, Memory>
+        ensures any { IfOk result (λ any. any ≡ not (is_stuck board.now.rules (repeat_in board.now))) }
         ensures listed { OnOk result (Lists (λ m. Member m (legal_in board.now)) self.new.listed) }
         ensures waiting { OnOk result (self.new.waiting.items ≡ self.old.waiting.items) }
     {
         self.listed.items.clear();
         board.push_legal(&mut self.listed)?;
-        Ok(())
+        Ok(has_moves(&self.listed))
     }
 
-    /// Has all legal moves wait, so many plies from the root.
+    /// Has all legal moves wait, so many plies from the root, and tells whether there are any.
     fn wait_all(
         &mut self,
         board: &Board,
         worths: &Worths,
         hint: Slot,
         ply: u8,
-    ) -> Result<(), Memory>
-        ensures { OnOk result
+    ) -> Result<bool, Memory>
+        ensures any { IfOk result (λ any. any ≡ not (is_stuck board.now.rules (repeat_in board.now))) }
+        ensures pushes { OnOk result
             (Pushes (λ m. Member m (legal_in board.now)) self.old.waiting.items self.new.waiting.items) }
     {
-        self.list(board)?;
+        let any = self.list(board)?;
         push_all(
             &mut self.waiting,
             self.listed.items.as_slice(),
@@ -94,53 +107,64 @@ impl<'h> Desk<'h> {
             hint,
             ply,
         )?;
-        Ok(())
+        Ok(any)
     }
 
-    /// Has all legal captures wait.
-    fn wait_captures(&mut self, board: &Board, worths: &Worths) -> Result<(), Memory>
-        ensures { OnOk result
+    /// Has all legal captures wait, and tells whether any move is legal.
+    fn wait_captures(&mut self, board: &Board, worths: &Worths) -> Result<bool, Memory>
+        ensures any { IfOk result (λ any. any ≡ not (is_stuck board.now.rules (repeat_in board.now))) }
+        ensures pushes { OnOk result
             (Pushes (λ m. Member m (captures_in board.now)) self.old.waiting.items self.new.waiting.items) }
     {
-        self.list(board)?;
+        let any = self.list(board)?;
         push_taking(
             &mut self.waiting,
             self.listed.items.as_slice(),
             board,
             worths,
         )?;
-        Ok(())
+        Ok(any)
     }
 
-    /// Has all legal moves wait, so many plies from the root; or what ends the search where there is no memory.
+    /// Has all legal moves wait, so many plies from the root, and tells whether there are any; or what ends the search
+    /// where there is no memory.
     pub(crate) fn push_moves(
         &mut self,
         board: &Board,
         worths: &Worths,
         hint: Slot,
         ply: u8,
-    ) -> Result<(), Halt>
+    ) -> Result<bool, Halt>
+        ensures any { IfOk result (λ any. any ≡ not (is_stuck board.now.rules (repeat_in board.now))) }
         ensures pushes { OnOk result
             (Pushes (λ m. Member m (legal_in board.now)) self.old.waiting.items self.new.waiting.items) }
         ensures memory { (why : Halt) → IsErrOf result why → why ≡ halt.Fault fault.Memory }
     {
         match self.wait_all(board, worths, hint, ply) {
-            Ok(()) => Ok(()),
+            Ok(any) => Ok(any),
             Err(_) => Err(Halt::Fault(SearchFault::Memory)),
         }
     }
 
-    /// Has all legal captures wait; or what ends the search where there is no memory.
-    pub(crate) fn push_captures(&mut self, board: &Board, worths: &Worths) -> Result<(), Halt>
+    /// Has all legal captures wait, and tells whether any move is legal; or what ends the search where there is no
+    /// memory.
+    pub(crate) fn push_captures(&mut self, board: &Board, worths: &Worths) -> Result<bool, Halt>
+        ensures any { IfOk result (λ any. any ≡ not (is_stuck board.now.rules (repeat_in board.now))) }
         ensures pushes { OnOk result
             (Pushes (λ m. Member m (captures_in board.now)) self.old.waiting.items self.new.waiting.items) }
         ensures memory { (why : Halt) → IsErrOf result why → why ≡ halt.Fault fault.Memory }
     {
         match self.wait_captures(board, worths) {
-            Ok(()) => Ok(()),
+            Ok(any) => Ok(any),
             Err(_) => Err(Halt::Fault(SearchFault::Memory)),
         }
     }
+}
+
+fn has_moves(list: &MoveList) -> bool
+    ensures { result ≡ not (length list.now == 0) }
+{
+    !list.items.is_empty()
 }
 
 /// Has all the moves wait.

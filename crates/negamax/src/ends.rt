@@ -1,11 +1,13 @@
 //! What ends are worth, and moves on the line.
-ghost use Rattle.std.specs.Prelude.{◌≡◌, ◌<◌, length};
+ghost use Rattle.std.specs.Prelude.{◌≡◌, ◌<◌, length, not};
 ghost use Rattle.evaluation.specs.Tallies.{IsTally};
 ghost use Rattle.foundation.specs.Member.{Member};
 ghost use Rattle.game_line.specs.Lined.{legal_in, pushed, story_of_line};
 ghost use Rattle.game_values.specs.Laws.{Within};
 ghost use Rattle.game_values.specs.Values as Values;
 ghost use Rattle.rules_model.specs.Games.{played};
+ghost use Rattle.rules_model.specs.Legal.{is_stuck};
+ghost use Rattle.rules_model.specs.Repeats.{repeat_of};
 
 use evaluation::{Tally, Worths};
 use game_line::Line;
@@ -35,6 +37,14 @@ pub(crate) fn end_of(line: &Line, ply: u8) -> Option<i32>
     worth(line.board().position().side, ply, line.outcome())
 }
 
+/// The same, for a caller who knows whether some move is legal.
+pub(crate) fn end_where(line: &Line, ply: u8, any: bool) -> Option<i32>
+    requires any { any ≡ not (is_stuck line.now.rules (repeat_of (story_of_line line.now).last)) }
+    ensures { result ≡ (Values.play line.now.rules).ended (story_of_line line.now) ply }
+{
+    worth(line.board().position().side, ply, line.outcome_where(any))
+}
+
 /// What kinds and squares are worth by the rules of the line.
 pub(crate) fn worths_of(line: &Line) -> Worths
     ensures { result ≡ line.now.rules }
@@ -51,6 +61,19 @@ pub(crate) fn stand_pat(line: &Line, tally: Tally) -> i32
     ensures within { Within result }
 {
     tally.value(line.board().position().side)
+}
+
+/// What the last position is worth to the side to move without a look at captures: by its end, so many plies from the
+/// root, or at a glance, which is given.
+pub(crate) fn resting(line: &Line, ply: u8, glance: i32) -> i32
+    requires glance { glance ≡ (Values.play line.now.rules).eval (story_of_line line.now) }
+    ensures is { result ≡ Values.quiet (Values.play line.now.rules) 0 ply (story_of_line line.now) }
+    ensures within { Within result }
+{
+    match end_of(line, ply) {
+        Some(worth) => worth,
+        None => glance,
+    }
 }
 
 /// Plays the legal move, and gives the sums of the position after it.

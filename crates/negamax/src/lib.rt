@@ -19,4 +19,5 @@ mod window;
 
 pub use desk::Desk;
 pub use facts::{Best, RootFact};
+pub use order::{likely_floor, root_rank};
 pub use root::{combine, search_root};

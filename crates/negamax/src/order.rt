@@ -1,6 +1,8 @@
 //! In which order moves are searched. No contract says anything of it, and no result depends on it.
-use evaluation::Worths;
+use evaluation::{Worths, evaluate};
 use foundation::Memory;
+use hint_table::HintTable;
+use playing::Board;
 use rules_model::{Move, Position, Promo, cell_at};
 use std::alloc::Global;
 
@@ -52,13 +54,9 @@ pub(crate) struct Order {
 
 impl Order {
     pub fn new(alloc: Global) -> Result<Order, Memory> {
-        let mut history = Vec::with_capacity(alloc, SLOTS)?;
-        for _ in 0..SLOTS {
-            history.push(0)?;
-        }
         Ok(Order {
             killers: [[NO_SLOT; 2]; PLIES],
-            history,
+            history: vec![in alloc; 0; SLOTS]?,
         })
     }
 
@@ -135,4 +133,51 @@ pub(crate) fn better(slot: Slot, m: &Move, floor: i32, answered: i32) -> Slot {
     } else {
         slot
     }
+}
+
+/// What is added to the key of a root, so that its value at even depths and at odd ones stands in words of its own: values
+/// swing from one depth to the next.
+const PARITIES: [u64; 2] = [0x9e37_79b9_7f4a_7c15, 0x3c6e_f372_fe94_f82b];
+
+/// The key under which the value of a root is left.
+pub(crate) fn root_key(key: u64, depth: u8) -> u64 {
+    key.wrapping_add(PARITIES[(depth % 2) as usize])
+}
+
+/// How far a root's value may fall in two depths, and the guess for it still is below it.
+const MARGIN: i32 = 40;
+
+/// A guess that is somewhat below the value of the position at the depth, from what it was worth two depths before; or
+/// `None`.
+pub fn likely_floor(board: &Board, hints: &HintTable, depth: u8) -> Option<i32> {
+    let hint = hints.get(root_key(board.key(), depth))?;
+    if hint.depth < depth && depth - hint.depth == 2 {
+        Some(i32::from(hint.bound) - MARGIN)
+    } else {
+        None
+    }
+}
+
+/// What the position seems worth to the side to move: by a hint for it, or at a glance.
+fn seeming(board: &Board, hints: &HintTable) -> i32 {
+    match hints.get(board.key()) {
+        Some(hint) => i32::from(hint.bound),
+        None => {
+            board.is_ready();
+            evaluate(board.rules(), board.position())
+        }
+    }
+}
+
+/// The rank of a move at the root, where those of the least rank are to be searched first: the move that a hint for the
+/// position names, and then those that seem to leave the other side least.
+pub fn root_rank(board: &Board, hints: &HintTable, m: &Move) -> i32 {
+    let named = hints.get(board.key()).map_or(NO_SLOT, |hint| hint.slot);
+    if named != NO_SLOT && named == slot_of(m) {
+        return i32::MIN;
+    }
+    if !board.is_legal(m) {
+        return i32::MAX;
+    }
+    seeming(&board.after(m), hints)
 }

@@ -9,7 +9,7 @@ ghost use Rattle.negamax.specs.Windows.{Bounds};
 
 use crate::candidates::take_best;
 use crate::desk::Desk;
-use crate::ends::{end_of, play, stand_pat};
+use crate::ends::{end_where, play, resting, stand_pat};
 use crate::window::{Window, raised};
 use evaluation::{Tally, Worths};
 use game_line::Line;
@@ -40,18 +40,16 @@ pub(crate) fn search_quiet<W: Watch>(
     ensures waiting { OnOk result (desk.new.waiting.items ≡ desk.old.waiting.items) }
 {
     watch.enter()?;
-    if let Some(worth) = end_of(line, ply) {
-        return Ok(worth);
-    }
     let mut best = stand_pat(line, tally);
-    if limit == 0 {
-        return Ok(best);
-    }
-    if best >= window.beta {
-        return Ok(best);
+    if limit == 0 || best >= window.beta {
+        return Ok(resting(line, ply, best));
     }
     let first = desk.waiting.len();
-    desk.push_captures(line.board(), worths)?;
+    let any = desk.push_captures(line.board(), worths)?;
+    if let Some(worth) = end_where(line, ply, any) {
+        desk.waiting.truncate(first);
+        return Ok(worth);
+    }
     while best < window.beta && desk.waiting.len() > first {
         let m = take_best(&mut desk.waiting, first);
         let next = play(line, worths, tally, &m);

@@ -129,5 +129,6 @@ pub fn combine<W: Watch>(
     for m in roots {
         best = settle(line, desk, watch, depth, m, facts, best)?;
     }
+    desk.leave_root(line.key(), depth, &best);
     Ok(best)
 }

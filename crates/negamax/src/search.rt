@@ -9,7 +9,7 @@ ghost use Rattle.negamax.specs.Windows.{Bounds};
 
 use crate::candidates::take_best;
 use crate::desk::Desk;
-use crate::ends::{end_of, play};
+use crate::ends::{end_where, play};
 use crate::order::better;
 use crate::quiet::search_quiet;
 use crate::window::{WORST, Window, raised};
@@ -50,13 +50,14 @@ pub(crate) fn search<W: Watch>(
         return Ok(resting);
     }
     watch.enter()?;
-    if let Some(worth) = end_of(line, ply) {
-        return Ok(worth);
-    }
     let key = line.key();
     let mut slot = desk.hint(key);
     let first = desk.waiting.len();
-    desk.push_moves(line.board(), worths, slot, ply)?;
+    let any = desk.push_moves(line.board(), worths, slot, ply)?;
+    if let Some(worth) = end_where(line, ply, any) {
+        desk.waiting.truncate(first);
+        return Ok(worth);
+    }
     let mut best = WORST;
     while best < window.beta && desk.waiting.len() > first {
         let m = take_best(&mut desk.waiting, first);

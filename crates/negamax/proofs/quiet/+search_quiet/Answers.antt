@@ -1,4 +1,4 @@
-use Rattle.std.proofs.Common.{◌≡◌, inl, inr, ◌+◌, ◌-◌, length, refl, ap, sym, ◌∙◌, subst, arith}
+use Rattle.std.proofs.Common.{◌≡◌, inl, inr, ◌+◌, ◌-◌, length, not, refl, ap, sym, ◌∙◌, subst, arith}
 use Rattle.std.specs.Prelude.{neg_ℤ}
 use Rattle.std.specs.Int.{int_max}
 use Rattle.std.proofs.lemmas.Int.{ints, clamps}
@@ -8,8 +8,11 @@ use Rattle.game_line.specs.Lined.{legal_in, pushed, shorter, stance_of_line, sto
 use Rattle.game_line.proofs.LineLaws.{shorter-pushed}
 use Rattle.game_values.specs.Values.{greatest, play, quiet, tree_size}
 use Rattle.game_values.proofs.GamesByRules.{play_laws}
+use Rattle.game_values.proofs.ScoreLaws.{quiet-ended}
 use Rattle.game_values.proofs.TreeLaws.{tree-some}
 use Rattle.rules_model.specs.Games.{played}
+use Rattle.rules_model.specs.Legal.{is_stuck}
+use Rattle.playing.specs.Stance.{repeat_in}
 use Rattle.rules_model.specs.Next as Next
 use Rattle.rules_model.specs.Repeats.{repeat_of}
 use Rattle.watching.specs.declared.halt.Halt.{Halt}
@@ -17,10 +20,11 @@ use mir.Val.{to_z, of_z}
 use mir.Syntax.{w32}
 use Rattle.negamax.specs.Trials.{captures_in, Pushes}
 use Rattle.negamax.specs.Windows.{Bounds}
+use Rattle.negamax.proofs.CopyLaws.{pushed-cut}
 use Rattle.negamax.proofs.GoingLaws.{front_of, going_end, going_fits, going_legal, going_next, going_start}
 use Rattle.negamax.proofs.HaltLaws.{halted}
-use Rattle.negamax.proofs.NodeLaws.{is_none, part_fits, quiet_cut, quiet_end, quiet_on, quiet_stands}
-use Rattle.negamax.proofs.quiet.+search_quiet.Goals.{then-loop-best-test+else-len-first, else-loop-best-test}
+use Rattle.negamax.proofs.NodeLaws.{is_none, part_fits, quiet_end, quiet_on, quiet_rests, quiet_within}
+use Rattle.negamax.proofs.quiet.+search_quiet.Goals.{then-limit-eq0-via-then-limit-eq0, then-limit-eq0-via-else-limit-eq0+then-best-window, then-loop-best-test+else-len-first, else-loop-best-test}
 use Rattle.negamax.proofs.quiet.+search_quiet.Goals as goal
 
 pub returns-in_err-enter-clause-ended : goal.returns-in_err-enter-clause-ended
@@ -29,46 +33,55 @@ returns-in_err-enter-clause-ended g t c why is =
     g.met.W.Watch.ends_wider _ _ _ _ why (c.enter.ensures.ended why back)
     (tree-some (play c.args.line.now.rules) c.args.limit (story_of_line c.args.line.now))
 
+pub returns-then-limit-eq0-clause-bounds : goal.returns-then-limit-eq0-clause-bounds
+returns-then-limit-eq0-clause-bounds g t c =
+    let rules = c.args.line.now.rules in
+    let is = c.stand_pat-best.ensures.is in
+    let within = c.stand_pat-best.ensures.within in let least = within.least in let most = within.most in
+    let rests = c.resting.ensures.within in let low = rests.least in let high = rests.most in
+    let value = c.resting.ensures.is in
+    quiet_rests (play rules) (play_laws rules) _ _ _ c.args.limit c.args.ply (story_of_line c.args.line.now) (omega (arith, ints, value)) c.args.window.wide
+    (elim c.then-limit-eq0.branch [
+      | then-limit-eq0-via-then-limit-eq0 w ↦ inl (let none = w.if-limit-eq0.true in omega (arith, none))
+      | then-limit-eq0-via-else-limit-eq0+then-best-window w ↦ inr (let cut = w.if-best-window.true in omega (arith, ints))
+    ])
+
+pub returns-then-limit-eq0-clause-gone : goal.returns-then-limit-eq0-clause-gone
+returns-then-limit-eq0-clause-gone g t c =
+    g.met.W.Watch.wider _ _ _ _ c.in_ok-enter.ensures.gone (tree-some (play c.args.line.now.rules) c.args.limit (story_of_line c.args.line.now))
+
+pub returns-in-Some-clause-within : goal.returns-in-Some-clause-within
+returns-in-Some-clause-within g t c =
+    let rules = c.args.line.now.rules in
+    let story = story_of_line c.args.line.now in
+    let end = quiet-ended (play rules) c.args.limit c.args.ply story _ (sym c.end_where.ensures ∙ c.in-Some.is) in
+    let within = quiet_within (play rules) (play_laws rules) c.args.limit c.args.ply story in
+    let least = within.least in let most = within.most in
+    record { least = omega (arith, ints, end); most = omega (arith, ints, end) }
+
 pub returns-in-Some-clause-bounds : goal.returns-in-Some-clause-bounds
 returns-in-Some-clause-bounds g t c =
     let rules = c.args.line.now.rules in
-    quiet_end (play rules) (play_laws rules) _ _ _ _ c.args.ply (story_of_line c.args.line.now) (sym c.end_of.ensures ∙ c.in-Some.is) c.args.limit
+    quiet_end (play rules) (play_laws rules) _ _ _ _ c.args.ply (story_of_line c.args.line.now) (sym c.end_where.ensures ∙ c.in-Some.is) c.args.limit
     (λ w. (let least = w.least in let most = w.most in omega (arith, ints)))
 
 pub returns-in-Some-clause-gone : goal.returns-in-Some-clause-gone
 returns-in-Some-clause-gone g t c =
     g.met.W.Watch.wider _ _ _ _ c.in_ok-enter.ensures.gone (tree-some (play c.args.line.now.rules) c.args.limit (story_of_line c.args.line.now))
 
-pub returns-then-limit-eq0-clause-bounds : goal.returns-then-limit-eq0-clause-bounds
-returns-then-limit-eq0-clause-bounds g t c =
-    let rules = c.args.line.now.rules in
-    let is = c.stand_pat-best.ensures.is in
-    let within = c.stand_pat-best.ensures.within in let least = within.least in let most = within.most in
-    quiet_stands (play rules) _ _ _ c.args.ply (story_of_line c.args.line.now) (sym c.end_of.ensures ∙ is_none _ c.in_default.not-Some) (omega (arith, ints))
-    c.args.limit (omega arith)
+pub returns-in-Some-clause-waiting : goal.returns-in-Some-clause-waiting
+returns-in-Some-clause-waiting g t c =
+    c.truncate.ensures.items
+    ∙ pushed-cut _ c.len-first.result _ _ c.in_ok-any.ensures.pushes (let n = c.len-first.ensures in omega (arith, n))
 
-pub returns-then-limit-eq0-clause-gone : goal.returns-then-limit-eq0-clause-gone
-returns-then-limit-eq0-clause-gone g t c =
-    g.met.W.Watch.wider _ _ _ _ c.in_ok-enter.ensures.gone (tree-some (play c.args.line.now.rules) c.args.limit (story_of_line c.args.line.now))
+pub end_where-requires : goal.end_where-requires
+end_where-requires g t c = record { any = subst (λ s. c.in_ok-any.any ≡ not (is_stuck s.rules (repeat_in s))) c.board.ensures c.in_ok-any.ensures.any }
 
-pub returns-then-best-window-clause-bounds : goal.returns-then-best-window-clause-bounds
-returns-then-best-window-clause-bounds g t c =
-    let rules = c.args.line.now.rules in
-    let is = c.stand_pat-best.ensures.is in
-    let within = c.stand_pat-best.ensures.within in let least = within.least in let most = within.most in
-    let high = c.if-best-window.true in
-    quiet_cut (play rules) _ _ _ c.args.ply (story_of_line c.args.line.now) (sym c.end_of.ensures ∙ is_none _ c.in_default.not-Some) (omega (arith, ints))
-    c.args.limit (omega arith) c.args.window.wide (omega (arith, ints))
-
-pub returns-then-best-window-clause-gone : goal.returns-then-best-window-clause-gone
-returns-then-best-window-clause-gone g t c =
-    g.met.W.Watch.wider _ _ _ _ c.in_ok-enter.ensures.gone (tree-some (play c.args.line.now.rules) c.args.limit (story_of_line c.args.line.now))
-
-pub returns-in_err-push_captures-clause-ended : goal.returns-in_err-push_captures-clause-ended
-returns-in_err-push_captures-clause-ended g t c why is =
+pub returns-in_err-any-clause-ended : goal.returns-in_err-any-clause-ended
+returns-in_err-any-clause-ended g t c why is =
     let rules = c.args.line.now.rules in
     let story = story_of_line c.args.line.now in
-    let failed = halted c.push_captures.result c.from_residual-in_err-push_captures.result _ why c.in_err-push_captures.was c.from_residual-in_err-push_captures.ensures.1 is in
+    let failed = halted c.push_captures.result c.from_residual-in_err-any.result _ why c.in_err-any.was c.from_residual-in_err-any.ensures.1 is in
     let back = c.push_captures.ensures.memory why failed in
     let all = g.met.W.Watch.wider _ _ _ _ c.in_ok-enter.ensures.gone (tree-some (play rules) c.args.limit story) in
     subst (λ (w : Halt). g.W.Watch.ended c.args.watch.now c.enter.new.self (tree_size rules c.args.limit story) w) (sym back) (g.met.W.Watch.memory _ _ _ all)
@@ -78,10 +91,10 @@ loop-best-init g t c =
     let rules = c.args.line.now.rules in
     let story = story_of_line c.args.line.now in
     let takes = Next.captures rules (repeat_of story.last) in
-    let on = sym c.end_of.ensures ∙ is_none _ c.in_default.not-Some in
+    let on = sym c.end_where.ensures ∙ is_none _ c.in_default.not-Some in
     let is = c.stand_pat-best.ensures.is in
     let within = c.stand_pat-best.ensures.within in let least = within.least in let most = within.most in
-    let listed = subst (λ s. Pushes (λ m. Member m (captures_in s)) c.args.desk.now.waiting.items c.push_captures.new.self.waiting.items) c.board.ensures c.in_ok-push_captures.ensures.pushes in
+    let listed = subst (λ s. Pushes (λ m. Member m (captures_in s)) c.args.desk.now.waiting.items c.push_captures.new.self.waiting.items) c.board.ensures c.in_ok-any.ensures.pushes in
     let stands : (play rules).eval story ≡ to_z w32 (of_z w32 c.stand_pat-best.result) = omega (arith, ints) in
     record {
       line = refl;
@@ -160,7 +173,7 @@ returns-clause-gone g t c =
 pub returns-clause-waiting : goal.returns-clause-waiting
 returns-clause-waiting g t c =
     let old = c.loop-best.invariant in
-    c.truncate.ensures.items ∙ front_of _ _ _ _ _ _ _ _ _ _ _ _ _ _ old.going c.len-first.result old.first
+    c.truncate-2.ensures.items ∙ front_of _ _ _ _ _ _ _ _ _ _ _ _ _ _ old.going c.len-first.result old.first
 
 pub returns-clause-within : goal.returns-clause-within
 returns-clause-within g t c = c.loop-best.invariant.going.trial.within

@@ -1,4 +1,4 @@
-use Rattle.std.proofs.Common.{◌≡◌, inl, inr, ◌+◌, ◌-◌, length, refl, ap, sym, ◌∙◌, subst, arith}
+use Rattle.std.proofs.Common.{◌≡◌, inl, inr, ◌+◌, ◌-◌, length, not, refl, ap, sym, ◌∙◌, subst, arith}
 use Rattle.std.specs.Prelude.{neg_ℤ}
 use Rattle.std.specs.Int.{int_max}
 use Rattle.std.proofs.lemmas.Int.{ints, clamps}
@@ -7,17 +7,20 @@ use Rattle.game_line.specs.Lined.{legal_in, pushed, shorter, story_of_line}
 use Rattle.game_line.proofs.LineLaws.{shorter-pushed}
 use Rattle.game_values.specs.Values.{play, tree_size, value}
 use Rattle.game_values.proofs.GamesByRules.{play_laws}
+use Rattle.game_values.proofs.ScoreLaws.{quiet-ended}
 use Rattle.game_values.proofs.TreeLaws.{tree-some}
 use Rattle.rules_model.specs.Games.{played}
+use Rattle.rules_model.specs.Legal.{is_stuck}
 use Rattle.playing.specs.Stance as Stance
 use Rattle.watching.specs.declared.halt.Halt.{Halt}
 use mir.Val.{to_z, of_z}
 use mir.Syntax.{w32}
 use Rattle.negamax.specs.Trials.{Pushes}
 use Rattle.negamax.specs.Windows.{Bounds}
+use Rattle.negamax.proofs.CopyLaws.{pushed-cut}
 use Rattle.negamax.proofs.GoingLaws.{front_of, going_end, going_fits, going_legal, going_next, going_start}
 use Rattle.negamax.proofs.HaltLaws.{halted}
-use Rattle.negamax.proofs.NodeLaws.{all_fit, is_none, value_end, value_on, value_resting}
+use Rattle.negamax.proofs.NodeLaws.{all_fit, is_none, quiet_within, value_end, value_on, value_resting}
 use Rattle.negamax.proofs.WindowLaws.{reframe}
 use Rattle.negamax.proofs.search.+search.Goals.{then-loop-best-test+else-len-first, else-loop-best-test}
 use Rattle.negamax.proofs.search.+search.Goals as goal
@@ -51,28 +54,45 @@ returns-in_err-enter-clause-ended g t c why is =
 pub returns-in-Some-clause-bounds : goal.returns-in-Some-clause-bounds
 returns-in-Some-clause-bounds g t c =
     let rules = c.args.line.now.rules in
-    value_end (play rules) (play_laws rules) _ _ _ _ c.args.ply (story_of_line c.args.line.now) (sym c.end_of.ensures ∙ c.in-Some.is) c.args.depth
+    value_end (play rules) (play_laws rules) _ _ _ _ c.args.ply (story_of_line c.args.line.now) (sym c.end_where.ensures ∙ c.in-Some.is) c.args.depth
     (λ w. (let least = w.least in let most = w.most in omega (arith, ints)))
+
+pub returns-in-Some-clause-within : goal.returns-in-Some-clause-within
+returns-in-Some-clause-within g t c =
+    let rules = c.args.line.now.rules in
+    let story = story_of_line c.args.line.now in
+    let end = quiet-ended (play rules) 0 c.args.ply story _ (sym c.end_where.ensures ∙ c.in-Some.is) in
+    let within = quiet_within (play rules) (play_laws rules) 0 c.args.ply story in
+    let least = within.least in let most = within.most in
+    record { least = omega (arith, ints, end); most = omega (arith, ints, end) }
 
 pub returns-in-Some-clause-gone : goal.returns-in-Some-clause-gone
 returns-in-Some-clause-gone g t c =
     g.met.W.Watch.wider _ _ _ _ c.in_ok-enter.ensures.gone (tree-some (play c.args.line.now.rules) (c.args.depth + 4) (story_of_line c.args.line.now))
 
-pub returns-in_err-push_moves-clause-ended : goal.returns-in_err-push_moves-clause-ended
-returns-in_err-push_moves-clause-ended g t c why is =
+pub returns-in_err-any-clause-ended : goal.returns-in_err-any-clause-ended
+returns-in_err-any-clause-ended g t c why is =
     let rules = c.args.line.now.rules in
     let story = story_of_line c.args.line.now in
-    let failed = halted c.push_moves.result c.from_residual-in_err-push_moves.result _ why c.in_err-push_moves.was c.from_residual-in_err-push_moves.ensures.1 is in
+    let failed = halted c.push_moves.result c.from_residual-in_err-any.result _ why c.in_err-any.was c.from_residual-in_err-any.ensures.1 is in
     let back = c.push_moves.ensures.memory why failed in
     let all = g.met.W.Watch.wider _ _ _ _ c.in_ok-enter.ensures.gone (tree-some (play rules) (c.args.depth + 4) story) in
     subst (λ (w : Halt). g.W.Watch.ended c.args.watch.now c.enter.new.self (tree_size rules (c.args.depth + 4) story) w) (sym back) (g.met.W.Watch.memory _ _ _ all)
+
+pub end_where-requires : goal.end_where-requires
+end_where-requires g t c = record { any = subst (λ s. c.in_ok-any.any ≡ not (is_stuck s.rules (Stance.repeat_in s))) c.board.ensures c.in_ok-any.ensures.any }
+
+pub returns-in-Some-clause-waiting : goal.returns-in-Some-clause-waiting
+returns-in-Some-clause-waiting g t c =
+    c.truncate.ensures.items
+    ∙ pushed-cut _ c.len-first.result _ _ c.in_ok-any.ensures.pushes (let n = c.len-first.ensures in omega (arith, n))
 
 pub loop-best-init : goal.loop-best-init
 loop-best-init g t c =
     let rules = c.args.line.now.rules in
     let story = story_of_line c.args.line.now in
-    let on = sym c.end_of.ensures ∙ is_none _ c.in_default.not-Some in
-    let listed = subst (λ s. Pushes (λ m. Member m (Stance.legal_in s)) c.args.desk.now.waiting.items c.push_moves.new.self.waiting.items) c.board.ensures c.in_ok-push_moves.ensures.pushes in
+    let on = sym c.end_where.ensures ∙ is_none _ c.in_default.not-Some in
+    let listed = subst (λ s. Pushes (λ m. Member m (Stance.legal_in s)) c.args.desk.now.waiting.items c.push_moves.new.self.waiting.items) c.board.ensures c.in_ok-any.ensures.pushes in
     record {
       line = refl;
       first = (let n = c.len-first.ensures in omega (arith, n));
@@ -147,7 +167,7 @@ returns-clause-gone g t c =
 pub returns-clause-waiting : goal.returns-clause-waiting
 returns-clause-waiting g t c =
     let old = c.loop-best.invariant in
-    c.leave.ensures ∙ c.truncate.ensures.items ∙ front_of _ _ _ _ _ _ _ _ _ _ _ _ _ _ old.going c.len-first.result old.first
+    c.leave.ensures ∙ c.truncate-2.ensures.items ∙ front_of _ _ _ _ _ _ _ _ _ _ _ _ _ _ old.going c.len-first.result old.first
 
 pub returns-clause-within : goal.returns-clause-within
 returns-clause-within g t c = c.loop-best.invariant.going.trial.within
