@@ -24,7 +24,7 @@ none-lost : {X : Type 0} (c : Contest X Move) (t : ℕ) (x : X) → found c t 0 
 none-lost c t x e = sym (found-within c t 0 x) ∙ ap is_some e
 
 -- more plies do no harm
-within-more : {X : Type 0} (c : Contest X Move) (k t : ℕ) (x : X) → k ≤ t → within c k x ≡ true → within c t x ≡ true
+pub within-more : {X : Type 0} (c : Contest X Move) (k t : ℕ) (x : X) → k ≤ t → within c k x ≡ true → within c t x ≡ true
 within-more c k zero x l h = let e : k ≡ 0 = omega arith in subst (λ n. within c n x ≡ true) e h
 within-more c k (suc t) x l h = split (order k t l) (λ low. within-more c k t x low h)
   where
