@@ -10,8 +10,8 @@ Usage: bench/stipulations.py [--program FILE] [--older FILE] [--seconds N] [--on
   --only      only rows that begin so, as 'help 2'
   --find      draws further positions for a row and prints them
 
-The positions are in bench/stipulations.txt, drawn by this script: men at random squares, kept where the shortest solution has the
-moves of the row. For each it prints the time of the program, that of the older build, and the nodes and the time of a plain search
+The positions are in bench/stipulations.txt, drawn as --find draws them: men at random squares, kept where the shortest solution has
+the moves of the row. For each it prints the processor time of the program, that of the older build, the nodes and the time of a plain search
 with rules of chess of its own, which tries every move and keeps nothing. Each certificate is checked by those rules, and where the
 plain search comes to an end both have to agree. Ends with an error where they do not.
 """
@@ -188,11 +188,11 @@ class Plain:
 
     def __init__(self, seconds):
         self.nodes = 0
-        self.end = time.perf_counter() + seconds
+        self.end = time.process_time() + seconds
 
     def enter(self):
         self.nodes += 1
-        if self.nodes % 256 == 0 and time.perf_counter() > self.end:
+        if self.nodes % 256 == 0 and time.process_time() > self.end:
             raise Over
 
     def helps(self, board, plies, winner):
@@ -251,18 +251,24 @@ def is_right(kind, board, tree, plies, loser):
 # ---- the program
 
 
+def spent_by_programs():
+    """The processor time of all programs that were run, in seconds."""
+    spent = os.times()
+    return spent.children_user + spent.children_system
+
+
 def ask(program, kind, moves, fen, seconds):
-    """What the program prints, and how long it took; None where it took too long."""
-    start = time.perf_counter()
+    """What the program prints, and the processor time that it took; None where it took too long."""
+    start = spent_by_programs()
     try:
         done = subprocess.run(
             [program, "stipulate", kind, str(moves)], input=f"chess\n{fen}\n", capture_output=True, text=True, timeout=seconds
         )
     except subprocess.TimeoutExpired:
-        return None, time.perf_counter() - start
+        return None, spent_by_programs() - start
     if done.returncode != 0:
         sys.exit(f"{program}: status {done.returncode} for {kind} {moves} {fen}")
-    return done.stdout, time.perf_counter() - start
+    return done.stdout, spent_by_programs() - start
 
 
 # ---- positions
@@ -302,11 +308,26 @@ def drawn(rng, kind):
             return board
 
 
+def changed(rng, board):
+    """The position with one or two men at other squares, but for the kings and Black's officers."""
+    while True:
+        men = list(board.men)
+        for _ in range(rng.randint(1, 2)):
+            start = rng.choice([square for square, man in enumerate(men) if man and man not in "Kkqrbn"])
+            to = rng.choice([square for square, man in enumerate(men) if not man])
+            men[start], men[to] = "", men[start]
+        other = Board(men, board.white)
+        on_edge = any(man and man in "Pp" for man in men[:8] + men[56:])
+        if not on_edge and not other.is_attacked(not other.white) and any(True for _ in other.moves()):
+            return other
+
+
 def find(program, kind, moves, count, seed):
-    """Prints positions whose shortest solution has so many moves."""
+    """Prints positions whose shortest solution has so many moves: selfmates of three and more are looked for beside those of one less."""
     rng = random.Random(seed)
+    shorter = [Board.of_fen(fen) for row, length, fen in rows_of("self") if int(length) == moves - 1]
     while count:
-        fen = drawn(rng, kind).fen()
+        fen = (changed(rng, rng.choice(shorter)) if kind == "self" and shorter else drawn(rng, kind)).fen()
         text, _ = ask(program, kind, moves, fen, 600)
         if text == "none\n" or (moves > 1 and ask(program, kind, moves - 1, fen, 600)[0] != "none\n"):
             continue
@@ -315,6 +336,12 @@ def find(program, kind, moves, count, seed):
 
 
 # ---- the rows
+
+
+def rows_of(word):
+    """The kind, the number of moves and the position of each row that begins so."""
+    with open(POSITIONS) as lines:
+        return [line.strip().split(maxsplit=2) for line in lines if line.startswith(word) and line[0] != "#"]
 
 
 def told(seconds, is_whole):
@@ -326,19 +353,19 @@ def measure(options, kind, moves, fen):
     board = Board.of_fen(fen)
     text, ours = ask(options.program, kind, moves, fen, 3600)
     steps = steps_of(text)
-    right = steps is None or is_right(kind, board, tree_of(steps), 2 * moves, board.white)
+    right = steps is None or is_right(kind, board, tree_of(list(steps)), 2 * moves, board.white)
     row = f"{kind} {moves}  {told(ours, True)}"
     if options.older:
         other, spent = ask(options.older, kind, moves, fen, options.seconds)
         right = right and other in (None, text)
-        row += f"  older {told(spent, other is not None)}"
-    plain, start = Plain(options.seconds), time.perf_counter()
+        row += f"  older {told(spent if other is not None else options.seconds, other is not None)}"
+    plain, start = Plain(options.seconds), time.process_time()
     try:
         right = plain.solves(kind, moves, board) == (steps is not None) and right
         whole = True
     except Over:
         whole = False
-    row += f"  plain {told(time.perf_counter() - start, whole)} {plain.nodes:9} nodes"
+    row += f"  plain {told(time.process_time() - start if whole else options.seconds, whole)} {plain.nodes:9} nodes"
     print(f"{row}  {'none' if steps is None else len(steps):>5}  {'agree' if right else 'DIFFER'}  {fen}", flush=True)
     return right, ours
 
@@ -355,10 +382,9 @@ def main():
     if options.find:
         kind, moves, count = options.find
         return find(options.program, kind, int(moves), int(count), options.seed)
-    rows = [line.split(maxsplit=2) for line in open(POSITIONS) if line.startswith(options.only) and line[0] != "#"]
     worst, failed = {}, False
-    for kind, moves, fen in rows:
-        right, ours = measure(options, kind, int(moves), fen.strip())
+    for kind, moves, fen in rows_of(options.only):
+        right, ours = measure(options, kind, int(moves), fen)
         failed |= not right
         worst.setdefault(f"{kind} {moves}", []).append(ours)
     for name, times in worst.items():
