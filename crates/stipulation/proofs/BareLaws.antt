@@ -1,5 +1,5 @@
 -- What is reached in a game with its history is reached from its last position by itself.
-use Rattle.std.proofs.Common.{◌≡◌, ◌⊎◌, inl, inr, ℕ, zero, suc, ◌+◌, ◌<◌, ◌≤◌, nat_le, List, [], ◌∷◌, ◌++◌, length, take, get_or, Bool, true, false, not, ◌&&◌, ◌||◌, is_some, if◌then◌else◌, Option, Some, None, refl, ap, sym, ◌∙◌, subst, add-one, arith}
+use Rattle.std.proofs.Common.{◌≡◌, ◌⊎◌, inl, inr, ℕ, zero, suc, ◌+◌, ◌<◌, nat_le, List, [], ◌∷◌, ◌++◌, length, take, get_or, Bool, true, false, not, ◌&&◌, ◌||◌, is_some, if◌then◌else◌, Option, Some, None, refl, ap, sym, ◌∙◌, subst, add-one, arith}
 use Rattle.std.specs.List.{list_any, list_all}
 use Rattle.std.proofs.lemmas.Bool.Decides.{nat_tests}
 use Rattle.foundation.specs.Member.{Member, Lists, Appends}
@@ -18,7 +18,7 @@ use Rattle.rules_model.specs.Repeats.{repeat_of}
 use Rattle.rules_model.specs.Sides.{other}
 use Rattle.rules_model.proofs.EqualLaws.{repeat-decides}
 use Rattle.rules_model.proofs.PlayLaws.{next-is}
-use Rattle.forced_wins.specs.Contests.{Contest, decided, within}
+use Rattle.forced_wins.specs.Contests.{decided, within}
 use Rattle.forced_wins.proofs.ContestLaws.{if_mono, decided-mono, any_mono, all_mono, any_intro, all_intro}
 use Rattle.forced_wins.proofs.Counts.{by_cases}
 use Rattle.game_play.specs.Played.{story}
@@ -28,7 +28,7 @@ use Rattle.stipulation.specs.declared.task.Task.{Task}
 use Rattle.stipulation.specs.AtTask as At
 use Rattle.stipulation.specs.declared.facts.Fact.{Fact}
 use Rattle.stipulation.specs.Bare.{bare, bare_games, reaches, tells, IsTrueFact}
-use Rattle.stipulation.specs.Searches.{found, IsFound}
+use Rattle.stipulation.specs.Searches.{IsFound}
 use Rattle.stipulation.specs.Stipulations.{mated_by}
 use Rattle.stipulation.proofs.FoundLaws.{found-within}
 use Rattle.stipulation.proofs.MateLaws.{within-more}

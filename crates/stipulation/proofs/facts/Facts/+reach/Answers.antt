@@ -1,7 +1,6 @@
-use Rattle.std.proofs.Common.{◌≡◌, ◌+◌, ◌-◌, not, length, take, get_or, IfOk, ap, sym, ◌∙◌, subst, arith, rules}
+use Rattle.std.proofs.Common.{◌≡◌, ◌+◌, ◌-◌, not, take, get_or, IfOk, sym, ◌∙◌, subst, arith, rules}
 use Rattle.std.proofs.lemmas.List.{take_all}
 use Rattle.foundation.specs.Member.{Member, Lists}
-use Rattle.rules_model.specs.declared.moves.Move.{Move}
 use Rattle.rules_model.specs.Next.{next_repeat}
 use Rattle.playing.specs.Stance.{legal_in, repeat_in}
 use Rattle.stipulation.specs.declared.task.Task.{Task}

@@ -1,5 +1,4 @@
-use Rattle.std.proofs.Common.{ap, sym, ◌∙◌, rules}
-use Rattle.rules_model.specs.Sides.{other}
+use Rattle.std.proofs.Common.{◌∙◌, rules}
 use Rattle.stipulation.proofs.BareLaws.{ended-is}
 use Rattle.stipulation.proofs.facts.Facts.ended.Goals as goal
 
