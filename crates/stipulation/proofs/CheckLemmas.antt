@@ -17,7 +17,7 @@ use Rattle.stipulation.specs.declared.task.Task.{Task}
 use Rattle.stipulation.specs.declared.verdict.CertVerdict.{CertVerdict}
 use Rattle.stipulation.specs.declared.verdict.CertVerdict.TheVariants.{Holds, BadPly, BadMove, TooDeep, NotMate, MissingReply, Unfinished}
 use Rattle.stipulation.specs.Lines.{IsPathTo, along}
-use Rattle.stipulation.specs.Trees.{game_at, parent_game, children}
+use Rattle.stipulation.specs.Trees.{game_at, children}
 use Rattle.stipulation.specs.Verdicts.{or_verdict, fault_if, is_bad_ply, plies_verdict, is_bad_move, game_verdict, step_verdict, steps_verdict, tree_verdict, is_empty_end}
 use Rattle.stipulation.specs.AtTask as At
 use Rattle.stipulation.proofs.LineLemmas.{along-none}

@@ -6,4 +6,6 @@ pub mod RuleLaws
 pub mod FoundLaws
 pub mod SearchLemmas
 pub mod MateLaws
+pub mod BareLaws
+pub mod CheckLaws
 mod worked

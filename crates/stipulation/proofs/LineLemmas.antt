@@ -69,7 +69,7 @@ valued-repetition w Loss s = ap Some (no_mate (same_side (other s) w))
 valued-repetition w Draw s = refl
 
 -- an end by the position itself
-end-own : (rules : Rules) (g : Story) (o : Outcome) → own_end rules (repeat_of g.last) ≡ o → (o ≡ Ongoing → ⊥) → result rules g ≡ o
+pub end-own : (rules : Rules) (g : Story) (o : Outcome) → own_end rules (repeat_of g.last) ≡ o → (o ≡ Ongoing → ⊥) → result rules g ≡ o
 unfolding result
 end-own rules g o e h = rw e (first o h)
   where
@@ -83,7 +83,7 @@ pub end-by_itself : (rules made : Rules) (g : Story) (w : Side) (p : Position) (
 end-by_itself rules made g w p o b r e f h k = k ∙ ap (mated_by w) (sym (end-own rules g o (sym (f ∙ (λ i. own_end (r i) (repeat_of (e i))))) h))
 
 -- the game has no mate where its counts end it, and is else ongoing
-counts_end : (rules : Rules) (g : Story) (w : Side) (repeated run_out : Bool) → own_end rules (repeat_of g.last) ≡ Ongoing → is_repeated rules g ≡ repeated → is_run_out rules g.last.counter ≡ run_out → mated_by w (result rules g) ≡ (if repeated || run_out then Some false else None)
+pub counts_end : (rules : Rules) (g : Story) (w : Side) (repeated run_out : Bool) → own_end rules (repeat_of g.last) ≡ Ongoing → is_repeated rules g ≡ repeated → is_run_out rules g.last.counter ≡ run_out → mated_by w (result rules g) ≡ (if repeated || run_out then Some false else None)
 unfolding result
 counts_end rules g w true b e f h = rw (e, f) (valued-repetition w rules.n_fold_value g.last.side)
 counts_end rules g w false true e f h = rw (e, f, h)

@@ -1,5 +1,5 @@
 -- A search of a game finds a certificate exactly where there is a selfmate or a helpmate.
-use Rattle.std.proofs.Common.{◌≡◌, ◌⊎◌, inl, inr, ℕ, zero, suc, ◌+◌, ◌-◌, ◌*◌, ◌<◌, ◌≤◌, List, length, Bool, true, false, ◌&&◌, is_some, Option, Some, None, Result, Ok, Err, IfOk, MatchOption, if◌then◌else◌, refl, ap, sym, ◌∙◌, subst, arith}
+use Rattle.std.proofs.Common.{◌≡◌, ◌⊎◌, inl, inr, ℕ, zero, suc, ◌+◌, ◌-◌, ◌*◌, ◌<◌, ◌≤◌, List, length, Bool, true, false, ◌&&◌, is_some, Option, Some, None, Result, Ok, Err, IfOk, MatchOption, refl, ap, sym, ◌∙◌, subst, arith}
 use Rattle.std.specs.Option.{option_or}
 use Rattle.foundation.specs.declared.Memory.{Memory}
 use Rattle.foundation.specs.Tests.{is_nil}
@@ -14,7 +14,7 @@ use Rattle.forced_wins.proofs.Counts.{true_false}
 use Rattle.stipulation.specs.declared.cert.Step.{Step}
 use Rattle.stipulation.specs.declared.verdict.CertVerdict.TheVariants.{Holds}
 use Rattle.stipulation.specs.declared.cert.Cert.{Cert}
-use Rattle.stipulation.specs.Searches.{found, help_found, is_ended, least_found, self_found, steps_of}
+use Rattle.stipulation.specs.Searches.{found, help_found, is_ended, least_found, steps_of}
 use Rattle.stipulation.specs.Stipulations.{self_games, self_wins, HelpWins, help_games}
 use Rattle.stipulation.specs.Verdicts.{self_verdict, help_verdict, tree_verdict, is_empty_end}
 use Rattle.stipulation.proofs.FoundLaws.{found-within, found-holds, found-short}
@@ -24,7 +24,7 @@ none-lost : {X : Type 0} (c : Contest X Move) (t : ℕ) (x : X) → found c t 0 
 none-lost c t x e = sym (found-within c t 0 x) ∙ ap is_some e
 
 -- more plies do no harm
-within-more : {X : Type 0} (c : Contest X Move) (k t : ℕ) (x : X) → k ≤ t → within c k x ≡ true → within c t x ≡ true
+pub within-more : {X : Type 0} (c : Contest X Move) (k t : ℕ) (x : X) → k ≤ t → within c k x ≡ true → within c t x ≡ true
 within-more c k zero x l h = let e : k ≡ 0 = omega arith in subst (λ n. within c n x ≡ true) e h
 within-more c k (suc t) x l h = split (order k t l) (λ low. within-more c k t x low h)
   where

@@ -5,4 +5,5 @@ pub mod Lines
 pub mod Verdicts
 pub mod Searches
 pub mod AtTask
+pub mod Bare
 pub mod AtTree

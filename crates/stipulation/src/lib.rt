@@ -3,9 +3,11 @@
 
 mod cert;
 mod check;
+mod facts;
 pub mod laws;
 mod line;
 mod mates;
+mod reach;
 mod search;
 mod task;
 #[cfg(test)]

@@ -39,7 +39,7 @@ fn is_checkmate(cause: Cause) -> bool
 }
 
 /// Whether the side has won by checkmate, if the outcome is an end.
-fn mated_by(winner: Side, outcome: Outcome) -> Option<bool>
+pub(crate) fn mated_by(winner: Side, outcome: Outcome) -> Option<bool>
     ensures { result ≡ Stipulations.mated_by winner outcome }
 {
     match outcome {

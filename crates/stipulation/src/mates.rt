@@ -9,6 +9,7 @@ ghost use Rattle.stipulation.specs.Stipulations.{self_wins, HelpWins};
 ghost use Rattle.stipulation.specs.Verdicts as Verdicts;
 
 use crate::cert::{Cert, Steps};
+use crate::facts::Facts;
 use crate::line::Line;
 use crate::task::Task;
 use game_play::Game;
@@ -17,16 +18,18 @@ use std::alloc::Global;
 
 impl Task<'_> {
     /// The certificate of what is aimed at within so many plies of the game.
-    fn find(&self, alloc: Global, plies: u16) -> Result<Option<Cert>, Memory>
-        requires { plies ≤ 12 }
-        ensures { let found = Searches.found (At.games self.now) plies 0 (story self.now.game.now) in
+    fn find(&self, alloc: Global, plies: u16, facts: &mut Facts) -> Result<Option<Cert>, Memory>
+        requires few { plies ≤ 12 }
+        requires task { facts.old ≡ self.now }
+        ensures found { let found = Searches.found (At.games self.now) plies 0 (story self.now.game.now) in
             IfOk result (λ answer. MatchOption answer (found ≡ None) (λ cert. found ≡ Some cert.steps)) }
+        ensures task { facts.new ≡ facts.old }
     {
         let mut line = Line::new(alloc);
         let mut steps = Steps {
             items: Vec::new(alloc),
         };
-        if self.search(alloc, &mut line, plies, &mut steps)? {
+        if self.search(alloc, &mut line, plies, &mut steps, facts)? {
             Ok(Some(Cert { steps }))
         } else {
             Ok(None)
@@ -56,7 +59,8 @@ pub fn self_mate(alloc: Global, game: &Game, n: u16) -> Result<Option<Cert>, Mem
         self_wins game.now.rules n (story game.now) (story game.now).last.side ≡ true)) }
 {
     let task = Task { game, help: false };
-    task.find(alloc, 2 * n)
+    let mut facts = Facts::new(alloc, &task)?;
+    task.find(alloc, 2 * n, &mut facts)
 }
 
 /// A certificate of a helpmate of least length within n moves of each side, from the side that is to move in the game, exactly where
@@ -78,8 +82,9 @@ pub fn help_mate(alloc: Global, game: &Game, n: u16) -> Result<Option<Cert>, Mem
     if task.is_ended(alloc) {
         return Ok(None);
     }
+    let mut facts = Facts::new(alloc, &task)?;
     for plies in 1..2 * n + 1 {
-        if let Some(cert) = task.find(alloc, plies)? {
+        if let Some(cert) = task.find(alloc, plies, &mut facts)? {
             return Ok(Some(cert));
         }
     }

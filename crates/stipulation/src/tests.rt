@@ -3,7 +3,7 @@ ghost use Rattle.rules_model.specs.Fit.{IsFit};
 use super::*;
 use game_play::Game;
 use rules_model::{Move, Position, Promo, Rules, Side, sound};
-use sample_rules::{chess, position, square};
+use sample_rules::{chess, hand_of, kind, position, shouse, square, xiangqi};
 use std::alloc::Global;
 use std::process::Abort;
 use std::test::Fail;
@@ -17,8 +17,15 @@ fn forced() -> Rules
     rules
 }
 
-/// The move of a text such as `e2e4`, without promotion.
+/// The move of a text such as `e2e4`, without promotion, or `R@a8`.
 fn go(text: &str) -> Move {
+    if let Some((letter, to)) = text.split_once('@') {
+        let letter = letter.as_bytes().first().copied().unwrap_or(b'P');
+        return Move::Drop {
+            kind: kind(letter.to_ascii_lowercase()),
+            to: square(to),
+        };
+    }
     let (from, to) = text.split_at_checked(2).unwrap_or(("", ""));
     Move::Go {
         from: square(from),
@@ -141,6 +148,48 @@ fn a_helpmate_and_its_spoilt_forms(rt: HostRuntime) -> Result<(), Fail> {
         says_help(&rt, rt.alloc(), &game, 1, steps, wanted)?;
     }
     Ok(())
+}
+
+/// White has a rook in hand, with which it mates from the eighth rank.
+#[test]
+fn a_helpmate_by_a_drop(rt: HostRuntime) -> Result<(), Fail> {
+    let start = Position {
+        side: Side::Black,
+        hands: [hand_of(b"r"), [0; 26]],
+        ..position("kg8 Kg6")
+    };
+    let game = game(&rt, rt.alloc(), &shouse(), &start, "")?;
+    let rows = [
+        ("1 g8h8, 2 R@a8", "CertVerdict 0 Holds"),
+        ("1 g8h8, 2 R@g8", "CertVerdict 6 Unfinished 2"),
+        ("1 g8h8, 2 B@a8", "CertVerdict 2 BadMove 2"),
+    ];
+    for (steps, wanted) in rows {
+        says_help(&rt, rt.alloc(), &game, 1, steps, wanted)?;
+    }
+    let found = help_mate(rt.alloc(), &game, 1)?;
+    finds(&rt, rt.alloc(), &found, Some("1 g8h8, 2 R@a8"))
+}
+
+/// Xiangqi: the kings may not face each other, and who cannot move has lost, but that is no checkmate.
+#[test]
+fn a_helpmate_in_a_palace(rt: HostRuntime) -> Result<(), Fail> {
+    let start = Position {
+        side: Side::Black,
+        ..position("kd10 pb4 Ke1 Ra9 Rb1 Ri1")
+    };
+    let game = game(&rt, rt.alloc(), &xiangqi(), &start, "")?;
+    let rows = [
+        ("1 b4b3, 2 i1i10", "CertVerdict 0 Holds"),
+        ("1 b4b3, 2 b1b3", "CertVerdict 4 NotMate 2"),
+        ("1 b4b3, 2 i1i9", "CertVerdict 6 Unfinished 2"),
+        ("1 d10e10", "CertVerdict 2 BadMove 1"),
+    ];
+    for (steps, wanted) in rows {
+        says_help(&rt, rt.alloc(), &game, 1, steps, wanted)?;
+    }
+    let found = help_mate(rt.alloc(), &game, 1)?;
+    finds(&rt, rt.alloc(), &found, Some("1 b4a4, 2 b1b10"))
 }
 
 /// The position at the root has stood twice: the third time the game is drawn.

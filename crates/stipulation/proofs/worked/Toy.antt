@@ -1,7 +1,6 @@
 -- Verdicts on the certificates of a toy game. From the start one side chooses a move: the first leads to a state with two replies, each of
 -- which wins, and the second loses at once.
 use Rattle.std.proofs.Common.{◌≡◌, ℕ, zero, suc, Bool, true, false, List, [], ◌∷◌, Option, Some, None, refl}
-use Rattle.foundation.specs.Tests.{is_nil}
 use Rattle.rules_model.specs.declared.moves.Move.{Move}
 use Rattle.rules_model.specs.declared.moves.Move.TheVariants.{Drop}
 use Rattle.rules_model.specs.Moves.{same_move}

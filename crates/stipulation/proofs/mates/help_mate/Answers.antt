@@ -1,4 +1,4 @@
-use Rattle.std.proofs.Common.{◌≡◌, ◌+◌, ◌-◌, ◌*◌, ap, sym, ◌∙◌, arith}
+use Rattle.std.proofs.Common.{◌≡◌, ◌+◌, ◌-◌, ◌*◌, refl, ap, sym, ◌∙◌, arith}
 use Rattle.forced_wins.specs.Contests.{within}
 use Rattle.game_play.specs.Played.{story}
 use Rattle.stipulation.specs.Stipulations.{help_games}
@@ -13,6 +13,7 @@ returns-then-is_ended-clause-found c =
 
 pub loop-plies-init : goal.loop-plies-init
 loop-plies-init c = record {
+  task = refl;
   least = omega arith;
   least_found = least-begun c.args.game.now.rules c.args.n (story c.args.game.now) c.is_ended.result c.is_ended.ensures c.if-is_ended.false;
   none = help-begun c.args.game.now.rules c.args.n (story c.args.game.now) c.is_ended.result c.is_ended.ensures c.if-is_ended.false;
@@ -21,30 +22,31 @@ loop-plies-init c = record {
 pub returns-in-Some-clause-found : goal.returns-in-Some-clause-found
 returns-in-Some-clause-found c =
     help-found c.args.game.now.rules c.args.n (story c.args.game.now) c.is_ended.result c.loop-plies.plies c.in-Some.cert.steps c.is_ended.ensures c.if-is_ended.false (omega arith)
-    (some-of _ _ c.in_ok-cert.field-0 c.in-Some.cert c.in_ok-cert.ensures c.in-Some.is)
+    (some-of _ _ c.in_ok-cert.field-0 c.in-Some.cert c.in_ok-cert.ensures.found c.in-Some.is)
 
 pub returns-in-Some-clause-wins : goal.returns-in-Some-clause-wins
 returns-in-Some-clause-wins c =
     help-holds c.args.game.now.rules c.args.n (story c.args.game.now) c.in-Some.cert.steps
     (help-found c.args.game.now.rules c.args.n (story c.args.game.now) c.is_ended.result c.loop-plies.plies c.in-Some.cert.steps c.is_ended.ensures c.if-is_ended.false (omega arith)
-    (some-of _ _ c.in_ok-cert.field-0 c.in-Some.cert c.in_ok-cert.ensures c.in-Some.is))
+    (some-of _ _ c.in_ok-cert.field-0 c.in-Some.cert c.in_ok-cert.ensures.found c.in-Some.is))
 
 pub returns-in-Some-clause-shortest : goal.returns-in-Some-clause-shortest
 returns-in-Some-clause-shortest c =
     help-shortest c.args.game.now.rules c.args.n (story c.args.game.now) c.loop-plies.plies c.in-Some.cert.steps c.loop-plies.invariant.least c.loop-plies.invariant.none
-    (some-of _ _ c.in_ok-cert.field-0 c.in-Some.cert c.in_ok-cert.ensures c.in-Some.is)
+    (some-of _ _ c.in_ok-cert.field-0 c.in-Some.cert c.in_ok-cert.ensures.found c.in-Some.is)
 
 pub loop-plies-preserved : goal.loop-plies-preserved
 loop-plies-preserved c =
     let g = story c.args.game.now in
     let back : c.loop-plies.plies + 1 - 1 ≡ c.loop-plies.plies = omega arith in
     record {
+      task = c.in_ok-cert.ensures.task ∙ c.loop-plies.invariant.task;
       least = omega arith;
       least_found = least-next c.args.game.now.rules c.args.n g c.loop-plies.plies (omega arith) c.loop-plies.invariant.least_found
-          (none-of _ _ c.in_ok-cert.field-0 c.in_ok-cert.ensures c.in_default.not-Some);
+          (none-of _ _ c.in_ok-cert.field-0 c.in_ok-cert.ensures.found c.in_default.not-Some);
       none =
           ap (λ t. within (help_games c.args.game.now.rules g.last.side) t g) back
-          ∙ help-missed c.args.game.now.rules c.args.n g c.loop-plies.plies (none-of _ _ c.in_ok-cert.field-0 c.in_ok-cert.ensures c.in_default.not-Some);
+          ∙ help-missed c.args.game.now.rules c.args.n g c.loop-plies.plies (none-of _ _ c.in_ok-cert.field-0 c.in_ok-cert.ensures.found c.in_default.not-Some);
     }
 
 pub returns-clause-found : goal.returns-clause-found
@@ -60,7 +62,7 @@ returns-then-is_ended-clause-is c =
 pub returns-in-Some-clause-is : goal.returns-in-Some-clause-is
 returns-in-Some-clause-is c =
     sym (least-at c.args.game.now.rules c.args.n (story c.args.game.now) c.loop-plies.plies c.in-Some.cert.steps c.loop-plies.invariant.least (omega arith) c.loop-plies.invariant.least_found
-    (some-of _ _ c.in_ok-cert.field-0 c.in-Some.cert c.in_ok-cert.ensures c.in-Some.is))
+    (some-of _ _ c.in_ok-cert.field-0 c.in-Some.cert c.in_ok-cert.ensures.found c.in-Some.is))
 
 pub returns-clause-is : goal.returns-clause-is
 returns-clause-is c =

@@ -3,6 +3,7 @@ use Rattle.foundation.specs.Member.{Member}
 use Rattle.rules_model.specs.declared.board.Position.{Position}
 use Rattle.stipulation.specs.AtTask as At
 use Rattle.stipulation.specs.Searches.{followed, IsFound}
+use Rattle.stipulation.proofs.BareLaws.{bare-none}
 use Rattle.stipulation.proofs.SearchLemmas.{listed-at, no_move, all-more}
 use Rattle.stipulation.proofs.task.Task.+search.Goals as goal
 
@@ -13,11 +14,14 @@ choose-follow-requires t c =
     let legal = λ (ps : List Position). (At.games c.args.self.now).moves (At.at c.args.self.now ps) in (
       omega (arith, c.decreases),
       (
-        subst (λ (ps : List Position). At.AreSound c.args.self.now ps) (sym same) c.requires.sound,
+        c.loop-m.invariant.task ∙ c.requires.task,
         (
-          omega arith,
-          subst (λ (ps : List Position). Member (get_or c.args.moves.now c.loop-m.m-index no_move) (legal ps)) (sym same)
-              (c.requires.legal (get_or c.args.moves.now c.loop-m.m-index no_move) (listed-at c.args.moves.now c.loop-m.m-index no_move c.loop-m-test.true)),
+          subst (λ (ps : List Position). At.AreSound c.args.self.now ps) (sym same) c.requires.sound,
+          (
+            omega arith,
+            subst (λ (ps : List Position). Member (get_or c.args.moves.now c.loop-m.m-index no_move) (legal ps)) (sym same)
+                (c.requires.legal (get_or c.args.moves.now c.loop-m.m-index no_move) (listed-at c.args.moves.now c.loop-m.m-index no_move c.loop-m-test.true)),
+          ),
         ),
       ),
     )
@@ -29,11 +33,14 @@ reply_to_all-follow-requires t c =
     let legal = λ (ps : List Position). (At.games c.args.self.now).moves (At.at c.args.self.now ps) in (
       omega (arith, c.decreases),
       (
-        subst (λ (ps : List Position). At.AreSound c.args.self.now ps) (sym same) c.requires.sound,
+        c.loop-m.invariant.task ∙ c.requires.task,
         (
-          omega arith,
-          subst (λ (ps : List Position). Member (get_or c.args.moves.now c.loop-m.m-index no_move) (legal ps)) (sym same)
-              (c.requires.legal (get_or c.args.moves.now c.loop-m.m-index no_move) (listed-at c.args.moves.now c.loop-m.m-index no_move c.loop-m-test.true)),
+          subst (λ (ps : List Position). At.AreSound c.args.self.now ps) (sym same) c.requires.sound,
+          (
+            omega arith,
+            subst (λ (ps : List Position). Member (get_or c.args.moves.now c.loop-m.m-index no_move) (legal ps)) (sym same)
+                (c.requires.legal (get_or c.args.moves.now c.loop-m.m-index no_move) (listed-at c.args.moves.now c.loop-m.m-index no_move c.loop-m-test.true)),
+          ),
         ),
       ),
     )
@@ -47,7 +54,12 @@ reply_to_all-loop-m-preserved t c =
     record {
       line = c.in_ok-follow.ensures.line ∙ c.loop-m.invariant.line;
       kept = c.loop-m.invariant.kept;
+      task = c.in_ok-follow.ensures.task ∙ c.loop-m.invariant.task;
       done = all-more (followed (At.games s) c.args.plies (length c.args.line.now) (At.at s c.args.line.now)) c.args.moves.now c.loop-m.m-index no_move c.args.steps.now c.loop-m.steps c.follow.new.steps
           c.loop-m-test.true c.loop-m.invariant.done
           (subst (λ b. IsFound (followed (At.games s) c.args.plies (length c.args.line.now) (At.at s c.args.line.now) m) c.loop-m.steps c.follow.new.steps b) c.if-not-branch.false answered);
     }
+
+pub search-returns-then-not-branch-clause-found : goal.search-returns-then-not-branch-clause-found
+search-returns-then-not-branch-clause-found t c =
+    bare-none c.args.self.now c.args.line.now c.args.plies c.args.steps.now (sym c.in_ok-may_reach.ensures.is ∙ c.if-not-branch.true)
