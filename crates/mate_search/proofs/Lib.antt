@@ -8,3 +8,5 @@ mod Evidence
 mod Root
 mod MateLaws
 mod HandedLaws
+mod OrderLaws
+mod RaceLaws

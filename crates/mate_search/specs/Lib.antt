@@ -6,3 +6,4 @@ pub mod Counts
 pub mod Answers
 pub mod Solves
 pub mod Handed
+pub mod Races

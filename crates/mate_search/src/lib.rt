@@ -5,13 +5,21 @@
 mod answer;
 mod building;
 mod frame;
+mod harness;
+mod job;
 mod judging;
+mod lending;
 mod node_table;
+mod ordering;
 mod plan;
+mod race;
+mod racer;
+mod shared;
 mod shared_root;
 mod solving;
 #[cfg(test)]
 mod tests;
+mod trying;
 mod unwatched;
 mod whole;
 
