@@ -14,9 +14,11 @@ use Rattle.forced_wins.specs.Wins.{near, near_root, blocked, is_in}
 use Rattle.forced_wins.proofs.Counts.{not_true, true_false}
 use Rattle.forced_wins.proofs.FactLaws.{near-counter}
 use Rattle.mate_shards.specs.Views.{ShardsView, ShardPass, ArePassesOf}
+use Rattle.game_play.specs.Played.{Played, story}
+use Rattle.mate_shards.proofs.AnswerLaws.{answer_or_full-stays}
 use Rattle.mate_shards.proofs.GrownLaws.{grown-itself, grown-onward}
 use Rattle.mate_search.proofs.Root.{root-free}
-use Rattle.mate_search.specs.Handed.{AreHandedBack}
+use Rattle.mate_search.specs.Handed.{AreHandedBack, RootIsShared}
 
 pub handed_none : (s : ShardsView) (ps : List ShardPass) → ArePassesOf s ps → AreHandedBack s ps ps
 handed_none s ps are = record { passes = are; parts = λ n all. all; grown = grown-itself ps }
@@ -27,6 +29,12 @@ handed_more s a b c p q = record {
   parts = λ n all. q.parts n (p.parts n all);
   grown = grown-onward a b c p.grown q.grown;
 }
+
+-- what passes show of the root stays shown
+pub shared_more : (s : ShardsView) (a b : List ShardPass) (game : Played) (n : ℕ) → AreHandedBack s a b → RootIsShared s a game n → RootIsShared s b game n
+shared_more s a b game n handed shared = λ free.
+    let (wins, seen) = shared free in
+    (wins, answer_or_full-stays s a b handed.grown.seen wins (repeat_of (story game).last) (story game).last.counter n seen)
 
 -- ---- a fact on a position
 

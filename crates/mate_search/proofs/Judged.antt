@@ -380,8 +380,8 @@ module _ (r : Game Position Repeat Move) (l : GameLaws Position Repeat Move r) (
 -- ---- the bound
 
 module _ (r : Game Position Repeat Move) where
-  -- the search of the root, and the walk
-  pub whole-lines : (n : ℕ) (p : Position) → lines_within r n p + (n + 1) * lines_within r n p ≤ 4 * (n + 1) * lines r (2 * n + 1) p
+  -- the race, the search of the root, and the walk
+  pub whole-lines : (n : ℕ) (p : Position) → (n + 4) * lines_within r n p ≤ 4 * (n + 1) * lines r (2 * n + 1) p
   whole-lines n p =
       let fit : plies r n p ≤ 2 * n + 1 = by_cases (r.attacking p) (λ e. rw e (omega arith)) (λ e. rw e (omega arith)) in
       total n (lines_within r n p) (lines r (2 * n + 1) p) (lines-mono r (plies r n p) (2 * n + 1) p fit)
@@ -389,8 +389,8 @@ module _ (r : Game Position Repeat Move) where
       mul_le : (k x y : ℕ) → x ≤ y → k * x ≤ k * y
       mul_le k x y h = grind arith
 
-      total : (n x y : ℕ) → x ≤ y → x + (n + 1) * x ≤ 4 * (n + 1) * y
+      total : (n x y : ℕ) → x ≤ y → (n + 4) * x ≤ 4 * (n + 1) * y
       total n x y u =
-          let k = mul_le (n + 1) x y u in
-          let d : (n + 1) * y ≡ n * y + y = omega arith in
+          let k = mul_le (n + 4) x y u in
+          let d : (n + 4) * y ≡ n * y + 4 * y = omega arith in
           let e : 4 * (n + 1) * y ≡ 4 * (n * y) + 4 * y = omega arith in omega arith

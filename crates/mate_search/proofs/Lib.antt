@@ -10,3 +10,5 @@ mod MateLaws
 pub mod HandedLaws
 pub mod LeastLaws
 mod worked
+mod OrderLaws
+mod RaceLaws

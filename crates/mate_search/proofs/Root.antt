@@ -45,6 +45,7 @@ use Rattle.mate_search.specs.Answers.{IsFrameOf, IsShown, IsEvidence}
 use Rattle.mate_search.specs.Counts.{nodes_at, counters_of, is_often, IsTabledIn}
 use Rattle.mate_search.specs.Mates.{stands_often}
 use Rattle.mate_search.specs.Tabled.{IsKept}
+use Rattle.mate_search.specs.Races.{raced_lines}
 use Rattle.mate_search.specs.Tables.{nodes, most, IsNext, Stands}
 use Rattle.mate_search.proofs.Judged.{root-next, inside-good, near-good, root-again-at, too-often, low-ranks, thin-some, whole-lines}
 use Rattle.mate_search.proofs.Evidence.{evidence}
@@ -187,7 +188,8 @@ unfolding lines tree
 lines-tree by a zero g = refl
 lines-tree by a (suc t) g = ap (λ h. 1 + sum_by h (legal by (repeat_of g.last))) (λ i m. lines-tree by a t (played by g m) i)
 
-pub solve-lines : (rules : Rules) (f : Frame) (g : Story) (n : ℕ) (p : Position) → f.rules ≡ rules → p ≡ g.last → lines_within (seen_in f) n p + (n + 1) * lines_within (seen_in f) n p ≤ solve_bound rules n g
+-- all lines of a solve are within its bound
+pub solve-lines : (rules : Rules) (f : Frame) (g : Story) (n : ℕ) (p : Position) → f.rules ≡ rules → p ≡ g.last → raced_lines f n p ≤ solve_bound rules n g
 unfolding solve_bound
 solve-lines rules f g n p e d =
     let h = whole-lines (seen_in f) n p in

@@ -7,3 +7,4 @@ pub mod Answers
 pub mod Solves
 pub mod Handed
 pub mod Least
+pub mod Races

@@ -3,25 +3,17 @@ ghost use Rattle.std.specs.Prelude.{◌≡◌, ◌+◌, ◌*◌, ◌≤◌, IfOk
 ghost use Rattle.mate_settle.specs.Lines.{lines_within, seen_in};
 ghost use Rattle.mate_search.specs.Tables as Tables;
 ghost use Rattle.mate_search.specs.Tabled as Tabled;
-ghost use Rattle.playing.specs.Stance.{legal_in};
 ghost use Rattle.watching.specs.declared.halt.Halt.{Halt};
 
 use crate::node_table::{NodeTable, no_edges};
+use crate::ordering::{known_best, legal_list, moves_from};
+use crate::trying::choose_among;
 use mate_fact::won_by;
-use mate_settle::{FactTable, choose};
+use mate_settle::FactTable;
 use playing::Board;
-use rules_model::{Memory, Move};
 use std::alloc::Global;
 use strategy::Edge;
 use watching::{Halt, Watch};
-
-// The legal moves in the order of the list.
-fn legal_list(alloc: Global, board: &Board) -> Result<Vec<Move>, Memory>
-    ensures { IfOk result (λ ms. ms.items ≡ legal_in board.now) }
-{
-    let moves = board.legal_moves(alloc)?;
-    Ok(moves.items)
-}
 
 /// Brings in the node of a position that is won within n moves, with all that it needs, and answers its place.
 pub(crate) fn build<W: Watch>(
@@ -54,7 +46,8 @@ pub(crate) fn build<W: Watch>(
         return Ok(table.finish(board, n, edges)?);
     }
     if board.position().side.is(attacker) {
-        match choose(alloc, board, n, facts, watch)? {
+        let order = moves_from(alloc, board, known_best(facts, board, n))?;
+        match choose_among(alloc, board, &order, n, facts, watch)? {
             Some(choice) => {
                 let chosen = choice.chosen;
                 let next = board.after(&chosen);

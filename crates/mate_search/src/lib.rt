@@ -6,14 +6,22 @@ mod answer;
 mod building;
 mod counting;
 mod frame;
+mod harness;
+mod job;
 mod judging;
 pub mod laws;
+mod lending;
 mod node_table;
+mod ordering;
 mod plan;
+mod race;
+mod racer;
+mod shared;
 mod shared_root;
 mod solving;
 #[cfg(test)]
 mod tests;
+mod trying;
 mod unwatched;
 mod whole;
 

@@ -10,11 +10,13 @@ ghost use Rattle.rules_model.specs.Repeats as Repeats;
 ghost use Rattle.mate_search.specs.Answers.{IsFrameOf};
 ghost use Rattle.mate_search.specs.Handed.{AreHandedBack, RootIsRefuted, RootIsShared};
 
+use crate::solving::Verdict;
 use game_play::Game;
 use mate_core::{Fact, Frame};
 use mate_fact::is_blocked;
 use mate_settle::FactTable;
 use mate_shards::{Passes, Shards};
+use playing::Board;
 use rules_model::{Position, repeat_of};
 use std::sync::Wait;
 
@@ -43,9 +45,9 @@ pub(crate) fn is_refuted<R: Wait>(
     }
 }
 
-/// That the position is won within n moves, or that it is not.
-fn fact_on(frame: &Frame, p: &Position, n: u16, wins: bool) -> Fact
-    requires { near_in frame.now n p.now ≡ wins }
+/// What is known of the position: that it is won within n moves, or that it is not.
+fn fact_on(frame: &Frame, p: &Position, n: u16, verdict: Verdict) -> Fact
+    requires { near_in frame.now n p.now ≡ verdict.won }
     ensures truth { IsTrueIn frame.now result }
     ensures repeat { result.repeat ≡ Repeats.repeat_of p.now }
     ensures serves { serves result (Repeats.repeat_of p.now) p.now.counter n ≡ true }
@@ -55,31 +57,36 @@ fn fact_on(frame: &Frame, p: &Position, n: u16, wins: bool) -> Fact
         attacker: frame.attacker,
         moves: n,
         counter: p.counter,
-        best: None,
-        wins,
+        best: verdict.best,
+        wins: verdict.won,
     }
 }
 
-/// Publishes whether the game is won, where its repeat is not blocked.
+/// Publishes whether the game is won, where its repeat is not blocked, and keeps it in a table.
 pub(crate) fn publish_root<R: Wait>(
     rt: &R,
     shards: &Shards,
     passes: &mut Passes,
     game: &Game,
+    board: &Board,
     n: u16,
-    wins: bool,
+    verdict: Verdict,
+    facts: &mut FactTable,
 )
     requires frame { IsFrameOf game.now shards.now.frame }
+    requires facts { facts.old ≡ shards.now.frame }
     requires passes { ArePassesOf shards.now passes.old }
-    requires wins { wins ≡ near_root shards.now.frame.rules n (story game.now) shards.now.frame.attacker }
+    requires won { verdict.won ≡ near_root shards.now.frame.rules n (story game.now) shards.now.frame.attacker }
     ensures handed { AreHandedBack shards.now passes.old passes.new }
     ensures shared { RootIsShared shards.now passes.new game.now n }
+    ensures facts { facts.new ≡ facts.old }
 {
     let frame = shards.frame();
     let p = game.position();
     if !is_blocked(&frame.blocked, p) {
-        let fact = fact_on(frame, p, n, wins);
+        let fact = fact_on(frame, p, n, verdict);
         shards.publish(rt, passes, &fact);
+        facts.keep(board, fact);
     }
 }
 

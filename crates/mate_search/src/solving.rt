@@ -7,6 +7,7 @@ ghost use Rattle.mate_settle.specs.Lines.{lines_within, seen_in};
 ghost use Rattle.mate_shards.specs.Views.{ArePassesOf};
 ghost use Rattle.mate_search.specs.Answers.{IsDecided, IsFrameOf, IsRight};
 ghost use Rattle.mate_search.specs.Handed.{AreHandedBack, RootIsShared};
+ghost use Rattle.mate_search.specs.Races.{closing_lines};
 ghost use Rattle.mate_search.specs.Tabled.{IsKept};
 ghost use Rattle.mate_search.specs.Tables as Tables;
 ghost use Rattle.watching.specs.declared.halt.Halt.{Halt};
@@ -15,13 +16,16 @@ use crate::answer::Settled;
 use crate::building::build;
 use crate::judging::{judge, shown};
 use crate::node_table::NodeTable;
+use crate::ordering::moves_from;
 use crate::plan::{Plan, plan_for};
 use crate::shared_root::{is_refuted, publish_root, publish_wins};
+use crate::trying::{all_won_among, choose_among};
 use game_play::Game;
-use mate_fact::{is_blocked, won_by};
-use mate_settle::{FactTable, all_won, choose, settle};
+use mate_fact::won_by;
+use mate_settle::FactTable;
 use mate_shards::{Passes, Shards};
 use playing::Board;
+use rules_model::Move;
 use std::alloc::Global;
 use std::sync::Wait;
 use strategy::Node;
@@ -29,7 +33,7 @@ use watching::{Halt, Watch};
 
 /// How many facts a worker keeps while it looks for a win within some number of moves. A short search meets few
 /// positions, and each place costs time and memory before it begins.
-fn room_for(n: u16) -> usize {
+pub(crate) fn room_for(n: u16) -> usize {
     match n {
         0 | 1 => 1 << 8,
         2 => 1 << 12,
@@ -37,42 +41,57 @@ fn room_for(n: u16) -> usize {
     }
 }
 
-/// Whether the game is won, the positions after its last one being looked at without their history. Where its repeat may
-/// stand again, its fact settles it.
-fn is_won<W: Watch>(
+/// Whether the game is won, and the move that was found to win or to refute.
+#[derive(Clone, Copy)]
+pub(crate) struct Verdict {
+    pub won: bool,
+    pub best: Option<Move>,
+}
+
+/// Whether the game is won, the positions after its last one being looked at without their history. A move may be named
+/// that is tried first.
+fn decide<W: Watch>(
     alloc: Global,
     game: &Game,
     board: &Board,
     n: u16,
+    first: Option<Move>,
     facts: &mut FactTable,
     watch: &mut W,
-) -> Result<bool, Halt>
+) -> Result<Verdict, Halt>
     requires frame { IsFrameOf game.now facts.old }
     requires board { board.now ≡ record { rules = game.now.rules; position = (story game.now).last } }
     requires some { 0 < n }
     requires small { n ≤ Tables.most }
     ensures frame { facts.new ≡ facts.old }
-    ensures won { IfOk result (λ won. won ≡ near_root facts.old.rules n (story game.now) facts.old.attacker) }
+    ensures won { IfOk result (λ v. v.won ≡ near_root facts.old.rules n (story game.now) facts.old.attacker) }
     ensures gone { OnOk result (W.gone watch.old watch.new (lines_within (seen_in facts.old) n board.now.position)) }
     ensures ended { (why : Halt) → IsErrOf result why →
         W.ended watch.old watch.new (lines_within (seen_in facts.old) n board.now.position) why }
 {
     let frame = facts.frame();
-    if !is_blocked(&frame.blocked, board.position()) {
-        let fact = settle(alloc, board, n, facts, watch)?;
-        return Ok(fact.wins);
-    }
     if let Some(won) = won_by(frame.attacker, game.outcome()) {
-        return Ok(won);
+        return Ok(Verdict { won, best: None });
     }
+    let order = moves_from(alloc, board, first)?;
     if board.position().side.is(frame.attacker) {
-        match choose(alloc, board, n, facts, watch)? {
-            Some(_choice) => return Ok(true),
-            None => return Ok(false),
+        match choose_among(alloc, board, &order, n, facts, watch)? {
+            Some(choice) => {
+                return Ok(Verdict {
+                    won: true,
+                    best: Some(choice.chosen),
+                });
+            }
+            None => {
+                return Ok(Verdict {
+                    won: false,
+                    best: None,
+                });
+            }
         }
     }
-    let won = all_won(alloc, board, n, facts, watch)?;
-    Ok(won)
+    let won = all_won_among(alloc, board, &order, n, facts, watch)?;
+    Ok(Verdict { won, best: None })
 }
 
 /// The nodes of a win, the root's first.
@@ -159,15 +178,51 @@ pub fn solve_watched<W: Watch>(
         W.ended watch.old watch.new (solve_bound game.now.rules n (story game.now)) why }
 {
     let board = Board::new(game.tables(), game.position());
-    if !is_won(alloc, game, &board, n, facts, watch)? {
+    let verdict = decide(alloc, game, &board, n, None, facts, watch)?;
+    if !verdict.won {
         return Ok(Settled::NoMate);
     }
     show(alloc, game, &board, n, facts, watch)
 }
 
-/// The same with a table of its own. What the shards know of the root serves it; the wins that it comes to know are
-/// published, and what it knows of the root.
-pub(crate) fn settle_shared<R: Wait, W: Watch>(
+/// The same, where the shards are told what it comes to: the fact on the root and, where it is won, the wins that are
+/// kept.
+pub(crate) fn conclude<R: Wait, W: Watch>(
+    rt: &R,
+    alloc: Global,
+    game: &Game,
+    n: u16,
+    first: Option<Move>,
+    shards: &Shards,
+    passes: &mut Passes,
+    facts: &mut FactTable,
+    watch: &mut W,
+) -> Result<Settled, Halt>
+    requires frame { IsFrameOf game.now shards.now.frame }
+    requires facts { facts.old ≡ shards.now.frame }
+    requires passes { ArePassesOf shards.now passes.old }
+    requires some { 0 < n }
+    requires small { n ≤ 100 }
+    ensures handed { AreHandedBack shards.now passes.old passes.new }
+    ensures shared { OnOk result (RootIsShared shards.now passes.new game.now n) }
+    ensures right { IfOk result (IsRight game.now.rules (story game.now) shards.now.frame.attacker n) }
+    ensures decided { IfOk result (λ m. IsInLimit game.now.rules n (story game.now) → IsDecided m) }
+    ensures gone { OnOk result (W.gone watch.old watch.new (closing_lines shards.now.frame n (story game.now).last)) }
+    ensures ended { (why : Halt) → IsErrOf result why →
+        W.ended watch.old watch.new (closing_lines shards.now.frame n (story game.now).last) why }
+{
+    let board = Board::new(game.tables(), game.position());
+    let verdict = decide(alloc, game, &board, n, first, facts, watch)?;
+    publish_root(rt, shards, passes, game, &board, n, verdict, facts);
+    if !verdict.won {
+        return Ok(Settled::NoMate);
+    }
+    publish_wins(rt, shards, passes, facts);
+    show(alloc, game, &board, n, facts, watch)
+}
+
+/// The same by one worker, with a table of its own. What the shards know of the root serves it.
+pub(crate) fn settle_alone<R: Wait, W: Watch>(
     rt: &R,
     alloc: Global,
     game: &Game,
@@ -184,20 +239,12 @@ pub(crate) fn settle_shared<R: Wait, W: Watch>(
     ensures shared { OnOk result (RootIsShared shards.now passes.new game.now n) }
     ensures right { IfOk result (IsRight game.now.rules (story game.now) shards.now.frame.attacker n) }
     ensures decided { IfOk result (λ m. IsInLimit game.now.rules n (story game.now) → IsDecided m) }
-    ensures gone { OnOk result (W.gone watch.old watch.new (solve_bound game.now.rules n (story game.now))) }
     ensures ended { (why : Halt) → IsErrOf result why →
-        W.ended watch.old watch.new (solve_bound game.now.rules n (story game.now)) why }
+        W.ended watch.old watch.new (closing_lines shards.now.frame n (story game.now).last) why }
 {
     if is_refuted(rt, shards, passes, game, n) {
         return Ok(Settled::NoMate);
     }
     let mut facts = FactTable::new(alloc, shards.frame(), room_for(n))?;
-    let board = Board::new(game.tables(), game.position());
-    let won = is_won(alloc, game, &board, n, &mut facts, watch)?;
-    publish_wins(rt, shards, passes, &facts);
-    publish_root(rt, shards, passes, game, n, won);
-    if !won {
-        return Ok(Settled::NoMate);
-    }
-    show(alloc, game, &board, n, &mut facts, watch)
+    conclude(rt, alloc, game, n, None, shards, passes, &mut facts, watch)
 }

@@ -1,75 +1,77 @@
 //! The whole solve, over shards and ports.
-ghost use Rattle.std.specs.Prelude.{◌≡◌, ◌<◌, ◌≤◌, IfOk, IsOkAnd, OnOk, IsErrOf, Some};
+ghost use Rattle.std.specs.Prelude.{◌≡◌, ◌<◌, ◌≤◌, ℕ, IfOk, IsOkAnd, OnOk, IsErrOf, Some};
 ghost use Rattle.forced_wins.specs.Wins.{IsInLimit};
 ghost use Rattle.game_play.specs.Played.{story};
 ghost use Rattle.io_ports.specs.declared.limits.SearchFault.{SearchFault};
+ghost use Rattle.mate_shards.specs.Grown.{HaveParts};
 ghost use Rattle.mate_shards.specs.Views.{ArePassesOf};
-ghost use Rattle.watching.specs.Stopping.{AreSamePorts, Fails};
-ghost use Rattle.watching.specs.Watched.{Watched, moment, world};
+ghost use Rattle.watching.specs.Stopping.{AreSamePorts, Fails, Partly};
+ghost use Rattle.watching.specs.Watched.{moment, world};
 ghost use Rattle.mate_search.specs.Answers.{IsDecided, IsFrameOf, IsRight};
 ghost use Rattle.mate_search.specs.Handed.{AreHandedBack, RootIsShared};
 ghost use Rattle.mate_search.specs.Solves.{Heard, IsDecidedMate, IsFrameFor, IsLookedUp, IsRightMate, IsUncut, IsUnmoved, bound_of};
 
 use crate::answer::{Mate, Settled};
+use crate::harness::{prepare, run};
+use crate::ordering::leave_hint;
 use crate::shared_root::is_refuted;
-use crate::solving::settle_shared;
+use crate::solving::settle_alone;
 use crate::unwatched::Unwatched;
 use game_play::Game;
-use io_ports::{Clock, Dialect, Limits, LineBuf, Ports, SearchFault, Sink, Source, Stopped};
+use hint_table::HintTable;
+use io_ports::{Clock, Dialect, Gate, Limits, LineBuf, Ports, SearchFault, Sink, Source, Stopped};
 use mate_shards::{Passes, Shards};
 use rules_model::{Memory, Side};
 use std::alloc::Global;
 use std::sync::Wait;
-use watching::{Caller, Halt, stopped_by};
+use std::thread::Threads;
+use watching::{Halt, stopped_by};
 
-/// How the worker in the caller ended, and how many nodes it entered.
-#[derive(Drop)]
-struct Led {
-    nodes: u64,
-    end: Result<Settled, Halt>,
-}
-
-/// The worker in the caller.
-fn lead<R: Wait, S: Source, K: Sink, C: Clock>(
+/// The solve over ports that are lent singly.
+fn solve_lent<R: Threads + Wait + Sync, S: Source, K: Sink, C: Clock, G: Gate + Sync>(
     rt: &R,
     alloc: Global,
     game: &Game,
     n: u16,
     shards: &Shards,
-    passes: &mut Passes,
+    passes: Passes,
+    hints: &HintTable,
     limits: Limits,
+    workers: u32,
     source: &mut S,
     sink: &mut K,
     clock: &mut C,
     line: &mut LineBuf,
     dialect: Dialect,
-) -> Led
+    gate: &G,
+) -> (Passes, Result<Settled, Halt>)
     requires frame { IsFrameOf game.now shards.now.frame }
-    requires passes { ArePassesOf shards.now passes.old }
+    requires passes { ArePassesOf shards.now passes }
+    requires parts { (k : ℕ) × HaveParts k passes × (workers ≤ k) }
     requires some { 0 < n }
     requires small { n ≤ 100 }
-    ensures handed { AreHandedBack shards.now passes.old passes.new }
-    ensures shared { OnOk result.end (RootIsShared shards.now passes.new game.now n) }
-    ensures right { IfOk result.end (IsRight game.now.rules (story game.now) shards.now.frame.attacker n) }
-    ensures decided { IfOk result.end (λ s. IsInLimit game.now.rules n (story game.now) → IsDecided s) }
-    ensures watched { Watched (world S.left S.owed S.faults K.taken K.faults C.given C.count C.last) dialect limits
-        (moment source.old sink.old clock.old 0) (moment source.new sink.new clock.new result.nodes) line.new
-        (bound_of game.now n) result.end }
+    requires workers { (0 < workers) × (workers ≤ 64) }
+    ensures handed { AreHandedBack shards.now passes result.0 }
+    ensures shared { OnOk result.1 (RootIsShared shards.now result.0 game.now n) }
+    ensures right { IfOk result.1 (IsRight game.now.rules (story game.now) shards.now.frame.attacker n) }
+    ensures decided { IfOk result.1 (λ s. IsInLimit game.now.rules n (story game.now) → IsDecided s) }
+    ensures watched { Partly (world S.left S.owed S.faults K.taken K.faults C.given C.count C.last) dialect limits
+        (moment source.old sink.old clock.old 0) source.new sink.new clock.new line.new
+        (bound_of game.now n) result.1 }
 {
-    let mut watch = Caller {
-        source,
-        sink,
-        clock,
-        line,
-        dialect,
-        limits,
-        nodes: 0,
-    };
-    let end = settle_shared(rt, alloc, game, n, shards, passes, &mut watch);
-    Led {
-        nodes: watch.nodes,
-        end,
+    let mut passes = passes;
+    if is_refuted(rt, shards, &mut passes, game, n) {
+        return (passes, Ok(Settled::NoMate));
     }
+    let Ok(harness) = prepare(alloc, game, n, shards, hints, workers) else {
+        return (passes, Err(Halt::Fault(SearchFault::Memory)));
+    };
+    let (passes, end) = run(
+        rt, alloc, game, n, shards, passes, harness, limits, workers, source, sink, clock, line,
+        dialect, gate,
+    );
+    leave_hint(hints, game, n, &end);
+    (passes, end)
 }
 
 /// What the shards alone know of the root.
@@ -87,21 +89,24 @@ fn look_up<R: Wait>(rt: &R, shards: &Shards, passes: &mut Passes, game: &Game, n
     }
 }
 
-/// Whether the game is won by the side within n of its moves, from 1 to 100, and how. The shards are those of the game's
-/// rules and blocked positions and of this attacker.
+/// Whether the game is won by the side within n of its moves, from 1 to 100, and how; by 1 to 64 workers, or by fewer
+/// where there is no memory for the passes of all. The shards are those of the game's rules and blocked positions and of
+/// this attacker; the passes have a part for each worker. Hints change the time that it takes, and nothing else.
 ///
-/// The worker polls the source each 1,024 nodes, answers the lines that it hears, and is cut by a line that stops the
-/// search, by the end of the lines, by the deadline, or once it has entered as many nodes as the quota says. It enters no
-/// more nodes than four times n and one times the lines of at most as many legal moves as twice n and one, so a quota of
-/// this number never cuts a solve. With a quota of 0 nothing is searched: the answer is what the shards know of the root.
+/// The first worker runs in the caller. It polls the source each 1,024 nodes, answers the lines that it hears, and is
+/// cut by a line that stops the search, by the end of the lines, by the deadline, or once it has entered as many nodes
+/// as the quota says. The other workers settle root moves beside it and publish what they find; what they do is heard by
+/// nobody. No worker enters more nodes than four times n and one times the lines of at most as many legal moves as twice
+/// n and one, so a quota of this number never cuts a solve. With a quota of 0 nothing is searched: the answer is what
+/// the shards know of the root.
 ///
-/// The passes are handed back with every answer. Where the solve was not cut and the root's repeat is not blocked, its
-/// shard then has a fact that serves the root, or is full.
+/// The passes of all workers are joined and handed back with every answer. Where the solve was not cut and the root's
+/// repeat is not blocked, its shard then has a fact that serves the root, or is full.
 ///
 /// # Errors
 ///
 /// A fault of the source or the sink, whose count of faults has risen; or no memory.
-pub fn solve<R: Wait, S: Source, K: Sink, C: Clock, G>(
+pub fn solve<R: Threads + Wait + Sync, S: Source, K: Sink, C: Clock, G: Gate + Sync>(
     rt: &R,
     alloc: Global,
     game: &Game,
@@ -109,13 +114,17 @@ pub fn solve<R: Wait, S: Source, K: Sink, C: Clock, G>(
     n: u16,
     shards: &Shards,
     passes: Passes,
+    hints: &HintTable,
     limits: Limits,
+    workers: u32,
     ports: &mut Ports<S, K, C, G>,
 ) -> (Passes, Result<Mate, SearchFault>)
     requires frame { IsFrameFor game.now attacker shards.now.frame }
     requires passes { ArePassesOf shards.now passes }
+    requires parts { (k : ℕ) × HaveParts k passes × (workers ≤ k) }
     requires some { 0 < n }
     requires small { n ≤ 100 }
+    requires workers { (0 < workers) × (workers ≤ 64) }
     ensures handed { AreHandedBack shards.now passes result.0 }
     ensures shared { IfOk result.1 (λ m. IsUncut m → RootIsShared shards.now result.0 game.now n) }
     ensures right { IfOk result.1 (IsRightMate game.now attacker n) }
@@ -140,28 +149,31 @@ pub fn solve<R: Wait, S: Source, K: Sink, C: Clock, G>(
     let Ok(mut line) = LineBuf::new(alloc) else {
         return (passes, Err(SearchFault::Memory));
     };
-    let led = lead(
+    let (passes, end) = solve_lent(
         rt,
         alloc,
         game,
         n,
         shards,
-        &mut passes,
+        passes,
+        hints,
         limits,
+        workers,
         ports.source,
         ports.sink,
         ports.clock,
         &mut line,
         ports.dialect,
+        ports.gate,
     );
-    match led.end {
+    match end {
         Ok(settled) => (passes, Ok(settled.into())),
         Err(Halt::Cut(why)) => (passes, Ok(Mate::Stopped(stopped_by(why, line)))),
         Err(Halt::Fault(why)) => (passes, Err(why)),
     }
 }
 
-/// The same without ports and limits.
+/// The same by one worker, without ports, limits and hints.
 ///
 /// # Errors
 ///
@@ -186,7 +198,7 @@ pub fn settle<R: Wait>(
 {
     let mut passes = passes;
     let mut watch = Unwatched;
-    match settle_shared(rt, alloc, game, n, shards, &mut passes, &mut watch) {
+    match settle_alone(rt, alloc, game, n, shards, &mut passes, &mut watch) {
         Ok(settled) => (passes, Ok(settled)),
         Err(Halt::Fault(_)) => (passes, Err(Memory)),
         Err(Halt::Cut(_)) => unreachable!(),

@@ -75,7 +75,17 @@ pub fn solve_once<R: Threads + Wait + Sync, S: Source, K: Sink, C: Clock, G: Gat
         dialect,
     };
     let (passes, answer) = solve(
-        rt, alloc, game, attacker, n, &shards, passes, limits, &mut ports,
+        rt,
+        alloc,
+        game,
+        attacker,
+        n,
+        &shards,
+        passes,
+        mind.hints(),
+        limits,
+        mind.threads(),
+        &mut ports,
     );
     mind.put_pool(Pool::of(shards, passes));
     match answer? {

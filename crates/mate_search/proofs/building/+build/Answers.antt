@@ -90,8 +90,8 @@ returns-in_err-choice-clause-ended g t_ c why is =
     let own : r.own p ≡ None = sym ends ∙ none in
     let turn : r.attacking p ≡ true = search rules in
     let some = attack-moves t f tf n p c.requires.next own turn in
-    let back : c.choose.result ≡ Err why = search rules in
-    g.met.W.Watch.ends_wider _ _ _ _ why (g.met.W.Watch.ends _ _ _ 1 (sum_by (lines_after r (n - 1) p) (r.legal p)) why c.in_ok-enter.ensures.gone (c.choose.ensures.ended why back)) (asked_lines r l n p turn some)
+    let back : c.choose_among.result ≡ Err why = search rules in
+    g.met.W.Watch.ends_wider _ _ _ _ why (g.met.W.Watch.ends _ _ _ 1 (sum_by (lines_after r (n - 1) p) (r.legal p)) why c.in_ok-enter.ensures.gone (c.choose_among.ensures.ended why back)) (asked_lines r l n p turn some)
 
 pub build-requires : goal.build-requires
 build-requires g t_ c κs within-it =
@@ -110,12 +110,12 @@ build-requires g t_ c κs within-it =
     let chosen = c.in-Some-2.choice in
     let k = chosen.moves in
     let w : IsChoice f p n chosen = subst (λ o. IfSome o (IsChoice f p n)) c.in-Some-2.is c.in_ok-choice.ensures.wins in
-    let ch : c.choose.new.facts ≡ f = c.choose.ensures.frame in
+    let ch : c.choose_among.new.facts ≡ f = c.choose_among.ensures.frame in
     let there : c.after-next.result.position ≡ next f.rules p chosen.chosen = after-is f.rules f c.args.board.now c.after-next.result chosen.chosen c.requires.rules c.after-next.ensures in
     let less = w.fewer in
-    let fall : plies (seen_in c.choose.new.facts) k c.after-next.result.position < plies r n p = subst (λ (z : Frame). plies (seen_in z) k c.after-next.result.position < plies r n p) (sym ch)
+    let fall : plies (seen_in c.choose_among.new.facts) k c.after-next.result.position < plies r n p = subst (λ (z : Frame). plies (seen_in z) k c.after-next.result.position < plies r n p) (sym ch)
     (subst (λ z. plies r k z < plies r n p) (sym there) (plies_less r l n k p chosen.chosen turn some less)) in
-    let same_rules : c.after-next.result.rules ≡ c.choose.new.facts.rules = search rules in
+    let same_rules : c.after-next.result.rules ≡ c.choose_among.new.facts.rules = search rules in
     let small = c.requires.small in
     let next_is = next-in t f tf t k c.after-next.result.position (next f.rules p chosen.chosen) (grows-self t) there (attack-next t f tf n p c.requires.next own turn chosen w) in
     (let d = c.decreases in omega arith, (within-it, (same_rules, (tf ∙ sym ch, (omega arith, next_is)))))
@@ -137,13 +137,13 @@ returns-in_err-to-in-Some-2-clause-ended g t_ c why is =
     let chosen = c.in-Some-2.choice in
     let k = chosen.moves in
     let w : IsChoice f p n chosen = subst (λ o. IfSome o (IsChoice f p n)) c.in-Some-2.is c.in_ok-choice.ensures.wins in
-    let ch : c.choose.new.facts ≡ f = c.choose.ensures.frame in
+    let ch : c.choose_among.new.facts ≡ f = c.choose_among.ensures.frame in
     let there : c.after-next.result.position ≡ next f.rules p chosen.chosen = after-is f.rules f c.args.board.now c.after-next.result chosen.chosen c.requires.rules c.after-next.ensures in
-    let x = ap (λ z. (k + 1) * z) (same-lines c.choose.new.facts f c.after-next.result.position (next f.rules p chosen.chosen) k ch there) in
+    let x = ap (λ z. (k + 1) * z) (same-lines c.choose_among.new.facts f c.after-next.result.position (next f.rules p chosen.chosen) k ch there) in
     let asked = g.met.W.Watch.more _ _ _ 1 (sum_by (lines_after r (n - 1) p) (r.legal p)) c.in_ok-enter.ensures.gone c.in_ok-choice.ensures.gone in
     let bound = attack-end f n k p chosen.chosen _ turn some w.fewer w.is_legal x in
     let back : c.build.result ≡ Err why = search rules in
-    g.met.W.Watch.ends_wider _ _ _ _ why (g.met.W.Watch.ends _ _ _ (1 + sum_by (lines_after r (n - 1) p) (r.legal p)) ((k + 1) * lines_within (seen_in c.choose.new.facts) k c.after-next.result.position) why asked (c.build.ensures.ended why back)) bound
+    g.met.W.Watch.ends_wider _ _ _ _ why (g.met.W.Watch.ends _ _ _ (1 + sum_by (lines_after r (n - 1) p) (r.legal p)) ((k + 1) * lines_within (seen_in c.choose_among.new.facts) k c.after-next.result.position) why asked (c.build.ensures.ended why back)) bound
 
 pub returns-in_err-push-in-Some-2-clause-ended : goal.returns-in_err-push-in-Some-2-clause-ended
 returns-in_err-push-in-Some-2-clause-ended g t_ c why is =
@@ -162,12 +162,12 @@ returns-in_err-push-in-Some-2-clause-ended g t_ c why is =
     let chosen = c.in-Some-2.choice in
     let k = chosen.moves in
     let w : IsChoice f p n chosen = subst (λ o. IfSome o (IsChoice f p n)) c.in-Some-2.is c.in_ok-choice.ensures.wins in
-    let ch : c.choose.new.facts ≡ f = c.choose.ensures.frame in
+    let ch : c.choose_among.new.facts ≡ f = c.choose_among.ensures.frame in
     let there : c.after-next.result.position ≡ next f.rules p chosen.chosen = after-is f.rules f c.args.board.now c.after-next.result chosen.chosen c.requires.rules c.after-next.ensures in
-    let x = ap (λ z. (k + 1) * z) (same-lines c.choose.new.facts f c.after-next.result.position (next f.rules p chosen.chosen) k ch there) in
+    let x = ap (λ z. (k + 1) * z) (same-lines c.choose_among.new.facts f c.after-next.result.position (next f.rules p chosen.chosen) k ch there) in
     let asked = g.met.W.Watch.more _ _ _ 1 (sum_by (lines_after r (n - 1) p) (r.legal p)) c.in_ok-enter.ensures.gone c.in_ok-choice.ensures.gone in
     let bound = attack-end f n k p chosen.chosen _ turn some w.fewer w.is_legal x in
-    let gone = g.met.W.Watch.wider _ _ _ _ (g.met.W.Watch.more _ _ _ (1 + sum_by (lines_after r (n - 1) p) (r.legal p)) ((k + 1) * lines_within (seen_in c.choose.new.facts) k c.after-next.result.position) asked c.in_ok-to-in-Some-2.ensures.gone) bound in
+    let gone = g.met.W.Watch.wider _ _ _ _ (g.met.W.Watch.more _ _ _ (1 + sum_by (lines_after r (n - 1) p) (r.legal p)) ((k + 1) * lines_within (seen_in c.choose_among.new.facts) k c.after-next.result.position) asked c.in_ok-to-in-Some-2.ensures.gone) bound in
     let memory = g.met.W.Watch.memory _ _ _ gone in
     search rules
 
@@ -188,12 +188,12 @@ returns-in_err-finish-in-Some-2-clause-ended g t_ c why is =
     let chosen = c.in-Some-2.choice in
     let k = chosen.moves in
     let w : IsChoice f p n chosen = subst (λ o. IfSome o (IsChoice f p n)) c.in-Some-2.is c.in_ok-choice.ensures.wins in
-    let ch : c.choose.new.facts ≡ f = c.choose.ensures.frame in
+    let ch : c.choose_among.new.facts ≡ f = c.choose_among.ensures.frame in
     let there : c.after-next.result.position ≡ next f.rules p chosen.chosen = after-is f.rules f c.args.board.now c.after-next.result chosen.chosen c.requires.rules c.after-next.ensures in
-    let x = ap (λ z. (k + 1) * z) (same-lines c.choose.new.facts f c.after-next.result.position (next f.rules p chosen.chosen) k ch there) in
+    let x = ap (λ z. (k + 1) * z) (same-lines c.choose_among.new.facts f c.after-next.result.position (next f.rules p chosen.chosen) k ch there) in
     let asked = g.met.W.Watch.more _ _ _ 1 (sum_by (lines_after r (n - 1) p) (r.legal p)) c.in_ok-enter.ensures.gone c.in_ok-choice.ensures.gone in
     let bound = attack-end f n k p chosen.chosen _ turn some w.fewer w.is_legal x in
-    let gone = g.met.W.Watch.wider _ _ _ _ (g.met.W.Watch.more _ _ _ (1 + sum_by (lines_after r (n - 1) p) (r.legal p)) ((k + 1) * lines_within (seen_in c.choose.new.facts) k c.after-next.result.position) asked c.in_ok-to-in-Some-2.ensures.gone) bound in
+    let gone = g.met.W.Watch.wider _ _ _ _ (g.met.W.Watch.more _ _ _ (1 + sum_by (lines_after r (n - 1) p) (r.legal p)) ((k + 1) * lines_within (seen_in c.choose_among.new.facts) k c.after-next.result.position) asked c.in_ok-to-in-Some-2.ensures.gone) bound in
     let memory = g.met.W.Watch.memory _ _ _ gone in
     search rules
 
@@ -218,12 +218,12 @@ returns-in-Some-2-clause-gone g t_ c =
     let chosen = c.in-Some-2.choice in
     let k = chosen.moves in
     let w : IsChoice f p n chosen = subst (λ o. IfSome o (IsChoice f p n)) c.in-Some-2.is c.in_ok-choice.ensures.wins in
-    let ch : c.choose.new.facts ≡ f = c.choose.ensures.frame in
+    let ch : c.choose_among.new.facts ≡ f = c.choose_among.ensures.frame in
     let there : c.after-next.result.position ≡ next f.rules p chosen.chosen = after-is f.rules f c.args.board.now c.after-next.result chosen.chosen c.requires.rules c.after-next.ensures in
-    let x = ap (λ z. (k + 1) * z) (same-lines c.choose.new.facts f c.after-next.result.position (next f.rules p chosen.chosen) k ch there) in
+    let x = ap (λ z. (k + 1) * z) (same-lines c.choose_among.new.facts f c.after-next.result.position (next f.rules p chosen.chosen) k ch there) in
     let asked = g.met.W.Watch.more _ _ _ 1 (sum_by (lines_after r (n - 1) p) (r.legal p)) c.in_ok-enter.ensures.gone c.in_ok-choice.ensures.gone in
     let bound = attack-end f n k p chosen.chosen _ turn some w.fewer w.is_legal x in
-    let gone = g.met.W.Watch.wider _ _ _ _ (g.met.W.Watch.more _ _ _ (1 + sum_by (lines_after r (n - 1) p) (r.legal p)) ((k + 1) * lines_within (seen_in c.choose.new.facts) k c.after-next.result.position) asked c.in_ok-to-in-Some-2.ensures.gone) bound in
+    let gone = g.met.W.Watch.wider _ _ _ _ (g.met.W.Watch.more _ _ _ (1 + sum_by (lines_after r (n - 1) p) (r.legal p)) ((k + 1) * lines_within (seen_in c.choose_among.new.facts) k c.after-next.result.position) asked c.in_ok-to-in-Some-2.ensures.gone) bound in
     gone
 
 pub unreachable-requires : goal.unreachable-requires
@@ -443,3 +443,17 @@ returns-clause-gone g t_ c =
     let listed : ms ≡ r.legal p = c.in_ok-moves.ensures ∙ ap (λ (x : Rules). legal x (repeat_of p)) c.requires.rules in
     let i = c.loop-i.i in
     g.met.W.Watch.wider _ _ _ _ c.loop-i.invariant.gone (defence_lines r l n p ms i turn listed)
+
+pub returns-in_err-order-clause-ended : goal.returns-in_err-order-clause-ended
+returns-in_err-order-clause-ended g t_ c why is =
+    let f = c.args.facts.now in
+    let r = seen_in f in
+    let l = laws f.rules f.attacker in
+    let p = c.args.board.now.position in
+    let n = c.args.n in
+    let least = some_lines r l n p in
+    let memory = g.met.W.Watch.memory _ _ _ (g.met.W.Watch.wider _ _ _ _ c.in_ok-enter.ensures.gone least) in
+    search rules
+
+pub choose_among-requires-clause-moves : goal.choose_among-requires-clause-moves
+choose_among-requires-clause-moves g t_ c = rw c.deref.ensures.value c.in_ok-order.ensures

@@ -16,8 +16,8 @@ fact_on-fact-requires g c =
     let p = c.position-p.result.now in
     let here : is_in s.frame.blocked (repeat_of p) ≡ false = search rules in
     let bl = frame-blocked c.args.game.now s.frame c.requires.frame in
-    let near : near_in s.frame c.args.n p ≡ c.args.wins = root-near s.frame (story c.args.game.now) c.args.n p bl c.position-p.ensures.is here ∙ sym c.requires.wins in
-    subst (λ (x : Frame). near_in x c.args.n p ≡ c.args.wins) (sym c.frame-frame.ensures) near
+    let near : near_in s.frame c.args.n p ≡ c.args.verdict.won = root-near s.frame (story c.args.game.now) c.args.n p bl c.position-p.ensures.is here ∙ sym c.requires.won in
+    subst (λ (x : Frame). near_in x c.args.n p ≡ c.args.verdict.won) (sym c.frame-frame.ensures) near
 
 pub returns-then-not-is_blocked-clause-handed : goal.returns-then-not-is_blocked-clause-handed
 returns-then-not-is_blocked-clause-handed g c =

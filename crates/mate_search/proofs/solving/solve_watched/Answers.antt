@@ -6,11 +6,12 @@ use Rattle.game_values.specs.Bounds.{solve_bound}
 use Rattle.mate_settle.specs.Lines.{lines_within, seen_in}
 use Rattle.playing.specs.Stance.{Stance}
 use Rattle.watching.specs.LookLaws.{on_ok_of}
+use Rattle.mate_search.proofs.HandedLaws.{lost_by}
 use Rattle.mate_search.proofs.Root.{frame-blocked, not-won, solve-lines, walk-lines}
 use Rattle.mate_search.proofs.solving.solve_watched.Goals as goal
 
-pub returns-in_err-is_won-clause-ended : goal.returns-in_err-is_won-clause-ended
-returns-in_err-is_won-clause-ended g c why is =
+pub returns-in_err-verdict-clause-ended : goal.returns-in_err-verdict-clause-ended
+returns-in_err-verdict-clause-ended g c why is =
     let f = c.args.facts.now in
     let r = seen_in f in
     let game = story c.args.game.now in
@@ -20,11 +21,11 @@ returns-in_err-is_won-clause-ended g c why is =
     let last : p ≡ game.last = ap (λ (x : Stance). x.position) c.new-board.ensures ∙ c.position.ensures.is in
     let e : f.rules ≡ by = c.requires.frame.rules in
     let lines = solve-lines by f game n p e last in
-    let back : c.is_won.result ≡ Err why = search rules in
-    g.met.W.Watch.ends_wider _ _ _ _ why (c.is_won.ensures.ended why back) (omega arith)
+    let back : c.decide.result ≡ Err why = search rules in
+    g.met.W.Watch.ends_wider _ _ _ _ why (c.decide.ensures.ended why back) (omega arith)
 
-pub returns-then-not-branch-clause-gone : goal.returns-then-not-branch-clause-gone
-returns-then-not-branch-clause-gone g c =
+pub returns-then-not-verdict-clause-gone : goal.returns-then-not-verdict-clause-gone
+returns-then-not-verdict-clause-gone g c =
     let f = c.args.facts.now in
     let r = seen_in f in
     let game = story c.args.game.now in
@@ -34,10 +35,10 @@ returns-then-not-branch-clause-gone g c =
     let last : p ≡ game.last = ap (λ (x : Stance). x.position) c.new-board.ensures ∙ c.position.ensures.is in
     let e : f.rules ≡ by = c.requires.frame.rules in
     let lines = solve-lines by f game n p e last in
-    g.met.W.Watch.wider _ _ _ _ c.in_ok-is_won.ensures.gone (omega arith)
+    g.met.W.Watch.wider _ _ _ _ c.in_ok-verdict.ensures.gone (omega arith)
 
-pub returns-then-not-branch-clause-right : goal.returns-then-not-branch-clause-right
-returns-then-not-branch-clause-right g c =
+pub returns-then-not-verdict-clause-right : goal.returns-then-not-verdict-clause-right
+returns-then-not-verdict-clause-right g c =
     let f = c.args.facts.now in
     let r = seen_in f in
     let game = story c.args.game.now in
@@ -48,7 +49,7 @@ returns-then-not-branch-clause-right g c =
     let e : f.rules ≡ by = c.requires.frame.rules in
     let bl = frame-blocked c.args.game.now f c.requires.frame in
     subst (λ (x : Rules). wins x n game f.attacker ≡ false) e
-    (not-won f game bl n (sym c.if-not-branch.true ∙ c.in_ok-is_won.ensures.won))
+    (not-won f game bl n (sym (lost_by c.in_ok-verdict.verdict.won c.if-not-verdict.true) ∙ c.in_ok-verdict.ensures.won))
 
 pub returns-clause-gone : goal.returns-clause-gone
 returns-clause-gone g c =
@@ -59,10 +60,10 @@ returns-clause-gone g c =
     let p = c.new-board.result.position in
     let last : p ≡ game.last = ap (λ (x : Stance). x.position) c.new-board.ensures ∙ c.position.ensures.is in
     let lines = solve-lines by f game n p c.requires.frame.rules last in
-    let kept : c.is_won.new.facts ≡ f = c.is_won.ensures.frame in
-    let walk = walk-lines f c.is_won.new.facts n n p p kept refl refl in
+    let kept : c.decide.new.facts ≡ f = c.decide.ensures.frame in
+    let walk = walk-lines f c.decide.new.facts n n p p kept refl refl in
     on_ok_of c.show.result c.show.ensures.gone (λ rest.
-    g.met.W.Watch.wider _ _ _ (solve_bound by n game) (g.met.W.Watch.more _ _ _ (lines_within (seen_in f) n p) ((n + 1) * lines_within (seen_in c.is_won.new.facts) n p) c.in_ok-is_won.ensures.gone rest) (omega arith))
+    g.met.W.Watch.wider _ _ _ (solve_bound by n game) (g.met.W.Watch.more _ _ _ (lines_within (seen_in f) n p) ((n + 1) * lines_within (seen_in c.decide.new.facts) n p) c.in_ok-verdict.ensures.gone rest) (omega arith))
 
 pub returns-clause-ended : goal.returns-clause-ended
 returns-clause-ended g c why is =
@@ -73,6 +74,6 @@ returns-clause-ended g c why is =
     let p = c.new-board.result.position in
     let last : p ≡ game.last = ap (λ (x : Stance). x.position) c.new-board.ensures ∙ c.position.ensures.is in
     let lines = solve-lines by f game n p c.requires.frame.rules last in
-    let kept : c.is_won.new.facts ≡ f = c.is_won.ensures.frame in
-    let walk = walk-lines f c.is_won.new.facts n n p p kept refl refl in
-    g.met.W.Watch.ends_wider _ _ _ (solve_bound by n game) why (g.met.W.Watch.ends _ _ _ (lines_within (seen_in f) n p) ((n + 1) * lines_within (seen_in c.is_won.new.facts) n p) why c.in_ok-is_won.ensures.gone (c.show.ensures.ended why is)) (omega arith)
+    let kept : c.decide.new.facts ≡ f = c.decide.ensures.frame in
+    let walk = walk-lines f c.decide.new.facts n n p p kept refl refl in
+    g.met.W.Watch.ends_wider _ _ _ (solve_bound by n game) why (g.met.W.Watch.ends _ _ _ (lines_within (seen_in f) n p) ((n + 1) * lines_within (seen_in c.decide.new.facts) n p) why c.in_ok-verdict.ensures.gone (c.show.ensures.ended why is)) (omega arith)

@@ -18,12 +18,13 @@ returns-in_default-clause-fails g c why is =
 pub returns-in-Err-Cut-clause-heard : goal.returns-in-Err-Cut-clause-heard
 returns-in-Err-Cut-clause-heard g c =
     let why : Halt = halt.Cut c.in-Err-Cut.why in
-    let end : c.lead-led.result.end ≡ Err why = search rules in
+    let end : c.solve_lent-passes.result.1 ≡ Err why = search rules in
+    let all = c.solve_lent-passes.ensures.watched in
     record {
-      entered = c.lead-led.result.nodes;
-      text = c.lead-led.new.line;
+      entered = all.entered;
+      text = c.solve_lent-passes.new.line;
       why = Some c.in-Err-Cut.why;
-      gone = c.lead-led.ensures.watched.ended why end;
+      gone = all.watched.ended why end;
       answers = c.stopped_by.ensures;
     }
 
@@ -31,5 +32,6 @@ pub returns-in-Err-Fault-clause-fails : goal.returns-in-Err-Fault-clause-fails
 returns-in-Err-Fault-clause-fails g c why is =
     let same : c.in-Err-Fault.why ≡ why = search rules in
     let back : Halt = halt.Fault why in
-    let end : c.lead-led.result.end ≡ Err back = search rules in
-    record { entered = c.lead-led.result.nodes; failed = c.lead-led.ensures.watched.ended back end }
+    let end : c.solve_lent-passes.result.1 ≡ Err back = search rules in
+    let all = c.solve_lent-passes.ensures.watched in
+    record { entered = all.entered; failed = all.watched.ended back end }

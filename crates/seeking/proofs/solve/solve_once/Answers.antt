@@ -1,4 +1,4 @@
-use Rattle.std.proofs.Common.{◌≡◌, Ok, IfOk, subst, rules}
+use Rattle.std.proofs.Common.{◌≡◌, ◌≤◌, Ok, IfOk, subst, arith, rules}
 use Rattle.fact_lock.specs.Passes.{all_parts}
 use Rattle.io_ports.specs.declared.limits.SearchFault.TheVariants as fault
 use Rattle.game_play.specs.Played.{story}
@@ -21,6 +21,11 @@ pub returns-in_err-take_pool-clause-failed : goal.returns-in_err-take_pool-claus
 returns-in_err-take_pool-clause-failed g c why is =
     let memory : why ≡ fault.Memory = search rules in
     fails_memory _ c.args.dialect c.args.limits _ _ _ _ why memory
+
+pub solve-requires-clause-parts : goal.solve-requires-clause-parts
+solve-requires-clause-parts g c κs within =
+    let few = c.threads.ensures.in_range.1 in
+    (all_parts, c.into_parts-shards.ensures.parts, omega arith)
 
 pub of-requires-clause-parts : goal.of-requires-clause-parts
 of-requires-clause-parts g c = c.solve-passes.ensures.handed.parts all_parts c.into_parts-shards.ensures.parts

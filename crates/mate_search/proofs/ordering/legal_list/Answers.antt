@@ -1,5 +1,5 @@
 use Rattle.std.proofs.Common.{◌∙◌}
-use Rattle.mate_search.proofs.building.legal_list.Goals as goal
+use Rattle.mate_search.proofs.ordering.legal_list.Goals as goal
 
 pub returns : goal.returns
 returns c = c.moves.view_is ∙ c.in_ok-moves.ensures

@@ -1,0 +1,61 @@
+-- A list whose elements stand once each, with one of them put first.
+use Rattle.std.proofs.Common.{◌≡◌, inl, inr, ℕ, zero, suc, ◌<◌, List, [], ◌∷◌, length, get_or, slice_get, Some, None, refl, sym, subst, arith}
+use Rattle.std.specs.List.{remove}
+use Rattle.std.specs.List.Sorted.{IsPermutation}
+use Rattle.std.proofs.lemmas.List.Sorted.{IsPermutation-remove, IsPermutation-sym}
+use Rattle.foundation.specs.Member.{IsEachOnce, Lists, Member}
+use Rattle.foundation.proofs.Members.{member-contains, member-permutation}
+use Rattle.playing.specs.Stance.{Stance, legal_in}
+use Rattle.rules_model.proofs.LegalLaws.{legal-once}
+use Rattle.rules_model.specs.declared.moves.Move.{Move}
+use Rattle.rules_model.specs.declared.moves.Move.TheVariants.{Go}
+use Rattle.rules_model.specs.declared.moves.Promo.TheVariants.{Stays}
+use Rattle.rules_model.specs.Repeats.{repeat_of}
+
+module _ {X : Type 0} where
+  removed-member : (xs : List X) (i : ℕ) (y : X) → Member y (remove xs i) → Member y xs
+  removed-member [] zero y m = m
+  removed-member [] (suc i) y m = m
+  removed-member (x ∷ xs) zero y m = inr m
+  removed-member (x ∷ xs) (suc i) y (inl e) = inl e
+  removed-member (x ∷ xs) (suc i) y (inr m) = inr (removed-member xs i y m)
+
+  removed-once : (xs : List X) (i : ℕ) → IsEachOnce xs → IsEachOnce (remove xs i)
+  removed-once [] zero once = once
+  removed-once [] (suc i) once = once
+  removed-once (x ∷ xs) zero once = once.1
+  removed-once (x ∷ xs) (suc i) once = (λ m. once.0 (removed-member xs i x m), removed-once xs i once.1)
+
+  there : (xs : List X) (i : ℕ) (x : X) → i < length xs → x ≡ get_or xs i x → Member x xs
+  there xs i x within is = member-contains x xs (i, within, sym is)
+
+  removed-gone : (xs : List X) (i : ℕ) (x : X) → i < length xs → x ≡ get_or xs i x → IsEachOnce xs → Member x (remove xs i) → ⊥
+  removed-gone [] zero x within is once m = m
+  removed-gone [] (suc i) x within is once m = m
+  removed-gone (y ∷ ys) zero x within is once m = once.0 (subst (λ z. Member z ys) is m)
+  removed-gone (y ∷ ys) (suc i) x within is once (inl e) = once.0 (subst (λ z. Member z ys) (sym e) (there ys i x (omega arith) is))
+  removed-gone (y ∷ ys) (suc i) x within is once (inr m) = removed-gone ys i x (omega arith) is once.1 m
+
+  pub lists-front : (P : X → Type 0) (xs : List X) (i : ℕ) (x : X) → i < length xs → x ≡ get_or xs i x → Lists P xs → Lists P (x ∷ remove xs i)
+  lists-front P xs i x within is all =
+      let moved = IsPermutation-remove xs i x within is in
+      record {
+        once = (removed-gone xs i x within is all.once, removed-once xs i all.once);
+        sound = λ y m. all.sound y (member-permutation y (x ∷ remove xs i) xs (IsPermutation-sym xs (x ∷ remove xs i) moved) m);
+        complete = λ y h. member-permutation y xs (x ∷ remove xs i) moved (all.complete y h);
+      }
+
+-- what an index reads
+pub read-at : {X : Type 0} (xs : List X) (k : ℕ) (d : X) → k < length xs → slice_get xs k ≡ Some (get_or xs k d)
+read-at [] k d within = absurd (omega arith)
+read-at (x ∷ xs) zero d within = refl
+read-at (x ∷ xs) (suc k) d within = read-at xs k d (omega arith)
+
+-- the move that stands for one where there is none
+abbrev pub no_move : Move
+no_move = Go (record { 0 = 0 }) (record { 0 = 0 }) Stays None
+
+-- the list of the legal moves lists them
+pub lists-legal : (s : Stance) (ms : List Move) → ms ≡ legal_in s → Lists (λ m. Member m (legal_in s)) ms
+lists-legal s ms e = subst (Lists (λ m. Member m (legal_in s))) (sym e)
+    (record { once = legal-once s.rules (repeat_of s.position); sound = λ m k. k; complete = λ m k. k })

@@ -1,0 +1,94 @@
+use Rattle.std.proofs.Common.{◌≡◌, ◌<◌, ◌≤◌, ◌+◌, ℕ, length, get_or, take, Some, Err, refl, sym, ◌∙◌, ap, subst, arith, rules, slice_get}
+use Rattle.std.specs.List.{sum_by, All}
+use Rattle.foundation.specs.Member.{Member}
+use Rattle.mate_settle.proofs.Lines.{part-more, part-last, part-whole, same-lines}
+use Rattle.mate_settle.proofs.Settled.{after-is, moves-of, member-at}
+use Rattle.mate_settle.specs.Lines.{lines_within, lines_after, seen_in}
+use Rattle.rules_model.specs.Next.{next}
+use Rattle.mate_search.proofs.HandedLaws.{handed_none, handed_more}
+use Rattle.mate_search.proofs.RaceLaws.{part-skip}
+use Rattle.mate_search.proofs.job.take_roots.Goals.{then-takes+in_ok-outcome, else-takes}
+use Rattle.mate_search.proofs.OrderLaws.{no_move, read-at}
+use Rattle.mate_search.proofs.job.take_roots.Goals as goal
+
+pub after-next-requires : goal.after-next-requires
+after-next-requires g c =
+    let ms = c.args.roots.now in
+    let i = c.loop-i.i in
+    let x = get_or ms i no_move in
+    let within : i < length ms = c.loop-i-test.true in
+    let at : slice_get ms i ≡ Some x = read-at ms i no_move within in
+    c.requires.roots.sound x (member-at ms i x at)
+
+pub loop-i-init : goal.loop-i-init
+loop-i-init g c = record {
+  frame = refl;
+  handed = handed_none c.args.shards.now _ c.requires.passes;
+  gone = g.met.W.Watch.wider _ _ 0 _ (g.met.W.Watch.none c.args.watch.now) (omega arith);
+}
+
+pub returns-in_err-outcome-clause-ended : goal.returns-in_err-outcome-clause-ended
+returns-in_err-outcome-clause-ended g c why is =
+    let f = c.args.facts.now in
+    let r = seen_in f in
+    let p = c.args.board.now.position in
+    let left = c.args.task.left in
+    let ms = c.args.roots.now in
+    let i = c.loop-i.i in
+    let x = get_or ms i no_move in
+    let all = moves-of f c.args.board.now ms c.requires.rules c.requires.roots in
+    let within : i < length ms = c.loop-i-test.true in
+    let at : slice_get ms i ≡ Some x = read-at ms i no_move within in
+    let there : c.after-next.result.position ≡ next f.rules p x = after-is f.rules f c.args.board.now c.after-next.result x c.requires.rules c.after-next.ensures in
+    let kept : c.loop-i.facts ≡ f = c.loop-i.invariant.frame in
+    let lines = same-lines c.loop-i.facts f c.after-next.result.position (next f.rules p x) left kept there in
+    let back : c.settle_next.result ≡ Err why = search rules in
+    g.met.W.Watch.ends_wider _ _ _ _ why (g.met.W.Watch.ends _ _ _ (sum_by (lines_after r left p) (take i ms)) (lines_within (seen_in c.loop-i.facts) left c.after-next.result.position) why c.loop-i.invariant.gone (c.settle_next.ensures.ended why back))
+    (part-last r p left ms i x _ all at lines)
+
+pub returns-in_err-outcome-clause-handed : goal.returns-in_err-outcome-clause-handed
+returns-in_err-outcome-clause-handed g c = handed_more c.args.shards.now _ _ _ c.loop-i.invariant.handed c.settle_next.ensures.handed
+
+pub loop-i-preserved : goal.loop-i-preserved
+loop-i-preserved g c =
+    let f = c.args.facts.now in
+    let s = c.args.shards.now in
+    let r = seen_in f in
+    let p = c.args.board.now.position in
+    let left = c.args.task.left in
+    let ms = c.args.roots.now in
+    let i = c.loop-i.i in
+    let old = c.loop-i.invariant in
+    let all = moves-of f c.args.board.now ms c.requires.rules c.requires.roots in
+    let kept : c.loop-i.facts ≡ f = old.frame in
+    elim c.if-takes.branch [
+      | then-takes+in_ok-outcome w ↦
+          (let x = get_or ms i no_move in
+          let e = w.in_ok-outcome.ensures in
+          let within : i < length ms = c.loop-i-test.true in
+          let at : slice_get ms i ≡ Some x = read-at ms i no_move within in
+          let there : w.after-next.result.position ≡ next f.rules p x = after-is f.rules f c.args.board.now w.after-next.result x c.requires.rules w.after-next.ensures in
+          let lines = same-lines c.loop-i.facts f w.after-next.result.position (next f.rules p x) left kept there in
+          record {
+            frame = rw w.facts-is (e.frame ∙ kept);
+            handed = rw w.job-is (handed_more s _ _ _ old.handed e.handed);
+            gone = rw w.watch-is (g.met.W.Watch.wider _ _ _ _ (g.met.W.Watch.more _ _ _ (sum_by (lines_after r left p) (take i ms)) (lines_within (seen_in c.loop-i.facts) left w.after-next.result.position) old.gone e.gone)
+                (part-more r p left ms i x _ at lines));
+          })
+      | else-takes w ↦
+          record {
+            frame = rw w.facts-is kept;
+            handed = rw w.job-is old.handed;
+            gone = rw w.watch-is (g.met.W.Watch.wider _ _ _ _ old.gone (part-skip (lines_after r left p) ms i c.loop-i-test.true));
+          }
+    ]
+
+pub returns-clause-gone : goal.returns-clause-gone
+returns-clause-gone g c =
+    let f = c.args.facts.now in
+    let r = seen_in f in
+    let p = c.args.board.now.position in
+    let left = c.args.task.left in
+    let ms = c.args.roots.now in
+    let all = moves-of f c.args.board.now ms c.requires.rules c.requires.roots in
+    g.met.W.Watch.wider _ _ _ _ c.loop-i.invariant.gone (part-whole (lines_after r left p) (r.legal p) ms all c.loop-i.i)

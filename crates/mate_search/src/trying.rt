@@ -1,0 +1,84 @@
+//! What the moves of a position come to, each settled in turn, in an order that is given.
+ghost use Rattle.std.specs.Prelude.{◌≡◌, ◌≤◌, ◌<◌, ◌-◌, false, None, IfOk, OnOk, IfSome, IsErrOf};
+ghost use Rattle.foundation.specs.Member.{Lists, Member};
+ghost use Rattle.mate_settle.specs.Choices.{all_win, some_wins, lines_of_moves, IsChoice};
+ghost use Rattle.playing.specs.Stance.{legal_in};
+ghost use Rattle.watching.specs.declared.halt.Halt.{Halt};
+
+use mate_settle::{Choice, FactTable, settle};
+use playing::Board;
+use rules_model::Move;
+use std::alloc::Global;
+use watching::{Halt, Watch};
+
+/// A legal move of the attacker, who is to move, that wins with fewer than n moves more, the first of the order. None
+/// exactly where there is none.
+///
+/// # Errors
+///
+/// What ends the watch; or `Memory`.
+pub(crate) fn choose_among<W: Watch>(
+    alloc: Global,
+    board: &Board,
+    moves: &[Move],
+    n: u16,
+    facts: &mut FactTable,
+    watch: &mut W,
+) -> Result<Option<Choice>, Halt>
+    requires rules { board.now.rules ≡ facts.old.rules }
+    requires moves { Lists (λ m. Member m (legal_in board.now)) moves.now }
+    requires small { n ≤ 1000 }
+    requires some { 0 < n }
+    ensures frame { facts.new ≡ facts.old }
+    ensures wins { IfOk result (λ o. IfSome o (IsChoice facts.old board.now.position n)) }
+    ensures none { IfOk result (λ o. o ≡ None → some_wins facts.old (n - 1) board.now.position ≡ false) }
+    ensures gone { OnOk result (W.gone watch.old watch.new (lines_of_moves facts.old (n - 1) board.now.position)) }
+    ensures ended { (why : Halt) → IsErrOf result why →
+        W.ended watch.old watch.new (lines_of_moves facts.old (n - 1) board.now.position) why }
+{
+    for i in 0..moves.len() {
+        let chosen = moves[i];
+        let next = board.after(&chosen);
+        let fact = settle(alloc, &next, n - 1, facts, watch)?;
+        if fact.wins {
+            return Ok(Some(Choice {
+                chosen,
+                moves: fact.moves,
+            }));
+        }
+    }
+    Ok(None)
+}
+
+/// Whether each legal move of the other side, which is to move, leaves the position won within n moves.
+///
+/// # Errors
+///
+/// What ends the watch; or `Memory`.
+pub(crate) fn all_won_among<W: Watch>(
+    alloc: Global,
+    board: &Board,
+    moves: &[Move],
+    n: u16,
+    facts: &mut FactTable,
+    watch: &mut W,
+) -> Result<bool, Halt>
+    requires rules { board.now.rules ≡ facts.old.rules }
+    requires moves { Lists (λ m. Member m (legal_in board.now)) moves.now }
+    requires small { n ≤ 1000 }
+    ensures frame { facts.new ≡ facts.old }
+    ensures won { IfOk result (λ won. won ≡ all_win facts.old n board.now.position) }
+    ensures gone { OnOk result (W.gone watch.old watch.new (lines_of_moves facts.old n board.now.position)) }
+    ensures ended { (why : Halt) → IsErrOf result why →
+        W.ended watch.old watch.new (lines_of_moves facts.old n board.now.position) why }
+{
+    for i in 0..moves.len() {
+        let chosen = moves[i];
+        let next = board.after(&chosen);
+        let fact = settle(alloc, &next, n, facts, watch)?;
+        if !fact.wins {
+            return Ok(false);
+        }
+    }
+    Ok(true)
+}
