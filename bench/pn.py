@@ -1,7 +1,7 @@
 #!/usr/bin/env python3
 """How long `pnmate` takes beside `go mate`, on mates in 6 to 10 moves with few replies.
 
-Usage: bench/pn.py [SECONDS [MATES]]      (the most for one search, 60 by default, and how many mates, 10 by default)
+Usage: bench/pn.py [SECONDS [MATES]]      (the most for one search, 20 by default, and how many mates, 10 by default)
 
 The positions are drawn by this script, from a fixed seed, half of them of chess and half of crazyhouse, with a lone king that has at most three moves. `pnmate 10`
 says which of them are mates in 6 to 10; `go mate` is then asked for that number. For each mate it prints both times. The program has no count of expansions to
@@ -11,6 +11,7 @@ import os
 import random
 import subprocess
 import sys
+import threading
 import time
 
 TOP = os.path.join(os.path.dirname(os.path.abspath(__file__)), "..")
@@ -63,37 +64,33 @@ def pnmate(variant, fen, moves, seconds):
         return None
     taken = time.perf_counter() - start
     words = done.stdout.split()
-    return (int(words[1]) if words[0] == "mate" else None), taken
+    return (int(words[1]) if words[:1] == ["mate"] else None), taken
 
 
 def go_mate(variant, fen, moves, seconds):
     """The same by a session of UCI."""
     session = subprocess.Popen([ENGINE], stdin=subprocess.PIPE, stdout=subprocess.PIPE, text=True)
+    limit = threading.Timer(seconds, session.kill)
+    limit.start()
     start = time.perf_counter()
     session.stdin.write(f"setoption name UCI_Variant value {variant}\nposition fen {fen}\ngo mate {moves}\n")
     session.stdin.flush()
-    least = None
-    try:
-        os.set_blocking(session.stdout.fileno(), False)
-        text = ""
-        while "bestmove" not in text:
-            if time.perf_counter() - start > seconds:
-                return None
-            time.sleep(0.002)
-            text += session.stdout.read() or ""
-        taken = time.perf_counter() - start
-    finally:
-        session.kill()
-        session.wait()
-    for line in text.splitlines():
+    least, taken = None, None
+    for line in session.stdout:
         words = line.split()
-        if "mate" in words and "score" in words:
+        if "score" in words and "mate" in words:
             least = int(words[words.index("mate") + 1])
-    return least, taken
+        if words[:1] == ["bestmove"]:
+            taken = time.perf_counter() - start
+            break
+    limit.cancel()
+    session.kill()
+    session.wait()
+    return None if taken is None else (least, taken)
 
 
 def main():
-    seconds = float(sys.argv[1]) if len(sys.argv) > 1 else 60
+    seconds = float(sys.argv[1]) if len(sys.argv) > 1 else 20
     wanted = int(sys.argv[2]) if len(sys.argv) > 2 else 10
     rng = random.Random(SEED)
     # the first start builds the program where a source is newer

@@ -1,6 +1,5 @@
 -- What was found of a problem is its answer.
-use Rattle.std.proofs.Common.{◌≡◌, ◌≤◌, ℕ, ◌+◌, true, [], Option, Some, None, refl, sym, ap, subst, ◌∙◌}
-use Rattle.rules_model.specs.declared.board.Side.{Side}
+use Rattle.std.proofs.Common.{◌≡◌, ◌≤◌, ℕ, ◌+◌, true, Option, Some, None, refl, sym, ap, subst, ◌∙◌}
 use Rattle.rules_model.specs.declared.rules.Rules.{Rules}
 use Rattle.rules_model.specs.Games.{Story, story_from}
 use Rattle.forced_wins.specs.RuleSentences.{GoodStrategiesWin}
