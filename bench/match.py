@@ -4,14 +4,13 @@
 Usage: bench/match.py FIRST SECOND [--variant NAME] [--variants FILE] [--games N] [--movetime MS | --clock MS+MS] [--plies N] [--seed N]
                       [--grace MS]
 
-FIRST and SECOND are the commands of two engines, as `./vengine` or `/usr/games/fairy-stockfish`. By default they play 100 games of
-chess with `go movetime 100`; `--clock 60000+600` gives each side a clock by the wall, with an increment. Each pair of games begins
-with the same four random moves, and colours change. Both engines are given the file of variants by their option VariantPath. After each move `status` says how the game stands; a move that `moves` does not
-list loses, and so does a move that comes later than its time and the grace, a tenth of a second, or not within 20 seconds; on a machine
-that does much else give more. Prints a line for each game, and the moves of one that did not end by the rules; then the result, the
-causes of the ends, and for each engine its slowest move, how many it made, and how many of them came more than a tenth of a second after
-their time.
-VENGINE=FILE names another arbiter than `vengine`.
+FIRST and SECOND are the commands of two engines, as `./vengine` or `/usr/games/fairy-stockfish`. By default they play 100 games of chess
+with `go movetime 100`; `--clock 60000+600` gives each side a clock by the wall, with an increment. Each pair of games begins with the
+same four random moves, and colours change. Both engines are given the file of variants by their option VariantPath. After each move
+`status` says how the game stands; a move that `moves` does not list loses, and so does a move that comes later than its time and the
+grace, a tenth of a second, or not within 20 seconds; on a machine that does much else give more. Prints a line for each game, and the
+moves of one that did not end by the rules; then the result, the causes of the ends, and for each engine its slowest move, how many it
+made, and how many of them came more than a tenth of a second after their time. VENGINE=FILE names another arbiter than `vengine`.
 """
 import argparse
 import collections

@@ -4,10 +4,11 @@
 Usage: examples/check.py [PROGRAM]      (../vengine by default)
 
 Beside NAME.ini lies NAME.txt. A line `$ WORDS` in it is a run with `--variants NAME.ini WORDS`, the lines `> TEXT`
-after it are its input, and the other lines are what it prints. A line `% WORDS` is a search: a session with that file is
-given the variant, the position and the moves of the lines `> TEXT` after it, and `go WORDS`; it prints what is said of mates, without
-the move that comes first, since several may do, and then what `check`, without the file, says of the strategy. Each file has both, and each prints what it should, and so
-does each text of FILE_FAULTS; else the status is 1.
+after it are its input, and the other lines are what it prints. A line `% WORDS` is a search: a session with that file
+is given the variant, the position and the moves of the lines `> TEXT` after it, and `go WORDS`; it prints what is said
+of mates, without the move that comes first, since several may do, and then what `check`, without the file, says of the
+strategy. Each file has both, and each prints what it should, and so does each text of FILE_FAULTS; else the status is
+1.
 """
 import glob
 import os
