@@ -1,5 +1,4 @@
 ghost use Rattle.std.specs.Prelude.{◌≡◌, ◌<◌, ◌≤◌, IfOk};
-ghost use Rattle.fact_lock.specs.Passes.{all_parts};
 ghost use Rattle.mate_search.specs.Solves.{IsFrameFor};
 ghost use Rattle.mate_shards.specs.Grown.{HaveParts};
 ghost use Rattle.mate_shards.specs.Views.{ArePassesOf};
@@ -54,7 +53,7 @@ fn told_of(answer: &Result<Mate, SearchFault>) -> Told {
 fn shards_for(alloc: Global, game: &Game, attacker: Side) -> Result<(Shards, Passes), Memory>
     ensures frame { IfOk result (λ made. IsFrameFor game.now attacker made.0.frame) }
     ensures passes { IfOk result (λ made. ArePassesOf made.0 made.1) }
-    ensures parts { IfOk result (λ made. HaveParts all_parts made.1) }
+    ensures parts { IfOk result (λ made. HaveParts 65536 made.1) }
 {
     let frame = frame_of(alloc, game, attacker)?;
     let (shards, passes) = Shards::new(alloc, frame, 4, 4096)?;
@@ -85,12 +84,12 @@ fn answer_with<R: Threads + Wait + Sync, G: Gate + Sync>(
 ) -> Result<(Passes, Told), Fail>
     requires frame { IsFrameFor game.now attacker shards.now.frame }
     requires passes { ArePassesOf shards.now passes }
-    requires parts { HaveParts all_parts passes }
+    requires parts { HaveParts 65536 passes }
     requires some { 0 < run.n }
     requires small { run.n ≤ 100 }
     requires workers { (0 < run.workers) × (run.workers ≤ 64) }
     ensures passes { IfOk result (λ answer. ArePassesOf shards.now answer.0) }
-    ensures parts { IfOk result (λ answer. HaveParts all_parts answer.0) }
+    ensures parts { IfOk result (λ answer. HaveParts 65536 answer.0) }
 {
     let hints = HintTable::new(alloc, 1024)?;
     hints.fill(run.hint);
@@ -317,12 +316,12 @@ fn here<R: Threads + Wait + Sync>(
 ) -> Result<(Passes, Told), Fail>
     requires frame { IsFrameFor game.now Side.White shards.now.frame }
     requires passes { ArePassesOf shards.now passes }
-    requires parts { HaveParts all_parts passes }
+    requires parts { HaveParts 65536 passes }
     requires some { 0 < run.n }
     requires small { run.n ≤ 100 }
     requires workers { (0 < run.workers) × (run.workers ≤ 64) }
     ensures passes { IfOk result (λ answer. ArePassesOf shards.now answer.0) }
-    ensures parts { IfOk result (λ answer. HaveParts all_parts answer.0) }
+    ensures parts { IfOk result (λ answer. HaveParts 65536 answer.0) }
 {
     answer_with(rt, alloc, game, Side::White, run, shards, passes, &OpenGate)
 }

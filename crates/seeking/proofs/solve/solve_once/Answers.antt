@@ -22,8 +22,8 @@ returns-in_err-take_pool-clause-failed g c why is =
     let memory : why ≡ fault.Memory = search rules in
     fails_memory _ c.args.dialect c.args.limits _ _ _ _ why memory
 
-pub solve-requires-clause-parts : goal.solve-requires-clause-parts
-solve-requires-clause-parts g c κs within =
+pub solve-passes-requires-clause-parts : goal.solve-passes-requires-clause-parts
+solve-passes-requires-clause-parts g c κs within =
     let few = c.threads.ensures.in_range.1 in
     (all_parts, c.into_parts-shards.ensures.parts, omega arith)
 
