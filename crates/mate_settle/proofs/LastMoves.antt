@@ -1,11 +1,10 @@
 -- What wins by the attacker's last move.
-use Rattle.std.proofs.Common.{◌≡◌, ◌≢◌, ℕ, ◌-◌, List, [], ◌∷◌, Bool, true, false, Option, Some, None, not, is_some, ◌&&◌, ◌||◌, ◌==◌, if◌then◌else◌, slice_index, slice_set, inl, inr, refl, ap, sym, ◌∙◌, subst}
+use Rattle.std.proofs.Common.{◌≡◌, ℕ, ◌-◌, List, [], ◌∷◌, Bool, true, false, Option, Some, None, not, is_some, ◌&&◌, ◌==◌, if◌then◌else◌, slice_index, slice_set, inl, refl, ap, sym, ◌∙◌}
 use Rattle.std.specs.List.{list_all}
 use Rattle.std.proofs.lemmas.Bool.{and_parts}
 use Rattle.std.proofs.lemmas.List.{get_or-set_other}
 use Rattle.foundation.specs.Member.{Member}
 use Rattle.foundation.specs.Tests.{is_nil}
-use Rattle.rules_model.specs.declared.board.Cell.{Cell}
 use Rattle.rules_model.specs.declared.board.Position.{Position}
 use Rattle.rules_model.specs.declared.board.Repeat.{Repeat}
 use Rattle.rules_model.specs.declared.board.Side.{Side}
@@ -30,7 +29,7 @@ use Rattle.legality.proofs.FlagLaws.{flag_none}
 use Rattle.forced_wins.specs.Contests.{Contest}
 use Rattle.forced_wins.specs.Games as AnyGame
 use Rattle.forced_wins.specs.Views.{won_by}
-use Rattle.forced_wins.specs.Wins.{near_end, positions, is_in}
+use Rattle.forced_wins.specs.Wins.{near_end, positions}
 use Rattle.forced_wins.proofs.ClaimLaws as C
 use Rattle.forced_wins.proofs.ContestLaws.{any_intro}
 use Rattle.forced_wins.proofs.Counts.{by_cases, not_true, true_false}

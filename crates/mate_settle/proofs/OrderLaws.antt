@@ -1,12 +1,12 @@
 -- Lists of moves in another order.
-use Rattle.std.proofs.Common.{◌≡◌, true, false, List, [], ◌∷◌, refl, sym, ◌∙◌, subst}
+use Rattle.std.proofs.Common.{◌≡◌, false, List, [], ◌∷◌}
 use Rattle.std.specs.List.{IsDistinct}
 use Rattle.std.specs.List.Sorted.{IsPermutation}
 use Rattle.std.specs.Ordering.{eq_by_cmp}
 use Rattle.std.proofs.lemmas.Cmp.{eq_by_cmp_equiv}
 use Rattle.std.proofs.lemmas.List.Sorted.{IsPermutation-sym}
 use Rattle.std.proofs.lemmas.Map.Keys.{IsDistinct-IsPermutation, IsDistinct-head, IsDistinct-tail}
-use Rattle.foundation.specs.Member.{Member, IsEachOnce, Lists}
+use Rattle.foundation.specs.Member.{IsEachOnce, Lists}
 use Rattle.foundation.proofs.Members.{member-permutation}
 use Rattle.foundation.proofs.Ordered.{once-distinct, all-member}
 use Rattle.forced_wins.proofs.Counts.{true_false}

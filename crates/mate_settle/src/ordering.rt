@@ -118,7 +118,7 @@ pub(crate) fn in_order(
     ensures { IfOk result (λ ms. IsPermutation moves.now ms.items) }
 {
     let mut ranked = ranked_moves(alloc, board, moves, order)?;
-    ranked.sort_unstable_by_key(|one| one.rank);
+    ranked.sort_by_key(|one| one.rank)?;
     let ordered = unranked(alloc, ranked.as_slice())?;
     Ok(ordered)
 }

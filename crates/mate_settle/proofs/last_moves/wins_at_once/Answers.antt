@@ -1,4 +1,4 @@
-use Rattle.std.proofs.Common.{rules, ◌≡◌, false, ap, sym, ◌∙◌}
+use Rattle.std.proofs.Common.{rules, ◌≡◌, false, ap, ◌∙◌}
 use Rattle.forced_wins.specs.Views.{won_by}
 use Rattle.rules_model.specs.declared.rules.Rules.{Rules}
 use Rattle.rules_model.specs.Attacks.{king_attacked}

@@ -1,7 +1,6 @@
-use Rattle.std.proofs.Common.{rules, ◌≡◌, map, sym, ◌∙◌, subst}
+use Rattle.std.proofs.Common.{rules, ◌≡◌, map, subst}
 use Rattle.std.specs.List.Sorted.{IsPermutation}
 use Rattle.std.proofs.lemmas.List.Sorted.{IsPermutation-map}
-use Rattle.rules_model.specs.declared.moves.Move.{Move}
 use Rattle.mate_settle.specs.Known.{chosen_of}
 use Rattle.mate_settle.proofs.ordering.in_order.Goals as goal
 

@@ -1,4 +1,4 @@
-use Rattle.std.proofs.Common.{◌≡◌, ◌∙◌, subst, sym}
+use Rattle.std.proofs.Common.{◌∙◌, subst, sym}
 use Rattle.foundation.specs.Member.{Member, Lists}
 use Rattle.playing.specs.Stance.{legal_in}
 use Rattle.mate_settle.proofs.OrderLaws.{lists-permuted}
