@@ -4,8 +4,10 @@ import os
 import re
 import shlex
 import shutil
+import signal
 import subprocess
 import sys
+import time
 
 HERE = os.path.dirname(os.path.abspath(__file__))
 VENGINE = os.environ.get("VENGINE", os.path.abspath(os.path.join(HERE, "..", "..", "vengine")))
@@ -18,6 +20,17 @@ def is_missing(script, *programs):
     if lacks:
         print(f"{script}: skipped, for there is no {' and no '.join(lacks)}")
     return bool(lacks)
+
+
+def end(client):
+    """Ends a client that was started in a session of its own, and all that it started there; XBoard does not heed the first word."""
+    for number in (signal.SIGTERM, signal.SIGKILL):
+        try:
+            os.killpg(client.pid, number)
+        except ProcessLookupError:
+            break
+        time.sleep(1)
+    client.wait()
 
 
 def ask(command, variant, start, moves):

@@ -16,13 +16,12 @@ import json
 import os
 import re
 import shutil
-import signal
 import subprocess
 import sys
 import tempfile
 import time
 
-from client_log import PATH, ask, is_missing, report, result_of, sessions_of, write_engine
+from client_log import PATH, ask, end, is_missing, report, result_of, sessions_of, write_engine
 
 LONGEST = 600
 OF_PYCHESS = {"chess": "normal"}
@@ -89,14 +88,13 @@ def play(home):
     path = os.path.join(home, "said.log")
     with open(path, "w") as said:
         client = subprocess.Popen(words, stdout=said, stderr=said, env=env, cwd=home, start_new_session=True)
-    end, found = time.monotonic() + LONGEST, None
-    while found is None and time.monotonic() < end and client.poll() is None:
+    last, found = time.monotonic() + LONGEST, None
+    while found is None and time.monotonic() < last and client.poll() is None:
         time.sleep(1)
         with open(path) as said:
             found = re.search(r"^RESULT (\S+) (.*)", said.read(), re.M)
     time.sleep(1)
-    os.killpg(client.pid, signal.SIGTERM)
-    client.wait()
+    end(client)
     return found
 
 

@@ -13,13 +13,12 @@ where a result that the rules decide differs, or where Vengine called an opponen
 import argparse
 import os
 import re
-import signal
 import subprocess
 import sys
 import tempfile
 import time
 
-from client_log import PATH, VENGINE, ask, is_missing, result_of
+from client_log import PATH, VENGINE, ask, end, is_missing, result_of
 
 LONGEST = 1200
 OF_XBOARD = {"chess": "normal", "kingofthehill": "fairy", "antichess": "fairy", "extinction": "fairy", "losalamos": "6x6+0_fairy"}
@@ -51,12 +50,11 @@ def play(opponent, variant, games, folder):
              "-soundProgram", "true", "-sgf", f"{folder}/games.pgn", "-debug", "-nameOfDebugFile", f"{folder}/debug.log"]
     with open(f"{folder}/said.log", "w") as said:
         match = subprocess.Popen(words, stdout=said, stderr=said, env={**os.environ, "PATH": PATH}, start_new_session=True)
-    end = time.monotonic() + LONGEST
+    last = time.monotonic() + LONGEST
     # XBoard shows the score in a window at the end, and waits for a click.
-    while match.poll() is None and time.monotonic() < end and "final score" not in open(f"{folder}/said.log").read():
+    while match.poll() is None and time.monotonic() < last and "final score" not in open(f"{folder}/said.log").read():
         time.sleep(1)
-    os.killpg(match.pid, signal.SIGTERM)
-    match.wait()
+    end(match)
     text = open(f"{folder}/games.pgn").read() if os.path.exists(f"{folder}/games.pgn") else ""
     results = re.findall(r'^\[Result "(.*)"\]', text, re.M)
     reasons = re.findall(r"\{([^{}]*)\} (?:1-0|0-1|1/2-1/2|\*)", text)
