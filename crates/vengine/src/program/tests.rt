@@ -266,14 +266,7 @@ fn least_mates_are_told(rt: HostRuntime) -> Result<(), Fail> {
 fn suites_are_cut_short(rt: HostRuntime) -> Result<(), Fail> {
     let mut files = MemFiles::new(rt.alloc());
     for call in 0..4 {
-        let (answered, sink) = ran(
-            &rt,
-            &mut files,
-            &["suite"],
-            SUITE.as_bytes(),
-            &[call],
-            1000,
-        )?;
+        let (answered, sink) = ran(&rt, &mut files, &["suite"], SUITE.as_bytes(), &[call], 1000)?;
         assert!(rt; answered == 4 && sink.taken().is_empty());
     }
     let lines = b"chess 1 7k/8/5KQ1/8/8/8/8/8 w - - 0 1\n";
