@@ -5,12 +5,9 @@ use Rattle.std.specs.List.Sorted.{IsPermutation}
 use Rattle.std.proofs.lemmas.List.Sorted.{IsPermutation-remove, IsPermutation-sym}
 use Rattle.foundation.specs.Member.{IsEachOnce, Lists, Member}
 use Rattle.foundation.proofs.Members.{member-contains, member-permutation}
-use Rattle.playing.specs.Stance.{Stance, legal_in}
-use Rattle.rules_model.proofs.LegalLaws.{legal-once}
 use Rattle.rules_model.specs.declared.moves.Move.{Move}
 use Rattle.rules_model.specs.declared.moves.Move.TheVariants.{Go}
 use Rattle.rules_model.specs.declared.moves.Promo.TheVariants.{Stays}
-use Rattle.rules_model.specs.Repeats.{repeat_of}
 
 module _ {X : Type 0} where
   removed-member : (xs : List X) (i : ℕ) (y : X) → Member y (remove xs i) → Member y xs
@@ -54,8 +51,3 @@ read-at (x ∷ xs) (suc k) d within = read-at xs k d (omega arith)
 -- the move that stands for one where there is none
 abbrev pub no_move : Move
 no_move = Go (record { 0 = 0 }) (record { 0 = 0 }) Stays None
-
--- the list of the legal moves lists them
-pub lists-legal : (s : Stance) (ms : List Move) → ms ≡ legal_in s → Lists (λ m. Member m (legal_in s)) ms
-lists-legal s ms e = subst (Lists (λ m. Member m (legal_in s))) (sym e)
-    (record { once = legal-once s.rules (repeat_of s.position); sound = λ m k. k; complete = λ m k. k })

@@ -46,7 +46,8 @@ pub(crate) fn build<W: Watch>(
         return Ok(table.finish(board, n, edges)?);
     }
     if board.position().side.is(attacker) {
-        let order = moves_from(alloc, board, known_best(facts, board, n))?;
+        let known = known_best(facts, board, n);
+        let order = moves_from(alloc, board, n, facts, known)?;
         match choose_among(alloc, board, &order, n, facts, watch)? {
             Some(choice) => {
                 let chosen = choice.chosen;

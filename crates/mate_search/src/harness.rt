@@ -114,10 +114,10 @@ pub(crate) fn prepare<'s>(
     ensures facts { IfOk result (λ h. h.facts ≡ shards.now.frame) }
 {
     let board = Board::new(game.tables(), game.position());
-    let roots = hinted_moves(alloc, &board, hints)?;
+    let facts = FactTable::new(alloc, shards.frame(), room_for(n))?;
+    let roots = hinted_moves(alloc, &board, n, &facts, hints)?;
     let shared = Shared::new(alloc, roots.len())?;
     let jobs = room_for_jobs(alloc, workers - 1)?;
-    let facts = FactTable::new(alloc, shards.frame(), room_for(n))?;
     Ok(Harness {
         roots,
         shared,

@@ -7,7 +7,7 @@ ghost use Rattle.rules_model.specs.declared.moves.Move.{Move as MoveView};
 use crate::answer::Settled;
 use game_play::Game;
 use hint_table::{Hint, HintTable};
-use mate_settle::FactTable;
+use mate_settle::{FactTable, moves_to_try};
 use playing::Board;
 use rules_model::{Memory, Move, Promo};
 use std::alloc::Global;
@@ -61,15 +61,17 @@ fn to_front(moves: &mut Vec<Move>, place: Option<usize>) -> Result<(), Memory>
     Ok(())
 }
 
-/// The legal moves, each once, the one that is hinted first.
+/// The legal moves, each once, the one that is hinted first, and then those first that are likely to decide within n moves.
 pub(crate) fn hinted_moves(
     alloc: Global,
     board: &Board,
+    n: u16,
+    facts: &FactTable,
     hints: &HintTable,
 ) -> Result<Vec<Move>, Memory>
     ensures { IfOk result (λ ms. Lists (λ m. Member m (legal_in board.now)) ms.items) }
 {
-    let mut moves = legal_list(alloc, board)?;
+    let mut moves = moves_to_try(alloc, board, n, facts)?;
     let slot = hints.get(board.key()).map_or(NO_SLOT, |hint| hint.slot);
     let place = moves
         .iter()
@@ -78,15 +80,18 @@ pub(crate) fn hinted_moves(
     Ok(moves)
 }
 
-/// The legal moves, each once, this one first if it is among them.
+/// The legal moves, each once, this one first if it is among them, and then those first that are likely to decide within n
+/// moves.
 pub(crate) fn moves_from(
     alloc: Global,
     board: &Board,
+    n: u16,
+    facts: &FactTable,
     first: Option<Move>,
 ) -> Result<Vec<Move>, Memory>
     ensures { IfOk result (λ ms. Lists (λ m. Member m (legal_in board.now)) ms.items) }
 {
-    let mut moves = legal_list(alloc, board)?;
+    let mut moves = moves_to_try(alloc, board, n, facts)?;
     let place = moves.iter().position(|m| first == Some(*m));
     to_front(&mut moves, place)?;
     Ok(moves)

@@ -73,7 +73,7 @@ fn decide<W: Watch>(
     if let Some(won) = won_by(frame.attacker, game.outcome()) {
         return Ok(Verdict { won, best: None });
     }
-    let order = moves_from(alloc, board, first)?;
+    let order = moves_from(alloc, board, n, facts, first)?;
     if board.position().side.is(frame.attacker) {
         match choose_among(alloc, board, &order, n, facts, watch)? {
             Some(choice) => {

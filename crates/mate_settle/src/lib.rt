@@ -12,4 +12,4 @@ mod tests;
 
 pub use choosing::{Choice, all_won, choose};
 pub use known::FactTable;
-pub use settling::settle;
+pub use settling::{moves_to_try, settle};

@@ -36,9 +36,13 @@ fn legal_list(alloc: Global, board: &Board) -> Result<MoveList, Memory>
     Ok(moves)
 }
 
-/// The legal moves in the order in which they are tried, where the attacker has this many moves left. Those of his last
-/// move come as they are made.
-pub(crate) fn moves_to_try(
+/// The legal moves in the order in which they are tried, those first that are likely to decide, where the attacker has this
+/// many moves left. Those of his last move come as they are made.
+///
+/// # Errors
+///
+/// `Memory`.
+pub fn moves_to_try(
     alloc: Global,
     board: &Board,
     n: u16,
