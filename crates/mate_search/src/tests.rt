@@ -268,7 +268,8 @@ fn repetitions_count(rt: HostRuntime) -> Result<(), Fail> {
     Ok(())
 }
 
-// A solve within 4 moves of a king and a rook enters more than 1,025 nodes.
+// A solve within 8 moves of a king and a rook lasts much longer than the 1,025 nodes of the first worker that the last row
+// needs.
 #[test]
 fn what_cuts_a_solve(rt: HostRuntime) -> Result<(), Fail> {
     let p = position("Ke3 Ra1 kd5");
@@ -296,7 +297,7 @@ fn what_cuts_a_solve(rt: HostRuntime) -> Result<(), Fail> {
                 lines,
                 owed,
                 limits,
-                ..whole(4, workers)
+                ..whole(8, workers)
             };
             let told = answer_to(&rt, rt.alloc(), &p, run)?;
             assert_eq!(rt; told, end, "by {workers}");
