@@ -129,13 +129,11 @@ fn answer_after<R: Threads + Wait + Abort + Sync>(
     moves: &[Move],
     attacker: Side,
     run: Run,
-) -> Result<Told, Fail>
-    requires some { 0 < run.n }
-    requires small { run.n ≤ 100 }
-    requires workers { (0 < run.workers) × (run.workers ≤ 64) }
-{
+) -> Result<Told, Fail> {
     let rules = chess();
     assert!(rt; sound(&rules, p));
+    assert!(rt; 0 < run.n && run.n <= 100);
+    assert!(rt; 0 < run.workers && run.workers <= 64);
     let mut game = Game::new(alloc, &rules, p)?;
     for m in moves {
         assert!(rt; game.play(m).is_ok());
@@ -151,11 +149,7 @@ fn answer_to<R: Threads + Wait + Abort + Sync>(
     alloc: Global,
     p: &Position,
     run: Run,
-) -> Result<Told, Fail>
-    requires some { 0 < run.n }
-    requires small { run.n ≤ 100 }
-    requires workers { (0 < run.workers) × (run.workers ≤ 64) }
-{
+) -> Result<Told, Fail> {
     answer_after(rt, alloc, p, &[], p.side, run)
 }
 
@@ -218,10 +212,8 @@ fn least_numbers_of_moves(rt: HostRuntime) -> Result<(), Fail> {
                 let shorter = answer_to(&rt, rt.alloc(), &p, whole(n, workers))?;
                 assert_eq!(rt; shorter, Told::NoMate, "{pieces} within {n}");
             }
-            if least > 0 && least <= 100 {
-                let found = answer_to(&rt, rt.alloc(), &p, whole(least, workers))?;
-                assert_eq!(rt; found, end, "{pieces} at {counter} within {least}");
-            }
+            let found = answer_to(&rt, rt.alloc(), &p, whole(least, workers))?;
+            assert_eq!(rt; found, end, "{pieces} at {counter} within {least}");
         }
     }
     Ok(())
