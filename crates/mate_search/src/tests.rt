@@ -228,10 +228,14 @@ fn goes(from: &str, to: &str) -> Move {
     }
 }
 
-// The only move that wins meets a third repetition, and without the moves before it mates in two; by any number of
-// workers, whatever the hints hold.
-#[test]
-fn repetitions_count(rt: HostRuntime) -> Result<(), Fail> {
+/// What a solve within 2 moves answers where the only move that wins meets a third repetition, and where no move was
+/// played before it.
+fn with_and_without_repetitions<R: Threads + Wait + Abort + Sync>(
+    rt: &R,
+    alloc: Global,
+    workers: u32,
+    hint: u64,
+) -> Result<(Told, Told), Fail> {
     let played = [
         goes("h8", "g8"),
         goes("g6", "f6"),
@@ -243,18 +247,22 @@ fn repetitions_count(rt: HostRuntime) -> Result<(), Fail> {
     ];
     let mut repeated = position("Kg6 Ra7 kh8");
     repeated.side = Side::Black;
-    let new = position("Kf6 Ra7 kh8");
+    let run = Run {
+        hint,
+        ..whole(2, workers)
+    };
+    let lost = answer_after(rt, alloc, &repeated, &played, Side::White, run)?;
+    let won = answer_to(rt, alloc, &position("Kf6 Ra7 kh8"), run)?;
+    Ok((lost, won))
+}
+
+// By any number of workers, whatever the hints hold.
+#[test]
+fn repetitions_count(rt: HostRuntime) -> Result<(), Fail> {
     for workers in [1u32, 4] {
         for hint in [0u64, u64::MAX] {
-            let run = Run {
-                hint,
-                ..whole(2, workers)
-            };
-            let alloc = rt.alloc();
-            let lost = answer_after(&rt, alloc, &repeated, &played, Side::White, run)?;
-            assert_eq!(rt; lost, Told::NoMate, "by {workers}");
-            let won = answer_to(&rt, alloc, &new, run)?;
-            assert_eq!(rt; won, Told::Shown, "by {workers}");
+            let told = with_and_without_repetitions(&rt, rt.alloc(), workers, hint)?;
+            assert_eq!(rt; told, (Told::NoMate, Told::Shown), "by {workers}");
         }
     }
     Ok(())

@@ -363,6 +363,7 @@ fn tried<R: Threads + Wait + Abort + Sync>(
     Ok(answer_of(&tried))
 }
 
+// King and rook do not mate within 2 moves, which takes fewer than 500 nodes; 3 moves take more.
 #[test]
 fn mates_are_tried(rt: HostRuntime) -> Result<(), Fail> {
     let alloc = rt.alloc();
@@ -380,14 +381,14 @@ fn mates_are_tried(rt: HostRuntime) -> Result<(), Fail> {
         ("Ke1 ke8", 2, free, NOTHING, Answer::NoMate),
         ("Ke1 ke8", 2, free, stop, Answer::Stopped(1, Cut::Line)),
         (
-            "Ke1 ke8",
-            2,
+            "Ke3 Ra1 kd5",
+            3,
             Limits {
-                quota: Some(1),
+                quota: Some(500),
                 deadline: None,
             },
             NOTHING,
-            Answer::Stopped(2, Cut::Quota(1)),
+            Answer::Stopped(3, Cut::Quota(500)),
         ),
     ];
     for (text, last, limits, heard, answer) in rows {
