@@ -1,6 +1,8 @@
 //! The attacker's last move, which wins by what it does itself and by no reply to it.
-ghost use Rattle.std.specs.Prelude.{◌≡◌, true, false, None, Some, IfSome};
+ghost use Rattle.std.specs.Prelude.{◌≡◌, true, false, None, Some, IfSome, OnSome};
+ghost use Rattle.std.specs.Bool.{OnTrue};
 ghost use Rattle.foundation.specs.Member.{Member, Lists};
+ghost use Rattle.check_moves.specs.Checks.{AreChecksIn};
 ghost use Rattle.forced_wins.specs.Facts as Facts;
 ghost use Rattle.mate_core.specs.Runs.{IsTrueIn};
 ghost use Rattle.mate_fact.specs.InFrame as In;
@@ -10,6 +12,7 @@ ghost use Rattle.rules_model.specs.declared.moves.Move.{Move};
 ghost use Rattle.rules_model.specs.Next.{next};
 ghost use Rattle.rules_model.specs.Sides.{same_side};
 
+use check_moves::{Checks, checks_of, gives_check};
 use mate_core::{Fact, Frame};
 use mate_fact::{refuted_by_all_within, won_by};
 use playing::Board;
@@ -73,16 +76,44 @@ fn wins_at_once(frame: &Frame, board: &Board) -> bool
     is_won(won_by(frame.attacker, board.early_end()))
 }
 
+/// What is known of the checks, where no move wins at once that gives none.
+fn winning_checks(frame: &Frame, board: &Board) -> Option<Checks>
+    ensures only { OnSome result (Last.only_checks_win frame.now.rules ≡ true) }
+    ensures known { IfSome result (λ checks. AreChecksIn board.now checks) }
+{
+    if only_checks_win(&frame.rules) {
+        Some(checks_of(board))
+    } else {
+        None
+    }
+}
+
+/// Whether it is known that the attacker's move does not win at once: only checks do, and it gives none.
+fn is_vain(frame: &Frame, board: &Board, m: &Move, checks: Option<Checks>) -> bool
+    requires rules { board.now.rules ≡ frame.now.rules }
+    requires only { OnSome checks (Last.only_checks_win frame.now.rules ≡ true) }
+    requires known { IfSome checks (λ checks. AreChecksIn board.now checks) }
+    requires attack { In.IsAttackIn frame.now board.now.position }
+    requires legal { Member m.now (In.legal_in frame.now board.now.position) }
+    ensures { OnTrue result (In.near_in frame.now 0 (next frame.now.rules board.now.position m.now) ≡ false) }
+{
+    match checks {
+        Some(checks) => !gives_check(board, &checks, m),
+        None => false,
+    }
+}
+
 /// Whether the attacker's move wins at once. Where only checks do, no other move is made.
-fn wins_by(frame: &Frame, board: &Board, m: &Move, checks: bool) -> bool
+fn wins_by(frame: &Frame, board: &Board, m: &Move, checks: Option<Checks>) -> bool
     requires rules { board.now.rules ≡ frame.now.rules }
     requires movers { Last.only_movers_win frame.now.rules ≡ true }
-    requires checks { checks ≡ Last.only_checks_win frame.now.rules }
+    requires only { OnSome checks (Last.only_checks_win frame.now.rules ≡ true) }
+    requires known { IfSome checks (λ checks. AreChecksIn board.now checks) }
     requires attack { In.IsAttackIn frame.now board.now.position }
     requires legal { Member m.now (In.legal_in frame.now board.now.position) }
     ensures { result ≡ In.near_in frame.now 0 (next frame.now.rules board.now.position m.now) }
 {
-    if checks && !board.gives_check(m) {
+    if is_vain(frame, board, m, checks) {
         return false;
     }
     let next = board.after(m);
@@ -100,7 +131,7 @@ fn winning_move(frame: &Frame, board: &Board, moves: &[Move]) -> Option<Move>
     ensures none { result ≡ None → (m : Move) → Member m moves.now →
         In.near_in frame.now 0 (next frame.now.rules board.now.position m) ≡ false }
 {
-    let checks = only_checks_win(&frame.rules);
+    let checks = winning_checks(frame, board);
     for i in 0..moves.len() {
         let chosen = moves[i];
         if wins_by(frame, board, &chosen, checks) {

@@ -1,0 +1,2 @@
+pub mod ShutLaws
+pub mod ComeLaws

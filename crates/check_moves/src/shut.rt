@@ -1,0 +1,102 @@
+//! The squares that open no line to a king: a piece that leaves one lets no other piece of its side attack a king.
+ghost use Rattle.std.specs.Prelude.{◌≡◌, ◌<◌};
+ghost use Rattle.rules_model.specs.Squares.{cell_at};
+ghost use Rattle.move_tables.specs.Occupied.{AreMen};
+ghost use Rattle.square_set.specs.Members.{OnSquares};
+ghost use Rattle.pins.specs.Free.{KindSpares, PieceSpares};
+ghost use Rattle.pins.specs.Guards.{AfterLeaving};
+ghost use Rattle.check_moves.specs.Shut as Shut;
+
+use attack_tables::{Mode, Tables, cell_on};
+use pins::guards::guards;
+use rules_model::sizes::board_size;
+use rules_model::{Cells, Kind, Side, Square};
+use square_set::{ALL, EMPTY, Set};
+
+/// The squares that guard the king from a piece of the kind.
+fn guards_from_kind(
+    tables: &Tables,
+    occupied: Set,
+    king: Square,
+    by: Side,
+    kind: Kind,
+    from: u8,
+) -> Set
+    requires king { king.0 < 120 }
+    requires from { from < 120 }
+    ensures { AfterLeaving occupied result (KindSpares tables.now by kind from king.0) }
+{
+    let _rules = tables.rules();
+    if kind.0 >= 26 {
+        return EMPTY;
+    }
+    guards(
+        tables.spot(by, kind, Square(from), Mode::Take),
+        occupied,
+        king.0,
+    )
+}
+
+/// The squares that guard the king from what stands on a square.
+fn guards_from(
+    tables: &Tables,
+    cells: &Cells,
+    occupied: Set,
+    king: Square,
+    by: Side,
+    from: u8,
+) -> Set
+    requires king { king.0 < 120 }
+    requires from { from < 120 }
+    ensures { AfterLeaving occupied result (PieceSpares tables.now by king.0 from (cell_at cells.now from)) }
+{
+    match cell_on(cells, from) {
+        None => EMPTY,
+        Some(cell) => guards_from_kind(tables, occupied, king, by, cell.kind, from),
+    }
+}
+
+/// The squares that guard the king from each piece of the side that stays on its square.
+fn guards_of_king(
+    tables: &Tables,
+    cells: &Cells,
+    men: Set,
+    occupied: Set,
+    king: Square,
+    by: Side,
+) -> Set
+    requires king { king.0 < 120 }
+    requires men { AreMen by cells.now men }
+    ensures { AfterLeaving occupied result (Shut.StayersSpare tables.now by cells.now king.0) }
+{
+    board_size(cells);
+    let _rules = tables.rules();
+    let mut guards = EMPTY;
+    let mut near = tables.takers(by, king).and(men);
+    while let Some(from) = near.take_first() {
+        guards = guards.or(guards_from(tables, cells, occupied, king, by, from));
+    }
+    guards
+}
+
+/// The squares that a piece may leave, wherever it goes: no other piece of its side attacks one of the other side's
+/// kings then. The same holds of the squares on which a piece is dropped. A flying king is not asked.
+pub(crate) fn shut(
+    tables: &Tables,
+    cells: &Cells,
+    kings: Set,
+    men: Set,
+    occupied: Set,
+    by: Side,
+) -> Set
+    requires kings { OnSquares kings }
+    requires men { AreMen by cells.now men }
+    ensures { Shut.AreShut tables.now by cells.now occupied kings result }
+{
+    let mut shut = ALL;
+    let mut rest = kings;
+    while let Some(king) = rest.take_first() {
+        shut = shut.minus(guards_of_king(tables, cells, men, occupied, Square(king), by));
+    }
+    shut
+}
