@@ -1,5 +1,5 @@
 -- Passes that are handed back, and the root's fact in them.
-use Rattle.std.proofs.Common.{◌≡◌, ℕ, Bool, true, false, not, List, refl, ap, sym, ◌∙◌, arith}
+use Rattle.std.proofs.Common.{◌≡◌, ℕ, Bool, true, false, List, refl, ap, sym, ◌∙◌, arith}
 use Rattle.std.specs.Prelude.{nat_le}
 use Rattle.rules_model.specs.declared.board.Position.{Position}
 use Rattle.rules_model.specs.Games.{Story}
@@ -17,7 +17,7 @@ use Rattle.mate_shards.specs.Views.{ShardsView, ShardPass, ArePassesOf}
 use Rattle.game_play.specs.Played.{Played, story}
 use Rattle.mate_shards.proofs.AnswerLaws.{answer_or_full-stays}
 use Rattle.mate_shards.proofs.GrownLaws.{grown-itself, grown-onward}
-use Rattle.mate_search.proofs.Root.{root-free}
+use Rattle.mate_showing.proofs.Root.{root-free}
 use Rattle.mate_search.specs.Handed.{AreHandedBack, RootIsShared}
 
 pub handed_none : (s : ShardsView) (ps : List ShardPass) → ArePassesOf s ps → AreHandedBack s ps ps
@@ -58,11 +58,6 @@ pub fact_true : (f : Frame) (k : Fact) (p : Position) (n : ℕ) → k.repeat ≡
 fact_true f k p n r m c h = says_at f k k.wins p r c (ap (λ x. In.near_in f x p) m ∙ h)
 
 -- ---- the root
-
--- a fact that does not win refutes
-pub lost_by : (w : Bool) → not w ≡ true → w ≡ false
-lost_by true h = sym h
-lost_by false h = refl
 
 -- a root whose repeat is free is near where its position is
 pub root-near : (f : Frame) (g : Story) (n : ℕ) (p : Position) → f.blocked ≡ blocked f.rules g → p ≡ g.last → is_in f.blocked (repeat_of p) ≡ false → In.near_in f n p ≡ near_root f.rules n g f.attacker

@@ -1,5 +1,5 @@
 -- Workers that race beside each other: their passes, their lines, and the parts of a solve one after another.
-use Rattle.std.proofs.Common.{◌≡◌, ℕ, zero, suc, ◌+◌, ◌-◌, ◌*◌, ◌<◌, ◌≤◌, List, [], ◌∷◌, ◌++◌, length, Bool, true, Ok, Err, OnOk, Option, Some, None, slice_get, take, refl, ap, sym, ◌∙◌, subst, arith}
+use Rattle.std.proofs.Common.{◌≡◌, ℕ, zero, suc, ◌+◌, ◌-◌, ◌<◌, ◌≤◌, List, [], ◌∷◌, ◌++◌, length, Bool, Ok, Err, OnOk, Option, Some, None, slice_get, take, refl, ap, sym, ◌∙◌, subst, arith}
 use Rattle.std.specs.List.{All, sum_by}
 use Rattle.std.specs.declared.result.Result.{Result}
 use Rattle.std.proofs.lemmas.Option.{slice_get_within}
@@ -84,13 +84,6 @@ same_err r why other e f = ap (err_of why) (sym e ∙ f)
 
 no_ok : {T : Type 0} (r : Result T Halt) (why : Halt) (P : Type 0) → r ≡ Err why → OnOk r P
 no_ok r why P e = rw e tt
-
-pub from_ok : {T P : Type 0} (r : Result T Halt) (x : T) → r ≡ Ok x → OnOk r P → P
-from_ok {T = T} {P = P} r x e h = subst (λ (q : Result T Halt). OnOk q P) e h
-
--- the same of any answer
-pub from_memory : {T E P : Type 0} (r : Result T E) (x : T) → r ≡ Ok x → OnOk r P → P
-from_memory {T = T} {E = E} {P = P} r x e h = subst (λ (q : Result T E). OnOk q P) e h
 
 -- what holds with each answer
 pub either-way : {T P : Type 0} (r : Result T Halt) → OnOk r P → ((why : Halt) → r ≡ Err why → P) → P

@@ -1,9 +1,3 @@
-pub mod Reached
-pub mod Tables
-pub mod Mates
-pub mod Tabled
-pub mod Counts
-pub mod Answers
 pub mod Solves
 pub mod Handed
 pub mod Least

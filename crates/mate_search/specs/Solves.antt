@@ -13,11 +13,11 @@ use Rattle.watching.specs.declared.halt.Cut.{Cut}
 use Rattle.watching.specs.Stopping.{IsStop}
 use Rattle.watching.specs.Watched.{World, Moment, moment, Gone}
 use Rattle.mate_shards.specs.Views.{ShardPass, ShardsView}
-use Rattle.mate_search.specs.Answers.{IsEvidence, IsFrameOf, IsShown}
+use Rattle.mate_showing.specs.Answers.{IsEvidence, IsFrameOf, IsShown}
 use Rattle.mate_search.specs.Handed.{RootIsRefuted}
 use Rattle.mate_search.specs.declared.answer.Mate.{Mate}
-use Rattle.mate_search.specs.declared.answer.Settled.{Settled}
-use Rattle.mate_search.specs.declared.answer.Settled.TheVariants as settled
+use Rattle.mate_showing.specs.declared.answer.Settled.{Settled}
+use Rattle.mate_showing.specs.declared.answer.Settled.TheVariants as settled
 use Rattle.mate_search.specs.declared.answer.Mate.TheVariants as mate
 
 -- the game's frame for the side

@@ -1,11 +1,11 @@
-//! The frame of a game.
+//! The frame of a game, and copies of rules and frames.
 ghost use Rattle.std.specs.Prelude.{◌≡◌, IfOk};
 ghost use Rattle.mate_search.specs.Solves.{IsFrameFor};
 
 use arrayvec::ArrayVec;
 use game_play::Game;
 use mate_core::Frame;
-use rules_model::{KindRule, Memory, Rules, Side, Terms};
+use rules_model::{Blocked, KindRule, Memory, Rules, Side, Terms};
 use std::alloc::Global;
 
 fn terms_of(terms: &Terms) -> Terms
@@ -42,13 +42,37 @@ fn kinds_of(kinds: &[Option<KindRule>; 26]) -> [Option<KindRule>; 26]
     copy
 }
 
-fn copy_of(rules: &Rules) -> Rules
+/// The same rules.
+pub fn copy_of(rules: &Rules) -> Rules
     ensures { result ≡ rules.now }
 {
     Rules {
         kinds: kinds_of(&rules.kinds),
         ..*rules
     }
+}
+
+fn blocked_of(alloc: Global, blocked: &Blocked) -> Result<Blocked, Memory>
+    ensures { IfOk result (λ copy. copy ≡ blocked.now) }
+{
+    let items = Vec::from_slice(alloc, blocked.items.as_slice())?;
+    Ok(Blocked { items })
+}
+
+/// The same frame.
+///
+/// # Errors
+///
+/// `Memory`.
+pub fn copy_of_frame(alloc: Global, frame: &Frame) -> Result<Frame, Memory>
+    ensures { IfOk result (λ copy. copy ≡ frame.now) }
+{
+    let blocked = blocked_of(alloc, &frame.blocked)?;
+    Ok(Frame {
+        rules: copy_of(&frame.rules),
+        blocked,
+        attacker: frame.attacker,
+    })
 }
 
 /// The game's rules and blocked positions, and the side that attacks in it; or `Memory`.

@@ -7,9 +7,8 @@ ghost use Rattle.mate_settle.specs.Lines.{lines_within, seen_in};
 ghost use Rattle.mate_settle.specs.Steps.{left_after};
 ghost use Rattle.mate_shards.specs.Views.{ArePassesOf};
 ghost use Rattle.playing.specs.Stance.{legal_in};
-ghost use Rattle.rules_model.specs.Sides.{same_side};
 ghost use Rattle.watching.specs.declared.halt.Halt.{Halt};
-ghost use Rattle.mate_search.specs.Answers.{IsFrameOf};
+ghost use Rattle.mate_showing.specs.Answers.{IsFrameOf};
 ghost use Rattle.mate_search.specs.Handed.{AreHandedBack};
 ghost use Rattle.mate_search.specs.Races.{IsLent, race_lines};
 
@@ -17,7 +16,6 @@ use crate::shared::{Outcome, Round, Shared};
 use crate::solving::room_for;
 use game_play::Game;
 use io_ports::Gate;
-use mate_core::Fact;
 use mate_settle::{FactTable, settle};
 use mate_shards::{Passes, Published, Shards};
 use playing::Board;

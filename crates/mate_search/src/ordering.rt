@@ -1,13 +1,12 @@
-//! In which order the moves of a position are tried. Hints decide over the order, and over nothing else.
-ghost use Rattle.std.specs.Prelude.{◌≡◌, List, IfOk, OnOk};
+//! In which order the root moves are tried. Hints decide over the order, and over nothing else.
+ghost use Rattle.std.specs.Prelude.{IfOk};
 ghost use Rattle.foundation.specs.Member.{Lists, Member};
 ghost use Rattle.playing.specs.Stance.{legal_in};
-ghost use Rattle.rules_model.specs.declared.moves.Move.{Move as MoveView};
 
-use crate::answer::Settled;
 use game_play::Game;
 use hint_table::{Hint, HintTable};
 use mate_settle::{FactTable, moves_to_try};
+use mate_showing::{Settled, to_front};
 use playing::Board;
 use rules_model::{Memory, Move, Promo};
 use std::alloc::Global;
@@ -37,30 +36,6 @@ fn slot_of(m: &Move) -> Slot {
     }
 }
 
-/// The legal moves in the order of the list.
-pub(crate) fn legal_list(alloc: Global, board: &Board) -> Result<Vec<Move>, Memory>
-    ensures { IfOk result (λ ms. ms.items ≡ legal_in board.now) }
-{
-    let moves = board.legal_moves(alloc)?;
-    Ok(moves.items)
-}
-
-/// Puts the move at a place first, if there is one.
-fn to_front(moves: &mut Vec<Move>, place: Option<usize>) -> Result<(), Memory>
-    ensures { (legal : List MoveView) → Lists (λ m. Member m legal) moves.old.items →
-        OnOk result (Lists (λ m. Member m legal) moves.new.items) }
-{
-    let Some(at) = place else {
-        return Ok(());
-    };
-    if moves.len() <= at {
-        return Ok(());
-    }
-    let first = moves.remove(at);
-    moves.insert(0, first)?;
-    Ok(())
-}
-
 /// The legal moves, each once, the one that is hinted first, and then those first that are likely to decide within n moves.
 pub(crate) fn hinted_moves(
     alloc: Global,
@@ -78,31 +53,6 @@ pub(crate) fn hinted_moves(
         .position(|m| slot != NO_SLOT && slot_of(m) == slot);
     to_front(&mut moves, place)?;
     Ok(moves)
-}
-
-/// The legal moves, each once, this one first if it is among them, and then those first that are likely to decide within n
-/// moves.
-pub(crate) fn moves_from(
-    alloc: Global,
-    board: &Board,
-    n: u16,
-    facts: &FactTable,
-    first: Option<Move>,
-) -> Result<Vec<Move>, Memory>
-    ensures { IfOk result (λ ms. Lists (λ m. Member m (legal_in board.now)) ms.items) }
-{
-    let mut moves = moves_to_try(alloc, board, n, facts)?;
-    let place = moves.iter().position(|m| first == Some(*m));
-    to_front(&mut moves, place)?;
-    Ok(moves)
-}
-
-/// The move that is known to win from the position within n moves, if one is found at once.
-pub(crate) fn known_best(facts: &FactTable, board: &Board, n: u16) -> Option<Move> {
-    match facts.look(board, n) {
-        Some(fact) if fact.wins => fact.best,
-        _ => None,
-    }
 }
 
 /// The only move of a strategy at its root, if there is only one.

@@ -9,7 +9,7 @@ ghost use Rattle.mate_shards.specs.contracts.shards.Shards as ShardsRow;
 ghost use Rattle.playing.specs.Stance.{legal_in};
 ghost use Rattle.watching.specs.Watched.{Watched, moment, world};
 ghost use Rattle.mate_shards.specs.Views.{ArePassesOf};
-ghost use Rattle.mate_search.specs.Answers.{IsFrameOf};
+ghost use Rattle.mate_showing.specs.Answers.{IsFrameOf};
 ghost use Rattle.mate_search.specs.Handed.{AreHandedBack};
 ghost use Rattle.mate_search.specs.Races.{IsLent, race_lines};
 

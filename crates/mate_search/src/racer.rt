@@ -1,5 +1,5 @@
 //! The watch of the worker in the caller while others race beside it.
-ghost use Rattle.std.specs.Prelude.{◌≡◌, ◌+◌, ◌≤◌, true, false};
+ghost use Rattle.std.specs.Prelude.{◌≡◌, true, false};
 
 use watching::{Cut, Halt, StopFlag, Watch};
 

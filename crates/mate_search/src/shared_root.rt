@@ -7,15 +7,15 @@ ghost use Rattle.mate_core.specs.Runs.{IsTrueIn};
 ghost use Rattle.mate_fact.specs.InFrame.{near_in};
 ghost use Rattle.mate_shards.specs.Views.{ArePassesOf};
 ghost use Rattle.rules_model.specs.Repeats as Repeats;
-ghost use Rattle.mate_search.specs.Answers.{IsFrameOf};
+ghost use Rattle.mate_showing.specs.Answers.{IsFrameOf};
 ghost use Rattle.mate_search.specs.Handed.{AreHandedBack, RootIsRefuted, RootIsShared};
 
-use crate::solving::Verdict;
 use game_play::Game;
 use mate_core::{Fact, Frame};
 use mate_fact::is_blocked;
 use mate_settle::FactTable;
 use mate_shards::{Passes, Shards};
+use mate_showing::Verdict;
 use playing::Board;
 use rules_model::{Position, repeat_of};
 use std::sync::Wait;

@@ -1,5 +1,5 @@
--- Lists of moves in another order.
-use Rattle.std.proofs.Common.{◌≡◌, false, List, [], ◌∷◌}
+-- Lists of moves in another order, and how they are read.
+use Rattle.std.proofs.Common.{◌≡◌, ℕ, zero, suc, ◌<◌, false, List, [], ◌∷◌, length, get_or, slice_get, Some, None, refl, arith}
 use Rattle.std.specs.List.{IsDistinct}
 use Rattle.std.specs.List.Sorted.{IsPermutation}
 use Rattle.std.specs.Ordering.{eq_by_cmp}
@@ -11,6 +11,8 @@ use Rattle.foundation.proofs.Members.{member-permutation}
 use Rattle.foundation.proofs.Ordered.{once-distinct, all-member}
 use Rattle.forced_wins.proofs.Counts.{true_false}
 use Rattle.rules_model.specs.declared.moves.Move.{Move}
+use Rattle.rules_model.specs.declared.moves.Move.TheVariants.{Go}
+use Rattle.rules_model.specs.declared.moves.Promo.TheVariants.{Stays}
 use Rattle.rules_model.specs.MoveText.{move_cmp}
 use Rattle.rules_model.proofs.LegalLaws.{move_cmp-total, move_cmp-same}
 
@@ -32,3 +34,13 @@ lists-permuted P ms ns p all = record {
   sound = λ m k. all.sound m (member-permutation m ns ms (IsPermutation-sym ms ns p) k);
   complete = λ m h. member-permutation m ms ns p (all.complete m h);
 }
+
+-- what an index reads
+pub read-at : {X : Type 0} (xs : List X) (k : ℕ) (d : X) → k < length xs → slice_get xs k ≡ Some (get_or xs k d)
+read-at [] k d within = absurd (omega arith)
+read-at (x ∷ xs) zero d within = refl
+read-at (x ∷ xs) (suc k) d within = read-at xs k d (omega arith)
+
+-- the move that stands for one where there is none
+abbrev pub no_move : Move
+no_move = Go (record { 0 = 0 }) (record { 0 = 0 }) Stays None

@@ -1,10 +1,12 @@
-//! What the moves of a position come to, each settled in turn.
+//! What the moves of a position come to, each settled in turn, in an order that is given.
 ghost use Rattle.std.specs.Prelude.{◌≡◌, ◌≤◌, ◌<◌, ◌-◌, false, None, IfOk, OnOk, IfSome, IsErrOf};
+ghost use Rattle.foundation.specs.Member.{Lists, Member};
 ghost use Rattle.mate_settle.specs.Choices.{all_win, some_wins, lines_of_moves, IsChoice};
+ghost use Rattle.playing.specs.Stance.{legal_in};
 ghost use Rattle.watching.specs.declared.halt.Halt.{Halt};
 
 use crate::known::FactTable;
-use crate::settling::{moves_to_try, settle};
+use crate::settling::settle;
 use playing::Board;
 use rules_model::Move;
 use std::alloc::Global;
@@ -17,8 +19,8 @@ pub struct Choice {
     pub moves: u16,
 }
 
-/// A legal move of the attacker, who is to move, that wins with fewer than n moves more. None exactly where there is
-/// none.
+/// A legal move of the attacker, who is to move, that wins with fewer than n moves more: the first such of the given legal
+/// moves, which are all of them, each once. None exactly where there is none.
 ///
 /// # Errors
 ///
@@ -26,11 +28,13 @@ pub struct Choice {
 pub fn choose<W: Watch>(
     alloc: Global,
     board: &Board,
+    moves: &[Move],
     n: u16,
     facts: &mut FactTable,
     watch: &mut W,
 ) -> Result<Option<Choice>, Halt>
     requires rules { board.now.rules ≡ facts.old.rules }
+    requires moves { Lists (λ m. Member m (legal_in board.now)) moves.now }
     requires small { n ≤ 1000 }
     requires some { 0 < n }
     ensures frame { facts.new ≡ facts.old }
@@ -40,7 +44,6 @@ pub fn choose<W: Watch>(
     ensures ended { (why : Halt) → IsErrOf result why →
         W.ended watch.old watch.new (lines_of_moves facts.old (n - 1) board.now.position) why }
 {
-    let moves = moves_to_try(alloc, board, n, facts)?;
     for i in 0..moves.len() {
         let chosen = moves[i];
         let next = board.after(&chosen);
@@ -55,7 +58,8 @@ pub fn choose<W: Watch>(
     Ok(None)
 }
 
-/// Whether each legal move of the other side, which is to move, leaves the position won within n moves.
+/// Whether each legal move of the other side, which is to move, leaves the position won within n moves. They are tried as
+/// they are given, all of them, each once.
 ///
 /// # Errors
 ///
@@ -63,11 +67,13 @@ pub fn choose<W: Watch>(
 pub fn all_won<W: Watch>(
     alloc: Global,
     board: &Board,
+    moves: &[Move],
     n: u16,
     facts: &mut FactTable,
     watch: &mut W,
 ) -> Result<bool, Halt>
     requires rules { board.now.rules ≡ facts.old.rules }
+    requires moves { Lists (λ m. Member m (legal_in board.now)) moves.now }
     requires small { n ≤ 1000 }
     ensures frame { facts.new ≡ facts.old }
     ensures won { IfOk result (λ won. won ≡ all_win facts.old n board.now.position) }
@@ -75,7 +81,6 @@ pub fn all_won<W: Watch>(
     ensures ended { (why : Halt) → IsErrOf result why →
         W.ended watch.old watch.new (lines_of_moves facts.old n board.now.position) why }
 {
-    let moves = moves_to_try(alloc, board, n, facts)?;
     for i in 0..moves.len() {
         let chosen = moves[i];
         let next = board.after(&chosen);

@@ -1,5 +1,5 @@
 //! Whether a position is won within so many moves of the attacker, exactly.
-ghost use Rattle.std.specs.Prelude.{◌≡◌, ◌≤◌, ◌<◌, ◌+◌, true, not, None, Some, IfOk, OnOk, IfSome, IsErrOf};
+ghost use Rattle.std.specs.Prelude.{◌≡◌, ◌≤◌, ◌<◌, true, not, None, Some, IfOk, OnOk, IfSome, IsErrOf};
 ghost use Rattle.foundation.specs.Member.{Member, Lists};
 ghost use Rattle.forced_wins.specs.Facts as Facts;
 ghost use Rattle.mate_core.specs.Runs.{IsTrueIn};

@@ -6,7 +6,7 @@ use Rattle.rules_model.specs.Games.{result}
 use Rattle.forced_wins.specs.Wins.{wins, IsInLimit}
 use Rattle.game_play.specs.Played.{Played, story}
 use Rattle.mate_core.specs.declared.frame.Frame.{Frame}
-use Rattle.mate_search.specs.Answers.{IsFrameOf}
+use Rattle.mate_showing.specs.Answers.{IsFrameOf}
 use Rattle.pn_search.specs.Meaning.{root_pair, won_pair, lost_pair}
 use Rattle.pn_search.specs.Trees.{ProofTree, HasGrown, position_of}
 

@@ -1,5 +1,5 @@
 //! The way down to the leaf that proves most.
-ghost use Rattle.std.specs.Prelude.{◌≡◌, ◌==◌, ◌<◌, ◌≤◌, Some, IfSome, length, position};
+ghost use Rattle.std.specs.Prelude.{◌≡◌, ◌==◌, ◌<◌, Some, IfSome, length, position};
 ghost use Rattle.foundation.specs.Member.{Member};
 ghost use Rattle.playing.specs.Stance.{legal_in};
 ghost use Rattle.rules_model.specs.declared.moves.Move.{Move};

@@ -3,7 +3,6 @@
 #![tactic(auto)]
 
 mod carrying;
-mod copying;
 mod descending;
 mod expanding;
 mod fault;

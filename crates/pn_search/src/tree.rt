@@ -9,7 +9,6 @@ ghost use Rattle.pn_search.specs.Numbers as Numbers;
 ghost use Rattle.pn_search.specs.Trees as Trees;
 
 use crate::carrying::carry;
-use crate::copying::frame_of;
 use crate::descending::{Leaf, best_child, stepped};
 use crate::expanding::expand;
 use crate::grew::Grew;
@@ -17,6 +16,7 @@ use crate::node::{Node, State};
 use crate::numbers::{OPEN, Pair, is_settled_pair};
 use attack_tables::Tables;
 use mate_core::{Fact, Frame};
+use mate_search::copy_of_frame;
 use playing::Board;
 use rules_model::{Memory, Position, repeat_of};
 use std::alloc::Global;
@@ -72,7 +72,7 @@ impl Tree {
         let mut pairs = Vec::new(alloc);
         pairs.push(OPEN)?;
         Ok(Tree {
-            frame: frame_of(alloc, frame)?,
+            frame: copy_of_frame(alloc, frame)?,
             root: *root,
             moves: n,
             nodes,

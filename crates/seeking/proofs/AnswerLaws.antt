@@ -3,7 +3,7 @@ use Rattle.std.proofs.Common.{ℕ, List, [], ◌∷◌, refl, ap, arith}
 use Rattle.rules_model.specs.declared.board.Repeat.{Repeat}
 use Rattle.rules_model.specs.declared.board.Side.{Side}
 use Rattle.game_play.specs.Played.{Played, story}
-use Rattle.mate_search.specs.Answers as Solved
+use Rattle.mate_showing.specs.Answers as Solved
 use Rattle.session_model.proofs.Shown.{shown_of_checked}
 use Rattle.session_model.specs.Mates.{Evidence, IsShown}
 use Rattle.strategy.specs.declared.nodes.Strategy.{Strategy}

@@ -1,5 +1,5 @@
 //! One search.
-ghost use Rattle.std.specs.Prelude.{◌≡◌, ◌<◌, ◌≤◌, length, IfOk, IsErrOf};
+ghost use Rattle.std.specs.Prelude.{◌<◌, ◌≤◌, length, IfOk, IsErrOf};
 ghost use Rattle.std.specs.List.{All};
 ghost use Rattle.foundation.specs.Member.{Member};
 ghost use Rattle.game_play.specs.Played.{legal_in, story};

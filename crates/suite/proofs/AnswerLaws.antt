@@ -5,7 +5,7 @@ use Rattle.rules_model.specs.Games.{Story, story_from}
 use Rattle.forced_wins.specs.RuleSentences.{GoodStrategiesWin}
 use Rattle.forced_wins.specs.Wins.{IsInLimit, wins}
 use Rattle.game_play.specs.Played.{Played, story}
-use Rattle.mate_search.specs.Tables.{nodes}
+use Rattle.mate_showing.specs.Tables.{nodes}
 use Rattle.mate_search.proofs.LeastLaws as least
 use Rattle.strategy.specs.declared.nodes.Strategy.{Strategy}
 use Rattle.suite.specs.declared.problem.Problem.{Problem}

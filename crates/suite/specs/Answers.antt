@@ -5,7 +5,7 @@ use Rattle.rules_model.specs.declared.board.Side.{Side}
 use Rattle.rules_model.specs.declared.rules.Rules.{Rules}
 use Rattle.rules_model.specs.Games.{Story}
 use Rattle.forced_wins.specs.Wins.{wins}
-use Rattle.mate_search.specs.Answers.{IsShown}
+use Rattle.mate_showing.specs.Answers.{IsShown}
 use Rattle.strategy.specs.declared.nodes.Strategy.{Strategy}
 use Rattle.suite.specs.declared.problem.Answer.{Answer}
 use Rattle.suite.specs.declared.problem.Problem.{Problem}

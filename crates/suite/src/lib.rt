@@ -1,7 +1,6 @@
 //! Suites: many mate problems, solved by workers beside each other, and the report on them.
 #![tactic(auto)]
 
-mod copies;
 mod fault;
 mod problem;
 mod queue;

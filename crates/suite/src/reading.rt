@@ -11,14 +11,13 @@ ghost use Rattle.suite.specs.ReadView.{Adds, IsUnread, Reads, Says, Tells};
 ghost use Rattle.suite.specs.Suite as Said;
 ghost use Rattle.suite.specs.Suite.{IsListed};
 
-use crate::copies::copy_of;
 use crate::fault::{NoSuite, SuiteFault};
 use crate::problem::Problem;
 use crate::row::{Row, is_skipped, row_of};
 use foundation::Memory;
 use game_text::copy_of as copy_of_fault;
 use io_ports::{Got, LineBuf, Source};
-use mate_search::is_counted;
+use mate_search::{copy_of, is_counted};
 use rules_model::{Position, Rules};
 use std::alloc::{AllocError, Global};
 use std::marker::Model;

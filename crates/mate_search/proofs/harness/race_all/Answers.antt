@@ -1,4 +1,4 @@
-use Rattle.std.proofs.Common.{◌≡◌, ◌<◌, ◌≤◌, ◌-◌, ℕ, vec_len, arith, rules}
+use Rattle.std.proofs.Common.{◌-◌, vec_len, arith, rules}
 use Rattle.mate_search.proofs.RaceLaws.{handed-joined}
 use Rattle.mate_search.proofs.harness.race_all.Goals as goal
 

@@ -1,11 +1,11 @@
 use Rattle.std.proofs.Common.{◌≡◌, Ok, Err, refl, arith, rules}
 use Rattle.game_play.specs.Played.{story}
-use Rattle.mate_settle.specs.Lines.{lines_within, seen_in}
 use Rattle.watching.specs.CallerLaws.{ended_wider}
 use Rattle.watching.specs.declared.halt.Halt.{Halt}
 use Rattle.mate_search.specs.Races.{closing_lines, race_lines, raced_lines}
 use Rattle.mate_search.proofs.HandedLaws.{handed_more}
-use Rattle.mate_search.proofs.RaceLaws.{from_ok, partly_err, partly_more}
+use Rattle.mate_showing.proofs.OrderLaws.{from_ok}
+use Rattle.mate_search.proofs.RaceLaws.{partly_err, partly_more}
 use Rattle.mate_search.proofs.harness.run.Goals as goal
 
 pub returns-in-Err-clause-watched : goal.returns-in-Err-clause-watched

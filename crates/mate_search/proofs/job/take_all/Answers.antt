@@ -1,8 +1,7 @@
-use Rattle.std.proofs.Common.{◌≡◌, ◌≤◌, ◌+◌, ◌*◌, ℕ, Err, sym, ap, ◌∙◌, subst, arith, rules}
+use Rattle.std.proofs.Common.{◌≡◌, Err, sym, ap, ◌∙◌, subst, arith, rules}
 use Rattle.game_play.specs.Played.{story}
 use Rattle.mate_settle.specs.Choices.{lines_of_moves}
 use Rattle.mate_settle.specs.Lines.{lines_within, seen_in}
-use Rattle.mate_settle.specs.Steps.{left_after}
 use Rattle.foundation.specs.Member.{Lists, Member}
 use Rattle.playing.specs.Stance.{Stance, legal_in}
 use Rattle.rules_model.specs.Sides.{same_side}

@@ -1,6 +1,5 @@
-use Rattle.std.proofs.Common.{◌≡◌, ◌<◌, ◌≤◌, ◌+◌, ℕ, length, get_or, take, Some, Err, refl, sym, ◌∙◌, ap, subst, arith, rules, slice_get}
-use Rattle.std.specs.List.{sum_by, All}
-use Rattle.foundation.specs.Member.{Member}
+use Rattle.std.proofs.Common.{◌≡◌, ◌<◌, ◌+◌, length, get_or, take, Some, Err, refl, ◌∙◌, arith, rules, slice_get}
+use Rattle.std.specs.List.{sum_by}
 use Rattle.mate_settle.proofs.Lines.{part-more, part-last, part-whole, same-lines}
 use Rattle.mate_settle.proofs.Settled.{after-is, moves-of, member-at}
 use Rattle.mate_settle.specs.Lines.{lines_within, lines_after, seen_in}
@@ -8,7 +7,7 @@ use Rattle.rules_model.specs.Next.{next}
 use Rattle.mate_search.proofs.HandedLaws.{handed_none, handed_more}
 use Rattle.mate_search.proofs.RaceLaws.{part-skip}
 use Rattle.mate_search.proofs.job.take_roots.Goals.{then-takes+in_ok-outcome, else-takes}
-use Rattle.mate_search.proofs.OrderLaws.{no_move, read-at}
+use Rattle.mate_settle.proofs.OrderLaws.{no_move, read-at}
 use Rattle.mate_search.proofs.job.take_roots.Goals as goal
 
 pub after-next-requires : goal.after-next-requires

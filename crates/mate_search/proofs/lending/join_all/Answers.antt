@@ -1,4 +1,4 @@
-use Rattle.std.proofs.Common.{◌≡◌, ◌≤◌, ◌+◌, ◌-◌, ℕ, vec_len, arith, rules, sym, subst}
+use Rattle.std.proofs.Common.{◌≡◌, ◌+◌, ◌-◌, vec_len, arith, sym, subst}
 use Rattle.mate_shards.proofs.GrownLaws.{grown-itself, grown-onward}
 use Rattle.mate_shards.specs.Grown.{HaveParts}
 use Rattle.mate_search.proofs.RaceLaws.{popped}

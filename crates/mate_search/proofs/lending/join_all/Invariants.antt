@@ -1,4 +1,4 @@
-use Rattle.std.proofs.Common.{◌≡◌, ◌≤◌, ◌+◌, ◌-◌, ℕ, vec_len, length}
+use Rattle.std.proofs.Common.{◌≤◌, ◌+◌, ◌-◌, ℕ, vec_len, length}
 use Rattle.std.specs.List.{All}
 use Rattle.mate_shards.specs.Grown.{HaveGrown, HaveParts}
 use Rattle.mate_shards.specs.Views.{ArePassesOf}

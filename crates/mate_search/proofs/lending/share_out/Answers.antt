@@ -1,4 +1,4 @@
-use Rattle.std.proofs.Common.{◌≡◌, ◌≤◌, ◌<◌, ◌+◌, ◌-◌, ℕ, All, vec_len, arith, rules, sym, subst}
+use Rattle.std.proofs.Common.{◌≡◌, ◌+◌, ◌-◌, All, vec_len, arith, rules, sym, subst}
 use Rattle.std.proofs.lemmas.List.Elements.{All-push, All-nil}
 use Rattle.mate_shards.proofs.GrownLaws.{grown-itself, grown-onward, two-parts}
 use Rattle.mate_shards.specs.Grown.{HaveParts}

@@ -1,4 +1,4 @@
-use Rattle.std.proofs.Common.{◌≡◌, true, false, rules}
+use Rattle.std.proofs.Common.{true, false, rules}
 use Rattle.mate_search.proofs.RaceLaws.{either-way}
 use Rattle.mate_search.proofs.race.lead.Goals as goal
 

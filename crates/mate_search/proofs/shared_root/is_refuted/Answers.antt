@@ -5,8 +5,8 @@ use Rattle.forced_wins.specs.Wins.{is_in}
 use Rattle.game_play.specs.Played.{story}
 use Rattle.mate_settle.proofs.Settled.{told}
 use Rattle.mate_shards.specs.Answers.{SeeAnswer, kind_of}
-use Rattle.mate_search.proofs.HandedLaws.{lost_by, root-near}
-use Rattle.mate_search.proofs.Root.{frame-blocked}
+use Rattle.mate_search.proofs.HandedLaws.{root-near}
+use Rattle.mate_showing.proofs.Root.{frame-blocked, lost_by}
 use Rattle.mate_search.proofs.shared_root.is_refuted.Goals as goal
 
 pub returns-in-Some-clause-handed : goal.returns-in-Some-clause-handed

@@ -7,7 +7,7 @@ use Rattle.game_play.specs.Played.{story}
 use Rattle.mate_core.specs.declared.frame.Frame.{Frame}
 use Rattle.mate_fact.specs.InFrame.{near_in}
 use Rattle.mate_search.proofs.HandedLaws.{root-near}
-use Rattle.mate_search.proofs.Root.{frame-blocked}
+use Rattle.mate_showing.proofs.Root.{frame-blocked}
 use Rattle.mate_search.proofs.shared_root.publish_root.Goals as goal
 
 pub fact_on-fact-requires : goal.fact_on-fact-requires

@@ -1,6 +1,5 @@
 use Rattle.std.proofs.Common.{◌≡◌, ◌+◌, ◌*◌, false, Err, refl, ap, sym, ◌∙◌, subst, arith, rules}
 use Rattle.rules_model.specs.declared.rules.Rules.{Rules}
-use Rattle.rules_model.specs.declared.board.Position.{Position}
 use Rattle.forced_wins.specs.Wins.{near_root, wins}
 use Rattle.game_play.specs.Played.{story}
 use Rattle.mate_core.specs.declared.frame.Frame.{Frame}
@@ -8,8 +7,8 @@ use Rattle.mate_settle.specs.Lines.{lines_within, seen_in}
 use Rattle.playing.specs.Stance.{Stance}
 use Rattle.watching.specs.LookLaws.{on_ok_of}
 use Rattle.mate_search.specs.Races.{closing_lines}
-use Rattle.mate_search.proofs.HandedLaws.{handed_none, handed_more, lost_by, shared_more}
-use Rattle.mate_search.proofs.Root.{frame-blocked, not-won, walk-lines}
+use Rattle.mate_search.proofs.HandedLaws.{handed_none, handed_more, shared_more}
+use Rattle.mate_showing.proofs.Root.{frame-blocked, lost_by, not-won, walk-lines}
 use Rattle.mate_search.proofs.solving.conclude.Goals as goal
 
 pub returns-in_err-verdict-clause-handed : goal.returns-in_err-verdict-clause-handed

@@ -4,7 +4,7 @@ use Rattle.forced_wins.specs.Wins.{wins}
 use Rattle.game_play.specs.Played.{story}
 use Rattle.mate_search.specs.Races.{closing_lines}
 use Rattle.mate_search.proofs.HandedLaws.{handed_more}
-use Rattle.mate_search.proofs.Root.{frame-blocked, not-won}
+use Rattle.mate_showing.proofs.Root.{frame-blocked, not-won}
 use Rattle.mate_search.proofs.solving.settle_alone.Goals as goal
 
 pub returns-then-is_refuted-clause-right : goal.returns-then-is_refuted-clause-right

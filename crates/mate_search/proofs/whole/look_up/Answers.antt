@@ -2,7 +2,7 @@ use Rattle.std.proofs.Common.{◌≡◌, false, sym, subst}
 use Rattle.rules_model.specs.declared.rules.Rules.{Rules}
 use Rattle.forced_wins.specs.Wins.{wins}
 use Rattle.game_play.specs.Played.{story}
-use Rattle.mate_search.proofs.Root.{frame-blocked, not-won}
+use Rattle.mate_showing.proofs.Root.{frame-blocked, not-won}
 use Rattle.mate_search.proofs.whole.look_up.Goals as goal
 
 pub returns-then-is_refuted-clause-right : goal.returns-then-is_refuted-clause-right

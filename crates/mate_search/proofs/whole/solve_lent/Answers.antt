@@ -1,4 +1,4 @@
-use Rattle.std.proofs.Common.{◌≡◌, false, Err, refl, ap, sym, subst, arith, rules}
+use Rattle.std.proofs.Common.{◌≡◌, false, refl, sym, subst, rules}
 use Rattle.forced_wins.specs.Wins.{wins}
 use Rattle.game_play.specs.Played.{story}
 use Rattle.io_ports.specs.declared.limits.SearchFault.TheVariants as fault
@@ -10,7 +10,7 @@ use Rattle.mate_search.specs.Races.{raced_lines}
 use Rattle.mate_search.specs.Solves.{bound_of}
 use Rattle.mate_search.proofs.HandedLaws.{handed_more}
 use Rattle.mate_search.proofs.RaceLaws.{partly_err, partly_wider}
-use Rattle.mate_search.proofs.Root.{frame-blocked, not-won, solve-lines}
+use Rattle.mate_showing.proofs.Root.{frame-blocked, not-won, solve-lines}
 use Rattle.mate_search.proofs.whole.solve_lent.Goals as goal
 
 pub returns-then-is_refuted-clause-right : goal.returns-then-is_refuted-clause-right

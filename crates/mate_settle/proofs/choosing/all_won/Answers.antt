@@ -1,7 +1,6 @@
-use Rattle.std.proofs.Common.{◌≡◌, ◌<◌, length, take, true, Some, Err, refl, sym, ◌∙◌, subst, arith, rules, slice_get}
+use Rattle.std.proofs.Common.{◌≡◌, ◌<◌, length, get_or, take, true, Some, Err, refl, sym, ◌∙◌, subst, arith, rules, slice_get}
 use Rattle.std.specs.List.{sum_by}
 use Rattle.std.proofs.lemmas.List.{take_all}
-use Rattle.std.proofs.lemmas.Option.{slice_get_read}
 use Rattle.foundation.specs.Member.{Member}
 use Rattle.mate_fact.specs.InFrame as In
 use Rattle.rules_model.specs.declared.moves.Move.{Move}
@@ -9,30 +8,21 @@ use Rattle.rules_model.specs.Next.{next}
 use Rattle.mate_settle.specs.Lines.{lines_within, lines_after, seen_in}
 use Rattle.mate_settle.proofs.Lines.{part-more, part-last, part-whole, same-lines}
 use Rattle.mate_settle.proofs.Settled.{after-is, moves-of, one-told, member-at, none-taken, each-more, each-wins, one-fails, not-true, not-false}
+use Rattle.mate_settle.proofs.OrderLaws.{no_move, read-at}
 use Rattle.mate_settle.proofs.choosing.all_won.Goals as goal
-
-pub returns-in_err-moves-clause-ended : goal.returns-in_err-moves-clause-ended
-returns-in_err-moves-clause-ended g c why is =
-    let f = c.args.facts.now in
-    let r = seen_in f in
-    let p = c.args.board.now.position in
-    let n = c.args.n in
-    let left = n in
-    let memory = g.met.W.Watch.memory _ _ _ (g.met.W.Watch.wider _ _ 0 (sum_by (lines_after r left p) (r.legal p)) (g.met.W.Watch.none c.args.watch.now) (omega arith)) in
-    search rules
 
 pub after-next-requires : goal.after-next-requires
 after-next-requires g c =
-    let ms = c.in_ok-moves.moves.items in
+    let ms = c.args.moves.now in
     let i = c.loop-i.i in
-    let x = c.index.result.now in
-    let within : i < length ms = search rules in
-    let at : slice_get ms i ≡ Some x = slice_get_read ms (length ms) i x refl within c.index.ensures in
-    c.in_ok-moves.ensures.sound x (member-at ms i x at)
+    let x = get_or ms i no_move in
+    let within : i < length ms = c.loop-i-test.true in
+    let at : slice_get ms i ≡ Some x = read-at ms i no_move within in
+    c.requires.moves.sound x (member-at ms i x at)
 
 pub loop-i-init : goal.loop-i-init
 loop-i-init g c =
-    let ms = c.in_ok-moves.moves.items in
+    let ms = c.args.moves.now in
     record {
       frame = refl;
       gone = g.met.W.Watch.wider _ _ 0 _ (g.met.W.Watch.none c.args.watch.now) (omega arith);
@@ -46,12 +36,12 @@ returns-in_err-fact-clause-ended g c why is =
     let p = c.args.board.now.position in
     let n = c.args.n in
     let left = n in
-    let ms = c.in_ok-moves.moves.items in
+    let ms = c.args.moves.now in
     let i = c.loop-i.i in
-    let x = c.index.result.now in
-    let all = moves-of f c.args.board.now ms c.requires.rules c.in_ok-moves.ensures in
-    let within : i < length ms = search rules in
-    let at : slice_get ms i ≡ Some x = slice_get_read ms (length ms) i x refl within c.index.ensures in
+    let x = get_or ms i no_move in
+    let all = moves-of f c.args.board.now ms c.requires.rules c.requires.moves in
+    let within : i < length ms = c.loop-i-test.true in
+    let at : slice_get ms i ≡ Some x = read-at ms i no_move within in
     let there : c.after-next.result.position ≡ next f.rules p x = after-is f.rules f c.args.board.now c.after-next.result x c.requires.rules c.after-next.ensures in
     let kept : c.loop-i.facts ≡ f = c.loop-i.invariant.frame in
     let lines = same-lines c.loop-i.facts f c.after-next.result.position (next f.rules p x) left kept there in
@@ -66,12 +56,12 @@ returns-then-not-fact-clause-gone g c =
     let p = c.args.board.now.position in
     let n = c.args.n in
     let left = n in
-    let ms = c.in_ok-moves.moves.items in
+    let ms = c.args.moves.now in
     let i = c.loop-i.i in
-    let x = c.index.result.now in
-    let all = moves-of f c.args.board.now ms c.requires.rules c.in_ok-moves.ensures in
-    let within : i < length ms = search rules in
-    let at : slice_get ms i ≡ Some x = slice_get_read ms (length ms) i x refl within c.index.ensures in
+    let x = get_or ms i no_move in
+    let all = moves-of f c.args.board.now ms c.requires.rules c.requires.moves in
+    let within : i < length ms = c.loop-i-test.true in
+    let at : slice_get ms i ≡ Some x = read-at ms i no_move within in
     let there : c.after-next.result.position ≡ next f.rules p x = after-is f.rules f c.args.board.now c.after-next.result x c.requires.rules c.after-next.ensures in
     let kept : c.loop-i.facts ≡ f = c.loop-i.invariant.frame in
     let lines = same-lines c.loop-i.facts f c.after-next.result.position (next f.rules p x) left kept there in
@@ -85,12 +75,12 @@ returns-then-not-fact-clause-won g c =
     let p = c.args.board.now.position in
     let n = c.args.n in
     let left = n in
-    let ms = c.in_ok-moves.moves.items in
+    let ms = c.args.moves.now in
     let i = c.loop-i.i in
-    let x = c.index.result.now in
-    let all = moves-of f c.args.board.now ms c.requires.rules c.in_ok-moves.ensures in
-    let within : i < length ms = search rules in
-    let at : slice_get ms i ≡ Some x = slice_get_read ms (length ms) i x refl within c.index.ensures in
+    let x = get_or ms i no_move in
+    let all = moves-of f c.args.board.now ms c.requires.rules c.requires.moves in
+    let within : i < length ms = c.loop-i-test.true in
+    let at : slice_get ms i ≡ Some x = read-at ms i no_move within in
     let there : c.after-next.result.position ≡ next f.rules p x = after-is f.rules f c.args.board.now c.after-next.result x c.requires.rules c.after-next.ensures in
     let kept : c.loop-i.facts ≡ f = c.loop-i.invariant.frame in
     let lines = same-lines c.loop-i.facts f c.after-next.result.position (next f.rules p x) left kept there in
@@ -104,9 +94,9 @@ returns-clause-won g c =
     let p = c.args.board.now.position in
     let n = c.args.n in
     let left = n in
-    let ms = c.in_ok-moves.moves.items in
+    let ms = c.args.moves.now in
     let i = c.loop-i.i in
-    let all = moves-of f c.args.board.now ms c.requires.rules c.in_ok-moves.ensures in
+    let all = moves-of f c.args.board.now ms c.requires.rules c.requires.moves in
     let whole : take i ms ≡ ms = take_all i ms (search rules) in
     sym (each-wins f left p ms all (subst (λ l. (m : Move) → Member m l → In.near_in f left (next f.rules p m) ≡ true) whole c.loop-i.invariant.each))
 
@@ -117,12 +107,12 @@ loop-i-preserved g c =
     let p = c.args.board.now.position in
     let n = c.args.n in
     let left = n in
-    let ms = c.in_ok-moves.moves.items in
+    let ms = c.args.moves.now in
     let i = c.loop-i.i in
-    let x = c.index.result.now in
-    let all = moves-of f c.args.board.now ms c.requires.rules c.in_ok-moves.ensures in
-    let within : i < length ms = search rules in
-    let at : slice_get ms i ≡ Some x = slice_get_read ms (length ms) i x refl within c.index.ensures in
+    let x = get_or ms i no_move in
+    let all = moves-of f c.args.board.now ms c.requires.rules c.requires.moves in
+    let within : i < length ms = c.loop-i-test.true in
+    let at : slice_get ms i ≡ Some x = read-at ms i no_move within in
     let there : c.after-next.result.position ≡ next f.rules p x = after-is f.rules f c.args.board.now c.after-next.result x c.requires.rules c.after-next.ensures in
     let kept : c.loop-i.facts ≡ f = c.loop-i.invariant.frame in
     let lines = same-lines c.loop-i.facts f c.after-next.result.position (next f.rules p x) left kept there in
@@ -142,7 +132,7 @@ returns-clause-gone g c =
     let p = c.args.board.now.position in
     let n = c.args.n in
     let left = n in
-    let ms = c.in_ok-moves.moves.items in
+    let ms = c.args.moves.now in
     let i = c.loop-i.i in
-    let all = moves-of f c.args.board.now ms c.requires.rules c.in_ok-moves.ensures in
+    let all = moves-of f c.args.board.now ms c.requires.rules c.requires.moves in
     g.met.W.Watch.wider _ _ _ _ c.loop-i.invariant.gone (part-whole (lines_after r left p) (r.legal p) ms all i)

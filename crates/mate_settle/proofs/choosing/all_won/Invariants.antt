@@ -10,6 +10,6 @@ use Rattle.mate_settle.proofs.choosing.all_won.Given as goal
 abbrev pub invariant-loop-i : goal.invariant-loop-i
 invariant-loop-i g l = record {
   frame : l.facts ≡ l.fn.facts;
-  gone : g.W.Watch.gone l.fn.watch l.watch (sum_by (lines_after (seen_in l.fn.facts) (l.n) l.board.position) (take l.i l.moves.items));
-  each : (m : Move) → Member m (take l.i l.moves.items) → near_in l.fn.facts (l.n) (next l.fn.facts.rules l.board.position m) ≡ true;
+  gone : g.W.Watch.gone l.fn.watch l.watch (sum_by (lines_after (seen_in l.fn.facts) (l.n) l.board.position) (take l.i l.moves));
+  each : (m : Move) → Member m (take l.i l.moves) → near_in l.fn.facts (l.n) (next l.fn.facts.rules l.board.position m) ≡ true;
 }

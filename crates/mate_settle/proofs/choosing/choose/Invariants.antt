@@ -10,6 +10,6 @@ use Rattle.mate_settle.proofs.choosing.choose.Given as goal
 abbrev pub invariant-loop-i : goal.invariant-loop-i
 invariant-loop-i g l = record {
   frame : l.facts ≡ l.fn.facts;
-  gone : g.W.Watch.gone l.fn.watch l.watch (sum_by (lines_after (seen_in l.fn.facts) (l.n - 1) l.board.position) (take l.i l.moves.items));
-  none : (m : Move) → Member m (take l.i l.moves.items) → near_in l.fn.facts (l.n - 1) (next l.fn.facts.rules l.board.position m) ≡ false;
+  gone : g.W.Watch.gone l.fn.watch l.watch (sum_by (lines_after (seen_in l.fn.facts) (l.n - 1) l.board.position) (take l.i l.moves));
+  none : (m : Move) → Member m (take l.i l.moves) → near_in l.fn.facts (l.n - 1) (next l.fn.facts.rules l.board.position m) ≡ false;
 }

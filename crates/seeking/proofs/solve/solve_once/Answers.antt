@@ -1,4 +1,4 @@
-use Rattle.std.proofs.Common.{◌≡◌, ◌≤◌, Ok, IfOk, subst, arith, rules}
+use Rattle.std.proofs.Common.{◌≡◌, Ok, IfOk, subst, arith, rules}
 use Rattle.fact_lock.specs.Passes.{all_parts}
 use Rattle.io_ports.specs.declared.limits.SearchFault.TheVariants as fault
 use Rattle.game_play.specs.Played.{story}
@@ -6,7 +6,7 @@ use Rattle.game_values.specs.Bounds.{solve_bound}
 use Rattle.watching.specs.Watched.{moment, world}
 use Rattle.mate_search.specs.declared.answer.Mate.{Mate}
 use Rattle.mate_search.specs.declared.answer.Mate.TheVariants as mate
-use Rattle.mate_search.specs.Answers.{IsEvidence, IsShown}
+use Rattle.mate_showing.specs.Answers.{IsEvidence, IsShown}
 use Rattle.mate_search.specs.Solves.{Heard}
 use Rattle.seeking.proofs.AnswerLaws.{shown_of_solved, unsettled_of_solved}
 use Rattle.seeking.proofs.CutLaws.{fails_memory, gone_stopped}

@@ -1,5 +1,5 @@
 use Rattle.std.proofs.Common.{◌≡◌, arith, subst, ◌+◌}
-use Rattle.mate_search.specs.Tables.{nodes}
+use Rattle.mate_showing.specs.Tables.{nodes}
 use Rattle.suite.proofs.AnswerLaws.{NoneBefore, answer-none, answer-shown, fair-limit, none-first, none-more}
 use Rattle.suite.proofs.settling.solve_over.Goals as goal
 

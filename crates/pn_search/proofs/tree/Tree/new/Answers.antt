@@ -12,8 +12,8 @@ invariant_of-result c =
     ∙ ap (λ xs. xs ++ record { parent = 0; state = Open; chosen = None; left = c.args.n; attacking = c.is.result } ∷ []) c.new-nodes.ensures.items
     ∙ ap (λ b. record { parent = 0; state = Open; chosen = None; left = c.args.n; attacking = b } ∷ []) c.is.ensures in
     let one_pair : c.push-2.new.self.items ≡ open_pair ∷ [] = c.in_ok-push-2.ensures.items ∙ ap (λ xs. xs ++ open_pair ∷ []) c.new-pairs.ensures.items in
-    kept-new c.args.frame.now c.in_ok-frame_of.field-0 c.args.root.now c.args.n c.push.new.self.items c.push-2.new.self.items
-    c.in_ok-frame_of.ensures one_node one_pair c.requires.sound c.requires.ongoing
+    kept-new c.args.frame.now c.in_ok-copy_of_frame.field-0 c.args.root.now c.args.n c.push.new.self.items c.push-2.new.self.items
+    c.in_ok-copy_of_frame.ensures one_node one_pair c.requires.sound c.requires.ongoing
 
 pub returns-clause-tree : goal.returns-clause-tree
 returns-clause-tree c =
@@ -21,4 +21,4 @@ returns-clause-tree c =
     c.in_ok-push.ensures.items
     ∙ ap (λ xs. xs ++ record { parent = 0; state = Open; chosen = None; left = c.args.n; attacking = c.is.result } ∷ []) c.new-nodes.ensures.items
     ∙ ap (λ b. record { parent = 0; state = Open; chosen = None; left = c.args.n; attacking = b } ∷ []) c.is.ensures in
-    new-is c.args.frame.now c.in_ok-frame_of.field-0 c.args.root.now c.args.n c.push.new.self.items c.in_ok-frame_of.ensures one_node
+    new-is c.args.frame.now c.in_ok-copy_of_frame.field-0 c.args.root.now c.args.n c.push.new.self.items c.in_ok-copy_of_frame.ensures one_node

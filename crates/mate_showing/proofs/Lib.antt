@@ -1,0 +1,9 @@
+mod Growth
+mod Builds
+mod Shown
+mod Judged
+mod Kept
+mod Walk
+mod Evidence
+pub mod Root
+pub mod OrderLaws

@@ -1,0 +1,6 @@
+pub mod Reached
+pub mod Tables
+pub mod Mates
+pub mod Tabled
+pub mod Counts
+pub mod Answers

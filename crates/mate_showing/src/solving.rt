@@ -1,0 +1,177 @@
+//! What a game comes to within some number of moves, exactly.
+ghost use Rattle.std.specs.Prelude.{◌≡◌, ◌+◌, ◌*◌, ◌≤◌, ◌<◌, ℕ, true, IfOk, OnOk, IsErrOf};
+ghost use Rattle.forced_wins.specs.Wins.{IsInLimit, is_in, near_root};
+ghost use Rattle.game_play.specs.Played.{story};
+ghost use Rattle.game_values.specs.Bounds.{solve_bound};
+ghost use Rattle.mate_settle.specs.Lines.{lines_within, seen_in};
+ghost use Rattle.mate_showing.specs.Answers.{IsDecided, IsFrameOf, IsRight};
+ghost use Rattle.mate_showing.specs.Tabled.{IsKept};
+ghost use Rattle.mate_showing.specs.Tables as Tables;
+ghost use Rattle.watching.specs.declared.halt.Halt.{Halt};
+
+use crate::answer::Settled;
+use crate::building::build;
+use crate::judging::{judge, shown};
+use crate::node_table::NodeTable;
+use crate::ordering::moves_from;
+use crate::plan::{Plan, plan_for};
+use game_play::Game;
+use mate_fact::won_by;
+use mate_settle::{FactTable, all_won, choose};
+use playing::Board;
+use rules_model::Move;
+use std::alloc::Global;
+use strategy::Node;
+use watching::{Halt, Watch};
+
+/// Whether the game is won, and the move that was found to win or to refute.
+#[derive(Clone, Copy)]
+pub struct Verdict {
+    pub won: bool,
+    pub best: Option<Move>,
+}
+
+/// Whether the game is won, the positions after its last one being looked at without their history. A move may be named
+/// that is tried first. The board is that of the last position.
+///
+/// # Errors
+///
+/// What ends the watch; or `Memory`.
+pub fn decide<W: Watch>(
+    alloc: Global,
+    game: &Game,
+    board: &Board,
+    n: u16,
+    first: Option<Move>,
+    facts: &mut FactTable,
+    watch: &mut W,
+) -> Result<Verdict, Halt>
+    requires frame { IsFrameOf game.now facts.old }
+    requires board { board.now ≡ record { rules = game.now.rules; position = (story game.now).last } }
+    requires some { 0 < n }
+    requires small { n ≤ Tables.most }
+    ensures frame { facts.new ≡ facts.old }
+    ensures won { IfOk result (λ v. v.won ≡ near_root facts.old.rules n (story game.now) facts.old.attacker) }
+    ensures gone { OnOk result (W.gone watch.old watch.new (lines_within (seen_in facts.old) n board.now.position)) }
+    ensures ended { (why : Halt) → IsErrOf result why →
+        W.ended watch.old watch.new (lines_within (seen_in facts.old) n board.now.position) why }
+{
+    let frame = facts.frame();
+    if let Some(won) = won_by(frame.attacker, game.outcome()) {
+        return Ok(Verdict { won, best: None });
+    }
+    let order = moves_from(alloc, board, n, facts, first)?;
+    if board.position().side.is(frame.attacker) {
+        match choose(alloc, board, &order, n, facts, watch)? {
+            Some(choice) => {
+                return Ok(Verdict {
+                    won: true,
+                    best: Some(choice.chosen),
+                });
+            }
+            None => {
+                return Ok(Verdict {
+                    won: false,
+                    best: None,
+                });
+            }
+        }
+    }
+    let won = all_won(alloc, board, &order, n, facts, watch)?;
+    Ok(Verdict { won, best: None })
+}
+
+/// The nodes of a win, the root's first.
+fn tabulate<W: Watch>(
+    alloc: Global,
+    board: &Board,
+    plan: Plan,
+    facts: &mut FactTable,
+    watch: &mut W,
+) -> Result<Vec<Node>, Halt>
+    requires rules { board.now.rules ≡ facts.old.rules }
+    requires root { plan.root ≡ board.now.position }
+    requires small { plan.whole ≤ Tables.most }
+    requires next { Tables.IsNext (seen_in facts.old) (is_in facts.old.blocked) plan plan.whole board.now.position }
+    ensures frame { facts.new ≡ facts.old }
+    ensures kept { IfOk result (λ s. IsKept facts.old plan s.items) }
+    ensures stands { IfOk result (λ s. (i : ℕ) ×
+        Tables.Stands (seen_in facts.old) plan.exact s.items board.now.position plan.whole i) }
+    ensures gone { OnOk result (W.gone watch.old watch.new
+        ((plan.whole + 1) * lines_within (seen_in facts.old) plan.whole board.now.position)) }
+    ensures ended { (why : Halt) → IsErrOf result why → W.ended watch.old watch.new
+        ((plan.whole + 1) * lines_within (seen_in facts.old) plan.whole board.now.position) why }
+{
+    let mut table = NodeTable::new(alloc, facts.frame(), board, plan)?;
+    build(alloc, board, plan.whole, &mut table, facts, watch)?;
+    Ok(table.into_nodes())
+}
+
+/// The strategy of a root that is won where positions are looked at without their history, or what keeps it from being
+/// shown. The board is that of the last position.
+///
+/// # Errors
+///
+/// What ends the watch; or `Memory`.
+pub fn show<W: Watch>(
+    alloc: Global,
+    game: &Game,
+    board: &Board,
+    n: u16,
+    facts: &mut FactTable,
+    watch: &mut W,
+) -> Result<Settled, Halt>
+    requires frame { IsFrameOf game.now facts.old }
+    requires board { board.now ≡ record { rules = game.now.rules; position = (story game.now).last } }
+    requires some { 0 < n }
+    requires small { n ≤ 100 }
+    requires won { near_root facts.old.rules n (story game.now) facts.old.attacker ≡ true }
+    ensures frame { facts.new ≡ facts.old }
+    ensures right { IfOk result (IsRight game.now.rules (story game.now) facts.old.attacker n) }
+    ensures decided { IfOk result (λ m. IsInLimit game.now.rules n (story game.now) → IsDecided m) }
+    ensures gone { OnOk result (W.gone watch.old watch.new
+        ((n + 1) * lines_within (seen_in facts.old) n board.now.position)) }
+    ensures ended { (why : Halt) → IsErrOf result why → W.ended watch.old watch.new
+        ((n + 1) * lines_within (seen_in facts.old) n board.now.position) why }
+{
+    game.is_played();
+    board.is_ready();
+    let frame = facts.frame();
+    let plan = plan_for(frame, board.position(), n);
+    let nodes = tabulate(alloc, board, plan, facts, watch)?;
+    if plan.exact {
+        let answer = judge(alloc, game, frame, &plan, nodes)?;
+        return Ok(answer);
+    }
+    Ok(shown(frame.attacker, nodes))
+}
+
+/// What the game comes to within n moves of the side that attacks in the frame of the facts, n from 1 to 100.
+///
+/// # Errors
+///
+/// What ends the watch, which enters at most `solve_bound` nodes; or `Memory`.
+pub fn solve_watched<W: Watch>(
+    alloc: Global,
+    game: &Game,
+    n: u16,
+    facts: &mut FactTable,
+    watch: &mut W,
+) -> Result<Settled, Halt>
+    requires frame { IsFrameOf game.now facts.old }
+    requires some { 0 < n }
+    requires small { n ≤ 100 }
+    ensures frame { facts.new ≡ facts.old }
+    ensures right { IfOk result (IsRight game.now.rules (story game.now) facts.old.attacker n) }
+    ensures decided { IfOk result (λ m. IsInLimit game.now.rules n (story game.now) → IsDecided m) }
+    ensures gone { OnOk result (W.gone watch.old watch.new (solve_bound game.now.rules n (story game.now))) }
+    ensures ended { (why : Halt) → IsErrOf result why →
+        W.ended watch.old watch.new (solve_bound game.now.rules n (story game.now)) why }
+{
+    let board = Board::new(game.tables(), game.position());
+    let verdict = decide(alloc, game, &board, n, None, facts, watch)?;
+    if !verdict.won {
+        return Ok(Settled::NoMate);
+    }
+    show(alloc, game, &board, n, facts, watch)
+}
