@@ -53,14 +53,7 @@ pub fn checks_of(board: &Board) -> Checks
 }
 
 /// Whether a piece of the kind attacks one of the squares.
-fn reaches_some(
-    tables: &Tables,
-    by: Side,
-    kind: Kind,
-    from: u8,
-    occupied: Set,
-    kings: Set,
-) -> bool
+fn reaches_some(tables: &Tables, by: Side, kind: Kind, from: u8, occupied: Set, kings: Set) -> bool
     requires { from < 120 }
     ensures { result ≡ false → Spec.ReachesNone tables.now by kind from occupied kings }
 {
@@ -127,13 +120,7 @@ fn go_may_check(
 }
 
 /// Whether the move may give check, by the occupied squares.
-fn move_may_check(
-    tables: &Tables,
-    p: &Position,
-    occupied: Set,
-    checks: &Checks,
-    m: &Move,
-) -> bool
+fn move_may_check(tables: &Tables, p: &Position, occupied: Set, checks: &Checks, m: &Move) -> bool
     requires occupied { IsOccupied occupied p.now.cells }
     requires checks { Spec.AreChecks tables.now p.now.side p.now.cells checks.now }
     requires fit { IsFitMove m.now }
