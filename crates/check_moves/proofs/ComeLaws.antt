@@ -2,7 +2,6 @@
 use Rattle.std.proofs.Common.{◌≡◌, ◌≢◌, ℕ, ◌<◌, Bool, true, false, not, ◌&&◌, ◌||◌, ◌==◌, if◌then◌else◌, Option, Some, None, List, length, is_some, refl, sym, ap, ◌∙◌, subst, arith}
 use Rattle.std.specs.Prelude.{slice_set}
 use Rattle.std.proofs.lemmas.Bool.{and_right, eq-eqb, ne_eqb}
-use Rattle.foundation.specs.Count.{any_below}
 use Rattle.foundation.proofs.CountLemmas.{any_below-none}
 use Rattle.rules_model.specs.declared.board.Cell.{Cell}
 use Rattle.rules_model.specs.declared.board.Kind.{Kind}
@@ -10,12 +9,10 @@ use Rattle.rules_model.specs.declared.board.Repeat.{Repeat}
 use Rattle.rules_model.specs.declared.board.Side.{Side}
 use Rattle.rules_model.specs.declared.board.Side.TheVariants.{White, Black}
 use Rattle.rules_model.specs.declared.board.Square.{Square}
-use Rattle.rules_model.specs.declared.moves.Move.{Move}
-use Rattle.rules_model.specs.declared.moves.Move.TheVariants.{Go, Castle, Drop}
-use Rattle.rules_model.specs.declared.moves.Promo.{Promo}
+use Rattle.rules_model.specs.declared.moves.Move.TheVariants.{Go, Drop}
 use Rattle.rules_model.specs.declared.moves.Promo.TheVariants.{Stays}
 use Rattle.rules_model.specs.declared.rules.Rules.{Rules}
-use Rattle.rules_model.specs.Attacks.{attacks, attacks_from, is_own_king, king_attacked, king_attacked_at, king_faces}
+use Rattle.rules_model.specs.Attacks.{attacks, attacks_from, is_own_king, king_attacked, king_attacked_at}
 use Rattle.rules_model.specs.Kinds.{is_king}
 use Rattle.rules_model.specs.Legal.{gives_check}
 use Rattle.rules_model.specs.Next.{cells_after, emptied, fresh, next_repeat, promote}

@@ -1,10 +1,10 @@
 -- What attacks no king, by the squares that are occupied.
-use Rattle.std.proofs.Common.{◌≡◌, ℕ, ◌<◌, Bool, true, false, not, ◌&&◌, ◌||◌, ◌==◌, Option, Some, None, List, inl, inr, refl, sym, ap, ◌∙◌}
+use Rattle.std.proofs.Common.{◌≡◌, ℕ, ◌<◌, true, false, not, ◌&&◌, ◌||◌, ◌==◌, Option, Some, None, List, inl, inr, refl, sym, ap, ◌∙◌}
 use Rattle.std.proofs.lemmas.Bool.{and_cases, and_right}
 use Rattle.rules_model.specs.declared.board.Cell.{Cell}
 use Rattle.rules_model.specs.declared.board.Side.{Side}
 use Rattle.rules_model.specs.declared.rules.Rules.{Rules}
-use Rattle.rules_model.specs.Attacks.{attacks_from, is_own}
+use Rattle.rules_model.specs.Attacks.{attacks_from}
 use Rattle.rules_model.specs.Fit.{IsFit}
 use Rattle.rules_model.specs.Sides.{same_side}
 use Rattle.rules_model.specs.Squares.{cell_at}

@@ -29,7 +29,7 @@ pub struct Checks {
     pub shut: Set,
 }
 
-/// What is known of the checks in a position. To find it takes about as long as to ask one move.
+/// What is known of the checks in a position, found once for all its moves.
 pub fn checks_of(board: &Board) -> Checks
     ensures { Spec.AreChecksIn board.now result }
 {
@@ -53,14 +53,7 @@ pub fn checks_of(board: &Board) -> Checks
 }
 
 /// Whether a piece of the kind attacks one of the squares.
-fn reaches_some(
-    tables: &Tables,
-    by: Side,
-    kind: Kind,
-    from: u8,
-    occupied: Set,
-    kings: Set,
-) -> bool
+fn reaches_some(tables: &Tables, by: Side, kind: Kind, from: u8, occupied: Set, kings: Set) -> bool
     requires { from < 120 }
     ensures { result ≡ false → Spec.ReachesNone tables.now by kind from occupied kings }
 {
@@ -127,13 +120,7 @@ fn go_may_check(
 }
 
 /// Whether the move may give check, by the occupied squares.
-fn move_may_check(
-    tables: &Tables,
-    p: &Position,
-    occupied: Set,
-    checks: &Checks,
-    m: &Move,
-) -> bool
+fn move_may_check(tables: &Tables, p: &Position, occupied: Set, checks: &Checks, m: &Move) -> bool
     requires occupied { IsOccupied occupied p.now.cells }
     requires checks { Spec.AreChecks tables.now p.now.side p.now.cells checks.now }
     requires fit { IsFitMove m.now }
@@ -157,9 +144,8 @@ fn move_may_check(
     }
 }
 
-/// Whether the move may give check: one of which this is denied gives none. It is told of a piece that goes and stays what
-/// it is, and of one that is dropped; castles, promotions, gates and what goes to the square of en passant may always
-/// check, and so may all moves where kings fly.
+/// Whether the move may give check: where the answer is no it gives none. The answer is always yes for castles, promotions
+/// and gates, for what goes to the square of en passant, and where kings fly.
 pub fn may_check(board: &Board, checks: &Checks, m: &Move) -> bool
     requires fit { IsFitMove m.now }
     requires checks { Spec.AreChecksIn board.now checks.now }

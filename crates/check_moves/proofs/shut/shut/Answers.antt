@@ -1,4 +1,4 @@
-use Rattle.std.proofs.Common.{◌≡◌, ◌==◌, not, true, false, ap, subst, sym, ◌∙◌}
+use Rattle.std.proofs.Common.{◌==◌, not, subst, sym, ◌∙◌}
 use Rattle.std.proofs.lemmas.Bool.{and_parts, ltb-true, not-true}
 use Rattle.square_set.specs.Members.{has}
 use Rattle.square_set.proofs.Cases.{by_equal}
