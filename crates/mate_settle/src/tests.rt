@@ -5,19 +5,17 @@ use crate::{FactTable, all_won, choose, moves_to_try, settle};
 use attack_tables::Tables;
 use mate_core::Frame;
 use playing::Board;
-use rules_model::{Blocked, Rules, Side, Value, sound};
+use rules_model::{Blocked, Side, sound};
 use sample_rules::{chess, position};
 use std::alloc::Global;
-use std::process::Abort;
 use std::test::Fail;
 use watching::{Halt, Helper, StopFlag};
 
-fn frame_of(alloc: Global, rules: Rules) -> Frame
-    requires { IsFit rules }
-    ensures { result.rules ≡ rules }
+fn frame_of(alloc: Global) -> Frame
+    ensures { IsFit result.rules }
 {
     Frame {
-        rules,
+        rules: chess(),
         blocked: Blocked {
             items: Vec::new(alloc),
         },
@@ -58,7 +56,7 @@ fn won(
 // Mates in one, before and after Black's only move, and two problems of two moves.
 #[test]
 fn least_numbers_of_moves(rt: HostRuntime) -> Result<(), Fail> {
-    let frame = frame_of(rt.alloc(), chess());
+    let frame = frame_of(rt.alloc());
     let tables = Tables::new(rt.alloc(), &frame.rules)?;
     for (pieces, side, least) in [
         ("Kg6 Ra1 kh8", Side::White, 1),
@@ -91,73 +89,5 @@ fn least_numbers_of_moves(rt: HostRuntime) -> Result<(), Fail> {
             );
         }
     }
-    Ok(())
-}
-
-/// Chess where a side without a move has lost.
-fn stuck_side_loses() -> Rules
-    ensures { IsFit result }
-{
-    let mut rules = chess();
-    rules.stalemate = Value::Loss;
-    rules
-}
-
-/// Chess where a side that has given all its checks has won.
-fn checks_are_counted() -> Rules
-    ensures { IsFit result }
-{
-    let mut rules = chess();
-    rules.check_counting = true;
-    rules
-}
-
-/// Whether White, who has so many checks left to give, wins by its next move.
-fn expect_in_one(
-    rt: &impl Abort,
-    alloc: Global,
-    rules: Rules,
-    pieces: &str,
-    checks: u8,
-    wins: bool,
-) -> Result<(), Fail>
-    requires { IsFit rules }
-{
-    let frame = frame_of(alloc, rules);
-    let tables = Tables::new(alloc, &frame.rules)?;
-    let mut p = position(pieces);
-    p.checks = [checks; 2];
-    assert!(rt; sound(&frame.rules, &p), "{pieces}");
-    let board = Board::new(&tables, &p);
-    let found = won(alloc, &frame, &board, 1, 16);
-    assert!(rt;
-        matches!(found, Ok((settled, chosen)) if settled == wins && chosen == wins),
-        "{pieces}"
-    );
-    Ok(())
-}
-
-// The pawn's step leaves the king no move, and the rook's check is no mate.
-#[test]
-fn ends_by_the_last_move(rt: HostRuntime) -> Result<(), Fail> {
-    expect_in_one(&rt, rt.alloc(), chess(), "Kg6 Ph6 kh8", 0, false)?;
-    expect_in_one(&rt, rt.alloc(), stuck_side_loses(), "Kg6 Ph6 kh8", 0, true)?;
-    expect_in_one(&rt, rt.alloc(), chess(), "Ke1 Ra2 kh8", 0, false)?;
-    expect_in_one(
-        &rt,
-        rt.alloc(),
-        checks_are_counted(),
-        "Ke1 Ra2 kh8",
-        1,
-        true,
-    )?;
-    expect_in_one(
-        &rt,
-        rt.alloc(),
-        checks_are_counted(),
-        "Ke1 Ra2 kh8",
-        2,
-        false,
-    )?;
     Ok(())
 }

@@ -4,4 +4,4 @@ pub choose-requires-clause-moves : goal.choose-requires-clause-moves
 choose-requires-clause-moves c = rw c.deref.ensures.value c.in_ok-moves.ensures
 
 pub all_won-requires-clause-moves : goal.all_won-requires-clause-moves
-all_won-requires-clause-moves c = rw c.deref-2.ensures.value c.in_ok-moves.ensures
+all_won-requires-clause-moves c = rw c.deref-else-is.ensures.value c.in_ok-moves.ensures
