@@ -10,8 +10,8 @@ Usage: bench/sessions_load.py [PROGRAM] [--lines N] [--sessions N] [--minutes M]
 2. So many sessions at once, each with 1 MiB of hints, a search of depth 3 and a mate in two. Each must say the same.
 3. A `go infinite` of so many minutes for each number of workers, with an `isready` each second. Each must be answered within half a
    second. Where other work takes the processors, the answer waits for one: the system's count of that (schedstat in /proc) is told of
-   the thread that answers, of the one that reads and of this script, beside the time that the first ran. What it runs before it answers is
-   the program's own share, and is the same on a free machine.
+   the thread that answers, of the one that reads and of this script, beside the time that the first ran until this script looked: the
+   program's own share of the answer is no more than that.
 
 Prints the times, and the memory that the kernel gives of a session (VmRSS in /proc). Ends with status 1 where an answer is missing or late.
 """
