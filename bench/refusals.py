@@ -10,9 +10,15 @@ and in CECP, with 1 and with 4 workers: each line is given when the search befor
 say is that of the same session with a file that cannot be read. With 4 workers one of several best moves may be chosen, and so moves are
 not compared. Nothing may be written to standard error, and no run may take more than 60 seconds.
 
-Of the calls of a kind at most N are refused, spread evenly over all. Last, the words of a session's hints are overwritten before each
+Of the calls of a kind at most N are refused, spread evenly over all. Then the words of a session's hints are overwritten before each
 depth of a search of the chess start, with 0, with 2^63 and with ones alone: the scores must be the same, and the best move one of that
 score.
+
+Last, it is looked at whether memory is given back (`--only kept` does this alone). The library counts what the program has allocated, and
+tells it at each answer to `isready` or `ping`. The lines of a session are given three times, with one of these after each, and after them
+lines that set what they have changed to what it was. With 1 worker the second time and the third must have the same numbers after each
+line. With any number of workers all three must have the same after the last, and at its end a session must have nothing, whether `quit`
+ends it or the input.
 """
 
 import argparse
@@ -42,7 +48,7 @@ LIBRARY = r"""
 #include <time.h>
 #include <unistd.h>
 
-extern void *__libc_malloc(size_t), *__libc_calloc(size_t, size_t), *__libc_realloc(void *, size_t);
+extern void *__libc_malloc(size_t), *__libc_calloc(size_t, size_t), *__libc_realloc(void *, size_t), __libc_free(void *);
 
 enum { ALLOCATIONS, READS, WRITES, CLOCKS, THREADS, KINDS };
 
@@ -62,18 +68,54 @@ __attribute__((constructor)) static void begin(void) {
     for (int i = 0; i < KINDS; i++) calls[i] = 0;
 }
 
+/* What the program has allocated: now, and at each answer by which a session says that it is ready. What the C library takes by calloc for
+   the threads that it may start later is its own. */
+enum { MOST_READY = 10000, HEAD = 16 };
+static atomic_long blocks, bytes;
+static long ready[MOST_READY + 1][2], times_ready;
+
+/* The size of a block, as it was asked for, stands before it, and says that it is counted. */
+static void *counted(size_t *head, size_t size) {
+    if (!head) { errno = ENOMEM; return NULL; }
+    blocks++; bytes += size;
+    head[0] = size;
+    head[1] = (size_t)head ^ 0x5ca1ab1e;
+    return (char *)head + HEAD;
+}
+
+static size_t *head_of(void *block) {
+    size_t *head = (size_t *)((char *)block - HEAD);
+    return head[1] == ((size_t)head ^ 0x5ca1ab1e) ? head : NULL;
+}
+
+static void *uncounted(void *block) {
+    size_t *head = block ? head_of(block) : NULL;
+    if (!head) return block;
+    blocks--; bytes -= head[0];
+    head[1] = 0;
+    return head;
+}
+
+static void note_kept(void) {
+    if (times_ready > MOST_READY) return;
+    ready[times_ready][0] = blocks;
+    ready[times_ready++][1] = bytes;
+}
+
 static void tell_calls(void) {
     const char *name = getenv("CALLS_FILE");
     if (!name) return;
-    char text[200];
-    int size = 0;
-    for (int i = 0; i < KINDS; i++) size += snprintf(text + size, sizeof text - size, "%ld ", calls[i]);
+    char text[60];
     int file = syscall(SYS_openat, AT_FDCWD, name, O_WRONLY | O_CREAT | O_TRUNC, 0600);
-    syscall(SYS_write, file, text, size);
+    for (int i = 0; i < KINDS; i++) syscall(SYS_write, file, text, snprintf(text, sizeof text, "%ld ", calls[i]));
+    for (int i = 0; i < times_ready; i++)
+        syscall(SYS_write, file, text, snprintf(text, sizeof text, "\n%ld %ld", ready[i][0], ready[i][1]));
 }
 
-/* the program ends so, and runs no destructors */
+/* The program ends so, and runs no destructors. A thread that has come to the end of the input has the time to end. */
 void _exit(int status) {
+    if (getenv("CALLS_FILE")) usleep(100000);
+    note_kept();
     tell_calls();
     for (;;) syscall(SYS_exit_group, status);
 }
@@ -90,26 +132,39 @@ static void fill_hints(void) {
 
 void *malloc(size_t size) {
     if (is_refused(ALLOCATIONS)) { errno = ENOMEM; return NULL; }
-    void *block = __libc_malloc(size);
+    void *block = counted(__libc_malloc(size + HEAD), size);
     if (size == 1048576) hints = block;
     return block;
 }
-void *calloc(size_t n, size_t size) { if (is_refused(ALLOCATIONS)) { errno = ENOMEM; return NULL; } return __libc_calloc(n, size); }
-void *realloc(void *old, size_t size) { if (is_refused(ALLOCATIONS)) { errno = ENOMEM; return NULL; } return __libc_realloc(old, size); }
+void *calloc(size_t n, size_t size) {
+    if (is_refused(ALLOCATIONS)) { errno = ENOMEM; return NULL; }
+    return __libc_calloc(n, size);
+}
+void free(void *block) { __libc_free(uncounted(block)); }
+void *realloc(void *old, size_t size) {
+    size_t *head = old ? head_of(old) : NULL;
+    if (!head && old) { is_refused(ALLOCATIONS); return __libc_realloc(old, size); }
+    void *block = malloc(size);
+    if (!block || !old) return block;
+    memcpy(block, old, head[0] < size ? head[0] : size);
+    free(old);
+    return block;
+}
 
-ssize_t read(int file, void *bytes, size_t size) {
+ssize_t read(int file, void *text, size_t size) {
     long call = ++calls[READS];
     if (call == refused[READS]) { errno = EIO; return -1; }
     if (call == cut[READS] && size > 1) size = 1;
-    return syscall(SYS_read, file, bytes, size);
+    return syscall(SYS_read, file, text, size);
 }
 
-ssize_t write(int file, const void *bytes, size_t size) {
+ssize_t write(int file, const void *text, size_t size) {
     fill_hints();
+    if (size >= 4 && (!memcmp(text, "read", 4) || !memcmp(text, "pong", 4))) note_kept();
     long call = ++calls[WRITES];
     if (call == refused[WRITES]) { errno = EIO; return -1; }
     if (call == cut[WRITES] && size > 1) size = 1;
-    return syscall(SYS_write, file, bytes, size);
+    return syscall(SYS_write, file, text, size);
 }
 
 int clock_gettime(clockid_t clock, struct timespec *now) {
@@ -197,6 +252,13 @@ SESSIONS = [
     for workers in ("1", "4")
 ]
 
+# the question by which a session is asked whether it is ready, and the lines that set what the lines above have changed
+READY = {"uci": ("isready", "readyok"), "xboard": ("ping 0", "pong 0")}
+BACK = {
+    "uci": ["setoption name VariantPath value <empty>", "setoption name Hash value 16", "setoption name MateFacts value 4096", "ucinewgame"],
+    "xboard": ["new", "nopost"],
+}
+
 # what is refused: the name of the setting, the place of its count, and the status of a run that lacks it
 KINDS = [
     ("REFUSE_ALLOCATION", 0, 7),
@@ -275,10 +337,12 @@ class Runner:
                 pipe.close()
 
     def calls(self, words, parts):
+        """The answer, the numbers of calls, and what was allocated at each time that the run was ready and at its end."""
         name = os.path.join(self.folder, "calls")
         answer = self.run(words, parts, {"CALLS_FILE": name})
         with open(name) as file:
-            return answer, [int(word) for word in file.read().split()]
+            counts, *kept = [[int(word) for word in line.split()] for line in file]
+        return answer, counts, kept
 
 
 def plain(text, workers):
@@ -324,7 +388,7 @@ def chosen(count, most):
 
 def tries(runner, words, lines, parts, most, jobs):
     """Refuses calls of each kind; how many answers are wrong."""
-    own, calls = runner.calls(words, parts)
+    own, calls, _ = runner.calls(words, parts)
     owns = owns_of(runner, words, lines, parts, own)
     workers = words[words.index("--threads") + 1] if "--threads" in words else "1"
     print(f"{' '.join(words)}: of its own status {own[0]}, {len(own[1])} bytes", flush=True)
@@ -369,6 +433,33 @@ def hinted(runner):
     return wrong
 
 
+def ends_with(runner, words, lines):
+    """What is allocated at the end of a session of these lines, if it ends well."""
+    (status, _, errors), _, kept = runner.calls(words, parts_of(lines))
+    return kept[-1] if (status, errors) == (0, b"") else None
+
+
+def kept_by(runner, words, lines):
+    """How many sessions of these lines keep more memory from one time to the next, or at their end."""
+    protocol, workers = words[-1], words[words.index("--threads") + 1]
+    question = READY[protocol][0].split()[0]
+    once = [line for line in lines[:-1] if not line[0].startswith(question)] + [(line, None) for line in BACK[protocol]]
+    asked = [line for each in once for line in (each, READY[protocol])]
+    (status, _, errors), _, kept = runner.calls(words, parts_of(asked * 3 + lines[-1:]))
+    number = (len(kept) - 1) // 3
+    rounds = [kept[at * number:(at + 1) * number] for at in range(3)]
+    last = [each[-1] for each in rounds]
+    ends = [kept[-1], ends_with(runner, words, lines), ends_with(runner, words, lines[:-1])]
+    wrong = (status, errors) != (0, b"") or len(kept) != 3 * number + 1 or ends != [[0, 0]] * 3
+    wrong = wrong or last != last[:1] * 3 or (workers == "1" and rounds[1] != rounds[2])
+    print(f"memory of {' '.join(words)}: each time {last[0][0]} blocks of {last[0][1]} bytes after {number} lines, at most "
+          f"{max(count for count, _ in kept)} blocks of {max(size for _, size in kept)} bytes; at the end {ends[0][0]} blocks", flush=True)
+    if wrong:
+        differ = [once[at][0] for at, (second, third) in enumerate(zip(*rounds[1:])) if second != third]
+        print(f"  WRONG: status {status}, {len(kept)} counts, after the last line {last}, at the end {ends}; different after {differ}")
+    return wrong
+
+
 def main():
     parser = argparse.ArgumentParser(description=__doc__, formatter_class=argparse.RawDescriptionHelpFormatter)
     parser.add_argument("program", nargs="?", default=PROGRAM)
@@ -386,6 +477,8 @@ def main():
                 wrong += tries(runner, words, lines, parts, given.most, given.jobs)
         if given.only in "hints":
             wrong += hinted(runner)
+        if given.only in "kept":
+            wrong += sum(kept_by(runner, words, lines) for words, lines in SESSIONS)
     print(f"{wrong} wrong answers")
     sys.exit(1 if wrong else 0)
 

@@ -1,13 +1,17 @@
 #!/usr/bin/env python3
 """Loads UCI sessions: many lines, many sessions at once, and a long search.
 
-Usage: bench/sessions_load.py [PROGRAM] [--lines N] [--sessions N] [--minutes M] [--seed N]
-       (crates/vengine/out/vengine, 10000 lines, 200 sessions, 10 minutes and seed 1 by default; 0 leaves a part out)
+Usage: bench/sessions_load.py [PROGRAM] [--lines N] [--sessions N] [--minutes M] [--workers W,..] [--seed N]
+       (crates/vengine/out/vengine, 10000 lines, 200 sessions, 10 minutes with 1 worker and with 4, and seed 1 by default; 0 leaves
+       a part out)
 
 1. One session of generated lines: right ones, faulty ones and ones that say nothing. Each `isready`, `go`, `moves` and `status` must have
    its answer, and the session must end with status 0.
 2. So many sessions at once, each with 1 MiB of hints, a search of depth 3 and a mate in two. Each must say the same.
-3. A `go infinite` of so many minutes, with an `isready` each second. Each must be answered within half a second.
+3. A `go infinite` of so many minutes for each number of workers, with an `isready` each second. Each must be answered within half a
+   second. Where other work takes the processors, the answer waits for one: the system's count of that (schedstat in /proc) is told of
+   the thread that answers, of the one that reads and of this script, beside the time that the first ran until this script looked: the
+   program's own share of the answer is no more than that.
 
 Prints the times, and the memory that the kernel gives of a session (VmRSS in /proc). Ends with status 1 where an answer is missing or late.
 """
@@ -104,36 +108,70 @@ def memory(process):
         return next(int(line.split()[1]) / 1024 for line in file if line.startswith("VmRSS"))
 
 
-def long_search(program, minutes):
-    process = subprocess.Popen([program], stdin=subprocess.PIPE, stdout=subprocess.PIPE)
+def spent(path):
+    """The milliseconds that a thread ran, and those that it waited for a processor."""
+    with open(f"/proc/{path}/schedstat") as file:
+        ran, waited = file.read().split()[:2]
+    return int(ran) / 1e6, int(waited) / 1e6
 
-    def ask(line, word):
-        begun = time.monotonic()
-        process.stdin.write(line.encode() + b"\n")
-        process.stdin.flush()
-        for said in process.stdout:
-            if said.startswith(word):
-                return time.monotonic() - begun
-        raise SystemExit(f"sessions_load: the session ended after {line!r}")
 
-    ask("uci", b"uciok")
-    at_first = memory(process)
+def ask(process, line, word):
+    """The milliseconds until a line that begins with the word."""
+    begun = time.monotonic()
+    process.stdin.write(line.encode() + b"\n")
+    process.stdin.flush()
+    for said in process.stdout:
+        if said.startswith(word):
+            return 1000 * (time.monotonic() - begun)
+    raise SystemExit(f"sessions_load: the session ended after {line!r}")
+
+
+class Answers:
+    """How soon a session answers, and where that time went: what its first thread ran, and what its first thread, the reading one and
+    this script waited for a processor, each in milliseconds."""
+
+    def __init__(self, process):
+        self.process = process
+        self.threads = sorted(int(task) for task in os.listdir(f"/proc/{process.pid}/task"))[:2]
+        self.rows = []
+
+    def counts(self):
+        own = [spent(f"{self.process.pid}/task/{thread}") for thread in self.threads] + [spent("thread-self")]
+        return [own[0][0]] + [waited for _, waited in own]
+
+    def ask(self, line, word):
+        before = self.counts()
+        took = ask(self.process, line, word)
+        self.rows.append([took] + [after - old for old, after in zip(before, self.counts())])
+
+    def tell(self):
+        ordered = sorted(self.rows)
+        took, ran, first, reader, script = ordered[-1]
+        late = [row for row in self.rows if row[0] > 500]
+        print(f"  {len(self.rows)} times isready, answered after {ordered[len(ordered) // 2][0]:.1f} ms, at worst {took:.1f} ms, "
+              f"{len(late)} later than 500 ms; before an answer the first thread ran at most {max(row[1] for row in self.rows):.1f} ms\n"
+              f"  in the worst it ran {ran:.1f} ms; for a processor waited it {first:.1f} ms, the reading thread {reader:.1f} ms and this "
+              f"script {script:.1f} ms", flush=True)
+        return len(late)
+
+
+def long_search(program, minutes, workers):
+    process = subprocess.Popen([program, "--threads", str(workers)], stdin=subprocess.PIPE, stdout=subprocess.PIPE)
+    ask(process, "uci", b"uciok")
+    at_first, answers = memory(process), Answers(process)
     process.stdin.write(b"position startpos\ngo infinite\n")
-    took, ends = [], time.monotonic() + 60 * minutes
+    ends = time.monotonic() + 60 * minutes
     while time.monotonic() < ends:
         time.sleep(1)
-        took.append(ask("isready", b"readyok"))
+        answers.ask("isready", b"readyok")
     then = memory(process)
-    stopped = ask("stop", b"bestmove")
+    stopped = ask(process, "stop", b"bestmove")
     process.stdin.write(b"quit\n")
     process.stdin.flush()
     status = process.wait()
-    late = sum(one > 0.5 for one in took)
-    ordered = sorted(1000 * one for one in took)
-    print(f"a search of {minutes:g} minutes: {len(took)} times isready, answered after {ordered[len(ordered) // 2]:.1f} ms, at worst "
-          f"{ordered[-1]:.1f} ms, {late} later than 500 ms; stop after {1000 * stopped:.1f} ms; memory {at_first:.0f} MiB at first, "
+    print(f"a search of {minutes:g} minutes, workers {workers}: stop after {stopped:.1f} ms; memory {at_first:.0f} MiB at first, "
           f"{then:.0f} MiB then; status {status}", flush=True)
-    return late > 0 or status != 0
+    return answers.tell() > 0 or status != 0
 
 
 def main():
@@ -142,11 +180,13 @@ def main():
     parser.add_argument("--lines", type=int, default=10000)
     parser.add_argument("--sessions", type=int, default=200)
     parser.add_argument("--minutes", type=float, default=10)
+    parser.add_argument("--workers", default="1,4")
     parser.add_argument("--seed", type=int, default=1)
     given = parser.parse_args()
     wrong = given.lines > 0 and long_session(given.program, given.lines, given.seed)
     wrong = (given.sessions > 0 and many_sessions(given.program, given.sessions)) or wrong
-    wrong = (given.minutes > 0 and long_search(given.program, given.minutes)) or wrong
+    for workers in given.workers.split(","):
+        wrong = (given.minutes > 0 and long_search(given.program, given.minutes, int(workers))) or wrong
     raise SystemExit(1 if wrong else 0)
 
 
