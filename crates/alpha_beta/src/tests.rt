@@ -191,29 +191,27 @@ fn whole(depth: u8, workers: u32) -> Run<'static>
     }
 }
 
-// By any hints: the words of the second table are all ones.
+// The most workers too, each with hints that mislead.
 #[test]
-fn each_number_of_workers_finds_the_value(rt: HostRuntime) -> Result<(), Fail> {
+fn each_number_of_workers_finds_the_mate(rt: HostRuntime) -> Result<(), Fail> {
     let alloc = rt.alloc();
     let (rules, start) = (chess(), position(QUEEN));
     assert!(rt; sound(&rules, &start));
     let game = Game::new(alloc, &rules, &start)?;
     let hints = HintTable::new(alloc, 1024)?;
     let mate = Told::Done(31_999, go("g6g7"), 0);
-    for workers in [1u32, 2, 4] {
-        for depth in [1u8, 3] {
-            assert!(rt; 0 < workers && workers <= 64);
-            ends(
-                &rt,
-                alloc,
-                &game,
-                &hints,
-                whole(depth, workers),
-                &OpenGate,
-                mate,
-                b"",
-            )?;
-        }
+    for workers in [1u32, 2, 64] {
+        assert!(rt; 0 < workers && workers <= 64);
+        ends(
+            &rt,
+            alloc,
+            &game,
+            &hints,
+            whole(3, workers),
+            &OpenGate,
+            mate,
+            b"",
+        )?;
         hints.fill(u64::MAX);
     }
     Ok(())
@@ -223,6 +221,50 @@ fn each_number_of_workers_finds_the_value(rt: HostRuntime) -> Result<(), Fail> {
 fn started(alloc: Global) -> Result<Game, Fail> {
     let rules = chess();
     Ok(Game::new(alloc, &rules, &rules.start)?)
+}
+
+/// Asserts what the game is worth at the first three depths, where each search begins with hints that are all this word.
+fn is_worth<R: Threads + Abort + Sync>(
+    rt: &R,
+    alloc: Global,
+    game: &Game,
+    word: u64,
+    workers: u32,
+    values: [i32; 3],
+) -> Result<(), Fail>
+    requires workers { (0 < workers) × (workers ≤ 64) }
+{
+    let hints = HintTable::new(alloc, 1024)?;
+    for i in 0..3usize {
+        hints.fill(word);
+        let run = whole(i as u8 + 1, workers);
+        let found = value_and_nodes(rt, alloc, game, &hints, run, &OpenGate)?;
+        assert_eq!(rt;
+            found.map(|found| found.0),
+            Some(values[i]),
+            "{word} {workers}"
+        );
+    }
+    Ok(())
+}
+
+// The values are those of an independent model of the rules.
+#[test]
+fn hints_and_workers_change_no_value(rt: HostRuntime) -> Result<(), Fail> {
+    let game = started(rt.alloc())?;
+    let rows = [
+        (0, 1u32),
+        (0, 4),
+        (u64::MAX, 1),
+        (u64::MAX, 4),
+        (1 << 63, 1),
+        (1 << 63, 4),
+    ];
+    for (word, workers) in rows {
+        assert!(rt; 0 < workers && workers <= 64);
+        is_worth(&rt, rt.alloc(), &game, word, workers, [12, 0, 12])?;
+    }
+    Ok(())
 }
 
 #[test]
