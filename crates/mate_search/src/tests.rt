@@ -190,7 +190,7 @@ struct Row {
 }
 
 /// A game without a move, in which White attacks and is to move.
-fn row(pieces: &'static str, counter: u16, least: u16, end: Told) -> Row {
+fn plain_row(pieces: &'static str, counter: u16, least: u16, end: Told) -> Row {
     Row {
         pieces,
         side: Side::White,
@@ -286,26 +286,26 @@ const TWICE: &[(&str, &str)] = &[
 #[test]
 fn least_numbers_of_moves(rt: HostRuntime) -> Result<(), Fail> {
     for row in [
-        row("Kg6 Ra1 kh8", 0, 1, Told::Shown),
-        row(
+        plain_row("Kg6 Ra1 kh8", 0, 1, Told::Shown),
+        plain_row(
             "ra8 kd8 Rc7 pg7 ph6 pa5 Bb5 Rf5 Pb3 Pa2 Pd2 Pf2 Pg2 Ph2 Kg1",
             0,
             2,
             Told::Shown,
         ),
-        row(
+        plain_row(
             "Qc8 Rf7 kd6 pe6 ph5 Pd4 Nc3 ne3 Pg3 Pa2 Pb2 Pe2 Kg2 Ra1",
             0,
             2,
             Told::Shown,
         ),
-        row("Kh1 qg3 kf2", 0, 2, Told::NoMate),
-        row("Kh1 qg2 kg3", 0, 2, Told::NoMate),
-        row("Kf6 Qg6 kh8", 99, 1, Told::Shown),
-        row("Kg6 Ra1 kh8", 100, 2, Told::NoMate),
-        row("Ra6 Rb5 Kg1 kg8", 96, 2, Told::Shown),
-        row("Ra6 Rb5 Kg1 kg8", 98, 2, Told::NoMate),
-        row("Kf6 Ra7 kh8", 0, 2, Told::Shown),
+        plain_row("Kh1 qg3 kf2", 0, 2, Told::NoMate),
+        plain_row("Kh1 qg2 kg3", 0, 2, Told::NoMate),
+        plain_row("Kf6 Qg6 kh8", 99, 1, Told::Shown),
+        plain_row("Kg6 Ra1 kh8", 100, 2, Told::NoMate),
+        plain_row("Ra6 Rb5 Kg1 kg8", 96, 2, Told::Shown),
+        plain_row("Ra6 Rb5 Kg1 kg8", 98, 2, Told::NoMate),
+        plain_row("Kf6 Ra7 kh8", 0, 2, Told::Shown),
         Row {
             side: Side::Black,
             played: TWICE,
