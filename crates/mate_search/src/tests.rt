@@ -121,36 +121,21 @@ fn answer_with<R: Threads + Wait + Sync, G: Gate + Sync>(
     Ok((passes, told_of(&answer)))
 }
 
-/// What the solve answers of a game of chess that starts from the position and goes on by the moves, for the side.
-fn answer_after<R: Threads + Wait + Abort + Sync>(
-    rt: &R,
-    alloc: Global,
-    p: &Position,
-    moves: &[Move],
-    attacker: Side,
-    run: Run,
-) -> Result<Told, Fail> {
-    let rules = chess();
-    assert!(rt; sound(&rules, p));
-    assert!(rt; 0 < run.n && run.n <= 100);
-    assert!(rt; 0 < run.workers && run.workers <= 64);
-    let mut game = Game::new(alloc, &rules, p)?;
-    for m in moves {
-        assert!(rt; game.play(m).is_ok());
-    }
-    let (shards, passes) = shards_for(alloc, &game, attacker)?;
-    let (_, told) = answer_with(rt, alloc, &game, attacker, run, &shards, passes, &OpenGate)?;
-    Ok(told)
-}
-
-/// The same of a game without a move, for the side that is to move.
+/// What the solve answers of a game of chess without a move, for the side that is to move.
 fn answer_to<R: Threads + Wait + Abort + Sync>(
     rt: &R,
     alloc: Global,
     p: &Position,
     run: Run,
 ) -> Result<Told, Fail> {
-    answer_after(rt, alloc, p, &[], p.side, run)
+    let rules = chess();
+    assert!(rt; sound(&rules, p));
+    assert!(rt; 0 < run.n && run.n <= 100);
+    assert!(rt; 0 < run.workers && run.workers <= 64);
+    let game = Game::new(alloc, &rules, p)?;
+    let (shards, passes) = shards_for(alloc, &game, p.side)?;
+    let (_, told) = answer_with(rt, alloc, &game, p.side, run, &shards, passes, &OpenGate)?;
+    Ok(told)
 }
 
 /// A solve that nothing cuts.
@@ -182,43 +167,6 @@ fn unsearched(n: u16) -> Run<'static>
     }
 }
 
-// A mate in one, two problems of two moves, a stalemate and a mated side; then the limit of the counter: at 99 the move
-// that mates stands, and at 98 in two moves the counter would run out before the mate.
-#[test]
-fn least_numbers_of_moves(rt: HostRuntime) -> Result<(), Fail> {
-    for (pieces, counter, least, end) in [
-        ("Kg6 Ra1 kh8", 0, 1u16, Told::Shown),
-        (
-            "ra8 kd8 Rc7 pg7 ph6 pa5 Bb5 Rf5 Pb3 Pa2 Pd2 Pf2 Pg2 Ph2 Kg1",
-            0,
-            2,
-            Told::Shown,
-        ),
-        (
-            "Qc8 Rf7 kd6 pe6 ph5 Pd4 Nc3 ne3 Pg3 Pa2 Pb2 Pe2 Kg2 Ra1",
-            0,
-            2,
-            Told::Shown,
-        ),
-        ("Kh1 qg3 kf2", 0, 2, Told::NoMate),
-        ("Kh1 qg2 kg3", 0, 2, Told::NoMate),
-        ("Kg6 Ra1 kh8", 99, 1, Told::Shown),
-        ("Kg6 Ra1 kh8", 100, 2, Told::NoMate),
-    ] {
-        let mut p = position(pieces);
-        p.counter = counter;
-        for workers in 1..3 {
-            for n in 1..least {
-                let shorter = answer_to(&rt, rt.alloc(), &p, whole(n, workers))?;
-                assert_eq!(rt; shorter, Told::NoMate, "{pieces} within {n}");
-            }
-            let found = answer_to(&rt, rt.alloc(), &p, whole(least, workers))?;
-            assert_eq!(rt; found, end, "{pieces} at {counter} within {least}");
-        }
-    }
-    Ok(())
-}
-
 fn goes(from: &str, to: &str) -> Move {
     Move::Go {
         from: square(from),
@@ -228,42 +176,151 @@ fn goes(from: &str, to: &str) -> Move {
     }
 }
 
-/// What a solve within 2 moves answers where the only move that wins meets a third repetition, and where no move was
-/// played before it.
-fn with_and_without_repetitions<R: Threads + Wait + Abort + Sync>(
-    rt: &R,
-    alloc: Global,
-    workers: u32,
-    hint: u64,
-) -> Result<(Told, Told), Fail> {
-    let played = [
-        goes("h8", "g8"),
-        goes("g6", "f6"),
-        goes("g8", "h8"),
-        goes("f6", "g6"),
-        goes("h8", "g8"),
-        goes("g6", "f6"),
-        goes("g8", "h8"),
-    ];
-    let mut repeated = position("Kg6 Ra7 kh8");
-    repeated.side = Side::Black;
-    let run = Run {
-        hint,
-        ..whole(2, workers)
-    };
-    let lost = answer_after(rt, alloc, &repeated, &played, Side::White, run)?;
-    let won = answer_to(rt, alloc, &position("Kf6 Ra7 kh8"), run)?;
-    Ok((lost, won))
+/// A game of chess by its start and its moves, the side that attacks in it, the number of moves within which it is asked
+/// about at last, and the answer then. Within fewer it is not won.
+#[derive(Clone, Copy)]
+struct Row {
+    pieces: &'static str,
+    side: Side,
+    counter: u16,
+    played: &'static [(&'static str, &'static str)],
+    attacker: Side,
+    least: u16,
+    end: Told,
 }
 
-// By any number of workers, whatever the hints hold.
+/// A game without a move, in which White attacks and is to move.
+fn plain_row(pieces: &'static str, counter: u16, least: u16, end: Told) -> Row {
+    Row {
+        pieces,
+        side: Side::White,
+        counter,
+        played: &[],
+        attacker: Side::White,
+        least,
+        end,
+    }
+}
+
+/// What `settle` answers of the game, for the side.
+fn settled<R: Wait>(
+    rt: &R,
+    alloc: Global,
+    game: &Game,
+    attacker: Side,
+    n: u16,
+) -> Result<Told, Fail>
+    requires some { 0 < n }
+    requires small { n ≤ 100 }
+{
+    let (shards, passes) = shards_for(alloc, game, attacker)?;
+    let (_, answer) = settle(rt, alloc, game, attacker, n, &shards, passes);
+    match answer? {
+        Settled::Shown(_) => Ok(Told::Shown),
+        Settled::NoMate => Ok(Told::NoMate),
+        Settled::Unsettled { .. } => Ok(Told::Unsettled),
+    }
+}
+
+/// What `settle` answers of the game, and `solve` by one worker and by four, whose hints are all ones.
+fn answers<R: Threads + Wait + Sync>(
+    rt: &R,
+    alloc: Global,
+    game: &Game,
+    attacker: Side,
+    n: u16,
+) -> Result<[Told; 3], Fail>
+    requires some { 0 < n }
+    requires small { n ≤ 100 }
+{
+    let alone = settled(rt, alloc, game, attacker, n)?;
+    let (one, mine) = shards_for(alloc, game, attacker)?;
+    let run = whole(n, 1);
+    let (_, by_one) = answer_with(rt, alloc, game, attacker, run, &one, mine, &OpenGate)?;
+    let (four, ours) = shards_for(alloc, game, attacker)?;
+    let run = Run {
+        hint: u64::MAX,
+        ..whole(n, 4)
+    };
+    let (_, by_four) = answer_with(rt, alloc, game, attacker, run, &four, ours, &OpenGate)?;
+    Ok([alone, by_one, by_four])
+}
+
+/// Plays the row's game, and wants its answers.
+fn expect<R: Threads + Wait + Abort + Sync>(rt: &R, alloc: Global, row: &Row) -> Result<(), Fail> {
+    let rules = chess();
+    let p = Position {
+        side: row.side,
+        counter: row.counter,
+        ..position(row.pieces)
+    };
+    assert!(rt; sound(&rules, &p));
+    let mut game = Game::new(alloc, &rules, &p)?;
+    for (from, to) in row.played {
+        assert!(rt; game.play(&goes(from, to)).is_ok());
+    }
+    assert!(rt; 0 < row.least && row.least <= 100);
+    for n in 1..row.least {
+        let fewer = answers(rt, alloc, &game, row.attacker, n)?;
+        assert_eq!(rt; fewer, [Told::NoMate; 3], "{} within {n}", row.pieces);
+    }
+    let last = answers(rt, alloc, &game, row.attacker, row.least)?;
+    assert_eq!(rt; last, [row.end; 3], "{} at {}", row.pieces, row.counter);
+    Ok(())
+}
+
+/// The king goes to and fro, and twice each position stood.
+const TWICE: &[(&str, &str)] = &[
+    ("h8", "g8"),
+    ("g6", "f6"),
+    ("g8", "h8"),
+    ("f6", "g6"),
+    ("h8", "g8"),
+    ("g6", "f6"),
+    ("g8", "h8"),
+];
+
+// A mate in one, two problems of two moves, a stalemate and a mated side. Then the limit of the counter: at 99 the move that
+// mates stands, and at 100 the game is drawn; two rooks mate by their third ply, before the counter is 100 or after. Then king
+// and rook: a mate in two, the same where its only key would be a third repetition, and the other side against a mate in one.
 #[test]
-fn repetitions_count(rt: HostRuntime) -> Result<(), Fail> {
-    for workers in [1u32, 4] {
-        for hint in [0u64, u64::MAX] {
-            let told = with_and_without_repetitions(&rt, rt.alloc(), workers, hint)?;
-            assert_eq!(rt; told, (Told::NoMate, Told::Shown), "by {workers}");
-        }
+fn least_numbers_of_moves(rt: HostRuntime) -> Result<(), Fail> {
+    for row in [
+        plain_row("Kg6 Ra1 kh8", 0, 1, Told::Shown),
+        plain_row(
+            "ra8 kd8 Rc7 pg7 ph6 pa5 Bb5 Rf5 Pb3 Pa2 Pd2 Pf2 Pg2 Ph2 Kg1",
+            0,
+            2,
+            Told::Shown,
+        ),
+        plain_row(
+            "Qc8 Rf7 kd6 pe6 ph5 Pd4 Nc3 ne3 Pg3 Pa2 Pb2 Pe2 Kg2 Ra1",
+            0,
+            2,
+            Told::Shown,
+        ),
+        plain_row("Kh1 qg3 kf2", 0, 2, Told::NoMate),
+        plain_row("Kh1 qg2 kg3", 0, 2, Told::NoMate),
+        plain_row("Kf6 Qg6 kh8", 99, 1, Told::Shown),
+        plain_row("Kg6 Ra1 kh8", 100, 2, Told::NoMate),
+        plain_row("Ra6 Rb5 Kg1 kg8", 96, 2, Told::Shown),
+        plain_row("Ra6 Rb5 Kg1 kg8", 98, 2, Told::NoMate),
+        plain_row("Kf6 Ra7 kh8", 0, 2, Told::Shown),
+        Row {
+            side: Side::Black,
+            played: TWICE,
+            ..row("Kg6 Ra7 kh8", 0, 2, Told::NoMate)
+        },
+        Row {
+            side: Side::Black,
+            ..row("Kg6 Ra7 kh8", 1, 1, Told::Shown)
+        },
+        Row {
+            attacker: Side::Black,
+            ..row("Kh1 qg2 kg3", 0, 1, Told::Shown)
+        },
+    ] {
+        expect(&rt, rt.alloc(), &row)?;
     }
     Ok(())
 }
@@ -327,8 +384,22 @@ fn here<R: Threads + Wait + Sync>(
     answer_with(rt, alloc, game, Side::White, run, shards, passes, &OpenGate)
 }
 
+/// Whether the shards know that the position is won after the king's move by which king and rook win within 2.
+fn know_the_next<R: Wait>(rt: &R, shards: &Shards, passes: &mut Passes) -> bool
+    requires { ArePassesOf shards.now passes.old }
+{
+    let next = Position {
+        side: Side::Black,
+        counter: 1,
+        ..position("Kg6 Ra7 kh8")
+    };
+    shards
+        .look(rt, passes, &next, 1)
+        .is_some_and(|fact| fact.wins)
+}
+
 // King and rook win within 2 moves, and not within 1. A quota of 0 leaves the answer to the shards. Then they know that
-// the game is won, and a position two plies on.
+// the game is won, and the position after the first move.
 #[test]
 fn shards_know_the_root(rt: HostRuntime) -> Result<(), Fail> {
     let alloc = rt.alloc();
@@ -347,9 +418,8 @@ fn shards_know_the_root(rt: HostRuntime) -> Result<(), Fail> {
     assert_eq!(rt; shown, Told::Shown);
     assert_eq!(rt; won, Told::Quota(0));
     let root = shards.look(&rt, &mut passes, &p, 2);
-    let near = shards.look(&rt, &mut passes, &position("Kg6 Ra7 kg8"), 1);
     assert!(rt; root.is_some_and(|fact| fact.wins));
-    assert!(rt; near.is_some_and(|fact| fact.wins));
+    assert!(rt; know_the_next(&rt, &shards, &mut passes));
     Ok(())
 }
 
@@ -364,8 +434,7 @@ fn settled_without_ports(rt: HostRuntime) -> Result<(), Fail> {
     let (mut passes, two) = settle(&rt, alloc, &game, Side::White, 2, &shards, passes);
     assert!(rt; matches!(one, Ok(Settled::NoMate)));
     assert!(rt; matches!(two, Ok(Settled::Shown(_))));
-    let near = shards.look(&rt, &mut passes, &position("Kg6 Ra7 kg8"), 1);
-    assert!(rt; near.is_some_and(|fact| fact.wins));
+    assert!(rt; know_the_next(&rt, &shards, &mut passes));
     Ok(())
 }
 

@@ -1,0 +1,144 @@
+//! What the solver says of a game.
+ghost use Rattle.std.specs.Prelude.{◌≡◌, ◌<◌, ◌≤◌, IfOk};
+ghost use Rattle.mate_search.specs.Solves.{IsFrameFor};
+ghost use Rattle.mate_shards.specs.Grown.{HaveParts};
+ghost use Rattle.mate_shards.specs.Views.{ArePassesOf};
+
+use foundation::Memory;
+use game_play::Game;
+use hint_table::HintTable;
+use io_ports::{Dialect, Limits, ListClock, MemSink, OpenGate, Ports, QuietSource, SearchFault};
+use mate_search::{Mate, Settled, settle, solve};
+use mate_shards::{Passes, Shards};
+use rules_model::Side;
+use std::alloc::Global;
+use std::sync::Wait;
+use std::thread::Threads;
+
+/// Which call is asked.
+#[derive(Clone, Copy)]
+pub enum Call {
+    Settle,
+    /// By so many workers, where each word of the hints is this one.
+    Solve { workers: u32, hint: u64 },
+}
+
+/// What the solver says of a win within some number of moves.
+#[derive(Clone, Copy, PartialEq, Eq)]
+pub enum Said {
+    Won,
+    NotWon,
+    Unsettled,
+}
+
+fn said_by_settle(answer: Result<Settled, Memory>) -> Result<Said, Memory> {
+    match answer {
+        Ok(Settled::Shown(_)) => Ok(Said::Won),
+        Ok(Settled::NoMate) => Ok(Said::NotWon),
+        Ok(Settled::Unsettled { .. }) => Ok(Said::Unsettled),
+        Err(memory) => Err(memory),
+    }
+}
+
+fn said_by_solve(answer: Result<Mate, SearchFault>) -> Result<Said, Memory> {
+    match answer {
+        Ok(Mate::Shown(_)) => Ok(Said::Won),
+        Ok(Mate::NoMate) => Ok(Said::NotWon),
+        Ok(Mate::Unsettled { .. }) => Ok(Said::Unsettled),
+        // Nothing cuts a solve over a quiet source without limits: it fails for memory alone.
+        Ok(Mate::Stopped(_)) | Err(_) => Err(Memory),
+    }
+}
+
+fn by_settle<R: Wait>(
+    rt: &R,
+    alloc: Global,
+    game: &Game,
+    attacker: Side,
+    n: u16,
+    shards: &Shards,
+    passes: Passes,
+) -> Result<(Passes, Said), Memory>
+    requires frame { IsFrameFor game.now attacker shards.now.frame }
+    requires passes { ArePassesOf shards.now passes }
+    requires parts { HaveParts 65536 passes }
+    requires some { 0 < n }
+    requires small { n ≤ 100 }
+    ensures passes { IfOk result (λ told. ArePassesOf shards.now told.0) }
+    ensures parts { IfOk result (λ told. HaveParts 65536 told.0) }
+{
+    let (passes, answer) = settle(rt, alloc, game, attacker, n, shards, passes);
+    let said = said_by_settle(answer)?;
+    Ok((passes, said))
+}
+
+fn by_solve<R: Threads + Wait + Sync>(
+    rt: &R,
+    alloc: Global,
+    game: &Game,
+    attacker: Side,
+    n: u16,
+    workers: u32,
+    hint: u64,
+    shards: &Shards,
+    passes: Passes,
+) -> Result<(Passes, Said), Memory>
+    requires frame { IsFrameFor game.now attacker shards.now.frame }
+    requires passes { ArePassesOf shards.now passes }
+    requires parts { HaveParts 65536 passes }
+    requires some { 0 < n }
+    requires small { n ≤ 100 }
+    requires workers { (0 < workers) × (workers ≤ 64) }
+    ensures passes { IfOk result (λ told. ArePassesOf shards.now told.0) }
+    ensures parts { IfOk result (λ told. HaveParts 65536 told.0) }
+{
+    let hints = HintTable::new(alloc, 1024)?;
+    hints.fill(hint);
+    let mut source = QuietSource;
+    let mut sink = MemSink::new(alloc, 0)?;
+    let mut clock = ListClock::new(alloc, &[])?;
+    let limits = Limits {
+        quota: None,
+        deadline: None,
+    };
+    let mut ports = Ports {
+        source: &mut source,
+        sink: &mut sink,
+        clock: &mut clock,
+        gate: &OpenGate,
+        dialect: Dialect::Uci,
+    };
+    let (passes, answer) = solve(
+        rt, alloc, game, attacker, n, shards, passes, &hints, limits, workers, &mut ports,
+    );
+    let said = said_by_solve(answer)?;
+    Ok((passes, said))
+}
+
+/// What the call says of a win of the game by the side within n of its moves.
+pub fn ask<R: Threads + Wait + Sync>(
+    rt: &R,
+    alloc: Global,
+    game: &Game,
+    attacker: Side,
+    n: u16,
+    call: Call,
+    shards: &Shards,
+    passes: Passes,
+) -> Result<(Passes, Said), Memory>
+    requires frame { IsFrameFor game.now attacker shards.now.frame }
+    requires passes { ArePassesOf shards.now passes }
+    requires parts { HaveParts 65536 passes }
+    requires some { 0 < n }
+    requires small { n ≤ 100 }
+    ensures passes { IfOk result (λ told. ArePassesOf shards.now told.0) }
+    ensures parts { IfOk result (λ told. HaveParts 65536 told.0) }
+{
+    match call {
+        Call::Settle => by_settle(rt, alloc, game, attacker, n, shards, passes),
+        Call::Solve { workers, hint } => {
+            let workers = workers.max(1).min(64);
+            by_solve(rt, alloc, game, attacker, n, workers, hint, shards, passes)
+        }
+    }
+}
