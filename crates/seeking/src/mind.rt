@@ -16,6 +16,8 @@ const WORDS: usize = 1 << 17;
 #[derive(Drop)]
 pub struct Mind {
     hints: HintTable,
+    /// Whether the hints are as large as is set. At first they are not: making them would take most of a session's start.
+    is_made: bool,
     pool: Option<Pool>,
     threads: u32,
     hash: u32,
@@ -33,13 +35,14 @@ impl Model for Mind {
 }
 
 impl Mind {
-    /// Without a hint, with 16 MiB for hints and 4,096 facts a shard.
+    /// Without a hint, with 4,096 facts a shard and 16 MiB for hints, which the first search or solve takes.
     pub fn new(alloc: Global, threads: u32) -> Result<Mind, Memory>
         requires threads { (1 ≤ threads) × (threads ≤ 64) }
         ensures { IfOk result (λ m. m ≡ first_settings threads) }
     {
         Ok(Mind {
-            hints: HintTable::new(alloc, 16 * WORDS)?,
+            hints: HintTable::new(alloc, 1)?,
+            is_made: false,
             pool: None,
             threads,
             hash: 16,
@@ -55,6 +58,17 @@ impl Mind {
         self.threads
     }
 
+    /// Makes the hints as large as is set, where that was not done yet. Out of memory, all stays as it was.
+    pub(crate) fn make_hints(&mut self, alloc: Global) -> Result<(), Memory>
+        ensures { self.new ≡ self.old }
+    {
+        if !self.is_made {
+            self.hints = HintTable::new(alloc, self.hash as usize * WORDS)?;
+            self.is_made = true;
+        }
+        Ok(())
+    }
+
     /// The hints, which searches share.
     pub(crate) fn hints(&self) -> &HintTable {
         &self.hints
@@ -68,7 +82,7 @@ impl Mind {
         self.threads = threads;
     }
 
-    /// Sets the MiB of hints, from 1 to 1,024, and forgets them. Out of memory, all stays as it was.
+    /// Sets the MiB of hints, from 1 to 1,024, takes them at once, and forgets the hints. Out of memory, all stays as it was.
     pub fn set_hash(&mut self, alloc: Global, hash: u32) -> Result<(), Memory>
         requires hash { (1 ≤ hash) × (hash ≤ 1024) }
         ensures ok { OnOk result (self.new ≡ record self.old { hash = hash }) }
@@ -76,6 +90,7 @@ impl Mind {
     {
         let hints = HintTable::new(alloc, hash as usize * WORDS)?;
         self.hints = hints;
+        self.is_made = true;
         self.hash = hash;
         Ok(())
     }

@@ -1,5 +1,5 @@
 //! One search.
-ghost use Rattle.std.specs.Prelude.{◌<◌, ◌≤◌, length, IfOk, IsErrOf};
+ghost use Rattle.std.specs.Prelude.{◌≡◌, ◌<◌, ◌≤◌, length, IfOk, IsErrOf};
 ghost use Rattle.std.specs.List.{All};
 ghost use Rattle.foundation.specs.Member.{Member};
 ghost use Rattle.game_play.specs.Played.{legal_in, story};
@@ -36,7 +36,7 @@ pub enum Search {
 pub fn search_once<R: Threads + Sync, S: Source, K: Sink, C: Clock, G: Gate + Sync>(
     rt: &R,
     alloc: Global,
-    mind: &Mind,
+    mind: &mut Mind,
     game: &Game,
     roots: &[Move],
     depth: u8,
@@ -60,7 +60,9 @@ pub fn search_once<R: Threads + Sync, S: Source, K: Sink, C: Clock, G: Gate + Sy
         (world S.left S.owed S.faults K.taken K.faults C.given C.count C.last) dialect
         (moment source.old sink.old clock.old 0) source.new sink.new clock.new
         (search_bound game.now.rules depth (story game.now)) why }
+    ensures same { mind.new ≡ mind.old }
 {
+    mind.make_hints(alloc)?;
     let mut ports = Ports {
         source,
         sink,

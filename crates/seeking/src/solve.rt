@@ -65,6 +65,7 @@ pub fn solve_once<R: Threads + Wait + Sync, S: Source, K: Sink, C: Clock, G: Gat
         (solve_bound game.now.rules n (story game.now)) why }
     ensures same { mind.new ≡ mind.old }
 {
+    mind.make_hints(alloc)?;
     let frame = frame_of(alloc, game, attacker)?;
     let (shards, passes) = mind.take_pool(alloc, frame)?.into_parts();
     let mut ports = Ports {

@@ -363,7 +363,8 @@ fn tried<R: Threads + Wait + Abort + Sync>(
     Ok(answer_of(&tried))
 }
 
-// King and rook do not mate within 2 moves, which takes fewer than 500 nodes; 3 moves take more.
+// A solve within 1 move of the kings in the corners enters at most 8 times the 67 lines of at most 3 moves, so it polls once, and
+// the line that comes next stops the solve within 2.
 #[test]
 fn mates_are_tried(rt: HostRuntime) -> Result<(), Fail> {
     let alloc = rt.alloc();
@@ -373,22 +374,23 @@ fn mates_are_tried(rt: HostRuntime) -> Result<(), Fail> {
     };
     let stop = Heard {
         lines: b"stop\n",
-        owed: PollsOwed::Number(0),
+        owed: PollsOwed::Number(1),
         ..NOTHING
+    };
+    let no_node = Limits {
+        quota: Some(0),
+        deadline: None,
     };
     let rows = [
         (MATE, 3u16, free, NOTHING, Answer::Shown(1, go("g6g7"))),
         ("Ke1 ke8", 2, free, NOTHING, Answer::NoMate),
-        ("Ke1 ke8", 2, free, stop, Answer::Stopped(1, Cut::Line)),
+        ("Ka1 kh8", 3, free, stop, Answer::Stopped(2, Cut::Line)),
         (
             "Ke3 Ra1 kd5",
             3,
-            Limits {
-                quota: Some(500),
-                deadline: None,
-            },
+            no_node,
             NOTHING,
-            Answer::Stopped(3, Cut::Quota(500)),
+            Answer::Stopped(1, Cut::Quota(0)),
         ),
     ];
     for (text, last, limits, heard, answer) in rows {

@@ -12,6 +12,11 @@ use Rattle.seeking.proofs.AnswerLaws.{shown_of_solved, unsettled_of_solved}
 use Rattle.seeking.proofs.CutLaws.{fails_memory, gone_stopped}
 use Rattle.seeking.proofs.solve.solve_once.Goals as goal
 
+pub returns-in_err-make_hints-clause-failed : goal.returns-in_err-make_hints-clause-failed
+returns-in_err-make_hints-clause-failed g c why is =
+    let memory : why ≡ fault.Memory = search rules in
+    fails_memory _ c.args.dialect c.args.limits _ _ _ _ why memory
+
 pub returns-in_err-frame-clause-failed : goal.returns-in_err-frame-clause-failed
 returns-in_err-frame-clause-failed g c why is =
     let memory : why ≡ fault.Memory = search rules in
