@@ -3,16 +3,19 @@
 
 Usage: bench/pn.py [--limit SECONDS] [--memory GIB] [--count] [--draw]
 
-growth    a problem whose last tree has more than a million expansions: how many a second, and the most memory that the process had. How
-          many expansions a tree has is in its definition, and the same on each machine; the numbers below were counted by `--count`
-mates     for each mate the times of `pnmate N` and of `go mate N`, where N is its least number of moves, and the memory of the first
+growth    problems without a mate, whose last trees have half a million to two million expansions: how many a second, and the most
+          memory that the process had, also as a share for a million expansions of the last tree, which is the one in memory at the end
+mates     for each mate the times of `pnmate 10` and of `go mate 10`, which both look for mates within 1 move, 2 and so on, and the
+          memory of the first
 
 A row has 60 seconds for each of the two, or as many as `--limit` says, and `pnmate` 6 GiB of memory, or as many as `--memory` says; what
-needs more is cut, and the row says so. The whole takes at most a quarter of an hour. Ends with an error where an answer is another one.
+needs more is cut, and the row says so. So it ends within 25 minutes. Ends with an error where an answer is another one. VENGINE=FILE names
+another program.
 
-`--count` counts the expansions of the problems of growth in place of all that (wants gdb, and is slow). `--draw` draws ten mates like
-those below (wants Debian's package fairy-stockfish, which says which positions are mates): from a fixed seed, one for each row of men, where
-the lone king has at most three moves. VENGINE=FILE names another program.
+How many expansions a tree has follows from its definition, and is the same on each machine. The numbers below are those of
+`bench/pn_count.c`, a plain program that shares nothing with this one; `--count` compiles it (wants cc), counts anew and compares.
+`--draw` draws ten mates (wants Debian's package fairy-stockfish, which says which positions are mates): from a fixed seed, one for each
+row of men, where the lone king's side has at most three moves, and White at most eight if it has no hand. Those below are these.
 """
 import argparse
 import os
@@ -29,24 +32,40 @@ TOP = os.path.join(os.path.dirname(os.path.abspath(__file__)), "..")
 ENGINE = os.environ.get("VENGINE", os.path.join(TOP, "vengine"))
 OTHER = next((path for path in ("/usr/games/fairy-stockfish", "/usr/bin/fairy-stockfish") if os.path.exists(path)), None)
 LEAST, MOST = 6, 10
-# Whoever is to move does not win within the number of moves; how many expansions all its trees have, and the last of them.
-GROWTH = []
-MATES = []
+# White does not win within the number of moves; how many expansions all its trees have, and the last of them.
+GROWTH = [
+    ("chess", "7k/3K4/5p2/5N2/2N5/8/8/8 w - - 0 1", 4, 1777452, 1738802),
+    ("chess", "rnbq1rk1/4b1n1/pppppppp/8/8/PPPPPPPP/4B1N1/RNBQ1RK1 w - - 0 1", 3, 549521, 547827),
+    ("crazyhouse", "7k/8/8/8/7K/8/8/8[NP] w - - 0 1", 3, 689916, 674919),
+]
+MATES = [
+    ("chess", "8/8/8/N7/8/p7/8/k1K5 w - - 0 1"),
+    ("chess", "k1K5/p7/p7/8/8/NP6/8/8 w - - 0 1"),
+    ("chess", "k2K4/p7/p7/8/8/3P4/8/8 w - - 0 1"),
+    ("chess", "7B/7k/5K1p/7p/4P3/8/8/8 w - - 0 1"),
+    ("chess", "5N1k/7N/5p1K/8/8/8/8/8 w - - 0 1"),
+    ("crazyhouse", "8/8/8/8/8/5Kp1/8/6Nk[] w - - 0 1"),
+    ("crazyhouse", "k7/p7/p3P3/8/K7/N7/8/8[] w - - 0 1"),
+    ("crazyhouse", "7N/5K1k/7p/8/8/8/7P/8[] w - - 0 1"),
+    ("crazyhouse", "8/8/8/8/p7/8/k1K5/8[N] w - - 0 1"),
+    ("crazyhouse", "5K2/7k/7p/8/8/8/8/8[B] w - - 0 1"),
+]
 # To draw: the variant, the men of White beside its king, those of Black, and what White has in hand.
 MEN = [
     ("chess", "N", "p", ""),
-    ("chess", "NN", "p", ""),
     ("chess", "NP", "pp", ""),
-    ("chess", "BP", "pp", ""),
     ("chess", "P", "pp", ""),
+    ("chess", "BP", "pp", ""),
+    ("chess", "NN", "p", ""),
     ("crazyhouse", "N", "p", ""),
     ("crazyhouse", "NP", "pp", ""),
+    ("crazyhouse", "NP", "p", ""),
     ("crazyhouse", "", "p", "N"),
     ("crazyhouse", "", "p", "B"),
-    ("crazyhouse", "", "", "NP"),
 ]
 CORNERS = [(0, 0), (0, 7), (7, 0), (7, 7), (0, 1), (1, 0), (7, 6), (6, 7)]
 SEED = 20261129
+REPLIES, MOVES = 3, 8
 NODES = 40000
 OUT_OF_MEMORY = 7
 
@@ -120,15 +139,30 @@ def tell_growth(given):
 
 
 def tell_mates(given):
-    """Whether both commands say the number of each mate."""
+    """Whether the commands that were not cut say the same mate, in 6 to 10."""
     sound = True
-    for variant, fen, moves in MATES:
-        run = Run(variant, fen, moves, given.limit, given.memory)
-        other = go_mate(variant, fen, moves, given.limit)
-        sound = sound and (run.cut is not None or run.said == f"mate {moves}") and (other is None or other[0] == moves)
+    for variant, fen in MATES:
+        run = Run(variant, fen, MOST, given.limit, given.memory)
+        other = go_mate(variant, fen, MOST, given.limit)
+        said = [] if run.cut else [run.said]
+        said += [] if other is None else [f"mate {other[0]}"]
+        sound = sound and len(set(said)) < 2 and all(one in [f"mate {least}" for least in range(LEAST, MOST + 1)] for one in said)
         told = run.cut or f"{run.said} in {run.seconds:.2f} s"
         beside = f"cut after {given.limit:.0f} s" if other is None else f"mate {other[0]} in {other[1]:.2f} s"
-        print(f"{variant} {fen}: pnmate {moves}: {told}, {run.mebibytes:.0f} MiB; go mate {moves}: {beside}", flush=True)
+        print(f"{variant} {fen}: pnmate {told}, {run.mebibytes:.0f} MiB; go mate {beside}", flush=True)
+    return sound
+
+
+def count():
+    """Whether the numbers of the problems of growth are those that are counted."""
+    sound = True
+    with tempfile.TemporaryDirectory() as folder:
+        program = os.path.join(folder, "pn_count")
+        subprocess.run(["cc", "-O2", "-o", program, os.path.join(TOP, "bench", "pn_count.c")], check=True)
+        for variant, fen, moves, whole, last in GROWTH:
+            words = subprocess.run([program, fen, str(moves)], capture_output=True, text=True, check=True).stdout.splitlines()[-1].split()
+            print(f"{variant} {fen} within {moves}: {words[2]} expansions in the last tree, {words[6]} in all", flush=True)
+            sound = sound and [words[1], int(words[2]), int(words[6])] == ["none", last, whole]
     return sound
 
 
@@ -195,7 +229,7 @@ class Other:
 
 
 def drawn(rng, row, other):
-    """A position of the row that is a mate in 6 to 10, where the lone king's side has at most three moves."""
+    """A position of the row that is a mate in 6 to 10, where the lone king's side has few moves, and White too if it has no hand."""
     variant, _, _, hand = row
     while True:
         men = placed(rng, row)
@@ -203,7 +237,9 @@ def drawn(rng, row, other):
             continue
         fen = fen_of(men, f"[{hand}]" if variant == "crazyhouse" else "")
         turned = fen.replace(" w ", " b ")
-        if other.is_checked(turned) or other.is_checked(fen) or not 0 < other.count(turned) <= 3:
+        if other.is_checked(turned) or other.is_checked(fen) or not 0 < other.count(turned) <= REPLIES:
+            continue
+        if not hand and other.count(fen) > MOVES:
             continue
         if all(LEAST <= other.mate_in(fen, nodes) <= MOST for nodes in (NODES, 10 * NODES)):
             return fen
@@ -232,8 +268,7 @@ def main():
         sys.exit("pn: wants Debian's package fairy-stockfish") if OTHER is None else draw()
         return
     if given.count:
-        count()
-        return
+        sys.exit(0 if count() else "pn: the numbers are others")
     # the first start builds the program where a source is newer
     subprocess.run([ENGINE, "status"], input="chess\nstartpos\n", capture_output=True, text=True)
     if not all([tell_growth(given), tell_mates(given)]):
