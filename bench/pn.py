@@ -99,12 +99,12 @@ class Run:
 def go_mate(variant, fen, moves, limit):
     """The least number of moves that a session of UCI says, and the seconds; nothing where it took too long."""
     session = subprocess.Popen([ENGINE], stdin=subprocess.PIPE, stdout=subprocess.PIPE, text=True)
-    timer = threading.Timer(limit, session.kill)
-    timer.start()
     session.stdin.write(f"setoption name UCI_Variant value {variant}\nposition fen {fen}\nisready\n")
     session.stdin.flush()
     while session.stdout.readline().strip() not in ("readyok", ""):
         pass
+    timer = threading.Timer(limit, session.kill)
+    timer.start()
     start = time.perf_counter()
     session.stdin.write(f"go mate {moves}\n")
     session.stdin.flush()
