@@ -9,11 +9,14 @@ with `go movetime 100`; `--clock 60000+600` gives each side a clock by the wall,
 same four random moves, and colours change. Both engines are given the file of variants by their option VariantPath. After each move
 `status` says how the game stands; a move that `moves` does not list loses, and so does a move that comes later than its time and the
 grace, a tenth of a second, or not within 20 seconds; on a machine that does much else give more. Prints a line for each game, and the
-moves of one that did not end by the rules; then the result, the causes of the ends, and for each engine its slowest move, how many it
-made, and how many of them came more than a tenth of a second after their time. VENGINE=FILE names another arbiter than `vengine`.
+moves of one that did not end by the rules; a line for each move that came more than a tenth of a second after its time, with how much of
+that the threads of the engine and this script waited for a processor, by the kernel's count (/proc/PID/schedstat), and the load; then the
+result, the causes of the ends, and for each engine its slowest move, how many it made, and how many of them came so late. VENGINE=FILE
+names another arbiter than `vengine`.
 """
 import argparse
 import collections
+import glob
 import os
 import queue
 import random
@@ -38,10 +41,23 @@ def ask(command, variant, played):
     return done.stdout.splitlines()
 
 
+def waited(pid):
+    """How many seconds the threads of a process have waited for a processor, as far as the kernel tells."""
+    total = 0
+    for path in glob.glob(f"/proc/{pid}/task/*/schedstat"):
+        try:
+            with open(path) as file:
+                total += int(file.read().split()[1])
+        except (OSError, IndexError):
+            pass
+    return total / 1e9
+
+
 class Engine:
     """A UCI engine in a process of its own; a thread takes its lines with the times at which they came."""
 
     def __init__(self, command, variant, path, grace):
+        self.name = command
         self.process = subprocess.Popen(shlex.split(command), stdin=subprocess.PIPE, stdout=subprocess.PIPE, text=True, bufsize=1)
         self.lines = queue.Queue()
         self.grace, self.slowest, self.moves, self.late = grace, 0.0, 0, 0
@@ -87,13 +103,19 @@ class Engine:
     def move(self, played, go, limit):
         """The move that it chooses and how long it took, or why there is none."""
         self.say("position startpos" + (" moves " + " ".join(played) if played else ""))
+        waits = [waited(pid) for pid in (self.process.pid, "self")]
         begun = time.monotonic()
         self.say(go)
         at, line = self.wait_for("bestmove", max(limit, HANGS))
         if line is None:
             return None, "hangs"
         took = at - begun
-        self.slowest, self.moves, self.late = max(self.slowest, took), self.moves + 1, self.late + (took > limit + LATE)
+        self.slowest, self.moves = max(self.slowest, took), self.moves + 1
+        if took > limit + LATE:
+            self.late += 1
+            engine, script = (waited(pid) - wait for pid, wait in zip((self.process.pid, "self"), waits))
+            print(f"late: {took:.3f} s after {len(played)} plies, of which the engine waited {engine:.3f} s for a processor and the script "
+                  f"{script:.3f} s, at a load of {os.getloadavg()[0]:.0f}: {self.name}", flush=True)
         if took > limit + self.grace:
             return None, f"loses on time, {took:.2f} s"
         return line.split()[1], took

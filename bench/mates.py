@@ -1,7 +1,8 @@
 #!/usr/bin/env python3
 """How long `go mate N` takes, beside Fairy-Stockfish's, on positions with a known mate.
 
-Usage: bench/mates.py FILE [--engine COMMAND] [--limit SECONDS] [--threads N] [--variant NAME] [--most N] [--check] [--each]
+Usage: bench/mates.py FILE [--engine COMMAND] [--limit SECONDS] [--threads N[,N ..]] [--slow] [--times N] [--variant NAME] [--most N]
+                      [--check] [--each]
 
 FILE is a list in JSON of positions {"variant", "fen", "within", "least"}: the mover mates within the number `within`, and `least` is the
 least such number, or absent. Both programs get `go mate WITHIN` for each position, one after the other in the same run, each in one session
@@ -9,9 +10,12 @@ for all positions of a variant, after `ucinewgame`; the time is that from `go` t
 default) is stopped and counted with the limit. The table has a row for each least number: the seconds of both for all of its positions, their
 ratio, the longest of each, and how many each left unsolved.
 
-`--threads` sets `Threads` of both (1 by default), `--variant` and `--most` leave out other variants and greater numbers, `--each` prints a
-line for each position, and `--check` has `vengine check` read every strategy. Without Debian's package fairy-stockfish its columns are
-left out, which is said. Ends with an error where a number that was found is not the file's, or a strategy is not accepted.
+`--threads` sets `Threads` of both (1 by default). With several numbers, as `--threads 1,4`, Vengine is measured with each of them in
+place of Fairy-Stockfish, one after the other for each position, and the ratio is that of the first to the last. `--slow` leaves out of
+the table what the first column solves within a second. `--times N` solves each position N times, and the least time counts. `--variant`
+and `--most` leave out other variants and greater numbers, `--each` prints a line for each position, and `--check` has `vengine check`
+read every strategy. Without Debian's package fairy-stockfish its columns are left out, which is said. Ends with an error where a number
+that was found is not the file's, or a strategy is not accepted. `--engine` or VENGINE=FILE names another program.
 """
 import argparse
 import collections
@@ -25,9 +29,10 @@ import threading
 import time
 
 TOP = os.path.join(os.path.dirname(os.path.abspath(__file__)), "..")
-ENGINE = os.path.join(TOP, "vengine")
+ENGINE = os.environ.get("VENGINE", os.path.join(TOP, "vengine"))
 OTHER = next((path for path in ("/usr/games/fairy-stockfish", "/usr/bin/fairy-stockfish") if os.path.exists(path)), None)
 HANGS = 60.0
+SLOW = 1.0
 
 
 class Session:
@@ -110,60 +115,81 @@ def mate_in(lines):
     return found
 
 
-def is_accepted(text):
-    done = subprocess.run(shlex.split(ENGINE) + ["check"], input=text, capture_output=True, text=True)
+def is_accepted(engine, text):
+    done = subprocess.run(shlex.split(engine) + ["check"], input=text, capture_output=True, text=True)
     return done.returncode == 0 and done.stdout == "wins\n"
 
 
 class Row:
-    """What both programs took for the positions of one least number."""
+    """What the columns took for the positions of one least number."""
 
-    def __init__(self):
+    def __init__(self, columns):
         self.count = 0
-        self.seconds = [0.0, 0.0]
-        self.longest = [0.0, 0.0]
-        self.unsolved = [0, 0]
+        self.seconds = [0.0] * columns
+        self.longest = [0.0] * columns
+        self.unsolved = [0] * columns
 
-    def add(self, place, found, taken):
-        self.seconds[place] += taken
-        self.longest[place] = max(self.longest[place], taken)
-        self.unsolved[place] += found is None
+    def add(self, answers):
+        self.count += 1
+        for place, (found, taken) in enumerate(answers):
+            self.seconds[place] += taken
+            self.longest[place] = max(self.longest[place], taken)
+            self.unsolved[place] += found is None
 
-    def text(self, places):
+    def join(self, other):
+        self.count += other.count
+        for place in range(len(self.seconds)):
+            self.seconds[place] += other.seconds[place]
+            self.longest[place] = max(self.longest[place], other.longest[place])
+            self.unsolved[place] += other.unsolved[place]
+
+    def text(self):
         parts = [f"{self.count:9}"]
-        for place in places:
-            parts.append(f"{self.seconds[place]:9.2f} {self.longest[place]:9.3f} {self.unsolved[place]:8}")
-        if len(places) > 1:
-            parts.append(f"{self.seconds[0] / max(self.seconds[1], 1e-6):8.2f}")
+        for seconds, longest, unsolved in zip(self.seconds, self.longest, self.unsolved):
+            parts.append(f"{seconds:11.2f} {longest:9.3f} {unsolved:8}")
+        if len(self.seconds) > 1:
+            parts.append(f"{self.seconds[0] / max(self.seconds[-1], 1e-6):8.2f}")
         return " ".join(parts)
 
 
-def fault_of(row, found, session, checks):
+def fault_of(row, found, session, given):
     """What is wrong with what was found, or None."""
     if found is None:
         return None
     least = row.get("least")
     if least is not None and found != least:
         return f"found {found} where the file says {least}"
-    if checks:
+    if given.check:
         text = session.strategy()
-        if text is None or not is_accepted(text):
+        if text is None or not is_accepted(given.engine, text):
             return "the strategy is not accepted"
     return None
 
 
+def best_of(session, position, given):
+    """What was found, and the least of the times."""
+    answers = [session.solve(position["fen"], position["within"], given.limit) for _ in range(given.times)]
+    return min(answers, key=lambda answer: answer[1])
+
+
+def columns_of(given):
+    """The name, the command and the threads of each column."""
+    if len(given.threads) > 1:
+        return [(f"{count} threads", given.engine, count) for count in given.threads]
+    return [("vengine", given.engine, given.threads[0])] + ([("fairy", OTHER, given.threads[0])] if OTHER else [])
+
+
 def measure(variant, positions, given, rows):
-    """Has both programs solve the positions, and says how many went wrong."""
-    commands = [given.engine] + ([OTHER] if OTHER else [])
-    sessions = [Session(command, variant, given.threads) for command in commands]
+    """Solves the positions by each column, and says how many went wrong."""
+    sessions = [Session(command, variant, threads) for _, command, threads in columns_of(given)]
+    ours = [command == given.engine for _, command, _ in columns_of(given)]
     wrong = 0
     for position in positions:
-        answers = [session.solve(position["fen"], position["within"], given.limit) for session in sessions]
-        row = rows[position.get("least", answers[0][0] or position["within"])]
-        row.count += 1
-        for place, (found, taken) in enumerate(answers):
-            row.add(place, found, taken)
-        fault = fault_of(position, answers[0][0], sessions[0], given.check)
+        answers = [best_of(session, position, given) for session in sessions]
+        if not given.slow or answers[0][1] >= SLOW:
+            rows[position.get("least", answers[0][0] or position["within"])].add(answers)
+        faults = [fault_of(position, found, session, given) for (found, _), session, own in zip(answers, sessions, ours) if own]
+        fault = next((one for one in faults if one), None)
         wrong += fault is not None
         if given.each or fault:
             told = ", ".join(f"{found or 'none'} in {taken:.3f} s" for found, taken in answers)
@@ -173,18 +199,34 @@ def measure(variant, positions, given, rows):
     return wrong
 
 
+def tell(rows, names):
+    heads = [f"{name + ', s':>11} {'longest':>9} {'unsolved':>8}" for name in names]
+    print(f"{'moves':5} {'positions':>9} {' '.join(heads)}{'    ratio' if len(names) > 1 else ''}")
+    whole = Row(len(names))
+    for least in sorted(rows):
+        print(f"{least:5} {rows[least].text()}")
+        whole.join(rows[least])
+    print(f"{'all':>5} {whole.text()}")
+
+
+def counts_of(text):
+    return [int(part) for part in text.split(",")]
+
+
 def main():
     parser = argparse.ArgumentParser(description=__doc__, formatter_class=argparse.RawDescriptionHelpFormatter)
     parser.add_argument("file")
     parser.add_argument("--engine", default=ENGINE)
     parser.add_argument("--limit", type=float, default=60.0)
-    parser.add_argument("--threads", type=int, default=1)
+    parser.add_argument("--threads", type=counts_of, default=[1])
+    parser.add_argument("--slow", action="store_true")
+    parser.add_argument("--times", type=int, default=1)
     parser.add_argument("--variant")
     parser.add_argument("--most", type=int, default=100)
     parser.add_argument("--check", action="store_true")
     parser.add_argument("--each", action="store_true")
     given = parser.parse_args()
-    if OTHER is None:
+    if OTHER is None and len(given.threads) == 1:
         print("without Debian's package fairy-stockfish: its columns are left out")
     with open(given.file, encoding="utf-8") as file:
         positions = [row for row in json.load(file) if row.get("least", row["within"]) <= given.most]
@@ -192,14 +234,11 @@ def main():
     for position in positions:
         if given.variant in (None, position["variant"]):
             by_variant[position["variant"]].append(position)
-    rows, wrong = collections.defaultdict(Row), 0
+    names = [name for name, _, _ in columns_of(given)]
+    rows, wrong = collections.defaultdict(lambda: Row(len(names))), 0
     for variant, some in by_variant.items():
         wrong += measure(variant, some, given, rows)
-    places = [0, 1] if OTHER else [0]
-    heads = [f"{name + ', s':>9} {'longest':>9} {'unsolved':>8}" for name in ("vengine", "fairy")[: len(places)]]
-    print(f"{'moves':5} {'positions':>9} {' '.join(heads)}{'    ratio' if OTHER else ''}")
-    for least in sorted(rows):
-        print(f"{least:5} {rows[least].text(places)}")
+    tell(rows, names)
     if wrong:
         sys.exit(f"mates: {wrong} went wrong")
 

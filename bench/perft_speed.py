@@ -1,10 +1,11 @@
 #!/usr/bin/env python3
 """How fast `perft` counts, beside Fairy-Stockfish: alternating runs of both in one call.
 
-Usage: bench/perft_speed.py [RUNS]      (runs of each, 3 by default; the best counts: some five minutes for each)
+Usage: bench/perft_speed.py [RUNS [VARIANT ..]]      (runs of each, 3 by default; the best counts: some five minutes for each)
 
-Wants Debian's package fairy-stockfish. The time that each program takes to start and to count one ply is taken off. For each row it
-prints the count, the millions of moves a second of both, and the ratio. Ends with an error where the counts of a row differ.
+Wants Debian's package fairy-stockfish. The time that each program takes to start and to count one ply is taken off. For each row, or
+each of the variants that are named, it prints the count, the millions of moves a second of both, and the ratio. Ends with an error
+where the counts of a row differ. VENGINE=FILE names another program.
 """
 import os
 import subprocess
@@ -13,7 +14,7 @@ import tempfile
 import time
 
 TOP = os.path.join(os.path.dirname(os.path.abspath(__file__)), "..")
-ENGINE = os.path.join(TOP, "vengine")
+ENGINE = os.environ.get("VENGINE", os.path.join(TOP, "vengine"))
 OTHER = next((path for path in ("/usr/games/fairy-stockfish", "/usr/bin/fairy-stockfish") if os.path.exists(path)), None)
 MIDDLE = "r3k2r/p1ppqpb1/bn2pnp1/3PN3/1p2P3/2N2Q1p/PPPBBPPP/R3K2R w KQkq - 0 1"
 OTHER_MIDDLE = "r4rk1/1pp1qppp/p1np1n2/2b1p1B1/2B1P1b1/P1NP1N2/1PP1QPPP/R4RK1 w - - 0 10"
@@ -86,18 +87,19 @@ def measured(file, variant, position, plies, runs):
     rates = [count / max(taken - base, 1e-6) / 1e6 for count, taken, base in zip(counts, least, bases)]
     same = counts[0] == counts[1]
     note = "" if same else f" (there {counts[1]})"
-    print(f"{variant} {position} perft {plies}: {counts[0]}{note}, {rates[0]:.2f} and {rates[1]:.2f} M/s, ratio {rates[0] / rates[1]:.2f}")
+    print(f"{variant} {position} perft {plies}: {counts[0]}{note}, {rates[0]:.2f} and {rates[1]:.2f} M/s, ratio {rates[0] / rates[1]:.2f}", flush=True)
     return same
 
 
 def main():
     runs = int(sys.argv[1]) if len(sys.argv) > 1 else 3
+    only = sys.argv[2:]
     if OTHER is None:
         sys.exit("perft_speed: wants Debian's package fairy-stockfish")
     with tempfile.NamedTemporaryFile("w", suffix=".ini") as file:
         file.write(WIDE)
         file.flush()
-        rows = [measured(file.name, *row, runs) for row in ROWS]
+        rows = [measured(file.name, *row, runs) for row in ROWS if not only or row[0] in only]
     if not all(rows):
         sys.exit("perft_speed: the counts differ")
 
