@@ -309,15 +309,15 @@ fn least_numbers_of_moves(rt: HostRuntime) -> Result<(), Fail> {
         Row {
             side: Side::Black,
             played: TWICE,
-            ..row("Kg6 Ra7 kh8", 0, 2, Told::NoMate)
+            ..plain_row("Kg6 Ra7 kh8", 0, 2, Told::NoMate)
         },
         Row {
             side: Side::Black,
-            ..row("Kg6 Ra7 kh8", 1, 1, Told::Shown)
+            ..plain_row("Kg6 Ra7 kh8", 1, 1, Told::Shown)
         },
         Row {
             attacker: Side::Black,
-            ..row("Kh1 qg2 kg3", 0, 1, Told::Shown)
+            ..plain_row("Kh1 qg2 kg3", 0, 1, Told::Shown)
         },
     ] {
         expect(&rt, rt.alloc(), &row)?;
