@@ -6,8 +6,6 @@ mod race;
 mod roots;
 mod searching;
 mod shared;
-#[cfg(test)]
-mod tests;
 mod work;
 
 pub use io_ports::{Limits, SearchFault, Stopped};

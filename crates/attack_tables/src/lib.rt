@@ -7,8 +7,6 @@ mod pawns;
 mod regions;
 pub mod sight;
 pub mod tables;
-#[cfg(test)]
-mod tests;
 
 pub use move_tables::{Mode, kings, men, occupied};
 pub use pawns::PawnMasks;

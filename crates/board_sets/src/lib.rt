@@ -3,7 +3,5 @@
 
 mod after;
 pub mod sets;
-#[cfg(test)]
-mod tests;
 
 pub use sets::{BoardSets, sets_are_on_board, sets_of};

@@ -10,5 +10,3 @@ mod texts;
 pub use serving::serve;
 pub use session::CecpSession;
 
-#[cfg(test)]
-mod tests;

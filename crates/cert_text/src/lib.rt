@@ -9,8 +9,6 @@ pub mod laws;
 mod reader;
 mod reading;
 mod said;
-#[cfg(test)]
-mod tests;
 mod writing;
 
 pub use fault::{CertFault, NoCert};

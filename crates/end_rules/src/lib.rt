@@ -4,8 +4,6 @@
 mod checks;
 mod extinction;
 mod flag;
-#[cfg(test)]
-mod tests;
 
 ghost use Rattle.std.specs.Prelude.{◌≡◌};
 ghost use Rattle.rules_model.specs.Ends as Ends;

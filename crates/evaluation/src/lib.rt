@@ -8,8 +8,6 @@ mod after;
 mod hands;
 mod pieces;
 mod tally;
-#[cfg(test)]
-mod tests;
 mod worths;
 
 ghost use Rattle.std.specs.Prelude.{◌≡◌};

@@ -9,5 +9,3 @@ mod view;
 pub use journal::Journal;
 pub use lock::{Lock, Pass};
 
-#[cfg(test)]
-mod tests;

@@ -4,7 +4,5 @@
 mod line;
 mod results;
 mod slots;
-#[cfg(test)]
-mod tests;
 
 pub use line::Line;

@@ -8,8 +8,6 @@ mod perft;
 mod play;
 mod repetition;
 mod results;
-#[cfg(test)]
-mod tests;
 
 pub use faults::{NothingPlayed, PlayFault};
 pub use game::{Game, MOST_PLIES};

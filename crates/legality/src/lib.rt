@@ -15,8 +15,6 @@ mod play;
 mod safety;
 mod search;
 mod seek;
-#[cfg(test)]
-mod tests;
 mod unpinned;
 
 pub use ask::{

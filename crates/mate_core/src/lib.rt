@@ -9,8 +9,6 @@ mod hash;
 mod packed_fact;
 mod steps;
 mod store;
-#[cfg(test)]
-mod tests;
 
 pub use answers::{
     as_good_facts_serve_as_much, best, best_is_the_first_of_the_least, is_as_good, serves, sooner,

@@ -4,8 +4,6 @@
 
 mod ends;
 mod refuted;
-#[cfg(test)]
-mod tests;
 mod won;
 
 pub use ends::{end_of, is_blocked, won_by};

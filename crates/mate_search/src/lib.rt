@@ -15,8 +15,6 @@ mod racer;
 mod shared;
 mod shared_root;
 mod solving;
-#[cfg(test)]
-mod tests;
 mod unwatched;
 mod whole;
 

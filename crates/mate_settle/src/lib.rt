@@ -7,8 +7,6 @@ mod known;
 mod last_moves;
 mod ordering;
 mod settling;
-#[cfg(test)]
-mod tests;
 
 pub use choosing::{Choice, all_won, choose};
 pub use known::FactTable;

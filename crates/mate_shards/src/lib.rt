@@ -19,5 +19,3 @@ mod shards;
 pub use published::Published;
 pub use shards::{Passes, Shards};
 
-#[cfg(test)]
-mod tests;

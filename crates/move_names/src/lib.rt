@@ -11,8 +11,6 @@ mod endings;
 pub mod laws;
 mod read;
 mod squares;
-#[cfg(test)]
-mod tests;
 
 use read::said;
 use rules_model::{Move, Position, Rules};

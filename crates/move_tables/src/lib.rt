@@ -13,8 +13,6 @@ mod region;
 pub mod spot;
 pub mod squares;
 pub mod tables;
-#[cfg(test)]
-mod tests;
 
 pub use build::terms_of;
 pub use jump::Jump;

@@ -2,8 +2,6 @@
 #![tactic(auto)]
 
 pub mod order;
-#[cfg(test)]
-mod tests;
 pub mod text;
 
 pub use order::{keys_are_in_the_order_of_texts, move_key};

@@ -13,8 +13,6 @@ mod order;
 mod quiet;
 mod root;
 mod search;
-#[cfg(test)]
-mod tests;
 mod window;
 
 pub use desk::Desk;

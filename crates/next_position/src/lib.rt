@@ -17,8 +17,6 @@ mod hands;
 mod passing;
 mod pieces;
 mod rights;
-#[cfg(test)]
-mod tests;
 
 pub use counts::count_check;
 pub use pieces::{behind, fresh, gated, promote};

@@ -6,8 +6,6 @@ pub mod candidate;
 pub mod generate;
 mod pawn;
 mod shifted;
-#[cfg(test)]
-mod tests;
 
 pub use candidate::is_candidate;
 pub use generate::push_moves;

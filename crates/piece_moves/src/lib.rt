@@ -7,8 +7,6 @@ mod goal;
 mod piece;
 mod promotion;
 mod targets;
-#[cfg(test)]
-mod tests;
 
 pub use candidate::is_candidate;
 pub use generate::{Mover, mover_on, push_mover, push_moves};

@@ -6,7 +6,5 @@ pub mod danger;
 pub mod evasion;
 pub mod guards;
 pub mod kings;
-#[cfg(test)]
-mod tests;
 
 pub use kings::free;

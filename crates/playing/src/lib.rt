@@ -4,7 +4,5 @@
 mod board;
 mod ends;
 mod moves;
-#[cfg(test)]
-mod tests;
 
 pub use board::Board;

@@ -13,8 +13,6 @@ mod mating;
 mod mirror;
 mod node;
 mod numbers;
-#[cfg(test)]
-mod tests;
 mod tree;
 
 pub use expanding::root_end;

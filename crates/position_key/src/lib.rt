@@ -8,8 +8,6 @@ mod laws;
 mod packed;
 mod rest;
 mod sums;
-#[cfg(test)]
-mod tests;
 mod words;
 mod written;
 

@@ -12,8 +12,6 @@ mod proof;
 mod reading;
 mod strategy_lines;
 mod taking;
-#[cfg(test)]
-mod tests;
 mod text_source;
 mod told;
 mod words;

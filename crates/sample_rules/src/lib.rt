@@ -7,8 +7,6 @@ mod base;
 mod pieces;
 mod positions;
 mod regions;
-#[cfg(test)]
-mod tests;
 mod variants;
 
 pub use base::empty;

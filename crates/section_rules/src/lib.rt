@@ -19,5 +19,3 @@ pub use lines::own_fault;
 pub use resolved::Resolved;
 pub use rules::bare_rules;
 
-#[cfg(test)]
-mod tests;

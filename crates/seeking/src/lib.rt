@@ -6,8 +6,6 @@ mod mind;
 mod pool;
 mod search;
 mod solve;
-#[cfg(test)]
-mod tests;
 
 pub use mind::Mind;
 pub use search::{Search, search_once};

@@ -7,8 +7,6 @@ mod castles;
 mod drops;
 mod gates;
 pub mod generate;
-#[cfg(test)]
-mod tests;
 mod way;
 
 pub use candidate::is_candidate;

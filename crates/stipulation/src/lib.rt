@@ -10,8 +10,6 @@ mod mates;
 mod reach;
 mod search;
 mod task;
-#[cfg(test)]
-mod tests;
 mod tree;
 mod verdict;
 

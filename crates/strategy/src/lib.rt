@@ -9,8 +9,6 @@ mod nodes;
 mod reader;
 mod reading;
 mod said;
-#[cfg(test)]
-mod tests;
 mod writing;
 
 pub use fault::StrategyFault;

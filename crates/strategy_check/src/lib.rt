@@ -8,8 +8,6 @@ mod places;
 mod repetition;
 mod replies;
 mod table;
-#[cfg(test)]
-mod tests;
 mod verdict;
 
 pub use first_fault::check;

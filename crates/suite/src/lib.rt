@@ -20,5 +20,3 @@ pub use report::write_report;
 pub use reporting::solve_suite;
 pub use solving::solve_all;
 
-#[cfg(test)]
-mod tests;

@@ -22,5 +22,3 @@ pub use scores::{favoured, mate_in, mate_sought, root_move};
 pub use style::Style;
 pub use task::{Start, Task, begin, quota_left};
 
-#[cfg(test)]
-mod tests;

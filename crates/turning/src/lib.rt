@@ -14,5 +14,3 @@ pub use ended::Ended;
 pub use next_line::next_of;
 pub use waiting::{settle, wait};
 
-#[cfg(test)]
-mod tests;

@@ -17,5 +17,3 @@ pub use serving::serve;
 pub use session::UciSession;
 pub use turning::Ended;
 
-#[cfg(test)]
-mod tests;

@@ -16,5 +16,3 @@ pub use numbers::number;
 pub use setting::{Placing, Setting, read_placing, read_setting};
 pub use words::{joined, joined_by, words_in};
 
-#[cfg(test)]
-mod tests;

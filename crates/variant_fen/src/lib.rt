@@ -19,8 +19,6 @@ mod passed;
 mod pieces;
 mod pocket;
 mod read;
-#[cfg(test)]
-mod tests;
 mod write;
 mod write_fields;
 

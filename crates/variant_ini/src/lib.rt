@@ -20,5 +20,3 @@ pub use laws::{later_sections_change_no_option, options_are_inherited};
 pub use line::{Header, Line, Pair, pair_of, read_line};
 pub use sections::Sections;
 
-#[cfg(test)]
-mod tests;

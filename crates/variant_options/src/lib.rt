@@ -15,5 +15,3 @@ pub use fault::LineFault;
 pub use line::line_fault;
 pub use value::{Area, Listed, ValueKind};
 
-#[cfg(test)]
-mod tests;

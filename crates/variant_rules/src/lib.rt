@@ -14,5 +14,3 @@ pub use loading::load;
 pub use variant_model::SectionFault;
 pub use variants::Variants;
 
-#[cfg(test)]
-mod tests;

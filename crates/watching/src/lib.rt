@@ -21,5 +21,3 @@ pub use listen::{heed, say};
 pub use stopping::stopped_by;
 pub use watch::Watch;
 
-#[cfg(test)]
-mod tests;

@@ -15,5 +15,3 @@ mod reading;
 pub use command::Command;
 pub use reading::{Asked, read_words};
 
-#[cfg(test)]
-mod tests;

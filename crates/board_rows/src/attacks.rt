@@ -1,0 +1,495 @@
+ghost use Rattle.std.specs.Prelude.{◌≤◌, ◌<◌};
+ghost use Rattle.rules_model.specs.Fit.{IsFit};
+use attack_tables::{Mode, Tables, men, occupied};
+
+use foundation::Memory;
+use rules_model::{Position, Rules, Side, Square};
+use sample_rules::{chess, generals, kind, position, square, wide_chess, xiangqi};
+use square_set::{EMPTY, Set, Shift};
+use std::alloc::Global;
+use std::process::Abort;
+
+fn set_of(squares: &[&str]) -> Set {
+    let mut set = EMPTY;
+    for text in squares {
+        set = set.with(square(*text).0);
+    }
+    set
+}
+
+/// The squares of the files and ranks from those of the one corner to those of the other.
+fn block(low: &str, high: &str) -> Set {
+    let (low, high) = (square(low), square(high));
+    let mut set = EMPTY;
+    for at in 0..120u8 {
+        let here = Square(at);
+        let on_files = low.file() <= here.file() && here.file() <= high.file();
+        if on_files && low.rank() <= here.rank() && here.rank() <= high.rank() {
+            set = set.with(at);
+        }
+    }
+    set
+}
+
+/// Blocks of squares, each by its two corners.
+type Blocks<'a> = &'a [(&'a str, &'a str)];
+
+fn set_of_blocks(blocks: Blocks) -> Set {
+    let mut set = EMPTY;
+    for (low, high) in blocks {
+        set = set.or(block(*low, *high));
+    }
+    set
+}
+
+/// The piece on each square reaches in the mode these squares and no others.
+fn expect_reach(
+    rt: &impl Abort,
+    alloc: Global,
+    rules: &Rules,
+    pieces: &str,
+    rows: &[(&str, Mode, &[&str])],
+) -> Result<(), Memory>
+    requires { IsFit rules.now }
+{
+    let tables = Tables::new(alloc, rules)?;
+    let p = position(pieces);
+    for (from, mode, squares) in rows {
+        let reached = tables.reaches(&p, square(*from), *mode);
+        assert_eq!(rt; reached, set_of(*squares), "{from}");
+        for to in 0..120 {
+            let one = tables.reaches_square(&p, square(*from), *mode, Square(to));
+            assert_eq!(rt; one, reached.has(to));
+        }
+    }
+    Ok(())
+}
+
+#[test]
+fn chess_pieces_reach(rt: HostRuntime) -> Result<(), Memory> {
+    let rows: [(&str, Mode, &[&str]); 7] = [
+        ("a1", Mode::Take, &["b3", "c2"]),
+        ("e1", Mode::Take, &["d1", "f1", "d2", "e2", "f2"]),
+        ("h1", Mode::Quiet, &["e1", "f1", "g1", "h2", "h3"]),
+        ("h3", Mode::Take, &["g4"]),
+        ("e4", Mode::Take, &["d5", "f5"]),
+        ("b7", Mode::Take, &["a6", "c6"]),
+        ("e8", Mode::Quiet, &["d7", "e7", "f7", "d8", "f8"]),
+    ];
+    let pieces = "Na1 Ke1 Rh1 Ph3 Pe4 pb7 ke8";
+    expect_reach(&rt, rt.alloc(), &chess(), pieces, &rows)
+}
+
+// A pawn reaches no square but to take, and an empty square is no piece.
+#[test]
+fn some_reach_nothing(rt: HostRuntime) -> Result<(), Memory> {
+    let tables = Tables::new(rt.alloc(), &chess())?;
+    let p = position("Ph3 ke8");
+    assert_eq!(rt; tables.reaches(&p, square("h3"), Mode::Quiet), EMPTY);
+    assert_eq!(rt; tables.reaches(&p, square("d5"), Mode::Take), EMPTY);
+    assert_eq!(rt; tables.reaches(&p, Square(200), Mode::Take), EMPTY);
+    Ok(())
+}
+
+// An elephant does not cross the river, a king stays in its palace, a soldier goes sideways after the river, a cannon
+// takes over one piece, and a horse does not leap over the piece at its side.
+#[test]
+fn xiangqi_pieces_reach(rt: HostRuntime) -> Result<(), Memory> {
+    let rows: [(&str, Mode, &[&str]); 12] = [
+        ("c5", Mode::Take, &["a3", "e3"]),
+        (
+            "b3",
+            Mode::Quiet,
+            &[
+                "b1", "b2", "b4", "b5", "b6", "a3", "c3", "d3", "e3", "f3", "g3",
+            ],
+        ),
+        ("b3", Mode::Take, &["b7", "b8", "b9", "h3", "i3"]),
+        ("g3", Mode::Quiet, &["i4", "i2", "e4", "e2", "f1", "h1"]),
+        ("b9", Mode::Quiet, &["d10", "d8", "a7", "c7"]),
+        ("e1", Mode::Take, &["d1", "f1", "e2"]),
+        ("d10", Mode::Take, &["e10", "d9"]),
+        ("e5", Mode::Quiet, &["e6"]),
+        ("b6", Mode::Take, &["b7", "a6", "c6"]),
+        ("i6", Mode::Take, &["i7", "h6"]),
+        ("a6", Mode::Take, &["a5"]),
+        ("g4", Mode::Take, &["g3", "f4", "h4"]),
+    ];
+    let pieces = "Ke1 Bc5 Cb3 Pb6 nb9 kd10 Ng3 pg4 Pi6 pa6 Pe5";
+    expect_reach(&rt, rt.alloc(), &xiangqi(), pieces, &rows)
+}
+
+/// The side attacks the square, or not.
+fn expect_attacks(
+    rt: &impl Abort,
+    alloc: Global,
+    rules: &Rules,
+    rows: &[(&str, &str, Side, bool)],
+) -> Result<(), Memory>
+    requires { IsFit rules.now }
+{
+    let tables = Tables::new(alloc, rules)?;
+    for (pieces, at, by, attacked) in rows {
+        let p = position(*pieces);
+        assert_eq!(rt;
+            tables.attacked(&p, square(*at), *by),
+            *attacked,
+            "{pieces} {at}"
+        );
+        assert!(rt; !tables.attacked(&p, Square(200), *by));
+    }
+    Ok(())
+}
+
+#[test]
+fn sides_attack(rt: HostRuntime) -> Result<(), Memory> {
+    let pieces = "Na1 Ke1 Rh1 Ph3 Pe4 pb7 ke8";
+    let rows = [
+        (pieces, "e4", Side::White, false),
+        (pieces, "f5", Side::White, true),
+        (pieces, "e5", Side::White, false),
+        (pieces, "h3", Side::White, true),
+        (pieces, "h4", Side::White, false),
+        (pieces, "c6", Side::Black, true),
+        (pieces, "c6", Side::White, false),
+        ("Ke1 ke8", "e8", Side::White, false),
+    ];
+    expect_attacks(&rt, rt.alloc(), &chess(), &rows)
+}
+
+// Kings attack each other along an open file, and nothing else on it.
+#[test]
+fn kings_fly_in_xiangqi(rt: HostRuntime) -> Result<(), Memory> {
+    let river = "Ke1 Bc5 Cb3 Pb6 nb9 kd10 pa6";
+    let rows = [
+        ("Ke1 ke10", "e10", Side::White, true),
+        ("Ke1 ke10", "e1", Side::Black, true),
+        ("Ke1 ke10", "e5", Side::White, false),
+        ("Ke1 Pe5 ke10", "e10", Side::White, false),
+        ("Kd1 ke10", "e10", Side::White, false),
+        (river, "e3", Side::White, true),
+        (river, "e7", Side::White, false),
+        (river, "b8", Side::White, true),
+        (river, "a5", Side::Black, true),
+        (river, "b6", Side::Black, false),
+    ];
+    expect_attacks(&rt, rt.alloc(), &xiangqi(), &rows)
+}
+
+#[test]
+fn kings_are_attacked(rt: HostRuntime) -> Result<(), Memory> {
+    let tables = Tables::new(rt.alloc(), &chess())?;
+    for (pieces, white, black) in [
+        ("Ke1 re8 ka8", true, false),
+        ("Ke1 Re2 re8 ka8", false, false),
+        ("Ke1 Ra2 ka8", false, true),
+        ("Ra2", false, false),
+    ] {
+        let p = position(pieces);
+        let found = [
+            tables.king_attacked(&p, Side::White),
+            tables.king_attacked(&p, Side::Black),
+        ];
+        assert_eq!(rt; found, [white, black], "{pieces}");
+    }
+    Ok(())
+}
+
+/// Whether the king on a square stands attacked once White moved a piece: by the cells before the move, and the sets
+/// after it.
+fn is_attacked_after(tables: &Tables, p: &Position, from: Square, to: Square, king: Square) -> bool
+    requires from { from.0 < 120 }
+    requires to { to.0 < 120 }
+    requires king { king.0 < 120 }
+{
+    let enemies = men(&p.cells, Side::Black).without(to.0);
+    let occupied = occupied(&p.cells).without(from.0).with(to.0);
+    tables.attacks_king(&p.cells, enemies, occupied, king, Side::Black)
+}
+
+/// White's piece goes from the one square to the other, and then its king on the third is attacked, or not.
+fn expect_after(
+    rt: &impl Abort,
+    alloc: Global,
+    rules: &Rules,
+    rows: &[(&str, &str, &str, &str, bool)],
+) -> Result<(), Memory>
+    requires { IsFit rules.now }
+{
+    let tables = Tables::new(alloc, rules)?;
+    for (pieces, from, to, king, attacked) in rows {
+        let p = position(*pieces);
+        let after = is_attacked_after(&tables, &p, square(*from), square(*to), square(*king));
+        assert_eq!(rt; after, *attacked, "{pieces} {to}");
+    }
+    Ok(())
+}
+
+#[test]
+fn a_move_opens_and_closes_lines(rt: HostRuntime) -> Result<(), Memory> {
+    let pinned = "Ke1 Re2 re8 ka8";
+    let chess_rows = [
+        (pinned, "e2", "d2", "e1", true),
+        (pinned, "e2", "e5", "e1", false),
+        (pinned, "e2", "e8", "e1", false),
+        ("Ke1 re8 ka8", "e1", "e2", "e2", true),
+        ("Ke1 re8 ka8", "e1", "d1", "d1", false),
+    ];
+    let xiangqi_rows = [
+        ("Kd1 ke10", "d1", "e1", "e1", true),
+        ("Kd1 pe5 ke10", "d1", "e1", "e1", false),
+        ("Ke1 Pe5 ke10", "e5", "d5", "e1", true),
+    ];
+    expect_after(&rt, rt.alloc(), &chess(), &chess_rows)?;
+    expect_after(&rt, rt.alloc(), &xiangqi(), &xiangqi_rows)
+}
+
+/// A piece of the kind on the square goes to these squares, where these are occupied, the last ones by enemies.
+fn expect_goals(
+    rt: &impl Abort,
+    tables: &Tables,
+    letter: u8,
+    from: &str,
+    own: &[&str],
+    enemies: &[&str],
+    goals: &[&str],
+)
+    requires low { 97 ≤ letter }
+    requires high { letter < 123 }
+{
+    let enemies = set_of(enemies);
+    let occupied = set_of(own).or(enemies);
+    let found = tables.goals(Side::White, kind(letter), square(from), occupied, enemies);
+    assert_eq!(rt; found, set_of(goals), "{from}");
+}
+
+// A rook takes the first enemy and stops before the first own piece; a pawn only takes.
+#[test]
+fn a_chess_piece_goes_where_it_takes(rt: HostRuntime) -> Result<(), Memory> {
+    let tables = Tables::new(rt.alloc(), &chess())?;
+    let goals = ["b1", "c1", "a2", "a3", "a4"];
+    expect_goals(
+        &rt,
+        &tables,
+        b'r',
+        "a1",
+        &["a1", "d1"],
+        &["a4", "a6"],
+        &goals,
+    );
+    expect_goals(&rt, &tables, b'p', "e4", &["e4"], &["d5"], &["d5"]);
+    assert!(rt; tables.castling_on());
+    Ok(())
+}
+
+// A cannon goes like a rook, and takes over one piece alone.
+#[test]
+fn a_cannon_does_not(rt: HostRuntime) -> Result<(), Memory> {
+    let tables = Tables::new(rt.alloc(), &xiangqi())?;
+    let goals = ["a2", "a3", "b1", "c1", "a7"];
+    expect_goals(
+        &rt,
+        &tables,
+        b'c',
+        "a1",
+        &["a1", "a4", "d1"],
+        &["a7", "a9"],
+        &goals,
+    );
+    assert!(rt; !tables.castling_on());
+    Ok(())
+}
+
+/// From where a pawn goes on a board.
+#[derive(Drop)]
+struct Goers<'a> {
+    board: (&'a str, &'a str),
+    side: Side,
+    plain: Blocks<'a>,
+    once: Blocks<'a>,
+    twice: Blocks<'a>,
+    left: Blocks<'a>,
+    right: Blocks<'a>,
+}
+
+/// These squares of the board are plain, and of these a pawn goes from the others.
+fn expect_masks(rt: &impl Abort, tables: &Tables, row: &Goers) {
+    let masks = tables.pawn_masks(row.side);
+    let plain = masks.plain.and(block(row.board.0, row.board.1));
+    let rows = [
+        (plain, row.plain),
+        (plain.and(masks.once), row.once),
+        (plain.and(masks.twice), row.twice),
+        (plain.and(masks.left), row.left),
+        (plain.and(masks.right), row.right),
+    ];
+    for (k, (found, blocks)) in rows.iter().enumerate() {
+        assert_eq!(rt; *found, set_of_blocks(blocks), "row {k}");
+    }
+}
+
+#[test]
+fn pawns_shift(rt: HostRuntime) -> Result<(), Memory> {
+    let tables = Tables::new(rt.alloc(), &chess())?;
+    let white = tables.pawn_masks(Side::White);
+    let found = [white.ahead, white.leftward, white.rightward];
+    assert_eq!(rt; found, [Shift::Up(12), Shift::Up(11), Shift::Up(13)]);
+    let black = tables.pawn_masks(Side::Black);
+    let found = [black.ahead, black.leftward, black.rightward];
+    assert_eq!(rt; found, [Shift::Down(12), Shift::Down(11), Shift::Down(13)]);
+    Ok(())
+}
+
+// A pawn promotes from its last rank but one; on the last rank it goes nowhere.
+#[test]
+fn chess_pawns_go(rt: HostRuntime) -> Result<(), Memory> {
+    let tables = Tables::new(rt.alloc(), &chess())?;
+    let white = Goers {
+        board: ("a1", "h8"),
+        side: Side::White,
+        plain: &[("a1", "h6"), ("a8", "h8")],
+        once: &[("a1", "h6")],
+        twice: &[("a2", "h2")],
+        left: &[("b1", "h6")],
+        right: &[("a1", "g6")],
+    };
+    let black = Goers {
+        board: ("a1", "h8"),
+        side: Side::Black,
+        plain: &[("a3", "h8"), ("a1", "h1")],
+        once: &[("a3", "h8")],
+        twice: &[("a7", "h7")],
+        left: &[("a3", "g8")],
+        right: &[("b3", "h8")],
+    };
+    expect_masks(&rt, &tables, &white);
+    expect_masks(&rt, &tables, &black);
+    Ok(())
+}
+
+/// Chess where no pawn steps twice at once.
+fn single_steps() -> Rules
+    ensures { IsFit result }
+{
+    let mut rules = chess();
+    rules.double_step = false;
+    rules
+}
+
+#[test]
+fn pawns_step_once(rt: HostRuntime) -> Result<(), Memory> {
+    let tables = Tables::new(rt.alloc(), &single_steps())?;
+    for side in [Side::White, Side::Black] {
+        let masks = tables.pawn_masks(side);
+        let plain = masks.plain.and(block("a1", "h8"));
+        assert_eq!(rt; plain.and(masks.twice), EMPTY);
+        assert_eq!(rt; plain.and(masks.once).count(), 48);
+    }
+    Ok(())
+}
+
+// A pawn promotes on the last three ranks.
+#[test]
+fn generals_pawns_go(rt: HostRuntime) -> Result<(), Memory> {
+    let tables = Tables::new(rt.alloc(), &generals())?;
+    let white = Goers {
+        board: ("a1", "h8"),
+        side: Side::White,
+        plain: &[("a1", "h4"), ("a8", "h8")],
+        once: &[("a1", "h4")],
+        twice: &[("a2", "h2")],
+        left: &[("b1", "h4")],
+        right: &[("a1", "g4")],
+    };
+    let black = Goers {
+        board: ("a1", "h8"),
+        side: Side::Black,
+        plain: &[("a5", "h8"), ("a1", "h1")],
+        once: &[("a5", "h8")],
+        twice: &[("a7", "h7")],
+        left: &[("a5", "g8")],
+        right: &[("b5", "h8")],
+    };
+    expect_masks(&rt, &tables, &white);
+    expect_masks(&rt, &tables, &black);
+    Ok(())
+}
+
+// With soldiers and no pawn nothing promotes, on nine files and ten ranks; a pawn would go as ever.
+#[test]
+fn xiangqi_pawns_would_go(rt: HostRuntime) -> Result<(), Memory> {
+    let tables = Tables::new(rt.alloc(), &xiangqi())?;
+    let white = Goers {
+        board: ("a1", "i10"),
+        side: Side::White,
+        plain: &[("a1", "i10")],
+        once: &[("a1", "i9")],
+        twice: &[("a2", "i2")],
+        left: &[("b1", "i9")],
+        right: &[("a1", "h9")],
+    };
+    let black = Goers {
+        board: ("a1", "i10"),
+        side: Side::Black,
+        plain: &[("a1", "i10")],
+        once: &[("a2", "i10")],
+        twice: &[("a9", "i9")],
+        left: &[("a2", "h10")],
+        right: &[("b2", "i10")],
+    };
+    expect_masks(&rt, &tables, &white);
+    expect_masks(&rt, &tables, &black);
+    Ok(())
+}
+
+// On the largest board the number after that of a file l is of a file a: no pawn takes over the edge.
+#[test]
+fn wide_pawns_go(rt: HostRuntime) -> Result<(), Memory> {
+    let tables = Tables::new(rt.alloc(), &wide_chess())?;
+    let white = Goers {
+        board: ("a1", "l8"),
+        side: Side::White,
+        plain: &[("a1", "l6"), ("j7", "l7"), ("a8", "l8")],
+        once: &[("a1", "l6"), ("j7", "l7")],
+        twice: &[("a2", "h2")],
+        left: &[("b1", "l6"), ("j7", "l7")],
+        right: &[("a1", "k6"), ("j7", "k7")],
+    };
+    let black = Goers {
+        board: ("a1", "l8"),
+        side: Side::Black,
+        plain: &[("a3", "l8"), ("j2", "l2"), ("a1", "l1")],
+        once: &[("a3", "l8"), ("j2", "l2")],
+        twice: &[("a7", "h7")],
+        left: &[("a3", "k8"), ("j2", "k2")],
+        right: &[("b3", "l8"), ("j2", "l2")],
+    };
+    expect_masks(&rt, &tables, &white);
+    expect_masks(&rt, &tables, &black);
+    Ok(())
+}
+
+/// Chess where a flag piece would win on the last rank, and hand pieces would be put on the second.
+fn zoned() -> Rules
+    ensures { IsFit result }
+{
+    let mut rules = chess();
+    let last_ranks = rules.promotion;
+    let second_ranks = rules.double_region;
+    rules.flag_region = last_ranks;
+    rules.drop_region = second_ranks;
+    rules
+}
+
+#[test]
+fn regions_are_sets(rt: HostRuntime) -> Result<(), Memory> {
+    let tables = Tables::new(rt.alloc(), &zoned())?;
+    for (side, flag, drop) in [
+        (Side::White, ("a8", "h8"), ("a2", "h2")),
+        (Side::Black, ("a1", "h1"), ("a7", "h7")),
+    ] {
+        assert_eq!(rt; tables.flag_region(side), block(flag.0, flag.1));
+        assert_eq!(rt; tables.drop_region(side), block(drop.0, drop.1));
+    }
+    Ok(())
+}

@@ -1,0 +1,88 @@
+use playing::Board;
+use attack_tables::Tables;
+use foundation::Memory;
+use rules_model::{Cause, MoveList, Outcome, Position, Side, sound};
+use sample_rules::{chess, hand_of, position, shouse, square};
+use std::alloc::Global;
+use std::process::Abort;
+use std::test::Fail;
+
+/// After each legal move all that is kept is what a board that is made anew of the position keeps.
+fn keeps<R: Abort>(rt: &R, alloc: Global, tables: &Tables, p: &Position) -> Result<(), Memory> {
+    assert!(rt; sound(tables.rules(), p));
+    let board = Board::new(tables, p);
+    let moves = board.legal_moves(alloc)?;
+    assert!(rt; moves.items.len() > 0);
+    for m in &moves.items {
+        assert!(rt; board.is_legal(m), "{m:?}");
+        let next = board.after(m);
+        next.is_ready();
+        let anew = Board::new(tables, next.position());
+        assert_eq!(rt; *next.sets(), *anew.sets(), "{m:?}");
+        assert_eq!(rt; next.key(), anew.key(), "{m:?}");
+        assert_eq!(rt; next.in_check(), board.gives_check(m), "{m:?}");
+        assert!(rt; next.repeats(anew.position(), anew.key()), "{m:?}");
+        assert!(rt; !next.repeats(p, board.key()), "{m:?}");
+    }
+    Ok(())
+}
+
+// Castles, gates, drops, captures into the hand, en passant and promotions.
+#[test]
+fn boards_are_kept_through_moves(rt: HostRuntime) -> Result<(), Fail> {
+    let rules = shouse();
+    let tables = Tables::new(rt.alloc(), &rules)?;
+    keeps(&rt, rt.alloc(), &tables, &rules.start)?;
+    let mut castling = position("Ke1 Rh1 Ra1 ke8 qe7 pe2");
+    castling.rights[0] = [true, true];
+    castling.gates[0] = 0x91;
+    castling.hands[0] = hand_of(b"eh");
+    keeps(&rt, rt.alloc(), &tables, &castling)?;
+    let mut pawns = position("Ke1 Pe5 Pa7 kg8 nb8 pd5");
+    pawns.ep = Some(square("d6"));
+    keeps(&rt, rt.alloc(), &tables, &pawns)?;
+    Ok(())
+}
+
+#[test]
+fn ends_of_positions(rt: HostRuntime) -> Result<(), Fail> {
+    let rules = chess();
+    let tables = Tables::new(rt.alloc(), &rules)?;
+    let mate = Outcome::Won(Side::Black, Cause::Checkmate);
+    for (pieces, checked, end) in [
+        ("Kh1 qg2 kg3", true, mate),
+        ("Kh1 qg3 kf2", false, Outcome::Drawn(Cause::Stalemate)),
+        ("Kh1 qg3 ka8 Pa2", false, Outcome::Ongoing),
+    ] {
+        let p = position(pieces);
+        assert!(rt; sound(&rules, &p), "{pieces}");
+        let board = Board::new(&tables, &p);
+        assert_eq!(rt; board.in_check(), checked, "{pieces}");
+        assert_eq!(rt; board.early_end(), Outcome::Ongoing, "{pieces}");
+        assert_eq!(rt; board.own_end(), end, "{pieces}");
+        assert_eq!(rt; board.end_where(board.any_legal()), end, "{pieces}");
+    }
+    Ok(())
+}
+
+#[test]
+fn moves_of_positions(rt: HostRuntime) -> Result<(), Fail> {
+    let rules = chess();
+    let tables = Tables::new(rt.alloc(), &rules)?;
+    let p = position("Ke1 Rd1 ke8 pd5 pe4");
+    assert!(rt; sound(&rules, &p));
+    let board = Board::new(&tables, &p);
+    let mut moves = MoveList {
+        items: Vec::new(rt.alloc()),
+    };
+    board.push_legal(&mut moves)?;
+    let mut captures = 0u32;
+    for m in &moves.items {
+        if board.is_legal(m) && board.captures(m) {
+            captures = captures.saturating_add(1);
+        }
+    }
+    assert_eq!(rt; (moves.items.len(), captures), (11, 1));
+    assert_eq!(rt; board.count_legal(), 11);
+    Ok(())
+}

@@ -1,0 +1,323 @@
+ghost use Rattle.rules_model.specs.Fit.{IsFit};
+use pawn_moves::generate::go;
+use pawn_moves::{is_candidate, push_moves};
+use pawn_moves::pawn::{becomes, promotes};
+
+use attack_tables::Tables;
+use board_sets::sets_of;
+use foundation::Memory;
+use rules_model::{Move, MoveList, Position, Promo, Rules, Side};
+use sample_rules::{
+    capablanca, chess, kind, leapers, position, shouse, square, wide_chess, xiangqi,
+};
+use std::alloc::Global;
+use std::process::Abort;
+
+/// The pieces of the text, with the side to move and an en passant square, or none where its text is empty.
+fn position_of(pieces: &str, side: Side, ep: &str) -> Position {
+    let ep = if ep.is_empty() {
+        None
+    } else {
+        Some(square(ep))
+    };
+    Position {
+        side,
+        ep,
+        ..position(pieces)
+    }
+}
+
+/// What a pawn becomes: a piece of the letter, or nothing else where it is a dash.
+fn promo_of(letter: u8) -> Promo {
+    if letter == b'-' {
+        Promo::Stays
+    } else {
+        Promo::Pawn(kind(letter))
+    }
+}
+
+/// The pawns' moves, as they are generated.
+fn moves_of(alloc: Global, rules: &Rules, p: &Position) -> Result<MoveList, Memory>
+    requires fit { IsFit rules.now }
+{
+    let mut found = MoveList {
+        items: Vec::new(alloc),
+    };
+    let tables = Tables::new(alloc, rules)?;
+    let sets = sets_of(rules, &p.cells, p.side);
+    push_moves(rules, &tables, p, &sets, &mut found)?;
+    Ok(found)
+}
+
+/// The move that a text as "a7-b8-q" tells, or "a7-a8" where the pawn becomes nothing else.
+fn move_of(text: &str) -> Move {
+    let mut parts = text.split('-');
+    let from = parts.next().unwrap_or("");
+    let to = parts.next().unwrap_or("");
+    let letter = parts.next().unwrap_or("-");
+    let promo = match letter.as_bytes().first() {
+        None => Promo::Stays,
+        Some(letter) => promo_of(*letter),
+    };
+    go(square(from), square(to), promo)
+}
+
+/// The pawns' moves are these, each once, and no others.
+fn expect_all(
+    rt: &impl Abort,
+    alloc: Global,
+    rules: &Rules,
+    p: &Position,
+    moves: &str,
+) -> Result<(), Memory>
+    requires fit { IsFit rules.now }
+{
+    let found = moves_of(alloc, rules, p)?;
+    let mut wanted: usize = 0;
+    for text in moves.split(' ') {
+        if !text.is_empty() {
+            let m = move_of(text);
+            let is_given = found.items.contains(&m) && is_candidate(rules, p, &m);
+            assert!(rt; is_given, "{text}");
+            wanted = wanted.saturating_add(1);
+        }
+    }
+    assert_eq!(rt; found.items.len(), wanted, "{moves}");
+    Ok(())
+}
+
+/// Pieces, the side to move, an en passant square, and the pawns' moves.
+type Row<'a> = (&'a str, Side, &'a str, &'a str);
+
+/// Asserts what `expect_all` does of each row.
+fn expect_rows(rt: &impl Abort, alloc: Global, rules: &Rules, rows: &[Row]) -> Result<(), Memory>
+    requires fit { IsFit rules.now }
+{
+    for (pieces, side, ep, moves) in rows {
+        let p = position_of(*pieces, *side, *ep);
+        expect_all(rt, alloc, rules, &p, *moves)?;
+    }
+    Ok(())
+}
+
+#[test]
+fn each_move_of_a_pawn_once(rt: HostRuntime) -> Result<(), Memory> {
+    let rows = [
+        ("Pe2 nd3", Side::White, "", "e2-e3 e2-e4 e2-d3"),
+        ("Pe2 Nd3", Side::White, "", "e2-e3 e2-e4"),
+        // over no piece, and onto none straight forward
+        ("Pe2 ne4", Side::White, "", "e2-e3"),
+        ("Pe2 ne3", Side::White, "", ""),
+        // one step from another rank, to the edge of the board and no further
+        ("Pe3", Side::White, "", "e3-e4"),
+        ("Ph4 ni5", Side::White, "", "h4-h5"),
+        ("Pe8 nd9", Side::White, "", ""),
+        // Black's pawns go down the board
+        ("pe7 Nf6", Side::Black, "", "e7-e6 e7-e5 e7-f6"),
+        ("pe6 Nf7", Side::Black, "", "e6-e5"),
+    ];
+    expect_rows(&rt, rt.alloc(), &chess(), &rows)
+}
+
+#[test]
+fn pawns_pass_and_promote(rt: HostRuntime) -> Result<(), Memory> {
+    let rows = [
+        // en passant, also where an enemy is on the square
+        ("Pe5 pd5", Side::White, "d6", "e5-e6 e5-d6"),
+        ("Pe5 nd6", Side::White, "d6", "e5-e6 e5-d6"),
+        ("Pa5 pd5", Side::White, "d6", "a5-a6"),
+        ("pd4 Pe4", Side::Black, "e3", "d4-d3 d4-e3"),
+        // promotions, which a pawn may not decline
+        (
+            "Pe7 nd8",
+            Side::White,
+            "",
+            "e7-e8-n e7-e8-b e7-e8-r e7-e8-q e7-d8-n e7-d8-b e7-d8-r e7-d8-q",
+        ),
+        (
+            "pa2 Nb1",
+            Side::Black,
+            "",
+            "a2-a1-n a2-a1-b a2-a1-r a2-a1-q a2-b1-n a2-b1-b a2-b1-r a2-b1-q",
+        ),
+    ];
+    expect_rows(&rt, rt.alloc(), &chess(), &rows)
+}
+
+#[test]
+fn moves_of_many_pawns(rt: HostRuntime) -> Result<(), Memory> {
+    let rows = [
+        // on the edge files, with pieces where a shift from there would lead beyond the edge
+        (
+            "Pa2 Ph2 nl2 ni3",
+            Side::White,
+            "",
+            "a2-a3 a2-a4 h2-h3 h2-h4",
+        ),
+        (
+            "pa7 ph7 Nl5 Ni6",
+            Side::Black,
+            "",
+            "a7-a6 a7-a5 h7-h6 h7-h5",
+        ),
+        // the second square of a double step is not free, or the first
+        ("Pd2 Pe2 nd4 ne3", Side::White, "", "d2-d3 d2-e3"),
+        ("pd7 pe7 Nd5 Ne6", Side::Black, "", "d7-d6 d7-e6"),
+        // takes to both sides, and onto no own piece
+        (
+            "Pc4 Pe4 nd5 Nf5",
+            Side::White,
+            "",
+            "c4-c5 c4-d5 e4-e5 e4-d5",
+        ),
+        (
+            "pc5 pe5 Nd4 nb4",
+            Side::Black,
+            "",
+            "c5-c4 c5-d4 e5-e4 e5-d4",
+        ),
+        // en passant from both sides, beside pawns that do not pass
+        (
+            "Pa2 Pd5 Pf5 pe5",
+            Side::White,
+            "e6",
+            "a2-a3 a2-a4 d5-d6 d5-e6 f5-f6 f5-e6",
+        ),
+        (
+            "ph7 pd4 pf4 Pe4",
+            Side::Black,
+            "e3",
+            "h7-h6 h7-h5 d4-d3 d4-e3 f4-f3 f4-e3",
+        ),
+        // a pawn that promotes, and those before
+        (
+            "Pa7 Pb6 Pc5",
+            Side::White,
+            "",
+            "a7-a8-n a7-a8-b a7-a8-r a7-a8-q b6-b7 c5-c6",
+        ),
+        (
+            "pa2 pb3 pc4",
+            Side::Black,
+            "",
+            "a2-a1-n a2-a1-b a2-a1-r a2-a1-q b3-b2 c4-c3",
+        ),
+    ];
+    expect_rows(&rt, rt.alloc(), &chess(), &rows)
+}
+
+// With pieces, and a square behind a double step, to which a shift from the edge would lead on.
+#[test]
+fn no_move_around_the_edge(rt: HostRuntime) -> Result<(), Memory> {
+    let rows = [
+        ("Pa6 Pl3 na5 nl6", Side::White, "", "a6-a7 l3-l4"),
+        ("Pb5 Pl4 pa5", Side::White, "a6", "b5-b6 b5-a6 l4-l5"),
+        ("pa7 pl4 Nl5 Na4", Side::Black, "", "a7-a6 a7-a5 l4-l3"),
+    ];
+    expect_rows(&rt, rt.alloc(), &wide_chess(), &rows)
+}
+
+// Variants with other kinds to become, and without the chess pawn: the soldier is not one.
+#[test]
+fn moves_in_other_variants(rt: HostRuntime) -> Result<(), Memory> {
+    let alloc = rt.alloc();
+    let rows = [
+        ("Pj2 ni3", Side::White, "", "j2-j3 j2-j4 j2-i3"),
+        (
+            "pj2",
+            Side::Black,
+            "",
+            "j2-j1-a j2-j1-c j2-j1-n j2-j1-b j2-j1-r j2-j1-q",
+        ),
+    ];
+    expect_rows(&rt, alloc, &capablanca(), &rows)?;
+    let promotions = "d7-d8-e d7-d8-h d7-d8-n d7-d8-b d7-d8-r d7-d8-q";
+    expect_rows(
+        &rt,
+        alloc,
+        &shouse(),
+        &[("Pd7", Side::White, "", promotions)],
+    )?;
+    let none = [("Pa4", Side::White, "", "")];
+    expect_rows(&rt, alloc, &xiangqi(), &none)?;
+    expect_rows(&rt, alloc, &leapers(), &none)
+}
+
+#[test]
+fn near_misses(rt: HostRuntime) {
+    let rules = chess();
+    let p = position_of("Pe2 Pb7 Pg5 pc3 nd3", Side::White, "h6");
+    let (stays, knight) = (Promo::Stays, promo_of(b'n'));
+    let rows = [
+        // an empty diagonal, a third step, backward, sideways, another's pawn, no pawn
+        go(square("e2"), square("f3"), stays),
+        go(square("e2"), square("e5"), stays),
+        go(square("e2"), square("e1"), stays),
+        go(square("e2"), square("d2"), stays),
+        go(square("c3"), square("c2"), stays),
+        go(square("a1"), square("a2"), stays),
+        // a promotion that is missing, before its rank, to the pawn, the king or a promoted piece, and by en passant
+        go(square("b7"), square("b8"), stays),
+        go(square("e2"), square("e3"), knight),
+        go(square("b7"), square("b8"), promo_of(b'p')),
+        go(square("b7"), square("b8"), promo_of(b'k')),
+        go(square("b7"), square("b8"), Promo::Plus),
+        go(square("g5"), square("h6"), knight),
+        Move::Go {
+            from: square("e2"),
+            to: square("e3"),
+            promo: stays,
+            gate: Some(kind(b'n')),
+        },
+        Move::Castle {
+            from: square("e1"),
+            to: square("g1"),
+            rook: square("h1"),
+            gate: None,
+        },
+        Move::Drop {
+            kind: kind(b'p'),
+            to: square("e4"),
+        },
+    ];
+    for m in rows {
+        assert!(rt; !is_candidate(&rules, &p, &m), "{m:?}");
+    }
+}
+
+#[test]
+fn promotions_by_the_rules(rt: HostRuntime) {
+    let rules = chess();
+    let (stays, knight) = (Promo::Stays, promo_of(b'n'));
+    let rows = [
+        (promotes(&rules, Side::White, true, square("e8")), true),
+        (promotes(&rules, Side::White, true, square("e7")), false),
+        (promotes(&rules, Side::Black, true, square("e8")), false),
+        (becomes(&rules, true, true, false, stays), false),
+        (becomes(&rules, true, true, false, knight), true),
+        // a pawn that passes another stays one, whatever it may become by going there
+        (becomes(&rules, true, true, true, stays), true),
+    ];
+    for (row, (found, wanted)) in rows.iter().enumerate() {
+        assert_eq!(rt; found, wanted, "row {row}");
+    }
+}
+
+// Where a pawn need not become another piece, and where it can become none.
+#[test]
+fn promotions_by_other_rules(rt: HostRuntime) {
+    let (stays, knight) = (Promo::Stays, promo_of(b'n'));
+    let mut rules = chess();
+    rules.must_promote_pawn = false;
+    let may = [
+        becomes(&rules, true, true, false, stays),
+        becomes(&rules, true, true, false, knight),
+    ];
+    assert_eq!(rt; may, [true, true]);
+    rules.promotion_kinds = [false; 26];
+    let may = [
+        promotes(&rules, Side::White, true, square("e8")),
+        becomes(&rules, true, true, false, knight),
+    ];
+    assert_eq!(rt; may, [false, false]);
+}

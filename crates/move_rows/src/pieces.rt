@@ -1,0 +1,132 @@
+ghost use Rattle.rules_model.specs.Fit.{IsFit};
+use piece_moves::{is_candidate, mover_on, push_mover, push_moves};
+
+use attack_tables::Tables;
+use board_sets::sets_of;
+use foundation::Memory;
+use rules_model::{Kind, Move, MoveList, Promo, Rules};
+use sample_rules::{chess, position, square, xiangqi};
+use std::alloc::Global;
+use std::process::Abort;
+
+fn go(from: &str, to: &str, promo: Promo) -> Move {
+    Move::Go {
+        from: square(from),
+        to: square(to),
+        promo,
+        gate: None,
+    }
+}
+
+/// The move of a text as `e2e4`, without promotion.
+fn move_of(text: &str) -> Move {
+    let (from, to) = text.split_at_checked(2).unwrap_or(("", ""));
+    go(from, to, Promo::Stays)
+}
+
+/// The moves of the pieces are those of the texts as `e2e4`, each once, and no others.
+fn expect_moves(
+    rt: &impl Abort,
+    alloc: Global,
+    rules: &Rules,
+    pieces: &str,
+    moves: &str,
+) -> Result<(), Memory>
+    requires { IsFit rules.now }
+{
+    let tables = Tables::new(alloc, rules)?;
+    let p = position(pieces);
+    let mut found = MoveList {
+        items: Vec::new(alloc),
+    };
+    let sets = sets_of(rules, &p.cells, p.side);
+    push_moves(rules, &tables, &p, &sets, &mut found)?;
+    let mut wanted: usize = 0;
+    for text in moves.split(' ') {
+        let m = move_of(text);
+        let is_given = found.items.contains(&m) && is_candidate(rules, &tables, &p, &m);
+        assert!(rt; is_given, "{text}");
+        wanted = wanted.saturating_add(1);
+    }
+    assert_eq!(rt; found.items.len(), wanted, "{pieces}");
+    Ok(())
+}
+
+// The moves of pawns are none of these.
+#[test]
+fn each_move_of_chess_once(rt: HostRuntime) -> Result<(), Memory> {
+    let moves = "a2a3 a2a4 a2a5 a2a6 b1a3 b1c3 b1d2";
+    expect_moves(&rt, rt.alloc(), &chess(), "Ka1 Nb1 Ra2 Pb2 na6 ka8", moves)
+}
+
+#[test]
+fn each_move_of_xiangqi_once(rt: HostRuntime) -> Result<(), Memory> {
+    let rows = [
+        // the elephant stays on its side of the river
+        ("Bc5 Ke1 kd10", "c5a3 c5e3 e1d1 e1e2 e1f1"),
+        // the king blocks no step of the horse, which goes over the empty squares beside it
+        ("Ne2 Ke1 ke10", "e1d1 e1f1 e2c1 e2c3 e2d4 e2f4 e2g1 e2g3"),
+        // the cannon takes over the soldier, which goes forward alone before the river
+        (
+            "Ca1 Pa4 na7 Ke1 kd10",
+            "a1a2 a1a3 a1a7 a1b1 a1c1 a1d1 a4a5 e1d1 e1e2 e1f1",
+        ),
+        ("Pe6 Ke1 kd10", "e1d1 e1e2 e1f1 e6d6 e6e7 e6f6"),
+    ];
+    for (pieces, moves) in rows {
+        expect_moves(&rt, rt.alloc(), &xiangqi(), pieces, moves)?;
+    }
+    Ok(())
+}
+
+// An own piece's moves alone, each with what it places; an enemy and an empty square have none.
+#[test]
+fn moves_of_one_square_place_the_gate(rt: HostRuntime) -> Result<(), Memory> {
+    let rules = chess();
+    let tables = Tables::new(rt.alloc(), &rules)?;
+    let p = position("Ka1 Nb1 Ra2 Pb2 na6 ka8");
+    let hawk = Some(Kind(7));
+    let mut found = MoveList {
+        items: Vec::new(rt.alloc()),
+    };
+    let sets = sets_of(&rules, &p.cells, p.side);
+    for from in ["b1", "b2", "a6", "h4"] {
+        if let Some(mover) = mover_on(&rules, &tables, &p, &sets, square(from)) {
+            push_mover(&rules, &p, mover, hawk, &mut found)?;
+        }
+    }
+    for to in ["a3", "c3", "d2"] {
+        let m = Move::Go {
+            from: square("b1"),
+            to: square(to),
+            promo: Promo::Stays,
+            gate: hawk,
+        };
+        assert!(rt; found.items.contains(&m), "{to}");
+    }
+    assert_eq!(rt; found.items.len(), 3);
+    Ok(())
+}
+
+#[test]
+fn near_misses(rt: HostRuntime) -> Result<(), Memory> {
+    let rules = xiangqi();
+    let tables = Tables::new(rt.alloc(), &rules)?;
+    let p = position("Ca1 Pa4 na7 Ke1 kd10");
+    // no own piece, an own piece on the target, a hop without taking, a take without hopping, sideways before the
+    // river, out of the palace; and no piece of xiangqi is promoted
+    let rows = [
+        move_of("b2b3"),
+        move_of("a7b5"),
+        move_of("a1a4"),
+        move_of("a1a5"),
+        move_of("a1a8"),
+        move_of("a4b4"),
+        move_of("e1e3"),
+        go("a1", "a2", Promo::Plus),
+    ];
+    for m in rows {
+        assert!(rt; !is_candidate(&rules, &tables, &p, &m), "{m:?}");
+    }
+    Ok(())
+}

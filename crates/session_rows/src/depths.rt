@@ -1,0 +1,398 @@
+ghost use Rattle.std.specs.Prelude.{◌≡◌, ◌≤◌, None};
+use thinking::{Depths, Evidence, Found, Score, Style, Task, Tried, begin, deepen, lines_of, try_mates, unsettled_line};
+
+use game_play::Game;
+use io_ports::{
+    Dialect, Limits, LineBuf, ListClock, MemSink, MemSource, OpenGate, PollsOwed, SearchFault,
+};
+use legality::legal_moves;
+use rules_model::{Move, Position, Promo, Side, repeat_of, sound};
+use sample_rules::{chess, position, square};
+use seeking::Mind;
+use std::alloc::Global;
+use std::process::Abort;
+use std::sync::Wait;
+use std::test::Fail;
+use std::thread::Threads;
+use strategy::{Counters, Nodes, Strategy};
+use watching::Cut;
+
+/// The move of a text such as `e2e4`, without promotion.
+fn go(text: &str) -> Move {
+    let (from, to) = text.split_at_checked(2).unwrap_or(("", ""));
+    Move::Go {
+        from: square(from),
+        to: square(to),
+        promo: Promo::Stays,
+        gate: None,
+    }
+}
+
+fn no_strategy(alloc: Global) -> Strategy {
+    Strategy {
+        attacker: Side::White,
+        nodes: Nodes {
+            items: Vec::new(alloc),
+        },
+    }
+}
+
+/// A score, without the strategy of a mate.
+#[derive(Clone, Copy)]
+enum Scored {
+    Points(i32),
+    Mates(u16),
+    Mated(u16),
+}
+
+/// What is found where the best move is e2e4, after 77 nodes.
+fn found(alloc: Global, scored: Scored) -> Found
+    ensures { result.unsettled ≡ None }
+{
+    let score = match scored {
+        Scored::Points(points) => Score::Points(points),
+        Scored::Mates(moves) => Score::Mates(moves, no_strategy(alloc)),
+        Scored::Mated(moves) => Score::Mated(moves, no_strategy(alloc)),
+    };
+    Found {
+        score,
+        best: go("e2e4"),
+        unsettled: None,
+        nodes: 77,
+    }
+}
+
+#[test]
+fn lines_of_depths(rt: HostRuntime) -> Result<(), Fail> {
+    let alloc = rt.alloc();
+    let rules = chess();
+    let (points, mates, mated) = (Scored::Points(-12), Scored::Mates(2), Scored::Mated(5));
+    let rows = [
+        (
+            points,
+            Style::Uci,
+            900u64,
+            "info depth 3 score cp -12 pv e2e4\n",
+        ),
+        (
+            mates,
+            Style::Uci,
+            900,
+            "info depth 3 score mate 2 pv e2e4\n",
+        ),
+        (
+            mated,
+            Style::Uci,
+            900,
+            "info depth 3 score mate -5 pv e2e4\n",
+        ),
+        (points, Style::Post, 1234, "3 -12 113 77 e2e4\n"),
+        (mates, Style::Post, 109, "3 100002 0 77 e2e4\n"),
+        (mated, Style::Post, 5, "3 -100005 0 77 e2e4\n"),
+        (mated, Style::Silent, 900, ""),
+    ];
+    for (scored, style, clock, text) in rows {
+        let found = found(alloc, scored);
+        let written = lines_of(alloc, style, &rules, 100, 3, &found, clock)?;
+        assert!(rt; written.items.as_slice() == text.as_bytes());
+    }
+    Ok(())
+}
+
+#[test]
+fn lines_on_evidence(rt: HostRuntime) -> Result<(), Fail> {
+    let alloc = rt.alloc();
+    let rules = chess();
+    let mut others = Vec::new(alloc);
+    others.push(97)?;
+    others.push(98)?;
+    let first = Position {
+        counter: 96,
+        number: 1,
+        ..position("kh8 Kf6 Qg6")
+    };
+    assert!(rt; sound(&rules, &first));
+    let e = Evidence {
+        repeat: repeat_of(&first),
+        first: 96,
+        others: Counters { items: others },
+    };
+    let written = unsettled_line(alloc, &rules, &e)?;
+    let text = "info string mate unsettled 7k/8/5KQ1/8/8/8/8/8 w - - 96 1 96 97 98\n";
+    assert!(rt; written.items.as_slice() == text.as_bytes());
+    Ok(())
+}
+
+/// King and queen against a king: g6g7 mates.
+const MATE: &str = "kh8 Kf6 Qg6";
+
+/// Lines that are heard, how many polls come before them, and limits.
+#[derive(Clone, Copy)]
+struct Heard<'l> {
+    lines: &'l [u8],
+    owed: PollsOwed,
+    share: Option<u64>,
+    deadline: Option<u64>,
+}
+
+const NOTHING: Heard<'static> = Heard {
+    lines: b"",
+    owed: PollsOwed::Endless,
+    share: None,
+    deadline: None,
+};
+
+/// What one depth after another comes to over all legal moves, and what is written.
+fn deepened<R: Threads + Wait + Abort + Sync>(
+    rt: &R,
+    alloc: Global,
+    text: &str,
+    style: Style,
+    depths: u8,
+    heard: Heard,
+    written: &mut Vec<u8>,
+) -> Result<Result<Depths, SearchFault>, Fail>
+    requires least { 1 ≤ depths }
+    requires most { depths ≤ 64 }
+{
+    let (rules, start) = (chess(), position(text));
+    assert!(rt; sound(&rules, &start));
+    let game = Game::new(alloc, &rules, &start)?;
+    let roots = legal_moves(alloc, game.rules(), game.tables(), game.position())?;
+    assert!(rt; 0 < roots.items.len());
+    let task = Task {
+        game: &game,
+        roots: roots.items.as_slice(),
+        all: true,
+        depths,
+        share: heard.share,
+        time: heard.deadline,
+    };
+    let mut source = MemSource::new(alloc, heard.lines, heard.owed, &[])?;
+    let mut sink = MemSink::new(alloc, 1000)?;
+    let mut clock = ListClock::new(alloc, &[100, 130, 90])?;
+    let begun = begin(&mut clock, task.time);
+    let mut line = LineBuf::new(alloc)?;
+    let mut mind = Mind::new(alloc, 1)?;
+    let depths = deepen(
+        rt,
+        alloc,
+        &mut mind,
+        &task,
+        style,
+        begun,
+        &mut source,
+        &mut sink,
+        &mut clock,
+        &OpenGate,
+        Dialect::Uci,
+        &mut line,
+    );
+    written.clear();
+    written.extend_from_slice(sink.taken())?;
+    Ok(depths)
+}
+
+/// The number of moves of the mate that is kept, or 0.
+fn kept_moves(depths: &Depths) -> u16 {
+    match &depths.kept {
+        Some(kept) => kept.moves,
+        None => 0,
+    }
+}
+
+// King b3 and rook h8 mate by h8h1 once the king has gone a1b1, its one move.
+#[test]
+fn depths_are_told(rt: HostRuntime) -> Result<(), Fail> {
+    let alloc = rt.alloc();
+    let mut written = Vec::new(alloc);
+    let stop = Heard {
+        lines: b"isready\nstop\n",
+        owed: PollsOwed::Number(0),
+        ..NOTHING
+    };
+    let one_node = Heard {
+        share: Some(1),
+        ..NOTHING
+    };
+    let soon = Heard {
+        deadline: Some(20),
+        ..NOTHING
+    };
+    let rows = [
+        (
+            MATE,
+            Style::Silent,
+            2u8,
+            one_node,
+            "f6e5",
+            Some(Cut::Quota(1)),
+            0u16,
+            "",
+        ),
+        (
+            MATE,
+            Style::Silent,
+            2,
+            soon,
+            "f6e5",
+            Some(Cut::Deadline(130)),
+            0,
+            "",
+        ),
+        (
+            MATE,
+            Style::Uci,
+            2,
+            NOTHING,
+            "g6g7",
+            None,
+            1,
+            "info depth 1 score mate 1 pv g6g7\ninfo depth 2 score mate 1 pv g6g7\n",
+        ),
+        (MATE, Style::Silent, 2, NOTHING, "g6g7", None, 1, ""),
+        (
+            "Ka1 kb3 rh8",
+            Style::Silent,
+            2,
+            NOTHING,
+            "a1b1",
+            None,
+            1,
+            "",
+        ),
+        (
+            MATE,
+            Style::Silent,
+            3,
+            stop,
+            "g6g7",
+            Some(Cut::Line),
+            0,
+            "readyok\n",
+        ),
+    ];
+    for (text, style, depths, heard, best, why, kept, lines) in rows {
+        assert!(rt; 1 <= depths && depths <= 64);
+        let told = deepened(&rt, alloc, text, style, depths, heard, &mut written)?;
+        assert!(rt; written.as_slice() == lines.as_bytes());
+        assert!(rt; told.is_ok());
+        if let Ok(told) = told {
+            assert_eq!(rt; told.best, go(best));
+            assert_eq!(rt; told.why, why);
+            assert_eq!(rt; kept_moves(&told), kept);
+        }
+    }
+    Ok(())
+}
+
+// The first reading is 100, and those after the depths are 130 and 90.
+#[test]
+fn times_and_nodes_are_told(rt: HostRuntime) -> Result<(), Fail> {
+    let mut written = Vec::new(rt.alloc());
+    let told = deepened(&rt, rt.alloc(), MATE, Style::Post, 2, NOTHING, &mut written)?;
+    assert!(rt; told.is_ok());
+    let text = written.as_slice();
+    assert!(rt; text.starts_with(b"1 100001 3 "));
+    assert!(rt; !text.starts_with(b"1 100001 3 0 "));
+    assert!(rt; text.ends_with(b" g6g7\n"));
+    let (first, second) = text.split_at(text.iter().position(|byte| *byte == b'\n').unwrap_or(0));
+    assert!(rt; first.ends_with(b" g6g7"));
+    assert!(rt; second.starts_with(b"\n2 100001 0 "));
+    Ok(())
+}
+
+/// What the answer of `try_mates` is, and its number of moves.
+#[derive(Clone, Copy, Debug, PartialEq, Eq)]
+enum Answer {
+    Shown(u16, Move),
+    Unsettled(u16),
+    Stopped(u16, Cut),
+    NoMate,
+    Fault(SearchFault),
+}
+
+fn answer_of(tried: &Result<Tried, SearchFault>) -> Answer {
+    match tried {
+        Ok(Tried::Shown { moves, best, .. }) => Answer::Shown(*moves, *best),
+        Ok(Tried::Unsettled { moves, .. }) => Answer::Unsettled(*moves),
+        Ok(Tried::Stopped { moves, why }) => Answer::Stopped(*moves, *why),
+        Ok(Tried::NoMate) => Answer::NoMate,
+        Err(fault) => Answer::Fault(*fault),
+    }
+}
+
+fn tried<R: Threads + Wait + Abort + Sync>(
+    rt: &R,
+    alloc: Global,
+    text: &str,
+    last: u16,
+    limits: Limits,
+    heard: Heard,
+) -> Result<Answer, Fail>
+    requires least { 1 ≤ last }
+    requires most { last ≤ 100 }
+{
+    let (rules, start) = (chess(), position(text));
+    assert!(rt; sound(&rules, &start));
+    let game = Game::new(alloc, &rules, &start)?;
+    let roots = legal_moves(alloc, game.rules(), game.tables(), game.position())?;
+    assert!(rt; !roots.items.is_empty());
+    let mut source = MemSource::new(alloc, heard.lines, heard.owed, &[])?;
+    let mut sink = MemSink::new(alloc, 1000)?;
+    let mut clock = ListClock::new(alloc, &[130, 90])?;
+    let mut line = LineBuf::new(alloc)?;
+    let mut mind = Mind::new(alloc, 1)?;
+    let tried = try_mates(
+        rt,
+        alloc,
+        &mut mind,
+        &game,
+        last,
+        limits,
+        &mut source,
+        &mut sink,
+        &mut clock,
+        &OpenGate,
+        Dialect::Uci,
+        &mut line,
+    );
+    Ok(answer_of(&tried))
+}
+
+// A solve within 1 move of the kings in the corners enters at most 8 times the 67 lines of at most 3 moves, so it polls once, and
+// the line that comes next stops the solve within 2.
+#[test]
+fn mates_are_tried(rt: HostRuntime) -> Result<(), Fail> {
+    let alloc = rt.alloc();
+    let free = Limits {
+        quota: None,
+        deadline: None,
+    };
+    let stop = Heard {
+        lines: b"stop\n",
+        owed: PollsOwed::Number(1),
+        ..NOTHING
+    };
+    let no_node = Limits {
+        quota: Some(0),
+        deadline: None,
+    };
+    let rows = [
+        (MATE, 3u16, free, NOTHING, Answer::Shown(1, go("g6g7"))),
+        ("Ke1 ke8", 2, free, NOTHING, Answer::NoMate),
+        ("Ka1 kh8", 3, free, stop, Answer::Stopped(2, Cut::Line)),
+        (
+            "Ke3 Ra1 kd5",
+            3,
+            no_node,
+            NOTHING,
+            Answer::Stopped(1, Cut::Quota(0)),
+        ),
+    ];
+    for (text, last, limits, heard, answer) in rows {
+        assert!(rt; 1 <= last && last <= 100);
+        assert_eq!(rt; tried(&rt, alloc, text, last, limits, heard)?, answer);
+    }
+    Ok(())
+}
