@@ -9,4 +9,3 @@ mod texts;
 
 pub use serving::serve;
 pub use session::CecpSession;
-

@@ -8,4 +8,3 @@ mod words;
 
 pub use command::{Command, Limit, gives_up, quits, read_line};
 pub use limits::{depth_for, time_for};
-

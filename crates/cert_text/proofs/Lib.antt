@@ -2,4 +2,3 @@ pub mod PathLemmas
 pub mod LineLemmas
 pub mod WriteLemmas
 pub mod BackLaws
-mod worked

@@ -3,4 +3,3 @@ mod WorthLaws
 mod PutLaws
 mod HandLaws
 mod MoveLaws
-mod worked

@@ -8,4 +8,3 @@ mod view;
 
 pub use journal::Journal;
 pub use lock::{Lock, Pass};
-

@@ -13,7 +13,6 @@ pub mod GoodExists
 pub mod NearLimit
 pub mod Verdicts
 pub mod Unsettled
-mod worked
 pub mod Along
 pub mod Rules
 pub mod Blocked

@@ -6,7 +6,6 @@
 //! gets to choose what it looks at first, and for nothing else: no contract says what a table answers.
 #![tactic(auto)]
 
-
 ghost use Rattle.std.specs.Prelude.{◌<◌, ◌≤◌, ◌^◌, vec_len};
 
 use crossbeam_utils::atomic::AtomicCell;

@@ -1,4 +1,3 @@
 pub mod AnswerLemmas
 pub mod StepLemmas
 pub mod TruthLemmas
-pub mod worked

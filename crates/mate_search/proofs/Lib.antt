@@ -1,5 +1,4 @@
 mod MateLaws
 pub mod HandedLaws
 pub mod LeastLaws
-mod worked
 mod RaceLaws

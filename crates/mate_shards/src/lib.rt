@@ -18,4 +18,3 @@ mod shards;
 
 pub use published::Published;
 pub use shards::{Passes, Shards};
-

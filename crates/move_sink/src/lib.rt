@@ -1,7 +1,6 @@
 //! What takes the moves of a generator: a list, or whatever else uses each of them at once.
 #![tactic(auto)]
 
-
 ghost use Rattle.std.specs.Prelude.{◌≡◌, ◌<◌, ℕ, true, List, [], ◌∷◌, ◌++◌, OnOk, OnErr};
 ghost use Rattle.rules_model.specs.declared.moves.Move.{Move};
 ghost use Rattle.square_set.specs.Members.{has, length_of, HasOrigin, OnSquares};

@@ -11,4 +11,3 @@ pub mod Fair
 pub mod Progress
 pub mod Sought
 pub mod CountLaws
-pub mod worked

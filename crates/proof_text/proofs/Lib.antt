@@ -11,4 +11,3 @@ pub mod ToldBackLemmas
 pub mod WordBackLemmas
 pub mod MoveBackLemmas
 pub mod ProofBackLemmas
-mod worked

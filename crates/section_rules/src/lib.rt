@@ -18,4 +18,3 @@ pub use lettered::LetteredSections;
 pub use lines::own_fault;
 pub use resolved::Resolved;
 pub use rules::bare_rules;
-

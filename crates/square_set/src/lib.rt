@@ -1,7 +1,6 @@
 //! Sets of squares: bit s of a number stands for square s.
 #![tactic(auto)]
 
-
 ghost use Rattle.std.specs.Prelude.{◌≡◌, ◌<◌, ◌+◌, ℕ, true, false, ◌&&◌, ◌||◌, not, ◌==◌, IfSome, OnSome, IfNone};
 ghost use Rattle.std.specs.Bool.{OnTrue, OnFalse};
 ghost use Rattle.square_set.specs.Members as Members;

@@ -8,4 +8,3 @@ pub mod SearchLemmas
 pub mod MateLaws
 pub mod BareLaws
 pub mod CheckLaws
-mod worked

@@ -7,4 +7,3 @@ pub mod WriteLemmas
 pub mod BackLemmas
 pub mod BackLaws
 pub mod LineLaws
-mod worked

@@ -2,4 +2,3 @@ pub mod AnswerLaws
 pub mod SlotLaws
 pub mod ReadLemmas
 pub mod ReportLemmas
-mod worked

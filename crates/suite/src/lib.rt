@@ -19,4 +19,3 @@ pub use reading::{MOST_PROBLEMS, Suite, read_suite};
 pub use report::write_report;
 pub use reporting::solve_suite;
 pub use solving::solve_all;
-

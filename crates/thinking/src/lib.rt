@@ -21,4 +21,3 @@ pub use mates::{Tried, try_mates};
 pub use scores::{favoured, mate_in, mate_sought, root_move};
 pub use style::Style;
 pub use task::{Start, Task, begin, quota_left};
-

@@ -13,4 +13,3 @@ mod waiting;
 pub use ended::Ended;
 pub use next_line::next_of;
 pub use waiting::{settle, wait};
-

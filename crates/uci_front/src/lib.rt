@@ -16,4 +16,3 @@ mod texts;
 pub use serving::serve;
 pub use session::UciSession;
 pub use turning::Ended;
-

@@ -15,4 +15,3 @@ pub use line::{Kind, read_line};
 pub use numbers::number;
 pub use setting::{Placing, Setting, read_placing, read_setting};
 pub use words::{joined, joined_by, words_in};
-

@@ -19,4 +19,3 @@ pub use key_line::KeyLine;
 pub use laws::{later_sections_change_no_option, options_are_inherited};
 pub use line::{Header, Line, Pair, pair_of, read_line};
 pub use sections::Sections;
-

@@ -1,4 +1,3 @@
 -- Small theorems on worked sections, each with its near miss.
 pub mod Inherited
-pub mod BuiltIn
 pub mod BuiltInLines

@@ -2,4 +2,3 @@ pub mod WordLaws
 pub mod ListedLemmas
 pub mod FindLemmas
 pub mod KeyLemmas
-pub mod worked

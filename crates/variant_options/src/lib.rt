@@ -14,4 +14,3 @@ pub mod words;
 pub use fault::LineFault;
 pub use line::line_fault;
 pub use value::{Area, Listed, ValueKind};
-

@@ -13,4 +13,3 @@ pub use found::Found;
 pub use loading::load;
 pub use variant_model::SectionFault;
 pub use variants::Variants;
-

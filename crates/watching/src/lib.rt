@@ -20,4 +20,3 @@ pub use helper::Helper;
 pub use listen::{heed, say};
 pub use stopping::stopped_by;
 pub use watch::Watch;
-

@@ -14,4 +14,3 @@ mod reading;
 
 pub use command::Command;
 pub use reading::{Asked, read_words};
-

@@ -10,7 +10,7 @@ use Rattle.mate_core.specs.declared.store.Store.{Store}
 use Rattle.mate_core.specs.Best.{best, is_as_good}
 use Rattle.mate_core.specs.Steps.{step}
 use Rattle.mate_core.specs.Runs.{after_all, known_to}
-use Rattle.mate_core.proofs.worked.Answers.{bare, held, wins_in_three, wins_in_two}
+use Rattle.mate_rows.proofs.worked.Answers.{bare, held, wins_in_three, wins_in_two}
 
 module _ (frame : Frame) where
   abbrev fresh : Store

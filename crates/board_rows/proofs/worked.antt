@@ -1,0 +1,4 @@
+-- Worked cases, each with its near miss: they hold by computing.
+mod Ends
+mod Xiangqi
+mod WonToys

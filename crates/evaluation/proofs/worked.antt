@@ -1,2 +1,0 @@
--- Worked cases of the definitions in specs/: each holds by computing.
-mod Evaluations

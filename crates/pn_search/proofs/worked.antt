@@ -1,3 +1,0 @@
--- Small trees, worked out, each with its near miss.
-mod Sums
-mod SmallTrees

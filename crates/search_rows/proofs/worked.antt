@@ -1,0 +1,2 @@
+-- Worked cases, each with its near miss: they hold by computing.
+mod Evaluations

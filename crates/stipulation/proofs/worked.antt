@@ -1,2 +1,0 @@
--- Small theorems on worked trees, each with its near miss.
-mod Toy

@@ -1,2 +1,0 @@
--- Small theorems on worked texts, each with its near miss.
-mod Sample

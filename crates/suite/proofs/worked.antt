@@ -1,3 +1,0 @@
--- Worked examples.
-pub mod Rows
-pub mod Told
