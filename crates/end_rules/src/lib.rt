@@ -1,4 +1,5 @@
-//! The ends of a game by the position itself: flag, checks and extinction, and what stands where no move is legal.
+//! The ends of a game by the position itself: flag, checks and extinction, and what stands where no move is legal; and
+//! the move count.
 #![tactic(auto)]
 
 mod checks;
@@ -7,6 +8,7 @@ mod flag;
 
 ghost use Rattle.std.specs.Prelude.{◌≡◌};
 ghost use Rattle.rules_model.specs.Ends as Ends;
+ghost use Rattle.rules_model.specs.Games as Games;
 ghost use Rattle.rules_model.specs.Repeats.{repeat_of};
 ghost use Rattle.rules_model.specs.Sides.{other};
 
@@ -17,7 +19,7 @@ pub use flag::is_flag_piece;
 use rules_model::{Cause, Outcome, Position, Rules, Side, Value};
 
 /// What a value that a rule names for the side comes to.
-pub(crate) fn valued(value: Value, side: Side, cause: Cause) -> Outcome
+pub fn valued(value: Value, side: Side, cause: Cause) -> Outcome
     ensures { result ≡ Ends.valued value side cause }
 {
     match value {
@@ -63,4 +65,14 @@ pub fn no_move(rules: &Rules, side: Side, attacked: bool) -> Outcome
     } else {
         valued(rules.stalemate, side, Cause::Stalemate)
     }
+}
+
+/// Whether the counter has reached the move-count rule (the 50 moves of the FIDE Laws of Chess, article 9.3;
+/// Fairy-Stockfish's `nMoveRule`). The counter is in plies and the rule in moves of both sides, so that it ends at twice
+/// the rule's number. A rule of 0 is none.
+#[tactic(auto, unfolding(rules_model::specs::Games::is_run_out))]
+pub fn is_run_out(rules: &Rules, counter: u16) -> bool
+    ensures { result ≡ Games.is_run_out rules.now counter }
+{
+    rules.n_move != 0 && u32::from(counter) >= 2 * u32::from(rules.n_move)
 }

@@ -1,32 +1,13 @@
 //! The result of a game.
 ghost use Rattle.std.specs.Prelude.{◌≡◌};
-ghost use Rattle.rules_model.specs.Ends as Ends;
 ghost use Rattle.rules_model.specs.Games as Games;
 ghost use Rattle.game_play.specs.Played as Played;
 ghost use Rattle.game_play.specs.Played.{story};
 
 use crate::game::Game;
+use end_rules::{is_run_out, valued};
 use legality::own_end;
-use rules_model::{Cause, Outcome, Position, Rules, Side, Value};
-
-/// What a value that a rule names for the side comes to.
-fn valued(value: Value, side: Side, cause: Cause) -> Outcome
-    ensures { result ≡ Ends.valued value side cause }
-{
-    match value {
-        Value::Win => Outcome::Won(side, cause),
-        Value::Loss => Outcome::Won(side.other(), cause),
-        Value::Draw => Outcome::Drawn(cause),
-    }
-}
-
-/// Whether the counter of plies has reached the move-count rule.
-#[tactic(auto, unfolding(rules_model::specs::Games::is_run_out))]
-fn is_run_out(rules: &Rules, counter: u16) -> bool
-    ensures { result ≡ Games.is_run_out rules.now counter }
-{
-    rules.n_move != 0 && u32::from(counter) >= 2 * u32::from(rules.n_move)
-}
+use rules_model::{Cause, Outcome, Position, Rules};
 
 /// The end of a game that its last position does not end by itself: repetition, where that position has stood as often as the rule says, or
 /// the move count; `Outcome::Ongoing` where there is neither.

@@ -3,12 +3,12 @@ ghost use Rattle.std.specs.Prelude.{◌≡◌};
 ghost use Rattle.forced_wins.specs.Views as Views;
 ghost use Rattle.forced_wins.specs.Wins.{is_in};
 ghost use Rattle.mate_fact.specs.InFrame.{end_in};
-ghost use Rattle.rules_model.specs.Games as Games;
 ghost use Rattle.rules_model.specs.Legal as Legal;
 ghost use Rattle.rules_model.specs.Repeats as Repeats;
 
+use end_rules::is_run_out;
 use mate_core::Frame;
-use rules_model::{Blocked, Cause, Outcome, Position, Rules, Side, is_same_repeat, repeat_of};
+use rules_model::{Blocked, Cause, Outcome, Position, Side, is_same_repeat, repeat_of};
 
 fn is_repetition(cause: Cause) -> bool
     ensures { result ≡ Views.is_repetition cause }
@@ -28,14 +28,6 @@ pub fn won_by(side: Side, outcome: Outcome) -> Option<bool>
         Outcome::Won(winner, cause) => Some(winner.is(side) && !is_repetition(cause)),
         Outcome::Drawn(_) => Some(false),
     }
-}
-
-// Whether the counter of plies has reached the move-count rule.
-#[tactic(auto, unfolding(rules_model::specs::Games::is_run_out))]
-fn is_run_out(rules: &Rules, counter: u16) -> bool
-    ensures { result ≡ Games.is_run_out rules.now counter }
-{
-    rules.n_move != 0 && u32::from(counter) >= 2 * u32::from(rules.n_move)
 }
 
 /// Whether the position may not be entered again.

@@ -1,12 +1,15 @@
 -- Laws of what a sink takes, by its law.
-use Rattle.std.proofs.Common.{◌≡◌, List, [], ◌∷◌, ◌++◌, ◌⊎◌, inl, inr}
+use Rattle.std.proofs.Common.{◌≡◌, Bool, true, false, List, [], ◌∷◌, ◌++◌, ◌⊎◌, inl, inr, refl, sym}
 use Rattle.foundation.proofs.Members.{lists-none, lists-one, lists-join, lists-same, member-append, once-append}
 use Rattle.rules_model.specs.declared.moves.Move.{Move}
-use Rattle.move_sink.specs.Taking.{IsSink, TakesAll, TakesSome}
+use Rattle.move_sink.specs.Taking.{IsChosen, IsSink, TakesAll, TakesSome}
 
 module _ {S : Type 0} {takes stops : S → List Move → S → Type 0} (sink : IsSink takes stops) where
   pub all-none : (P : Move → Type 0) (s : S) → ((m : Move) → P m → ⊥) → TakesAll takes P s s
   all-none P s none = record { moves = []; taken = sink.none s; each = lists-none P none }
+
+  pub not-wanted : (wanted : Bool) (m : Move) (s : S) → wanted ≡ false → TakesAll takes (IsChosen wanted m) s s
+  not-wanted wanted m s e = all-none (IsChosen wanted m) s (λ x h. let w = h.0 in cc)
 
   -- two parts with nothing in common, one after the other
   pub all-join : (P Q R : Move → Type 0) (s t u : S) → TakesAll takes P s t → TakesAll takes Q t u → ((m : Move) → P m → Q m → ⊥) → ((m : Move) → R m → P m ⊎ Q m) → ((m : Move) → P m ⊎ Q m → R m) → TakesAll takes R s u
@@ -33,6 +36,12 @@ module _ {S : Type 0} (takes : S → List Move → S → Type 0) where
   pub all-one : (P : Move → Type 0) (m : Move) (s t : S) → takes s (m ∷ []) t → P m → ((n : Move) → P n → m ≡ n) → TakesAll takes P s t
   all-one P m s t e h only = record { moves = m ∷ []; taken = e; each = lists-one P m h only }
 
+  pub wanted-all : (wanted : Bool) (m : Move) (s t : S) → wanted ≡ true → takes s (m ∷ []) t → TakesAll takes (IsChosen wanted m) s t
+  wanted-all wanted m s t e h = all-one (IsChosen wanted m) m s t h (e, refl) (λ x k. k.1)
+
 module _ {S : Type 0} (stops : S → List Move → S → Type 0) where
   pub some-within : (P Q : Move → Type 0) (s t : S) → TakesSome stops P s t → ((m : Move) → P m → Q m) → TakesSome stops Q s t
   some-within P Q s t a to = record { moves = a.moves; taken = a.taken; once = a.once; sound = λ m h. to m (a.sound m h) }
+
+  pub wanted-some : (wanted : Bool) (m : Move) (s t : S) → wanted ≡ true → TakesSome stops (λ x. x ≡ m) s t → TakesSome stops (IsChosen wanted m) s t
+  wanted-some wanted m s t e a = some-within (λ x. x ≡ m) (IsChosen wanted m) s t a (λ x h. (e, sym h))

@@ -1,7 +1,11 @@
 -- What a sink takes from a generator of moves.
-use Rattle.std.specs.Prelude.{List, [], ◌++◌}
+use Rattle.std.specs.Prelude.{◌≡◌, Bool, true, List, [], ◌++◌}
 use Rattle.foundation.specs.Member.{Member, IsEachOnce, Lists}
 use Rattle.rules_model.specs.declared.moves.Move.{Move}
+
+-- the one move, where it is wanted
+abbrev pub IsChosen : Bool → Move → Move → Type 0
+IsChosen wanted m x = (wanted ≡ true) × (m ≡ x)
 
 -- the sink took exactly the moves that meet P, each once, in any order
 pub record TakesAll {S : Type 0} (takes : S → List Move → S → Type 0) (P : Move → Type 0) (old new : S) : Type 0 where

@@ -5,7 +5,7 @@ ghost use Rattle.std.specs.Prelude.{◌≡◌, ◌<◌, ℕ, true, List, [], ◌
 ghost use Rattle.rules_model.specs.declared.moves.Move.{Move};
 ghost use Rattle.square_set.specs.Members.{has, length_of, HasOrigin, OnSquares};
 ghost use Rattle.move_sink.specs.InTurn.{GoesTo, GoesBy};
-ghost use Rattle.move_sink.specs.Taking.{IsSink, TakesAll, TakesSome};
+ghost use Rattle.move_sink.specs.Taking.{IsChosen, IsSink, TakesAll, TakesSome};
 ghost use Rattle.move_sink.specs.Listed.{list_is_sink};
 
 use foundation::Memory;
@@ -92,4 +92,12 @@ impl MoveSink for MoveList {
         self.items.push(m)?;
         Ok(())
     }
+}
+
+/// Gives the sink the move where it is wanted.
+pub fn push_if<S: MoveSink>(wanted: bool, m: Move, out: &mut S) -> Result<(), S::Full>
+    ensures ok { OnOk result (TakesAll S.takes (IsChosen wanted m) out.old out.new) }
+    ensures err { OnErr result (TakesSome S.stops (IsChosen wanted m) out.old out.new) }
+{
+    if wanted { out.take(m) } else { Ok(()) }
 }

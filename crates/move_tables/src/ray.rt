@@ -1,11 +1,11 @@
 //! The sets of a ray's squares.
 ghost use Rattle.std.specs.Prelude.{◌≡◌, ℕ, ◌<◌, ◌||◌, IfSome};
-ghost use Rattle.rules_model.specs.Reach.{IsOnBoard, IsShort, is_at, long_leg, block_squares, sign, leg};
+ghost use Rattle.rules_model.specs.Reach.{IsOnBoard, IsShort, is_at, long_leg, block_squares};
 ghost use Rattle.rules_model.specs.Squares.{step_to};
 ghost use Rattle.square_set.specs.Members.{has};
 ghost use Rattle.move_tables.specs.Rays as Rays;
 
-use rules_model::reach::{Ray, step};
+use rules_model::reach::{Ray, leg_of, step};
 use square_set::{EMPTY, Set};
 
 fn with_next(set: Set, next: Option<u8>) -> Set
@@ -40,30 +40,6 @@ pub(crate) fn square_at(ray: &Ray, k: u8) -> Set
     ensures { (t : ℕ) → has result t ≡ is_at t (step_to ray.now k) }
 {
     with_next(EMPTY, step(ray, k))
-}
-
-fn signum(d: i32) -> i32
-    ensures is { result ≡ sign d }
-    ensures short { IsShort result }
-{
-    if d == 0 {
-        0
-    } else if d > 0 {
-        1
-    } else {
-        -1
-    }
-}
-
-fn leg_of(d: i32, other: i32) -> i32
-    ensures is { result ≡ leg d other }
-    ensures short { IsShort result }
-{
-    if d.unsigned_abs() < other.unsigned_abs() {
-        0
-    } else {
-        signum(d)
-    }
 }
 
 /// The squares that block a lame leap.

@@ -25,10 +25,10 @@ use Rattle.square_set.specs.declared.Set.{Set}
 use Rattle.square_set.specs.Members.{has}
 use Rattle.board_sets.specs.Sets.{AreOwnPawns}
 use Rattle.move_sink.specs.InTurn.{At, start_of}
-use Rattle.move_sink.specs.Taking.{TakesAll, TakesSome}
+use Rattle.move_sink.specs.Taking.{IsChosen, TakesAll, TakesSome}
 use Rattle.move_sink.proofs.TakingLemmas.{all-same, some-within}
 use Rattle.pawn_moves.specs.declared.pawn.Flank.TheVariants.{Right, Left}
-use Rattle.pawn_moves.specs.Parts.{go, IsChosen, IsPromotion, becomes, IsMoveTo, IsMoveToSome, IsAhead, IsStep, IsAside, IsTake, IsMoveFrom, IsOwnMoveFrom, may_step_twice}
+use Rattle.pawn_moves.specs.Parts.{go, IsPromotion, becomes, IsMoveTo, IsMoveToSome, IsAhead, IsStep, IsAside, IsTake, IsMoveFrom, IsOwnMoveFrom, may_step_twice}
 use Rattle.pawn_moves.specs.PawnMoves.{is_pawn_move, FitPawnMoves}
 use Rattle.pawn_moves.proofs.GoalLemmas.{fit_board, two_goes, two_passes}
 use Rattle.pawn_moves.proofs.StepLemmas.{Differ, step_below, one_two, one_right, one_left, right_left}

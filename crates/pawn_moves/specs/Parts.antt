@@ -21,10 +21,6 @@ use Rattle.pawn_moves.specs.declared.pawn.Flank.TheVariants.{Right, Left}
 abbrev pub go : Square → Square → Promo → Move
 go from to promo = Go from to promo None
 
--- the one move, where it is wanted
-abbrev pub IsChosen : Bool → Move → Move → Type 0
-IsChosen wanted m x = (wanted ≡ true) × (m ≡ x)
-
 -- a promotion to a kind of the mask that is below the end
 abbrev pub IsPromotion : List Bool → Square → Square → ℕ → Move → Type 0
 IsPromotion mask from to end m =

@@ -8,30 +8,19 @@ ghost use Rattle.rules_model.specs.Repeats.{repeat_of};
 ghost use Rattle.rules_model.specs.Squares.{cell_at};
 ghost use Rattle.board_sets.specs.Sets.{AreSets};
 ghost use Rattle.pawn_moves.specs.Parts as Parts;
-ghost use Rattle.pawn_moves.specs.Parts.{IsChosen, IsPromotion, IsMoveTo, IsAhead, IsAside, IsStep, IsTake, IsMoveFrom};
+ghost use Rattle.pawn_moves.specs.Parts.{IsPromotion, IsMoveTo, IsAhead, IsAside, IsStep, IsTake, IsMoveFrom};
 ghost use Rattle.pawn_moves.specs.PawnMoves.{FitPawnMoves};
 
 use crate::pawn::{Flank, becomes, diagonal, is_enemy_on, may_step_twice, promotes};
 use crate::shifted::push_shifted;
 use attack_tables::Tables;
 use board_sets::BoardSets;
-use move_sink::MoveSink;
+use move_sink::{MoveSink, push_if};
 use rules_model::attacks::ahead;
 use rules_model::kinds::{board_of, masks};
 use rules_model::passing::is_ep;
 use rules_model::soundness::is_free;
 use rules_model::{KINDS, Kind, Move, Position, Promo, Rules, Square};
-
-/// Gives the sink the move where it is wanted.
-fn push_if<S: MoveSink>(wanted: bool, m: Move, out: &mut S) -> Result<(), S::Full>
-    ensures ok { OnOk result (TakesAll S.takes (IsChosen wanted m) out.old out.new) }
-    ensures err { OnErr result (TakesSome S.stops (IsChosen wanted m) out.old out.new) }
-{
-    if wanted {
-        out.take(m)?;
-    }
-    Ok(())
-}
 
 /// The move without a gate.
 pub(crate) fn go(from: Square, to: Square, promo: Promo) -> Move

@@ -1,5 +1,5 @@
 -- The parts of the moves: those between two squares by their promotions, and those of a piece among all.
-use Rattle.std.proofs.Common.{◌≡◌, ◌<◌, Bool, true, false, not, ◌&&◌, ◌⊎◌, inl, inr, Option, Some, None, List, [], ◌∷◌, refl, ap, sym, ◌∙◌, subst}
+use Rattle.std.proofs.Common.{◌≡◌, ◌<◌, Bool, true, false, not, ◌&&◌, ◌⊎◌, inl, inr, Option, Some, None, List, refl, ap, sym, ◌∙◌, subst}
 use Rattle.std.proofs.lemmas.Bool.{and_parts, not-true}
 use Rattle.rules_model.specs.declared.board.Cell.{Cell}
 use Rattle.rules_model.specs.declared.board.Kind.{Kind}
@@ -23,25 +23,14 @@ use Rattle.square_set.specs.Members.{has}
 use Rattle.move_tables.specs.Occupied.{AreMen}
 use Rattle.board_sets.specs.Sets.{AreOwnPieces}
 use Rattle.move_sink.specs.InTurn.{At, start_of, target_of}
-use Rattle.move_sink.specs.Taking.{IsSink, TakesAll, TakesSome}
-use Rattle.move_sink.proofs.TakingLemmas.{all-none, all-one, all-join, all-same, some-behind, some-within}
+use Rattle.move_sink.specs.Taking.{IsChosen, IsSink, TakesAll, TakesSome}
+use Rattle.move_sink.proofs.TakingLemmas.{all-none, all-join, all-same, some-behind, some-within}
 use Rattle.piece_moves.specs.Goals.{own_piece, makes}
-use Rattle.piece_moves.specs.Parts.{IsChosen, IsMoveFrom, FitPieceMoves}
+use Rattle.piece_moves.specs.Parts.{IsMoveFrom, FitPieceMoves}
 use Rattle.piece_moves.proofs.GoalLemmas.{own_makes}
 
 same_square : (a b : Square) → a.0 ≡ b.0 → a ≡ b
 same_square a b e = λ i. record { 0 = e i }
-
--- ---- one move or none
-
-pub chosen : {S : Type 0} (takes : S → List Move → S → Type 0) (wanted : Bool) (m : Move) (s t : S) → wanted ≡ true → takes s (m ∷ []) t → TakesAll takes (IsChosen wanted m) s t
-chosen takes wanted m s t e taken = all-one takes (IsChosen wanted m) m s t taken (e, refl) (λ x h. h.1)
-
-pub chosen-some : {S : Type 0} (stops : S → List Move → S → Type 0) (wanted : Bool) (m : Move) (s t : S) → wanted ≡ true → TakesSome stops (λ x. x ≡ m) s t → TakesSome stops (IsChosen wanted m) s t
-chosen-some stops wanted m s t e a = some-within stops (λ x. x ≡ m) (IsChosen wanted m) s t a (λ x h. (e, sym h))
-
-pub chosen-none : {S : Type 0} {takes stops : S → List Move → S → Type 0} (sink : IsSink takes stops) (wanted : Bool) (m : Move) (s : S) → wanted ≡ false → TakesAll takes (IsChosen wanted m) s s
-chosen-none sink wanted m s e = all-none sink (IsChosen wanted m) s (λ x h. not_both wanted h.0 e)
 
 -- ---- the moves from a square to another
 

@@ -1,5 +1,5 @@
 -- The parts of the moves that are given in turn.
-use Rattle.std.specs.Prelude.{◌≡◌, ◌<◌, Bool, true, Option}
+use Rattle.std.specs.Prelude.{◌≡◌, ◌<◌, true, Option}
 use Rattle.rules_model.specs.declared.board.Kind.{Kind}
 use Rattle.rules_model.specs.declared.board.Repeat.{Repeat}
 use Rattle.rules_model.specs.declared.board.Square.{Square}
@@ -9,10 +9,6 @@ use Rattle.rules_model.specs.declared.rules.Rules.{Rules}
 use Rattle.rules_model.specs.Candidates.{is_piece_move, own_piece_moves}
 use Rattle.rules_model.specs.Moves.{IsFitMove, IsFitPromo}
 use Rattle.rules_model.specs.Squares.{cell_at}
-
--- the one move, where it is wanted
-abbrev pub IsChosen : Bool → Move → Move → Type 0
-IsChosen wanted m x = (wanted ≡ true) × (m ≡ x)
 
 -- an ordinary move of the own piece on the square, which places this there
 abbrev pub IsMoveFrom : Rules → Repeat → Square → Option Kind → Move → Type 0

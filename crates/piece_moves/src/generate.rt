@@ -11,7 +11,7 @@ ghost use Rattle.square_set.specs.Members.{has};
 ghost use Rattle.board_sets.specs.Sets.{AreSets};
 ghost use Rattle.piece_moves.specs.Goals.{own_piece};
 ghost use Rattle.piece_moves.specs.Movers.{IsMoveOf, IsMoveTo, IsMover};
-ghost use Rattle.piece_moves.specs.Parts.{FitPieceMoves, IsChosen, IsMoveFrom};
+ghost use Rattle.piece_moves.specs.Parts.{FitPieceMoves, IsMoveFrom};
 ghost use Rattle.piece_moves.specs.Plain as Plain;
 
 use crate::piece::own_piece;
@@ -19,7 +19,7 @@ use crate::promotion::{becomes, is_plain, may_plus, means_castling};
 use crate::targets::targets;
 use attack_tables::{Tables, cell_on};
 use board_sets::{BoardSets, sets_are_on_board};
-use move_sink::MoveSink;
+use move_sink::{MoveSink, push_if};
 use rules_model::sizes::position_sizes;
 use rules_model::{Cell, Kind, Move, Position, Promo, Rules, Square};
 use square_set::Set;
@@ -43,17 +43,6 @@ impl Mover {
             gate,
         }
     }
-}
-
-/// Gives the move where it is wanted.
-fn push_if<S: MoveSink>(wanted: bool, m: Move, out: &mut S) -> Result<(), S::Full>
-    ensures ok { OnOk result (TakesAll S.takes (IsChosen wanted m) out.old out.new) }
-    ensures err { OnErr result (TakesSome S.stops (IsChosen wanted m) out.old out.new) }
-{
-    if wanted {
-        out.take(m)?;
-    }
-    Ok(())
 }
 
 /// Gives the moves of the own piece to a square to which it goes, which place `gate` on the square that it leaves.

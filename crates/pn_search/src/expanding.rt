@@ -1,7 +1,6 @@
 //! What becomes of a leaf that is expanded.
 ghost use Rattle.std.specs.Prelude.{◌≡◌, ◌+◌, ◌<◌, ◌≤◌, ◌++◌, ◌^◌, ℕ, true, Some, None, IfOk, OnOk, OnErr, length, map, take, replicate, slice_get, slice_set};
 ghost use Rattle.playing.specs.Stance.{legal_in};
-ghost use Rattle.rules_model.specs.Games as Games;
 ghost use Rattle.rules_model.specs.Ready.{IsReady};
 ghost use Rattle.pn_search.specs.declared.node.Node.{Node};
 ghost use Rattle.pn_search.specs.declared.node.State.TheVariants.{Inner};
@@ -14,23 +13,16 @@ use crate::descending::Leaf;
 use crate::node::{Node, State};
 use crate::numbers::{OPEN, Pair};
 use attack_tables::Tables;
+use end_rules::is_run_out;
 use legality::own_end;
 use mate_core::Frame;
 use mate_fact::{end_of, won_by};
 use playing::Board;
-use rules_model::{Memory, Move, Position, Rules};
+use rules_model::{Memory, Move, Position};
 use std::alloc::Global;
 
 /// More nodes than these have no numbers of 32 bits.
 const MOST_NODES: usize = u32::MAX as usize;
-
-// Whether the counter of plies has reached the move-count rule.
-#[tactic(auto, unfolding(rules_model::specs::Games::is_run_out))]
-fn is_run_out(rules: &Rules, counter: u16) -> bool
-    ensures { result ≡ Games.is_run_out rules.now counter }
-{
-    rules.n_move != 0 && u32::from(counter) >= 2 * u32::from(rules.n_move)
-}
 
 /// How the position is ended as the root of a tree, whose repeat is not looked up: whether the attacker has won; None where
 /// it is ongoing.

@@ -97,7 +97,8 @@ fn blockers_within(cells: &Cells, ray: &Ray, k: u8) -> u8
     found
 }
 
-fn signum(d: i32) -> i32
+/// The step's sign along one axis: -1, 0 or 1.
+pub fn signum(d: i32) -> i32
     ensures is { result ≡ sign d }
     ensures short { IsShort result }
 {
@@ -110,7 +111,9 @@ fn signum(d: i32) -> i32
     }
 }
 
-fn leg_of(d: i32, other: i32) -> i32
+/// The part of the step `d` along one axis that the long leg has, where the step along the other axis is `other`: its
+/// sign, or 0 where the other is longer.
+pub fn leg_of(d: i32, other: i32) -> i32
     ensures is { result ≡ leg d other }
     ensures short { IsShort result }
 {

@@ -1,10 +1,9 @@
 -- How the parts of the moves grow.
-use Rattle.std.proofs.Common.{◌≡◌, ℕ, ◌+◌, ◌<◌, ◌≤◌, Bool, true, false, ◌⊎◌, inl, inr, List, [], ◌∷◌, refl, sym, arith, subst}
+use Rattle.std.proofs.Common.{◌≡◌, ℕ, ◌+◌, ◌<◌, ◌≤◌, ◌⊎◌, inl, inr, List, arith, subst}
 use Rattle.std.proofs.Math.Nat.{eq-or-lt_of_le}
 use Rattle.rules_model.specs.declared.moves.Move.{Move}
 use Rattle.move_sink.specs.Taking.{IsSink, TakesAll, TakesSome}
-use Rattle.move_sink.proofs.TakingLemmas.{all-none, all-join, some-behind, all-same, all-one, some-within}
-use Rattle.piece_moves.specs.Parts.{IsChosen}
+use Rattle.move_sink.proofs.TakingLemmas.{all-none, all-join, some-behind, all-same, some-within}
 use Rattle.special_moves.specs.Parts.{IsBelow, IsEither}
 
 -- two parts have a move in common only where they are one
@@ -32,11 +31,6 @@ module _ (Part : ℕ → Move → Type 0) where
   apart only n m h k = let e : h.number ≡ n = only h.number n m h.is k in omega (arith, e, h.below)
 
 module _ {S : Type 0} {takes stops : S → List Move → S → Type 0} (sink : IsSink takes stops) where
-  -- ---- one move or none
-
-  pub not-wanted : (wanted : Bool) (m : Move) (s : S) → wanted ≡ false → TakesAll takes (IsChosen wanted m) s s
-  not-wanted wanted m s e = all-none sink (IsChosen wanted m) s (λ x h. let w = h.0 in cc)
-
   -- ---- the parts below a number
 
   pub below-none : (Part : ℕ → Move → Type 0) (s : S) → TakesAll takes (IsBelow Part 0) s s
@@ -60,9 +54,6 @@ module _ {S : Type 0} {takes stops : S → List Move → S → Type 0} (sink : I
   either-some P Q s t u none a b = some-behind sink P Q (IsEither P Q) s t u a b none (λ m h. inl h) (λ m h. inr h)
 
 module _ {S : Type 0} (takes : S → List Move → S → Type 0) where
-  pub wanted-all : (wanted : Bool) (m : Move) (s t : S) → wanted ≡ true → takes s (m ∷ []) t → TakesAll takes (IsChosen wanted m) s t
-  wanted-all wanted m s t e h = all-one takes (IsChosen wanted m) m s t h (e, refl) (λ x k. k.1)
-
   -- the next part has no move
   pub below-skip : (Part : ℕ → Move → Type 0) (n : ℕ) (s t : S) → TakesAll takes (IsBelow Part n) s t → ((m : Move) → Part n m → ⊥) → TakesAll takes (IsBelow Part (n + 1)) s t
   below-skip Part n s t a none =
@@ -73,8 +64,5 @@ module _ {S : Type 0} (takes : S → List Move → S → Type 0) where
   below-last Part n end s t e a = subst (λ k. TakesAll takes (IsBelow Part k) s t) e a
 
 module _ {S : Type 0} (stops : S → List Move → S → Type 0) where
-  pub wanted-some : (wanted : Bool) (m : Move) (s t : S) → wanted ≡ true → TakesSome stops (λ x. x ≡ m) s t → TakesSome stops (IsChosen wanted m) s t
-  wanted-some wanted m s t e a = some-within stops (λ x. x ≡ m) (IsChosen wanted m) s t a (λ x h. (e, sym h))
-
   pub either-left : (P Q : Move → Type 0) (s t : S) → TakesSome stops P s t → TakesSome stops (IsEither P Q) s t
   either-left P Q s t a = some-within stops P (IsEither P Q) s t a (λ m h. inl h)

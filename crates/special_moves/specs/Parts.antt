@@ -22,7 +22,8 @@ use Rattle.rules_model.specs.Regions.{first_rank, in_region}
 use Rattle.rules_model.specs.Squares.{cell_at, square_on}
 use Rattle.square_set.specs.declared.Set.{Set}
 use Rattle.square_set.specs.Members.{has}
-use Rattle.piece_moves.specs.Parts.{IsChosen, IsMoveFrom}
+use Rattle.move_sink.specs.Taking.{IsChosen}
+use Rattle.piece_moves.specs.Parts.{IsMoveFrom}
 use Rattle.special_moves.specs.Castles.{open_castle}
 
 -- a fit move that is no ordinary move of a piece without a gate

@@ -14,11 +14,10 @@ ghost use Rattle.special_moves.specs.Castles as Castles;
 ghost use Rattle.special_moves.specs.Parts as Parts;
 ghost use Rattle.special_moves.specs.Parts.{IsCastle, IsCastleOf, IsCastleTo, IsGateOf, IsGateOn, IsGatedCastle};
 
-use crate::append::push_if;
 use crate::way::{holds_own_king, way_is_open};
 use attack_tables::{Tables, cell_on};
 use board_sets::{BoardSets, sets_of};
-use move_sink::MoveSink;
+use move_sink::{MoveSink, push_if};
 use rules_model::castling::{
     CastleSquares, castle_of, castling_square, holds_right, is_rook, rook_target, rook_to_file,
 };

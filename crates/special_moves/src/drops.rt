@@ -10,10 +10,9 @@ ghost use Rattle.board_sets.specs.Sets.{AreSets};
 ghost use Rattle.special_moves.specs.Parts as Parts;
 ghost use Rattle.special_moves.specs.Parts.{IsDrop, IsDropOf};
 
-use crate::append::push_if;
 use attack_tables::Tables;
 use board_sets::BoardSets;
-use move_sink::MoveSink;
+use move_sink::{MoveSink, push_if};
 use rules_model::kinds::{first_rank, in_hand, in_region, names};
 use rules_model::{Cells, KINDS, Kind, Move, Position, RANKS, Rules, Side, Square};
 use square_set::Set;

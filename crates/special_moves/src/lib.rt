@@ -1,7 +1,6 @@
 //! The moves of pawns, castles, drops and the moves that place a hand piece at a gate.
 #![tactic(auto)]
 
-mod append;
 pub mod candidate;
 mod castles;
 mod drops;

@@ -8,9 +8,10 @@ ghost use Rattle.rules_model.specs.Sound.{is_sound};
 ghost use Rattle.stipulation.specs.Lines.{AreSound, game_after, legal_after, result_after};
 ghost use Rattle.stipulation.specs.Stipulations as Stipulations;
 
+use end_rules::is_run_out;
 use game_play::Game;
 use legality::{apply, is_legal, legal_moves, own_end};
-use rules_model::{Cause, Memory, Move, MoveList, Outcome, Position, Rules, Side, repeats};
+use rules_model::{Cause, Memory, Move, MoveList, Outcome, Position, Side, repeats};
 use std::alloc::Global;
 use std::marker::Model;
 
@@ -47,14 +48,6 @@ pub(crate) fn mated_by(winner: Side, outcome: Outcome) -> Option<bool>
         Outcome::Won(side, cause) => Some(side.is(winner) && is_checkmate(cause)),
         Outcome::Drawn(_) => Some(false),
     }
-}
-
-/// Whether the counter of plies has reached the move-count rule.
-#[tactic(auto, unfolding(rules_model::specs::Games::is_run_out))]
-fn is_run_out(rules: &Rules, counter: u16) -> bool
-    ensures { result ≡ Games.is_run_out rules.now counter }
-{
-    rules.n_move != 0 && u32::from(counter) >= 2 * u32::from(rules.n_move)
 }
 
 /// How many of the positions have the position's repeat.
