@@ -32,7 +32,8 @@ ReachesNone rules by kind from occupied kings =
 
 -- the later cells are the cells once a piece of the side and the kind has left the one square for the other; one that
 -- came from elsewhere left the square to which it came
-pub record ComesTo (side : Side) (kind : Kind) (cells : List (Option Cell)) (from to : ℕ) (later : List (Option Cell)) : Type 0 where
+pub record ComesTo (side : Side) (kind : Kind) (cells : List (Option Cell)) (from to : ℕ)
+    (later : List (Option Cell)) : Type 0 where
   pub piece : Cell
   pub of_side : piece.side ≡ side
   pub of_kind : piece.kind ≡ kind
@@ -43,4 +44,5 @@ pub record ComesTo (side : Side) (kind : Kind) (cells : List (Option Cell)) (fro
 -- then no king of the other side is attacked
 abbrev pub ComesQuietly : Rules → Side → Kind → List (Option Cell) → ℕ → ℕ → Type 0
 ComesQuietly rules side kind cells from to =
-    (later : List (Option Cell)) → ComesTo side kind cells from to later → king_attacked rules later (other side) ≡ false
+    (later : List (Option Cell)) → ComesTo side kind cells from to later
+    → king_attacked rules later (other side) ≡ false

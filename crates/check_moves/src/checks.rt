@@ -67,8 +67,8 @@ fn reaches_some(tables: &Tables, by: Side, kind: Kind, from: u8, occupied: Set, 
     !spot.reach(occupied).and(kings).is_empty()
 }
 
-/// Whether a piece of the kind that leaves the one square for the other may give check by it. One that is dropped leaves
-/// the square to which it comes.
+/// Whether a piece of the kind that leaves the one square for the other may give check by it. One that is dropped
+/// leaves the square to which it comes.
 fn may_come(
     tables: &Tables,
     p: &Position,
@@ -144,8 +144,8 @@ fn move_may_check(tables: &Tables, p: &Position, occupied: Set, checks: &Checks,
     }
 }
 
-/// Whether the move may give check: where the answer is no it gives none. The answer is always yes for castles, promotions
-/// and gates, for what goes to the square of en passant, and where kings fly.
+/// Whether the move may give check: where the answer is no it gives none. The answer is always yes for castles,
+/// promotions and gates, for what goes to the square of en passant, and where kings fly.
 pub fn may_check(board: &Board, checks: &Checks, m: &Move) -> bool
     requires fit { IsFitMove m.now }
     requires checks { Spec.AreChecksIn board.now checks.now }

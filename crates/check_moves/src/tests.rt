@@ -73,8 +73,8 @@ fn expect_rows(
     Ok(())
 }
 
-// A rook's, a knight's, what uncovers and a pawn that stays in the way, a king that uncovers; of two pieces in the way neither
-// does. A promotion is always asked.
+// A rook's, a knight's, what uncovers and a pawn that stays in the way, a king that uncovers; of two pieces in the way
+// neither does. A promotion is always asked.
 #[test]
 fn few_moves_of_chess_are_asked(rt: HostRuntime) -> Result<(), Fail> {
     let rows = [
@@ -90,7 +90,8 @@ fn few_moves_of_chess_are_asked(rt: HostRuntime) -> Result<(), Fail> {
     Ok(())
 }
 
-// The castling rook checks. En passant takes two pieces out of the way. A knight is dropped; pieces that gate are asked.
+// The castling rook checks. En passant takes two pieces out of the way. A knight is dropped; pieces that gate are
+// asked.
 #[test]
 fn castles_drops_and_gates_are_asked(rt: HostRuntime) -> Result<(), Fail> {
     let tables = Tables::new(rt.alloc(), &chess())?;
@@ -109,8 +110,8 @@ fn castles_drops_and_gates_are_asked(rt: HostRuntime) -> Result<(), Fail> {
     Ok(())
 }
 
-// Of a cannon's two screens each uncovers it; without one any piece may be its screen. A piece that holds a horse back. Where
-// kings fly every move is asked.
+// Of a cannon's two screens each uncovers it; without one any piece may be its screen. A piece that holds a horse back.
+// Where kings fly every move is asked.
 #[test]
 fn cannons_and_horses_are_uncovered(rt: HostRuntime) -> Result<(), Fail> {
     let rows = [

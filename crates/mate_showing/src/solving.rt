@@ -24,15 +24,17 @@ use std::alloc::Global;
 use strategy::Node;
 use watching::{Halt, Watch};
 
-/// Whether the game is won, and the move that was found to win or to refute.
+/// Whether a game is won by the attacker.
 #[derive(Clone, Copy)]
 pub struct Verdict {
     pub won: bool,
+    /// The move that was found to win. There is none where the game is not won or has ended, nor where the defender is
+    /// to move.
     pub best: Option<Move>,
 }
 
-/// Whether the game is won, the positions after its last one being looked at without their history. A move may be named
-/// that is tried first. The board is that of the last position.
+/// Whether the attacker wins the game within n of its moves, n from 1 to 1,000, the positions after its last one being
+/// looked at without their history. A move may be named that is tried first. The board is that of the last position.
 ///
 /// # Errors
 ///

@@ -56,8 +56,18 @@ fn shards_for(alloc: Global, game: &Game, attacker: Side) -> Result<(Shards, Pas
     Ok((shards, passes))
 }
 
-/// What a call of the solver says, each time with the facts that it kept before. Where it leaves a game open since the
-/// move count could end it meanwhile, the definition is followed.
+/// What stands for an answer that the solver leaves open: the definition's, where the move count could end the game
+/// within n moves; elsewhere the solver may leave nothing open, so the opposite, which counts as a difference.
+fn answer_if_open(game: &Game, n: u16, won_by_definition: bool) -> bool {
+    if is_counted(game.rules(), n, game.position()) {
+        won_by_definition
+    } else {
+        !won_by_definition
+    }
+}
+
+/// What a call of the solver says, each time with the facts that it kept before. `plain` is what the definition says:
+/// see `answer_if_open`.
 pub fn by_solver<R: Threads + Wait + Sync>(
     rt: &R,
     alloc: Global,
@@ -76,7 +86,7 @@ pub fn by_solver<R: Threads + Wait + Sync>(
         answers[place] = match said {
             Said::Won => true,
             Said::NotWon => false,
-            Said::Unsettled => plain[place] == is_counted(game.rules(), n, game.position()),
+            Said::Unsettled => answer_if_open(game, n, plain[place]),
         };
     }
     Ok(answers)

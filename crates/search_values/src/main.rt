@@ -2,18 +2,21 @@
 //! a game: the name of a variant that is built in, and the moves from its start.
 #![tactic(auto)]
 
-ghost use Rattle.std.specs.Prelude.{◌≡◌, ◌<◌, ◌≤◌, true};
+ghost use Rattle.std.specs.Prelude.{◌≡◌, ◌<◌, ◌≤◌, true, [], length, IfOk, IfSome, IfNone};
 ghost use Rattle.rules_model.specs.Fit.{IsFit};
 ghost use Rattle.rules_model.specs.Sound.{is_sound};
+ghost use Rattle.alpha_beta.specs.Roots.{AreLegal};
+ghost use Rattle.game_play.specs.Played.{legal_in, story};
+ghost use Rattle.game_values.specs.Values as Values;
 
 use alpha_beta::{Limits, Searched, search};
 use foundation::Memory;
 use game_play::Game;
 use hint_table::HintTable;
-use io_ports::{Dialect, ListClock, MemSink, MemSource, OpenGate, PollsOwed, Ports};
+use io_ports::{Dialect, ListClock, MemSink, OpenGate, Ports, QuietSource};
+use legality::legal_moves;
 use move_names::read_move;
-use playing::Board;
-use rules_model::Rules;
+use rules_model::{Move, Rules};
 use std::alloc::{AllocError, Global};
 use std::io;
 use std::io::{BufRead, BufReader};
@@ -25,7 +28,43 @@ const UNLIMITED: Limits = Limits {
     deadline: None,
 };
 
-/// What the game is worth at the depth; `None` where no move is legal, or where the search does not end.
+/// The value of the game at the depth over these root moves.
+fn value_over<R: Threads + Sync>(
+    rt: &R,
+    alloc: Global,
+    game: &Game,
+    roots: &[Move],
+    hints: &HintTable,
+    depth: u8,
+    workers: u32,
+) -> Result<i32, Memory>
+    requires legal { AreLegal game.now.rules (story game.now) roots.now }
+    requires some { 0 < length roots.now }
+    requires depth { (1 ≤ depth) × (depth ≤ 64) }
+    requires workers { (0 < workers) × (workers ≤ 64) }
+    ensures { IfOk result (λ value. value ≡ Values.value_of game.now.rules depth (story game.now) roots.now) }
+{
+    let mut source = QuietSource;
+    let mut sink = MemSink::new(alloc, 0)?;
+    let mut clock = ListClock::new(alloc, &[])?;
+    let mut ports = Ports {
+        source: &mut source,
+        sink: &mut sink,
+        clock: &mut clock,
+        gate: &OpenGate,
+        dialect: Dialect::Uci,
+    };
+    let answer = search(
+        rt, alloc, game, depth, roots, hints, UNLIMITED, workers, &mut ports,
+    );
+    match answer {
+        Ok(Searched::Done { value, .. }) => Ok(value),
+        // No line, no end and no limit stops a search over a quiet source: it fails for memory alone.
+        Ok(Searched::Stopped(_)) | Err(_) => Err(Memory),
+    }
+}
+
+/// What the game is worth at the depth; `None` where no move is legal.
 fn value_of<R: Threads + Sync>(
     rt: &R,
     alloc: Global,
@@ -36,29 +75,18 @@ fn value_of<R: Threads + Sync>(
 ) -> Result<Option<i32>, Memory>
     requires depth { (1 ≤ depth) × (depth ≤ 64) }
     requires workers { (0 < workers) × (workers ≤ 64) }
+    ensures is { IfOk result (λ found. IfSome found (λ value.
+        value ≡ Values.value_of game.now.rules depth (story game.now) (legal_in game.now))) }
+    ensures none { IfOk result (λ found. IfNone found (legal_in game.now ≡ [])) }
 {
-    let mut source = MemSource::new(alloc, b"", PollsOwed::Endless, &[])?;
-    let mut sink = MemSink::new(alloc, 0)?;
-    let mut clock = ListClock::new(alloc, &[])?;
-    let roots = Board::new(game.tables(), game.position()).legal_moves(alloc)?;
-    if roots.items.is_empty() {
+    game.is_played();
+    let moves = legal_moves(alloc, game.rules(), game.tables(), game.position())?;
+    if moves.items.is_empty() {
         return Ok(None);
     }
-    let mut ports = Ports {
-        source: &mut source,
-        sink: &mut sink,
-        clock: &mut clock,
-        gate: &OpenGate,
-        dialect: Dialect::Uci,
-    };
-    let moves = roots.items.as_slice();
-    let answer = search(
-        rt, alloc, game, depth, moves, hints, UNLIMITED, workers, &mut ports,
-    );
-    match answer {
-        Ok(Searched::Done { value, .. }) => Ok(Some(value)),
-        _ => Ok(None),
-    }
+    let roots = moves.items.as_slice();
+    let value = value_over(rt, alloc, game, roots, hints, depth, workers)?;
+    Ok(Some(value))
 }
 
 /// The game of the moves from the start of the rules; `None` where one of them is not legal.

@@ -1,20 +1,20 @@
-use Rattle.std.proofs.Common.{◌≡◌, ◌<◌, ℕ, List, length, get_or, slice_index_or, sym, subst, rules}
-use Rattle.std.specs.List.{All}
-use Rattle.std.proofs.lemmas.List.Elements.{Contains-get_or}
+use Rattle.std.proofs.Common.{◌≡◌, ◌∙◌, List, ap, slice_index_or, subst, rules}
 use Rattle.foundation.specs.Member.{Member}
-use Rattle.foundation.proofs.Members.{member-contains}
+use Rattle.legality.proofs.MemberLaws.{get_or-member}
 use Rattle.rules_model.specs.declared.moves.Move.{Move}
-use Rattle.rules_model.specs.Legal.{legal}
-use Rattle.rules_model.specs.Repeats.{repeat_of}
-use Rattle.game_play.specs.Played.{story}
+use Rattle.game_play.specs.Played.{legal_in, story}
+use Rattle.game_values.specs.Values as Values
 use Rattle.search_values.proofs.value_of.Goals as goal
 
-all-members : (ms : List Move) → All (λ m. Member m ms) ms
-all-members ms = λ k d lt. member-contains (get_or ms k d) ms (Contains-get_or ms k d lt)
+pub value_over-requires-clause-legal : goal.value_over-requires-clause-legal
+value_over-requires-clause-legal g c κs within k d below =
+    let viewed : c.as_slice-roots.result.now ≡ c.in_ok-moves.moves = search rules in
+    let same : c.as_slice-roots.result.now ≡ legal_in c.args.game.now = viewed ∙ (rw (c.rules.ensures, c.position.ensures.is) at c.in_ok-moves.ensures) in
+    subst (λ (ms : List Move). Member (slice_index_or c.as_slice-roots.result.now k d) ms) same (get_or-member c.as_slice-roots.result.now k d below)
 
-pub search-answer-requires-clause-legal : goal.search-answer-requires-clause-legal
-search-answer-requires-clause-legal g c κs within =
+pub returns-clause-is : goal.returns-clause-is
+returns-clause-is g c =
     let game = c.args.game.now in
-    let ms : List Move = legal game.rules (repeat_of (story game).last) in
-    let is : c.as_slice-moves.result.now ≡ ms = search rules in
-    subst (λ (xs : List Move). (k : ℕ) (d : Move) → k < length xs → Member (slice_index_or xs k d) ms) (sym is) (all-members ms)
+    let viewed : c.as_slice-roots.result.now ≡ c.in_ok-moves.moves = search rules in
+    let same : c.as_slice-roots.result.now ≡ legal_in game = viewed ∙ (rw (c.rules.ensures, c.position.ensures.is) at c.in_ok-moves.ensures) in
+    c.in_ok-value.ensures ∙ ap (λ (ms : List Move). Values.value_of game.rules c.args.depth (story game) ms) same
