@@ -148,7 +148,7 @@ fn end_line(front: &mut Front, line: &mut LineBuf) -> Got
 
 // Reads over the rest of a piece that is too long. More than this many bytes of its line are a fault; a final CR is not
 // counted.
-pub(crate) fn skip_piece<R: BufRead>(reader: &mut R, most: usize) -> io::Result<()>
+fn skip_piece<R: BufRead>(reader: &mut R, most: usize) -> io::Result<()>
     ensures ok { OnOk result (DropsThrough (R.remaining reader.old) (R.remaining reader.new) 10) }
     ensures err { OnErr result (Skips (R.remaining reader.old) (R.remaining reader.new)) }
 {

@@ -23,7 +23,7 @@ use rules_model::soundness::is_free;
 use rules_model::{KINDS, Kind, Move, Position, Promo, Rules, Square};
 
 /// The move without a gate.
-pub(crate) fn go(from: Square, to: Square, promo: Promo) -> Move
+fn go(from: Square, to: Square, promo: Promo) -> Move
     ensures { result ≡ Parts.go from to promo }
 {
     Move::Go {

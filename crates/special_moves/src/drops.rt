@@ -54,7 +54,7 @@ fn stands_on_file(cells: &Cells, side: Side, kind: Kind, file: u8) -> bool
 }
 
 /// Whether the side already has a piece of the kind on the file, and the kind may not be doubled.
-pub(crate) fn is_doubled(rules: &Rules, p: &Position, kind: Kind, to: Square) -> bool
+fn is_doubled(rules: &Rules, p: &Position, kind: Kind, to: Square) -> bool
     ensures { result ≡ Drops.is_doubled rules.now p.now.cells p.now.side kind to.0 }
 {
     names(rules.no_doubled, kind) && stands_on_file(&p.cells, p.side, kind, to.file())
