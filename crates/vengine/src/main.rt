@@ -1,36 +1,15 @@
-//! Vengine, a chess-variant engine: what the words of its command line ask, and the one call that does it.
+//! Vengine, a chess-variant engine: makes the ports of the machine, and the one call that does what its words ask.
 #![tactic(auto)]
 
-mod answers;
-mod certificates;
-mod checking;
-mod fault;
-mod game;
-mod generating;
-mod halt;
-mod laws;
-mod mate_counts;
-mod opening;
-mod problems;
-mod program;
-mod reach;
-mod sections;
-mod sessions;
-mod setup;
-mod stop;
-mod strategy_lines;
-mod variants;
-
+use commands::{NO_MEMORY, run};
 use foundation::Memory;
 use io_ports::{MachineClock, MachineFiles, OpenGate, PatientReader, QueuedInput, StandardOutput};
-pub use program::run;
 use std::io::{BufReader, ErrorKind, Read};
 use std::process::ExitCode;
 use std::rt::{Clock, Env, Files};
 use std::sync::Wait;
 use std::thread::Threads;
 use std::{env, io};
-use stop::NO_MEMORY;
 
 /// The words after the program's name. Words that are not UTF-8 are given as `--`, which is of no command.
 fn given_words(rt: &(impl Env + AllocGlobal)) -> Result<Vec<String>, Memory> {

@@ -1,0 +1,190 @@
+//! The file of variants: when it is read, and its faults.
+use crate::runs::{BUILTIN, USAGE_LINE, ran, says, some_files};
+use io_ports::{Files, Given, MemFiles};
+use std::alloc::Global;
+use std::process::Abort;
+use std::sync::Wait;
+use std::test::Fail;
+use std::thread::Threads;
+
+/// Files that fail at every call.
+#[derive(Drop)]
+struct FailingFiles {
+    faults: u64,
+}
+
+impl Files for FailingFiles {
+    ghost use Rattle.std.specs.Prelude.{None};
+
+    ghost contents = { λ files. None };
+
+    ghost faults = { λ files. files.faults };
+
+    fn read(&mut self, _name: &[u8], _out: &mut Vec<u8>) -> Given {
+        self.faults = self.faults.saturating_add(1);
+        Given::Failed
+    }
+}
+
+/// A file of the most bytes that one may have, all of them comments.
+fn largest_file(alloc: Global) -> Result<Vec<u8>, Fail> {
+    let mut bytes = Vec::new(alloc);
+    for _ in 0..1024 {
+        bytes.extend_from_slice(&[b'#'; 1023])?;
+        bytes.push(b'\n')?;
+    }
+    Ok(bytes)
+}
+
+/// Runs words over these files and a source that fails at its first call, and wants this status and this text.
+fn fails<R: Abort + AllocGlobal + Threads + Wait + Sync, F: Files>(
+    rt: &R,
+    files: &mut F,
+    words: &[&str],
+    status: u8,
+    text: &[u8],
+) -> Result<(), Fail> {
+    let (answered, sink) = ran(rt, files, words, b"chess\n", &[0], 1000)?;
+    assert_eq!(rt; answered, status);
+    assert_eq!(rt; sink.taken(), text);
+    Ok(())
+}
+
+/// The source fails at its first call, so that a command that is reached and reads it has status 4.
+#[test]
+fn the_file_of_variants_is_judged_before_the_command(rt: HostRuntime) -> Result<(), Fail> {
+    let mut files = some_files(rt.alloc())?;
+    let mut bytes = largest_file(rt.alloc())?;
+    files.add(b"largest", bytes.as_slice())?;
+    bytes.push(b'#')?;
+    files.add(b"larger", bytes.as_slice())?;
+    let rows: [(&[&str], u8, &str); 9] = [
+        (
+            &["--variants=none", "reach", "fN", "i9"],
+            6,
+            "error FileFault 1 Missing\n",
+        ),
+        (
+            &["--variants", "larger", "moves"],
+            6,
+            "error FileFault 2 TooLarge\n",
+        ),
+        (
+            &["--variants", "pair", "moves"],
+            3,
+            "error IniFault 4 NoSection 1\n",
+        ),
+        (&["--variants", "pair", "reach", "N"], 2, USAGE_LINE),
+        (
+            &["--variants", "none", "uci"],
+            6,
+            "error FileFault 1 Missing\n",
+        ),
+        (
+            &["--variants", "pair", "xboard"],
+            3,
+            "error IniFault 4 NoSection 1\n",
+        ),
+        (&["--variants", "largest", "moves"], 4, ""),
+        (&["moves"], 4, ""),
+        (
+            &["--variants", "empty", "reach", "N", "i9"],
+            3,
+            "error ReachFault 1 BadSquare i9\n",
+        ),
+    ];
+    for (words, status, text) in rows {
+        fails(&rt, &mut files, words, status, text.as_bytes())?;
+    }
+    Ok(())
+}
+
+#[test]
+fn files_that_fail_have_a_status(rt: HostRuntime) -> Result<(), Fail> {
+    let mut files = FailingFiles { faults: 0 };
+    let words = ["--variants", "f", "moves"].as_slice();
+    fails(&rt, &mut files, words, 6, b"error FileFault 3 Failed\n")
+}
+
+/// Wants a file of variants to be refused before each kind of command: the source, which fails at its first call, is not
+/// asked.
+fn refuses_each<R: Abort + AllocGlobal + Threads + Wait + Sync>(
+    rt: &R,
+    files: &mut MemFiles,
+    name: &str,
+    text: &str,
+) -> Result<(), Fail> {
+    for command in ["moves", "variants", "uci", "xboard"] {
+        let words = ["--variants", name, command];
+        fails(rt, files, words.as_slice(), 3, text.as_bytes())?;
+    }
+    Ok(())
+}
+
+#[test]
+fn a_faulty_file_of_variants_stops_each_command(rt: HostRuntime) -> Result<(), Fail> {
+    let mut long = Vec::new(rt.alloc());
+    long.resize(1025, b'[')?;
+    let mut many = Vec::new(rt.alloc());
+    for _ in 0..513 {
+        many.extend_from_slice(b"[a]\n")?;
+    }
+    let mut files = MemFiles::new(rt.alloc());
+    files.add(b"open", b"[a")?;
+    files.add(b"byte", b"\xff")?;
+    files.add(b"long", long.as_slice())?;
+    files.add(b"many", many.as_slice())?;
+    let rows = [
+        ("open", "error IniFault 5 BadLine 1\n"),
+        ("byte", "error IniFault 2 NotAscii 1\n"),
+        ("long", "error IniFault 3 LineTooLong 1\n"),
+        ("many", "error IniFault 6 TooManySections 513\n"),
+    ];
+    for (name, text) in rows {
+        refuses_each(&rt, &mut files, name, text)?;
+    }
+    Ok(())
+}
+
+/// A section for each fault that one may have.
+const REFUSED: &str = "[chess]\n[orphan:nobody]\n[key:chess]\nblastOnCapture = true\n[child:key]\n\
+    [value:chess]\nmaxRank = 11\n[word:chess]\ncustomPiece1 = w:fC\n[letter:chess]\nwazir = q\nfers = q\n\
+    [start:chess]\ncastling = false\n[bare]\n[promotes:chess]\npromotionPieceTypes = p\n\
+    [pairs:chess]\npromotedPieceType = p:q\n[gates:chess]\nseirawanGating = true\n\
+    [ranks:chess]\ngating = true\ncastlingRank = 2\n";
+
+const JUDGED: &str = "chess SectionFault 1 DuplicateName\norphan SectionFault 2 UnknownParent\n\
+    key SectionFault 4 UnsupportedOption blastOnCapture\nchild SectionFault 3 RefusedParent\n\
+    value SectionFault 5 BadValue maxRank\n\
+    word SectionFault 6 BadPiece customPiece1 BetzaFault 6 AmbiguousDirection 0\n\
+    letter SectionFault 7 LetterTwice q\nstart SectionFault 8 BadStart FenFault 7 Rights\n\
+    bare SectionFault 9 Inconsistent 1\npromotes SectionFault 9 Inconsistent 2\n\
+    pairs SectionFault 9 Inconsistent 3\ngates SectionFault 9 Inconsistent 4\n\
+    ranks SectionFault 9 Inconsistent 5\n";
+
+/// Files of variants that are refused in a session, which then has the sections and the game that it had.
+const PATHS: &str = "setoption name UCI_Variant value b\nposition startpos moves e2e4\n\
+    setoption name UCI_Variant value key\nsetoption name UCI_Variant value none\n\
+    setoption name VariantPath value larger\nsetoption name VariantPath value refused\n\
+    setoption name UCI_Variant value d\nstatus\nquit\n";
+
+const KEPT: &str = "info string error OptionFault 2 UnknownVariant key\n\
+    info string error OptionFault 2 UnknownVariant none\ninfo string error FileFault 2 TooLarge\n\
+    info string error FileFault 3 Failed\n\
+    info string error SectionFault 4 UnsupportedOption blastOnCapture\n\
+    ongoing\nrnbqkbnr/pppppppp/8/8/4P3/8/PPPP1PPP/RNBQKBNR b - - 0 1\n";
+
+#[test]
+fn each_section_is_judged_by_itself(rt: HostRuntime) -> Result<(), Fail> {
+    let mut larger = largest_file(rt.alloc())?;
+    larger.push(b'#')?;
+    let mut files = some_files(rt.alloc())?;
+    files.add(b"refused", REFUSED.as_bytes())?;
+    files.add(b"larger", larger.as_slice())?;
+    let listed = format!(in rt.alloc(); "{BUILTIN}{JUDGED}")?;
+    let words = ["--variants", "refused", "variants"].as_slice();
+    says(&rt, &mut files, words, b"", 0, listed.as_bytes())?;
+    files.fail_at(3)?;
+    let words = ["--variants", "f", "uci"].as_slice();
+    says(&rt, &mut files, words, PATHS.as_bytes(), 0, KEPT.as_bytes())
+}

@@ -1,0 +1,133 @@
+//! Runs over ports in memory, and what they answer.
+use commands::run;
+use io_ports::{Files, ListClock, MemFiles, MemSink, MemSource, OpenGate, PollsOwed};
+use std::alloc::Global;
+use std::process::Abort;
+use std::sync::Wait;
+use std::test::Fail;
+use std::thread::Threads;
+
+/// The answer to words that are no command.
+pub const USAGE_LINE: &str = "usage: vengine [--variants FILE] [--threads N] [COMMAND]\n";
+
+/// The lines of the variants that are built in.
+pub const BUILTIN: &str =
+    "chess ok\ncrazyhouse ok\n3check ok\nkingofthehill ok\nantichess ok\nextinction ok\n\
+    losalamos ok\ncapablanca ok\nseirawan ok\nxiangqi ok\n";
+
+/// More bytes than any of these runs writes.
+pub const ROOM: usize = 1_000_000;
+
+/// A run over these files, this source and this sink.
+pub fn ran_over<R: AllocGlobal + Threads + Wait + Sync, F: Files>(
+    rt: &R,
+    files: &mut F,
+    words: &[&str],
+    mut source: MemSource,
+    mut sink: MemSink,
+) -> Result<(u8, MemSink), Fail> {
+    let alloc = rt.alloc();
+    let mut list = Vec::new(alloc);
+    for word in words {
+        list.push(String::from_str(alloc, *word)?)?;
+    }
+    let mut clock = ListClock::new(alloc, &[])?;
+    let status = run(
+        rt,
+        alloc,
+        list.as_slice(),
+        &mut source,
+        &mut sink,
+        files,
+        &mut clock,
+        &OpenGate,
+    );
+    Ok((status, sink))
+}
+
+/// A run over these files: a source that fails at these calls, and a sink that has room for so many bytes.
+pub fn ran<R: AllocGlobal + Threads + Wait + Sync, F: Files>(
+    rt: &R,
+    files: &mut F,
+    words: &[&str],
+    input: &[u8],
+    failing: &[u64],
+    room: usize,
+) -> Result<(u8, MemSink), Fail> {
+    let source = MemSource::new(rt.alloc(), input, PollsOwed::Endless, failing)?;
+    let sink = MemSink::new(rt.alloc(), room)?;
+    ran_over(rt, files, words, source, sink)
+}
+
+/// Runs words over these files and this input, with a sink that has room for all, and wants this status and this text.
+pub fn answers<R: Abort + AllocGlobal + Threads + Wait + Sync, F: Files>(
+    rt: &R,
+    files: &mut F,
+    words: &[&str],
+    input: &[u8],
+    status: u8,
+    text: &[u8],
+) -> Result<(), Fail> {
+    let (answered, sink) = ran(rt, files, words, input, &[], 1000)?;
+    assert_eq!(rt; answered, status);
+    assert_eq!(rt; sink.taken(), text);
+    Ok(())
+}
+
+/// Runs words over these files and this input, and wants this status and this text.
+pub fn says<R: Abort + AllocGlobal + Threads + Wait + Sync, F: Files>(
+    rt: &R,
+    files: &mut F,
+    words: &[&str],
+    input: &[u8],
+    status: u8,
+    text: &[u8],
+) -> Result<(), Fail> {
+    let (answered, sink) = ran(rt, files, words, input, &[], ROOM)?;
+    assert_eq!(rt; answered, status);
+    assert_eq!(rt; sink.taken(), text);
+    Ok(())
+}
+
+/// Runs words over a sink that has room for less than the text, for each number of bytes.
+pub fn is_cut<R: Abort + AllocGlobal + Threads + Wait + Sync, F: Files>(
+    rt: &R,
+    files: &mut F,
+    words: &[&str],
+    input: &[u8],
+    text: &[u8],
+) -> Result<(), Fail> {
+    for room in 0..text.len() {
+        let (answered, sink) = ran(rt, files, words, input, &[], room)?;
+        assert!(rt; answered == 5 && sink.taken() == &text[..room] && sink.faults() == 1);
+    }
+    Ok(())
+}
+
+/// Sections of which each has a parent, and a variant on a board of 5 by 5 squares.
+const SECTIONS: &str = "[a:chess]\nnMoveRule = 40\n[b:a]\ncastling = false\n\
+    startFen = rnbqkbnr/pppppppp/8/8/8/8/PPPPPPPP/RNBQKBNR w - - 0 1\n\
+    [c:b]\nnFoldRule = 2\n[d:chess]\nblastOnCapture = true\n[e:d]\n";
+
+const UNSTARTED: &str = "[a:chess]\n[b:a]\ncastling = false\n";
+
+const MINI: &str =
+    "[mini]\nmaxRank = 5\nmaxFile = e\nking = k\nrook = r\nbishop = b\ngold = g\nsilver = s\n\
+    shogiPawn = p\ndragon = d\ndragonHorse = h\npromotedPieceType = s:g r:d b:h p:g\npieceDrops = true\n\
+    capturesToHand = true\ndropNoDoubled = p\nimmobilityIllegal = true\ncastling = false\nnMoveRule = 0\n\
+    nFoldRule = 4\npromotionRegionWhite = *5\npromotionRegionBlack = *1\nstartFen = rbsgk/4p/5/P4/KGSBR[-] w 0 1\n";
+
+/// Chess in which a capture must be made, and chess in which no move may give check.
+const MOODS: &str = "[must:chess]\nmustCapture = true\n[calm:chess]\nchecking = false\n";
+
+/// Files of variants, each by its name.
+pub fn some_files(alloc: Global) -> Result<MemFiles, Fail> {
+    let mut files = MemFiles::new(alloc);
+    files.add(b"f", SECTIONS.as_bytes())?;
+    files.add(b"unstarted", UNSTARTED.as_bytes())?;
+    files.add(b"mini", MINI.as_bytes())?;
+    files.add(b"moods", MOODS.as_bytes())?;
+    files.add(b"empty", b"")?;
+    files.add(b"pair", b"castling = true\n")?;
+    Ok(files)
+}

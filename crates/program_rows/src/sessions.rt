@@ -1,0 +1,44 @@
+//! Sessions, from their first line to their last.
+use crate::runs::{ROOM, answers, ran_over};
+use io_ports::{MemFiles, MemSink, MemSource, PollsOwed};
+use std::test::Fail;
+
+/// The lines of a session end at `quit`, or with the input. Without words it is UCI's.
+#[test]
+fn sessions_are_held(rt: HostRuntime) -> Result<(), Fail> {
+    let rows: [(&[&str], &str, &str); 6] = [
+        (&[], "isready\nquit\nisready\n", "readyok\n"),
+        (&["--threads", "2"], "please isready now", "readyok\n"),
+        (&["uci"], "stop\nquit\n", ""),
+        (&["uci"], "", ""),
+        (&["xboard"], "ping 7\nquit\nping 8\n", "pong 7\n"),
+        (&["xboard"], "ping 7\nping 8\n", "pong 7\npong 8\n"),
+    ];
+    let mut files = MemFiles::new(rt.alloc());
+    for (words, input, text) in rows {
+        answers(&rt, &mut files, words, input.as_bytes(), 0, text.as_bytes())?;
+    }
+    Ok(())
+}
+
+/// A search for a mate in two, and a line that may stop it.
+const TWO: &[u8] = b"position fen 7k/R7/5K2/8/8/8/8/8 w - - 0 1\ngo mate 2\nstop\nquit\n";
+
+/// A search for a mate that is stopped by the next line after this number of polls, at most, has found it or says that
+/// it was stopped.
+#[test]
+fn a_search_for_a_mate_is_stopped_or_whole(rt: HostRuntime) -> Result<(), Fail> {
+    let mut files = MemFiles::new(rt.alloc());
+    for polls in 0..41u64 {
+        let source = MemSource::new(rt.alloc(), TWO, PollsOwed::Number(polls), &[])?;
+        let sink = MemSink::new(rt.alloc(), ROOM)?;
+        let (status, sink) = ran_over(&rt, &mut files, &["uci"], source, sink)?;
+        let stopped = sink.taken() == b"info string stopped\nbestmove a7a1\n".as_slice();
+        let found = sink.taken()
+            == b"info depth 3 score mate 2 pv f6g6\nbestmove f6g6\n".as_slice();
+        assert!(rt; status == 0 && (stopped || found), "{polls}");
+        assert!(rt; stopped || polls != 0);
+        assert!(rt; found || polls != 40);
+    }
+    Ok(())
+}
