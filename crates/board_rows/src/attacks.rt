@@ -1,21 +1,14 @@
 ghost use Rattle.std.specs.Prelude.{◌≤◌, ◌<◌};
 ghost use Rattle.rules_model.specs.Fit.{IsFit};
-use attack_tables::{Mode, Tables, men, occupied};
 
+use crate::helpers::set_of;
+use attack_tables::{Mode, Tables, men, occupied};
 use foundation::Memory;
 use rules_model::{Position, Rules, Side, Square};
 use sample_rules::{chess, generals, kind, position, square, wide_chess, xiangqi};
 use square_set::{EMPTY, Set, Shift};
 use std::alloc::Global;
 use std::process::Abort;
-
-fn set_of(squares: &[&str]) -> Set {
-    let mut set = EMPTY;
-    for text in squares {
-        set = set.with(square(*text).0);
-    }
-    set
-}
 
 /// The squares of the files and ranks from those of the one corner to those of the other.
 fn block(low: &str, high: &str) -> Set {

@@ -1,6 +1,5 @@
 use end_rules::{early_end, no_move};
-use rules_model::{Cause, Outcome, Position, Rules, Side, Value};
-use rules_model::Region;
+use rules_model::{Cause, Outcome, Position, Region, Rules, Side, Value};
 use sample_rules::{chess, kind, position, square};
 
 fn only(text: &str) -> Region {

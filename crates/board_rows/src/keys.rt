@@ -1,12 +1,10 @@
-ghost use Rattle.std.specs.Prelude.{◌≤◌, ◌<◌};
 ghost use Rattle.rules_model.specs.Fit.{IsFit};
-ghost use Rattle.rules_model.specs.Moves.{IsFitGate, IsFitMove, IsFitPromo};
-use position_key::{BoardKey, Packed, key_of, key_of_repeat, touched};
+ghost use Rattle.rules_model.specs.Moves.{IsFitMove};
 
+use crate::helpers::{castle, go};
 use next_position::{make_move, sound_positions_take_moves};
-use rules_model::{
-    Cell, Kind, Move, Placed, Position, Promo, Repeat, Rules, Side, repeat_of, sound,
-};
+use position_key::{BoardKey, Packed, key_of, key_of_repeat, touched};
+use rules_model::{Cell, Kind, Move, Position, Promo, Repeat, Rules, Side, repeat_of, sound};
 use sample_rules::{hand_of, kind, position, shouse, square};
 use square_set::EMPTY;
 use std::process::Abort;
@@ -18,7 +16,6 @@ fn bare() -> Repeat {
 // The values are computed by MurmurHash3's published finalizer, apart from this program.
 #[test]
 fn keys_are_sums_of_words(rt: HostRuntime) {
-    assert_eq!(rt; words::folded(words::word(1)), 0xB456_BCFC_34C2_CB2C);
     let mut p = position("Ke1 kd8 Pe2");
     p.hands[1][16] = 2;
     p.gates = [0x90, 0x91];
@@ -67,34 +64,6 @@ fn an_origin_is_compared(rt: HostRuntime) {
     let packed = Packed::of_position(&promoted);
     assert_eq!(rt; packed.hash(), key_of(&plain));
     assert!(rt; !packed.is(&Packed::of_position(&plain)));
-}
-
-fn go(from: &str, to: &str, promo: Promo, gate: Option<Kind>) -> Move
-    requires promo { IsFitPromo promo }
-    requires gate { IsFitGate gate }
-    ensures { IsFitMove result }
-{
-    Move::Go {
-        from: square(from),
-        to: square(to),
-        promo,
-        gate,
-    }
-}
-
-/// White's short castle, with an elephant placed on the rook's square.
-fn castle() -> Move
-    ensures { IsFitMove result }
-{
-    Move::Castle {
-        from: square("e1"),
-        to: square("g1"),
-        rook: square("h1"),
-        gate: Some(Placed {
-            kind: kind(b'e'),
-            at: square("h1"),
-        }),
-    }
 }
 
 /// White's elephant and horse in hand, and these pieces on the board.

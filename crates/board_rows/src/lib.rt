@@ -1,31 +1,34 @@
-//! Rows that the crates below are held to: tests alone.
+//! Tests of the crates that tell of one position: its squares and attacks, its key and its worth, the texts of its
+//! moves, and the position after each.
 #![tactic(auto)]
 
 #[cfg(test)]
-mod square_sets;
-#[cfg(test)]
-mod reaches;
-#[cfg(test)]
-mod move_texts;
-#[cfg(test)]
-mod next_positions;
+mod attacks;
 #[cfg(test)]
 mod ends;
 #[cfg(test)]
-mod sinks;
+mod facts;
+#[cfg(test)]
+mod helpers;
 #[cfg(test)]
 mod keys;
 #[cfg(test)]
-mod tables_of_moves;
+mod lines_and_jumps;
 #[cfg(test)]
-mod sets_of_boards;
+mod move_texts;
 #[cfg(test)]
-mod attacks;
+mod named_moves;
 #[cfg(test)]
-mod facts_that_cover;
+mod next_positions;
 #[cfg(test)]
-mod names_of_moves;
+mod piece_sets;
 #[cfg(test)]
-mod worths;
+mod reaches;
 #[cfg(test)]
 mod samples;
+#[cfg(test)]
+mod sinks;
+#[cfg(test)]
+mod square_sets;
+#[cfg(test)]
+mod worths;

@@ -1,10 +1,12 @@
 ghost use Rattle.std.specs.Prelude.{◌<◌};
 ghost use Rattle.rules_model.specs.Fit.{IsFit};
-ghost use Rattle.rules_model.specs.Moves.{IsFitGate, IsFitMove, IsFitPromo};
-use next_position::{count_check, gated, make_but_checks, make_move, move_pieces, sound_positions_take_moves};
-use rules_model::{Move, Position, Rules, Side};
+ghost use Rattle.rules_model.specs.Moves.{IsFitMove};
 
-use rules_model::{Kind, Placed, Promo, sound};
+use crate::helpers::{go, quiet};
+use next_position::{
+    count_check, make_but_checks, make_move, move_pieces, sound_positions_take_moves,
+};
+use rules_model::{Kind, Move, Placed, Position, Promo, Rules, Side, sound};
 use sample_rules::{generals, hand_of, kind, position, square};
 use std::process::Abort;
 
@@ -15,26 +17,6 @@ fn without_prisoners() -> Rules
     let mut rules = generals();
     rules.to_hand = false;
     rules
-}
-
-fn go(from: &str, to: &str, promo: Promo, gate: Option<Kind>) -> Move
-    requires promo { IsFitPromo promo }
-    requires gate { IsFitGate gate }
-    ensures { IsFitMove result }
-{
-    Move::Go {
-        from: square(from),
-        to: square(to),
-        promo,
-        gate,
-    }
-}
-
-/// A move without a promotion and without a gate.
-fn quiet(from: &str, to: &str) -> Move
-    ensures { IsFitMove result }
-{
-    go(from, to, Promo::Stays, None)
 }
 
 /// White's castle, with a silver placed on a square that it leaves.

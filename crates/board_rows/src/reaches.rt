@@ -1,6 +1,5 @@
+use rules_model::{Board, Cell, Kind, SQUARES, Side, Square, Term, Way, reaches_plain};
 
-use rules_model::{Board, Side, Square, Term, Way, reaches_plain};
-use rules_model::board::{Cell, Kind, SQUARES};
 const EMPTY: [Option<Cell>; SQUARES] = [None; SQUARES];
 
 const CHESS: Board = Board { files: 8, ranks: 8 };

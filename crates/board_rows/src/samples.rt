@@ -1,5 +1,4 @@
 ghost use Rattle.rules_model.specs.Fit.{IsFit};
-use sample_rules::{capablanca, chess, generals, hand_of, kind, leapers, position, shouse, square, xiangqi};
 
 use rules_model::attacks::{flies_to, pawn_could_take};
 use rules_model::castling::{
@@ -11,6 +10,9 @@ use rules_model::sizes::{position_sizes, rules_letters};
 use rules_model::{
     Cell, Position, Rules, Side, Square, Wing, attacks_plain, is_attacked, king_attacked,
     reaches_plain, repeat_of, sound,
+};
+use sample_rules::{
+    capablanca, chess, generals, hand_of, kind, leapers, position, shouse, square, xiangqi,
 };
 use std::process::Abort;
 

@@ -1,9 +1,6 @@
-ghost use Rattle.std.specs.Prelude.{◌≡◌};
 use foundation::Memory;
 use move_sink::MoveSink;
-use rules_model::{Move, MoveList};
-
-use rules_model::{Kind, Promo, Square};
+use rules_model::{Kind, Move, MoveList, Square};
 
 fn drop_to(to: u8) -> Move {
     Move::Drop {

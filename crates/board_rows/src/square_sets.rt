@@ -1,5 +1,5 @@
-
 use square_set::{BOARD, EMPTY, Set, Shift};
+
 fn set_of(squares: &[u8]) -> Set {
     let mut set = EMPTY;
     for &square in squares {

@@ -1,8 +1,9 @@
 ghost use Rattle.std.specs.Prelude.{◌<◌};
 ghost use Rattle.rules_model.specs.Fit.{IsFit};
-ghost use Rattle.rules_model.specs.Moves.{IsFitGate, IsFitMove, IsFitPromo};
-use evaluation::{Tally, Worths, evaluate};
+ghost use Rattle.rules_model.specs.Moves.{IsFitMove};
 
+use crate::helpers::go;
+use evaluation::{Tally, Worths, evaluate};
 use next_position::{make_move, sound_positions_take_moves};
 use rules_model::{Kind, Move, Placed, Position, Promo, Rules, Side, sound};
 use sample_rules::{chess, generals, hand_of, kind, position, square, xiangqi};
@@ -75,19 +76,6 @@ fn goes_along<R: Abort>(rt: &R, rules: &Rules, p: &Position, m: &Move)
     let after = Tally::of(rules, &next);
     assert_eq!(rt; tally.after(rules, p, m), after);
     assert_eq!(rt; Worths::of(rules).tally_after(tally, rules, p, m), after);
-}
-
-fn go(from: &str, to: &str, promo: Promo, gate: Option<Kind>) -> Move
-    requires promo { IsFitPromo promo }
-    requires gate { IsFitGate gate }
-    ensures { IsFitMove result }
-{
-    Move::Go {
-        from: square(from),
-        to: square(to),
-        promo,
-        gate,
-    }
 }
 
 /// White's short castle, with a piece placed on the king's square.

@@ -3,7 +3,5 @@
 
 mod checks;
 mod shut;
-#[cfg(test)]
-mod tests;
 
 pub use checks::{Checks, checks_of, gives_check, may_check};

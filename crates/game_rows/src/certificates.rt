@@ -1,32 +1,23 @@
-ghost use Rattle.rules_model.specs.Fit.{IsFit};
+use crate::helpers::game;
 use cert_text::{CertFault, read_cert, write_cert};
-
 use game_play::Game;
-use rules_model::{Position, Rules, Side, sound};
+use rules_model::{Position, Side};
 use sample_rules::{chess, position};
 use std::alloc::Global;
 use std::process::Abort;
 use std::test::Fail;
-use stipulation::{CertVerdict, check_help, check_self, help_mate, self_mate};
+use stipulation::{CertVerdict, check_help, help_mate};
 use strategy::cut_line;
 
 /// A helpmate in one of king and rook against king, Black to move.
 const SAMPLE: &[u8] = b"helpmate 1\n1 g8h8\n2 a7a8\nend\n";
-
-/// The game of the position by the rules, without a move.
-fn game<R: Abort>(rt: &R, alloc: Global, rules: &Rules, start: &Position) -> Result<Game, Fail>
-    requires { IsFit rules.now }
-{
-    assert!(rt; sound(rules, start));
-    Ok(Game::new(alloc, rules, start)?)
-}
 
 fn sample<R: Abort>(rt: &R, alloc: Global) -> Result<Game, Fail> {
     let start = Position {
         side: Side::Black,
         ..position("kg8 Ra7 Kg6")
     };
-    game(rt, alloc, &chess(), &start)
+    game(rt, alloc, &chess(), &start, "")
 }
 
 /// What the text says, or the fault as it prints.

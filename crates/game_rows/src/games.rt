@@ -1,65 +1,10 @@
-ghost use Rattle.rules_model.specs.Fit.{IsFit};
+use crate::helpers::{KINGS, QUEEN, ROUND, at_count, game, go};
 use game_play::{Game, NothingPlayed, PlayFault};
-
-use rules_model::{Blocked, Cause, Move, Outcome, Position, Promo, Rules, Side, repeat_of, sound};
-use sample_rules::{chess, position, square};
+use rules_model::{Blocked, Cause, Outcome, Position, Side, repeat_of};
+use sample_rules::{chess, position};
 use std::alloc::Global;
 use std::process::Abort;
 use std::test::Fail;
-
-/// The move of a text such as `e2e4`, without promotion.
-fn go(text: &str) -> Move {
-    let (from, to) = text.split_at_checked(2).unwrap_or(("", ""));
-    Move::Go {
-        from: square(from),
-        to: square(to),
-        promo: Promo::Stays,
-        gate: None,
-    }
-}
-
-/// Plays the moves of the text.
-fn play_all(rt: &impl Abort, game: &mut Game, moves: &str) {
-    for text in moves.split(' ') {
-        if !text.is_empty() {
-            assert_eq!(rt; game.play(&go(text)), Ok(()), "{text}");
-        }
-    }
-}
-
-/// The game of the moves from the position.
-fn game<R: Abort>(
-    rt: &R,
-    alloc: Global,
-    rules: &Rules,
-    start: &Position,
-    moves: &str,
-) -> Result<Game, Fail>
-    requires { IsFit rules.now }
-{
-    assert!(rt; sound(rules, start));
-    let mut game = Game::new(alloc, rules, start)?;
-    play_all(rt, &mut game, moves);
-    Ok(game)
-}
-
-/// The kings on their squares, and a rook that never moves.
-const KINGS: &str = "Ke1 ke8 Ra1";
-
-/// Both kings go one square, and come back.
-const ROUND: &str = "e1d1 e8d8 d1e1 d8e8";
-
-/// King and queen against a king.
-const QUEEN: &str = "kh8 Kf6 Qg6";
-
-/// The pieces after so many moves of one side without a capture or a pawn's move.
-fn at_count(pieces: &str, counter: u16) -> Position {
-    Position {
-        counter,
-        number: 80,
-        ..position(pieces)
-    }
-}
 
 /// The result of the game of chess from the pieces, at a count of moves.
 fn expect_outcome(

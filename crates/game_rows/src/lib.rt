@@ -1,17 +1,20 @@
-//! Rows that the crates below are held to: tests alone.
+//! Tests of the crates that play games and write of them: games and lines, strategies and their checker, proof texts,
+//! selfmates and helpmates and their certificates.
 #![tactic(auto)]
 
 #[cfg(test)]
+mod certificates;
+#[cfg(test)]
+mod game_lines;
+#[cfg(test)]
 mod games;
 #[cfg(test)]
-mod lines_of_games;
+mod helpers;
+#[cfg(test)]
+mod proof_texts;
+#[cfg(test)]
+mod stipulations;
 #[cfg(test)]
 mod strategies;
 #[cfg(test)]
 mod verdicts;
-#[cfg(test)]
-mod stipulations;
-#[cfg(test)]
-mod certificates;
-#[cfg(test)]
-mod proofs_as_texts;

@@ -1,12 +1,13 @@
 ghost use Rattle.rules_model.specs.Fit.{IsFit};
-use stipulation::{Cert, Step, Steps, check_help, check_self, help_mate, self_mate};
 
+use crate::helpers::{game, go};
 use game_play::Game;
-use rules_model::{Move, Position, Promo, Rules, Side, sound};
-use sample_rules::{chess, hand_of, kind, position, shouse, square, xiangqi};
+use rules_model::{Position, Rules, Side};
+use sample_rules::{chess, hand_of, position, shouse, xiangqi};
 use std::alloc::Global;
 use std::process::Abort;
 use std::test::Fail;
+use stipulation::{Cert, Step, Steps, check_help, check_self, help_mate, self_mate};
 
 /// Chess where a side that can capture must.
 fn forced() -> Rules
@@ -15,44 +16,6 @@ fn forced() -> Rules
     let mut rules = chess();
     rules.must_capture = true;
     rules
-}
-
-/// The move of a text such as `e2e4`, without promotion, or `R@a8`.
-fn go(text: &str) -> Move {
-    if let Some((letter, to)) = text.split_once('@') {
-        let letter = letter.as_bytes().first().copied().unwrap_or(b'P');
-        return Move::Drop {
-            kind: kind(letter.to_ascii_lowercase()),
-            to: square(to),
-        };
-    }
-    let (from, to) = text.split_at_checked(2).unwrap_or(("", ""));
-    Move::Go {
-        from: square(from),
-        to: square(to),
-        promo: Promo::Stays,
-        gate: None,
-    }
-}
-
-/// The game of the moves from the position, by the rules.
-fn game<R: Abort>(
-    rt: &R,
-    alloc: Global,
-    rules: &Rules,
-    start: &Position,
-    moves: &str,
-) -> Result<Game, Fail>
-    requires { IsFit rules.now }
-{
-    assert!(rt; sound(rules, start));
-    let mut game = Game::new(alloc, rules, start)?;
-    for text in moves.split(' ') {
-        if !text.is_empty() {
-            assert_eq!(rt; game.play(&go(text)), Ok(()), "{text}");
-        }
-    }
-    Ok(game)
 }
 
 /// The certificate of steps such as `1 e2e4`, separated by commas.

@@ -1,36 +1,23 @@
-use strategy::{StrategyFault, cut_line, read, write};
+use crate::helpers::ROOK_MATE;
 use sample_rules::chess;
 use std::test::Fail;
-
-/// King and rook against king, mate in two.
-const SAMPLE: &[u8] = b"strategy 1
-attacker white
-nodes 4
-node 0 2 7k/R7/5K2/8/8/8/8/8 w - - 0 1
-edge f6g6 1
-node 1 1 7k/R7/6K1/8/8/8/8/8 b - - 1 1
-edge h8g8 2
-node 2 1 6k1/R7/6K1/8/8/8/8/8 w - - 2 1
-edge a7a8 3
-node 3 0 R5k1/8/6K1/8/8/8/8/8 b - - 3 1
-end
-";
+use strategy::{StrategyFault, cut_line, read, write};
 
 #[test]
 fn a_text_is_read_and_written(rt: HostRuntime) -> Result<(), Fail> {
     let rules = chess();
-    let s = read(rt.alloc(), &rules, SAMPLE)?;
+    let s = read(rt.alloc(), &rules, ROOK_MATE.as_bytes())?;
     let text = write(rt.alloc(), &rules, &s)?;
-    assert!(&rt; text.items.as_slice() == SAMPLE);
+    assert!(&rt; text.items.as_slice() == ROOK_MATE.as_bytes());
     Ok(())
 }
 
-/// The sample, cut after each of its lines, and with a line more.
+/// The text, cut after each of its lines, and with a line more.
 #[test]
 fn a_text_ends_with_its_last_line(rt: HostRuntime) -> Result<(), Fail> {
     let rules = chess();
     let mut text = Vec::new(rt.alloc());
-    let mut rest = SAMPLE;
+    let mut rest = ROOK_MATE.as_bytes();
     for line in 1..12u64 {
         match read(rt.alloc(), &rules, text.as_slice()) {
             Err(StrategyFault::Ended(at)) => assert!(&rt; at == line, "{line}"),
@@ -43,7 +30,7 @@ fn a_text_ends_with_its_last_line(rt: HostRuntime) -> Result<(), Fail> {
             rest = after;
         }
     }
-    assert!(&rt; text.as_slice() == SAMPLE);
+    assert!(&rt; text.as_slice() == ROOK_MATE.as_bytes());
     text.extend_from_slice(b"end\n")?;
     match read(rt.alloc(), &rules, text.as_slice()) {
         Err(StrategyFault::Ended(at)) => assert!(&rt; at == 12),

@@ -1,29 +1,13 @@
-ghost use Rattle.rules_model.specs.Fit.{IsFit};
-use strategy_check::check;
-
+use crate::helpers::{ROOK_MATE, game};
 use game_play::Game;
-use rules_model::{Move, Position, Promo, Side, sound};
-use sample_rules::{chess, position, square};
+use rules_model::{Position, Side};
+use sample_rules::{chess, position};
 use std::alloc::Global;
-use std::process::Abort;
 use std::test::Fail;
 use strategy::read;
+use strategy_check::check;
 
-/// King and rook against king, mate in two.
-const SAMPLE: &str = "strategy 1
-attacker white
-nodes 4
-node 0 2 7k/R7/5K2/8/8/8/8/8 w - - 0 1
-edge f6g6 1
-node 1 1 7k/R7/6K1/8/8/8/8/8 b - - 1 1
-edge h8g8 2
-node 2 1 6k1/R7/6K1/8/8/8/8/8 w - - 2 1
-edge a7a8 3
-node 3 0 R5k1/8/6K1/8/8/8/8/8 b - - 3 1
-end
-";
-
-/// The same after seven plies without a capture.
+/// The rook's mate after seven plies without a capture.
 const LATE: &str = "strategy 1
 attacker white
 nodes 4
@@ -47,30 +31,6 @@ node 1 0 7k/5Q2/5K2/8/8/8/8/8 b - - 1 1
 end
 ";
 
-/// The move of a text such as `e2e4`, without promotion.
-fn go(text: &str) -> Move {
-    let (from, to) = text.split_at_checked(2).unwrap_or(("", ""));
-    Move::Go {
-        from: square(from),
-        to: square(to),
-        promo: Promo::Stays,
-        gate: None,
-    }
-}
-
-/// The game of the moves from the position, by the rules of chess.
-fn game<R: Abort>(rt: &R, alloc: Global, start: &Position, moves: &str) -> Result<Game, Fail> {
-    let rules = chess();
-    assert!(rt; sound(&rules, start));
-    let mut game = Game::new(alloc, &rules, start)?;
-    for text in moves.split(' ') {
-        if !text.is_empty() {
-            assert_eq!(rt; game.play(&go(text)), Ok(()), "{text}");
-        }
-    }
-    Ok(game)
-}
-
 /// The verdict on the strategy of the text, as it prints.
 fn printed(alloc: Global, game: &Game, attacker: Side, n: u16, text: &str) -> Result<String, Fail> {
     game.is_played();
@@ -81,7 +41,7 @@ fn printed(alloc: Global, game: &Game, attacker: Side, n: u16, text: &str) -> Re
 
 #[test]
 fn a_strategy_and_its_spoilt_forms(rt: HostRuntime) -> Result<(), Fail> {
-    let game = game(&rt, rt.alloc(), &position("kh8 Ra7 Kf6"), "")?;
+    let game = game(&rt, rt.alloc(), &chess(), &position("kh8 Ra7 Kf6"), "")?;
     let rows = [
         ("", "", "Verdict 0 Wins"),
         ("attacker white", "attacker black", "Verdict 1 Root"),
@@ -106,7 +66,7 @@ fn a_strategy_and_its_spoilt_forms(rt: HostRuntime) -> Result<(), Fail> {
         ("b - - 3 1", "b - - 9 1", "Verdict 0 Wins"),
     ];
     for (right, wrong, verdict) in rows {
-        let (before, after) = SAMPLE.split_once(right).unwrap_or(("", SAMPLE));
+        let (before, after) = ROOK_MATE.split_once(right).unwrap_or(("", ROOK_MATE));
         let text = format!(in rt.alloc(); "{before}{wrong}{after}")?;
         let found = printed(rt.alloc(), &game, Side::White, 2, text.as_str())?;
         assert!(&rt; found.as_str() == verdict, "{wrong}: {found}");
@@ -124,15 +84,15 @@ fn the_game_and_its_goal_count(rt: HostRuntime) -> Result<(), Fail> {
     let twice = "h8g8 g6f6 g8h8 f6g6 h8g8 g6f6 g8h8";
     let queen = position("kh8 Kf6 Qg6");
     let rows = [
-        (start, "", Side::White, 1, SAMPLE, "Verdict 1 Root"),
-        (start, "", Side::Black, 2, SAMPLE, "Verdict 1 Root"),
+        (start, "", Side::White, 1, ROOK_MATE, "Verdict 1 Root"),
+        (start, "", Side::Black, 2, ROOK_MATE, "Verdict 1 Root"),
         (start, "", Side::White, 2, LATE, "Verdict 0 Wins"),
         // Node 1 has stood twice.
         (replied, twice, Side::White, 2, LATE, "Verdict 6 Repeats 1"),
         (queen, "", Side::White, 1, STALEMATE, "Verdict 7 NotWon 1"),
     ];
     for (start, moves, attacker, n, text, verdict) in &rows {
-        let game = game(&rt, rt.alloc(), start, moves)?;
+        let game = game(&rt, rt.alloc(), &chess(), start, moves)?;
         let found = printed(rt.alloc(), &game, *attacker, *n, text)?;
         assert!(&rt; found.as_str() == *verdict, "{moves}: {found}");
     }

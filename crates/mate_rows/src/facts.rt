@@ -1,26 +1,9 @@
-ghost use Rattle.std.specs.Prelude.{IfOk};
-ghost use Rattle.rules_model.specs.Fit.{IsFit};
-use mate_fact::{refuted_now, won_by, won_now};
-
+use crate::helpers::frame_of;
 use attack_tables::Tables;
-use mate_core::Frame;
-use rules_model::{Blocked, Cause, Memory, Outcome, Position, Side, repeat_of, sound};
-use sample_rules::{chess, position};
-use std::alloc::Global;
+use mate_fact::{refuted_now, won_by, won_now};
+use rules_model::{Cause, Outcome, Position, Side, sound};
+use sample_rules::position;
 use std::test::Fail;
-
-/// Chess, where this position may not be entered again.
-fn frame_of(alloc: Global, attacker: Side, again: &Position) -> Result<Frame, Memory>
-    ensures { IfOk result (λ f. IsFit f.rules) }
-{
-    let mut items = Vec::new(alloc);
-    items.push(repeat_of(again))?;
-    Ok(Frame {
-        rules: chess(),
-        blocked: Blocked { items },
-        attacker,
-    })
-}
 
 /// The position with this side to move.
 fn placed(pieces: &str, side: Side) -> Position {

@@ -1,17 +1,24 @@
-//! Rows that the crates below are held to: tests alone.
+//! Tests of the crates that solve mates: moves that may check, facts and the shards that keep them, settled positions,
+//! solves, proof-number trees and suites.
 #![tactic(auto)]
 
 #[cfg(test)]
 mod best_facts;
 #[cfg(test)]
-mod shards;
+mod checks;
 #[cfg(test)]
 mod facts;
 #[cfg(test)]
+mod helpers;
+#[cfg(test)]
+mod mirror;
+#[cfg(test)]
 mod settled;
+#[cfg(test)]
+mod shards;
 #[cfg(test)]
 mod solves;
 #[cfg(test)]
-mod trees;
-#[cfg(test)]
 mod suites;
+#[cfg(test)]
+mod trees;

@@ -1,9 +1,9 @@
 ghost use Rattle.std.specs.Prelude.{◌≡◌, true};
 ghost use Rattle.rules_model.specs.Fit.{IsFit};
-use mate_settle::{FactTable, all_won, choose, moves_to_try, settle};
 
 use attack_tables::Tables;
 use mate_core::Frame;
+use mate_settle::{FactTable, all_won, choose, moves_to_try, settle};
 use playing::Board;
 use rules_model::{Blocked, Side, sound};
 use sample_rules::{chess, position};

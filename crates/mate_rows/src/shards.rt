@@ -3,9 +3,9 @@ ghost use Rattle.fact_lock.specs.Passes.{all_parts};
 ghost use Rattle.mate_shards.specs.Grown.{HaveParts};
 ghost use Rattle.mate_shards.specs.Refuted.{RefutesAll};
 ghost use Rattle.mate_shards.specs.Views.{ArePassesOf};
-use mate_shards::{Passes, Published, Shards};
 
 use mate_core::{Fact, Frame};
+use mate_shards::{Passes, Published, Shards};
 use rules_model::{Blocked, Memory, Position, Repeat, Side, Value, repeat_of};
 use sample_rules::{empty, leapers};
 use std::alloc::Global;

@@ -2,7 +2,6 @@ ghost use Rattle.std.specs.Prelude.{◌≡◌, ◌<◌, ◌≤◌, IfOk};
 ghost use Rattle.mate_search.specs.Solves.{IsFrameFor};
 ghost use Rattle.mate_shards.specs.Grown.{HaveParts};
 ghost use Rattle.mate_shards.specs.Views.{ArePassesOf};
-use mate_search::{Mate, Settled, frame_of, settle, solve};
 
 use game_play::Game;
 use hint_table::HintTable;
@@ -10,6 +9,7 @@ use io_ports::{
     Dialect, Gate, HoldingGate, Limits, ListClock, MemSink, MemSource, OpenGate, PollsOwed, Ports,
     SearchFault, Stopped,
 };
+use mate_search::{Mate, Settled, frame_of, settle, solve};
 use mate_shards::{Passes, Shards};
 use rules_model::{Memory, Move, Position, Promo, Side, sound};
 use sample_rules::{chess, position, square};

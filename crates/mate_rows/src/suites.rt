@@ -1,14 +1,14 @@
 //! Suites in memory: their reports, their faults, and workers beside each other.
 ghost use Rattle.std.specs.Prelude.{◌<◌, ◌≤◌};
-use suite::{NoSuite, read_suite, solve_all, solve_suite, write_fault};
 
 use foundation::{Memory, Text};
-use io_ports::{Gate, HoldingGate, MemSource, OpenGate, PollsOwed};
+use io_ports::{HoldingGate, MemSource, OpenGate, PollsOwed};
 use std::alloc::Global;
 use std::process::Abort;
 use std::sync::Wait;
 use std::test::Fail;
 use std::thread::Threads;
+use suite::{NoSuite, read_suite, solve_all, solve_suite, write_fault};
 use variant_rules::{Variants, builtin, load};
 
 /// The variants that are built in, and one that is refused.

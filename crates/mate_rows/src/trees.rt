@@ -1,35 +1,22 @@
-ghost use Rattle.std.specs.Prelude.{◌≡◌, true, None, IfOk};
-ghost use Rattle.rules_model.specs.Fit.{IsFit};
+ghost use Rattle.std.specs.Prelude.{◌≡◌, true, None};
 ghost use Rattle.rules_model.specs.Sound.{is_sound};
 ghost use Rattle.pn_search.specs.Trees as Trees;
-use pn_search::{Grew, INFINITE, PnFault, Tree, find, least_mate, root_end, write_pn_fault};
-use pn_search::mirror::Mirror;
 
+use crate::helpers::frame_of;
+use crate::mirror::Mirror;
 use attack_tables::Tables;
 use foundation::Memory;
 use game_play::Game;
 use mate_core::Frame;
 use mate_search::{frame_of as frame_for, is_counted};
 use mate_shards::Shards;
-use rules_model::{Blocked, Outcome, Position, Side, repeat_of, sound};
+use pn_search::{Grew, INFINITE, PnFault, Tree, find, least_mate, root_end, write_pn_fault};
+use rules_model::{Outcome, Position, Side, sound};
 use sample_rules::{chess, position};
 use std::alloc::Global;
 use std::process::Abort;
 use std::sync::Wait;
 use std::test::Fail;
-
-/// Chess with White to attack, where this position may not be entered again.
-fn frame_of(alloc: Global, again: &Position) -> Result<Frame, Memory>
-    ensures { IfOk result (λ f. IsFit f.rules) }
-{
-    let mut items = Vec::new(alloc);
-    items.push(repeat_of(again))?;
-    Ok(Frame {
-        rules: chess(),
-        blocked: Blocked { items },
-        attacker: Side::White,
-    })
-}
 
 /// The root's numbers once the tree does not grow any more.
 fn settled(
@@ -77,7 +64,7 @@ fn roots_are_settled(rt: HostRuntime) -> Result<(), Fail> {
     ] {
         let mut p = position(pieces);
         p.side = side;
-        let frame = frame_of(rt.alloc(), &p)?;
+        let frame = frame_of(rt.alloc(), Side::White, &p)?;
         let tables = Tables::new(rt.alloc(), &frame.rules)?;
         assert!(rt; sound(&frame.rules, &p), "{pieces}");
         let None = root_end(&frame, &tables, &p) else {
@@ -103,7 +90,7 @@ fn roots_are_settled(rt: HostRuntime) -> Result<(), Fail> {
 #[test]
 fn first_expansion(rt: HostRuntime) -> Result<(), Fail> {
     let p = position("Kf6 Ra7 kh8");
-    let frame = frame_of(rt.alloc(), &p)?;
+    let frame = frame_of(rt.alloc(), Side::White, &p)?;
     let tables = Tables::new(rt.alloc(), &frame.rules)?;
     assert!(rt; sound(&frame.rules, &p));
     let None = root_end(&frame, &tables, &p) else {
@@ -162,7 +149,7 @@ fn trees_grow_as_defined(rt: HostRuntime) -> Result<(), Fail> {
     ] {
         let mut p = position(pieces);
         p.side = side;
-        let frame = frame_of(rt.alloc(), &p)?;
+        let frame = frame_of(rt.alloc(), Side::White, &p)?;
         let tables = Tables::new(rt.alloc(), &frame.rules)?;
         assert!(rt; sound(&frame.rules, &p), "{pieces}");
         let None = root_end(&frame, &tables, &p) else {

@@ -1,6 +1,6 @@
-use playing::Board;
 use attack_tables::Tables;
 use foundation::Memory;
+use playing::Board;
 use rules_model::{Cause, MoveList, Outcome, Position, Side, sound};
 use sample_rules::{chess, hand_of, position, shouse, square};
 use std::alloc::Global;

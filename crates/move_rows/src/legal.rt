@@ -1,10 +1,13 @@
 ghost use Rattle.rules_model.specs.Fit.{IsFit};
 ghost use Rattle.rules_model.specs.Ready.{IsReady};
-use legality::{any_legal, apply, apply_with, count_legal, free, gives_check, is_legal, legal_moves, own_end};
 
+use crate::helpers::go;
 use attack_tables::Tables;
 use board_sets::sets_of;
 use foundation::Memory;
+use legality::{
+    any_legal, apply, apply_with, count_legal, free, gives_check, is_legal, legal_moves, own_end,
+};
 use move_text::write_move;
 use rules_model::{Cause, Move, MoveList, Outcome, Position, Promo, Rules, Side, sound};
 use sample_rules::{capablanca, chess, hand_of, kind, position, shouse, square, xiangqi};
@@ -476,12 +479,7 @@ fn games_end(rt: HostRuntime) -> Result<(), Fail> {
 
 /// White's knight of e4 goes there.
 fn knight_to(to: &str) -> Move {
-    Move::Go {
-        from: square("e4"),
-        to: square(to),
-        promo: Promo::Stays,
-        gate: None,
-    }
+    go("e4", to, Promo::Stays)
 }
 
 /// Plays the knight's move, and asserts whether it gives check.

@@ -1,15 +1,17 @@
-//! Rows that the crates below are held to: tests alone.
+//! Tests of the crates that give the moves of a position.
 #![tactic(auto)]
 
 #[cfg(test)]
-mod pawns;
+mod boards;
 #[cfg(test)]
-mod pinned;
-#[cfg(test)]
-mod pieces;
-#[cfg(test)]
-mod specials;
+mod helpers;
 #[cfg(test)]
 mod legal;
 #[cfg(test)]
-mod boards;
+mod pawns;
+#[cfg(test)]
+mod pieces;
+#[cfg(test)]
+mod pinned;
+#[cfg(test)]
+mod specials;

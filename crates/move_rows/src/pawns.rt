@@ -1,11 +1,10 @@
 ghost use Rattle.rules_model.specs.Fit.{IsFit};
-use pawn_moves::generate::go;
-use pawn_moves::{is_candidate, push_moves};
-use pawn_moves::pawn::{becomes, promotes};
 
+use crate::helpers::go;
 use attack_tables::Tables;
 use board_sets::sets_of;
 use foundation::Memory;
+use pawn_moves::{is_candidate, push_moves};
 use rules_model::{Move, MoveList, Position, Promo, Rules, Side};
 use sample_rules::{
     capablanca, chess, kind, leapers, position, shouse, square, wide_chess, xiangqi,
@@ -59,7 +58,7 @@ fn move_of(text: &str) -> Move {
         None => Promo::Stays,
         Some(letter) => promo_of(*letter),
     };
-    go(square(from), square(to), promo)
+    go(from, to, promo)
 }
 
 /// The pawns' moves are these, each once, and no others.
@@ -139,6 +138,13 @@ fn pawns_pass_and_promote(rt: HostRuntime) -> Result<(), Memory> {
             Side::Black,
             "",
             "a2-a1-n a2-a1-b a2-a1-r a2-a1-q a2-b1-n a2-b1-b a2-b1-r a2-b1-q",
+        ),
+        // a pawn that passes another stays one, whatever it may become by going there
+        (
+            "Pe7 nd8",
+            Side::White,
+            "d8",
+            "e7-e8-n e7-e8-b e7-e8-r e7-e8-q e7-d8 e7-d8-n e7-d8-b e7-d8-r e7-d8-q",
         ),
     ];
     expect_rows(&rt, rt.alloc(), &chess(), &rows)
@@ -250,19 +256,19 @@ fn near_misses(rt: HostRuntime) {
     let (stays, knight) = (Promo::Stays, promo_of(b'n'));
     let rows = [
         // an empty diagonal, a third step, backward, sideways, another's pawn, no pawn
-        go(square("e2"), square("f3"), stays),
-        go(square("e2"), square("e5"), stays),
-        go(square("e2"), square("e1"), stays),
-        go(square("e2"), square("d2"), stays),
-        go(square("c3"), square("c2"), stays),
-        go(square("a1"), square("a2"), stays),
+        go("e2", "f3", stays),
+        go("e2", "e5", stays),
+        go("e2", "e1", stays),
+        go("e2", "d2", stays),
+        go("c3", "c2", stays),
+        go("a1", "a2", stays),
         // a promotion that is missing, before its rank, to the pawn, the king or a promoted piece, and by en passant
-        go(square("b7"), square("b8"), stays),
-        go(square("e2"), square("e3"), knight),
-        go(square("b7"), square("b8"), promo_of(b'p')),
-        go(square("b7"), square("b8"), promo_of(b'k')),
-        go(square("b7"), square("b8"), Promo::Plus),
-        go(square("g5"), square("h6"), knight),
+        go("b7", "b8", stays),
+        go("e2", "e3", knight),
+        go("b7", "b8", promo_of(b'p')),
+        go("b7", "b8", promo_of(b'k')),
+        go("b7", "b8", Promo::Plus),
+        go("g5", "h6", knight),
         Move::Go {
             from: square("e2"),
             to: square("e3"),
@@ -283,41 +289,4 @@ fn near_misses(rt: HostRuntime) {
     for m in rows {
         assert!(rt; !is_candidate(&rules, &p, &m), "{m:?}");
     }
-}
-
-#[test]
-fn promotions_by_the_rules(rt: HostRuntime) {
-    let rules = chess();
-    let (stays, knight) = (Promo::Stays, promo_of(b'n'));
-    let rows = [
-        (promotes(&rules, Side::White, true, square("e8")), true),
-        (promotes(&rules, Side::White, true, square("e7")), false),
-        (promotes(&rules, Side::Black, true, square("e8")), false),
-        (becomes(&rules, true, true, false, stays), false),
-        (becomes(&rules, true, true, false, knight), true),
-        // a pawn that passes another stays one, whatever it may become by going there
-        (becomes(&rules, true, true, true, stays), true),
-    ];
-    for (row, (found, wanted)) in rows.iter().enumerate() {
-        assert_eq!(rt; found, wanted, "row {row}");
-    }
-}
-
-// Where a pawn need not become another piece, and where it can become none.
-#[test]
-fn promotions_by_other_rules(rt: HostRuntime) {
-    let (stays, knight) = (Promo::Stays, promo_of(b'n'));
-    let mut rules = chess();
-    rules.must_promote_pawn = false;
-    let may = [
-        becomes(&rules, true, true, false, stays),
-        becomes(&rules, true, true, false, knight),
-    ];
-    assert_eq!(rt; may, [true, true]);
-    rules.promotion_kinds = [false; 26];
-    let may = [
-        promotes(&rules, Side::White, true, square("e8")),
-        becomes(&rules, true, true, false, knight),
-    ];
-    assert_eq!(rt; may, [false, false]);
 }

@@ -1,22 +1,14 @@
 ghost use Rattle.rules_model.specs.Fit.{IsFit};
-use piece_moves::{is_candidate, mover_on, push_mover, push_moves};
 
+use crate::helpers::go;
 use attack_tables::Tables;
 use board_sets::sets_of;
 use foundation::Memory;
+use piece_moves::{is_candidate, mover_on, push_mover, push_moves};
 use rules_model::{Kind, Move, MoveList, Promo, Rules};
 use sample_rules::{chess, position, square, xiangqi};
 use std::alloc::Global;
 use std::process::Abort;
-
-fn go(from: &str, to: &str, promo: Promo) -> Move {
-    Move::Go {
-        from: square(from),
-        to: square(to),
-        promo,
-        gate: None,
-    }
-}
 
 /// The move of a text as `e2e4`, without promotion.
 fn move_of(text: &str) -> Move {

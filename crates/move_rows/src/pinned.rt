@@ -1,16 +1,15 @@
 ghost use Rattle.std.specs.Prelude.{◌<◌};
 ghost use Rattle.rules_model.specs.Fit.{IsFit};
 ghost use Rattle.square_set.specs.Members.{OnSquares};
-use pins::danger::danger;
-use pins::evasion::{EvasionSquares, evasions};
-use pins::free;
-use pins::guards::all;
 
 use attack_tables::{Tables, kings, men, occupied};
 use foundation::Memory;
+use pins::danger::danger;
+use pins::evasion::{EvasionSquares, evasions};
+use pins::free;
 use rules_model::{Position, Rules, Side, Square};
 use sample_rules::{chess, position, square, xiangqi};
-use square_set::{EMPTY, Set};
+use square_set::{ALL, EMPTY, Set};
 use std::alloc::Global;
 use std::process::Abort;
 
@@ -238,7 +237,7 @@ fn expect_no_check(
     for pieces in rows {
         let found = evasions_of(&tables, &position(*pieces));
         assert_eq!(rt; found.leave, EMPTY, "{pieces}");
-        assert_eq!(rt; found.enter, all(), "{pieces}");
+        assert_eq!(rt; found.enter, ALL, "{pieces}");
     }
     Ok(())
 }

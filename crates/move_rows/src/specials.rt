@@ -1,13 +1,12 @@
 ghost use Rattle.std.specs.Prelude.{◌≡◌};
 ghost use Rattle.rules_model.specs.Fit.{IsFit};
-use special_moves::drops::is_doubled;
-use special_moves::{is_candidate, push_moves};
 
 use attack_tables::Tables;
 use board_sets::sets_of;
 use foundation::Memory;
 use rules_model::{Kind, Move, MoveList, Placed, Position, Promo, Rules};
 use sample_rules::{chess, hand_of, kind, position, shouse, square};
+use special_moves::{is_candidate, push_moves};
 use std::alloc::Global;
 use std::process::Abort;
 
@@ -209,11 +208,13 @@ fn pawns_are_dropped_between_the_last_ranks(rt: HostRuntime) -> Result<(), Memor
     Ok(())
 }
 
-/// Chess with drops where White's second rank and Black's take all that is dropped.
+/// Chess with drops where White's second rank and Black's take all that is dropped, and a side has one pawn on a file as
+/// in shogi.
 fn second_ranks() -> Rules
     ensures { IsFit result }
 {
     let mut rules = shouse();
+    rules.no_doubled = rules.pawn;
     let ranks = rules.double_region;
     rules.drop_region = ranks;
     rules
@@ -229,17 +230,18 @@ fn drops_keep_to_their_region(rt: HostRuntime) -> Result<(), Memory> {
     Ok(())
 }
 
-// The rule of shogi that a side has one pawn on a file.
+// A drop on each square of the region but one, and two moves of the pawn. Neither the pawn of the other side nor the
+// knight takes its file.
 #[test]
-fn kinds_that_may_not_be_doubled(rt: HostRuntime) {
-    let mut rules = shouse();
-    rules.no_doubled = Some(kind(b'p'));
-    let p = position("Pe4 pd5 Nc3");
-    for (at, doubled) in [("e7", true), ("d2", false), ("c2", false)] {
-        assert_eq!(rt;
-            is_doubled(&rules, &p, kind(b'p'), square(at)),
-            doubled,
-            "{at}"
-        );
+fn a_side_has_one_pawn_on_a_file(rt: HostRuntime) -> Result<(), Memory> {
+    let rules = second_ranks();
+    let tables = Tables::new(rt.alloc(), &rules)?;
+    let mut p = position("Ke1 Pe4 pd5 Nc3 ke8");
+    p.hands[0] = hand_of(b"p");
+    for (to, may) in [("e2", false), ("d2", true), ("c2", true)] {
+        let found = is_candidate(&rules, &tables, &p, &pawn_to(to));
+        assert_eq!(rt; found, may, "{to}");
     }
+    assert_eq!(rt; count(rt.alloc(), &rules, &tables, &p)?, 9);
+    Ok(())
 }

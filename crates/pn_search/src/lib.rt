@@ -9,8 +9,6 @@ mod fault;
 mod finding;
 mod grew;
 mod mating;
-#[cfg(test)]
-mod mirror;
 mod node;
 mod numbers;
 mod tree;

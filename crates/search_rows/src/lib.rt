@@ -1,4 +1,4 @@
-//! Rows that the crates below are held to: tests alone.
+//! Tests of the crates that search for the value of a game: by one worker, and by many with limits and ports.
 #![tactic(auto)]
 
 #[cfg(test)]

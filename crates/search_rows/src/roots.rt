@@ -2,12 +2,12 @@ ghost use Rattle.std.specs.Prelude.{◌≤◌, All, IfOk};
 ghost use Rattle.foundation.specs.Member.{Member};
 ghost use Rattle.game_line.specs.Lined.{legal_in};
 ghost use Rattle.rules_model.specs.Fit.{IsFit};
-use negamax::{Best, Desk, combine, search_root};
 
 use foundation::Memory;
 use game_line::Line;
 use game_play::Game;
 use hint_table::HintTable;
+use negamax::{Best, Desk, combine, search_root};
 use rules_model::{Move, MoveList, Position, Promo, Rules, sound};
 use sample_rules::{capablanca, chess, position, square, xiangqi};
 use std::alloc::Global;

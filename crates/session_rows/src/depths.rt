@@ -1,13 +1,13 @@
 ghost use Rattle.std.specs.Prelude.{◌≡◌, ◌≤◌, None};
-use thinking::{Depths, Evidence, Found, Score, Style, Task, Tried, begin, deepen, lines_of, try_mates, unsettled_line};
 
+use crate::helpers::go;
 use game_play::Game;
 use io_ports::{
     Dialect, Limits, LineBuf, ListClock, MemSink, MemSource, OpenGate, PollsOwed, SearchFault,
 };
 use legality::legal_moves;
-use rules_model::{Move, Position, Promo, Side, repeat_of, sound};
-use sample_rules::{chess, position, square};
+use rules_model::{Move, Position, Side, repeat_of, sound};
+use sample_rules::{chess, position};
 use seeking::Mind;
 use std::alloc::Global;
 use std::process::Abort;
@@ -15,18 +15,11 @@ use std::sync::Wait;
 use std::test::Fail;
 use std::thread::Threads;
 use strategy::{Counters, Nodes, Strategy};
+use thinking::{
+    Depths, Evidence, Found, Score, Style, Task, Tried, begin, deepen, lines_of, try_mates,
+    unsettled_line,
+};
 use watching::Cut;
-
-/// The move of a text such as `e2e4`, without promotion.
-fn go(text: &str) -> Move {
-    let (from, to) = text.split_at_checked(2).unwrap_or(("", ""));
-    Move::Go {
-        from: square(from),
-        to: square(to),
-        promo: Promo::Stays,
-        gate: None,
-    }
-}
 
 fn no_strategy(alloc: Global) -> Strategy {
     Strategy {

@@ -1,17 +1,20 @@
-//! Rows that the crates below are held to: tests alone.
+//! Tests of the crates that lead sessions: how lines are read and waited for, one search and one solve, depths and mates
+//! that are told, and whole sessions in both dialects.
 #![tactic(auto)]
 
 #[cfg(test)]
-mod turns;
-#[cfg(test)]
-mod minds;
-#[cfg(test)]
-mod depths;
-#[cfg(test)]
-mod uci_words;
+mod cecp_sessions;
 #[cfg(test)]
 mod cecp_words;
 #[cfg(test)]
+mod depths;
+#[cfg(test)]
+mod helpers;
+#[cfg(test)]
+mod minds;
+#[cfg(test)]
+mod turns;
+#[cfg(test)]
 mod uci_sessions;
 #[cfg(test)]
-mod cecp_sessions;
+mod uci_words;

@@ -1,14 +1,13 @@
-ghost use Rattle.std.specs.Prelude.{◌<◌};
-use seeking::{Mind, Search, Solve, search_once, solve_once};
-
+use crate::helpers::go;
 use foundation::Memory;
 use game_play::Game;
 use io_ports::{
     Dialect, Limits, LineBuf, ListClock, MemSink, MemSource, OpenGate, PollsOwed, SearchFault,
 };
 use playing::Board;
-use rules_model::{Move, Position, Promo, sound};
-use sample_rules::{chess, position, square};
+use rules_model::{Move, Position, sound};
+use sample_rules::{chess, position};
+use seeking::{Mind, Search, Solve, search_once, solve_once};
 use std::alloc::Global;
 use std::process::Abort;
 use std::sync::Wait;
@@ -104,16 +103,11 @@ fn answers<R: Threads + Wait + Abort + Sync>(
     Ok((told_search(&searched), told_solve(&solved)))
 }
 
-// King and rook against a king in the corner: a1h1 mates.
+// King and rook against a king on its back rank: a1a8 mates.
 #[test]
 fn one_search_and_one_solve(rt: HostRuntime) -> Result<(), Fail> {
     let alloc = rt.alloc();
-    let mates = Move::Go {
-        from: square("a1"),
-        to: square("a8"),
-        promo: Promo::Stays,
-        gate: None,
-    };
+    let mates = go("a1a8");
     let mut mind = Mind::new(alloc, 1)?;
     let by = |quota, deadline| Limits { quota, deadline };
     for (lines, owed, limits, found, shown) in [

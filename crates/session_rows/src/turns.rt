@@ -1,7 +1,7 @@
-use turning::{next_of, settle, wait};
 use foundation::Memory;
 use io_ports::{Dialect, Got, LineBuf, MAX_LINE, MemSink, MemSource, PollsOwed, SearchFault};
 use std::process::Abort;
+use turning::{next_of, settle, wait};
 use watching::Cut;
 
 /// Asserts what is left of the input, and what was written.

@@ -1,4 +1,3 @@
-use uci_front::{Ended, UciSession, serve};
 use io_ports::{
     Dialect, ListClock, MAX_LINE, MemFiles, MemSink, MemSource, OpenGate, PollsOwed, Ports,
     SearchFault,
@@ -7,6 +6,7 @@ use std::process::Abort;
 use std::sync::Wait;
 use std::test::Fail;
 use std::thread::Threads;
+use uci_front::{Ended, UciSession, serve};
 use variant_rules::{builtin, load};
 
 /// How a session of these lines ends, with a clock that stands still and two files of variants, and what it wrote.

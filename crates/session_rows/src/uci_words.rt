@@ -1,9 +1,13 @@
-use uci_lines::{Go, Kind, Placing, Setting, is_held, joined, last_depth, last_mate, number, read_go, read_line, read_placing, read_setting, roots_of, share_of, time_for, words_in};
+use crate::helpers::go;
 use foundation::Text;
 use io_ports::Got;
-use rules_model::{Move, Promo, Side, Square};
+use rules_model::{Move, Side};
 use std::alloc::Global;
 use std::test::Fail;
+use uci_lines::{
+    Go, Kind, Placing, Setting, is_held, joined, last_depth, last_mate, number, read_go, read_line,
+    read_placing, read_setting, roots_of, share_of, time_for, words_in,
+};
 
 // The `go` of a line.
 fn go_of<'a>(alloc: Global, line: &'a [u8]) -> Result<Go<'a>, Fail> {
@@ -21,15 +25,6 @@ fn shown(setting: &Setting) -> (&'static str, Option<&Text>) {
         Setting::VariantPath(value) => ("VariantPath", value.as_ref()),
         Setting::Variant(value) => ("UCI_Variant", value.as_ref()),
         Setting::Unknown => ("", None),
-    }
-}
-
-fn go(from: u8, to: u8) -> Move {
-    Move::Go {
-        from: Square(from),
-        to: Square(to),
-        promo: Promo::Stays,
-        gate: None,
     }
 }
 
@@ -118,17 +113,17 @@ fn limits(rt: HostRuntime) -> Result<(), Fail> {
     Ok(())
 }
 
-// The pawns' moves from d2 and e2 are legal: squares are 12 * rank + file, both counted from 0.
+// The pawns' moves from d2 and e2 are legal.
 #[test]
 fn roots(rt: HostRuntime) -> Result<(), Fail> {
-    let legal = [go(15, 27), go(15, 39), go(16, 28), go(16, 40)];
+    let legal = [go("d2d3"), go("d2d4"), go("e2e3"), go("e2e4")];
     let rows: [(&[u8], &[Move]); 4] = [
-        (b"go", &[go(15, 27), go(15, 39), go(16, 28), go(16, 40)]),
-        (b"go searchmoves e2e4 d2d4 e2e4", &[go(15, 39), go(16, 40)]),
-        (b"go searchmoves e2e4 depth d2d4", &[go(16, 40)]),
+        (b"go", &[go("d2d3"), go("d2d4"), go("e2e3"), go("e2e4")]),
+        (b"go searchmoves e2e4 d2d4 e2e4", &[go("d2d4"), go("e2e4")]),
+        (b"go searchmoves e2e4 depth d2d4", &[go("e2e4")]),
         (
             b"go searchmoves e7e5",
-            &[go(15, 27), go(15, 39), go(16, 28), go(16, 40)],
+            &[go("d2d3"), go("d2d4"), go("e2e3"), go("e2e4")],
         ),
     ];
     for (line, want) in rows {

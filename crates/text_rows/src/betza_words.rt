@@ -119,8 +119,8 @@ fn direction_strings(rt: HostRuntime) -> Result<(), Fail> {
         assert!(rt; has_steps(rt.alloc(), word, want)?);
     }
     let ambiguous: [&[u8]; 17] = [
-        b"fbN", b"sfN", b"hhN", b"vsN", b"fffN", b"hfN", b"rsL", b"flJ", b"vhN", b"shN",
-        b"lfF", b"flfF", b"flrF", b"fsF", b"hhW", b"ffK", b"flQ",
+        b"fbN", b"sfN", b"hhN", b"vsN", b"fffN", b"hfN", b"rsL", b"flJ", b"vhN", b"shN", b"lfF",
+        b"flfF", b"flrF", b"fsF", b"hhW", b"ffK", b"flQ",
     ];
     for word in ambiguous {
         assert!(rt; has_fault(rt.alloc(), word, "BetzaFault 6 AmbiguousDirection 0")?);

@@ -1,6 +1,6 @@
-use words::{Asked, Command, read_words};
 use std::alloc::Global;
 use std::test::Fail;
+use words::{Asked, Command, read_words};
 
 const MOVES: Asked<'static> = Asked {
     variants: None,

@@ -1,7 +1,7 @@
-use hint_table::{Hint, HintTable};
 use foundation::Memory;
+use hint_table::{Hint, HintTable};
 use std::process::Abort;
-use std::thread::{Threads, join};
+use std::thread::join;
 
 const KEYS: [u64; 5] = [0, 1, u64::MAX, 1 << 63, 0x9E37_79B9_7F4A_7C15];
 

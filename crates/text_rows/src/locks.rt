@@ -1,8 +1,8 @@
 ghost use Rattle.std.specs.Prelude.{◌≡◌, ◌+◌, ◌^◌, ◌<◌, ◌≤◌, length, vec_len, vec_capacity, nat_lt, if◌then◌else◌, Some, None};
 ghost use Rattle.std.specs.Option.{option_and_then};
 ghost use Rattle.fact_lock.specs.Passes.{IsPassOf, all_parts};
-use fact_lock::{Journal, Lock, Pass};
 
+use fact_lock::{Journal, Lock, Pass};
 use std::sync::Wait;
 use std::test::Fail;
 use std::thread::{Threads, join};

@@ -1,9 +1,11 @@
-use io_ports::{Dialect, Failed, Files, Gate, Given, Got, Heard, HoldingGate, LineBuf, MAX_LINE, Polled, Sink, Source, StandardInput, StandardOutput, find_command, hear, too_long_answer};
-use io_ports::standard_input::skip_piece;
 mod adapters;
 mod memory;
 
 use foundation::Memory;
+use io_ports::{
+    Dialect, Failed, Files, Gate, Given, Got, Heard, HoldingGate, LineBuf, MAX_LINE, Polled, Sink,
+    Source, StandardInput, StandardOutput, find_command, hear, too_long_answer,
+};
 use std::alloc::{AllocError, Global};
 use std::io::{self, BufReader, ErrorKind, Read, Write};
 use std::test::Fail;
@@ -261,14 +263,4 @@ fn standard_input_takes_a_long_line_whole(rt: HostRuntime) -> Result<(), Fail> {
         );
     }
     Ok(())
-}
-
-#[test]
-fn a_line_of_the_most_bytes_is_no_fault(rt: HostRuntime) {
-    for text in b"aaa\nb aaa\r\nb aaa\r aa\r\r\n aaa".split(|byte| *byte == b' ') {
-        assert!(rt; skip_piece(&mut &*text, 3).is_ok());
-    }
-    for text in b"aaaa\n aaaa\r\n aaa\ra aaa\r\r".split(|byte| *byte == b' ') {
-        assert!(rt; skip_piece(&mut &*text, 3).is_err());
-    }
 }

@@ -1,6 +1,6 @@
-use variant_ini::{IniFault, Sections};
 use std::alloc::{AllocError, Global};
 use std::test::Fail;
+use variant_ini::{IniFault, Sections};
 
 const BASE: &[u8] =
     b"; variants\r\n\r\n[a]\r\n nMoveRule\t= 40 \r\nx = 1\nx = 2 # two\n[b:a]\nX=\n";

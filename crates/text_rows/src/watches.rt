@@ -1,8 +1,8 @@
-use watching::{Caller, Cut, Halt, Helper, StopFlag, Watch};
 use foundation::Memory;
 use io_ports::{Dialect, Limits, LineBuf, ListClock, MemSink, MemSource, PollsOwed, SearchFault};
 use std::alloc::Global;
 use std::process::Abort;
+use watching::{Caller, Cut, Halt, Helper, StopFlag, Watch};
 
 const NONE: Limits = Limits {
     quota: None,

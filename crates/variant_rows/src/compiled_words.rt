@@ -1,6 +1,6 @@
 use betza_compile::compile;
-use rules_model::Way;
 use betza_text::parse;
+use rules_model::Way;
 use std::test::Fail;
 
 const ORTHOGONAL: [(i8, i8); 4] = [(0, -1), (-1, 0), (1, 0), (0, 1)];

@@ -1,11 +1,11 @@
 ghost use Rattle.rules_model.specs.Fit.{IsFit};
-use rules_model::{Memory, Rules};
-use std::alloc::Global;
-use variant_fen::{FenFault, read_fen, write_fen};
 
+use rules_model::{Memory, Rules};
 use sample_rules::{chess, leapers, shouse, xiangqi};
+use std::alloc::Global;
 use std::process::Abort;
 use std::test::Fail;
+use variant_fen::{FenFault, read_fen, write_fen};
 
 // The leapers on the largest board, with counted checks.
 fn wide() -> Rules

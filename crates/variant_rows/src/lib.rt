@@ -1,13 +1,13 @@
-//! Rows that the crates below are held to: tests alone.
+//! Tests of the crates that read variants and their positions.
 #![tactic(auto)]
 
 #[cfg(test)]
 mod compiled_words;
 #[cfg(test)]
+mod fens;
+#[cfg(test)]
 mod option_lines;
 #[cfg(test)]
-mod rules_of_sections;
+mod sections;
 #[cfg(test)]
-mod loaded;
-#[cfg(test)]
-mod fens;
+mod variants;

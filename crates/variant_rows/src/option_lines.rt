@@ -1,6 +1,6 @@
-use variant_options::{LineFault, line_fault};
 use betza_text::BetzaFault;
 use std::test::Fail;
+use variant_options::{LineFault, line_fault};
 
 // Each row: a key, a value, and the fault of the line.
 #[test]

@@ -1,6 +1,9 @@
 // The adapters of the machine.
-use io_ports::{Clock, Files, Given, Got, LineBuf, MAX_FILE, MAX_LINE, MachineClock, MachineFiles, PatientReader, Polled, QueuedInput, Source};
 use super::{Halting, lines, polls, reads};
+use io_ports::{
+    Clock, Files, Given, Got, LineBuf, MAX_FILE, MAX_LINE, MachineClock, MachineFiles,
+    PatientReader, Polled, QueuedInput, Source,
+};
 use std::alloc::Global;
 use std::io::{self, BufReader, BufWriter, ErrorKind, PipeWriter, Read, Write};
 use std::sync::Arc;
@@ -102,15 +105,6 @@ fn a_poll_starts_the_reading(rt: HostRuntime) -> Result<(), Fail> {
     let mut line = LineBuf::new(alloc)?;
     assert!(rt; poll_until(&rt, &mut input, &mut line) == Polled::Line);
     assert!(rt; line.text() == b"go".as_slice());
-    Ok(())
-}
-
-#[test]
-fn without_a_thread_a_poll_reads(rt: HostRuntime) -> Result<(), Fail> {
-    let alloc = rt.alloc();
-    let mut input = QueuedInput::without_thread(rt, alloc, b"go\nstop".as_slice())?;
-    let told = polls(alloc, &mut input, 3)?;
-    assert!(rt; told.as_slice() == b"go\nstop\n(end)\n".as_slice());
     Ok(())
 }
 

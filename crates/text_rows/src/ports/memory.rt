@@ -1,6 +1,9 @@
 // The forms in memory.
-use io_ports::{Clock, Dialect, Gate, LineBuf, ListClock, MAX_FILE, MAX_LINE, MemFiles, MemSink, MemSource, OpenGate, Polled, PollsOwed, Ports, QuietSource, Sink, SinkFault, Source};
 use super::{lines, long_line, pass, polls, puts, reads};
+use io_ports::{
+    Clock, Dialect, Gate, LineBuf, ListClock, MAX_FILE, MAX_LINE, MemFiles, MemSink, MemSource,
+    OpenGate, Polled, PollsOwed, Ports, QuietSource, Sink, SinkFault, Source,
+};
 use std::test::Fail;
 
 fn poll_and_put<S: Source, K: Sink, C: Clock, G: Gate>(

@@ -5,4 +5,4 @@ use Rattle.move_rows.proofs.specials.second_ranks.Goals as goal
 
 pub returns : goal.returns
 unfolding opened shouse
-returns c = rw c.shouse-rules.ensures.is (fit-from (record shouse { drop_region = shouse.double_region }) refl)
+returns c = rw c.shouse-rules.ensures.is (fit-from (record shouse { no_doubled = shouse.pawn; drop_region = shouse.double_region }) refl)

@@ -1,7 +1,6 @@
 use move_names::read_move;
-use rules_model::Move;
 use move_text::write_move;
-use rules_model::Promo;
+use rules_model::{Move, Promo};
 use sample_rules::shouse;
 
 // Chess with gates and drops, from its start: White holds a hawk and an elephant, and all rights and gates.

@@ -1,54 +1,12 @@
 ghost use Rattle.std.specs.Prelude.{◌≤◌, ◌<◌};
-ghost use Rattle.rules_model.specs.Moves.{IsFitGate, IsFitMove, IsFitPromo};
-use board_sets::sets_of;
+ghost use Rattle.rules_model.specs.Moves.{IsFitMove};
 
-use rules_model::{Kind, Move, Placed, Position, Promo, Side, Square};
+use crate::helpers::{castle, go, quiet, set_of};
+use board_sets::sets_of;
+use rules_model::{Move, Position, Promo, Side, Square};
 use sample_rules::{chess, kind, position, shouse, square};
 use square_set::{EMPTY, Set};
 use std::process::Abort;
-
-fn set_of(squares: &[&str]) -> Set {
-    let mut set = EMPTY;
-    for text in squares {
-        set = set.with(square(*text).0);
-    }
-    set
-}
-
-fn go(from: &str, to: &str, promo: Promo, gate: Option<Kind>) -> Move
-    requires promo { IsFitPromo promo }
-    requires gate { IsFitGate gate }
-    ensures { IsFitMove result }
-{
-    Move::Go {
-        from: square(from),
-        to: square(to),
-        promo,
-        gate,
-    }
-}
-
-/// A move without a promotion and without a gate.
-fn quiet(from: &str, to: &str) -> Move
-    ensures { IsFitMove result }
-{
-    go(from, to, Promo::Stays, None)
-}
-
-/// White's short castle, with an elephant placed on the rook's square.
-fn castle() -> Move
-    ensures { IsFitMove result }
-{
-    Move::Castle {
-        from: square("e1"),
-        to: square("g1"),
-        rook: square("h1"),
-        gate: Some(Placed {
-            kind: kind(b'e'),
-            at: square("h1"),
-        }),
-    }
-}
 
 fn drop_of(letter: u8, to: &str) -> Move
     requires low { 97 ≤ letter }

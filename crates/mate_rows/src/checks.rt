@@ -3,8 +3,8 @@ ghost use Rattle.rules_model.specs.Fit.{IsFit};
 ghost use Rattle.playing.specs.Stance as Stance;
 ghost use Rattle.check_moves.specs.Checks.{AreChecksIn};
 
-use super::*;
 use attack_tables::Tables;
+use check_moves::{Checks, checks_of, gives_check, may_check};
 use foundation::Memory;
 use playing::Board;
 use rules_model::{Move, Position, Rules, sound};

@@ -1,16 +1,9 @@
-use move_tables::{Jump, Line, Mode, MoveTables, Passage, men, occupied};
+use crate::helpers::set_of;
 use foundation::Memory;
+use move_tables::{Jump, Line, Mode, MoveTables, Passage};
 use rules_model::{Side, Square};
-use sample_rules::{chess, kind, square};
-use square_set::{EMPTY, Set};
-
-fn set_of(squares: &[&str]) -> Set {
-    let mut set = EMPTY;
-    for text in squares {
-        set = set.with(square(*text).0);
-    }
-    set
-}
+use sample_rules::{chess, kind};
+use square_set::EMPTY;
 
 // Along the file from a1 to a8 with pieces on a3, a4 and a7, upwards from a1 and downwards from a8; and with none.
 #[test]

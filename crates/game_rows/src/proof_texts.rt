@@ -1,11 +1,12 @@
 //! Texts in memory, read and refused, and texts that are written and read back.
 ghost use Rattle.std.specs.Prelude.{◌≡◌, IfOk};
 ghost use Rattle.rules_model.specs.Fit.{IsFit};
-use proof_text::{Proof, ProofFault, read_proof, write_proof};
 
+use crate::helpers::go;
 use foundation::Text;
 use game_play::Game;
-use rules_model::{Move, Promo, Rules, Side, Square};
+use proof_text::{Proof, ProofFault, read_proof, write_proof};
+use rules_model::{Move, Rules, Side};
 use std::alloc::Global;
 use std::test::Fail;
 use strategy::read;
@@ -149,18 +150,9 @@ node 0 100 7k/R7/5K2/8/8/8/8/8 w - - 0 1
 end
 ";
 
-fn go(from: u8, to: u8) -> Move {
-    Move::Go {
-        from: Square(from),
-        to: Square(to),
-        promo: Promo::Stays,
-        gate: None,
-    }
-}
-
 /// The moves f6g6 and h8g8.
 fn moves() -> [Move; 2] {
-    [go(65, 66), go(91, 90)]
+    [go("f6g6"), go("h8g8")]
 }
 
 /// The game of the texts by these rules, at its start or after the two moves.

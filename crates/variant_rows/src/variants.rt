@@ -1,8 +1,7 @@
-use variant_rules::SectionFault;
 use rules_model::Rules;
 use std::alloc::{AllocError, Global};
 use std::test::Fail;
-use variant_ini::Sections;
+use variant_rules::{Found, SectionFault, Variants, builtin, load};
 
 // a changes one option of chess, b one of a, c one of b; d has an option that is refused by its name, and e is its child.
 const CHAIN: &[u8] = b"[a:chess]\n\

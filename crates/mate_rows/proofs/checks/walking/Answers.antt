@@ -1,7 +1,7 @@
 use Rattle.std.proofs.Common.{false, refl}
 use Rattle.sample_rules.specs.Xiangqi.{xiangqi}
 use Rattle.sample_rules.proofs.Fits.{fit-from, opened}
-use Rattle.check_moves.proofs.tests.walking.Goals as goal
+use Rattle.mate_rows.proofs.checks.walking.Goals as goal
 
 pub returns : goal.returns
 unfolding opened xiangqi

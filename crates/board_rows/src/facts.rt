@@ -1,6 +1,6 @@
-
 use forced_wins::{Fact, is_falling};
 use rules_model::{Repeat, Side};
+
 #[test]
 fn a_win_in_three_and_a_refutation(rt: HostRuntime) {
     let repeat = Repeat {

@@ -1,5 +1,5 @@
-use section_rules::{LetteredSections, Resolved, bare_rules, own_fault, rules_fault};
 use rules_model::{Memory, Square};
+use section_rules::{LetteredSections, Resolved, bare_rules, own_fault, rules_fault};
 use std::alloc::Global;
 use std::test::Fail;
 use variant_ini::Sections;

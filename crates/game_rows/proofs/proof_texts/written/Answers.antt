@@ -1,7 +1,7 @@
 use Rattle.std.proofs.Common.{Ok, sym, ap, ◌∙◌}
 use Rattle.variant_rules.specs.View.{lent}
 use Rattle.proof_text.proofs.EntryLemmas.{entry-found, found-within}
-use Rattle.game_rows.proofs.proofs_as_texts.written.Goals as goal
+use Rattle.game_rows.proofs.proof_texts.written.Goals as goal
 
 pub write_proof-requires-clause-section : goal.write_proof-requires-clause-section
 write_proof-requires-clause-section c =

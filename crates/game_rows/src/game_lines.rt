@@ -1,30 +1,10 @@
+use crate::helpers::{KINGS, QUEEN, ROUND, at_count, game, go};
 use game_line::Line;
-use game_play::Game;
-use rules_model::{Cause, Move, Outcome, Position, Promo, Side, sound};
-use sample_rules::{chess, position, square};
+use rules_model::{Cause, Outcome, Side};
+use sample_rules::{chess, position};
 use std::alloc::Global;
 use std::process::Abort;
 use std::test::Fail;
-
-/// The move of a text such as `e2e4`, without promotion.
-fn go(text: &str) -> Move {
-    let (from, to) = text.split_at_checked(2).unwrap_or(("", ""));
-    Move::Go {
-        from: square(from),
-        to: square(to),
-        promo: Promo::Stays,
-        gate: None,
-    }
-}
-
-/// Plays the moves of the text.
-fn play_all(rt: &impl Abort, game: &mut Game, moves: &str) {
-    for text in moves.split(' ') {
-        if !text.is_empty() {
-            assert_eq!(rt; game.play(&go(text)), Ok(()), "{text}");
-        }
-    }
-}
 
 /// Puts the moves of the text on the line.
 fn push_all(rt: &impl Abort, line: &mut Line, moves: &str) {
@@ -50,39 +30,6 @@ fn back_all(line: &mut Line) {
     }
 }
 
-/// The pieces after so many moves of one side without a capture or a pawn's move.
-fn at_count(pieces: &str, counter: u16) -> Position {
-    Position {
-        counter,
-        number: 80,
-        ..position(pieces)
-    }
-}
-
-/// The kings on their squares, and a rook that never moves.
-const KINGS: &str = "Ke1 ke8 Ra1";
-
-/// King and queen against a king.
-const QUEEN: &str = "kh8 Kf6 Qg6";
-
-/// Both kings go one square, and come back.
-const ROUND: &str = "e1d1 e8d8 d1e1 d8e8";
-
-/// The game of the moves from the pieces, at a count of moves.
-fn game(
-    rt: &impl Abort,
-    alloc: Global,
-    pieces: &str,
-    counter: u16,
-    moves: &str,
-) -> Result<Game, Fail> {
-    let (rules, start) = (chess(), at_count(pieces, counter));
-    assert!(rt; sound(&rules, &start));
-    let mut game = Game::new(alloc, &rules, &start)?;
-    play_all(rt, &mut game, moves);
-    Ok(game)
-}
-
 /// Asserts that the line stands so.
 fn expect_stands(rt: &impl Abort, line: &Line, outcome: Outcome) {
     let any = line.board().any_legal();
@@ -96,7 +43,8 @@ type Row = (&'static str, u16, &'static str, &'static str, Outcome);
 /// Asserts that the line stands so, each time that its moves are put on it.
 fn expect_line(rt: &impl Abort, alloc: Global, row: &Row) -> Result<(), Fail> {
     let (pieces, counter, played, moves, outcome) = *row;
-    let game = game(rt, alloc, pieces, counter, played)?;
+    let start = at_count(pieces, counter);
+    let game = game(rt, alloc, &chess(), &start, played)?;
     let mut line = Line::new(alloc, &game, 8)?;
     for _time in 0..3 {
         push_all(rt, &mut line, moves);
@@ -141,7 +89,7 @@ fn is_sendable<T: Send>(_value: &T) {}
 
 #[test]
 fn lines_are_copied(rt: HostRuntime) -> Result<(), Fail> {
-    let game = game(&rt, rt.alloc(), KINGS, 0, ROUND)?;
+    let game = game(&rt, rt.alloc(), &chess(), &at_count(KINGS, 0), ROUND)?;
     let mut line = Line::new(rt.alloc(), &game, 4)?;
     push_all(&rt, &mut line, "e1d1 e8d8 d1e1");
     let mut copy = line.copied(rt.alloc())?;

@@ -1,9 +1,9 @@
 //! A tree that is kept beside the one that is tested: each node has its position, and the numbers of all nodes are worked
 //! out anew from their definition each time.
-use crate::{INFINITE, Tree};
 use attack_tables::Tables;
 use foundation::Memory;
 use playing::Board;
+use pn_search::{INFINITE, Tree};
 use rules_model::{Outcome, Position, Side, repeats, sound};
 use std::alloc::Global;
 use std::process::Abort;
@@ -35,13 +35,13 @@ impl Twin {
 
 /// A tree for White as the attacker, whose counter cannot run out, and the position that may not be entered again.
 #[derive(Drop)]
-pub(crate) struct Mirror {
+pub struct Mirror {
     again: Position,
     nodes: Vec<Twin>,
 }
 
 /// A proof number and a disproof number.
-pub(crate) type Numbers = (u32, u32);
+pub type Numbers = (u32, u32);
 
 /// The numbers of a node by those of its children.
 fn inner(attacking: bool, children: &[Numbers]) -> Numbers {
