@@ -1,8 +1,0 @@
-use Rattle.std.proofs.Common.{false, refl}
-use Rattle.sample_rules.specs.Chess.{chess}
-use Rattle.sample_rules.proofs.Fits.{fit-from, opened}
-use Rattle.board_rows.proofs.attacks.single_steps.Goals as goal
-
-pub returns : goal.returns
-unfolding opened chess
-returns c = rw c.chess-rules.ensures.is (fit-from (record chess { double_step = false }) refl)

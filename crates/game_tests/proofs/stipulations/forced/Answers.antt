@@ -1,0 +1,8 @@
+use Rattle.std.proofs.Common.{true, refl}
+use Rattle.sample_rules.specs.Chess.{chess}
+use Rattle.sample_rules.proofs.Fits.{fit-from, opened}
+use Rattle.game_tests.proofs.stipulations.forced.Goals as goal
+
+pub returns : goal.returns
+unfolding opened chess
+returns c = rw c.chess-rules.ensures.is (fit-from (record chess { must_capture = true }) refl)

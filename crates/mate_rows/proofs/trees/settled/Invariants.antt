@@ -1,5 +1,0 @@
-use Rattle.std.proofs.Common.{◌≡◌}
-use Rattle.mate_rows.proofs.trees.settled.Given as goal
-
-abbrev pub invariant-growing : goal.invariant-growing
-invariant-growing l = l.tree.frame ≡ l.fn.frame

@@ -1,0 +1,5 @@
+use Rattle.rules_model.proofs.LegalLaws.{legal-member}
+use Rattle.mate_tests.proofs.checks.is_asked.Goals as goal
+
+pub may_check-requires-clause-fit : goal.may_check-requires-clause-fit
+may_check-requires-clause-fit c = (legal-member _ _ _ c.requires.legal).0

@@ -1,8 +1,0 @@
-use Rattle.std.proofs.Common.{None, refl}
-use Rattle.sample_rules.specs.Chess.{chess}
-use Rattle.sample_rules.proofs.Fits.{fit-from, opened}
-use Rattle.move_rows.proofs.legal.kingless.Goals as goal
-
-pub returns : goal.returns
-unfolding opened chess
-returns c = rw c.chess-rules.ensures.is (fit-from (record chess { king = None }) refl)

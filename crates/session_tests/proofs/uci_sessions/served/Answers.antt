@@ -1,0 +1,7 @@
+use Rattle.std.proofs.Common.{◌∙◌, [], sym}
+use Rattle.std.proofs.lemmas.List.{append-nil}
+use Rattle.variant_model.specs.Builtin.{builtin_sections}
+use Rattle.session_tests.proofs.uci_sessions.served.Goals as goal
+
+pub new-requires-clause-begins : goal.new-requires-clause-begins
+new-requires-clause-begins g c = ([], c.in_ok-sections.ensures.are ∙ sym (append-nil builtin_sections))

@@ -1,0 +1,246 @@
+use io_ports::{
+    Dialect, ListClock, MAX_LINE, MemFiles, MemSink, MemSource, OpenGate, PollsOwed, Ports,
+    SearchFault,
+};
+use std::process::Abort;
+use std::sync::Wait;
+use std::test::Fail;
+use std::thread::Threads;
+use uci_front::{Ended, UciSession, serve};
+use variant_rules::{builtin, load};
+
+/// How a session of these lines ends, with a clock that stands still and two files of variants, and what it wrote.
+fn served<R: AllocGlobal + Threads + Wait + Sync>(
+    rt: &R,
+    input: &[u8],
+    polls: PollsOwed,
+    failing: &[u64],
+    room: usize,
+) -> Result<(Result<Ended, SearchFault>, MemSink), Fail> {
+    let alloc = rt.alloc();
+    let sections = builtin(alloc)?;
+    let variants = load(alloc, &sections)?;
+    let mut session = UciSession::new(alloc, sections, variants, 1)?;
+    let mut source = MemSource::new(alloc, input, polls, failing)?;
+    let mut sink = MemSink::new(alloc, room)?;
+    let mut clock = ListClock::new(alloc, &[0])?;
+    let mut files = MemFiles::new(alloc);
+    files.add(
+        b"own.ini",
+        b"[own:chess]\nstartFen = 7k/8/5KQ1/8/8/8/8/8 w - - 0 1\n",
+    )?;
+    files.add(b"bad.ini", b"castling = true\n")?;
+    let mut ports = Ports {
+        source: &mut source,
+        sink: &mut sink,
+        clock: &mut clock,
+        gate: &OpenGate,
+        dialect: Dialect::Uci,
+    };
+    let ended = serve(rt, alloc, &mut session, &mut ports, &mut files);
+    Ok((ended, sink))
+}
+
+/// Serves these lines up to `quit`, and wants this text.
+fn says<R: Abort + AllocGlobal + Threads + Wait + Sync>(
+    rt: &R,
+    polls: PollsOwed,
+    input: &str,
+    text: &str,
+) -> Result<(), Fail> {
+    let (ended, sink) = served(rt, input.as_bytes(), polls, &[], 3000)?;
+    assert!(rt; ended == Ok(Ended::Quit), "{input}");
+    assert_eq!(rt; sink.taken(), text.as_bytes(), "{input}");
+    Ok(())
+}
+
+/// How often a part stands in a text.
+fn count(text: &[u8], part: &[u8]) -> usize {
+    let mut times = 0usize;
+    for at in 0..text.len() {
+        if text[at..].starts_with(part) {
+            times = times.saturating_add(1);
+        }
+    }
+    times
+}
+
+// Each row: lines, and what is answered.
+#[test]
+fn lines_set_and_answer(rt: HostRuntime) -> Result<(), Fail> {
+    let rows = [
+        (
+            "uci\nquit\n",
+            "id name vengine\nid author vengine\noption name Threads type spin default 1 min 1 max 64\noption name Hash type spin default 16 min 1 max 1024\noption name MateFacts type spin default 4096 min 16 max 65536\noption name VariantPath type string default <empty>\noption name UCI_Variant type combo default chess var chess var crazyhouse var 3check var kingofthehill var antichess var extinction var losalamos var capablanca var seirawan var xiangqi\nuciok\n",
+        ),
+        (
+            "\nwhat is this\nnow isready\ndebug on\nregister later\nstop\nponderhit\nquit now\nuci\n",
+            "readyok\n",
+        ),
+        (
+            "position fen k7/8/8/8/8/8/1q6/K7 w - - 0 1\nmoves\nstrategy\nposition startpos moves f2f3 e7e5 g2g4 d8h4\nstatus\nmoves\ngo depth 1\nquit\n",
+            "a1b2\nmoves 1\ninfo string no strategy\nwon black checkmate\nrnb1kbnr/pppp1ppp/8/4p3/6Pq/5P2/PPPPP2P/RNBQKBNR w KQkq - 1 3\nmoves 0\nbestmove (none)\n",
+        ),
+        (
+            "go perft 2\nposition startpos moves e2e4\ngo perft 1\nucinewgame\nstatus\nquit\n",
+            "info string perft 2 400\ninfo string perft 1 20\nongoing\nrnbqkbnr/pppppppp/8/8/8/8/PPPPPPPP/RNBQKBNR w KQkq - 0 1\n",
+        ),
+    ];
+    for (input, text) in rows {
+        says(&rt, PollsOwed::Endless, input, text)?;
+    }
+    Ok(())
+}
+
+// A line that is refused leaves the game and the variant.
+#[test]
+fn lines_are_refused(rt: HostRuntime) -> Result<(), Fail> {
+    let rows = [
+        (
+            "position fen k7/8/8/8/8/8/1q6/K7 w - - 0 1\nposition startpos moves e2e4 e7e5 e4e5\nposition fen 8/8 w - - 0 1\nposition startpos moves e9\nposition\nstatus\nquit\n",
+            "info string error PositionFault 2 BadMove 3 e4e5\ninfo string error PositionFault 1 BadFen FenFault 2 Rank\ninfo string error PositionFault 2 BadMove 1 e9\ninfo string error PositionFault 4 NoPosition\nongoing\nk7/8/8/8/8/8/1q6/K7 w - - 0 1\n",
+        ),
+        (
+            "setoption name Hash value 0\nsetoption name threads value 65\nsetoption name MateFacts\nsetoption name Other value 1\nsetoption name UCI_Variant value shogi\nsetoption name VariantPath value gone.ini\nsetoption name VariantPath value bad.ini\nsetoption name VariantPath value own.ini\nsetoption name UCI_Variant value own\nsetoption name VariantPath value gone.ini\nstatus\nsetoption name VariantPath value <empty>\nsetoption name UCI_Variant value own\nstatus\nquit\n",
+            "info string error OptionFault 1 BadValue Hash\ninfo string error OptionFault 1 BadValue Threads\ninfo string error OptionFault 1 BadValue MateFacts\ninfo string error OptionFault 2 UnknownVariant shogi\ninfo string error FileFault 1 Missing\ninfo string error IniFault 4 NoSection 1\ninfo string error FileFault 1 Missing\nongoing\n7k/8/5KQ1/8/8/8/8/8 w - - 0 1\ninfo string error OptionFault 2 UnknownVariant own\nongoing\nrnbqkbnr/pppppppp/8/8/8/8/PPPPPPPP/RNBQKBNR w KQkq - 0 1\n",
+        ),
+    ];
+    for (input, text) in rows {
+        says(&rt, PollsOwed::Endless, input, text)?;
+    }
+    Ok(())
+}
+
+/// Serves these lines up to `quit`, and wants as many answers as given: three lines each, the first ones these.
+fn tells_no_mate<R: Abort + AllocGlobal + Threads + Wait + Sync>(
+    rt: &R,
+    input: &str,
+    start: &str,
+    answers: usize,
+) -> Result<(), Fail> {
+    let (ended, sink) = served(rt, input.as_bytes(), PollsOwed::Endless, &[], 3000)?;
+    assert!(rt; ended == Ok(Ended::Quit), "{input}");
+    let text = sink.taken();
+    assert!(rt; text.starts_with(start.as_bytes()), "{input}");
+    assert_eq!(rt; count(text, start.as_bytes()), answers, "{input}");
+    assert_eq!(rt; count(text, b"\nbestmove "), answers, "{input}");
+    assert_eq!(rt; count(text, b"\n"), answers.saturating_mul(3), "{input}");
+    Ok(())
+}
+
+// A mate that the counter would outrun but for the mate itself, one of two moves, a side that is mated, and a mate that a
+// third repetition forbids; the search of depth 1 comes then. No node allows no proof, but a fact that is kept answers.
+#[test]
+fn mates_are_found(rt: HostRuntime) -> Result<(), Fail> {
+    let rows = [
+        (
+            "position fen 7k/8/5KQ1/8/8/8/8/8 w - - 99 80\ngo mate 1\nsetoption name Threads value 4\ngo mate 2\nquit\n",
+            "info depth 1 score mate 1 pv g6g7\nbestmove g6g7\ninfo depth 1 score mate 1 pv g6g7\nbestmove g6g7\n",
+        ),
+        (
+            "position fen 7k/R7/5K2/8/8/8/8/8 w - - 0 1\ngo mate 2\nposition startpos\nstrategy\nquit\n",
+            "info depth 3 score mate 2 pv f6g6\nbestmove f6g6\ninfo string no strategy\n",
+        ),
+        (
+            "position fen 7k/R7/6K1/8/8/8/8/8 b - - 1 1\ngo depth 3\nquit\n",
+            "info depth 1 score cp -504 pv h8g8\ninfo depth 2 score mate -1 pv h8g8\ninfo depth 3 score mate -1 pv h8g8\nbestmove h8g8\n",
+        ),
+        (
+            "position fen 7k/R7/5K2/8/8/8/8/8 w - - 0 1\ngo mate 1 nodes 0\nquit\n",
+            "info string stopped\nbestmove a7a1\n",
+        ),
+    ];
+    for (input, text) in rows {
+        says(&rt, PollsOwed::Endless, input, text)?;
+    }
+    tells_no_mate(
+        &rt,
+        "position fen 7k/R7/6K1/8/8/8/8/8 b - - 0 1 moves h8g8 g6f6 g8h8 f6g6 h8g8 g6f6 g8h8\ngo mate 2\nquit\n",
+        "info string no mate in 2\ninfo depth 1 score cp ",
+        1,
+    )?;
+    tells_no_mate(
+        &rt,
+        "position fen 7k/R7/5K2/8/8/8/8/8 w - - 0 1\ngo mate 1\ngo mate 1 nodes 0\nquit\n",
+        "info string no mate in 1\ninfo depth 1 score cp ",
+        2,
+    )?;
+    Ok(())
+}
+
+// The king's one move is to take the queen. A best move that is held back comes at the next line that stops a search,
+// which is answered next, and at the end of the lines.
+#[test]
+fn a_best_move_is_held_back(rt: HostRuntime) -> Result<(), Fail> {
+    let rows = [
+        (
+            "position fen 7k/8/5KQ1/8/8/8/8/8 w - - 0 1\ngo infinite mate 1\nisready\ndebug on\n\nstatus\nquit\n",
+            "info depth 1 score mate 1 pv g6g7\nreadyok\nbestmove g6g7\nongoing\n7k/8/5KQ1/8/8/8/8/8 w - - 0 1\n",
+        ),
+        (
+            "position fen 7k/8/5KQ1/8/8/8/8/8 w - - 0 1\ngo ponder mate 1\nquit\nuci\n",
+            "info depth 1 score mate 1 pv g6g7\nbestmove g6g7\n",
+        ),
+    ];
+    for (input, text) in rows {
+        says(&rt, PollsOwed::Endless, input, text)?;
+    }
+    Ok(())
+}
+
+// The polls let `isready` in while depths are searched, and then `stop`.
+#[test]
+fn lines_are_heard_in_a_search(rt: HostRuntime) -> Result<(), Fail> {
+    let input =
+        "position startpos\ngo infinite\nisready\nstop\nposition startpos moves e2e4 e7e5 e4e5\nstatus\nquit\n";
+    let (ended, sink) = served(&rt, input.as_bytes(), PollsOwed::Number(2), &[], 3000)?;
+    assert!(rt; ended == Ok(Ended::Quit));
+    let text = sink.taken();
+    assert!(rt; text.starts_with(b"info depth 1 score cp "));
+    assert_eq!(rt; count(text, b"\nreadyok\n"), 1usize);
+    assert_eq!(rt; count(text, b"\nbestmove "), 1usize);
+    assert!(rt;
+        text.ends_with(
+            b"\ninfo string error PositionFault 2 BadMove 3 e4e5\nongoing\nrnbqkbnr/pppppppp/8/8/8/8/PPPPPPPP/RNBQKBNR w KQkq - 0 1\n"
+        )
+    );
+    Ok(())
+}
+
+// Each row: the calls of the source that fail, the room of the sink, how the session ends, and what was written.
+#[test]
+fn faults_end_a_session(rt: HostRuntime) -> Result<(), Fail> {
+    let rows: [(&[u64], usize, Result<Ended, SearchFault>, &str); 4] = [
+        (
+            &[],
+            100,
+            Ok(Ended::InputEnded),
+            "readyok\ninfo string no strategy\n",
+        ),
+        (&[0], 100, Err(SearchFault::ReadFault), ""),
+        (&[1], 100, Err(SearchFault::ReadFault), "readyok\n"),
+        (&[], 11, Err(SearchFault::WriteFault), "readyok\ninf"),
+    ];
+    for (failing, room, end, text) in rows {
+        let (ended, sink) = served(&rt, b"isready\nstrategy", PollsOwed::Endless, failing, room)?;
+        assert!(rt; ended == end, "{text}");
+        assert_eq!(rt; sink.taken(), text.as_bytes());
+    }
+    Ok(())
+}
+
+#[test]
+fn a_line_that_is_too_long_is_answered(rt: HostRuntime) -> Result<(), Fail> {
+    let mut input = Vec::new(rt.alloc());
+    for _ in 0..MAX_LINE + 1 {
+        input.push(b' ')?;
+    }
+    input.extend_from_slice(b"\nisready\n")?;
+    let (ended, sink) = served(&rt, input.as_slice(), PollsOwed::Endless, &[], 100)?;
+    assert!(rt; ended == Ok(Ended::InputEnded));
+    assert_eq!(rt;
+        sink.taken(),
+        b"info string error LineFault 1 TooLong\nreadyok\n".as_slice()
+    );
+    Ok(())
+}
