@@ -1,3 +1,4 @@
+//! Tests of `attack_tables`.
 ghost use Rattle.std.specs.Prelude.{◌≤◌, ◌<◌};
 ghost use Rattle.rules_model.specs.Fit.{IsFit};
 

@@ -1,3 +1,4 @@
+//! Tests of `end_rules`.
 use end_rules::{early_end, no_move};
 use rules_model::{Cause, Outcome, Position, Region, Rules, Side, Value};
 use sample_rules::{chess, kind, position, square};

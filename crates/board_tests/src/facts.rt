@@ -1,3 +1,4 @@
+//! Tests of `forced_wins`.
 use forced_wins::{Fact, is_falling};
 use rules_model::{Repeat, Side};
 

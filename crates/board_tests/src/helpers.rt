@@ -5,6 +5,7 @@ use rules_model::{Kind, Move, Placed, Promo};
 use sample_rules::{kind, square};
 use square_set::{EMPTY, Set};
 
+/// The set of the squares of these names.
 pub(crate) fn set_of(squares: &[&str]) -> Set {
     let mut set = EMPTY;
     for text in squares {
@@ -13,6 +14,7 @@ pub(crate) fn set_of(squares: &[&str]) -> Set {
     set
 }
 
+/// The move from one square to the other, with its promotion and the piece from the hand that it leaves on its start.
 pub(crate) fn go(from: &str, to: &str, promo: Promo, gate: Option<Kind>) -> Move
     requires promo { IsFitPromo promo }
     requires gate { IsFitGate gate }

@@ -1,3 +1,4 @@
+//! Tests of `position_key`.
 ghost use Rattle.rules_model.specs.Fit.{IsFit};
 ghost use Rattle.rules_model.specs.Moves.{IsFitMove};
 

@@ -1,3 +1,4 @@
+//! Tests of `move_tables`.
 use crate::helpers::set_of;
 use foundation::Memory;
 use move_tables::{Jump, Line, Mode, MoveTables, Passage};

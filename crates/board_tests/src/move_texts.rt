@@ -1,3 +1,4 @@
+//! Tests of `move_text`.
 use move_text::{move_key, write_move};
 use rules_model::{Kind, Move, Placed, Promo, Square};
 

@@ -1,3 +1,4 @@
+//! Tests of `move_names`.
 use move_names::read_move;
 use move_text::write_move;
 use rules_model::{Move, Promo};

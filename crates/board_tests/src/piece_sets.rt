@@ -1,3 +1,4 @@
+//! Tests of `board_sets`.
 ghost use Rattle.std.specs.Prelude.{◌≤◌, ◌<◌};
 ghost use Rattle.rules_model.specs.Moves.{IsFitMove};
 
@@ -19,7 +20,8 @@ fn drop_of(letter: u8, to: &str) -> Move
     }
 }
 
-/// White's pieces, Black's and White's kings are these after the move, where d6 is the en passant square. Black's king is on d8.
+/// White's pieces, Black's and White's kings are these after the move, where d6 is the en passant square. Black's king
+/// is on d8.
 fn leads_to<R: Abort>(
     rt: &R,
     pieces: &str,

@@ -1,3 +1,4 @@
+//! Tests of what a piece reaches by `rules_model`'s plain program.
 use rules_model::{Board, Cell, Kind, SQUARES, Side, Square, Term, Way, reaches_plain};
 
 const EMPTY: [Option<Cell>; SQUARES] = [None; SQUARES];

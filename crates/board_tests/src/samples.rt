@@ -1,3 +1,4 @@
+//! Tests of `sample_rules`, and of `rules_model` by its variants.
 ghost use Rattle.rules_model.specs.Fit.{IsFit};
 
 use rules_model::attacks::{flies_to, pawn_could_take};

@@ -1,3 +1,4 @@
+//! Tests of `move_sink`.
 use foundation::Memory;
 use move_sink::MoveSink;
 use rules_model::{Kind, Move, MoveList, Square};

@@ -1,3 +1,4 @@
+//! Tests of `square_set`.
 use square_set::{BOARD, EMPTY, Set, Shift};
 
 fn set_of(squares: &[u8]) -> Set {

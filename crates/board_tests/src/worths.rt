@@ -1,3 +1,4 @@
+//! Tests of `evaluation`.
 ghost use Rattle.std.specs.Prelude.{◌<◌};
 ghost use Rattle.rules_model.specs.Fit.{IsFit};
 ghost use Rattle.rules_model.specs.Moves.{IsFitMove};

@@ -1,3 +1,4 @@
+//! Tests of `cert_text`.
 use crate::helpers::game;
 use cert_text::{CertFault, read_cert, write_cert};
 use game_play::Game;

@@ -1,3 +1,4 @@
+//! Tests of `game_line`.
 use crate::helpers::{KINGS, QUEEN, ROUND, at_count, game, go};
 use game_line::Line;
 use rules_model::{Cause, Outcome, Side};

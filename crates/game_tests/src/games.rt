@@ -1,3 +1,4 @@
+//! Tests of `game_play`.
 use crate::helpers::{KINGS, QUEEN, ROUND, at_count, game, go};
 use game_play::{Game, NothingPlayed, PlayFault};
 use rules_model::{Blocked, Cause, Outcome, Position, Side, repeat_of};

@@ -49,7 +49,7 @@ pub fn go(text: &str) -> Move {
     }
 }
 
-/// Plays the moves of the text.
+/// Plays the moves of the text, which are separated by single spaces, and asserts that each is legal.
 pub fn play_all(rt: &impl Abort, game: &mut Game, moves: &str) {
     for text in moves.split(' ') {
         if !text.is_empty() {
@@ -58,7 +58,7 @@ pub fn play_all(rt: &impl Abort, game: &mut Game, moves: &str) {
     }
 }
 
-/// The game of the moves from the position, by the rules.
+/// The game of the moves from the position, by the rules. Asserts that the position is sound and each move legal.
 pub fn game<R: Abort>(
     rt: &R,
     alloc: Global,
@@ -74,7 +74,7 @@ pub fn game<R: Abort>(
     Ok(game)
 }
 
-/// The pieces after so many moves of one side without a capture or a pawn's move.
+/// The pieces, White to move, after `counter` plies without a capture or a pawn's move.
 pub fn at_count(pieces: &str, counter: u16) -> Position {
     Position {
         counter,

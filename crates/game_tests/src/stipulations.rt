@@ -1,3 +1,4 @@
+//! Tests of `stipulation`.
 ghost use Rattle.rules_model.specs.Fit.{IsFit};
 
 use crate::helpers::{game, go};

@@ -1,3 +1,4 @@
+//! Tests of `strategy`.
 use crate::helpers::ROOK_MATE;
 use sample_rules::chess;
 use std::test::Fail;

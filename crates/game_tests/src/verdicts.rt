@@ -1,3 +1,4 @@
+//! Tests of `strategy_check`.
 use crate::helpers::{ROOK_MATE, game};
 use game_play::Game;
 use rules_model::{Position, Side};

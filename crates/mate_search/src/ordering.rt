@@ -36,7 +36,8 @@ fn slot_of(m: &Move) -> Slot {
     }
 }
 
-/// The legal moves, each once, the one that is hinted first, and then those first that are likely to decide within n moves.
+/// The legal moves, each once: the hinted one first, if there is a hint, and then those that are likely to decide
+/// within n moves; or `Memory`.
 pub(crate) fn hinted_moves(
     alloc: Global,
     board: &Board,

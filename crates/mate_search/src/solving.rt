@@ -29,8 +29,13 @@ pub(crate) fn room_for(n: u16) -> usize {
     }
 }
 
-/// What the game comes to within n moves of the side that attacks in the frame of the shards, which are told: the fact on the
-/// root and, where it is won, the wins that are kept.
+/// What the game comes to within n moves of the side that attacks in the frame of the shards, n from 1 to 100. The
+/// shards are told the fact on the root and, where it is won, the wins that the table of facts keeps. A move may be
+/// named that is tried first.
+///
+/// # Errors
+///
+/// What ends the watch; or `Memory`. The passes are handed back then too.
 pub(crate) fn conclude<R: Wait, W: Watch>(
     rt: &R,
     alloc: Global,
@@ -65,7 +70,12 @@ pub(crate) fn conclude<R: Wait, W: Watch>(
     show(alloc, game, &board, n, facts, watch)
 }
 
-/// The same by one worker, with a table of its own. What the shards know of the root serves it.
+/// As `conclude`, with a table of facts of its own. Where the shards know that the root is not won, nothing is
+/// searched.
+///
+/// # Errors
+///
+/// As of `conclude`.
 pub(crate) fn settle_alone<R: Wait, W: Watch>(
     rt: &R,
     alloc: Global,

@@ -6,7 +6,7 @@ ghost use Rattle.watching.specs.declared.halt.Halt.TheVariants as halt;
 
 use watching::{Halt, Watch};
 
-/// Only want of memory ends the worker.
+/// Only running out of memory ends the worker.
 #[derive(Drop)]
 pub(crate) struct Unwatched;
 

@@ -19,8 +19,8 @@ pub struct Choice {
     pub moves: u16,
 }
 
-/// A legal move of the attacker, who is to move, that wins with fewer than n moves more: the first such of the given legal
-/// moves, which are all of them, each once. None exactly where there is none.
+/// A legal move of the attacker, who is to move, that wins with fewer than n moves more, n from 1 to 1,000: the first
+/// such of the given moves, which are all legal ones, each once. None exactly where there is none.
 ///
 /// # Errors
 ///
@@ -58,8 +58,8 @@ pub fn choose<W: Watch>(
     Ok(None)
 }
 
-/// Whether each legal move of the other side, which is to move, leaves the position won within n moves. They are tried as
-/// they are given, all of them, each once.
+/// Whether each legal move of the other side, which is to move, leaves the position won within n moves, n up to 1,000.
+/// The given moves are all legal ones, each once; the first that does not ends the search.
 ///
 /// # Errors
 ///

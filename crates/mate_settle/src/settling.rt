@@ -36,8 +36,8 @@ fn legal_list(alloc: Global, board: &Board) -> Result<MoveList, Memory>
     Ok(moves)
 }
 
-/// The legal moves in the order in which they are tried, those first that are likely to decide, where the attacker has this
-/// many moves left. Those of his last move come as they are made.
+/// The legal moves, each once, in the order in which they are tried where the attacker has n moves left: those first
+/// that are likely to decide. For his last move they are not ordered.
 ///
 /// # Errors
 ///

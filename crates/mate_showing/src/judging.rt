@@ -15,7 +15,7 @@ use rules_model::{Memory, Position, Side, repeat_of, repeats};
 use std::alloc::{AllocError, Global};
 use strategy::{Counters, Node, Nodes, Strategy};
 
-/// The strategy of these nodes.
+/// The answer that the game is won, by the strategy of these nodes.
 pub(crate) fn shown(attacker: Side, nodes: Vec<Node>) -> Settled
     ensures { result ≡ Said.Shown (record { attacker = attacker; nodes = nodes.items }) }
 {

@@ -1,5 +1,6 @@
 //! The nodes of a strategy in the making.
-ghost use Rattle.std.specs.Prelude.{◌≡◌, ◌-◌, ◌≤◌, ◌<◌, ◌++◌, ◌∷◌, [], ℕ, true, false, None, Some, IfOk, OnOk, OnErr, IfSome, length, slice_get, slice_set, min};
+ghost use Rattle.std.specs.Prelude.{◌≡◌, ◌-◌, ◌≤◌, ◌<◌, ◌++◌, ◌∷◌, [], ℕ, true, false, None, Some};
+ghost use Rattle.std.specs.Prelude.{IfOk, OnOk, OnErr, IfSome, length, slice_get, slice_set, min};
 ghost use Rattle.mate_showing.specs.Tables as Tables;
 ghost use Rattle.mate_showing.specs.Tabled as Tabled;
 ghost use Rattle.mate_settle.specs.Lines.{plies, seen_in};

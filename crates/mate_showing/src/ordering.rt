@@ -1,4 +1,4 @@
-//! In which order the moves of a position are tried: one that is named first.
+//! In which order the moves of a position are tried: a move that is named comes first.
 ghost use Rattle.std.specs.Prelude.{◌≡◌, List, IfOk, OnOk};
 ghost use Rattle.foundation.specs.Member.{Lists, Member};
 ghost use Rattle.playing.specs.Stance.{legal_in};
@@ -9,7 +9,7 @@ use playing::Board;
 use rules_model::{Memory, Move};
 use std::alloc::Global;
 
-/// The legal moves in the order of the list.
+/// The legal moves in the order of the definition; or `Memory`.
 pub(crate) fn legal_list(alloc: Global, board: &Board) -> Result<Vec<Move>, Memory>
     ensures { IfOk result (λ ms. ms.items ≡ legal_in board.now) }
 {
@@ -17,7 +17,8 @@ pub(crate) fn legal_list(alloc: Global, board: &Board) -> Result<Vec<Move>, Memo
     Ok(moves.items)
 }
 
-/// Puts the move at a place first, if there is one. The others stay in their order.
+/// Puts the move at the place first; the others stay in their order. With no place, or one past the end, nothing
+/// changes.
 ///
 /// # Errors
 ///
@@ -37,8 +38,8 @@ pub fn to_front(moves: &mut Vec<Move>, place: Option<usize>) -> Result<(), Memor
     Ok(())
 }
 
-/// The legal moves, each once, this one first if it is among them, and then those first that are likely to decide within n
-/// moves.
+/// The legal moves, each once: the named one first, if it is among them, and then those that are likely to decide
+/// within n moves; or `Memory`.
 pub(crate) fn moves_from(
     alloc: Global,
     board: &Board,

@@ -6,8 +6,9 @@ ghost use Rattle.mate_settle.specs.Lines.{plies, seen_in};
 use mate_core::Frame;
 use rules_model::Position;
 
-/// The root, the number of the attacker's moves within which it is won, and whether each counter has a node of its own.
-/// If not, the counter of a node is what is left of `room` after its plies, or the highest that there is.
+/// The root, the number `whole` of the attacker's moves within which it is won, and whether each counter has a node of
+/// its own, `exact`. If not, the counter of a node is what is left of `room` after its plies, or the highest that there
+/// is.
 #[derive(Clone, Copy)]
 pub(crate) struct Plan {
     pub root: Position,

@@ -109,8 +109,8 @@ fn tabulate<W: Watch>(
     Ok(table.into_nodes())
 }
 
-/// The strategy of a root that is won where positions are looked at without their history, or what keeps it from being
-/// shown. The board is that of the last position.
+/// The strategy of a root that is won within n moves, n from 1 to 100, where positions are looked at without their
+/// history, or what keeps it from being shown. The board is that of the last position.
 ///
 /// # Errors
 ///

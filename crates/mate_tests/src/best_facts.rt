@@ -1,3 +1,4 @@
+//! Tests of `mate_core`.
 use forced_wins::Fact;
 use mate_core::{
     Event, FactList, FactLists, Frame, KnownList, Reply, Store, best, hash_of, is_as_good, serves,

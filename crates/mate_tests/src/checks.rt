@@ -1,3 +1,4 @@
+//! Tests of `check_moves`.
 ghost use Rattle.foundation.specs.Member.{Member};
 ghost use Rattle.rules_model.specs.Fit.{IsFit};
 ghost use Rattle.playing.specs.Stance as Stance;

@@ -1,3 +1,4 @@
+//! Tests of `mate_fact`.
 use crate::helpers::frame_of;
 use attack_tables::Tables;
 use mate_fact::{refuted_now, won_by, won_now};

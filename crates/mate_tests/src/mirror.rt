@@ -1,5 +1,5 @@
-//! A tree that is kept beside the one that is tested: each node has its position, and the numbers of all nodes are worked
-//! out anew from their definition each time.
+//! A tree that is kept beside the one that is tested: each node has its position, and the numbers of all nodes are
+//! worked out anew from their definition each time.
 use attack_tables::Tables;
 use foundation::Memory;
 use playing::Board;
@@ -114,7 +114,8 @@ impl Mirror {
         })
     }
 
-    /// The numbers of all nodes: those of a node's children come after it, so the last node is the first that is worked out.
+    /// The numbers of all nodes: those of a node's children come after it, so the last node is the first that is
+    /// worked out.
     pub fn numbers(&self, alloc: Global) -> Result<Vec<Numbers>, Memory> {
         let mut numbers = vec![in alloc; (1u32, 1u32); self.nodes.len()]?;
         for back in 0..self.nodes.len() {

@@ -1,3 +1,4 @@
+//! Tests of `mate_settle`.
 ghost use Rattle.std.specs.Prelude.{◌≡◌, true};
 ghost use Rattle.rules_model.specs.Fit.{IsFit};
 

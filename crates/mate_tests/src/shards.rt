@@ -1,3 +1,4 @@
+//! Tests of `mate_shards`.
 ghost use Rattle.std.specs.Prelude.{◌≡◌, ◌≤◌, false, IfOk};
 ghost use Rattle.fact_lock.specs.Passes.{all_parts};
 ghost use Rattle.mate_shards.specs.Grown.{HaveParts};
@@ -228,7 +229,8 @@ fn publish_in_four<R: Threads + Wait + Sync>(
     Ok(joined(shards, front, back))
 }
 
-// A thread shares half of its facts with the one before it and half with the one after it, and each fact is stored for one.
+// A thread shares half of its facts with the one before it and half with the one after it, and each fact is stored for
+// one.
 #[test]
 fn four_threads_store_each_fact_once(rt: HostRuntime) -> Result<(), Fail> {
     let (shards, passes) = drawn_shards(rt.alloc(), Vec::new(rt.alloc()), 16, 4096)?;

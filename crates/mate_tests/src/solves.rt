@@ -1,3 +1,4 @@
+//! Tests of `mate_search`.
 ghost use Rattle.std.specs.Prelude.{◌≡◌, ◌<◌, ◌≤◌, IfOk};
 ghost use Rattle.mate_search.specs.Solves.{IsFrameFor};
 ghost use Rattle.mate_shards.specs.Grown.{HaveParts};
@@ -60,7 +61,7 @@ fn shards_for(alloc: Global, game: &Game, attacker: Side) -> Result<(Shards, Pas
     Ok((shards, passes))
 }
 
-/// What is solved, beside the game and the shards: by so many workers, each word of the hints being this one.
+/// What is asked of a solve besides its game and its shards. Every word of the hints is `hint`.
 #[derive(Clone, Copy)]
 struct Run<'l> {
     n: u16,
@@ -176,8 +177,8 @@ fn goes(from: &str, to: &str) -> Move {
     }
 }
 
-/// A game of chess by its start and its moves, the side that attacks in it, the number of moves within which it is asked
-/// about at last, and the answer then. Within fewer it is not won.
+/// A game of chess by its start and its moves, the side that attacks in it, the number of moves within which it is
+/// asked about at last, and the answer then. Within fewer it is not won.
 #[derive(Clone, Copy)]
 struct Row {
     pieces: &'static str,
@@ -246,7 +247,7 @@ fn answers<R: Threads + Wait + Sync>(
     Ok([alone, by_one, by_four])
 }
 
-/// Plays the row's game, and wants its answers.
+/// Asserts that the row's game has no mate within fewer moves than its least number, and the row's end within that.
 fn expect<R: Threads + Wait + Abort + Sync>(rt: &R, alloc: Global, row: &Row) -> Result<(), Fail> {
     let rules = chess();
     let p = Position {
@@ -269,7 +270,7 @@ fn expect<R: Threads + Wait + Abort + Sync>(rt: &R, alloc: Global, row: &Row) ->
     Ok(())
 }
 
-/// The king goes to and fro, and twice each position stood.
+/// Both kings go to and fro, until each position has stood twice.
 const TWICE: &[(&str, &str)] = &[
     ("h8", "g8"),
     ("g6", "f6"),
@@ -280,9 +281,10 @@ const TWICE: &[(&str, &str)] = &[
     ("g8", "h8"),
 ];
 
-// A mate in one, two problems of two moves, a stalemate and a mated side. Then the limit of the counter: at 99 the move that
-// mates stands, and at 100 the game is drawn; two rooks mate by their third ply, before the counter is 100 or after. Then king
-// and rook: a mate in two, the same where its only key would be a third repetition, and the other side against a mate in one.
+// A mate in one, two problems of two moves, a stalemate and a mated side. Then the limit of the counter: at 99 the
+// move that mates stands, and at 100 the game is drawn; two rooks mate by their third ply, before the counter is 100
+// or after. Then king and rook: a mate in two, the same where its only key would be a third repetition, and the other
+// side against a mate in one.
 #[test]
 fn least_numbers_of_moves(rt: HostRuntime) -> Result<(), Fail> {
     for row in [
@@ -325,8 +327,8 @@ fn least_numbers_of_moves(rt: HostRuntime) -> Result<(), Fail> {
     Ok(())
 }
 
-// A solve within 8 moves of a king and a rook lasts much longer than the 1,025 nodes of the first worker that the last row
-// needs.
+// A solve within 8 moves of a king and a rook lasts much longer than the 1,025 nodes of the first worker that the last
+// row needs.
 #[test]
 fn what_cuts_a_solve(rt: HostRuntime) -> Result<(), Fail> {
     let p = position("Ke3 Ra1 kd5");

@@ -1,3 +1,4 @@
+//! Tests of `pn_search`.
 ghost use Rattle.std.specs.Prelude.{◌≡◌, true, None};
 ghost use Rattle.rules_model.specs.Sound.{is_sound};
 ghost use Rattle.pn_search.specs.Trees as Trees;

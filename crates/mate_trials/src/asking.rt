@@ -19,7 +19,7 @@ use std::thread::Threads;
 #[derive(Clone, Copy)]
 pub enum Call {
     Settle,
-    /// By so many workers, where each word of the hints is this one.
+    /// By this number of workers, where each word of the hints is `hint`.
     Solve { workers: u32, hint: u64 },
 }
 
@@ -50,6 +50,7 @@ fn said_by_solve(answer: Result<Mate, SearchFault>) -> Result<Said, Memory> {
     }
 }
 
+/// What `settle` says, and the passes again.
 fn by_settle<R: Wait>(
     rt: &R,
     alloc: Global,
@@ -72,6 +73,7 @@ fn by_settle<R: Wait>(
     Ok((passes, said))
 }
 
+/// What `solve` says by this number of workers over ports that stop nothing, and the passes again.
 fn by_solve<R: Threads + Wait + Sync>(
     rt: &R,
     alloc: Global,
@@ -115,7 +117,8 @@ fn by_solve<R: Threads + Wait + Sync>(
     Ok((passes, said))
 }
 
-/// What the call says of a win of the game by the side within n of its moves.
+/// What the call says of a win of the game by the side within `n` of its moves, and the passes again. A solve has at
+/// least 1 worker and at most 64.
 pub fn ask<R: Threads + Wait + Sync>(
     rt: &R,
     alloc: Global,

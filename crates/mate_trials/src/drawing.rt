@@ -13,10 +13,10 @@ use rules_model::{Cell, Kind, Outcome, Position, Rules, Side, Square, sound};
 use sample_rules::{empty, kind};
 use std::alloc::Global;
 
-/// So often a position is drawn at most, until one is sound.
+/// How often a position is drawn at most, until one is sound.
 const TRIES: u32 = 1000;
 
-/// At most so many moves less one are played before the game is asked about.
+/// Fewer moves than this are played before the game is asked about.
 const PLIES: u8 = 4;
 
 /// A number below the bound.
@@ -47,6 +47,7 @@ fn any_kind(letters: &[u8], generator: &mut Pcg32) -> Option<Kind>
     Some(kind(letter.min(b'z')))
 }
 
+/// A square of the board of the rules.
 fn any_square(rules: &Rules, generator: &mut Pcg32) -> Square
     requires { IsFit rules.now }
     ensures { result.0 < 120 }

@@ -1,5 +1,6 @@
-//! Asks of small random games whether a side wins by force: the definition, worked out along every line, and the solver, by
-//! each of its calls. Prints how many games each of them calls won within 1, 2 and 3 moves, and how often they differ.
+//! Asks of small random games whether a side wins by force: the definition, worked out along every line, and the
+//! solver, by each of its calls. Prints how many games each of them calls won within 1, 2 and 3 moves, and how often
+//! they differ.
 #![tactic(auto)]
 
 ghost use Rattle.variant_rules.specs.Playable.{IsPlayable};
@@ -26,7 +27,7 @@ use tally::Tally;
 use trial::{by_definition, by_solver, least, leaves_open};
 use variant_rules::{Found, Variants, builtin, load};
 
-/// So many games are tried of each family.
+/// How many games are tried of each family.
 const GAMES: u64 = 20;
 
 /// What came of the games of a family: by the definition, by each call, and how many answers of the calls differ.
@@ -37,6 +38,8 @@ struct Report {
     differences: u32,
 }
 
+/// The variants that are built in, and those of the families. The text of the families has no fault, so that only
+/// memory can lack.
 fn variants(alloc: Global) -> Result<Variants, Memory> {
     let mut sections = builtin(alloc)?;
     match sections.add(VARIANTS) {
@@ -45,8 +48,8 @@ fn variants(alloc: Global) -> Result<Variants, Memory> {
     }
 }
 
-/// The calls that are asked about the game of this number. The words of their hints are none, or such as may be taken for
-/// hints.
+/// The calls that are asked about the game of this number. Every word of their hints is 0, which is no hint, or one
+/// that may be taken for a hint.
 fn calls(number: u64) -> [Call; 3] {
     let hint = match number % 3 {
         0 => 0,
@@ -88,6 +91,7 @@ fn try_game<R: Threads + Wait + Sync>(
     Ok(())
 }
 
+/// Tries the games of a family, and reports on them.
 fn try_family<R: Threads + Wait + Sync>(
     rt: &R,
     alloc: Global,

@@ -1,4 +1,5 @@
-//! Whether a game is won by force, by going along all its lines: the definition, with no table, no order and no shortcut.
+//! Whether a game is won by force, by going along all its lines: the definition, with no table, no order and no
+//! shortcut.
 ghost use Rattle.std.specs.Prelude.{◌≡◌, ◌-◌, ◌<◌, true, length, IfOk, OnOk, if◌then◌else◌};
 ghost use Rattle.forced_wins.specs.Wins.{wins};
 ghost use Rattle.game_play.specs.Played.{legal_in, longer, shorter, story};

@@ -16,7 +16,7 @@ impl Tally {
         }
     }
 
-    /// Counts a game that is won within so many moves, and not within fewer; or one that is not won.
+    /// Counts a game that is won within `least` moves and not within fewer, or one that is not won within 3.
     pub fn count(&mut self, least: Option<u16>) {
         let place = match least {
             Some(n) => usize::from(n.saturating_sub(1)),

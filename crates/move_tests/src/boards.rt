@@ -1,3 +1,4 @@
+//! Tests of `playing`.
 use attack_tables::Tables;
 use foundation::Memory;
 use playing::Board;

@@ -1,3 +1,4 @@
+//! Tests of `legality`.
 ghost use Rattle.rules_model.specs.Fit.{IsFit};
 ghost use Rattle.rules_model.specs.Ready.{IsReady};
 
@@ -175,8 +176,8 @@ fn kings_of_other_variants(rt: HostRuntime) -> Result<(), Fail> {
     have_moves(&rt, rt.alloc(), &xiangqi(), &row)
 }
 
-// En passant may not take both pawns from the rank of the king and a rook. It ends the check of the pawn that it takes, and
-// not that of a rook.
+// En passant may not take both pawns from the rank of the king and a rook. It ends the check of the pawn that it
+// takes, and not that of a rook.
 #[test]
 fn en_passant_keeps_the_king_safe(rt: HostRuntime) -> Result<(), Fail> {
     let rows = [

@@ -1,3 +1,4 @@
+//! Tests of `piece_moves`.
 ghost use Rattle.rules_model.specs.Fit.{IsFit};
 
 use crate::helpers::go;

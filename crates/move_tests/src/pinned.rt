@@ -1,3 +1,4 @@
+//! Tests of `pins`.
 ghost use Rattle.std.specs.Prelude.{◌<◌};
 ghost use Rattle.rules_model.specs.Fit.{IsFit};
 ghost use Rattle.square_set.specs.Members.{OnSquares};
@@ -62,7 +63,8 @@ fn expect_free(
     Ok(())
 }
 
-// A piece between a slider and the king is not free, of two both are, whoever's they are. In check none is. Each king counts.
+// A piece between a slider and the king is not free, of two both are, whoever's they are. In check none is. Each king
+// counts.
 #[test]
 fn sliders_pin(rt: HostRuntime) -> Result<(), Memory> {
     let rows = [
@@ -80,8 +82,8 @@ fn sliders_pin(rt: HostRuntime) -> Result<(), Memory> {
     expect_free(&rt, rt.alloc(), &chess(), &rows)
 }
 
-// Of a cannon's two screens neither is free, of three each is; without one any piece may come between. A piece that keeps a horse
-// from its leap is not free.
+// Of a cannon's two screens neither is free, of three each is; without one any piece may come between. A piece that
+// keeps a horse from its leap is not free.
 #[test]
 fn cannons_and_horses_pin(rt: HostRuntime) -> Result<(), Memory> {
     let rows = [
@@ -267,8 +269,8 @@ fn checks_are_met(rt: HostRuntime) -> Result<(), Memory> {
     expect_no_check(&rt, rt.alloc(), &chess(), &no_check)
 }
 
-// A cannon's screen leaves, or a piece comes between, or the cannon is taken. A horse is taken, or a piece keeps it from
-// its leap; one may keep two of them from theirs. The king that flies is not asked.
+// A cannon's screen leaves, or a piece comes between, or the cannon is taken. A horse is taken, or a piece keeps it
+// from its leap; one may keep two of them from theirs. The king that flies is not asked.
 #[test]
 fn cannons_and_horses_are_met(rt: HostRuntime) -> Result<(), Memory> {
     let rows = [

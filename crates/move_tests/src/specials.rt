@@ -1,3 +1,4 @@
+//! Tests of `special_moves`.
 ghost use Rattle.std.specs.Prelude.{◌≡◌};
 ghost use Rattle.rules_model.specs.Fit.{IsFit};
 
@@ -46,7 +47,8 @@ fn castle(to: &str, rook: &str, gate: Option<Placed>) -> Move {
     }
 }
 
-/// Asserts of White's pieces, with rights by wing, whether White castles short and long, and that no other move is given.
+/// Asserts of White's pieces, with rights by wing, whether White castles short and long, and that no other move is
+/// given.
 fn expect_castles(
     rt: &impl Abort,
     alloc: Global,
@@ -175,8 +177,8 @@ fn pawn_to(to: &str) -> Move {
     }
 }
 
-// Of an elephant: 3 moves of the knight, and a drop on each of the 61 empty squares; and with a hawk too, as many again.
-// A pawn is dropped on neither the first rank nor the last, and comes in by no gate.
+// Of an elephant: 3 moves of the knight, and a drop on each of the 61 empty squares; and with a hawk too, as many
+// again. A pawn is dropped on neither the first rank nor the last, and comes in by no gate.
 #[test]
 fn moves_from_the_hand_are_counted(rt: HostRuntime) -> Result<(), Memory> {
     expect_count(&rt, rt.alloc(), &with_gate(b"e"), 64)?;
@@ -208,8 +210,8 @@ fn pawns_are_dropped_between_the_last_ranks(rt: HostRuntime) -> Result<(), Memor
     Ok(())
 }
 
-/// Chess with drops where White's second rank and Black's take all that is dropped, and a side has one pawn on a file as
-/// in shogi.
+/// Chess with drops where White's second rank and Black's take all that is dropped, and a side has one pawn on a file
+/// as in shogi.
 fn second_ranks() -> Rules
     ensures { IsFit result }
 {

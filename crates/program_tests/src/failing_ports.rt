@@ -56,7 +56,8 @@ fn a_run_fails_with_its_source(rt: HostRuntime) -> Result<(), Fail> {
     )
 }
 
-/// Wants a run whose source or sink fails at each call in turn to end with its status and a front part of its own text.
+/// Asserts that a run whose source or sink fails at each call in turn ends with its status and a front part of its own
+/// text.
 fn is_cut_at_each<R: Abort + AllocGlobal + Threads + Wait + Sync>(
     rt: &R,
     words: &[&str],

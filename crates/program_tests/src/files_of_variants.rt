@@ -36,7 +36,7 @@ fn largest_file(alloc: Global) -> Result<Vec<u8>, Fail> {
     Ok(bytes)
 }
 
-/// Runs words over these files and a source that fails at its first call, and wants this status and this text.
+/// Runs words over these files and a source that fails at its first call, and asserts the status and the text.
 fn fails<R: Abort + AllocGlobal + Threads + Wait + Sync, F: Files>(
     rt: &R,
     files: &mut F,
@@ -106,8 +106,8 @@ fn files_that_fail_have_a_status(rt: HostRuntime) -> Result<(), Fail> {
     fails(&rt, &mut files, words, 6, b"error FileFault 3 Failed\n")
 }
 
-/// Wants a file of variants to be refused before each kind of command: the source, which fails at its first call, is not
-/// asked.
+/// Asserts that a file of variants is refused, with this text, before each kind of command: the source, which fails at
+/// its first call, is not asked.
 fn refuses_each<R: Abort + AllocGlobal + Threads + Wait + Sync>(
     rt: &R,
     files: &mut MemFiles,
@@ -153,6 +153,7 @@ const REFUSED: &str = "[chess]\n[orphan:nobody]\n[key:chess]\nblastOnCapture = t
     [pairs:chess]\npromotedPieceType = p:q\n[gates:chess]\nseirawanGating = true\n\
     [ranks:chess]\ngating = true\ncastlingRank = 2\n";
 
+/// The lines of `variants` on the sections of `REFUSED`.
 const JUDGED: &str = "chess SectionFault 1 DuplicateName\norphan SectionFault 2 UnknownParent\n\
     key SectionFault 4 UnsupportedOption blastOnCapture\nchild SectionFault 3 RefusedParent\n\
     value SectionFault 5 BadValue maxRank\n\
@@ -168,6 +169,7 @@ const PATHS: &str = "setoption name UCI_Variant value b\nposition startpos moves
     setoption name VariantPath value larger\nsetoption name VariantPath value refused\n\
     setoption name UCI_Variant value d\nstatus\nquit\n";
 
+/// What the session of `PATHS` answers.
 const KEPT: &str = "info string error OptionFault 2 UnknownVariant key\n\
     info string error OptionFault 2 UnknownVariant none\ninfo string error FileFault 2 TooLarge\n\
     info string error FileFault 3 Failed\n\

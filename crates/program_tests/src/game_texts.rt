@@ -138,7 +138,7 @@ fn game_texts_are_answered(rt: HostRuntime) -> Result<(), Fail> {
     Ok(())
 }
 
-/// Runs words over these files and this input, and wants a text with this line and this end.
+/// Runs words over these files and this input, and asserts that the text has this line and this end.
 fn lists<R: Abort + AllocGlobal + Threads + Wait + Sync, F: Files>(
     rt: &R,
     files: &mut F,
@@ -277,7 +277,8 @@ fn a_game_has_no_more_than_8192_plies(rt: HostRuntime) -> Result<(), Fail> {
     says(&rt, &mut files, &["status"], input.as_bytes(), 3, text)?;
     let input = format!(in alloc; "position startpos moves{moves}\nstatus\n")?;
     let text =
-        b"info string error PositionFault 3 TooManyMoves\nongoing\nrnbqkbnr/pppppppp/8/8/8/8/PPPPPPPP/RNBQKBNR w KQkq - 0 1\n";
+        b"info string error PositionFault 3 TooManyMoves\nongoing\n\
+            rnbqkbnr/pppppppp/8/8/8/8/PPPPPPPP/RNBQKBNR w KQkq - 0 1\n";
     says(&rt, &mut files, &["uci"], input.as_bytes(), 0, text)?;
     let moves = longest(alloc, "usermove ", "\n")?;
     let input = format!(in alloc; "force\n{moves}ping 1\n")?;

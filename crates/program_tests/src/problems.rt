@@ -10,6 +10,7 @@ const SUITE: &str = "chess 1 7k/8/5KQ1/8/8/8/8/8 w - - 0 1\nchess 2 7k/R7/5K2/8/
 /// A mate in two.
 const ROOK: &str = "chess\n7k/R7/5K2/8/8/8/8/8 w - - 0 1\n";
 
+/// The report on `SUITE`.
 const SOLVED: &str = "1 mate 1\n2 mate 2\n3 none\nsolved 2 of 3\n";
 
 /// The report does not depend on the number of threads.

@@ -45,7 +45,7 @@ pub fn ran_over<R: AllocGlobal + Threads + Wait + Sync, F: Files>(
     Ok((status, sink))
 }
 
-/// A run over these files: a source that fails at these calls, and a sink that has room for so many bytes.
+/// A run over these files: a source that fails at these calls, and a sink that has room for `room` bytes.
 pub fn ran<R: AllocGlobal + Threads + Wait + Sync, F: Files>(
     rt: &R,
     files: &mut F,
@@ -59,7 +59,8 @@ pub fn ran<R: AllocGlobal + Threads + Wait + Sync, F: Files>(
     ran_over(rt, files, words, source, sink)
 }
 
-/// Runs words over these files and this input, with a sink that has room for all, and wants this status and this text.
+/// Runs words over these files and this input, with a sink that has room for 1,000 bytes, and asserts the status and
+/// the text.
 pub fn answers<R: Abort + AllocGlobal + Threads + Wait + Sync, F: Files>(
     rt: &R,
     files: &mut F,
@@ -74,7 +75,7 @@ pub fn answers<R: Abort + AllocGlobal + Threads + Wait + Sync, F: Files>(
     Ok(())
 }
 
-/// Runs words over these files and this input, and wants this status and this text.
+/// The same with a sink that has room for every text.
 pub fn says<R: Abort + AllocGlobal + Threads + Wait + Sync, F: Files>(
     rt: &R,
     files: &mut F,
@@ -89,7 +90,8 @@ pub fn says<R: Abort + AllocGlobal + Threads + Wait + Sync, F: Files>(
     Ok(())
 }
 
-/// Runs words over a sink that has room for less than the text, for each number of bytes.
+/// Runs words over a sink with room for each number of bytes below that of the text, and asserts status 5, one fault,
+/// and the front part of the text that has room.
 pub fn is_cut<R: Abort + AllocGlobal + Threads + Wait + Sync, F: Files>(
     rt: &R,
     files: &mut F,
@@ -104,13 +106,15 @@ pub fn is_cut<R: Abort + AllocGlobal + Threads + Wait + Sync, F: Files>(
     Ok(())
 }
 
-/// Sections of which each has a parent, and a variant on a board of 5 by 5 squares.
+/// Sections of which each has a parent. The option of `d` is not supported, and `e` is its child.
 const SECTIONS: &str = "[a:chess]\nnMoveRule = 40\n[b:a]\ncastling = false\n\
     startFen = rnbqkbnr/pppppppp/8/8/8/8/PPPPPPPP/RNBQKBNR w - - 0 1\n\
     [c:b]\nnFoldRule = 2\n[d:chess]\nblastOnCapture = true\n[e:d]\n";
 
+/// A variant that may not castle, by the start of chess, whose king and rooks may.
 const UNSTARTED: &str = "[a:chess]\n[b:a]\ncastling = false\n";
 
+/// A variant of shogi on a board of 5 by 5 squares.
 const MINI: &str =
     "[mini]\nmaxRank = 5\nmaxFile = e\nking = k\nrook = r\nbishop = b\ngold = g\nsilver = s\n\
     shogiPawn = p\ndragon = d\ndragonHorse = h\npromotedPieceType = s:g r:d b:h p:g\npieceDrops = true\n\

@@ -5,15 +5,17 @@ use std::test::Fail;
 /// White to move: after the rook's check on e1 Black must take it, which mates.
 const FORCED: &str = "must\n4r3/8/8/6k1/8/8/7r/K2R4 w - - 0 1\n";
 
+/// The certificate of `FORCED`.
 const FORCED_SELFMATE: &str = "selfmate 1\n1 d1e1\n2 e8e1\nend\n";
 
 /// Black to move, who helps White to mate on the back rank.
 const HELPED: &str = "chess\n6k1/R7/6K1/8/8/8/8/8 b - - 0 1\n";
 
+/// The certificate of `HELPED`.
 const HELPMATE: &str = "helpmate 1\n1 g8h8\n2 a7a8\nend\n";
 
-/// A command of stipulations, the parts of its input, and its answer. In crazyhouse a rook is dropped, and in xiangqi the kings
-/// may not face each other.
+/// Each row: the words after `stipulate`, the game, its moves with the goal, the certificate, and the answer. In
+/// crazyhouse a rook is dropped, and in xiangqi the kings may not face each other.
 #[test]
 fn stipulations_are_answered(rt: HostRuntime) -> Result<(), Fail> {
     let rows: [(&[&str], &str, &str, &str, &str); 17] = [

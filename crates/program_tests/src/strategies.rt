@@ -32,14 +32,16 @@ node 3 0 R5k1/8/6K1/8/8/8/8/8 b - - 10 1
 end
 ";
 
-/// The game of that mate, and its goal.
+/// The game that `MATE` wins.
 const MATED: &str = "chess\n7k/R7/5K2/8/8/8/8/8 w - - 0 1\n";
 
+/// Line 3 without a move, and the goal of `MATE`.
 const IN_TWO: &str = "\nmate white 2\n";
 
-/// A game in which the position after the first move of the late mate stood twice.
+/// The start of a game after which the position that follows the first move of the late mate has stood twice.
 const REPEATED: &str = "chess\n7k/R7/6K1/8/8/8/8/8 b - - 0 1\n";
 
+/// The moves of that game, and its goal.
 const PLIES: &str = "h8g8 g6f6 g8h8 f6g6 h8g8 g6f6 g8h8\nmate white 2\n";
 
 /// The text with one part of it replaced.
@@ -51,7 +53,7 @@ fn replaced(alloc: Global, text: &str, right: &str, wrong: &str) -> Result<Strin
     Ok(whole)
 }
 
-/// A game, its moves and its goal, a strategy, and a part of it that is replaced.
+/// Each row: a game, its moves and its goal, a strategy, a part of it and what stands in its place, and the answer.
 #[test]
 fn strategies_are_checked(rt: HostRuntime) -> Result<(), Fail> {
     let rows = [
@@ -158,7 +160,7 @@ node 3 0 R5k1/8/6K1/8/8/8/8/8 b - - 3 1
 end
 ";
 
-/// A part of the proof text, and what is there in its place.
+/// Each row: a part of the proof text, what stands in its place, and the answer.
 #[test]
 fn proof_texts_are_checked(rt: HostRuntime) -> Result<(), Fail> {
     let rows = [

@@ -1,3 +1,4 @@
+//! Tests of `alpha_beta`.
 ghost use Rattle.std.specs.Prelude.{◌≡◌, ◌<◌, ◌≤◌};
 
 use alpha_beta::{Limits, SearchFault, Searched, Stopped, search};
@@ -136,7 +137,8 @@ fn answer_to<R: Threads + Abort + Sync, G: Gate + Sync>(
     Ok(told_of(&answer))
 }
 
-/// Asserts how the search of all legal moves by at most 64 workers ends, without its number of nodes, and what it writes.
+/// Asserts how the search of all legal moves by at most 64 workers ends, without its number of nodes, and what it
+/// writes.
 fn ends<R: Threads + Abort + Sync, G: Gate + Sync>(
     rt: &R,
     alloc: Global,
@@ -193,7 +195,7 @@ fn whole(depth: u8, workers: u32) -> Run<'static>
     }
 }
 
-// The most workers too, each with hints that mislead.
+// By one worker, by two and by the most; the latter two with hints that mislead.
 #[test]
 fn each_number_of_workers_finds_the_mate(rt: HostRuntime) -> Result<(), Fail> {
     let alloc = rt.alloc();
@@ -224,7 +226,8 @@ fn started(alloc: Global) -> Result<Game, Fail> {
     Ok(Game::new(alloc, &rules, &rules.start)?)
 }
 
-/// Asserts what the game is worth at the first three depths, where each search begins with hints that are all this word.
+/// Asserts what the game is worth at the first three depths, where each search begins with hints that are all this
+/// word.
 fn is_worth<R: Threads + Abort + Sync>(
     rt: &R,
     alloc: Global,
@@ -368,8 +371,8 @@ fn two_workers_run_beside_each_other(rt: HostRuntime) -> Result<(), Fail> {
     let game = started(alloc)?;
     let hints = HintTable::new(alloc, 4096)?;
     let gate = HoldingGate::new();
-    let (alone, _one) = value_and_nodes(&rt, alloc, &game, &hints, whole(3, 1), &OpenGate)?;
-    let (beside, _two) = value_and_nodes(&rt, alloc, &game, &hints, whole(3, 2), &gate)?;
+    let (alone, _nodes) = value_and_nodes(&rt, alloc, &game, &hints, whole(3, 1), &OpenGate)?;
+    let (beside, _nodes) = value_and_nodes(&rt, alloc, &game, &hints, whole(3, 2), &gate)?;
     assert!(rt; !gate.gave_up() && alone.is_some());
     assert_eq!(rt; alone, beside);
     Ok(())

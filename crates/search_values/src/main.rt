@@ -1,5 +1,5 @@
-//! Prints what games are worth to the side to move at depths 1 to 3, by one to four workers in turn. A line of the input is
-//! a game: the name of a variant that is built in, and the moves from its start.
+//! Prints what games are worth to the side to move at depths 1 to 3, by one to four workers in turn. A line of the
+//! input is a game: the name of a variant that is built in, and the moves from its start.
 #![tactic(auto)]
 
 ghost use Rattle.std.specs.Prelude.{◌≡◌, ◌<◌, ◌≤◌, true, [], length, IfOk, IfSome, IfNone};

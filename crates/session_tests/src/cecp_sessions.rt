@@ -1,3 +1,4 @@
+//! Tests of `cecp_front`.
 use cecp_front::{CecpSession, serve};
 use io_ports::{Dialect, ListClock, MemSink, MemSource, OpenGate, PollsOwed, Ports, SearchFault};
 use std::process::Abort;
@@ -66,7 +67,8 @@ fn lines_set_and_answer(rt: HostRuntime) -> Result<(), Fail> {
         ),
         (
             "setboard 8/8\nvariant shogi\nlevel 40 5 0.5\nquit\n",
-            "Error (illegal position): setboard 8/8\nError (unknown variant): variant shogi\nError (bad number): level 40 5 0.5\n",
+            "Error (illegal position): setboard 8/8\nError (unknown variant): variant shogi\n\
+                Error (bad number): level 40 5 0.5\n",
         ),
         (
             "force\nusermove f2f3\nusermove e7e5\nusermove g2g4\nusermove d8h4\nquit\n",
@@ -88,7 +90,8 @@ fn lines_set_and_answer(rt: HostRuntime) -> Result<(), Fail> {
 fn the_engine_moves(rt: HostRuntime) -> Result<(), Fail> {
     let rows = [
         (
-            "xboard\nprotover 2\nforce\nusermove e2e4\nusermove e7e4\nsetboard 7k/8/5KQ1/8/8/8/8/8 w - - 0 1\nsd 1\ngo\nquit\n",
+            "xboard\nprotover 2\nforce\nusermove e2e4\nusermove e7e4\nsetboard 7k/8/5KQ1/8/8/8/8/8 w - - 0 1\nsd 1\n\
+                go\nquit\n",
             "Illegal move: e7e4\nmove g6g7\n1-0 {White wins by checkmate}\n",
         ),
         (

@@ -1,3 +1,4 @@
+//! Tests of `cecp_lines`.
 use cecp_lines::{Command, Limit, depth_for, gives_up, read_line, time_for};
 use io_ports::Got;
 use std::test::Fail;

@@ -1,3 +1,4 @@
+//! Tests of `thinking`.
 ghost use Rattle.std.specs.Prelude.{◌≡◌, ◌≤◌, None};
 
 use crate::helpers::go;
@@ -353,8 +354,8 @@ fn tried<R: Threads + Wait + Abort + Sync>(
     Ok(answer_of(&tried))
 }
 
-// A solve within 1 move of the kings in the corners enters at most 8 times the 67 lines of at most 3 moves, so it polls once, and
-// the line that comes next stops the solve within 2.
+// A solve within 1 move of the kings in the corners enters at most 8 times the 67 lines of at most 3 moves, so it
+// polls once, and the line that comes next stops the solve within 2.
 #[test]
 fn mates_are_tried(rt: HostRuntime) -> Result<(), Fail> {
     let alloc = rt.alloc();

@@ -1,5 +1,5 @@
-//! Tests of the crates that lead sessions: how lines are read and waited for, one search and one solve, depths and mates
-//! that are told, and whole sessions in both dialects.
+//! Tests of the crates that lead sessions: how lines are read and waited for, one search and one solve, depths and
+//! mates that are told, and whole sessions in both dialects.
 #![tactic(auto)]
 
 #[cfg(test)]

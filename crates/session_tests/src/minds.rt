@@ -1,3 +1,4 @@
+//! Tests of `seeking`.
 use crate::helpers::go;
 use foundation::Memory;
 use game_play::Game;

@@ -1,3 +1,4 @@
+//! Tests of `turning`.
 use foundation::Memory;
 use io_ports::{Dialect, Got, LineBuf, MAX_LINE, MemSink, MemSource, PollsOwed, SearchFault};
 use std::process::Abort;

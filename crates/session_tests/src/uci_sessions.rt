@@ -1,3 +1,4 @@
+//! Tests of `uci_front`.
 use io_ports::{
     Dialect, ListClock, MAX_LINE, MemFiles, MemSink, MemSource, OpenGate, PollsOwed, Ports,
     SearchFault,
@@ -71,19 +72,29 @@ fn lines_set_and_answer(rt: HostRuntime) -> Result<(), Fail> {
     let rows = [
         (
             "uci\nquit\n",
-            "id name vengine\nid author vengine\noption name Threads type spin default 1 min 1 max 64\noption name Hash type spin default 16 min 1 max 1024\noption name MateFacts type spin default 4096 min 16 max 65536\noption name VariantPath type string default <empty>\noption name UCI_Variant type combo default chess var chess var crazyhouse var 3check var kingofthehill var antichess var extinction var losalamos var capablanca var seirawan var xiangqi\nuciok\n",
+            "id name vengine\nid author vengine\noption name Threads type spin default 1 min 1 max 64\n\
+                option name Hash type spin default 16 min 1 max 1024\n\
+                option name MateFacts type spin default 4096 min 16 max 65536\n\
+                option name VariantPath type string default <empty>\n\
+                option name UCI_Variant type combo default chess var chess var crazyhouse var 3check \
+                var kingofthehill var antichess var extinction var losalamos var capablanca var seirawan \
+                var xiangqi\n\
+                uciok\n",
         ),
         (
             "\nwhat is this\nnow isready\ndebug on\nregister later\nstop\nponderhit\nquit now\nuci\n",
             "readyok\n",
         ),
         (
-            "position fen k7/8/8/8/8/8/1q6/K7 w - - 0 1\nmoves\nstrategy\nposition startpos moves f2f3 e7e5 g2g4 d8h4\nstatus\nmoves\ngo depth 1\nquit\n",
-            "a1b2\nmoves 1\ninfo string no strategy\nwon black checkmate\nrnb1kbnr/pppp1ppp/8/4p3/6Pq/5P2/PPPPP2P/RNBQKBNR w KQkq - 1 3\nmoves 0\nbestmove (none)\n",
+            "position fen k7/8/8/8/8/8/1q6/K7 w - - 0 1\nmoves\nstrategy\n\
+                position startpos moves f2f3 e7e5 g2g4 d8h4\nstatus\nmoves\ngo depth 1\nquit\n",
+            "a1b2\nmoves 1\ninfo string no strategy\nwon black checkmate\n\
+                rnb1kbnr/pppp1ppp/8/4p3/6Pq/5P2/PPPPP2P/RNBQKBNR w KQkq - 1 3\nmoves 0\nbestmove (none)\n",
         ),
         (
             "go perft 2\nposition startpos moves e2e4\ngo perft 1\nucinewgame\nstatus\nquit\n",
-            "info string perft 2 400\ninfo string perft 1 20\nongoing\nrnbqkbnr/pppppppp/8/8/8/8/PPPPPPPP/RNBQKBNR w KQkq - 0 1\n",
+            "info string perft 2 400\ninfo string perft 1 20\nongoing\n\
+                rnbqkbnr/pppppppp/8/8/8/8/PPPPPPPP/RNBQKBNR w KQkq - 0 1\n",
         ),
     ];
     for (input, text) in rows {
@@ -97,12 +108,26 @@ fn lines_set_and_answer(rt: HostRuntime) -> Result<(), Fail> {
 fn lines_are_refused(rt: HostRuntime) -> Result<(), Fail> {
     let rows = [
         (
-            "position fen k7/8/8/8/8/8/1q6/K7 w - - 0 1\nposition startpos moves e2e4 e7e5 e4e5\nposition fen 8/8 w - - 0 1\nposition startpos moves e9\nposition\nstatus\nquit\n",
-            "info string error PositionFault 2 BadMove 3 e4e5\ninfo string error PositionFault 1 BadFen FenFault 2 Rank\ninfo string error PositionFault 2 BadMove 1 e9\ninfo string error PositionFault 4 NoPosition\nongoing\nk7/8/8/8/8/8/1q6/K7 w - - 0 1\n",
+            "position fen k7/8/8/8/8/8/1q6/K7 w - - 0 1\nposition startpos moves e2e4 e7e5 e4e5\n\
+                position fen 8/8 w - - 0 1\nposition startpos moves e9\nposition\nstatus\nquit\n",
+            "info string error PositionFault 2 BadMove 3 e4e5\n\
+                info string error PositionFault 1 BadFen FenFault 2 Rank\n\
+                info string error PositionFault 2 BadMove 1 e9\ninfo string error PositionFault 4 NoPosition\n\
+                ongoing\nk7/8/8/8/8/8/1q6/K7 w - - 0 1\n",
         ),
         (
-            "setoption name Hash value 0\nsetoption name threads value 65\nsetoption name MateFacts\nsetoption name Other value 1\nsetoption name UCI_Variant value shogi\nsetoption name VariantPath value gone.ini\nsetoption name VariantPath value bad.ini\nsetoption name VariantPath value own.ini\nsetoption name UCI_Variant value own\nsetoption name VariantPath value gone.ini\nstatus\nsetoption name VariantPath value <empty>\nsetoption name UCI_Variant value own\nstatus\nquit\n",
-            "info string error OptionFault 1 BadValue Hash\ninfo string error OptionFault 1 BadValue Threads\ninfo string error OptionFault 1 BadValue MateFacts\ninfo string error OptionFault 2 UnknownVariant shogi\ninfo string error FileFault 1 Missing\ninfo string error IniFault 4 NoSection 1\ninfo string error FileFault 1 Missing\nongoing\n7k/8/5KQ1/8/8/8/8/8 w - - 0 1\ninfo string error OptionFault 2 UnknownVariant own\nongoing\nrnbqkbnr/pppppppp/8/8/8/8/PPPPPPPP/RNBQKBNR w KQkq - 0 1\n",
+            "setoption name Hash value 0\nsetoption name threads value 65\nsetoption name MateFacts\n\
+                setoption name Other value 1\nsetoption name UCI_Variant value shogi\n\
+                setoption name VariantPath value gone.ini\nsetoption name VariantPath value bad.ini\n\
+                setoption name VariantPath value own.ini\nsetoption name UCI_Variant value own\n\
+                setoption name VariantPath value gone.ini\nstatus\nsetoption name VariantPath value <empty>\n\
+                setoption name UCI_Variant value own\nstatus\nquit\n",
+            "info string error OptionFault 1 BadValue Hash\ninfo string error OptionFault 1 BadValue Threads\n\
+                info string error OptionFault 1 BadValue MateFacts\n\
+                info string error OptionFault 2 UnknownVariant shogi\ninfo string error FileFault 1 Missing\n\
+                info string error IniFault 4 NoSection 1\ninfo string error FileFault 1 Missing\nongoing\n\
+                7k/8/5KQ1/8/8/8/8/8 w - - 0 1\ninfo string error OptionFault 2 UnknownVariant own\nongoing\n\
+                rnbqkbnr/pppppppp/8/8/8/8/PPPPPPPP/RNBQKBNR w KQkq - 0 1\n",
         ),
     ];
     for (input, text) in rows {
@@ -128,13 +153,15 @@ fn tells_no_mate<R: Abort + AllocGlobal + Threads + Wait + Sync>(
     Ok(())
 }
 
-// A mate that the counter would outrun but for the mate itself, one of two moves, a side that is mated, and a mate that a
-// third repetition forbids; the search of depth 1 comes then. No node allows no proof, but a fact that is kept answers.
+// A mate that the counter would outrun but for the mate itself, one of two moves, a side that is mated, and a mate
+// that a third repetition forbids; the search of depth 1 comes then. With `nodes 0` nothing is searched, but a fact
+// that was kept answers.
 #[test]
 fn mates_are_found(rt: HostRuntime) -> Result<(), Fail> {
     let rows = [
         (
-            "position fen 7k/8/5KQ1/8/8/8/8/8 w - - 99 80\ngo mate 1\nsetoption name Threads value 4\ngo mate 2\nquit\n",
+            "position fen 7k/8/5KQ1/8/8/8/8/8 w - - 99 80\ngo mate 1\nsetoption name Threads value 4\ngo mate 2\n\
+                quit\n",
             "info depth 1 score mate 1 pv g6g7\nbestmove g6g7\ninfo depth 1 score mate 1 pv g6g7\nbestmove g6g7\n",
         ),
         (
@@ -143,7 +170,8 @@ fn mates_are_found(rt: HostRuntime) -> Result<(), Fail> {
         ),
         (
             "position fen 7k/R7/6K1/8/8/8/8/8 b - - 1 1\ngo depth 3\nquit\n",
-            "info depth 1 score cp -504 pv h8g8\ninfo depth 2 score mate -1 pv h8g8\ninfo depth 3 score mate -1 pv h8g8\nbestmove h8g8\n",
+            "info depth 1 score cp -504 pv h8g8\ninfo depth 2 score mate -1 pv h8g8\n\
+                info depth 3 score mate -1 pv h8g8\nbestmove h8g8\n",
         ),
         (
             "position fen 7k/R7/5K2/8/8/8/8/8 w - - 0 1\ngo mate 1 nodes 0\nquit\n",
@@ -201,7 +229,8 @@ fn lines_are_heard_in_a_search(rt: HostRuntime) -> Result<(), Fail> {
     assert_eq!(rt; count(text, b"\nbestmove "), 1usize);
     assert!(rt;
         text.ends_with(
-            b"\ninfo string error PositionFault 2 BadMove 3 e4e5\nongoing\nrnbqkbnr/pppppppp/8/8/8/8/PPPPPPPP/RNBQKBNR w KQkq - 0 1\n"
+            b"\ninfo string error PositionFault 2 BadMove 3 e4e5\nongoing\n\
+                rnbqkbnr/pppppppp/8/8/8/8/PPPPPPPP/RNBQKBNR w KQkq - 0 1\n"
         )
     );
     Ok(())

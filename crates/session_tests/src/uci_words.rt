@@ -1,3 +1,4 @@
+//! Tests of `uci_lines`.
 use crate::helpers::go;
 use foundation::Text;
 use io_ports::Got;

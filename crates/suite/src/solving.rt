@@ -122,7 +122,7 @@ fn complete<R: Wait, G: Gate>(
 ///
 /// The first worker runs in the caller and the others beside it. Each takes the next problem that nobody has taken, and
 /// passes the gate with its own number and the problem's before it. So the answers are the same for every number of
-/// workers. A problem that no worker solved, for want of memory, is solved by the caller in the end.
+/// workers. A problem that no worker solved, since memory ran out, is solved by the caller in the end.
 ///
 /// # Errors
 ///

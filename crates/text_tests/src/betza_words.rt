@@ -1,3 +1,4 @@
+//! Tests of `betza_text`.
 use betza_text::{HopKind, parse, part_steps};
 use std::alloc::Global;
 use std::test::Fail;

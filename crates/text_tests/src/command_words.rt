@@ -1,3 +1,4 @@
+//! Tests of `words`.
 use std::alloc::Global;
 use std::test::Fail;
 use words::{Asked, Command, read_words};

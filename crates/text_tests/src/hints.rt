@@ -1,3 +1,4 @@
+//! Tests of `hint_table`.
 use foundation::Memory;
 use hint_table::{Hint, HintTable};
 use std::process::Abort;

@@ -1,3 +1,4 @@
+//! Tests of `fact_lock`.
 ghost use Rattle.std.specs.Prelude.{◌≡◌, ◌+◌, ◌^◌, ◌<◌, ◌≤◌, length, vec_len, vec_capacity, nat_lt, if◌then◌else◌, Some, None};
 ghost use Rattle.std.specs.Option.{option_and_then};
 ghost use Rattle.fact_lock.specs.Passes.{IsPassOf, all_parts};

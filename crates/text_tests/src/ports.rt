@@ -1,3 +1,4 @@
+//! Tests of `io_ports`.
 mod adapters;
 mod memory;
 

@@ -1,3 +1,4 @@
+//! Tests of `variant_ini`.
 use std::alloc::{AllocError, Global};
 use std::test::Fail;
 use variant_ini::{IniFault, Sections};

@@ -1,3 +1,4 @@
+//! Tests of `watching`.
 use foundation::Memory;
 use io_ports::{Dialect, Limits, LineBuf, ListClock, MemSink, MemSource, PollsOwed, SearchFault};
 use std::alloc::Global;

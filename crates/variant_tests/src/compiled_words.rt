@@ -1,3 +1,4 @@
+//! Tests of `betza_compile`.
 use betza_compile::compile;
 use betza_text::parse;
 use rules_model::Way;

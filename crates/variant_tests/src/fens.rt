@@ -1,3 +1,4 @@
+//! Tests of `variant_fen`.
 ghost use Rattle.rules_model.specs.Fit.{IsFit};
 
 use rules_model::{Memory, Rules};

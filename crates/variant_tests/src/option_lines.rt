@@ -1,3 +1,4 @@
+//! Tests of `variant_options`.
 use betza_text::BetzaFault;
 use std::test::Fail;
 use variant_options::{LineFault, line_fault};

@@ -1,3 +1,4 @@
+//! Tests of `section_rules`.
 use rules_model::{Memory, Square};
 use section_rules::{LetteredSections, Resolved, bare_rules, own_fault, rules_fault};
 use std::alloc::Global;

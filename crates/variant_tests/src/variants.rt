@@ -1,9 +1,11 @@
+//! Tests of `variant_rules`.
 use rules_model::Rules;
 use std::alloc::{AllocError, Global};
 use std::test::Fail;
 use variant_rules::{Found, SectionFault, Variants, builtin, load};
 
-// a changes one option of chess, b one of a, c one of b; d has an option that is refused by its name, and e is its child.
+// a changes one option of chess, b one of a, c one of b; d has an option that is refused by its name, and e is its
+// child.
 const CHAIN: &[u8] = b"[a:chess]\n\
     nMoveRule = 40\n\
     [b:a]\n\

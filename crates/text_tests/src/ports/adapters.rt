@@ -1,4 +1,4 @@
-// The adapters of the machine.
+//! The adapters of the machine.
 use super::{Halting, lines, polls, reads};
 use io_ports::{
     Clock, Files, Given, Got, LineBuf, MAX_FILE, MAX_LINE, MachineClock, MachineFiles,

@@ -1,4 +1,4 @@
-// The forms in memory.
+//! The forms in memory.
 use super::{lines, long_line, pass, polls, puts, reads};
 use io_ports::{
     Clock, Dialect, Gate, LineBuf, ListClock, MAX_FILE, MAX_LINE, MemFiles, MemSink, MemSource,
