@@ -276,8 +276,7 @@ fn a_game_has_no_more_than_8192_plies(rt: HostRuntime) -> Result<(), Fail> {
     let text = b"error GameFault 6 TooManyMoves\n";
     says(&rt, &mut files, &["status"], input.as_bytes(), 3, text)?;
     let input = format!(in alloc; "position startpos moves{moves}\nstatus\n")?;
-    let text =
-        b"info string error PositionFault 3 TooManyMoves\nongoing\n\
+    let text = b"info string error PositionFault 3 TooManyMoves\nongoing\n\
             rnbqkbnr/pppppppp/8/8/8/8/PPPPPPPP/RNBQKBNR w KQkq - 0 1\n";
     says(&rt, &mut files, &["uci"], input.as_bytes(), 0, text)?;
     let moves = longest(alloc, "usermove ", "\n")?;
