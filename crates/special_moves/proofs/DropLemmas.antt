@@ -18,9 +18,8 @@ use Rattle.square_set.specs.declared.Set.{Set}
 use Rattle.square_set.specs.Members.{has}
 use Rattle.move_tables.specs.Occupied.{IsOccupied}
 use Rattle.move_sink.specs.InTurn.{At, target_of}
-use Rattle.move_sink.specs.Taking.{TakesAll, TakesSome}
+use Rattle.move_sink.specs.Taking.{IsChosen, TakesAll, TakesSome}
 use Rattle.move_sink.proofs.TakingLemmas.{all-same, some-within}
-use Rattle.piece_moves.specs.Parts.{IsChosen}
 use Rattle.special_moves.specs.Parts.{AreDropSquares, IsDrop, IsDropOn, IsDropOf, has_drops, is_drop_square, kind_at, square_at, suits, takes_drops}
 use Rattle.special_moves.proofs.BelowLemmas.{AreApart}
 
