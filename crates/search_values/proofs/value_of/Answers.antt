@@ -1,9 +1,8 @@
-use Rattle.std.proofs.Common.{◌≡◌, ◌∙◌, List, ap, slice_index_or, subst, rules}
+use Rattle.std.proofs.Common.{◌≡◌, ◌∙◌, List, slice_index_or, subst, rules}
 use Rattle.foundation.specs.Member.{Member}
 use Rattle.legality.proofs.MemberLaws.{get_or-member}
 use Rattle.rules_model.specs.declared.moves.Move.{Move}
-use Rattle.game_play.specs.Played.{legal_in, story}
-use Rattle.game_values.specs.Values as Values
+use Rattle.game_play.specs.Played.{legal_in}
 use Rattle.search_values.proofs.value_of.Goals as goal
 
 pub value_over-requires-clause-legal : goal.value_over-requires-clause-legal
@@ -11,10 +10,3 @@ value_over-requires-clause-legal g c κs within k d below =
     let viewed : c.as_slice-roots.result.now ≡ c.in_ok-moves.moves = search rules in
     let same : c.as_slice-roots.result.now ≡ legal_in c.args.game.now = viewed ∙ (rw (c.rules.ensures, c.position.ensures.is) at c.in_ok-moves.ensures) in
     subst (λ (ms : List Move). Member (slice_index_or c.as_slice-roots.result.now k d) ms) same (get_or-member c.as_slice-roots.result.now k d below)
-
-pub returns-clause-is : goal.returns-clause-is
-returns-clause-is g c =
-    let game = c.args.game.now in
-    let viewed : c.as_slice-roots.result.now ≡ c.in_ok-moves.moves = search rules in
-    let same : c.as_slice-roots.result.now ≡ legal_in game = viewed ∙ (rw (c.rules.ensures, c.position.ensures.is) at c.in_ok-moves.ensures) in
-    c.in_ok-value.ensures ∙ ap (λ (ms : List Move). Values.value_of game.rules c.args.depth (story game) ms) same
