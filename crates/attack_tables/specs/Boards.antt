@@ -17,7 +17,8 @@ HoldsMen side cells men = (s : ℕ) → has men s ≡ true → is_own side (λ k
 
 -- the board has pieces on the occupied squares; those of the side are on the squares of its men, and they are the ones
 -- that the cells hold there. What stands on the other squares of the cells does not matter
-pub record IsBoardBy (side : Side) (cells : List (Option Cell)) (men occupied : Set) (board : List (Option Cell)) : Type 0 where
+pub record IsBoardBy (side : Side) (cells : List (Option Cell)) (men occupied : Set)
+    (board : List (Option Cell)) : Type 0 where
   pub squares : IsOccupied occupied board
   pub own : AreMen side board men
   pub same : (s : ℕ) → has men s ≡ true → cell_at board s ≡ cell_at cells s
@@ -31,4 +32,5 @@ OnEachBoard side cells men occupied Holds =
 abbrev pub OnEachWithKing : Rules → Side → List (Option Cell) → Set → Set → ℕ → (List (Option Cell) → Type 0)
     → Type 0
 OnEachWithKing rules side cells men occupied at Holds =
-    OnEachBoard side cells men occupied (λ board. is_own_king rules (other side) (cell_at board at) ≡ true → Holds board)
+    OnEachBoard side cells men occupied
+        (λ board. is_own_king rules (other side) (cell_at board at) ≡ true → Holds board)

@@ -33,7 +33,8 @@ IsMask rules side at mask = IsMaskBelow rules side 120 at mask
 -- a set for each side and square, in this order
 pub record AreRanges (rules : Rules) (ranges : List Set) : Type 0 where
   pub whole : length ranges ≡ 240
-  pub each : (i : ℕ) → i < 240 → (d : Set) → IsRangeOf rules (side_of (i / 120)) 26 (i % 120) (slice_index_or ranges i d)
+  pub each : (i : ℕ) → i < 240 → (d : Set)
+      → IsRangeOf rules (side_of (i / 120)) 26 (i % 120) (slice_index_or ranges i d)
 
 pub record AreMasks (rules : Rules) (masks : List Set) : Type 0 where
   pub whole : length masks ≡ 240

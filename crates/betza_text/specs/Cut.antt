@@ -31,7 +31,8 @@ cut_behind text m d = record {
   digits = digit_count text (digit_place m d);
 }
 
--- the part at the beginning of a text: all modifiers that stand there, the atom, the same letter again, all digits that follow
+-- the part at the beginning of a text: all modifiers that stand there, the atom, the same letter again, all digits that
+-- follow
 unfoldable pub cut_of : List ℕ → Cut
 cut_of text = cut_behind text (modifier_count text) (is_doubled text (modifier_count text))
 

@@ -1,4 +1,5 @@
--- The atoms by their legs: how far their steps go, whichever way they turn (Betza's notation; Wikipedia, "Betza's funny notation").
+-- The atoms by their legs: how far their steps go, whichever way they turn (Betza's notation; Wikipedia, "Betza's funny
+-- notation").
 use Rattle.std.specs.Prelude.{◌≡◌, ℕ, ◌==◌, nat_abs, min, max, Bool, true, ◌↔◌, List, [], ◌∷◌, if◌then◌else◌, codes}
 use Rattle.std.specs.List.{list_any}
 use Rattle.std.specs.List.Sorted.{IsStrictlySortedBy}
@@ -40,7 +41,8 @@ legs_of atom =
 
 -- the order of steps: the short leg, which tells apart a king's and a queen's alone; then the rank, then the file
 abbrev pub step_cmp : Step → Step → Ordering
-step_cmp s t = ordering_then (nat_cmp (legs s).short (legs t).short) (ordering_then (int_cmp s.dy t.dy) (int_cmp s.dx t.dx))
+step_cmp s t =
+    ordering_then (nat_cmp (legs s).short (legs t).short) (ordering_then (int_cmp s.dy t.dy) (int_cmp s.dx t.dx))
 
 -- these are all the steps that have the legs, each once, in order
 pub record AreAllSteps (lengths : List Legs) (steps : List Step) : Type 0 where

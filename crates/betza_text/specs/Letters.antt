@@ -9,7 +9,8 @@ is_prefix c =
 -- the letters of the atoms, W D H R, F A G B, N L C J Z, K Q
 unfoldable pub is_atom : ℕ → Bool
 is_atom c =
-    c == 87 || c == 68 || c == 72 || c == 82 || c == 70 || c == 65 || c == 71 || c == 66 || c == 78 || c == 76 || c == 67 || c == 74 || c == 90 || c == 75 || c == 81
+    c == 87 || c == 68 || c == 72 || c == 82 || c == 70 || c == 65 || c == 71 || c == 66 || c == 78 || c == 76
+        || c == 67 || c == 74 || c == 90 || c == 75 || c == 81
 
 -- m c n p g: a part has each at most once
 unfoldable pub is_once : ℕ → Bool

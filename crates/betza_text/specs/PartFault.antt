@@ -45,7 +45,8 @@ unfoldable pub atom_fault : ℕ → ℕ → List ℕ → List ℕ → Cut → Pa
 atom_fault at before text modifiers cut part =
     if not (is_atom part.atom) then Some (UnknownAtom (at + cut.modifiers))
     else if is_bad_count text cut then Some (BadNumber (at + number_place cut))
-    else if not (is_clear (shape_of part.atom) part.dirs) then Some (AmbiguousDirection (at + direction_place modifiers))
+    else if not (is_clear (shape_of part.atom) part.dirs)
+    then Some (AmbiguousDirection (at + direction_place modifiers))
     else if is_bad_lame part then Some (BadLame (at + place_of 110 modifiers))
     else if is_bad_hopper modifiers part then Some (BadHopper (at + hopper_place modifiers))
     else if nat_lt 64 (before + length (steps_of part)) then Some (TooManyTerms (at + cut.modifiers))

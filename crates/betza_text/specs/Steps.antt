@@ -59,7 +59,8 @@ shape_of atom =
     else if atom == 75 || atom == 81 then Royal
     else Nothing
 
--- the step goes to the side of the letter: f forward, b backward, l left, r right, v either way along the file, s either way along the rank
+-- the step goes to the side of the letter: f forward, b backward, l left, r right, v either way along the file, s
+-- either way along the rank
 unfoldable pub points : ℕ → Step → Bool
 points letter s =
     if letter == 102 then int_lt (pos 0) s.dy
@@ -90,7 +91,8 @@ is_side letter = is_rankwise letter || is_filewise letter
 unfoldable pub leg_along : ℕ → Step → ℕ
 leg_along letter s = if is_rankwise letter then nat_abs s.dy else nat_abs s.dx
 
--- two letters that name one direction of the shape: fl fr bl br for a diagonal; ff bb ll rr vv ss, fs bs, fh bh lh rh for an oblique one
+-- two letters that name one direction of the shape: fl fr bl br for a diagonal; ff bb ll rr vv ss, fs bs, fh bh lh rh
+-- for an oblique one
 unfoldable pub is_pair : Shape → ℕ → ℕ → Bool
 is_pair (Orthogonal n) x y = false
 is_pair (Diagonal n) x y = (x == 102 || x == 98) && (y == 108 || y == 114)
@@ -135,7 +137,9 @@ is_clear shape letters = (length letters == 0) || are_pairs shape letters || are
 -- no letters pick every step; else a pair or a single letter must point to it
 unfoldable pub picks : Shape → List ℕ → Step → Bool
 picks shape letters s =
-    (length letters == 0) || (if are_pairs shape letters then any_below (is_pair_to shape letters s) (length letters / 2) else list_any (λ letter. points letter s) letters)
+    (length letters == 0) || (if are_pairs shape letters
+        then any_below (is_pair_to shape letters s) (length letters / 2)
+        else list_any (λ letter. points letter s) letters)
 
 -- the steps of a part
 unfoldable pub steps_of : Part → List Step
@@ -157,4 +161,5 @@ is_far part = is_rider part.atom || part.doubled || is_some part.number
 -- N A D H G, neither doubled nor numbered
 unfoldable pub can_be_lame : Part → Bool
 can_be_lame part =
-    (part.atom == 78 || part.atom == 65 || part.atom == 68 || part.atom == 72 || part.atom == 71) && not part.doubled && not (is_some part.number)
+    (part.atom == 78 || part.atom == 65 || part.atom == 68 || part.atom == 72 || part.atom == 71) && not part.doubled
+        && not (is_some part.number)

@@ -21,7 +21,8 @@ abbrev pub IsWithIf : Set → ℕ → Bool → Set → Type 0
 IsWithIf old at wanted new = (s : ℕ) → has new s ≡ (has old s || (wanted && (s == at)))
 
 -- the square is in each of the sets to which what stands there belongs
-pub record AreWith (rules : Rules) (side : Side) (old : BoardSets) (at : ℕ) (cell : Option Cell) (new : BoardSets) : Type 0 where
+pub record AreWith (rules : Rules) (side : Side) (old : BoardSets) (at : ℕ) (cell : Option Cell)
+    (new : BoardSets) : Type 0 where
   pub own : IsWithIf old.own at (is_own side (λ kind. true) cell) new.own
   pub enemies : IsWithIf old.enemies at (is_own (other side) (λ kind. true) cell) new.enemies
   pub kings : IsWithIf old.kings at (is_own_king rules side cell) new.kings

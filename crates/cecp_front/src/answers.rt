@@ -248,7 +248,8 @@ impl CecpSession {
         }
     }
 
-    /// Answers the line that was taken, before the engine thinks: what it says, and an empty text where it says nothing.
+    /// Answers the line that was taken, before the engine thinks: what it says, and an empty text where it says
+    /// nothing.
     pub(crate) fn answer_line(
         &mut self,
         alloc: Global,

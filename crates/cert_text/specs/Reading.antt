@@ -39,8 +39,8 @@ abbrev pub last_ply : List Step → ℕ
 last_ply [] = 0
 last_ply (s ∷ earlier) = s.ply
 
--- The last position of the game of a step's parent. The parents of a helpmate's steps serve for a selfmate too: who chooses does not
--- matter to where moves lead.
+-- The last position of the game of a step's parent. The parents of a helpmate's steps serve for a selfmate too: who
+-- chooses does not matter to where moves lead.
 abbrev pub parent_position : Rules → Story → List Step → ℕ → Position
 parent_position rules g earlier ply = (parent_game (help_games rules g.last.side) g earlier ply).last
 

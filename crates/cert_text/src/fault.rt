@@ -6,8 +6,8 @@ use std::fmt;
 /// The first fault of a text that says no certificate for a game, with the number of its line, counted from 1.
 #[derive(Clone, Copy, Debug, PartialEq, Eq)]
 pub enum CertFault {
-    /// 1: the line has not its form; or its ply is 0, or more than one above that of the step before, which for the first
-    /// step counts as 0; or its move is not the text of a legal move in the position of the parent's game.
+    /// 1: the line has not its form; or its ply is 0, or more than one above that of the step before, which for the
+    /// first step counts as 0; or its move is not the text of a legal move in the position of the parent's game.
     BadLine(u64),
     /// 2: the text ends before its end is said, or goes on after it.
     Ended(u64),

@@ -1,7 +1,7 @@
 //! Certificates of selfmates and helpmates as text: read line by line, and written.
 //!
-//! Line 1 is `selfmate K` or `helpmate K`, then there is one line `PLY MOVE` for each step, and the last line is `end`. The move of a step
-//! is read in the position of its parent's game.
+//! Line 1 is `selfmate K` or `helpmate K`, then there is one line `PLY MOVE` for each step, and the last line is `end`.
+//! The move of a step is read in the position of its parent's game.
 #![tactic(auto)]
 
 mod fault;

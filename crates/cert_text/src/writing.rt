@@ -63,8 +63,8 @@ fn push_steps(text: &mut Vec<u8>, steps: &[Step]) -> Result<(), Memory>
     Ok(())
 }
 
-/// Writes the text of a certificate: of a helpmate, or else of a selfmate. Each line ends with LF. Where the certificate holds
-/// for a game within 6 moves or fewer, reading the text with that game gives it back.
+/// Writes the text of a certificate: of a helpmate, or else of a selfmate. Each line ends with LF. Where the
+/// certificate holds for a game within 6 moves or fewer, reading the text with that game gives it back.
 ///
 /// `Memory` is the answer where there was none for the text.
 pub fn write_cert(alloc: Global, cert: &Cert, help: bool) -> Result<Text, Memory>

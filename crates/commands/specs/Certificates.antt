@@ -1,5 +1,5 @@
--- What `stipulate check` says: whether the certificate of the input holds in the game of the input, by its stipulation. The input is a
--- problem, whose goal is a stipulation, and a certificate after it.
+-- What `stipulate check` says: whether the certificate of the input holds in the game of the input, by its stipulation.
+-- The input is a problem, whose goal is a stipulation, and a certificate after it.
 use Rattle.std.specs.Prelude.{◌≡◌, ◌⊎◌, ℕ, ◌+◌, Bool, true, false, List, drop, Result, Ok, Err, codes}
 use Rattle.io_ports.specs.Lines.{Line}
 use Rattle.rules_model.specs.declared.rules.Rules.{Rules}
@@ -49,7 +49,8 @@ verdict_by true rules n g steps = help_verdict rules n g steps
 
 -- the verdict on the certificate
 abbrev pub verdict_in : Stipulated → CertVerdict
-verdict_in s = verdict_by s.problem.goal.help s.problem.game.rules s.problem.goal.moves (story s.problem.game) s.cert.steps
+verdict_in s =
+    verdict_by s.problem.goal.help s.problem.game.rules s.problem.goal.moves (story s.problem.game) s.cert.steps
 
 -- that the certificate holds, or its first failure
 abbrev pub SaysVerdict : CertVerdict → ℕ → List ℕ → Type 0

@@ -1,5 +1,5 @@
--- What `check` says: whether the strategy of the input wins the game of the input, by its goal. The input is a proof text where line 1 is
--- `strategy 2`, and otherwise a problem and a strategy after it.
+-- What `check` says: whether the strategy of the input wins the game of the input, by its goal. The input is a proof
+-- text where line 1 is `strategy 2`, and otherwise a problem and a strategy after it.
 use Rattle.std.specs.Prelude.{◌≡◌, ℕ, ◌+◌, ◌-◌, Bool, List, ◌∷◌, drop, Result, Ok, Err, codes, true, false}
 use Rattle.io_ports.specs.Lines.{Line, Text}
 use Rattle.forced_wins.specs.Strategies.{IsGood}
@@ -55,8 +55,8 @@ stated_in variants input = stated_by (is_proof_text input) variants input
 
 -- ---- the answer
 
--- The strategy is good for the game and the goal: no fault of the table of verdicts stands in it. A law says that the side then wins the
--- game within the moves of the goal, whatever the other side does.
+-- The strategy is good for the game and the goal: no fault of the table of verdicts stands in it. A law says that the
+-- side then wins the game within the moves of the goal, whatever the other side does.
 abbrev pub Good : Proof → Type 0
 Good p = IsGood p.game.rules kept (story p.game) p.attacker p.n p.strategy.attacker p.strategy.nodes
 
@@ -91,7 +91,8 @@ lines_after (Ok p) lines = lines_of_strategy p.game.rules lines
 lines_after (Err fault) lines = 0
 
 unfoldable pub lines_of_stated : List Named → List Line → ℕ
-lines_of_stated variants input = lines_of_problem variants input + lines_after (problem_of goal_said variants input) (drop 4 input)
+lines_of_stated variants input =
+    lines_of_problem variants input + lines_after (problem_of goal_said variants input) (drop 4 input)
 
 abbrev pub lines_by : Bool → List Named → List Line → ℕ
 lines_by true variants input = lines_of_proof input

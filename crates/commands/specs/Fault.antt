@@ -1,5 +1,5 @@
--- How faults print: the type's name, the fault's number, its name and its fields, separated by single blanks. A fault inside
--- a fault prints whole.
+-- How faults print: the type's name, the fault's number, its name and its fields, separated by single blanks. A fault
+-- inside a fault prints whole.
 use Rattle.std.specs.Prelude.{ℕ, List, ◌++◌, codes}
 use Rattle.betza_text.specs.Fault as betza
 use Rattle.game_text.specs.Fault as game

@@ -68,7 +68,8 @@ strategy_halt no_strategy.Unread = halt.Stop stop.Source
 strategy_halt (no_strategy.Faulty strategy.Memory) = halt.Stop stop.Memory
 strategy_halt (no_strategy.Faulty (strategy.Header line)) = halt.Fault (Strategy (strategy.Header line))
 strategy_halt (no_strategy.Faulty (strategy.BadLine line)) = halt.Fault (Strategy (strategy.BadLine line))
-strategy_halt (no_strategy.Faulty (strategy.BadPosition line fault)) = halt.Fault (Strategy (strategy.BadPosition line fault))
+strategy_halt (no_strategy.Faulty (strategy.BadPosition line fault)) =
+    halt.Fault (Strategy (strategy.BadPosition line fault))
 strategy_halt (no_strategy.Faulty (strategy.BadMove line)) = halt.Fault (Strategy (strategy.BadMove line))
 strategy_halt (no_strategy.Faulty (strategy.BadNumber line)) = halt.Fault (Strategy (strategy.BadNumber line))
 strategy_halt (no_strategy.Faulty (strategy.Ended line)) = halt.Fault (Strategy (strategy.Ended line))

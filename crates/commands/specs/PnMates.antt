@@ -1,4 +1,5 @@
--- What `pnmate N` says: within how many moves, up to N, the side that is to move wins the game of the input, or the first fault.
+-- What `pnmate N` says: within how many moves, up to N, the side that is to move wins the game of the input, or the
+-- first fault.
 use Rattle.std.specs.Prelude.{◌≡◌, ℕ, List, ◌++◌, Option, Some, None, Result, Ok, Err, codes}
 use Rattle.std.specs.Fmt.{decimal}
 use Rattle.io_ports.specs.Lines.{Line}

@@ -11,7 +11,8 @@ use Rattle.words.specs.Command.{no_squares}
 -- the square of the board that a text names: a letter from a to h, and a digit from 1 to 8
 abbrev pub square_named : List ℕ → Option Square
 square_named (file ∷ rank ∷ []) =
-    if nat_le 97 file && nat_le file 104 && nat_le 49 rank && nat_le rank 56 then Some (record { 0 = 12 * (rank - 49) + (file - 97) }) else None
+    if nat_le 97 file && nat_le file 104 && nat_le 49 rank
+        && nat_le rank 56 then Some (record { 0 = 12 * (rank - 49) + (file - 97) }) else None
 square_named text = None
 
 -- why no piece is put where a text says
@@ -31,13 +32,15 @@ piece_on from = slice_set (replicate 120 None) from.0 (Some (piece_of White))
 
 abbrev pub placed_on : Side → List ℕ → List (Option Cell) → Option Square → Result (List (Option Cell)) Unplaced
 placed_on side text cells None = Err (NoSquare text)
-placed_on side text cells (Some s) = if is_some (cell_at cells s.0) then Err (Taken text) else Ok (slice_set cells s.0 (Some (piece_of side)))
+placed_on side text cells (Some s) =
+    if is_some (cell_at cells s.0) then Err (Taken text) else Ok (slice_set cells s.0 (Some (piece_of side)))
 
 -- with a piece of the side on the square that the text names
 unfoldable pub placed : Side → List (Option Cell) → List ℕ → Result (List (Option Cell)) Unplaced
 placed side cells text = placed_on side text cells (square_named text)
 
-abbrev pub and_then : Result (List (Option Cell)) Unplaced → (List (Option Cell) → Result (List (Option Cell)) Unplaced) → Result (List (Option Cell)) Unplaced
+abbrev pub and_then : Result (List (Option Cell)) Unplaced → (List (Option Cell) → Result (List (Option Cell)) Unplaced)
+    → Result (List (Option Cell)) Unplaced
 and_then (Ok cells) next = next cells
 and_then (Err why) next = Err why
 

@@ -40,7 +40,8 @@ usage_line = codes "usage: vengine [--variants FILE] [--threads N] [COMMAND]\n"
 -- the squares
 pub data SaysReach (word square own enemy : List ℕ) : ℕ → List ℕ → Type 0 where
   reached : (b : List Part) (from : Square) (cells : List (Option Cell)) → Spells word b
-      → setup_of square own enemy ≡ Ok (from, cells) → SaysReach word square own enemy 0 (reach_text cells (terms b) from)
+      → setup_of square own enemy ≡ Ok (from, cells)
+      → SaysReach word square own enemy 0 (reach_text cells (terms b) from)
   faulty_word : (fault : BetzaFault) → BetzaBad word fault
       → SaysReach word square own enemy 3 (error_line (betza_text fault))
   faulty_square : (b : List Part) (why : Unplaced) → Spells word b → setup_of square own enemy ≡ Err why
@@ -69,7 +70,8 @@ SaysCommand sections (HelpMate moves) input status text = SaysOfGame (help_mate_
 SaysCommand sections CheckCert input status text = SaysCertCheck (entries sections) input status text
 SaysCommand sections Variants input status text = (status ≡ 0) × (text ≡ variants_text (entries sections))
 SaysCommand sections (Reach word square own enemy) input status text = SaysReach word square own enemy status text
-SaysCommand sections (Generate name number plies) input status text = SaysGenerate sections name number plies status text
+SaysCommand sections (Generate name number plies) input status text =
+    SaysGenerate sections name number plies status text
 SaysCommand sections Suite input status text = SaysSuite (entries sections) input status text
 SaysCommand sections (PnMate moves) input status text = SaysPnMate moves (entries sections) input status text
 

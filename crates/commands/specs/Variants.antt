@@ -33,7 +33,8 @@ fault_in None reads = None
 fault_in (Some name) [] = None
 fault_in (Some name) (read ∷ reads) = fault_found read.found
 
--- the sections that there are: those that are built in, and then those that the first read found of a file that is named
+-- the sections that there are: those that are built in, and then those that the first read found of a file that is
+-- named
 abbrev pub sections_in : Option Text → List Read → List Section
 sections_in None reads = builtin_sections
 sections_in (Some name) [] = builtin_sections

@@ -72,8 +72,8 @@ fn print(alloc: Global, verdict: CertVerdict) -> Result<Text, Halt<'static>>
     }
 }
 
-/// The text of `stipulate check`: whether the certificate that the input states after a problem holds in the problem's game, which is
-/// of a variant of these sections.
+/// The text of `stipulate check`: whether the certificate that the input states after a problem holds in the problem's
+/// game, which is of a variant of these sections.
 pub fn cert_check_text<S: Source>(
     alloc: Global,
     sections: &Sections,

@@ -149,8 +149,8 @@ fn print(alloc: Global, verdict: Verdict) -> Result<Text, Halt<'static>>
     }
 }
 
-/// The text of `check`: whether the strategy that the input states wins the game that it states, in a proof text or after a problem, which is of
-/// a variant of these sections.
+/// The text of `check`: whether the strategy that the input states wins the game that it states, in a proof text or
+/// after a problem, which is of a variant of these sections.
 pub fn check_text<S: Source>(
     alloc: Global,
     sections: &Sections,

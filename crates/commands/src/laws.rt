@@ -21,8 +21,8 @@ use forced_wins::by_rules::good_strategies_win;
 use strategy::{Edge, Node};
 
 /// Words of a one-shot command, or of none, have exactly one answer by the input and the reads of the file of variants,
-/// where they name one: one status and one text. Where files tell their contents and do not fail, it goes by the contents.
-/// Where they fail, the answer says so.
+/// where they name one: one status and one text. Where files tell their contents and do not fail, it goes by the
+/// contents. Where they fail, the answer says so.
 pub fn words_have_one_answer()
     ensures some { (words : List (List ℕ)) (reads : List Read) (input : List Line) → IsOneShot (to_do words)
         → AreFirstReads (to_do words) reads → (status : ℕ) × (text : List ℕ) × Shot words reads input status text }
@@ -35,8 +35,8 @@ pub fn words_have_one_answer()
         → 0 < faults_in reads → Shot words reads input status text → SaysFault (Load (File Failed)) status text }
 {}
 
-/// `check` answers `wins` only where the side of the goal wins the game of the input within the moves of the goal, against every
-/// legal defence.
+/// `check` answers `wins` only where the side of the goal wins the game of the input within the moves of the goal,
+/// against every legal defence.
 pub fn checked_games_are_won()
     ensures { (variants : List Named) (input : List Line) (text : List ℕ)
         → SaysCheck variants input 0 text → IsWon variants input }
@@ -44,15 +44,15 @@ pub fn checked_games_are_won()
     good_strategies_win::<Node, Edge>();
 }
 
-/// What `stipulate self N` and `stipulate help N` print of a game is the text of a certificate that holds within that many moves, or
-/// `none` exactly where there is no such selfmate or helpmate.
+/// What `stipulate self N` and `stipulate help N` print of a game is the text of a certificate that holds within that
+/// many moves, or `none` exactly where there is no such selfmate or helpmate.
 pub fn printed_certificates_hold()
     ensures selfmates { (g : Played) (n : ℕ) → PrintsSelf g n (self_mate_of n g) }
     ensures helpmates { (g : Played) (n : ℕ) → PrintsHelp g n (help_mate_of n g) }
 {}
 
-/// `stipulate check` answers `holds` only where the certificate of the input holds, and then the stipulation can be met in the game of
-/// the input, whatever its history.
+/// `stipulate check` answers `holds` only where the certificate of the input holds, and then the stipulation can be met
+/// in the game of the input, whatever its history.
 pub fn checked_certificates_hold()
     ensures { (variants : List Named) (input : List Line) (text : List ℕ)
         → SaysCertCheck variants input 0 text → IsMet variants input }

@@ -39,8 +39,8 @@ fn print(alloc: Global, count: Result<Option<u16>, PnFault>) -> Result<Text, Hal
     }
 }
 
-/// The text of `pnmate N`: within how many moves, up to N, the side that is to move wins the game of the input, which is of a variant of
-/// these sections.
+/// The text of `pnmate N`: within how many moves, up to N, the side that is to move wins the game of the input, which
+/// is of a variant of these sections.
 pub fn pn_mate_text<R: Wait, S: Source>(
     rt: &R,
     alloc: Global,

@@ -17,8 +17,8 @@ use suite::solve_suite;
 use variant_ini::Sections;
 use variant_rules::load;
 
-/// The text of `suite`: the report on the problems of the input, which are of variants of these sections, by this number of
-/// workers.
+/// The text of `suite`: the report on the problems of the input, which are of variants of these sections, by this
+/// number of workers.
 pub fn suite_text<R: Threads + Wait + Sync, S: Source, G: Gate + Sync>(
     rt: &R,
     alloc: Global,

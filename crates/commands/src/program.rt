@@ -46,8 +46,8 @@ fn finish<K: Sink>(answer: Result<Answer, Stop>, sink: &mut K) -> u8
 /// | 6 | the file of variants was not read, as the line `error FileFault ..` says that was written |
 /// | 7 | there was no memory |
 ///
-/// A file is not read where it is missing or has more than 1,048,576 bytes, or where the files' count of faults rose. Then
-/// nothing of the source is taken.
+/// A file is not read where it is missing or has more than 1,048,576 bytes, or where the files' count of faults rose.
+/// Then nothing of the source is taken.
 pub fn run<R, S, K, F, C, G>(
     rt: &R,
     alloc: Global,

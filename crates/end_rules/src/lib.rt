@@ -68,8 +68,8 @@ pub fn no_move(rules: &Rules, side: Side, attacked: bool) -> Outcome
 }
 
 /// Whether the counter has reached the move-count rule (the 50 moves of the FIDE Laws of Chess, article 9.3;
-/// Fairy-Stockfish's `nMoveRule`). The counter is in plies and the rule in moves of both sides, so that it ends at twice
-/// the rule's number. A rule of 0 is none.
+/// Fairy-Stockfish's `nMoveRule`). The counter is in plies and the rule in moves of both sides, so that it ends at
+/// twice the rule's number. A rule of 0 is none.
 #[tactic(auto, unfolding(rules_model::specs::Games::is_run_out))]
 pub fn is_run_out(rules: &Rules, counter: u16) -> bool
     ensures { result ≡ Games.is_run_out rules.now counter }

@@ -9,7 +9,8 @@ pub record LockView (K : Type 0) : Type 0 where
   pub id : TableId
   pub key : K
 
--- a pass: which lock it is for, that lock's key, the beginning of the list that it has seen, the places of its own entries, and its parts
+-- a pass: which lock it is for, that lock's key, the beginning of the list that it has seen, the places of its own
+-- entries, and its parts
 pub record PassView (K E : Type 0) : Type 0 where
   pub lock : TableId
   pub key : Option K
@@ -54,7 +55,8 @@ module _ {K E : Type 0} where
     pub once : (p : ℕ) → times p v.own ≤ 1
 
   -- One turn at the lock. `list` is the whole list when it comes, which begins with all that the pass had seen.
-  pub record Turn {O R : Type 0} (reply : K → List E → O → R) (added : K → List E → O → Option E) (key : K) (before : PassView K E) (op : O) (answer : R) (after : PassView K E) : Type 0 where
+  pub record Turn {O R : Type 0} (reply : K → List E → O → R) (added : K → List E → O → Option E) (key : K)
+      (before : PassView K E) (op : O) (answer : R) (after : PassView K E) : Type 0 where
     pub list : List E
     pub begins : IsPrefix before.seen list
     pub answered : answer ≡ reply key list op

@@ -1,4 +1,5 @@
--- The rule of the lock's table, and what each step tells. The words are the number of entries, the next ticket and the ticket that is served.
+-- The rule of the lock's table, and what each step tells. The words are the number of entries, the next ticket and the
+-- ticket that is served.
 use Rattle.std.specs.Prelude.{◌≡◌, ◌≢◌, ℕ, zero, suc, ◌+◌, ◌-◌, ◌^◌, ◌<◌, ◌≤◌, ◌==◌, List, [], ◌∷◌, ◌++◌, length, Option, Some, None, All}
 use mathlib.Core.List.{IsPrefix}
 use mathlib.Core.Option.{some}
@@ -51,7 +52,8 @@ module _ {K E : Type 0} where
 
   -- k entries were added
   abbrev pub grown : View K E → List E → ℕ → View K E
-  grown v xs k = record { key = v.key; seen = xs; told = v.told; own = v.own ++ new_places (length v.seen) k; parts = v.parts; stage = v.stage }
+  grown v xs k = record { key = v.key; seen = xs; told = v.told; own = v.own ++ new_places (length v.seen) k;
+      parts = v.parts; stage = v.stage }
 
   abbrev pub kept_half : View K E → View K E
   kept_half v = record { key = v.key; seen = v.seen; told = v.told; own = v.own; parts = v.parts - 1; stage = v.stage }
@@ -60,11 +62,13 @@ module _ {K E : Type 0} where
   given_half v = record { key = v.key; seen = v.seen; told = []; own = []; parts = 1; stage = Rests }
 
   abbrev pub joined : View K E → View K E → View K E
-  joined v w = record { key = v.key; seen = v.seen; told = w.seen; own = v.own ++ w.own; parts = v.parts + w.parts; stage = v.stage }
+  joined v w = record { key = v.key; seen = v.seen; told = w.seen; own = v.own ++ w.own; parts = v.parts + w.parts;
+      stage = v.stage }
 
   -- it has seen what it was told of too
   abbrev pub settled_view : View K E → View K E
-  settled_view v = record { key = v.key; seen = longer v.seen v.told; told = []; own = v.own; parts = v.parts; stage = v.stage }
+  settled_view v = record { key = v.key; seen = longer v.seen v.told; told = []; own = v.own; parts = v.parts;
+      stage = v.stage }
 
   -- what holds of each seat, where `log` is the list
   pub record Fits (k : K) (log : List E) (serving : ℕ) (v : View K E) : Type 0 where
@@ -118,7 +122,8 @@ module _ {J K E : Type 0} (key_of : J → K) (list_of : J → List E) where
 
   -- the entries of the value that the seat has were counted
   abbrev pub raised : Step (Option J) → Sat → ℕ → Sat → Type 0
-  raised st m r n = ((x : J) → m.1 ≡ (0, Some x) ∷ [] → n ≡ (grown m.0 (list_of x) st.first, m.1)) × ((p : ℕ) → times p n.0.own ≤ 1)
+  raised st m r n = ((x : J) → m.1 ≡ (0, Some x) ∷ [] → n ≡ (grown m.0 (list_of x) st.first, m.1))
+      × ((p : ℕ) → times p n.0.own ≤ 1)
 
   -- the seat's turn has come, and it has the value, whose list it has seen
   pub record HasTurn (k : K) (m : Sat) : Type 0 where
@@ -133,7 +138,8 @@ module _ {J K E : Type 0} (key_of : J → K) (list_of : J → List E) where
   passed st m r n = n ≡ (at_stage m.0 Rests, rest m.1)
 
   abbrev pub settled : Step (Option J) → Sat → ℕ → Sat → Type 0
-  settled st m r n = (n ≡ (settled_view m.0, m.1)) × IsPrefix m.0.seen n.0.seen × IsPrefix m.0.told n.0.seen × ((p : ℕ) → times p m.0.own ≤ 1)
+  settled st m r n = (n ≡ (settled_view m.0, m.1)) × IsPrefix m.0.seen n.0.seen × IsPrefix m.0.told n.0.seen
+      × ((p : ℕ) → times p m.0.own ≤ 1)
 
 -- what holds of a pass's seat between two calls
 pub record IsReady {S K E : Type 0} (m : Me S (View K E)) : Type 0 where

@@ -59,7 +59,8 @@ impl<V: Journal> Model for Pass<V> {
 
     ghost Value = { PassView V.Key V.Entry };
 
-    ghost view = { λ pass. record { lock = pass.seat.table_id; key = pass.seat.me.0.key; seen = pass.seat.me.0.seen; own = pass.seat.me.0.own; parts = pass.seat.me.0.parts } };
+    ghost view = { λ pass. record { lock = pass.seat.table_id; key = pass.seat.me.0.key; seen = pass.seat.me.0.seen;
+        own = pass.seat.me.0.own; parts = pass.seat.me.0.parts } };
 
     ghost invariant = { λ pass. IsReady pass.seat.me };
 }
@@ -72,7 +73,8 @@ impl<V: Journal + Drop> Lock<V> {
     /// `Memory` where there is none; the value is then dropped.
     pub fn new(alloc: Global, value: V) -> Result<(Lock<V>, Pass<V>), Memory>
         ensures key { IfOk result (λ made. made.0.key ≡ V.key value) }
-        ensures pass { IfOk result (λ made. IsPassOf made.0 made.1 × (made.1.seen ≡ V.list value) × (made.1.own ≡ []) × (made.1.parts ≡ all_parts)) }
+        ensures pass { IfOk result (λ made. IsPassOf made.0 made.1 × (made.1.seen ≡ V.list value) × (made.1.own ≡ [])
+            × (made.1.parts ≡ all_parts)) }
     {
         let first = Snapshot::of(&value);
         let entries = value.len();
@@ -154,7 +156,8 @@ impl<V: Journal> Lock<V> {
         ensures seat { (seat.new.table_id ≡ seat.old.table_id) × (seat.new.id ≡ seat.old.id) }
         ensures turn { HasTurn V.key V.list self.now.key seat.new.me }
         ensures answer { result ≡ V.reply self.now.key seat.old.me.0.seen op }
-        ensures added { let new = entries (V.added self.now.key seat.old.me.0.seen op) in seat.new.me.0 ≡ grown seat.old.me.0 (seat.old.me.0.seen ++ new) (length new) }
+        ensures added { let new = entries (V.added self.now.key seat.old.me.0.seen op) in seat.new.me.0
+            ≡ grown seat.old.me.0 (seat.old.me.0.seen ++ new) (length new) }
         ensures holds { V.holds self.now.key seat.new.me.0.seen }
         ensures once { (p : ℕ) → times p seat.new.me.0.own ≤ 1 }
     {

@@ -1,5 +1,5 @@
-//! Prints how many publishes and looks a second sixteen shards take from one and from four threads, and beside them how many
-//! sixteen hash maps take, each behind a mutex. Without a word it prints nothing.
+//! Prints how many publishes and looks a second sixteen shards take from one and from four threads, and beside them how
+//! many sixteen hash maps take, each behind a mutex. Without a word it prints nothing.
 #![tactic(auto)]
 
 ghost use Rattle.std.specs.Prelude.{◌≡◌, ◌<◌, ◌≤◌, All, IfOk, length, vec_len};

@@ -18,7 +18,8 @@ is_plus b = b == 43
 abbrev pub two_checks : Option ℕ → Option ℕ → Result (List ℕ) FenFault
 two_checks None black = Err fault.Checks
 two_checks (Some white) None = Err fault.Checks
-two_checks (Some white) (Some black) = if nat_le white 99 && nat_le black 99 then Ok (white ∷ black ∷ []) else Err fault.Checks
+two_checks (Some white) (Some black) =
+    if nat_le white 99 && nat_le black 99 then Ok (white ∷ black ∷ []) else Err fault.Checks
 
 abbrev pub checks_in : List (List ℕ) → Result (List ℕ) FenFault
 checks_in (white ∷ black ∷ []) = two_checks (number_of white) (number_of black)

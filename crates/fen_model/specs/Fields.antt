@@ -59,8 +59,8 @@ fields placement side rights ep checks halfmoves number = record {
   number = number;
 }
 
--- the fields of a variant that counts no checks. Where the third is a number, rights and en passant are left out, and it and the
--- fourth are the counts
+-- the fields of a variant that counts no checks. Where the third is a number, rights and en passant are left out, and
+-- it and the fourth are the counts
 abbrev pub plain_fields : List (List ℕ) → Option Fields
 plain_fields (placement ∷ side ∷ third ∷ fourth ∷ []) =
     if are_digits third then Some (fields placement side no_text no_text no_checks third fourth)
@@ -71,8 +71,10 @@ plain_fields parts = None
 
 -- those of a variant that counts them
 abbrev pub counted_fields : List (List ℕ) → Option Fields
-counted_fields (placement ∷ side ∷ rights ∷ ep ∷ checks ∷ []) = Some (fields placement side rights ep checks no_halfmoves first_number)
-counted_fields (placement ∷ side ∷ rights ∷ ep ∷ checks ∷ halfmoves ∷ number ∷ []) = Some (fields placement side rights ep checks halfmoves number)
+counted_fields (placement ∷ side ∷ rights ∷ ep ∷ checks ∷ []) =
+    Some (fields placement side rights ep checks no_halfmoves first_number)
+counted_fields (placement ∷ side ∷ rights ∷ ep ∷ checks ∷ halfmoves ∷ number ∷ []) =
+    Some (fields placement side rights ep checks halfmoves number)
 counted_fields parts = None
 
 abbrev pub fields_in : Rules → List (List ℕ) → Option Fields
@@ -80,4 +82,5 @@ fields_in rules parts = if rules.check_counting then counted_fields parts else p
 
 -- the fields, separated by single blanks, of a text of at most 1,024 bytes
 unfoldable pub fields_of : Rules → List ℕ → Result Fields FenFault
-fields_of rules text = if nat_lt 1024 (length text) then Err Length else or_fault Length (fields_in rules (slice_split is_blank text))
+fields_of rules text =
+    if nat_lt 1024 (length text) then Err Length else or_fault Length (fields_in rules (slice_split is_blank text))

@@ -31,8 +31,8 @@ abbrev pub gate_letter : Side → ℕ → ℕ
 gate_letter White file = 65 + file
 gate_letter Black file = 97 + file
 
--- the letters of rights and gates, in the order in which they are printed. Gates have those of the first ten files: the next one is
--- that of a castling right
+-- the letters of rights and gates, in the order in which they are printed. Gates have those of the first ten files: the
+-- next one is that of a castling right
 abbrev pub held_letters : List ℕ
 held_letters = codes "KQABCDEFGHIJkqabcdefghij"
 
@@ -60,7 +60,8 @@ right_says rules cells text side file wing = has (right_letter side wing) text &
 unfoldable pub gate_said : Rules → List (Option Cell) → List ℕ → Side → ℕ → Bool
 gate_said rules cells text side file =
     has (gate_letter side file) text
-    || (rules.gating && (right_says rules cells text side file Kingside || right_says rules cells text side file Queenside))
+    || (rules.gating && (right_says rules cells text side file Kingside
+    || right_says rules cells text side file Queenside))
 
 -- bit f for each file f below n that passes
 unfoldable pub bits_of : (ℕ → Bool) → ℕ → ℕ
@@ -96,7 +97,8 @@ side_may_hold rules r side =
 
 -- rights and gates have their pieces in place
 unfoldable pub may_hold : Rules → List (Option Cell) → Held → Bool
-may_hold rules cells held = side_may_hold rules (held_on cells held) White && side_may_hold rules (held_on cells held) Black
+may_hold rules cells held =
+    side_may_hold rules (held_on cells held) White && side_may_hold rules (held_on cells held) Black
 
 abbrev pub nothing_held : Held
 nothing_held = record {

@@ -32,9 +32,11 @@ kind_letter Black kind = lower kind
 abbrev pub marked_text : Rules → Cell → Option Kind → List ℕ
 marked_text rules c None = kind_letter c.side c.kind ∷ []
 marked_text rules c (Some origin) =
-    if names (promoted_of rules origin) c.kind then 43 ∷ kind_letter c.side origin ∷ [] else kind_letter c.side c.kind ∷ 126 ∷ []
+    if names (promoted_of rules origin) c.kind then 43 ∷ kind_letter c.side origin ∷ []
+        else kind_letter c.side c.kind ∷ 126 ∷ []
 
--- a piece's letter: `+` and the origin's letter where it is the origin's promoted kind, else `~` after its own for another origin
+-- a piece's letter: `+` and the origin's letter where it is the origin's promoted kind, else `~` after its own for
+-- another origin
 abbrev pub cell_text : Rules → Cell → List ℕ
 cell_text rules c = marked_text rules c c.origin
 
@@ -58,11 +60,13 @@ board_text rules cells = join_with_byte 47 (map (row_text rules 0) (rows_at rule
 -- the letters of a hand in alphabetical order
 unfoldable pub hand_text : List (List ℕ) → Side → List ℕ
 hand_text hands side =
-    flat_map (λ kind. replicate (in_hand hands side (record { 0 = kind })) (kind_letter side (record { 0 = kind }))) (range_with_len 0 26)
+    flat_map (λ kind. replicate (in_hand hands side (record { 0 = kind })) (kind_letter side (record { 0 = kind })))
+        (range_with_len 0 26)
 
 -- White's letters and then Black's, in brackets, in each variant with hands
 unfoldable pub pocket_text : Rules → List (List ℕ) → List ℕ
-pocket_text rules hands = if has_hands rules then 91 ∷ (hand_text hands White ++ hand_text hands Black ++ 93 ∷ []) else []
+pocket_text rules hands =
+    if has_hands rules then 91 ∷ (hand_text hands White ++ hand_text hands Black ++ 93 ∷ []) else []
 
 -- ---- the other fields
 
@@ -77,7 +81,8 @@ right_implies rules r side file wing = holds_right r.rights side wing && right_g
 -- the side holds the gate, and no right that it holds gives it
 abbrev pub prints_gate : Rules → Repeat → Side → ℕ → Bool
 prints_gate rules r side file =
-    has_gate r.gates side file && not (right_implies rules r side file Kingside || right_implies rules r side file Queenside)
+    has_gate r.gates side file && not
+        (right_implies rules r side file Kingside || right_implies rules r side file Queenside)
 
 -- the byte is the letter of a right or of a gate that is printed: White's rights, Black's, White's gates, Black's
 unfoldable pub is_printed : Rules → Repeat → ℕ → Bool
@@ -104,7 +109,8 @@ ep_text (Some s) = square_text s
 
 -- the checks left, a field of the variants that count them
 abbrev pub checks_texts : Rules → List ℕ → List (List ℕ)
-checks_texts rules checks = if rules.check_counting then (decimal (slice_index checks 0) ++ 43 ∷ decimal (slice_index checks 1)) ∷ [] else []
+checks_texts rules checks =
+    if rules.check_counting then (decimal (slice_index checks 0) ++ 43 ∷ decimal (slice_index checks 1)) ∷ [] else []
 
 -- ---- the whole
 
@@ -117,7 +123,8 @@ abbrev pub count_texts : Rules → Position → List (List ℕ)
 count_texts rules p = checks_texts rules p.checks ++ decimal p.counter ∷ decimal p.number ∷ []
 
 unfoldable pub field_texts : Rules → Position → List (List ℕ)
-field_texts rules p = (board_text rules p.cells ++ pocket_text rules p.hands) ∷ (state_texts rules p ++ count_texts rules p)
+field_texts rules p =
+    (board_text rules p.cells ++ pocket_text rules p.hands) ∷ (state_texts rules p ++ count_texts rules p)
 
 -- all fields, separated by single blanks
 unfoldable pub fen_text : Rules → Position → List ℕ

@@ -35,8 +35,8 @@ position_with cells hands side held ep checks counter number = record {
   side = side;
 }
 
--- the position, where each side has its king, there are at most 240 pieces, and the king of the side that is not to move stands
--- unattacked
+-- the position, where each side has its king, there are at most 240 pieces, and the king of the side that is not to
+-- move stands unattacked
 unfoldable pub judged : Rules → Position → Result Position FenFault
 judged rules p =
     if not (has_its_king rules p.cells White && has_its_king rules p.cells Black) then Err Kings

@@ -82,7 +82,8 @@ pub record WonNow (rules : Rules) (barred : List Repeat) (a : Side) (p : Positio
   pub is : f ≡ record (fact_of p a 0 None true) { counter = 9999 }
 
 -- some legal move of the attacker is won
-pub record ByMove (rules : Rules) (barred : List Repeat) (a : Side) (known : List Fact) (p : Position) (f : Fact) : Type 0 where
+pub record ByMove (rules : Rules) (barred : List Repeat) (a : Side) (known : List Fact) (p : Position)
+    (f : Fact) : Type 0 where
   pub ongoing : near_end rules barred a p ≡ None
   pub turn : same_side p.side a ≡ true
   pub move : Move
@@ -94,7 +95,8 @@ pub record ByMove (rules : Rules) (barred : List Repeat) (a : Side) (known : Lis
   pub is : f ≡ fact_of p a (fact.moves + 1) (Some move) true
 
 -- each legal move of the other side is won
-pub record ByAll (rules : Rules) (barred : List Repeat) (a : Side) (known : List Fact) (p : Position) (f : Fact) : Type 0 where
+pub record ByAll (rules : Rules) (barred : List Repeat) (a : Side) (known : List Fact) (p : Position)
+    (f : Fact) : Type 0 where
   pub ongoing : near_end rules barred a p ≡ None
   pub turn : same_side p.side a ≡ false
   pub facts : List Fact
@@ -114,7 +116,8 @@ pub record RefutedNow (rules : Rules) (barred : List Repeat) (a : Side) (p : Pos
   pub is : EndedLost rules barred a p f ⊎ OutOfMoves rules barred a p f
 
 -- each legal move of the attacker is refuted
-pub record RefutedByAll (rules : Rules) (barred : List Repeat) (a : Side) (known : List Fact) (p : Position) (f : Fact) : Type 0 where
+pub record RefutedByAll (rules : Rules) (barred : List Repeat) (a : Side) (known : List Fact) (p : Position)
+    (f : Fact) : Type 0 where
   pub ongoing : near_end rules barred a p ≡ None
   pub turn : same_side p.side a ≡ true
   pub facts : List Fact
@@ -122,7 +125,8 @@ pub record RefutedByAll (rules : Rules) (barred : List Repeat) (a : Side) (known
   pub is : f ≡ fact_of p a (smaller (least facts + 1) 65535) None false
 
 -- some legal move of the other side is refuted
-pub record RefutedByMove (rules : Rules) (barred : List Repeat) (a : Side) (known : List Fact) (p : Position) (f : Fact) : Type 0 where
+pub record RefutedByMove (rules : Rules) (barred : List Repeat) (a : Side) (known : List Fact) (p : Position)
+    (f : Fact) : Type 0 where
   pub ongoing : near_end rules barred a p ≡ None
   pub turn : same_side p.side a ≡ false
   pub move : Move
@@ -133,7 +137,8 @@ pub record RefutedByMove (rules : Rules) (barred : List Repeat) (a : Side) (know
   pub is : f ≡ fact_of p a fact.moves (Some move) false
 
 -- the fact on p follows from the known ones
-pub data Derives (rules : Rules) (barred : List Repeat) (a : Side) (known : List Fact) (p : Position) (f : Fact) : Type 0 where
+pub data Derives (rules : Rules) (barred : List Repeat) (a : Side) (known : List Fact) (p : Position)
+    (f : Fact) : Type 0 where
   won_now : WonNow rules barred a p f → Derives rules barred a known p f
   by_move : ByMove rules barred a known p f → Derives rules barred a known p f
   by_all : ByAll rules barred a known p f → Derives rules barred a known p f

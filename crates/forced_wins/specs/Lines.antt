@@ -7,7 +7,8 @@ use Rattle.forced_wins.specs.Games.{Game, Story, history, times, near, near_root
 abbrev pub moves_left : {P R M : Type 0} → Game P R M → ℕ → P → ℕ
 moves_left r n p = if r.attacking p then n - 1 else n
 
--- the moves are legal in turn, the attacker makes at most n of them, and each position after p is won by the moves left there
+-- the moves are legal in turn, the attacker makes at most n of them, and each position after p is won by the moves left
+-- there
 abbrev pub IsWonAlong : {P R M : Type 0} → Game P R M → (R → Bool) → ℕ → P → List M → Type 0
 IsWonAlong r barred n p [] = Unit {0}
 IsWonAlong r barred n p (m ∷ ms) =

@@ -57,8 +57,9 @@ each_legal rules p test = list_all test (legal rules (repeat_of p))
 abbrev pub wins_after : Rules → ℕ → Story → Side → Move → Bool
 wins_after rules n g a m = wins rules n (played rules g m) a
 
--- an ended game is won by a win of the attacker that is no repetition; without a move of its own it wins no ongoing game
--- where it is to move; else it needs some legal move; and each legal move of the other side must leave the game won
+-- an ended game is won by a win of the attacker that is no repetition; without a move of its own it wins no ongoing
+-- game where it is to move; else it needs some legal move; and each legal move of the other side must leave the game
+-- won
 pub record WinSentences (rules : Rules) (n : ℕ) (g : Story) (a : Side) : Type 0 where
   pub won : (s : Side) (c : Cause) → result rules g ≡ Won s c →
       wins rules n g a ≡ (same_side s a && not (is_repetition c))
@@ -94,8 +95,8 @@ pub record NearSentences (rules : Rules) (n : ℕ) (p : Position) (b : List Repe
 abbrev pub near_after_root : Rules → ℕ → Story → Side → Move → Bool
 near_after_root rules n g a = near_after rules n g.last (blocked rules g) a
 
--- the result of an ended game decides; else what follows the first move is looked at without history. A root whose repeat
--- is not barred is looked at as any other position, whether the game has ended or not.
+-- the result of an ended game decides; else what follows the first move is looked at without history. A root whose
+-- repeat is not barred is looked at as any other position, whether the game has ended or not.
 pub record RootSentences (rules : Rules) (n : ℕ) (g : Story) (a : Side) : Type 0 where
   pub ended : (won : Bool) → won_by a (result rules g) ≡ Some won → near_root rules n g a ≡ won
   pub no_move : IsAttack rules g a → near_root rules 0 g a ≡ false
@@ -134,8 +135,8 @@ pub record TruthFollows (rules : Rules) (b : List Repeat) (a : Side) (known : Li
 abbrev pub AreAmong : List Repeat → List Repeat → Type 0
 AreAmong xs ys = (x : Repeat) → is_in xs x ≡ true → is_in ys x ≡ true
 
--- when the barred repeats change, wins stay true where all that are barred now were before, and refutations where all that
--- were barred still are
+-- when the barred repeats change, wins stay true where all that are barred now were before, and refutations where all
+-- that were barred still are
 pub record TruthIsKept (rules : Rules) (a : Side) (old new : List Repeat) (f : Fact) : Type 0 where
   pub wins : f.wins ≡ true → AreAmong new old → IsTrueFact rules old a f → IsTrueFact rules new a f
   pub refutes : f.wins ≡ false → AreAmong old new → IsTrueFact rules old a f → IsTrueFact rules new a f

@@ -48,7 +48,8 @@ leads (Some w) f = f w
 unfoldable pub root_fits : {P R M N E : Type 0} → Game P R M → Accessors P M N E → List N → Story P → ℕ → Bool
 root_fits r tb s g n =
     leads (slice_get s 0) (λ v.
-    r.same (r.repeat (tb.position v)) (r.repeat g.last) && (nat_le (r.counter g.last) (r.counter (tb.position v)) && nat_le (tb.rank v) n))
+    r.same (r.repeat (tb.position v)) (r.repeat g.last)
+        && (nat_le (r.counter g.last) (r.counter (tb.position v)) && nat_le (tb.rank v) n))
 
 -- ---- wrong moves
 
@@ -56,7 +57,8 @@ root_fits r tb s g n =
 abbrev pub fits_edge : {P R M N E : Type 0} → Game P R M → Accessors P M N E → List N → N → E → Bool
 fits_edge r tb s v e =
     list_any (r.same_move (tb.chosen e)) (r.legal (tb.position v))
-    && leads (slice_get s (tb.to e)) (λ w. r.same (r.repeat (tb.position w)) (r.repeat (r.next (tb.position v) (tb.chosen e))))
+    && leads (slice_get s (tb.to e))
+    (λ w. r.same (r.repeat (tb.position w)) (r.repeat (r.next (tb.position v) (tb.chosen e))))
 
 -- two edges have one move
 abbrev pub is_doubled : {P R M N E : Type 0} → Game P R M → Accessors P M N E → List E → Bool
@@ -127,7 +129,8 @@ stands_often r tb s g v =
 abbrev pub is_earlier : {P R M N E : Type 0} → Game P R M → Accessors P M N E → List N → ℕ → N → Bool
 is_earlier r tb s i v =
     list_any (λ u.
-    r.same (r.repeat (tb.position u)) (r.repeat (tb.position v)) && (r.counter (tb.position u) == r.counter (tb.position v))) (take i s)
+    r.same (r.repeat (tb.position u)) (r.repeat (tb.position v))
+        && (r.counter (tb.position u) == r.counter (tb.position v))) (take i s)
 
 unfoldable pub repeats_at : {P R M N E : Type 0} → Game P R M → Accessors P M N E → List N → Story P → ℕ → N → Bool
 repeats_at r tb s g i v = is_earlier r tb s i v || (nat_lt 0 i && (is_root_again r tb s v || stands_often r tb s g v))
@@ -164,7 +167,8 @@ missing i None = Wins
 missing i (Some m) = MissingReply i m
 
 -- the first fault of the node at the place i
-unfoldable pub node_verdict : {P R M N E : Type 0} → Game P R M → Accessors P M N E → List N → Story P → ℕ → N → Verdict M
+unfoldable pub node_verdict : {P R M N E : Type 0} → Game P R M → Accessors P M N E → List N → Story P → ℕ → N
+    → Verdict M
 node_verdict r tb s g i v =
     or_verdict (fault_if (wrong_move r tb s v) (WrongMove i))
     (or_verdict (missing i (missing_reply r tb v))
@@ -174,7 +178,8 @@ node_verdict r tb s g i v =
     (fault_if (not_won r tb g i v) (NotWon i))))))
 
 -- the first fault of the nodes from the place i on
-unfoldable pub nodes_verdict : {P R M N E : Type 0} → Game P R M → Accessors P M N E → List N → Story P → ℕ → List N → Verdict M
+unfoldable pub nodes_verdict : {P R M N E : Type 0} → Game P R M → Accessors P M N E → List N → Story P → ℕ → List N
+    → Verdict M
 nodes_verdict r tb s g i [] = Wins
 nodes_verdict r tb s g i (v ∷ vs) = or_verdict (node_verdict r tb s g i v) (nodes_verdict r tb s g (suc i) vs)
 
@@ -190,7 +195,8 @@ IsGood r tb is_for s g n = verdict r tb is_for s g n ≡ Wins
 -- ---- the same in positive form
 
 -- none of the faults stands at the node i
-pub record IsFaultless (P R M N E : Type 0) (r : Game P R M) (tb : Accessors P M N E) (s : List N) (g : Story P) (i : ℕ) (v : N) : Type 0 where
+pub record IsFaultless (P R M N E : Type 0) (r : Game P R M) (tb : Accessors P M N E) (s : List N) (g : Story P) (i : ℕ)
+    (v : N) : Type 0 where
   pub wrong_move : wrong_move r tb s v ≡ false
   pub missing_reply : missing_reply r tb v ≡ None
   pub bad_rank : bad_rank r tb s v ≡ false
@@ -198,6 +204,7 @@ pub record IsFaultless (P R M N E : Type 0) (r : Game P R M) (tb : Accessors P M
   pub repeats : repeats_at r tb s g i v ≡ false
   pub not_won : not_won r tb g i v ≡ false
 
-pub record AreFaultless (P R M N E : Type 0) (r : Game P R M) (tb : Accessors P M N E) (s : List N) (g : Story P) (n : ℕ) : Type 0 where
+pub record AreFaultless (P R M N E : Type 0) (r : Game P R M) (tb : Accessors P M N E) (s : List N) (g : Story P)
+    (n : ℕ) : Type 0 where
   pub root : root_fits r tb s g n ≡ true
   pub nodes : (i : ℕ) (v : N) → slice_get s i ≡ Some v → IsFaultless P R M N E r tb s g i v

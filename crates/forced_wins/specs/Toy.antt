@@ -1,4 +1,5 @@
--- A toy game on numbered spots, small enough to compute: on some spots the attacker is to move, on others the other side.
+-- A toy game on numbered spots, small enough to compute: on some spots the attacker is to move, on others the other
+-- side.
 use Rattle.std.specs.Prelude.{ℕ, ◌+◌, ◌==◌, List, [], ◌∷◌, Bool, true, false, not, ◌&&◌, ◌||◌, if◌then◌else◌, Option, Some, None}
 use Rattle.foundation.specs.Tests.{same_bool, is_nil}
 use Rattle.forced_wins.specs.Games.{Game, Story}
@@ -15,7 +16,9 @@ pub record Place : Type 0 where
 
 -- where the attacker can go from his spots
 abbrev pub own_roads : ℕ → List ℕ
-own_roads n = if n == 0 then 1 ∷ 2 ∷ [] else if n == 5 then 2 ∷ [] else if n == 6 then 7 ∷ [] else if n == 10 then 11 ∷ [] else if (n == 3) || ((n == 4) || (n == 8)) then 9 ∷ [] else []
+own_roads n =
+    if n == 0 then 1 ∷ 2 ∷ [] else if n == 5 then 2 ∷ [] else if n == 6 then 7 ∷ [] else if n == 10 then 11 ∷ []
+    else if (n == 3) || ((n == 4) || (n == 8)) then 9 ∷ [] else []
 
 -- where the other side can go from its spots: from 11 it may escape to 14
 abbrev pub other_roads : ℕ → List ℕ

@@ -1,7 +1,7 @@
 //! Forced wins by the rules of play, over games with their whole history (`Story`) and for either side as the attacker.
 //!
-//! How a game stands is said by the laws of `rules_model`, in `game_laws`, and what stays sound by `sound_play`: these laws use
-//! them, and open no definition of the rules.
+//! How a game stands is said by the laws of `rules_model`, in `game_laws`, and what stays sound by `sound_play`: these
+//! laws use them, and open no definition of the rules.
 ghost use Rattle.std.specs.Prelude.{◌≡◌, ℕ, ◌≤◌, List, true};
 ghost use Rattle.rules_model.specs.declared.board.Position.{Position};
 ghost use Rattle.rules_model.specs.declared.board.Repeat.{Repeat};
@@ -15,22 +15,22 @@ ghost use Rattle.forced_wins.specs.RuleSentences.{AreTrueFacts, GoodIsGood, Good
 ghost use Rattle.forced_wins.specs.Tables.{Accessors};
 ghost use Rattle.forced_wins.specs.Wins.{near};
 
-/// The sentences on wins: a game that has ended is won exactly by a win of the attacker that is no repetition; with no move
-/// left the attacker wins no ongoing game where he is to move; else he needs some legal move; and each legal move of the other
-/// side must leave the game won.
+/// The sentences on wins: a game that has ended is won exactly by a win of the attacker that is no repetition; with no
+/// move left the attacker wins no ongoing game where he is to move; else he needs some legal move; and each legal move
+/// of the other side must leave the game won.
 pub fn wins_are_a_bounded_recursion()
     ensures { (rules : Rules) (n : ℕ) (g : Story) (a : Side) → WinSentences rules n g a }
 {}
 
-/// The sentences on near wins of a position: an end by itself decides; else a barred repeat or a counter that has run out is
-/// lost; else the moves decide, as for wins.
+/// The sentences on near wins of a position: an end by itself decides; else a barred repeat or a counter that has run
+/// out is lost; else the moves decide, as for wins.
 pub fn near_wins_are_a_bounded_recursion()
     ensures { (rules : Rules) (n : ℕ) (p : Position) (b : List Repeat) (a : Side) → NearSentences rules n p b a }
 {}
 
-/// The sentences on near wins of a game: its own result decides where it has ended; else what follows the first move is looked
-/// at without history, and the repeats that the game has used up are barred. Where the root's repeat is not one of these, a near
-/// win of the game is one of its last position.
+/// The sentences on near wins of a game: its own result decides where it has ended; else what follows the first move is
+/// looked at without history, and the repeats that the game has used up are barred. Where the root's repeat is not one
+/// of these, a near win of the game is one of its last position.
 pub fn near_wins_of_games_look_past_the_root()
     ensures { (rules : Rules) (n : ℕ) (g : Story) (a : Side) → RootSentences rules n g a }
 {}
@@ -62,22 +62,23 @@ pub fn derived_facts_are_true()
         AreTrueFacts rules b a known → TruthFollows rules b a known }
 {}
 
-/// A winning fact stays true where every barred repeat was barred before, a refuting one where those that were barred still are.
+/// A winning fact stays true where every barred repeat was barred before, a refuting one where those that were barred
+/// still are.
 pub fn kept_facts_are_true()
     ensures { (rules : Rules) (a : Side) (old new : List Repeat) (f : Fact) → TruthIsKept rules a old new f }
 {}
 
-/// Where the counter cannot run out, a good strategy exists exactly where the game is won. A near win has a good strategy, or it
-/// is unsettled: the counter can run out, and some repeat stands on winning lines at too many counters. Where the rules fit, such
-/// a strategy can be written with sound positions alone, each with the number 1.
+/// Where the counter cannot run out, a good strategy exists exactly where the game is won. A near win has a good
+/// strategy, or it is unsettled: the counter can run out, and some repeat stands on winning lines at too many counters.
+/// Where the rules fit, such a strategy can be written with sound positions alone, each with the number 1.
 pub fn won_games_have_good_strategies()
     ensures exist { (rules : Rules) (n : ℕ) (g : Story) (a : Side) → WasPlayed rules g → HasStrategies rules n g a }
     ensures sound { (rules : Rules) (n : ℕ) (g : Story) (a : Side) → IsFit rules → WasPlayed rules g →
         HasSoundStrategies rules n g a }
 {}
 
-/// The rules of play are a game as `any_game` has them: they meet its laws, its wins and near wins are those by the rules, and
-/// evidence and good strategies there are evidence and good strategies here.
+/// The rules of play are a game as `any_game` has them: they meet its laws, its wins and near wins are those by the
+/// rules, and evidence and good strategies there are evidence and good strategies here.
 pub fn rules_of_play_are_a_game<N, E>()
     ensures game { (rules : Rules) (a : Side) → IsAnyGame rules a }
     ensures wins { (rules : Rules) (n : ℕ) (g : Story) (a : Side) → MeansTheSame rules n g a }

@@ -21,8 +21,9 @@ pub struct Fact {
 }
 
 impl Fact {
-    /// Whether the fact answers, for its own repeat, if the attacker wins at the counter within so many of his moves: a win
-    /// answers yes for as many moves or more at a counter up to its own, a refutation no for as many or fewer at one from its own on.
+    /// Whether the fact answers, for its own repeat, if the attacker wins at the counter within so many of his moves: a
+    /// win answers yes for as many moves or more at a counter up to its own, a refutation no for as many or fewer at
+    /// one from its own on.
     pub fn covers(&self, counter: u16, moves: u16) -> bool
         ensures { result ≡ Facts.covers self.now self.now.wins counter moves }
     {
@@ -34,8 +35,8 @@ impl Fact {
     }
 }
 
-/// Whether a strategy's edge may lead from a rank to another: the rank falls at a move of the attacker, and does not rise at
-/// one of the other side.
+/// Whether a strategy's edge may lead from a rank to another: the rank falls at a move of the attacker, and does not
+/// rise at one of the other side.
 pub fn is_falling(is_attacking: bool, from: u16, to: u16) -> bool
     ensures { result ≡ Tables.fits_rank is_attacking from to }
 {

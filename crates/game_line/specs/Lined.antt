@@ -61,7 +61,8 @@ abbrev pub all_keys : Story → List ℕ → List ℕ
 all_keys base keys = keys_of base.earlier ++ keys
 
 -- the boards and the keys are those of the positions since the game, and the moves are legal, each in its turn
-pub record IsHeld (rules : Rules) (base : Position) (moves : List Move) (boards : List Stance) (keys : List ℕ) : Type 0 where
+pub record IsHeld (rules : Rules) (base : Position) (moves : List Move) (boards : List Stance)
+    (keys : List ℕ) : Type 0 where
   pub are_legal : are_legal rules base moves ≡ true
   pub are_boards : boards ≡ stances_of rules (positions_since rules base moves)
   pub are_keys : keys ≡ keys_of (positions_since rules base moves)

@@ -13,8 +13,8 @@ use rules_model::{Memory, Move, Rules};
 use std::alloc::Global;
 use std::marker::Model;
 
-/// A line of legal moves that goes on from the last position of a game. A board is kept for each move, and its key, in memory that is
-/// taken at the start. Contracts see the game's positions, and the line's moves and room.
+/// A line of legal moves that goes on from the last position of a game. A board is kept for each move, and its key, in
+/// memory that is taken at the start. Contracts see the game's positions, and the line's moves and room.
 #[derive(Drop)]
 pub struct Line<'g> {
     pub(crate) game: &'g Game,
@@ -40,7 +40,8 @@ impl<'g> Model for Line<'g> {
     ghost view = { λ l. line_of l.game.now l.moves.items l.room };
 
     ghost invariant = { λ l. IsHeld l.game.now.rules (story l.game.now).last l.moves.items l.boards.items l.keys.items
-        × HasRoom (length (story l.game.now).earlier) (length l.moves.items) l.room (vec_capacity l.boards) (vec_capacity l.moves) (vec_capacity l.keys)
+        × HasRoom (length (story l.game.now).earlier) (length l.moves.items) l.room (vec_capacity l.boards)
+        (vec_capacity l.moves) (vec_capacity l.keys)
         × AreCounts (all_keys (story l.game.now) l.keys.items) l.slots };
 }
 

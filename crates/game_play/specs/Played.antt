@@ -44,10 +44,12 @@ pub record IsPlayed (g : Played) : Type 0 where
   pub game : IsGame g.rules g.start g.moves
   pub few : length g.moves ≤ 8192
 
--- the end of a game that its last position does not end by itself: repetition, where that position has stood often enough, or the move count
+-- the end of a game that its last position does not end by itself: repetition, where that position has stood often
+-- enough, or the move count
 abbrev pub late_end : Rules → Position → Bool → Outcome
 late_end rules last repeated =
-    if repeated then valued rules.n_fold_value last.side Repetition else if is_run_out rules last.counter then Drawn MoveCount else Ongoing
+    if repeated then valued rules.n_fold_value last.side Repetition
+        else if is_run_out rules last.counter then Drawn MoveCount else Ongoing
 
 -- why a move was refused, exactly: each fault has its own case, and so has the move that is played
 abbrev pub IsAnswer : {A : Type 0} → Played → Move → Result A PlayFault → Type 0
@@ -60,7 +62,8 @@ IsAnswer g m (Err Memory) = Member m (legal_in g) × (length g.moves < 8192)
 
 -- the game of rules, positions and moves: it started from the first of the positions
 abbrev pub played_of : Rules → List Position → List Move → Played
-played_of rules positions moves = record { rules = rules; start = slice_index_or positions 0 rules.start; moves = moves }
+played_of rules positions moves =
+    record { rules = rules; start = slice_index_or positions 0 rules.start; moves = moves }
 
 -- a key for each position
 abbrev pub keys_of : List Position → List ℕ

@@ -14,8 +14,8 @@ use std::marker::Model;
 /// How many plies a game keeps at most.
 pub const MOST_PLIES: usize = 8192;
 
-/// A game: its rules, the position from which it started, and the moves that were played, each legal in its turn. A position is kept for each
-/// ply, some 600 bytes.
+/// A game: its rules, the position from which it started, and the moves that were played, each legal in its turn. A
+/// position is kept for each ply, some 600 bytes.
 #[derive(Drop)]
 pub struct Game {
     pub(crate) tables: Tables,

@@ -1,4 +1,5 @@
-//! Games: a sound start, and legal moves each in turn (FIDE Laws of Chess, article 1), with their history and their results.
+//! Games: a sound start, and legal moves each in turn (FIDE Laws of Chess, article 1), with their history and their
+//! results.
 #![tactic(auto)]
 
 pub mod faults;

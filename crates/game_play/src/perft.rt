@@ -48,8 +48,9 @@ fn count_lines(
 }
 
 impl Game {
-    /// The number of lists of so many legal moves in turn after the last position: 1 to 9 moves; at most 2^128 - 1, which also stands for
-    /// more. Where the last position is ended by itself there is none; a game that is ended by repetition or move count goes on.
+    /// The number of lists of so many legal moves in turn after the last position: 1 to 9 moves; at most 2^128 - 1,
+    /// which also stands for more. Where the last position is ended by itself there is none; a game that is ended by
+    /// repetition or move count goes on.
     pub fn perft(&self, alloc: Global, plies: u8) -> Result<u128, Memory>
         requires least { 1 ≤ plies }
         requires most { plies ≤ 9 }

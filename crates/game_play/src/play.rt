@@ -40,7 +40,8 @@ impl Game {
     ///
     /// # Errors
     ///
-    /// `Illegal` where the move is not legal in the last position; `TooLong` where it is, and 8,192 plies are kept; `Memory`.
+    /// `Illegal` where the move is not legal in the last position; `TooLong` where it is, and 8,192 plies are kept;
+    /// `Memory`.
     pub fn play(&mut self, m: &Move) -> Result<(), PlayFault>
         ensures answer { IsAnswer self.old m.now result }
         ensures played { OnOk result (self.new ≡ longer self.old m.now) }

@@ -81,7 +81,8 @@ fn blocked_by(
 ) -> Result<Blocked, Memory>
     requires keys { keys.now ≡ keys_of positions.now }
     requires few { length positions.now ≤ 8193 }
-    ensures { IfOk result (λ b. b ≡ filter (λ x. nat_le fold (times x positions.now + 1)) (each_once (map Repeats.repeat_of positions.now))) }
+    ensures { IfOk result (λ b. b ≡ filter
+        (λ x. nat_le fold (times x positions.now + 1)) (each_once (map Repeats.repeat_of positions.now))) }
 {
     let mut items = Vec::new(alloc);
     for at in 0..positions.len() {
@@ -110,8 +111,8 @@ impl Game {
         standings(self.positions.as_slice(), self.keys.as_slice(), p, key)
     }
 
-    /// The repeats of the game that may not stand again: each one whose count plus 1 is at least `nFoldRule`, once, in the order in which
-    /// they first stood; none where the rule is off. `Memory` where there is none.
+    /// The repeats of the game that may not stand again: each one whose count plus 1 is at least `nFoldRule`, once, in
+    /// the order in which they first stood; none where the rule is off. `Memory` where there is none.
     #[tactic(auto, unfolding(forced_wins::specs::Wins::blocked))]
     pub fn blocked(&self, alloc: Global) -> Result<Blocked, Memory>
         ensures { IfOk result (λ b. b ≡ Wins.blocked self.now.rules (story self.now)) }

@@ -9,8 +9,8 @@ use end_rules::{is_run_out, valued};
 use legality::own_end;
 use rules_model::{Cause, Outcome, Position, Rules};
 
-/// The end of a game that its last position does not end by itself: repetition, where that position has stood as often as the rule says, or
-/// the move count; `Outcome::Ongoing` where there is neither.
+/// The end of a game that its last position does not end by itself: repetition, where that position has stood as often
+/// as the rule says, or the move count; `Outcome::Ongoing` where there is neither.
 pub fn late_end(rules: &Rules, last: &Position, repeated: bool) -> Outcome
     ensures { result ≡ Played.late_end rules.now last.now repeated }
 {
@@ -33,8 +33,8 @@ impl Game {
         fold != 0 && self.last_standings() >= u32::from(fold)
     }
 
-    /// How the game stands, by the first that holds: an end by the position itself; no legal move; repetition; the move count; else it is
-    /// ongoing. A game that is ended by repetition or move count may be continued.
+    /// How the game stands, by the first that holds: an end by the position itself; no legal move; repetition; the move
+    /// count; else it is ongoing. A game that is ended by repetition or move count may be continued.
     #[tactic(auto, unfolding(rules_model::specs::Games::result))]
     pub fn outcome(&self) -> Outcome
         ensures { result ≡ Games.result self.now.rules (story self.now) }

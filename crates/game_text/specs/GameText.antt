@@ -1,5 +1,5 @@
--- What a game text says: line 1 is the variant's name, line 2 the position, and the lines after them are the texts of moves, separated by
--- spaces and tabs.
+-- What a game text says: line 1 is the variant's name, line 2 the position, and the lines after them are the texts of
+-- moves, separated by spaces and tabs.
 use Rattle.std.specs.Prelude.{ℕ, ◌+◌, List, [], ◌∷◌, Option, Some, None, Result, Ok, Err, bytes_eq, codes, if◌then◌else◌}
 use Rattle.io_ports.specs.Lines.{Line, Text, TooLong}
 use Rattle.rules_model.specs.declared.board.Position.{Position}

@@ -1,4 +1,5 @@
--- The goal of a problem: which side is to win, and within how many of its own moves; or a stipulation for the side that is to move.
+-- The goal of a problem: which side is to win, and within how many of its own moves; or a stipulation for the side that
+-- is to move.
 use Rattle.std.specs.Prelude.{ℕ, Bool, true, false, ◌&&◌, nat_le, List, length, take, drop, Option, Some, None, bytes_eq, codes, if◌then◌else◌}
 use Rattle.rules_model.specs.declared.board.Side.{Side}
 use Rattle.rules_model.specs.declared.board.Side.TheVariants.{White, Black}
@@ -13,7 +14,8 @@ after_words words text = if bytes_eq (take (length words) text) words then Some 
 -- within 1 to 100 moves of the side
 abbrev pub within : Side → Option ℕ → Option Goal
 within side None = None
-within side (Some moves) = if nat_le 1 moves && nat_le moves 100 then Some (record { attacker = side; moves = moves }) else None
+within side (Some moves) =
+    if nat_le 1 moves && nat_le moves 100 then Some (record { attacker = side; moves = moves }) else None
 
 -- by what stands after the words of White, and else by what stands after those of Black
 abbrev pub goal_by : Option (List ℕ) → Option (List ℕ) → Option Goal
@@ -30,7 +32,8 @@ goal_said text = goal_by (after_words (codes "mate white ") text) (after_words (
 -- within 1 to 6 moves of the side that is to move, or of each side
 abbrev pub stipulated : Bool → Option ℕ → Option Stipulation
 stipulated help None = None
-stipulated help (Some moves) = if nat_le 1 moves && nat_le moves 6 then Some (record { help = help; moves = moves }) else None
+stipulated help (Some moves) =
+    if nat_le 1 moves && nat_le moves 6 then Some (record { help = help; moves = moves }) else None
 
 abbrev pub stipulation_by : Option (List ℕ) → Option (List ℕ) → Option Stipulation
 stipulation_by (Some number) help = stipulated false (number_of number)

@@ -1,4 +1,5 @@
--- What the lines of a problem say: a game, whose moves stand on line 3 alone, and on line 4 the goal. What line 4 may say is given.
+-- What the lines of a problem say: a game, whose moves stand on line 3 alone, and on line 4 the goal. What line 4 may
+-- say is given.
 use Rattle.std.specs.Prelude.{ℕ, ◌+◌, ◌-◌, List, [], ◌∷◌, length, take, drop, Option, Some, None, Result, Ok, Err}
 use Rattle.io_ports.specs.Lines.{Line, Text, TooLong}
 use Rattle.variant_rules.specs.Entries.{Named}
@@ -47,16 +48,19 @@ problem_of said variants lines = and_then (game_of variants (take 2 lines)) (λ 
 
 -- of the lines from line 3 on
 unfoldable pub lines_on_problem : Played → List Line → ℕ
-lines_on_problem g lines = length (take 1 lines) + unless_faulty (moves_on g lines) (λ h. length (take 1 (drop 1 lines)))
+lines_on_problem g lines =
+    length (take 1 lines) + unless_faulty (moves_on g lines) (λ h. length (take 1 (drop 1 lines)))
 
 unfoldable pub lines_of_problem : List Named → List Line → ℕ
 lines_of_problem variants lines =
-    lines_of_game variants (take 2 lines) + unless_faulty (game_of variants (take 2 lines)) (λ g. lines_on_problem g (drop 2 lines))
+    lines_of_game variants (take 2 lines) + unless_faulty (game_of variants (take 2 lines))
+        (λ g. lines_on_problem g (drop 2 lines))
 
 -- ---- after line 1, which is this text
 
 -- the problem, or its first fault
-abbrev pub problem_after : {A : Type 0} → (List ℕ → Option A) → List Named → List ℕ → List Line → Result (Problem A) GameFault
+abbrev pub problem_after : {A : Type 0} → (List ℕ → Option A) → List Named → List ℕ → List Line
+    → Result (Problem A) GameFault
 problem_after said variants first lines = problem_of said variants (Text first ∷ lines)
 
 -- how many more lines tell it

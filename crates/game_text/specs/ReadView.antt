@@ -22,7 +22,8 @@ Plays said now (Err (Faulty fault)) = said ≡ Err fault
 Plays said now (Err Unread) = ⊥
 Plays said now (Err Memory) = ⊤
 
--- Lines say this game, which the code has now, or have this fault. Where no game was read for another reason nothing is known.
+-- Lines say this game, which the code has now, or have this fault. Where no game was read for another reason nothing is
+-- known.
 abbrev pub Says : {A : Type 0} → Result Played GameFault → Played → Result A NoGame → Type 0
 Says said now (Ok x) = said ≡ Ok now
 Says said now (Err (Faulty fault)) = said ≡ Err fault

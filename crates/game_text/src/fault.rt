@@ -101,8 +101,8 @@ fn fault_bytes(alloc: Global, fault: &GameFault) -> Result<Vec<u8>, AllocError>
     }
 }
 
-/// As the fault prints: the type's name, the fault's number, its name and its fields, as `GameFault 5 BadMove 2 e7e4`. Names and texts are
-/// printed as they were read, also where they are not UTF-8.
+/// As the fault prints: the type's name, the fault's number, its name and its fields, as `GameFault 5 BadMove 2 e7e4`.
+/// Names and texts are printed as they were read, also where they are not UTF-8.
 pub fn write_fault(alloc: Global, fault: &GameFault) -> Result<Text, NoMemory>
     ensures { IfOk result (λ text. text ≡ fault_text fault.now) }
 {

@@ -1,7 +1,8 @@
 //! Game texts: the name of a variant, a position and the moves that were played, read line by line into a game.
 //!
-//! Line 1 is the name of a variant, line 2 is `startpos` or a FEN, and the lines after them have the texts of moves, separated by spaces and
-//! tabs. The text ends with the input. A problem is a game text whose moves stand on line 3 alone, and a goal on line 4.
+//! Line 1 is the name of a variant, line 2 is `startpos` or a FEN, and the lines after them have the texts of moves,
+//! separated by spaces and tabs. The text ends with the input. A problem is a game text whose moves stand on line 3
+//! alone, and a goal on line 4.
 #![tactic(auto)]
 
 mod copies;

@@ -77,12 +77,12 @@ fn read_on<S: Source, G: ReadGoal + Drop>(
     Ok(Problem { game, goal })
 }
 
-/// Reads the rest of a problem of one of these variants whose line 1 is in the buffer: a game text whose moves stand on line 3
-/// alone, which may be empty, and on line 4 the goal. What comes after line 4 is left in the source.
+/// Reads the rest of a problem of one of these variants whose line 1 is in the buffer: a game text whose moves stand on
+/// line 3 alone, which may be empty, and on line 4 the goal. What comes after line 4 is left in the source.
 ///
-/// The answer is the problem, or the first fault: that of the first faulty line, and on a line that of the first faulty word.
-/// No line after it is taken. `Unread` is the answer where the source failed, and `Memory` where there was none; then nothing
-/// is known of the lines.
+/// The answer is the problem, or the first fault: that of the first faulty line, and on a line that of the first faulty
+/// word. No line after it is taken. `Unread` is the answer where the source failed, and `Memory` where there was none;
+/// then nothing is known of the lines.
 pub fn read_problem_after<S: Source, G: ReadGoal + Drop>(
     alloc: Global,
     variants: &Variants,

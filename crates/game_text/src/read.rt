@@ -146,9 +146,9 @@ pub(crate) fn read_start<S: Source>(
 
 /// Reads a game text of one of these variants to its end or to its first faulty line, in one pass.
 ///
-/// The answer is the game that the text says, after all its moves, or the text's first fault: that of the first faulty line, and on a line
-/// that of the first faulty word. No line after it is taken. `Unread` is the answer where the source failed, and `Memory` where there was
-/// none; then nothing is known of the text.
+/// The answer is the game that the text says, after all its moves, or the text's first fault: that of the first faulty
+/// line, and on a line that of the first faulty word. No line after it is taken. `Unread` is the answer where the
+/// source failed, and `Memory` where there was none; then nothing is known of the text.
 pub fn read_game<S: Source>(
     alloc: Global,
     variants: &Variants,

@@ -14,7 +14,8 @@ pub fn games_are_play()
 /// An ended state has the value of its end, however deep one looks.
 pub fn ended_states_have_the_value_of_their_end<X, M>()
     ensures values { (g : Play X M) (depth ply : ℕ) (x : X) (v : ℤ) → g.ended x ply ≡ Some v → value g depth ply x ≡ v }
-    ensures quiet_values { (g : Play X M) (limit ply : ℕ) (x : X) (v : ℤ) → g.ended x ply ≡ Some v → quiet g limit ply x ≡ v }
+    ensures quiet_values { (g : Play X M) (limit ply : ℕ) (x : X) (v : ℤ) → g.ended x ply ≡ Some v
+        → quiet g limit ply x ≡ v }
 {}
 
 /// A value is from -30,000 to 30,000, or it is that of an end that is no further from the root than the depth and

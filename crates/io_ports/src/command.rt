@@ -29,7 +29,8 @@ pub enum UciWord {
 /// on. Spaces and tabs separate words; what stands before the command is skipped.
 pub fn find_command(line: &[u8]) -> Option<(UciWord, Option<&[u8]>)>
     ensures { MatchOption result (first_command (slice_split is_blank line.now) ≡ None)
-        (λ found. first_command (slice_split is_blank line.now) ≡ Some (found.0, parts_after is_blank (option_copied found.1))) }
+        (λ found. first_command (slice_split is_blank line.now)
+            ≡ Some (found.0, parts_after is_blank (option_copied found.1))) }
 {
     let mut left = Some(line);
     while let Some(text) = left {

@@ -1,5 +1,5 @@
-//! Prints how many positions a second have their legal moves listed and one of them played, and how many have them counted too, for
-//! a few variants. Without a word it prints nothing.
+//! Prints how many positions a second have their legal moves listed and one of them played, and how many have them
+//! counted too, for a few variants. Without a word it prints nothing.
 #![tactic(auto)]
 
 ghost use Rattle.std.specs.Prelude.{◌≡◌, true};

@@ -12,4 +12,5 @@ chosen_by choice m = is_chosen choice.safety.tables.now (repeat_of choice.safety
 -- the choice suits a move that is fit: it is wanted, and sane
 abbrev pub suits : Choice → Move → Bool
 suits choice m =
-    is_wanted choice.safety.tables.now (repeat_of choice.safety.p.now) choice.captures m && is_sane choice.safety.tables.now (repeat_of choice.safety.p.now) m
+    is_wanted choice.safety.tables.now (repeat_of choice.safety.p.now) choice.captures m
+        && is_sane choice.safety.tables.now (repeat_of choice.safety.p.now) m

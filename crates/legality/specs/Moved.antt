@@ -46,7 +46,8 @@ is_free_drop rules enter (Drop kind to) = has enter to.0 && not (is_king rules k
 
 -- the cells hold each piece of the side that is on the board
 abbrev pub HoldsMenOf : Side → List (Option Cell) → List (Option Cell) → Type 0
-HoldsMenOf side board cells = (s : ℕ) → is_own side (λ kind. true) (cell_at board s) ≡ true → cell_at board s ≡ cell_at cells s
+HoldsMenOf side board cells =
+    (s : ℕ) → is_own side (λ kind. true) (cell_at board s) ≡ true → cell_at board s ≡ cell_at cells s
 
 -- the cells hold each piece of the other side that is on the board after the move
 abbrev pub HoldsEnemiesAfter : Rules → Repeat → Move → List (Option Cell) → Type 0
@@ -113,8 +114,8 @@ GateInVain rules r own kings enter =
 abbrev pub leaves_another : Rules → Set → Set → Square → Kind → Bool
 leaves_another rules own kings from kind = has own from.0 && not (has kings from.0) && not (is_king rules kind)
 
--- without a gate a piece goes from a square of 'leave'; with one, an own piece other than a king leaves one other than a
--- king behind
+-- without a gate a piece goes from a square of 'leave'; with one, an own piece other than a king leaves one other than
+-- a king behind
 abbrev pub leaves_in_vain : Rules → Set → Set → Set → Square → Option Kind → Bool
 leaves_in_vain rules own kings leave from None = has leave from.0
 leaves_in_vain rules own kings leave from (Some kind) = leaves_another rules own kings from kind
@@ -152,7 +153,8 @@ GateAtOnce rules r own kings enter =
 
 -- a piece that goes from the square to any of the targets, and stays what it is, makes a sane move
 abbrev pub MayGo : Rules → Repeat → Square → Set → Type 0
-MayGo rules r from targets = (to : Square) → to.0 < 120 → has targets to.0 ≡ true → is_sane rules r (Go from to Stays None) ≡ true
+MayGo rules r from targets =
+    (to : Square) → to.0 < 120 → has targets to.0 ≡ true → is_sane rules r (Go from to Stays None) ≡ true
 
 -- to each of the targets a piece that goes by the shift, and stays what it is, makes a sane move
 abbrev pub MayGoBy : Rules → Repeat → Shift → Set → Type 0

@@ -25,7 +25,8 @@ best (f ∷ fs) repeat counter moves = sooner (if_serves f repeat counter moves)
 
 -- ---- publish
 
--- k is of the repeat and the kind of f, and answers every query that f answers: it answers the one for which f is just enough
+-- k is of the repeat and the kind of f, and answers every query that f answers: it answers the one for which f is just
+-- enough
 unfoldable pub is_as_good : Fact → Fact → Bool
 is_as_good k f = same_bool k.wins f.wins && serves k f.repeat f.counter f.moves
 
@@ -50,7 +51,8 @@ pub record ServesAsMuch (k f : Fact) : Type 0 where
 
 -- no fact of the list serves the query
 abbrev pub NoneServes : List Fact → Repeat → ℕ → ℕ → Type 0
-NoneServes fs repeat counter moves = (i : ℕ) (g : Fact) → slice_get fs i ≡ Some g → serves g repeat counter moves ≡ false
+NoneServes fs repeat counter moves =
+    (i : ℕ) (g : Fact) → slice_get fs i ≡ Some g → serves g repeat counter moves ≡ false
 
 -- f stands in the list and serves the query; those that serve it have no fewer moves, and those before f have more
 pub record IsFirstOfLeast (fs : List Fact) (repeat : Repeat) (counter moves : ℕ) (f : Fact) : Type 0 where
@@ -58,4 +60,5 @@ pub record IsFirstOfLeast (fs : List Fact) (repeat : Repeat) (counter moves : �
   pub stands : slice_get fs place ≡ Some f
   pub serves_it : serves f repeat counter moves ≡ true
   pub least : (i : ℕ) (g : Fact) → slice_get fs i ≡ Some g → serves g repeat counter moves ≡ true → f.moves ≤ g.moves
-  pub first : (i : ℕ) (g : Fact) → i < place → slice_get fs i ≡ Some g → serves g repeat counter moves ≡ true → f.moves < g.moves
+  pub first : (i : ℕ) (g : Fact) → i < place → slice_get fs i ≡ Some g → serves g repeat counter moves ≡ true
+      → f.moves < g.moves

@@ -32,7 +32,8 @@ known_to worker known = map (λ k. k.fact) (filter (λ k. k.worker == worker) kn
 
 -- a fact that is published follows from what its worker knows
 abbrev pub IsAllowed : Store → Event → Type 0
-IsAllowed s (Publish worker shard fact) = IsGrounded s.frame.rules s.frame.blocked s.frame.attacker (known_to worker s.known) fact
+IsAllowed s (Publish worker shard fact) =
+    IsGrounded s.frame.rules s.frame.blocked s.frame.attacker (known_to worker s.known) fact
 IsAllowed s (Look worker shard repeat counter moves) = Unit {0}
 IsAllowed s (Hint word value) = Unit {0}
 

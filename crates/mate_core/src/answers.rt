@@ -79,6 +79,7 @@ pub fn as_good_facts_serve_as_much()
 /// The best answer of a list serves the query. No fact of the list that serves it has fewer moves, and none before it
 /// has as few. There is none exactly where no fact serves.
 pub fn best_is_the_first_of_the_least()
-    ensures found { (fs : List Fact) (r : Repeat) (c n : ℕ) (f : Fact) → Best.best fs r c n ≡ Some f → Best.IsFirstOfLeast fs r c n f }
+    ensures found { (fs : List Fact) (r : Repeat) (c n : ℕ) (f : Fact) → Best.best fs r c n ≡ Some f
+        → Best.IsFirstOfLeast fs r c n f }
     ensures none { (fs : List Fact) (r : Repeat) (c n : ℕ) → (Best.best fs r c n ≡ None) ↔ Best.NoneServes fs r c n }
 {}

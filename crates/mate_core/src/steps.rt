@@ -75,7 +75,8 @@ fn look(
     counter: u16,
     moves: u16,
 ) -> Result<(Store, Reply), Memory>
-    ensures { IfOk result (λ done. done ≡ Steps.look_at store worker repeat.now counter moves (slice_get store.shards shard)) }
+    ensures { IfOk result (λ done. done
+        ≡ Steps.look_at store worker repeat.now counter moves (slice_get store.shards shard)) }
 {
     let Some(list) = store.shards.items.get(shard as usize) else {
         return Ok((store, Reply::Nothing));

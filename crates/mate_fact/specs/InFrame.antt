@@ -1,4 +1,5 @@
--- What is said of a position in a frame: the rules, the repeats that may not be entered again, and the side that attacks.
+-- What is said of a position in a frame: the rules, the repeats that may not be entered again, and the side that
+-- attacks.
 use Rattle.std.specs.Prelude.{ℕ, Bool, List, Option}
 use Rattle.foundation.specs.Member.{Member}
 use Rattle.rules_model.specs.declared.board.Position.{Position}

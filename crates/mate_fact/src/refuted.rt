@@ -44,8 +44,8 @@ pub fn refuted_where(frame: &Frame, p: &Position, end: Option<bool>) -> Option<F
     }
 }
 
-/// The refutation of a position that is ended otherwise than won, for any number of moves; or of an ongoing one where the
-/// attacker is to move, for no move. None exactly where the position is neither.
+/// The refutation of a position that is ended otherwise than won, for any number of moves; or of an ongoing one where
+/// the attacker is to move, for no move. None exactly where the position is neither.
 pub fn refuted_now(frame: &Frame, tables: &Tables, p: &Position) -> Option<Fact>
     requires ready { IsReady frame.now.rules tables.now p.now }
     ensures fact { IfSome result (Facts.RefutedNow frame.now.rules frame.now.blocked frame.now.attacker p.now) }

@@ -81,8 +81,8 @@ fn greatest(known: &[Fact]) -> u16
     known.iter().fold(0, |far, fact| far.max(fact.moves))
 }
 
-/// The win of a position where the other side is to move, by known facts that win after each legal move, in the order of
-/// the list: within the most of their moves, at the position's counter.
+/// The win of a position where the other side is to move, by known facts that win after each legal move, in the order
+/// of the list: within the most of their moves, at the position's counter.
 pub fn by_all(frame: &Frame, _tables: &Tables, p: &Position, known: &[Fact]) -> Fact
     requires defence { In.IsDefenceIn frame.now p.now }
     requires each { In.ServeMovesIn frame.now p.now true known.now }
@@ -93,8 +93,8 @@ pub fn by_all(frame: &Frame, _tables: &Tables, p: &Position, known: &[Fact]) -> 
     win_of(frame, p, greatest(known), None)
 }
 
-/// The win of a position where the other side is to move, for a caller who knows that the attacker wins after each legal
-/// move within so many of his own.
+/// The win of a position where the other side is to move, for a caller who knows that the attacker wins after each
+/// legal move within so many of his own.
 pub fn by_all_within(frame: &Frame, p: &Position, moves: u16) -> Fact
     requires defence { In.IsDefenceIn frame.now p.now }
     requires won { (m : Move) → Member m (In.legal_in frame.now p.now) →

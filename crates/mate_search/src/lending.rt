@@ -93,8 +93,8 @@ fn learn<R: Wait>(
     move_if(chosen, fact.wins == task.attacking)
 }
 
-/// Keeps what the shards know of the positions after the root moves. It answers a move that decides the root, if they know
-/// one.
+/// Keeps what the shards know of the positions after the root moves. It answers a move that decides the root, if they
+/// know one.
 pub(crate) fn gather<R: Wait>(
     rt: &R,
     game: &Game,

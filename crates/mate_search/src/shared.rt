@@ -63,8 +63,9 @@ impl Shared {
         }
     }
 
-    /// The worker of this number has settled the root move. The race is over where it decides the root, and where no other
-    /// is left. What a worker beside the first has found counts only where the first can learn it from the shards.
+    /// The worker of this number has settled the root move. The race is over where it decides the root, and where no
+    /// other is left. What a worker beside the first has found counts only where the first can learn it from the
+    /// shards.
     pub fn tell(&self, i: usize, outcome: Outcome, number: u32) {
         if number != 0 && !outcome.published {
             return;

@@ -91,15 +91,15 @@ fn look_up<R: Wait>(rt: &R, shards: &Shards, passes: &mut Passes, game: &Game, n
 }
 
 /// Whether the game is won by the side within n of its moves, from 1 to 100, and how; by 1 to 64 workers, or by fewer
-/// where there is no memory for the passes of all. The shards are those of the game's rules and blocked positions and of
-/// this attacker; the passes have a part for each worker. Hints change the time that it takes, and nothing else.
+/// where there is no memory for the passes of all. The shards are those of the game's rules and blocked positions and
+/// of this attacker; the passes have a part for each worker. Hints change the time that it takes, and nothing else.
 ///
 /// The first worker runs in the caller. It polls the source each 1,024 nodes, answers the lines that it hears, and is
 /// cut by a line that stops the search, by the end of the lines, by the deadline, or once it has entered as many nodes
-/// as the quota says. The other workers settle root moves beside it and publish what they find; what they do is heard by
-/// nobody. No worker enters more nodes than four times n and one times the lines of at most as many legal moves as twice
-/// n and one, so a quota of this number never cuts a solve. With a quota of 0 nothing is searched: the answer is what
-/// the shards know of the root.
+/// as the quota says. The other workers settle root moves beside it and publish what they find; what they do is heard
+/// by nobody. No worker enters more nodes than four times n and one times the lines of at most as many legal moves as
+/// twice n and one, so a quota of this number never cuts a solve. With a quota of 0 nothing is searched: the answer is
+/// what the shards know of the root.
 ///
 /// The passes of all workers are joined and handed back with every answer. Where the solve was not cut and the root's
 /// repeat is not blocked, its shard then has a fact that serves the root, or is full.

@@ -19,7 +19,8 @@ pub(crate) struct Kept {
     pub fact: Fact,
 }
 
-/// True facts of a frame, as far as there is room: a newer one takes the place of an older one. Contracts see the frame.
+/// True facts of a frame, as far as there is room: a newer one takes the place of an older one. Contracts see the
+/// frame.
 #[derive(Drop)]
 pub struct FactTable<'f> {
     frame: &'f Frame,

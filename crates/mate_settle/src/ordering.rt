@@ -48,8 +48,9 @@ fn attack_rank(next: &Board) -> u32 {
     }
 }
 
-/// Before the attacker's last move the reply that refuted last comes first, and then the captures. Sooner those come first
-/// that leave him the fewest moves: there a reply that refuted elsewhere and does not here would be searched at length.
+/// Before the attacker's last move the reply that refuted last comes first, and then the captures. Sooner those come
+/// first that leave him the fewest moves: there a reply that refuted elsewhere and does not here would be searched at
+/// length.
 fn defence_rank(board: &Board, m: &Move, order: &Order) -> u32
     requires { Member m.now (legal_in board.now) }
 {

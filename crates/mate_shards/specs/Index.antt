@@ -1,5 +1,6 @@
--- Chains through a list, one for each bucket: `heads` has one place for each bucket and `links` one for each entry of the list.
--- Both name a place by one more than it, and none by 0. (D. Knuth, The Art of Computer Programming, volume 3, section 6.4: separate chaining.)
+-- Chains through a list, one for each bucket: `heads` has one place for each bucket and `links` one for each entry of
+-- the list. Both name a place by one more than it, and none by 0. (D. Knuth, The Art of Computer Programming, volume 3,
+-- section 6.4: separate chaining.)
 use Rattle.std.specs.Prelude.{◌≡◌, ◌≢◌, ℕ, ◌-◌, ◌%◌, ◌^◌, ◌<◌, ◌≤◌, List, map, length, slice_index}
 use Rattle.forced_wins.specs.declared.fact.Fact.{Fact}
 use Rattle.mate_core.specs.Hash.{hash_of, part_of}

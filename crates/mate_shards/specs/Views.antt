@@ -21,7 +21,8 @@ ShardPass = PassView Key Fact
 -- one pass for each shard, all with as many parts
 pub record ArePassesOf (s : ShardsView) (passes : List ShardPass) : Type 0 where
   pub count : length passes ≡ length s.locks
-  pub each : (k : ℕ) (l : LockView Key) (p : ShardPass) → slice_get s.locks k ≡ Some l → slice_get passes k ≡ Some p → IsPassOf l p
+  pub each : (k : ℕ) (l : LockView Key) (p : ShardPass) → slice_get s.locks k ≡ Some l → slice_get passes k ≡ Some p
+      → IsPassOf l p
   pub parts : (n : ℕ) × All (λ p. p.parts ≡ n) passes
 
 -- ---- new passes
@@ -41,7 +42,9 @@ pub record IsHalved (p a b : ShardPass) : Type 0 where
   pub parts : (a.parts + 1 ≡ p.parts) × (b.parts ≡ 1)
 
 abbrev pub AreHalved : List ShardPass → List ShardPass → List ShardPass → Type 0
-AreHalved ps left right = (k : ℕ) (p a b : ShardPass) → slice_get ps k ≡ Some p → slice_get left k ≡ Some a → slice_get right k ≡ Some b → IsHalved p a b
+AreHalved ps left right =
+    (k : ℕ) (p a b : ShardPass) → slice_get ps k ≡ Some p → slice_get left k ≡ Some a → slice_get right k ≡ Some b
+    → IsHalved p a b
 
 -- it has seen the longer list, and owns what both did, of which no place was both's
 pub record IsJoined (a b p : ShardPass) : Type 0 where
@@ -53,7 +56,9 @@ pub record IsJoined (a b p : ShardPass) : Type 0 where
   pub parts : p.parts ≡ a.parts + b.parts
 
 abbrev pub AreJoined : List ShardPass → List ShardPass → List ShardPass → Type 0
-AreJoined left right ps = (k : ℕ) (a b p : ShardPass) → slice_get left k ≡ Some a → slice_get right k ≡ Some b → slice_get ps k ≡ Some p → IsJoined a b p
+AreJoined left right ps =
+    (k : ℕ) (a b p : ShardPass) → slice_get left k ≡ Some a → slice_get right k ≡ Some b → slice_get ps k ≡ Some p
+    → IsJoined a b p
 
 -- the locks of shards with this frame and capacity
 abbrev pub AreLocksOf : Frame → ℕ → List (LockView Key) → Type 0
@@ -61,8 +66,8 @@ AreLocksOf frame capacity locks = (0 < length locks) × (length locks ≤ 64) ×
 
 -- ---- rebase
 
--- A shard begins anew with what is kept of its list, which begins with all that the pass had seen. The pass owns nothing
--- and has all parts.
+-- A shard begins anew with what is kept of its list, which begins with all that the pass had seen. The pass owns
+-- nothing and has all parts.
 pub record IsRebased (old new : Frame) (before after : ShardPass) : Type 0 where
   pub list : List Fact
   pub begins : IsPrefix before.seen list
@@ -72,4 +77,5 @@ pub record IsRebased (old new : Frame) (before after : ShardPass) : Type 0 where
   pub true_facts : AreTrueIn new after.seen
 
 abbrev pub AreRebased : Frame → Frame → List ShardPass → List ShardPass → Type 0
-AreRebased old new before after = (k : ℕ) (p q : ShardPass) → slice_get before k ≡ Some p → slice_get after k ≡ Some q → IsRebased old new p q
+AreRebased old new before after =
+    (k : ℕ) (p q : ShardPass) → slice_get before k ≡ Some p → slice_get after k ≡ Some q → IsRebased old new p q

@@ -41,7 +41,8 @@ impl Shards {
         Ok((Passes { items }, Passes { items: given }))
     }
 
-    /// Makes two lists of passes one: each pass has then seen what either had, and owns what both did. It takes no memory.
+    /// Makes two lists of passes one: each pass has then seen what either had, and owns what both did. It takes no
+    /// memory.
     pub fn join(&self, a: Passes, b: Passes) -> Passes
         requires first { ArePassesOf self.now a }
         requires second { ArePassesOf self.now b }

@@ -1,4 +1,5 @@
-//! What a shard is asked to do. The repeat is packed and hashed before the turn, so that no other thread waits for that.
+//! What a shard is asked to do. The repeat is packed and hashed before the turn, so that no other thread waits for
+//! that.
 use crate::published::Published;
 use mate_core::{Claim, PackedFact};
 use position_key::Packed;

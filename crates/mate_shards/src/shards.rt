@@ -125,8 +125,8 @@ impl Shards {
         }
     }
 
-    /// The first of the facts with the least moves among those that say whether the attacker wins the position within so
-    /// many moves, if there is one: a true one. It takes no memory.
+    /// The first of the facts with the least moves among those that say whether the attacker wins the position within
+    /// so many moves, if there is one: a true one. It takes no memory.
     pub fn look<R: Wait>(
         &self,
         rt: &R,

@@ -1,4 +1,5 @@
--- Tables of nodes in the making. Inside the limit they have one node for each repeat, near it one for each repeat and counter.
+-- Tables of nodes in the making. Inside the limit they have one node for each repeat, near it one for each repeat and
+-- counter.
 use Rattle.std.specs.Prelude.{◌≡◌, ◌⊎◌, ℕ, suc, ◌-◌, ◌<◌, ◌≤◌, List, [], ◌∷◌, map, Bool, true, false, not, ◌&&◌, ◌||◌, ◌==◌, Option, Some, None, slice_get, min}
 use Rattle.std.specs.List.{list_any, list_all}
 use Rattle.foundation.specs.Member.{Member}
@@ -18,7 +19,9 @@ use Rattle.mate_showing.specs.Reached.{IsReached, OnLine}
 
 -- how the nodes and edges of a strategy are read
 abbrev pub nodes : Accessors Position Move Node Edge
-nodes = record { position = λ v. v.position; rank = λ v. v.rank; edges = λ v. v.edges; chosen = λ e. e.chosen; to = λ e. e.to }
+nodes =
+    record { position = λ v. v.position; rank = λ v. v.rank; edges = λ v. v.edges; chosen = λ e. e.chosen;
+    to = λ e. e.to }
 
 -- the node is the one for the position: its repeat, and near the limit its counter, are the position's
 abbrev pub is_key : Bool → Position → Node → Bool
@@ -47,7 +50,8 @@ pub record GoesOn (r : Game Position Repeat Move) (barred : Repeat → Bool) (n 
   pub counted : r.own p ≡ None → run_out r (r.counter p) ≡ false
 
 -- what is known of the position for which a node is to be made, apart from the table
-pub record IsNext (r : Game Position Repeat Move) (barred : Repeat → Bool) (plan : Plan) (n : ℕ) (p : Position) : Type 0 where
+pub record IsNext (r : Game Position Repeat Move) (barred : Repeat → Bool) (plan : Plan) (n : ℕ)
+    (p : Position) : Type 0 where
   pub goes_on : GoesOn r barred n p
   pub free : ((r.own p ≡ None → barred (r.repeat p) ≡ false) × (r.own plan.root ≡ None)) ⊎ (p ≡ plan.root)
   pub room : plan.exact ≡ false → plies r n p ≤ plan.room
@@ -64,35 +68,46 @@ pub record Stands (r : Game Position Repeat Move) (exact : Bool) (s : List Node)
   pub low : node.rank ≤ k
 
 -- the edge is a legal move to a node of a rank that falls
-pub record IsLed (r : Game Position Repeat Move) (exact : Bool) (s : List Node) (p : Position) (n : ℕ) (e : Edge) : Type 0 where
+pub record IsLed (r : Game Position Repeat Move) (exact : Bool) (s : List Node) (p : Position) (n : ℕ)
+    (e : Edge) : Type 0 where
   pub legal : Member e.chosen (r.legal p)
   pub stands : Stands r exact s (r.next p e.chosen) (left_after (r.attacking p) n) e.to
 
 -- the same to a rank of at most k
-pub record IsLedTo (r : Game Position Repeat Move) (exact : Bool) (s : List Node) (p : Position) (k : ℕ) (e : Edge) : Type 0 where
+pub record IsLedTo (r : Game Position Repeat Move) (exact : Bool) (s : List Node) (p : Position) (k : ℕ)
+    (e : Edge) : Type 0 where
   pub legal : Member e.chosen (r.legal p)
   pub stands : Stands r exact s (r.next p e.chosen) k e.to
 
 -- edges as a position of that rank needs them
-abbrev pub AreEdges : Game Position Repeat Move → Bool → List Node → Position → ℕ → List Edge → Option Bool → Bool → Type 0
+abbrev pub AreEdges : Game Position Repeat Move → Bool → List Node → Position → ℕ → List Edge → Option Bool → Bool
+    → Type 0
 AreEdges r exact s p n es (Some won) attacking = (won ≡ true) × (es ≡ [])
 AreEdges r exact s p n es None true = (0 < n) × ((e : Edge) × (es ≡ e ∷ []) × IsLed r exact s p n e)
-AreEdges r exact s p n es None false = (map (λ (e : Edge). e.chosen) es ≡ r.legal p) × ((e : Edge) → Member e es → IsLed r exact s p n e)
+AreEdges r exact s p n es None false =
+    (map (λ (e : Edge). e.chosen) es ≡ r.legal p) × ((e : Edge) → Member e es → IsLed r exact s p n e)
 
 pub record IsRow (r : Game Position Repeat Move) (plan : Plan) (s : List Node) (v : Node) : Type 0 where
   pub edges : AreEdges r plan.exact s v.position v.rank v.edges (r.own v.position) (r.attacking v.position)
   pub counted : r.own v.position ≡ None → plan.exact ≡ true → run_out r (r.counter v.position) ≡ false
-  pub count : plan.exact ≡ false → (r.counter v.position ≡ min highest (plan.room - plies r v.rank v.position)) × (plies r v.rank v.position ≤ plan.room)
+  pub count : plan.exact ≡ false
+      → (r.counter v.position ≡ min highest (plan.room - plies r v.rank v.position))
+      × (plies r v.rank v.position ≤ plan.room)
 
 -- node 0 is the root's; it may still be without edges, with a rank that none reaches
 pub record IsSound (r : Game Position Repeat Move) (barred : Repeat → Bool) (plan : Plan) (s : List Node) : Type 0 where
-  pub root : (u : Node) × (slice_get s 0 ≡ Some u) × (r.repeat u.position ≡ r.repeat plan.root) × (plan.exact ≡ true → r.counter u.position ≡ r.counter plan.root)
+  pub root : (u : Node) × (slice_get s 0 ≡ Some u) × (r.repeat u.position ≡ r.repeat plan.root)
+      × (plan.exact ≡ true → r.counter u.position ≡ r.counter plan.root)
   pub done : (i : ℕ) (v : Node) → slice_get s (suc i) ≡ Some v → v.rank ≤ most
   pub rows : (i : ℕ) (v : Node) → slice_get s i ≡ Some v → v.rank ≤ most → IsRow r plan s v
-  pub free : (i : ℕ) (v : Node) → slice_get s (suc i) ≡ Some v → r.own v.position ≡ None → barred (r.repeat v.position) ≡ false
+  pub free : (i : ℕ) (v : Node) → slice_get s (suc i) ≡ Some v → r.own v.position ≡ None
+      → barred (r.repeat v.position) ≡ false
   pub ongoing : (i : ℕ) (v : Node) → slice_get s (suc i) ≡ Some v → r.own plan.root ≡ None
-  pub lines : plan.exact ≡ true → (i : ℕ) (v : Node) → slice_get s i ≡ Some v → OnLine r barred plan.whole plan.root (r.repeat v.position) (r.counter v.position)
-  pub apart : (i j : ℕ) (v w : Node) → slice_get s i ≡ Some v → slice_get s j ≡ Some w → r.repeat v.position ≡ r.repeat w.position → (plan.exact ≡ true → r.counter v.position ≡ r.counter w.position) → i ≡ j
+  pub lines : plan.exact ≡ true → (i : ℕ) (v : Node) → slice_get s i ≡ Some v
+      → OnLine r barred plan.whole plan.root (r.repeat v.position) (r.counter v.position)
+  pub apart : (i j : ℕ) (v w : Node) → slice_get s i ≡ Some v → slice_get s j ≡ Some w
+      → r.repeat v.position ≡ r.repeat w.position → (plan.exact ≡ true → r.counter v.position ≡ r.counter w.position)
+      → i ≡ j
 
 -- nodes stay, and their ranks do not rise
 abbrev pub Grows : Game Position Repeat Move → Bool → List Node → List Node → Type 0

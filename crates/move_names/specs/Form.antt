@@ -19,7 +19,8 @@ letters_at_most most ending = nat_le (length ending) most && list_all (λ b. nat
 -- `+` where the kind has a promoted kind, and then a letter at most
 abbrev pub is_piece_ending : Rules → Kind → List ℕ → Bool
 is_piece_ending rules kind [] = true
-is_piece_ending rules kind (b ∷ bs) = if b == 43 then is_some (promoted_of rules kind) && letters_at_most 1 bs else letters_at_most 1 (b ∷ bs)
+is_piece_ending rules kind (b ∷ bs) =
+    if b == 43 then is_some (promoted_of rules kind) && letters_at_most 1 bs else letters_at_most 1 (b ∷ bs)
 
 -- a promoted letter and a gated one for the pawn, and for other kinds `+` and a gated letter
 abbrev pub is_ending : Rules → List ℕ → Kind → Bool

@@ -1,5 +1,6 @@
--- What the text of a move names (the long algebraic texts of the UCI protocol, with Fairy-Stockfish's drops and gates). A text can be that
--- of several moves, such as a castle and a king's move: it names the one that such texts mean in the position, legal or not.
+-- What the text of a move names (the long algebraic texts of the UCI protocol, with Fairy-Stockfish's drops and gates).
+-- A text can be that of several moves, such as a castle and a king's move: it names the one that such texts mean in the
+-- position, legal or not.
 use Rattle.std.specs.Prelude.{◌≡◌, ℕ, Bool, true, false, ◌&&◌, ◌||◌, ◌==◌, is_none, is_some, if◌then◌else◌, Option, Some, None, List}
 use Rattle.rules_model.specs.declared.board.Kind.{Kind}
 use Rattle.rules_model.specs.declared.board.Position.{Position}
@@ -32,26 +33,31 @@ gates_on_start from rook (Some placed) = (placed.at.0 == from.0) || (placed.at.0
 -- the own king stands on the start of the castle, and the squares are those of the castle
 abbrev pub is_castle_as : Rules → Repeat → Square → Square → Square → Option CastleSquares → Bool
 is_castle_as rules r from to rook None = false
-is_castle_as rules r from to rook (Some castle) = is_own_king rules r.side (cell_at r.cells castle.king.0) && is_castle castle from to rook
+is_castle_as rules r from to rook (Some castle) =
+    is_own_king rules r.side (cell_at r.cells castle.king.0) && is_castle castle from to rook
 
 -- the squares are those of the castle to the wing, whose right the side to move holds
 abbrev pub is_castle_to : Rules → Repeat → Square → Square → Square → Wing → Bool
-is_castle_to rules r from to rook wing = holds_right r.rights r.side wing && is_castle_as rules r from to rook (castle_of rules r.cells r.side wing)
+is_castle_to rules r from to rook wing =
+    holds_right r.rights r.side wing && is_castle_as rules r from to rook (castle_of rules r.cells r.side wing)
 
 -- a castle that texts mean: neither its way nor attacks are looked at
 unfoldable pub is_meant_castle : Rules → Repeat → Square → Square → Square → Option Placed → Bool
 is_meant_castle rules r from to rook gate =
-    (is_castle_to rules r from to rook Kingside || is_castle_to rules r from to rook Queenside) && gates_on_start from rook gate
+    (is_castle_to rules r from to rook Kingside || is_castle_to rules r from to rook Queenside)
+        && gates_on_start from rook gate
 
 -- a castle that texts mean has this text
-pub record IsCastleText (rules : Rules) (r : Repeat) (text : List ℕ) (from to rook : Square) (gate : Option Placed) : Type 0 where
+pub record IsCastleText (rules : Rules) (r : Repeat) (text : List ℕ) (from to rook : Square)
+    (gate : Option Placed) : Type 0 where
   pub fit : IsFitMove (Castle from to rook gate)
   pub meant : is_meant_castle rules r from to rook gate ≡ true
   pub written : text_of (Castle from to rook gate) ≡ text
 
 -- no castle that texts mean has this text
 abbrev pub NoCastleText : Rules → Repeat → List ℕ → Type 0
-NoCastleText rules r text = (from to rook : Square) (gate : Option Placed) → IsCastleText rules r text from to rook gate → ⊥
+NoCastleText rules r text =
+    (from to rook : Square) (gate : Option Placed) → IsCastleText rules r text from to rook gate → ⊥
 
 -- ---- moves of a piece
 
@@ -77,14 +83,16 @@ is_meant_go rules r from promo gate = is_own r.side (may_end rules promo gate) (
 
 -- ---- the whole
 
--- texts mean the move: each drop, a castle whose right is held, and the other moves of own pieces, where no castle has the same text
+-- texts mean the move: each drop, a castle whose right is held, and the other moves of own pieces, where no castle has
+-- the same text
 abbrev pub IsMeant : Rules → Repeat → Move → Type 0
-IsMeant rules r (Go from to promo gate) = (is_meant_go rules r from promo gate ≡ true) × NoCastleText rules r (text_of (Go from to promo gate))
+IsMeant rules r (Go from to promo gate) =
+    (is_meant_go rules r from promo gate ≡ true) × NoCastleText rules r (text_of (Go from to promo gate))
 IsMeant rules r (Castle from to rook gate) = is_meant_castle rules r from to rook gate ≡ true
 IsMeant rules r (Drop kind to) = Unit {0}
 
--- the text names the move in the position: it is the move's text, the squares are of the largest board and the kinds are letters, and
--- texts mean the move
+-- the text names the move in the position: it is the move's text, the squares are of the largest board and the kinds
+-- are letters, and texts mean the move
 pub record Names (rules : Rules) (p : Position) (text : List ℕ) (m : Move) : Type 0 where
   pub written : text_of m ≡ text
   pub fit : IsFitMove m

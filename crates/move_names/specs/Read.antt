@@ -68,7 +68,8 @@ gate_ending promo (b ∷ c ∷ rest) = None
 abbrev pub piece_ending : Rules → Kind → List ℕ → Option Ending
 piece_ending rules kind [] = gate_ending Stays []
 piece_ending rules kind (b ∷ rest) =
-    if b == 43 then (if is_some (promoted_of rules kind) then gate_ending Plus rest else None) else gate_ending Stays (b ∷ rest)
+    if b == 43 then (if is_some (promoted_of rules kind) then gate_ending Plus rest else None)
+        else gate_ending Stays (b ∷ rest)
 
 abbrev pub kind_ending : Rules → Kind → List ℕ → Option Ending
 kind_ending rules kind text = if is_pawn rules kind then pawn_ending text else piece_ending rules kind text
@@ -81,7 +82,8 @@ go_by from to (Some e) = Some (Go from to e.promo e.gate)
 
 abbrev pub go_of : Rules → Repeat → TwoSquares → Option Cell → Option Move
 go_of rules r squares None = None
-go_of rules r squares (Some c) = if same_side c.side r.side then go_by squares.from squares.to (kind_ending rules c.kind squares.ending) else None
+go_of rules r squares (Some c) =
+    if same_side c.side r.side then go_by squares.from squares.to (kind_ending rules c.kind squares.ending) else None
 
 -- ---- castles
 
@@ -115,11 +117,13 @@ castle_by_squares castle s =
 
 abbrev pub castle_where : Rules → Repeat → TwoSquares → Option CastleSquares → Option Move
 castle_where rules r s None = None
-castle_where rules r s (Some castle) = if is_own_king rules r.side (cell_at r.cells castle.king.0) then castle_by_squares castle s else None
+castle_where rules r s (Some castle) =
+    if is_own_king rules r.side (cell_at r.cells castle.king.0) then castle_by_squares castle s else None
 
 -- the castle to the wing, where its right is held
 unfoldable pub castle_to : Rules → Repeat → TwoSquares → Wing → Option Move
-castle_to rules r s wing = if holds_right r.rights r.side wing then castle_where rules r s (castle_of rules r.cells r.side wing) else None
+castle_to rules r s wing =
+    if holds_right r.rights r.side wing then castle_where rules r s (castle_of rules r.cells r.side wing) else None
 
 abbrev pub first_move : Option Move → Option Move → Option Move
 first_move None other = other
@@ -132,7 +136,8 @@ castle_said rules r s = first_move (castle_to rules r s Kingside) (castle_to rul
 
 abbrev pub drop_on : ℕ → Option Front → Option Move
 drop_on letter None = None
-drop_on letter (Some front) = if is_nil front.rest then Some (Drop (record { 0 = letter - 65 }) (record { 0 = front.value })) else None
+drop_on letter (Some front) =
+    if is_nil front.rest then Some (Drop (record { 0 = letter - 65 }) (record { 0 = front.value })) else None
 
 unfoldable pub drop_said : List ℕ → Option Move
 drop_said [] = None

@@ -14,7 +14,8 @@ one_digit b rest = if nat_le 49 b && nat_le b 57 then Some (record { value = b -
 abbrev pub rank_front : List ℕ → Option Front
 rank_front [] = None
 rank_front (b ∷ []) = one_digit b []
-rank_front (b ∷ c ∷ rest) = if b == 49 && c == 48 then Some (record { value = 9; rest = rest }) else one_digit b (c ∷ rest)
+rank_front (b ∷ c ∷ rest) =
+    if b == 49 && c == 48 then Some (record { value = 9; rest = rest }) else one_digit b (c ∷ rest)
 
 abbrev pub on_file : ℕ → Option Front → Option Front
 on_file file None = None
@@ -33,7 +34,8 @@ pub record TwoSquares : Type 0 where
 
 abbrev pub second_square : ℕ → Option Front → Option TwoSquares
 second_square from None = None
-second_square from (Some to) = Some (record { from = record { 0 = from }; to = record { 0 = to.value }; ending = to.rest })
+second_square from (Some to) =
+    Some (record { from = record { 0 = from }; to = record { 0 = to.value }; ending = to.rest })
 
 abbrev pub after_first : Option Front → Option TwoSquares
 after_first None = None

@@ -24,8 +24,8 @@ pub fn legal_moves_are_named()
         → Member m (legal rules (repeat_of p)) → Names rules p (text_of m) m }
 {}
 
-/// A text names a move exactly where it has the form of a move's text: it is that of a drop, or two squares with what may
-/// follow them, and an own piece stands on the first.
+/// A text names a move exactly where it has the form of a move's text: it is that of a drop, or two squares with what
+/// may follow them, and an own piece stands on the first.
 pub fn texts_of_the_form_name()
     ensures form { (rules : Rules) (p : Position) (text : List ℕ) (m : Move) → IsFit rules → is_sound rules p ≡ true
         → Names rules p text m → HasForm rules p text }

@@ -22,7 +22,8 @@ is_past rising squares blockers t = squares t && is_after rising blockers t
 abbrev pub lets_pass : Passage → Bool → (ℕ → Bool) → (ℕ → Bool) → ℕ → Bool
 lets_pass Slide rising squares blockers t = before rising blockers t == 0
 lets_pass Hop rising squares blockers t = before rising blockers t == 1
-lets_pass Grass rising squares blockers t = is_after rising blockers t && (before rising (is_past rising squares blockers) t == 0)
+lets_pass Grass rising squares blockers t =
+    is_after rising blockers t && (before rising (is_past rising squares blockers) t == 0)
 
 -- in both sets
 abbrev pub in_both : Set → Set → ℕ → Bool
@@ -30,7 +31,8 @@ in_both a b t = has a t && has b t
 
 -- on the line, as far as the occupied squares of it let pass
 abbrev pub on_line : Line → Set → ℕ → Bool
-on_line line occupied t = has line.squares t && lets_pass line.passage line.rising (has line.squares) (in_both line.squares occupied) t
+on_line line occupied t =
+    has line.squares t && lets_pass line.passage line.rising (has line.squares) (in_both line.squares occupied) t
 
 -- the target, where none of the squares to be passed is occupied
 abbrev pub by_jump : Jump → Set → ℕ → Bool
@@ -39,7 +41,8 @@ by_jump jump occupied t = not (any_below (in_both jump.over occupied) 128) && ha
 -- by a leap, along a line or by a jump
 abbrev pub by_parts : Spot → Set → ℕ → Bool
 by_parts spot occupied t =
-    has spot.leaps t || list_any (λ line. on_line line occupied t) spot.lines.items || list_any (λ jump. by_jump jump occupied t) spot.jumps.items
+    has spot.leaps t || list_any (λ line. on_line line occupied t) spot.lines.items
+        || list_any (λ jump. by_jump jump occupied t) spot.jumps.items
 
 -- by these, within the squares of the spot
 abbrev pub by_spot : Spot → Set → ℕ → Bool

@@ -66,7 +66,9 @@ spot_place side kind mode from = ((side * 26 + kind) * 2 + mode) * 120 + from
 
 -- the spot at a place is that of its kind
 abbrev pub IsSpotAt : Rules → ℕ → Spot → Type 0
-IsSpotAt rules i spot = IsOfKind rules (side_of (i / 6240)) (record { 0 = i / 240 % 26 }) (record { 0 = i % 120 }) (mode_of (i / 120 % 2)) spot
+IsSpotAt rules i spot =
+    IsOfKind rules (side_of (i / 6240)) (record { 0 = i / 240 % 26 }) (record { 0 = i % 120 })
+    (mode_of (i / 120 % 2)) spot
 
 -- a spot for each side, kind, mode and square, in this order
 pub record AreSpots (rules : Rules) (spots : List Spot) : Type 0 where

@@ -25,7 +25,8 @@ fn none_beyond(set: Set)
 {}
 
 fn along(lines: &[Line], occupied: Set, leaps: Set) -> Set
-    ensures { (t : ℕ) → t < 128 → has result t ≡ (has leaps t || list_any (λ line. Lines.on_line line occupied t) lines.now) }
+    ensures { (t : ℕ) → t < 128 → has result t
+        ≡ (has leaps t || list_any (λ line. Lines.on_line line occupied t) lines.now) }
 {
     let mut reached = leaps;
     for line in lines {
@@ -35,7 +36,8 @@ fn along(lines: &[Line], occupied: Set, leaps: Set) -> Set
 }
 
 fn over(jumps: &[Jump], occupied: Set, others: Set) -> Set
-    ensures { (t : ℕ) → t < 128 → has result t ≡ (has others t || list_any (λ jump. Lines.by_jump jump occupied t) jumps.now) }
+    ensures { (t : ℕ) → t < 128 → has result t
+        ≡ (has others t || list_any (λ jump. Lines.by_jump jump occupied t) jumps.now) }
 {
     let mut reached = others;
     for jump in jumps {
@@ -70,7 +72,8 @@ impl Spot {
 
     /// The spot that reaches by the same parts no square outside the region.
     pub(crate) fn cut(self, region: Set) -> Spot
-        ensures { (occupied : Set) (t : ℕ) → Lines.by_spot result occupied t ≡ (has region t && Lines.by_parts self occupied t) }
+        ensures { (occupied : Set) (t : ℕ)
+            → Lines.by_spot result occupied t ≡ (has region t && Lines.by_parts self occupied t) }
     {
         let within = self.range().and(region);
         Spot { within, ..self }

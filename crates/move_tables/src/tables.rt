@@ -86,9 +86,9 @@ impl MoveTables {
         &self.spots[spot_place(by, kind, mode, from)]
     }
 
-    /// The squares that a piece of the kind and the side reaches from the square by its terms of the mode, on a board whose occupied
-    /// squares are those of the set: rule Reach, and the pawn's two diagonals to take. A soldier below its rank goes along its file
-    /// alone, and no piece leaves its mobility region. No memory is taken.
+    /// The squares that a piece of the kind and the side reaches from the square by its terms of the mode, on a board
+    /// whose occupied squares are those of the set: rule Reach, and the pawn's two diagonals to take. A soldier below
+    /// its rank goes along its file alone, and no piece leaves its mobility region. No memory is taken.
     pub fn reach_set(&self, by: Side, kind: Kind, from: Square, mode: Mode, occupied: Set) -> Set
         requires kind { kind.0 < 26 }
         requires from { from.0 < 120 }

@@ -135,8 +135,8 @@ pub(crate) fn better(slot: Slot, m: &Move, floor: i32, answered: i32) -> Slot {
     }
 }
 
-/// What is added to the key of a root, so that its value at even depths and at odd ones stands in words of its own: values
-/// swing from one depth to the next.
+/// What is added to the key of a root, so that its value at even depths and at odd ones stands in words of its own:
+/// values swing from one depth to the next.
 const PARITIES: [u64; 2] = [0x9e37_79b9_7f4a_7c15, 0x3c6e_f372_fe94_f82b];
 
 /// The key under which the value of a root is left.

@@ -16,8 +16,8 @@ use game_line::Line;
 use rules_model::Move;
 use watching::{Halt, Watch};
 
-/// Searches one root move at a depth from 1 to 64, and asks only how far it is above the floor, which may be any number:
-/// a value above it is exact. The line needs room for the depth and four moves more.
+/// Searches one root move at a depth from 1 to 64, and asks only how far it is above the floor, which may be any
+/// number: a value above it is exact. The line needs room for the depth and four moves more.
 ///
 /// # Errors
 ///

@@ -1,5 +1,5 @@
--- The parts of the position after a move, each by what it takes from the position before it: what a part of the code can see
--- while the position changes in place.
+-- The parts of the position after a move, each by what it takes from the position before it: what a part of the code
+-- can see while the position changes in place.
 use Rattle.std.specs.Prelude.{ℕ, ◌+◌, ◌-◌, List, [], ◌∷◌, Bool, false, ◌&&◌, ◌||◌, not, nat_le, nat_lt}
 use Rattle.std.specs.Prelude.{if◌then◌else◌, Option, Some, None, slice_index, slice_set}
 use Rattle.rules_model.specs.declared.board.Cell.{Cell}
@@ -50,7 +50,8 @@ without_pawn rules side passing to cells = if passing then emptied cells (behind
 -- the cells after the move, by whether it takes in passing
 abbrev pub cells_by : Rules → Side → Bool → Move → List (Option Cell) → List (Option Cell)
 cells_by rules side passing (Go from to promo gate) cells =
-    slice_set (slice_set (without_pawn rules side passing to cells) from.0 (gated side gate)) to.0 (promote rules (cell_at cells from.0) promo)
+    slice_set (slice_set (without_pawn rules side passing to cells) from.0 (gated side gate)) to.0
+        (promote rules (cell_at cells from.0) promo)
 cells_by rules side passing (Castle from to rook gate) cells = placed_on side gate (castled cells from to rook)
 cells_by rules side passing (Drop kind to) cells = slice_set cells to.0 (Some (fresh side kind))
 
@@ -58,7 +59,8 @@ cells_by rules side passing (Drop kind to) cells = slice_set cells to.0 (Some (f
 
 -- the hands after the move, by what it takes
 abbrev pub hands_by : Rules → Side → Option Cell → Move → List (List ℕ) → List (List ℕ)
-hands_by rules side piece (Go from to promo gate) hands = put_at_gate (take_into rules.to_hand hands side piece) side gate
+hands_by rules side piece (Go from to promo gate) hands =
+    put_at_gate (take_into rules.to_hand hands side piece) side gate
 hands_by rules side piece (Castle from to rook gate) hands = put_at_gate hands side (placed_kind gate)
 hands_by rules side piece (Drop kind to) hands = put_down hands side kind
 
@@ -67,15 +69,19 @@ hands_by rules side piece (Drop kind to) hands = put_down hands side kind
 abbrev pub standing : Rules → Side → Move → Option ℕ → Option ℕ
 standing rules side m None = None
 standing rules side m (Some file) =
-    if not (leaves m (castling_square rules side file)) && not (enters m (castling_square rules side file)) then Some file else None
+    if not (leaves m (castling_square rules side file))
+        && not (enters m (castling_square rules side file)) then Some file else None
 
 -- the file of the rook with which the side may still castle: neither it nor the king moves
 abbrev pub rook_left : Rules → Repeat → Move → Side → Wing → Option ℕ
 rook_left rules r m side wing =
-    if holds_right r.rights side wing && not (leaves m (castling_square rules side rules.castle_king)) then standing rules side m (rook_file rules r.cells side wing) else None
+    if holds_right r.rights side wing
+        && not (leaves m (castling_square rules side rules.castle_king))
+        then standing rules side m (rook_file rules r.cells side wing) else None
 
 abbrev pub rooks_left : Rules → Repeat → Move → Side → Rooks
-rooks_left rules r m side = record { kingside = rook_left rules r m side Kingside; queenside = rook_left rules r m side Queenside }
+rooks_left rules r m side =
+    record { kingside = rook_left rules r m side Kingside; queenside = rook_left rules r m side Queenside }
 
 -- it is still the outermost one
 abbrev pub is_outermost : Option ℕ → Option ℕ → Bool
@@ -85,7 +91,8 @@ is_outermost (Some file) later = is_at file later
 -- a side's rights after the move, by the rooks that were left
 abbrev pub rights_by : Rules → List (Option Cell) → Side → Rooks → List Bool
 rights_by rules later side rooks =
-    is_outermost rooks.kingside (rook_file rules later side Kingside) ∷ is_outermost rooks.queenside (rook_file rules later side Queenside) ∷ []
+    is_outermost rooks.kingside (rook_file rules later side Kingside)
+        ∷ is_outermost rooks.queenside (rook_file rules later side Queenside) ∷ []
 
 -- the square is of the rank that begins with the square 'first'
 abbrev pub is_on_rank : ℕ → ℕ → Bool
@@ -110,7 +117,8 @@ holds_any_right rights side = holds_right rights side Kingside || holds_right ri
 -- rank
 abbrev pub rights_left : Rules → Repeat → Bool → Move → Side → RightsLeft
 rights_left rules r passing m side =
-    if not (holds_any_right r.rights side) || is_apart rules side passing m then All else OfRooks (rooks_left rules r m side)
+    if not (holds_any_right r.rights side)
+        || is_apart rules side passing m then All else OfRooks (rooks_left rules r m side)
 
 -- the rights that the side holds
 abbrev pub held : List (List Bool) → Side → List Bool
@@ -125,7 +133,8 @@ rights_kept rules later rights side (OfRooks rooks) = rights_by rules later side
 
 abbrev pub gates_by : Rules → Move → List ℕ → List ℕ
 gates_by rules m gates =
-    side_gates_after rules White m (slice_index gates (side_index White)) ∷ side_gates_after rules Black m (slice_index gates (side_index Black)) ∷ []
+    side_gates_after rules White m (slice_index gates (side_index White))
+        ∷ side_gates_after rules Black m (slice_index gates (side_index Black)) ∷ []
 
 -- ---- the en passant square and the checks left
 

@@ -46,7 +46,8 @@ IsMoveToSome rules r from (Some to) m = IsMoveTo rules r from (record { 0 = to }
 -- the pawn's first square lets it step twice: it lies in the region, and the square ahead is empty
 abbrev pub may_step_twice : Rules → Repeat → Square → Bool
 may_step_twice rules r from =
-    rules.double_step && in_region rules.double_region r.side from.0 && is_free r.cells (ahead (board_of rules) r.side from 1)
+    rules.double_step && in_region rules.double_region r.side from.0
+        && is_free r.cells (ahead (board_of rules) r.side from 1)
 
 -- the square diagonally one step forward, as the side sees it
 abbrev pub diagonal : Rules → Repeat → Flank → Square → Option ℕ

@@ -24,7 +24,8 @@ lands side None quiet takes = quiet
 lands side (Some c) quiet takes = not (same_side c.side side) && takes
 
 abbrev pub lands_on : Rules → List (Option Cell) → Side → Square → ℕ → Bool
-lands_on rules cells side from to = lands side (cell_at cells to) (reaches_in rules cells from Quiet to) (reaches_in rules cells from Take to)
+lands_on rules cells side from to =
+    lands side (cell_at cells to) (reaches_in rules cells from Quiet to) (reaches_in rules cells from Take to)
 
 -- where there is such a piece, it makes the move
 abbrev pub makes : Rules → Repeat → Option Cell → Square → Square → Promo → Bool

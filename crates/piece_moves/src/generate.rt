@@ -119,8 +119,8 @@ fn push_plain<S: MoveSink>(
 
 /// Gives the ordinary moves of the own piece, each once and in no special order: all at once, where none of them is a
 /// promotion or may mean castling. Each places `gate` on the square that it leaves, whether the piece may gate or not.
-/// Where the sink is full, it was given some of them, each at most once. It is part of the loop over the pieces, since a
-/// call for each piece costs as much as its moves.
+/// Where the sink is full, it was given some of them, each at most once. It is part of the loop over the pieces, since
+/// a call for each piece costs as much as its moves.
 #[inline(always)]
 pub fn push_mover<S: MoveSink>(
     rules: &Rules,

@@ -16,8 +16,8 @@ use Rattle.move_tables.specs.Reached.{reaches_as}
 use Rattle.attack_tables.specs.Boards.{IsBoardBy}
 use Rattle.pins.specs.Guards.{IsMoved}
 
--- what holds of each board, as it is known by its sets, once a piece left a square outside the set, wherever it went, and took
--- what stood there
+-- what holds of each board, as it is known by its sets, once a piece left a square outside the set, wherever it went,
+-- and took what stood there
 abbrev pub AfterMoves : Side → List (Option Cell) → Set → Set → Set → (List (Option Cell) → Type 0) → Type 0
 AfterMoves by cells enemies occupied guards Holds =
     (from to : ℕ) (men moved : Set) (board : List (Option Cell)) → from < 128 → has guards from ≡ false
@@ -55,8 +55,8 @@ SideSpares rules by king board =
 
 -- ---- the whole
 
--- a piece that goes from a square of the set leaves no king of the side attacked: on each board that is this one after the move
--- of a piece other than a king, which takes what stands on its target
+-- a piece that goes from a square of the set leaves no king of the side attacked: on each board that is this one after
+-- the move of a piece other than a king, which takes what stands on its target
 abbrev pub IsFree : Rules → Side → List (Option Cell) → Set → Set → Set → Set → Type 0
 IsFree rules side cells kings enemies occupied free =
     (from to : ℕ) (men moved : Set) (board : List (Option Cell)) → has free from ≡ true

@@ -16,8 +16,8 @@ use position_key::BoardKey;
 use rules_model::{Move, Position, Rules, repeats};
 use std::marker::Model;
 
-/// A sound position by the rules of the tables, with the sets of its board and its key, which are kept through moves. Contracts
-/// see the rules and the position.
+/// A sound position by the rules of the tables, with the sets of its board and its key, which are kept through moves.
+/// Contracts see the rules and the position.
 #[derive(Drop)]
 pub struct Board<'t> {
     pub(crate) tables: &'t Tables,
@@ -50,7 +50,8 @@ impl<'t> Board<'t> {
         }
     }
 
-    /// The position after the legal move. Sets and key are carried: no square is looked at but those that the move writes.
+    /// The position after the legal move. Sets and key are carried: no square is looked at but those that the move
+    /// writes.
     pub fn after(&self, m: &Move) -> Board<'t>
         requires { Member m.now (Stance.legal_in self.now) }
         ensures { result ≡ Stance.after self.now m.now }

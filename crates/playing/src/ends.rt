@@ -36,7 +36,8 @@ impl Board<'_> {
         early_end_with(rules, self.tables, &self.position, &self.sets)
     }
 
-    /// The end by itself: an early end, or that no move is legal; `Outcome::Ongoing` where there is none. No memory is taken.
+    /// The end by itself: an early end, or that no move is legal; `Outcome::Ongoing` where there is none. No memory is
+    /// taken.
     pub fn own_end(&self) -> Outcome
         ensures { result ≡ Legal.own_end self.now.rules (Stance.repeat_in self.now) }
     {

@@ -17,7 +17,8 @@ lost_pair = record { proof = infinite; disproof = 0 }
 abbrev pub root_pair : ProofTree → Pair
 root_pair t = pair_at (pairs_of t.nodes) 0
 
--- after the moves of the root the attacker wins within n of his moves, the positions being looked at without their history
+-- after the moves of the root the attacker wins within n of his moves, the positions being looked at without their
+-- history
 abbrev pub moves_win : Frame → ℕ → Position → Bool
 moves_win f n p =
     if same_side p.side f.attacker then near_attack f.rules n p f.blocked f.attacker else

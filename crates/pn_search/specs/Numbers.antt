@@ -32,8 +32,8 @@ abbrev pub pair_with : Bool → ℕ → ℕ → Pair
 pair_with true own others = record { proof = own; disproof = others }
 pair_with false own others = record { proof = others; disproof = own }
 
--- of the pairs of the children: with the attacker to move the least proof number and the sum of the disproof numbers, with
--- the other side to move the sum of the proof numbers and the least disproof number
+-- of the pairs of the children: with the attacker to move the least proof number and the sum of the disproof numbers,
+-- with the other side to move the sum of the proof numbers and the least disproof number
 unfoldable pub inner_pair : Bool → List Pair → Pair
 inner_pair attacking cs =
     pair_with attacking (least_of (map (own_number attacking) cs)) (sum_of (map (own_number (not attacking)) cs))

@@ -110,7 +110,8 @@ children_of f at v p = map (child_node f at v p) (legal f.rules (repeat_of p))
 abbrev pub expanded_at : Frame → List Node → Spot → Option Node → List Node
 expanded_at f nodes s None = nodes
 expanded_at f nodes s (Some v) =
-    expanded_with nodes s.place v (state_by (end_at f s.place s.position) v.attacking v.left) (children_of f s.place v s.position)
+    expanded_with nodes s.place v (state_by (end_at f s.place s.position) v.attacking v.left)
+        (children_of f s.place v s.position)
 
 -- the nodes after the one at the spot was expanded
 unfoldable pub nodes_after : Frame → List Node → Spot → List Node

@@ -24,8 +24,8 @@ use std::alloc::Global;
 /// More nodes than these have no numbers of 32 bits.
 const MOST_NODES: usize = u32::MAX as usize;
 
-/// How the position is ended as the root of a tree, whose repeat is not looked up: whether the attacker has won; None where
-/// it is ongoing.
+/// How the position is ended as the root of a tree, whose repeat is not looked up: whether the attacker has won; None
+/// where it is ongoing.
 #[tactic(auto, unfolding(crate::specs::Trees::end_at, forced_wins::specs::Wins::near_end))]
 pub fn root_end(frame: &Frame, tables: &Tables, p: &Position) -> Option<bool>
     requires { IsReady frame.now.rules tables.now p.now }
@@ -154,7 +154,8 @@ fn open(leaf: &Leaf, nodes: &mut Vec<Node>, pairs: &mut Vec<Pair>) -> Result<(),
 ///
 /// # Errors
 ///
-/// `Memory` where there is none, or where a node would have no number of 32 bits. The nodes and the pairs are as before.
+/// `Memory` where there is none, or where a node would have no number of 32 bits. The nodes and the pairs are as
+/// before.
 pub(crate) fn expand(
     frame: &Frame,
     leaf: &Leaf,

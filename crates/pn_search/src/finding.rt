@@ -110,8 +110,8 @@ pub(crate) fn find_lent<R: Wait>(
     })
 }
 
-/// Whether the side wins the ongoing game by force within n of its moves, n from 1 to 100, with the tree that says so. What
-/// is known of the settled nodes is published.
+/// Whether the side wins the ongoing game by force within n of its moves, n from 1 to 100, with the tree that says so.
+/// What is known of the settled nodes is published.
 ///
 /// # Errors
 ///

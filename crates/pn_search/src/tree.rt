@@ -22,8 +22,8 @@ use rules_model::{Memory, Position, repeat_of};
 use std::alloc::Global;
 use std::marker::Model;
 
-/// A proof tree: the nodes in the order in which they were made, and the pair of each. Contracts see the frame, the root's
-/// position, the number of moves and the nodes.
+/// A proof tree: the nodes in the order in which they were made, and the pair of each. Contracts see the frame, the
+/// root's position, the number of moves and the nodes.
 #[derive(Drop)]
 pub struct Tree {
     frame: Frame,
@@ -98,8 +98,8 @@ impl Tree {
         (pair.proof, pair.disproof)
     }
 
-    /// It is a tree after some number of expansions, and where its root is proved or disproved, its moves win or do not.
-    /// Nothing is done: the call tells a proof.
+    /// It is a tree after some number of expansions, and where its root is proved or disproved, its moves win or do
+    /// not. Nothing is done: the call tells a proof.
     pub fn has_grown(&self)
         ensures grown { Trees.HasGrown self.now }
         ensures decides { PairDecides self.now }
@@ -200,8 +200,8 @@ impl Tree {
         Leaf { place, board }
     }
 
-    /// Expands the most-proving leaf, unless one of the root's numbers is infinite. The numbers of the leaf are carried up as
-    /// far as they change.
+    /// Expands the most-proving leaf, unless one of the root's numbers is infinite. The numbers of the leaf are carried
+    /// up as far as they change.
     ///
     /// # Errors
     ///

@@ -1,5 +1,5 @@
--- One key for each repeat: a sum of words, which a move changes in few places, and the rest mixed into it. Equal repeats have
--- equal keys; nothing else is owed.
+-- One key for each repeat: a sum of words, which a move changes in few places, and the rest mixed into it. Equal
+-- repeats have equal keys; nothing else is owed.
 use Rattle.std.specs.Prelude.{◌≡◌, ℕ, zero, suc, ◌+◌, ◌%◌, ◌^◌, List, Option, slice_index}
 use Rattle.rules_model.specs.declared.board.Cell.{Cell}
 use Rattle.rules_model.specs.declared.board.Repeat.{Repeat}

@@ -15,15 +15,15 @@ use Rattle.rules_model.specs.Sides.{side_index}
 abbrev pub folded : ℕ → ℕ
 folded x = bit_xor x (x / 2 ^ 33)
 
--- the word of a number: the finalizer of MurmurHash3 (fmix64, by A. Appleby, in the public domain) without its first fold,
--- which changes no number below 2^33, and without its last, which is done once for the whole key
+-- the word of a number: the finalizer of MurmurHash3 (fmix64, by A. Appleby, in the public domain) without its first
+-- fold, which changes no number below 2^33, and without its last, which is done once for the whole key
 unfoldable pub word : ℕ → ℕ
 word n = (folded ((n * 0xFF51_AFD7_ED55_8CCD) % 2 ^ 64) * 0xC4CE_B9FE_1A85_EC53) % 2 ^ 64
 
 -- ---- what stands on a square
 
--- a number for each piece on each square, never 0. What it was promoted from is left out: equal positions have equal keys
--- without it
+-- a number for each piece on each square, never 0. What it was promoted from is left out: equal positions have equal
+-- keys without it
 abbrev pub cell_number : ℕ → Cell → ℕ
 cell_number s c = (c.kind.0 * 2 + side_index c.side) * 2 ^ 8 + s + 1
 

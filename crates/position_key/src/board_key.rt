@@ -51,8 +51,8 @@ impl BoardKey {
         board_key(&r.cells, &r.hands)
     }
 
-    /// The key of the next position, from that of the one before and the squares outside of which the two boards agree. No
-    /// other square is looked at.
+    /// The key of the next position, from that of the one before and the squares outside of which the two boards agree.
+    /// No other square is looked at.
     #[tactic(auto, unfolding(crate::specs::Key::board_key))]
     pub fn after(self, before: &Position, next: &Position, touched: Set) -> BoardKey
         requires key { IsBoardKey self (repeat_of before.now) }

@@ -1,5 +1,5 @@
--- What a proof text says: a game, a goal and a strategy, or the first fault; and how many of its lines tell it. Each definition takes the
--- lines from one of them on, from the last part to the first.
+-- What a proof text says: a game, a goal and a strategy, or the first fault; and how many of its lines tell it. Each
+-- definition takes the lines from one of them on, from the last part to the first.
 use Rattle.std.specs.Prelude.{◌≡◌, ℕ, zero, suc, ◌+◌, ◌-◌, Bool, true, false, List, [], ◌∷◌, ◌++◌, drop, take, length, codes, Option, None, Some, option_and_then, Result, Ok, Err, MatchResult, if◌then◌else◌}
 use Rattle.io_ports.specs.Lines.{Line, Text}
 use Rattle.rules_model.specs.declared.board.Position.{Position}
@@ -44,11 +44,13 @@ abbrev pub if_said : {A : Type 0} → Option A → (A → ℕ) → ℕ
 if_said None more = 0
 if_said (Some x) more = more x
 
--- the first line says something, by which those after it are read; or it is missing, too long or says nothing, and has this fault
+-- the first line says something, by which those after it are read; or it is missing, too long or says nothing, and has
+-- this fault
 unfoldable pub line_on : {A : Type 0} → ProofFault → (List ℕ → Option A) → (A → Reading) → Reading
 line_on fault said rest = record {
   says = λ lines. said_or fault (option_and_then said (first_text lines)) (λ x. (rest x).says (drop 1 lines));
-  needs = λ lines. length (take 1 lines) + if_said (option_and_then said (first_text lines)) (λ x. (rest x).needs (drop 1 lines));
+  needs = λ lines. length (take 1 lines) + if_said (option_and_then said (first_text lines))
+      (λ x. (rest x).needs (drop 1 lines));
 }
 
 -- a fault that the lines before tell
@@ -70,7 +72,8 @@ lines_of_body rules lines = lines_of_strategy rules (Text (codes "strategy 1") �
 
 -- the lines from this number on
 unfoldable pub body_on : ℕ → Played → Goal → Reading
-body_on number g goal = record { says = λ lines. with_strategy number g goal (body_of g.rules lines); needs = lines_of_body g.rules }
+body_on number g goal =
+    record { says = λ lines. with_strategy number g goal (body_of g.rules lines); needs = lines_of_body g.rules }
 
 -- ---- `goal SIDE N`
 
@@ -117,7 +120,8 @@ with_rules number (Err why) = fault_on (RefusedRules why)
 -- the pairs of this many lines after these pairs, and the game after them
 unfoldable pub pairs_on : ℕ → ℕ → List KeyLine → Reading
 pairs_on zero number pairs = with_rules number (rules_of pairs)
-pairs_on (suc count) number pairs = line_on (BadRules number) pair_said (λ pair. pairs_on count (number + 1) (pairs ++ pair ∷ []))
+pairs_on (suc count) number pairs =
+    line_on (BadRules number) pair_said (λ pair. pairs_on count (number + 1) (pairs ++ pair ∷ []))
 
 unfoldable pub rules_on : Reading
 rules_on = line_on (Header 2) rules_said (λ count. pairs_on count 3 [])

@@ -72,7 +72,8 @@ pub record GoesOn (left left' : Option (List ℕ)) (on next : Reading) : Type 0 
   pub needs : (more : List Line) → length lines + next.needs more ≤ on.needs (lines ++ more)
 
 -- the lines of a part say something, by which those after them are read; or that is why nothing was read
-abbrev pub Reads : {A : Type 0} → Option (List ℕ) → Option (List ℕ) → Reading → (A → Reading) → Result A NoProof → Type 0
+abbrev pub Reads : {A : Type 0} → Option (List ℕ) → Option (List ℕ) → Reading → (A → Reading) → Result A NoProof
+    → Type 0
 Reads left left' on next (Ok x) = GoesOn left left' on (next x)
 Reads left left' on next (Err why) = Hears left left' on (λ said. HasWhy said why)
 

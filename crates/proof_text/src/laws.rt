@@ -16,9 +16,9 @@ use variant_model::laws::{
 };
 
 /// Reading a written proof text gives back the game, the goal and the strategy: of an accepted section among sections
-/// of files, a game that was played by its rules, a goal within 1 to 100 moves, and a strategy whose positions are sound
-/// and have the number 1, whose ranks are at most 65,535, whose edges lead to its nodes and whose moves are read back
-/// as themselves. `Sections::add` and `variant_rules::builtin` give sections of files.
+/// of files, a game that was played by its rules, a goal within 1 to 100 moves, and a strategy whose positions are
+/// sound and have the number 1, whose ranks are at most 65,535, whose edges lead to its nodes and whose moves are read
+/// back as themselves. `Sections::add` and `variant_rules::builtin` give sections of files.
 pub fn written_proofs_are_read_back()
     ensures { (sections : List Section) (place : ℕ) (g : Played) (n : ℕ) (s : Strategy)
         → AreFileLines sections → entry sections place ≡ Ok g.rules → IsPlayed g → 1 ≤ n → n ≤ 100

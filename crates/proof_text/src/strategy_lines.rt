@@ -89,7 +89,8 @@ pub fn read_strategy<S: Source>(
     Ok(reader.finish()?)
 }
 
-/// Reads a strategy without its first line, `strategy 1`, from the lines of the source, to their end or to the first faulty one.
+/// Reads a strategy without its first line, `strategy 1`, from the lines of the source, to their end or to the first
+/// faulty one.
 pub(crate) fn read_body<S: Source>(
     alloc: Global,
     rules: &Rules,

@@ -211,8 +211,8 @@ fn nodes_fit(strategy: &Strategy)
 /// made of, or nothing. Whether the strategy reaches the goal in the game is not asked.
 ///
 /// The rules are told by each key that has a value in the section or in one that it comes from, and by each piece that
-/// it has, in byte order. Each line ends with LF. `read_proof` gives back the game, the goal and the strategy, where the
-/// sections are of files and the strategy's own text would be read back.
+/// it has, in byte order. Each line ends with LF. `read_proof` gives back the game, the goal and the strategy, where
+/// the sections are of files and the strategy's own text would be read back.
 ///
 /// `Memory` is the answer where there was not enough.
 pub fn write_proof(

@@ -1,4 +1,5 @@
-//! Games of random legal moves, and what is printed of them: a game for each variant and number, the same on every machine.
+//! Games of random legal moves, and what is printed of them: a game for each variant and number, the same on every
+//! machine.
 #![tactic(auto)]
 
 mod random_play;

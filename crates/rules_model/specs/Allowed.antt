@@ -14,4 +14,6 @@ can_capture rules r = list_any (captures rules r) (filter (is_allowed rules r) e
 
 -- the move is legal: no early end, it is allowed, and it captures where one must capture and can
 unfoldable pub is_legal : Rules → Repeat → Move → Bool
-is_legal rules r m = is_ongoing (early_end rules r) && is_allowed rules r m && (not (rules.must_capture && can_capture rules r) || captures rules r m)
+is_legal rules r m =
+    is_ongoing (early_end rules r) && is_allowed rules r m
+    && (not (rules.must_capture && can_capture rules r) || captures rules r m)

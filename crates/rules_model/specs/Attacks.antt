@@ -48,7 +48,8 @@ is_own_pawn rules side c = is_own side (is_pawn rules) c
 -- as a piece of the kind: the pawn diagonally, the others by their terms that take
 abbrev pub attacks_as : Rules → List (Option Cell) → Side → Kind → Square → ℕ → Bool
 attacks_as rules cells side kind from to =
-    if is_pawn rules kind then is_diagonal (board_of rules) side from to else kind_reaches rules cells side kind (λ t. t.takes) from to
+    if is_pawn rules kind then is_diagonal (board_of rules) side from to
+        else kind_reaches rules cells side kind (λ t. t.takes) from to
 
 abbrev pub attacks_by : Rules → List (Option Cell) → Side → ℕ → Square → Option Cell → Bool
 attacks_by rules cells by to from None = false
@@ -67,7 +68,8 @@ stands_between cells a b s = (s % 12 == a % 12) && nat_lt (min a b) s && nat_lt 
 -- the side's king stands on `from`, on the file of `to`, and all squares between the two are empty
 unfoldable pub king_faces : Rules → List (Option Cell) → Side → ℕ → ℕ → Bool
 king_faces rules cells by to from =
-    is_own_king rules by (cell_at cells from) && (from % 12 == to % 12) && not (any_below (stands_between cells from to) 120)
+    is_own_king rules by (cell_at cells from) && (from % 12 == to % 12)
+        && not (any_below (stands_between cells from to) 120)
 
 -- where kings fly: the square holds the other side's king, and the side's own king faces it along an open file
 unfoldable pub flies_to : Rules → List (Option Cell) → Side → ℕ → Bool
@@ -76,7 +78,8 @@ flies_to rules cells by to =
 
 -- ---- the whole
 
--- the side attacks the square, by a piece or by its flying king. But for that king, what stands on the square does not matter
+-- the side attacks the square, by a piece or by its flying king. But for that king, what stands on the square does not
+-- matter
 unfoldable pub attacks : Rules → List (Option Cell) → Side → ℕ → Bool
 attacks rules cells by to = any_below (attacks_from rules cells by to) 120 || flies_to rules cells by to
 
@@ -91,8 +94,9 @@ abbrev pub pawn_at : Rules → List (Option Cell) → Side → Option ℕ → Bo
 pawn_at rules cells side None = false
 pawn_at rules cells side (Some s) = is_own_pawn rules side (cell_at cells s)
 
--- a pawn of the side stands so that it has the square diagonally one step forward: that is where, seen from the square, the
--- other side's forward diagonals lead
+-- a pawn of the side stands so that it has the square diagonally one step forward: that is where, seen from the square,
+-- the other side's forward diagonals lead
 unfoldable pub pawn_could_take : Rules → List (Option Cell) → Side → Square → Bool
 pawn_could_take rules cells side s =
-    pawn_at rules cells side (right_ahead (board_of rules) (other side) s) || pawn_at rules cells side (left_ahead (board_of rules) (other side) s)
+    pawn_at rules cells side (right_ahead (board_of rules) (other side) s)
+        || pawn_at rules cells side (left_ahead (board_of rules) (other side) s)

@@ -1,4 +1,5 @@
--- Castling (FIDE Laws of Chess, article 3.8), on the files and the rank that the variant names (`castlingKingFile` and its kin).
+-- Castling (FIDE Laws of Chess, article 3.8), on the files and the rank that the variant names (`castlingKingFile` and
+-- its kin).
 use Rattle.std.specs.Prelude.{ℕ, ◌+◌, ◌-◌, ◌<◌, min, max, nat_lt, nat_le, Bool, false, ◌&&◌, ◌||◌, not, ◌==◌, is_some, if◌then◌else◌, Option, Some, None, List, [], slice_index_or}
 use Rattle.std.specs.List.{list_any}
 use Rattle.foundation.specs.Count.{any_below, first_below, last_below}
@@ -24,7 +25,8 @@ holds_right rights side wing = slice_index_or (slice_index_or rights (side_index
 unfoldable pub castling_on : Rules → Bool
 castling_on rules =
     rules.castling && is_some rules.king && list_any (λ b. b) rules.castle_rooks && nat_le rules.castle_rank rules.ranks
-    && nat_lt rules.castle_king rules.files && nat_lt rules.castle_near rules.files && nat_lt rules.castle_far rules.files
+    && nat_lt rules.castle_king rules.files && nat_lt rules.castle_near rules.files
+    && nat_lt rules.castle_far rules.files
     && nat_lt rules.castle_far rules.castle_king && nat_lt rules.castle_king rules.castle_near
 
 -- the file to which the king goes
@@ -92,12 +94,14 @@ highest castle = max (max castle.king.0 castle.king_to.0) (max castle.rook.0 cas
 -- a piece other than king and rook stands on the square, from the lowest to the highest
 unfoldable pub in_the_way : List (Option Cell) → CastleSquares → ℕ → Bool
 in_the_way cells castle s =
-    nat_le (lowest castle) s && nat_le s (highest castle) && not (s == castle.king.0) && not (s == castle.rook.0) && is_some (cell_at cells s)
+    nat_le (lowest castle) s && nat_le s (highest castle) && not (s == castle.king.0) && not (s == castle.rook.0)
+        && is_some (cell_at cells s)
 
 -- the other side attacks the square, from the king's start to its target
 unfoldable pub king_passes_attack : Rules → List (Option Cell) → Side → CastleSquares → ℕ → Bool
 king_passes_attack rules cells side castle s =
-    nat_le (min castle.king.0 castle.king_to.0) s && nat_le s (max castle.king.0 castle.king_to.0) && attacks rules cells (other side) s
+    nat_le (min castle.king.0 castle.king_to.0) s && nat_le s (max castle.king.0 castle.king_to.0)
+        && attacks rules cells (other side) s
 
 -- the way is clear, and the king's is not attacked
 unfoldable pub way_is_open : Rules → List (Option Cell) → Side → CastleSquares → Bool
@@ -114,16 +118,19 @@ is_castle castle from to rook = (from.0 == castle.king.0) && (to.0 == castle.kin
 abbrev pub castles_as : Rules → Repeat → Square → Square → Square → Option CastleSquares → Bool
 castles_as rules r from to rook None = false
 castles_as rules r from to rook (Some castle) =
-    is_own_king rules r.side (cell_at r.cells castle.king.0) && is_castle castle from to rook && way_is_open rules r.cells r.side castle
+    is_own_king rules r.side (cell_at r.cells castle.king.0) && is_castle castle from to rook
+        && way_is_open rules r.cells r.side castle
 
 -- the king castles to the wing, whose right the side holds
 abbrev pub castles_on : Rules → Repeat → Square → Square → Square → Wing → Bool
-castles_on rules r from to rook wing = holds_right r.rights r.side wing && castles_as rules r from to rook (castle_of rules r.cells r.side wing)
+castles_on rules r from to rook wing =
+    holds_right r.rights r.side wing && castles_as rules r from to rook (castle_of rules r.cells r.side wing)
 
 unfoldable pub castles : Rules → Repeat → Square → Square → Square → Bool
-castles rules r from to rook = castling_on rules && (castles_on rules r from to rook Kingside || castles_on rules r from to rook Queenside)
+castles rules r from to rook =
+    castling_on rules && (castles_on rules r from to rook Kingside || castles_on rules r from to rook Queenside)
 
--- the square to which the rook of a castle goes, by the move alone: the one beside the king's target on the inner side. The rook's
--- start lies on the wing of the king's start that is castled to
+-- the square to which the rook of a castle goes, by the move alone: the one beside the king's target on the inner side.
+-- The rook's start lies on the wing of the king's start that is castled to
 abbrev pub rook_target : Square → Square → Square → ℕ
 rook_target from to rook = if nat_lt from.0 rook.0 then to.0 - 1 else to.0 + 1

@@ -1,4 +1,5 @@
--- Drops (Fairy-Stockfish's `pieceDrops`, `dropRegion..`, `firstRankPawnDrops`, `promotionZonePawnDrops`, `dropNoDoubled`).
+-- Drops (Fairy-Stockfish's `pieceDrops`, `dropRegion..`, `firstRankPawnDrops`, `promotionZonePawnDrops`,
+-- `dropNoDoubled`).
 use Rattle.std.specs.Prelude.{ℕ, ◌+◌, ◌*◌, ◌%◌, Bool, ◌&&◌, ◌||◌, not, ◌==◌, is_none, Option, List}
 use Rattle.foundation.specs.Count.{any_below}
 use Rattle.rules_model.specs.declared.board.Cell.{Cell}
@@ -18,7 +19,8 @@ stands_on cells side kind file rank = is_own side (λ k. k.0 == kind.0) (cell_at
 
 -- where a pawn is not dropped
 abbrev pub bars_pawn : Rules → Side → ℕ → Bool
-bars_pawn rules side to = (on_first_rank rules side to && not rules.pawn_first) || (in_region rules.promotion side to && not rules.pawn_zone)
+bars_pawn rules side to =
+    (on_first_rank rules side to && not rules.pawn_first) || (in_region rules.promotion side to && not rules.pawn_zone)
 
 -- the side already has a piece of the kind on the file, and the kind may not be doubled
 abbrev pub is_doubled : Rules → List (Option Cell) → Side → Kind → ℕ → Bool

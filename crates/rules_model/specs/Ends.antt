@@ -1,4 +1,5 @@
--- Ends of a game by the position itself (Fairy-Stockfish's `flagPiece`, `checkCounting`, `extinctionValue` and their kin).
+-- Ends of a game by the position itself (Fairy-Stockfish's `flagPiece`, `checkCounting`, `extinctionValue` and their
+-- kin).
 use Rattle.std.specs.Prelude.{ℕ, ◌+◌, nat_le, Bool, true, false, ◌&&◌, ◌==◌, if◌then◌else◌, Option, Some, None, List, sum, count_by, slice_index}
 use Rattle.foundation.specs.Count.{any_below}
 use Rattle.rules_model.specs.declared.board.Cell.{Cell}
@@ -55,7 +56,9 @@ has_none_left rules r side = rules.check_counting && (slice_index r.checks (side
 
 -- a side has given all its checks
 abbrev pub checks_end : Rules → Repeat → Outcome
-checks_end rules r = if has_none_left rules r (other r.side) then Won (other r.side) Checks else if has_none_left rules r r.side then Won r.side Checks else Ongoing
+checks_end rules r =
+    if has_none_left rules r (other r.side) then Won (other r.side) Checks
+    else if has_none_left rules r r.side then Won r.side Checks else Ongoing
 
 -- ---- extinction
 
@@ -77,23 +80,28 @@ dies_out rules tested opponent = nat_le tested rules.extinct_most && nat_le rule
 
 unfoldable pub kind_dies_out : Rules → Repeat → Side → ℕ → Bool
 kind_dies_out rules r side kind =
-    masks rules.extinct_kinds (record { 0 = kind }) && dies_out rules (pieces_of_kind r side (record { 0 = kind })) (pieces_of_kind r (other side) (record { 0 = kind }))
+    masks rules.extinct_kinds (record { 0 = kind })
+        && dies_out rules (pieces_of_kind r side (record { 0 = kind }))
+        (pieces_of_kind r (other side) (record { 0 = kind }))
 
 -- for one listed kind, or for all kinds together
 unfoldable pub is_extinct : Rules → Repeat → Side → Bool
 is_extinct rules r side =
-    if rules.extinct_all then dies_out rules (pieces_of r side) (pieces_of r (other side)) else any_below (kind_dies_out rules r side) 26
+    if rules.extinct_all then dies_out rules (pieces_of r side) (pieces_of r (other side))
+        else any_below (kind_dies_out rules r side) 26
 
 abbrev pub extinction_by : Rules → Repeat → Option Value → Outcome
 extinction_by rules r None = Ongoing
 extinction_by rules r (Some value) =
-    if is_extinct rules r (other r.side) then valued value (other r.side) Extinction else if is_extinct rules r r.side then valued value r.side Extinction else Ongoing
+    if is_extinct rules r (other r.side) then valued value (other r.side) Extinction
+        else if is_extinct rules r r.side then valued value r.side Extinction else Ongoing
 
 -- an end by the position itself
 unfoldable pub early_end : Rules → Repeat → Outcome
 early_end rules r = or_end (or_end (flag_end rules r) (checks_end rules r)) (extinction_by rules r rules.extinction)
 
--- what stands where the side has no legal move: its king is attacked or not (FIDE Laws of Chess, articles 5.1.1 and 5.2.1;
--- Fairy-Stockfish's `checkmateValue` and `stalemateValue`)
+-- what stands where the side has no legal move: its king is attacked or not (FIDE Laws of Chess, articles 5.1.1 and
+-- 5.2.1; Fairy-Stockfish's `checkmateValue` and `stalemateValue`)
 abbrev pub no_move : Rules → Side → Bool → Outcome
-no_move rules side attacked = if attacked then valued rules.checkmate side Checkmate else valued rules.stalemate side Stalemate
+no_move rules side attacked =
+    if attacked then valued rules.checkmate side Checkmate else valued rules.stalemate side Stalemate

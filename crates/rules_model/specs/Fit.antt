@@ -1,5 +1,5 @@
--- Rules that fit: what the options of a variant may say together (the variants.ini documentation of Fairy-Stockfish). A position may
--- be sound for such rules, and every call of the crates above asks for them.
+-- Rules that fit: what the options of a variant may say together (the variants.ini documentation of Fairy-Stockfish). A
+-- position may be sound for such rules, and every call of the crates above asks for them.
 use Rattle.std.specs.Prelude.{◌≡◌, ◌≢◌, ℕ, ◌+◌, ◌<◌, ◌≤◌, min, max, nat_lt, nat_le, Bool, true, false, ◌&&◌, ◌||◌, not, ◌==◌, is_some, is_none, Option, Some, None, List, length, slice_index_or, ℤ, pos, negsuc, nat_abs, int_le}
 use Rattle.std.specs.List.{list_all}
 use Rattle.foundation.specs.Tests.{same_bool, is_nil}
@@ -35,7 +35,8 @@ fits_way Grass limit long short = true
 unfoldable pub fits_term : Term → Bool
 fits_term t =
     is_within t.dx && is_within t.dy && nat_lt 0 (nat_abs t.dx + nat_abs t.dy) && nat_le 1 t.limit && nat_le t.limit 11
-    && fits_way t.way t.limit (max (nat_abs t.dx) (nat_abs t.dy)) (min (nat_abs t.dx) (nat_abs t.dy)) && (t.quiet || t.takes)
+    && fits_way t.way t.limit (max (nat_abs t.dx) (nat_abs t.dy)) (min (nat_abs t.dx) (nat_abs t.dy))
+    && (t.quiet || t.takes)
 
 -- ---- regions
 
@@ -59,7 +60,8 @@ fits_pawn rules kind rule = not (is_king rules kind) && is_nil rule.terms && is_
 abbrev pub fits_rule : Rules → Kind → Option KindRule → Bool
 fits_rule rules kind None = true
 fits_rule rules kind (Some rule) =
-    same_bool rule.pawn (is_pawn rules kind) && (not rule.pawn || fits_pawn rules kind rule) && list_all fits_term rule.terms
+    same_bool rule.pawn (is_pawn rules kind) && (not rule.pawn || fits_pawn rules kind rule)
+        && list_all fits_term rule.terms
     && list_all (region_fits rules) rule.mobility && is_there rules rule.promoted
 
 -- the kind's rule fits: it has the mark of the pawn exactly where it is the one that is named
@@ -80,15 +82,18 @@ is_pawn_or_king rules kind = is_pawn rules kind || is_king rules kind
 
 -- a pawn becomes a pawn or a king
 unfoldable pub promotes_to_pawn_or_king : Rules → Bool
-promotes_to_pawn_or_king rules = any_below (λ k. masks rules.promotion_kinds (record { 0 = k }) && is_pawn_or_king rules (record { 0 = k })) 26
+promotes_to_pawn_or_king rules =
+    any_below (λ k. masks rules.promotion_kinds (record { 0 = k }) && is_pawn_or_king rules (record { 0 = k })) 26
 
 abbrev pub bad_promotion : Rules → Kind → Option Kind → Bool
 bad_promotion rules kind None = false
-bad_promotion rules kind (Some promoted) = is_pawn_or_king rules kind || is_pawn_or_king rules promoted || is_some (promoted_of rules promoted)
+bad_promotion rules kind (Some promoted) =
+    is_pawn_or_king rules kind || is_pawn_or_king rules promoted || is_some (promoted_of rules promoted)
 
 -- a pawn or a king is promoted or is what a piece becomes, or a promoted kind is promoted again
 unfoldable pub chains_promotions : Rules → Bool
-chains_promotions rules = any_below (λ k. bad_promotion rules (record { 0 = k }) (promoted_of rules (record { 0 = k }))) 26
+chains_promotions rules =
+    any_below (λ k. bad_promotion rules (record { 0 = k }) (promoted_of rules (record { 0 = k }))) 26
 
 abbrev pub is_pawn_named : Rules → Option Kind → Bool
 is_pawn_named rules None = false
@@ -104,10 +109,12 @@ rook_is_pawn rules (Some pawn) = masks rules.castle_rooks pawn
 
 -- gates with more files than letters of gates, or with castling on another rank or with pawns
 unfoldable pub gates_amiss : Rules → Bool
-gates_amiss rules = rules.gating && (nat_lt 10 rules.files || (castling_on rules && (not (rules.castle_rank == 1) || rook_is_pawn rules rules.pawn)))
+gates_amiss rules =
+    rules.gating && (nat_lt 10 rules.files
+    || (castling_on rules && (not (rules.castle_rank == 1) || rook_is_pawn rules rules.pawn)))
 
--- ---- the whole: a place for each letter, every number in its range, every region on the board, every kind that is named there, and
--- no contradiction. The start is not looked at
+-- ---- the whole: a place for each letter, every number in its range, every region on the board, every kind that is
+-- named there, and no contradiction. The start is not looked at
 pub record IsFit (rules : Rules) : Type 0 where
   pub letters : length rules.kinds ≡ 26
   pub files_least : 1 ≤ rules.files

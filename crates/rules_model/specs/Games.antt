@@ -1,4 +1,5 @@
--- Games and their results (FIDE Laws of Chess, articles 5 and 9; Fairy-Stockfish's `nFoldRule`, `nMoveRule` and their kin).
+-- Games and their results (FIDE Laws of Chess, articles 5 and 9; Fairy-Stockfish's `nFoldRule`, `nMoveRule` and their
+-- kin).
 use Rattle.std.specs.Prelude.{◌≡◌, ℕ, ◌*◌, nat_le, List, [], ◌∷◌, ◌++◌, Bool, true, false, not, ◌&&◌, ◌==◌, nat_eq, if◌then◌else◌, Option, Some, None, count_by}
 use Rattle.std.specs.List.{list_any}
 use Rattle.std.specs.Cmp.Lexicographic.{pointwise}
@@ -41,7 +42,8 @@ same_repeat a b =
     pointwise same_cell a.cells b.cells
     && (pointwise (pointwise nat_eq) a.hands b.hands
     && (pointwise nat_eq a.gates b.gates
-    && (pointwise (pointwise same_bool) a.rights b.rights && (pointwise nat_eq a.checks b.checks && (same_square a.ep b.ep && same_side a.side b.side)))))
+    && (pointwise (pointwise same_bool) a.rights b.rights
+    && (pointwise nat_eq a.checks b.checks && (same_square a.ep b.ep && same_side a.side b.side)))))
 
 -- how many of the positions have the repeat
 unfoldable pub times : Repeat → List Position → ℕ
@@ -103,4 +105,5 @@ is_run_out rules counter = not (rules.n_move == 0) && nat_le (2 * rules.n_move) 
 unfoldable pub result : Rules → Story → Outcome
 result rules story =
     or_end (own_end rules (repeat_of story.last))
-    (if is_repeated rules story then valued rules.n_fold_value story.last.side Repetition else if is_run_out rules story.last.counter then Drawn MoveCount else Ongoing)
+    (if is_repeated rules story then valued rules.n_fold_value story.last.side Repetition
+        else if is_run_out rules story.last.counter then Drawn MoveCount else Ongoing)

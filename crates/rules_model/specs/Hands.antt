@@ -1,4 +1,5 @@
--- Hands: how many pieces of each kind a side holds (FEN of drop variants; Fairy-Stockfish's `pieceDrops`, `capturesToHand`).
+-- Hands: how many pieces of each kind a side holds (FEN of drop variants; Fairy-Stockfish's `pieceDrops`,
+-- `capturesToHand`).
 use Rattle.std.specs.Prelude.{ℕ, ◌+◌, ◌-◌, Bool, nat_lt, Option, Some, None, List, [], slice_index, slice_index_or, slice_set}
 use Rattle.rules_model.specs.declared.board.Kind.{Kind}
 use Rattle.rules_model.specs.declared.board.Side.{Side}

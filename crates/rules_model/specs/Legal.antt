@@ -1,4 +1,5 @@
--- Legal moves (FIDE Laws of Chess, articles 3.9 and 3.10; Fairy-Stockfish's `checking`, `dropChecks`, `immobilityIllegal`, `mustCapture`).
+-- Legal moves (FIDE Laws of Chess, articles 3.9 and 3.10; Fairy-Stockfish's `checking`, `dropChecks`,
+-- `immobilityIllegal`, `mustCapture`).
 use Rattle.std.specs.Prelude.{ℕ, List, [], ◌∷◌, ◌++◌, map, replicate, Bool, true, false, not, ◌&&◌, ◌||◌, is_some, if◌then◌else◌, Option, Some, None}
 use Rattle.std.specs.List.{list_any, filter, flat_map}
 use Rattle.foundation.specs.Count.{any_below, below}
@@ -51,7 +52,8 @@ abbrev pub goes_from : ℕ → List Move
 goes_from from = flat_map (goes_to from) (below 120)
 
 abbrev pub castles_with : ℕ → ℕ → ℕ → List Move
-castles_with from to rook = map (λ gate. Castle (record { 0 = from }) (record { 0 = to }) (record { 0 = rook }) gate) every_placed
+castles_with from to rook =
+    map (λ gate. Castle (record { 0 = from }) (record { 0 = to }) (record { 0 = rook }) gate) every_placed
 
 abbrev pub castles_to : ℕ → ℕ → List Move
 castles_to from to = flat_map (castles_with from to) (below 120)
@@ -64,7 +66,9 @@ drops_of kind = map (λ to. Drop (record { 0 = kind }) (record { 0 = to })) (bel
 
 -- every conceivable move, in the byte order of the texts: never computed
 unfoldable pub every_move : List Move
-every_move = in_order move_cmp (flat_map goes_from (below 120) ++ flat_map castles_from (below 120) ++ flat_map drops_of (below 26))
+every_move =
+    in_order move_cmp (flat_map goes_from (below 120) ++ flat_map castles_from (below 120)
+    ++ flat_map drops_of (below 26))
 
 -- ---- the conditions
 
@@ -83,7 +87,9 @@ is_drop (Drop kind to) = true
 
 -- where the variant forbids checks, or checks by drops, it gives none
 unfoldable pub may_check : Rules → Repeat → Move → Bool
-may_check rules r m = (rules.checking || not (gives_check rules r m)) && (rules.drop_checks || not (is_drop m) || not (gives_check rules r m))
+may_check rules r m =
+    (rules.checking || not (gives_check rules r m))
+    && (rules.drop_checks || not (is_drop m) || not (gives_check rules r m))
 
 abbrev pub empty_board : List (Option Cell)
 empty_board = replicate 120 None
@@ -95,7 +101,8 @@ roams_to rules side kind from to = kind_reaches rules empty_board side kind (λ 
 -- a piece of the kind reaches some square of the otherwise empty board; for the pawn, there is a square in front of it
 unfoldable pub is_mobile : Rules → Side → Kind → Square → Bool
 is_mobile rules side kind from =
-    if is_pawn rules kind then is_some (ahead (board_of rules) side from 1) else any_below (roams_to rules side kind from) 120
+    if is_pawn rules kind then is_some (ahead (board_of rules) side from 1)
+        else any_below (roams_to rules side kind from) 120
 
 abbrev pub mobile_at : Rules → Side → Square → Option Cell → Bool
 mobile_at rules side s None = true
@@ -103,9 +110,11 @@ mobile_at rules side s (Some c) = is_mobile rules side c.kind s
 
 -- the piece on the target of a `Go` or a drop can ever move
 abbrev pub stays_mobile : Rules → Repeat → Move → Bool
-stays_mobile rules r (Go from to promo gate) = mobile_at rules r.side to (cell_at (next_repeat rules r (Go from to promo gate)).cells to.0)
+stays_mobile rules r (Go from to promo gate) =
+    mobile_at rules r.side to (cell_at (next_repeat rules r (Go from to promo gate)).cells to.0)
 stays_mobile rules r (Castle from to rook gate) = true
-stays_mobile rules r (Drop kind to) = mobile_at rules r.side to (cell_at (next_repeat rules r (Drop kind to)).cells to.0)
+stays_mobile rules r (Drop kind to) =
+    mobile_at rules r.side to (cell_at (next_repeat rules r (Drop kind to)).cells to.0)
 
 -- the four conditions
 unfoldable pub is_sane : Rules → Repeat → Move → Bool
@@ -132,4 +141,5 @@ is_stuck rules r = is_nil (legal rules r)
 -- an end by itself: an early end, or no legal move
 unfoldable pub own_end : Rules → Repeat → Outcome
 own_end rules r =
-    or_end (early_end rules r) (if is_stuck rules r then no_move rules r.side (king_attacked rules r.cells r.side) else Ongoing)
+    or_end (early_end rules r) (if is_stuck rules r then no_move rules r.side (king_attacked rules r.cells r.side)
+        else Ongoing)

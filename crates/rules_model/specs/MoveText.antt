@@ -1,4 +1,5 @@
--- The texts of moves as bytes (the long algebraic texts of the UCI protocol, with Fairy-Stockfish's drops and gates), and their order.
+-- The texts of moves as bytes (the long algebraic texts of the UCI protocol, with Fairy-Stockfish's drops and gates),
+-- and their order.
 use Rattle.std.specs.Prelude.{ℕ, ◌+◌, ◌/◌, ◌%◌, List, [], ◌∷◌, ◌++◌, nat_lt, ◌==◌, if◌then◌else◌, Option, Some, None}
 use Rattle.std.specs.declared.cmp.Ordering.{Ordering}
 use Rattle.std.specs.Ordering.{nat_cmp, ordering_then}
@@ -34,11 +35,13 @@ abbrev pub gate_text : Option Kind → List ℕ
 gate_text None = []
 gate_text (Some kind) = lower kind ∷ []
 
--- the king's start and target, and the kind gated on its start; gating on the rook's start is that start, the king's and the kind
+-- the king's start and target, and the kind gated on its start; gating on the rook's start is that start, the king's
+-- and the kind
 abbrev pub castle_text : Square → Square → Square → Option Placed → List ℕ
 castle_text from to rook None = square_text from ++ square_text to
 castle_text from to rook (Some placed) =
-    if placed.at.0 == rook.0 then square_text rook ++ square_text from ++ (lower placed.kind ∷ []) else (square_text from ++ square_text to ++ (lower placed.kind ∷ []))
+    if placed.at.0 == rook.0 then square_text rook ++ square_text from ++ (lower placed.kind ∷ [])
+        else (square_text from ++ square_text to ++ (lower placed.kind ∷ []))
 
 -- the text of a move
 unfoldable pub text_of : Move → List ℕ
@@ -65,7 +68,7 @@ parts_of (Go from to promo gate) = 0 ∷ from.0 ∷ to.0 ∷ (promo_parts promo 
 parts_of (Castle from to rook gate) = 1 ∷ from.0 ∷ to.0 ∷ rook.0 ∷ placed_parts gate
 parts_of (Drop kind to) = 2 ∷ kind.0 ∷ to.0 ∷ []
 
--- the byte order of the texts. Moves of one text, which no position has together, stand in the order of their parts: so the order is
--- total over all moves
+-- the byte order of the texts. Moves of one text, which no position has together, stand in the order of their parts: so
+-- the order is total over all moves
 unfoldable pub move_cmp : Move → Move → Ordering
 move_cmp x y = ordering_then (slice_cmp nat_cmp (text_of x) (text_of y)) (slice_cmp nat_cmp (parts_of x) (parts_of y))

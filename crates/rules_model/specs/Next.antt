@@ -38,10 +38,12 @@ abbrev pub plus : Cell → Option Kind → Cell
 plus c None = c
 plus c (Some kind) = record { side = c.side; kind = kind; origin = Some c.kind }
 
--- what a piece becomes: by `Plus` its former kind is the origin, a promoted pawn has the origin pawn where takings go to hands
+-- what a piece becomes: by `Plus` its former kind is the origin, a promoted pawn has the origin pawn where takings go
+-- to hands
 abbrev pub after_promo : Rules → Cell → Promo → Cell
 after_promo rules c Stays = c
-after_promo rules c (Pawn kind) = record { side = c.side; kind = kind; origin = if rules.to_hand then Some c.kind else None }
+after_promo rules c (Pawn kind) =
+    record { side = c.side; kind = kind; origin = if rules.to_hand then Some c.kind else None }
 after_promo rules c Plus = plus c (promoted_of rules c.kind)
 
 abbrev pub promote : Rules → Option Cell → Promo → Option Cell
@@ -59,7 +61,8 @@ emptied cells (Some s) = slice_set cells s None
 
 -- the cells without the pawn that is taken in passing
 abbrev pub without_passed : Rules → Repeat → Square → Square → List (Option Cell)
-without_passed rules r from to = if passes_by rules r from to.0 then emptied r.cells (behind rules r.side to) else r.cells
+without_passed rules r from to =
+    if passes_by rules r from to.0 then emptied r.cells (behind rules r.side to) else r.cells
 
 abbrev pub placed_on : Side → Option Placed → List (Option Cell) → List (Option Cell)
 placed_on side None cells = cells
@@ -68,11 +71,13 @@ placed_on side (Some placed) cells = slice_set cells placed.at.0 (Some (fresh si
 -- the cells after a castle, before a gate
 abbrev pub castled : List (Option Cell) → Square → Square → Square → List (Option Cell)
 castled cells from to rook =
-    slice_set (slice_set (slice_set (slice_set cells from.0 None) rook.0 None) to.0 (cell_at cells from.0)) (rook_target from to rook) (cell_at cells rook.0)
+    slice_set (slice_set (slice_set (slice_set cells from.0 None) rook.0 None) to.0 (cell_at cells from.0))
+        (rook_target from to rook) (cell_at cells rook.0)
 
 unfoldable pub cells_after : Rules → Repeat → Move → List (Option Cell)
 cells_after rules r (Go from to promo gate) =
-    slice_set (slice_set (without_passed rules r from to) from.0 (gated r.side gate)) to.0 (promote rules (cell_at r.cells from.0) promo)
+    slice_set (slice_set (without_passed rules r from to) from.0 (gated r.side gate)) to.0
+        (promote rules (cell_at r.cells from.0) promo)
 cells_after rules r (Castle from to rook gate) = placed_on r.side gate (castled r.cells from to rook)
 cells_after rules r (Drop kind to) = slice_set r.cells to.0 (Some (fresh r.side kind))
 
@@ -84,7 +89,8 @@ cell_on cells (Some s) = cell_at cells s
 
 -- the piece that a piece takes that goes there
 unfoldable pub taken : Rules → Repeat → Square → Square → Option Cell
-taken rules r from to = if passes_by rules r from to.0 then cell_on r.cells (behind rules r.side to) else cell_at r.cells to.0
+taken rules r from to =
+    if passes_by rules r from to.0 then cell_on r.cells (behind rules r.side to) else cell_at r.cells to.0
 
 -- the move captures: en passant is a capture
 abbrev pub captures : Rules → Repeat → Move → Bool
@@ -105,7 +111,8 @@ placed_kind None = None
 placed_kind (Some placed) = Some placed.kind
 
 unfoldable pub hands_after : Rules → Repeat → Move → List (List ℕ)
-hands_after rules r (Go from to promo gate) = put_at_gate (take_into rules.to_hand r.hands r.side (taken rules r from to)) r.side gate
+hands_after rules r (Go from to promo gate) =
+    put_at_gate (take_into rules.to_hand r.hands r.side (taken rules r from to)) r.side gate
 hands_after rules r (Castle from to rook gate) = put_at_gate r.hands r.side (placed_kind gate)
 hands_after rules r (Drop kind to) = put_down r.hands r.side kind
 
@@ -126,7 +133,8 @@ enters (Drop kind to) s = to.0 == s
 abbrev pub rook_stays : Rules → Side → Move → Option ℕ → Option ℕ → Bool
 rook_stays rules side m None later = false
 rook_stays rules side m (Some file) later =
-    not (leaves m (castling_square rules side file)) && not (enters m (castling_square rules side file)) && is_at file later
+    not (leaves m (castling_square rules side file)) && not (enters m (castling_square rules side file))
+        && is_at file later
 
 -- a castling right is kept where the king did not leave its square and the rook stands still
 unfoldable pub keeps_right : Rules → Repeat → Move → List (Option Cell) → Side → Wing → Bool
@@ -142,14 +150,17 @@ rights_after rules r m later =
 
 -- a gate right is kept where its square was neither left nor entered
 abbrev pub side_gates_after : Rules → Side → Move → ℕ → ℕ
-side_gates_after rules side (Go from to promo gate) gates = closed_at rules side to.0 (closed_at rules side from.0 gates)
+side_gates_after rules side (Go from to promo gate) gates =
+    closed_at rules side to.0 (closed_at rules side from.0 gates)
 side_gates_after rules side (Castle from to rook gate) gates =
-    closed_at rules side (rook_target from to rook) (closed_at rules side to.0 (closed_at rules side rook.0 (closed_at rules side from.0 gates)))
+    closed_at rules side (rook_target from to rook)
+        (closed_at rules side to.0 (closed_at rules side rook.0 (closed_at rules side from.0 gates)))
 side_gates_after rules side (Drop kind to) gates = closed_at rules side to.0 gates
 
 unfoldable pub gates_after : Rules → Repeat → Move → List ℕ
 gates_after rules r m =
-    side_gates_after rules White m (slice_index r.gates (side_index White)) ∷ side_gates_after rules Black m (slice_index r.gates (side_index Black)) ∷ []
+    side_gates_after rules White m (slice_index r.gates (side_index White))
+        ∷ side_gates_after rules Black m (slice_index r.gates (side_index Black)) ∷ []
 
 -- ---- the en passant square and the checks left
 
@@ -165,18 +176,21 @@ ep_where rules side later (Some passed) = if pawn_could_take rules later (other 
 -- a pawn takes a double step and stays a pawn
 abbrev pub is_double_step : Rules → Repeat → Square → Square → Promo → Bool
 is_double_step rules r from to promo =
-    is_own_pawn rules r.side (cell_at r.cells from.0) && is_stays promo && is_at to.0 (ahead (board_of rules) r.side from 2)
+    is_own_pawn rules r.side (cell_at r.cells from.0) && is_stays promo
+        && is_at to.0 (ahead (board_of rules) r.side from 2)
 
 unfoldable pub ep_after : Rules → Repeat → Move → List (Option Cell) → Option Square
 ep_after rules r (Go from to promo gate) later =
-    if is_double_step rules r from to promo then ep_where rules r.side later (square_at (ahead (board_of rules) r.side from 1)) else None
+    if is_double_step rules r from to promo
+        then ep_where rules r.side later (square_at (ahead (board_of rules) r.side from 1)) else None
 ep_after rules r (Castle from to rook gate) later = None
 ep_after rules r (Drop kind to) later = None
 
 -- a move that attacks the enemy king takes one from the mover's count
 unfoldable pub checks_after : Rules → Repeat → List (Option Cell) → List ℕ
 checks_after rules r later =
-    if rules.check_counting && king_attacked rules later (other r.side) then slice_set r.checks (side_index r.side) (slice_index r.checks (side_index r.side) - 1) else r.checks
+    if rules.check_counting && king_attacked rules later (other r.side)
+        then slice_set r.checks (side_index r.side) (slice_index r.checks (side_index r.side) - 1) else r.checks
 
 -- ---- the position
 
@@ -230,4 +244,6 @@ with_counts r counter number = record {
 
 -- the position after the move
 unfoldable pub next : Rules → Position → Move → Position
-next rules p m = with_counts (next_repeat rules (repeat_of p) m) (next_counter rules (repeat_of p) m p.counter) (next_number p.side p.number)
+next rules p m =
+    with_counts (next_repeat rules (repeat_of p) m) (next_counter rules (repeat_of p) m p.counter)
+    (next_number p.side p.number)

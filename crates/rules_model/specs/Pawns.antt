@@ -1,5 +1,6 @@
--- The chess pawn, and en passant (FIDE Laws of Chess, article 3.7). The regions of the double step and of promotion, and whether a
--- pawn must promote, are the variant's (`doubleStepRegion..`, `promotionRegion..`, `mandatoryPawnPromotion`).
+-- The chess pawn, and en passant (FIDE Laws of Chess, article 3.7). The regions of the double step and of promotion,
+-- and whether a pawn must promote, are the variant's (`doubleStepRegion..`, `promotionRegion..`,
+-- `mandatoryPawnPromotion`).
 use Rattle.std.specs.Prelude.{ℕ, Bool, true, false, ◌&&◌, ◌||◌, not, ◌==◌, is_none, Option, Some, None, List}
 use Rattle.std.specs.List.{list_any}
 use Rattle.rules_model.specs.declared.board.Cell.{Cell}
@@ -27,7 +28,8 @@ is_enemy side (Some c) = not (same_side c.side side)
 -- two steps straight forward from the double-step region, over an empty square
 abbrev pub steps_twice : Rules → Repeat → Square → ℕ → Bool
 steps_twice rules r from to =
-    rules.double_step && in_region rules.double_region r.side from.0 && is_free r.cells (ahead (board_of rules) r.side from 1) && is_at to (ahead (board_of rules) r.side from 2)
+    rules.double_step && in_region rules.double_region r.side from.0
+        && is_free r.cells (ahead (board_of rules) r.side from 1) && is_at to (ahead (board_of rules) r.side from 2)
 
 -- to an empty square straight forward, or onto an enemy diagonally one step forward
 unfoldable pub pawn_goes : Rules → Repeat → Square → ℕ → Bool
@@ -56,7 +58,8 @@ is_ep (Some ep) s = ep.0 == s
 
 -- a pawn goes diagonally forward to the en passant square
 unfoldable pub passes_by : Rules → Repeat → Square → ℕ → Bool
-passes_by rules r from to = is_own_pawn rules r.side (cell_at r.cells from.0) && is_ep r.ep to && is_diagonal (board_of rules) r.side from to
+passes_by rules r from to =
+    is_own_pawn rules r.side (cell_at r.cells from.0) && is_ep r.ep to && is_diagonal (board_of rules) r.side from to
 
 -- the square one step behind a square, as the side sees it
 abbrev pub behind : Rules → Side → Square → Option ℕ
@@ -65,4 +68,5 @@ behind rules side s = ahead (board_of rules) (other side) s 1
 -- the move of the pawn, or en passant, where it stays a pawn
 unfoldable pub pawn_moves : Rules → Repeat → Square → Square → Promo → Bool
 pawn_moves rules r from to promo =
-    (pawn_goes rules r from to.0 && pawn_promo rules (may_promote rules r.side to.0) promo) || (passes_by rules r from to.0 && is_stays promo)
+    (pawn_goes rules r from to.0 && pawn_promo rules (may_promote rules r.side to.0) promo)
+        || (passes_by rules r from to.0 && is_stays promo)

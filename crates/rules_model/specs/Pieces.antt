@@ -29,7 +29,8 @@ piece_goes rules cells side kind from to = kind_reaches rules cells side kind (s
 
 -- the kind has a promoted kind, and the start or the target lies in the promotion region
 abbrev pub may_plus : Rules → Side → Kind → ℕ → ℕ → Bool
-may_plus rules side kind from to = is_some (promoted_of rules kind) && (in_region rules.promotion side from || in_region rules.promotion side to)
+may_plus rules side kind from to =
+    is_some (promoted_of rules kind) && (in_region rules.promotion side from || in_region rules.promotion side to)
 
 -- what a piece may become, where it may promote or not
 abbrev pub piece_promo : Rules → Bool → Promo → Bool
@@ -40,13 +41,17 @@ piece_promo rules may Plus = may
 -- the squares are the castling square and the castling target of a wing whose right the side holds
 abbrev pub to_castling_target : Rules → Repeat → Wing → ℕ → ℕ → Bool
 to_castling_target rules r wing from to =
-    holds_right r.rights r.side wing && (from == castling_square rules r.side rules.castle_king) && (to == castling_square rules r.side (king_file rules wing))
+    holds_right r.rights r.side wing && (from == castling_square rules r.side rules.castle_king)
+        && (to == castling_square rules r.side (king_file rules wing))
 
 -- the king's move from its castling square to such a target means castling, and is no ordinary move
 abbrev pub means_castling : Rules → Repeat → Kind → ℕ → ℕ → Bool
-means_castling rules r kind from to = is_king rules kind && (to_castling_target rules r Kingside from to || to_castling_target rules r Queenside from to)
+means_castling rules r kind from to =
+    is_king rules kind && (to_castling_target rules r Kingside from to || to_castling_target rules r Queenside from to)
 
 -- the ordinary move of the piece, which is not the pawn
 unfoldable pub piece_moves : Rules → Repeat → Cell → Square → Square → Promo → Bool
 piece_moves rules r c from to promo =
-    piece_goes rules r.cells r.side c.kind from to.0 && piece_promo rules (may_plus rules r.side c.kind from.0 to.0) promo && not (means_castling rules r c.kind from.0 to.0)
+    piece_goes rules r.cells r.side c.kind from to.0
+        && piece_promo rules (may_plus rules r.side c.kind from.0 to.0) promo
+        && not (means_castling rules r c.kind from.0 to.0)

@@ -1,4 +1,5 @@
--- What is promised of the squares that pieces reach, of the legal moves of a sound position, and of the position after one.
+-- What is promised of the squares that pieces reach, of the legal moves of a sound position, and of the position after
+-- one.
 use Rattle.std.specs.Prelude.{◌≡◌, ℕ, Bool, true, Option, Some, None, List}
 use Rattle.foundation.specs.Member.{Member}
 use Rattle.rules_model.specs.declared.board.Cell.{Cell}
@@ -51,8 +52,10 @@ IsPlacedOf rules (Some placed) = IsKindOf rules placed.kind × IsSquareOf rules 
 
 -- its squares are on the variant's board, and its kinds are the variant's
 abbrev pub IsMoveOf : Rules → Move → Type 0
-IsMoveOf rules (Go from to promo gate) = IsSquareOf rules from × IsSquareOf rules to × IsPromoOf rules promo × IsGateOf rules gate
-IsMoveOf rules (Castle from to rook gate) = IsSquareOf rules from × IsSquareOf rules to × IsSquareOf rules rook × IsPlacedOf rules gate
+IsMoveOf rules (Go from to promo gate) =
+    IsSquareOf rules from × IsSquareOf rules to × IsPromoOf rules promo × IsGateOf rules gate
+IsMoveOf rules (Castle from to rook gate) =
+    IsSquareOf rules from × IsSquareOf rules to × IsSquareOf rules rook × IsPlacedOf rules gate
 IsMoveOf rules (Drop kind to) = IsKindOf rules kind × IsSquareOf rules to
 
 -- ---- soundness along a game
@@ -60,4 +63,5 @@ IsMoveOf rules (Drop kind to) = IsKindOf rules kind × IsSquareOf rules to
 -- after each legal move of a sound position the position is sound
 abbrev pub NextKeepsSound : Rules → Type 0
 NextKeepsSound rules =
-    (p : Position) (m : Move) → is_sound rules p ≡ true → Member m (legal rules (repeat_of p)) → is_sound rules (next rules p m) ≡ true
+    (p : Position) (m : Move) → is_sound rules p ≡ true → Member m (legal rules (repeat_of p))
+        → is_sound rules (next rules p m) ≡ true

@@ -1,4 +1,5 @@
--- The form that values of a position's type have: lists of the definitions may have any length, and numbers of them no bound.
+-- The form that values of a position's type have: lists of the definitions may have any length, and numbers of them no
+-- bound.
 use Rattle.std.specs.Prelude.{◌≡◌, true, nat_lt, Bool, ◌&&◌, ◌==◌, length}
 use Rattle.std.specs.List.{list_all}
 use Rattle.rules_model.specs.declared.board.Repeat.{Repeat}
@@ -17,5 +18,7 @@ pub record HasSizes (r : Repeat) : Type 0 where
 -- the test of it
 unfoldable pub has_sizes : Repeat → Bool
 has_sizes r =
-    (length r.cells == 120) && (length r.hands == 2) && list_all (λ hand. length hand == 26) r.hands && (length r.gates == 2)
-    && list_all (λ gates. nat_lt gates 65536) r.gates && (length r.rights == 2) && list_all (λ rights. length rights == 2) r.rights && (length r.checks == 2)
+    (length r.cells == 120) && (length r.hands == 2) && list_all (λ hand. length hand == 26) r.hands
+        && (length r.gates == 2)
+    && list_all (λ gates. nat_lt gates 65536) r.gates && (length r.rights == 2)
+    && list_all (λ rights. length rights == 2) r.rights && (length r.checks == 2)

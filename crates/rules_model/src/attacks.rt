@@ -147,8 +147,8 @@ fn is_king_on(rules: &Rules, cells: &Cells, side: Side, at: Square) -> bool
     }
 }
 
-/// Whether the flying king of the side attacks the square: the other king is on it, on the file of the side's own king, and all
-/// squares between the two are empty.
+/// Whether the flying king of the side attacks the square: the other king is on it, on the file of the side's own king,
+/// and all squares between the two are empty.
 #[tactic(auto, unfolding(crate::specs::Attacks::flies_to))]
 pub fn flies_to(rules: &Rules, cells: &Cells, by: Side, to: Square) -> bool
     ensures { result ≡ Attacks.flies_to rules.now cells.now by to.0 }
@@ -157,7 +157,8 @@ pub fn flies_to(rules: &Rules, cells: &Cells, by: Side, to: Square) -> bool
 }
 
 /// Whether the side attacks the square: a piece of it reaches the square by a term that takes, or a pawn of it has the
-/// square diagonally one step forward, or its flying king attacks it. But for that king, what stands on the square does not matter.
+/// square diagonally one step forward, or its flying king attacks it. But for that king, what stands on the square does
+/// not matter.
 #[tactic(auto, unfolding(crate::specs::Attacks::attacks))]
 pub fn is_attacked(rules: &Rules, cells: &Cells, by: Side, at: Square) -> bool
     requires { IsFit rules.now }

@@ -24,8 +24,8 @@ pub struct CastleSquares {
     pub rook_to: Square,
 }
 
-/// Whether the variant has castling: the option is on, there are a king and a castling rook, and the files and the rank of
-/// castling lie on the board, in their order.
+/// Whether the variant has castling: the option is on, there are a king and a castling rook, and the files and the rank
+/// of castling lie on the board, in their order.
 #[tactic(auto, unfolding(crate::specs::Castling::castling_on))]
 pub fn castling_on(rules: &Rules) -> bool
     ensures { result ≡ Castling.castling_on rules.now }

@@ -38,7 +38,8 @@ fn are_equal_positions(p: &Position, q: &Position) -> bool
         && p.checks == q.checks
 }
 
-/// Whether the one position repeats the other: whether they differ at most in their counters and numbers. Nothing is copied.
+/// Whether the one position repeats the other: whether they differ at most in their counters and numbers. Nothing is
+/// copied.
 pub fn repeats(p: &Position, q: &Position) -> bool
     ensures { result ≡ same_repeat (Repeats.repeat_of p.now) (Repeats.repeat_of q.now) }
 {

@@ -1,4 +1,5 @@
-//! The rules of play of chess variants: their public types, and in `specs/` the definitions that every other contract cites.
+//! The rules of play of chess variants: their public types, and in `specs/` the definitions that every other contract
+//! cites.
 #![tactic(auto)]
 
 pub use foundation::{Memory, Text};

@@ -31,7 +31,8 @@ pub fn in_mobility(rules: &Rules, side: Side, kind: Kind, at: Square) -> bool
     }
 }
 
-/// Whether the kind is the soldier and the square lies on a rank below that of its promotion: from there it goes straight forward alone.
+/// Whether the kind is the soldier and the square lies on a rank below that of its promotion: from there it goes
+/// straight forward alone.
 pub fn is_held_back(rules: &Rules, side: Side, kind: Kind, from: Square) -> bool
     ensures { result ≡ Movement.is_held_back rules.now side kind from }
 {
@@ -77,7 +78,8 @@ fn any_straight_takes(
     to: Square,
 ) -> bool
     requires { IsFit rules.now }
-    ensures { result ≡ list_any (Movement.takes_by rules.now cells.now side from to.0) (filter Movement.is_straight terms.now) }
+    ensures { result ≡ list_any (Movement.takes_by rules.now cells.now side from to.0)
+        (filter Movement.is_straight terms.now) }
 {
     terms
         .iter()
@@ -85,7 +87,8 @@ fn any_straight_takes(
         .any(|term| takes_to(rules, cells, side, term, from, to))
 }
 
-/// Whether a piece of the kind on `from` reaches `to` by a term that takes. What stands on the two squares does not matter.
+/// Whether a piece of the kind on `from` reaches `to` by a term that takes. What stands on the two squares does not
+/// matter.
 #[tactic(auto, unfolding(crate::specs::Movement::kind_reaches))]
 pub fn kind_takes(
     rules: &Rules,

@@ -47,8 +47,8 @@ impl Model for Terms {
 pub struct KindRule {
     /// The steps by which it reaches squares, as White sees them. The chess pawn has none.
     pub terms: Terms,
-    /// The squares that a piece of each side may reach (`mobilityRegionWhiteX`, `mobilityRegionBlackX`). Castles, drops and
-    /// gated pieces are not bound to them.
+    /// The squares that a piece of each side may reach (`mobilityRegionWhiteX`, `mobilityRegionBlackX`). Castles, drops
+    /// and gated pieces are not bound to them.
     pub mobility: [Region; 2],
     /// Whether it is the chess pawn, a kind of its own.
     pub pawn: bool,
@@ -56,8 +56,9 @@ pub struct KindRule {
     pub promoted: Option<Kind>,
 }
 
-/// The rules of a variant, by the options of a `variants.ini`. Ranks and files count from 0, `castle_rank` and `soldier_rank` from 1
-/// as seen by the side; White has index 0. The fields are in the order of their size, the largest first.
+/// The rules of a variant, by the options of a `variants.ini`. Ranks and files count from 0, `castle_rank` and
+/// `soldier_rank` from 1 as seen by the side; White has index 0. The fields are in the order of their size, the largest
+/// first.
 #[derive(Clone, Drop)]
 pub struct Rules {
     /// The kinds of pieces by letter: None where the variant has no piece of the letter.

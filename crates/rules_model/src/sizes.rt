@@ -1,4 +1,5 @@
-//! The lengths of the lists that a position and rules hold. Their types fix them; reading an element makes them known to a proof.
+//! The lengths of the lists that a position and rules hold. Their types fix them; reading an element makes them known
+//! to a proof.
 ghost use Rattle.std.specs.Prelude.{◌≡◌, ◌<◌, length, true};
 ghost use Rattle.rules_model.specs.Repeats.{repeat_of};
 ghost use Rattle.rules_model.specs.Sizes.{HasSizes, has_sizes};

@@ -259,7 +259,8 @@ fn is_sound_ep(rules: &Rules, p: &Position) -> bool
 }
 
 fn are_sound_checks(rules: &Rules, p: &Position, side: Side) -> bool
-    ensures { result ≡ (nat_le (slice_index p.now.checks (Sides.side_index side)) 99 && (rules.now.check_counting || (slice_index p.now.checks (Sides.side_index side) == 0))) }
+    ensures { result ≡ (nat_le (slice_index p.now.checks (Sides.side_index side)) 99
+        && (rules.now.check_counting || (slice_index p.now.checks (Sides.side_index side) == 0))) }
 {
     let left = p.checks[side.index()];
     left <= 99 && (rules.check_counting || left == 0)
@@ -294,9 +295,9 @@ fn is_sound_repeat(rules: &Rules, p: &Position) -> bool
 
 /// Whether a game of the variant may start from the position.
 ///
-/// Pieces stand on the board only and are of the variant's kinds, with origins that the variant gives; hands hold what they
-/// may; each side has its king, and the king of the side that is not to move is not attacked; castling rights, gates and the
-/// en passant square have their pieces in place; all counts are in range.
+/// Pieces stand on the board only and are of the variant's kinds, with origins that the variant gives; hands hold what
+/// they may; each side has its king, and the king of the side that is not to move is not attacked; castling rights,
+/// gates and the en passant square have their pieces in place; all counts are in range.
 #[tactic(auto, unfolding(crate::specs::Sound::is_sound))]
 pub fn sound(rules: &Rules, p: &Position) -> bool
     requires { IsFit rules.now }

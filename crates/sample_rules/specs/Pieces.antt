@@ -26,7 +26,8 @@ kind text = record { 0 = letter text - 97 }
 -- the rules with one piece more, which may go where its side's region is
 unfoldable pub with_bound_piece : Rules → ℕ → List Term → List Region → Rules
 with_bound_piece rules letter terms mobility = record rules {
-  kinds = slice_set rules.kinds (letter - 97) (Some (record { terms = terms; mobility = mobility; pawn = false; promoted = None }));
+  kinds = slice_set rules.kinds (letter - 97)
+      (Some (record { terms = terms; mobility = mobility; pawn = false; promoted = None }));
 }
 
 -- which may go anywhere on the board
@@ -36,12 +37,15 @@ with_piece rules letter terms = with_bound_piece rules letter terms (board rules
 -- which becomes a piece of the kind where it is promoted
 unfoldable pub with_promoted_piece : Rules → ℕ → List Term → Kind → Rules
 with_promoted_piece rules letter terms promoted = record rules {
-  kinds = slice_set rules.kinds (letter - 97) (Some (record { terms = terms; mobility = board rules ∷ board rules ∷ []; pawn = false; promoted = Some promoted }));
+  kinds = slice_set rules.kinds (letter - 97)
+      (Some (record { terms = terms; mobility = board rules ∷ board rules ∷ []; pawn = false;
+      promoted = Some promoted }));
 }
 
 -- the rules with the chess pawn
 unfoldable pub with_pawn : Rules → Rules
 with_pawn rules = record rules {
-  kinds = slice_set rules.kinds 15 (Some (record { terms = []; mobility = board rules ∷ board rules ∷ []; pawn = true; promoted = None }));
+  kinds = slice_set rules.kinds 15
+      (Some (record { terms = []; mobility = board rules ∷ board rules ∷ []; pawn = true; promoted = None }));
   pawn = Some (record { 0 = 15 });
 }

@@ -6,7 +6,9 @@ use Rattle.sample_rules.specs.declared.regions.Bounds.{Bounds}
 
 -- the square is on one of the files and ranks
 abbrev pub is_inside : Bounds → ℕ → Bool
-is_inside bounds s = nat_le bounds.left (s % 12) && nat_lt (s % 12) bounds.right && nat_le bounds.low (s / 12) && nat_lt (s / 12) bounds.high
+is_inside bounds s =
+    nat_le bounds.left (s % 12) && nat_lt (s % 12) bounds.right && nat_le bounds.low (s / 12)
+    && nat_lt (s / 12) bounds.high
 
 unfoldable pub area_of : Bounds → Region
 area_of bounds = record { squares = map (is_inside bounds) (range_with_len 0 120) }

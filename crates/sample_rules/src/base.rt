@@ -22,8 +22,8 @@ pub fn empty() -> Position
     }
 }
 
-/// Rules without a piece, on a board of so many files and ranks, with what the options say by default: no castling, since no
-/// king and no rook are there yet.
+/// Rules without a piece, on a board of so many files and ranks, with what the options say by default: no castling,
+/// since no king and no rook are there yet.
 #[tactic(auto, unfolding(crate::specs::Base::base))]
 pub fn base(files: u8, ranks: u8) -> Rules
     requires { 2 ≤ ranks }

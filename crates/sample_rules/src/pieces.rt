@@ -145,7 +145,8 @@ pub fn add_bound(rules: &mut Rules, letter: u8, terms: Terms, mobility: [Region;
     });
 }
 
-/// Gives the variant a piece that may go anywhere on the board, and that becomes one of the other kind where it is promoted.
+/// Gives the variant a piece that may go anywhere on the board, and that becomes one of the other kind where it is
+/// promoted.
 #[tactic(auto, unfolding(crate::specs::Pieces::with_promoted_piece))]
 pub fn add_promoted(rules: &mut Rules, letter: u8, terms: Terms, promoted: Kind)
     requires small { 97 ≤ letter }

@@ -51,8 +51,8 @@ fn piece_of(letter: u8) -> Option<Cell>
     })
 }
 
-/// The position of a text such as `Ke1 Rh1 ke8`: each word is a piece, White's by a capital letter, and its square. White is to
-/// move, and there are no hands, gates and rights. A word that is not of a letter and a square is left out.
+/// The position of a text such as `Ke1 Rh1 ke8`: each word is a piece, White's by a capital letter, and its square.
+/// White is to move, and there are no hands, gates and rights. A word that is not of a letter and a square is left out.
 pub fn position(text: &str) -> Position {
     let mut p = empty();
     for word in text.as_bytes().split(|byte| *byte == b' ') {

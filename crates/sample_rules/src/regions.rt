@@ -12,7 +12,8 @@ pub const NOWHERE: Region = Region {
 /// No kind.
 pub const NO_KINDS: [bool; 26] = [false; 26];
 
-/// Files and ranks next to one another, counted from 0: from `left` and `low` on, those of `right` and `high` not included.
+/// Files and ranks next to one another, counted from 0: from `left` and `low` on, those of `right` and `high` not
+/// included.
 #[derive(Clone, Copy)]
 struct Bounds {
     left: u8,
@@ -30,8 +31,8 @@ fn is_inside(bounds: Bounds, at: u8) -> bool
         && at / 12 < bounds.high
 }
 
-/// The squares of the files from `left` on and of the ranks from `low` on, counted from 0, up to but not including `right` and
-/// `high`.
+/// The squares of the files from `left` on and of the ranks from `low` on, counted from 0, up to but not including
+/// `right` and `high`.
 pub fn area(left: u8, right: u8, low: u8, high: u8) -> Region
     ensures { result ≡ Regions.area left right low high }
 {

@@ -113,9 +113,10 @@ fn gates_amiss(rules: &Rules) -> bool
             || (castling_on(rules) && (rules.castle_rank != 1 || rook_is_pawn(rules))))
 }
 
-/// The smallest number of a contradiction among rules and the pairs of promoted pieces: 1, there is no piece; 2, a pawn becomes a
-/// pawn or a king; 3, the pairs name the pawn or the king, have a left letter twice, or a letter both left and right; 4, hand pieces
-/// come in by gates that the variant has not; 5, gates with more than 10 files, or with castling on another rank than 1 or by pawns.
+/// The smallest number of a contradiction among rules and the pairs of promoted pieces: 1, there is no piece; 2, a pawn
+/// becomes a pawn or a king; 3, the pairs name the pawn or the king, have a left letter twice, or a letter both left
+/// and right; 4, hand pieces come in by gates that the variant has not; 5, gates with more than 10 files, or with
+/// castling on another rank than 1 or by pawns.
 #[tactic(auto, unfolding(variant_model::specs::Contradictions::contradiction))]
 pub fn contradiction(rules: &Rules, pairs: &[(Kind, Kind)]) -> Option<u8>
     ensures { result ≡ Contradictions.contradiction rules.now pairs.now }

@@ -7,7 +7,8 @@ ghost use Rattle.variant_model.specs.Entry.{bare_rules, entry};
 ghost use Rattle.section_rules.specs.Faultless.{IsFaultless};
 ghost use Rattle.variant_model.specs.Made.{resolved};
 
-/// The rules of a section whose header, lines and options have no fault fit, whatever the start; so do those of an accepted section.
+/// The rules of a section whose header, lines and options have no fault fit, whatever the start; so do those of an
+/// accepted section.
 pub fn accepted_rules_fit()
     ensures faultless { (sections : List Section) (at : ℕ) → IsFaultless sections at
         → IsFit (bare_rules (resolved sections at)) }

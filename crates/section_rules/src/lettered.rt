@@ -10,7 +10,8 @@ use std::alloc::Global;
 use std::marker::Model;
 use variant_ini::Sections;
 
-/// Sections with the letters of the pieces of each, so that no chain of parents is walked for them. A contract sees the sections.
+/// Sections with the letters of the pieces of each, so that no chain of parents is walked for them. A contract sees the
+/// sections.
 #[derive(Drop)]
 pub struct LetteredSections<'a> {
     sections: &'a Sections,

@@ -10,7 +10,8 @@ use variant_ini::Sections;
 /// The letter of each piece of the table, in its order, where the section has the piece.
 pub(crate) type Letters = [Option<Kind>; PIECES];
 
-/// The letter of a piece, by what the section's lines say of it, by the letter in the parent, and by the letters that the lines give.
+/// The letter of a piece, by what the section's lines say of it, by the letter in the parent, and by the letters that
+/// the lines give.
 fn letter_by(said: Option<Option<Kind>>, inherited: Option<Kind>, own: &OwnLetters) -> Option<Kind>
     ensures { result ≡ table.letter_by said inherited own.now }
 {

@@ -1,5 +1,5 @@
-//! The rules of the sections of a variants file: the faults of a section's own lines, the rules that its options and pieces make
-//! with what it inherits, and where these contradict each other.
+//! The rules of the sections of a variants file: the faults of a section's own lines, the rules that its options and
+//! pieces make with what it inherits, and where these contradict each other.
 #![tactic(auto)]
 
 mod contradictions;

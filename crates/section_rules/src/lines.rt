@@ -23,8 +23,8 @@ use variant_options::pieces::{Piece, pieces};
 /// How many pieces the table has.
 pub(crate) const PIECES: usize = 56;
 
-/// What the lines of a section say of each piece of the table, in its order: None without a line for it, else the letter that its
-/// last line gives, where it gives one.
+/// What the lines of a section say of each piece of the table, in its order: None without a line for it, else the
+/// letter that its last line gives, where it gives one.
 pub(crate) type OwnLetters = [Option<Option<Kind>>; PIECES];
 
 /// The letter that a piece's value gives.
@@ -161,8 +161,8 @@ fn lines_fault(alloc: Global, lines: &[KeyLine]) -> Result<Option<SectionFault>,
     Ok(None)
 }
 
-/// The fault of a section's own lines, where they have one: that of the first faulty line, else the smallest letter that they give
-/// to two pieces.
+/// The fault of a section's own lines, where they have one: that of the first faulty line, else the smallest letter
+/// that they give to two pieces.
 pub fn own_fault(
     alloc: Global,
     sections: &Sections,

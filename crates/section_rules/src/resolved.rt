@@ -9,8 +9,8 @@ use crate::letters::Letters;
 use std::marker::Model;
 use variant_ini::Sections;
 
-/// A section with what it inherits: the values of its keys, and the letters of its pieces. A contract sees the sections and the place
-/// of this one among them, of which `resolved_at` says what the section says.
+/// A section with what it inherits: the values of its keys, and the letters of its pieces. A contract sees the sections
+/// and the place of this one among them, of which `resolved_at` says what the section says.
 #[derive(Drop)]
 pub struct Resolved<'a> {
     sections: &'a Sections,

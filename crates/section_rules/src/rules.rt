@@ -59,8 +59,8 @@ fn is_all(listed: &Listed) -> bool
     matches!(*listed, Listed::All)
 }
 
-/// The rules that a section's options and pieces make, with what it inherits, and a start without a piece. A value that is not of its
-/// key's kind counts as if it were not there.
+/// The rules that a section's options and pieces make, with what it inherits, and a start without a piece. A value that
+/// is not of its key's kind counts as if it were not there.
 #[tactic(auto, unfolding(variant_model::specs::Made::rules_from))]
 pub fn bare_rules(alloc: Global, section: &Resolved<'_>) -> Result<Rules, Memory>
     ensures { IfOk result (λ rules. rules ≡ bare_rules (resolved_at section.now)) }

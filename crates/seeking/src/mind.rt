@@ -16,7 +16,8 @@ const WORDS: usize = 1 << 17;
 #[derive(Drop)]
 pub struct Mind {
     hints: HintTable,
-    /// Whether the hints are as large as is set. At first they are not: making them would take most of a session's start.
+    /// Whether the hints are as large as is set. At first they are not: making them would take most of a session's
+    /// start.
     is_made: bool,
     pool: Option<Pool>,
     threads: u32,
@@ -82,7 +83,8 @@ impl Mind {
         self.threads = threads;
     }
 
-    /// Sets the MiB of hints, from 1 to 1,024, takes them at once, and forgets the hints. Out of memory, all stays as it was.
+    /// Sets the MiB of hints, from 1 to 1,024, takes them at once, and forgets the hints. Out of memory, all stays as
+    /// it was.
     pub fn set_hash(&mut self, alloc: Global, hash: u32) -> Result<(), Memory>
         requires hash { (1 ≤ hash) × (hash ≤ 1024) }
         ensures ok { OnOk result (self.new ≡ record self.old { hash = hash }) }

@@ -19,7 +19,8 @@ ghost use Rattle.rules_model.specs.Sizes.{HasSizes};
 /// Every move, in every variant, keeps the lengths of a position's lists and the range of its gates.
 pub fn moves_keep_sizes()
     ensures repeats { (rules : Rules) (r : Repeat) (m : Move) → HasSizes r → HasSizes (next_repeat rules r m) }
-    ensures positions { (rules : Rules) (p : Position) (m : Move) → HasSizes (repeat_of p) → HasSizes (repeat_of (next rules p m)) }
+    ensures positions { (rules : Rules) (p : Position) (m : Move) → HasSizes (repeat_of p)
+        → HasSizes (repeat_of (next rules p m)) }
 {}
 
 /// Every move, in every variant, keeps the counter and the number of the move in their ranges.
@@ -31,8 +32,10 @@ pub fn moves_keep_counts_in_range()
 
 /// No move, in any variant, gives a castling right or opens a gate.
 pub fn rights_and_gates_only_go()
-    ensures rights { (rules : Rules) (r : Repeat) (m : Move) (side : Side) (wing : Wing) → holds_right (next_repeat rules r m).rights side wing ≡ true → holds_right r.rights side wing ≡ true }
-    ensures gates { (rules : Rules) (r : Repeat) (m : Move) (side : Side) (file : ℕ) → has_gate (next_repeat rules r m).gates side file ≡ true → has_gate r.gates side file ≡ true }
+    ensures rights { (rules : Rules) (r : Repeat) (m : Move) (side : Side) (wing : Wing)
+        → holds_right (next_repeat rules r m).rights side wing ≡ true → holds_right r.rights side wing ≡ true }
+    ensures gates { (rules : Rules) (r : Repeat) (m : Move) (side : Side) (file : ℕ)
+        → has_gate (next_repeat rules r m).gates side file ≡ true → has_gate r.gates side file ≡ true }
 {}
 
 /// In every variant that fits, the position after a legal move of a sound position is sound.

@@ -101,10 +101,11 @@ is_drop_square rules r s = nat_lt s 120 && takes_drops rules r s
 abbrev pub AreDropSquares : Rules → Repeat → Set → Type 0
 AreDropSquares rules r squares = (s : ℕ) → has squares s ≡ is_drop_square rules r s
 
--- a piece of the kind may stand on the square once it was dropped there: no pawn where pawns are barred, and none beside another that
--- may not be doubled
+-- a piece of the kind may stand on the square once it was dropped there: no pawn where pawns are barred, and none
+-- beside another that may not be doubled
 abbrev pub suits : Rules → Repeat → Kind → ℕ → Bool
-suits rules r kind to = not (is_pawn rules kind && bars_pawn rules r.side to) && not (is_doubled rules r.cells r.side kind to)
+suits rules r kind to =
+    not (is_pawn rules kind && bars_pawn rules r.side to) && not (is_doubled rules r.cells r.side kind to)
 
 -- the drop of a hand piece of the kind on the square
 abbrev pub IsDropOn : Rules → Repeat → Kind → ℕ → Move → Type 0

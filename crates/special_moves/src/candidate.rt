@@ -10,8 +10,8 @@ use crate::gates::moves_and_gates;
 use attack_tables::Tables;
 use rules_model::{Move, Position, Rules};
 
-/// Whether the move is a pawn's without a gate, an ordinary move of another piece with one, a castle with or without one, or a
-/// drop. Whether it leaves the king safe is not asked.
+/// Whether the move is a pawn's without a gate, an ordinary move of another piece with one, a castle with or without
+/// one, or a drop. Whether it leaves the king safe is not asked.
 #[tactic(auto, unfolding(rules_model::specs::Candidates::is_special_move, pawn_moves::specs::PawnMoves::is_pawn_move))]
 pub fn is_candidate(rules: &Rules, tables: &Tables, p: &Position, m: &Move) -> bool
     requires fit { IsFit rules.now }

@@ -62,8 +62,8 @@ fn is_blocked(rules: &Rules, p: &Position, wing: Wing) -> bool
     is_no_rook(rules, p.side, cell_on(&p.cells, at.0))
 }
 
-/// The side's castle to the wing, where the variant has castling, the side holds the right, and king, rook and way are as they
-/// must be.
+/// The side's castle to the wing, where the variant has castling, the side holds the right, and king, rook and way are
+/// as they must be.
 #[tactic(auto, unfolding(crate::specs::Castles::open_castle))]
 fn open_castle(
     rules: &Rules,
@@ -160,8 +160,8 @@ fn has_placed(rules: &Rules, p: &Position, kind: Kind) -> bool
     rules.gate_hand && in_hand(&p.hands, p.side, kind) > 0
 }
 
-/// Whether the castle of these squares may place so: nothing, or a hand piece on the king's or the rook's start, where that is empty
-/// after the castle.
+/// Whether the castle of these squares may place so: nothing, or a hand piece on the king's or the rook's start, where
+/// that is empty after the castle.
 pub(crate) fn castle_gates(
     rules: &Rules,
     p: &Position,

@@ -25,8 +25,8 @@ along g ps = fold longer g ps
 abbrev pub AreSound : Rules → List Position → Type 0
 AreSound rules ps = All (λ p. is_sound rules p ≡ true) ps
 
--- The positions lead from the game to that of the last of the earlier steps, and each part of them to that of the last one of
--- its ply.
+-- The positions lead from the game to that of the last of the earlier steps, and each part of them to that of the last
+-- one of its ply.
 abbrev pub IsPathTo : Contest Story Move → Story → List Step → List Position → Type 0
 IsPathTo c g earlier ps = (q : ℕ) → q ≤ length ps → along g (take q ps) ≡ game_at c g earlier q
 

@@ -14,9 +14,11 @@ use Rattle.stipulation.specs.Stipulations.{self_wins}
 -- by how the game stands, and by who is to move where it is ongoing
 pub record SelfSentences (rules : Rules) (n : ℕ) (g : Story) (a : Side) : Type 0 where
   pub mated : result rules g ≡ Won (other a) Checkmate → self_wins rules n g a ≡ true
-  pub ended : (result rules g ≡ Ongoing → ⊥) → (result rules g ≡ Won (other a) Checkmate → ⊥) → self_wins rules n g a ≡ false
+  pub ended : (result rules g ≡ Ongoing → ⊥) → (result rules g ≡ Won (other a) Checkmate → ⊥)
+      → self_wins rules n g a ≡ false
   pub no_move_left : result rules g ≡ Ongoing → same_side g.last.side a ≡ true → self_wins rules 0 g a ≡ false
   pub some_move : result rules g ≡ Ongoing → same_side g.last.side a ≡ true →
-      self_wins rules (suc n) g a ≡ list_any (λ m. self_wins rules n (played rules g m) a) (legal rules (repeat_of g.last))
+      self_wins rules (suc n) g a ≡ list_any
+          (λ m. self_wins rules n (played rules g m) a) (legal rules (repeat_of g.last))
   pub each_reply : result rules g ≡ Ongoing → same_side g.last.side a ≡ false →
       self_wins rules n g a ≡ list_all (λ m. self_wins rules n (played rules g m) a) (legal rules (repeat_of g.last))

@@ -29,8 +29,8 @@ mated_by winner Ongoing = None
 mated_by winner (Won side cause) = Some (same_side side winner && is_checkmate cause)
 mated_by winner (Drawn cause) = Some false
 
--- games that aim at a checkmate by which the other side of `a` wins: where one move is chosen some legal move must do, and
--- elsewhere each of them
+-- games that aim at a checkmate by which the other side of `a` wins: where one move is chosen some legal move must do,
+-- and elsewhere each of them
 abbrev pub aims : (Story → Bool) → Rules → Side → Contest Story Move
 aims is_chosen rules a = record {
   end = λ g. mated_by (other a) (result rules g);

@@ -1,5 +1,5 @@
--- The verdict on a certificate: the first failure, every step being tested for its ply first, then the root and the steps in order
--- for the others.
+-- The verdict on a certificate: the first failure, every step being tested for its ply first, then the root and the
+-- steps in order for the others.
 use Rattle.std.specs.Prelude.{ℕ, ◌+◌, ◌*◌, ◌==◌, nat_lt, List, [], ◌∷◌, ◌++◌, Bool, true, false, not, ◌&&◌, ◌||◌, is_some, Option, Some, None, codes, if◌then◌else◌}
 use Rattle.std.specs.Fmt.{decimal}
 use Rattle.std.specs.List.{list_any}
@@ -44,7 +44,8 @@ plies_verdict i before (s ∷ later) =
 
 -- ---- 2: moves
 
--- the parent's game is ended; or the move is not legal there; or it is a sibling's; or it has a sibling where one move is to be chosen
+-- the parent's game is ended; or the move is not legal there; or it is a sibling's; or it has a sibling where one move
+-- is to be chosen
 unfoldable pub is_bad_move : {X : Type 0} → Contest X Move → X → List Move → Move → Bool
 is_bad_move c parent siblings m =
     is_some (c.end parent)

@@ -49,8 +49,8 @@ impl Steps {
     }
 }
 
-/// How a selfmate is forced, or a helpmate reached, in the game that is the root. The parent of a step is the last earlier
-/// step of the ply before it, and the root for ply 1.
+/// How a selfmate is forced, or a helpmate reached, in the game that is the root. The parent of a step is the last
+/// earlier step of the ply before it, and the root for ply 1.
 #[derive(Drop)]
 pub struct Cert {
     pub steps: Steps,

@@ -80,7 +80,8 @@ impl Tree<'_> {
             || (self.task.is_choosing(line) && !had_none(earlier, ply))
     }
 
-    /// The first failure of the game at which the line ends, by the children of the ply at the front of the later steps.
+    /// The first failure of the game at which the line ends, by the children of the ply at the front of the later
+    /// steps.
     fn game_verdict(
         &self,
         alloc: Global,
@@ -105,7 +106,8 @@ impl Tree<'_> {
         Ok(missing(i, first_missing(later, ply, legal.items.as_slice())))
     }
 
-    /// The first failure of the step at the place, by the line to the step before it. The line becomes the one to this step.
+    /// The first failure of the step at the place, by the line to the step before it. The line becomes the one to this
+    /// step.
     #[tactic(auto, unfolding(crate::specs::Verdicts::step_verdict))]
     fn step_verdict(
         &self,
@@ -182,9 +184,9 @@ impl Tree<'_> {
     }
 }
 
-/// The verdict on the certificate of a selfmate, for the side that is to move in the game, within n moves of its own: that it
-/// holds, or its first failure. Where it holds the side forces the other side to win by checkmate, whatever the history of the game.
-/// `Memory` where there is none.
+/// The verdict on the certificate of a selfmate, for the side that is to move in the game, within n moves of its own:
+/// that it holds, or its first failure. Where it holds the side forces the other side to win by checkmate, whatever the
+/// history of the game. `Memory` where there is none.
 pub fn check_self(alloc: Global, game: &Game, n: u16, cert: &Cert) -> Result<CertVerdict, Memory>
     ensures verdict { IfOk result (λ v. v ≡ Verdicts.self_verdict game.now.rules n (story game.now) cert.now.steps) }
     ensures wins { IfOk result (λ v. v ≡ Said.Holds →
@@ -198,9 +200,9 @@ pub fn check_self(alloc: Global, game: &Game, n: u16, cert: &Cert) -> Result<Cer
     tree.verdict(alloc)
 }
 
-/// The verdict on the certificate of a helpmate within n moves of each side, from the side that is to move in the game: that it
-/// holds, or its first failure. Where it holds the moves lead to a checkmate by which the other side wins, whatever the history of the
-/// game. `Memory` where there is none.
+/// The verdict on the certificate of a helpmate within n moves of each side, from the side that is to move in the game:
+/// that it holds, or its first failure. Where it holds the moves lead to a checkmate by which the other side wins,
+/// whatever the history of the game. `Memory` where there is none.
 pub fn check_help(alloc: Global, game: &Game, n: u16, cert: &Cert) -> Result<CertVerdict, Memory>
     ensures verdict { IfOk result (λ v. v ≡ Verdicts.help_verdict game.now.rules n (story game.now) cert.now.steps) }
     ensures wins { IfOk result (λ v. v ≡ Said.Holds → HelpWins game.now.rules n (story game.now)) }

@@ -45,8 +45,9 @@ impl Task<'_> {
     }
 }
 
-/// A certificate of a selfmate of the side that is to move in the game, within n moves of its own, exactly where there is one; else
-/// none. n is from 1 to 6. It is the one that a plain search finds, by the first move in order that does, and need not be the shortest. `Memory` where there is none.
+/// A certificate of a selfmate of the side that is to move in the game, within n moves of its own, exactly where there
+/// is one; else none. n is from 1 to 6. It is the one that a plain search finds, by the first move in order that does,
+/// and need not be the shortest. `Memory` where there is none.
 pub fn self_mate(alloc: Global, game: &Game, n: u16) -> Result<Option<Cert>, Memory>
     requires least { 1 ≤ n }
     requires most { n ≤ 6 }
@@ -63,8 +64,9 @@ pub fn self_mate(alloc: Global, game: &Game, n: u16) -> Result<Option<Cert>, Mem
     task.find(alloc, 2 * n, &mut facts)
 }
 
-/// A certificate of a helpmate of least length within n moves of each side, from the side that is to move in the game, exactly where
-/// there is one; else none. n is from 1 to 6. It is the first one in the order of its moves. `Memory` where there is none.
+/// A certificate of a helpmate of least length within n moves of each side, from the side that is to move in the game,
+/// exactly where there is one; else none. n is from 1 to 6. It is the first one in the order of its moves. `Memory`
+/// where there is none.
 pub fn help_mate(alloc: Global, game: &Game, n: u16) -> Result<Option<Cert>, Memory>
     requires least { 1 ≤ n }
     requires most { n ≤ 6 }

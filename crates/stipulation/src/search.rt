@@ -1,5 +1,5 @@
-//! The search of a game with its whole history: every move in turn, but none after a position from which what is aimed at is not reached,
-//! whatever came before.
+//! The search of a game with its whole history: every move in turn, but none after a position from which what is aimed
+//! at is not reached, whatever came before.
 ghost use Rattle.std.specs.Prelude.{◌≡◌, ◌≤◌, ◌+◌, length, IfOk};
 ghost use Rattle.foundation.specs.Member.{Member};
 ghost use Rattle.rules_model.specs.Repeats.{repeat_of};
@@ -16,8 +16,8 @@ use rules_model::{Memory, Move};
 use std::alloc::Global;
 
 impl Task<'_> {
-    /// Whether what is aimed at is reached within so many plies of the line's last position by itself. Where it is not, it is not after
-    /// the line.
+    /// Whether what is aimed at is reached within so many plies of the line's last position by itself. Where it is not,
+    /// it is not after the line.
     fn may_reach(
         &self,
         alloc: Global,
@@ -34,7 +34,8 @@ impl Task<'_> {
         facts.reaches(alloc, &board, plies)
     }
 
-    /// Whether what is aimed at can be reached after the line within so many plies; where it can, the steps are appended.
+    /// Whether what is aimed at can be reached after the line within so many plies; where it can, the steps are
+    /// appended.
     #[cycle(search)]
     pub fn search(
         &self,

@@ -17,7 +17,8 @@ pub(crate) struct Task<'a> {
 }
 
 impl Task<'_> {
-    /// Whether the other side of the one that is to move at the root has won by checkmate, where the game is ended after the line.
+    /// Whether the other side of the one that is to move at the root has won by checkmate, where the game is ended
+    /// after the line.
     pub fn end(&self, line: &Line) -> Option<bool>
         requires sound { At.AreSound self.now line.now }
         ensures { result ≡ (At.games self.now).end (At.at self.now line.now) }

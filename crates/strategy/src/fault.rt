@@ -5,22 +5,22 @@ use std::alloc::{AllocError, AllocFailed};
 use std::error::Error;
 use std::fmt;
 
-/// The first fault of a text that says no strategy, with the number of its line, counted from 1. On one line they come in
-/// the order `BadLine`, `BadNumber`, `BadPosition`, `BadMove`.
+/// The first fault of a text that says no strategy, with the number of its line, counted from 1. On one line they come
+/// in the order `BadLine`, `BadNumber`, `BadPosition`, `BadMove`.
 #[derive(Clone, Copy, Debug, PartialEq, Eq)]
 pub enum StrategyFault {
     /// One of the first three lines is not `strategy 1`, `attacker white` or `attacker black`, and `nodes N`, in this
     /// order.
     Header(u64),
-    /// A later line has more than 2,048 bytes or is not of the form of a node, an edge or the end, or an edge comes before
-    /// any node.
+    /// A later line has more than 2,048 bytes or is not of the form of a node, an edge or the end, or an edge comes
+    /// before any node.
     BadLine(u64),
     /// The FEN of a node says no position.
     BadPosition(u64, FenFault),
     /// The text of an edge's move names none in the position of its node.
     BadMove(u64),
-    /// The number of a node is not the next one, its rank is above 65,535, an edge leads to no node, the end comes before
-    /// the last node, or there are more nodes than announced.
+    /// The number of a node is not the next one, its rank is above 65,535, an edge leads to no node, the end comes
+    /// before the last node, or there are more nodes than announced.
     BadNumber(u64),
     /// The text ends before its end is said, or goes on after it.
     Ended(u64),

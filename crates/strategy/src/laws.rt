@@ -7,8 +7,8 @@ ghost use Rattle.strategy.specs.declared.nodes.Strategy.{Strategy};
 ghost use Rattle.strategy.specs.Reading.{AreSound, strategy_of};
 ghost use Rattle.strategy.specs.Writing.{AreReadable, strategy_text};
 
-/// Reading the text of a strategy gives the strategy back, where its positions are sound and have the number 1, its ranks
-/// are at most 65,535, its edges lead to its nodes, and their moves are read back as themselves.
+/// Reading the text of a strategy gives the strategy back, where its positions are sound and have the number 1, its
+/// ranks are at most 65,535, its edges lead to its nodes, and their moves are read back as themselves.
 pub fn reading_gives_back()
     ensures { (rules : Rules) (s : Strategy) → IsFit rules → AreSound rules s.nodes → AreReadable rules s.nodes
         → length s.nodes < 2 ^ 64 → strategy_of rules (lines_of (strategy_text rules s)) ≡ Ok s }

@@ -152,8 +152,9 @@ fn push_header(text: &mut Vec<u8>, s: &Strategy) -> Result<(), Memory>
     push_count(text, nodes.len() as u64)
 }
 
-/// Writes the text of a strategy, whose positions are sound. Each line ends with LF. Reading the text gives the strategy
-/// back, where its positions have the number 1, its edges lead to its nodes, and their moves are read back as themselves.
+/// Writes the text of a strategy, whose positions are sound. Each line ends with LF. Reading the text gives the
+/// strategy back, where its positions have the number 1, its edges lead to its nodes, and their moves are read back as
+/// themselves.
 ///
 /// `Memory` is the answer where there was none for the text.
 pub fn write(alloc: Global, rules: &Rules, s: &Strategy) -> Result<Text, Memory>

@@ -12,14 +12,15 @@ use Rattle.strategy_check.specs.Rows.{fits_edge}
 
 -- the next counter is not above that of the node to which the edge leads
 abbrev pub is_covered : Rules → List Node → Node → Edge → Bool
-is_covered rules s v e = leads (slice_get s e.to) (λ w. nat_le (next rules v.position e.chosen).counter w.position.counter)
+is_covered rules s v e =
+    leads (slice_get s e.to) (λ w. nat_le (next rules v.position e.chosen).counter w.position.counter)
 
 -- the edge leads to a rank that may follow
 abbrev pub falls : List Node → Bool → ℕ → Edge → Bool
 falls s attacking rank e = leads (slice_get s e.to) (λ w. Tables.fits_rank attacking rank w.rank)
 
--- the same answer by any two tests, where the edges before are covered or not: none where one of the edges does not fit, else whether
--- each is covered
+-- the same answer by any two tests, where the edges before are covered or not: none where one of the edges does not
+-- fit, else whether each is covered
 abbrev pub run : {E : Type 0} → (E → Bool) → (E → Bool) → Bool → List E → Option Bool
 run fits covers before es = if list_all fits es then Some (before && list_all covers es) else None
 

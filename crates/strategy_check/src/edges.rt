@@ -30,8 +30,8 @@ pub(crate) fn is_same_move(a: &Move, b: &Move) -> bool
     are_equal(a, b)
 }
 
-/// Whether two of the edges have one move. Each is compared with those before it, so that where all moves are legal no more edges are
-/// looked at than there are legal moves, and one.
+/// Whether two of the edges have one move. Each is compared with those before it, so that where all moves are legal no
+/// more edges are looked at than there are legal moves, and one.
 fn is_doubled(edges: &[Edge]) -> bool
     ensures { (rules : Rules) (a : Side) → result ≡ Tables.is_doubled (seen_by rules a) kept edges.now }
 {
@@ -71,8 +71,8 @@ impl Table<'_> {
         is_legal(self.game.rules(), self.game.tables(), p, m)
     }
 
-    /// Follows an edge of the node: none where its move is illegal or it leads to another repeat or to no node, else whether the counter of
-    /// the node to which it leads is not below the next one.
+    /// Follows an edge of the node: none where its move is illegal or it leads to another repeat or to no node, else
+    /// whether the counter of the node to which it leads is not below the next one.
     fn step(&self, v: &Node, e: &Edge) -> Option<bool>
         requires sound { At.IsSound self.now v.now.position }
         ensures { result ≡ At.step self.now v.now e.now }
@@ -92,8 +92,8 @@ impl Table<'_> {
         Some(next.counter <= target.position.counter)
     }
 
-    /// Follows the edges of the node, each next position being made once: none where one does not fit, else whether each next counter is
-    /// covered by the node that follows.
+    /// Follows the edges of the node, each next position being made once: none where one does not fit, else whether
+    /// each next counter is covered by the node that follows.
     pub fn steps(&self, v: &Node) -> Option<bool>
         requires sound { At.IsSound self.now v.now.position }
         ensures { result ≡ At.steps self.now v.now }

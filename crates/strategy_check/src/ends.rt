@@ -97,8 +97,8 @@ impl Table<'_> {
         }
     }
 
-    /// Whether a node of this end is ended otherwise than won by the attacker; or its place is the root's, and the game itself is ended by
-    /// repetition or move count.
+    /// Whether a node of this end is ended otherwise than won by the attacker; or its place is the root's, and the game
+    /// itself is ended by repetition or move count.
     #[tactic(auto, unfolding(forced_wins::specs::Tables::not_won))]
     pub fn is_not_won(&self, i: usize, end: Option<bool>) -> bool
         ensures { (v : Node) → end ≡ At.node_end self.now v → result ≡ At.not_won self.now i v }

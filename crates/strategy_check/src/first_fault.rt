@@ -87,9 +87,9 @@ impl Table<'_> {
     }
 }
 
-/// The verdict on the strategy, for a win of the game by the attacker within n of its own moves: that it wins, or its first fault, the root's
-/// first and then those of the nodes in their order. A strategy without a fault beats every legal defence, whatever the history of the game.
-/// `Memory` where there is none.
+/// The verdict on the strategy, for a win of the game by the attacker within n of its own moves: that it wins, or its
+/// first fault, the root's first and then those of the nodes in their order. A strategy without a fault beats every
+/// legal defence, whatever the history of the game. `Memory` where there is none.
 #[tactic(auto, unfolding(forced_wins::specs::Tables::verdict))]
 pub fn check(
     alloc: Global,

@@ -21,8 +21,9 @@ pub(crate) enum Key {
 }
 
 impl Key {
-    /// The key by which a check finds nodes where this many repetitions end the game, 0 for none. Where repetitions are counted, a repeat
-    /// is a fault as soon as so many nodes have it, so no bucket that is searched again and again grows long.
+    /// The key by which a check finds nodes where this many repetitions end the game, 0 for none. Where repetitions are
+    /// counted, a repeat is a fault as soon as so many nodes have it, so no bucket that is searched again and again
+    /// grows long.
     pub fn for_fold(fold: u16) -> Key
         ensures { result ≡ key_for fold }
     {
@@ -64,8 +65,8 @@ impl Model for Bucket {
     ghost view = { λ b. b.places.items };
 }
 
-/// The places of nodes by their keys, so that the nodes of one repeat, or those that have a counter too, are found without a look at all
-/// of them.
+/// The places of nodes by their keys, so that the nodes of one repeat, or those that have a counter too, are found
+/// without a look at all of them.
 #[derive(Drop)]
 pub(crate) struct Places {
     by: Key,
@@ -144,7 +145,8 @@ impl Places {
     fn put(&mut self, place: usize, p: &Position) -> Result<(), AllocError>
         requires some { 0 < length self.old.buckets.items }
         ensures key { self.new.by ≡ self.old.by }
-        ensures put { OnOk result (self.new.buckets.items ≡ put self.old.buckets.items place (key_of self.old.by p.now)) }
+        ensures put { OnOk result (self.new.buckets.items ≡ put self.old.buckets.items place (key_of self.old.by p.now))
+            }
     {
         let b = self.by.bucket(p, self.buckets.len());
         self.buckets[b].places.push(place)?;

@@ -33,8 +33,8 @@ impl Table<'_> {
         u64::from(played) + standings as u64 >= u64::from(fold)
     }
 
-    /// Whether the node at the place stands again: an earlier one has its repeat and counter; or it is not the root, and has the root's
-    /// repeat or one that stands too often in the game and among the nodes.
+    /// Whether the node at the place stands again: an earlier one has its repeat and counter; or it is not the root,
+    /// and has the root's repeat or one that stands too often in the game and among the nodes.
     #[tactic(auto, unfolding(forced_wins::specs::Tables::repeats_at))]
     pub fn is_repeating(&self, places: &Places, i: usize, v: &Node) -> bool
         requires index { At.IsIndex self.now places.now }

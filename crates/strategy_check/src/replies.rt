@@ -37,7 +37,8 @@ fn first_missing(v: &Node, moves: &[Move]) -> Option<Move>
 }
 
 impl Table<'_> {
-    /// The first legal move of the node, which has this end, for which it has no edge, if it is ongoing and the other side is to move.
+    /// The first legal move of the node, which has this end, for which it has no edge, if it is ongoing and the other
+    /// side is to move.
     #[tactic(auto, unfolding(forced_wins::specs::Tables::missing_reply))]
     pub fn missing_reply(
         &self,

@@ -1,5 +1,5 @@
--- How the fault of a suite prints: the type's name, the fault's number, its name and its fields, separated by single blanks. A fault
--- inside a fault prints whole.
+-- How the fault of a suite prints: the type's name, the fault's number, its name and its fields, separated by single
+-- blanks. A fault inside a fault prints whole.
 use Rattle.std.specs.Prelude.{ℕ, List, ◌++◌, codes}
 use Rattle.std.specs.Fmt.{decimal}
 use Rattle.fen_model.specs.Fault as fen

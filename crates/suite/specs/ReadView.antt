@@ -22,14 +22,16 @@ Reads said (Err (Faulty fault)) = said ≡ Err fault
 Reads said (Err Unread) = ⊥
 Reads said (Err Memory) = ⊤
 
--- The text of a line adds to what was listed, which is now this, or it has this fault. Without memory nothing is known of it.
+-- The text of a line adds to what was listed, which is now this, or it has this fault. Without memory nothing is known
+-- of it.
 abbrev pub Adds : {A : Type 0} → Result Listed SuiteFault → Listed → Result A NoSuite → Type 0
 Adds said now (Ok x) = said ≡ Ok now
 Adds said now (Err (Faulty fault)) = said ≡ Err fault
 Adds said now (Err Unread) = ⊥
 Adds said now (Err Memory) = ⊤
 
--- Lines say what is listed now, or have this fault. Where they were not read for another reason nothing is known of them.
+-- Lines say what is listed now, or have this fault. Where they were not read for another reason nothing is known of
+-- them.
 abbrev pub Says : {A : Type 0} → Result Listed SuiteFault → Listed → Result A NoSuite → Type 0
 Says said now (Ok x) = said ≡ Ok now
 Says said now (Err (Faulty fault)) = said ≡ Err fault

@@ -1,5 +1,5 @@
--- What the lines of a suite say. Each has a problem: the name of a variant, the most moves that are asked for, and a position. Empty
--- lines and those that begin with `#` are skipped.
+-- What the lines of a suite say. Each has a problem: the name of a variant, the most moves that are asked for, and a
+-- position. Empty lines and those that begin with `#` are skipped.
 use Rattle.std.specs.Prelude.{◌≡◌, ◌≤◌, ℕ, ◌+◌, nat_lt, Bool, true, false, not, ◌==◌, List, [], ◌∷◌, ◌++◌, Option, Some, None, Result, Ok, Err, length, if◌then◌else◌}
 use Rattle.std.specs.List.{All}
 use Rattle.io_ports.specs.Lines.{Line, Text, TooLong}

@@ -222,8 +222,8 @@ fn add_lines<S: Source>(
 }
 
 /// Reads the problems of a suite to its end or to its first faulty line, in one pass. A line has the name of a variant,
-/// a number of moves from 1 to 20 and a position, `startpos` or a FEN, separated by single spaces; empty lines and those
-/// that begin with `#` are skipped.
+/// a number of moves from 1 to 20 and a position, `startpos` or a FEN, separated by single spaces; empty lines and
+/// those that begin with `#` are skipped.
 ///
 /// # Errors
 ///

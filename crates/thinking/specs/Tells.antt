@@ -39,7 +39,8 @@ reads_by style.Post reading = reading ∷ []
 reads_by style.Silent reading = []
 
 -- Events were gone through of which this holds, and these lines stand behind them. Only a front part was written.
-pub record BrokeHeld (dialect : Dialect) (moved : Moved) (behind : List Line) (Holds : List Event → Type 0) : Type 0 where
+pub record BrokeHeld (dialect : Dialect) (moved : Moved) (behind : List Line)
+    (Holds : List Event → Type 0) : Type 0 where
   pub events : List Event
   pub front : List ℕ
   pub back : List ℕ

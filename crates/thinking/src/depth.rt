@@ -26,8 +26,8 @@ use watching::{Cut, say};
 /// How one depth ended.
 #[derive(Drop)]
 pub enum Depth {
-    /// It was searched: what was found, the reading of the clock after it where lines have times, and the solve that was
-    /// cut after its search, where one was.
+    /// It was searched: what was found, the reading of the clock after it where lines have times, and the solve that
+    /// was cut after its search, where one was.
     Done {
         found: Found,
         clock: u64,
@@ -62,8 +62,8 @@ fn say_some<K: Sink>(sink: &mut K, text: &[u8]) -> Result<(), SearchFault>
     say(sink, text)
 }
 
-/// Searches the task to one depth, after a first reading of the clock, and tells of it. A mate that the value stands for
-/// is looked for.
+/// Searches the task to one depth, after a first reading of the clock, and tells of it. A mate that the value stands
+/// for is looked for.
 ///
 /// # Errors
 ///

@@ -54,8 +54,8 @@ fn settled(score: Score, best: Move, unsettled: Option<Evidence>, nodes: u64) ->
 ///
 /// # Errors
 ///
-/// The fault of the source or of the sink; or no memory. The lines that were heard until then are answered, the last one
-/// in part.
+/// The fault of the source or of the sink; or no memory. The lines that were heard until then are answered, the last
+/// one in part.
 pub fn judge<R: Threads + Wait + Sync, S: Source, K: Sink, C: Clock, G: Gate + Sync>(
     rt: &R,
     alloc: Global,
@@ -125,8 +125,8 @@ pub fn judge<R: Threads + Wait + Sync, S: Source, K: Sink, C: Clock, G: Gate + S
 ///
 /// # Errors
 ///
-/// The fault of the source or of the sink; or no memory. The lines that were heard until then are answered, the last one
-/// in part.
+/// The fault of the source or of the sink; or no memory. The lines that were heard until then are answered, the last
+/// one in part.
 pub fn explore<R: Threads + Wait + Sync, S: Source, K: Sink, C: Clock, G: Gate + Sync>(
     rt: &R,
     alloc: Global,

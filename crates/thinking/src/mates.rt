@@ -46,8 +46,8 @@ pub enum Tried {
 ///
 /// # Errors
 ///
-/// The fault of the source or of the sink; or no memory. The lines that were heard until then are answered, the last one
-/// in part.
+/// The fault of the source or of the sink; or no memory. The lines that were heard until then are answered, the last
+/// one in part.
 pub fn try_mates<R: Threads + Wait + Sync, S: Source, K: Sink, C: Clock, G: Gate + Sync>(
     rt: &R,
     alloc: Global,

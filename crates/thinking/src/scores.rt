@@ -45,8 +45,8 @@ pub fn favoured(mover: Side, value: i32) -> Side
     if value < 0 { mover.other() } else { mover }
 }
 
-/// Within how many moves a mate is looked for after a depth of this value: all legal moves are root moves, and the value
-/// stands for a mate.
+/// Within how many moves a mate is looked for after a depth of this value: all legal moves are root moves, and the
+/// value stands for a mate.
 pub fn mate_sought(task: &Task, value: i32) -> Option<u16>
     requires task { IsTask task.now }
     ensures { (depth : ℕ) → value ≡ Thinking.value_at (task_seen task.now) depth

@@ -9,7 +9,8 @@ use Rattle.fen_model.specs.Tokens.{is_letter, letter_kind, letter_side, tokens_o
 
 -- the piece of a byte, where it is a letter, with its marks
 abbrev pub byte_cell : Rules → Bool → ℕ → Bool → Option Cell
-byte_cell rules before b after = if is_letter b then marked_cell rules before (letter_side b) (letter_kind b) after else None
+byte_cell rules before b after =
+    if is_letter b then marked_cell rules before (letter_side b) (letter_kind b) after else None
 
 -- the squares of a rank that begins with the piece
 abbrev pub piece_first : Rules → Cell → List ℕ → Result (List (Option Cell)) FenFault

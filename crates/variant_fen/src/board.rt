@@ -44,7 +44,9 @@ fn read_rank(rules: &Rules, text: &[u8], rank: u8, cells: &mut Cells) -> Result<
     requires fit { IsFit rules.now }
     requires rank { rank < 10 }
     requires empty { IsFreeFrom cells.old rank 0 }
-    ensures row { MatchResult result (λ _. Board.row_of rules.now text.now ≡ Ok (Board.row_at cells.new rank rules.now.files)) (λ fault. Board.row_of rules.now text.now ≡ Err fault) }
+    ensures row { MatchResult result
+        (λ _. Board.row_of rules.now text.now ≡ Ok (Board.row_at cells.new rank rules.now.files))
+        (λ fault. Board.row_of rules.now text.now ≡ Err fault) }
     ensures beyond { OnOk result (IsFreeFrom cells.new rank rules.now.files) }
     ensures others { IsSameBut rank cells.old cells.new }
 {
@@ -92,7 +94,8 @@ fn rank_count(board: &[u8]) -> usize
 pub(crate) fn read_board(rules: &Rules, board: &[u8], cells: &mut Cells) -> Result<(), FenFault>
     requires fit { IsFit rules.now }
     requires empty { cells.old ≡ replicate 120 None }
-    ensures { MatchResult result (λ _. Board.cells_of rules.now board.now ≡ Ok cells.new) (λ fault. Board.cells_of rules.now board.now ≡ Err fault) }
+    ensures { MatchResult result (λ _. Board.cells_of rules.now board.now ≡ Ok cells.new)
+        (λ fault. Board.cells_of rules.now board.now ≡ Err fault) }
 {
     if rank_count(board) != usize::from(rules.ranks) {
         return Err(FenFault::Rank);

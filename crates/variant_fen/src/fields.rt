@@ -141,7 +141,8 @@ fn cut_fields<'a>(rules: &Rules, text: &'a [u8]) -> Option<FieldTexts<'a>>
 /// Cuts a text of at most 1,024 bytes into its fields.
 #[tactic(auto, unfolding(fen_model::specs::Fields::fields_of))]
 pub(crate) fn read_fields<'a>(rules: &Rules, text: &'a [u8]) -> Result<FieldTexts<'a>, FenFault>
-    ensures { MatchResult result (λ texts. Fields.fields_of rules.now text.now ≡ Ok (fields_view texts)) (λ fault. Fields.fields_of rules.now text.now ≡ Err fault) }
+    ensures { MatchResult result (λ texts. Fields.fields_of rules.now text.now ≡ Ok (fields_view texts))
+        (λ fault. Fields.fields_of rules.now text.now ≡ Err fault) }
 {
     if text.len() > MOST_BYTES {
         return Err(FenFault::Length);

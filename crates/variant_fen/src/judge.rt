@@ -9,12 +9,13 @@ use rules_model::{Position, Rules, Side, king_attacked};
 
 const MOST_PIECES: usize = 240;
 
-/// Judges the position: each side has its king, there are not too many pieces, and the king of the side that is not to move
-/// is not attacked.
+/// Judges the position: each side has its king, there are not too many pieces, and the king of the side that is not to
+/// move is not attacked.
 #[tactic(auto, unfolding(fen_model::specs::Reading::judged))]
 pub(crate) fn judge(rules: &Rules, p: &Position) -> Result<(), FenFault>
     requires { IsFit rules.now }
-    ensures { MatchResult result (λ _. judged rules.now p.now ≡ Ok p.now) (λ fault. judged rules.now p.now ≡ Err fault) }
+    ensures { MatchResult result (λ _. judged rules.now p.now ≡ Ok p.now)
+        (λ fault. judged rules.now p.now ≡ Err fault) }
 {
     if !(has_its_king(rules, &p.cells, Side::White) && has_its_king(rules, &p.cells, Side::Black)) {
         return Err(FenFault::Kings);

@@ -43,7 +43,8 @@ fn is_passed(rules: &Rules, cells: &Cells, side: Side, ep: Square) -> bool
         && pawn_at(rules, cells, enemy, ahead(board, enemy, ep, 1))
 }
 
-/// Reads the square of a field, `-` for none. It is kept where a pawn of the side to move could take there by its movement.
+/// Reads the square of a field, `-` for none. It is kept where a pawn of the side to move could take there by its
+/// movement.
 #[tactic(auto, unfolding(fen_model::specs::Passed::passed_of))]
 pub(crate) fn read_passed(
     rules: &Rules,

@@ -77,7 +77,8 @@ fn byte_cell(rules: &Rules, plus: bool, byte: u8, tilde: bool) -> Option<Cell>
 pub(crate) fn cut_piece<'a>(rules: &Rules, text: &'a [u8]) -> Option<(Cell, &'a [u8])>
     requires some { 0 < length text.now }
     requires no_digit { prefix_len is_digit text.now ≡ 0 }
-    ensures said { IfSome result (λ r. Board.squares_of rules.now (tokens_of text.now) ≡ piece_first rules.now r.0 r.1.now) }
+    ensures said { IfSome result (λ r. Board.squares_of rules.now (tokens_of text.now)
+        ≡ piece_first rules.now r.0 r.1.now) }
     ensures shorter { IfSome result (λ r. length r.1.now < length text.now) }
     ensures fault { IfNone result (Board.squares_of rules.now (tokens_of text.now) ≡ Err Letter) }
 {

@@ -29,8 +29,8 @@ pub(crate) fn kind_letter(side: Side, kind: Kind) -> u8
     }
 }
 
-/// Appends a piece: `+` and its origin's letter where it is the origin's promoted kind, else its own letter, with `~` after it
-/// where it has another origin.
+/// Appends a piece: `+` and its origin's letter where it is the origin's promoted kind, else its own letter, with `~`
+/// after it where it has another origin.
 fn push_cell(rules: &Rules, text: &mut Vec<u8>, cell: Cell) -> Result<(), Memory>
     ensures { OnOk result (text.new.items ≡ text.old.items ++ Printing.cell_text rules.now cell) }
 {
@@ -62,7 +62,8 @@ fn push_run(text: &mut Vec<u8>, empty: u8) -> Result<(), Memory>
 fn push_rank(rules: &Rules, text: &mut Vec<u8>, cells: &Cells, rank: u8) -> Result<(), Memory>
     requires fit { IsFit rules.now }
     requires rank { rank < 10 }
-    ensures { OnOk result (text.new.items ≡ text.old.items ++ Printing.row_text rules.now 0 (row_at cells.now rank rules.now.files)) }
+    ensures { OnOk result (text.new.items
+        ≡ text.old.items ++ Printing.row_text rules.now 0 (row_at cells.now rank rules.now.files)) }
 {
     let mut empty = 0;
     for file in 0..rules.files {

@@ -175,7 +175,9 @@ fn push_counts(rules: &Rules, text: &mut Vec<u8>, p: &Position) -> Result<(), Me
 /// Appends what follows the board: the pocket and the other fields.
 pub(crate) fn push_fields(rules: &Rules, text: &mut Vec<u8>, p: &Position) -> Result<(), Memory>
     requires { IsFit rules.now }
-    ensures { OnOk result (text.new.items ≡ text.old.items ++ Printing.pocket_text rules.now p.now.hands ++ blanked (Printing.state_texts rules.now p.now ++ Printing.count_texts rules.now p.now)) }
+    ensures { OnOk result (text.new.items
+        ≡ text.old.items ++ Printing.pocket_text rules.now p.now.hands
+        ++ blanked (Printing.state_texts rules.now p.now ++ Printing.count_texts rules.now p.now)) }
 {
     push_pocket(rules, text, &p.hands)?;
     push_state(rules, text, p)?;

@@ -13,4 +13,5 @@ class_of key = fold next_class 0 key
 
 -- no line has a key of a class that is not marked
 abbrev pub MarksClasses : List Bool → List KeyLine → Type 0
-MarksClasses marks lines = (key : List ℕ) → slice_index_or marks (class_of key) false ≡ false → last_place lines key ≡ None
+MarksClasses marks lines =
+    (key : List ℕ) → slice_index_or marks (class_of key) false ≡ false → last_place lines key ≡ None

@@ -5,8 +5,8 @@ use Rattle.variant_ini.specs.declared.key_line.KeyLine.{KeyLine}
 use Rattle.variant_ini.specs.Cuts.{is_feed, trimmed}
 use Rattle.variant_ini.specs.Section.{Section}
 
--- the value has no blanks at its ends, no line feed and no byte above 127, and there is room for it in one line with its
--- key and the sign between them
+-- the value has no blanks at its ends, no line feed and no byte above 127, and there is room for it in one line with
+-- its key and the sign between them
 pub record IsFileLine (line : KeyLine) : Type 0 where
   pub trim : trimmed line.value ≡ line.value
   pub one_line : list_any is_feed line.value ≡ false

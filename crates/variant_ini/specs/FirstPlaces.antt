@@ -9,4 +9,5 @@ use Rattle.variant_ini.specs.OptionValue.{first_named}
 
 -- the index has the place of the first section of each name
 abbrev pub FindsFirst : BTreeMap (Vec ℕ Global) ℕ → List Section → Type 0
-FindsFirst index sections = (name : List ℕ) → get_by (λ k. slice_cmp nat_cmp name k.items) index ≡ first_named sections name
+FindsFirst index sections =
+    (name : List ℕ) → get_by (λ k. slice_cmp nat_cmp name k.items) index ≡ first_named sections name

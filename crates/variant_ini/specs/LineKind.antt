@@ -22,7 +22,8 @@ is_comment (b ∷ bs) = b == 35 || b == 59
 
 -- printable, and no blank, none of `[ ] ( ) { }` and no colon
 abbrev pub is_name_byte : ℕ → Bool
-is_name_byte b = nat_lt 32 b && nat_lt b 127 && not (b == 91 || b == 93 || b == 40 || b == 41 || b == 123 || b == 125 || b == 58)
+is_name_byte b =
+    nat_lt 32 b && nat_lt b 127 && not (b == 91 || b == 93 || b == 40 || b == 41 || b == 123 || b == 125 || b == 58)
 
 -- 1 to 64 such bytes
 abbrev pub is_name : List ℕ → Bool

@@ -7,7 +7,8 @@ use Rattle.variant_ini.specs.Section.{Section, section_at, last_value}
 -- the place of the first section of a name
 unfoldable pub first_named : List Section → List ℕ → Option ℕ
 first_named [] name = None
-first_named (section ∷ sections) name = if bytes_eq section.name name then Some 0 else option_map suc (first_named sections name)
+first_named (section ∷ sections) name =
+    if bytes_eq section.name name then Some 0 else option_map suc (first_named sections name)
 
 -- the place of a section's parent: the first section above it that has the parent's name
 unfoldable pub parent_place : List Section → ℕ → Option ℕ
@@ -21,7 +22,8 @@ own_or None inherited = inherited
 unfoldable pub value_within : ℕ → List Section → List ℕ → ℕ → Option (List ℕ)
 value_within zero sections key place = None
 value_within (suc n) sections key place =
-    own_or (last_value (section_at sections place).lines key) (option_and_then (value_within n sections key) (parent_place sections place))
+    own_or (last_value (section_at sections place).lines key)
+        (option_and_then (value_within n sections key) (parent_place sections place))
 
 -- the value of a key in a section: that of its own last line for the key, else the key's value in its parent, else
 -- none. A parent stands above its child, so no chain is longer than the place and 1.

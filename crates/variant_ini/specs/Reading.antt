@@ -19,7 +19,8 @@ pairs_of (bad ∷ rest) = pairs_of rest
 -- a section for each header, with the pairs that follow it
 unfoldable pub sections_of : List LineKind → List Section
 sections_of [] = []
-sections_of (header name parent ∷ rest) = record { name = name; parent = parent; lines = pairs_of rest } ∷ sections_of rest
+sections_of (header name parent ∷ rest) =
+    record { name = name; parent = parent; lines = pairs_of rest } ∷ sections_of rest
 sections_of (pair key value ∷ rest) = sections_of rest
 sections_of (comment ∷ rest) = sections_of rest
 sections_of (foreign ∷ rest) = sections_of rest

@@ -14,11 +14,13 @@ with_pair section key value = record section { lines = section.lines ++ key_line
 -- the sections after one more line: a header opens one, and a pair goes to the last
 abbrev pub with_line : LineKind → List Section → List Section
 with_line (header name parent) sections = sections ++ opened name parent ∷ []
-with_line (pair key value) sections = slice_set sections (length sections - 1) (with_pair (section_at sections (length sections - 1)) key value)
+with_line (pair key value) sections =
+    slice_set sections (length sections - 1) (with_pair (section_at sections (length sections - 1)) key value)
 with_line comment sections = sections
 with_line foreign sections = sections
 with_line bad sections = sections
 
 -- the line has no fault, and the sections are those after it; or the answer is its fault, or being out of memory
 abbrev pub TakesLine : Option IniFault → LineKind → List Section → List Section → Result (Unit {0}) IniFault → Type 0
-TakesLine fault kind old new answer = MatchResult answer (λ _. (fault ≡ None) × (new ≡ with_line kind old)) (IsFaultOrMemory fault)
+TakesLine fault kind old new answer =
+    MatchResult answer (λ _. (fault ≡ None) × (new ≡ with_line kind old)) (IsFaultOrMemory fault)

@@ -91,7 +91,8 @@ fn header_of(text: &[u8]) -> Option<Header<'_>>
     }
 }
 
-/// Reads `key = value`: the text is cut at its first `=`, blanks at the ends of both parts are left out, and the key is not empty.
+/// Reads `key = value`: the text is cut at its first `=`, blanks at the ends of both parts are left out, and the key is
+/// not empty.
 #[tactic(auto, unfolding(crate::specs::LineKind::pair_of))]
 pub fn pair_of(text: &[u8]) -> Option<Pair<'_>>
     ensures { option_map pair_view result ≡ pair_of text.now }

@@ -13,7 +13,8 @@ use std::alloc::{AllocError, Global};
 use std::collections::BTreeMap;
 use std::marker::Model;
 
-/// A section, with the place of the last line of each of its keys, and a mark for each class of keys that its lines have.
+/// A section, with the place of the last line of each of its keys, and a mark for each class of keys that its lines
+/// have.
 #[derive(Drop)]
 pub(crate) struct IndexedSection {
     name: Text,

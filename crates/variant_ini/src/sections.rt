@@ -169,8 +169,8 @@ impl Sections {
         section.parent()
     }
 
-    /// The place of a section's parent: the first section above it that has its parent's name. None where it names no parent, and
-    /// where no section above has that name. It was found when the section was added.
+    /// The place of a section's parent: the first section above it that has its parent's name. None where it names no
+    /// parent, and where no section above has that name. It was found when the section was added.
     pub fn parent_place(&self, section: usize) -> Option<usize>
         requires { section < length self.now }
         ensures is { result ≡ parent_place self.now section }
@@ -188,7 +188,8 @@ impl Sections {
         section.lines()
     }
 
-    /// The value of a section's own last line for a key. Takes no memory, and time that grows with the logarithm of its lines.
+    /// The value of a section's own last line for a key. Takes no memory, and time that grows with the logarithm of its
+    /// lines.
     pub fn own_value(&self, section: usize, key: &[u8]) -> Option<&[u8]>
         requires { section < length self.now }
         ensures { option_copied result ≡ last_value (section_at self.now section).lines key.now }
@@ -200,8 +201,8 @@ impl Sections {
     /// The value of a key in a section: that of its own last line for the key, else the value of the key in the first
     /// section above it that has its parent's name, else none. Takes no memory.
     ///
-    /// Each section of the chain of parents is asked once. Most that have no line with the key answer at once, by the class of the
-    /// key; the others take time that grows with the logarithm of their lines.
+    /// Each section of the chain of parents is asked once. Most that have no line with the key answer at once, by the
+    /// class of the key; the others take time that grows with the logarithm of their lines.
     pub fn resolve(&self, section: usize, key: &[u8]) -> Option<&[u8]>
         requires { section < length self.now }
         ensures { option_copied result ≡ option_value self.now section key.now }

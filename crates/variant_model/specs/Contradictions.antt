@@ -10,9 +10,9 @@ unfoldable pub has_left_twice : List (Kind × Kind) → Bool
 has_left_twice [] = false
 has_left_twice (pair ∷ pairs) = list_any (λ other. other.0.0 == pair.0.0) pairs || has_left_twice pairs
 
--- 1: there is no piece. 2: a pawn becomes a pawn or a king. 3: the pairs of promoted pieces name the pawn or the king, have a left
--- letter twice, or a letter both left and right. 4: hand pieces come in by gates that the variant has not. 5: gates with more files
--- than letters of gates, or with castling on another rank or with pawns
+-- 1: there is no piece. 2: a pawn becomes a pawn or a king. 3: the pairs of promoted pieces name the pawn or the king,
+-- have a left letter twice, or a letter both left and right. 4: hand pieces come in by gates that the variant has not.
+-- 5: gates with more files than letters of gates, or with castling on another rank or with pawns
 unfoldable pub contradiction : Rules → List (Kind × Kind) → Option ℕ
 contradiction rules pairs =
     if has_no_piece rules then Some 1

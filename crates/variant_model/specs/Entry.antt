@@ -35,7 +35,8 @@ parent_fault_by (Some name) None is_refused = Some UnknownParent
 parent_fault_by (Some name) (Some parent) is_refused = fault_where (is_refused parent) RefusedParent
 
 abbrev pub parent_fault : List Section → ℕ → (ℕ → Bool) → Option SectionFault
-parent_fault sections place is_refused = parent_fault_by (section_at sections place).parent (parent_place sections place) is_refused
+parent_fault sections place is_refused =
+    parent_fault_by (section_at sections place).parent (parent_place sections place) is_refused
 
 -- ---- its own lines
 
@@ -93,14 +94,16 @@ unless_fault None rules = rules
 unless_fault (Some fault) rules = Err fault
 
 abbrev pub entry_by : List Section → ℕ → (ℕ → Bool) → Result Rules SectionFault
-entry_by sections place is_refused = unless_fault (first_fault sections place is_refused) (accepted (resolved sections place))
+entry_by sections place is_refused =
+    unless_fault (first_fault sections place is_refused) (accepted (resolved sections place))
 
 -- the entry of a section within so many sections of the chain of parents
 unfoldable pub entry_within : ℕ → List Section → ℕ → Result Rules SectionFault
 entry_within zero sections place = Err RefusedParent
 entry_within (suc n) sections place = entry_by sections place (λ parent. is_err (entry_within n sections parent))
 
--- the rules of a section, or its first fault. A parent stands above its child, so no chain is longer than the place and 1
+-- the rules of a section, or its first fault. A parent stands above its child, so no chain is longer than the place and
+-- 1
 unfoldable pub entry : List Section → ℕ → Result Rules SectionFault
 entry sections place = entry_within (place + 1) sections place
 

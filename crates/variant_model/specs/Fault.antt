@@ -10,7 +10,8 @@ use Rattle.variant_model.specs.declared.fault.SectionFault.TheVariants.{Duplicat
 abbrev pub key_text : List ℕ → List ℕ
 key_text key = encode_utf8_all key
 
--- the type's name, the fault's number, its name and its fields, separated by single blanks. A fault inside a fault prints whole
+-- the type's name, the fault's number, its name and its fields, separated by single blanks. A fault inside a fault
+-- prints whole
 abbrev pub fault_text : SectionFault → List ℕ
 fault_text DuplicateName = codes "SectionFault 1 DuplicateName"
 fault_text UnknownParent = codes "SectionFault 2 UnknownParent"

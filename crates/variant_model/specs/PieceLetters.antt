@@ -36,9 +36,9 @@ letter_within (suc n) sections piece place =
     letter_with (section_at sections place).lines (last_value (section_at sections place).lines piece)
     (option_and_then (letter_within n sections piece) (parent_place sections place))
 
--- the letter of a piece in a section, None where the section has no such piece: that of the section's own last line for it, else the
--- one in its parent, unless the section gives that letter to another piece. A parent stands above its child, so no chain is longer
--- than the place and 1
+-- the letter of a piece in a section, None where the section has no such piece: that of the section's own last line for
+-- it, else the one in its parent, unless the section gives that letter to another piece. A parent stands above its
+-- child, so no chain is longer than the place and 1
 unfoldable pub piece_letter : List Section → ℕ → List ℕ → Option Kind
 piece_letter sections place piece = letter_within (place + 1) sections piece place
 
@@ -48,7 +48,8 @@ lines_of sections place = (section_at sections place).lines
 
 -- the letter of a piece in a section's parent
 abbrev pub parent_letter : List Section → ℕ → List ℕ → Option Kind
-parent_letter sections place piece = option_and_then (λ parent. piece_letter sections parent piece) (parent_place sections place)
+parent_letter sections place piece =
+    option_and_then (λ parent. piece_letter sections parent piece) (parent_place sections place)
 
 -- ---- one letter for two pieces
 

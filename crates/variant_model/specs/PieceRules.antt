@@ -22,7 +22,8 @@ pub record Resolved : Type 0 where
 
 -- what an option says: what its value says, else its default. Every value of an accepted section is of its kind
 abbrev pub said : Resolved → (option : OptionRow) → Said option.values
-said section option = unwrap_or (option_and_then (read option.values) (section.value option.key)) (option.default section.letter)
+said section option =
+    unwrap_or (option_and_then (read option.values) (section.value option.key)) (option.default section.letter)
 
 -- ---- the board
 
@@ -34,7 +35,9 @@ is_on_board section s = nat_lt (s % 12) (files_of section) && nat_lt (s / 12) (s
 
 -- the squares of a region that are on the board
 unfoldable pub on_the_board : Resolved → Region → Region
-on_the_board section region = record { squares = map (λ s. slice_index_or region.squares s false && is_on_board section s) (range_with_len 0 120) }
+on_the_board section region =
+    record { squares = map (λ s. slice_index_or region.squares s false && is_on_board section s)
+    (range_with_len 0 120) }
 
 -- the regions of an option for White and Black
 abbrev pub both_sides : Resolved → (Side → Region) → List Region
@@ -64,7 +67,8 @@ held_letter section (Some k) = if has_piece section k then Some k else None
 
 -- the pairs of which pieces have both letters
 abbrev pub held_pairs : Resolved → List (Kind × Kind)
-held_pairs section = filter (λ pair. has_piece section pair.0 && has_piece section pair.1) (said section promoted_piece_type)
+held_pairs section =
+    filter (λ pair. has_piece section pair.0 && has_piece section pair.1) (said section promoted_piece_type)
 
 abbrev pub right_of : Kind × Kind → Kind
 right_of pair = pair.1

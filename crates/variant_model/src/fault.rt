@@ -32,7 +32,8 @@ pub enum SectionFault {
     UnknownParent,
     /// The parent is refused.
     RefusedParent,
-    /// The section's first faulty line has this key, which is none of the options, the pieces and the keys that are skipped.
+    /// The section's first faulty line has this key, which is none of the options, the pieces and the keys that are
+    /// skipped.
     UnsupportedOption(Text),
     /// The section's first faulty line has this key, and its value is not of the key's kind.
     BadValue(Text),
@@ -43,8 +44,9 @@ pub enum SectionFault {
     /// The start is no position of the variant.
     BadStart(FenFault),
     /// The rules contradict each other: 1, there is no piece; 2, `promotionPieceTypes` names the pawn or the king; 3,
-    /// `promotedPieceType` names the pawn or the king, or has a left letter twice or on the right; 4, `seirawanGating` without
-    /// `gating`; 5, `gating` with more than 10 files, or with castling on another rank than 1 or by pawns. The smallest such number.
+    /// `promotedPieceType` names the pawn or the king, or has a left letter twice or on the right; 4, `seirawanGating`
+    /// without `gating`; 5, `gating` with more than 10 files, or with castling on another rank than 1 or by pawns. The
+    /// smallest such number.
     Inconsistent(u8),
 }
 

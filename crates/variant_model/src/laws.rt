@@ -11,8 +11,8 @@ ghost use Rattle.variant_model.specs.Made.{resolved};
 ghost use Rattle.variant_model.specs.PieceLetters.{letter_in, lines_of, parent_letter, piece_letter, unless_given};
 ghost use Rattle.variant_model.specs.Told.{line_of, told, told_section};
 
-/// The letter of a piece is that of the section's own last line for it, else the one in its parent, unless the section gives
-/// that letter to a piece: no chain of parents is cut off.
+/// The letter of a piece is that of the section's own last line for it, else the one in its parent, unless the section
+/// gives that letter to a piece: no chain of parents is cut off.
 pub fn letters_are_inherited()
     ensures own { (sections : List Section) (place : ℕ) (piece value : List ℕ)
         → last_value (lines_of sections place) piece ≡ Some value
@@ -23,7 +23,8 @@ pub fn letters_are_inherited()
         ≡ unless_given (lines_of sections place) (parent_letter sections place piece) }
 {}
 
-/// A section has its first fault; where it has none, it has the rules that its options make, or the fault of their start.
+/// A section has its first fault; where it has none, it has the rules that its options make, or the fault of their
+/// start.
 pub fn first_faults_refuse()
     ensures faulty { (sections : List Section) (place : ℕ) (fault : SectionFault)
         → first_fault sections place (is_refused sections) ≡ Some fault → entry sections place ≡ Err fault }
@@ -42,8 +43,8 @@ pub fn told_sections_have_the_same_rules()
     ensures few { (sections : List Section) (place : ℕ) → length (told sections place) ≤ 213 }
 {}
 
-/// The lines that a section tells are lines of files where those of all sections are: no value has blanks at its ends, a
-/// line feed or a byte above 127, and each has fewer than 1,024 bytes with its key.
+/// The lines that a section tells are lines of files where those of all sections are: no value has blanks at its ends,
+/// a line feed or a byte above 127, and each has fewer than 1,024 bytes with its key.
 pub fn told_lines_are_lines_of_files()
     ensures { (sections : List Section) (place : ℕ) → AreFileLines sections
         → All (λ pair. IsFileLine (line_of pair)) (told sections place) }

@@ -16,13 +16,15 @@ abbrev pub unless_bad : Option BetzaFault → Result (List Part) BetzaFault → 
 unless_bad None parts = parts
 unless_bad (Some fault) parts = Err fault
 
--- the parts of a text of at most so many bytes, which is at this place of a word after so many terms, or the first fault
+-- the parts of a text of at most so many bytes, which is at this place of a word after so many terms, or the first
+-- fault
 unfoldable pub parts_from : ℕ → ℕ → ℕ → List ℕ → Result (List Part) BetzaFault
 parts_from n at before [] = Ok []
 parts_from zero at before (b ∷ bs) = Err (UnknownAtom at)
 parts_from (suc n) at before (b ∷ bs) =
     unless_bad (part_fault at before (b ∷ bs))
-    (with_part (first_part (b ∷ bs)) (parts_from n (at + first_length (b ∷ bs)) (before + first_terms (b ∷ bs)) (rest_of (b ∷ bs))))
+    (with_part (first_part (b ∷ bs))
+        (parts_from n (at + first_length (b ∷ bs)) (before + first_terms (b ∷ bs)) (rest_of (b ∷ bs))))
 
 -- the parts of a Betza word, or its first fault
 unfoldable pub parts_of : List ℕ → Result (List Part) BetzaFault

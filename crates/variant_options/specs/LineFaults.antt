@@ -41,6 +41,7 @@ fault_with None (Some values) skipped value = option_fault values value
 fault_with None None true value = None
 fault_with None None false value = Some UnsupportedOption
 
--- the fault of a pair: its key is that of a piece or of an option, and its value is of the key's kind; or it is read over
+-- the fault of a pair: its key is that of a piece or of an option, and its value is of the key's kind; or it is read
+-- over
 unfoldable pub line_fault : KeyLine → Option LineFault
 line_fault line = fault_with (piece_named line.key) (option_kind line.key) (is_skipped line.key) line.value

@@ -1,5 +1,5 @@
--- The options of a variants file: for each its key, the kind of its value, and its default (the variants.ini documentation of
--- Fairy-Stockfish; that no piece is promoted to by default is this project's own).
+-- The options of a variants file: for each its key, the kind of its value, and its default (the variants.ini
+-- documentation of Fairy-Stockfish; that no piece is promoted to by default is this project's own).
 use Rattle.std.specs.Prelude.{ℕ, ◌-◌, Bool, true, false, ◌||◌, List, [], ◌∷◌, ◌++◌, Option, Some, None, codes, if◌then◌else◌}
 use Rattle.std.specs.List.{find, list_any}
 use Rattle.std.specs.Str.{bytes_eq}
@@ -223,7 +223,8 @@ options =
     ∷ promotion_region White ∷ promotion_region Black ∷ promotion_piece_types ∷ promoted_piece_type
     ∷ mandatory_pawn_promotion ∷ mandatory_piece_promotion
     ∷ double_step ∷ double_step_region White ∷ double_step_region Black
-    ∷ castling ∷ castling_king_file ∷ castling_kingside_file ∷ castling_queenside_file ∷ castling_rank ∷ castling_rook_pieces
+    ∷ castling ∷ castling_king_file ∷ castling_kingside_file ∷ castling_queenside_file ∷ castling_rank
+    ∷ castling_rook_pieces
     ∷ checking ∷ drop_checks ∷ must_capture
     ∷ piece_drops ∷ captures_to_hand ∷ first_rank_pawn_drops ∷ promotion_zone_pawn_drops
     ∷ drop_region White ∷ drop_region Black ∷ drop_no_doubled ∷ immobility_illegal
@@ -256,7 +257,8 @@ is_pawn_key key = bytes_eq key (codes "pawn")
 
 -- the keys of the regions of a piece for White and Black; the chess pawn has none
 abbrev pub region_keys : PieceRow → Option (List ℕ × List ℕ)
-region_keys piece = if is_pawn_key piece.key then None else Some (mobility_key White piece.key, mobility_key Black piece.key)
+region_keys piece =
+    if is_pawn_key piece.key then None else Some (mobility_key White piece.key, mobility_key Black piece.key)
 
 abbrev pub is_region_key : Option (List ℕ × List ℕ) → List ℕ → Bool
 is_region_key None key = false

@@ -1,4 +1,5 @@
-//! What the lines of a variants file say: the options and the pieces, the kinds of their values, and what is wrong with a line.
+//! What the lines of a variants file say: the options and the pieces, the kinds of their values, and what is wrong with
+//! a line.
 #![tactic(auto)]
 
 pub mod fault;

@@ -75,8 +75,8 @@ fn option_fault(alloc: Global, kind: ValueKind, text: &[u8]) -> Result<Option<Li
     })
 }
 
-/// The fault of a line, where it has one: its key is none of the pieces, of the options and of the keys that are skipped,
-/// or its value is not of the key's kind.
+/// The fault of a line, where it has one: its key is none of the pieces, of the options and of the keys that are
+/// skipped, or its value is not of the key's kind.
 #[tactic(auto, unfolding(crate::specs::LineFaults::line_fault))]
 pub fn line_fault(alloc: Global, key: &[u8], value: &[u8]) -> Result<Option<LineFault>, Memory>
     ensures { IfOk result (λ fault. fault ≡ LineFaults.line_fault (key_line key.now value.now)) }

@@ -10,8 +10,8 @@ use rules_model::Rules;
 use std::marker::Model;
 use variant_model::SectionFault;
 
-/// The variants of the sections of variants files, in their order, each with its name and with its rules or its first fault. A
-/// contract sees the list of these.
+/// The variants of the sections of variants files, in their order, each with its name and with its rules or its first
+/// fault. A contract sees the list of these.
 #[derive(Drop)]
 pub struct Variants {
     entries: Vec<NamedEntry>,
@@ -44,8 +44,8 @@ impl Variants {
         Variants { entries }
     }
 
-    /// What the first section of this name is; `Unknown` exactly where no section has it. The rules fit, and their start is sound.
-    /// Takes no memory.
+    /// What the first section of this name is; `Unknown` exactly where no section has it. The rules fit, and their
+    /// start is sound. Takes no memory.
     #[tactic(auto, unfolding(crate::specs::Entries::found))]
     pub fn find(&self, name: &[u8]) -> Found<'_>
         ensures is { found_view result ≡ found self.now name.now }
@@ -64,7 +64,8 @@ impl Variants {
         self.entries.len()
     }
 
-    /// The name of a section, with its rules or its first fault. The rules fit, and their start is sound. Takes no memory.
+    /// The name of a section, with its rules or its first fault. The rules fit, and their start is sound. Takes no
+    /// memory.
     pub fn entry(&self, place: usize) -> (&[u8], Result<&Rules, &SectionFault>)
         requires { place < length self.now }
         ensures is { slice_get self.now place ≡ Some (lent_named result) }

@@ -36,7 +36,8 @@ module _ {S K C : Type 0} (w : World S K C) where
   module _ (dialect : Dialect) (limits : Limits) where
     pub gone_none : (a : Moment S K C) (bound : ℕ) (text : List ℕ) → Gone w dialect limits a a text bound None
     gone_none a bound text = record {
-      looked = looked_none dialect a.source a.sink a.clock (w.owed a.source) limits a.nodes a.nodes bound text None refl (omega arith) tt;
+      looked = looked_none dialect a.source a.sink a.clock (w.owed a.source) limits a.nodes a.nodes bound text None refl
+          (omega arith) tt;
       later = record { source_later = omega arith; sink_later = omega arith };
       end = λ e. absurd (cc);
     }
@@ -86,8 +87,10 @@ module _ {S K C : Type 0} (w : World S K C) where
         ended_more (halt.Fault why) q =
             let le = p.looked.entered in let le' = q.entered in
             record {
-              broke = broke_more dialect (Listens dialect) (λ x y h k. listens_more dialect x y h.0 k) p.looked.ran q.broke;
-              whole = λ f. broke_more_back dialect (Listens dialect) (λ x y h k. listens_more dialect x y h.0 k) p.looked.ran q.broke ∙ q.whole f;
+              broke = broke_more dialect (Listens dialect)
+                  (λ x y h k. listens_more dialect x y h.0 k) p.looked.ran q.broke;
+              whole = λ f. broke_more_back dialect (Listens dialect)
+                  (λ x y h k. listens_more dialect x y h.0 k) p.looked.ran q.broke ∙ q.whole f;
               spends = spends_more (w.owed a.source) (w.owed b.source) (w.owed c.source) m n p.looked.spends q.spends;
               entered = omega (arith, le, le');
               later = later_more a b c p.later q.later;
@@ -148,7 +151,8 @@ module _ {S K C : Type 0} where
         let next = rw (p.lent.dialect_is, p.lent.limits_is) at q.gone in
         record {
           lent = lent_more a b c p.lent q.lent;
-          gone = gone_more w a.dialect a.limits (now_of a) (now_of b) b.line.now (now_of c) c.line.now m n p.gone None next;
+          gone = gone_more w a.dialect a.limits (now_of a) (now_of b) b.line.now
+              (now_of c) c.line.now m n p.gone None next;
         }
 
     pub went_wider : (a b : Caller S K C) (m n : ℕ) → Goes a b m → m ≤ n → Goes a b n
@@ -163,7 +167,8 @@ module _ {S K C : Type 0} where
         let next = rw (p.lent.dialect_is, p.lent.limits_is) at q.ended in
         record {
           lent = lent_more a b c p.lent q.lent;
-          ended = ended_more w a.dialect a.limits (now_of a) (now_of b) b.line.now (now_of c) c.line.now m n p.gone why next;
+          ended = ended_more w a.dialect a.limits (now_of a) (now_of b) b.line.now
+              (now_of c) c.line.now m n p.gone why next;
         }
 
     pub stops_wider : (a b : Caller S K C) (m n : ℕ) (why : Halt) → Stops a b m why → m ≤ n → Stops a b n why

@@ -1,4 +1,5 @@
--- What goes on while a search runs, or while a session answers a line. A search opens no file and says nothing of its own.
+-- What goes on while a search runs, or while a session answers a line. A search opens no file and says nothing of its
+-- own.
 use Rattle.std.specs.Prelude.{◌≡◌, ℕ, List, [], ◌∷◌, false}
 use Rattle.std.specs.List.{flat_map, AllByRecursion}
 use Rattle.io_ports.specs.Files.{Read}

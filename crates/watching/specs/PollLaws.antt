@@ -50,7 +50,8 @@ module _ {S K C : Type 0} (w : World S K C) (dialect : Dialect) (limits : Limits
       }
 
   -- a line, if any, was answered, and the clock gave this reading
-  pub gone_read : (s s' : S) (k k' : K) (c c' : C) (nodes nodes' : ℕ) (answer : Polled) (text : List ℕ) (reading : ℕ) (why : Option Cut)
+  pub gone_read : (s s' : S) (k k' : K) (c c' : C) (nodes nodes' : ℕ) (answer : Polled) (text : List ℕ) (reading : ℕ)
+      (why : Option Cut)
       → Takes (w.left s) (w.left s') (polled_lines answer text) → Owes (w.owed s) (w.owed s') answer
       → w.source_faults s ≤ w.source_faults s' → Heeds dialect (Appends (w.taken k) (w.taken k')) answer text None
       → w.sink_faults k ≤ w.sink_faults k' → nodes' ≤ nodes + 1
@@ -59,7 +60,8 @@ module _ {S K C : Type 0} (w : World S K C) (dialect : Dialect) (limits : Limits
       → w.last c' ≡ reading → held why text ≡ [] → (why ≡ Some cut.End → ⊥)
       → MayCut dialect (w.owed s') 0 limits (nodes' + 0) nodes' (reading ∷ []) text why
       → Gone w dialect limits (moment s k c nodes) (moment s' k' c' nodes') text 1 why
-  gone_read s s' k k' c c' nodes nodes' answer text reading why takes owes source_later heeds sink_later le gives counted read none unended may = record {
+  gone_read s s' k k' c c' nodes nodes' answer text reading why takes owes source_later heeds sink_later le gives
+      counted read none unended may = record {
     looked = looked_more dialect 1 0 (looked_poll dialect c limits nodes nodes' answer takes owes heeds le)
         (looked_read dialect s' k' (w.owed s') limits nodes' reading text why none gives counted read may);
     later = record { source_later = source_later; sink_later = sink_later };

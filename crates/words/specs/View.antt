@@ -38,7 +38,8 @@ asked_seen a = record {
   command = command_seen a.command;
 }
 
--- a number of plies is from 1 to 9, one of moves from 1 to 6, or to 100 for `pnmate`, and a random game has at most 8,192 plies
+-- a number of plies is from 1 to 9, one of moves from 1 to 6, or to 100 for `pnmate`, and a random game has at most
+-- 8,192 plies
 abbrev pub HasPlies : Given → Type 0
 HasPlies given.Uci = ⊤
 HasPlies given.Xboard = ⊤

@@ -41,18 +41,20 @@ pub enum Command<'a> {
     Perft(u8),
     /// `check`: whether the strategy of the input wins the game of the input, by the goal that stands between them.
     Check,
-    /// `stipulate self N`: a selfmate in the game of the game text that is the input, within this number of moves, from 1 to 6.
+    /// `stipulate self N`: a selfmate in the game of the game text that is the input, within this number of moves, from
+    /// 1 to 6.
     SelfMate(u16),
     /// `stipulate help N`: a helpmate in it, within this number of moves of each side, from 1 to 6.
     HelpMate(u16),
-    /// `stipulate check`: whether the certificate of the input holds in the game of the input, by the goal that stands between them.
+    /// `stipulate check`: whether the certificate of the input holds in the game of the input, by the goal that stands
+    /// between them.
     CheckCert,
     /// `variants`: the variants that there are, each with its fault where it has one.
     Variants,
     /// `suite`: which of the mate problems of the input are solved, and within how many moves.
     Suite,
-    /// `pnmate N`: within how many moves, up to this number, from 1 to 100, the side that is to move wins the game of the game text
-    /// that is the input.
+    /// `pnmate N`: within how many moves, up to this number, from 1 to 100, the side that is to move wins the game of
+    /// the game text that is the input.
     PnMate(u16),
     /// `reach WORD SQUARE [OWN [ENEMY]]`: where a piece of this Betza word goes from this square. The lists of squares
     /// of own and of enemy pieces are `none` where they are left out.
@@ -62,8 +64,8 @@ pub enum Command<'a> {
         own: &'a str,
         enemy: &'a str,
     },
-    /// `generate NAME START N`: a game of random legal moves in this variant, which goes from this number and has at most
-    /// this many plies, up to 8,192.
+    /// `generate NAME START N`: a game of random legal moves in this variant, which goes from this number and has at
+    /// most this many plies, up to 8,192.
     Generate {
         name: &'a str,
         number: u64,

@@ -81,7 +81,8 @@ fn asked_by<'a>(
     threads: Option<&str>,
     words: &[&'a str],
 ) -> Option<Asked<'a>>
-    ensures is { option_map asked_seen result ≡ asked_by (text_in variants.entry) (text_in threads.entry) (texts words.now) }
+    ensures is { option_map asked_seen result
+        ≡ asked_by (text_in variants.entry) (text_in threads.entry) (texts words.now) }
     ensures least { IfSome result (λ a. 1 ≤ a.threads) }
     ensures most { IfSome result (λ a. a.threads ≤ 64) }
     ensures plies { IfSome result (λ a. HasPlies a.command) }

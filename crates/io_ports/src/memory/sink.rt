@@ -52,7 +52,8 @@ impl MemSink {
 
     /// An empty sink with room for this many bytes, whose calls in the list fail. Of two of one call the first counts.
     pub fn failing(alloc: Global, room: usize, failing: &[SinkFault]) -> Result<MemSink, Memory>
-        ensures { IfOk result (λ sink. sink ≡ record { taken = []; room = room; failing = failing.now; calls = 0; faults = 0 }) }
+        ensures { IfOk result (λ sink. sink
+            ≡ record { taken = []; room = room; failing = failing.now; calls = 0; faults = 0 }) }
     {
         Ok(MemSink {
             bytes: Vec::with_capacity(alloc, room)?,

@@ -55,7 +55,8 @@ impl MemSource {
         owed: PollsOwed,
         failing: &[u64],
     ) -> Result<MemSource, Memory>
-        ensures { IfOk result (λ source. source ≡ record { left = bytes.now; owed = owed_of owed; failing = failing.now; calls = 0; faults = 0 }) }
+        ensures { IfOk result (λ source. source
+            ≡ record { left = bytes.now; owed = owed_of owed; failing = failing.now; calls = 0; faults = 0 }) }
     {
         Ok(MemSource {
             bytes: bytes.to_vec(alloc)?,

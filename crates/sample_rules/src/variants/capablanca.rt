@@ -64,7 +64,8 @@ fn rules() -> Rules
     rules
 }
 
-/// Chess on ten files, with an archbishop (bishop and knight) and a chancellor (rook and knight) (J. R. Capablanca, about 1920).
+/// Chess on ten files, with an archbishop (bishop and knight) and a chancellor (rook and knight) (J. R. Capablanca,
+/// about 1920).
 pub fn capablanca() -> Rules
     ensures is { result ≡ Capablanca.capablanca }
     ensures fit { IsFit result }

@@ -59,8 +59,8 @@ fn rules() -> Rules
     rules
 }
 
-/// Kings, rooks, pawns, and silver generals that become gold ones, from the middle of a game on: castling, gates and drops, and
-/// three checks win. Kings and rooks hold their gates, and a silver general waits in White's hand.
+/// Kings, rooks, pawns, and silver generals that become gold ones, from the middle of a game on: castling, gates and
+/// drops, and three checks win. Kings and rooks hold their gates, and a silver general waits in White's hand.
 pub fn generals() -> Rules
     ensures is { result ≡ Generals.generals }
     ensures fit { IsFit result }

@@ -68,8 +68,8 @@ fn rules() -> Rules
     rules
 }
 
-/// Chess with gates and drops: a hawk (bishop and knight) and an elephant (rook and knight) wait in each hand, and captured pieces
-/// come back (Seirawan chess with the drops of Crazyhouse).
+/// Chess with gates and drops: a hawk (bishop and knight) and an elephant (rook and knight) wait in each hand, and
+/// captured pieces come back (Seirawan chess with the drops of Crazyhouse).
 pub fn shouse() -> Rules
     ensures is { result ≡ Shouse.shouse }
     ensures fit { IsFit result }
