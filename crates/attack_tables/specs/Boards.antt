@@ -33,4 +33,4 @@ abbrev pub OnEachWithKing : Rules → Side → List (Option Cell) → Set → Se
     → Type 0
 OnEachWithKing rules side cells men occupied at Holds =
     OnEachBoard side cells men occupied
-        (λ board. is_own_king rules (other side) (cell_at board at) ≡ true → Holds board)
+    (λ board. is_own_king rules (other side) (cell_at board at) ≡ true → Holds board)

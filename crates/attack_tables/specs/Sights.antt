@@ -26,4 +26,4 @@ pub record AreSights (sights : List Sight) : Type 0 where
 abbrev pub sees : Sight → Set → ℕ → Bool
 sees sight occupied s =
     (has sight.above s && (before true (in_both sight.above occupied) s == 0))
-        || (has sight.below s && (before false (in_both sight.below occupied) s == 0))
+    || (has sight.below s && (before false (in_both sight.below occupied) s == 0))

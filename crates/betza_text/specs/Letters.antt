@@ -10,7 +10,7 @@ is_prefix c =
 unfoldable pub is_atom : ℕ → Bool
 is_atom c =
     c == 87 || c == 68 || c == 72 || c == 82 || c == 70 || c == 65 || c == 71 || c == 66 || c == 78 || c == 76
-        || c == 67 || c == 74 || c == 90 || c == 75 || c == 81
+    || c == 67 || c == 74 || c == 90 || c == 75 || c == 81
 
 -- m c n p g: a part has each at most once
 unfoldable pub is_once : ℕ → Bool

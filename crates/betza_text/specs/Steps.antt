@@ -138,8 +138,8 @@ is_clear shape letters = (length letters == 0) || are_pairs shape letters || are
 unfoldable pub picks : Shape → List ℕ → Step → Bool
 picks shape letters s =
     (length letters == 0) || (if are_pairs shape letters
-        then any_below (is_pair_to shape letters s) (length letters / 2)
-        else list_any (λ letter. points letter s) letters)
+    then any_below (is_pair_to shape letters s) (length letters / 2)
+    else list_any (λ letter. points letter s) letters)
 
 -- the steps of a part
 unfoldable pub steps_of : Part → List Step
@@ -162,4 +162,4 @@ is_far part = is_rider part.atom || part.doubled || is_some part.number
 unfoldable pub can_be_lame : Part → Bool
 can_be_lame part =
     (part.atom == 78 || part.atom == 65 || part.atom == 68 || part.atom == 72 || part.atom == 71) && not part.doubled
-        && not (is_some part.number)
+    && not (is_some part.number)

@@ -28,14 +28,14 @@ unfoldable pub SpelledFrom : ℕ → ℕ → List ℕ → List Part → Type 0
 SpelledFrom at before text [] = text ≡ []
 SpelledFrom at before text (part ∷ parts) =
     (0 < length text) × (part_fault at before text ≡ None) × (part ≡ first_part text)
-        × SpelledFrom (at + first_length text) (before + first_terms text) (rest_of text) parts
+    × SpelledFrom (at + first_length text) (before + first_terms text) (rest_of text) parts
 
 -- so many parts of the text have no fault, and the next part has this one first
 unfoldable pub FaultBehind : ℕ → ℕ → ℕ → List ℕ → BetzaFault → Type 0
 FaultBehind zero at before text fault = (0 < length text) × (part_fault at before text ≡ Some fault)
 FaultBehind (suc parts) at before text fault =
     (0 < length text) × (part_fault at before text ≡ None)
-        × FaultBehind parts (at + first_length text) (before + first_terms text) (rest_of text) fault
+    × FaultBehind parts (at + first_length text) (before + first_terms text) (rest_of text) fault
 
 -- the text has one to 64 bytes, and is these parts one after the other
 pub record Spells (text : List ℕ) (b : List Part) : Type 0 where

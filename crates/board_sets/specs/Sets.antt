@@ -45,7 +45,7 @@ AreOwnPawns rules side cells pawns = (s : ℕ) → has pawns s ≡ is_own_pawn r
 abbrev pub AreSetsAfter : Rules → Side → BoardSets → (List (Option Cell) → List (Option Cell)) → BoardSets → Type 0
 AreSetsAfter rules side old make new =
     (cells : List (Option Cell)) → length cells ≡ 120 → AreSets rules side cells old
-        → AreSets rules side (make cells) new
+    → AreSets rules side (make cells) new
 
 -- the sets are those of the board after the move, by the side that moved
 abbrev pub AreSetsAfterMove : Rules → Repeat → Move → BoardSets → Type 0

@@ -1,60 +1,15 @@
 //! The squares that open no line to a king: a piece that leaves one lets no other piece of its side attack a king.
 ghost use Rattle.std.specs.Prelude.{◌≡◌, ◌<◌};
-ghost use Rattle.rules_model.specs.Squares.{cell_at};
 ghost use Rattle.move_tables.specs.Occupied.{AreMen};
 ghost use Rattle.square_set.specs.Members.{OnSquares};
-ghost use Rattle.pins.specs.Free.{KindSpares, PieceSpares};
 ghost use Rattle.pins.specs.Guards.{AfterLeaving};
 ghost use Rattle.check_moves.specs.Shut as Shut;
 
-use attack_tables::{Mode, Tables, cell_on};
-use pins::guards::guards;
+use attack_tables::Tables;
+use pins::kings::guards_from;
 use rules_model::sizes::board_size;
-use rules_model::{Cells, Kind, Side, Square};
+use rules_model::{Cells, Side, Square};
 use square_set::{ALL, EMPTY, Set};
-
-/// The squares that guard the king from a piece of the kind.
-fn guards_from_kind(
-    tables: &Tables,
-    occupied: Set,
-    king: Square,
-    by: Side,
-    kind: Kind,
-    from: u8,
-) -> Set
-    requires king { king.0 < 120 }
-    requires from { from < 120 }
-    ensures { AfterLeaving occupied result (KindSpares tables.now by kind from king.0) }
-{
-    let _rules = tables.rules();
-    if kind.0 >= 26 {
-        return EMPTY;
-    }
-    guards(
-        tables.spot(by, kind, Square(from), Mode::Take),
-        occupied,
-        king.0,
-    )
-}
-
-/// The squares that guard the king from what stands on a square.
-fn guards_from(
-    tables: &Tables,
-    cells: &Cells,
-    occupied: Set,
-    king: Square,
-    by: Side,
-    from: u8,
-) -> Set
-    requires king { king.0 < 120 }
-    requires from { from < 120 }
-    ensures { AfterLeaving occupied result (PieceSpares tables.now by king.0 from (cell_at cells.now from)) }
-{
-    match cell_on(cells, from) {
-        None => EMPTY,
-        Some(cell) => guards_from_kind(tables, occupied, king, by, cell.kind, from),
-    }
-}
 
 /// The squares that guard the king from each piece of the side that stays on its square.
 fn guards_of_king(

@@ -1,13 +1,13 @@
 -- What `reach` prints: the squares of an 8 by 8 board that a piece reaches.
-use Rattle.std.specs.Prelude.{ℕ, ◌+◌, ◌/◌, ◌%◌, List, [], ◌∷◌, ◌++◌, Option, Some, None, Bool, true, false, ◌&&◌, is_none, filter, codes}
+use Rattle.std.specs.Prelude.{ℕ, List, [], ◌∷◌, ◌++◌, Option, Some, None, Bool, true, false, ◌&&◌, is_none, filter, codes}
 use Rattle.std.specs.List.{flat_map, list_any, range_with_len}
-use Rattle.std.specs.Fmt.{decimal}
 use Rattle.rules_model.specs.declared.board.Board.{Board}
 use Rattle.rules_model.specs.declared.board.Cell.{Cell}
 use Rattle.rules_model.specs.declared.board.Side.{Side}
 use Rattle.rules_model.specs.declared.board.Side.TheVariants.{White, Black}
 use Rattle.rules_model.specs.declared.board.Square.{Square}
 use Rattle.rules_model.specs.declared.rules.Term.{Term}
+use Rattle.rules_model.specs.MoveText.{square_text}
 use Rattle.rules_model.specs.Squares.{cell_at}
 use Rattle.rules_model.specs.Reach.{reaches}
 
@@ -44,13 +44,9 @@ is_taking_target cells terms from to = is_enemy (cell_at cells to) && reaches_to
 abbrev pub squares_where : (ℕ → Bool) → List ℕ
 squares_where test = filter test (range_with_len 0 120)
 
--- a square by the letter of its file and the number of its rank, from 1
-abbrev pub square_text : ℕ → List ℕ
-square_text s = (97 + s % 12) ∷ decimal (s / 12 + 1)
-
 -- a square after a blank
 abbrev pub blank_square : ℕ → List ℕ
-blank_square s = 32 ∷ square_text s
+blank_square s = 32 ∷ square_text (record { 0 = s })
 
 -- squares, each after a blank, and a dash for none
 abbrev pub listed : List ℕ → List ℕ

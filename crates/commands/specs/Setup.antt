@@ -12,7 +12,7 @@ use Rattle.words.specs.Command.{no_squares}
 abbrev pub square_named : List ℕ → Option Square
 square_named (file ∷ rank ∷ []) =
     if nat_le 97 file && nat_le file 104 && nat_le 49 rank
-        && nat_le rank 56 then Some (record { 0 = 12 * (rank - 49) + (file - 97) }) else None
+    && nat_le rank 56 then Some (record { 0 = 12 * (rank - 49) + (file - 97) }) else None
 square_named text = None
 
 -- why no piece is put where a text says

@@ -3,10 +3,10 @@ ghost use Rattle.std.specs.Prelude.{◌≡◌, ◌++◌, IfOk, OnOk};
 ghost use Rattle.std.specs.List.{flat_map};
 ghost use Rattle.commands.specs.ReachText.{is_enemy, reaches_quietly, reaches_to_take, is_quiet_target, is_taking_target, squares_where, blank_square, listed, reach_text};
 
-use crate::setup::{Cells, cell_at};
 use foundation::Text;
+use move_text::square_text;
 use rules_model::reach::reaches_plain;
-use rules_model::{Board, Cell, Side, Square, Term};
+use rules_model::{Board, Cell, Cells, Side, Square, Term, cell_at};
 use std::alloc::{AllocError, Global};
 
 /// The board of the command.
@@ -52,7 +52,8 @@ fn quiet_targets(
     ensures { IfOk result (λ squares. squares.items ≡ squares_where (is_quiet_target cells.now terms.now from)) }
 {
     (0..120)
-        .filter(|to| cell_at(cells, *to).is_none() && reaches_quietly(cells, terms, from, *to))
+        .filter(|to| cell_at(cells, Square(*to)).is_none()
+            && reaches_quietly(cells, terms, from, *to))
         .collect(alloc)
 }
 
@@ -66,37 +67,36 @@ fn taking_targets(
     ensures { IfOk result (λ squares. squares.items ≡ squares_where (is_taking_target cells.now terms.now from)) }
 {
     (0..120)
-        .filter(|to| is_enemy(cell_at(cells, *to)) && reaches_to_take(cells, terms, from, *to))
+        .filter(|to| is_enemy(cell_at(cells, Square(*to)))
+            && reaches_to_take(cells, terms, from, *to))
         .collect(alloc)
 }
 
 // Appends a square after a blank.
-fn push_square(alloc: Global, text: &mut Vec<u8>, square: u8) -> Result<(), AllocError>
+fn push_square(text: &mut Vec<u8>, square: u8) -> Result<(), AllocError>
     ensures { OnOk result (text.new.items ≡ text.old.items ++ blank_square square) }
 {
-    let rank = format!(in alloc; "{}", square / 12 + 1)?;
     text.push(b' ')?;
-    text.push(b'a' + square % 12)?;
-    text.extend_from_slice(rank.as_bytes())
+    text.extend_from_slice(square_text(Square(square)).items.as_slice())
 }
 
-fn push_each(alloc: Global, text: &mut Vec<u8>, squares: &[u8]) -> Result<(), AllocError>
+fn push_each(text: &mut Vec<u8>, squares: &[u8]) -> Result<(), AllocError>
     ensures { OnOk result (text.new.items ≡ text.old.items ++ flat_map blank_square squares.now) }
 {
     for square in squares {
-        push_square(alloc, text, *square)?;
+        push_square(text, *square)?;
     }
     Ok(())
 }
 
 // Appends the squares, or a dash where there are none.
-fn push_squares(alloc: Global, text: &mut Vec<u8>, squares: &[u8]) -> Result<(), AllocError>
+fn push_squares(text: &mut Vec<u8>, squares: &[u8]) -> Result<(), AllocError>
     ensures { OnOk result (text.new.items ≡ text.old.items ++ listed squares.now) }
 {
     if squares.is_empty() {
         text.extend_from_slice(b" -")
     } else {
-        push_each(alloc, text, squares)
+        push_each(text, squares)
     }
 }
 
@@ -113,13 +113,11 @@ pub fn reach_text(
     let mut text = Vec::new(alloc);
     text.extend_from_slice(b"quiet")?;
     push_squares(
-        alloc,
         &mut text,
         quiet_targets(alloc, cells, terms, from)?.as_slice(),
     )?;
     text.extend_from_slice(b"\ntake")?;
     push_squares(
-        alloc,
         &mut text,
         taking_targets(alloc, cells, terms, from)?.as_slice(),
     )?;

@@ -1,15 +1,11 @@
 //! How the words of `reach` set up a board of 8 by 8 squares.
 ghost use Rattle.std.specs.Prelude.{◌≡◌, ◌==◌, ◌<◌, Err, IfOk, IfSome, MatchResult, Ok};
 ghost use Rattle.std.specs.List.{slice_split};
-ghost use Rattle.rules_model.specs.Squares.{cell_at};
 ghost use Rattle.commands.specs.Setup.{square_named, piece_of, piece_on, placed, placed_all, texts_of, setup_of};
 ghost use Rattle.commands.specs.UnplacedView.{unplaced_of};
 
-use rules_model::{Cell, Kind, Side, Square};
+use rules_model::{Cell, Cells, Kind, Side, Square, cell_at};
 use std::fmt;
-
-/// What stands on each square.
-pub type Cells = [Option<Cell>; 120];
 
 /// A board with a piece to move.
 #[derive(Clone, Copy)]
@@ -79,14 +75,6 @@ fn piece_on(from: Square) -> Cells
     cells
 }
 
-/// What stands on a square.
-pub fn cell_at(cells: &Cells, at: u8) -> Option<Cell>
-    requires { at < 120 }
-    ensures { result ≡ cell_at cells.now at }
-{
-    cells[at as usize]
-}
-
 // Puts a piece of the side on the square that the text names.
 #[tactic(auto, unfolding(crate::specs::Setup::placed))]
 fn place<'a>(side: Side, text: &'a str, cells: &mut Cells) -> Result<(), ReachFault<'a>>
@@ -97,7 +85,7 @@ fn place<'a>(side: Side, text: &'a str, cells: &mut Cells) -> Result<(), ReachFa
     let Some(square) = square_named(text.as_bytes()) else {
         return Err(ReachFault::BadSquare(text));
     };
-    if cell_at(cells, square.0).is_some() {
+    if cell_at(cells, square).is_some() {
         return Err(ReachFault::SquareTwice(text));
     }
     cells[square.0 as usize] = Some(piece_of(side));

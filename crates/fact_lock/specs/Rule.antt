@@ -52,8 +52,14 @@ module _ {K E : Type 0} where
 
   -- k entries were added
   abbrev pub grown : View K E → List E → ℕ → View K E
-  grown v xs k = record { key = v.key; seen = xs; told = v.told; own = v.own ++ new_places (length v.seen) k;
-      parts = v.parts; stage = v.stage }
+  grown v xs k = record {
+    key = v.key;
+    seen = xs;
+    told = v.told;
+    own = v.own ++ new_places (length v.seen) k;
+    parts = v.parts;
+    stage = v.stage;
+  }
 
   abbrev pub kept_half : View K E → View K E
   kept_half v = record { key = v.key; seen = v.seen; told = v.told; own = v.own; parts = v.parts - 1; stage = v.stage }
@@ -62,13 +68,25 @@ module _ {K E : Type 0} where
   given_half v = record { key = v.key; seen = v.seen; told = []; own = []; parts = 1; stage = Rests }
 
   abbrev pub joined : View K E → View K E → View K E
-  joined v w = record { key = v.key; seen = v.seen; told = w.seen; own = v.own ++ w.own; parts = v.parts + w.parts;
-      stage = v.stage }
+  joined v w = record {
+    key = v.key;
+    seen = v.seen;
+    told = w.seen;
+    own = v.own ++ w.own;
+    parts = v.parts + w.parts;
+    stage = v.stage;
+  }
 
   -- it has seen what it was told of too
   abbrev pub settled_view : View K E → View K E
-  settled_view v = record { key = v.key; seen = longer v.seen v.told; told = []; own = v.own; parts = v.parts;
-      stage = v.stage }
+  settled_view v = record {
+    key = v.key;
+    seen = longer v.seen v.told;
+    told = [];
+    own = v.own;
+    parts = v.parts;
+    stage = v.stage;
+  }
 
   -- what holds of each seat, where `log` is the list
   pub record Fits (k : K) (log : List E) (serving : ℕ) (v : View K E) : Type 0 where

@@ -59,8 +59,13 @@ impl<V: Journal> Model for Pass<V> {
 
     ghost Value = { PassView V.Key V.Entry };
 
-    ghost view = { λ pass. record { lock = pass.seat.table_id; key = pass.seat.me.0.key; seen = pass.seat.me.0.seen;
-        own = pass.seat.me.0.own; parts = pass.seat.me.0.parts } };
+    ghost view = { λ pass. record {
+      lock = pass.seat.table_id;
+      key = pass.seat.me.0.key;
+      seen = pass.seat.me.0.seen;
+      own = pass.seat.me.0.own;
+      parts = pass.seat.me.0.parts;
+    } };
 
     ghost invariant = { λ pass. IsReady pass.seat.me };
 }

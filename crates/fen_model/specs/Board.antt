@@ -31,7 +31,7 @@ abbrev pub pawn_cell : Rules → Side → Kind → Option Kind → Option Cell
 pawn_cell rules side kind None = None
 pawn_cell rules side kind (Some pawn) =
     if rules.to_hand && has_kind rules kind
-        && masks rules.promotion_kinds kind then Some (cell_of side kind (Some pawn)) else None
+    && masks rules.promotion_kinds kind then Some (cell_of side kind (Some pawn)) else None
 
 -- the piece of a letter with its marks: no letter has both
 abbrev pub marked_cell : Rules → Bool → Side → Kind → Bool → Option Cell

@@ -18,7 +18,7 @@ abbrev pub square_on : ℕ → Option ℕ → Option Square
 square_on file None = None
 square_on file (Some rank) =
     if nat_le 97 file && nat_le file 108 && nat_le 1 rank
-        && nat_le rank 10 then Some (record { 0 = 12 * (rank - 1) + (file - 97) }) else None
+    && nat_le rank 10 then Some (record { 0 = 12 * (rank - 1) + (file - 97) }) else None
 
 -- the square that a text names: the letter of a file and the number of a rank
 abbrev pub square_named : List ℕ → Option Square
@@ -39,7 +39,7 @@ abbrev pub passed_at : Rules → List (Option Cell) → Side → Option Square �
 passed_at rules cells side None = Err EnPassant
 passed_at rules cells side (Some ep) =
     if is_passed rules cells side ep then Ok (if pawn_could_take rules cells side ep then Some ep else None)
-        else Err EnPassant
+    else Err EnPassant
 
 -- what the field says: `-` for none
 unfoldable pub passed_of : Rules → List (Option Cell) → Side → List ℕ → Result (Option Square) FenFault

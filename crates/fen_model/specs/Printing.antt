@@ -33,7 +33,7 @@ abbrev pub marked_text : Rules → Cell → Option Kind → List ℕ
 marked_text rules c None = kind_letter c.side c.kind ∷ []
 marked_text rules c (Some origin) =
     if names (promoted_of rules origin) c.kind then 43 ∷ kind_letter c.side origin ∷ []
-        else kind_letter c.side c.kind ∷ 126 ∷ []
+    else kind_letter c.side c.kind ∷ 126 ∷ []
 
 -- a piece's letter: `+` and the origin's letter where it is the origin's promoted kind, else `~` after its own for
 -- another origin
@@ -61,7 +61,7 @@ board_text rules cells = join_with_byte 47 (map (row_text rules 0) (rows_at rule
 unfoldable pub hand_text : List (List ℕ) → Side → List ℕ
 hand_text hands side =
     flat_map (λ kind. replicate (in_hand hands side (record { 0 = kind })) (kind_letter side (record { 0 = kind })))
-        (range_with_len 0 26)
+    (range_with_len 0 26)
 
 -- White's letters and then Black's, in brackets, in each variant with hands
 unfoldable pub pocket_text : Rules → List (List ℕ) → List ℕ
@@ -81,8 +81,8 @@ right_implies rules r side file wing = holds_right r.rights side wing && right_g
 -- the side holds the gate, and no right that it holds gives it
 abbrev pub prints_gate : Rules → Repeat → Side → ℕ → Bool
 prints_gate rules r side file =
-    has_gate r.gates side file && not
-        (right_implies rules r side file Kingside || right_implies rules r side file Queenside)
+    has_gate r.gates side file
+    && not (right_implies rules r side file Kingside || right_implies rules r side file Queenside)
 
 -- the byte is the letter of a right or of a gate that is printed: White's rights, Black's, White's gates, Black's
 unfoldable pub is_printed : Rules → Repeat → ℕ → Bool

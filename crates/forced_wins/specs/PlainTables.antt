@@ -13,5 +13,10 @@ pub record Node (P M : Type 0) : Type 0 where
 
 abbrev pub plain : {P M : Type 0} → Accessors P M (Node P M) (Edge M)
 plain =
-    record { position = λ v. v.position; rank = λ v. v.rank; edges = λ v. v.edges; chosen = λ e. e.chosen;
-    to = λ e. e.to }
+    record {
+      position = λ v. v.position;
+      rank = λ v. v.rank;
+      edges = λ v. v.edges;
+      chosen = λ e. e.chosen;
+      to = λ e. e.to;
+    }

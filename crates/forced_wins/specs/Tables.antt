@@ -49,7 +49,7 @@ unfoldable pub root_fits : {P R M N E : Type 0} → Game P R M → Accessors P M
 root_fits r tb s g n =
     leads (slice_get s 0) (λ v.
     r.same (r.repeat (tb.position v)) (r.repeat g.last)
-        && (nat_le (r.counter g.last) (r.counter (tb.position v)) && nat_le (tb.rank v) n))
+    && (nat_le (r.counter g.last) (r.counter (tb.position v)) && nat_le (tb.rank v) n))
 
 -- ---- wrong moves
 
@@ -130,7 +130,7 @@ abbrev pub is_earlier : {P R M N E : Type 0} → Game P R M → Accessors P M N 
 is_earlier r tb s i v =
     list_any (λ u.
     r.same (r.repeat (tb.position u)) (r.repeat (tb.position v))
-        && (r.counter (tb.position u) == r.counter (tb.position v))) (take i s)
+    && (r.counter (tb.position u) == r.counter (tb.position v))) (take i s)
 
 unfoldable pub repeats_at : {P R M N E : Type 0} → Game P R M → Accessors P M N E → List N → Story P → ℕ → N → Bool
 repeats_at r tb s g i v = is_earlier r tb s i v || (nat_lt 0 i && (is_root_again r tb s v || stands_often r tb s g v))

@@ -49,7 +49,7 @@ pub record IsPlayed (g : Played) : Type 0 where
 abbrev pub late_end : Rules → Position → Bool → Outcome
 late_end rules last repeated =
     if repeated then valued rules.n_fold_value last.side Repetition
-        else if is_run_out rules last.counter then Drawn MoveCount else Ongoing
+    else if is_run_out rules last.counter then Drawn MoveCount else Ongoing
 
 -- why a move was refused, exactly: each fault has its own case, and so has the move that is played
 abbrev pub IsAnswer : {A : Type 0} → Played → Move → Result A PlayFault → Type 0

@@ -54,7 +54,7 @@ lines_on_problem g lines =
 unfoldable pub lines_of_problem : List Named → List Line → ℕ
 lines_of_problem variants lines =
     lines_of_game variants (take 2 lines) + unless_faulty (game_of variants (take 2 lines))
-        (λ g. lines_on_problem g (drop 2 lines))
+    (λ g. lines_on_problem g (drop 2 lines))
 
 -- ---- after line 1, which is this text
 

@@ -30,7 +30,7 @@ pub enum UciWord {
 pub fn find_command(line: &[u8]) -> Option<(UciWord, Option<&[u8]>)>
     ensures { MatchOption result (first_command (slice_split is_blank line.now) ≡ None)
         (λ found. first_command (slice_split is_blank line.now)
-            ≡ Some (found.0, parts_after is_blank (option_copied found.1))) }
+        ≡ Some (found.0, parts_after is_blank (option_copied found.1))) }
 {
     let mut left = Some(line);
     while let Some(text) = left {

@@ -13,4 +13,4 @@ chosen_by choice m = is_chosen choice.safety.tables.now (repeat_of choice.safety
 abbrev pub suits : Choice → Move → Bool
 suits choice m =
     is_wanted choice.safety.tables.now (repeat_of choice.safety.p.now) choice.captures m
-        && is_sane choice.safety.tables.now (repeat_of choice.safety.p.now) m
+    && is_sane choice.safety.tables.now (repeat_of choice.safety.p.now) m

@@ -19,7 +19,7 @@ any_both : {X : Type 0} (p : X → Bool) (b : Bool) (xs ys : List X) → list_an
 any_both p b [] ys e f = f
 any_both p b (x ∷ xs) ys e f =
     elim (p x) as (λ c. (c || list_any p xs) ≡ false → (c || list_any p (xs ++ ys)) ≡ b)
-        [ true ↦ λ g. cc | false ↦ λ g. any_both p b xs ys g f ] e
+    [ true ↦ λ g. cc | false ↦ λ g. any_both p b xs ys g f ] e
 
 any_on : {S : Type 0} (test : S → Move → Bool) (b : Bool) (s t u : S) (xs ys : List Move) → NonePassed test s xs t
     → (u ≡ t) × (list_any (test t) ys ≡ b) → (u ≡ s) × (list_any (test s) (xs ++ ys) ≡ b)
@@ -48,7 +48,7 @@ filter_both : {X : Type 0} (p : X → Bool) (xs ys : List X)
 filter_both p [] ys = omega arith
 filter_both p (x ∷ xs) ys =
     elim (p x) as (λ b. length (cond b (x ∷ filter p (xs ++ ys)) (filter p (xs ++ ys)))
-        ≡ length (cond b (x ∷ filter p xs) (filter p xs)) + length (filter p ys)) [
+    ≡ length (cond b (x ∷ filter p xs) (filter p xs)) + length (filter p ys)) [
       | true ↦ omega (arith, filter_both p xs ys)
       | false ↦ filter_both p xs ys
     ]
@@ -65,10 +65,10 @@ counter_is_sink key count test top = record {
     λ l.
         let first = e.1 l in
         let second : count u ≡ min (count t + length (filter (test (key s)) ys)) top
-            = subst (λ k. count u ≡ min (count t + length (filter (test k) ys)) top) e.0 (f.1 (omega (arith, first))) in
+        = subst (λ k. count u ≡ min (count t + length (filter (test k) ys)) top) e.0 (f.1 (omega (arith, first))) in
         rw (filter_both (test (key s)) xs ys)
-            (raised (count s) (count t) (count u) (length (filter (test (key s)) xs))
-            (length (filter (test (key s)) ys)) top first second),
+        (raised (count s) (count t) (count u) (length (filter (test (key s)) xs))
+        (length (filter (test (key s)) ys)) top first second),
   );
   full = λ s t u xs ys e f. f;
 }

@@ -8,5 +8,11 @@ claim_of f = record { attacker = f.attacker; moves = f.moves; counter = f.counte
 
 abbrev pub fact_with : Repeat → Claim → Fact
 fact_with repeat c =
-    record { repeat = repeat; attacker = c.attacker; moves = c.moves; counter = c.counter; best = c.best;
-        wins = c.wins }
+    record {
+      repeat = repeat;
+      attacker = c.attacker;
+      moves = c.moves;
+      counter = c.counter;
+      best = c.best;
+      wins = c.wins;
+    }

@@ -33,9 +33,11 @@ told s worker (Some f) = record s { known = s.known ++ (record { worker = worker
 
 abbrev pub publish_at : Store → ℕ → ℕ → Fact → Option (List Fact) → Store × Reply
 publish_at s worker shard f None = (s, Nothing)
-publish_at s worker shard f (Some fs) =
-    (told (record s { shards = slice_set s.shards shard (grown s.capacity fs f) }) worker
-        (Some f), published s.capacity fs f)
+publish_at s worker shard f (Some fs) = (
+  told (record s { shards = slice_set s.shards shard (grown s.capacity fs f) }) worker
+      (Some f),
+  published s.capacity fs f,
+)
 
 abbrev pub look_at : Store → ℕ → Repeat → ℕ → ℕ → Option (List Fact) → Store × Reply
 look_at s worker repeat counter moves None = (s, Nothing)

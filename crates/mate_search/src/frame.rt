@@ -1,56 +1,11 @@
-//! The frame of a game, and copies of rules and frames.
+//! The frame of a game, and copies of frames.
 ghost use Rattle.std.specs.Prelude.{◌≡◌, IfOk};
 ghost use Rattle.mate_search.specs.Solves.{IsFrameFor};
 
-use arrayvec::ArrayVec;
 use game_play::Game;
 use mate_core::Frame;
-use rules_model::{Blocked, KindRule, Memory, Rules, Side, Terms};
+use rules_model::{Blocked, Memory, Side, copy_of_rules};
 use std::alloc::Global;
-
-fn terms_of(terms: &Terms) -> Terms
-    ensures { result ≡ terms.now }
-{
-    let mut items = ArrayVec::new();
-    for term in terms.items.as_slice() {
-        items.push(*term);
-    }
-    Terms { items }
-}
-
-fn rule_of(rule: &Option<KindRule>) -> Option<KindRule>
-    ensures { result ≡ rule.now }
-{
-    match rule {
-        None => None,
-        Some(rule) => Some(KindRule {
-            terms: terms_of(&rule.terms),
-            mobility: rule.mobility,
-            pawn: rule.pawn,
-            promoted: rule.promoted,
-        }),
-    }
-}
-
-fn kinds_of(kinds: &[Option<KindRule>; 26]) -> [Option<KindRule>; 26]
-    ensures { result ≡ kinds.now }
-{
-    let mut copy: [Option<KindRule>; 26] = Default::default();
-    for k in 0..26 {
-        copy[k] = rule_of(&kinds[k]);
-    }
-    copy
-}
-
-/// The same rules.
-pub fn copy_of(rules: &Rules) -> Rules
-    ensures { result ≡ rules.now }
-{
-    Rules {
-        kinds: kinds_of(&rules.kinds),
-        ..*rules
-    }
-}
 
 fn blocked_of(alloc: Global, blocked: &Blocked) -> Result<Blocked, Memory>
     ensures { IfOk result (λ copy. copy ≡ blocked.now) }
@@ -69,7 +24,7 @@ pub fn copy_of_frame(alloc: Global, frame: &Frame) -> Result<Frame, Memory>
 {
     let blocked = blocked_of(alloc, &frame.blocked)?;
     Ok(Frame {
-        rules: copy_of(&frame.rules),
+        rules: copy_of_rules(&frame.rules),
         blocked,
         attacker: frame.attacker,
     })
@@ -80,7 +35,7 @@ pub fn frame_of(alloc: Global, game: &Game, attacker: Side) -> Result<Frame, Mem
     ensures { IfOk result (IsFrameFor game.now attacker) }
 {
     Ok(Frame {
-        rules: copy_of(game.rules()),
+        rules: copy_of_rules(game.rules()),
         blocked: game.blocked(alloc)?,
         attacker,
     })

@@ -20,6 +20,6 @@ mod whole;
 
 pub use answer::Mate;
 pub use counting::is_counted;
-pub use frame::{copy_of, copy_of_frame, frame_of};
+pub use frame::{copy_of_frame, frame_of};
 pub use mate_showing::{Settled, solve_watched};
 pub use whole::{settle, solve};

@@ -18,4 +18,4 @@ Says-prop rules barred a f false = Π_prop (λ q. Π_prop (λ same. Π_prop (λ 
 pub AreTrueIn-prop : (frame : Frame) (fs : List Fact) → IsProp (AreTrueIn frame fs)
 AreTrueIn-prop frame fs =
     Π_prop (λ k. Π_prop (λ d. Π_prop
-        (λ l. Says-prop frame.rules frame.blocked frame.attacker (slice_index_or fs k d) (slice_index_or fs k d).wins)))
+    (λ l. Says-prop frame.rules frame.blocked frame.attacker (slice_index_or fs k d) (slice_index_or fs k d).wins)))

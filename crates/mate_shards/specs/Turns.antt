@@ -36,7 +36,7 @@ home_of s repeat = shard_of repeat (length s.locks)
 abbrev pub IsStep : ShardsView → ℕ → List Fact → (ℕ → Event) → Reply → List Fact → Type 0
 IsStep s shard list event answer after =
     (worker : ℕ) (store : Store) → store.capacity ≡ s.capacity → slice_get store.shards shard ≡ Some list
-        → ((step store (event worker)).1 ≡ answer) × (slice_get (step store (event worker)).0.shards shard ≡ Some after)
+    → ((step store (event worker)).1 ≡ answer) × (slice_get (step store (event worker)).0.shards shard ≡ Some after)
 
 -- The pass of one shard had its turn, and no other changed. `list` is the whole list of the shard when the turn came,
 -- which begins with all that the pass had seen; `new` is an entry that was added.

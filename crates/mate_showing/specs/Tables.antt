@@ -20,8 +20,13 @@ use Rattle.mate_showing.specs.Reached.{IsReached, OnLine}
 -- how the nodes and edges of a strategy are read
 abbrev pub nodes : Accessors Position Move Node Edge
 nodes =
-    record { position = λ v. v.position; rank = λ v. v.rank; edges = λ v. v.edges; chosen = λ e. e.chosen;
-    to = λ e. e.to }
+    record {
+      position = λ v. v.position;
+      rank = λ v. v.rank;
+      edges = λ v. v.edges;
+      chosen = λ e. e.chosen;
+      to = λ e. e.to;
+    }
 
 -- the node is the one for the position: its repeat, and near the limit its counter, are the position's
 abbrev pub is_key : Bool → Position → Node → Bool

@@ -45,7 +45,7 @@ is_castle_to rules r from to rook wing =
 unfoldable pub is_meant_castle : Rules → Repeat → Square → Square → Square → Option Placed → Bool
 is_meant_castle rules r from to rook gate =
     (is_castle_to rules r from to rook Kingside || is_castle_to rules r from to rook Queenside)
-        && gates_on_start from rook gate
+    && gates_on_start from rook gate
 
 -- a castle that texts mean has this text
 pub record IsCastleText (rules : Rules) (r : Repeat) (text : List ℕ) (from to rook : Square)

@@ -69,7 +69,7 @@ abbrev pub piece_ending : Rules → Kind → List ℕ → Option Ending
 piece_ending rules kind [] = gate_ending Stays []
 piece_ending rules kind (b ∷ rest) =
     if b == 43 then (if is_some (promoted_of rules kind) then gate_ending Plus rest else None)
-        else gate_ending Stays (b ∷ rest)
+    else gate_ending Stays (b ∷ rest)
 
 abbrev pub kind_ending : Rules → Kind → List ℕ → Option Ending
 kind_ending rules kind text = if is_pawn rules kind then pawn_ending text else piece_ending rules kind text

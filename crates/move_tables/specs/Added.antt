@@ -19,10 +19,10 @@ Adds old new test =
 abbrev pub along_ray : Ray → ℕ → Passage → Set → ℕ → Bool
 along_ray ray limit passage occupied t =
     on_ray ray limit t && lets_pass passage (rises ray.dx ray.dy) (on_ray ray limit)
-        (λ u. on_ray ray limit u && has occupied u) t
+    (λ u. on_ray ray limit u && has occupied u) t
 
 -- it reaches on each board what passes there
 abbrev pub AddsThere : Spot → Spot → (List (Option Cell) → ℕ → Bool) → Type 0
 AddsThere old new test =
     (occupied : Set) (cells : List (Option Cell)) → IsOccupied occupied cells → (t : ℕ) → t < 128
-        → by_parts new occupied t ≡ (by_parts old occupied t || test cells t)
+    → by_parts new occupied t ≡ (by_parts old occupied t || test cells t)

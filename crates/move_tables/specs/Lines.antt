@@ -42,7 +42,7 @@ by_jump jump occupied t = not (any_below (in_both jump.over occupied) 128) && ha
 abbrev pub by_parts : Spot → Set → ℕ → Bool
 by_parts spot occupied t =
     has spot.leaps t || list_any (λ line. on_line line occupied t) spot.lines.items
-        || list_any (λ jump. by_jump jump occupied t) spot.jumps.items
+    || list_any (λ jump. by_jump jump occupied t) spot.jumps.items
 
 -- by these, within the squares of the spot
 abbrev pub by_spot : Spot → Set → ℕ → Bool

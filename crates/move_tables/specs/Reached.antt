@@ -31,7 +31,7 @@ pawn_reaches board side from Take to = is_diagonal board side from to
 abbrev pub reaches_as : Rules → List (Option Cell) → Side → Kind → Square → Mode → ℕ → Bool
 reaches_as rules cells side kind from mode to =
     if is_pawn rules kind then pawn_reaches (board_of rules) side from mode to
-        else kind_reaches rules cells side kind (serves mode) from to
+    else kind_reaches rules cells side kind (serves mode) from to
 
 abbrev pub piece_reaches : Rules → List (Option Cell) → Square → Mode → ℕ → Option Cell → Bool
 piece_reaches rules cells from mode to None = false

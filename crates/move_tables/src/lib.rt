@@ -3,7 +3,6 @@
 
 mod add;
 mod build;
-mod copy;
 pub mod jump;
 pub mod line;
 mod make;

@@ -9,11 +9,10 @@ ghost use Rattle.move_tables.specs.Reached.{AreReached};
 ghost use Rattle.move_tables.specs.Spots as Spots;
 
 use crate::build::spots_of;
-use crate::copy::copy_of;
 use crate::mode::Mode;
 use crate::spot::Spot;
 use foundation::Memory;
-use rules_model::{Kind, Rules, Side, Square};
+use rules_model::{Kind, Rules, Side, Square, copy_of_rules};
 use square_set::Set;
 use std::alloc::Global;
 use std::marker::Model;
@@ -65,7 +64,7 @@ impl MoveTables {
         ensures { IfOk result (λ t. t ≡ rules.now) }
     {
         let spots = spots_of(alloc, rules)?;
-        let rules = Box::new(alloc, copy_of(rules))?;
+        let rules = Box::new(alloc, copy_of_rules(rules))?;
         Ok(MoveTables { rules, spots })
     }
 

@@ -5,4 +5,4 @@ pub mod order;
 pub mod text;
 
 pub use order::{keys_are_in_the_order_of_texts, move_key};
-pub use text::{MoveText, write_move};
+pub use text::{MoveText, lower, square_text, upper, write_move};

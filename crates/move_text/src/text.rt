@@ -20,13 +20,15 @@ impl Model for MoveText {
     ghost view = { λ t. t.items.items };
 }
 
-fn lower(kind: Kind) -> u8
+/// The small letter of a kind.
+pub fn lower(kind: Kind) -> u8
     ensures { result ≡ Text.lower kind }
 {
     b'a' + kind.0 % 26
 }
 
-fn upper(kind: Kind) -> u8
+/// The capital letter of a kind.
+pub fn upper(kind: Kind) -> u8
     ensures { result ≡ Text.upper kind }
 {
     b'A' + kind.0 % 26
@@ -45,6 +47,17 @@ fn push_square(text: &mut MoveText, square: Square)
         text.items.push(b'0' + rank / 10);
         text.items.push(b'0' + rank % 10);
     }
+}
+
+/// The text of a square: the letter of its file and the number of its rank.
+pub fn square_text(square: Square) -> MoveText
+    ensures { result ≡ Text.square_text square }
+{
+    let mut text = MoveText {
+        items: ArrayVec::new(),
+    };
+    push_square(&mut text, square);
+    text
 }
 
 fn push_promo(text: &mut MoveText, promo: Promo)

@@ -51,7 +51,7 @@ without_pawn rules side passing to cells = if passing then emptied cells (behind
 abbrev pub cells_by : Rules → Side → Bool → Move → List (Option Cell) → List (Option Cell)
 cells_by rules side passing (Go from to promo gate) cells =
     slice_set (slice_set (without_pawn rules side passing to cells) from.0 (gated side gate)) to.0
-        (promote rules (cell_at cells from.0) promo)
+    (promote rules (cell_at cells from.0) promo)
 cells_by rules side passing (Castle from to rook gate) cells = placed_on side gate (castled cells from to rook)
 cells_by rules side passing (Drop kind to) cells = slice_set cells to.0 (Some (fresh side kind))
 
@@ -70,14 +70,14 @@ abbrev pub standing : Rules → Side → Move → Option ℕ → Option ℕ
 standing rules side m None = None
 standing rules side m (Some file) =
     if not (leaves m (castling_square rules side file))
-        && not (enters m (castling_square rules side file)) then Some file else None
+    && not (enters m (castling_square rules side file)) then Some file else None
 
 -- the file of the rook with which the side may still castle: neither it nor the king moves
 abbrev pub rook_left : Rules → Repeat → Move → Side → Wing → Option ℕ
 rook_left rules r m side wing =
     if holds_right r.rights side wing
-        && not (leaves m (castling_square rules side rules.castle_king))
-        then standing rules side m (rook_file rules r.cells side wing) else None
+    && not (leaves m (castling_square rules side rules.castle_king))
+    then standing rules side m (rook_file rules r.cells side wing) else None
 
 abbrev pub rooks_left : Rules → Repeat → Move → Side → Rooks
 rooks_left rules r m side =
@@ -92,7 +92,7 @@ is_outermost (Some file) later = is_at file later
 abbrev pub rights_by : Rules → List (Option Cell) → Side → Rooks → List Bool
 rights_by rules later side rooks =
     is_outermost rooks.kingside (rook_file rules later side Kingside)
-        ∷ is_outermost rooks.queenside (rook_file rules later side Queenside) ∷ []
+    ∷ is_outermost rooks.queenside (rook_file rules later side Queenside) ∷ []
 
 -- the square is of the rank that begins with the square 'first'
 abbrev pub is_on_rank : ℕ → ℕ → Bool
@@ -118,7 +118,7 @@ holds_any_right rights side = holds_right rights side Kingside || holds_right ri
 abbrev pub rights_left : Rules → Repeat → Bool → Move → Side → RightsLeft
 rights_left rules r passing m side =
     if not (holds_any_right r.rights side)
-        || is_apart rules side passing m then All else OfRooks (rooks_left rules r m side)
+    || is_apart rules side passing m then All else OfRooks (rooks_left rules r m side)
 
 -- the rights that the side holds
 abbrev pub held : List (List Bool) → Side → List Bool
@@ -134,7 +134,7 @@ rights_kept rules later rights side (OfRooks rooks) = rights_by rules later side
 abbrev pub gates_by : Rules → Move → List ℕ → List ℕ
 gates_by rules m gates =
     side_gates_after rules White m (slice_index gates (side_index White))
-        ∷ side_gates_after rules Black m (slice_index gates (side_index Black)) ∷ []
+    ∷ side_gates_after rules Black m (slice_index gates (side_index Black)) ∷ []
 
 -- ---- the en passant square and the checks left
 

@@ -47,7 +47,7 @@ IsMoveToSome rules r from (Some to) m = IsMoveTo rules r from (record { 0 = to }
 abbrev pub may_step_twice : Rules → Repeat → Square → Bool
 may_step_twice rules r from =
     rules.double_step && in_region rules.double_region r.side from.0
-        && is_free r.cells (ahead (board_of rules) r.side from 1)
+    && is_free r.cells (ahead (board_of rules) r.side from 1)
 
 -- the square diagonally one step forward, as the side sees it
 abbrev pub diagonal : Rules → Repeat → Flank → Square → Option ℕ

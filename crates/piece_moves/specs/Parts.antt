@@ -14,7 +14,7 @@ use Rattle.rules_model.specs.Squares.{cell_at}
 abbrev pub IsMoveFrom : Rules → Repeat → Square → Option Kind → Move → Type 0
 IsMoveFrom rules r from gate (Go f to promo g) =
     (f ≡ from) × (g ≡ gate) × (to.0 < 120) × IsFitPromo promo
-        × (own_piece_moves rules r from to promo (cell_at r.cells from.0) ≡ true)
+    × (own_piece_moves rules r from to promo (cell_at r.cells from.0) ≡ true)
 IsMoveFrom rules r from gate (Castle f to rook g) = ⊥
 IsMoveFrom rules r from gate (Drop kind to) = ⊥
 

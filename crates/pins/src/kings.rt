@@ -41,7 +41,7 @@ fn guards_from_kind(
 }
 
 /// The squares that guard the king from the piece on a square.
-fn guards_from(
+pub fn guards_from(
     tables: &Tables,
     cells: &Cells,
     occupied: Set,

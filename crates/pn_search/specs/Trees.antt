@@ -111,7 +111,7 @@ abbrev pub expanded_at : Frame → List Node → Spot → Option Node → List N
 expanded_at f nodes s None = nodes
 expanded_at f nodes s (Some v) =
     expanded_with nodes s.place v (state_by (end_at f s.place s.position) v.attacking v.left)
-        (children_of f s.place v s.position)
+    (children_of f s.place v s.position)
 
 -- the nodes after the one at the spot was expanded
 unfoldable pub nodes_after : Frame → List Node → Spot → List Node

@@ -13,8 +13,15 @@ rest_of r = record { hands = r.hands; gates = r.gates; rights = r.rights; checks
 -- a repeat from its board and the rest
 abbrev pub repeat_with : List (Option Cell) → Rest → Repeat
 repeat_with cells rest =
-    record { cells = cells; hands = rest.hands; gates = rest.gates; rights = rest.rights; checks = rest.checks;
-        ep = rest.ep; side = rest.side }
+    record {
+      cells = cells;
+      hands = rest.hands;
+      gates = rest.gates;
+      rights = rest.rights;
+      checks = rest.checks;
+      ep = rest.ep;
+      side = rest.side;
+    }
 
 -- the words hold the board, and the hash is the repeat's key
 pub record IsPacked (hash : ℕ) (words : List ℕ) (cells : List (Option Cell)) (rest : Rest) : Type 0 where

@@ -49,7 +49,7 @@ is_own_pawn rules side c = is_own side (is_pawn rules) c
 abbrev pub attacks_as : Rules → List (Option Cell) → Side → Kind → Square → ℕ → Bool
 attacks_as rules cells side kind from to =
     if is_pawn rules kind then is_diagonal (board_of rules) side from to
-        else kind_reaches rules cells side kind (λ t. t.takes) from to
+    else kind_reaches rules cells side kind (λ t. t.takes) from to
 
 abbrev pub attacks_by : Rules → List (Option Cell) → Side → ℕ → Square → Option Cell → Bool
 attacks_by rules cells by to from None = false
@@ -69,7 +69,7 @@ stands_between cells a b s = (s % 12 == a % 12) && nat_lt (min a b) s && nat_lt 
 unfoldable pub king_faces : Rules → List (Option Cell) → Side → ℕ → ℕ → Bool
 king_faces rules cells by to from =
     is_own_king rules by (cell_at cells from) && (from % 12 == to % 12)
-        && not (any_below (stands_between cells from to) 120)
+    && not (any_below (stands_between cells from to) 120)
 
 -- where kings fly: the square holds the other side's king, and the side's own king faces it along an open file
 unfoldable pub flies_to : Rules → List (Option Cell) → Side → ℕ → Bool
@@ -99,4 +99,4 @@ pawn_at rules cells side (Some s) = is_own_pawn rules side (cell_at cells s)
 unfoldable pub pawn_could_take : Rules → List (Option Cell) → Side → Square → Bool
 pawn_could_take rules cells side s =
     pawn_at rules cells side (right_ahead (board_of rules) (other side) s)
-        || pawn_at rules cells side (left_ahead (board_of rules) (other side) s)
+    || pawn_at rules cells side (left_ahead (board_of rules) (other side) s)

@@ -95,13 +95,13 @@ highest castle = max (max castle.king.0 castle.king_to.0) (max castle.rook.0 cas
 unfoldable pub in_the_way : List (Option Cell) → CastleSquares → ℕ → Bool
 in_the_way cells castle s =
     nat_le (lowest castle) s && nat_le s (highest castle) && not (s == castle.king.0) && not (s == castle.rook.0)
-        && is_some (cell_at cells s)
+    && is_some (cell_at cells s)
 
 -- the other side attacks the square, from the king's start to its target
 unfoldable pub king_passes_attack : Rules → List (Option Cell) → Side → CastleSquares → ℕ → Bool
 king_passes_attack rules cells side castle s =
     nat_le (min castle.king.0 castle.king_to.0) s && nat_le s (max castle.king.0 castle.king_to.0)
-        && attacks rules cells (other side) s
+    && attacks rules cells (other side) s
 
 -- the way is clear, and the king's is not attacked
 unfoldable pub way_is_open : Rules → List (Option Cell) → Side → CastleSquares → Bool
@@ -119,7 +119,7 @@ abbrev pub castles_as : Rules → Repeat → Square → Square → Square → Op
 castles_as rules r from to rook None = false
 castles_as rules r from to rook (Some castle) =
     is_own_king rules r.side (cell_at r.cells castle.king.0) && is_castle castle from to rook
-        && way_is_open rules r.cells r.side castle
+    && way_is_open rules r.cells r.side castle
 
 -- the king castles to the wing, whose right the side holds
 abbrev pub castles_on : Rules → Repeat → Square → Square → Square → Wing → Bool

@@ -81,20 +81,20 @@ dies_out rules tested opponent = nat_le tested rules.extinct_most && nat_le rule
 unfoldable pub kind_dies_out : Rules → Repeat → Side → ℕ → Bool
 kind_dies_out rules r side kind =
     masks rules.extinct_kinds (record { 0 = kind })
-        && dies_out rules (pieces_of_kind r side (record { 0 = kind }))
-        (pieces_of_kind r (other side) (record { 0 = kind }))
+    && dies_out rules (pieces_of_kind r side (record { 0 = kind }))
+    (pieces_of_kind r (other side) (record { 0 = kind }))
 
 -- for one listed kind, or for all kinds together
 unfoldable pub is_extinct : Rules → Repeat → Side → Bool
 is_extinct rules r side =
     if rules.extinct_all then dies_out rules (pieces_of r side) (pieces_of r (other side))
-        else any_below (kind_dies_out rules r side) 26
+    else any_below (kind_dies_out rules r side) 26
 
 abbrev pub extinction_by : Rules → Repeat → Option Value → Outcome
 extinction_by rules r None = Ongoing
 extinction_by rules r (Some value) =
     if is_extinct rules r (other r.side) then valued value (other r.side) Extinction
-        else if is_extinct rules r r.side then valued value r.side Extinction else Ongoing
+    else if is_extinct rules r r.side then valued value r.side Extinction else Ongoing
 
 -- an end by the position itself
 unfoldable pub early_end : Rules → Repeat → Outcome

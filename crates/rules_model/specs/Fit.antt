@@ -61,7 +61,7 @@ abbrev pub fits_rule : Rules → Kind → Option KindRule → Bool
 fits_rule rules kind None = true
 fits_rule rules kind (Some rule) =
     same_bool rule.pawn (is_pawn rules kind) && (not rule.pawn || fits_pawn rules kind rule)
-        && list_all fits_term rule.terms
+    && list_all fits_term rule.terms
     && list_all (region_fits rules) rule.mobility && is_there rules rule.promoted
 
 -- the kind's rule fits: it has the mark of the pawn exactly where it is the one that is named

@@ -106,4 +106,4 @@ unfoldable pub result : Rules → Story → Outcome
 result rules story =
     or_end (own_end rules (repeat_of story.last))
     (if is_repeated rules story then valued rules.n_fold_value story.last.side Repetition
-        else if is_run_out rules story.last.counter then Drawn MoveCount else Ongoing)
+    else if is_run_out rules story.last.counter then Drawn MoveCount else Ongoing)

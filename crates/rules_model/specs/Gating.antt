@@ -14,7 +14,7 @@ use Rattle.rules_model.specs.Castling.{rook_target}
 abbrev pub gates_from : Rules → Repeat → Square → Kind → Bool
 gates_from rules r from kind =
     rules.gate_hand && on_first_rank rules r.side from.0 && has_gate r.gates r.side (from.0 % 12)
-        && holds r.hands r.side kind
+    && holds r.hands r.side kind
 
 -- a castle places nothing, or a hand piece on the king's or the rook's start where that is empty after the castle
 abbrev pub castle_gates : Rules → Repeat → Square → Square → Square → Option Placed → Bool

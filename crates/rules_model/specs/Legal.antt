@@ -102,7 +102,7 @@ roams_to rules side kind from to = kind_reaches rules empty_board side kind (λ 
 unfoldable pub is_mobile : Rules → Side → Kind → Square → Bool
 is_mobile rules side kind from =
     if is_pawn rules kind then is_some (ahead (board_of rules) side from 1)
-        else any_below (roams_to rules side kind from) 120
+    else any_below (roams_to rules side kind from) 120
 
 abbrev pub mobile_at : Rules → Side → Square → Option Cell → Bool
 mobile_at rules side s None = true
@@ -142,4 +142,4 @@ is_stuck rules r = is_nil (legal rules r)
 unfoldable pub own_end : Rules → Repeat → Outcome
 own_end rules r =
     or_end (early_end rules r) (if is_stuck rules r then no_move rules r.side (king_attacked rules r.cells r.side)
-        else Ongoing)
+    else Ongoing)

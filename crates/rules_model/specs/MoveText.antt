@@ -41,7 +41,7 @@ abbrev pub castle_text : Square → Square → Square → Option Placed → List
 castle_text from to rook None = square_text from ++ square_text to
 castle_text from to rook (Some placed) =
     if placed.at.0 == rook.0 then square_text rook ++ square_text from ++ (lower placed.kind ∷ [])
-        else (square_text from ++ square_text to ++ (lower placed.kind ∷ []))
+    else (square_text from ++ square_text to ++ (lower placed.kind ∷ []))
 
 -- the text of a move
 unfoldable pub text_of : Move → List ℕ

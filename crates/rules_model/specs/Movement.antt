@@ -42,4 +42,4 @@ takes_by rules cells side from to t = reaches_by rules cells side (λ t. t.takes
 unfoldable pub kind_reaches : Rules → List (Option Cell) → Side → Kind → (Term → Bool) → Square → ℕ → Bool
 kind_reaches rules cells side kind test from to =
     in_mobility rules side kind to
-        && list_any (reaches_by rules cells side test from to) (terms_from rules side kind from)
+    && list_any (reaches_by rules cells side test from to) (terms_from rules side kind from)

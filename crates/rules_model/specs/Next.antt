@@ -72,12 +72,12 @@ placed_on side (Some placed) cells = slice_set cells placed.at.0 (Some (fresh si
 abbrev pub castled : List (Option Cell) → Square → Square → Square → List (Option Cell)
 castled cells from to rook =
     slice_set (slice_set (slice_set (slice_set cells from.0 None) rook.0 None) to.0 (cell_at cells from.0))
-        (rook_target from to rook) (cell_at cells rook.0)
+    (rook_target from to rook) (cell_at cells rook.0)
 
 unfoldable pub cells_after : Rules → Repeat → Move → List (Option Cell)
 cells_after rules r (Go from to promo gate) =
     slice_set (slice_set (without_passed rules r from to) from.0 (gated r.side gate)) to.0
-        (promote rules (cell_at r.cells from.0) promo)
+    (promote rules (cell_at r.cells from.0) promo)
 cells_after rules r (Castle from to rook gate) = placed_on r.side gate (castled r.cells from to rook)
 cells_after rules r (Drop kind to) = slice_set r.cells to.0 (Some (fresh r.side kind))
 
@@ -134,7 +134,7 @@ abbrev pub rook_stays : Rules → Side → Move → Option ℕ → Option ℕ �
 rook_stays rules side m None later = false
 rook_stays rules side m (Some file) later =
     not (leaves m (castling_square rules side file)) && not (enters m (castling_square rules side file))
-        && is_at file later
+    && is_at file later
 
 -- a castling right is kept where the king did not leave its square and the rook stands still
 unfoldable pub keeps_right : Rules → Repeat → Move → List (Option Cell) → Side → Wing → Bool
@@ -154,13 +154,13 @@ side_gates_after rules side (Go from to promo gate) gates =
     closed_at rules side to.0 (closed_at rules side from.0 gates)
 side_gates_after rules side (Castle from to rook gate) gates =
     closed_at rules side (rook_target from to rook)
-        (closed_at rules side to.0 (closed_at rules side rook.0 (closed_at rules side from.0 gates)))
+    (closed_at rules side to.0 (closed_at rules side rook.0 (closed_at rules side from.0 gates)))
 side_gates_after rules side (Drop kind to) gates = closed_at rules side to.0 gates
 
 unfoldable pub gates_after : Rules → Repeat → Move → List ℕ
 gates_after rules r m =
     side_gates_after rules White m (slice_index r.gates (side_index White))
-        ∷ side_gates_after rules Black m (slice_index r.gates (side_index Black)) ∷ []
+    ∷ side_gates_after rules Black m (slice_index r.gates (side_index Black)) ∷ []
 
 -- ---- the en passant square and the checks left
 
@@ -177,12 +177,12 @@ ep_where rules side later (Some passed) = if pawn_could_take rules later (other 
 abbrev pub is_double_step : Rules → Repeat → Square → Square → Promo → Bool
 is_double_step rules r from to promo =
     is_own_pawn rules r.side (cell_at r.cells from.0) && is_stays promo
-        && is_at to.0 (ahead (board_of rules) r.side from 2)
+    && is_at to.0 (ahead (board_of rules) r.side from 2)
 
 unfoldable pub ep_after : Rules → Repeat → Move → List (Option Cell) → Option Square
 ep_after rules r (Go from to promo gate) later =
     if is_double_step rules r from to promo
-        then ep_where rules r.side later (square_at (ahead (board_of rules) r.side from 1)) else None
+    then ep_where rules r.side later (square_at (ahead (board_of rules) r.side from 1)) else None
 ep_after rules r (Castle from to rook gate) later = None
 ep_after rules r (Drop kind to) later = None
 
@@ -190,7 +190,7 @@ ep_after rules r (Drop kind to) later = None
 unfoldable pub checks_after : Rules → Repeat → List (Option Cell) → List ℕ
 checks_after rules r later =
     if rules.check_counting && king_attacked rules later (other r.side)
-        then slice_set r.checks (side_index r.side) (slice_index r.checks (side_index r.side) - 1) else r.checks
+    then slice_set r.checks (side_index r.side) (slice_index r.checks (side_index r.side) - 1) else r.checks
 
 -- ---- the position
 

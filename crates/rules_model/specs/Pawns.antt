@@ -29,7 +29,7 @@ is_enemy side (Some c) = not (same_side c.side side)
 abbrev pub steps_twice : Rules → Repeat → Square → ℕ → Bool
 steps_twice rules r from to =
     rules.double_step && in_region rules.double_region r.side from.0
-        && is_free r.cells (ahead (board_of rules) r.side from 1) && is_at to (ahead (board_of rules) r.side from 2)
+    && is_free r.cells (ahead (board_of rules) r.side from 1) && is_at to (ahead (board_of rules) r.side from 2)
 
 -- to an empty square straight forward, or onto an enemy diagonally one step forward
 unfoldable pub pawn_goes : Rules → Repeat → Square → ℕ → Bool
@@ -69,4 +69,4 @@ behind rules side s = ahead (board_of rules) (other side) s 1
 unfoldable pub pawn_moves : Rules → Repeat → Square → Square → Promo → Bool
 pawn_moves rules r from to promo =
     (pawn_goes rules r from to.0 && pawn_promo rules (may_promote rules r.side to.0) promo)
-        || (passes_by rules r from to.0 && is_stays promo)
+    || (passes_by rules r from to.0 && is_stays promo)

@@ -42,7 +42,7 @@ piece_promo rules may Plus = may
 abbrev pub to_castling_target : Rules → Repeat → Wing → ℕ → ℕ → Bool
 to_castling_target rules r wing from to =
     holds_right r.rights r.side wing && (from == castling_square rules r.side rules.castle_king)
-        && (to == castling_square rules r.side (king_file rules wing))
+    && (to == castling_square rules r.side (king_file rules wing))
 
 -- the king's move from its castling square to such a target means castling, and is no ordinary move
 abbrev pub means_castling : Rules → Repeat → Kind → ℕ → ℕ → Bool
@@ -53,5 +53,5 @@ means_castling rules r kind from to =
 unfoldable pub piece_moves : Rules → Repeat → Cell → Square → Square → Promo → Bool
 piece_moves rules r c from to promo =
     piece_goes rules r.cells r.side c.kind from to.0
-        && piece_promo rules (may_plus rules r.side c.kind from.0 to.0) promo
-        && not (means_castling rules r c.kind from.0 to.0)
+    && piece_promo rules (may_plus rules r.side c.kind from.0 to.0) promo
+    && not (means_castling rules r c.kind from.0 to.0)

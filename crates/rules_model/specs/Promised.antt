@@ -64,4 +64,4 @@ IsMoveOf rules (Drop kind to) = IsKindOf rules kind × IsSquareOf rules to
 abbrev pub NextKeepsSound : Rules → Type 0
 NextKeepsSound rules =
     (p : Position) (m : Move) → is_sound rules p ≡ true → Member m (legal rules (repeat_of p))
-        → is_sound rules (next rules p m) ≡ true
+    → is_sound rules (next rules p m) ≡ true

@@ -19,6 +19,6 @@ pub record HasSizes (r : Repeat) : Type 0 where
 unfoldable pub has_sizes : Repeat → Bool
 has_sizes r =
     (length r.cells == 120) && (length r.hands == 2) && list_all (λ hand. length hand == 26) r.hands
-        && (length r.gates == 2)
+    && (length r.gates == 2)
     && list_all (λ gates. nat_lt gates 65536) r.gates && (length r.rights == 2)
     && list_all (λ rights. length rights == 2) r.rights && (length r.checks == 2)

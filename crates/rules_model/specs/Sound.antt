@@ -53,7 +53,7 @@ has_hands rules = rules.drops || rules.to_hand || rules.gating
 unfoldable pub sound_in_hand : Rules → List (List ℕ) → Side → ℕ → Bool
 sound_in_hand rules hands side kind =
     not (holds hands side (record { 0 = kind }))
-        || (has_hands rules && has_kind rules (record { 0 = kind }) && not (is_king rules (record { 0 = kind })))
+    || (has_hands rules && has_kind rules (record { 0 = kind }) && not (is_king rules (record { 0 = kind })))
 
 -- with a king each side has exactly one on the board
 abbrev pub has_its_king : Rules → List (Option Cell) → Side → Bool

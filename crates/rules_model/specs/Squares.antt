@@ -36,7 +36,7 @@ square_of (Some file) (Some rank) = Some (12 * rank + file)
 unfoldable pub step_to : Ray → ℕ → Option ℕ
 step_to ray k =
     square_of (within ray.board.files (pos (ray.from.0 % 12) +ℤ (pos k *ℤ ray.dx)))
-        (within ray.board.ranks (pos (ray.from.0 / 12) +ℤ (pos k *ℤ ray.dy)))
+    (within ray.board.ranks (pos (ray.from.0 / 12) +ℤ (pos k *ℤ ray.dy)))
 
 abbrev pub flat : Option (Option Cell) → Option Cell
 flat None = None

@@ -7,6 +7,7 @@ pub use foundation::{Memory, Text};
 pub mod attacks;
 pub mod board;
 pub mod castling;
+pub mod copy;
 pub mod equal;
 pub mod game_laws;
 pub mod kinds;
@@ -24,6 +25,7 @@ pub use board::{
     Blocked, Board, Cell, Cells, FILES, KINDS, Kind, Position, RANKS, Region, Repeat, SQUARES,
     Side, Square, Wing, cell_at, repeat_of,
 };
+pub use copy::copy_of_rules;
 pub use equal::{is_same_repeat, repeats};
 pub use moves::{Cause, Move, MoveList, Outcome, Placed, Promo, Value};
 pub use reach::{Ray, reaches_plain};

@@ -38,8 +38,12 @@ with_piece rules letter terms = with_bound_piece rules letter terms (board rules
 unfoldable pub with_promoted_piece : Rules → ℕ → List Term → Kind → Rules
 with_promoted_piece rules letter terms promoted = record rules {
   kinds = slice_set rules.kinds (letter - 97)
-      (Some (record { terms = terms; mobility = board rules ∷ board rules ∷ []; pawn = false;
-      promoted = Some promoted }));
+      (Some (record {
+        terms = terms;
+        mobility = board rules ∷ board rules ∷ [];
+        pawn = false;
+        promoted = Some promoted;
+      }));
 }
 
 -- the rules with the chess pawn

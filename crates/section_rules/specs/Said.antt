@@ -36,8 +36,10 @@ board_of section = record { files = files_of section; ranks = said section max_r
 -- the squares of a region that are on a board
 unfoldable pub cut_to : Board → Region → Region
 cut_to board region =
-    record { squares = map (λ s. slice_index_or region.squares s false
-    && (nat_lt (s % 12) board.files && nat_lt (s / 12) board.ranks)) (range_with_len 0 120) }
+    record {
+      squares = map (λ s. slice_index_or region.squares s false
+          && (nat_lt (s % 12) board.files && nat_lt (s / 12) board.ranks)) (range_with_len 0 120);
+    }
 
 -- the region of a key on a board
 abbrev pub region_on : Board → Resolved → List ℕ → Region → Region

@@ -19,6 +19,6 @@ pub record SelfSentences (rules : Rules) (n : ℕ) (g : Story) (a : Side) : Type
   pub no_move_left : result rules g ≡ Ongoing → same_side g.last.side a ≡ true → self_wins rules 0 g a ≡ false
   pub some_move : result rules g ≡ Ongoing → same_side g.last.side a ≡ true →
       self_wins rules (suc n) g a ≡ list_any
-          (λ m. self_wins rules n (played rules g m) a) (legal rules (repeat_of g.last))
+      (λ m. self_wins rules n (played rules g m) a) (legal rules (repeat_of g.last))
   pub each_reply : result rules g ≡ Ongoing → same_side g.last.side a ≡ false →
       self_wins rules n g a ≡ list_all (λ m. self_wins rules n (played rules g m) a) (legal rules (repeat_of g.last))

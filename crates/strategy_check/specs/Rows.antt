@@ -18,8 +18,13 @@ use Rattle.strategy.specs.declared.nodes.Strategy.{Strategy}
 -- how the nodes and edges of a strategy are read
 abbrev pub kept : Accessors Position Move Node Edge
 kept =
-    record { position = λ v. v.position; rank = λ v. v.rank; edges = λ v. v.edges; chosen = λ e. e.chosen;
-    to = λ e. e.to }
+    record {
+      position = λ v. v.position;
+      rank = λ v. v.rank;
+      edges = λ v. v.edges;
+      chosen = λ e. e.chosen;
+      to = λ e. e.to;
+    }
 
 -- the verdict on the strategy, for a win of the game by the side within n moves
 abbrev pub verdict : Rules → Story → Side → ℕ → Strategy → Verdict Move

@@ -15,10 +15,10 @@ use crate::fault::{NoSuite, SuiteFault};
 use crate::problem::Problem;
 use crate::row::{Row, is_skipped, row_of};
 use foundation::Memory;
-use game_text::copy_of as copy_of_fault;
+use game_text::copy_of;
 use io_ports::{Got, LineBuf, Source};
-use mate_search::{copy_of, is_counted};
-use rules_model::{Position, Rules};
+use mate_search::is_counted;
+use rules_model::{Position, Rules, copy_of_rules};
 use std::alloc::{AllocError, Global};
 use std::marker::Model;
 use variant_fen::{FenFault, read_fen};
@@ -98,7 +98,7 @@ fn problem_from(line: u64, rules: &Rules, row: &Row<'_>) -> Result<Problem, NoSu
         return Err(NoSuite::Faulty(SuiteFault::NearCount(line)));
     }
     Ok(Problem {
-        rules: copy_of(rules),
+        rules: copy_of_rules(rules),
         position,
         n: row.moves,
     })
@@ -107,7 +107,7 @@ fn problem_from(line: u64, rules: &Rules, row: &Row<'_>) -> Result<Problem, NoSu
 fn refused(alloc: Global, line: u64, why: &SectionFault) -> Result<NoSuite, AllocError>
     ensures { IfOk result (λ no_suite. no_suite ≡ NoSuite.Faulty (SuiteFault.RefusedVariant line why.now)) }
 {
-    let why = copy_of_fault(alloc, why)?;
+    let why = copy_of(alloc, why)?;
     Ok(NoSuite::Faulty(SuiteFault::RefusedVariant { line, why }))
 }
 

@@ -41,7 +41,7 @@ ServesGo moved owed owed' state after plan next text =
 abbrev pub UnservesGo : Moved → State → Plan → Type 0
 UnservesGo moved state plan =
     (contents : Option Contents) (line : Line) (asked : Go) → command_of line ≡ UciLines.Go asked
-        → IsPlan state asked plan
+    → IsPlan state asked plan
     → Unserved uci moved (λ reads. reads ≡ []) contents state line
 
 -- ---- before its best move

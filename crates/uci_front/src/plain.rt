@@ -60,7 +60,7 @@ fn set_option<F: Files>(
 ) -> Result<(), Refusal>
     ensures sets { Looked (Reads F.contents F.faults files.old files.new)
         (λ reads. SetsBy (file_of (setting_seen setting.now)) session.old session.new
-            (setting_seen setting.now) reads result) }
+        (setting_seen setting.now) reads result) }
     ensures refused { OnErr result (session.new ≡ session.old) }
 {
     match file_named(setting) {

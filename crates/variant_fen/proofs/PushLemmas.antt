@@ -1,21 +1,16 @@
 -- Fields piece by piece.
-use Rattle.std.proofs.Common.{◌≡◌, ◌≢◌, ℕ, zero, suc, ◌+◌, ◌/◌, ◌%◌, ◌^◌, ◌<◌, ◌≤◌, nat_lt, ◌==◌, Bool, true, false, if◌then◌else◌, List, [], ◌∷◌, ◌++◌, length, get_or, replicate, take, slice_index, refl, sym, ap, ◌∙◌, arith, ⊎_elim, add-one, append_assoc, length-append}
-use Rattle.std.specs.Fmt.{decimal}
+use Rattle.std.proofs.Common.{◌≡◌, ◌≢◌, ℕ, zero, suc, ◌+◌, ◌<◌, ◌≤◌, Bool, true, false, List, [], ◌∷◌, ◌++◌, length, get_or, replicate, take, refl, sym, ap, ◌∙◌, arith, append_assoc, length-append}
 use Rattle.std.specs.List.{filter, flat_map, join_with_byte, range_with_len}
-use Rattle.std.proofs.lemmas.Bool.{cases_Bool, lt-ltb, le-ltb, ltb-true, ltb-false}
-use Rattle.std.proofs.lemmas.Fmt.{decimal_digit, decimal_step}
 use Rattle.std.proofs.lemmas.Grind.{flat_map-append}
 use Rattle.std.proofs.lemmas.List.{append-nil, take_all}
 use Rattle.std.proofs.lemmas.List.Elements.{filter_more}
 use Rattle.rules_model.specs.declared.board.Position.{Position}
 use Rattle.rules_model.specs.declared.board.Repeat.{Repeat}
 use Rattle.rules_model.specs.declared.board.Side.{Side}
-use Rattle.rules_model.specs.declared.board.Square.{Square}
 use Rattle.rules_model.specs.declared.rules.Rules.{Rules}
 use Rattle.rules_model.specs.Hands.{in_hand}
-use Rattle.rules_model.specs.MoveText.{digits_of, square_text}
 use Rattle.fen_model.specs.Held.{held_letters}
-use Rattle.fen_model.specs.Printing.{board_text, checks_texts, count_texts, fen_text, field_texts, hand_text, is_printed, kind_letter, or_none, pocket_text, rights_text, state_texts}
+use Rattle.fen_model.specs.Printing.{board_text, count_texts, fen_text, field_texts, hand_text, is_printed, kind_letter, or_none, pocket_text, rights_text, state_texts}
 use Rattle.variant_fen.specs.Blanks.{blanked}
 
 -- ---- hands
@@ -78,21 +73,6 @@ rights_some rules r text whole is long =
 
 pub all_picked : (rules : Rules) (r : Repeat) (text whole : List ℕ) (i : ℕ) → whole ≡ text ++ filter (is_printed rules r) (take i held_letters) → length held_letters ≤ i → whole ≡ text ++ filter (is_printed rules r) held_letters
 all_picked rules r text whole i is done = is ∙ ap (λ t. text ++ filter (is_printed rules r) t) (take_all i held_letters done)
-
--- ---- squares
-
-digits : (n : ℕ) → n < 100 → digits_of n ≡ decimal n
-digits n small =
-    ⊎_elim
-    (λ (y : nat_lt n 10 ≡ true). rw y (sym (decimal_digit n (ltb-true _ _ y))))
-    (λ (m : nat_lt n 10 ≡ false).
-    let from : 10 ≤ n = ltb-false _ _ m in
-    rw m (sym (decimal_step n from (omega arith) ∙ ap (λ t. t ++ (48 + n % 10) ∷ []) (decimal_digit (n / 10) (omega arith)))))
-    (cases_Bool (nat_lt n 10))
-
-pub square_after : (text : List ℕ) (s : Square) → s.0 < 1000 → (text ++ (97 + s.0 % 12) ∷ []) ++ decimal (s.0 / 12 + 1) ≡ text ++ square_text s
-square_after text s small =
-    append_assoc text ((97 + s.0 % 12) ∷ []) (decimal (s.0 / 12 + 1)) ∙ ap (λ t. text ++ (97 + s.0 % 12) ∷ t) (sym (digits (s.0 / 12 + 1) (omega arith)))
 
 -- ---- blanks
 

@@ -5,6 +5,7 @@ ghost use Rattle.rules_model.specs.Fit.{IsFit};
 ghost use Rattle.fen_model.specs.Board.{row_at};
 ghost use Rattle.fen_model.specs.Printing as Printing;
 
+use move_text::{lower, upper};
 use rules_model::kinds::{names, promoted_of};
 use rules_model::{Cell, Cells, Kind, Memory, Rules, Side};
 
@@ -24,8 +25,8 @@ pub(crate) fn kind_letter(side: Side, kind: Kind) -> u8
     ensures { result ≡ Printing.kind_letter side kind }
 {
     match side {
-        Side::White => b'A' + kind.0 % 26,
-        Side::Black => b'a' + kind.0 % 26,
+        Side::White => upper(kind),
+        Side::Black => lower(kind),
     }
 }
 

@@ -9,6 +9,7 @@ ghost use Rattle.variant_fen.specs.Blanks.{blanked};
 use crate::held::{HELD_LETTERS, right_gives};
 use crate::pocket::has_hands;
 use crate::write::{kind_letter, push_number};
+use move_text::square_text;
 use rules_model::castling::{has_gate, holds_right};
 use rules_model::kinds::in_hand;
 use rules_model::{Kind, Memory, Position, Rules, Side, Square, Wing};
@@ -112,8 +113,8 @@ fn push_held(rules: &Rules, text: &mut Vec<u8>, p: &Position) -> Result<(), Memo
 fn push_square(text: &mut Vec<u8>, square: Square) -> Result<(), Memory>
     ensures { OnOk result (text.new.items ≡ text.old.items ++ square_text square) }
 {
-    text.push(b'a' + square.0 % 12)?;
-    push_number(text, u16::from(square.0 / 12 + 1))
+    text.extend_from_slice(square_text(square).items.as_slice())?;
+    Ok(())
 }
 
 fn push_ep(text: &mut Vec<u8>, ep: Option<Square>) -> Result<(), Memory>

@@ -23,7 +23,7 @@ unfoldable pub value_within : ℕ → List Section → List ℕ → ℕ → Opti
 value_within zero sections key place = None
 value_within (suc n) sections key place =
     own_or (last_value (section_at sections place).lines key)
-        (option_and_then (value_within n sections key) (parent_place sections place))
+    (option_and_then (value_within n sections key) (parent_place sections place))
 
 -- the value of a key in a section: that of its own last line for the key, else the key's value in its parent, else
 -- none. A parent stands above its child, so no chain is longer than the place and 1.

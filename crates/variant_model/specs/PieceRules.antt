@@ -36,8 +36,10 @@ is_on_board section s = nat_lt (s % 12) (files_of section) && nat_lt (s / 12) (s
 -- the squares of a region that are on the board
 unfoldable pub on_the_board : Resolved → Region → Region
 on_the_board section region =
-    record { squares = map (λ s. slice_index_or region.squares s false && is_on_board section s)
-    (range_with_len 0 120) }
+    record {
+      squares = map (λ s. slice_index_or region.squares s false && is_on_board section s)
+          (range_with_len 0 120);
+    }
 
 -- the regions of an option for White and Black
 abbrev pub both_sides : Resolved → (Side → Region) → List Region

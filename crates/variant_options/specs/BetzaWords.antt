@@ -24,7 +24,7 @@ parts_from zero at before (b ∷ bs) = Err (UnknownAtom at)
 parts_from (suc n) at before (b ∷ bs) =
     unless_bad (part_fault at before (b ∷ bs))
     (with_part (first_part (b ∷ bs))
-        (parts_from n (at + first_length (b ∷ bs)) (before + first_terms (b ∷ bs)) (rest_of (b ∷ bs))))
+    (parts_from n (at + first_length (b ∷ bs)) (before + first_terms (b ∷ bs)) (rest_of (b ∷ bs))))
 
 -- the parts of a Betza word, or its first fault
 unfoldable pub parts_of : List ℕ → Result (List Part) BetzaFault

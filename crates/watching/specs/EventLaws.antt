@@ -59,10 +59,16 @@ module _ {moved : Moved} {behind : List Line} {P Q : List Event → Type 0} (dia
 pub ran_off : {moved : Moved} {P Q : List Event → Type 0} (dialect : Dialect)
     → ((events : List Event) → P events → Q events) → Ran dialect moved [] P → Broke dialect moved Q
 ran_off {moved = moved} dialect f r
-    = record { events = r.events; front = written dialect r.events; back = [];
-    wrote = sym (append-nil (written dialect r.events)); went
-    = subst (λ (l : List Line). moved l (written dialect r.events) (readings r.events))
-    (append-nil (lines_of r.events)) r.went; holds = f r.events r.holds }
+    = record {
+      events = r.events;
+      front = written dialect r.events;
+      back = [];
+      wrote = sym (append-nil (written dialect r.events));
+      went
+          = subst (λ (l : List Line). moved l (written dialect r.events) (readings r.events))
+          (append-nil (lines_of r.events)) r.went;
+      holds = f r.events r.holds;
+    }
 
 pub ran_off_whole : {moved : Moved} {P Q : List Event → Type 0} (dialect : Dialect)
     (f : (events : List Event) → P events → Q events) (r : Ran dialect moved [] P) → (ran_off dialect f r).back ≡ []
@@ -86,8 +92,8 @@ module _ {S K C : Type 0} {left : S → Option (List ℕ)} {taken : K → Option
     events = a.events ++ b.events;
     went = moves_at (moves_more a.went b.went)
         (ap (λ l. l ++ (lines_of b.events ++ behind)) (append-nil (lines_of a.events)) ∙ sym
-            (append_assoc (lines_of a.events) (lines_of b.events) behind) ∙ ap
-            (λ l. l ++ behind) (sym (lines_of-append a.events b.events)))
+        (append_assoc (lines_of a.events) (lines_of b.events) behind) ∙ ap
+        (λ l. l ++ behind) (sym (lines_of-append a.events b.events)))
         (sym (written-append dialect a.events b.events)) (sym (readings-append a.events b.events));
     holds = f a.events b.events a.holds b.holds;
   }
@@ -114,7 +120,7 @@ module _ {S K C : Type 0} {left : S → Option (List ℕ)} {taken : K → Option
       (f : (a b : List Event) → P a → Q b → R (a ++ b))
       (a : Ran dialect (Moves left taken given count last s s' k k' c c') [] P)
       (b : Broke dialect (Moves left taken given count last s' s'' k' k'' c' c'') Q)
-          → (broke_more R f a b).back ≡ b.back
+      → (broke_more R f a b).back ≡ b.back
   unfolding broke_more
   broke_more_back R f a b = refl
 
@@ -124,16 +130,26 @@ module _ {S K C : Type 0} {left : S → Option (List ℕ)} {taken : K → Option
       → Ran dialect (Moves left taken given count last s s' k k' c c) behind P
   ran_source {s' = s'} {k = k} c {lines = lines} takes r =
       let (heard_is, wrote, unread) = r.went in
-      record { events = r.events; went = moves_at (moves_more (moves_source k c takes) (moves_sink s' c wrote))
-          (append-nil lines ∙ sym heard_is) refl (sym unread); holds = r.holds }
+      record {
+        events = r.events;
+        went = moves_at (moves_more (moves_source k c takes) (moves_sink s' c wrote))
+            (append-nil lines ∙ sym heard_is) refl (sym unread);
+        holds = r.holds;
+      }
 
   pub broke_source : {s s' : S} {k k' : K} (c : C) {lines : List Line} {P : List Event → Type 0} (W : List ℕ → Type 0)
       → Takes (left s) (left s') lines → (r : Broke dialect (Replies lines (Appends (taken k) (taken k'))) P) → W r.back
       → (b : Broke dialect (Moves left taken given count last s s' k k' c c) P) × W b.back
   broke_source {s' = s'} {k = k} c {lines = lines} W takes r unwritten =
       let (heard_is, wrote, unread) = r.went in (
-        record { events = r.events; front = r.front; back = r.back; wrote = r.wrote;
-            went = moves_at (moves_more (moves_source k c takes) (moves_sink s' c wrote))
-            (append-nil lines ∙ sym heard_is) refl (sym unread); holds = r.holds },
+        record {
+          events = r.events;
+          front = r.front;
+          back = r.back;
+          wrote = r.wrote;
+          went = moves_at (moves_more (moves_source k c takes) (moves_sink s' c wrote))
+              (append-nil lines ∙ sym heard_is) refl (sym unread);
+          holds = r.holds;
+        },
         unwritten,
       )

@@ -37,16 +37,24 @@ on_err (Err e) p = p
 pub front-second : (old mid new : Option (List ℕ)) (text : List ℕ) → Appends old mid text
     → AppendsFront mid new (10 ∷ []) → AppendsFront old new (end_line text)
 front-second old mid new text first second =
-    record { front = text ++ second.front; back = second.back;
-        whole = ap (λ l. text ++ l) second.whole ∙ sym (append_assoc text second.front second.back); took
-        = appends_more old mid new text second.front first second.took }
+    record {
+      front = text ++ second.front;
+      back = second.back;
+      whole = ap (λ l. text ++ l) second.whole ∙ sym (append_assoc text second.front second.back);
+      took
+          = appends_more old mid new text second.front first second.took;
+    }
 
 pub front-first : (old new : Option (List ℕ)) (text : List ℕ) → AppendsFront old new text
     → AppendsFront old new (end_line text)
 front-first old new text first =
-    record { front = first.front; back = end_line first.back;
-        whole = ap (λ l. l ++ (10 ∷ [])) first.whole ∙ append_assoc first.front first.back (10 ∷ []); took
-        = first.took }
+    record {
+      front = first.front;
+      back = end_line first.back;
+      whole = ap (λ l. l ++ (10 ∷ [])) first.whole ∙ append_assoc first.front first.back (10 ∷ []);
+      took
+          = first.took;
+    }
 
 module _ (dialect : Dialect) (appends : List ℕ → Type 0) (answer : Polled) (text : List ℕ) where
   -- it is answered at once
@@ -54,28 +62,49 @@ module _ (dialect : Dialect) (appends : List ℕ → Type 0) (answer : Polled) (
       → reply_to dialect line ≡ reply → stops dialect line ≡ false → appends reply
       → Heeds dialect appends answer text None
   heeds_reply line reply e is goes took
-      = record { ran = record { events = Hears line ∷ [];
-      went = (sym e, subst appends (sym is ∙ sym (append-nil (reply_to dialect line))) took, refl); holds
-      = (goes, tt) }; why_is = tt }
+      = record {
+        ran = record {
+          events = Hears line ∷ [];
+          went = (sym e, subst appends (sym is ∙ sym (append-nil (reply_to dialect line))) took, refl);
+          holds
+              = (goes, tt);
+        };
+        why_is = tt;
+      }
 
   pub broke_reply : (line : Line) (reply : List ℕ) → polled_lines answer text ≡ line ∷ []
       → reply_to dialect line ≡ reply → stops dialect line ≡ false → (front back : List ℕ) → reply ≡ front ++ back
       → appends front → Broke dialect (Replies (polled_lines answer text) appends) (Listens dialect)
   broke_reply line reply e is goes front back whole took
-      = record { events = Hears line ∷ []; front = front; back = back;
-      wrote = append-nil (reply_to dialect line) ∙ is ∙ whole; went = (sym e, took, refl); holds = (goes, tt) }
+      = record {
+        events = Hears line ∷ [];
+        front = front;
+        back = back;
+        wrote = append-nil (reply_to dialect line) ∙ is ∙ whole;
+        went = (sym e, took, refl);
+        holds = (goes, tt);
+      }
 
   -- it stops
   pub heeds_stop : answer ≡ polled.Line → stops dialect (Text text) ≡ true → appends []
       → Heeds dialect appends answer text (Some cut.Line)
-  heeds_stop e is took = record { ran = record
-      { events = []; went = (sym (ap (λ (a : Polled). polled_lines a text) e), took, refl); holds = tt }; why_is
-      = (e, is) }
+  heeds_stop e is took = record {
+    ran = record
+        { events = []; went = (sym (ap (λ (a : Polled). polled_lines a text) e), took, refl); holds = tt };
+    why_is
+        = (e, is);
+  }
 
   pub broke_none : polled_lines answer text ≡ [] → appends []
       → Broke dialect (Replies (polled_lines answer text) appends) (Listens dialect)
-  broke_none e took = record { events = []; front = []; back = []; wrote = refl; went = (sym e, took, refl);
-      holds = tt }
+  broke_none e took = record {
+    events = [];
+    front = [];
+    back = [];
+    wrote = refl;
+    went = (sym e, took, refl);
+    holds = tt;
+  }
 
   pub broke_none_whole : (e : polled_lines answer text ≡ []) (took : appends []) → (broke_none e took).back ≡ []
   unfolding broke_none
@@ -159,9 +188,16 @@ module _ {S K C : Type 0} {left : S → Option (List ℕ)} {taken : K → Option
       → MayCut dialect o 0 limits (nodes + 0) nodes (reading ∷ []) text why
       → Looked dialect (Moves left taken given count last s s k k c c') o o limits nodes nodes 0 text why
   looked_read s k o limits nodes reading text why none gives n t may
-      = record { ran = record { events = Reads reading ∷ [];
-      went = moves_at (moves_clock s k reading gives n t) (sym none) refl refl; holds = ((tt, tt), may) }; spends
-      = spends_none o 0; entered = omega arith }
+      = record {
+        ran = record {
+          events = Reads reading ∷ [];
+          went = moves_at (moves_clock s k reading gives n t) (sym none) refl refl;
+          holds = ((tt, tt), may);
+        };
+        spends
+            = spends_none o 0;
+        entered = omega arith;
+      }
 
   -- nothing happens, or the quota is at its end
   pub looked_none : (s : S) (k : K) (c : C) (o : Owed) (limits : Limits) (nodes nodes' bound : ℕ) (text : List ℕ)
@@ -169,8 +205,15 @@ module _ {S K C : Type 0} {left : S → Option (List ℕ)} {taken : K → Option
       → held why text ≡ [] → nodes' ≤ nodes + bound → MayCut dialect o bound limits (nodes + bound) nodes' [] text why
       → Looked dialect (Moves left taken given count last s s k k c c) o o limits nodes nodes' bound text why
   looked_none s k c o limits nodes nodes' bound text why none le may
-      = record { ran = record { events = []; went = moves_at (moves_none s k c) (sym none) refl refl;
-      holds = (tt, may) }; spends = spends_none o bound; entered = le }
+      = record {
+        ran = record {
+          events = [];
+          went = moves_at (moves_none s k c) (sym none) refl refl;
+          holds = (tt, may);
+        };
+        spends = spends_none o bound;
+        entered = le;
+      }
 
   -- a part that was not cut, and another
   pub looked_more : {s s' s'' : S} {k k' k'' : K} {c c' c'' : C} {o o' o'' : Owed} {limits : Limits}
@@ -190,7 +233,7 @@ module _ {S K C : Type 0} {left : S → Option (List ℕ)} {taken : K → Option
               subst (λ (r : List ℕ). MayCut dialect o (m + n) limits (nodes + (m + n)) nodes'' r text' why)
                   (sym (readings-append x y))
                   (cut_after dialect why o o' limits m n (nodes' + n) (nodes + (m + n)) nodes'' (readings x)
-                      (readings y) text' a.spends (omega (arith, le)) q.1),
+                  (readings y) text' a.spends (omega (arith, le)) q.1),
             )) a.ran b.ran;
         spends = spends_more o o' o'' m n a.spends b.spends;
         entered = omega (arith, le, le');
@@ -203,10 +246,17 @@ module _ {S K C : Type 0} {left : S → Option (List ℕ)} {taken : K → Option
   looked_wider {o = o} {o' = o'} {limits = limits} {nodes = nodes} {nodes' = nodes'} {m = m} {n = n} {text = text}
       {why = why} a le =
       let before = a.entered in
-      record { ran = ran_holds dialect
-          (λ events p. (p.0, cut_wider dialect why o limits m n (nodes + m) (nodes + n) nodes' (readings events) text le
-          (omega (arith, le)) p.1)) a.ran; spends = spends_wider o o' m n a.spends le; entered
-          = omega (arith, before, le) }
+      record {
+        ran = ran_holds dialect
+            (λ events p. (
+              p.0,
+              cut_wider dialect why o limits m n (nodes + m) (nodes + n) nodes' (readings events) text le
+                  (omega (arith, le)) p.1,
+            )) a.ran;
+        spends = spends_wider o o' m n a.spends le;
+        entered
+            = omega (arith, before, le);
+      }
 
 pub reached_now : (o : Option ℕ) (deadline reading : ℕ) → o ≡ Some deadline → deadline ≤ reading → IsReached o reading
 reached_now o deadline reading e le = subst (λ (o : Option ℕ). IsReached o reading) (sym e) le

@@ -1,8 +1,8 @@
-//! An exact copy of rules.
+//! A copy of rules.
 ghost use Rattle.std.specs.Prelude.{◌≡◌};
 
+use crate::rules::{KindRule, Rules, Terms};
 use arrayvec::ArrayVec;
-use rules_model::{KindRule, Rules, Terms};
 
 fn terms_of(terms: &Terms) -> Terms
     ensures { result ≡ terms.now }
@@ -38,8 +38,8 @@ fn kinds_of(kinds: &[Option<KindRule>; 26]) -> [Option<KindRule>; 26]
     copy
 }
 
-/// Rules that are equal to these.
-pub(crate) fn copy_of(rules: &Rules) -> Rules
+/// The same rules.
+pub fn copy_of_rules(rules: &Rules) -> Rules
     ensures { result ≡ rules.now }
 {
     Rules {

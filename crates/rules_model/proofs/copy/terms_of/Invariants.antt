@@ -1,6 +1,6 @@
 use Rattle.std.proofs.Common.{◌≡◌, ◌≤◌, length, take}
 use Rattle.arrayvec.specs.ArrayVec.{array_vec_len}
-use Rattle.mate_search.proofs.frame.terms_of.Given as goal
+use Rattle.rules_model.proofs.copy.terms_of.Given as goal
 
 abbrev pub invariant-loop-term : goal.invariant-loop-term
 invariant-loop-term l = record {
