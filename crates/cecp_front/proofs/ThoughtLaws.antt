@@ -14,8 +14,8 @@ use Rattle.io_ports.proofs.Moved.{moves_at, moves_more, moves_sink, moves_source
 use Rattle.rules_model.specs.declared.moves.Move.{Move}
 use Rattle.watching.specs.declared.halt.Cut.{Cut}
 use Rattle.watching.specs.declared.halt.Cut.TheVariants as cut
-use Rattle.watching.specs.EventLaws.{lines_of-append, readings-append, written-append}
-use Rattle.watching.specs.Events.{Event, Hears, Says, Reads, Opens, AreUnstopped, lines_of, opened, readings, written}
+use Rattle.watching.specs.EventLaws.{heard_lines-append, readings-append, written-append}
+use Rattle.watching.specs.Events.{Event, Hears, Says, Reads, Opens, AreUnstopped, heard_lines, opened, readings, written}
 use Rattle.watching.specs.Looks.{Moved, held}
 use Rattle.session_model.specs.CecpSession.{Concludes, Posts, Thinks, bound_from, gives_up_by, is_moveless, task_of}
 use Rattle.session_model.specs.CecpState.{State, played}
@@ -42,8 +42,8 @@ shut_then (Says said ∷ events) text h = shut_then events text h.1
 shut_then (Reads reading ∷ events) text h = shut_then events text h.1
 shut_then (Opens read ∷ events) text h = absurd h.0
 
-heard_then : (events : List Event) (text : List ℕ) → lines_of (events ++ Says text ∷ []) ≡ lines_of events
-heard_then events text = lines_of-append events (Says text ∷ []) ∙ append-nil (lines_of events)
+heard_then : (events : List Event) (text : List ℕ) → heard_lines (events ++ Says text ∷ []) ≡ heard_lines events
+heard_then events text = heard_lines-append events (Says text ∷ []) ∙ append-nil (heard_lines events)
 
 read_then : (events : List Event) (text : List ℕ) → readings (events ++ Says text ∷ []) ≡ readings events
 read_then events text = readings-append events (Says text ∷ []) ∙ append-nil (readings events)
@@ -132,8 +132,8 @@ thinks_at A state first best reports ending answered events line following b is 
 }
 
 -- what is heard, opened and read by how it concludes
-heard_closing : (b : Bool) (state : State) (best : Move) (events : List Event) → lines_of (events ++ closing b state best) ≡ lines_of events
-heard_closing true state best events = ap lines_of (append-nil events)
+heard_closing : (b : Bool) (state : State) (best : Move) (events : List Event) → heard_lines (events ++ closing b state best) ≡ heard_lines events
+heard_closing true state best events = ap heard_lines (append-nil events)
 heard_closing false state best events = heard_then events (move_text state best)
 
 read_closing : (b : Bool) (state : State) (best : Move) (events : List Event) → readings (events ++ closing b state best) ≡ readings events
@@ -158,7 +158,7 @@ unthought_seeking {moved = moved} state first s =
       back = s.back ++ written Cecp (closing b state best);
       wrote = written-append Cecp s.events (closing b state best) ∙ ap (λ t. t ++ written Cecp (closing b state best)) s.wrote
           ∙ append_assoc s.front s.back (written Cecp (closing b state best));
-      went = subst (λ (r : List ℕ). moved (lines_of (s.events ++ closing b state best) ++ s.behind) s.front r) (sym (read_closing b state best s.events))
+      went = subst (λ (r : List ℕ). moved (heard_lines (s.events ++ closing b state best) ++ s.behind) s.front r) (sym (read_closing b state best s.events))
           (subst (λ (l : List Line). moved (l ++ s.behind) s.front (readings s.events)) (sym (heard_closing b state best s.events)) s.went);
       unopened = shut_closing b state best s.events s.unstopped;
       thinks = λ answered line.
@@ -174,7 +174,7 @@ module _ {S K C : Type 0} {left : S → Option (List ℕ)} {taken : K → Option
   thought_dropped {s' = s'} {k' = k'} {c' = c'} {o = o} state first best text text' why next s dropped n = record {
     events = s.events ++ [];
     went = moves_at (moves_more s.went (moves_source k' c' n.takes))
-        (append_assoc (lines_of s.events) (held why text) n.lines ∙ ap (λ l. lines_of s.events ++ l) n.lines_are
+        (append_assoc (heard_lines s.events) (held why text) n.lines ∙ ap (λ l. heard_lines s.events ++ l) n.lines_are
         ∙ ap (λ l. l ++ got_lines next text') (sym (heard_closing true state best s.events)))
         (append-nil (written Cecp s.events) ∙ ap (written Cecp) (sym (append-nil s.events)))
         (append-nil (readings s.events) ∙ sym (read_closing true state best s.events));
@@ -195,8 +195,8 @@ module _ {S K C : Type 0} {left : S → Option (List ℕ)} {taken : K → Option
   thought_moved {s' = s'} {k'' = k''} {c' = c'} {o = o} state first best text text' why next s kept wrote n = record {
     events = s.events ++ closing false state best;
     went = moves_at (moves_more (moves_more s.went (moves_sink s' c' wrote)) (moves_source k'' c' n.takes))
-        (ap (λ l. l ++ n.lines) (append-nil (lines_of s.events ++ held why text))
-        ∙ append_assoc (lines_of s.events) (held why text) n.lines ∙ ap (λ l. lines_of s.events ++ l) n.lines_are
+        (ap (λ l. l ++ n.lines) (append-nil (heard_lines s.events ++ held why text))
+        ∙ append_assoc (heard_lines s.events) (held why text) n.lines ∙ ap (λ l. heard_lines s.events ++ l) n.lines_are
         ∙ ap (λ l. l ++ got_lines next text') (sym (heard_closing false state best s.events)))
         (append-nil (written Cecp s.events ++ move_text state best) ∙ sym (wrote_then s.events (move_text state best)))
         (append-nil (readings s.events ++ []) ∙ append-nil (readings s.events) ∙ sym (read_closing false state best s.events));
@@ -225,7 +225,7 @@ module _ {S K C : Type 0} {left : S → Option (List ℕ)} {taken : K → Option
         wrote = wrote_then s.events (move_text state best) ∙ ap (λ t. written Cecp s.events ++ t) wrote.whole
             ∙ sym (append_assoc (written Cecp s.events) wrote.front wrote.back);
         went = moves_at (moves_more s.went (moves_sink s' c' wrote.took))
-            (append-nil (lines_of s.events ++ held why text) ∙ ap (λ l. l ++ held why text) (sym (heard_closing false state best s.events)))
+            (append-nil (heard_lines s.events ++ held why text) ∙ ap (λ l. l ++ held why text) (sym (heard_closing false state best s.events)))
             refl (append-nil (readings s.events) ∙ sym (read_closing false state best s.events));
         unopened = shut_closing false state best s.events s.unstopped;
         thinks = λ answered line.

@@ -21,7 +21,7 @@ use Rattle.rules_model.specs.declared.moves.Move.{Move}
 use Rattle.game_play.specs.Played.{legal_in}
 use Rattle.game_text.specs.Playing.{most_plies}
 use Rattle.watching.specs.EventLaws.{written-append}
-use Rattle.watching.specs.Events.{Event, lines_of, opened, readings, written}
+use Rattle.watching.specs.Events.{Event, heard_lines, opened, readings, written}
 use Rattle.session_model.specs.CecpLines.{command_of}
 use Rattle.session_model.specs.CecpSession.{Answers, Posts, Thinks, ThinksFrom, answer_of, bound_from, bound_of, cecp, depth_for, lowered, saying, time_for}
 use Rattle.session_model.specs.CecpState.{State, is_turn, thinks}
@@ -62,7 +62,7 @@ said_written : (text : List ℕ) → written Cecp (saying text) ≡ text
 said_written [] = refl
 said_written (byte ∷ bytes) = append-nil (byte ∷ bytes)
 
-said_heard : (text : List ℕ) (events : List Event) → lines_of (saying text ++ events) ≡ lines_of events
+said_heard : (text : List ℕ) (events : List Event) → heard_lines (saying text ++ events) ≡ heard_lines events
 said_heard [] events = refl
 said_heard (byte ∷ bytes) events = refl
 
@@ -130,7 +130,7 @@ none_posted true = (refl, refl)
 record Completed (state : State) (line : Line) (thinking : Bool) (moves : List Move) : Type 0 where
   more : List Event
   after : State
-  heard_is : lines_of more ≡ []
+  heard_is : heard_lines more ≡ []
   opened_is : opened more ≡ []
   read_is : readings more ≡ []
   answers : ThinksFrom thinking moves ⊤ (answer_of state line)
@@ -180,7 +180,7 @@ module _ {S K C : Type 0} {left : S → Option (List ℕ)} {taken : K → Option
       record {
         events = saying answer.text;
         went = moves_at (moves_more (moves_sink s c wrote) (moves_source k' c takes))
-            (ap (λ l. l ++ got_lines next text) (sym (ap lines_of (sym events_are) ∙ said_heard answer.text [])))
+            (ap (λ l. l ++ got_lines next text) (sym (ap heard_lines (sym events_are) ∙ said_heard answer.text [])))
             (append-nil answer.text ∙ sym (said_written answer.text))
             (sym (ap readings (sym events_are) ∙ said_read answer.text []));
         asks = ap opened (sym events_are) ∙ said_opened answer.text [];
@@ -229,7 +229,7 @@ module _ {S K C : Type 0} {left : S → Option (List ℕ)} {taken : K → Option
         wrote = said_more answer.text done.more ∙ ap (λ t. t ++ written Cecp done.more) wrote.whole
             ∙ append_assoc wrote.front wrote.back (written Cecp done.more);
         went = moves_at (moves_sink s c wrote.took)
-            (sym (append-nil (lines_of (saying answer.text ++ done.more)) ∙ said_heard answer.text done.more ∙ done.heard_is))
+            (sym (append-nil (heard_lines (saying answer.text ++ done.more)) ∙ said_heard answer.text done.more ∙ done.heard_is))
             refl (sym (said_read answer.text done.more ∙ done.read_is));
         done = [];
         further = [];

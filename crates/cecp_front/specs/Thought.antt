@@ -10,7 +10,7 @@ use Rattle.rules_model.specs.declared.moves.Move.{Move}
 use Rattle.game_play.specs.Played.{legal_in}
 use Rattle.watching.specs.declared.halt.Cut.{Cut}
 use Rattle.watching.specs.declared.halt.Cut.TheVariants as cut
-use Rattle.watching.specs.Events.{Event, AreUnstopped, lines_of, opened, readings, written}
+use Rattle.watching.specs.Events.{Event, AreUnstopped, heard_lines, opened, readings, written}
 use Rattle.watching.specs.Looks.{Moved, held}
 use Rattle.session_model.specs.CecpLines.{command_of, gives_up}
 use Rattle.session_model.specs.CecpSession.{Posts, Thinks, bound_from, move_line, task_of}
@@ -40,7 +40,7 @@ pub record Sought (moved : Moved) (owed owed' : Owed) (state : State) (first bes
   pub events : List Event
   pub reports : List Report
   pub ending : Ending
-  pub went : moved (lines_of events ++ held why text) (written Cecp events) (readings events)
+  pub went : moved (heard_lines events ++ held why text) (written Cecp events) (readings events)
   pub unstopped : AreUnstopped Cecp events
   pub posts : Posts state.posts events (reported reports ending)
   pub deepens : (following : List Line) → Follows why text following
@@ -60,7 +60,7 @@ pub record BrokeSeeking (moved : Moved) (state : State) : Type 0 where
   pub front : List ℕ
   pub back : List ℕ
   pub wrote : written Cecp events ≡ front ++ back
-  pub went : moved (lines_of events ++ behind) front (readings events)
+  pub went : moved (heard_lines events ++ behind) front (readings events)
   pub unstopped : AreUnstopped Cecp events
   pub posts : Posts state.posts events (reported reports ending)
   pub deepens : Deepens Cecp ⊤ (task_of state) reports ending (readings events) behind
@@ -85,7 +85,7 @@ move_text state best = move_line best ++ (played state best).text
 pub record Thought (moved : Moved) (owed owed' : Owed) (state after : State) (first : Move) (next : Got)
     (text : List ℕ) : Type 0 where
   pub events : List Event
-  pub went : moved (lines_of events ++ got_lines next text) (written Cecp events) (readings events)
+  pub went : moved (heard_lines events ++ got_lines next text) (written Cecp events) (readings events)
   pub unopened : opened events ≡ []
   pub thinks : (answered : List Event) (line : Line) (following : List Line) → MayFollow next following
       → Thinks (Lacks owed (bound_from true state)) state first answered (turn_of line (answered ++ events) after)
@@ -101,7 +101,7 @@ pub record Unthought (moved : Moved) (state : State) (first : Move) : Type 0 whe
   pub front : List ℕ
   pub back : List ℕ
   pub wrote : written Cecp events ≡ front ++ back
-  pub went : moved (lines_of events ++ behind) front (readings events)
+  pub went : moved (heard_lines events ++ behind) front (readings events)
   pub unopened : opened events ≡ []
   pub thinks : (answered : List Event) (line : Line)
       → Thinks ⊤ state first answered (turn_of line (answered ++ events) after) behind

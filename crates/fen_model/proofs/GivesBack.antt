@@ -18,7 +18,7 @@ use Rattle.rules_model.specs.Sides.{side_index}
 use Rattle.fen_model.specs.Chain.{or_fault}
 use Rattle.fen_model.specs.Counts.{checks_of}
 use Rattle.fen_model.specs.declared.fault.FenFault.TheVariants.{Length}
-use Rattle.fen_model.specs.Fields.{Fields, fields, fields_in, fields_of, is_blank, is_bracket, no_checks, pocket_place}
+use Rattle.fen_model.specs.Fields.{Fields, fields, fields_in, fields_of, is_space, is_bracket, no_checks, pocket_place}
 use Rattle.foundation.specs.Numbers.{are_digits, is_digit, is_number, number_of, value_after}
 use Rattle.fen_model.specs.Printing.{board_text, checks_texts, ep_text, fen_text, field_texts, pocket_text, rights_text, side_text}
 use Rattle.fen_model.specs.Reading.{Fen}
@@ -164,7 +164,7 @@ cut_there board pocket side rights ep checks counter number place =
     let back = drop-append_seam board pocket in
     rw place (rw (front, back) refl)
 
-fields_found : (rules : Rules) (text : List ℕ) (texts : List (List ℕ)) (f : Fields) → length text ≤ 1024 → slice_split is_blank text ≡ texts → fields_in rules texts ≡ Some f → fields_of rules text ≡ Ok f
+fields_found : (rules : Rules) (text : List ℕ) (texts : List (List ℕ)) (f : Fields) → length text ≤ 1024 → slice_split is_space text ≡ texts → fields_in rules texts ≡ Some f → fields_of rules text ≡ Ok f
 unfolding fields_of
 fields_found rules text texts f few cut found =
     let short : nat_lt 1024 (length text) ≡ false = le-ltb _ _ few in

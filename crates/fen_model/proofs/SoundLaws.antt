@@ -19,7 +19,7 @@ use Rattle.rules_model.specs.Sound.{has_its_king, is_sound, is_sound_ep, lies_in
 use Rattle.fen_model.specs.Counts.{checks_in, checks_of, count_of, is_plus, two_checks, up_to_most}
 use Rattle.fen_model.specs.Chain.{or_fault}
 use Rattle.fen_model.specs.declared.fault.FenFault.TheVariants.{Length}
-use Rattle.fen_model.specs.Fields.{Fields, counted_fields, fields, fields_in, fields_of, is_blank, no_checks, plain_fields}
+use Rattle.fen_model.specs.Fields.{Fields, counted_fields, fields, fields_in, fields_of, is_space, no_checks, plain_fields}
 use Rattle.fen_model.specs.Fields as Fields
 use Rattle.foundation.specs.Numbers.{are_digits, is_number, number_of, value_after}
 use Rattle.fen_model.specs.Passed.{is_passed, passed_at, passed_of, square_named}
@@ -93,7 +93,7 @@ plain_checks (a ∷ b ∷ c ∷ d ∷ e ∷ g ∷ []) f h =
     ⊎_elim (λ y. let k = rw y at h in cc) (λ n. let k = rw n at h in cc) (cases_Bool (are_digits c))
 plain_checks (a ∷ b ∷ c ∷ d ∷ e ∷ g ∷ i ∷ texts) f h = cc
 
-fields_there : (rules : Rules) (text : List ℕ) (f : Fields) → fields_of rules text ≡ Ok f → fields_in rules (slice_split is_blank text) ≡ Some f
+fields_there : (rules : Rules) (text : List ℕ) (f : Fields) → fields_of rules text ≡ Ok f → fields_in rules (slice_split is_space text) ≡ Some f
 unfolding fields_of
 fields_there rules text f h =
     ⊎_elim
@@ -104,7 +104,7 @@ fields_there rules text f h =
 uncounted : (rules : Rules) (text checks : List ℕ) (f : Fields) → rules.check_counting ≡ false → fields_of rules text ≡ Ok f → checks_of f.checks ≡ Ok checks → checks ≡ 0 ∷ 0 ∷ []
 uncounted rules text checks f off h said =
     let there = fields_there rules text f h in
-    let none = plain_checks (slice_split is_blank text) f (let k = rw off at there in k) in
+    let none = plain_checks (slice_split is_space text) f (let k = rw off at there in k) in
     let zero = no_checks_left in
     cc (ap checks_of none, zero, said)
 

@@ -8,8 +8,8 @@ use Rattle.fen_model.specs.Chain.{or_fault}
 use Rattle.foundation.specs.Numbers.{are_digits}
 
 -- a blank is one space
-abbrev pub is_blank : ℕ → Bool
-is_blank b = b == 32
+abbrev pub is_space : ℕ → Bool
+is_space b = b == 32
 
 abbrev pub is_bracket : ℕ → Bool
 is_bracket b = b == 91
@@ -83,4 +83,4 @@ fields_in rules parts = if rules.check_counting then counted_fields parts else p
 -- the fields, separated by single blanks, of a text of at most 1,024 bytes
 unfoldable pub fields_of : Rules → List ℕ → Result Fields FenFault
 fields_of rules text =
-    if nat_lt 1024 (length text) then Err Length else or_fault Length (fields_in rules (slice_split is_blank text))
+    if nat_lt 1024 (length text) then Err Length else or_fault Length (fields_in rules (slice_split is_space text))

@@ -30,7 +30,7 @@ use Rattle.attack_tables.specs.Boards.{HoldsMen, IsBoardBy}
 use Rattle.board_sets.specs.declared.sets.BoardSets.{BoardSets}
 use Rattle.board_sets.specs.Sets.{AreSets}
 use Rattle.sound_play.proofs.CellLemmas.{cell_at-set_other, cell_at-set_same}
-use Rattle.legality.specs.Moved.{DropFreely, DropInVain, GateInVain, GoFreely, GoInVain, HoldsMenOf, asks_more, is_free, is_free_drop, is_in_vain, leaves_another, moves_own}
+use Rattle.legality.specs.Moved.{DropFreely, DropInVain, GateInVain, GoFreely, GoInVain, HoldsMenOf, asks_more, is_free_go, is_free_drop, is_in_vain, leaves_another, moves_own}
 
 -- ---- where the variant asks no more than a safe king
 
@@ -148,7 +148,7 @@ pub not_passing : (rules : Rules) (r : Repeat) (from : Square) (s : ℕ) → is_
 unfolding passes_by
 not_passing rules r from s e = middle_false (is_own_pawn rules r.side (cell_at r.cells from.0)) (is_ep r.ep s) (is_diagonal (board_of rules) r.side from s) e
 
-pub free_is_safe : (rules : Rules) (r : Repeat) (own free : Set) (m : Move) → GoFreely rules r own free → IsFitMove m → is_free r own free m ≡ true → is_safe rules r m ≡ true
+pub free_is_safe : (rules : Rules) (r : Repeat) (own free : Set) (m : Move) → GoFreely rules r own free → IsFitMove m → is_free_go r own free m ≡ true → is_safe rules r m ≡ true
 free_is_safe rules r own free (Go from to Stays None) freely fit e =
     let a = and_parts (has free from.0 && not (has own to.0)) (not (is_ep r.ep to.0)) e in
     let b = and_parts (has free from.0) (not (has own to.0)) a.0 in

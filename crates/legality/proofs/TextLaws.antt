@@ -16,7 +16,7 @@ use Rattle.rules_model.specs.declared.moves.Move.{Move}
 use Rattle.rules_model.specs.declared.rules.Rules.{Rules}
 use Rattle.rules_model.specs.Legal.{legal}
 use Rattle.rules_model.specs.Moves.{IsFitMove}
-use Rattle.rules_model.specs.MoveText.{move_cmp, parts_of, text_of}
+use Rattle.rules_model.specs.MoveText.{move_cmp, order_parts, text_of}
 use Rattle.rules_model.specs.Ready.{IsReady}
 use Rattle.rules_model.specs.Repeats.{repeat_of}
 use Rattle.rules_model.specs.Sound.{is_sound, is_sound_repeat}
@@ -34,12 +34,12 @@ tied_itself Less e = cc
 tied_itself Equal e = refl
 tied_itself Greater e = refl
 
-by_parts : (x y : Move) (r : Ordering) → slice_cmp nat_cmp (text_of x) (text_of y) ≡ r → is_lt r ≡ false → (text_of x ≡ text_of y → x ≡ y) → is_lt (ordering_then r (slice_cmp nat_cmp (parts_of x) (parts_of y))) ≡ false
+by_parts : (x y : Move) (r : Ordering) → slice_cmp nat_cmp (text_of x) (text_of y) ≡ r → is_lt r ≡ false → (text_of x ≡ text_of y → x ≡ y) → is_lt (ordering_then r (slice_cmp nat_cmp (order_parts x) (order_parts y))) ≡ false
 by_parts x y Less e l same = cc
 by_parts x y Equal e l same =
     let one = same (slice_cmp-IsAntisymmetric nat_cmp-IsAntisymmetric (text_of x) (text_of y) e) in
-    subst (λ (z : Move). is_lt (slice_cmp nat_cmp (parts_of x) (parts_of z)) ≡ false) one
-    (tied_itself (slice_cmp nat_cmp (parts_of x) (parts_of x)) (nat_list_cmp_total.antisymm (parts_of x) (parts_of x)))
+    subst (λ (z : Move). is_lt (slice_cmp nat_cmp (order_parts x) (order_parts z)) ≡ false) one
+    (tied_itself (slice_cmp nat_cmp (order_parts x) (order_parts x)) (nat_list_cmp_total.antisymm (order_parts x) (order_parts x)))
 by_parts x y Greater e l same = refl
 
 not_less : (x y : Move) → IsFitMove x → IsFitMove y → (text_of x ≡ text_of y → x ≡ y) → is_lt (nat_cmp (key_of x) (key_of y)) ≡ false → is_lt (move_cmp x y) ≡ false

@@ -32,11 +32,11 @@ moves_own r (Drop kind to) = true
 
 -- a piece of the free squares goes without a gate and stays what it is, to a square without an own piece and not to
 -- that of en passant
-abbrev pub is_free : Repeat → Set → Set → Move → Bool
-is_free r own free (Go from to promo gate) =
+abbrev pub is_free_go : Repeat → Set → Set → Move → Bool
+is_free_go r own free (Go from to promo gate) =
     is_stays promo && is_none gate && has free from.0 && not (has own to.0) && not (is_ep r.ep to.0)
-is_free r own free (Castle from to rook gate) = false
-is_free r own free (Drop kind to) = false
+is_free_go r own free (Castle from to rook gate) = false
+is_free_go r own free (Drop kind to) = false
 
 -- a piece other than a king is dropped on one of the squares that are free to enter
 abbrev pub is_free_drop : Rules → Set → Move → Bool

@@ -131,9 +131,9 @@ impl<'a> Safety<'a> {
 
     /// Whether a free piece goes without a gate and stays what it is, to a square without an own piece, and not to
     /// that of en passant.
-    fn is_free(&self, m: &Move) -> bool
+    fn is_free_go(&self, m: &Move) -> bool
         requires { IsFitMove m.now }
-        ensures { result ≡ Moved.is_free (repeat_of self.now.p.now) self.now.sets.own self.now.free.to_leave m.now }
+        ensures { result ≡ Moved.is_free_go (repeat_of self.now.p.now) self.now.sets.own self.now.free.to_leave m.now }
     {
         match *m {
             Move::Go {
@@ -316,7 +316,7 @@ impl<'a> Safety<'a> {
         ensures { result ≡ Legal.is_safe self.now.tables.now (repeat_of self.now.p.now) m.now }
     {
         position_sizes(self.p);
-        if self.is_free(m) {
+        if self.is_free_go(m) {
             return true;
         }
         if self.is_free_drop(m) {

@@ -7,7 +7,7 @@ use Rattle.pn_search.specs.declared.node.Node.{Node}
 use Rattle.pn_search.specs.declared.node.State.{State}
 use Rattle.pn_search.specs.declared.node.State.TheVariants.{Open, Won, Lost, Inner}
 use Rattle.pn_search.specs.declared.numbers.Pair.{Pair}
-use Rattle.pn_search.specs.Numbers.{open_pair, of_children, of_children_from, pair_at, pair_of, pairs_from, pairs_of}
+use Rattle.pn_search.specs.Numbers.{open_pair, of_children, of_children_from, pair_at, numbers_of, pairs_from, pairs_of}
 use Rattle.pn_search.specs.Shapes.{AreWithin, AreItsChildren, AreInPlace, IsNumbered}
 
 -- what a read past the end would give
@@ -50,18 +50,18 @@ within-length (Inner first count) nodes i h = (h first count refl).within
 
 module _ (nodes : List Node) (placed : AreInPlace nodes) where
   -- the node whose pair is written
-  pub wrote-here : (ps : List Pair) (at : ℕ) (v : Node) (q : Pair) → slice_get nodes at ≡ Some v → at < length ps → q ≡ pair_of v.state v.attacking (of_children v.state ps) → IsNumbered nodes (set ps at q) at
-  wrote-here ps at v q h within e w k = subst (λ x. pair_at (set ps at q) at ≡ pair_of x.state x.attacking (of_children x.state (set ps at q))) (same_node nodes at v w h k) own
+  pub wrote-here : (ps : List Pair) (at : ℕ) (v : Node) (q : Pair) → slice_get nodes at ≡ Some v → at < length ps → q ≡ numbers_of v.state v.attacking (of_children v.state ps) → IsNumbered nodes (set ps at q) at
+  wrote-here ps at v q h within e w k = subst (λ x. pair_at (set ps at q) at ≡ numbers_of x.state x.attacking (of_children x.state (set ps at q))) (same_node nodes at v w h k) own
     where
-      own : pair_at (set ps at q) at ≡ pair_of v.state v.attacking (of_children v.state (set ps at q))
+      own : pair_at (set ps at q) at ≡ numbers_of v.state v.attacking (of_children v.state (set ps at q))
       own =
           get_or-set_same ps at q open_pair within ∙ e
-          ∙ ap (pair_of v.state v.attacking) (sym (same_children v.state ps at q (λ first count is. inl ((placed at v h).children first count is).after)))
+          ∙ ap (numbers_of v.state v.attacking) (sym (same_children v.state ps at q (λ first count is. inl ((placed at v h).children first count is).after)))
 
   -- the others, but for its parent
   pub wrote-others : (ps : List Pair) (at : ℕ) (v : Node) (q : Pair) → slice_get nodes at ≡ Some v → (i : ℕ) → (i ≡ at → ⊥) → (0 < at → i ≡ v.parent → ⊥) → IsNumbered nodes ps i → IsNumbered nodes (set ps at q) i
   wrote-others ps at v q h i other above so w k =
-      get_or-set_other ps at i q open_pair other ∙ so w k ∙ ap (pair_of w.state w.attacking) (sym (same_children w.state ps at q outside))
+      get_or-set_other ps at i q open_pair other ∙ so w k ∙ ap (numbers_of w.state w.attacking) (sym (same_children w.state ps at q outside))
     where
       outside : (first count : ℕ) → w.state ≡ Inner first count → (at < first) ⊎ (first + count ≤ at)
       outside first count is = by_place (cases_lt at first) (cases_lt at (first + count))
@@ -107,7 +107,7 @@ module _ (nodes : List Node) (placed : AreInPlace nodes) where
       let rest = tail_of at ps qs q is in
       let later = from_numbered ps all (suc at) vs qs (λ i w k. let e : at + suc i ≡ suc at + i = omega arith in subst (λ n. slice_get nodes n ≡ Some w) e (stands (suc i) w k)) rest (omega arith) in
       let here : slice_get nodes at ≡ Some v = let e : at + 0 ≡ at = omega arith in subst (λ n. slice_get nodes n ≡ Some v) e (stands 0 v refl) in
-      let own : q ≡ pair_of v.state v.attacking (of_children_from (suc at) v.state (pairs_from (suc at) vs)) = head_of at ps qs q is ∙ all at v here ∙ ap (pair_of v.state v.attacking) (behind-node at v ps here ∙ ap (of_children_from (suc at) v.state) (rest ∙ later)) in
+      let own : q ≡ numbers_of v.state v.attacking (of_children_from (suc at) v.state (pairs_from (suc at) vs)) = head_of at ps qs q is ∙ all at v here ∙ ap (numbers_of v.state v.attacking) (behind-node at v ps here ∙ ap (of_children_from (suc at) v.state) (rest ∙ later)) in
       λ i. own i ∷ later i
 
   pub worked_out : (ps : List Pair) → length ps ≡ length nodes → ((i : ℕ) → IsNumbered nodes ps i) → ps ≡ pairs_of nodes
@@ -136,8 +136,8 @@ module _ (nodes : List Node) (placed : AreInPlace nodes) where
       let suc_more : 0 + suc i ≡ suc i = omega arith in
       let here : drop i ps ≡ pairs_from i (v ∷ cut.0) = drop-pairs i 0 nodes ∙ ap (λ n. pairs_from n (drop i nodes)) zero_more ∙ ap (pairs_from i) cut.1 in
       let later : drop (suc i) ps ≡ pairs_from (suc i) cut.0 = drop-pairs (suc i) 0 nodes ∙ ap (λ n. pairs_from n (drop (suc i) nodes)) suc_more ∙ ap (pairs_from (suc i)) cut.2 in
-      sym (head_of i ps (pairs_from (suc i) cut.0) (pair_of v.state v.attacking (of_children_from (suc i) v.state (pairs_from (suc i) cut.0))) here)
-      ∙ ap (pair_of v.state v.attacking) (sym (behind-node i v ps h ∙ ap (of_children_from (suc i) v.state) later))
+      sym (head_of i ps (pairs_from (suc i) cut.0) (numbers_of v.state v.attacking (of_children_from (suc i) v.state (pairs_from (suc i) cut.0))) here)
+      ∙ ap (numbers_of v.state v.attacking) (sym (behind-node i v ps h ∙ ap (of_children_from (suc i) v.state) later))
 
 length-from : (at : ℕ) (vs : List Node) → length (pairs_from at vs) ≡ length vs
 unfolding pairs_from

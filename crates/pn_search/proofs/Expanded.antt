@@ -21,7 +21,7 @@ use Rattle.pn_search.specs.declared.node.State.{State}
 use Rattle.pn_search.specs.declared.node.State.TheVariants.{Open, Won, Lost, Inner}
 use Rattle.pn_search.specs.declared.numbers.Pair.{Pair}
 use Rattle.pn_search.specs.Kept.{written_child}
-use Rattle.pn_search.specs.Numbers.{open_pair, of_children, pair_at, pair_of, pairs_of}
+use Rattle.pn_search.specs.Numbers.{open_pair, of_children, pair_at, numbers_of, pairs_of}
 use Rattle.pn_search.specs.Shapes.{AreInPlace, IsNumbered}
 use Rattle.pn_search.specs.Trees.{spot_at, child_node, children_of, end_at, state_by, expanded_with, expanded_at, nodes_after}
 use Rattle.pn_search.proofs.Carried.{numbered, length-pairs}
@@ -102,13 +102,13 @@ module _ (nodes : List Node) (placed : AreInPlace nodes) (ps : List Pair) (are :
       same_length : length (set nodes at w) ≡ length nodes
       same_length = length-set nodes at w
 
-      by_place : (i < length nodes) ⊎ (length nodes ≤ i) → pair_at (ps ++ xs) i ≡ pair_of u.state u.attacking (of_children u.state (ps ++ xs))
+      by_place : (i < length nodes) ⊎ (length nodes ≤ i) → pair_at (ps ++ xs) i ≡ numbers_of u.state u.attacking (of_children u.state (ps ++ xs))
       by_place (inl low) =
           let same = same_length in
           let there : slice_get nodes i ≡ Some u = sym (slice_get-set_other nodes at i w (λ e. other (sym e))) ∙ sym (get-left (set nodes at w) cs i (omega arith)) ∙ k in
           let l = long in
           get_or_append_left ps xs open_pair i (omega arith) ∙ old i u there
-          ∙ ap (pair_of u.state u.attacking) (sym (same_part u.state xs (λ first count is. let c = ((placed i u there).children first count is).within in omega arith)))
+          ∙ ap (numbers_of u.state u.attacking) (sym (same_part u.state xs (λ first count is. let c = ((placed i u there).children first count is).within in omega arith)))
       by_place (inr high) =
           let l = long in
           let same = same_length in
@@ -116,7 +116,7 @@ module _ (nodes : List Node) (placed : AreInPlace nodes) (ps : List Pair) (are :
           let m = mapped (written_child at v) ms (i - length nodes) u there in
           let within = slice_get_within ms (i - length nodes) m.0 m.1 in
           let own : pair_at (ps ++ xs) i ≡ open_pair = get_or-append_right ps xs (length nodes) i open_pair l high ∙ get_or-replicate (length ms) (i - length nodes) open_pair open_pair within in
-          subst (λ (y : Node). pair_at (ps ++ xs) i ≡ pair_of y.state y.attacking (of_children y.state (ps ++ xs))) m.2 own
+          subst (λ (y : Node). pair_at (ps ++ xs) i ≡ numbers_of y.state y.attacking (of_children y.state (ps ++ xs))) m.2 own
 
 -- ---- how it ends
 

@@ -7,7 +7,7 @@ use Rattle.pn_search.specs.declared.node.State.{State}
 use Rattle.pn_search.specs.declared.node.State.TheVariants.{Open, Won, Lost, Inner}
 use Rattle.pn_search.specs.declared.numbers.Pair.{Pair}
 use Rattle.pn_search.specs.Meaning.{won_pair, lost_pair}
-use Rattle.pn_search.specs.Numbers.{infinite, plus, sum_of, least_of, own_number, pair_with, inner_pair, open_pair, of_children_from, pair_at, pair_of, pairs_from, pairs_of}
+use Rattle.pn_search.specs.Numbers.{infinite, plus, sum_of, least_of, own_number, pair_with, inner_pair, open_pair, of_children_from, pair_at, numbers_of, pairs_from, pairs_of}
 
 -- one of the numbers is 0 and the other infinite, or both are between
 pub data AreFair (a b : ℕ) : Type 0 where
@@ -65,7 +65,7 @@ taken-fair count skip ps h k low =
     let e = get_or-take count (drop skip ps) k open_pair (omega arith) ∙ get_or-drop skip ps k open_pair in
     subst IsFair (sym e) (h (skip + k) (omega arith))
 
-node-fair : (at : ℕ) (s : State) (a : Bool) (later : List Pair) → ((k : ℕ) → k < length later → IsFair (get_or later k open_pair)) → IsFair (pair_of s a (of_children_from at s later))
+node-fair : (at : ℕ) (s : State) (a : Bool) (later : List Pair) → ((k : ℕ) → k < length later → IsFair (get_or later k open_pair)) → IsFair (numbers_of s a (of_children_from at s later))
 unfolding inner_pair
 node-fair at Open a later h = between (omega arith) (omega arith) (omega arith) (omega arith)
 node-fair at Won a later h = reached refl refl

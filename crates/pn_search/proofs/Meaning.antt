@@ -24,7 +24,7 @@ use Rattle.pn_search.specs.declared.node.State.{State}
 use Rattle.pn_search.specs.declared.node.State.TheVariants.{Open, Won, Lost, Inner}
 use Rattle.pn_search.specs.declared.numbers.Pair.{Pair}
 use Rattle.pn_search.specs.Meaning.{moves_win, root_pair, won_pair, lost_pair, PairDecides}
-use Rattle.pn_search.specs.Numbers.{plus, sum_of, least_of, own_number, inner_pair, open_pair, of_children, pair_at, pair_of, pairs_of}
+use Rattle.pn_search.specs.Numbers.{plus, sum_of, least_of, own_number, inner_pair, open_pair, of_children, pair_at, numbers_of, pairs_of}
 use Rattle.pn_search.specs.Shapes.{AreInPlace}
 use Rattle.pn_search.specs.Trees.{ProofTree, left_after, end_at, IsPn}
 use Rattle.pn_search.proofs.Carried.{numbered, length-pairs}
@@ -238,7 +238,7 @@ module _ (f : Frame) where
             let same : left_after v.attacking v.left ≡ v.left = ap (λ b. left_after b v.left) e in
             defence-says i p c.ongoing cs as_long v.left (sym turn ∙ e) (λ k m is. subst (λ l. ChildSays (get_or cs k open_pair) l (next f.rules p m)) same (child-says later k m is))
 
-      by_state : ((j : ℕ) (w : Node) → i < j → slice_get nodes j ≡ Some w → Says (pair_at ps j) j w.left (r.position j)) → (s : State) → IsStateOf f nodes r.position i p v s → Says (pair_of s v.attacking (of_children s ps)) i v.left p
+      by_state : ((j : ℕ) (w : Node) → i < j → slice_get nodes j ≡ Some w → Says (pair_at ps j) j w.left (r.position j)) → (s : State) → IsStateOf f nodes r.position i p v s → Says (numbers_of s v.attacking (of_children s ps)) i v.left p
       by_state later Open st = record { proved = λ z. absurd (omega arith); disproved = λ z. absurd (omega arith) }
       by_state later Won st = record { proved = λ z. worth-ended i v.left p true st; disproved = λ z. absurd (omega arith) }
       by_state later Lost (inl e) = record { proved = λ z. absurd (omega arith); disproved = λ z. worth-ended i v.left p false e }

@@ -19,7 +19,7 @@ use Rattle.pn_search.specs.declared.node.State.{State}
 use Rattle.pn_search.specs.declared.node.State.TheVariants.{Open, Won, Lost, Inner}
 use Rattle.pn_search.specs.declared.numbers.Pair.{Pair}
 use Rattle.pn_search.specs.Kept.{open_leaf, open_leaves, work_left}
-use Rattle.pn_search.specs.Numbers.{infinite, sum_of, least_of, own_number, pair_with, inner_pair, open_pair, of_children, first_child, pair_at, pair_of, pairs_of}
+use Rattle.pn_search.specs.Numbers.{infinite, sum_of, least_of, own_number, pair_with, inner_pair, open_pair, of_children, first_child, pair_at, numbers_of, pairs_of}
 use Rattle.pn_search.specs.Shapes.{AreInPlace}
 use Rattle.pn_search.specs.Trees.{ProofTree, Spot, best_child, best_child_at, child_spot, child_node, children_of, descend, end_at, expanded_at, expanded_with, most_proving, nodes_after, is_settled, is_settled_pair, state_by}
 use Rattle.pn_search.proofs.Carried.{numbered, length-pairs}
@@ -103,7 +103,7 @@ module _ (f : Frame) (root : Position) (n : ℕ) (nodes : List Node) (r : AreRoo
       let l = length-pairs nodes in
       let w = its.within in
       let within = slice_get_within nodes i v stands in
-      let own : q ≡ pair_with a (least_of (map (own_number a) cs)) (sum_of (map (own_number (not a)) cs)) = numbered nodes placed i v stands ∙ ap (λ s. pair_of s a (of_children s ps)) state in
+      let own : q ≡ pair_with a (least_of (map (own_number a) cs)) (sum_of (map (own_number (not a)) cs)) = numbered nodes placed i v stands ∙ ap (λ s. numbers_of s a (of_children s ps)) state in
       let number : own_number a q ≡ least_of (map (own_number a) cs) = ap (own_number a) own ∙ own-with a (least_of (map (own_number a) cs)) (sum_of (map (own_number (not a)) cs)) in
       let m = own-middle a q (fair-here i within) middle in
       let low : least_of (map (own_number a) cs) < infinite = subst (λ x. x < infinite) number m.1 in
@@ -140,11 +140,11 @@ module _ (f : Frame) (root : Position) (n : ℕ) (nodes : List Node) (r : AreRoo
           open_not_inner : (first count : ℕ) → Open ≡ Inner first count → ⊥
           open_not_inner first count k = cc
       by_state more v stands Won e =
-          let own = numbered nodes placed s.place v stands ∙ ap (λ x. pair_of x v.attacking (of_children x ps)) e in
+          let own = numbered nodes placed s.place v stands ∙ ap (λ x. numbers_of x v.attacking (of_children x ps)) e in
           let zero_proof = ap (λ (y : Pair). y.proof) own in
           absurd (let m = middle.0 in omega arith)
       by_state more v stands Lost e =
-          let own = numbered nodes placed s.place v stands ∙ ap (λ x. pair_of x v.attacking (of_children x ps)) e in
+          let own = numbered nodes placed s.place v stands ∙ ap (λ x. numbers_of x v.attacking (of_children x ps)) e in
           let no_proof = ap (λ (y : Pair). y.proof) own in
           absurd (let m = middle.1 in omega arith)
       by_state more v stands (Inner first count) e =

@@ -41,11 +41,11 @@ inner_pair attacking cs =
 abbrev pub open_pair : Pair
 open_pair = record { proof = 1; disproof = 1 }
 
-abbrev pub pair_of : State → Bool → List Pair → Pair
-pair_of Open attacking cs = open_pair
-pair_of Won attacking cs = record { proof = 0; disproof = infinite }
-pair_of Lost attacking cs = record { proof = infinite; disproof = 0 }
-pair_of (Inner first count) attacking cs = inner_pair attacking cs
+abbrev pub numbers_of : State → Bool → List Pair → Pair
+numbers_of Open attacking cs = open_pair
+numbers_of Won attacking cs = record { proof = 0; disproof = infinite }
+numbers_of Lost attacking cs = record { proof = infinite; disproof = 0 }
+numbers_of (Inner first count) attacking cs = inner_pair attacking cs
 
 -- where the children of an inner node begin
 abbrev pub first_child : State → ℕ
@@ -72,7 +72,7 @@ of_children_from at (Inner first count) xs = take count (drop (first - at) xs)
 
 -- the pair of the node with the number `at`, before those of the nodes after it
 abbrev pub before : ℕ → Node → List Pair → List Pair
-before at v later = pair_of v.state v.attacking (of_children_from (suc at) v.state later) ∷ later
+before at v later = numbers_of v.state v.attacking (of_children_from (suc at) v.state later) ∷ later
 
 -- the pairs of these nodes, the first of which has the number `at`: a node's children are among the nodes after it
 unfoldable pub pairs_from : ℕ → List Node → List Pair

@@ -4,7 +4,7 @@ use Rattle.pn_search.specs.declared.node.Node.{Node}
 use Rattle.pn_search.specs.declared.node.State.{State}
 use Rattle.pn_search.specs.declared.node.State.TheVariants.{Open, Won, Lost, Inner}
 use Rattle.pn_search.specs.declared.numbers.Pair.{Pair}
-use Rattle.pn_search.specs.Numbers.{of_children, pair_at, pair_of}
+use Rattle.pn_search.specs.Numbers.{of_children, pair_at, numbers_of}
 
 -- the children are among so many nodes
 abbrev pub AreWithin : State → ℕ → Type 0
@@ -30,4 +30,4 @@ AreInPlace nodes = (i : ℕ) (v : Node) → slice_get nodes i ≡ Some v → IsI
 -- the pair of the node with the number i is worked out from those of its children
 abbrev pub IsNumbered : List Node → List Pair → ℕ → Type 0
 IsNumbered nodes ps i =
-    (v : Node) → slice_get nodes i ≡ Some v → pair_at ps i ≡ pair_of v.state v.attacking (of_children v.state ps)
+    (v : Node) → slice_get nodes i ≡ Some v → pair_at ps i ≡ numbers_of v.state v.attacking (of_children v.state ps)

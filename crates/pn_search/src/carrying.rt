@@ -16,9 +16,9 @@ pub(crate) fn children_of(pairs: &[Pair], first: u32, count: u32) -> &[Pair]
 }
 
 // The pair of the node by those of its children.
-fn pair_of(node: &Node, pairs: &[Pair]) -> Pair
+fn numbers_of(node: &Node, pairs: &[Pair]) -> Pair
     requires { Shapes.AreWithin node.now.state (length pairs.now) }
-    ensures { result ≡ Numbers.pair_of node.now.state node.now.attacking
+    ensures { result ≡ Numbers.numbers_of node.now.state node.now.attacking
         (Numbers.of_children node.now.state pairs.now) }
 {
     match node.state {
@@ -47,7 +47,7 @@ pub(crate) fn carry(nodes: &[Node], pairs: &mut [Pair], changed: usize)
 {
     let mut at = changed;
     'up: loop {
-        let pair = pair_of(&nodes[at], pairs);
+        let pair = numbers_of(&nodes[at], pairs);
         if pair == pairs[at] {
             return;
         }

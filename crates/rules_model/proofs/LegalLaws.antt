@@ -23,7 +23,7 @@ use Rattle.rules_model.specs.declared.moves.Placed.{Placed}
 use Rattle.rules_model.specs.declared.moves.Promo.{Promo}
 use Rattle.rules_model.specs.declared.moves.Promo.TheVariants.{Stays, Pawn, Plus}
 use Rattle.rules_model.specs.declared.rules.Rules.{Rules}
-use Rattle.rules_model.specs.MoveText.{text_of, parts_of, move_cmp, promo_parts, gate_parts, placed_parts}
+use Rattle.rules_model.specs.MoveText.{text_of, order_parts, move_cmp, promo_parts, gate_parts, placed_parts}
 use Rattle.rules_model.specs.Moves.{IsFitMove, IsFitPromo, IsFitGate, IsFitPlaced}
 use Rattle.rules_model.specs.Next.{captures}
 use Rattle.rules_model.specs.Ends.{is_ongoing, early_end}
@@ -34,7 +34,7 @@ use Rattle.rules_model.specs.Allowed.{can_capture, is_legal}
 
 pub move_cmp-total : IsTotalOrder move_cmp
 unfolding move_cmp
-move_cmp-total = then_total (on_total text_of nat_list_cmp_total) (on_total parts_of nat_list_cmp_total)
+move_cmp-total = then_total (on_total text_of nat_list_cmp_total) (on_total order_parts nat_list_cmp_total)
 
 second : (r s : Ordering) → ordering_then r s ≡ Equal → s ≡ Equal
 second Less s e = cc
@@ -77,8 +77,8 @@ pair_from Plus Stays g h e = cc
 pair_from Plus (Pawn b) g h e = cc
 pair_from Plus Plus g h e = (refl, cc)
 
-parts-inj : (x y : Move) → parts_of x ≡ parts_of y → x ≡ y
-unfolding parts_of
+parts-inj : (x y : Move) → order_parts x ≡ order_parts y → x ≡ y
+unfolding order_parts
 parts-inj (Go a b p g) (Go c d q h) e =
     let f : a ≡ c = square_from a c cc in
     let i : b ≡ d = square_from b d cc in

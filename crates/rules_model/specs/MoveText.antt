@@ -63,12 +63,13 @@ placed_parts None = []
 placed_parts (Some placed) = placed.kind.0 ∷ placed.at.0 ∷ []
 
 -- the parts of a move in order
-unfoldable pub parts_of : Move → List ℕ
-parts_of (Go from to promo gate) = 0 ∷ from.0 ∷ to.0 ∷ (promo_parts promo ++ gate_parts gate)
-parts_of (Castle from to rook gate) = 1 ∷ from.0 ∷ to.0 ∷ rook.0 ∷ placed_parts gate
-parts_of (Drop kind to) = 2 ∷ kind.0 ∷ to.0 ∷ []
+unfoldable pub order_parts : Move → List ℕ
+order_parts (Go from to promo gate) = 0 ∷ from.0 ∷ to.0 ∷ (promo_parts promo ++ gate_parts gate)
+order_parts (Castle from to rook gate) = 1 ∷ from.0 ∷ to.0 ∷ rook.0 ∷ placed_parts gate
+order_parts (Drop kind to) = 2 ∷ kind.0 ∷ to.0 ∷ []
 
 -- the byte order of the texts. Moves of one text, which no position has together, stand in the order of their parts: so
 -- the order is total over all moves
 unfoldable pub move_cmp : Move → Move → Ordering
-move_cmp x y = ordering_then (slice_cmp nat_cmp (text_of x) (text_of y)) (slice_cmp nat_cmp (parts_of x) (parts_of y))
+move_cmp x y =
+    ordering_then (slice_cmp nat_cmp (text_of x) (text_of y)) (slice_cmp nat_cmp (order_parts x) (order_parts y))

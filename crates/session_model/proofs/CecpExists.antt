@@ -11,7 +11,7 @@ use Rattle.session_model.specs.CecpSession as Session
 use Rattle.session_model.specs.CecpSession.{cecp, answer_of, depth_for, is_given_up, lowered, move_line, saying, time_for}
 use Rattle.session_model.specs.CecpState.{State, played, thinks}
 use Rattle.io_ports.specs.Heard.{stops}
-use Rattle.watching.specs.Events.{Event, Hears, Says, AreUnstopped, lines_of as heard, opened, readings, said}
+use Rattle.watching.specs.Events.{Event, Hears, Says, AreUnstopped, heard_lines as heard, opened, readings, said}
 use Rattle.session_model.specs.Events.{IsStopped, clocked}
 use Rattle.session_model.specs.Laws.{HasOutput}
 use Rattle.session_model.specs.Thinking.{Interrupted, InSearch}

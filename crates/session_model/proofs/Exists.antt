@@ -9,7 +9,7 @@ use Rattle.io_ports.specs.Trace.{faults_in}
 use Rattle.rules_model.specs.declared.moves.Move.{Move}
 use Rattle.game_play.specs.Played.{legal_in}
 use Rattle.io_ports.specs.Heard.{stops}
-use Rattle.watching.specs.Events.{Event, Hears, Says, Opens, AreUnstopped, lines_of as heard, opened, readings, said}
+use Rattle.watching.specs.Events.{Event, Hears, Says, Opens, AreUnstopped, heard_lines as heard, opened, readings, said}
 use Rattle.session_model.specs.Events.{IsStopped}
 use Rattle.session_model.specs.Laws.{HasOutput}
 use Rattle.session_model.proofs.Outputs

@@ -7,7 +7,7 @@ use Rattle.io_ports.specs.Lines.{Line}
 use Rattle.io_ports.specs.Owing.{Lacks}
 use Rattle.io_ports.specs.Source.{Owed, Untold}
 use Rattle.io_ports.specs.Trace.{faults_in}
-use Rattle.watching.specs.Events.{Event, Hears, Says, Reads, Opens, AreUnstopped, Listens, lines_of as heard, readings, reading_at, said, said_at}
+use Rattle.watching.specs.Events.{Event, Hears, Says, Reads, Opens, AreUnstopped, Listens, heard_lines as heard, readings, reading_at, said, said_at}
 use Rattle.session_model.specs.Deadlines.{IsReached, deadline_of}
 use Rattle.session_model.specs.Events.{clocked}
 use Rattle.session_model.specs.Laws.{HasOutput, IsWider}

@@ -5,7 +5,7 @@ use Rattle.io_ports.specs.Files.{Contents, Read, Finds, IsFound}
 use Rattle.io_ports.specs.Lines.{Line}
 use Rattle.io_ports.specs.Source.{Untold}
 use Rattle.io_ports.specs.Trace.{faults_in}
-use Rattle.watching.specs.Events.{Event, lines_of as heard, opened, readings}
+use Rattle.watching.specs.Events.{Event, heard_lines as heard, opened, readings}
 use Rattle.session_model.specs.Laws.{HasOutput}
 use Rattle.session_model.specs.Turns.{Protocol, Turn, Turns, IsOver, lines_in, output_in, reads_in, readings_in}
 

@@ -10,7 +10,7 @@ use Rattle.io_ports.specs.Lines as lines
 use Rattle.io_ports.specs.Lines.{Line}
 use Rattle.rules_model.specs.declared.moves.Move.{Move}
 use Rattle.game_play.specs.Played.{legal_in}
-use Rattle.watching.specs.Events.{Event, Hears, Says, Reads, Opens, AreUnstopped, lines_of as heard}
+use Rattle.watching.specs.Events.{Event, Hears, Says, Reads, Opens, AreUnstopped, heard_lines as heard}
 use Rattle.session_model.proofs.Hearing.{hears_as_read}
 use Rattle.session_model.specs.CecpLines as CecpLines
 use Rattle.session_model.specs.CecpSession as CecpSession

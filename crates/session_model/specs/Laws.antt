@@ -32,7 +32,7 @@ use Rattle.session_model.specs.UciTexts.{best_line, depth_line, depth_lines, no_
 use Rattle.session_model.specs.CecpSession as CecpSession
 use Rattle.session_model.specs.CecpSession.{cecp}
 use Rattle.session_model.specs.CecpState as CecpState
-use Rattle.watching.specs.Events.{Event, lines_of, said}
+use Rattle.watching.specs.Events.{Event, heard_lines, said}
 use Rattle.strategy.specs.declared.nodes.Strategy.{Strategy}
 use Rattle.rules_model.specs.declared.rules.Rules.{Rules}
 use Rattle.variant_ini.specs.OptionValue.{first_named}
@@ -254,7 +254,7 @@ QuitsStop p = (line : Line) → p.quits line ≡ true → stops p.dialect line �
 abbrev pub HearsUnstopping : {S : Type 0} → Protocol S → Type 1
 HearsUnstopping {S = S} p =
     (A : Type 0) (state : S) (turn : Turn S) (following : List Line) → p.answers A state turn following
-    → AllByRecursion (λ line. stops p.dialect line ≡ false) (lines_of turn.events)
+    → AllByRecursion (λ line. stops p.dialect line ≡ false) (heard_lines turn.events)
 
 -- the lines that are wanted are those of the turns, and the one that ends the session
 abbrev pub LinesAreWanted : {S : Type 0} → Protocol S → Type 0

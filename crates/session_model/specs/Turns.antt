@@ -5,7 +5,7 @@ use Rattle.io_ports.specs.declared.dialect.Dialect.{Dialect}
 use Rattle.io_ports.specs.Files.{Contents, Read, Finds}
 use Rattle.io_ports.specs.Lines.{Line}
 use Rattle.io_ports.specs.Source.{Owed}
-use Rattle.watching.specs.Events.{Event, lines_of as heard, written, readings, opened}
+use Rattle.watching.specs.Events.{Event, heard_lines as heard, written, readings, opened}
 use Rattle.io_ports.specs.Owing.{Lacks}
 
 pub record Turn (S : Type 0) : Type 0 where

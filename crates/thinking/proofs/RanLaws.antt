@@ -9,8 +9,8 @@ use Rattle.io_ports.specs.declared.dialect.Dialect.{Dialect}
 use Rattle.io_ports.specs.Lines.{Line}
 use Rattle.io_ports.specs.Trace.{Moves}
 use Rattle.io_ports.proofs.Moved.{moves_at, moves_more, takes_none}
-use Rattle.watching.specs.EventLaws.{lines_of-append, readings-append, written-append}
-use Rattle.watching.specs.Events.{Event, Says, Reads, AreUnstopped, lines_of, readings, said, written}
+use Rattle.watching.specs.EventLaws.{heard_lines-append, readings-append, written-append}
+use Rattle.watching.specs.Events.{Event, Says, Reads, AreUnstopped, heard_lines, readings, said, written}
 use Rattle.watching.specs.Looks.{Broke, Moved, Ran}
 use Rattle.thinking.specs.declared.style.Style.{Style}
 use Rattle.thinking.specs.declared.style.Style.TheVariants as style
@@ -18,7 +18,7 @@ use Rattle.thinking.specs.Tells.{BrokeHeld, reads_by}
 
 -- ---- texts that are said
 
-pub lines_of_says : (texts : List (List ℕ)) → lines_of (map Says texts) ≡ []
+pub lines_of_says : (texts : List (List ℕ)) → heard_lines (map Says texts) ≡ []
 lines_of_says [] = refl
 lines_of_says (text ∷ texts) = lines_of_says texts
 
@@ -45,7 +45,7 @@ told style.Uci reading texts = map Says texts
 told style.Post reading texts = Reads reading ∷ map Says texts
 told style.Silent reading texts = map Says texts
 
-pub lines_of_told : (style : Style) (reading : ℕ) (texts : List (List ℕ)) → lines_of (told style reading texts) ≡ []
+pub lines_of_told : (style : Style) (reading : ℕ) (texts : List (List ℕ)) → heard_lines (told style reading texts) ≡ []
 lines_of_told style.Uci reading texts = lines_of_says texts
 lines_of_told style.Post reading texts = lines_of_says texts
 lines_of_told style.Silent reading texts = lines_of_says texts
@@ -75,7 +75,7 @@ broke_held {moved = moved} dialect f b = record {
   holds = f b.events b.holds;
 }
   where
-    ap_lines : (events : List Event) {front : List ℕ} → moved (lines_of events) front (readings events) → moved (lines_of events ++ []) front (readings events)
+    ap_lines : (events : List Event) {front : List ℕ} → moved (heard_lines events) front (readings events) → moved (heard_lines events ++ []) front (readings events)
     ap_lines events went = rw append-nil went
 
 module _ {S K C : Type 0} {left : S → Option (List ℕ)} {taken : K → Option (List ℕ)} {given : C → Option (List ℕ)} {count last : C → ℕ} (dialect : Dialect) where
@@ -101,8 +101,8 @@ module _ {S K C : Type 0} {left : S → Option (List ℕ)} {taken : K → Option
       record {
         events = a.events ++ more;
         went = moves_at (moves_more a.went moves)
-            (append-nil (lines_of a.events ++ behind)
-            ∙ ap (λ l. l ++ behind) (sym (lines_of-append a.events more ∙ ap (λ l. lines_of a.events ++ l) (lines_of_told style reading texts) ∙ append-nil (lines_of a.events))))
+            (append-nil (heard_lines a.events ++ behind)
+            ∙ ap (λ l. l ++ behind) (sym (heard_lines-append a.events more ∙ ap (λ l. heard_lines a.events ++ l) (lines_of_told style reading texts) ∙ append-nil (heard_lines a.events))))
             (ap (λ l. written dialect a.events ++ l) (sym (written_told dialect style reading texts)) ∙ sym (written-append dialect a.events more))
             (ap (λ l. readings a.events ++ l) (sym (readings_told style reading texts)) ∙ sym (readings-append a.events more));
         holds = f a.events a.holds;
@@ -126,8 +126,8 @@ module _ {S K C : Type 0} {left : S → Option (List ℕ)} {taken : K → Option
             ∙ ap (λ l. written dialect a.events ++ l) (written_told dialect style reading texts ∙ whole)
             ∙ sym (append_assoc (written dialect a.events) front back);
         went = moves_at (moves_more a.went moves)
-            (append-nil (lines_of a.events ++ behind)
-            ∙ ap (λ l. l ++ behind) (sym (lines_of-append a.events more ∙ ap (λ l. lines_of a.events ++ l) (lines_of_told style reading texts) ∙ append-nil (lines_of a.events))))
+            (append-nil (heard_lines a.events ++ behind)
+            ∙ ap (λ l. l ++ behind) (sym (heard_lines-append a.events more ∙ ap (λ l. heard_lines a.events ++ l) (lines_of_told style reading texts) ∙ append-nil (heard_lines a.events))))
             refl
             (ap (λ l. readings a.events ++ l) (sym (readings_told style reading texts)) ∙ sym (readings-append a.events more));
         holds = f a.events a.holds;
@@ -145,7 +145,7 @@ module _ {S K C : Type 0} {left : S → Option (List ℕ)} {taken : K → Option
     back = b.back;
     wrote = written-append dialect a.events b.events ∙ ap (λ l. written dialect a.events ++ l) b.wrote ∙ sym (append_assoc (written dialect a.events) b.front b.back);
     went = moves_at (moves_more a.went b.went)
-        (ap (λ l. l ++ (lines_of b.events ++ behind)) (append-nil (lines_of a.events)) ∙ sym (append_assoc (lines_of a.events) (lines_of b.events) behind) ∙ ap (λ l. l ++ behind) (sym (lines_of-append a.events b.events)))
+        (ap (λ l. l ++ (heard_lines b.events ++ behind)) (append-nil (heard_lines a.events)) ∙ sym (append_assoc (heard_lines a.events) (heard_lines b.events) behind) ∙ ap (λ l. l ++ behind) (sym (heard_lines-append a.events b.events)))
         refl (sym (readings-append a.events b.events));
     holds = f a.events b.events a.holds b.holds;
   }

@@ -3,7 +3,7 @@ use Rattle.std.specs.Prelude.{◌≡◌, ℕ, List, [], ◌∷◌, ◌++◌, map
 use Rattle.io_ports.specs.declared.dialect.Dialect.{Dialect}
 use Rattle.io_ports.specs.Lines.{Line}
 use Rattle.rules_model.specs.declared.rules.Rules.{Rules}
-use Rattle.watching.specs.Events.{Event, AreUnstopped, lines_of, readings, said, written}
+use Rattle.watching.specs.Events.{Event, AreUnstopped, heard_lines, readings, said, written}
 use Rattle.watching.specs.Looks.{Moved}
 use Rattle.session_model.specs.CecpSession.{post_lines}
 use Rattle.session_model.specs.Events.{clocked}
@@ -45,5 +45,5 @@ pub record BrokeHeld (dialect : Dialect) (moved : Moved) (behind : List Line)
   pub front : List ℕ
   pub back : List ℕ
   pub wrote : written dialect events ≡ front ++ back
-  pub went : moved (lines_of events ++ behind) front (readings events)
+  pub went : moved (heard_lines events ++ behind) front (readings events)
   pub holds : Holds events

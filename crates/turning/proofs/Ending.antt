@@ -13,7 +13,7 @@ use Rattle.io_ports.specs.declared.source.Got.{Got}
 use Rattle.io_ports.specs.declared.source.Got.TheVariants as got
 use Rattle.io_ports.proofs.Asked.{reads_more}
 use Rattle.io_ports.proofs.Moved.{map_line-append, moves_at, moves_more, moves_none}
-use Rattle.watching.specs.Events.{lines_of as heard, opened, readings, written}
+use Rattle.watching.specs.Events.{heard_lines as heard, opened, readings, written}
 use Rattle.watching.specs.Looks.{Moved}
 use Rattle.session_model.specs.Turns.{Protocol, Session, Turn, Turns, after_turns, bound_in, ending_lines, lines_in, lines_wanted, output_in, reads_in, readings_in}
 use Rattle.session_model.proofs.Joined.{quiet_output, turns_joined, turns_untold}

@@ -14,8 +14,8 @@ use Rattle.io_ports.specs.declared.source.Polled.TheVariants as polled
 use Rattle.io_ports.proofs.Moved.{appends_more, appends_none, takes_more, takes_none}
 use Rattle.watching.specs.declared.halt.Cut.{Cut}
 use Rattle.watching.specs.declared.halt.Cut.TheVariants as cut
-use Rattle.watching.specs.Events.{Event, Listens, lines_of, readings, written}
-use Rattle.watching.specs.EventLaws.{lines_of-append, listens_more, readings-append, written-append}
+use Rattle.watching.specs.Events.{Event, Listens, heard_lines, readings, written}
+use Rattle.watching.specs.EventLaws.{heard_lines-append, listens_more, readings-append, written-append}
 use Rattle.watching.specs.Looks.{Broke, Heeds, IsHeardAs, IsWholeBut, Ran, Replies, held}
 use Rattle.turning.specs.Lines.{Exchanges, HeardPart, StopsBy}
 
@@ -31,11 +31,11 @@ polled_as : (answer : Got) (polled : Polled) (text : List ℕ) → polled ≡ po
 polled_as answer polled text is = ap (λ (p : Polled). polled_lines p text) is ∙ polled_as_got answer text
 
 -- the lines of two parts, of which the first holds none back
-lines_both : (a b : List Event) (behind taken : List Line) → lines_of b ++ behind ≡ taken
-    → (lines_of a ++ []) ++ taken ≡ lines_of (a ++ b) ++ behind
+lines_both : (a b : List Event) (behind taken : List Line) → heard_lines b ++ behind ≡ taken
+    → (heard_lines a ++ []) ++ taken ≡ heard_lines (a ++ b) ++ behind
 lines_both a b behind taken is =
-    ap (λ lines. lines ++ taken) (append-nil (lines_of a)) ∙ ap (λ lines. lines_of a ++ lines) (sym is)
-    ∙ sym (append_assoc (lines_of a) (lines_of b) behind) ∙ ap (λ lines. lines ++ behind) (sym (lines_of-append a b))
+    ap (λ lines. lines ++ taken) (append-nil (heard_lines a)) ∙ ap (λ lines. heard_lines a ++ lines) (sym is)
+    ∙ sym (append_assoc (heard_lines a) (heard_lines b) behind) ∙ ap (λ lines. lines ++ behind) (sym (heard_lines-append a b))
 
 none_read : (a b : List Event) → readings a ≡ [] → readings b ≡ [] → readings (a ++ b) ≡ []
 none_read a b first then = readings-append a b ∙ ap (λ taken. taken ++ readings b) first ∙ then
@@ -62,7 +62,7 @@ module _ {S K : Type 0} {left : S → Option (List ℕ)} {taken : K → Option (
           went = record {
             took = subst (λ (l : List Line). Takes (left s) (left s'') l)
                 (lines_both so_far.events b.events (held why text) (got_lines answer text) (lines_are ∙ polled_as answer polled text as_polled))
-                (takes_more (left s) (left s') (left s'') (lines_of so_far.events ++ []) (got_lines answer text) so_far.went.took takes);
+                (takes_more (left s) (left s') (left s'') (heard_lines so_far.events ++ []) (got_lines answer text) so_far.went.took takes);
             wrote = subst (λ (o : List ℕ). Appends (taken k) (taken k'') o) (sym (written-append dialect so_far.events b.events))
                 (appends_more (taken k) (taken k') (taken k'') (written dialect so_far.events) (written dialect b.events) so_far.went.wrote wrote);
             unread = none_read so_far.events b.events so_far.went.unread unread;
@@ -85,8 +85,8 @@ module _ {S K : Type 0} {left : S → Option (List ℕ)} {taken : K → Option (
                 ∙ sym (append_assoc (written dialect so_far.events) b.front b.back);
             went = record {
               took = subst (λ (l : List Line). Takes (left s) (left s'') l)
-                  (lines_both so_far.events b.events [] (got_lines answer text) (append-nil (lines_of b.events) ∙ lines_are ∙ polled_as answer polled text as_polled) ∙ append-nil (lines_of (so_far.events ++ b.events)))
-                  (takes_more (left s) (left s') (left s'') (lines_of so_far.events ++ []) (got_lines answer text) so_far.went.took takes);
+                  (lines_both so_far.events b.events [] (got_lines answer text) (append-nil (heard_lines b.events) ∙ lines_are ∙ polled_as answer polled text as_polled) ∙ append-nil (heard_lines (so_far.events ++ b.events)))
+                  (takes_more (left s) (left s') (left s'') (heard_lines so_far.events ++ []) (got_lines answer text) so_far.went.took takes);
               wrote = appends_more (taken k) (taken k') (taken k'') (written dialect so_far.events) b.front so_far.went.wrote wrote;
               unread = none_read so_far.events b.events so_far.went.unread unread;
             };
@@ -106,7 +106,7 @@ module _ {S K : Type 0} {left : S → Option (List ℕ)} {taken : K → Option (
       back = [];
       wrote = sym (append-nil (written dialect r.events));
       went = record {
-        took = subst (λ (l : List Line). Takes (left s) (left s') l) (append-nil (lines_of r.events)) r.went.took;
+        took = subst (λ (l : List Line). Takes (left s) (left s') l) (append-nil (heard_lines r.events)) r.went.took;
         wrote = r.went.wrote;
         unread = r.went.unread;
       };

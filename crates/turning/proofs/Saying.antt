@@ -18,8 +18,8 @@ use Rattle.io_ports.proofs.Moved.{appends_none, moves_at, moves_more, moves_sink
 use Rattle.io_ports.proofs.Owing.{spends_none}
 use Rattle.watching.specs.declared.halt.Cut.{Cut}
 use Rattle.watching.specs.declared.halt.Cut.TheVariants as cut
-use Rattle.watching.specs.Events.{Event, Listens, Says, lines_of, opened, readings, written}
-use Rattle.watching.specs.EventLaws.{lines_of-append, readings-append, written-append}
+use Rattle.watching.specs.Events.{Event, Listens, Says, heard_lines, opened, readings, written}
+use Rattle.watching.specs.EventLaws.{heard_lines-append, readings-append, written-append}
 use Rattle.watching.specs.Looks.{Broke, Moved, Ran, held}
 use Rattle.session_model.specs.Events.{IsStopped}
 use Rattle.session_model.specs.Turns.{Protocol}
@@ -73,7 +73,7 @@ module _ {S K C : Type 0} {left : S → Option (List ℕ)} {taken : K → Option
   ran_say {s' = s'} {c' = c'} {behind = behind} R text f a app = record {
     events = a.events ++ Says text ∷ [];
     went = moves_at (moves_more a.went (moves_sink s' c' app))
-        (append-nil (lines_of a.events ++ behind) ∙ ap (λ l. l ++ behind) (sym (lines_of-append a.events (Says text ∷ []) ∙ append-nil (lines_of a.events))))
+        (append-nil (heard_lines a.events ++ behind) ∙ ap (λ l. l ++ behind) (sym (heard_lines-append a.events (Says text ∷ []) ∙ append-nil (heard_lines a.events))))
         (ap (λ l. written dialect a.events ++ l) (sym (append-nil text)) ∙ sym (written-append dialect a.events (Says text ∷ [])))
         (sym (readings-append a.events (Says text ∷ [])));
     holds = f a.events a.holds;
@@ -91,7 +91,7 @@ module _ {S K C : Type 0} {left : S → Option (List ℕ)} {taken : K → Option
     wrote = written-append dialect a.events (Says text ∷ []) ∙ ap (λ l. written dialect a.events ++ l) (append-nil text ∙ app.whole)
         ∙ sym (append_assoc (written dialect a.events) app.front app.back);
     went = moves_at (moves_more a.went (moves_sink s' c' app.took))
-        (append-nil (lines_of a.events ++ behind) ∙ ap (λ l. l ++ behind) (sym (lines_of-append a.events (Says text ∷ []) ∙ append-nil (lines_of a.events))))
+        (append-nil (heard_lines a.events ++ behind) ∙ ap (λ l. l ++ behind) (sym (heard_lines-append a.events (Says text ∷ []) ∙ append-nil (heard_lines a.events))))
         refl (sym (readings-append a.events (Says text ∷ [])));
     holds = f a.events a.holds;
   }
@@ -110,7 +110,7 @@ module _ {S K C : Type 0} {left : S → Option (List ℕ)} {taken : K → Option
   ran_next {k' = k'} {c' = c'} {behind = behind} lines a takes is = record {
     events = a.events;
     went = moves_at (moves_more a.went (moves_source k' c' takes))
-        (append_assoc (lines_of a.events) behind lines ∙ ap (λ l. lines_of a.events ++ l) is)
+        (append_assoc (heard_lines a.events) behind lines ∙ ap (λ l. heard_lines a.events ++ l) is)
         (append-nil (written dialect a.events)) (append-nil (readings a.events));
     holds = a.holds;
   }
@@ -143,7 +143,7 @@ module _ {S K C : Type 0} {left : S → Option (List ℕ)} {taken : K → Option
     front = b.front;
     back = b.back;
     wrote = b.wrote;
-    went = moves_at b.went (sym (append-nil (lines_of b.events))) refl refl;
+    went = moves_at b.went (sym (append-nil (heard_lines b.events))) refl refl;
     holds = b.holds;
   }
 
@@ -160,8 +160,8 @@ module _ {S K C : Type 0} {left : S → Option (List ℕ)} {taken : K → Option
     wrote = written-append dialect a.events b.events ∙ ap (λ l. written dialect a.events ++ l) b.wrote
         ∙ sym (append_assoc (written dialect a.events) b.front b.back);
     went = moves_at (moves_more a.went b.went)
-        (ap (λ l. l ++ (lines_of b.events ++ behind)) (append-nil (lines_of a.events)) ∙ sym (append_assoc (lines_of a.events) (lines_of b.events) behind)
-        ∙ ap (λ l. l ++ behind) (sym (lines_of-append a.events b.events)))
+        (ap (λ l. l ++ (heard_lines b.events ++ behind)) (append-nil (heard_lines a.events)) ∙ sym (append_assoc (heard_lines a.events) (heard_lines b.events) behind)
+        ∙ ap (λ l. l ++ behind) (sym (heard_lines-append a.events b.events)))
         refl (sym (readings-append a.events b.events));
     holds = f a.events b.events a.holds b.holds;
   }
@@ -177,7 +177,7 @@ module _ {S K C : Type 0} {left : S → Option (List ℕ)} {taken : K → Option
     back = a.back ++ text;
     wrote = written-append dialect a.events (Says text ∷ []) ∙ ap (λ l. l ++ (text ++ [])) a.wrote
         ∙ ap (λ l. (a.front ++ a.back) ++ l) (append-nil text) ∙ append_assoc a.front a.back text;
-    went = moves_at a.went (ap (λ l. l ++ behind) (sym (lines_of-append a.events (Says text ∷ []) ∙ append-nil (lines_of a.events))))
+    went = moves_at a.went (ap (λ l. l ++ behind) (sym (heard_lines-append a.events (Says text ∷ []) ∙ append-nil (heard_lines a.events))))
         refl (sym (readings-append a.events (Says text ∷ []) ∙ append-nil (readings a.events)));
     holds = f a.events a.holds;
   }
@@ -237,15 +237,15 @@ module _ {S K C : Type 0} {left : S → Option (List ℕ)} {taken : K → Option
       by_wait true e None w = absurd w
       by_wait true e (Some cut) w =
           let unheld = waits_unheld holds why text e in let b = w.ran in
-          let heard : Moves left taken given count last s' s'' k' k'' c' c' (lines_of b.events ++ held (Some cut) text') (written dialect b.events) (readings b.events) =
+          let heard : Moves left taken given count last s' s'' k' k'' c' c' (heard_lines b.events ++ held (Some cut) text') (written dialect b.events) (readings b.events) =
           moves_exchanges dialect c' b.went in
           record {
             events = a.events ++ b.events;
             went = moves_at (moves_more a.went heard)
-                (ap (λ l. (lines_of a.events ++ l) ++ (lines_of b.events ++ held (Some cut) text')) unheld
-                ∙ ap (λ l. l ++ (lines_of b.events ++ held (Some cut) text')) (append-nil (lines_of a.events))
-                ∙ sym (append_assoc (lines_of a.events) (lines_of b.events) (held (Some cut) text'))
-                ∙ ap (λ l. l ++ held (Some cut) text') (sym (lines_of-append a.events b.events)))
+                (ap (λ l. (heard_lines a.events ++ l) ++ (heard_lines b.events ++ held (Some cut) text')) unheld
+                ∙ ap (λ l. l ++ (heard_lines b.events ++ held (Some cut) text')) (append-nil (heard_lines a.events))
+                ∙ sym (append_assoc (heard_lines a.events) (heard_lines b.events) (held (Some cut) text'))
+                ∙ ap (λ l. l ++ held (Some cut) text') (sym (heard_lines-append a.events b.events)))
                 (sym (written-append dialect a.events b.events)) (sym (readings-append a.events b.events));
             holds = f a.events b.events a.holds b.holds;
           }
@@ -256,8 +256,8 @@ module _ {S K C : Type 0} {left : S → Option (List ℕ)} {taken : K → Option
           record {
             events = a.events ++ [];
             went = moves_at (moves_more a.went still)
-                (append-nil (lines_of a.events ++ held why text) ∙ ap (λ l. lines_of a.events ++ l) same
-                ∙ ap (λ l. l ++ held why' text') (sym (lines_of-append a.events [] ∙ append-nil (lines_of a.events))))
+                (append-nil (heard_lines a.events ++ held why text) ∙ ap (λ l. heard_lines a.events ++ l) same
+                ∙ ap (λ l. l ++ held why' text') (sym (heard_lines-append a.events [] ∙ append-nil (heard_lines a.events))))
                 (sym (written-append dialect a.events [])) (sym (readings-append a.events []));
             holds = f a.events [] a.holds tt;
           }
@@ -272,13 +272,13 @@ module _ {S K C : Type 0} {left : S → Option (List ℕ)} {taken : K → Option
         front = b.front;
         back = b.back;
         wrote = b.wrote;
-        went = moves_at (moves_exchanges dialect c' b.went) (sym (append-nil (lines_of b.events))) refl refl;
+        went = moves_at (moves_exchanges dialect c' b.went) (sym (append-nil (heard_lines b.events))) refl refl;
         holds = b.holds;
       } in
       part_more dialect R f
       (record {
         events = a.events;
-        went = moves_at a.went (ap (λ l. lines_of a.events ++ l) (waits_unheld holds why text waits)) refl refl;
+        went = moves_at a.went (ap (λ l. heard_lines a.events ++ l) (waits_unheld holds why text waits)) refl refl;
         holds = a.holds;
       }) part
 
@@ -332,7 +332,7 @@ module _ {State : Type 0} (p : Protocol State) where
   module _ {S K C : Type 0} {left : S → Option (List ℕ)} {taken : K → Option (List ℕ)} {given : C → Option (List ℕ)} {count last : C → ℕ} where
     -- events without a line and without a reading, and then the next line
     pub served_plain : {s s' : S} {k k' : K} (c : C) (asked : List Read → Type 0) {owed owed' : Owed} {state after : State} {line : Line} {next : Got} {text : List ℕ}
-        (events : List Event) → lines_of events ≡ [] → readings events ≡ []
+        (events : List Event) → heard_lines events ≡ [] → readings events ≡ []
         → AnswersAlways state after line events → asked (opened events)
         → Appends (taken k) (taken k') (written p.dialect events) → Takes (left s) (left s') (got_lines next text) → owed' ≡ owed
         → Served p (Moves left taken given count last s s' k k' c c) asked owed owed' state after line next text
@@ -363,7 +363,7 @@ module _ {State : Type 0} (p : Protocol State) where
 
     -- a front part of what such events write
     pub unserved_plain : (s : S) {k k' : K} (c : C) (asked : List Read → Type 0) (contents : Option Contents) {state : State} (after : State) {line : Line}
-        (events : List Event) (done further : List Read) → lines_of events ≡ [] → readings events ≡ []
+        (events : List Event) (done further : List Read) → heard_lines events ≡ [] → readings events ≡ []
         → AnswersAlways state after line events → opened events ≡ done ++ further → asked done → Further contents further
         → AppendsFront (taken k) (taken k') (written p.dialect events)
         → Unserved p (Moves left taken given count last s s k k' c c) asked contents state line
@@ -395,7 +395,7 @@ module _ {State : Type 0} (p : Protocol State) where
 
     -- nothing of what these events write, where there is no memory
     pub unserved_none : (s : S) (k : K) (c : C) (asked : List Read → Type 0) (contents : Option Contents) {state : State} (after : State) {line : Line}
-        (events : List Event) (done further : List Read) → lines_of events ≡ [] → readings events ≡ []
+        (events : List Event) (done further : List Read) → heard_lines events ≡ [] → readings events ≡ []
         → AnswersAlways state after line events → opened events ≡ done ++ further → asked done → Further contents further
         → Unserved p (Moves left taken given count last s s k k c c) asked contents state line
     unserved_none s k c asked contents after events done further unheard unread answers reads_are asks more =

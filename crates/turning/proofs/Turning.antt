@@ -12,7 +12,7 @@ use Rattle.io_ports.specs.declared.source.Got.{Got}
 use Rattle.io_ports.specs.declared.source.Got.TheVariants as got
 use Rattle.io_ports.proofs.Moved.{moves_at, moves_more, moves_source}
 use Rattle.io_ports.proofs.Owing.{lacks_before, spends_more, spends_none}
-use Rattle.watching.specs.Events.{lines_of as heard, opened, readings, written}
+use Rattle.watching.specs.Events.{heard_lines as heard, opened, readings, written}
 use Rattle.session_model.specs.Laws.{IsWider}
 use Rattle.session_model.specs.Turns.{Protocol, Turn, Turns, after_turns, bound_in, lines_in, reads_in}
 use Rattle.turning.specs.Lines.{HasLine, MayFollow, got_line}

@@ -8,7 +8,7 @@ use Rattle.io_ports.specs.Source.{Owed, got_lines}
 use Rattle.io_ports.specs.Trace.{faults_in}
 use Rattle.io_ports.specs.declared.dialect.Dialect.{Dialect}
 use Rattle.io_ports.specs.declared.source.Got.{Got}
-use Rattle.watching.specs.Events.{Event, lines_of, opened, readings, written}
+use Rattle.watching.specs.Events.{Event, heard_lines, opened, readings, written}
 use Rattle.watching.specs.Looks.{Moved}
 use Rattle.session_model.specs.Laws.{HasOutput, IsWider, LinesAreWanted}
 use Rattle.session_model.specs.Turns.{Protocol, Turn, Turns, after_turns, bound_in, lines_in, output_in, reads_in, readings_in}
@@ -36,7 +36,7 @@ pub record RanPart (dialect : Dialect) (moved : Moved) (behind : List Line) (Hol
   pub front : List ℕ
   pub back : List ℕ
   pub wrote : written dialect events ≡ front ++ back
-  pub went : moved (lines_of events ++ behind) front (readings events)
+  pub went : moved (heard_lines events ++ behind) front (readings events)
   pub holds : Holds events
 
 -- A line was answered, and the next one is there. The answer is one for whatever lines follow, and its search may be
@@ -44,7 +44,7 @@ pub record RanPart (dialect : Dialect) (moved : Moved) (behind : List Line) (Hol
 pub record Served {State : Type 0} (p : Protocol State) (moved : Moved) (asked : List Read → Type 0)
     (owed owed' : Owed) (state after : State) (line : Line) (next : Got) (text : List ℕ) : Type 0 where
   pub events : List Event
-  pub went : moved (lines_of events ++ got_lines next text) (written p.dialect events) (readings events)
+  pub went : moved (heard_lines events ++ got_lines next text) (written p.dialect events) (readings events)
   pub asks : asked (opened events)
   pub answers : (following : List Line) → MayFollow next following
       → p.answers (Lacks owed (p.bound state line)) state (turn_of line events after) (got_lines next text ++ following)
@@ -61,7 +61,7 @@ pub record Unserved {State : Type 0} (p : Protocol State) (moved : Moved) (asked
   pub front : List ℕ
   pub back : List ℕ
   pub wrote : written p.dialect events ≡ front ++ back
-  pub went : moved (lines_of events ++ behind) front (readings events)
+  pub went : moved (heard_lines events ++ behind) front (readings events)
   pub done : List Read
   pub further : List Read
   pub reads_are : opened events ≡ done ++ further

@@ -53,9 +53,9 @@ use Rattle.uci_front.proofs.SearchLemmas.{bound_mate, concludes_of, deepens_kept
 use Rattle.uci_front.proofs.ThinkLemmas.{came_of, depths_stop, mate_some, perft_none, printable_of, read_part, read_then}
 use Rattle.watching.specs.declared.halt.Cut.{Cut}
 use Rattle.watching.specs.declared.halt.Cut.TheVariants as cut
-use Rattle.watching.specs.Events.{Event, Says, Reads, AreUnstopped, Listens, lines_of, readings, said}
+use Rattle.watching.specs.Events.{Event, Says, Reads, AreUnstopped, Listens, heard_lines, readings, said}
 use Rattle.watching.specs.Looks.{Moved, Ran, held}
-use Rattle.watching.specs.EventLaws.{lines_of-append, written-append}
+use Rattle.watching.specs.EventLaws.{heard_lines-append, written-append}
 
 -- ---- what is told
 
@@ -395,9 +395,9 @@ module _ {S K C : Type 0} {left : S → Option (List ℕ)} {taken : K → Option
       ran = record {
         events = told.events ++ d.ran.events;
         went = moves_at (moves_more told.went d.ran.went)
-            (ap (λ l. l ++ (lines_of d.ran.events ++ held depths.why text)) (append-nil (lines_of told.events))
-            ∙ sym (append_assoc (lines_of told.events) (lines_of d.ran.events) (held depths.why text))
-            ∙ ap (λ l. l ++ held depths.why text) (sym (lines_of-append told.events d.ran.events)))
+            (ap (λ l. l ++ (heard_lines d.ran.events ++ held depths.why text)) (append-nil (heard_lines told.events))
+            ∙ sym (append_assoc (heard_lines told.events) (heard_lines d.ran.events) (held depths.why text))
+            ∙ ap (λ l. l ++ held depths.why text) (sym (heard_lines-append told.events d.ran.events)))
             (sym (written-append Uci told.events d.ran.events)) (sym (readings-append told.events d.ran.events));
         holds = record {
           unstopped = unstopped_more Uci told.events d.ran.events

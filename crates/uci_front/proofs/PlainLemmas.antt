@@ -14,11 +14,11 @@ use Rattle.uci_front.specs.declared.refusal.Refusal.TheVariants.{Fault, Memory}
 use Rattle.uci_front.specs.Outcomes.{IsOutcome, LoadsFile, SetsBy}
 use Rattle.uci_front.specs.Plain.{IsNamedRead, IsTold, Plainly, file_of, outcome_said, plain_events, saying, text_said}
 use Rattle.variant_files.specs.Looked.{OneRead}
-use Rattle.watching.specs.Events.{Event, Says, Opens, lines_of, opened, readings, written}
+use Rattle.watching.specs.Events.{Event, Says, Opens, heard_lines, opened, readings, written}
 
 -- ---- what such events take and leave
 
-pub plain_lines : (reads : List Read) (text : Option (List ℕ)) → lines_of (plain_events reads text) ≡ []
+pub plain_lines : (reads : List Read) (text : Option (List ℕ)) → heard_lines (plain_events reads text) ≡ []
 plain_lines [] None = refl
 plain_lines [] (Some text) = refl
 plain_lines (read ∷ reads) text = plain_lines reads text

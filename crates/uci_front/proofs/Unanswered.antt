@@ -5,7 +5,7 @@ use Rattle.io_ports.specs.Files.{Contents, Finds, Read}
 use Rattle.io_ports.specs.Lines.{Line}
 use Rattle.io_ports.specs.Source.{Untold}
 use Rattle.io_ports.specs.Trace.{Moves, faults_in}
-use Rattle.watching.specs.Events.{Event, lines_of, opened, readings, written}
+use Rattle.watching.specs.Events.{Event, heard_lines, opened, readings, written}
 use Rattle.session_model.proofs.Joined.{quiet_output}
 use Rattle.session_model.specs.Laws.{HasOutput}
 use Rattle.session_model.specs.Turns.{Protocol, Turn, Turns, IsOver, Session, lines_in, reads_in, readings_in}
@@ -18,7 +18,7 @@ module _ {S : Type 0} (p : Protocol S) where
   pub record Quiet (contents : Option Contents) (state : S) (line : Line) : Type 0 where
     pub events : List Event
     pub after : S
-    pub heard : lines_of events ≡ []
+    pub heard : heard_lines events ≡ []
     pub unread : readings events ≡ []
     pub more : Further contents (opened events)
     pub answers : p.answers (Unit {0}) state (turn_of line events after) []
@@ -42,7 +42,7 @@ module _ {S : Type 0} (p : Protocol S) where
   by_turns contents state line goes_on reads output session faultless (turn ∷ []) are =
       let lines_are : line ∷ [] ≡ lines_in (turn ∷ []) ++ session.rest =
       session.lines_are ∙ ap (λ turns. lines_in turns ++ session.rest) (sym are) in
-      by_rest (lines_of turn.events) refl session.rest refl lines_are
+      by_rest (heard_lines turn.events) refl session.rest refl lines_are
     where
       allowed : Turns p Untold 0 state (turn ∷ []) session.rest
       allowed = subst (λ turns. Turns p Untold 0 state turns session.rest) (sym are) session.allowed
@@ -59,7 +59,7 @@ module _ {S : Type 0} (p : Protocol S) where
         works = ap faults_in (sym reads_are) ∙ faultless;
       }
 
-      by_rest : (heard : List Line) → heard ≡ lines_of turn.events → (rest : List Line) → rest ≡ session.rest
+      by_rest : (heard : List Line) → heard ≡ heard_lines turn.events → (rest : List Line) → rest ≡ session.rest
           → line ∷ [] ≡ ((turn.line ∷ heard) ++ []) ++ rest → Quiet contents state line
       by_rest [] unheard [] ended is =
           let same : turn.line ≡ line = cc in

@@ -5,7 +5,7 @@ use Rattle.std.proofs.lemmas.Bool.{cases_Bool, ltb-false}
 use Rattle.std.proofs.lemmas.List.Sums.{prefix_len-le-length}
 use Rattle.std.proofs.lemmas.List.Splits.{slice_split-cons_yes, slice_split-cons_no}
 use Rattle.std.specs.Option.{is_some, option_copied}
-use Rattle.fen_model.specs.Fields.{counted_fields, is_blank, plain_fields}
+use Rattle.fen_model.specs.Fields.{counted_fields, is_space, plain_fields}
 use Rattle.foundation.specs.Cuts.{parts_after}
 
 abbrev pub HasFirst : List (List ℕ) → Type 0
@@ -24,8 +24,8 @@ split_first p (b ∷ bs) =
     (λ n. rw (slice_split-cons_no p b bs n) (onto b (slice_split p bs)))
     (cases_Bool (p b))
 
-pub seven_fields : (a b c d e f rest : List ℕ) → plain_fields (a ∷ b ∷ c ∷ d ∷ e ∷ f ∷ slice_split is_blank rest) ≡ None
-seven_fields a b c d e f rest = let first = split_first is_blank rest in rw first.2 refl
+pub seven_fields : (a b c d e f rest : List ℕ) → plain_fields (a ∷ b ∷ c ∷ d ∷ e ∷ f ∷ slice_split is_space rest) ≡ None
+seven_fields a b c d e f rest = let first = split_first is_space rest in rw first.2 refl
 
 none_before : (b : Bool) (n : ℕ) → cond b (Some n) None ≡ None → b ≡ false
 none_before true n h = cc
@@ -41,8 +41,8 @@ pub seven_after : (a b c d e f : List ℕ) (rest : Option (Bor (List ℕ))) → 
 seven_after a b c d e f None h = cc
 seven_after a b c d e f (Some rest) h = seven_fields a b c d e f rest.now
 
-pub eight_fields : (a b c d e f g rest : List ℕ) → counted_fields (a ∷ b ∷ c ∷ d ∷ e ∷ f ∷ g ∷ slice_split is_blank rest) ≡ None
-eight_fields a b c d e f g rest = let first = split_first is_blank rest in rw first.2 refl
+pub eight_fields : (a b c d e f g rest : List ℕ) → counted_fields (a ∷ b ∷ c ∷ d ∷ e ∷ f ∷ g ∷ slice_split is_space rest) ≡ None
+eight_fields a b c d e f g rest = let first = split_first is_space rest in rw first.2 refl
 
 pub eight_after : (a b c d e f g : List ℕ) (rest : Option (Bor (List ℕ))) → is_some rest ≡ true → counted_fields (a ∷ b ∷ c ∷ d ∷ e ∷ f ∷ g ∷ parts_after (λ b. b == 32) (option_copied rest)) ≡ None
 eight_after a b c d e f g None h = cc

@@ -58,7 +58,7 @@ fn cut_pocket(placement: &[u8]) -> (&[u8], &[u8])
 
 /// The fields of a text in a variant that counts no checks: four or six, or else none.
 fn cut_plain(text: &[u8]) -> Option<FieldTexts<'_>>
-    ensures { Fields.plain_fields (slice_split Fields.is_blank text.now) ≡ option_map fields_view result }
+    ensures { Fields.plain_fields (slice_split Fields.is_space text.now) ≡ option_map fields_view result }
 {
     let (placement, rest) = cut_at(text, b' ');
     let (side, rest) = cut_at(rest?, b' ');
@@ -97,7 +97,7 @@ fn cut_plain(text: &[u8]) -> Option<FieldTexts<'_>>
 
 /// The fields of a text in a variant that counts checks: five or seven, or else none.
 fn cut_counted(text: &[u8]) -> Option<FieldTexts<'_>>
-    ensures { Fields.counted_fields (slice_split Fields.is_blank text.now) ≡ option_map fields_view result }
+    ensures { Fields.counted_fields (slice_split Fields.is_space text.now) ≡ option_map fields_view result }
 {
     let (placement, rest) = cut_at(text, b' ');
     let (side, rest) = cut_at(rest?, b' ');
@@ -129,7 +129,7 @@ fn cut_counted(text: &[u8]) -> Option<FieldTexts<'_>>
 }
 
 fn cut_fields<'a>(rules: &Rules, text: &'a [u8]) -> Option<FieldTexts<'a>>
-    ensures { Fields.fields_in rules.now (slice_split Fields.is_blank text.now) ≡ option_map fields_view result }
+    ensures { Fields.fields_in rules.now (slice_split Fields.is_space text.now) ≡ option_map fields_view result }
 {
     if rules.check_counting {
         cut_counted(text)

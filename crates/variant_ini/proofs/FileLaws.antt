@@ -10,7 +10,7 @@ use Rattle.std.proofs.lemmas.List.Folds.{list_any-append}
 use Rattle.std.proofs.lemmas.List.Quantifiers.{position-Some}
 use Rattle.foundation.specs.Cuts.{cut, cut_where, is_blank}
 use Rattle.variant_ini.specs.declared.fault.IniFault.{IniFault}
-use Rattle.variant_ini.specs.Cuts.{is_feed, lines_of, trimmed, without_blanks}
+use Rattle.variant_ini.specs.Cuts.{is_feed, cut_lines, trimmed, without_blanks}
 use Rattle.variant_ini.specs.FileLines.{AreFileLines, IsFileLine}
 use Rattle.variant_ini.specs.LineKind.{LineKind, bad, comment, foreign, header, is_comment, kind_from, line_kind, pair, pair_from, pair_of, header_of, text_kind}
 use Rattle.variant_ini.specs.Reading.{fault_of, first_fault, first_of, line_fault, pairs_of, sections_in, sections_in_lines, sections_of}
@@ -175,10 +175,10 @@ sections_are (line ∷ lines) good =
 
 -- ---- the lines of a file
 
-no_feed : (text : List ℕ) → All (λ line. list_any is_feed line ≡ false) (lines_of text)
-unfolding lines_of
+no_feed : (text : List ℕ) → All (λ line. list_any is_feed line ≡ false) (cut_lines text)
+unfolding cut_lines
 no_feed [] = All-cons (λ line. list_any is_feed line ≡ false) [] [] refl (λ k d below. absurd (omega (arith, below)))
-no_feed (b ∷ bs) = feed_where (b == 10) refl (lines_of bs) (no_feed bs)
+no_feed (b ∷ bs) = feed_where (b == 10) refl (cut_lines bs) (no_feed bs)
   where
     onto : (lines : List (List ℕ)) → is_feed b ≡ false → All (λ line. list_any is_feed line ≡ false) lines
         → All (λ line. list_any is_feed line ≡ false) (onto_first b lines)
@@ -217,8 +217,8 @@ short_lines above (line ∷ lines) is =
 pub file_lines : (bytes : List ℕ) → fault_of bytes ≡ None → AreFileLines (sections_in bytes)
 unfolding fault_of sections_in sections_in_lines
 file_lines bytes is =
-    let short = short_lines [] (lines_of bytes) (not_above (nat_lt 1048576 (length bytes)) _ _ is).1 in
-    sections_are (lines_of bytes) (λ k d below. record { short = short k d below; one_line = no_feed bytes k d below })
+    let short = short_lines [] (cut_lines bytes) (not_above (nat_lt 1048576 (length bytes)) _ _ is).1 in
+    sections_are (cut_lines bytes) (λ k d below. record { short = short k d below; one_line = no_feed bytes k d below })
 
 -- sections stay such where a file's are added
 pub lines_added : (answer : Result (Unit {0}) IniFault) (old new : List Section) (bytes : List ℕ)

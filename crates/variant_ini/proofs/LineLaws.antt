@@ -5,12 +5,12 @@ use Rattle.std.proofs.lemmas.List.Splits.{slice_split_first, slice_split_none}
 use Rattle.std.proofs.lemmas.List.Sums.{prefix_len_passes}
 use Rattle.std.proofs.lemmas.Bool.{cases_Bool, ltb-true, ltb-false}
 use Rattle.foundation.specs.Cuts.{cut}
-use Rattle.variant_ini.specs.Cuts.{with_byte, lines_of}
+use Rattle.variant_ini.specs.Cuts.{with_byte, cut_lines}
 
 -- the lines behind a cut, of which there are none where nothing was cut off
 abbrev pub rest_lines : Option (List ℕ) → List (List ℕ)
 rest_lines None = []
-rest_lines (Some text) = lines_of text
+rest_lines (Some text) = cut_lines text
 
 -- how many bytes are left to cut, and one more where a line is left
 abbrev pub bytes_left : Option (List ℕ) → ℕ
@@ -28,10 +28,10 @@ none_at_feed : (text : List ℕ) → length text ≤ position_or_len at_feed tex
 none_at_feed text h = λ k d below.
     not_true _ (prefix_len_passes (λ b. not (at_feed b)) text k d (omega (arith, h)))
 
-lines_of-slice_split : (text : List ℕ) → lines_of text ≡ slice_split at_feed text
-unfolding lines_of
-lines_of-slice_split [] = refl
-lines_of-slice_split (b ∷ bs) = ap (with_byte b) (lines_of-slice_split bs)
+cut_lines-slice_split : (text : List ℕ) → cut_lines text ≡ slice_split at_feed text
+unfolding cut_lines
+cut_lines-slice_split [] = refl
+cut_lines-slice_split (b ∷ bs) = ap (with_byte b) (cut_lines-slice_split bs)
 
 split_rest : Option (List ℕ) → List (List ℕ)
 split_rest None = []
@@ -40,7 +40,7 @@ split_rest (Some text) = slice_split at_feed text
 rest_lines-split_rest : (rest : Option (List ℕ)) → rest_lines rest ≡ split_rest rest
 unfolding split_rest
 rest_lines-split_rest None = refl
-rest_lines-split_rest (Some text) = lines_of-slice_split text
+rest_lines-split_rest (Some text) = cut_lines-slice_split text
 
 slice_split-cut : (text : List ℕ) → slice_split at_feed text ≡ (cut 10 text).0 ∷ split_rest (cut 10 text).1
 unfolding cut split_rest
@@ -51,9 +51,9 @@ slice_split-cut text =
     (cases_Bool (nat_lt (position_or_len at_feed text) (length text)))
 
 -- the first line of a text is what a cut gives, and the others are those behind it
-pub lines_of-cut : (text : List ℕ) → lines_of text ≡ (cut 10 text).0 ∷ rest_lines (cut 10 text).1
-lines_of-cut text =
-    lines_of-slice_split text
+pub cut_lines-cut : (text : List ℕ) → cut_lines text ≡ (cut 10 text).0 ∷ rest_lines (cut 10 text).1
+cut_lines-cut text =
+    cut_lines-slice_split text
     ∙ slice_split-cut text
     ∙ ap (λ lines. (cut 10 text).0 ∷ lines) (sym (rest_lines-split_rest (cut 10 text).1))
 

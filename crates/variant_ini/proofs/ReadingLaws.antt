@@ -9,8 +9,8 @@ use Rattle.variant_ini.specs.Section.{Section, key_line}
 use Rattle.variant_ini.specs.Reading.{pairs_of, sections_of, sections_in_lines, sections_in, numbered_fault, line_fault, first_of, first_fault, fault_of, IsFaultOrMemory}
 use Rattle.variant_ini.specs.Steps.{with_line}
 use Rattle.foundation.specs.Cuts.{cut}
-use Rattle.variant_ini.specs.Cuts.{lines_of}
-use Rattle.variant_ini.proofs.LineLaws.{rest_lines, lines_of-cut}
+use Rattle.variant_ini.specs.Cuts.{cut_lines}
+use Rattle.variant_ini.proofs.LineLaws.{rest_lines, cut_lines-cut}
 
 module _ (key value : List ℕ) where
   -- a pair below lines without a header
@@ -98,19 +98,19 @@ sections_in_lines-push above line = ap sections_of (map-append line_kind above (
 -- the reader stands below lines without a fault, and has their sections
 pub record StandsBelow (bytes : List ℕ) (sections : List Section) (number : ℕ) (rest : Option (List ℕ)) : Type 0 where
   pub above : List (List ℕ)
-  pub are_lines : lines_of bytes ≡ above ++ rest_lines rest
+  pub are_lines : cut_lines bytes ≡ above ++ rest_lines rest
   pub counted : length above ≡ number
   pub read : sections ≡ sections_in_lines above
-  pub faultless : first_fault [] (lines_of bytes) ≡ first_fault above (rest_lines rest)
+  pub faultless : first_fault [] (cut_lines bytes) ≡ first_fault above (rest_lines rest)
 
 pub stands_first : (bytes : List ℕ) → StandsBelow bytes [] 0 (Some bytes)
 unfolding sections_in_lines sections_of
 stands_first bytes = record { above = []; are_lines = refl; counted = refl; read = refl; faultless = refl }
 
 module _ (bytes : List ℕ) (sections : List Section) (number : ℕ) (text : List ℕ) (line : List ℕ) (rest : Option (List ℕ)) (s : StandsBelow bytes sections number (Some text)) (here : line ≡ (cut 10 text).0) (behind : rest ≡ (cut 10 text).1) where
-  lines_are : lines_of text ≡ line ∷ rest_lines rest
+  lines_are : cut_lines text ≡ line ∷ rest_lines rest
   lines_are =
-      lines_of-cut text
+      cut_lines-cut text
       ∙ ap (λ l. l ∷ rest_lines (cut 10 text).1) (sym here)
       ∙ ap (λ r. line ∷ rest_lines r) (sym behind)
 
@@ -119,7 +119,7 @@ module _ (bytes : List ℕ) (sections : List Section) (number : ℕ) (text : Lis
       ap (λ n. numbered_fault (n + 1) (length (sections_in_lines s.above)) line) s.counted
       ∙ ap (λ (ss : List Section). numbered_fault (number + 1) (length ss) line) (sym s.read)
 
-  first_is : first_fault [] (lines_of bytes) ≡ first_of (numbered_fault (number + 1) (length sections) line) (first_fault (s.above ++ line ∷ []) (rest_lines rest))
+  first_is : first_fault [] (cut_lines bytes) ≡ first_of (numbered_fault (number + 1) (length sections) line) (first_fault (s.above ++ line ∷ []) (rest_lines rest))
   unfolding first_fault
   first_is =
       s.faultless
@@ -137,15 +137,15 @@ module _ (bytes : List ℕ) (sections : List Section) (number : ℕ) (text : Lis
   }
 
   -- the fault of the line is the first
-  pub first_fault_is : (e : IniFault) → numbered_fault (number + 1) (length sections) line ≡ Some e → first_fault [] (lines_of bytes) ≡ Some e
+  pub first_fault_is : (e : IniFault) → numbered_fault (number + 1) (length sections) line ≡ Some e → first_fault [] (cut_lines bytes) ≡ Some e
   first_fault_is e h = first_is ∙ ap (λ f. first_of f (first_fault (s.above ++ line ∷ []) (rest_lines rest))) h
 
 -- no line is left
-pub all_read : (bytes : List ℕ) (sections : List Section) (number : ℕ) → StandsBelow bytes sections number None → (first_fault [] (lines_of bytes) ≡ None) × (sections ≡ sections_in bytes)
+pub all_read : (bytes : List ℕ) (sections : List Section) (number : ℕ) → StandsBelow bytes sections number None → (first_fault [] (cut_lines bytes) ≡ None) × (sections ≡ sections_in bytes)
 unfolding first_fault sections_in
 all_read bytes sections number s = (s.faultless, s.read ∙ ap sections_in_lines (sym (s.are_lines ∙ append-nil s.above)))
 
-pub fault_of-fits : (bytes : List ℕ) → length bytes ≤ 1048576 → fault_of bytes ≡ first_fault [] (lines_of bytes)
+pub fault_of-fits : (bytes : List ℕ) → length bytes ≤ 1048576 → fault_of bytes ≡ first_fault [] (cut_lines bytes)
 unfolding fault_of
 fault_of-fits bytes h = cond-false _ _ _ (le-ltb 1048576 (length bytes) h)
 

@@ -20,6 +20,6 @@ abbrev pub with_byte : ℕ → List (List ℕ) → List (List ℕ)
 with_byte b lines = if is_feed b then [] ∷ lines else onto_first b lines
 
 -- the lines: the parts before, between and behind the line feeds
-unfoldable pub lines_of : List ℕ → List (List ℕ)
-lines_of [] = [] ∷ []
-lines_of (b ∷ bs) = with_byte b (lines_of bs)
+unfoldable pub cut_lines : List ℕ → List (List ℕ)
+cut_lines [] = [] ∷ []
+cut_lines (b ∷ bs) = with_byte b (cut_lines bs)

@@ -3,7 +3,7 @@ use Rattle.std.specs.Prelude.{◌≡◌, ℕ, ◌+◌, ◌==◌, nat_lt, List, [
 use Rattle.variant_ini.specs.declared.key_line.KeyLine.{KeyLine}
 use Rattle.variant_ini.specs.declared.fault.IniFault.{IniFault}
 use Rattle.variant_ini.specs.declared.fault.IniFault.TheVariants.{TooLarge, NotAscii, LineTooLong, NoSection, BadLine, TooManySections, Memory}
-use Rattle.variant_ini.specs.Cuts.{lines_of}
+use Rattle.variant_ini.specs.Cuts.{cut_lines}
 use Rattle.variant_ini.specs.LineKind.{LineKind, comment, foreign, header, pair, bad, line_kind}
 use Rattle.variant_ini.specs.Section.{Section, key_line}
 
@@ -58,11 +58,11 @@ first_fault above (line ∷ rest) = first_of (line_fault above line) (first_faul
 
 -- the first fault of a file
 unfoldable pub fault_of : List ℕ → Option IniFault
-fault_of bytes = if nat_lt 1048576 (length bytes) then Some TooLarge else first_fault [] (lines_of bytes)
+fault_of bytes = if nat_lt 1048576 (length bytes) then Some TooLarge else first_fault [] (cut_lines bytes)
 
 -- the sections of a file, in their order
 unfoldable pub sections_in : List ℕ → List Section
-sections_in bytes = sections_in_lines (lines_of bytes)
+sections_in bytes = sections_in_lines (cut_lines bytes)
 
 -- an error is being out of memory, or the fault
 abbrev pub IsFaultOrMemory : Option IniFault → IniFault → Type 0

@@ -21,7 +21,7 @@ use Rattle.variant_model.specs.declared.fault.SectionFault.{SectionFault}
 use Rattle.variant_model.specs.declared.fault.SectionFault.TheVariants.{DuplicateName, LetterTwice, RefusedParent}
 use Rattle.variant_model.specs.Entry.{accepted, entry, fault_where, first_fault, header_fault, is_duplicate, is_refused, letter_fault, lines_fault, own_fault, parent_fault, rules_fault, unless_fault, with_key}
 use Rattle.variant_model.specs.Made.{resolved}
-use Rattle.variant_model.specs.PieceLetters.{gives_letter, is_given_twice, letter_in, letter_twice, letter_with, letter_within, lines_of, own_letter, piece_letter, unless_given}
+use Rattle.variant_model.specs.PieceLetters.{gives_letter, is_given_twice, letter_in, letter_twice, letter_with, letter_within, own_lines, own_letter, piece_letter, unless_given}
 use Rattle.variant_model.proofs.EntryLaws.{entry_by_fault, parent_refused}
 use Rattle.variant_model.proofs.ListLemmas.{count_by-never, count_by-none, count_by-or, no_either, none_mapped}
 
@@ -44,20 +44,20 @@ faultless sections place accepts =
     (entry_by_fault sections place (first_fault sections place (is_refused sections)) refl) accepts
 
 module _ (sections : List Section) (place : ℕ) (good : IsFaultless sections place) where
-  below_header : option_or (own_fault (lines_of sections place)) (rules_fault (resolved sections place)) ≡ None
+  below_header : option_or (own_fault (own_lines sections place)) (rules_fault (resolved sections place)) ≡ None
   below_header = (no_either (header_fault sections place (is_refused sections)) _ good).1
 
-  own_faultless : own_fault (lines_of sections place) ≡ None
-  own_faultless = (no_either (own_fault (lines_of sections place)) _ below_header).0
+  own_faultless : own_fault (own_lines sections place) ≡ None
+  own_faultless = (no_either (own_fault (own_lines sections place)) _ below_header).0
 
   pub rules_faultless : rules_fault (resolved sections place) ≡ None
-  rules_faultless = (no_either (own_fault (lines_of sections place)) _ below_header).1
+  rules_faultless = (no_either (own_fault (own_lines sections place)) _ below_header).1
 
-  lines_faultless : lines_fault (lines_of sections place) ≡ None
-  lines_faultless = (no_either (lines_fault (lines_of sections place)) _ own_faultless).0
+  lines_faultless : lines_fault (own_lines sections place) ≡ None
+  lines_faultless = (no_either (lines_fault (own_lines sections place)) _ own_faultless).0
 
-  letters_faultless : letter_fault (lines_of sections place) ≡ None
-  letters_faultless = (no_either (lines_fault (lines_of sections place)) _ own_faultless).1
+  letters_faultless : letter_fault (own_lines sections place) ≡ None
+  letters_faultless = (no_either (lines_fault (own_lines sections place)) _ own_faultless).1
 
   no_parent_fault : parent_fault sections place (is_refused sections) ≡ None
   no_parent_fault =
@@ -119,10 +119,10 @@ module _ (sections : List Section) (key value : List ℕ) where
   unfolding value_within
   value_within_good zero place good e = cc
   value_within_good (suc n) place good e =
-      own_or_inherited (last_value (lines_of sections place) key)
+      own_or_inherited (last_value (own_lines sections place) key)
       (option_and_then (value_within n sections key) (parent_place sections place))
       value (IsGoodPair key value)
-      (λ own. value_line_good (lines_of sections place) key value (lines_faultless sections place good) own)
+      (λ own. value_line_good (own_lines sections place) key value (lines_faultless sections place good) own)
       (λ inherited.
       option_and_then_some (value_within n sections key) (parent_place sections place) value inherited
       (λ parent is found. value_within_good n parent (parent_faultless sections place good parent is) found))
@@ -160,7 +160,7 @@ module _ (sections : List Section) (piece : List ℕ) (k : Kind) where
   unfolding letter_within value_within
   letter_within_value zero place e = cc
   letter_within_value (suc n) place e =
-      letter_by_value (lines_of sections place) (last_value (lines_of sections place) piece)
+      letter_by_value (own_lines sections place) (last_value (own_lines sections place) piece)
       (option_and_then (value_within n sections piece) (parent_place sections place))
       (option_and_then (letter_within n sections piece) (parent_place sections place)) k
       (λ inherited.
@@ -271,9 +271,9 @@ module _ (sections : List Section) (k : ℕ) (below : k < 26) where
   unfolding letter_within
   within_once zero place good = none_has (kind k)
   within_once (suc n) place good =
-      letter_once (lines_of sections place)
+      letter_once (own_lines sections place)
       (λ piece. option_and_then (letter_within n sections piece) (parent_place sections place)) (kind k)
-      (own_once (lines_of sections place) k (letters_faultless sections place good) below)
+      (own_once (own_lines sections place) k (letters_faultless sections place good) below)
       (parent_once (letter_within n sections) (parent_place sections place) (kind k)
       (λ parent is. within_once n parent (parent_faultless sections place good parent is)))
 

@@ -13,7 +13,7 @@ use Rattle.fen_model.specs.declared.fault.FenFault.{FenFault}
 use Rattle.fen_model.specs.declared.fault.FenFault.TheVariants.{Length}
 use Rattle.fen_model.specs.Chain.{or_fault}
 use Rattle.fen_model.specs.Counts.{checks_in, checks_of, count_of, is_plus, two_checks, up_to_most}
-use Rattle.fen_model.specs.Fields.{Fields, counted_fields, fields, fields_in, fields_of, first_number, is_blank, no_checks, no_halfmoves, no_text, plain_fields, says_none}
+use Rattle.fen_model.specs.Fields.{Fields, counted_fields, fields, fields_in, fields_of, first_number, is_space, no_checks, no_halfmoves, no_text, plain_fields, says_none}
 use Rattle.fen_model.specs.Passed.{passed_at, passed_of, square_named, square_on}
 use Rattle.fen_model.specs.Reading.{fen_of}
 use Rattle.fen_model.proofs.ChainLaws.{there_ok}
@@ -152,9 +152,9 @@ fields_end : (rules : Rules) (text : List ℕ) (said : Fields) → EndWell said 
     → ends_in_return text ≡ false
 unfolding fields_of
 fields_end rules text said well is =
-    let parts = slice_split is_blank text in
+    let parts = slice_split is_space text in
     let short = not_long (nat_lt 1024 (length text)) said (or_fault Length (fields_in rules parts)) is in
-    from_last is_blank text refl
+    from_last is_space text refl
     (fields_last said well rules.check_counting parts (there_ok Length (fields_in rules parts) said short))
 
 -- a text that says a position

@@ -7,13 +7,13 @@ use Rattle.variant_ini.specs.FileLines.{AreFileLines, IsFileLine}
 use Rattle.variant_ini.specs.OptionValue.{option_value, parent_place, value_within}
 use Rattle.variant_ini.specs.Section.{Section, key_line, last_value}
 use Rattle.variant_options.specs.Keys.{ordered_keys}
-use Rattle.variant_model.specs.PieceLetters.{lines_of}
+use Rattle.variant_model.specs.PieceLetters.{own_lines}
 use Rattle.variant_model.specs.Told.{lacks_piece, line_of, told, told_of, told_value}
 use Rattle.variant_model.proofs.ChainLaws.{found_or_here, own_or_inherited}
 use Rattle.variant_model.proofs.ToldLaws.{each_told, unless_lacking}
 
 -- the lines of one section, which has none past the end
-lines_at : (sections : List Section) (place : ℕ) → AreFileLines sections → All IsFileLine (lines_of sections place)
+lines_at : (sections : List Section) (place : ℕ) → AreFileLines sections → All IsFileLine (own_lines sections place)
 lines_at [] place files = All-nil IsFileLine
 lines_at (section ∷ sections) zero files = All-head (λ s. All IsFileLine s.lines) section sections files
 lines_at (section ∷ sections) (suc n) files =
@@ -35,10 +35,10 @@ module _ (sections : List Section) (files : AreFileLines sections) where
   unfolding value_within
   within_file key value zero place e = absurd (cc)
   within_file key value (suc n) place e =
-      own_or_inherited (last_value (lines_of sections place) key)
+      own_or_inherited (last_value (own_lines sections place) key)
       (option_and_then (value_within n sections key) (parent_place sections place))
       value (IsFileLine (key_line key value))
-      (λ own. last_file_line (lines_of sections place) key value (lines_at sections place files) own)
+      (λ own. last_file_line (own_lines sections place) key value (lines_at sections place files) own)
       (λ inherited.
       option_and_then_some (value_within n sections key) (parent_place sections place) value inherited
       (λ parent is found. within_file key value n parent found))

@@ -14,7 +14,7 @@ use Rattle.variant_options.specs.declared.value.ValueKind.{ValueKind}
 use Rattle.variant_options.specs.declared.value.ValueKind.TheVariants as kind
 use Rattle.variant_options.specs.Letters.{letter_of, mask_in}
 use Rattle.variant_options.specs.Options.{read}
-use Rattle.variant_options.specs.Readings.{area_of, area_on, is_letter_or_space, is_star, lettered_file, pair_of, paired, read_file, read_flag, read_fold, read_letter, read_letters, read_letters_or_all, read_result, read_result_or_none, region_of}
+use Rattle.variant_options.specs.Readings.{area_of, area_on, is_letter_or_space, is_star, lettered_file, pair_of_kinds, paired, read_file, read_flag, read_fold, read_letter, read_letters, read_letters_or_all, read_result, read_result_or_none, region_of}
 use Rattle.variant_options.specs.Words.{each_said, is_hyphen, is_space, listed, onto, said_by_words, words_of}
 use Rattle.variant_model.proofs.TextEnds.{Says, all_pass, byte_passes, byte_says, digits_behind, digits_end, ends_in_return, last_any, nonempty_any, number_digits, said_first, same_text, split_ends}
 
@@ -164,7 +164,7 @@ module _ {X : Type 0} (say : List ℕ → Option X)
       first_or (is_hyphen text) [] (said_by_words say (words_of text)) (ends_in_return text ≡ false)
       (hyphen_ends text) (said_words_end text) says
 
-pair_ends : (word : List ℕ) → Says (pair_of word) → ends_in_return word ≡ false
+pair_ends : (word : List ℕ) → Says (pair_of_kinds word) → ends_in_return word ≡ false
 pair_ends [] says = refl
 pair_ends (left ∷ []) says = cc
 pair_ends (left ∷ colon ∷ []) says = cc
@@ -199,7 +199,7 @@ option_ends kind.ResultOrNone text start says = result_or_none_ends text says
 option_ends kind.Letter text start says = letter_ends text says
 option_ends kind.Letters text start says = letters_end text says
 option_ends kind.LettersOrAll text start says = letters_or_all_end text says
-option_ends kind.Pairs text start says = listed_ends pair_of pair_ends text says
+option_ends kind.Pairs text start says = listed_ends pair_of_kinds pair_ends text says
 option_ends kind.Region text start says =
     listed_ends area_of area_ends text (said_mapped region_of (listed area_of text) says)
 option_ends kind.Position text start says = start refl

@@ -43,8 +43,8 @@ unfoldable pub piece_letter : List Section → ℕ → List ℕ → Option Kind
 piece_letter sections place piece = letter_within (place + 1) sections piece place
 
 -- the lines of the section at a place
-abbrev pub lines_of : List Section → ℕ → List KeyLine
-lines_of sections place = (section_at sections place).lines
+abbrev pub own_lines : List Section → ℕ → List KeyLine
+own_lines sections place = (section_at sections place).lines
 
 -- the letter of a piece in a section's parent
 abbrev pub parent_letter : List Section → ℕ → List ℕ → Option Kind

@@ -8,19 +8,19 @@ ghost use Rattle.variant_ini.specs.OptionValue.{parent_place};
 ghost use Rattle.variant_model.specs.declared.fault.SectionFault.{SectionFault};
 ghost use Rattle.variant_model.specs.Entry.{accepted, entry, first_fault, is_refused};
 ghost use Rattle.variant_model.specs.Made.{resolved};
-ghost use Rattle.variant_model.specs.PieceLetters.{letter_in, lines_of, parent_letter, piece_letter, unless_given};
+ghost use Rattle.variant_model.specs.PieceLetters.{letter_in, own_lines, parent_letter, piece_letter, unless_given};
 ghost use Rattle.variant_model.specs.Told.{line_of, told, told_section};
 
 /// The letter of a piece is that of the section's own last line for it, else the one in its parent, unless the section
 /// gives that letter to a piece: no chain of parents is cut off.
 pub fn letters_are_inherited()
     ensures own { (sections : List Section) (place : ℕ) (piece value : List ℕ)
-        → last_value (lines_of sections place) piece ≡ Some value
+        → last_value (own_lines sections place) piece ≡ Some value
         → piece_letter sections place piece ≡ letter_in value }
     ensures inherited { (sections : List Section) (place : ℕ) (piece : List ℕ)
-        → last_value (lines_of sections place) piece ≡ None
+        → last_value (own_lines sections place) piece ≡ None
         → piece_letter sections place piece
-        ≡ unless_given (lines_of sections place) (parent_letter sections place piece) }
+        ≡ unless_given (own_lines sections place) (parent_letter sections place piece) }
 {}
 
 /// A section has its first fault; where it has none, it has the rules that its options make, or the fault of their

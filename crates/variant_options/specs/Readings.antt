@@ -90,13 +90,13 @@ paired (Some left) None = None
 paired (Some left) (Some right) = Some (left, right)
 
 -- `p:g`
-abbrev pub pair_of : List ℕ → Option (Kind × Kind)
-pair_of (left ∷ colon ∷ right ∷ []) = if colon == 58 then paired (letter_of left) (letter_of right) else None
-pair_of word = None
+abbrev pub pair_of_kinds : List ℕ → Option (Kind × Kind)
+pair_of_kinds (left ∷ colon ∷ right ∷ []) = if colon == 58 then paired (letter_of left) (letter_of right) else None
+pair_of_kinds word = None
 
 -- pairs, or `-`
 abbrev pub read_pairs : List ℕ → Option (List (Kind × Kind))
-read_pairs text = listed pair_of text
+read_pairs text = listed pair_of_kinds text
 
 -- ---- regions of the largest board
 

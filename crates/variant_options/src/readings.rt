@@ -148,7 +148,7 @@ fn words(alloc: Global, text: &[u8]) -> Result<Vec<&[u8]>, AllocError>
 
 /// `p:g`.
 fn pair(word: &[u8]) -> Option<(Kind, Kind)>
-    ensures { result ≡ Readings.pair_of word.now }
+    ensures { result ≡ Readings.pair_of_kinds word.now }
 {
     match word {
         [left, b':', right] => Some((letter(*left)?, letter(*right)?)),

@@ -14,7 +14,7 @@ use Rattle.watching.specs.declared.halt.Cut.TheVariants as cut
 use Rattle.watching.specs.declared.halt.Halt.{Halt}
 use Rattle.watching.specs.declared.halt.Halt.TheVariants as halt
 use Rattle.io_ports.specs.Heard.{stops}
-use Rattle.watching.specs.Events.{Event, lines_of, written, readings, Listens}
+use Rattle.watching.specs.Events.{Event, heard_lines, written, readings, Listens}
 use Rattle.io_ports.specs.Owing.{Spends, Lacks}
 
 abbrev pub Moved : Type 1
@@ -23,7 +23,7 @@ Moved = List Line → List ℕ → List ℕ → Type 0
 -- Events were gone through of which this holds, and these lines stand behind them.
 pub record Ran (dialect : Dialect) (moved : Moved) (behind : List Line) (Holds : List Event → Type 0) : Type 0 where
   pub events : List Event
-  pub went : moved (lines_of events ++ behind) (written dialect events) (readings events)
+  pub went : moved (heard_lines events ++ behind) (written dialect events) (readings events)
   pub holds : Holds events
 
 -- The same, where only a front part of what they write was written.
@@ -32,7 +32,7 @@ pub record Broke (dialect : Dialect) (moved : Moved) (Holds : List Event → Typ
   pub front : List ℕ
   pub back : List ℕ
   pub wrote : written dialect events ≡ front ++ back
-  pub went : moved (lines_of events) front (readings events)
+  pub went : moved (heard_lines events) front (readings events)
   pub holds : Holds events
 
 -- the line that is held: the one that stopped the search

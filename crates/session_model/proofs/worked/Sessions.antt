@@ -11,7 +11,7 @@ use Rattle.session_model.specs.CecpLines as CecpLines
 use Rattle.session_model.specs.CecpSession as CecpSession
 use Rattle.session_model.specs.CecpSession.{cecp}
 use Rattle.session_model.specs.CecpState as CecpState
-use Rattle.watching.specs.Events.{Event, Says, Hears, Reads, written, said, lines_of as heard}
+use Rattle.watching.specs.Events.{Event, Says, Hears, Reads, written, said, heard_lines as heard}
 use Rattle.session_model.specs.Events.{IsStopped}
 use Rattle.session_model.specs.Numbers.{number_read}
 use Rattle.session_model.specs.Turns.{Session, Turn, Turns, lines_in, lines_wanted, output_in}

@@ -1,7 +1,7 @@
 use Rattle.std.proofs.Common.{◌≡◌, ◌<◌, true, false, eqb, Some, None, length, vec_len, sym, ap, ◌∙◌, arith}
 use Rattle.std.specs.Prelude.{if◌then◌else◌}
 use Rattle.std.proofs.lemmas.Bool.Decides.{nat_tests}
-use Rattle.variant_options.specs.Readings.{pair_of}
+use Rattle.variant_options.specs.Readings.{pair_of_kinds}
 use Rattle.variant_options.proofs.ListedLemmas.{texts, listed_hyphen, each_said_none, more_word, bad_word, all_words, nil_from_length, cons_from_length}
 use Rattle.variant_options.proofs.readings.read_pairs.Goals as goal
 use Rattle.variant_options.proofs.readings.read_pairs.Goals.{then-is_empty, else-is_empty}
@@ -9,20 +9,20 @@ use Rattle.variant_options.proofs.readings.read_pairs.Goals.{then-is_empty, else
 pub returns-then-is_hyphen : goal.returns-then-is_hyphen
 returns-then-is_hyphen c =
     ap (λ xs. Some xs) c.new-pairs.ensures.items
-    ∙ sym (listed_hyphen pair_of c.args.text.now (sym c.is_hyphen.ensures ∙ c.if-is_hyphen.true))
+    ∙ sym (listed_hyphen pair_of_kinds c.args.text.now (sym c.is_hyphen.ensures ∙ c.if-is_hyphen.true))
 
 pub loop-word-init : goal.loop-word-init
-loop-word-init c = each_said_none pair_of (texts c.deref-word-items.result.now) ∙ ap (λ xs. Some xs) (sym c.new-pairs.ensures.items)
+loop-word-init c = each_said_none pair_of_kinds (texts c.deref-word-items.result.now) ∙ ap (λ xs. Some xs) (sym c.new-pairs.ensures.items)
 
 pub returns-in-None : goal.returns-in-None
 returns-in-None c =
-    sym (bad_word pair_of c.deref-word-items.result.now c.loop-word.word-index _ c.args.text.now
+    sym (bad_word pair_of_kinds c.deref-word-items.result.now c.loop-word.word-index _ c.args.text.now
     (ap texts c.deref-word-items.ensures.value ∙ c.in_ok-words.ensures) (sym c.is_hyphen.ensures ∙ c.if-is_hyphen.false)
     c.loop-word-test.true (sym c.pair.ensures ∙ c.in-None.is))
 
 pub loop-word-preserved : goal.loop-word-preserved
 loop-word-preserved c =
-    more_word pair_of c.deref-word-items.result.now c.loop-word.word-index _ c.loop-word.pairs.items c.in-Some.pair
+    more_word pair_of_kinds c.deref-word-items.result.now c.loop-word.word-index _ c.loop-word.pairs.items c.in-Some.pair
     c.loop-word-test.true c.loop-word.invariant (sym c.pair.ensures ∙ c.in-Some.is)
     ∙ ap (λ xs. Some xs) (sym c.in_ok-push-in-Some.ensures.items)
 
@@ -30,7 +30,7 @@ pub returns : goal.returns
 returns c =
     let said = c.loop-word.pairs.items in
     let all =
-    all_words pair_of c.deref-word-items.result.now c.loop-word.word-index said c.args.text.now
+    all_words pair_of_kinds c.deref-word-items.result.now c.loop-word.word-index said c.args.text.now
     (ap texts c.deref-word-items.ensures.value ∙ c.in_ok-words.ensures) (sym c.is_hyphen.ensures ∙ c.if-is_hyphen.false)
     c.loop-word-test.false c.loop-word.invariant
     in

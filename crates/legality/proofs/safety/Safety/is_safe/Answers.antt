@@ -2,8 +2,8 @@ use Rattle.std.proofs.Common.{sym, ◌∙◌}
 use Rattle.legality.proofs.SafetyLaws.{enemies_held, free_drop_is_safe, free_is_safe, same_held}
 use Rattle.legality.proofs.safety.Safety.is_safe.Goals as goal
 
-pub returns-then-is_free : goal.returns-then-is_free
-returns-then-is_free c = sym (free_is_safe _ _ _ _ _ c.args.self.now.go_freely c.requires (sym c.is_free.ensures ∙ c.if-is_free.true))
+pub returns-then-is_free_go : goal.returns-then-is_free_go
+returns-then-is_free_go c = sym (free_is_safe _ _ _ _ _ c.args.self.now.go_freely c.requires (sym c.is_free_go.ensures ∙ c.if-is_free_go.true))
 
 pub returns-then-is_free_drop : goal.returns-then-is_free_drop
 returns-then-is_free_drop c =
