@@ -10,7 +10,7 @@ ghost use Rattle.variant_options.specs.Options.{promoted_piece_type, region_keys
 ghost use Rattle.rules_model.specs.declared.board.Side.TheVariants.{White, Black};
 ghost use Rattle.section_rules.specs.Said.{IsKeyOf, board_of, held_at, held_by, holds_pair, own_word, resolved_at, rule_at, terms_by};
 
-use crate::lines::{PIECES, piece_at};
+use crate::lines::piece_at;
 use crate::regions::{Keys, regions};
 use crate::resolved::Resolved;
 use arrayvec::ArrayVec;
@@ -19,7 +19,7 @@ use rules_model::{Board, Kind, KindRule, Memory, Terms};
 use std::alloc::Global;
 use variant_options::letters::{KINDS, mask_of};
 use variant_options::line::{PieceValue, read_piece};
-use variant_options::pieces::{Piece, RegionKeys, region_keys};
+use variant_options::pieces::{PIECE_COUNT, Piece, RegionKeys, region_keys};
 use variant_options::readings::{ALL_SQUARES, read_pairs};
 use variant_options::words::read_word;
 
@@ -40,7 +40,7 @@ fn holder(section: &Resolved<'_>, kind: Kind) -> Option<usize>
     ensures is { option_map PieceRules.piece_row result ≡ PieceRules.holder (resolved_at section.now) kind }
     ensures below { IfSome result (λ place. place < 56) }
 {
-    for place in 0..PIECES {
+    for place in 0..PIECE_COUNT {
         if names(letter_at(section, place), kind) {
             return Some(place);
         }

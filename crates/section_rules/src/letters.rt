@@ -2,13 +2,14 @@
 ghost use Rattle.std.specs.Prelude.{◌≡◌, ◌<◌, IfOk, length};
 ghost use Rattle.section_rules.specs.Letters as table;
 
-use crate::lines::{OwnLetters, PIECES, letter_given, own_letters};
+use crate::lines::{OwnLetters, letter_given, own_letters};
 use rules_model::{Kind, Memory};
 use std::alloc::Global;
 use variant_ini::Sections;
+use variant_options::pieces::PIECE_COUNT;
 
 /// The letter of each piece of the table, in its order, where the section has the piece.
-pub(crate) type Letters = [Option<Kind>; PIECES];
+pub(crate) type Letters = [Option<Kind>; PIECE_COUNT];
 
 /// The letter of a piece, by what the section's lines say of it, by the letter in the parent, and by the letters that
 /// the lines give.
@@ -26,8 +27,8 @@ fn letter_by(said: Option<Option<Kind>>, inherited: Option<Kind>, own: &OwnLette
 fn letters_by(own: &OwnLetters, inherited: &Letters) -> Letters
     ensures { result ≡ table.letters_by own.now inherited.now }
 {
-    let mut letters = [None; PIECES];
-    for i in 0..PIECES {
+    let mut letters = [None; PIECE_COUNT];
+    for i in 0..PIECE_COUNT {
         letters[i] = letter_by(own[i], inherited[i], own);
     }
     letters
@@ -41,7 +42,7 @@ fn inherited(sections: &Sections, above: &[Letters], place: usize) -> Letters
 {
     match sections.parent_place(place) {
         Some(parent) => above[parent],
-        None => [None; PIECES],
+        None => [None; PIECE_COUNT],
     }
 }
 

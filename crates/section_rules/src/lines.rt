@@ -18,14 +18,11 @@ use variant_model::SectionFault;
 use variant_options::LineFault;
 use variant_options::letters::KINDS;
 use variant_options::line::{PieceValue, line_fault, read_piece};
-use variant_options::pieces::{Piece, pieces};
-
-/// How many pieces the table has.
-pub(crate) const PIECES: usize = 56;
+use variant_options::pieces::{PIECE_COUNT, Piece, pieces};
 
 /// What the lines of a section say of each piece of the table, in its order: None without a line for it, else the
 /// letter that its last line gives, where it gives one.
-pub(crate) type OwnLetters = [Option<Option<Kind>>; PIECES];
+pub(crate) type OwnLetters = [Option<Option<Kind>>; PIECE_COUNT];
 
 /// The letter that a piece's value gives.
 fn letter_in(value: &[u8]) -> Option<Kind>
@@ -63,7 +60,7 @@ pub(crate) fn piece_place(key: &[u8]) -> Option<usize>
     ensures is { option_map piece_row result ≡ piece_named key.now }
     ensures below { IfSome result (λ place. place < 56) }
 {
-    for place in 0..PIECES {
+    for place in 0..PIECE_COUNT {
         let piece = piece_at(place);
         if piece.0 == key {
             return Some(place);
@@ -87,8 +84,8 @@ pub(crate) fn own_letters(sections: &Sections, section: usize) -> OwnLetters
     requires { section < length sections.now }
     ensures { result ≡ map (λ piece. own_value (section_at sections.now section).lines piece.key) pieces }
 {
-    let mut letters = [None; PIECES];
-    for i in 0..PIECES {
+    let mut letters = [None; PIECE_COUNT];
+    for i in 0..PIECE_COUNT {
         letters[i] = own_at(sections, section, i);
     }
     letters

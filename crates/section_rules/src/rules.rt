@@ -11,16 +11,8 @@ use rules_model::{Memory, Position, Region, Rules, Side, Value};
 use std::alloc::Global;
 use variant_options::Listed;
 use variant_options::letters::mask_of;
+use variant_options::pieces::{KING, PAWN, ROOK, SOLDIER};
 use variant_options::readings::{ALL_SQUARES, rank_alone};
-
-// The places of pieces in the table.
-const PAWN: usize = 0;
-
-const KING: usize = 1;
-
-const ROOK: usize = 8;
-
-const SOLDIER: usize = 26;
 
 const NO_SQUARE: Region = Region {
     squares: [false; 120],

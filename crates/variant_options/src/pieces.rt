@@ -33,8 +33,23 @@ pub enum RegionKeys {
 #[derive(Clone, Copy)]
 pub struct Piece(pub &'static [u8], pub Movement);
 
+/// How many pieces the table has.
+pub const PIECE_COUNT: usize = 56;
+
+/// The place of the chess pawn in the table.
+pub const PAWN: usize = 0;
+
+/// The place of the king in the table.
+pub const KING: usize = 1;
+
+/// The place of the rook in the table.
+pub const ROOK: usize = 8;
+
+/// The place of the soldier in the table.
+pub const SOLDIER: usize = 26;
+
 /// The pieces, in the order of the table.
-static PIECES: [Piece; 56] = [
+static PIECES: [Piece; PIECE_COUNT] = [
     Piece(b"pawn", Movement::Wordless),
     Piece(b"king", Movement::Default(b"K")),
     Piece(b"wazir", Movement::Fixed(b"W")),
@@ -94,7 +109,7 @@ static PIECES: [Piece; 56] = [
 ];
 
 /// The keys of the regions of the pieces, in the same order.
-static REGION_KEYS: [RegionKeys; 56] = [
+static REGION_KEYS: [RegionKeys; PIECE_COUNT] = [
     RegionKeys::Everywhere,
     RegionKeys::Keys(b"mobilityRegionWhiteKing", b"mobilityRegionBlackKing"),
     RegionKeys::Keys(b"mobilityRegionWhiteWazir", b"mobilityRegionBlackWazir"),
