@@ -1,13 +1,15 @@
 //! Facts with packed repeats.
 ghost use Rattle.std.specs.Prelude.{◌≡◌};
+ghost use Rattle.rules_model.specs.Repeats.{repeat_of};
+ghost use Rattle.position_key.specs.Key.{IsBoardKey};
 ghost use Rattle.forced_wins.specs.Facts as Facts;
 ghost use Rattle.mate_core.specs.Best as Best;
 ghost use Rattle.mate_core.specs.Hash.{hash_of};
 ghost use Rattle.mate_core.specs.Claims.{claim_of, fact_with};
 
 use forced_wins::Fact;
-use position_key::Packed;
-use rules_model::{Move, Repeat, Side};
+use position_key::{BoardKey, Packed};
+use rules_model::{Move, Position, Repeat, Side};
 use std::marker::Model;
 
 /// What a fact says of its repeat.
@@ -73,6 +75,18 @@ impl PackedFact {
         PackedFact {
             claim: Claim::of(fact),
             repeat: Packed::of(&fact.repeat),
+        }
+    }
+
+    /// The fact that says this of the position's repeat, where the key of its board and hands is known. No key is worked
+    /// out from the board, and the repeat is not copied first.
+    pub fn from_claim(p: &Position, key: BoardKey, claim: Claim) -> PackedFact
+        requires { IsBoardKey key (repeat_of p.now) }
+        ensures { result ≡ fact_with (repeat_of p.now) claim }
+    {
+        PackedFact {
+            claim,
+            repeat: Packed::with_key(p, key),
         }
     }
 
