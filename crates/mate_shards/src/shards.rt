@@ -117,7 +117,40 @@ impl Shards {
         ensures known { (repeat : RepeatView) (counter moves : ℕ) → serves fact.now repeat counter moves ≡ true →
             SeeAnswerOrFull self.now passes.new fact.now.wins repeat counter moves }
     {
-        let given = PackedFact::of(fact);
+        self.put(rt, passes, PackedFact::of(fact))
+    }
+
+    /// The same for the fact that says this of the position's repeat, where the key of its board and hands is known.
+    pub fn publish_by_key<R: Wait>(
+        &self,
+        rt: &R,
+        passes: &mut Passes,
+        p: &Position,
+        key: BoardKey,
+        claim: Claim,
+    ) -> Published
+        requires passes { ArePassesOf self.now passes.old }
+        requires key { IsBoardKey key (Repeats.repeat_of p.now) }
+        requires truth { IsTrueIn self.now.frame (fact_with (Repeats.repeat_of p.now) claim) }
+        ensures passes { ArePassesOf self.now passes.new }
+        ensures turn { PublishTurn self.now passes.old (fact_with (Repeats.repeat_of p.now) claim) result passes.new }
+        ensures grown { HaveGrown passes.old passes.new }
+        ensures parts { (n : ℕ) → HaveParts n passes.old → HaveParts n passes.new }
+        ensures owned { owned passes.new ≡ owned passes.old + stored_by result }
+        ensures known { (repeat : RepeatView) (counter moves : ℕ) →
+            serves (fact_with (Repeats.repeat_of p.now) claim) repeat counter moves ≡ true →
+            SeeAnswerOrFull self.now passes.new claim.wins repeat counter moves }
+    {
+        self.put(rt, passes, PackedFact::from_claim(p, key, claim))
+    }
+
+    // Puts a packed fact into the shard of its repeat.
+    fn put<R: Wait>(&self, rt: &R, passes: &mut Passes, given: PackedFact) -> Published
+        requires passes { ArePassesOf self.now passes.old }
+        requires truth { IsTrueIn self.now.frame given }
+        ensures passes { ArePassesOf self.now passes.new }
+        ensures turn { PublishTurn self.now passes.old given result passes.new }
+    {
         let shard = self.home(given.hash());
         match self.ask(rt, passes, shard, Request::Publish(given)) {
             Answer::Published(published) => published,
