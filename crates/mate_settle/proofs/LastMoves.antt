@@ -46,12 +46,6 @@ turned White Black h = cc
 turned Black White h = cc
 turned Black Black h = refl
 
-returned : (s a : Side) → same_side s a ≡ false → same_side (other s) a ≡ true
-returned White White h = cc
-returned White Black h = refl
-returned Black White h = refl
-returned Black Black h = cc
-
 -- an end that the other side wins
 not_his : (s a : Side) (c : Cause) → same_side s a ≡ false → won_by a (Won s c) ≡ Some true → ⊥
 not_his White White c e h = cc

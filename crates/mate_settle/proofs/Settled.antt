@@ -2,6 +2,7 @@
 use Rattle.std.proofs.Common.{◌≡◌, ◌⊎◌, inl, inr, ℕ, zero, suc, ◌+◌, ◌<◌, ◌≤◌, List, [], ◌∷◌, ◌++◌, take, Bool, true, false, not, nat_le, Option, Some, None, slice_get, refl, ap, sym, ◌∙◌, subst, arith, min, max}
 use Rattle.std.proofs.lemmas.Bool.{and_parts, leb-true}
 use Rattle.std.proofs.lemmas.Bool.Decides.{nat_tests}
+use Rattle.std.specs.List.{find}
 use Rattle.std.specs.Option.{IfSome}
 use mathlib.Core.Bool.{beq}
 use Rattle.foundation.specs.Member.{Member, Appends, Lists}
@@ -27,7 +28,7 @@ use Rattle.mate_fact.specs.InFrame as In
 use Rattle.playing.specs.Stance.{Stance, after, legal_in}
 use Rattle.mate_settle.specs.Choices.{some_wins, all_win}
 use Rattle.mate_settle.specs.Known.{Answers}
-use Rattle.mate_settle.specs.Steps.{left_after, far_at_first, farther_of, after_one, after_all, IsFar, NoneDecides}
+use Rattle.mate_settle.specs.Steps.{left_after, farther_of, after_one, after_all, IsFar, NoneDecides}
 
 -- ---- what a fact that serves covers
 
@@ -108,10 +109,6 @@ module _ (f : Frame) where
 
   -- ---- none of the first moves decides
 
-  pub far-first : (a : Bool) (left : ℕ) → left ≤ 65535 → IsFar a left (far_at_first a)
-  far-first true left h = h
-  far-first false left h = omega arith
-
   pub none-first : (p : Position) (a : Bool) (far : ℕ) (ms : List Move) → NoneDecides f p a far (take 0 ms)
   none-first p a far ms = record { each = λ m k. absurd (none-taken m ms k) }
 
@@ -154,6 +151,17 @@ each-more {X = X} {Q = Q} ms i x h f q y k = cases (take-more ms i x y h (subst 
     cases : Member y (take i ms) ⊎ (x ≡ y) → Q y
     cases (inl m) = f y m
     cases (inr e) = subst Q e q
+
+-- the first that passes a test
+module _ {X : Type 0} (test : X → Bool) where
+  pub find-none : (xs : List X) → ((x : X) → Member x xs → test x ≡ false) → find test xs ≡ None
+  find-none [] h = refl
+  find-none (x ∷ xs) h = rw (h x (inl refl)) (find-none xs (λ y m. h y (inr m)))
+
+  pub find-at : (xs : List X) (i : ℕ) (x : X) → slice_get xs i ≡ Some x → ((y : X) → Member y (take i xs) → test y ≡ false) → test x ≡ true → find test xs ≡ Some x
+  find-at [] i x at h passes = cc
+  find-at (y ∷ xs) zero x at h passes = let same : y ≡ x = (let e : ◌≡◌ {A = Option _} (Some y) (Some x) = at in cc) in rw (same, passes)
+  find-at (y ∷ xs) (suc i) x at h passes = rw (h y (inl refl)) (find-at xs i x at (λ z m. h z (inr m)) passes)
 
 module _ (f : Frame) (p : Position) where
   pub none-more : (a : Bool) (far i : ℕ) (ms : List Move) (x : Move) (k : Fact) (left : ℕ) → slice_get ms i ≡ Some x → NoneDecides f p a far (take i ms) → Told f k (next f.rules p x) left → k.wins ≡ not a → NoneDecides f p a (farther_of a far k.moves) (take (i + 1) ms)

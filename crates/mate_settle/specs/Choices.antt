@@ -1,13 +1,18 @@
 -- What the moves of a position come to.
-use Rattle.std.specs.Prelude.{◌≡◌, ℕ, ◌<◌, Bool, true}
+use Rattle.std.specs.Prelude.{◌≡◌, ℕ, ◌<◌, Bool, true, Option, Some, None}
 use Rattle.std.specs.List.{list_any, list_all, sum_by}
 use Rattle.foundation.specs.Member.{Member}
 use Rattle.rules_model.specs.declared.board.Position.{Position}
+use Rattle.rules_model.specs.declared.moves.Move.{Move}
 use Rattle.rules_model.specs.Next.{next}
 use Rattle.mate_core.specs.declared.frame.Frame.{Frame}
 use Rattle.mate_fact.specs.InFrame.{near_in, legal_in}
 use Rattle.mate_settle.specs.declared.choosing.Choice.{Choice}
 use Rattle.mate_settle.specs.Lines.{lines_after, seen_in}
+
+-- after the move the position is won within n moves
+abbrev pub wins_after : Frame → ℕ → Position → Move → Bool
+wins_after f n p m = near_in f n (next f.rules p m)
 
 -- some legal move is won within n moves, or each is
 abbrev pub some_wins : Frame → ℕ → Position → Bool
@@ -21,6 +26,11 @@ pub record IsChoice (f : Frame) (p : Position) (n : ℕ) (c : Choice) : Type 0 w
   pub is_legal : Member c.chosen (legal_in f p)
   pub fewer : c.moves < n
   pub won : near_in f c.moves (next f.rules p c.chosen) ≡ true
+
+-- its move
+abbrev pub move_of : Option Choice → Option Move
+move_of None = None
+move_of (Some c) = Some c.chosen
 
 -- the lines that go on after each of its moves
 abbrev pub lines_of_moves : Frame → ℕ → Position → ℕ

@@ -1,7 +1,8 @@
 //! What the moves of a position come to, each settled in turn, in an order that is given.
 ghost use Rattle.std.specs.Prelude.{◌≡◌, ◌≤◌, ◌<◌, ◌-◌, false, None, IfOk, OnOk, IfSome, IsErrOf};
+ghost use Rattle.std.specs.List.{find};
 ghost use Rattle.foundation.specs.Member.{Lists, Member};
-ghost use Rattle.mate_settle.specs.Choices.{all_win, some_wins, lines_of_moves, IsChoice};
+ghost use Rattle.mate_settle.specs.Choices.{all_win, some_wins, wins_after, move_of, lines_of_moves, IsChoice};
 ghost use Rattle.playing.specs.Stance.{legal_in};
 ghost use Rattle.watching.specs.declared.halt.Halt.{Halt};
 
@@ -38,6 +39,7 @@ pub fn choose<W: Watch>(
     requires small { n ≤ 1000 }
     requires some { 0 < n }
     ensures frame { facts.new ≡ facts.old }
+    ensures first { IfOk result (λ o. move_of o ≡ find (wins_after facts.old (n - 1) board.now.position) moves.now) }
     ensures wins { IfOk result (λ o. IfSome o (IsChoice facts.old board.now.position n)) }
     ensures none { IfOk result (λ o. o ≡ None → some_wins facts.old (n - 1) board.now.position ≡ false) }
     ensures gone { OnOk result (W.gone watch.old watch.new (lines_of_moves facts.old (n - 1) board.now.position)) }
