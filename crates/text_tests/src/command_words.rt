@@ -1,171 +1,108 @@
 //! Tests of `words`.
 use std::alloc::Global;
+use std::io::{self, Write};
 use std::test::Fail;
-use words::{Asked, Command, read_words};
+use words::{Asked, read_words};
 
-const MOVES: Asked<'static> = Asked {
-    variants: None,
-    threads: 1,
-    command: Command::Moves,
-};
-
-fn command(command: Command<'static>) -> Asked<'static> {
-    Asked { command, ..MOVES }
-}
-
-fn reach(
-    word: &'static str,
-    square: &'static str,
-    own: &'static str,
-    enemy: &'static str,
-) -> Asked<'static> {
-    Asked {
-        command: Command::Reach {
-            word,
-            square,
-            own,
-            enemy,
-        },
-        ..MOVES
-    }
-}
-
-fn moves_with(variants: Option<&'static str>, threads: u64) -> Asked<'static> {
-    Asked {
-        variants,
-        threads,
-        ..MOVES
-    }
-}
-
-fn owned(alloc: Global, words: &[&str]) -> Result<Vec<String>, Fail> {
+/// The words that bars separate; an empty line has none.
+fn owned(alloc: Global, line: &str) -> Result<Vec<String>, Fail> {
     let mut list = Vec::new(alloc);
-    for word in words {
-        list.push(String::from_str(alloc, *word)?)?;
+    if !line.is_empty() {
+        for word in line.split('|') {
+            list.push(String::from_str(alloc, word)?)?;
+        }
     }
     Ok(list)
 }
 
-#[test]
-fn words_of_the_set_are_read(rt: HostRuntime) -> Result<(), Fail> {
-    let rows: [(&[&str], Asked<'static>); 27] = [
-        (&[], command(Command::Uci)),
-        (&["uci"], command(Command::Uci)),
-        (&["xboard"], command(Command::Xboard)),
-        (
-            &["--threads", "4"],
-            Asked {
-                threads: 4,
-                ..command(Command::Uci)
-            },
-        ),
-        (&["moves"], MOVES),
-        (&["perft", "1"], command(Command::Perft(1))),
-        (
-            &["perft", "00000000000000000009"],
-            command(Command::Perft(9)),
-        ),
-        (&["check"], command(Command::Check)),
-        (&["stipulate", "self", "1"], command(Command::SelfMate(1))),
-        (&["stipulate", "help", "06"], command(Command::HelpMate(6))),
-        (&["stipulate", "check"], command(Command::CheckCert)),
-        (&["variants"], command(Command::Variants)),
-        (&["suite"], command(Command::Suite)),
-        (&["pnmate", "100"], command(Command::PnMate(100))),
-        (&["reach", "N", "b1"], reach("N", "b1", "none", "none")),
-        (&["reach", "", "", ""], reach("", "", "", "none")),
-        (
-            &["reach", "N", "b1", "a1,a2", "c3"],
-            reach("N", "b1", "a1,a2", "c3"),
-        ),
-        (
-            &["generate", "chess", "18446744073709551615", "08192"],
-            command(Command::Generate {
-                name: "chess",
-                number: u64::MAX,
-                plies: 8192,
-            }),
-        ),
-        (&["--threads", "4", "moves"], moves_with(None, 4)),
-        (&["--threads=64", "moves"], moves_with(None, 64)),
-        (
-            &["--threads", "00000000000000000007", "moves"],
-            moves_with(None, 7),
-        ),
-        (&["--variants", "f", "moves"], moves_with(Some("f"), 1)),
-        (&["--variants=a=b", "moves"], moves_with(Some("a=b"), 1)),
-        (
-            &["--variants", "moves", "moves"],
-            moves_with(Some("moves"), 1),
-        ),
-        (
-            &["--variants", "é ü.ini", "moves"],
-            moves_with(Some("é ü.ini"), 1),
-        ),
-        (
-            &["--variants", "f", "--threads", "2", "moves"],
-            moves_with(Some("f"), 2),
-        ),
-        (
-            &["--threads", "2", "--variants=f", "moves"],
-            moves_with(Some("f"), 2),
-        ),
-    ];
-    for (words, expected) in rows {
-        let list = owned(rt.alloc(), words)?;
-        let asked = read_words(rt.alloc(), list.as_slice())?;
-        assert_eq!(rt; asked, Some(expected));
+/// Writes the file of variants, the number of threads and the command, on a line.
+fn tell(told: &mut Vec<u8>, asked: &Asked) -> io::Result<()> {
+    writeln!(
+        told,
+        "{:?} {} {:?}",
+        asked.variants, asked.threads, asked.command
+    )
+}
+
+/// What the words of the lines ask, on a line for each that asks something.
+fn answers(alloc: Global, lines: &str) -> Result<Vec<u8>, Fail> {
+    let mut told = Vec::new(alloc);
+    for line in lines.split('\n') {
+        let list = owned(alloc, line)?;
+        if let Some(asked) = read_words(alloc, list.as_slice())? {
+            tell(&mut told, &asked)?;
+        }
     }
+    Ok(told)
+}
+
+#[test]
+fn commands_are_read(rt: HostRuntime) -> Result<(), Fail> {
+    let lines =
+        "\nuci\nxboard\nmoves\nstatus\nperft|1\nperft|00000000000000000009\ncheck\nstipulate|self|1\n\
+        stipulate|help|06\nstipulate|check\nvariants\nsuite\npnmate|100\nreach|N|b1\nreach|||\nreach|N|b1|a1,a2|c3\n\
+        generate|chess|18446744073709551615|08192";
+    let told = answers(rt.alloc(), lines)?;
+    let wanted = b"\
+        None 1 Uci\n\
+        None 1 Uci\n\
+        None 1 Xboard\n\
+        None 1 Moves\n\
+        None 1 Status\n\
+        None 1 Perft(1)\n\
+        None 1 Perft(9)\n\
+        None 1 Check\n\
+        None 1 SelfMate(1)\n\
+        None 1 HelpMate(6)\n\
+        None 1 CheckCert\n\
+        None 1 Variants\n\
+        None 1 Suite\n\
+        None 1 PnMate(100)\n\
+        None 1 Reach { word: \"N\", square: \"b1\", own: \"none\", enemy: \"none\" }\n\
+        None 1 Reach { word: \"\", square: \"\", own: \"\", enemy: \"none\" }\n\
+        None 1 Reach { word: \"N\", square: \"b1\", own: \"a1,a2\", enemy: \"c3\" }\n\
+        None 1 Generate { name: \"chess\", number: 18446744073709551615, plies: 8192 }\n";
+    assert!(rt; told.as_slice() == wanted.as_slice());
     Ok(())
 }
 
 #[test]
+fn options_are_read(rt: HostRuntime) -> Result<(), Fail> {
+    let lines =
+        "--threads|4\n--threads|4|moves\n--threads=64|moves\n--threads|00000000000000000007|moves\n\
+        --variants|f|moves\n--variants=a=b|moves\n--variants|moves|moves\n--variants|é ü.ini|moves\n\
+        --variants|f|--threads|2|moves\n--threads|2|--variants=f|moves";
+    let told = answers(rt.alloc(), lines)?;
+    let wanted = "\
+        None 4 Uci\n\
+        None 4 Moves\n\
+        None 64 Moves\n\
+        None 7 Moves\n\
+        Some(\"f\") 1 Moves\n\
+        Some(\"a=b\") 1 Moves\n\
+        Some(\"moves\") 1 Moves\n\
+        Some(\"é ü.ini\") 1 Moves\n\
+        Some(\"f\") 2 Moves\n\
+        Some(\"f\") 2 Moves\n";
+    assert!(rt; told.as_slice() == wanted.as_bytes());
+    Ok(())
+}
+
+// The last line of each text asks something.
+#[test]
 fn other_words_ask_nothing(rt: HostRuntime) -> Result<(), Fail> {
-    let rows: [&[&str]; 39] = [
-        &["Uci"],
-        &["Moves"],
-        &["moves", ""],
-        &["reach", "N"],
-        &["reach", "N", "b1", "none", "none", "none"],
-        &["reach", "N", "b1", "-"],
-        &["reach", "-N", "b1"],
-        &["uci", "f"],
-        &["suite", "f"],
-        &["pnmate"],
-        &["pnmate", "101"],
-        &["stipulate"],
-        &["stipulate", "self", "0"],
-        &["stipulate", "help", "7"],
-        &["stipulate", "mate", "1"],
-        &["perft"],
-        &["perft", "4", "4"],
-        &["perft", "0"],
-        &["perft", "10"],
-        &["perft", "000000000000000000004"],
-        &["--help"],
-        &["--"],
-        &["--", "moves"],
-        &["-threads", "4", "moves"],
-        &["--=4", "moves"],
-        &["--threads"],
-        &["xboard", "1"],
-        &["--threads", "4", "--threads", "4", "moves"],
-        &["--variants", "a", "--variants=a", "moves"],
-        &["--threads=", "moves"],
-        &["--variants=", "moves"],
-        &["--variants", "-f", "moves"],
-        &["--variants", "--threads", "4", "moves"],
-        &["--threads", "0", "moves"],
-        &["--threads", "65", "moves"],
-        &["--threads", "000000000000000000007", "moves"],
-        &["--threads", "18446744073709551616", "moves"],
-        &["--threads", "٤", "moves"],
-        &["moves", "--threads", "4"],
-    ];
-    for words in rows {
-        let list = owned(rt.alloc(), words)?;
-        let asked = read_words(rt.alloc(), list.as_slice())?;
-        assert_eq!(rt; asked, None);
-    }
+    let commands =
+        "Uci\nMoves\nmoves|\nreach|N\nreach|N|b1|none|none|none\nreach|N|b1|-\nreach|-N|b1\nuci|f\n\
+        suite|f\npnmate\npnmate|101\nstipulate\nstipulate|self|0\nstipulate|help|7\nstipulate|mate|1\nperft\nperft|4|4\n\
+        perft|0\nperft|10\nperft|000000000000000000004\nxboard|1\nperft|4";
+    let told = answers(rt.alloc(), commands)?;
+    assert!(rt; told.as_slice() == b"None 1 Perft(4)\n".as_slice());
+    let options = "--help\n--\n--|moves\n-threads|4|moves\n--=4|moves\n--threads\n\
+        --threads|4|--threads|4|moves\n--variants|a|--variants=a|moves\n--threads=|moves\n--variants=|moves\n\
+        --variants|-f|moves\n--variants|--threads|4|moves\n--threads|0|moves\n--threads|65|moves\n\
+        --threads|000000000000000000007|moves\n--threads|18446744073709551616|moves\n--threads|٤|moves\n\
+        moves|--threads|4\n--threads|4|moves";
+    let told = answers(rt.alloc(), options)?;
+    assert!(rt; told.as_slice() == b"None 4 Moves\n".as_slice());
     Ok(())
 }

@@ -1,152 +1,156 @@
 //! Tests of `variant_ini`.
 use std::alloc::{AllocError, Global};
+use std::io::{self, Write};
 use std::test::Fail;
-use variant_ini::{IniFault, Sections};
+use variant_ini::Sections;
 
 const BASE: &[u8] =
     b"; variants\r\n\r\n[a]\r\n nMoveRule\t= 40 \r\nx = 1\nx = 2 # two\n[b:a]\nX=\n";
 
 const MORE: &[u8] = b"[a:b]\nx = 3\n[c:b]\n[d:e]\n[e]\nx=4\n[=x:a]";
 
-#[test]
-fn options_come_from_the_nearest_section(rt: HostRuntime) -> Result<(), Fail> {
-    let mut sections = Sections::new(rt.alloc());
+/// The sections of both texts.
+fn both(alloc: Global) -> Result<Sections, Fail> {
+    let mut sections = Sections::new(alloc);
     sections.add(BASE)?;
     sections.add(MORE)?;
-    assert_eq!(rt; sections.len(), 7);
-    let cases: [(usize, &[u8], Option<&[u8]>); 13] = [
-        (0, b"nMoveRule", Some(b"40")),
-        (3, b"nMoveRule", Some(b"40")),
-        (3, b"nmoverule", None),
-        (0, b"x", Some(b"2 # two")),
-        (1, b"x", Some(b"2 # two")),
-        (1, b"X", Some(b"")),
-        (2, b"x", Some(b"3")),
-        (2, b"X", Some(b"")),
-        (3, b"x", Some(b"2 # two")),
-        (4, b"x", None),
-        (5, b"x", Some(b"4")),
-        (5, b"nMoveRule", None),
-        (6, b"x", Some(b"2 # two")),
-    ];
-    for (section, key, value) in cases {
-        assert!(rt; section < 7);
-        assert!(rt;
-            sections.resolve(section, key) == value,
-            "{key:?} of {section}"
-        );
+    Ok(sections)
+}
+
+/// Writes a value, or a dash where there is none.
+fn tell(told: &mut Vec<u8>, value: Option<&[u8]>) -> Result<(), AllocError> {
+    told.extend_from_slice(value.unwrap_or(b"-".as_slice()))?;
+    Ok(told.push(b'|')?)
+}
+
+/// The value of the key in each section.
+fn values(alloc: Global, sections: &Sections, key: &[u8]) -> Result<Vec<u8>, AllocError> {
+    let mut told = Vec::new(alloc);
+    for section in 0..sections.len() {
+        tell(&mut told, sections.resolve(section, key))?;
     }
-    Ok(())
+    Ok(told)
+}
+
+/// The same, but of each section itself.
+fn own_values(alloc: Global, sections: &Sections, key: &[u8]) -> Result<Vec<u8>, AllocError> {
+    let mut told = Vec::new(alloc);
+    for section in 0..sections.len() {
+        tell(&mut told, sections.own_value(section, key))?;
+    }
+    Ok(told)
 }
 
 #[test]
-fn sections_have_names_parents_and_lines(rt: HostRuntime) -> Result<(), Fail> {
-    let mut sections = Sections::new(rt.alloc());
-    sections.add(BASE)?;
-    sections.add(MORE)?;
-    let rows: [(&[u8], Option<&[u8]>, Option<usize>, usize); 7] = [
-        (b"a", None, None, 3),
-        (b"b", Some(b"a"), Some(0), 1),
-        (b"a", Some(b"b"), Some(1), 1),
-        (b"c", Some(b"b"), Some(1), 0),
-        (b"d", Some(b"e"), None, 0),
-        (b"e", None, None, 1),
-        (b"=x", Some(b"a"), Some(0), 0),
-    ];
-    assert_eq!(rt; sections.len(), rows.len());
-    for (section, (name, parent, place, lines)) in rows.into_iter().enumerate() {
-        assert!(rt; section < sections.len());
-        assert!(rt; sections.name(section) == name);
-        assert!(rt; sections.parent(section) == parent);
-        assert!(rt; sections.parent_place(section) == place);
-        assert!(rt; sections.lines(section).len() == lines);
-    }
-    let first: [(&[u8], Option<usize>); 4] = [
-        (b"a", Some(0)),
-        (b"e", Some(5)),
-        (b"=x", Some(6)),
-        (b"x", None),
-    ];
-    for (name, place) in first {
-        assert!(rt; sections.place_of(name) == place);
-    }
+fn options_come_from_the_nearest_section(rt: HostRuntime) -> Result<(), Fail> {
+    let sections = both(rt.alloc())?;
+    let found = values(rt.alloc(), &sections, b"x")?;
+    assert!(rt; found.as_slice() == b"2 # two|2 # two|3|2 # two|-|4|2 # two|".as_slice());
+    let found = values(rt.alloc(), &sections, b"X")?;
+    assert!(rt; found.as_slice() == b"-||||-|-|-|".as_slice());
+    let found = values(rt.alloc(), &sections, b"nMoveRule")?;
+    assert!(rt; found.as_slice() == b"40|40|40|40|-|-|40|".as_slice());
+    let found = values(rt.alloc(), &sections, b"nmoverule")?;
+    assert!(rt; found.as_slice() == b"-|-|-|-|-|-|-|".as_slice());
     Ok(())
 }
 
 #[test]
 fn own_values_are_not_inherited(rt: HostRuntime) -> Result<(), Fail> {
-    let mut sections = Sections::new(rt.alloc());
-    sections.add(BASE)?;
-    let rows: [(usize, &[u8], Option<&[u8]>); 4] = [
-        (0, b"x", Some(b"2 # two")),
-        (0, b"X", None),
-        (1, b"X", Some(b"")),
-        (1, b"x", None),
-    ];
-    for (section, key, value) in rows {
-        assert!(rt; section < sections.len());
-        assert!(rt;
-            sections.own_value(section, key) == value,
-            "{key:?} of {section}"
-        );
+    let sections = both(rt.alloc())?;
+    let found = own_values(rt.alloc(), &sections, b"x")?;
+    assert!(rt; found.as_slice() == b"2 # two|-|3|-|-|4|-|".as_slice());
+    let found = own_values(rt.alloc(), &sections, b"X")?;
+    assert!(rt; found.as_slice() == b"-||-|-|-|-|-|".as_slice());
+    Ok(())
+}
+
+/// Each section: its name, its parent, the place of that, and the number of its lines.
+fn heads(alloc: Global, sections: &Sections) -> Result<Vec<u8>, io::Error> {
+    let mut told = Vec::new(alloc);
+    for section in 0..sections.len() {
+        tell(&mut told, Some(sections.name(section)))?;
+        tell(&mut told, sections.parent(section))?;
+        let (place, lines) = (sections.parent_place(section), sections.lines(section));
+        writeln!(told, "{place:?} {}", lines.len())?;
     }
+    Ok(told)
+}
+
+#[test]
+fn sections_have_names_parents_and_lines(rt: HostRuntime) -> Result<(), Fail> {
+    let sections = both(rt.alloc())?;
+    let told = heads(rt.alloc(), &sections)?;
+    let wanted = b"\
+        a|-|None 3\n\
+        b|a|Some(0) 1\n\
+        a|b|Some(1) 1\n\
+        c|b|Some(1) 0\n\
+        d|e|None 0\n\
+        e|-|None 1\n\
+        =x|a|Some(0) 0\n";
+    assert!(rt; told.as_slice() == wanted.as_slice());
+    let places = [
+        sections.place_of(b"a"),
+        sections.place_of(b"=x"),
+        sections.place_of(b"x"),
+    ];
+    assert_eq!(rt; places, [Some(0), Some(6), None]);
+    Ok(())
+}
+
+/// What comes of each text that bars separate, where it is added: how many sections more there are, or the fault.
+fn additions(alloc: Global, sections: &mut Sections, texts: &[u8]) -> Result<Vec<u8>, io::Error> {
+    let mut told = Vec::new(alloc);
+    for text in texts.split(|byte| *byte == b'|') {
+        let before = sections.len();
+        match sections.add(text) {
+            Ok(()) => write!(told, "{} ", sections.len().wrapping_sub(before))?,
+            Err(fault) => write!(told, "{fault:?} ")?,
+        }
+    }
+    Ok(told)
+}
+
+#[test]
+fn a_bad_line_is_a_fault(rt: HostRuntime) -> Result<(), Fail> {
+    let mut sections = both(rt.alloc())?;
+    let texts =
+        b"# c\n= 1\n[a]|[a]\n\nword\nword|[a]\n = 1|[a|[]|[a:]|[:a]|[a:b:c]|[a b]|[a(b]|[a}]|[a]]|[a\x7f]|[a]x|[a] ; c";
+    let told = additions(rt.alloc(), &mut sections, texts)?;
+    let wanted =
+        b"BadLine(2) BadLine(3) BadLine(2) BadLine(1) BadLine(1) BadLine(1) BadLine(1) BadLine(1) BadLine(1) \
+        BadLine(1) BadLine(1) BadLine(1) BadLine(1) BadLine(1) BadLine(1) ";
+    assert!(rt; told.as_slice() == wanted.as_slice());
+    assert_eq!(rt; sections.len(), 7);
     Ok(())
 }
 
 #[test]
 fn the_first_fault_is_the_answer(rt: HostRuntime) -> Result<(), Fail> {
-    let mut sections = Sections::new(rt.alloc());
-    sections.add(b"[kept]")?;
-    let cases: [(&[u8], Result<usize, IniFault>); 31] = [
-        (b"castling = true", Err(IniFault::NoSection(1))),
-        (b"# c\n= 1\n[a]", Err(IniFault::BadLine(2))),
-        (b"[a]\n\nword\nword", Err(IniFault::BadLine(3))),
-        (b"[a]\n = 1", Err(IniFault::BadLine(2))),
-        (b"[a", Err(IniFault::BadLine(1))),
-        (b"[]", Err(IniFault::BadLine(1))),
-        (b"[a:]", Err(IniFault::BadLine(1))),
-        (b"[:a]", Err(IniFault::BadLine(1))),
-        (b"[a:b:c]", Err(IniFault::BadLine(1))),
-        (b"[a b]", Err(IniFault::BadLine(1))),
-        (b"[a(b]", Err(IniFault::BadLine(1))),
-        (b"[a}]", Err(IniFault::BadLine(1))),
-        (b"[a]]", Err(IniFault::BadLine(1))),
-        (b"[a\x7f]", Err(IniFault::BadLine(1))),
-        (b"[a]x", Err(IniFault::BadLine(1))),
-        (b"[a] ; c", Err(IniFault::BadLine(1))),
-        (b"[a = b", Err(IniFault::NoSection(1))),
-        (b"[a]\rx = 1", Err(IniFault::NoSection(1))),
-        (b"\xff", Err(IniFault::NotAscii(1))),
-        (
-            b"#\xff\n;\xc3\xa4\n[a]\nx = \x80",
-            Err(IniFault::NotAscii(4)),
-        ),
-        (b"word\n\xff", Err(IniFault::BadLine(1))),
-        (b"\xef\xbb\xbf[a]", Err(IniFault::NotAscii(1))),
-        (b"", Ok(0)),
-        (b"\r", Ok(0)),
-        (b"\n\n", Ok(0)),
-        (b" ;\xff", Ok(0)),
-        (b" \t[a]\t \r\n", Ok(1)),
-        (b"[a=b]", Ok(1)),
-        (b"[a]\nk = v\rw", Ok(1)),
-        (b"[a]\n[b = c]\n[kept]", Ok(2)),
-        (b"[a:a]\n[b:none]\n\x01 = 1", Ok(2)),
-    ];
-    for (text, expected) in cases {
-        let before = sections.len();
-        let found = match sections.add(text) {
-            Ok(()) => Ok(sections.len().wrapping_sub(before)),
-            Err(fault) => {
-                assert_eq!(rt; sections.len(), before);
-                Err(fault)
-            }
-        };
-        assert!(rt; found == expected, "{text:?}: {found:?}");
-    }
+    let mut sections = both(rt.alloc())?;
+    let texts =
+        b"castling = true|[a = b|[a]\rx = 1|\xff|#\xff\n;\xc3\xa4\n[a]\nx = \x80|word\n\xff|\xef\xbb\xbf[a]";
+    let told = additions(rt.alloc(), &mut sections, texts)?;
+    let wanted =
+        b"NoSection(1) NoSection(1) NoSection(1) NotAscii(1) NotAscii(4) BadLine(1) NotAscii(1) ";
+    assert!(rt; told.as_slice() == wanted.as_slice());
+    assert_eq!(rt; sections.len(), 7);
     Ok(())
 }
 
+#[test]
+fn texts_without_a_fault_are_added(rt: HostRuntime) -> Result<(), Fail> {
+    let mut sections = both(rt.alloc())?;
+    let texts =
+        b"|\r|\n\n| ;\xff| \t[a]\t \r\n|[a=b]|[a]\nk = v\rw|[a]\n[b = c]\n[kept]|[a:a]\n[b:none]\n\x01 = 1";
+    let told = additions(rt.alloc(), &mut sections, texts)?;
+    assert!(rt; told.as_slice() == b"0 0 0 0 1 1 1 2 2 ".as_slice());
+    assert_eq!(rt; sections.len(), 14);
+    Ok(())
+}
+
+/// A front, a piece this often, and a back.
 fn repeated(
     alloc: Global,
     front: &[u8],
@@ -162,36 +166,57 @@ fn repeated(
     Ok(text)
 }
 
+/// What comes of a text that is added to no sections.
+fn only(alloc: Global, text: Vec<u8>) -> Result<Vec<u8>, io::Error> {
+    let mut sections = Sections::new(alloc);
+    additions(alloc, &mut sections, text.as_slice())
+}
+
+/// Writes what comes of a text of a front, a piece this often, and a back.
+fn tell_size(
+    told: &mut Vec<u8>,
+    front: &[u8],
+    piece: &[u8],
+    times: usize,
+    back: &[u8],
+) -> Result<(), io::Error> {
+    let alloc = *told.allocator();
+    let text = repeated(alloc, front, piece, times, back)?;
+    let found = only(alloc, text)?;
+    Ok(told.extend_from_slice(&found)?)
+}
+
 #[test]
-fn sizes_are_kept(rt: HostRuntime) -> Result<(), Fail> {
-    let cases: [(&[u8], &[u8], usize, &[u8], Result<usize, IniFault>); 14] = [
-        (b"", b"\n", 1_048_576, b"", Ok(0)),
-        (b"", b"\n", 1_048_576, b"\n", Err(IniFault::TooLarge)),
-        (b"\xff", b"\n", 1_048_576, b"", Err(IniFault::TooLarge)),
-        (b"", b"[a]\n", 512, b"", Ok(512)),
-        (b"", b"[a]\n", 513, b"", Err(IniFault::TooManySections(513))),
-        (
-            b"",
-            b"[a]\n",
-            512,
-            b"#\nx=1\n[a\n[b]",
-            Err(IniFault::BadLine(515)),
-        ),
-        (b"[", b"n", 64, b"]", Ok(1)),
-        (b"[", b"n", 65, b"]", Err(IniFault::BadLine(1))),
-        (b"[a:", b"n", 64, b"]", Ok(1)),
-        (b"[a:", b"n", 65, b"]", Err(IniFault::BadLine(1))),
-        (b"\n#", b" ", 1_023, b"\n", Ok(0)),
-        (b"\n#", b" ", 1_023, b"\r", Err(IniFault::LineTooLong(2))),
-        (b"\n", b"\xff", 1_025, b"", Err(IniFault::LineTooLong(2))),
-        (b"[a]\nk=", b"v", 1_022, b"\n[b:a]\n[c:b]", Ok(3)),
-    ];
-    for (front, piece, times, back, expected) in cases {
-        let text = repeated(rt.alloc(), front, piece, times, back)?;
-        let mut sections = Sections::new(rt.alloc());
-        let found = sections.add(text.as_slice()).map(|_| sections.len());
-        assert!(rt; found == expected, "{front:?} {times} {back:?}: {found:?}");
-    }
+fn files_have_a_greatest_size(rt: HostRuntime) -> Result<(), Fail> {
+    let mut told = Vec::new(rt.alloc());
+    tell_size(&mut told, b"", b"\n", 1_048_576, b"")?;
+    tell_size(&mut told, b"\xff", b"\n", 1_048_576, b"")?;
+    tell_size(&mut told, b"", b"[a]\n", 512, b"")?;
+    tell_size(&mut told, b"", b"[a]\n", 513, b"")?;
+    tell_size(&mut told, b"", b"[a]\n", 512, b"#\nx=1\n[a\n[b]")?;
+    assert!(rt; told.as_slice() == b"0 TooLarge 512 TooManySections(513) BadLine(515) ".as_slice());
+    Ok(())
+}
+
+#[test]
+fn names_have_a_greatest_size(rt: HostRuntime) -> Result<(), Fail> {
+    let mut told = Vec::new(rt.alloc());
+    tell_size(&mut told, b"[", b"n", 64, b"]")?;
+    tell_size(&mut told, b"[", b"n", 65, b"]")?;
+    tell_size(&mut told, b"[a:", b"n", 64, b"]")?;
+    tell_size(&mut told, b"[a:", b"n", 65, b"]")?;
+    assert!(rt; told.as_slice() == b"1 BadLine(1) 1 BadLine(1) ".as_slice());
+    Ok(())
+}
+
+#[test]
+fn lines_have_a_greatest_size(rt: HostRuntime) -> Result<(), Fail> {
+    let mut told = Vec::new(rt.alloc());
+    tell_size(&mut told, b"\n#", b" ", 1_023, b"\n")?;
+    tell_size(&mut told, b"\n#", b" ", 1_023, b"\r")?;
+    tell_size(&mut told, b"\n", b"\xff", 1_025, b"")?;
+    tell_size(&mut told, b"[a]\nk=", b"v", 1_022, b"\n[b:a]\n[c:b]")?;
+    assert!(rt; told.as_slice() == b"0 LineTooLong(2) LineTooLong(2) 3 ".as_slice());
     Ok(())
 }
 

@@ -2,7 +2,8 @@
 use foundation::Memory;
 use io_ports::{Dialect, Limits, LineBuf, ListClock, MemSink, MemSource, PollsOwed, SearchFault};
 use std::alloc::Global;
-use std::process::Abort;
+use std::io::Write;
+use std::test::Fail;
 use watching::{Caller, Cut, Halt, Helper, StopFlag, Watch};
 
 const NONE: Limits = Limits {
@@ -41,81 +42,68 @@ fn watched(
     Ok((end, watch.nodes))
 }
 
-/// Asserts how it ends with these lines, where so many polls are owed, and what it writes.
-fn ends<R: Abort>(
-    rt: &R,
-    alloc: Global,
+/// Writes how it ends with these lines, where this many polls are owed, the nodes, and what it wrote.
+fn tell(
+    told: &mut Vec<u8>,
     dialect: Dialect,
     lines: &[u8],
     owed: u64,
     limits: Limits,
-    end: Result<(), Halt>,
-    nodes: u64,
-    written: &[u8],
-) -> Result<(), Memory> {
+) -> Result<(), Fail> {
+    let alloc = *told.allocator();
     let mut source = MemSource::new(alloc, lines, PollsOwed::Number(owed), &[])?;
     let mut sink = MemSink::new(alloc, 100)?;
-    let (ended, entered) = watched(alloc, dialect, &mut source, &mut sink, limits)?;
-    assert_eq!(rt; ended, end);
-    assert_eq!(rt; entered, nodes);
-    assert!(rt; sink.taken() == written);
+    let (ended, nodes) = watched(alloc, dialect, &mut source, &mut sink, limits)?;
+    write!(told, "{ended:?} {nodes} ")?;
+    told.extend_from_slice(sink.taken())?;
+    Ok(told.push(b'\n')?)
+}
+
+// Polls come at the first node and each 1,024 nodes, and the fourth would be at 3,073.
+#[test]
+fn lines_are_heard(rt: HostRuntime) -> Result<(), Fail> {
+    let mut told = Vec::new(rt.alloc());
+    tell(&mut told, Dialect::Uci, b"stop\n", 3, NONE)?;
+    tell(&mut told, Dialect::Uci, b"stop\n", 2, NONE)?;
+    tell(
+        &mut told,
+        Dialect::Uci,
+        b"isready\ndebug on\nstop\n",
+        0,
+        NONE,
+    )?;
+    tell(&mut told, Dialect::Uci, b"isready\n", 1, NONE)?;
+    tell(&mut told, Dialect::Uci, b"", 0, NONE)?;
+    let wanted = b"\
+        Ok(()) 3000 \n\
+        Err(Cut(Line)) 2049 \n\
+        Err(Cut(Line)) 2049 readyok\n\n\
+        Err(Cut(End)) 2049 readyok\n\n\
+        Err(Cut(End)) 1 \n";
+    assert!(rt; told.as_slice() == wanted.as_slice());
     Ok(())
 }
 
-#[test]
-fn lines_are_heard(rt: HostRuntime) -> Result<(), Memory> {
-    let rows = [
-        // polls come at the first node and each 1,024 nodes, and the fourth would be at 3,073
-        ("stop\n", 3u64, Ok(()), 3000u64, ""),
-        ("stop\n", 2, Err(Halt::Cut(Cut::Line)), 2049, ""),
-        (
-            "isready\ndebug on\nstop\n",
-            0,
-            Err(Halt::Cut(Cut::Line)),
-            2049,
-            "readyok\n",
-        ),
-        ("isready\n", 1, Err(Halt::Cut(Cut::End)), 2049, "readyok\n"),
-        ("", 0, Err(Halt::Cut(Cut::End)), 1, ""),
-    ];
-    for (lines, owed, end, nodes, written) in rows {
-        ends(
-            &rt,
-            rt.alloc(),
-            Dialect::Uci,
-            lines.as_bytes(),
-            owed,
-            NONE,
-            end,
-            nodes,
-            written.as_bytes(),
-        )?;
-    }
-    Ok(())
+/// Writes how it ends under these limits, where no poll hears a line.
+fn tell_limited(told: &mut Vec<u8>, quota: Option<u64>, deadline: Option<u64>) -> Result<(), Fail> {
+    tell(told, Dialect::Cecp, b"?\n", 9, Limits { quota, deadline })
 }
 
 #[test]
-fn limits_end_a_search(rt: HostRuntime) -> Result<(), Memory> {
-    let rows = [
-        (Some(1000u64), None, Cut::Quota(1000), 1000u64),
-        (Some(0), None, Cut::Quota(0), 0),
-        (None, Some(7u64), Cut::Deadline(7), 1025),
-        (None, Some(6), Cut::Deadline(7), 1025),
-        (Some(1025), Some(9), Cut::Quota(1025), 1025),
-    ];
-    for (quota, deadline, cut, nodes) in rows {
-        ends(
-            &rt,
-            rt.alloc(),
-            Dialect::Cecp,
-            b"?\n",
-            9,
-            Limits { quota, deadline },
-            Err(Halt::Cut(cut)),
-            nodes,
-            b"",
-        )?;
-    }
+fn limits_end_a_search(rt: HostRuntime) -> Result<(), Fail> {
+    let mut told = Vec::new(rt.alloc());
+    tell_limited(&mut told, Some(1000), None)?;
+    tell_limited(&mut told, Some(0), None)?;
+    tell_limited(&mut told, None, Some(7))?;
+    tell_limited(&mut told, None, Some(6))?;
+    tell_limited(&mut told, Some(1025), Some(9))?;
+    let wanted = b"\
+        Err(Cut(Quota(1000))) 1000 \n\
+        Err(Cut(Quota(0))) 0 \n\
+        Err(Cut(Deadline(7))) 1025 \n\
+        Err(Cut(Deadline(7))) 1025 \n\
+        Err(Cut(Quota(1025))) 1025 \n";
+    assert!(rt; told.as_slice() == wanted.as_slice());
     Ok(())
 }
 
