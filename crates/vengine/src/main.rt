@@ -1,6 +1,9 @@
 //! Vengine, a chess-variant engine: makes the ports of the machine, and the one call that does what its words ask.
 #![tactic(auto)]
 
+ghost use Rattle.std.specs.Prelude.{◌⊎◌};
+ghost use Rattle.commands.specs.Run.{IsCut, IsDone};
+
 use commands::{NO_MEMORY, run};
 use foundation::Memory;
 use io_ports::{MachineClock, MachineFiles, OpenGate, PatientReader, QueuedInput, StandardOutput};
@@ -27,8 +30,9 @@ fn given_words(rt: &(impl Env + AllocGlobal)) -> Result<Vec<String>, Memory> {
     Ok(words)
 }
 
-/// Runs the words of the command line over this input, standard output, the machine's files and its clock.
-fn run_words<R, I>(rt: R, input: I) -> Result<u8, Memory>
+/// Runs the words of the command line over this input, standard output, the machine's files and its clock. The status is
+/// one of the table at `run`: 0, or from 2 to 7.
+fn run_words<R, I>(rt: R, input: I) -> u8
 where
     R: Env
         + Files
@@ -43,17 +47,22 @@ where
         + Drop
         + 'static,
     I: Read + Drop + Send + 'static,
+    ensures { IsDone result ⊎ IsCut result }
 {
     let alloc = rt.alloc();
-    let words = given_words(&rt)?;
-    let Ok(reader) = BufReader::new(alloc, PatientReader::new(rt, input)) else {
-        return Err(Memory);
+    let Ok(words) = given_words(&rt) else {
+        return NO_MEMORY;
     };
-    let mut source = QueuedInput::start(rt, alloc, reader)?;
+    let Ok(reader) = BufReader::new(alloc, PatientReader::new(rt, input)) else {
+        return NO_MEMORY;
+    };
+    let Ok(mut source) = QueuedInput::start(rt, alloc, reader) else {
+        return NO_MEMORY;
+    };
     let mut sink = StandardOutput::new(io::writer(&rt));
     let mut files = MachineFiles::new(rt);
     let mut clock = MachineClock::new(rt);
-    Ok(run(
+    run(
         &rt,
         alloc,
         words.as_slice(),
@@ -62,9 +71,10 @@ where
         &mut files,
         &mut clock,
         &OpenGate,
-    ))
+    )
 }
 
+// It ends with that status: `main` itself takes no contract.
 fn main(rt: HostRuntime) -> ExitCode {
-    ExitCode::from(run_words(rt, rt.stdin()).unwrap_or(NO_MEMORY))
+    ExitCode::from(run_words(rt, rt.stdin()))
 }
