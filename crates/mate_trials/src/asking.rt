@@ -140,6 +140,7 @@ pub fn ask<R: Threads + Wait + Sync>(
     match call {
         Call::Settle => by_settle(rt, alloc, game, attacker, n, shards, passes),
         Call::Solve { workers, hint } => {
+            // A solve has from 1 to 64 workers, and the type of a call does not say so.
             let workers = workers.max(1).min(64);
             by_solve(rt, alloc, game, attacker, n, workers, hint, shards, passes)
         }

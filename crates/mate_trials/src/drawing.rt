@@ -44,6 +44,7 @@ fn any_kind(letters: &[u8], generator: &mut Pcg32) -> Option<Kind>
         return None;
     }
     let letter = letters[generator.next_word() as usize % letters.len()];
+    // A kind is below 26. The families have no byte above 'z', and their type does not say so.
     Some(kind(letter.min(b'z')))
 }
 
@@ -88,6 +89,7 @@ fn put_all(p: &mut Position, rules: &Rules, family: &Family, attacker: Side, gen
         put(p, rules, Side::White, kind(*letter), generator);
         put(p, rules, Side::Black, kind(*letter), generator);
     }
+    // No number is below 0. Each family has a greater count, and its type does not say so.
     for _ in 0..1 + below(generator, family.count.max(1)) {
         let side = mostly(attacker, generator);
         if let Some(kind) = any_kind(family.more, generator) {
@@ -109,6 +111,7 @@ fn fill_hand(p: &mut Position, side: Side, family: &Family, generator: &mut Pcg3
 fn drawn(rules: &Rules, family: &Family, attacker: Side, generator: &mut Pcg32) -> Position
     requires { IsFit rules.now }
 {
+    // The same of its counters.
     let mut p = Position {
         side: any_side(generator),
         checks: rules.start.checks,

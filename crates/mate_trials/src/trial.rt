@@ -15,7 +15,7 @@ use std::alloc::Global;
 use std::sync::Wait;
 use std::thread::Threads;
 
-/// The most moves within which wins are looked for.
+/// The most moves within which wins are looked for: answers have no more places, so that more are never asked for.
 pub const MOST: u16 = 3;
 
 /// For each number of moves from 1 on, whether the game is won within it.

@@ -60,6 +60,9 @@ impl Mind {
     }
 
     /// Makes the hints as large as is set, where that was not done yet. Out of memory, all stays as it was.
+    ///
+    /// The contract does not say that they are made: hints change the time of a search and nothing else, so no contract
+    /// sees how many words a table has.
     pub(crate) fn make_hints(&mut self, alloc: Global) -> Result<(), Memory>
         ensures { self.new ≡ self.old }
     {
