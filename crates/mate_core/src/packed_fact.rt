@@ -78,8 +78,8 @@ impl PackedFact {
         }
     }
 
-    /// The fact that says this of the position's repeat, where the key of its board and hands is known. No key is worked
-    /// out from the board, and the repeat is not copied first.
+    /// The fact that says this of the position's repeat, where the key of its board and hands is known. No key is
+    /// worked out from the board, and the repeat is not copied first.
     pub fn from_claim(p: &Position, key: BoardKey, claim: Claim) -> PackedFact
         requires { IsBoardKey key (repeat_of p.now) }
         ensures { result ≡ fact_with (repeat_of p.now) claim }

@@ -22,8 +22,8 @@ first_within test (suc n) = or_later (first_within test n) (if_passes test (suc 
 abbrev pub mover_wins : Rules → Story → ℕ → Bool
 mover_wins rules g k = wins rules k g g.last.side
 
--- the least number of moves from 1 to n within which the side that is to move wins the game, None where it wins within
--- none
+-- the least number of moves from 1 to n within which the side that is to move wins the game, None where it wins
+-- within none
 unfoldable pub least : Rules → ℕ → Story → Option ℕ
 least rules n g = first_within (mover_wins rules g) n
 

@@ -52,7 +52,7 @@ pub(crate) fn hinted_moves(
     let place = moves
         .iter()
         .position(|m| slot != NO_SLOT && slot_of(m) == slot);
-    to_front(&mut moves, place)?;
+    to_front(moves.as_mut_slice(), place);
     Ok(moves)
 }
 

@@ -17,7 +17,7 @@ use Rattle.mate_showing.specs.declared.plan.Plan.{Plan}
 use Rattle.mate_settle.specs.Lines.{plies, lines_within, lines_after}
 use Rattle.mate_showing.specs.Reached.{left_along, IsReached}
 use Rattle.mate_settle.specs.Steps.{left_after}
-use Rattle.mate_showing.specs.Tables.{most, GoesOnAt, GoesOn, IsNext, Stands, IsLed, IsLedTo, AreEdges, Grows}
+use Rattle.mate_showing.specs.Tables.{most, GoesOnAt, GoesOn, IsNext, Stands, IsLedTo, AreEdges, Grows}
 use Rattle.mate_settle.proofs.Lines.{lines-some, lines-after, plies-up, plies-fall, plies-after, within-mono, member-sum, sum-more}
 use Rattle.mate_showing.proofs.Growth.{stands-grows}
 
@@ -136,12 +136,6 @@ module _ (r : Game Position Repeat Move) (l : GameLaws Position Repeat Move r) (
   goes-defence n p x e a = subst (λ o. GoesOnAt r b n p o false) e (subst (λ z. GoesOnAt r b n p (r.own p) z) a x.on)
 
   -- ---- edges
-
-  pub edges_attack : (exact : Bool) (s : List Node) (p : Position) (n k : ℕ) (e : Edge) → r.own p ≡ None → r.attacking p ≡ true → k < n → Member e.chosen (r.legal p) → Stands r exact s (r.next p e.chosen) k e.to → AreEdges r exact s p n (e ∷ []) (r.own p) (r.attacking p)
-  edges_attack exact s p n k e own turn h is x =
-      let low = x.low in
-      let led : IsLed r exact s p n e = record { legal = is; stands = record { node = x.node; at = x.at; repeat = x.repeat; counter = x.counter; low = subst (λ a. x.node.rank ≤ left_after a n) (sym turn) (omega arith) } } in
-      subst (λ o. AreEdges r exact s p n (e ∷ []) o (r.attacking p)) (sym own) (subst (λ a. AreEdges r exact s p n (e ∷ []) None a) (sym turn) (omega arith, (e, refl, led)))
 
   pub edges_defence : (exact : Bool) (s : List Node) (p : Position) (n : ℕ) (es : List Edge) → r.own p ≡ None → r.attacking p ≡ false → map (λ (e : Edge). e.chosen) es ≡ r.legal p → ((e : Edge) → Member e es → IsLedTo r exact s p n e) → AreEdges r exact s p n es (r.own p) (r.attacking p)
   edges_defence exact s p n es own turn is f =

@@ -1,7 +1,6 @@
 -- How a table grows: a node comes in at its place, in place of one of a higher rank or behind all.
 use Rattle.std.proofs.Common.{◌≡◌, ◌⊎◌, inl, inr, ℕ, zero, suc, ◌+◌, ◌-◌, ◌<◌, ◌≤◌, List, [], ◌∷◌, ◌++◌, length, Bool, true, false, not, ◌||◌, ◌==◌, Option, Some, None, slice_get, min, refl, ap, sym, ◌∙◌, subst, arith, if◌then◌else◌}
 use Rattle.std.specs.Prelude.{slice_set}
-use lib.Dec.{leb}
 use Rattle.rules_model.specs.declared.board.Position.{Position}
 use Rattle.rules_model.specs.declared.board.Repeat.{Repeat}
 use Rattle.rules_model.specs.declared.moves.Move.{Move}
@@ -84,12 +83,6 @@ put_either s k v t h f g = cases (order k (length s) h)
     cases : (length s ≡ k) ⊎ (k < length s) → IsPut s k v t
     cases (inl e) = subst (IsPut s k v) (sym (f e)) (push-put s k v e)
     cases (inr o) = subst (IsPut s k v) (sym (g o)) (set-put s k v o)
-
-pub le_test : (a b : ℕ) → leb a b ≡ true → a ≤ b
-le_test a b h = grind (arith, nat_tests)
-
-pub gt_test : (a b : ℕ) → leb a b ≡ false → b < a
-gt_test a b h = grind (arith, nat_tests)
 
 module _ (r : Game Position Repeat Move) (l : GameLaws Position Repeat Move r) where
   -- ---- keys

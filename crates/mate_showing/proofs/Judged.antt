@@ -1,5 +1,5 @@
 -- From the root: when it goes on to a win, and what the table of one shows.
-use Rattle.std.proofs.Common.{◌≡◌, ◌⊎◌, inl, inr, ℕ, zero, suc, ◌+◌, ◌-◌, ◌*◌, ◌<◌, ◌≤◌, List, [], ◌∷◌, map, length, cond, Bool, true, false, ◌||◌, Option, Some, None, slice_get, refl, ap, sym, ◌∙◌, subst, arith, if◌then◌else◌}
+use Rattle.std.proofs.Common.{◌≡◌, ◌⊎◌, inl, inr, ℕ, zero, suc, ◌+◌, ◌-◌, ◌*◌, ◌<◌, ◌≤◌, List, [], ◌∷◌, map, length, cond, Bool, true, false, ◌||◌, Option, Some, None, slice_get, refl, ap, sym, ◌∙◌, subst, arith}
 use Rattle.std.specs.List.{list_any, list_all, sum_by, filter}
 use Rattle.std.proofs.lemmas.Bool.Decides.{nat_tests}
 use Rattle.std.proofs.lemmas.List.Sums.{length-filter}
@@ -10,12 +10,10 @@ use Rattle.rules_model.specs.declared.board.Repeat.{Repeat}
 use Rattle.rules_model.specs.declared.moves.Move.{Move}
 use Rattle.foundation.specs.Member.{Member, IsEachOnce}
 use Rattle.forced_wins.specs.Contests.{decided}
-use Rattle.forced_wins.specs.Games.{Game, GameLaws, Story, history, times, repeated, run_out, blocked, lost_if, or_end, of_games, of_positions, wins, near, near_attack, near_root}
+use Rattle.forced_wins.specs.Games.{Game, GameLaws, Story, times, repeated, run_out, blocked, lost_if, or_end, of_games, wins, near, near_attack, near_root}
 use Rattle.forced_wins.specs.Lines.{OnWin, IsUnsettled}
 use Rattle.forced_wins.specs.Tables.{nodes_of, IsGood}
-use Rattle.forced_wins.proofs.Counts.{by_cases, not_true, tests_none, tests_on, tests_from, tests_less, below_fold, same_from, times_here, times_other, own_cases}
-use Rattle.forced_wins.proofs.ContestLaws.{any_intro}
-use Rattle.forced_wins.proofs.ClaimLaws.{forced-attack, forced-defence, forced-mono, forced-ended}
+use Rattle.forced_wins.proofs.Counts.{by_cases, not_true, tests_on, tests_from, below_fold, same_from, times_here}
 use Rattle.forced_wins.proofs.NearLaws.{wins-near_root}
 use Rattle.strategy.specs.declared.nodes.Node.{Node}
 use Rattle.mate_showing.specs.declared.plan.Plan.{Plan}
@@ -35,10 +33,6 @@ leb_to : (a b : ℕ) → a ≤ b → leb a b ≡ true
 leb_to a b h = grind (arith, nat_tests)
 
 module _ (r : Game Position Repeat Move) (l : GameLaws Position Repeat Move r) (g : Story Position) where
-  pub repeated-none : r.fold ≡ 0 → repeated r g ≡ false
-  unfolding repeated
-  repeated-none h = tests_none r.fold _ (inl h)
-
   pub repeated-is : (k t : ℕ) → k ≡ r.fold → 0 < k → t ≡ times r (r.repeat g.last) g.earlier → leb (k - 1) t ≡ repeated r g
   unfolding repeated
   repeated-is k t e some h =
@@ -47,23 +41,11 @@ module _ (r : Game Position Repeat Move) (l : GameLaws Position Repeat Move r) (
       (λ x. let y = leb_from (k - 1) t x in tests_on r.fold _ (omega arith) (omega arith))
       (λ x. let y = tests_from r.fold _ x in let z = y.1 in leb_to (k - 1) t (omega arith))
 
-  pub stood-here : (x : Repeat) (t : ℕ) → t ≡ times r x g.earlier → r.repeat g.last ≡ x → t + 1 ≡ times r x (history g)
-  stood-here x t e h = let k = times_here r l x g.last g.earlier h in omega arith
-
-  pub stood-other : (x : Repeat) (t : ℕ) → t ≡ times r x g.earlier → r.same (r.repeat g.last) x ≡ false → t ≡ times r x (history g)
-  stood-other x t e h = let k = times_other r l x g.last g.earlier (λ z. let q = (l.decides (r.repeat g.last) x).1 z in cc) in omega arith
-
   -- ---- near wins of the root
 
   pub root-ended : (n : ℕ) (w : Bool) → (of_games r).end g ≡ Some w → w ≡ near_root r n g
   unfolding near_root
   root-ended n w e = rw e
-
-  pub root-open : (n : ℕ) (b : Repeat → Bool) → ((x : Repeat) → b x ≡ blocked r g x) → (of_games r).end g ≡ None → moves_win r b n g.last ≡ near_root r n g
-  unfolding near_root
-  root-open n b same e =
-      let f : ◌≡◌ {A = Repeat → Bool} b (blocked r g) = λ i x. same x i in
-      ap (λ h. moves_win r h n g.last) f ∙ rw e
 
   open_of : (o : Option Bool) (y z t : Bool) → o ≡ None → decided (or_end o (lost_if (y || z))) t ≡ true → (y ≡ false) × (z ≡ false) × (t ≡ true)
   open_of None true z t e h = cc
@@ -96,26 +78,6 @@ module _ (r : Game Position Repeat Move) (l : GameLaws Position Repeat Move r) (
 
   pub moves-defence : (n : ℕ) (p : Position) → r.attacking p ≡ false → moves_win r b n p ≡ list_all (λ m. near r b n (r.next p m)) (r.legal p)
   moves-defence n p a = rw a
-
-  open_end : (o : Option Bool) (y z : Bool) → o ≡ None → y ≡ false → z ≡ false → or_end o (lost_if (y || z)) ≡ None
-  open_end None y z e f g = rw (f, g)
-  open_end (Some w) y z e f g = cc
-
-  near-moves-at : (n : ℕ) (p : Position) → 0 < n → (of_positions r b).end p ≡ None → near r b n p ≡ moves_win r b n p
-  near-moves-at n p h e = by_cases (r.attacking p)
-      (λ a. up n h a)
-      (λ a. forced-defence (of_positions r b) l.turns n p e a ∙ sym (moves-defence n p a))
-    where
-      up : (n : ℕ) → 0 < n → r.attacking p ≡ true → near r b n p ≡ moves_win r b n p
-      up zero h a = absurd (omega arith)
-      up (suc n) h a = forced-attack (of_positions r b) l.turns n p e a ∙ sym (rw a)
-
-  pub near-moves : (n : ℕ) (p : Position) → 0 < n → r.own p ≡ None → b (r.repeat p) ≡ false → run_out r (r.counter p) ≡ false → near r b n p ≡ moves_win r b n p
-  near-moves n p h e f z = near-moves-at n p h (open_end (r.own p) (b (r.repeat p)) (run_out r (r.counter p)) e f z)
-
-  pub attack-found : (n k : ℕ) (p : Position) (m : Move) → 0 < n → r.attacking p ≡ true → Member m (r.legal p) → k < n → near r b k (r.next p m) ≡ true → moves_win r b n p ≡ true
-  attack-found n k p m some a is less h =
-      moves-attack n p some a ∙ any_intro (λ m. near r b (n - 1) (r.next p m)) m (r.legal p) is (forced-mono (of_positions r b) l.turns k (n - 1) (r.next p m) (omega arith) h)
 
   -- the lines that the moves of the root take
   pub attack-lines : (n : ℕ) (p : Position) → 0 < n → r.attacking p ≡ true → sum_by (lines_after r (n - 1) p) (r.legal p) ≤ lines_within r n p
@@ -168,26 +130,6 @@ module _ (r : Game Position Repeat Move) (l : GameLaws Position Repeat Move r) (
       turn : (a : Bool) → r.attacking g.last ≡ a → GoesOnAt r b n g.last None a
       turn true a = (some, sym (moves-attack r l b n g.last some a) ∙ won)
       turn false a = sym (moves-defence r l b n g.last a) ∙ won
-
-  not-repeated : blocked r g (r.repeat g.last) ≡ false → repeated r g ≡ false
-  unfolding blocked repeated
-  not-repeated h = tests_less r.fold _ _ (omega arith) h
-
-  end_at : (o : Option Bool) (y z : Bool) → o ≡ None → y ≡ false → or_end o (lost_if (y || z)) ≡ (if z then Some false else None)
-  end_at None y true e f = rw f
-  end_at None y false e f = rw f
-  end_at (Some w) y z e f = cc
-
-  -- where the root's repeat is not barred, the root is a position as any other
-  pub root-unbarred : (n : ℕ) → 0 < n → b (r.repeat g.last) ≡ false → near r b n g.last ≡ near_root r n g
-  root-unbarred n some free = own_cases (r.own g.last)
-      (λ w e. forced-ended (of_positions r b) n g.last w (rw e) ∙ root-ended r l g n w (rw e))
-      (λ e. by_cases (run_out r (r.counter g.last))
-      (λ z. forced-ended (of_positions r b) n g.last false (end_at (r.own g.last) (b (r.repeat g.last)) (run_out r (r.counter g.last)) e free ∙ rw z) ∙ root-ended r l g n false (end_at (r.own g.last) (repeated r g) (run_out r (r.counter g.last)) e open_game ∙ rw z))
-      (λ z. near-moves r l b n g.last some e free z ∙ root-open r l g n b same (end_at (r.own g.last) (repeated r g) (run_out r (r.counter g.last)) e open_game ∙ rw z)))
-    where
-      open_game : repeated r g ≡ false
-      open_game = not-repeated (sym (same (r.repeat g.last)) ∙ free)
 
   -- the root of a near win is a position to begin from
   pub root-next : (plan : Plan) → 0 < plan.whole → near_root r plan.whole g ≡ true → plan.root ≡ g.last → plan.room ≡ r.counter g.last + plies r plan.whole g.last → IsNext r b plan plan.whole plan.root

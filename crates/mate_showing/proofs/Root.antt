@@ -1,5 +1,5 @@
 -- From the root, by the rules of play.
-use Rattle.std.proofs.Common.{◌≡◌, ◌⊎◌, inl, inr, ℕ, zero, suc, ◌+◌, ◌-◌, ◌*◌, ◌<◌, ◌≤◌, List, [], ◌∷◌, length, Bool, true, false, not, ◌&&◌, nat_lt, nat_le, Some, None, slice_get, refl, ap, sym, ◌∙◌, subst, arith}
+use Rattle.std.proofs.Common.{◌≡◌, ◌⊎◌, ℕ, zero, suc, ◌+◌, ◌-◌, ◌*◌, ◌<◌, ◌≤◌, List, [], ◌∷◌, length, Bool, true, false, not, ◌&&◌, nat_lt, nat_le, Some, None, is_some, slice_get, refl, ap, sym, ◌∙◌, subst, arith}
 use Rattle.std.specs.List.{All, sum_by}
 use Rattle.std.proofs.lemmas.List.Elements.{All-nil, All-cons}
 use Rattle.foundation.specs.Member.{IsEachOnce}
@@ -23,7 +23,7 @@ use Rattle.forced_wins.specs.Lines as AnyLines
 use Rattle.forced_wins.specs.Tables as T
 use Rattle.forced_wins.specs.Tables.{nodes_of}
 use Rattle.forced_wins.specs.Views.{won_by, seen_by, as_any}
-use Rattle.forced_wins.specs.Wins.{wins, near_root, near_attack, blocked, is_in, IsInLimit}
+use Rattle.forced_wins.specs.Wins.{wins, near_root, near_attack, blocked, is_in}
 use Rattle.forced_wins.proofs.Blocked.{blocked-is, near_root-is, near_root-free, wins-near}
 use Rattle.forced_wins.proofs.Counts.{not_true, true_false}
 use Rattle.forced_wins.proofs.ContestLaws.{any_intro}
@@ -41,7 +41,7 @@ use Rattle.mate_settle.specs.declared.choosing.Choice.{Choice}
 use Rattle.mate_settle.specs.Lines.{plies, lines, lines_within, seen_in}
 use Rattle.strategy.specs.declared.nodes.Node.{Node}
 use Rattle.mate_showing.specs.declared.plan.Plan.{Plan}
-use Rattle.mate_showing.specs.Answers.{IsFrameOf, IsShown, IsEvidence}
+use Rattle.mate_showing.specs.Answers.{IsFrameOf, IsShown, IsEvidence, IsWinningMove, is_at_move}
 use Rattle.mate_showing.specs.Counts.{nodes_at, counters_of, is_often, IsTabledIn}
 use Rattle.mate_showing.specs.Mates.{stands_often}
 use Rattle.mate_showing.specs.Tabled.{IsKept}
@@ -179,11 +179,34 @@ lost_by true h = sym h
 lost_by false h = refl
 
 -- a choice wins
+pub winning-choice : (f : Frame) (n : ℕ) (p : Position) (c : Choice) → IsChoice f p n c → IsWinningMove f n p c.chosen
+winning-choice f n p c w =
+    let less = w.fewer in
+    record { is_legal = w.is_legal; won = near-more f.rules f.attacker f.blocked c.moves (n - 1) (next f.rules p c.chosen) (omega arith) w.won }
+
 pub some-of-choice : (f : Frame) (n : ℕ) (p : Position) (c : Choice) → IsChoice f p n c → some_wins f (n - 1) p ≡ true
 some-of-choice f n p c w =
-    let less = w.fewer in
-    any_intro (λ m. In.near_in f (n - 1) (next f.rules p m)) c.chosen (In.legal_in f p) w.is_legal
-    (near-more f.rules f.attacker f.blocked c.moves (n - 1) (next f.rules p c.chosen) (omega arith) w.won)
+    let k = winning-choice f n p c w in
+    any_intro (λ m. In.near_in f (n - 1) (next f.rules p m)) c.chosen (In.legal_in f p) k.is_legal k.won
+
+-- ---- whether a move is named
+
+and-false : (b : Bool) → b && false ≡ false
+and-false true = refl
+and-false false = refl
+
+pub at-move : (f : Frame) (g : Story) → won_by f.attacker (result f.rules g) ≡ None → same_side g.last.side f.attacker ≡ true → is_at_move f g ≡ true
+at-move f g e turn = rw (e, turn)
+
+pub idle-ended : (f : Frame) (g : Story) (w : Bool) → won_by f.attacker (result f.rules g) ≡ Some w → is_at_move f g ≡ false
+idle-ended f g w e = rw e
+
+pub idle-defence : (f : Frame) (g : Story) → same_side g.last.side f.attacker ≡ false → is_at_move f g ≡ false
+idle-defence f g turn = rw turn (and-false (not (is_some (won_by f.attacker (result f.rules g)))))
+
+pub none-idle : (won turn : Bool) → turn ≡ false → false ≡ (won && turn)
+none-idle true turn e = sym e
+none-idle false turn e = refl
 
 -- ---- the bound
 
@@ -204,10 +227,6 @@ solve-lines rules f g n p e d =
 -- the walk's lines, as its table names them
 pub walk-lines : (f h : Frame) (whole n : ℕ) (p q : Position) → h ≡ f → whole ≡ n → q ≡ p → (whole + 1) * lines_within (seen_in h) whole q ≡ (n + 1) * lines_within (seen_in f) n p
 walk-lines f h whole n p q e d c i = (d i + 1) * lines_within (seen_in (e i)) (d i) (c i)
-
-pub not-inside : {C : Type 0} (rules : Rules) (g : Story) (n : ℕ) (p : Position) → p ≡ g.last → (0 < 2 * rules.n_move) × (2 * rules.n_move ≤ p.counter + (n + n)) → IsInLimit rules n g → C
-not-inside rules g n p e near (inl z) = absurd (let a = near.0 in omega arith)
-not-inside rules g n p e near (inr low) = absurd (let a = near.1 in let c = ap (λ (y : Position). y.counter) e in omega arith)
 
 pub room-as : (f h : Frame) (p q : Position) (n k x : ℕ) → h ≡ f → q ≡ p → k ≡ n → x ≡ q.counter + plies (seen_in h) n q → x ≡ p.counter + plies (seen_in f) k p
 room-as f h p q n k x e d c is = is ∙ (λ i. (d i).counter + plies (seen_in (e i)) (sym c i) (d i))

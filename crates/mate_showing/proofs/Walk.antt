@@ -1,6 +1,6 @@
 -- The second walk, as the code reads tables and frames.
 use Rattle.std.proofs.Common.{◌≡◌, ℕ, ◌+◌, ◌-◌, ◌*◌, ◌<◌, ◌≤◌, List, Bool, true, false, None, refl, sym, ◌∙◌, subst, arith}
-use Rattle.std.specs.List.{list_any, list_all, sum_by}
+use Rattle.std.specs.List.{list_any, sum_by}
 use Rattle.foundation.specs.Member.{Member}
 use Rattle.rules_model.specs.declared.board.Position.{Position}
 use Rattle.rules_model.specs.declared.board.Repeat.{Repeat}
@@ -13,7 +13,7 @@ use Rattle.forced_wins.proofs.Rules.{laws, near-is}
 use Rattle.forced_wins.proofs.TableLaws.{all_member}
 use Rattle.mate_core.specs.declared.frame.Frame.{Frame}
 use Rattle.mate_fact.specs.InFrame as In
-use Rattle.mate_settle.specs.Choices.{some_wins, all_win, IsChoice}
+use Rattle.mate_settle.specs.Choices.{some_wins, IsChoice}
 use Rattle.mate_settle.specs.declared.choosing.Choice.{Choice}
 use Rattle.mate_settle.specs.Lines.{lines_within, lines_after, seen_in}
 use Rattle.mate_settle.specs.Steps.{left_after}
@@ -82,9 +82,6 @@ module _ (t : Tabled) (f : Frame) (e : t.frame ≡ f) where
 
   pub some-seen : (n : ℕ) (p : Position) → some_wins f n p ≡ list_any (λ m. AnyGame.near r b n (r.next p m)) (r.legal p)
   some-seen n p i = list_any (λ m. near-seen n (next f.rules p m) i) (In.legal_in f p)
-
-  pub all-seen : (n : ℕ) (p : Position) → all_win f n p ≡ list_all (λ m. AnyGame.near r b n (r.next p m)) (r.legal p)
-  all-seen n p i = list_all (λ m. near-seen n (next f.rules p m) i) (In.legal_in f p)
 
   module _ (n : ℕ) (p : Position) (h : IsNextIn t n p) (own : r.own p ≡ None) where
     abbrev here : IsNext r b t.plan n p

@@ -1,4 +1,5 @@
 pub mod Reached
+pub mod Fronts
 pub mod Tables
 pub mod Mates
 pub mod Tabled

@@ -24,8 +24,8 @@ abbrev pub stands_often : Game Position Repeat Move → AnyGame.Story Position �
 stands_often r g s x = nat_lt 0 r.fold && nat_le r.fold (times r x (history g) + nodes_of r nodes x s)
 
 -- what is known when the table is made
-pub record IsTabled (r : Game Position Repeat Move) (barred : Repeat → Bool) (plan : Plan) (g : AnyGame.Story Position)
-    (s : List Node) : Type 0 where
+pub record IsTabled (r : Game Position Repeat Move) (barred : Repeat → Bool) (plan : Plan)
+    (g : AnyGame.Story Position) (s : List Node) : Type 0 where
   pub same : (x : Repeat) → barred x ≡ AnyGame.blocked r g x
   pub root : plan.root ≡ g.last
   pub small : plan.whole ≤ most

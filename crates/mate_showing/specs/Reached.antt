@@ -13,8 +13,8 @@ left_along r n p [] = n
 left_along r n p (m ∷ ms) = left_along r (moves_left r n p) (r.next p m) ms
 
 -- a line leads from the root, where the attacker has `whole` moves, to p, and leaves him n moves or more
-pub record IsReached (r : Game Position Repeat Move) (barred : Repeat → Bool) (whole : ℕ) (root : Position) (n : ℕ)
-    (p : Position) : Type 0 where
+pub record IsReached (r : Game Position Repeat Move) (barred : Repeat → Bool) (whole : ℕ) (root : Position)
+    (n : ℕ) (p : Position) : Type 0 where
   pub line : List Move
   pub won : IsWonAlong r barred whole root line
   pub leads : behind r root line ≡ p
@@ -22,8 +22,8 @@ pub record IsReached (r : Game Position Repeat Move) (barred : Repeat → Bool) 
   pub short : length line + plies r (left_along r whole root line) p ≤ 2 * whole + 1
 
 -- a line leads from the root to the repeat at the counter
-pub record OnLine (r : Game Position Repeat Move) (barred : Repeat → Bool) (whole : ℕ) (root : Position) (x : Repeat)
-    (c : ℕ) : Type 0 where
+pub record OnLine (r : Game Position Repeat Move) (barred : Repeat → Bool) (whole : ℕ) (root : Position)
+    (x : Repeat) (c : ℕ) : Type 0 where
   pub line : List Move
   pub short : length line ≤ 2 * whole + 1
   pub won : IsWonAlong r barred whole root line

@@ -6,7 +6,7 @@ ghost use Rattle.mate_showing.specs.Tabled as Tabled;
 ghost use Rattle.watching.specs.declared.halt.Halt.{Halt};
 
 use crate::node_table::{NodeTable, no_edges};
-use crate::ordering::{known_best, legal_list, moves_from};
+use crate::ordering::{best_of_win, legal_list, moves_from};
 use mate_fact::won_by;
 use mate_settle::{FactTable, choose};
 use playing::Board;
@@ -45,7 +45,7 @@ pub(crate) fn build<W: Watch>(
         return Ok(table.finish(board, n, edges)?);
     }
     if board.position().side.is(attacker) {
-        let known = known_best(facts, board, n);
+        let known = best_of_win(facts.look(board, n));
         let order = moves_from(alloc, board, n, facts, known)?;
         match choose(alloc, board, &order, n, facts, watch)? {
             Some(choice) => {

@@ -1,9 +1,10 @@
 //! In which order the moves of a position are tried: a move that is named comes first.
-ghost use Rattle.std.specs.Prelude.{◌≡◌, List, IfOk, OnOk};
+ghost use Rattle.std.specs.Prelude.{◌≡◌, ◌↔◌, None, Some, IsTrue, IfOk, IfSome, slice_get};
 ghost use Rattle.foundation.specs.Member.{Lists, Member};
+ghost use Rattle.mate_showing.specs.Fronts as Fronts;
 ghost use Rattle.playing.specs.Stance.{legal_in};
-ghost use Rattle.rules_model.specs.declared.moves.Move.{Move as MoveView};
 
+use mate_core::Fact;
 use mate_settle::{FactTable, moves_to_try};
 use playing::Board;
 use rules_model::{Memory, Move};
@@ -19,23 +20,34 @@ pub(crate) fn legal_list(alloc: Global, board: &Board) -> Result<Vec<Move>, Memo
 
 /// Puts the move at the place first; the others stay in their order. With no place, or one past the end, nothing
 /// changes.
-///
-/// # Errors
-///
-/// `Memory`.
-pub fn to_front(moves: &mut Vec<Move>, place: Option<usize>) -> Result<(), Memory>
-    ensures { (legal : List MoveView) → Lists (λ m. Member m legal) moves.old.items →
-        OnOk result (Lists (λ m. Member m legal) moves.new.items) }
+pub fn to_front(moves: &mut [Move], place: Option<usize>)
+    ensures { moves.new ≡ Fronts.with_first place moves.old }
 {
     let Some(at) = place else {
-        return Ok(());
+        return;
     };
-    if moves.len() <= at {
-        return Ok(());
+    if at < moves.len() {
+        moves[..=at].rotate_right(1);
     }
-    let first = moves.remove(at);
-    moves.insert(0, first)?;
-    Ok(())
+}
+
+fn is_same(a: &Move, b: &Move) -> bool
+    ensures { IsTrue result ↔ (a.now ≡ b.now) }
+{
+    a == b
+}
+
+/// The place of the move, if it is one of these.
+fn place_of(moves: &[Move], named: &Move) -> Option<usize>
+    ensures here { IfSome result (λ at. slice_get moves.now at ≡ Some named.now) }
+    ensures none { result ≡ None → Member named.now moves.now → ⊥ }
+{
+    for i in 0..moves.len() {
+        if is_same(&moves[i], named) {
+            return Some(i);
+        }
+    }
+    None
 }
 
 /// The legal moves, each once: the named one first, if it is among them, and then those that are likely to decide
@@ -45,19 +57,25 @@ pub(crate) fn moves_from(
     board: &Board,
     n: u16,
     facts: &FactTable,
-    first: Option<Move>,
+    named: Option<Move>,
 ) -> Result<Vec<Move>, Memory>
-    ensures { IfOk result (λ ms. Lists (λ m. Member m (legal_in board.now)) ms.items) }
+    ensures each { IfOk result (λ ms. Lists (λ m. Member m (legal_in board.now)) ms.items) }
+    ensures first { IfOk result (λ ms. IfSome named (Fronts.ComesFirst (legal_in board.now) ms.items)) }
 {
     let mut moves = moves_to_try(alloc, board, n, facts)?;
-    let place = moves.iter().position(|m| first == Some(*m));
-    to_front(&mut moves, place)?;
+    let Some(first) = named else {
+        return Ok(moves);
+    };
+    let place = place_of(moves.as_slice(), &first);
+    to_front(moves.as_mut_slice(), place);
     Ok(moves)
 }
 
-/// The move that is known to win from the position within n moves, if one is found at once.
-pub(crate) fn known_best(facts: &FactTable, board: &Board, n: u16) -> Option<Move> {
-    match facts.look(board, n) {
+/// The best move of a fact that wins.
+pub(crate) fn best_of_win(known: Option<Fact>) -> Option<Move>
+    ensures { result ≡ Fronts.best_of_win known }
+{
+    match known {
         Some(fact) if fact.wins => fact.best,
         _ => None,
     }

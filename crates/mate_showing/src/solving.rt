@@ -1,10 +1,10 @@
 //! What a game comes to within some number of moves, exactly.
-ghost use Rattle.std.specs.Prelude.{◌≡◌, ◌+◌, ◌*◌, ◌≤◌, ◌<◌, ℕ, true, IfOk, OnOk, IsErrOf};
+ghost use Rattle.std.specs.Prelude.{◌≡◌, ◌+◌, ◌*◌, ◌≤◌, ◌<◌, ◌&&◌, ℕ, true, is_some, IfOk, IfSome, OnOk, IsErrOf};
 ghost use Rattle.forced_wins.specs.Wins.{IsInLimit, is_in, near_root};
 ghost use Rattle.game_play.specs.Played.{story};
 ghost use Rattle.game_values.specs.Bounds.{solve_bound};
 ghost use Rattle.mate_settle.specs.Lines.{lines_within, seen_in};
-ghost use Rattle.mate_showing.specs.Answers.{IsDecided, IsFrameOf, IsRight};
+ghost use Rattle.mate_showing.specs.Answers.{IsDecided, IsFrameOf, IsRight, IsWinningMove, is_at_move};
 ghost use Rattle.mate_showing.specs.Tabled.{IsKept};
 ghost use Rattle.mate_showing.specs.Tables as Tables;
 ghost use Rattle.watching.specs.declared.halt.Halt.{Halt};
@@ -28,8 +28,7 @@ use watching::{Halt, Watch};
 #[derive(Clone, Copy)]
 pub struct Verdict {
     pub won: bool,
-    /// The move that was found to win. There is none where the game is not won or has ended, nor where the defender is
-    /// to move.
+    /// A move that wins. There is none where the game is not won or has ended, nor where the defender is to move.
     pub best: Option<Move>,
 }
 
@@ -54,6 +53,8 @@ pub fn decide<W: Watch>(
     requires small { n ≤ Tables.most }
     ensures frame { facts.new ≡ facts.old }
     ensures won { IfOk result (λ v. v.won ≡ near_root facts.old.rules n (story game.now) facts.old.attacker) }
+    ensures best { IfOk result (λ v. IfSome v.best (IsWinningMove facts.old n board.now.position)) }
+    ensures named { IfOk result (λ v. is_some v.best ≡ (v.won && is_at_move facts.old (story game.now))) }
     ensures gone { OnOk result (W.gone watch.old watch.new (lines_within (seen_in facts.old) n board.now.position)) }
     ensures ended { (why : Halt) → IsErrOf result why →
         W.ended watch.old watch.new (lines_within (seen_in facts.old) n board.now.position) why }

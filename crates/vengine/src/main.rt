@@ -30,8 +30,8 @@ fn given_words(rt: &(impl Env + AllocGlobal)) -> Result<Vec<String>, Memory> {
     Ok(words)
 }
 
-/// Runs the words of the command line over this input, standard output, the machine's files and its clock. The status is
-/// one of the table at `run`: 0, or from 2 to 7.
+/// Runs the words of the command line over this input, standard output, the machine's files and its clock. The status
+/// is one of the table at `run`: 0, or from 2 to 7.
 fn run_words<R, I>(rt: R, input: I) -> u8
 where
     R: Env

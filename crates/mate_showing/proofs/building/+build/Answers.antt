@@ -456,4 +456,4 @@ returns-in_err-order-clause-ended g t_ c why is =
     search rules
 
 pub choose-requires-clause-moves : goal.choose-requires-clause-moves
-choose-requires-clause-moves g t_ c = rw c.deref.ensures.value c.in_ok-order.ensures
+choose-requires-clause-moves g t_ c = rw c.deref.ensures.value c.in_ok-order.ensures.each

@@ -1,5 +1,6 @@
 use Rattle.std.proofs.Common.{◌≡◌, true, false, None, Err, ap, sym, ◌∙◌, subst, arith, rules}
 use Rattle.std.specs.Option.{IfSome}
+use Rattle.rules_model.specs.declared.board.Position.{Position}
 use Rattle.rules_model.specs.declared.rules.Rules.{Rules}
 use Rattle.rules_model.specs.Games.{result}
 use Rattle.rules_model.specs.Sides.{same_side}
@@ -11,8 +12,9 @@ use Rattle.mate_settle.specs.Choices.{IsChoice}
 use Rattle.mate_settle.specs.Lines.{lines_within, seen_in}
 use Rattle.playing.specs.Stance.{Stance}
 use Rattle.mate_settle.proofs.Settled.{is_none}
+use Rattle.mate_showing.specs.Answers.{is_at_move}
 use Rattle.mate_showing.proofs.Judged.{attack-lines, defence-lines}
-use Rattle.mate_showing.proofs.Root.{frame-blocked, root-ended, root-attack, root-defence, some-of-choice}
+use Rattle.mate_showing.proofs.Root.{frame-blocked, root-ended, root-attack, root-defence, some-of-choice, winning-choice, at-move, idle-ended, idle-defence, none-idle}
 use Rattle.mate_showing.proofs.solving.decide.Goals as goal
 
 pub returns-in-Some-clause-won : goal.returns-in-Some-clause-won
@@ -148,8 +150,43 @@ returns-clause-won g c =
     let turn : same_side p.side f.attacker ≡ false = search rules in
     c.in_ok-won.ensures.won ∙ root-defence f game bl n p last goes_on turn
 
+pub returns-in-Some-clause-named : goal.returns-in-Some-clause-named
+returns-in-Some-clause-named g c =
+    let f = c.args.facts.now in
+    let game = story c.args.game.now in
+    let ends : c.won_by.result ≡ won_by f.attacker (result f.rules game) = c.won_by.ensures ∙ (λ i. won_by (c.frame-frame.ensures i).attacker ((c.outcome.ensures ∙ ap (λ (x : Rules). result x game) (sym c.requires.frame.rules)) i)) in
+    none-idle c.in-Some.won (is_at_move f game) (idle-ended f game c.in-Some.won (sym ends ∙ c.in-Some.is))
+
+pub returns-in-Some-2-clause-best : goal.returns-in-Some-2-clause-best
+returns-in-Some-2-clause-best g c =
+    let f = c.args.facts.now in
+    let p = c.args.board.now.position in
+    let n = c.args.n in
+    let w : IsChoice f p n c.in-Some-2.choice = subst (λ o. IfSome o (IsChoice f p n)) c.in-Some-2.is c.in_ok-choice.ensures.wins in
+    winning-choice f n p c.in-Some-2.choice w
+
+pub returns-in-Some-2-clause-named : goal.returns-in-Some-2-clause-named
+returns-in-Some-2-clause-named g c =
+    let f = c.args.facts.now in
+    let game = story c.args.game.now in
+    let p = c.args.board.now.position in
+    let last : p ≡ game.last = ap (λ (x : Stance). x.position) c.requires.board in
+    let nothing : c.won_by.result ≡ None = is_none c.won_by.result c.in_default.not-Some in
+    let ends : c.won_by.result ≡ won_by f.attacker (result f.rules game) = c.won_by.ensures ∙ (λ i. won_by (c.frame-frame.ensures i).attacker ((c.outcome.ensures ∙ ap (λ (x : Rules). result x game) (sym c.requires.frame.rules)) i)) in
+    let turn : same_side p.side f.attacker ≡ true = search rules in
+    sym (at-move f game (sym ends ∙ nothing) (subst (λ (y : Position). same_side y.side f.attacker ≡ true) last turn))
+
+pub returns-clause-named : goal.returns-clause-named
+returns-clause-named g c =
+    let f = c.args.facts.now in
+    let game = story c.args.game.now in
+    let p = c.args.board.now.position in
+    let last : p ≡ game.last = ap (λ (x : Stance). x.position) c.requires.board in
+    let turn : same_side p.side f.attacker ≡ false = search rules in
+    none-idle c.in_ok-won.won (is_at_move f game) (idle-defence f game (subst (λ (y : Position). same_side y.side f.attacker ≡ false) last turn))
+
 pub choose-requires-clause-moves : goal.choose-requires-clause-moves
-choose-requires-clause-moves g c = rw c.deref.ensures.value c.in_ok-order.ensures
+choose-requires-clause-moves g c = rw c.deref.ensures.value c.in_ok-order.ensures.each
 
 pub all_won-requires-clause-moves : goal.all_won-requires-clause-moves
-all_won-requires-clause-moves g c = rw c.deref-2.ensures.value c.in_ok-order.ensures
+all_won-requires-clause-moves g c = rw c.deref-2.ensures.value c.in_ok-order.ensures.each
