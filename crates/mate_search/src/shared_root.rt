@@ -1,5 +1,6 @@
 //! What a solve takes from the shards and leaves in them.
 ghost use Rattle.std.specs.Prelude.{◌≡◌, ◌↔◌, true, false};
+ghost use Rattle.forced_wins.specs.Facts as Facts;
 ghost use Rattle.forced_wins.specs.Facts.{serves};
 ghost use Rattle.forced_wins.specs.Wins.{near_root};
 ghost use Rattle.game_play.specs.Played.{story};
@@ -48,6 +49,7 @@ pub(crate) fn is_refuted<R: Wait>(
 /// What is known of the position: that it is won within n moves, or that it is not.
 fn fact_on(frame: &Frame, p: &Position, n: u16, verdict: Verdict) -> Fact
     requires { near_in frame.now n p.now ≡ verdict.won }
+    ensures is { result ≡ Facts.fact_of p.now frame.now.attacker n verdict.best verdict.won }
     ensures truth { IsTrueIn frame.now result }
     ensures repeat { result.repeat ≡ Repeats.repeat_of p.now }
     ensures serves { serves result (Repeats.repeat_of p.now) p.now.counter n ≡ true }
