@@ -279,38 +279,48 @@ fn nothing_goes_to_hands(rt: HostRuntime) {
     leads_to(&rt, &without_prisoners(), &p, &taking, &next);
 }
 
-#[test]
-fn rights_of_inner_rooks(rt: HostRuntime) {
-    let rules = generals();
-    let p = Position {
+/// The start of generals where White's rooks stand on b1 and g1, and it has another in hand.
+fn inner_rooks() -> Position {
+    Position {
         hands: [hand_of(b"r"), hand_of(b"")],
         gates: [B | E | G, A | E | H],
-        ..set(rules.start, "Rb1 Ke1 Rg1 Sc2 ra8 ke8 rh8")
-    };
-    let risen = Position {
+        ..before("Rb1 Ke1 Rg1 Sc2 ra8 ke8 rh8")
+    }
+}
+
+// A silver moves onto the rank, between the rooks.
+#[test]
+fn a_piece_between_inner_rooks_leaves_rights(rt: HostRuntime) {
+    let p = inner_rooks();
+    let next = Position {
         side: Side::Black,
         counter: 1,
-        ..p
+        ..set(p, "Rb1 Ke1 Rg1 Sd1 ra8 ke8 rh8")
     };
-    // a silver moves onto the rank, between the rooks
-    let mut next = set(risen, "Rb1 Ke1 Rg1 Sd1 ra8 ke8 rh8");
-    leads_to(&rt, &rules, &p, &quiet("c2", "d1"), &next);
-    // a rook comes in further out: at either end of the rank, and one square above it
-    let placed = Position {
+    leads_to(&rt, &generals(), &p, &quiet("c2", "d1"), &next);
+}
+
+/// Asserts that White's rook comes in on the square, and what rights it has then.
+fn comes_in<R: Abort>(rt: &R, to: &str, pieces: &str, rights: [bool; 2]) {
+    let p = inner_rooks();
+    let next = Position {
+        side: Side::Black,
+        counter: 1,
         hands: [[0; 26]; 2],
-        ..risen
+        rights: [rights, [true, true]],
+        ..set(p, pieces)
     };
-    next = set(placed, "Ra1 Rb1 Ke1 Rg1 Sc2 ra8 ke8 rh8");
-    next.rights[0] = [true, false];
-    leads_to(&rt, &rules, &p, &drop(kind(b'r'), "a1"), &next);
-    next = set(placed, "Rb1 Ke1 Rg1 Rh1 Sc2 ra8 ke8 rh8");
-    next.rights[0] = [false, true];
-    leads_to(&rt, &rules, &p, &drop(kind(b'r'), "h1"), &next);
-    next = set(placed, "Rb1 Ke1 Rg1 Ra2 Sc2 ra8 ke8 rh8");
-    leads_to(&rt, &rules, &p, &drop(kind(b'r'), "a2"), &next);
-    // and further in, where no right is of the rook
-    next = set(placed, "Rb1 Rc1 Ke1 Rg1 Sc2 ra8 ke8 rh8");
-    leads_to(&rt, &rules, &p, &drop(kind(b'r'), "c1"), &next);
+    leads_to(rt, &generals(), &p, &drop(kind(b'r'), to), &next);
+}
+
+// A rook comes in further out, at either end of the rank, and one square above it; and further in, where no right is of
+// the rook.
+#[test]
+fn rights_are_of_outer_rooks(rt: HostRuntime) {
+    comes_in(&rt, "a1", "Ra1 Rb1 Ke1 Rg1 Sc2 ra8 ke8 rh8", [true, false]);
+    comes_in(&rt, "h1", "Rb1 Ke1 Rg1 Rh1 Sc2 ra8 ke8 rh8", [false, true]);
+    comes_in(&rt, "a2", "Rb1 Ke1 Rg1 Ra2 Sc2 ra8 ke8 rh8", [true, true]);
+    comes_in(&rt, "c1", "Rb1 Rc1 Ke1 Rg1 Sc2 ra8 ke8 rh8", [true, true]);
 }
 
 #[test]
