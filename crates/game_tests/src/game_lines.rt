@@ -1,8 +1,7 @@
 //! Tests of `game_line`.
-use crate::helpers::{KINGS, QUEEN, ROUND, at_count, game, go};
+use crate::helpers::{KINGS, QUEEN, ROUND, at_count, chess_game, go};
 use game_line::Line;
-use rules_model::{Cause, Outcome, Side};
-use sample_rules::{chess, position};
+use rules_model::{Cause, Outcome, Position, Side};
 use std::alloc::Global;
 use std::process::Abort;
 use std::test::Fail;
@@ -38,51 +37,74 @@ fn expect_stands(rt: &impl Abort, line: &Line, outcome: Outcome) {
     assert_eq!(rt; line.outcome_where(any), outcome);
 }
 
-/// Pieces and a count of moves, a game's moves from there, a line's moves after it, and how the line stands.
-type Row = (&'static str, u16, &'static str, &'static str, Outcome);
-
-/// Asserts that the line stands so, each time that its moves are put on it.
-fn expect_line(rt: &impl Abort, alloc: Global, row: &Row) -> Result<(), Fail> {
-    let (pieces, counter, played, moves, outcome) = *row;
-    let start = at_count(pieces, counter);
-    let game = game(rt, alloc, &chess(), &start, played)?;
-    let mut line = Line::new(alloc, &game, 8)?;
+/// Asserts that the line stands so, each time that the moves are put on it.
+fn expect_each_time(rt: &impl Abort, line: &mut Line, moves: &str, outcome: Outcome) {
     for _time in 0..3 {
-        push_all(rt, &mut line, moves);
-        expect_stands(rt, &line, outcome);
-        back_all(&mut line);
+        push_all(rt, line, moves);
+        expect_stands(rt, line, outcome);
+        back_all(line);
     }
+}
+
+/// Asserts how the line of the moves stands after the moves that a game from the position has played.
+fn expect_line(
+    rt: &impl Abort,
+    alloc: Global,
+    start: &Position,
+    played: &str,
+    moves: &str,
+    outcome: Outcome,
+) -> Result<(), Fail> {
+    let game = chess_game(rt, alloc, start, played)?;
+    let mut line = Line::new(alloc, &game, 8)?;
+    expect_each_time(rt, &mut line, moves, outcome);
     assert!(rt; *line.board().position() == *game.position());
     Ok(())
 }
 
+// The start stands twice in the game and once on the line, and the other way round.
 #[test]
-fn lines_stand_as_their_games(rt: HostRuntime) -> Result<(), Fail> {
+fn lines_repeat_as_their_games(rt: HostRuntime) -> Result<(), Fail> {
+    let (alloc, start) = (rt.alloc(), at_count(KINGS, 0));
+    let repetition = Outcome::Drawn(Cause::Repetition);
+    expect_line(&rt, alloc, &start, ROUND, ROUND, repetition)?;
+    expect_line(
+        &rt,
+        alloc,
+        &start,
+        ROUND,
+        "e1d1 e8d8 d1e1",
+        Outcome::Ongoing,
+    )?;
+    let rest = "e8d8 d1e1 d8e8 e1d1 e8d8 d1e1 d8e8";
+    expect_line(&rt, alloc, &start, "e1d1", rest, repetition)
+}
+
+#[test]
+fn lines_and_games_repeat_alone(rt: HostRuntime) -> Result<(), Fail> {
+    let (alloc, start) = (rt.alloc(), at_count(KINGS, 0));
     let thrice = "e1d1 e8d8 d1e1 d8e8 e1d1 e8d8 d1e1 d8e8";
     let repetition = Outcome::Drawn(Cause::Repetition);
+    expect_line(&rt, alloc, &start, "", thrice, repetition)?;
+    expect_line(&rt, alloc, &start, thrice, "", repetition)?;
+    expect_line(&rt, alloc, &start, thrice, "e1e2", Outcome::Ongoing)
+}
+
+#[test]
+fn lines_end_as_their_games(rt: HostRuntime) -> Result<(), Fail> {
+    let (alloc, start) = (rt.alloc(), at_count(QUEEN, 99));
     let mate = Outcome::Won(Side::White, Cause::Checkmate);
-    let rows: [Row; 9] = [
-        // the start stands twice in the game and once on the line, and the other way round
-        (KINGS, 0, ROUND, ROUND, repetition),
-        (KINGS, 0, ROUND, "e1d1 e8d8 d1e1", Outcome::Ongoing),
-        (
-            KINGS,
-            0,
-            "e1d1",
-            "e8d8 d1e1 d8e8 e1d1 e8d8 d1e1 d8e8",
-            repetition,
-        ),
-        (KINGS, 0, "", thrice, repetition),
-        (KINGS, 0, thrice, "", repetition),
-        (KINGS, 0, thrice, "e1e2", Outcome::Ongoing),
-        (QUEEN, 99, "", "g6g5", Outcome::Drawn(Cause::MoveCount)),
-        (QUEEN, 99, "", "g6g7", mate),
-        (QUEEN, 99, "", "g6f7", Outcome::Drawn(Cause::Stalemate)),
-    ];
-    for row in &rows {
-        expect_line(&rt, rt.alloc(), row)?;
-    }
-    Ok(())
+    let stalemate = Outcome::Drawn(Cause::Stalemate);
+    expect_line(
+        &rt,
+        alloc,
+        &start,
+        "",
+        "g6g5",
+        Outcome::Drawn(Cause::MoveCount),
+    )?;
+    expect_line(&rt, alloc, &start, "", "g6g7", mate)?;
+    expect_line(&rt, alloc, &start, "", "g6f7", stalemate)
 }
 
 /// Workers take lines with them.
@@ -90,7 +112,7 @@ fn is_sendable<T: Send>(_value: &T) {}
 
 #[test]
 fn lines_are_copied(rt: HostRuntime) -> Result<(), Fail> {
-    let game = game(&rt, rt.alloc(), &chess(), &at_count(KINGS, 0), ROUND)?;
+    let game = chess_game(&rt, rt.alloc(), &at_count(KINGS, 0), ROUND)?;
     let mut line = Line::new(rt.alloc(), &game, 4)?;
     push_all(&rt, &mut line, "e1d1 e8d8 d1e1");
     let mut copy = line.copied(rt.alloc())?;

@@ -1,5 +1,5 @@
 //! Tests of `game_play`.
-use crate::helpers::{KINGS, QUEEN, ROUND, at_count, game, go};
+use crate::helpers::{KINGS, QUEEN, ROUND, at_count, chess_game, go};
 use game_play::{Game, NothingPlayed, PlayFault};
 use rules_model::{Blocked, Cause, Outcome, Position, Side, repeat_of};
 use sample_rules::{chess, position};
@@ -7,37 +7,48 @@ use std::alloc::Global;
 use std::process::Abort;
 use std::test::Fail;
 
-/// The result of the game of chess from the pieces, at a count of moves.
+/// Asserts the result of the game of chess from the pieces, at a count of moves.
 fn expect_outcome(
     rt: &impl Abort,
     alloc: Global,
-    row: &(&str, u16, &str, Outcome),
+    pieces: &str,
+    counter: u16,
+    moves: &str,
+    outcome: Outcome,
 ) -> Result<(), Fail> {
-    let (pieces, counter, moves, outcome) = *row;
-    let game = game(rt, alloc, &chess(), &at_count(pieces, counter), moves)?;
+    let game = chess_game(rt, alloc, &at_count(pieces, counter), moves)?;
     assert_eq!(rt; game.outcome(), outcome, "{moves}");
     Ok(())
 }
 
+// The start is the first of three positions. Checkmate comes before the move count, and so does stalemate.
 #[test]
 fn results(rt: HostRuntime) -> Result<(), Fail> {
+    let alloc = rt.alloc();
     let twice = "e1d1 e8d8 d1e1 d8e8 e1d1 e8d8 d1e1";
     let thrice = "e1d1 e8d8 d1e1 d8e8 e1d1 e8d8 d1e1 d8e8";
+    let repetition = Outcome::Drawn(Cause::Repetition);
     let mate = Outcome::Won(Side::White, Cause::Checkmate);
-    let rows = [
-        (KINGS, 0, twice, Outcome::Ongoing),
-        // The start is the first of the three.
-        (KINGS, 0, thrice, Outcome::Drawn(Cause::Repetition)),
-        (QUEEN, 99, "", Outcome::Ongoing),
-        (QUEEN, 99, "g6g5", Outcome::Drawn(Cause::MoveCount)),
-        // Checkmate comes before the move count, and so does stalemate.
-        (QUEEN, 99, "g6g7", mate),
-        (QUEEN, 99, "g6f7", Outcome::Drawn(Cause::Stalemate)),
-    ];
-    for row in &rows {
-        expect_outcome(&rt, rt.alloc(), row)?;
-    }
-    Ok(())
+    expect_outcome(&rt, alloc, KINGS, 0, twice, Outcome::Ongoing)?;
+    expect_outcome(&rt, alloc, KINGS, 0, thrice, repetition)?;
+    expect_outcome(&rt, alloc, QUEEN, 99, "", Outcome::Ongoing)?;
+    expect_outcome(
+        &rt,
+        alloc,
+        QUEEN,
+        99,
+        "g6g5",
+        Outcome::Drawn(Cause::MoveCount),
+    )?;
+    expect_outcome(&rt, alloc, QUEEN, 99, "g6g7", mate)?;
+    expect_outcome(
+        &rt,
+        alloc,
+        QUEEN,
+        99,
+        "g6f7",
+        Outcome::Drawn(Cause::Stalemate),
+    )
 }
 
 /// Takes back each of so many moves.
@@ -50,7 +61,7 @@ fn undo_all(rt: &impl Abort, game: &mut Game, plies: usize) {
 #[test]
 fn moves_are_played_and_taken_back(rt: HostRuntime) -> Result<(), Fail> {
     let start = position(KINGS);
-    let mut game = game(&rt, rt.alloc(), &chess(), &start, ROUND)?;
+    let mut game = chess_game(&rt, rt.alloc(), &start, ROUND)?;
     assert_eq!(rt; game.play(&go("e1e3")), Err(PlayFault::Illegal));
     let lengths = (game.moves().len(), game.history().len());
     assert_eq!(rt; lengths, (4, 5));
@@ -62,7 +73,7 @@ fn moves_are_played_and_taken_back(rt: HostRuntime) -> Result<(), Fail> {
 
 #[test]
 fn a_game_knows_its_rules(rt: HostRuntime) -> Result<(), Fail> {
-    let game = game(&rt, rt.alloc(), &chess(), &position(KINGS), "")?;
+    let game = chess_game(&rt, rt.alloc(), &position(KINGS), "")?;
     game.is_played();
     assert_eq!(rt; game.rules().n_fold, 3);
     assert_eq!(rt; game.tables().rules().n_fold, 3);
@@ -76,11 +87,16 @@ fn expect_first(rt: &impl Abort, blocked: &Blocked, game: &Game) {
     }
 }
 
-/// How often the start stood in the game of the moves, and how many of its first positions are blocked.
-fn expect_repeats(rt: &impl Abort, alloc: Global, row: &(&str, u32, usize)) -> Result<(), Fail> {
-    let (moves, count, length) = *row;
+/// Asserts how often the start stood in the game of the moves, and how many of its first positions are blocked.
+fn expect_repeats(
+    rt: &impl Abort,
+    alloc: Global,
+    moves: &str,
+    count: u32,
+    length: usize,
+) -> Result<(), Fail> {
     let start = position(KINGS);
-    let game = game(rt, alloc, &chess(), &start, moves)?;
+    let game = chess_game(rt, alloc, &start, moves)?;
     let blocked = game.blocked(alloc)?;
     let found = (game.repeats(&start), blocked.items.len());
     assert_eq!(rt; found, (count, length), "{moves}");
@@ -90,16 +106,11 @@ fn expect_repeats(rt: &impl Abort, alloc: Global, row: &(&str, u32, usize)) -> R
 
 #[test]
 fn repeats_are_blocked(rt: HostRuntime) -> Result<(), Fail> {
-    let rows = [
-        ("", 1, 0),
-        ("e1d1 e8d8 d1e1", 1, 0),
-        (ROUND, 2, 1),
-        ("e1d1 e8d8 d1e1 d8e8 e1d1", 2, 2),
-    ];
-    for row in &rows {
-        expect_repeats(&rt, rt.alloc(), row)?;
-    }
-    Ok(())
+    let alloc = rt.alloc();
+    expect_repeats(&rt, alloc, "", 1, 0)?;
+    expect_repeats(&rt, alloc, "e1d1 e8d8 d1e1", 1, 0)?;
+    expect_repeats(&rt, alloc, ROUND, 2, 1)?;
+    expect_repeats(&rt, alloc, "e1d1 e8d8 d1e1 d8e8 e1d1", 2, 2)
 }
 
 /// How many lists of one move, of two and so on go on from the game of the moves.
@@ -110,7 +121,7 @@ fn expect_counts(
     moves: &str,
     counts: &[u128],
 ) -> Result<(), Fail> {
-    let game = game(rt, alloc, &chess(), start, moves)?;
+    let game = chess_game(rt, alloc, start, moves)?;
     for plies in 1..4u8 {
         if let Some(count) = counts.get(plies as usize - 1) {
             assert_eq!(rt; game.perft(alloc, plies)?, *count, "{plies}");

@@ -3,7 +3,7 @@ ghost use Rattle.rules_model.specs.Fit.{IsFit};
 
 use game_play::Game;
 use rules_model::{Move, Position, Promo, Rules, sound};
-use sample_rules::{kind, position, square};
+use sample_rules::{chess, position, square};
 use std::alloc::Global;
 use std::process::Abort;
 use std::test::Fail;
@@ -31,15 +31,8 @@ node 3 0 R5k1/8/6K1/8/8/8/8/8 b - - 3 1
 end
 ";
 
-/// The move of a text such as `e2e4`, without promotion, or `R@a8`.
+/// The move of a text such as `e2e4`, without promotion.
 pub fn go(text: &str) -> Move {
-    if let Some((letter, to)) = text.split_once('@') {
-        let letter = letter.as_bytes().first().copied().unwrap_or(b'P');
-        return Move::Drop {
-            kind: kind(letter.to_ascii_lowercase()),
-            to: square(to),
-        };
-    }
     let (from, to) = text.split_at_checked(2).unwrap_or(("", ""));
     Move::Go {
         from: square(from),
@@ -72,6 +65,16 @@ pub fn game<R: Abort>(
     let mut game = Game::new(alloc, rules, start)?;
     play_all(rt, &mut game, moves);
     Ok(game)
+}
+
+/// The game of chess of the moves from the position.
+pub fn chess_game<R: Abort>(
+    rt: &R,
+    alloc: Global,
+    start: &Position,
+    moves: &str,
+) -> Result<Game, Fail> {
+    game(rt, alloc, &chess(), start, moves)
 }
 
 /// The pieces, White to move, after `counter` plies without a capture or a pawn's move.

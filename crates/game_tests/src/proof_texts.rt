@@ -8,6 +8,7 @@ use game_play::Game;
 use proof_text::{Proof, ProofFault, read_proof, write_proof};
 use rules_model::{Move, Rules, Side};
 use std::alloc::Global;
+use std::process::Abort;
 use std::test::Fail;
 use strategy::read;
 use variant_fen::read_fen;
@@ -223,25 +224,27 @@ fn row_of(
     }
 }
 
+/// Asserts what is written of the row, and that it is read back.
+fn expect_written(rt: &impl Abort, alloc: Global, row: &Row) -> Result<(), Fail> {
+    let text = written(alloc, row)?;
+    let wanted = format!(in alloc; "{}{}{}", row.rules, row.game, row.body)?;
+    assert!(rt; text.items.as_slice() == wanted.as_bytes(), "{}", row.rules);
+    let proof = read_proof(alloc, text.items.as_slice()).map_err(|_| "a proof")?;
+    let is_black = proof.attacker == Side::Black;
+    assert!(rt; proof.n == row.n && is_black == (row.n == 100));
+    let plies = proof.game.moves().len();
+    assert!(rt; plies == if row.is_played { 2 } else { 0 });
+    assert!(rt; proof.game.rules().castling == (row.place == 0));
+    Ok(())
+}
+
 #[test]
 fn texts_are_written(rt: HostRuntime) -> Result<(), Fail> {
+    let alloc = rt.alloc();
     let chess = ("", 0, CHESS);
     let child = (FILE, 11, RULES);
-    let rows = [
-        row_of(chess, false, 2, START, START_BODY),
-        row_of(chess, true, 1, PLAYED, PLAYED_BODY),
-        row_of(child, true, 1, PLAYED, PLAYED_BODY),
-        row_of(chess, false, 100, BLACK, BLACK_BODY),
-    ];
-    for row in &rows {
-        let text = written(rt.alloc(), row)?;
-        let wanted = format!(in rt.alloc(); "{}{}{}", row.rules, row.game, row.body)?;
-        assert!(rt; text.items.as_slice() == wanted.as_bytes(), "{}", row.rules);
-        let proof = read_proof(rt.alloc(), text.items.as_slice()).map_err(|_| "a proof")?;
-        assert_eq!(rt; proof.n, row.n);
-        assert_eq!(rt; proof.attacker == Side::Black, row.n == 100);
-        assert_eq!(rt; proof.game.moves().len(), if row.is_played { 2 } else { 0 });
-        assert_eq!(rt; proof.game.rules().castling, row.place == 0);
-    }
-    Ok(())
+    expect_written(&rt, alloc, &row_of(chess, false, 2, START, START_BODY))?;
+    expect_written(&rt, alloc, &row_of(chess, true, 1, PLAYED, PLAYED_BODY))?;
+    expect_written(&rt, alloc, &row_of(child, true, 1, PLAYED, PLAYED_BODY))?;
+    expect_written(&rt, alloc, &row_of(chess, false, 100, BLACK, BLACK_BODY))
 }

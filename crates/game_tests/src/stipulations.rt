@@ -1,10 +1,10 @@
 //! Tests of `stipulation`.
 ghost use Rattle.rules_model.specs.Fit.{IsFit};
 
-use crate::helpers::{game, go};
+use crate::helpers::{chess_game, game, go};
 use game_play::Game;
-use rules_model::{Position, Rules, Side};
-use sample_rules::{chess, hand_of, position, shouse, xiangqi};
+use rules_model::{Move, Position, Rules, Side};
+use sample_rules::{chess, hand_of, kind, position, shouse, square, xiangqi};
 use std::alloc::Global;
 use std::process::Abort;
 use std::test::Fail;
@@ -19,6 +19,17 @@ fn forced() -> Rules
     rules
 }
 
+/// The move of a text such as `e2e4`, or the drop of `R@a8`: of a rook, or else of a bishop.
+fn chosen_of(text: &str) -> Move {
+    match text.split_once("@") {
+        Some((letter, to)) => Move::Drop {
+            kind: kind(if letter == "R" { b'r' } else { b'b' }),
+            to: square(to),
+        },
+        None => go(text),
+    }
+}
+
 /// The certificate of steps such as `1 e2e4`, separated by commas.
 fn cert(alloc: Global, text: &str) -> Result<Cert, Fail> {
     let mut items = Vec::new(alloc);
@@ -26,7 +37,7 @@ fn cert(alloc: Global, text: &str) -> Result<Cert, Fail> {
         if let Some((ply, chosen)) = step.split_once(' ') {
             items.push(Step {
                 ply: ply.parse()?,
-                chosen: go(chosen),
+                chosen: chosen_of(chosen),
             })?;
         }
     }
@@ -35,149 +46,21 @@ fn cert(alloc: Global, text: &str) -> Result<Cert, Fail> {
     })
 }
 
-/// Whether the verdict on the selfmate within n moves prints so.
-fn says_self<R: Abort>(
-    rt: &R,
-    alloc: Global,
-    game: &Game,
-    n: u16,
-    steps: &str,
-    wanted: &str,
-) -> Result<(), Fail> {
-    let verdict = check_self(alloc, game, n, &cert(alloc, steps)?)?;
-    let text = format!(in alloc; "{verdict}")?;
-    assert!(rt; text.as_str() == wanted, "{steps}: {text}");
-    Ok(())
-}
-
-/// The same for the helpmate.
+/// Asserts how the verdict on the steps as a helpmate in one move prints.
 fn says_help<R: Abort>(
     rt: &R,
     alloc: Global,
     game: &Game,
-    n: u16,
     steps: &str,
     wanted: &str,
 ) -> Result<(), Fail> {
-    let verdict = check_help(alloc, game, n, &cert(alloc, steps)?)?;
+    let verdict = check_help(alloc, game, 1, &cert(alloc, steps)?)?;
     let text = format!(in alloc; "{verdict}")?;
     assert!(rt; text.as_str() == wanted, "{steps}: {text}");
     Ok(())
 }
 
-/// White to move: after the rook's check on e1 Black must take it, which mates.
-#[test]
-fn a_selfmate_and_its_spoilt_forms(rt: HostRuntime) -> Result<(), Fail> {
-    let start = position("Ka1 Rd1 kg5 re8 rh2");
-    let game = game(&rt, rt.alloc(), &forced(), &start, "")?;
-    let rows = [
-        ("1 d1e1, 2 e8e1", "CertVerdict 0 Holds"),
-        ("", "CertVerdict 6 Unfinished 0"),
-        ("2 d1e1", "CertVerdict 1 BadPly 1"),
-        ("1 d1e1, 3 e8e1", "CertVerdict 1 BadPly 2"),
-        ("1 d1e1", "CertVerdict 5 MissingReply 1 e8e1"),
-        ("1 d1e2", "CertVerdict 2 BadMove 1"),
-        ("1 d1e1, 2 e8e1, 2 e8e1", "CertVerdict 2 BadMove 3"),
-        ("1 d1e1, 2 e8e1, 1 d1d2", "CertVerdict 2 BadMove 3"),
-        ("1 d1e1, 2 e8e1, 3 a1b1", "CertVerdict 2 BadMove 3"),
-    ];
-    for (steps, wanted) in rows {
-        says_self(&rt, rt.alloc(), &game, 1, steps, wanted)?;
-    }
-    says_self(
-        &rt,
-        rt.alloc(),
-        &game,
-        0,
-        "1 d1e1, 2 e8e1",
-        "CertVerdict 3 TooDeep 1",
-    )
-}
-
-/// Black to move, who helps White to mate on the back rank.
-#[test]
-fn a_helpmate_and_its_spoilt_forms(rt: HostRuntime) -> Result<(), Fail> {
-    let start = Position {
-        side: Side::Black,
-        ..position("kg8 Ra7 Kg6")
-    };
-    let game = game(&rt, rt.alloc(), &chess(), &start, "")?;
-    let rows = [
-        ("1 g8h8, 2 a7a8", "CertVerdict 0 Holds"),
-        ("1 g8h8", "CertVerdict 6 Unfinished 1"),
-        ("1 g8h8, 2 a7a8, 2 a7h7", "CertVerdict 2 BadMove 3"),
-        ("1 g8f8, 2 a7a8, 3 f8e7", "CertVerdict 3 TooDeep 3"),
-    ];
-    for (steps, wanted) in rows {
-        says_help(&rt, rt.alloc(), &game, 1, steps, wanted)?;
-    }
-    Ok(())
-}
-
-/// White has a rook in hand, with which it mates from the eighth rank.
-#[test]
-fn a_helpmate_by_a_drop(rt: HostRuntime) -> Result<(), Fail> {
-    let start = Position {
-        side: Side::Black,
-        hands: [hand_of(b"r"), [0; 26]],
-        ..position("kg8 Kg6")
-    };
-    let game = game(&rt, rt.alloc(), &shouse(), &start, "")?;
-    let rows = [
-        ("1 g8h8, 2 R@a8", "CertVerdict 0 Holds"),
-        ("1 g8h8, 2 R@g8", "CertVerdict 6 Unfinished 2"),
-        ("1 g8h8, 2 B@a8", "CertVerdict 2 BadMove 2"),
-    ];
-    for (steps, wanted) in rows {
-        says_help(&rt, rt.alloc(), &game, 1, steps, wanted)?;
-    }
-    let found = help_mate(rt.alloc(), &game, 1)?;
-    finds(&rt, rt.alloc(), &found, Some("1 g8h8, 2 R@a8"))
-}
-
-/// Xiangqi: the kings may not face each other, and who cannot move has lost, but that is no checkmate.
-#[test]
-fn a_helpmate_in_a_palace(rt: HostRuntime) -> Result<(), Fail> {
-    let start = Position {
-        side: Side::Black,
-        ..position("kd10 pb4 Ke1 Ra9 Rb1 Ri1")
-    };
-    let game = game(&rt, rt.alloc(), &xiangqi(), &start, "")?;
-    let rows = [
-        ("1 b4b3, 2 i1i10", "CertVerdict 0 Holds"),
-        ("1 b4b3, 2 b1b3", "CertVerdict 4 NotMate 2"),
-        ("1 b4b3, 2 i1i9", "CertVerdict 6 Unfinished 2"),
-        ("1 d10e10", "CertVerdict 2 BadMove 1"),
-    ];
-    for (steps, wanted) in rows {
-        says_help(&rt, rt.alloc(), &game, 1, steps, wanted)?;
-    }
-    let found = help_mate(rt.alloc(), &game, 1)?;
-    finds(&rt, rt.alloc(), &found, Some("1 b4a4, 2 b1b10"))
-}
-
-/// The position at the root has stood twice: the third time the game is drawn.
-#[test]
-fn the_history_counts(rt: HostRuntime) -> Result<(), Fail> {
-    let start = Position {
-        side: Side::Black,
-        ..position("kg8 Ra7 Kg6")
-    };
-    let (chess, again) = (chess(), "1 g8h8, 2 a7b7, 3 h8g8, 4 b7a7");
-    let once = game(&rt, rt.alloc(), &chess, &start, "")?;
-    says_help(
-        &rt,
-        rt.alloc(),
-        &once,
-        3,
-        again,
-        "CertVerdict 6 Unfinished 4",
-    )?;
-    let twice = game(&rt, rt.alloc(), &chess, &start, "g8h8 a7b7 h8g8 b7a7")?;
-    says_help(&rt, rt.alloc(), &twice, 3, again, "CertVerdict 4 NotMate 4")
-}
-
-/// Whether the search answers these steps, or none.
+/// Asserts that the search answers these steps, or none.
 fn finds<R: Abort>(
     rt: &R,
     alloc: Global,
@@ -196,28 +79,179 @@ fn finds<R: Abort>(
     Ok(())
 }
 
+/// Asserts that the search for a helpmate in one move answers these steps, or none.
+fn finds_help<R: Abort>(
+    rt: &R,
+    alloc: Global,
+    game: &Game,
+    wanted: Option<&str>,
+) -> Result<(), Fail> {
+    let found = help_mate(alloc, game, 1)?;
+    finds(rt, alloc, &found, wanted)
+}
+
+/// White to move: after the rook's check on e1 Black must take it, which mates.
+fn forced_game<R: Abort>(rt: &R, alloc: Global) -> Result<Game, Fail> {
+    game(rt, alloc, &forced(), &position("Ka1 Rd1 kg5 re8 rh2"), "")
+}
+
+/// Asserts how the verdict on the steps as a selfmate of that game within n moves prints.
+fn says_self<R: Abort>(
+    rt: &R,
+    alloc: Global,
+    n: u16,
+    steps: &str,
+    wanted: &str,
+) -> Result<(), Fail> {
+    let game = forced_game(rt, alloc)?;
+    let verdict = check_self(alloc, &game, n, &cert(alloc, steps)?)?;
+    let text = format!(in alloc; "{verdict}")?;
+    assert!(rt; text.as_str() == wanted, "{steps}: {text}");
+    Ok(())
+}
+
 #[test]
-fn selfmates_are_found(rt: HostRuntime) -> Result<(), Fail> {
+fn a_selfmate_and_its_spoilt_forms(rt: HostRuntime) -> Result<(), Fail> {
+    let alloc = rt.alloc();
+    let mate = "1 d1e1, 2 e8e1";
+    says_self(&rt, alloc, 1, mate, "CertVerdict 0 Holds")?;
+    says_self(&rt, alloc, 1, "", "CertVerdict 6 Unfinished 0")?;
+    says_self(&rt, alloc, 1, "2 d1e1", "CertVerdict 1 BadPly 1")?;
+    says_self(&rt, alloc, 1, "1 d1e1, 3 e8e1", "CertVerdict 1 BadPly 2")?;
+    says_self(&rt, alloc, 1, "1 d1e1", "CertVerdict 5 MissingReply 1 e8e1")?;
+    says_self(&rt, alloc, 0, mate, "CertVerdict 3 TooDeep 1")
+}
+
+#[test]
+fn a_selfmate_with_a_bad_move(rt: HostRuntime) -> Result<(), Fail> {
+    let (alloc, third) = (rt.alloc(), "CertVerdict 2 BadMove 3");
+    says_self(&rt, alloc, 1, "1 d1e2", "CertVerdict 2 BadMove 1")?;
+    says_self(&rt, alloc, 1, "1 d1e1, 2 e8e1, 2 e8e1", third)?;
+    says_self(&rt, alloc, 1, "1 d1e1, 2 e8e1, 1 d1d2", third)?;
+    says_self(&rt, alloc, 1, "1 d1e1, 2 e8e1, 3 a1b1", third)
+}
+
+#[test]
+fn a_selfmate_is_found(rt: HostRuntime) -> Result<(), Fail> {
+    let game = forced_game(&rt, rt.alloc())?;
+    let found = self_mate(rt.alloc(), &game, 1)?;
+    finds(&rt, rt.alloc(), &found, Some("1 d1e1, 2 e8e1"))
+}
+
+#[test]
+fn no_selfmate_is_found_where_no_capture_is_forced(rt: HostRuntime) -> Result<(), Fail> {
     let start = position("Ka1 Rd1 kg5 re8 rh2");
-    let forced = game(&rt, rt.alloc(), &forced(), &start, "")?;
-    let found = self_mate(rt.alloc(), &forced, 1)?;
-    finds(&rt, rt.alloc(), &found, Some("1 d1e1, 2 e8e1"))?;
-    let free = game(&rt, rt.alloc(), &chess(), &start, "")?;
-    let none = self_mate(rt.alloc(), &free, 1)?;
-    finds(&rt, rt.alloc(), &none, None)
+    let game = chess_game(&rt, rt.alloc(), &start, "")?;
+    let found = self_mate(rt.alloc(), &game, 1)?;
+    finds(&rt, rt.alloc(), &found, None)
+}
+
+/// The pieces, Black to move.
+fn black(pieces: &str) -> Position {
+    Position {
+        side: Side::Black,
+        ..position(pieces)
+    }
+}
+
+/// Black to move, who helps White to mate on the back rank.
+#[test]
+fn a_helpmate_and_its_spoilt_forms(rt: HostRuntime) -> Result<(), Fail> {
+    let alloc = rt.alloc();
+    let game = chess_game(&rt, alloc, &black("kg8 Ra7 Kg6"), "")?;
+    says_help(&rt, alloc, &game, "1 g8h8, 2 a7a8", "CertVerdict 0 Holds")?;
+    says_help(&rt, alloc, &game, "1 g8h8", "CertVerdict 6 Unfinished 1")?;
+    let more = "1 g8h8, 2 a7a8, 2 a7h7";
+    says_help(&rt, alloc, &game, more, "CertVerdict 2 BadMove 3")?;
+    let deep = "1 g8f8, 2 a7a8, 3 f8e7";
+    says_help(&rt, alloc, &game, deep, "CertVerdict 3 TooDeep 3")
 }
 
 #[test]
 fn helpmates_are_found(rt: HostRuntime) -> Result<(), Fail> {
-    let rows = [("kg8 Ra7 Kg6", Some("1 g8h8, 2 a7a8")), ("kh8 Ka1", None)];
-    for (text, wanted) in rows {
-        let start = Position {
-            side: Side::Black,
-            ..position(text)
-        };
-        let game = game(&rt, rt.alloc(), &chess(), &start, "")?;
-        let found = help_mate(rt.alloc(), &game, 1)?;
-        finds(&rt, rt.alloc(), &found, wanted)?;
-    }
+    let alloc = rt.alloc();
+    let rook = chess_game(&rt, alloc, &black("kg8 Ra7 Kg6"), "")?;
+    finds_help(&rt, alloc, &rook, Some("1 g8h8, 2 a7a8"))?;
+    let kings = chess_game(&rt, alloc, &black("kh8 Ka1"), "")?;
+    finds_help(&rt, alloc, &kings, None)
+}
+
+/// White has a rook in hand, with which it mates from the eighth rank.
+#[test]
+fn a_helpmate_by_a_drop(rt: HostRuntime) -> Result<(), Fail> {
+    let alloc = rt.alloc();
+    let start = Position {
+        hands: [hand_of(b"r"), [0; 26]],
+        ..black("kg8 Kg6")
+    };
+    let game = game(&rt, alloc, &shouse(), &start, "")?;
+    says_help(&rt, alloc, &game, "1 g8h8, 2 R@a8", "CertVerdict 0 Holds")?;
+    says_help(
+        &rt,
+        alloc,
+        &game,
+        "1 g8h8, 2 R@g8",
+        "CertVerdict 6 Unfinished 2",
+    )?;
+    says_help(
+        &rt,
+        alloc,
+        &game,
+        "1 g8h8, 2 B@a8",
+        "CertVerdict 2 BadMove 2",
+    )?;
+    finds_help(&rt, alloc, &game, Some("1 g8h8, 2 R@a8"))
+}
+
+/// The kings of xiangqi may not face each other.
+fn palace<R: Abort>(rt: &R, alloc: Global) -> Result<Game, Fail> {
+    let start = black("kd10 pb4 Ke1 Ra9 Rb1 Ri1");
+    game(rt, alloc, &xiangqi(), &start, "")
+}
+
+/// In xiangqi who cannot move has lost, but that is no checkmate.
+#[test]
+fn a_helpmate_in_a_palace(rt: HostRuntime) -> Result<(), Fail> {
+    let alloc = rt.alloc();
+    let game = palace(&rt, alloc)?;
+    says_help(&rt, alloc, &game, "1 b4b3, 2 i1i10", "CertVerdict 0 Holds")?;
+    says_help(
+        &rt,
+        alloc,
+        &game,
+        "1 b4b3, 2 b1b3",
+        "CertVerdict 4 NotMate 2",
+    )?;
+    says_help(
+        &rt,
+        alloc,
+        &game,
+        "1 b4b3, 2 i1i9",
+        "CertVerdict 6 Unfinished 2",
+    )?;
+    says_help(&rt, alloc, &game, "1 d10e10", "CertVerdict 2 BadMove 1")
+}
+
+#[test]
+fn a_helpmate_in_a_palace_is_found(rt: HostRuntime) -> Result<(), Fail> {
+    let game = palace(&rt, rt.alloc())?;
+    finds_help(&rt, rt.alloc(), &game, Some("1 b4a4, 2 b1b10"))
+}
+
+/// Asserts how the verdict on four plies after which the position at the root stands again prints, after these moves.
+fn says_again<R: Abort>(rt: &R, alloc: Global, moves: &str, wanted: &str) -> Result<(), Fail> {
+    let game = chess_game(rt, alloc, &black("kg8 Ra7 Kg6"), moves)?;
+    let again = cert(alloc, "1 g8h8, 2 a7b7, 3 h8g8, 4 b7a7")?;
+    let verdict = check_help(alloc, &game, 3, &again)?;
+    let text = format!(in alloc; "{verdict}")?;
+    assert!(rt; text.as_str() == wanted, "{moves}: {text}");
     Ok(())
+}
+
+/// The position at the root has stood twice: the third time the game is drawn.
+#[test]
+fn the_history_counts(rt: HostRuntime) -> Result<(), Fail> {
+    says_again(&rt, rt.alloc(), "", "CertVerdict 6 Unfinished 4")?;
+    let twice = "g8h8 a7b7 h8g8 b7a7";
+    says_again(&rt, rt.alloc(), twice, "CertVerdict 4 NotMate 4")
 }

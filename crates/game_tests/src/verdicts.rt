@@ -1,9 +1,10 @@
 //! Tests of `strategy_check`.
-use crate::helpers::{ROOK_MATE, game};
+use crate::helpers::{ROOK_MATE, chess_game};
 use game_play::Game;
 use rules_model::{Position, Side};
-use sample_rules::{chess, position};
+use sample_rules::position;
 use std::alloc::Global;
+use std::process::Abort;
 use std::test::Fail;
 use strategy::read;
 use strategy_check::check;
@@ -40,62 +41,138 @@ fn printed(alloc: Global, game: &Game, attacker: Side, n: u16, text: &str) -> Re
     Ok(format!(in alloc; "{verdict}")?)
 }
 
-#[test]
-fn a_strategy_and_its_spoilt_forms(rt: HostRuntime) -> Result<(), Fail> {
-    let game = game(&rt, rt.alloc(), &chess(), &position("kh8 Ra7 Kf6"), "")?;
-    let rows = [
-        ("", "", "Verdict 0 Wins"),
-        ("attacker white", "attacker black", "Verdict 1 Root"),
-        ("node 0 2", "node 0 3", "Verdict 1 Root"),
-        ("5K2/8/8/8/8/8", "5K2/8/8/8/P7/8", "Verdict 1 Root"),
-        ("edge f6g6", "edge f6f8", "Verdict 2 WrongMove 0"),
-        ("edge f6g6 1", "edge f6g6 2", "Verdict 2 WrongMove 0"),
-        (
-            "edge h8g8 2",
-            "edge h8g8 2\nedge h8g8 2",
-            "Verdict 2 WrongMove 1",
-        ),
-        (
-            "edge a7a8 3",
-            "edge a7a8 3\nedge a7a6 3",
-            "Verdict 2 WrongMove 2",
-        ),
-        ("edge h8g8 2\n", "", "Verdict 3 MissingReply 1 h8g8"),
-        ("node 0 2", "node 0 1", "Verdict 4 BadRank 0"),
-        ("node 2 1", "node 2 2", "Verdict 4 BadRank 1"),
-        ("b - - 1 1", "b - - 0 1", "Verdict 5 BadCounter 0"),
-        ("b - - 3 1", "b - - 9 1", "Verdict 0 Wins"),
-    ];
-    for (right, wrong, verdict) in rows {
-        let (before, after) = ROOK_MATE.split_once(right).unwrap_or(("", ROOK_MATE));
-        let text = format!(in rt.alloc(); "{before}{wrong}{after}")?;
-        let found = printed(rt.alloc(), &game, Side::White, 2, text.as_str())?;
-        assert!(&rt; found.as_str() == verdict, "{wrong}: {found}");
-    }
+/// Asserts how the verdict on the text as a strategy of White within n moves prints, in the game of the moves.
+fn expect(
+    rt: &impl Abort,
+    alloc: Global,
+    start: &Position,
+    moves: &str,
+    n: u16,
+    text: &str,
+    wanted: &str,
+) -> Result<(), Fail> {
+    let game = chess_game(rt, alloc, start, moves)?;
+    let found = printed(alloc, &game, Side::White, n, text)?;
+    assert!(rt; found.as_str() == wanted, "{text}: {found}");
     Ok(())
 }
 
+/// Asserts how the verdict prints on the rook's mate with one part of its text replaced.
+fn expect_spoilt(
+    rt: &impl Abort,
+    alloc: Global,
+    right: &str,
+    wrong: &str,
+    wanted: &str,
+) -> Result<(), Fail> {
+    let (before, after) = ROOK_MATE.split_once(right).unwrap_or(("", ROOK_MATE));
+    let text = format!(in alloc; "{before}{wrong}{after}")?;
+    expect(
+        rt,
+        alloc,
+        &position("kh8 Ra7 Kf6"),
+        "",
+        2,
+        text.as_str(),
+        wanted,
+    )
+}
+
 #[test]
-fn the_game_and_its_goal_count(rt: HostRuntime) -> Result<(), Fail> {
+fn a_strategy_begins_with_the_game(rt: HostRuntime) -> Result<(), Fail> {
+    let alloc = rt.alloc();
+    expect_spoilt(&rt, alloc, "", "", "Verdict 0 Wins")?;
+    expect_spoilt(
+        &rt,
+        alloc,
+        "attacker white",
+        "attacker black",
+        "Verdict 1 Root",
+    )?;
+    expect_spoilt(&rt, alloc, "node 0 2", "node 0 3", "Verdict 1 Root")?;
+    expect_spoilt(
+        &rt,
+        alloc,
+        "5K2/8/8/8/8/8",
+        "5K2/8/8/8/P7/8",
+        "Verdict 1 Root",
+    )
+}
+
+#[test]
+fn a_strategy_has_its_moves(rt: HostRuntime) -> Result<(), Fail> {
+    let alloc = rt.alloc();
+    expect_spoilt(
+        &rt,
+        alloc,
+        "edge f6g6",
+        "edge f6f8",
+        "Verdict 2 WrongMove 0",
+    )?;
+    expect_spoilt(
+        &rt,
+        alloc,
+        "edge f6g6 1",
+        "edge f6g6 2",
+        "Verdict 2 WrongMove 0",
+    )?;
+    let twice = "edge h8g8 2\nedge h8g8 2";
+    expect_spoilt(&rt, alloc, "edge h8g8 2", twice, "Verdict 2 WrongMove 1")?;
+    let two = "edge a7a8 3\nedge a7a6 3";
+    expect_spoilt(&rt, alloc, "edge a7a8 3", two, "Verdict 2 WrongMove 2")?;
+    expect_spoilt(
+        &rt,
+        alloc,
+        "edge h8g8 2\n",
+        "",
+        "Verdict 3 MissingReply 1 h8g8",
+    )
+}
+
+#[test]
+fn a_strategy_has_its_numbers(rt: HostRuntime) -> Result<(), Fail> {
+    let alloc = rt.alloc();
+    expect_spoilt(&rt, alloc, "node 0 2", "node 0 1", "Verdict 4 BadRank 0")?;
+    expect_spoilt(&rt, alloc, "node 2 1", "node 2 2", "Verdict 4 BadRank 1")?;
+    expect_spoilt(
+        &rt,
+        alloc,
+        "b - - 1 1",
+        "b - - 0 1",
+        "Verdict 5 BadCounter 0",
+    )?;
+    expect_spoilt(&rt, alloc, "b - - 3 1", "b - - 9 1", "Verdict 0 Wins")
+}
+
+#[test]
+fn the_goal_counts(rt: HostRuntime) -> Result<(), Fail> {
+    let alloc = rt.alloc();
     let start = position("kh8 Ra7 Kf6");
+    expect(&rt, alloc, &start, "", 1, ROOK_MATE, "Verdict 1 Root")?;
+    expect(&rt, alloc, &start, "", 2, LATE, "Verdict 0 Wins")?;
+    let queen = position("kh8 Kf6 Qg6");
+    expect(&rt, alloc, &queen, "", 1, STALEMATE, "Verdict 7 NotWon 1")?;
+    let game = chess_game(&rt, alloc, &start, "")?;
+    let found = printed(alloc, &game, Side::Black, 2, ROOK_MATE)?;
+    assert!(rt; found.as_str() == "Verdict 1 Root");
+    Ok(())
+}
+
+// Node 1 has stood twice.
+#[test]
+fn the_game_counts(rt: HostRuntime) -> Result<(), Fail> {
     let replied = Position {
         side: Side::Black,
         ..position("kh8 Ra7 Kg6")
     };
     let twice = "h8g8 g6f6 g8h8 f6g6 h8g8 g6f6 g8h8";
-    let queen = position("kh8 Kf6 Qg6");
-    let rows = [
-        (start, "", Side::White, 1, ROOK_MATE, "Verdict 1 Root"),
-        (start, "", Side::Black, 2, ROOK_MATE, "Verdict 1 Root"),
-        (start, "", Side::White, 2, LATE, "Verdict 0 Wins"),
-        // Node 1 has stood twice.
-        (replied, twice, Side::White, 2, LATE, "Verdict 6 Repeats 1"),
-        (queen, "", Side::White, 1, STALEMATE, "Verdict 7 NotWon 1"),
-    ];
-    for (start, moves, attacker, n, text, verdict) in &rows {
-        let game = game(&rt, rt.alloc(), &chess(), start, moves)?;
-        let found = printed(rt.alloc(), &game, *attacker, *n, text)?;
-        assert!(&rt; found.as_str() == *verdict, "{moves}: {found}");
-    }
-    Ok(())
+    expect(
+        &rt,
+        rt.alloc(),
+        &replied,
+        twice,
+        2,
+        LATE,
+        "Verdict 6 Repeats 1",
+    )
 }
