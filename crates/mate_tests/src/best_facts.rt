@@ -4,7 +4,7 @@ use mate_core::{
     Event, FactList, FactLists, Frame, KnownList, Reply, Store, best, hash_of, is_as_good, serves,
     shard_of, step,
 };
-use rules_model::{Blocked, Cell, Kind, Repeat, Side};
+use rules_model::{Blocked, Cell, Kind, Repeat, Side, Square};
 use sample_rules::leapers;
 use std::alloc::{AllocError, Global};
 use std::process::Abort;
@@ -33,39 +33,27 @@ fn fact(wins: bool, moves: u16, counter: u16) -> Fact {
     }
 }
 
-#[test]
-fn the_least_moves_and_of_those_the_first(rt: HostRuntime) {
+/// Asserts which of four facts serves best at the counter, within these moves: its number of moves, and its counter.
+fn expect_best(rt: &impl Abort, counter: u16, moves: u16, want: Option<(u16, u16)>) {
     let facts = [
         fact(true, 3, 10),
         fact(true, 2, 5),
         fact(false, 1, 4),
         fact(true, 2, 7),
     ];
-    for (counter, moves, want) in [
-        (5, 3, Some((2, 5))),
-        (6, 3, Some((2, 7))),
-        (8, 3, Some((3, 10))),
-        (4, 1, Some((1, 4))),
-        (3, 1, None),
-        (11, 9, None),
-    ] {
-        let found = best(&facts, &bare(), counter, moves);
-        let found = found.map(|fact| (fact.moves, fact.counter));
-        assert_eq!(rt; found, want, "at {counter} within {moves}");
-    }
+    let found = best(&facts, &bare(), counter, moves);
+    let found = found.map(|fact| (fact.moves, fact.counter));
+    assert_eq!(rt; found, want, "at {counter} within {moves}");
 }
 
-// Repeats that differ from the bare one in one part each.
-fn others() -> [Repeat; 7] {
-    let mut others = [bare(); 7];
-    others[0].hands[1][25] = 1;
-    others[1].checks[0] = 1;
-    others[2].side = Side::Black;
-    others[3].gates[1] = 1;
-    others[4].rights[1][1] = true;
-    others[5].ep = Some(rules_model::Square(50));
-    others[6].cells[119] = king_of(Side::White);
-    others
+#[test]
+fn the_least_moves_and_of_those_the_first(rt: HostRuntime) {
+    expect_best(&rt, 5, 3, Some((2, 5)));
+    expect_best(&rt, 6, 3, Some((2, 7)));
+    expect_best(&rt, 8, 3, Some((3, 10)));
+    expect_best(&rt, 4, 1, Some((1, 4)));
+    expect_best(&rt, 3, 1, None);
+    expect_best(&rt, 11, 9, None);
 }
 
 fn king_of(side: Side) -> Option<Cell> {
@@ -76,31 +64,56 @@ fn king_of(side: Side) -> Option<Cell> {
     })
 }
 
-#[test]
-fn every_part_of_a_repeat_counts(rt: HostRuntime) {
+/// Asserts that the repeat, which differs from the bare one in one part, is another.
+fn expect_another(rt: &impl Abort, other: &Repeat) {
     let win = fact(true, 3, 10);
-    let is_same = serves(&win, &bare(), 10, 3) && hash_of(&win.repeat) == hash_of(&bare());
-    assert!(rt; is_same);
-    for (place, other) in others().iter().enumerate() {
-        let differs = !serves(&win, other, 10, 3) && hash_of(other) != hash_of(&bare());
-        assert!(rt; differs, "part {place}");
-    }
+    assert!(rt; !serves(&win, other, 10, 3) && hash_of(other) != hash_of(&bare()));
+}
+
+#[test]
+fn a_side_a_passing_pawn_and_checks_count(rt: HostRuntime) {
+    let win = fact(true, 3, 10);
+    assert!(rt; serves(&win, &bare(), 10, 3) && hash_of(&win.repeat) == hash_of(&bare()));
+    let side = Side::Black;
+    expect_another(&rt, &Repeat { side, ..bare() });
+    let ep = Some(Square(50));
+    expect_another(&rt, &Repeat { ep, ..bare() });
+    let checks = [1, 0];
+    expect_another(&rt, &Repeat { checks, ..bare() });
+    let gates = [0, 1];
+    expect_another(&rt, &Repeat { gates, ..bare() });
+    let rights = [[false; 2], [false, true]];
+    expect_another(&rt, &Repeat { rights, ..bare() });
+}
+
+#[test]
+fn the_last_of_a_hand_and_of_the_cells_counts(rt: HostRuntime) {
+    let mut other = bare();
+    other.hands[1][25] = 1;
+    expect_another(&rt, &other);
+    let mut other = bare();
+    other.cells[119] = king_of(Side::White);
+    expect_another(&rt, &other);
+}
+
+/// Asserts whether a known win is as good as a given fact, each by its moves and its counter.
+fn expect_as_good(rt: &impl Abort, known: (u16, u16), given: (u16, u16), wins: bool, want: bool) {
+    let known = fact(wins, known.0, known.1);
+    let given = fact(wins, given.0, given.1);
+    assert_eq!(rt; is_as_good(&known, &given), want);
 }
 
 #[test]
 fn as_good_is_no_slower_at_no_lower_a_counter(rt: HostRuntime) {
-    for (known, given, want) in [
-        (fact(true, 2, 5), fact(true, 2, 5), true),
-        (fact(true, 2, 5), fact(true, 3, 4), true),
-        (fact(true, 2, 5), fact(true, 1, 5), false),
-        (fact(true, 2, 5), fact(true, 2, 6), false),
-        (fact(false, 2, 5), fact(false, 1, 6), true),
-        (fact(false, 2, 5), fact(false, 3, 5), false),
-        (fact(false, 2, 5), fact(false, 2, 4), false),
-        (fact(false, 2, 5), fact(true, 2, 5), false),
-    ] {
-        assert_eq!(rt; is_as_good(&known, &given), want);
-    }
+    expect_as_good(&rt, (2, 5), (2, 5), true, true);
+    expect_as_good(&rt, (2, 5), (3, 4), true, true);
+    expect_as_good(&rt, (2, 5), (1, 5), true, false);
+    expect_as_good(&rt, (2, 5), (2, 6), true, false);
+    expect_as_good(&rt, (2, 5), (1, 6), false, true);
+    expect_as_good(&rt, (2, 5), (3, 5), false, false);
+    expect_as_good(&rt, (2, 5), (2, 4), false, false);
+    let (win, refutation) = (fact(true, 2, 5), fact(false, 2, 5));
+    assert!(rt; !is_as_good(&refutation, &win));
 }
 
 // A king on each square of the largest board: 120 repeats, of which 16 shards get some each.
@@ -175,35 +188,38 @@ fn name_of(reply: &Reply) -> (&'static str, Option<u8>) {
     }
 }
 
-// The store after the event, which has this reply.
-fn after(
+// The store of sixteen facts.
+fn full(rt: &impl Abort, alloc: Global) -> Result<Store, Fail> {
+    let mut store = small(alloc)?;
+    for number in 0..16 {
+        let (next, reply) = step(store, &publish(number))?;
+        assert_eq!(rt; name_of(&reply), ("stored", None));
+        store = next;
+    }
+    Ok(store)
+}
+
+// Asserts the reply of the full store to the event, after which it still has sixteen facts.
+fn expect_reply(
     rt: &impl Abort,
-    store: Store,
+    alloc: Global,
     event: &Event,
     wanted: (&str, Option<u8>),
-) -> Result<Store, Fail> {
-    let (store, reply) = step(store, event)?;
+) -> Result<(), Fail> {
+    let (store, reply) = step(full(rt, alloc)?, event)?;
     assert_eq!(rt; name_of(&reply), wanted);
-    Ok(store)
+    let list = store.shards.items.get(0);
+    assert!(rt; list.is_some_and(|list| list.items.len() == 16));
+    Ok(())
 }
 
 #[test]
 fn a_shard_of_sixteen_places(rt: HostRuntime) -> Result<(), Fail> {
-    let mut store = small(rt.alloc())?;
-    for number in 0..16 {
-        store = after(&rt, store, &publish(number), ("stored", None))?;
-    }
-    let rows = [
-        (publish(16), ("full", None)),
-        (publish(0), ("known better", None)),
-        (look(0), ("found", Some(0))),
-        (look(16), ("found", None)),
-        (Event::Hint { word: 3, value: 5 }, ("nothing", None)),
-    ];
-    for (event, wanted) in &rows {
-        store = after(&rt, store, event, *wanted)?;
-    }
-    let list = store.shards.items.get(0);
-    assert!(rt; list.is_some_and(|list| list.items.len() == 16));
-    Ok(())
+    let alloc = rt.alloc();
+    expect_reply(&rt, alloc, &publish(16), ("full", None))?;
+    expect_reply(&rt, alloc, &publish(0), ("known better", None))?;
+    expect_reply(&rt, alloc, &look(0), ("found", Some(0)))?;
+    expect_reply(&rt, alloc, &look(16), ("found", None))?;
+    let hint = Event::Hint { word: 3, value: 5 };
+    expect_reply(&rt, alloc, &hint, ("nothing", None))
 }

@@ -6,9 +6,10 @@ use attack_tables::Tables;
 use mate_core::Frame;
 use mate_settle::{FactTable, all_won, choose, moves_to_try, settle};
 use playing::Board;
-use rules_model::{Blocked, Side, sound};
+use rules_model::{Blocked, Position, Side, sound};
 use sample_rules::{chess, position};
 use std::alloc::Global;
+use std::process::Abort;
 use std::test::Fail;
 use watching::{Halt, Helper, StopFlag};
 
@@ -54,41 +55,46 @@ fn won(
     Ok((fact.wins, by_moves))
 }
 
-// Mates in one, before and after Black's only move, and two problems of two moves.
-#[test]
-fn least_numbers_of_moves(rt: HostRuntime) -> Result<(), Fail> {
-    let frame = frame_of(rt.alloc());
-    let tables = Tables::new(rt.alloc(), &frame.rules)?;
-    for (pieces, side, least) in [
-        ("Kg6 Ra1 kh8", Side::White, 1),
-        ("Kg6 Ra7 kh8", Side::Black, 1),
-        ("Kg6 Qa2 kh8", Side::White, 1),
-        (
-            "ra8 kd8 Rc7 pg7 ph6 pa5 Bb5 Rf5 Pb3 Pa2 Pd2 Pf2 Pg2 Ph2 Kg1",
-            Side::White,
-            2,
-        ),
-        (
-            "Qc8 Rf7 kd6 pe6 ph5 Pd4 Nc3 ne3 Pg3 Pa2 Pb2 Pe2 Kg2 Ra1",
-            Side::White,
-            2,
-        ),
-    ] {
-        let mut p = position(pieces);
-        p.side = side;
-        assert!(rt; sound(&frame.rules, &p), "{pieces}");
-        let board = Board::new(&tables, &p);
-        for room in [0, 1, 4096] {
-            for n in 1..least {
-                let found = won(rt.alloc(), &frame, &board, n, room);
-                assert!(rt; matches!(found, Ok((false, false))), "{pieces} within {n}");
-            }
-            let found = won(rt.alloc(), &frame, &board, least, room);
-            assert!(rt;
-                matches!(found, Ok((true, true))),
-                "{pieces} within {least}"
-            );
-        }
-    }
+/// Asserts whether White wins from the pieces within n moves, with room for this many facts.
+fn expect(
+    rt: &impl Abort,
+    alloc: Global,
+    p: &Position,
+    n: u16,
+    room: usize,
+    wins: bool,
+) -> Result<(), Fail> {
+    let frame = frame_of(alloc);
+    let tables = Tables::new(alloc, &frame.rules)?;
+    assert!(rt; sound(&frame.rules, p));
+    let board = Board::new(&tables, p);
+    let found = won(alloc, &frame, &board, n, room);
+    assert!(rt; found == Ok((wins, wins)), "within {n}, room {room}");
     Ok(())
+}
+
+// Before and after Black's only move.
+#[test]
+fn mates_in_one(rt: HostRuntime) -> Result<(), Fail> {
+    let alloc = rt.alloc();
+    expect(&rt, alloc, &position("Kg6 Ra1 kh8"), 1, 0, true)?;
+    expect(&rt, alloc, &position("Kg6 Qa2 kh8"), 1, 4096, true)?;
+    let after = Position {
+        side: Side::Black,
+        ..position("Kg6 Ra7 kh8")
+    };
+    expect(&rt, alloc, &after, 1, 1, true)
+}
+
+#[test]
+fn problems_of_two_moves(rt: HostRuntime) -> Result<(), Fail> {
+    let alloc = rt.alloc();
+    let rook = position("ra8 kd8 Rc7 pg7 ph6 pa5 Bb5 Rf5 Pb3 Pa2 Pd2 Pf2 Pg2 Ph2 Kg1");
+    expect(&rt, alloc, &rook, 1, 4096, false)?;
+    expect(&rt, alloc, &rook, 2, 4096, true)?;
+    expect(&rt, alloc, &rook, 2, 0, true)?;
+    let queen = position("Qc8 Rf7 kd6 pe6 ph5 Pd4 Nc3 ne3 Pg3 Pa2 Pb2 Pe2 Kg2 Ra1");
+    expect(&rt, alloc, &queen, 1, 1, false)?;
+    expect(&rt, alloc, &queen, 2, 1, true)?;
+    expect(&rt, alloc, &queen, 2, 4096, true)
 }

@@ -122,23 +122,6 @@ fn answer_with<R: Threads + Wait + Sync, G: Gate + Sync>(
     Ok((passes, told_of(&answer)))
 }
 
-/// What the solve answers of a game of chess without a move, for the side that is to move.
-fn answer_to<R: Threads + Wait + Abort + Sync>(
-    rt: &R,
-    alloc: Global,
-    p: &Position,
-    run: Run,
-) -> Result<Told, Fail> {
-    let rules = chess();
-    assert!(rt; sound(&rules, p));
-    assert!(rt; 0 < run.n && run.n <= 100);
-    assert!(rt; 0 < run.workers && run.workers <= 64);
-    let game = Game::new(alloc, &rules, p)?;
-    let (shards, passes) = shards_for(alloc, &game, p.side)?;
-    let (_, told) = answer_with(rt, alloc, &game, p.side, run, &shards, passes, &OpenGate)?;
-    Ok(told)
-}
-
 /// A solve that nothing cuts.
 fn whole(n: u16, workers: u32) -> Run<'static>
     ensures n { result.n ≡ n }
@@ -168,41 +151,6 @@ fn unsearched(n: u16) -> Run<'static>
     }
 }
 
-fn goes(from: &str, to: &str) -> Move {
-    Move::Go {
-        from: square(from),
-        to: square(to),
-        promo: Promo::Stays,
-        gate: None,
-    }
-}
-
-/// A game of chess by its start and its moves, the side that attacks in it, the number of moves within which it is
-/// asked about at last, and the answer then. Within fewer it is not won.
-#[derive(Clone, Copy)]
-struct Row {
-    pieces: &'static str,
-    side: Side,
-    counter: u16,
-    played: &'static [(&'static str, &'static str)],
-    attacker: Side,
-    least: u16,
-    end: Told,
-}
-
-/// A game without a move, in which White attacks and is to move.
-fn plain_row(pieces: &'static str, counter: u16, least: u16, end: Told) -> Row {
-    Row {
-        pieces,
-        side: Side::White,
-        counter,
-        played: &[],
-        attacker: Side::White,
-        least,
-        end,
-    }
-}
-
 /// What `settle` answers of the game, for the side.
 fn settled<R: Wait>(
     rt: &R,
@@ -223,146 +171,219 @@ fn settled<R: Wait>(
     }
 }
 
-/// What `settle` answers of the game, and `solve` by one worker and by four, whose hints are all ones.
-fn answers<R: Threads + Wait + Sync>(
+/// What `solve` answers of the game with shards of its own.
+fn solved<R: Threads + Wait + Abort + Sync>(
+    rt: &R,
+    alloc: Global,
+    game: &Game,
+    attacker: Side,
+    run: Run,
+) -> Result<Told, Fail> {
+    assert!(rt; 0 < run.n && run.n <= 100);
+    assert!(rt; 0 < run.workers && run.workers <= 64);
+    let (shards, passes) = shards_for(alloc, game, attacker)?;
+    let (_, told) = answer_with(rt, alloc, game, attacker, run, &shards, passes, &OpenGate)?;
+    Ok(told)
+}
+
+/// Asserts what `settle` answers of the game, and `solve` by one worker and by four, whose hints are all ones.
+fn expect<R: Threads + Wait + Abort + Sync>(
     rt: &R,
     alloc: Global,
     game: &Game,
     attacker: Side,
     n: u16,
-) -> Result<[Told; 3], Fail>
-    requires some { 0 < n }
-    requires small { n ≤ 100 }
-{
+    end: Told,
+) -> Result<(), Fail> {
+    assert!(rt; 0 < n && n <= 100);
     let alone = settled(rt, alloc, game, attacker, n)?;
-    let (one, mine) = shards_for(alloc, game, attacker)?;
-    let run = whole(n, 1);
-    let (_, by_one) = answer_with(rt, alloc, game, attacker, run, &one, mine, &OpenGate)?;
-    let (four, ours) = shards_for(alloc, game, attacker)?;
-    let run = Run {
+    let by_one = solved(rt, alloc, game, attacker, whole(n, 1))?;
+    let all_ones = Run {
         hint: u64::MAX,
         ..whole(n, 4)
     };
-    let (_, by_four) = answer_with(rt, alloc, game, attacker, run, &four, ours, &OpenGate)?;
-    Ok([alone, by_one, by_four])
-}
-
-/// Asserts that the row's game has no mate within fewer moves than its least number, and the row's end within that.
-fn expect<R: Threads + Wait + Abort + Sync>(rt: &R, alloc: Global, row: &Row) -> Result<(), Fail> {
-    let rules = chess();
-    let p = Position {
-        side: row.side,
-        counter: row.counter,
-        ..position(row.pieces)
-    };
-    assert!(rt; sound(&rules, &p));
-    let mut game = Game::new(alloc, &rules, &p)?;
-    for (from, to) in row.played {
-        assert!(rt; game.play(&goes(from, to)).is_ok());
-    }
-    assert!(rt; 0 < row.least && row.least <= 100);
-    for n in 1..row.least {
-        let fewer = answers(rt, alloc, &game, row.attacker, n)?;
-        assert_eq!(rt; fewer, [Told::NoMate; 3], "{} within {n}", row.pieces);
-    }
-    let last = answers(rt, alloc, &game, row.attacker, row.least)?;
-    assert_eq!(rt; last, [row.end; 3], "{} at {}", row.pieces, row.counter);
+    let by_four = solved(rt, alloc, game, attacker, all_ones)?;
+    assert!(rt;
+        alone == end && by_one == end && by_four == end,
+        "within {n}"
+    );
     Ok(())
 }
 
-/// Both kings go to and fro, until each position has stood twice.
-const TWICE: &[(&str, &str)] = &[
-    ("h8", "g8"),
-    ("g6", "f6"),
-    ("g8", "h8"),
-    ("f6", "g6"),
-    ("h8", "g8"),
-    ("g6", "f6"),
-    ("g8", "h8"),
-];
+/// The pieces, with this side to move.
+fn placed(pieces: &str, side: Side) -> Position {
+    Position {
+        side,
+        ..position(pieces)
+    }
+}
 
-// A mate in one, two problems of two moves, a stalemate and a mated side. Then the limit of the counter: at 99 the
-// move that mates stands, and at 100 the game is drawn; two rooks mate by their third ply, before the counter is 100
-// or after. Then king and rook: a mate in two, the same where its only key would be a third repetition, and the other
-// side against a mate in one.
+/// The game of chess from the position, without a move.
+fn game_from(rt: &impl Abort, alloc: Global, p: &Position) -> Result<Game, Fail> {
+    let rules = chess();
+    assert!(rt; sound(&rules, p));
+    Ok(Game::new(alloc, &rules, p)?)
+}
+
+/// Asserts whether White, who is to move at the counter, mates within n moves.
+fn expect_white<R: Threads + Wait + Abort + Sync>(
+    rt: &R,
+    alloc: Global,
+    pieces: &str,
+    counter: u16,
+    n: u16,
+    end: Told,
+) -> Result<(), Fail> {
+    let p = Position {
+        counter,
+        ..position(pieces)
+    };
+    let game = game_from(rt, alloc, &p)?;
+    expect(rt, alloc, &game, Side::White, n, end)
+}
+
+// A mate in one, two problems of two moves, a stalemate and a mated side.
 #[test]
 fn least_numbers_of_moves(rt: HostRuntime) -> Result<(), Fail> {
-    for row in [
-        plain_row("Kg6 Ra1 kh8", 0, 1, Told::Shown),
-        plain_row(
-            "ra8 kd8 Rc7 pg7 ph6 pa5 Bb5 Rf5 Pb3 Pa2 Pd2 Pf2 Pg2 Ph2 Kg1",
-            0,
-            2,
-            Told::Shown,
-        ),
-        plain_row(
-            "Qc8 Rf7 kd6 pe6 ph5 Pd4 Nc3 ne3 Pg3 Pa2 Pb2 Pe2 Kg2 Ra1",
-            0,
-            2,
-            Told::Shown,
-        ),
-        plain_row("Kh1 qg3 kf2", 0, 2, Told::NoMate),
-        plain_row("Kh1 qg2 kg3", 0, 2, Told::NoMate),
-        plain_row("Kf6 Qg6 kh8", 99, 1, Told::Shown),
-        plain_row("Kg6 Ra1 kh8", 100, 2, Told::NoMate),
-        plain_row("Ra6 Rb5 Kg1 kg8", 96, 2, Told::Shown),
-        plain_row("Ra6 Rb5 Kg1 kg8", 98, 2, Told::NoMate),
-        plain_row("Kf6 Ra7 kh8", 0, 2, Told::Shown),
-        Row {
-            side: Side::Black,
-            played: TWICE,
-            ..plain_row("Kg6 Ra7 kh8", 0, 2, Told::NoMate)
-        },
-        Row {
-            side: Side::Black,
-            ..plain_row("Kg6 Ra7 kh8", 1, 1, Told::Shown)
-        },
-        Row {
-            attacker: Side::Black,
-            ..plain_row("Kh1 qg2 kg3", 0, 1, Told::Shown)
-        },
-    ] {
-        expect(&rt, rt.alloc(), &row)?;
-    }
+    let alloc = rt.alloc();
+    expect_white(&rt, alloc, "Kg6 Ra1 kh8", 0, 1, Told::Shown)?;
+    let rook = "ra8 kd8 Rc7 pg7 ph6 pa5 Bb5 Rf5 Pb3 Pa2 Pd2 Pf2 Pg2 Ph2 Kg1";
+    expect_white(&rt, alloc, rook, 0, 1, Told::NoMate)?;
+    expect_white(&rt, alloc, rook, 0, 2, Told::Shown)?;
+    let queen = "Qc8 Rf7 kd6 pe6 ph5 Pd4 Nc3 ne3 Pg3 Pa2 Pb2 Pe2 Kg2 Ra1";
+    expect_white(&rt, alloc, queen, 0, 1, Told::NoMate)?;
+    expect_white(&rt, alloc, queen, 0, 2, Told::Shown)?;
+    expect_white(&rt, alloc, "Kh1 qg3 kf2", 0, 2, Told::NoMate)?;
+    expect_white(&rt, alloc, "Kh1 qg2 kg3", 0, 2, Told::NoMate)
+}
+
+// At 99 the move that mates stands, and at 100 the game is drawn; two rooks mate by their third ply, before the counter
+// is 100 or after.
+#[test]
+fn mates_at_the_limit_of_the_counter(rt: HostRuntime) -> Result<(), Fail> {
+    let alloc = rt.alloc();
+    expect_white(&rt, alloc, "Kf6 Qg6 kh8", 99, 1, Told::Shown)?;
+    expect_white(&rt, alloc, "Kg6 Ra1 kh8", 100, 2, Told::NoMate)?;
+    expect_white(&rt, alloc, "Ra6 Rb5 Kg1 kg8", 96, 2, Told::Shown)?;
+    expect_white(&rt, alloc, "Ra6 Rb5 Kg1 kg8", 98, 2, Told::NoMate)
+}
+
+/// Plays a move from a square to another, without promotion.
+fn play(rt: &impl Abort, game: &mut Game, from: &str, to: &str) {
+    let m = Move::Go {
+        from: square(from),
+        to: square(to),
+        promo: Promo::Stays,
+        gate: None,
+    };
+    assert!(rt; game.play(&m).is_ok(), "{from}{to}");
+}
+
+/// Plays both kings to and fro.
+fn play_round(rt: &impl Abort, game: &mut Game) {
+    play(rt, game, "h8", "g8");
+    play(rt, game, "g6", "f6");
+    play(rt, game, "g8", "h8");
+    play(rt, game, "f6", "g6");
+}
+
+// King and rook: a mate in two, and none where its only key would be a third repetition.
+#[test]
+fn a_mate_that_repeats(rt: HostRuntime) -> Result<(), Fail> {
+    let alloc = rt.alloc();
+    expect_white(&rt, alloc, "Kf6 Ra7 kh8", 0, 2, Told::Shown)?;
+    let mut game = game_from(&rt, alloc, &placed("Kg6 Ra7 kh8", Side::Black))?;
+    play_round(&rt, &mut game);
+    play(&rt, &mut game, "h8", "g8");
+    play(&rt, &mut game, "g6", "f6");
+    play(&rt, &mut game, "g8", "h8");
+    expect(&rt, alloc, &game, Side::White, 2, Told::NoMate)
+}
+
+// The other side to move, and the other attacker.
+#[test]
+fn mates_of_either_side(rt: HostRuntime) -> Result<(), Fail> {
+    let alloc = rt.alloc();
+    let mated = game_from(&rt, alloc, &placed("Kg6 Ra7 kh8", Side::Black))?;
+    expect(&rt, alloc, &mated, Side::White, 1, Told::Shown)?;
+    let game = game_from(&rt, alloc, &position("Kh1 qg2 kg3"))?;
+    expect(&rt, alloc, &game, Side::Black, 1, Told::Shown)
+}
+
+/// Asserts what cuts a solve within 8 moves of a king and a rook by one worker and by four.
+fn expect_cut<R: Threads + Wait + Abort + Sync>(
+    rt: &R,
+    alloc: Global,
+    lines: &[u8],
+    owed: PollsOwed,
+    limits: Limits,
+    end: Told,
+) -> Result<(), Fail> {
+    let game = game_from(rt, alloc, &position("Ke3 Ra1 kd5"))?;
+    let by_one = Run {
+        lines,
+        owed,
+        limits,
+        ..whole(8, 1)
+    };
+    let by_four = Run {
+        workers: 4,
+        ..by_one
+    };
+    let alone = solved(rt, alloc, &game, Side::White, by_one)?;
+    assert_eq!(rt; alone, end);
+    let together = solved(rt, alloc, &game, Side::White, by_four)?;
+    assert_eq!(rt; together, end, "by four");
     Ok(())
 }
 
-// A solve within 8 moves of a king and a rook lasts much longer than the 1,025 nodes of the first worker that the last
-// row needs.
+fn limits(quota: Option<u64>, deadline: Option<u64>) -> Limits {
+    Limits { quota, deadline }
+}
+
 #[test]
-fn what_cuts_a_solve(rt: HostRuntime) -> Result<(), Fail> {
-    let p = position("Ke3 Ra1 kd5");
-    let by = |quota, deadline| Limits { quota, deadline };
-    for (lines, owed, limits, end) in [
-        (b"stop\n".as_slice(), PollsOwed::Number(0), NONE, Told::Line),
-        (b"", PollsOwed::Number(0), NONE, Told::InputEnded),
-        (b"", PollsOwed::Endless, by(Some(0), None), Told::Quota(0)),
-        (b"", PollsOwed::Endless, by(Some(30), None), Told::Quota(30)),
-        (
-            b"",
-            PollsOwed::Endless,
-            by(None, Some(5)),
-            Told::Deadline(5),
-        ),
-        (
-            b"",
-            PollsOwed::Endless,
-            by(None, Some(6)),
-            Told::Deadline(7),
-        ),
-    ] {
-        for workers in [1, 4] {
-            let run = Run {
-                lines,
-                owed,
-                limits,
-                ..whole(8, workers)
-            };
-            let told = answer_to(&rt, rt.alloc(), &p, run)?;
-            assert_eq!(rt; told, end, "by {workers}");
-        }
-    }
-    Ok(())
+fn lines_cut_a_solve(rt: HostRuntime) -> Result<(), Fail> {
+    let (alloc, now) = (rt.alloc(), PollsOwed::Number(0));
+    expect_cut(&rt, alloc, b"stop\n", now, NONE, Told::Line)?;
+    expect_cut(&rt, alloc, b"", now, NONE, Told::InputEnded)
+}
+
+// The solve lasts much longer than the 1,025 nodes of the first worker that the last row needs.
+#[test]
+fn limits_cut_a_solve(rt: HostRuntime) -> Result<(), Fail> {
+    let (alloc, never) = (rt.alloc(), PollsOwed::Endless);
+    expect_cut(
+        &rt,
+        alloc,
+        b"",
+        never,
+        limits(Some(0), None),
+        Told::Quota(0),
+    )?;
+    expect_cut(
+        &rt,
+        alloc,
+        b"",
+        never,
+        limits(Some(30), None),
+        Told::Quota(30),
+    )?;
+    expect_cut(
+        &rt,
+        alloc,
+        b"",
+        never,
+        limits(None, Some(5)),
+        Told::Deadline(5),
+    )?;
+    expect_cut(
+        &rt,
+        alloc,
+        b"",
+        never,
+        limits(None, Some(6)),
+        Told::Deadline(7),
+    )
 }
 
 /// What the solve answers for White.
@@ -400,25 +421,30 @@ fn know_the_next<R: Wait>(rt: &R, shards: &Shards, passes: &mut Passes) -> bool
         .is_some_and(|fact| fact.wins)
 }
 
-// King and rook win within 2 moves, and not within 1. A quota of 0 leaves the answer to the shards. Then they know that
-// the game is won, and the position after the first move.
+// King and rook win within 2 moves, and not within 1. A quota of 0 leaves the answer to the shards.
 #[test]
-fn shards_know_the_root(rt: HostRuntime) -> Result<(), Fail> {
+fn shards_know_a_refuted_root(rt: HostRuntime) -> Result<(), Fail> {
     let alloc = rt.alloc();
-    let (rules, p) = (chess(), position("Kf6 Ra7 kh8"));
-    assert!(rt; sound(&rules, &p));
-    let game = Game::new(alloc, &rules, &p)?;
+    let game = game_from(&rt, alloc, &position("Kf6 Ra7 kh8"))?;
     let (shards, passes) = shards_for(alloc, &game, Side::White)?;
     let (passes, before) = here(&rt, alloc, &game, unsearched(1), &shards, passes)?;
     let (passes, searched) = here(&rt, alloc, &game, whole(1, 1), &shards, passes)?;
-    let (passes, after) = here(&rt, alloc, &game, unsearched(1), &shards, passes)?;
+    let (_, after) = here(&rt, alloc, &game, unsearched(1), &shards, passes)?;
+    assert!(rt; before == Told::Quota(0));
+    assert!(rt; searched == Told::NoMate && after == Told::NoMate);
+    Ok(())
+}
+
+// Then the shards know that the game is won, and the position after the first move.
+#[test]
+fn shards_know_a_won_root(rt: HostRuntime) -> Result<(), Fail> {
+    let alloc = rt.alloc();
+    let p = position("Kf6 Ra7 kh8");
+    let game = game_from(&rt, alloc, &p)?;
+    let (shards, passes) = shards_for(alloc, &game, Side::White)?;
     let (passes, shown) = here(&rt, alloc, &game, whole(2, 1), &shards, passes)?;
     let (mut passes, won) = here(&rt, alloc, &game, unsearched(2), &shards, passes)?;
-    assert_eq!(rt; before, Told::Quota(0));
-    assert_eq!(rt; searched, Told::NoMate);
-    assert_eq!(rt; after, Told::NoMate);
-    assert_eq!(rt; shown, Told::Shown);
-    assert_eq!(rt; won, Told::Quota(0));
+    assert!(rt; shown == Told::Shown && won == Told::Quota(0));
     let root = shards.look(&rt, &mut passes, &p, 2);
     assert!(rt; root.is_some_and(|fact| fact.wins));
     assert!(rt; know_the_next(&rt, &shards, &mut passes));
@@ -428,9 +454,7 @@ fn shards_know_the_root(rt: HostRuntime) -> Result<(), Fail> {
 #[test]
 fn settled_without_ports(rt: HostRuntime) -> Result<(), Fail> {
     let alloc = rt.alloc();
-    let (rules, p) = (chess(), position("Kf6 Ra7 kh8"));
-    assert!(rt; sound(&rules, &p));
-    let game = Game::new(alloc, &rules, &p)?;
+    let game = game_from(&rt, alloc, &position("Kf6 Ra7 kh8"))?;
     let (shards, passes) = shards_for(alloc, &game, Side::White)?;
     let (passes, one) = settle(&rt, alloc, &game, Side::White, 1, &shards, passes);
     let (mut passes, two) = settle(&rt, alloc, &game, Side::White, 2, &shards, passes);
@@ -443,9 +467,7 @@ fn settled_without_ports(rt: HostRuntime) -> Result<(), Fail> {
 #[test]
 fn two_workers_run_beside_each_other(rt: HostRuntime) -> Result<(), Fail> {
     let alloc = rt.alloc();
-    let (rules, p) = (chess(), position("Ke3 Ra1 kd5"));
-    assert!(rt; sound(&rules, &p));
-    let game = Game::new(alloc, &rules, &p)?;
+    let game = game_from(&rt, alloc, &position("Ke3 Ra1 kd5"))?;
     let (shards, passes) = shards_for(alloc, &game, Side::White)?;
     let gate = HoldingGate::new();
     let run = whole(2, 2);

@@ -1,6 +1,4 @@
 //! Suites in memory: their reports, their faults, and workers beside each other.
-ghost use Rattle.std.specs.Prelude.{◌<◌, ◌≤◌};
-
 use foundation::{Memory, Text};
 use io_ports::{HoldingGate, MemSource, OpenGate, PollsOwed};
 use std::alloc::Global;
@@ -38,15 +36,14 @@ fn told(alloc: Global, answer: Result<Text, NoSuite>) -> Result<Text, Memory> {
 fn answers<R: Threads + Wait + Abort + Sync>(
     rt: &R,
     alloc: Global,
-    variants: &Variants,
     lines: &[u8],
     workers: u32,
     wanted: &str,
-) -> Result<(), Fail>
-    requires { (0 < workers) × (workers ≤ 64) }
-{
+) -> Result<(), Fail> {
+    assert!(rt; 0 < workers && workers <= 64);
+    let variants = variants(alloc)?;
     let mut source = source(alloc, lines)?;
-    let answer = solve_suite(rt, alloc, variants, &mut source, workers, &OpenGate);
+    let answer = solve_suite(rt, alloc, &variants, &mut source, workers, &OpenGate);
     let text = told(alloc, answer)?;
     assert!(rt; text.items.as_slice() == wanted.as_bytes(), "{wanted}");
     Ok(())
@@ -171,73 +168,63 @@ const FIFTY_ANSWERS: &str = "1 none
 solved 21 of 50
 ";
 
+// The report does not depend on the number of workers.
 #[test]
 fn reports(rt: HostRuntime) -> Result<(), Fail> {
-    let variants = variants(rt.alloc())?;
-    let rows = [
-        (THREE, "1 mate 1\n2 mate 2\n3 none\nsolved 2 of 3\n"),
-        (GAPS, "2 mate 1\n5 none\nsolved 1 of 2\n"),
-        ("", "solved 0 of 0\n"),
-    ];
-    for (lines, wanted) in rows {
-        for workers in [1u32, 3] {
-            answers(
-                &rt,
-                rt.alloc(),
-                &variants,
-                lines.as_bytes(),
-                workers,
-                wanted,
-            )?;
-        }
-    }
-    Ok(())
+    let alloc = rt.alloc();
+    let three = "1 mate 1\n2 mate 2\n3 none\nsolved 2 of 3\n";
+    answers(&rt, alloc, THREE.as_bytes(), 1, three)?;
+    answers(&rt, alloc, THREE.as_bytes(), 3, three)?;
+    let gaps = "2 mate 1\n5 none\nsolved 1 of 2\n";
+    answers(&rt, alloc, GAPS.as_bytes(), 1, gaps)?;
+    answers(&rt, alloc, b"", 3, "solved 0 of 0\n")
 }
 
 #[test]
 fn reports_on_five_variants(rt: HostRuntime) -> Result<(), Fail> {
-    let variants = variants(rt.alloc())?;
-    for workers in [1u32, 4] {
-        answers(
-            &rt,
-            rt.alloc(),
-            &variants,
-            FIFTY.as_bytes(),
-            workers,
-            FIFTY_ANSWERS,
-        )?;
-    }
-    Ok(())
+    let alloc = rt.alloc();
+    answers(&rt, alloc, FIFTY.as_bytes(), 1, FIFTY_ANSWERS)?;
+    answers(&rt, alloc, FIFTY.as_bytes(), 4, FIFTY_ANSWERS)
+}
+
+/// Asserts how the fault of the lines prints.
+fn expect_fault<R: Threads + Wait + Abort + Sync>(
+    rt: &R,
+    alloc: Global,
+    lines: &str,
+    wanted: &str,
+) -> Result<(), Fail> {
+    answers(rt, alloc, lines.as_bytes(), 1, wanted)
+}
+
+// The first faulty line, and on it the first fault.
+#[test]
+fn faulty_lines(rt: HostRuntime) -> Result<(), Fail> {
+    let alloc = rt.alloc();
+    expect_fault(&rt, alloc, "#\nchess 1\n", "SuiteFault 1 BadLine 2")?;
+    expect_fault(&rt, alloc, "chess 21 startpos\n", "SuiteFault 1 BadLine 1")?;
+    expect_fault(&rt, alloc, "chess  1 startpos\n", "SuiteFault 1 BadLine 1")?;
+    expect_fault(&rt, alloc, "chess 1  startpos\n", "SuiteFault 1 BadLine 1")?;
+    let two = "lost 0 startpos\nnowhere 1 x\n";
+    expect_fault(&rt, alloc, two, "SuiteFault 1 BadLine 1")
 }
 
 #[test]
-fn faults(rt: HostRuntime) -> Result<(), Fail> {
-    let variants = variants(rt.alloc())?;
-    let rows = [
-        ("#\nchess 1\n", "SuiteFault 1 BadLine 2"),
-        ("chess 21 startpos\n", "SuiteFault 1 BadLine 1"),
-        ("chess  1 startpos\n", "SuiteFault 1 BadLine 1"),
-        ("chess 1  startpos\n", "SuiteFault 1 BadLine 1"),
-        ("nowhere 1 startpos\n", "SuiteFault 2 UnknownVariant 1"),
-        (
-            "lost 1 startpos\n",
-            "SuiteFault 3 RefusedVariant 1 SectionFault 2 UnknownParent",
-        ),
-        (
-            "chess 1 8/8/8/8/8/8/8/8 w - - 0 1\n",
-            "SuiteFault 4 BadPosition 1 FenFault 11 Kings",
-        ),
-        (
-            "chess 1 7k/8/5KQ1/8/8/8/8/8 w - - 99 80\n",
-            "SuiteFault 5 NearCount 1",
-        ),
-        // the first faulty line, and on it the first fault
-        ("lost 0 startpos\nnowhere 1 x\n", "SuiteFault 1 BadLine 1"),
-    ];
-    for (lines, wanted) in rows {
-        answers(&rt, rt.alloc(), &variants, lines.as_bytes(), 1, wanted)?;
-    }
-    Ok(())
+fn faulty_problems(rt: HostRuntime) -> Result<(), Fail> {
+    let alloc = rt.alloc();
+    let unknown = "SuiteFault 2 UnknownVariant 1";
+    expect_fault(&rt, alloc, "nowhere 1 startpos\n", unknown)?;
+    let refused = "SuiteFault 3 RefusedVariant 1 SectionFault 2 UnknownParent";
+    expect_fault(&rt, alloc, "lost 1 startpos\n", refused)?;
+    let bare = "chess 1 8/8/8/8/8/8/8/8 w - - 0 1\n";
+    expect_fault(
+        &rt,
+        alloc,
+        bare,
+        "SuiteFault 4 BadPosition 1 FenFault 11 Kings",
+    )?;
+    let late = "chess 1 7k/8/5KQ1/8/8/8/8/8 w - - 99 80\n";
+    expect_fault(&rt, alloc, late, "SuiteFault 5 NearCount 1")
 }
 
 /// So many times the piece.
@@ -250,20 +237,15 @@ fn repeated(alloc: Global, piece: &[u8], times: usize) -> Result<Vec<u8>, Memory
 }
 
 #[test]
-fn long_suites(rt: HostRuntime) -> Result<(), Fail> {
-    let alloc = rt.alloc();
-    let variants = variants(alloc)?;
-    let many = repeated(alloc, b"chess 1 startpos\n", 1001)?;
-    let long = repeated(alloc, b"x", 131_073)?;
-    answers(&rt, alloc, &variants, &many, 1, "SuiteFault 6 TooMany 1001")?;
-    answers(
-        &rt,
-        alloc,
-        &variants,
-        &long,
-        1,
-        "SuiteFault 7 LineTooLong 1",
-    )
+fn a_suite_of_too_many_problems(rt: HostRuntime) -> Result<(), Fail> {
+    let many = repeated(rt.alloc(), b"chess 1 startpos\n", 1001)?;
+    answers(&rt, rt.alloc(), &many, 1, "SuiteFault 6 TooMany 1001")
+}
+
+#[test]
+fn a_line_that_is_too_long(rt: HostRuntime) -> Result<(), Fail> {
+    let long = repeated(rt.alloc(), b"x", 131_073)?;
+    answers(&rt, rt.alloc(), &long, 1, "SuiteFault 7 LineTooLong 1")
 }
 
 #[test]
@@ -279,10 +261,9 @@ fn two_workers_run_beside_each_other(rt: HostRuntime) -> Result<(), Fail> {
     };
     let solved = solve_all(&rt, alloc, suite.problems(), 2, &gate)?;
     assert!(rt; !gate.gave_up());
-    for (i, least, shown) in [(0usize, Some(2u16), true), (1, None, false)] {
-        let answer = solved.answers().get(i).ok_or("no answer")?;
-        assert_eq!(rt; answer.least, least);
-        assert_eq!(rt; answer.strategy.is_some(), shown);
-    }
+    let mate = solved.answers().get(0).ok_or("no answer")?;
+    let none = solved.answers().get(1).ok_or("no answer")?;
+    assert!(rt; mate.least == Some(2) && mate.strategy.is_some());
+    assert!(rt; none.least.is_none() && none.strategy.is_none());
     Ok(())
 }

@@ -48,43 +48,46 @@ fn settled(
     Ok(None)
 }
 
-// Mates in one and two, and none; the root's repeat may not be entered again, and still is no end.
+/// The pieces, with this side to move.
+fn placed(pieces: &str, side: Side) -> Position {
+    Position {
+        side,
+        ..position(pieces)
+    }
+}
+
+/// Asserts whether White's win within n moves is found; the root's repeat may not be entered again.
+fn expect_root(
+    rt: &impl Abort,
+    alloc: Global,
+    p: &Position,
+    n: u16,
+    wins: bool,
+) -> Result<(), Fail> {
+    let frame = frame_of(alloc, Side::White, p)?;
+    let tables = Tables::new(alloc, &frame.rules)?;
+    assert!(rt; sound(&frame.rules, p));
+    let None = root_end(&frame, &tables, p) else {
+        return Err("an end".into());
+    };
+    let found = settled(alloc, &frame, &tables, p, n)?;
+    let wanted = if wins { (0, INFINITE) } else { (INFINITE, 0) };
+    assert_eq!(rt; found, Some(wanted), "within {n}");
+    Ok(())
+}
+
+// Mates in one and two, and none.
 #[test]
 fn roots_are_settled(rt: HostRuntime) -> Result<(), Fail> {
-    let won = Some((0, INFINITE));
-    let lost = Some((INFINITE, 0));
-    for (pieces, side, least) in [
-        ("Kg6 Ra1 kh8", Side::White, 1),
-        ("Kg6 Ra7 kh8", Side::Black, 1),
-        ("Kf6 Ra7 kh8", Side::White, 2),
-        (
-            "ra8 kd8 Rc7 pg7 ph6 pa5 Bb5 Rf5 Pb3 Pa2 Pd2 Pf2 Pg2 Ph2 Kg1",
-            Side::White,
-            2,
-        ),
-    ] {
-        let mut p = position(pieces);
-        p.side = side;
-        let frame = frame_of(rt.alloc(), Side::White, &p)?;
-        let tables = Tables::new(rt.alloc(), &frame.rules)?;
-        assert!(rt; sound(&frame.rules, &p), "{pieces}");
-        let None = root_end(&frame, &tables, &p) else {
-            continue;
-        };
-        for n in 1..least {
-            assert_eq!(rt;
-                settled(rt.alloc(), &frame, &tables, &p, n)?,
-                lost,
-                "{pieces} within {n}"
-            );
-        }
-        assert_eq!(rt;
-            settled(rt.alloc(), &frame, &tables, &p, least)?,
-            won,
-            "{pieces}"
-        );
-    }
-    Ok(())
+    let alloc = rt.alloc();
+    expect_root(&rt, alloc, &placed("Kg6 Ra1 kh8", Side::White), 1, true)?;
+    expect_root(&rt, alloc, &placed("Kg6 Ra7 kh8", Side::Black), 1, true)?;
+    let rook = position("Kf6 Ra7 kh8");
+    expect_root(&rt, alloc, &rook, 1, false)?;
+    expect_root(&rt, alloc, &rook, 2, true)?;
+    let problem = position("ra8 kd8 Rc7 pg7 ph6 pa5 Bb5 Rf5 Pb3 Pa2 Pd2 Pf2 Pg2 Ph2 Kg1");
+    expect_root(&rt, alloc, &problem, 1, false)?;
+    expect_root(&rt, alloc, &problem, 2, true)
 }
 
 // A new tree is one open node, and its first expansion is that of the root.
@@ -134,32 +137,27 @@ fn grows_as_defined<R: Abort>(
     Ok(())
 }
 
+/// The same of the tree of White's win within n moves; the root's repeat may not be entered again.
+fn grows(rt: &impl Abort, alloc: Global, p: &Position, n: u16) -> Result<(), Fail> {
+    let frame = frame_of(alloc, Side::White, p)?;
+    let tables = Tables::new(alloc, &frame.rules)?;
+    assert!(rt; sound(&frame.rules, p));
+    let None = root_end(&frame, &tables, p) else {
+        return Err("an end".into());
+    };
+    grows_as_defined(rt, alloc, &frame, &tables, p, n)
+}
+
 // Mates that are found and mates that are not, with few moves, so that the trees stay small.
 #[test]
 fn trees_grow_as_defined(rt: HostRuntime) -> Result<(), Fail> {
-    for (pieces, side, n) in [
-        ("Kf6 Ra7 kh8", Side::White, 6),
-        ("Kf6 Ra7 kh8", Side::Black, 6),
-        ("Ke4 Pd4 ke6 pd6", Side::White, 8),
-        ("Ka1 Pa2 ka8 pa7", Side::White, 8),
-        (
-            "ra8 kd8 Rc7 pg7 ph6 pa5 Bb5 Rf5 Pb3 Pa2 Pd2 Pf2 Pg2 Ph2 Kg1",
-            Side::White,
-            2,
-        ),
-    ] {
-        let mut p = position(pieces);
-        p.side = side;
-        let frame = frame_of(rt.alloc(), Side::White, &p)?;
-        let tables = Tables::new(rt.alloc(), &frame.rules)?;
-        assert!(rt; sound(&frame.rules, &p), "{pieces}");
-        let None = root_end(&frame, &tables, &p) else {
-            assert!(rt; false, "{pieces} is ended");
-            return Ok(());
-        };
-        grows_as_defined(&rt, rt.alloc(), &frame, &tables, &p, n)?;
-    }
-    Ok(())
+    let alloc = rt.alloc();
+    grows(&rt, alloc, &placed("Kf6 Ra7 kh8", Side::White), 6)?;
+    grows(&rt, alloc, &placed("Kf6 Ra7 kh8", Side::Black), 6)?;
+    grows(&rt, alloc, &placed("Ke4 Pd4 ke6 pd6", Side::White), 8)?;
+    grows(&rt, alloc, &placed("Ka1 Pa2 ka8 pa7", Side::White), 8)?;
+    let problem = position("ra8 kd8 Rc7 pg7 ph6 pa5 Bb5 Rf5 Pb3 Pa2 Pd2 Pf2 Pg2 Ph2 Kg1");
+    grows(&rt, alloc, &problem, 2)
 }
 
 // The rook's mate in two is found, and a position on its line is known then.
@@ -200,33 +198,30 @@ fn mates_within<R: Abort + Wait>(
     Ok(())
 }
 
+// Mates within the moves and not, a count of moves that may run out, and games that are over.
 #[test]
 fn least_mates(rt: HostRuntime) -> Result<(), Fail> {
-    for (pieces, side, counter, n, wanted) in [
-        ("Kf6 Ra7 kh8", Side::White, 0, 2, Ok(Some(2))),
-        ("Kf6 Ra7 kh8", Side::White, 0, 1, Ok(None)),
-        ("Kf6 Ra7 kh8", Side::White, 0, 9, Ok(Some(2))),
-        ("Kf6 Qg6 kh8", Side::White, 97, 1, Ok(Some(1))),
-        ("Kf6 Qg6 kh8", Side::White, 98, 1, Err(PnFault::NearCount)),
-        ("Kf6 Qg7 kh8", Side::Black, 0, 1, Err(PnFault::Ended)),
-        ("Kf6 Qg6 kh8", Side::White, 100, 1, Err(PnFault::Ended)),
-    ] {
-        let mut p = position(pieces);
-        p.side = side;
-        p.counter = counter;
-        mates_within(&rt, rt.alloc(), &p, n, wanted)?;
-    }
-    Ok(())
+    let alloc = rt.alloc();
+    let rook = position("Kf6 Ra7 kh8");
+    mates_within(&rt, alloc, &rook, 2, Ok(Some(2)))?;
+    mates_within(&rt, alloc, &rook, 1, Ok(None))?;
+    mates_within(&rt, alloc, &rook, 9, Ok(Some(2)))?;
+    let mut queen = position("Kf6 Qg6 kh8");
+    queen.counter = 97;
+    mates_within(&rt, alloc, &queen, 1, Ok(Some(1)))?;
+    queen.counter = 98;
+    mates_within(&rt, alloc, &queen, 1, Err(PnFault::NearCount))?;
+    queen.counter = 100;
+    mates_within(&rt, alloc, &queen, 1, Err(PnFault::Ended))?;
+    let mated = placed("Kf6 Qg7 kh8", Side::Black);
+    mates_within(&rt, alloc, &mated, 1, Err(PnFault::Ended))
 }
 
 #[test]
 fn faults_print(rt: HostRuntime) -> Result<(), Fail> {
-    for (fault, wanted) in [
-        (PnFault::NearCount, "PnFault 1 NearCount"),
-        (PnFault::Ended, "PnFault 2 Ended"),
-    ] {
-        let text = write_pn_fault(rt.alloc(), &fault)?;
-        assert_eq!(rt; text.items.as_slice(), wanted.as_bytes());
-    }
+    let near = write_pn_fault(rt.alloc(), &PnFault::NearCount)?;
+    assert!(rt; near.items.as_slice() == b"PnFault 1 NearCount".as_slice());
+    let ended = write_pn_fault(rt.alloc(), &PnFault::Ended)?;
+    assert!(rt; ended.items.as_slice() == b"PnFault 2 Ended".as_slice());
     Ok(())
 }
