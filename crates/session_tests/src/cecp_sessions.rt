@@ -52,63 +52,62 @@ fn says<R: Abort + AllocGlobal + Threads + Wait + Sync>(
     Ok(())
 }
 
-// Each row: lines, and what is answered.
 #[test]
 fn lines_set_and_answer(rt: HostRuntime) -> Result<(), Fail> {
-    let rows = [
-        ("xboard\nprotover 2\nquit\n", FEATURES),
-        (
-            "\nping 007\n \nhello you\nping x\nquit now\n",
-            "pong 007\nError (unknown command):  \nError (unknown command): hello you\nError (bad number): ping x\n",
-        ),
-        (
-            "force\nusermove e2e4\nremove\nundo\nundo\nquit\n",
-            "Error (nothing played): remove\nError (nothing played): undo\n",
-        ),
-        (
-            "setboard 8/8\nvariant shogi\nlevel 40 5 0.5\nquit\n",
-            "Error (illegal position): setboard 8/8\nError (unknown variant): variant shogi\n\
-                Error (bad number): level 40 5 0.5\n",
-        ),
-        (
-            "force\nusermove f2f3\nusermove e7e5\nusermove g2g4\nusermove d8h4\nquit\n",
-            "0-1 {Black wins by checkmate}\n",
-        ),
-        (
-            "variant losalamos\nforce\nusermove e2e4\nusermove a1a1\nnew\nforce\nusermove e2e4\nquit\n",
-            "Illegal move: e2e4\nIllegal move: a1a1\n",
-        ),
-    ];
-    for (input, text) in rows {
-        says(&rt, PollsOwed::Endless, input, text)?;
-    }
+    let never = PollsOwed::Endless;
+    says(&rt, never, "xboard\nprotover 2\nquit\n", FEATURES)?;
+    let words = "\nping 007\n \nhello you\nping x\nquit now\n";
+    let answers = "pong 007\nError (unknown command):  \nError (unknown command): hello you\n\
+        Error (bad number): ping x\n";
+    says(&rt, never, words, answers)?;
+    let refused = "setboard 8/8\nvariant shogi\nlevel 40 5 0.5\nquit\n";
+    let answers = "Error (illegal position): setboard 8/8\nError (unknown variant): variant shogi\n\
+        Error (bad number): level 40 5 0.5\n";
+    says(&rt, never, refused, answers)
+}
+
+#[test]
+fn moves_are_played_and_taken_back(rt: HostRuntime) -> Result<(), Fail> {
+    let never = PollsOwed::Endless;
+    let back = "force\nusermove e2e4\nremove\nundo\nundo\nquit\n";
+    let answers = "Error (nothing played): remove\nError (nothing played): undo\n";
+    says(&rt, never, back, answers)?;
+    let mate = "force\nusermove f2f3\nusermove e7e5\nusermove g2g4\nusermove d8h4\nquit\n";
+    says(&rt, never, mate, "0-1 {Black wins by checkmate}\n")?;
+    let variant =
+        "variant losalamos\nforce\nusermove e2e4\nusermove a1a1\nnew\nforce\nusermove e2e4\nquit\n";
+    says(
+        &rt,
+        never,
+        variant,
+        "Illegal move: e2e4\nIllegal move: a1a1\n",
+    )
+}
+
+/// Serves these lines up to `quit`, and wants an end of what is written.
+fn ends<R: Abort + AllocGlobal + Threads + Wait + Sync>(
+    rt: &R,
+    input: &str,
+    text: &str,
+) -> Result<(), Fail> {
+    let (ended, sink) = served(rt, input, PollsOwed::Endless, &[], 1000)?;
+    assert!(rt; ended == Ok(Ended::Quit), "{input}");
+    assert!(rt; sink.taken().ends_with(text.as_bytes()), "{input}");
     Ok(())
 }
 
 // The engine plays where it is its turn, whatever line came before, and not in a game that is over.
 #[test]
 fn the_engine_moves(rt: HostRuntime) -> Result<(), Fail> {
-    let rows = [
-        (
-            "xboard\nprotover 2\nforce\nusermove e2e4\nusermove e7e4\nsetboard 7k/8/5KQ1/8/8/8/8/8 w - - 0 1\nsd 1\n\
-                go\nquit\n",
-            "Illegal move: e7e4\nmove g6g7\n1-0 {White wins by checkmate}\n",
-        ),
-        (
-            "force\nsetboard 7k/8/5KQ1/8/8/8/8/8 w - - 0 1\nplayother\nusermove g6f7\nping 1\nquit\n",
-            "1/2-1/2 {Draw by stalemate}\npong 1\n",
-        ),
-        (
-            "sd 1\nsetboard k7/8/8/8/8/8/1q6/K7 w - - 0 1\nnopost\ngo\nping 1\nquit\n",
-            "move a1b2\npong 1\n",
-        ),
-    ];
-    for (input, text) in rows {
-        let (ended, sink) = served(&rt, input, PollsOwed::Endless, &[], 1000)?;
-        assert!(rt; ended == Ok(Ended::Quit), "{input}");
-        assert!(rt; sink.taken().ends_with(text.as_bytes()), "{input}");
-    }
-    Ok(())
+    let mates = "xboard\nprotover 2\nforce\nusermove e2e4\nusermove e7e4\n\
+        setboard 7k/8/5KQ1/8/8/8/8/8 w - - 0 1\nsd 1\ngo\nquit\n";
+    let answers = "Illegal move: e7e4\nmove g6g7\n1-0 {White wins by checkmate}\n";
+    ends(&rt, mates, answers)?;
+    let over =
+        "force\nsetboard 7k/8/5KQ1/8/8/8/8/8 w - - 0 1\nplayother\nusermove g6f7\nping 1\nquit\n";
+    ends(&rt, over, "1/2-1/2 {Draw by stalemate}\npong 1\n")?;
+    let takes = "sd 1\nsetboard k7/8/8/8/8/8/1q6/K7 w - - 0 1\nnopost\ngo\nping 1\nquit\n";
+    ends(&rt, takes, "move a1b2\npong 1\n")
 }
 
 // The count of nodes stands between these.
@@ -127,39 +126,32 @@ fn depths_are_posted(rt: HostRuntime) -> Result<(), Fail> {
 // the lines makes it at once.
 #[test]
 fn lines_stop_a_search(rt: HostRuntime) -> Result<(), Fail> {
-    let rows = [
-        (
-            "force\nsetboard k7/8/8/8/8/8/1q6/K7 w - - 0 1\nst 1000\ngo\nforce\nping 1\nquit\n",
-            "pong 1\n",
-        ),
-        (
-            "force\nsetboard k7/8/8/8/8/8/1q6/K7 w - - 0 1\nst 1000\ngo\nping 1\nquit\n",
-            "move a1b2\npong 1\n",
-        ),
-        (
-            "force\nsetboard k7/8/8/8/8/8/1q6/K7 w - - 0 1\nst 1000\ngo\nquit\n",
-            "",
-        ),
-    ];
-    for (input, text) in rows {
-        says(&rt, PollsOwed::Number(0), input, text)?;
-    }
+    let now = PollsOwed::Number(0);
+    let force = "force\nsetboard k7/8/8/8/8/8/1q6/K7 w - - 0 1\nst 1000\ngo\nforce\nping 1\nquit\n";
+    says(&rt, now, force, "pong 1\n")?;
+    let ping = "force\nsetboard k7/8/8/8/8/8/1q6/K7 w - - 0 1\nst 1000\ngo\nping 1\nquit\n";
+    says(&rt, now, ping, "move a1b2\npong 1\n")?;
+    let quit = "force\nsetboard k7/8/8/8/8/8/1q6/K7 w - - 0 1\nst 1000\ngo\nquit\n";
+    says(&rt, now, quit, "")
+}
+
+/// Asserts how a session with a source that fails at these calls and a sink with this room ends, and what it wrote.
+fn expect_end<R: Abort + AllocGlobal + Threads + Wait + Sync>(
+    rt: &R,
+    failing: &[u64],
+    room: usize,
+    end: Result<Ended, SearchFault>,
+    text: &str,
+) -> Result<(), Fail> {
+    let (ended, sink) = served(rt, "ping 1\nping 2", PollsOwed::Endless, failing, room)?;
+    assert!(rt; ended == end && sink.taken() == text.as_bytes(), "{text}");
     Ok(())
 }
 
-// Each row: the calls of the source that fail, the room of the sink, how the session ends, and what was written.
 #[test]
 fn faults_end_a_session(rt: HostRuntime) -> Result<(), Fail> {
-    let rows: [(&[u64], usize, Result<Ended, SearchFault>, &str); 4] = [
-        (&[], 100, Ok(Ended::InputEnded), "pong 1\npong 2\n"),
-        (&[0], 100, Err(SearchFault::ReadFault), ""),
-        (&[1], 100, Err(SearchFault::ReadFault), "pong 1\n"),
-        (&[], 9, Err(SearchFault::WriteFault), "pong 1\npo"),
-    ];
-    for (failing, room, end, text) in rows {
-        let (ended, sink) = served(&rt, "ping 1\nping 2", PollsOwed::Endless, failing, room)?;
-        assert!(rt; ended == end, "{text}");
-        assert_eq!(rt; sink.taken(), text.as_bytes());
-    }
-    Ok(())
+    expect_end(&rt, &[], 100, Ok(Ended::InputEnded), "pong 1\npong 2\n")?;
+    expect_end(&rt, &[0], 100, Err(SearchFault::ReadFault), "")?;
+    expect_end(&rt, &[1], 100, Err(SearchFault::ReadFault), "pong 1\n")?;
+    expect_end(&rt, &[], 9, Err(SearchFault::WriteFault), "pong 1\npo")
 }

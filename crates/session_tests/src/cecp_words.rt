@@ -1,6 +1,8 @@
 //! Tests of `cecp_lines`.
 use cecp_lines::{Command, Limit, depth_for, gives_up, read_line, time_for};
 use io_ports::Got;
+use std::alloc::Global;
+use std::process::Abort;
 use std::test::Fail;
 
 // A command's name, its text and its numbers.
@@ -29,111 +31,180 @@ fn shown<'b>(command: &'b Command) -> (&'static str, &'b [u8], u64, u64) {
     }
 }
 
-// Each row: a line, its command's name, its text and its numbers, and whether it gives a search up.
+/// Asserts what the line says: its command's name and text, and its numbers.
+fn expect_all(
+    rt: &impl Abort,
+    alloc: Global,
+    line: &[u8],
+    name: &str,
+    text: &[u8],
+    numbers: (u64, u64),
+) -> Result<(), Fail> {
+    let command = read_line(alloc, Got::Line, line).map_err(|_| "no memory")?;
+    let (is, said, one, two) = shown(&command);
+    assert!(rt; is == name && said == text, "{line:?}");
+    assert!(rt; (one, two) == numbers, "{line:?}");
+    Ok(())
+}
+
+/// The same of a line that has neither a text nor a number.
+fn expect(rt: &impl Abort, alloc: Global, line: &str, name: &str) -> Result<(), Fail> {
+    expect_all(rt, alloc, line.as_bytes(), name, b"", (0, 0))
+}
+
 #[test]
-fn commands(rt: HostRuntime) -> Result<(), Fail> {
-    let rows: [(&[u8], &str, &[u8], u64, u64, bool); 34] = [
-        (b"", "idle", b"", 0, 0, false),
-        (b" \t", "unknown", b"", 0, 0, false),
-        (b"xboard", "idle", b"", 0, 0, false),
-        (b"accepted ping", "idle", b"", 0, 0, false),
-        (b"?", "idle", b"", 0, 0, false),
-        (b"protover 2", "protover", b"", 0, 0, false),
-        (b"protover two", "bad number", b"", 0, 0, false),
-        (b"\tnew  now", "new", b"", 0, 0, true),
-        (
-            b"variant crazyhouse x",
-            "variant",
-            b"crazyhouse",
-            0,
-            0,
-            true,
-        ),
-        (b"variant", "variant", b"", 0, 0, true),
-        (b"force", "force", b"", 0, 0, true),
-        (b"result 1-0 {mate}", "force", b"", 0, 0, true),
-        (b"go", "go", b"", 0, 0, false),
-        (b"playother", "playother", b"", 0, 0, false),
-        (b"usermove e2e4", "usermove", b"e2e4", 0, 0, false),
-        (b"setboard 8/8  w -", "setboard", b"8/8 w -", 0, 0, true),
-        (
-            b"ping 00000000000000000001",
-            "ping",
-            b"00000000000000000001",
-            0,
-            0,
-            false,
-        ),
-        (
-            b"ping 000000000000000000001",
-            "bad number",
-            b"",
-            0,
-            0,
-            false,
-        ),
-        (b"ping -1", "bad number", b"", 0, 0, false),
-        (b"undo", "back", b"", 1, 0, true),
-        (b"remove", "back", b"", 2, 0, true),
-        (b"post", "post", b"", 1, 0, false),
-        (b"nopost", "post", b"", 0, 0, false),
-        (b"st 5", "st", b"", 5, 0, false),
-        (b"sd 99", "sd", b"", 99, 0, false),
-        (b"level 40 2:30 12", "level", b"", 40, 12, false),
-        (b"level 0 5 0.5", "bad number", b"", 0, 0, false),
-        (b"level 40 2:3:0 12", "bad number", b"", 0, 0, false),
-        (b"level 40 5", "bad number", b"", 0, 0, false),
-        (
-            b"time 18446744073709551615",
-            "time",
-            b"",
-            u64::MAX,
-            0,
-            false,
-        ),
-        (b"time 18446744073709551616", "bad number", b"", 0, 0, false),
-        (b"otim 1", "idle", b"", 0, 0, false),
-        (b"quit now", "quit", b"", 0, 0, true),
-        (b"now quit", "unknown", b"", 0, 0, false),
-    ];
-    for (line, name, text, first, second, given_up) in rows {
-        let command = read_line(rt.alloc(), Got::Line, line).map_err(|_| "no memory")?;
-        let (is, said, one, two) = shown(&command);
-        assert!(rt; is == name, "{line:?}: name");
-        assert!(rt; said == text, "{line:?}: text");
-        assert!(rt; one == first && two == second, "{line:?}: numbers");
-        assert!(rt; gives_up(line) == given_up, "{line:?}: given up");
-    }
+fn commands_alone(rt: HostRuntime) -> Result<(), Fail> {
+    let alloc = rt.alloc();
+    expect(&rt, alloc, "", "idle")?;
+    expect(&rt, alloc, " \t", "unknown")?;
+    expect(&rt, alloc, "xboard", "idle")?;
+    expect(&rt, alloc, "accepted ping", "idle")?;
+    expect(&rt, alloc, "otim 1", "idle")?;
+    expect(&rt, alloc, "?", "idle")?;
+    expect(&rt, alloc, "\tnew  now", "new")?;
+    expect(&rt, alloc, "force", "force")?;
+    expect(&rt, alloc, "result 1-0 {mate}", "force")?;
+    expect(&rt, alloc, "go", "go")?;
+    expect(&rt, alloc, "playother", "playother")?;
+    expect(&rt, alloc, "quit now", "quit")?;
+    expect(&rt, alloc, "now quit", "unknown")
+}
+
+/// Asserts the text of a line.
+fn expect_text(
+    rt: &impl Abort,
+    alloc: Global,
+    line: &str,
+    name: &str,
+    text: &str,
+) -> Result<(), Fail> {
+    expect_all(rt, alloc, line.as_bytes(), name, text.as_bytes(), (0, 0))
+}
+
+#[test]
+fn commands_with_a_text(rt: HostRuntime) -> Result<(), Fail> {
+    let alloc = rt.alloc();
+    expect_text(&rt, alloc, "variant crazyhouse x", "variant", "crazyhouse")?;
+    expect_text(&rt, alloc, "variant", "variant", "")?;
+    expect_text(&rt, alloc, "usermove e2e4", "usermove", "e2e4")?;
+    expect_text(&rt, alloc, "setboard 8/8  w -", "setboard", "8/8 w -")?;
+    let digits = "00000000000000000001";
+    expect_text(&rt, alloc, "ping 00000000000000000001", "ping", digits)
+}
+
+#[test]
+fn bad_numbers(rt: HostRuntime) -> Result<(), Fail> {
+    let alloc = rt.alloc();
+    expect(&rt, alloc, "protover 2", "protover")?;
+    expect(&rt, alloc, "protover two", "bad number")?;
+    expect(&rt, alloc, "ping 000000000000000000001", "bad number")?;
+    expect(&rt, alloc, "ping -1", "bad number")?;
+    expect(&rt, alloc, "level 0 5 0.5", "bad number")?;
+    expect(&rt, alloc, "level 40 2:3:0 12", "bad number")?;
+    expect(&rt, alloc, "level 40 5", "bad number")?;
+    expect(&rt, alloc, "time 18446744073709551616", "bad number")
+}
+
+/// Asserts the number of a line.
+fn expect_number(
+    rt: &impl Abort,
+    alloc: Global,
+    line: &str,
+    name: &str,
+    number: u64,
+) -> Result<(), Fail> {
+    expect_all(rt, alloc, line.as_bytes(), name, b"", (number, 0))
+}
+
+#[test]
+fn commands_with_numbers(rt: HostRuntime) -> Result<(), Fail> {
+    let alloc = rt.alloc();
+    expect_number(&rt, alloc, "undo", "back", 1)?;
+    expect_number(&rt, alloc, "remove", "back", 2)?;
+    expect_number(&rt, alloc, "post", "post", 1)?;
+    expect_number(&rt, alloc, "nopost", "post", 0)?;
+    expect_number(&rt, alloc, "st 5", "st", 5)?;
+    expect_number(&rt, alloc, "sd 99", "sd", 99)?;
+    expect_number(&rt, alloc, "time 18446744073709551615", "time", u64::MAX)?;
+    expect_all(&rt, alloc, b"level 40 2:30 12", "level", b"", (40, 12))
+}
+
+#[test]
+fn a_long_line(rt: HostRuntime) -> Result<(), Fail> {
     let long = read_line(rt.alloc(), Got::TooLong, b"quit").map_err(|_| "no memory")?;
     assert!(rt; shown(&long).0 == "too long");
     Ok(())
 }
 
-// Each row: what `st`, `level`, `time` and `sd` said, the time of a thinking, and its last depth.
+/// Asserts that a search is given up for the line.
+fn expect_given_up(rt: &impl Abort, line: &str) {
+    assert!(rt; gives_up(line.as_bytes()), "{line}");
+}
+
 #[test]
-fn limits(rt: HostRuntime) {
-    let rows: [(
-        Option<u64>,
-        Option<(u64, u64)>,
-        Option<u64>,
-        Option<u64>,
-        Option<u64>,
-        u8,
-    ); 8] = [
-        (None, None, None, None, None, 4),
-        (None, None, None, Some(0), None, 1),
-        (Some(2), Some((40, 0)), Some(100), Some(99), Some(2000), 64),
-        (None, Some((40, 0)), None, Some(3), None, 3),
-        (None, None, Some(100), None, None, 4),
-        (None, Some((0, 0)), Some(6000), None, Some(2000), 64),
-        (None, Some((60, 2)), Some(6000), Some(7), Some(2000), 7),
-        (None, Some((1, 0)), Some(1), None, Some(5), 64),
-    ];
-    for (st, level, left, sd, time, depth) in rows {
-        assert!(rt;
-            time_for(st, level, left) == time,
-            "{st:?} {level:?} {left:?}"
-        );
-        assert!(rt; depth_for(time, sd) == depth, "{sd:?}");
-    }
+fn lines_give_a_search_up(rt: HostRuntime) {
+    expect_given_up(&rt, "\tnew  now");
+    expect_given_up(&rt, "variant crazyhouse x");
+    expect_given_up(&rt, "force");
+    expect_given_up(&rt, "result 1-0 {mate}");
+    expect_given_up(&rt, "setboard 8/8  w -");
+    expect_given_up(&rt, "undo");
+    expect_given_up(&rt, "remove");
+    expect_given_up(&rt, "quit now");
+}
+
+/// Asserts that a search is not given up for the line.
+fn expect_kept(rt: &impl Abort, line: &str) {
+    assert!(rt; !gives_up(line.as_bytes()), "{line}");
+}
+
+#[test]
+fn lines_keep_a_search(rt: HostRuntime) {
+    expect_kept(&rt, "");
+    expect_kept(&rt, "?");
+    expect_kept(&rt, "go");
+    expect_kept(&rt, "playother");
+    expect_kept(&rt, "usermove e2e4");
+    expect_kept(&rt, "ping 1");
+    expect_kept(&rt, "post");
+    expect_kept(&rt, "level 40 2:30 12");
+    expect_kept(&rt, "otim 1");
+    expect_kept(&rt, "now quit");
+}
+
+/// Asserts the time of a thinking by what `st`, `level` and `time` said.
+fn expect_time(
+    rt: &impl Abort,
+    st: Option<u64>,
+    level: Option<(u64, u64)>,
+    left: Option<u64>,
+    time: Option<u64>,
+) {
+    assert!(rt; time_for(st, level, left) == time);
+}
+
+#[test]
+fn times(rt: HostRuntime) {
+    expect_time(&rt, None, None, None, None);
+    expect_time(&rt, Some(2), Some((40, 0)), Some(100), Some(2000));
+    expect_time(&rt, None, Some((40, 0)), None, None);
+    expect_time(&rt, None, None, Some(100), None);
+    expect_time(&rt, None, Some((0, 0)), Some(6000), Some(2000));
+    expect_time(&rt, None, Some((60, 2)), Some(6000), Some(2000));
+    expect_time(&rt, None, Some((1, 0)), Some(1), Some(5));
+}
+
+/// Asserts the last depth of a thinking of this time by what `sd` said.
+fn expect_depth(rt: &impl Abort, time: Option<u64>, sd: Option<u64>, depth: u8) {
+    assert!(rt; depth_for(time, sd) == depth);
+}
+
+#[test]
+fn depths(rt: HostRuntime) {
+    expect_depth(&rt, None, None, 4);
+    expect_depth(&rt, None, Some(0), 1);
+    expect_depth(&rt, None, Some(3), 3);
+    expect_depth(&rt, Some(2000), None, 64);
+    expect_depth(&rt, Some(2000), Some(7), 7);
+    expect_depth(&rt, Some(2000), Some(99), 64);
 }

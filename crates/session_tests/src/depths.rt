@@ -56,41 +56,42 @@ fn found(alloc: Global, scored: Scored) -> Found
     }
 }
 
-#[test]
-fn lines_of_depths(rt: HostRuntime) -> Result<(), Fail> {
-    let alloc = rt.alloc();
-    let rules = chess();
-    let (points, mates, mated) = (Scored::Points(-12), Scored::Mates(2), Scored::Mated(5));
-    let rows = [
-        (
-            points,
-            Style::Uci,
-            900u64,
-            "info depth 3 score cp -12 pv e2e4\n",
-        ),
-        (
-            mates,
-            Style::Uci,
-            900,
-            "info depth 3 score mate 2 pv e2e4\n",
-        ),
-        (
-            mated,
-            Style::Uci,
-            900,
-            "info depth 3 score mate -5 pv e2e4\n",
-        ),
-        (points, Style::Post, 1234, "3 -12 113 77 e2e4\n"),
-        (mates, Style::Post, 109, "3 100002 0 77 e2e4\n"),
-        (mated, Style::Post, 5, "3 -100005 0 77 e2e4\n"),
-        (mated, Style::Silent, 900, ""),
-    ];
-    for (scored, style, clock, text) in rows {
-        let found = found(alloc, scored);
-        let written = lines_of(alloc, style, &rules, 100, 3, &found, clock)?;
-        assert!(rt; written.items.as_slice() == text.as_bytes());
-    }
+/// Asserts the lines of depth 3, which began at 100 and ended at the reading.
+fn expect_lines(
+    rt: &impl Abort,
+    alloc: Global,
+    scored: Scored,
+    style: Style,
+    reading: u64,
+    text: &str,
+) -> Result<(), Fail> {
+    let found = found(alloc, scored);
+    let written = lines_of(alloc, style, &chess(), 100, 3, &found, reading)?;
+    assert!(rt; written.items.as_slice() == text.as_bytes(), "{text}");
     Ok(())
+}
+
+#[test]
+fn lines_of_depths_in_uci(rt: HostRuntime) -> Result<(), Fail> {
+    let (alloc, uci) = (rt.alloc(), Style::Uci);
+    let points = "info depth 3 score cp -12 pv e2e4\n";
+    expect_lines(&rt, alloc, Scored::Points(-12), uci, 900, points)?;
+    let mates = "info depth 3 score mate 2 pv e2e4\n";
+    expect_lines(&rt, alloc, Scored::Mates(2), uci, 900, mates)?;
+    let mated = "info depth 3 score mate -5 pv e2e4\n";
+    expect_lines(&rt, alloc, Scored::Mated(5), uci, 900, mated)
+}
+
+#[test]
+fn lines_of_depths_that_are_posted(rt: HostRuntime) -> Result<(), Fail> {
+    let (alloc, post) = (rt.alloc(), Style::Post);
+    let points = "3 -12 113 77 e2e4\n";
+    expect_lines(&rt, alloc, Scored::Points(-12), post, 1234, points)?;
+    let mates = "3 100002 0 77 e2e4\n";
+    expect_lines(&rt, alloc, Scored::Mates(2), post, 109, mates)?;
+    let mated = "3 -100005 0 77 e2e4\n";
+    expect_lines(&rt, alloc, Scored::Mated(5), post, 5, mated)?;
+    expect_lines(&rt, alloc, Scored::Mated(5), Style::Silent, 900, "")
 }
 
 #[test]
@@ -195,89 +196,67 @@ fn kept_moves(depths: &Depths) -> u16 {
     }
 }
 
+/// The best move of a search, what cut it, and the number of moves of the mate that is kept, or 0.
+type Told = (&'static str, Option<Cut>, u16);
+
+/// Asserts what one depth after another comes to, and what is written.
+fn expect_told<R: Threads + Wait + Abort + Sync>(
+    rt: &R,
+    alloc: Global,
+    text: &str,
+    style: Style,
+    depths: u8,
+    heard: Heard,
+    told: Told,
+    lines: &str,
+) -> Result<(), Fail> {
+    assert!(rt; 1 <= depths && depths <= 64);
+    let mut written = Vec::new(alloc);
+    let found = deepened(rt, alloc, text, style, depths, heard, &mut written)?;
+    assert!(rt; written.as_slice() == lines.as_bytes());
+    let Ok(found) = found else {
+        return Err("a fault".into());
+    };
+    let (best, why, kept) = told;
+    assert!(rt; found.best == go(best) && found.why == why);
+    assert_eq!(rt; kept_moves(&found), kept);
+    Ok(())
+}
+
 // King b3 and rook h8 mate by h8h1 once the king has gone a1b1, its one move.
 #[test]
 fn depths_are_told(rt: HostRuntime) -> Result<(), Fail> {
-    let alloc = rt.alloc();
-    let mut written = Vec::new(alloc);
+    let (alloc, silent) = (rt.alloc(), Style::Silent);
+    let mate = ("g6g7", None, 1);
+    let lines = "info depth 1 score mate 1 pv g6g7\ninfo depth 2 score mate 1 pv g6g7\n";
+    expect_told(&rt, alloc, MATE, Style::Uci, 2, NOTHING, mate, lines)?;
+    expect_told(&rt, alloc, MATE, silent, 2, NOTHING, mate, "")?;
+    let mated = ("a1b1", None, 1);
+    expect_told(&rt, alloc, "Ka1 kb3 rh8", silent, 2, NOTHING, mated, "")
+}
+
+#[test]
+fn depths_are_cut(rt: HostRuntime) -> Result<(), Fail> {
+    let (alloc, silent) = (rt.alloc(), Style::Silent);
+    let one_node = Heard {
+        share: Some(1),
+        ..NOTHING
+    };
+    let quota = ("f6e5", Some(Cut::Quota(1)), 0);
+    expect_told(&rt, alloc, MATE, silent, 2, one_node, quota, "")?;
+    let soon = Heard {
+        deadline: Some(20),
+        ..NOTHING
+    };
+    let late = ("f6e5", Some(Cut::Deadline(130)), 0);
+    expect_told(&rt, alloc, MATE, silent, 2, soon, late, "")?;
     let stop = Heard {
         lines: b"isready\nstop\n",
         owed: PollsOwed::Number(0),
         ..NOTHING
     };
-    let one_node = Heard {
-        share: Some(1),
-        ..NOTHING
-    };
-    let soon = Heard {
-        deadline: Some(20),
-        ..NOTHING
-    };
-    let rows = [
-        (
-            MATE,
-            Style::Silent,
-            2u8,
-            one_node,
-            "f6e5",
-            Some(Cut::Quota(1)),
-            0u16,
-            "",
-        ),
-        (
-            MATE,
-            Style::Silent,
-            2,
-            soon,
-            "f6e5",
-            Some(Cut::Deadline(130)),
-            0,
-            "",
-        ),
-        (
-            MATE,
-            Style::Uci,
-            2,
-            NOTHING,
-            "g6g7",
-            None,
-            1,
-            "info depth 1 score mate 1 pv g6g7\ninfo depth 2 score mate 1 pv g6g7\n",
-        ),
-        (MATE, Style::Silent, 2, NOTHING, "g6g7", None, 1, ""),
-        (
-            "Ka1 kb3 rh8",
-            Style::Silent,
-            2,
-            NOTHING,
-            "a1b1",
-            None,
-            1,
-            "",
-        ),
-        (
-            MATE,
-            Style::Silent,
-            3,
-            stop,
-            "g6g7",
-            Some(Cut::Line),
-            0,
-            "readyok\n",
-        ),
-    ];
-    for (text, style, depths, heard, best, why, kept, lines) in rows {
-        assert!(rt; 1 <= depths && depths <= 64);
-        let told = deepened(&rt, alloc, text, style, depths, heard, &mut written)?;
-        assert!(rt; written.as_slice() == lines.as_bytes());
-        assert!(rt; told.is_ok());
-        if let Ok(told) = told {
-            assert_eq!(rt; told.best, go(best));
-            assert_eq!(rt; told.why, why);
-            assert_eq!(rt; kept_moves(&told), kept);
-        }
-    }
-    Ok(())
+    let line = ("g6g7", Some(Cut::Line), 0);
+    expect_told(&rt, alloc, MATE, silent, 3, stop, line, "readyok\n")
 }
 
 // The first reading is 100, and those after the depths are 130 and 90.
@@ -354,39 +333,40 @@ fn tried<R: Threads + Wait + Abort + Sync>(
     Ok(answer_of(&tried))
 }
 
+/// Asserts what the answer is.
+fn expect_tried<R: Threads + Wait + Abort + Sync>(
+    rt: &R,
+    alloc: Global,
+    text: &str,
+    last: u16,
+    quota: Option<u64>,
+    heard: Heard,
+    answer: Answer,
+) -> Result<(), Fail> {
+    assert!(rt; 1 <= last && last <= 100);
+    let limits = Limits {
+        quota,
+        deadline: None,
+    };
+    assert_eq!(rt; tried(rt, alloc, text, last, limits, heard)?, answer);
+    Ok(())
+}
+
 // A solve within 1 move of the kings in the corners enters at most 8 times the 67 lines of at most 3 moves, so it
 // polls once, and the line that comes next stops the solve within 2.
 #[test]
 fn mates_are_tried(rt: HostRuntime) -> Result<(), Fail> {
     let alloc = rt.alloc();
-    let free = Limits {
-        quota: None,
-        deadline: None,
-    };
+    let shown = Answer::Shown(1, go("g6g7"));
+    expect_tried(&rt, alloc, MATE, 3, None, NOTHING, shown)?;
+    expect_tried(&rt, alloc, "Ke1 ke8", 2, None, NOTHING, Answer::NoMate)?;
     let stop = Heard {
         lines: b"stop\n",
         owed: PollsOwed::Number(1),
         ..NOTHING
     };
-    let no_node = Limits {
-        quota: Some(0),
-        deadline: None,
-    };
-    let rows = [
-        (MATE, 3u16, free, NOTHING, Answer::Shown(1, go("g6g7"))),
-        ("Ke1 ke8", 2, free, NOTHING, Answer::NoMate),
-        ("Ka1 kh8", 3, free, stop, Answer::Stopped(2, Cut::Line)),
-        (
-            "Ke3 Ra1 kd5",
-            3,
-            no_node,
-            NOTHING,
-            Answer::Stopped(1, Cut::Quota(0)),
-        ),
-    ];
-    for (text, last, limits, heard, answer) in rows {
-        assert!(rt; 1 <= last && last <= 100);
-        assert_eq!(rt; tried(&rt, alloc, text, last, limits, heard)?, answer);
-    }
-    Ok(())
+    let by_line = Answer::Stopped(2, Cut::Line);
+    expect_tried(&rt, alloc, "Ka1 kh8", 3, None, stop, by_line)?;
+    let by_quota = Answer::Stopped(1, Cut::Quota(0));
+    expect_tried(&rt, alloc, "Ke3 Ra1 kd5", 3, Some(0), NOTHING, by_quota)
 }

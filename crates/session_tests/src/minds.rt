@@ -6,7 +6,7 @@ use io_ports::{
     Dialect, Limits, LineBuf, ListClock, MemSink, MemSource, OpenGate, PollsOwed, SearchFault,
 };
 use playing::Board;
-use rules_model::{Move, Position, sound};
+use rules_model::{Move, Side, sound};
 use sample_rules::{chess, position};
 use seeking::{Mind, Search, Solve, search_once, solve_once};
 use std::alloc::Global;
@@ -50,30 +50,31 @@ fn told_solve(answer: &Result<Solve, SearchFault>) -> Told {
     }
 }
 
-/// What a search of all legal moves to depth 2 and a solve within 2 moves answer, each after these lines, and the line
-/// that the second leaves.
-fn answers<R: Threads + Wait + Abort + Sync>(
+/// King and rook against a king on its back rank, White to move: a1a8 mates.
+const ROOK: &str = "Kg6 Ra1 kg8";
+
+/// What a search of all legal moves to depth 2 answers after these lines, and the line that it leaves.
+fn searched<R: Threads + Wait + Abort + Sync>(
     rt: &R,
     alloc: Global,
-    mind: &mut Mind,
-    p: &Position,
     lines: &[u8],
     owed: PollsOwed,
     limits: Limits,
     line: &mut LineBuf,
-) -> Result<(Told, Told), Fail> {
-    let rules = chess();
-    assert!(rt; sound(&rules, p));
-    let game = Game::new(alloc, &rules, p)?;
+) -> Result<Told, Fail> {
+    let (rules, p) = (chess(), position(ROOK));
+    assert!(rt; sound(&rules, &p));
+    let game = Game::new(alloc, &rules, &p)?;
     let roots = Board::new(game.tables(), game.position()).legal_moves(alloc)?;
     assert!(rt; !roots.items.is_empty());
+    let mut mind = Mind::new(alloc, 1)?;
     let mut sink = MemSink::new(alloc, 100)?;
     let mut clock = ListClock::new(alloc, &[5])?;
     let mut source = MemSource::new(alloc, lines, owed, &[])?;
     let searched = search_once(
         rt,
         alloc,
-        mind,
+        &mut mind,
         &game,
         roots.items.as_slice(),
         2,
@@ -85,76 +86,88 @@ fn answers<R: Threads + Wait + Abort + Sync>(
         Dialect::Uci,
         line,
     );
-    let mut again = MemSource::new(alloc, lines, owed, &[])?;
+    Ok(told_search(&searched))
+}
+
+/// The same of a solve within 2 moves.
+fn solved<R: Threads + Wait + Abort + Sync>(
+    rt: &R,
+    alloc: Global,
+    lines: &[u8],
+    owed: PollsOwed,
+    limits: Limits,
+    line: &mut LineBuf,
+) -> Result<Told, Fail> {
+    let (rules, p) = (chess(), position(ROOK));
+    assert!(rt; sound(&rules, &p));
+    let game = Game::new(alloc, &rules, &p)?;
+    let mut mind = Mind::new(alloc, 1)?;
+    let mut sink = MemSink::new(alloc, 100)?;
+    let mut clock = ListClock::new(alloc, &[5])?;
+    let mut source = MemSource::new(alloc, lines, owed, &[])?;
     let solved = solve_once(
         rt,
         alloc,
-        mind,
+        &mut mind,
         &game,
-        p.side,
+        Side::White,
         2,
         limits,
-        &mut again,
+        &mut source,
         &mut sink,
         &mut clock,
         &OpenGate,
         Dialect::Uci,
         line,
     );
-    Ok((told_search(&searched), told_solve(&solved)))
+    Ok(told_solve(&solved))
 }
 
-// King and rook against a king on its back rank: a1a8 mates.
+/// Asserts what both answer, and the line that they leave.
+fn expect<R: Threads + Wait + Abort + Sync>(
+    rt: &R,
+    alloc: Global,
+    lines: &str,
+    owed: PollsOwed,
+    limits: Limits,
+    told: (Told, Told),
+    text: &str,
+) -> Result<(), Fail> {
+    let mut line = LineBuf::new(alloc)?;
+    let found = searched(rt, alloc, lines.as_bytes(), owed, limits, &mut line)?;
+    assert!(rt; found == told.0 && line.text() == text.as_bytes());
+    let mut line = LineBuf::new(alloc)?;
+    let found = solved(rt, alloc, lines.as_bytes(), owed, limits, &mut line)?;
+    assert!(rt; found == told.1 && line.text() == text.as_bytes());
+    Ok(())
+}
+
 #[test]
 fn one_search_and_one_solve(rt: HostRuntime) -> Result<(), Fail> {
-    let alloc = rt.alloc();
-    let mates = go("a1a8");
-    let mut mind = Mind::new(alloc, 1)?;
-    let by = |quota, deadline| Limits { quota, deadline };
-    for (lines, owed, limits, found, shown) in [
-        (
-            b"".as_slice(),
-            PollsOwed::Endless,
-            NONE,
-            Told::Found(31999, mates),
-            Told::Shown,
-        ),
-        (
-            b"stop\n",
-            PollsOwed::Number(0),
-            NONE,
-            Told::Cut(Cut::Line),
-            Told::Cut(Cut::Line),
-        ),
-        (
-            b"",
-            PollsOwed::Number(0),
-            NONE,
-            Told::Cut(Cut::End),
-            Told::Cut(Cut::End),
-        ),
-        (
-            b"",
-            PollsOwed::Endless,
-            by(Some(0), None),
-            Told::Cut(Cut::Quota(0)),
-            Told::Cut(Cut::Quota(0)),
-        ),
-        (
-            b"",
-            PollsOwed::Endless,
-            by(None, Some(4)),
-            Told::Cut(Cut::Deadline(5)),
-            Told::Cut(Cut::Deadline(5)),
-        ),
-    ] {
-        let mut line = LineBuf::new(alloc)?;
-        let p = position("Kg6 Ra1 kg8");
-        let told = answers(&rt, alloc, &mut mind, &p, lines, owed, limits, &mut line)?;
-        assert_eq!(rt; told, (found, shown));
-        assert!(rt; line.text() == lines.strip_suffix(b"\n").unwrap_or(b""));
-    }
-    Ok(())
+    let (alloc, now) = (rt.alloc(), PollsOwed::Number(0));
+    let whole = (Told::Found(31999, go("a1a8")), Told::Shown);
+    expect(&rt, alloc, "", PollsOwed::Endless, NONE, whole, "")?;
+    let line = (Told::Cut(Cut::Line), Told::Cut(Cut::Line));
+    expect(&rt, alloc, "stop\n", now, NONE, line, "stop")?;
+    let end = (Told::Cut(Cut::End), Told::Cut(Cut::End));
+    expect(&rt, alloc, "", now, NONE, end, "")
+}
+
+#[test]
+fn limits_of_a_search_and_a_solve(rt: HostRuntime) -> Result<(), Fail> {
+    let (alloc, never) = (rt.alloc(), PollsOwed::Endless);
+    let none = Limits {
+        quota: Some(0),
+        deadline: None,
+    };
+    let quota = Told::Cut(Cut::Quota(0));
+    expect(&rt, alloc, "", never, none, (quota, quota), "")?;
+    let soon = Limits {
+        quota: None,
+        deadline: Some(4),
+    };
+    let late = Told::Cut(Cut::Deadline(5));
+    expect(&rt, alloc, "", never, soon, (late, late), "")
 }
 
 #[test]

@@ -1,6 +1,7 @@
 //! Tests of `turning`.
 use foundation::Memory;
 use io_ports::{Dialect, Got, LineBuf, MAX_LINE, MemSink, MemSource, PollsOwed, SearchFault};
+use std::alloc::Global;
 use std::process::Abort;
 use turning::{next_of, settle, wait};
 use watching::Cut;
@@ -11,153 +12,185 @@ fn leaves<R: Abort>(rt: &R, source: &MemSource, sink: &MemSink, left: &str, writ
     assert_eq!(rt; sink.taken(), written.as_bytes());
 }
 
-#[test]
-fn a_wait_ends_with_a_line_that_stops_or_with_the_end(rt: HostRuntime) -> Result<(), Memory> {
-    let alloc = rt.alloc();
-    let rows = [
-        (
-            Dialect::Uci,
-            "isready\ndebug on\n\n words\nisready\nxx stop now\nquit\n",
-            Cut::Line,
-            "xx stop now",
-            "quit\n",
-            "readyok\nreadyok\n",
-        ),
-        (Dialect::Uci, "quit", Cut::Line, "quit", "", ""),
-        (Dialect::Uci, "isready\n", Cut::End, "", "", "readyok\n"),
-        (Dialect::Uci, "", Cut::End, "", "", ""),
-        (
-            Dialect::Cecp,
-            "\n\r\nping 1\n?\n",
-            Cut::Line,
-            "ping 1",
-            "?\n",
-            "",
-        ),
-        (Dialect::Cecp, "\n\n", Cut::End, "", "", ""),
-    ];
-    for (dialect, input, cut, text, left, written) in rows {
-        let mut source = MemSource::new(alloc, input.as_bytes(), PollsOwed::Endless, &[])?;
-        let mut sink = MemSink::new(alloc, 100)?;
-        let mut line = LineBuf::new(alloc)?;
-        assert_eq!(rt; wait(&mut source, &mut sink, dialect, &mut line), Ok(cut));
-        if cut == Cut::Line {
-            assert_eq!(rt; line.text(), text.as_bytes());
-        }
-        leaves(&rt, &source, &sink, left, written);
-    }
+/// Asserts how a wait for a line of the input ends, what is left then, and what was written.
+fn expect_wait(
+    rt: &impl Abort,
+    alloc: Global,
+    dialect: Dialect,
+    input: &[u8],
+    ends: (Cut, &str),
+    left: &str,
+    written: &str,
+) -> Result<(), Memory> {
+    let mut source = MemSource::new(alloc, input, PollsOwed::Endless, &[])?;
+    let mut sink = MemSink::new(alloc, 100)?;
+    let mut line = LineBuf::new(alloc)?;
+    let (cut, text) = ends;
+    assert_eq!(rt; wait(&mut source, &mut sink, dialect, &mut line), Ok(cut));
+    assert!(rt; cut != Cut::Line || line.text() == text.as_bytes());
+    leaves(rt, &source, &sink, left, written);
     Ok(())
 }
 
 #[test]
-fn a_line_that_is_too_long_is_answered(rt: HostRuntime) -> Result<(), Memory> {
-    let alloc = rt.alloc();
+fn a_wait_ends_with_a_line_that_stops_or_with_the_end(rt: HostRuntime) -> Result<(), Memory> {
+    let (alloc, uci) = (rt.alloc(), Dialect::Uci);
+    let input = b"isready\ndebug on\n\n words\nisready\nxx stop now\nquit\n";
+    let stop = (Cut::Line, "xx stop now");
+    expect_wait(&rt, alloc, uci, input, stop, "quit\n", "readyok\nreadyok\n")?;
+    expect_wait(&rt, alloc, uci, b"quit", (Cut::Line, "quit"), "", "")?;
+    expect_wait(
+        &rt,
+        alloc,
+        uci,
+        b"isready\n",
+        (Cut::End, ""),
+        "",
+        "readyok\n",
+    )?;
+    expect_wait(&rt, alloc, uci, b"", (Cut::End, ""), "", "")
+}
+
+#[test]
+fn a_wait_in_cecp(rt: HostRuntime) -> Result<(), Memory> {
+    let (alloc, cecp) = (rt.alloc(), Dialect::Cecp);
+    let ping = (Cut::Line, "ping 1");
+    expect_wait(&rt, alloc, cecp, b"\n\r\nping 1\n?\n", ping, "?\n", "")?;
+    expect_wait(&rt, alloc, cecp, b"\n\n", (Cut::End, ""), "", "")
+}
+
+/// A line with one byte too many, and one that stops.
+fn too_long(alloc: Global) -> Result<Vec<u8>, Memory> {
     let mut input = Vec::new(alloc);
     for _ in 0..MAX_LINE + 1 {
         input.push(b'x')?;
     }
     input.extend_from_slice(b"\nstop\n")?;
-    let rows = [
-        (Dialect::Uci, "info string error LineFault 1 TooLong\n"),
-        (Dialect::Cecp, "Error (line too long)\n"),
-    ];
-    for (dialect, written) in rows {
-        let mut source = MemSource::new(alloc, input.as_slice(), PollsOwed::Number(0), &[])?;
-        let mut sink = MemSink::new(alloc, 100)?;
-        let mut line = LineBuf::new(alloc)?;
-        assert_eq!(rt;
-            wait(&mut source, &mut sink, dialect, &mut line),
-            Ok(Cut::Line)
-        );
-        leaves(&rt, &source, &sink, "", written);
-    }
+    Ok(input)
+}
+
+#[test]
+fn a_line_that_is_too_long_is_answered(rt: HostRuntime) -> Result<(), Memory> {
+    let input = too_long(rt.alloc())?;
+    let (stop, uci) = (
+        (Cut::Line, "stop"),
+        "info string error LineFault 1 TooLong\n",
+    );
+    expect_wait(&rt, rt.alloc(), Dialect::Uci, &input, stop, "", uci)?;
+    let cecp = "Error (line too long)\n";
+    expect_wait(&rt, rt.alloc(), Dialect::Cecp, &input, stop, "", cecp)
+}
+
+/// Asserts what a search that ended for this reason, and holds its best move back or not, ends for at last.
+fn expect_settled(
+    rt: &impl Abort,
+    alloc: Global,
+    holds: bool,
+    why: Option<Cut>,
+    input: &str,
+    settled: Option<Cut>,
+    leaves_and_writes: (&str, &str),
+) -> Result<(), Memory> {
+    let mut source = MemSource::new(alloc, input.as_bytes(), PollsOwed::Endless, &[])?;
+    let mut sink = MemSink::new(alloc, 100)?;
+    let mut line = LineBuf::new(alloc)?;
+    let answer = settle(&mut source, &mut sink, Dialect::Uci, &mut line, holds, why);
+    assert_eq!(rt; answer, Ok(settled));
+    let (left, written) = leaves_and_writes;
+    leaves(rt, &source, &sink, left, written);
     Ok(())
+}
+
+#[test]
+fn a_best_move_that_is_not_held_back(rt: HostRuntime) -> Result<(), Memory> {
+    let (alloc, late) = (rt.alloc(), Some(Cut::Deadline(7)));
+    let whole = ("isready\nstop\n", "");
+    expect_settled(&rt, alloc, false, None, "isready\nstop\n", None, whole)?;
+    expect_settled(&rt, alloc, false, late, "stop\n", late, ("stop\n", ""))
 }
 
 #[test]
 fn a_best_move_is_held_back_until_a_line_or_the_end(rt: HostRuntime) -> Result<(), Memory> {
     let alloc = rt.alloc();
-    let quota = Some(Cut::Quota(3));
-    let late = Some(Cut::Deadline(7));
-    let rows = [
-        (false, None, "isready\nstop\n", None, "isready\nstop\n", ""),
-        (false, late, "stop\n", late, "stop\n", ""),
-        (
-            true,
-            None,
-            "isready\nstop\ngo\n",
-            Some(Cut::Line),
-            "go\n",
-            "readyok\n",
-        ),
-        (true, quota, "isready\n", Some(Cut::End), "", "readyok\n"),
-        (true, late, "stop\n", Some(Cut::Line), "", ""),
-        (
-            true,
-            Some(Cut::Line),
-            "stop\n",
-            Some(Cut::Line),
-            "stop\n",
-            "",
-        ),
-        (true, Some(Cut::End), "", Some(Cut::End), "", ""),
-    ];
-    for (holds, why, input, settled, left, written) in rows {
-        let mut source = MemSource::new(alloc, input.as_bytes(), PollsOwed::Endless, &[])?;
-        let mut sink = MemSink::new(alloc, 100)?;
-        let mut line = LineBuf::new(alloc)?;
-        let answer = settle(&mut source, &mut sink, Dialect::Uci, &mut line, holds, why);
-        assert_eq!(rt; answer, Ok(settled));
-        leaves(&rt, &source, &sink, left, written);
-    }
+    let (line, end) = (Some(Cut::Line), Some(Cut::End));
+    let after = ("go\n", "readyok\n");
+    expect_settled(&rt, alloc, true, None, "isready\nstop\ngo\n", line, after)?;
+    let (quota, late) = (Some(Cut::Quota(3)), Some(Cut::Deadline(7)));
+    let ready = ("", "readyok\n");
+    expect_settled(&rt, alloc, true, quota, "isready\n", end, ready)?;
+    expect_settled(&rt, alloc, true, late, "stop\n", line, ("", ""))?;
+    expect_settled(&rt, alloc, true, line, "stop\n", line, ("stop\n", ""))?;
+    expect_settled(&rt, alloc, true, end, "", end, ("", ""))
+}
+
+/// Asserts what comes after a search that ended for this reason, its text, and what is left.
+fn expect_next(
+    rt: &impl Abort,
+    alloc: Global,
+    why: Option<Cut>,
+    input: &str,
+    comes: (Got, &str),
+    left: &str,
+) -> Result<(), Memory> {
+    let mut source = MemSource::new(alloc, input.as_bytes(), PollsOwed::Endless, &[])?;
+    let mut line = LineBuf::new(alloc)?;
+    line.set(b"held");
+    let (got, text) = comes;
+    assert_eq!(rt; next_of(&mut source, &mut line, why), got);
+    assert!(rt; got != Got::Line || line.text() == text.as_bytes());
+    assert_eq!(rt; source.left(), left.as_bytes());
     Ok(())
 }
 
 #[test]
 fn the_line_that_cut_a_search_comes_next(rt: HostRuntime) -> Result<(), Memory> {
     let alloc = rt.alloc();
-    let rows = [
-        (None, "go\nquit\n", Got::Line, "go", "quit\n"),
-        (Some(Cut::Line), "go\n", Got::Line, "held", "go\n"),
-        (Some(Cut::Quota(1)), "go\n", Got::Line, "go", ""),
-        (Some(Cut::Deadline(1)), "", Got::End, "", ""),
-        (Some(Cut::End), "", Got::End, "", ""),
-    ];
-    for (why, input, got, text, left) in rows {
-        let mut source = MemSource::new(alloc, input.as_bytes(), PollsOwed::Endless, &[])?;
-        let mut line = LineBuf::new(alloc)?;
-        line.set(b"held");
-        assert_eq!(rt; next_of(&mut source, &mut line, why), got);
-        if got == Got::Line {
-            assert_eq!(rt; line.text(), text.as_bytes());
-        }
-        assert_eq!(rt; source.left(), left.as_bytes());
-    }
+    expect_next(&rt, alloc, None, "go\nquit\n", (Got::Line, "go"), "quit\n")?;
+    expect_next(
+        &rt,
+        alloc,
+        Some(Cut::Line),
+        "go\n",
+        (Got::Line, "held"),
+        "go\n",
+    )?;
+    expect_next(
+        &rt,
+        alloc,
+        Some(Cut::Quota(1)),
+        "go\n",
+        (Got::Line, "go"),
+        "",
+    )?;
+    expect_next(&rt, alloc, Some(Cut::Deadline(1)), "", (Got::End, ""), "")?;
+    expect_next(&rt, alloc, Some(Cut::End), "", (Got::End, ""), "")
+}
+
+/// Asserts the fault that ends a wait, by a source that fails at these calls or a sink without more room.
+fn expect_fault(
+    rt: &impl Abort,
+    alloc: Global,
+    failing: &[u64],
+    room: usize,
+    fault: SearchFault,
+    left: &str,
+    written: &str,
+) -> Result<(), Memory> {
+    let mut source = MemSource::new(alloc, b"isready\nstop\n", PollsOwed::Endless, failing)?;
+    let mut sink = MemSink::new(alloc, room)?;
+    let mut line = LineBuf::new(alloc)?;
+    let answer = settle(&mut source, &mut sink, Dialect::Uci, &mut line, true, None);
+    assert_eq!(rt; answer, Err(fault));
+    leaves(rt, &source, &sink, left, written);
     Ok(())
 }
 
 #[test]
 fn a_fault_ends_a_wait(rt: HostRuntime) -> Result<(), Memory> {
     let alloc = rt.alloc();
-    let rows = [
-        (
-            &[1u64][..],
-            100,
-            SearchFault::ReadFault,
-            "stop\n",
-            "readyok\n",
-        ),
-        (&[0][..], 100, SearchFault::ReadFault, "isready\nstop\n", ""),
-        (&[][..], 5, SearchFault::WriteFault, "stop\n", "ready"),
-        (&[][..], 7, SearchFault::WriteFault, "stop\n", "readyok"),
-    ];
-    for (failing, room, fault, left, written) in rows {
-        let mut source = MemSource::new(alloc, b"isready\nstop\n", PollsOwed::Endless, failing)?;
-        let mut sink = MemSink::new(alloc, room)?;
-        let mut line = LineBuf::new(alloc)?;
-        let answer = settle(&mut source, &mut sink, Dialect::Uci, &mut line, true, None);
-        assert_eq!(rt; answer, Err(fault));
-        leaves(&rt, &source, &sink, left, written);
-    }
-    Ok(())
+    let (reads, writes) = (SearchFault::ReadFault, SearchFault::WriteFault);
+    expect_fault(&rt, alloc, &[1], 100, reads, "stop\n", "readyok\n")?;
+    expect_fault(&rt, alloc, &[0], 100, reads, "isready\nstop\n", "")?;
+    expect_fault(&rt, alloc, &[], 5, writes, "stop\n", "ready")?;
+    expect_fault(&rt, alloc, &[], 7, writes, "stop\n", "readyok")
 }

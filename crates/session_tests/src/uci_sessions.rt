@@ -66,73 +66,63 @@ fn count(text: &[u8], part: &[u8]) -> usize {
     times
 }
 
-// Each row: lines, and what is answered.
 #[test]
 fn lines_set_and_answer(rt: HostRuntime) -> Result<(), Fail> {
-    let rows = [
-        (
-            "uci\nquit\n",
-            "id name vengine\nid author vengine\noption name Threads type spin default 1 min 1 max 64\n\
+    let never = PollsOwed::Endless;
+    let lines = "uci\nquit\n";
+    let answers =
+        "id name vengine\nid author vengine\noption name Threads type spin default 1 min 1 max 64\n\
                 option name Hash type spin default 16 min 1 max 1024\n\
                 option name MateFacts type spin default 4096 min 16 max 65536\n\
                 option name VariantPath type string default <empty>\n\
                 option name UCI_Variant type combo default chess var chess var crazyhouse var 3check \
                 var kingofthehill var antichess var extinction var losalamos var capablanca var seirawan \
                 var xiangqi\n\
-                uciok\n",
-        ),
-        (
-            "\nwhat is this\nnow isready\ndebug on\nregister later\nstop\nponderhit\nquit now\nuci\n",
-            "readyok\n",
-        ),
-        (
-            "position fen k7/8/8/8/8/8/1q6/K7 w - - 0 1\nmoves\nstrategy\n\
-                position startpos moves f2f3 e7e5 g2g4 d8h4\nstatus\nmoves\ngo depth 1\nquit\n",
-            "a1b2\nmoves 1\ninfo string no strategy\nwon black checkmate\n\
-                rnb1kbnr/pppp1ppp/8/4p3/6Pq/5P2/PPPPP2P/RNBQKBNR w KQkq - 1 3\nmoves 0\nbestmove (none)\n",
-        ),
-        (
-            "go perft 2\nposition startpos moves e2e4\ngo perft 1\nucinewgame\nstatus\nquit\n",
-            "info string perft 2 400\ninfo string perft 1 20\nongoing\n\
-                rnbqkbnr/pppppppp/8/8/8/8/PPPPPPPP/RNBQKBNR w KQkq - 0 1\n",
-        ),
-    ];
-    for (input, text) in rows {
-        says(&rt, PollsOwed::Endless, input, text)?;
-    }
+                uciok\n";
+    says(&rt, never, lines, answers)?;
+    let lines =
+        "\nwhat is this\nnow isready\ndebug on\nregister later\nstop\nponderhit\nquit now\nuci\n";
+    let answers = "readyok\n";
+    says(&rt, never, lines, answers)?;
+    let lines = "position fen k7/8/8/8/8/8/1q6/K7 w - - 0 1\nmoves\nstrategy\n\
+                position startpos moves f2f3 e7e5 g2g4 d8h4\nstatus\nmoves\ngo depth 1\nquit\n";
+    let answers = "a1b2\nmoves 1\ninfo string no strategy\nwon black checkmate\n\
+                rnb1kbnr/pppp1ppp/8/4p3/6Pq/5P2/PPPPP2P/RNBQKBNR w KQkq - 1 3\nmoves 0\nbestmove (none)\n";
+    says(&rt, never, lines, answers)?;
+    let lines = "go perft 2\nposition startpos moves e2e4\ngo perft 1\nucinewgame\nstatus\nquit\n";
+    let answers = "info string perft 2 400\ninfo string perft 1 20\nongoing\n\
+                rnbqkbnr/pppppppp/8/8/8/8/PPPPPPPP/RNBQKBNR w KQkq - 0 1\n";
+    says(&rt, never, lines, answers)?;
     Ok(())
 }
 
 // A line that is refused leaves the game and the variant.
 #[test]
 fn lines_are_refused(rt: HostRuntime) -> Result<(), Fail> {
-    let rows = [
-        (
-            "position fen k7/8/8/8/8/8/1q6/K7 w - - 0 1\nposition startpos moves e2e4 e7e5 e4e5\n\
-                position fen 8/8 w - - 0 1\nposition startpos moves e9\nposition\nstatus\nquit\n",
-            "info string error PositionFault 2 BadMove 3 e4e5\n\
+    let never = PollsOwed::Endless;
+    let lines =
+        "position fen k7/8/8/8/8/8/1q6/K7 w - - 0 1\nposition startpos moves e2e4 e7e5 e4e5\n\
+                position fen 8/8 w - - 0 1\nposition startpos moves e9\nposition\nstatus\nquit\n";
+    let answers = "info string error PositionFault 2 BadMove 3 e4e5\n\
                 info string error PositionFault 1 BadFen FenFault 2 Rank\n\
                 info string error PositionFault 2 BadMove 1 e9\ninfo string error PositionFault 4 NoPosition\n\
-                ongoing\nk7/8/8/8/8/8/1q6/K7 w - - 0 1\n",
-        ),
-        (
-            "setoption name Hash value 0\nsetoption name threads value 65\nsetoption name MateFacts\n\
+                ongoing\nk7/8/8/8/8/8/1q6/K7 w - - 0 1\n";
+    says(&rt, never, lines, answers)?;
+    let lines =
+        "setoption name Hash value 0\nsetoption name threads value 65\nsetoption name MateFacts\n\
                 setoption name Other value 1\nsetoption name UCI_Variant value shogi\n\
                 setoption name VariantPath value gone.ini\nsetoption name VariantPath value bad.ini\n\
                 setoption name VariantPath value own.ini\nsetoption name UCI_Variant value own\n\
                 setoption name VariantPath value gone.ini\nstatus\nsetoption name VariantPath value <empty>\n\
-                setoption name UCI_Variant value own\nstatus\nquit\n",
-            "info string error OptionFault 1 BadValue Hash\ninfo string error OptionFault 1 BadValue Threads\n\
+                setoption name UCI_Variant value own\nstatus\nquit\n";
+    let answers =
+        "info string error OptionFault 1 BadValue Hash\ninfo string error OptionFault 1 BadValue Threads\n\
                 info string error OptionFault 1 BadValue MateFacts\n\
                 info string error OptionFault 2 UnknownVariant shogi\ninfo string error FileFault 1 Missing\n\
                 info string error IniFault 4 NoSection 1\ninfo string error FileFault 1 Missing\nongoing\n\
                 7k/8/5KQ1/8/8/8/8/8 w - - 0 1\ninfo string error OptionFault 2 UnknownVariant own\nongoing\n\
-                rnbqkbnr/pppppppp/8/8/8/8/PPPPPPPP/RNBQKBNR w KQkq - 0 1\n",
-        ),
-    ];
-    for (input, text) in rows {
-        says(&rt, PollsOwed::Endless, input, text)?;
-    }
+                rnbqkbnr/pppppppp/8/8/8/8/PPPPPPPP/RNBQKBNR w KQkq - 0 1\n";
+    says(&rt, never, lines, answers)?;
     Ok(())
 }
 
@@ -153,34 +143,34 @@ fn tells_no_mate<R: Abort + AllocGlobal + Threads + Wait + Sync>(
     Ok(())
 }
 
-// A mate that the counter would outrun but for the mate itself, one of two moves, a side that is mated, and a mate
-// that a third repetition forbids; the search of depth 1 comes then. With `nodes 0` nothing is searched, but a fact
-// that was kept answers.
+// A mate that the counter would outrun but for the mate itself, one of two moves, and a side that is mated. With
+// `nodes 0` nothing is searched.
 #[test]
 fn mates_are_found(rt: HostRuntime) -> Result<(), Fail> {
-    let rows = [
-        (
-            "position fen 7k/8/5KQ1/8/8/8/8/8 w - - 99 80\ngo mate 1\nsetoption name Threads value 4\ngo mate 2\n\
-                quit\n",
-            "info depth 1 score mate 1 pv g6g7\nbestmove g6g7\ninfo depth 1 score mate 1 pv g6g7\nbestmove g6g7\n",
-        ),
-        (
-            "position fen 7k/R7/5K2/8/8/8/8/8 w - - 0 1\ngo mate 2\nposition startpos\nstrategy\nquit\n",
-            "info depth 3 score mate 2 pv f6g6\nbestmove f6g6\ninfo string no strategy\n",
-        ),
-        (
-            "position fen 7k/R7/6K1/8/8/8/8/8 b - - 1 1\ngo depth 3\nquit\n",
-            "info depth 1 score cp -504 pv h8g8\ninfo depth 2 score mate -1 pv h8g8\n\
-                info depth 3 score mate -1 pv h8g8\nbestmove h8g8\n",
-        ),
-        (
-            "position fen 7k/R7/5K2/8/8/8/8/8 w - - 0 1\ngo mate 1 nodes 0\nquit\n",
-            "info string stopped\nbestmove a7a1\n",
-        ),
-    ];
-    for (input, text) in rows {
-        says(&rt, PollsOwed::Endless, input, text)?;
-    }
+    let never = PollsOwed::Endless;
+    let lines =
+        "position fen 7k/8/5KQ1/8/8/8/8/8 w - - 99 80\ngo mate 1\nsetoption name Threads value 4\ngo mate 2\n\
+                quit\n";
+    let answers =
+        "info depth 1 score mate 1 pv g6g7\nbestmove g6g7\ninfo depth 1 score mate 1 pv g6g7\nbestmove g6g7\n";
+    says(&rt, never, lines, answers)?;
+    let lines =
+        "position fen 7k/R7/5K2/8/8/8/8/8 w - - 0 1\ngo mate 2\nposition startpos\nstrategy\nquit\n";
+    let answers = "info depth 3 score mate 2 pv f6g6\nbestmove f6g6\ninfo string no strategy\n";
+    says(&rt, never, lines, answers)?;
+    let lines = "position fen 7k/R7/6K1/8/8/8/8/8 b - - 1 1\ngo depth 3\nquit\n";
+    let answers = "info depth 1 score cp -504 pv h8g8\ninfo depth 2 score mate -1 pv h8g8\n\
+                info depth 3 score mate -1 pv h8g8\nbestmove h8g8\n";
+    says(&rt, never, lines, answers)?;
+    let lines = "position fen 7k/R7/5K2/8/8/8/8/8 w - - 0 1\ngo mate 1 nodes 0\nquit\n";
+    let answers = "info string stopped\nbestmove a7a1\n";
+    says(&rt, never, lines, answers)?;
+    Ok(())
+}
+
+// A mate that a third repetition forbids; the search of depth 1 comes then. With `nodes 0` a fact that was kept answers.
+#[test]
+fn no_mates_are_told(rt: HostRuntime) -> Result<(), Fail> {
     tells_no_mate(
         &rt,
         "position fen 7k/R7/6K1/8/8/8/8/8 b - - 0 1 moves h8g8 g6f6 g8h8 f6g6 h8g8 g6f6 g8h8\ngo mate 2\nquit\n",
@@ -200,19 +190,15 @@ fn mates_are_found(rt: HostRuntime) -> Result<(), Fail> {
 // which is answered next, and at the end of the lines.
 #[test]
 fn a_best_move_is_held_back(rt: HostRuntime) -> Result<(), Fail> {
-    let rows = [
-        (
-            "position fen 7k/8/5KQ1/8/8/8/8/8 w - - 0 1\ngo infinite mate 1\nisready\ndebug on\n\nstatus\nquit\n",
-            "info depth 1 score mate 1 pv g6g7\nreadyok\nbestmove g6g7\nongoing\n7k/8/5KQ1/8/8/8/8/8 w - - 0 1\n",
-        ),
-        (
-            "position fen 7k/8/5KQ1/8/8/8/8/8 w - - 0 1\ngo ponder mate 1\nquit\nuci\n",
-            "info depth 1 score mate 1 pv g6g7\nbestmove g6g7\n",
-        ),
-    ];
-    for (input, text) in rows {
-        says(&rt, PollsOwed::Endless, input, text)?;
-    }
+    let never = PollsOwed::Endless;
+    let lines =
+        "position fen 7k/8/5KQ1/8/8/8/8/8 w - - 0 1\ngo infinite mate 1\nisready\ndebug on\n\nstatus\nquit\n";
+    let answers =
+        "info depth 1 score mate 1 pv g6g7\nreadyok\nbestmove g6g7\nongoing\n7k/8/5KQ1/8/8/8/8/8 w - - 0 1\n";
+    says(&rt, never, lines, answers)?;
+    let lines = "position fen 7k/8/5KQ1/8/8/8/8/8 w - - 0 1\ngo ponder mate 1\nquit\nuci\n";
+    let answers = "info depth 1 score mate 1 pv g6g7\nbestmove g6g7\n";
+    says(&rt, never, lines, answers)?;
     Ok(())
 }
 
@@ -236,26 +222,26 @@ fn lines_are_heard_in_a_search(rt: HostRuntime) -> Result<(), Fail> {
     Ok(())
 }
 
-// Each row: the calls of the source that fail, the room of the sink, how the session ends, and what was written.
+/// Asserts how a session with a source that fails at these calls and a sink with this room ends, and what it wrote.
+fn expect_end<R: Abort + AllocGlobal + Threads + Wait + Sync>(
+    rt: &R,
+    failing: &[u64],
+    room: usize,
+    end: Result<Ended, SearchFault>,
+    text: &str,
+) -> Result<(), Fail> {
+    let (ended, sink) = served(rt, b"isready\nstrategy", PollsOwed::Endless, failing, room)?;
+    assert!(rt; ended == end && sink.taken() == text.as_bytes(), "{text}");
+    Ok(())
+}
+
 #[test]
 fn faults_end_a_session(rt: HostRuntime) -> Result<(), Fail> {
-    let rows: [(&[u64], usize, Result<Ended, SearchFault>, &str); 4] = [
-        (
-            &[],
-            100,
-            Ok(Ended::InputEnded),
-            "readyok\ninfo string no strategy\n",
-        ),
-        (&[0], 100, Err(SearchFault::ReadFault), ""),
-        (&[1], 100, Err(SearchFault::ReadFault), "readyok\n"),
-        (&[], 11, Err(SearchFault::WriteFault), "readyok\ninf"),
-    ];
-    for (failing, room, end, text) in rows {
-        let (ended, sink) = served(&rt, b"isready\nstrategy", PollsOwed::Endless, failing, room)?;
-        assert!(rt; ended == end, "{text}");
-        assert_eq!(rt; sink.taken(), text.as_bytes());
-    }
-    Ok(())
+    let both = "readyok\ninfo string no strategy\n";
+    expect_end(&rt, &[], 100, Ok(Ended::InputEnded), both)?;
+    expect_end(&rt, &[0], 100, Err(SearchFault::ReadFault), "")?;
+    expect_end(&rt, &[1], 100, Err(SearchFault::ReadFault), "readyok\n")?;
+    expect_end(&rt, &[], 11, Err(SearchFault::WriteFault), "readyok\ninf")
 }
 
 #[test]
