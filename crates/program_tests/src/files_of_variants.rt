@@ -50,53 +50,54 @@ fn fails<R: Abort + AllocGlobal + Threads + Wait + Sync, F: Files>(
     Ok(())
 }
 
-/// The source fails at its first call, so that a command that is reached and reads it has status 4.
-#[test]
-fn the_file_of_variants_is_judged_before_the_command(rt: HostRuntime) -> Result<(), Fail> {
-    let mut files = some_files(rt.alloc())?;
-    let mut bytes = largest_file(rt.alloc())?;
+/// Files of variants of the most bytes, and of one more.
+fn large_files(alloc: Global) -> Result<MemFiles, Fail> {
+    let mut files = some_files(alloc)?;
+    let mut bytes = largest_file(alloc)?;
     files.add(b"largest", bytes.as_slice())?;
     bytes.push(b'#')?;
     files.add(b"larger", bytes.as_slice())?;
-    let rows: [(&[&str], u8, &str); 9] = [
-        (
-            &["--variants=none", "reach", "fN", "i9"],
-            6,
-            "error FileFault 1 Missing\n",
-        ),
-        (
-            &["--variants", "larger", "moves"],
-            6,
-            "error FileFault 2 TooLarge\n",
-        ),
-        (
-            &["--variants", "pair", "moves"],
-            3,
-            "error IniFault 4 NoSection 1\n",
-        ),
-        (&["--variants", "pair", "reach", "N"], 2, USAGE_LINE),
-        (
-            &["--variants", "none", "uci"],
-            6,
-            "error FileFault 1 Missing\n",
-        ),
-        (
-            &["--variants", "pair", "xboard"],
-            3,
-            "error IniFault 4 NoSection 1\n",
-        ),
-        (&["--variants", "largest", "moves"], 4, ""),
-        (&["moves"], 4, ""),
-        (
-            &["--variants", "empty", "reach", "N", "i9"],
-            3,
-            "error ReachFault 1 BadSquare i9\n",
-        ),
-    ];
-    for (words, status, text) in rows {
-        fails(&rt, &mut files, words, status, text.as_bytes())?;
-    }
-    Ok(())
+    Ok(files)
+}
+
+/// A file that is missing, too large, or no list of sections.
+#[test]
+fn the_file_of_variants_is_judged_before_the_command(rt: HostRuntime) -> Result<(), Fail> {
+    let mut files = large_files(rt.alloc())?;
+    let missing = b"error FileFault 1 Missing\n";
+    let reach = ["--variants=none", "reach", "fN", "i9"].as_slice();
+    fails(&rt, &mut files, reach, 6, missing)?;
+    let words = ["--variants", "larger", "moves"].as_slice();
+    fails(&rt, &mut files, words, 6, b"error FileFault 2 TooLarge\n")?;
+    let words = ["--variants", "pair", "moves"].as_slice();
+    fails(&rt, &mut files, words, 3, b"error IniFault 4 NoSection 1\n")?;
+    let words = ["--variants", "none", "uci"].as_slice();
+    fails(&rt, &mut files, words, 6, missing)
+}
+
+/// The source fails at its first call, so that a command that is reached and reads it has status 4; other words are
+/// refused before the file is read.
+#[test]
+fn the_command_comes_after_the_file_of_variants(rt: HostRuntime) -> Result<(), Fail> {
+    let mut files = large_files(rt.alloc())?;
+    fails(&rt, &mut files, &["--variants", "largest", "moves"], 4, b"")?;
+    fails(&rt, &mut files, &["moves"], 4, b"")?;
+    let usage = USAGE_LINE.as_bytes();
+    fails(
+        &rt,
+        &mut files,
+        &["--variants", "pair", "reach", "N"],
+        2,
+        usage,
+    )?;
+    let words = ["--variants", "empty", "reach", "N", "i9"].as_slice();
+    fails(
+        &rt,
+        &mut files,
+        words,
+        3,
+        b"error ReachFault 1 BadSquare i9\n",
+    )
 }
 
 #[test]
@@ -114,36 +115,37 @@ fn refuses_each<R: Abort + AllocGlobal + Threads + Wait + Sync>(
     name: &str,
     text: &str,
 ) -> Result<(), Fail> {
-    for command in ["moves", "variants", "uci", "xboard"] {
-        let words = ["--variants", name, command];
-        fails(rt, files, words.as_slice(), 3, text.as_bytes())?;
+    let text = text.as_bytes();
+    fails(rt, files, &["--variants", name, "moves"], 3, text)?;
+    fails(rt, files, &["--variants", name, "variants"], 3, text)?;
+    fails(rt, files, &["--variants", name, "uci"], 3, text)?;
+    fails(rt, files, &["--variants", name, "xboard"], 3, text)
+}
+
+/// A line of a file with one byte too many, and a file with one section too many.
+fn add_long_and_many(alloc: Global, files: &mut MemFiles) -> Result<(), Fail> {
+    let mut long = Vec::new(alloc);
+    long.resize(1025, b'[')?;
+    let mut many = Vec::new(alloc);
+    for _ in 0..513 {
+        many.extend_from_slice(b"[a]\n")?;
     }
+    files.add(b"long", long.as_slice())?;
+    files.add(b"many", many.as_slice())?;
     Ok(())
 }
 
 #[test]
 fn a_faulty_file_of_variants_stops_each_command(rt: HostRuntime) -> Result<(), Fail> {
-    let mut long = Vec::new(rt.alloc());
-    long.resize(1025, b'[')?;
-    let mut many = Vec::new(rt.alloc());
-    for _ in 0..513 {
-        many.extend_from_slice(b"[a]\n")?;
-    }
     let mut files = MemFiles::new(rt.alloc());
+    add_long_and_many(rt.alloc(), &mut files)?;
     files.add(b"open", b"[a")?;
     files.add(b"byte", b"\xff")?;
-    files.add(b"long", long.as_slice())?;
-    files.add(b"many", many.as_slice())?;
-    let rows = [
-        ("open", "error IniFault 5 BadLine 1\n"),
-        ("byte", "error IniFault 2 NotAscii 1\n"),
-        ("long", "error IniFault 3 LineTooLong 1\n"),
-        ("many", "error IniFault 6 TooManySections 513\n"),
-    ];
-    for (name, text) in rows {
-        refuses_each(&rt, &mut files, name, text)?;
-    }
-    Ok(())
+    refuses_each(&rt, &mut files, "open", "error IniFault 5 BadLine 1\n")?;
+    refuses_each(&rt, &mut files, "byte", "error IniFault 2 NotAscii 1\n")?;
+    refuses_each(&rt, &mut files, "long", "error IniFault 3 LineTooLong 1\n")?;
+    let many = "error IniFault 6 TooManySections 513\n";
+    refuses_each(&rt, &mut files, "many", many)
 }
 
 /// A section for each fault that one may have.

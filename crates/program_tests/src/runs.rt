@@ -75,7 +75,46 @@ pub fn answers<R: Abort + AllocGlobal + Threads + Wait + Sync, F: Files>(
     Ok(())
 }
 
-/// The same with a sink that has room for every text.
+/// The same over the files of `some_files`, of texts.
+pub fn answers_over_files<R: Abort + AllocGlobal + Threads + Wait + Sync>(
+    rt: &R,
+    words: &[&str],
+    input: &str,
+    status: u8,
+    text: &str,
+) -> Result<(), Fail> {
+    let mut files = some_files(rt.alloc())?;
+    answers(
+        rt,
+        &mut files,
+        words,
+        input.as_bytes(),
+        status,
+        text.as_bytes(),
+    )
+}
+
+/// Asserts that words over those files are answered by the text, with status 0.
+pub fn tells<R: Abort + AllocGlobal + Threads + Wait + Sync>(
+    rt: &R,
+    words: &[&str],
+    input: &str,
+    text: &str,
+) -> Result<(), Fail> {
+    answers_over_files(rt, words, input, 0, text)
+}
+
+/// Asserts that words over those files are refused by the text, with status 3.
+pub fn refuses<R: Abort + AllocGlobal + Threads + Wait + Sync>(
+    rt: &R,
+    words: &[&str],
+    input: &str,
+    text: &str,
+) -> Result<(), Fail> {
+    answers_over_files(rt, words, input, 3, text)
+}
+
+/// As `answers`, with a sink that has room for every text.
 pub fn says<R: Abort + AllocGlobal + Threads + Wait + Sync, F: Files>(
     rt: &R,
     files: &mut F,

@@ -1,24 +1,17 @@
 //! Sessions, from their first line to their last.
-use crate::runs::{ROOM, answers, ran_over};
+use crate::runs::{ROOM, ran_over, tells};
 use io_ports::{MemFiles, MemSink, MemSource, PollsOwed};
 use std::test::Fail;
 
 /// The lines of a session end at `quit`, or with the input. Without words it is UCI's.
 #[test]
 fn sessions_are_held(rt: HostRuntime) -> Result<(), Fail> {
-    let rows: [(&[&str], &str, &str); 6] = [
-        (&[], "isready\nquit\nisready\n", "readyok\n"),
-        (&["--threads", "2"], "please isready now", "readyok\n"),
-        (&["uci"], "stop\nquit\n", ""),
-        (&["uci"], "", ""),
-        (&["xboard"], "ping 7\nquit\nping 8\n", "pong 7\n"),
-        (&["xboard"], "ping 7\nping 8\n", "pong 7\npong 8\n"),
-    ];
-    let mut files = MemFiles::new(rt.alloc());
-    for (words, input, text) in rows {
-        answers(&rt, &mut files, words, input.as_bytes(), 0, text.as_bytes())?;
-    }
-    Ok(())
+    tells(&rt, &[], "isready\nquit\nisready\n", "readyok\n")?;
+    tells(&rt, &["--threads", "2"], "please isready now", "readyok\n")?;
+    tells(&rt, &["uci"], "stop\nquit\n", "")?;
+    tells(&rt, &["uci"], "", "")?;
+    tells(&rt, &["xboard"], "ping 7\nquit\nping 8\n", "pong 7\n")?;
+    tells(&rt, &["xboard"], "ping 7\nping 8\n", "pong 7\npong 8\n")
 }
 
 /// A search for a mate in two, and a line that may stop it.

@@ -1,8 +1,10 @@
 //! Strategies and proof texts: `check`.
-use crate::runs::{answers, says};
-use io_ports::MemFiles;
+use crate::runs::answers_over_files;
 use std::alloc::Global;
+use std::process::Abort;
+use std::sync::Wait;
 use std::test::Fail;
+use std::thread::Threads;
 
 /// King and rook against king, mate in two.
 const MATE: &str = "strategy 1
@@ -53,85 +55,69 @@ fn replaced(alloc: Global, text: &str, right: &str, wrong: &str) -> Result<Strin
     Ok(whole)
 }
 
-/// Each row: a game, its moves and its goal, a strategy, a part of it and what stands in its place, and the answer.
+/// Asserts what `check` answers to a game, with its moves and its goal, and a strategy.
+fn expect<R: Abort + AllocGlobal + Threads + Wait + Sync>(
+    rt: &R,
+    game: &str,
+    goal: &str,
+    strategy: &str,
+    text: &str,
+) -> Result<(), Fail> {
+    let input = format!(in rt.alloc(); "{game}{goal}{strategy}")?;
+    let status = if text == "wins\n" { 0 } else { 3 };
+    answers_over_files(rt, &["check"], input.as_str(), status, text)
+}
+
 #[test]
 fn strategies_are_checked(rt: HostRuntime) -> Result<(), Fail> {
-    let rows = [
-        (MATED, IN_TWO, MATE, "", "", "wins\n"),
-        (
-            MATED,
-            "\nmate white 1\n",
-            MATE,
-            "",
-            "",
-            "error Verdict 1 Root\n",
-        ),
-        (
-            MATED,
-            "\nmate white 101\n",
-            MATE,
-            "",
-            "",
-            "error GameFault 7 BadGoal 4\n",
-        ),
-        (MATED, "\n", "", "", "", "error GameFault 1 Missing 4\n"),
-        (
-            MATED,
-            "",
-            MATE,
-            "",
-            "",
-            "error GameFault 5 BadMove 1 strategy\n",
-        ),
-        (
-            MATED,
-            IN_TWO,
-            MATE,
-            "edge h8g8 2\n",
-            "",
-            "error Verdict 3 MissingReply 1 h8g8\n",
-        ),
-        (
-            REPEATED,
-            PLIES,
-            LATE_MATE,
-            "",
-            "",
-            "error Verdict 6 Repeats 1\n",
-        ),
-        (
-            MATED,
-            IN_TWO,
-            MATE,
-            "nodes 4",
-            "nodes 5",
-            "error StrategyFault 5 BadNumber 11\n",
-        ),
-        (
-            MATED,
-            IN_TWO,
-            MATE,
-            "end\n",
-            "end\n\n",
-            "error StrategyFault 6 Ended 12\n",
-        ),
-    ];
-    let mut files = MemFiles::new(rt.alloc());
-    for (game, goal, strategy, right, wrong, text) in rows {
-        let strategy = replaced(rt.alloc(), strategy, right, wrong)?;
-        let input = format!(in rt.alloc(); "{game}{goal}{strategy}")?;
-        let status = if text == "wins\n" { 0 } else { 3 };
-        let words = ["check"].as_slice();
-        answers(
-            &rt,
-            &mut files,
-            words,
-            input.as_bytes(),
-            status,
-            text.as_bytes(),
-        )?;
-    }
-    Ok(())
+    expect(&rt, MATED, IN_TWO, MATE, "wins\n")?;
+    expect(
+        &rt,
+        MATED,
+        "\nmate white 1\n",
+        MATE,
+        "error Verdict 1 Root\n",
+    )?;
+    let far = "\nmate white 101\n";
+    expect(&rt, MATED, far, MATE, "error GameFault 7 BadGoal 4\n")?;
+    expect(&rt, MATED, "\n", "", "error GameFault 1 Missing 4\n")?;
+    expect(
+        &rt,
+        MATED,
+        "",
+        MATE,
+        "error GameFault 5 BadMove 1 strategy\n",
+    )?;
+    expect(
+        &rt,
+        REPEATED,
+        PLIES,
+        LATE_MATE,
+        "error Verdict 6 Repeats 1\n",
+    )
+}
+
+/// Asserts what `check` answers to the mate with one part of its text replaced.
+fn expect_spoilt<R: Abort + AllocGlobal + Threads + Wait + Sync>(
+    rt: &R,
+    right: &str,
+    wrong: &str,
+    text: &str,
+) -> Result<(), Fail> {
+    let strategy = replaced(rt.alloc(), MATE, right, wrong)?;
+    expect(rt, MATED, IN_TWO, strategy.as_str(), text)
+}
+
+#[test]
+fn spoilt_strategies_are_refused(rt: HostRuntime) -> Result<(), Fail> {
+    let reply = "error Verdict 3 MissingReply 1 h8g8\n";
+    expect_spoilt(&rt, "edge h8g8 2\n", "", reply)?;
+    let nodes = "error StrategyFault 5 BadNumber 11\n";
+    expect_spoilt(&rt, "nodes 4", "nodes 5", nodes)?;
+    let more = "error StrategyFault 6 Ended 12\n";
+    expect_spoilt(&rt, "end\n", "end\n\n", more)?;
+    let open = "error StrategyFault 6 Ended 11\n";
+    expect_spoilt(&rt, "end\n", "", open)
 }
 
 /// A text that states its own rules, and with them the mate in two.
@@ -160,75 +146,42 @@ node 3 0 R5k1/8/6K1/8/8/8/8/8 b - - 3 1
 end
 ";
 
-/// Each row: a part of the proof text, what stands in its place, and the answer.
-#[test]
-fn proof_texts_are_checked(rt: HostRuntime) -> Result<(), Fail> {
-    let rows = [
-        ("end", "end", "wins\n"),
-        ("goal white 2", "goal white 1", "error Verdict 1 Root\n"),
-        ("goal white 2\n", "", "error ProofFault 1 Header 13\n"),
-        ("rules 8", "rules 9", "error ProofFault 2 BadRules 11\n"),
-        (
-            "rook = r",
-            "rook = q",
-            "error ProofFault 3 RefusedRules SectionFault 7 LetterTwice q\n",
-        ),
-        (
-            "start 7k/R7/5K2/8/8/8/8/8",
-            "start 7k/R7/5K2/8/8/8/8",
-            "error ProofFault 4 BadStart 11 FenFault 2 Rank\n",
-        ),
-        (
-            "history 0",
-            "history 1",
-            "error ProofFault 5 BadHistory 13\n",
-        ),
-        (
-            "edge a7a8 3",
-            "edge a7a8 4",
-            "error ProofFault 6 BadBody StrategyFault 5 BadNumber 21\n",
-        ),
-    ];
-    let mut files = MemFiles::new(rt.alloc());
-    for (right, wrong, text) in rows {
-        let input = replaced(rt.alloc(), PROOF, right, wrong)?;
-        let status = if text == "wins\n" { 0 } else { 3 };
-        let words = ["check"].as_slice();
-        answers(
-            &rt,
-            &mut files,
-            words,
-            input.as_bytes(),
-            status,
-            text.as_bytes(),
-        )?;
-    }
-    Ok(())
+/// Asserts what `check` answers to the proof text with one part of it replaced.
+fn expect_proof<R: Abort + AllocGlobal + Threads + Wait + Sync>(
+    rt: &R,
+    right: &str,
+    wrong: &str,
+    text: &str,
+) -> Result<(), Fail> {
+    let input = replaced(rt.alloc(), PROOF, right, wrong)?;
+    let status = if text == "wins\n" { 0 } else { 3 };
+    answers_over_files(rt, &["check"], input.as_str(), status, text)
 }
 
-/// The checked text of the mate, cut after each of its lines, and with a line more.
 #[test]
-fn a_strategy_that_is_cut_short_has_ended(rt: HostRuntime) -> Result<(), Fail> {
-    let mut files = MemFiles::new(rt.alloc());
-    let mut rest = MATE;
-    let mut input = format!(in rt.alloc(); "{MATED}{IN_TWO}")?;
-    for line in 1..12u64 {
-        let text = format!(in rt.alloc(); "error StrategyFault 6 Ended {line}\n")?;
-        says(
-            &rt,
-            &mut files,
-            &["check"],
-            input.as_bytes(),
-            3,
-            text.as_bytes(),
-        )?;
-        let (next, after) = rest.split_once("\n").ok_or("a line")?;
-        input.push_str(next)?;
-        input.push_str("\n")?;
-        rest = after;
-    }
-    says(&rt, &mut files, &["check"], input.as_bytes(), 0, b"wins\n")?;
-    input.push_str("more\n")?;
-    let text = b"error StrategyFault 6 Ended 12\n";
-    says(&rt, &mut files, &["check"], input.as_bytes(), 3, text)
+fn proof_texts_are_checked(rt: HostRuntime) -> Result<(), Fail> {
+    expect_proof(&rt, "end", "end", "wins\n")?;
+    let root = "error Verdict 1 Root\n";
+    expect_proof(&rt, "goal white 2", "goal white 1", root)?;
+    let header = "error ProofFault 1 Header 13\n";
+    expect_proof(&rt, "goal white 2\n", "", header)?;
+    let rules = "error ProofFault 2 BadRules 11\n";
+    expect_proof(&rt, "rules 8", "rules 9", rules)
+}
+
+#[test]
+fn parts_of_proof_texts_are_refused(rt: HostRuntime) -> Result<(), Fail> {
+    let letter = "error ProofFault 3 RefusedRules SectionFault 7 LetterTwice q\n";
+    expect_proof(&rt, "rook = r", "rook = q", letter)?;
+    let start = "error ProofFault 4 BadStart 11 FenFault 2 Rank\n";
+    expect_proof(
+        &rt,
+        "start 7k/R7/5K2/8/8/8/8/8",
+        "start 7k/R7/5K2/8/8/8/8",
+        start,
+    )?;
+    let history = "error ProofFault 5 BadHistory 13\n";
+    expect_proof(&rt, "history 0", "history 1", history)?;
+    let body = "error ProofFault 6 BadBody StrategyFault 5 BadNumber 21\n";
+    expect_proof(&rt, "edge a7a8 3", "edge a7a8 4", body)
 }
