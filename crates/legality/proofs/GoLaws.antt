@@ -17,7 +17,7 @@ use Rattle.square_set.specs.declared.Set.{Set}
 use Rattle.square_set.specs.Members.{has, size}
 use Rattle.square_set.proofs.Cases.{by_bool}
 use Rattle.move_sink.specs.InTurn.{GoesTo, target_of}
-use Rattle.legality.specs.Chosen.{AreTargetsFrom, AreTargetsWhere, is_chosen, is_fit_move, is_wanted}
+use Rattle.legality.specs.Chosen.{AreTargetsFrom, AreTargetsWhere, AreWantedTo, is_chosen, is_fit_move, is_wanted}
 use Rattle.legality.specs.Moved.{AreSane, GateAtOnce, GateFreely, GoAtOnce, GoFreely, IsBarred, MayGate, MayGo, MayNotGate, MayNotGo, asks_only_safety}
 use Rattle.legality.proofs.AllGoes.{goes-those, goes_below}
 use Rattle.legality.proofs.SafetyLaws.{not_passing, plain_sane}
@@ -69,26 +69,28 @@ fit_go : (from to : Square) → from.0 < 120 → to.0 < 120 → is_fit_move (Go 
 unfolding is_fit_move
 fit_go from to l m = rw (lt-ltb from.0 120 l, lt-ltb to.0 120 m) refl
 
--- where any move is wanted, and such moves are sane, they are chosen
-pub all_chosen : (rules : Rules) (r : Repeat) (captures : Bool) (from : Square) (gate : Option Kind) (targets : Set) → captures ≡ false → from.0 < 120 → ((s : ℕ) → has targets s ≡ true → s < 120) → gate ≡ None → MayGo rules r from targets → (m : Move) → GoesTo from gate targets m → is_chosen rules r captures m ≡ true
+-- where such moves are wanted, and sane, they are chosen
+pub all_chosen : (rules : Rules) (r : Repeat) (captures : Bool) (from : Square) (gate : Option Kind) (targets : Set) → AreWantedTo rules r captures targets → from.0 < 120 → ((s : ℕ) → has targets s ≡ true → s < 120) → gate ≡ None → MayGo rules r from targets → (m : Move) → GoesTo from gate targets m → is_chosen rules r captures m ≡ true
 unfolding is_chosen
-all_chosen rules r captures from gate targets only l small none may m h =
+all_chosen rules r captures from gate targets wanted l small none may m h =
     let to : Square = record { 0 = target_of m } in
     let is : Go from to Stays None ≡ m = ap (Go from to Stays) (sym none) ∙ h.0 in
     let n = small (target_of m) h.1 in
-    rw only (subst (λ x. (is_fit_move x && is_sane rules r x) ≡ true) is (and_from _ _ (fit_go from to l n) (may to n h.1)))
+    subst (λ x. is_chosen rules r captures x ≡ true) is (and_from _ _ (fit_go from to l n) (and_from _ _ (wanted from to None h.1) (may to n h.1)))
 
--- where any move is wanted, those are chosen that are sane
-pub chosen_is_sane : (rules : Rules) (r : Repeat) (captures : Bool) (from to : Square) → captures ≡ false → from.0 < 120 → to.0 < 120 → is_chosen rules r captures (Go from to Stays None) ≡ is_sane rules r (Go from to Stays None)
+-- where the move is wanted, it is chosen if it is sane
+pub chosen_is_sane : (rules : Rules) (r : Repeat) (captures : Bool) (from to : Square) → is_wanted rules r captures (Go from to Stays None) ≡ true → from.0 < 120 → to.0 < 120 → is_chosen rules r captures (Go from to Stays None) ≡ is_sane rules r (Go from to Stays None)
 unfolding is_chosen
-chosen_is_sane rules r captures from to only l m = rw (only, fit_go from to l m) refl
+chosen_is_sane rules r captures from to wanted l m =
+    let move : Move = Go from to Stays None in
+    ap (λ b. b && (is_wanted rules r captures move && is_sane rules r move)) (fit_go from to l m) ∙ ap (λ b. b && is_sane rules r move) wanted
 
-pub sane_chosen : (rules : Rules) (r : Repeat) (captures : Bool) (from : Square) (gate : Option Kind) (targets sane : Set) → captures ≡ false → from.0 < 120 → ((s : ℕ) → has targets s ≡ true → s < 120) → gate ≡ None → AreSane rules r from targets sane → AreTargetsFrom (is_chosen rules r captures) from gate targets sane
-sane_chosen rules r captures from gate targets sane only l small none are to =
+pub sane_chosen : (rules : Rules) (r : Repeat) (captures : Bool) (from : Square) (gate : Option Kind) (targets sane : Set) → AreWantedTo rules r captures targets → from.0 < 120 → ((s : ℕ) → has targets s ≡ true → s < 120) → gate ≡ None → AreSane rules r from targets sane → AreTargetsFrom (is_chosen rules r captures) from gate targets sane
+sane_chosen rules r captures from gate targets sane wanted l small none are to =
     by_bool (has targets to.0) (has sane to.0 ≡ (has targets to.0 && is_chosen rules r captures (Go from to Stays gate)))
     (λ e.
     are to ∙ ap (λ b. has targets to.0 && b)
-    (sym (chosen_is_sane rules r captures from to only l (small to.0 e)) ∙ ap (λ g. is_chosen rules r captures (Go from to Stays g)) (sym none)))
+    (sym (chosen_is_sane rules r captures from to (wanted from to None e) l (small to.0 e)) ∙ ap (λ g. is_chosen rules r captures (Go from to Stays g)) (sym none)))
     (λ e. are to ∙ rw e refl)
 
 -- ---- with a piece that comes in behind
@@ -97,12 +99,12 @@ fit_gate : (from to : Square) (kind : Kind) → from.0 < 120 → to.0 < 120 → 
 unfolding is_fit_move
 fit_gate from to kind l m k = rw (lt-ltb from.0 120 l, lt-ltb to.0 120 m, lt-ltb kind.0 26 k) refl
 
-pub all_gated : (rules : Rules) (r : Repeat) (captures : Bool) (from : Square) (kind : Kind) (targets : Set) → captures ≡ false → from.0 < 120 → kind.0 < 26 → ((s : ℕ) → has targets s ≡ true → s < 120) → MayGate rules r from kind targets → (m : Move) → GoesTo from (Some kind) targets m → is_chosen rules r captures m ≡ true
+pub all_gated : (rules : Rules) (r : Repeat) (captures : Bool) (from : Square) (kind : Kind) (targets : Set) → AreWantedTo rules r captures targets → from.0 < 120 → kind.0 < 26 → ((s : ℕ) → has targets s ≡ true → s < 120) → MayGate rules r from kind targets → (m : Move) → GoesTo from (Some kind) targets m → is_chosen rules r captures m ≡ true
 unfolding is_chosen
-all_gated rules r captures from kind targets only l k small may m h =
+all_gated rules r captures from kind targets wanted l k small may m h =
     let to : Square = record { 0 = target_of m } in
     let n = small (target_of m) h.1 in
-    rw only (subst (λ x. (is_fit_move x && is_sane rules r x) ≡ true) h.0 (and_from _ _ (fit_gate from to kind l n k) (may to n h.1)))
+    subst (λ x. is_chosen rules r captures x ≡ true) h.0 (and_from _ _ (fit_gate from to kind l n k) (and_from _ _ (wanted from to (Some kind) h.1) (may to n h.1)))
 
 -- ---- of which none is sane
 

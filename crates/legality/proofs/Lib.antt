@@ -6,7 +6,7 @@ pub mod FitLaws
 pub mod FlagLaws
 pub mod FreeLaws
 pub mod GoLaws
-pub mod KeepLaws
+pub mod KeeperLaws
 pub mod LateLaws
 pub mod ListLaws
 pub mod MemberLaws
@@ -16,3 +16,4 @@ pub mod SeekLaws
 pub mod ShiftLaws
 pub mod TextLaws
 pub mod VainLaws
+pub mod WantedLaws

@@ -3,8 +3,8 @@ use Rattle.std.proofs.Common.{◌≡◌, ℕ, ◌+◌, ◌≤◌, Bool, true, fa
 use Rattle.std.specs.Bool.{OnTrue}
 use Rattle.std.specs.List.{list_any, filter}
 use Rattle.std.specs.Result.{OnErr, OnOk}
-use Rattle.std.proofs.Math.Seq.{take-append_seam, drop-append_seam}
-use Rattle.move_sink.specs.Taking.{TakesAll, TakesSome}
+use Rattle.std.proofs.Math.Seq.{take-append_seam}
+use Rattle.move_sink.specs.Taking.{TakesAll}
 use Rattle.std.specs.List.Sorted.{IsPermutation, IsStrictlySortedBy}
 use Rattle.std.proofs.lemmas.Bool.{and_from, and_parts, or_cases, or_left, or_right}
 use Rattle.std.proofs.lemmas.List.Sorted.{IsPermutation-sym}
@@ -23,7 +23,7 @@ use Rattle.rules_model.specs.Moves.{IsFitMove}
 use Rattle.rules_model.specs.MoveText.{move_cmp}
 use Rattle.rules_model.specs.Next.{captures}
 use Rattle.rules_model.proofs.LegalLaws.{every-fit, every-has, legal-member, legal-once, legal-sorted, member-legal, moves-unique}
-use Rattle.legality.specs.Chosen.{FitCandidates, can_go, is_chosen, is_fit_move, is_wanted, only_captures}
+use Rattle.legality.specs.Chosen.{AppendsChosen, FitCandidates, IsLegalCapture, can_go, is_chosen, is_fit_move, is_wanted, only_captures}
 use Rattle.legality.proofs.FitLaws.{from_fit}
 
 -- ---- of lists
@@ -43,7 +43,7 @@ module _ {X : Type 0} where
   member_any p x (y ∷ xs) (inr m) e = or_right (p y) (list_any p xs) (member_any p x xs m e)
 
   -- a filter keeps each element once
-  once_filter : (p : X → Bool) (xs : List X) → IsEachOnce xs → IsEachOnce (filter p xs)
+  pub once_filter : (p : X → Bool) (xs : List X) → IsEachOnce xs → IsEachOnce (filter p xs)
   once_filter p [] a = tt
   once_filter p (x ∷ xs) a =
       elim (p x) as (λ b. IsEachOnce (cond b (x ∷ filter p xs) (filter p xs))) [
@@ -252,22 +252,52 @@ module _ (rules made : Rules) (r q : Repeat) (same : made ≡ rules) (still : q 
   pub made_count : (only : Bool) (ms : List Move) → only ≡ only_captures rules r → is_ongoing (early_end rules r) ≡ true → Lists (FitCandidates rules r) ms → length (filter (is_chosen made q only) ms) ≡ length (legal rules r)
   made_count only ms e on l = ap length (chosen_only only ms e) ∙ chosen_count rules r ms on l
 
-  pub made_legal : (only : Bool) (ms : List Move) → only ≡ only_captures rules r → is_ongoing (early_end rules r) ≡ true → Lists (FitCandidates rules r) ms → Lists (λ m. Member m (legal rules r)) (filter (is_chosen made q only) ms)
-  made_legal only ms e on l = subst (Lists (λ m. Member m (legal rules r))) (sym (chosen_only only ms e)) (chosen_legal rules r ms on l)
-
-  -- the candidates that were appended, once only the chosen ones are kept
-  pub kept_legal : (only : Bool) (old all new : List Move) (k : ℕ) → k ≡ length old → only ≡ only_captures rules r → is_ongoing (early_end rules r) ≡ true → TakesAll (λ old ms new. new ≡ old ++ ms) (FitCandidates rules r) old all → new ≡ take k all ++ filter (is_chosen made q only) (drop k all) → Appends (λ m. Member m (legal rules r)) old new
-  kept_legal only old all new k size e on a is = record {
-    added = filter (is_chosen made q only) a.moves;
-    is = is ∙ ap (λ l. take k l ++ filter (is_chosen made q only) (drop k l)) a.taken
-        ∙ ap (λ l. l ++ filter (is_chosen made q only) (drop k (old ++ a.moves))) (ap (λ n. take n (old ++ a.moves)) size ∙ take-append_seam old a.moves)
-        ∙ ap (λ l. old ++ filter (is_chosen made q only) l) (ap (λ n. drop n (old ++ a.moves)) size ∙ drop-append_seam old a.moves);
-    each = made_legal only a.moves e on a.each;
+  -- the candidates that were appended
+  pub made_chosen : (only : Bool) (old new : List Move) → TakesAll (λ old' ms new'. new' ≡ old' ++ filter (is_chosen made q only) ms) (FitCandidates rules r) old new → AppendsChosen rules r only old new
+  made_chosen only old new a = record {
+    moves = a.moves;
+    taken = a.taken ∙ ap (λ test. old ++ filter test a.moves) (chosen_same only);
+    each = a.each;
   }
 
 -- where the list found no memory, and was cut back
-pub cut_back : (P : Move → Type 0) (old all new : List Move) (k : ℕ) → k ≡ length old → TakesSome (λ old ms new. new ≡ old ++ ms) P old all → new ≡ take k all → new ≡ old
-cut_back P old all new k size a is = is ∙ ap (take k) a.taken ∙ ap (λ n. take n (old ++ a.moves)) size ∙ take-append_seam old a.moves
+pub cut_back : (old added all new : List Move) (k : ℕ) → k ≡ length old → all ≡ old ++ added → new ≡ take k all → new ≡ old
+cut_back old added all new k size a is = is ∙ ap (take k) a ∙ ap (λ n. take n (old ++ added)) size ∙ take-append_seam old added
+
+-- ---- what was appended
+
+module _ (rules : Rules) (r : Repeat) (on : is_ongoing (early_end rules r) ≡ true) where
+  pub appended_legal : (only : Bool) (old new : List Move) → only ≡ only_captures rules r → AppendsChosen rules r only old new → Appends (λ m. Member m (legal rules r)) old new
+  appended_legal only old new e a = record {
+    added = filter (is_chosen rules r only) a.moves;
+    is = a.taken;
+    each = subst (λ b. Lists (λ m. Member m (legal rules r)) (filter (is_chosen rules r b) a.moves)) (sym e) (chosen_legal rules r a.moves on a.each);
+  }
+
+  capture_legal : (m : Move) → FitCandidates rules r m → is_chosen rules r true m ≡ true → IsLegalCapture rules r m
+  capture_legal m fit e =
+      let k = chosen_allowed rules r true m fit e in
+      (legal_from rules r m fit.0 on k.0 (capture_wanted rules r m k.1), k.1)
+
+  legal_capture : (m : Move) → IsLegalCapture rules r m → FitCandidates rules r m × (is_chosen rules r true m ≡ true)
+  legal_capture m h =
+      let k = legal_parts rules r m h.0 in
+      let p = allowed_parts rules r true m k.2 in
+      ((k.0, p.0), from_parts rules r true m k.0 p.1 h.1)
+
+  pub appended_captures : (old new : List Move) → AppendsChosen rules r true old new → Appends (IsLegalCapture rules r) old new
+  appended_captures old new a = record {
+    added = filter (is_chosen rules r true) a.moves;
+    is = a.taken;
+    each = record {
+      once = once_filter (is_chosen rules r true) a.moves a.each.once;
+      sound = λ m h. (let k = filter-member (is_chosen rules r true) m a.moves h in capture_legal m (a.each.sound m k.0) k.1);
+      complete = λ m h. (let k = legal_capture m h in member-filter (is_chosen rules r true) m a.moves (a.each.complete m k.0) k.1);
+    };
+  }
+
+pub no_capture : (rules : Rules) (r : Repeat) (old : List Move) → is_ongoing (early_end rules r) ≡ false → Appends (IsLegalCapture rules r) old old
+no_capture rules r old off = appends-none _ old (λ m h. subst (Member m) (none_legal rules r off) h.0)
 
 pub nothing_legal : (rules : Rules) (r : Repeat) (old : List Move) → is_ongoing (early_end rules r) ≡ false → Appends (λ m. Member m (legal rules r)) old old
 nothing_legal rules r old off = appends-none _ old (λ m h. subst (Member m) (none_legal rules r off) h)

@@ -1,10 +1,11 @@
 -- What a choice chooses.
-use Rattle.std.specs.Prelude.{Bool, ◌&&◌}
+use Rattle.std.specs.Prelude.{◌≡◌, Bool, ◌&&◌}
 use Rattle.rules_model.specs.declared.moves.Move.{Move}
 use Rattle.rules_model.specs.Repeats.{repeat_of}
 use Rattle.legality.specs.declared.choice.Choice.{Choice}
 use Rattle.rules_model.specs.Legal.{is_sane}
-use Rattle.legality.specs.Chosen.{is_chosen, is_wanted}
+use Rattle.legality.specs.Chosen.{AreUnwantedBut, AreWantedTo, is_chosen, is_wanted}
+use Rattle.square_set.specs.declared.Set.{Set}
 
 abbrev pub chosen_by : Choice → Move → Bool
 chosen_by choice m = is_chosen choice.safety.tables.now (repeat_of choice.safety.p.now) choice.captures m
@@ -14,3 +15,11 @@ abbrev pub suits : Choice → Move → Bool
 suits choice m =
     is_wanted choice.safety.tables.now (repeat_of choice.safety.p.now) choice.captures m
     && is_sane choice.safety.tables.now (repeat_of choice.safety.p.now) m
+
+-- the moves of pieces to the targets are wanted
+abbrev pub AreWanted : Choice → Set → Type 0
+AreWanted choice = AreWantedTo choice.safety.tables.now (repeat_of choice.safety.p.now) choice.captures
+
+-- those to the other targets are not
+abbrev pub AreUnwanted : Choice → Set → Set → Set → Type 0
+AreUnwanted choice = AreUnwantedBut choice.safety.tables.now (repeat_of choice.safety.p.now) choice.captures

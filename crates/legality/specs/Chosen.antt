@@ -1,6 +1,7 @@
 -- What is chosen of the candidates.
-use Rattle.std.specs.Prelude.{◌≡◌, ℕ, Bool, true, ◌&&◌, ◌||◌, not, nat_lt, Option, Some, None}
+use Rattle.std.specs.Prelude.{◌≡◌, ℕ, Bool, true, false, ◌&&◌, ◌||◌, not, nat_lt, Option, Some, None, List, ◌++◌}
 use Rattle.std.specs.List.{list_any, filter}
+use Rattle.foundation.specs.Member.{Member}
 use Rattle.rules_model.specs.declared.board.Kind.{Kind}
 use Rattle.rules_model.specs.declared.board.Repeat.{Repeat}
 use Rattle.rules_model.specs.declared.board.Square.{Square}
@@ -12,9 +13,10 @@ use Rattle.rules_model.specs.declared.moves.Promo.TheVariants.{Stays, Pawn, Plus
 use Rattle.rules_model.specs.declared.rules.Rules.{Rules}
 use Rattle.rules_model.specs.Allowed.{can_capture}
 use Rattle.rules_model.specs.Candidates.{is_candidate}
-use Rattle.rules_model.specs.Legal.{every_move, is_allowed, is_sane}
+use Rattle.rules_model.specs.Legal.{every_move, is_allowed, is_sane, legal}
 use Rattle.rules_model.specs.Moves.{IsFitMove}
 use Rattle.rules_model.specs.Next.{captures}
+use Rattle.move_sink.specs.Taking.{TakesAll}
 use Rattle.square_set.specs.declared.Set.{Set}
 use Rattle.square_set.specs.declared.Shift.{Shift}
 use Rattle.square_set.specs.Members.{has, origin}
@@ -79,3 +81,24 @@ AreTargetsFrom test from = AreTargetsWhere test (λ to. from)
 -- where the piece goes by the shift
 abbrev pub AreTargetsBy : (Move → Bool) → Shift → Set → Set → Type 0
 AreTargetsBy test shift = AreTargetsWhere test (λ to. record { 0 = origin shift to }) None
+
+-- the moves of pieces to the targets that stay what they are, wherever they start and whatever they leave behind, are
+-- wanted
+abbrev pub AreWantedTo : Rules → Repeat → Bool → Set → Type 0
+AreWantedTo rules r only targets =
+    (from to : Square) (gate : Option Kind) → has targets to.0 ≡ true → is_wanted rules r only (Go from to Stays gate) ≡ true
+
+-- those to the targets that neither of the sets has are not
+abbrev pub AreUnwantedBut : Rules → Repeat → Bool → Set → Set → Set → Type 0
+AreUnwantedBut rules r only targets wanted untold =
+    (from to : Square) (gate : Option Kind) → has targets to.0 ≡ true → has wanted to.0 ≡ false → has untold to.0 ≡ false
+    → is_wanted rules r only (Go from to Stays gate) ≡ false
+
+-- a legal capture
+abbrev pub IsLegalCapture : Rules → Repeat → Move → Type 0
+IsLegalCapture rules r m = Member m (legal rules r) × (captures rules r m ≡ true)
+
+-- the candidates that are chosen were appended
+abbrev pub AppendsChosen : Rules → Repeat → Bool → List Move → List Move → Type 0
+AppendsChosen rules r only =
+    TakesAll (λ old ms new. new ≡ old ++ filter (is_chosen rules r only) ms) (FitCandidates rules r)

@@ -2,6 +2,7 @@ pub mod Choices
 pub mod Chosen
 pub mod Counts
 pub mod Flags
+pub mod Keeps
 pub mod LateEnds
 pub mod Moved
 pub mod Sinks

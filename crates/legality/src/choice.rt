@@ -1,5 +1,5 @@
 //! The choice among the candidates.
-ghost use Rattle.std.specs.Prelude.{◌≡◌, ◌<◌, ℕ, true, false, IfSome};
+ghost use Rattle.std.specs.Prelude.{◌≡◌, ◌<◌, ℕ, true, false, not, ◌&&◌, ◌||◌, IfSome};
 ghost use Rattle.std.specs.Bool.{OnTrue};
 ghost use Rattle.square_set.specs.Members.{has, length_of, HasOrigin};
 ghost use Rattle.rules_model.specs.declared.moves.Move.{Move};
@@ -9,6 +9,7 @@ ghost use Rattle.rules_model.specs.Moves.{IsFitMove};
 
 use crate::capture::captures;
 use crate::safety::Safety;
+use crate::unpinned::barred_at_once;
 use rules_model::{Kind, Move, Placed, Promo, Square};
 use square_set::{EMPTY, Set, Shift};
 
@@ -62,12 +63,28 @@ pub(crate) fn is_fit_move(m: &Move) -> bool
     }
 }
 
-/// Of the targets of moves by a shift, those of which it is told at once whether the moves are chosen.
+/// Of the targets of moves, those of which it is told at once whether the moves are chosen.
 #[derive(Clone, Copy)]
 pub(crate) struct ToldTargets {
     pub targets: Set,
     /// Those to which the moves are chosen.
     pub chosen: Set,
+}
+
+impl ToldTargets {
+    /// Of all the targets, those to which the moves are chosen or may be.
+    pub fn worth(self, all: Set) -> Set
+        ensures { (s : ℕ) → has result s ≡ ((has all s && not (has self.targets s)) || has self.chosen s) }
+    {
+        all.minus(self.targets).or(self.chosen)
+    }
+}
+
+/// Of the targets of moves, those to which the moves are wanted, and those of which this is not told.
+#[derive(Clone, Copy)]
+struct WantedTargets {
+    wanted: Set,
+    untold: Set,
 }
 
 /// What is chosen of the candidates of a position: those that are sane, and perhaps only captures.
@@ -90,15 +107,34 @@ impl<'a> Choice<'a> {
         (!self.captures || captures(safety.tables.rules(), safety.p, m)) && safety.is_sane(m)
     }
 
-    /// Whether it is told at once that all moves from the square to these are chosen.
+    /// The targets to which the moves are wanted. Where only captures are, they are those of enemies: to an empty
+    /// square a piece captures in passing alone.
+    fn wanted(&self, targets: Set) -> WantedTargets
+        requires targets { (s : ℕ) → has targets s ≡ true → s < 120 }
+        ensures within { (s : ℕ) → has result.wanted s ≡ true → has targets s ≡ true }
+        ensures wanted { Choices.AreWanted self.now result.wanted }
+        ensures others { Choices.AreUnwanted self.now targets result.wanted result.untold }
+    {
+        if !self.captures {
+            return WantedTargets {
+                wanted: targets,
+                untold: EMPTY,
+            };
+        }
+        let barred = barred_at_once(self.safety.p, self.safety.sets.own);
+        WantedTargets {
+            wanted: targets.and(self.safety.sets.enemies).minus(barred),
+            untold: targets.and(barred),
+        }
+    }
+
+    /// Whether it is told at once that all moves from the square to these, which are wanted, are chosen.
     fn holds_all(&self, from: Square, gate: Option<Kind>, targets: Set) -> bool
         requires from { from.0 < 120 }
         requires targets { (s : ℕ) → has targets s ≡ true → s < 120 }
+        requires wanted { Choices.AreWanted self.now targets }
         ensures { OnTrue result ((m : Move) → GoesTo from gate targets m → Choices.chosen_by self.now m ≡ true) }
     {
-        if self.captures {
-            return false;
-        }
         match gate {
             None => self.safety.lets_go(from, targets),
             Some(kind) => kind.0 < 26 && self.safety.lets_gate(from, kind, targets),
@@ -117,10 +153,11 @@ impl<'a> Choice<'a> {
         }
     }
 
-    /// Of the targets, those to which the moves from the square are chosen, where this is told at once.
-    pub fn chosen_at_once(&self, from: Square, gate: Option<Kind>, targets: Set) -> Option<Set>
+    /// The same as `chosen_at_once`, where the moves to all the targets are wanted.
+    fn chosen_of(&self, from: Square, gate: Option<Kind>, targets: Set) -> Option<Set>
         requires from { from.0 < 120 }
         requires targets { (s : ℕ) → has targets s ≡ true → s < 120 }
+        requires wanted { Choices.AreWanted self.now targets }
         ensures { IfSome result (λ those. Chosen.AreTargetsFrom (Choices.chosen_by self.now) from gate targets those) }
     {
         if self.holds_all(from, gate, targets) {
@@ -129,12 +166,42 @@ impl<'a> Choice<'a> {
         if self.holds_none(from, gate, targets) {
             return Some(EMPTY);
         }
-        if self.captures {
-            return None;
-        }
         match gate {
             None => self.safety.lets_king(from, targets),
             Some(_) => None,
+        }
+    }
+
+    /// Of the targets, those to which the moves from the square are chosen, where this is told at once.
+    pub fn chosen_at_once(&self, from: Square, gate: Option<Kind>, targets: Set) -> Option<Set>
+        requires from { from.0 < 120 }
+        requires targets { (s : ℕ) → has targets s ≡ true → s < 120 }
+        ensures { IfSome result (λ those. Chosen.AreTargetsFrom (Choices.chosen_by self.now) from gate targets those) }
+    {
+        let split = self.wanted(targets);
+        if !split.untold.is_empty() {
+            return None;
+        }
+        if split.wanted.is_empty() {
+            return Some(EMPTY);
+        }
+        self.chosen_of(from, gate, split.wanted)
+    }
+
+    /// Which of the moves from the square to the targets are chosen, as far as this is told at once.
+    pub fn told_from(&self, from: Square, gate: Option<Kind>, targets: Set) -> ToldTargets
+        requires from { from.0 < 120 }
+        requires targets { (s : ℕ) → has targets s ≡ true → s < 120 }
+        ensures within { (s : ℕ) → has result.targets s ≡ true → has targets s ≡ true }
+        ensures chosen { Chosen.AreTargetsFrom (Choices.chosen_by self.now) from gate result.targets result.chosen }
+    {
+        if let Some(chosen) = self.chosen_at_once(from, gate, targets) {
+            return ToldTargets { targets, chosen };
+        }
+        let split = self.wanted(targets);
+        ToldTargets {
+            targets: targets.minus(split.wanted).minus(split.untold),
+            chosen: EMPTY,
         }
     }
 
@@ -146,16 +213,12 @@ impl<'a> Choice<'a> {
         ensures within { (s : ℕ) → has result.targets s ≡ true → has targets s ≡ true }
         ensures chosen { Chosen.AreTargetsBy (Choices.chosen_by self.now) shift result.targets result.chosen }
     {
-        if self.captures {
-            return ToldTargets {
-                targets: EMPTY,
-                chosen: EMPTY,
-            };
-        }
-        let chosen = self.safety.lets_shift(shift, targets);
-        let barred = self.safety.bars_shift(shift, targets);
+        let split = self.wanted(targets);
+        let unwanted = targets.minus(split.wanted).minus(split.untold);
+        let chosen = self.safety.lets_shift(shift, split.wanted);
+        let barred = self.safety.bars_shift(shift, split.wanted);
         ToldTargets {
-            targets: chosen.or(barred),
+            targets: chosen.or(barred).or(unwanted),
             chosen,
         }
     }

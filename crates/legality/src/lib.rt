@@ -7,7 +7,7 @@ mod capture;
 mod choice;
 mod count;
 mod flag;
-mod keep;
+mod keeper;
 mod list;
 mod mobile;
 mod order;
@@ -22,6 +22,8 @@ pub use ask::{
     gives_check_with, is_legal, is_legal_with, own_end, own_end_with,
 };
 pub use capture::captures;
-pub use list::{legal_moves, legal_moves_with, push_legal, push_legal_with};
+pub use list::{
+    legal_moves, legal_moves_with, push_captures_with, push_legal, push_legal_with,
+};
 pub use play::{apply, apply_with, king_attacked_with};
 pub use search::early_end_with;

@@ -1,3 +1,5 @@
+use Rattle.std.proofs.Common.{ap, ◌∙◌, ◌&&◌, ◌||◌, not}
+use Rattle.square_set.specs.Members.{has}
 use Rattle.rules_model.specs.Repeats.{repeat_of}
 use Rattle.legality.proofs.ShiftLaws.{told_chosen}
 use Rattle.legality.proofs.choice.Choice.told_by.Goals as goal
@@ -5,5 +7,9 @@ use Rattle.legality.proofs.choice.Choice.told_by.Goals as goal
 pub returns-clause-chosen : goal.returns-clause-chosen
 returns-clause-chosen c =
     let choice = c.args.self.now in
-    told_chosen choice.safety.tables.now (repeat_of choice.safety.p.now) choice.captures c.args.shift c.args.targets c.lets_shift-chosen.result c.bars_shift-barred.result _
-    c.if-self.false c.requires.targets c.requires.starts c.lets_shift-chosen.ensures.within c.bars_shift-barred.ensures.within c.lets_shift-chosen.ensures.sane c.bars_shift-barred.ensures.sane c.or.ensures
+    told_chosen choice.safety.tables.now (repeat_of choice.safety.p.now) choice.captures c.args.shift c.args.targets c.wanted-split.result.wanted c.wanted-split.result.untold
+    c.lets_shift-chosen.result c.bars_shift-barred.result c.minus-unwanted.result c.or-2.result
+    c.requires.targets c.requires.starts c.wanted-split.ensures.within c.wanted-split.ensures.wanted c.wanted-split.ensures.others
+    c.lets_shift-chosen.ensures.within c.bars_shift-barred.ensures.within c.lets_shift-chosen.ensures.sane c.bars_shift-barred.ensures.sane
+    (λ s. c.minus-unwanted.ensures s ∙ ap (λ b. b && not (has c.wanted-split.result.untold s)) (c.minus.ensures s))
+    (λ s. c.or-2.ensures s ∙ ap (λ b. b || has c.minus-unwanted.result s) (c.or.ensures s))
