@@ -86,12 +86,14 @@ AreTargetsBy test shift = AreTargetsWhere test (λ to. record { 0 = origin shift
 -- wanted
 abbrev pub AreWantedTo : Rules → Repeat → Bool → Set → Type 0
 AreWantedTo rules r only targets =
-    (from to : Square) (gate : Option Kind) → has targets to.0 ≡ true → is_wanted rules r only (Go from to Stays gate) ≡ true
+    (from to : Square) (gate : Option Kind) → has targets to.0 ≡ true
+    → is_wanted rules r only (Go from to Stays gate) ≡ true
 
 -- those to the targets that neither of the sets has are not
 abbrev pub AreUnwantedBut : Rules → Repeat → Bool → Set → Set → Set → Type 0
 AreUnwantedBut rules r only targets wanted untold =
-    (from to : Square) (gate : Option Kind) → has targets to.0 ≡ true → has wanted to.0 ≡ false → has untold to.0 ≡ false
+    (from to : Square) (gate : Option Kind) → has targets to.0 ≡ true → has wanted to.0 ≡ false
+    → has untold to.0 ≡ false
     → is_wanted rules r only (Go from to Stays gate) ≡ false
 
 -- a legal capture

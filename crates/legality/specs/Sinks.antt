@@ -82,20 +82,23 @@ Kept key list test old ms new = (key new ≡ key old) × (list new ≡ list old 
 filter_append : {X : Type 0} (p : X → Bool) (xs ys : List X) → filter p (xs ++ ys) ≡ filter p xs ++ filter p ys
 filter_append p [] ys = refl
 filter_append p (x ∷ xs) ys =
-    elim (p x) as (λ b. cond b (x ∷ filter p (xs ++ ys)) (filter p (xs ++ ys)) ≡ cond b (x ∷ filter p xs) (filter p xs) ++ filter p ys) [
+    elim (p x) as (λ b. cond b (x ∷ filter p (xs ++ ys)) (filter p (xs ++ ys))
+    ≡ cond b (x ∷ filter p xs) (filter p xs) ++ filter p ys) [
       | true ↦ ap (λ l. x ∷ l) (filter_append p xs ys)
       | false ↦ filter_append p xs ys
     ]
 
-kept_on : {S K : Type 0} (key : S → K) (list : S → List Move) (test : K → Move → Bool) (s t u : S) (xs ys : List Move) → Kept key list test s xs t → Kept key list test t ys u → Kept key list test s (xs ++ ys) u
+kept_on : {S K : Type 0} (key : S → K) (list : S → List Move) (test : K → Move → Bool) (s t u : S) (xs ys : List Move)
+    → Kept key list test s xs t → Kept key list test t ys u → Kept key list test s (xs ++ ys) u
 kept_on key list test s t u xs ys e f = (
   f.0 ∙ e.0,
   f.1 ∙ ap (λ k. list t ++ filter (test k) ys) e.0 ∙ ap (λ l. l ++ filter (test (key s)) ys) e.1
-  ∙ append_assoc (list s) (filter (test (key s)) xs) (filter (test (key s)) ys)
-  ∙ ap (λ l. list s ++ l) (sym (filter_append (test (key s)) xs ys)),
+      ∙ append_assoc (list s) (filter (test (key s)) xs) (filter (test (key s)) ys)
+      ∙ ap (λ l. list s ++ l) (sym (filter_append (test (key s)) xs ys)),
 )
 
-pub keeper_is_sink : {S K : Type 0} (key : S → K) (list : S → List Move) (test : K → Move → Bool) → IsSink (Kept key list test) (Kept key list test)
+pub keeper_is_sink : {S K : Type 0} (key : S → K) (list : S → List Move) (test : K → Move → Bool)
+    → IsSink (Kept key list test) (Kept key list test)
 keeper_is_sink key list test = record {
   none = λ s. (refl, sym (append-nil (list s)));
   on = λ s t u xs ys e f. kept_on key list test s t u xs ys e f;

@@ -20,8 +20,8 @@ pub(crate) struct Keeper<'a> {
 impl<'a> Keeper<'a> {
     ghost use Rattle.legality.specs.Keeps.{Keeps};
 
-    /// Puts the move on the list where it is chosen. It is not looked at where this is known. Without memory the list is
-    /// as it was.
+    /// Puts the move on the list where it is chosen. It is not looked at where this is known. Without memory the list
+    /// is as it was.
     fn keep(&mut self, m: Move, known: bool) -> Result<(), Memory>
         requires { OnTrue known (chosen_by self.old.choice m ≡ true) }
         ensures ok { OnOk result (Keeps self.old (m ∷ []) self.new) }

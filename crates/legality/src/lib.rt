@@ -22,8 +22,6 @@ pub use ask::{
     gives_check_with, is_legal, is_legal_with, own_end, own_end_with,
 };
 pub use capture::captures;
-pub use list::{
-    legal_moves, legal_moves_with, push_captures_with, push_legal, push_legal_with,
-};
+pub use list::{legal_moves, legal_moves_with, push_captures_with, push_legal, push_legal_with};
 pub use play::{apply, apply_with, king_attacked_with};
 pub use search::early_end_with;

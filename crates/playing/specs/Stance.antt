@@ -1,11 +1,12 @@
 -- A position by the rules that are played, and what is kept of it.
-use Rattle.std.specs.Prelude.{List}
+use Rattle.std.specs.Prelude.{◌≡◌, true, List}
+use Rattle.foundation.specs.Member.{Member}
 use Rattle.rules_model.specs.declared.board.Position.{Position}
 use Rattle.rules_model.specs.declared.board.Repeat.{Repeat}
 use Rattle.rules_model.specs.declared.moves.Move.{Move}
 use Rattle.rules_model.specs.declared.rules.Rules.{Rules}
 use Rattle.rules_model.specs.Legal.{legal}
-use Rattle.rules_model.specs.Next.{next}
+use Rattle.rules_model.specs.Next.{captures, next}
 use Rattle.rules_model.specs.Ready.{IsReady}
 use Rattle.rules_model.specs.Repeats.{repeat_of}
 use Rattle.board_sets.specs.declared.sets.BoardSets.{BoardSets}
@@ -25,6 +26,10 @@ repeat_in s = repeat_of s.position
 -- its legal moves
 abbrev pub legal_in : Stance → List Move
 legal_in s = legal s.rules (repeat_in s)
+
+-- the move is legal in it, and captures
+abbrev pub IsCaptureIn : Stance → Move → Type 0
+IsCaptureIn s m = Member m (legal_in s) × (captures s.rules (repeat_in s) m ≡ true)
 
 -- the stance after a move
 abbrev pub after : Stance → Move → Stance

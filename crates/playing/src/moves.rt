@@ -8,7 +8,8 @@ ghost use Rattle.playing.specs.Stance as Stance;
 
 use crate::board::Board;
 use legality::{
-    any_legal_with, captures, count_legal_with, is_legal_with, legal_moves_with, push_legal_with,
+    any_legal_with, captures, count_legal_with, is_legal_with, legal_moves_with,
+    push_captures_with, push_legal_with,
 };
 use rules_model::{Memory, Move, MoveList};
 use std::alloc::Global;
@@ -46,6 +47,15 @@ impl Board<'_> {
     {
         let rules = self.tables.rules();
         push_legal_with(rules, self.tables, &self.position, &self.sets, out)
+    }
+
+    /// Appends the legal moves that capture, each once and in no special order. Without memory the list is as it was.
+    pub fn push_captures(&self, out: &mut MoveList) -> Result<(), Memory>
+        ensures ok { OnOk result (Appends (Stance.IsCaptureIn self.now) out.old out.new) }
+        ensures err { OnErr result (out.new ≡ out.old) }
+    {
+        let rules = self.tables.rules();
+        push_captures_with(rules, self.tables, &self.position, &self.sets, out)
     }
 
     /// The legal moves, each once and in the byte order of their texts, or `Memory`.

@@ -168,7 +168,8 @@ fn mates_are_found(rt: HostRuntime) -> Result<(), Fail> {
     Ok(())
 }
 
-// A mate that a third repetition forbids; the search of depth 1 comes then. With `nodes 0` a fact that was kept answers.
+// A mate that a third repetition forbids; the search of depth 1 comes then. With `nodes 0` a fact that was kept
+// answers.
 #[test]
 fn no_mates_are_told(rt: HostRuntime) -> Result<(), Fail> {
     tells_no_mate(
