@@ -74,8 +74,8 @@ where
     G: Gate + Sync,
     ensures served { IfOk result (λ after. Served cecp
         (Moves S.left K.taken C.given C.count C.last source.old source.new sink.old sink.new clock.old clock.new)
-        NoReads (S.owed source.old) (S.owed source.new) session.old session.new (got_line next line.old) after line.new)
-            }
+        NoReads (S.owed source.old) (S.owed source.new) session.old session.new (got_line next line.old)
+        after line.new) }
     ensures unserved { (contents : Option Contents) → OnErr result (Unserved cecp
         (Moves S.left K.taken C.given C.count C.last source.old source.new sink.old sink.new clock.old clock.new)
         NoReads contents session.old (got_line next line.old)) }
