@@ -145,8 +145,7 @@ impl Places {
     fn put(&mut self, place: usize, p: &Position) -> Result<(), AllocError>
         requires some { 0 < length self.old.buckets.items }
         ensures key { self.new.by ≡ self.old.by }
-        ensures put { OnOk result (self.new.buckets.items ≡ put self.old.buckets.items place (key_of self.old.by p.now))
-            }
+        ensures put { OnOk result (self.new.buckets.items ≡ put self.old.buckets.items place (key_of self.old.by p.now)) }
     {
         let b = self.by.bucket(p, self.buckets.len());
         self.buckets[b].places.push(place)?;
