@@ -1,6 +1,9 @@
 //! Tests of `move_text`.
 use move_text::{move_key, write_move};
 use rules_model::{Kind, Move, Placed, Promo, Square};
+use std::alloc::{AllocError, Global};
+use std::process::Abort;
+use std::test::Fail;
 
 fn go(from: u8, to: u8, promo: Promo, gate: Option<Kind>) -> Move {
     Move::Go {
@@ -35,68 +38,91 @@ const PAWN: Kind = Kind(15);
 
 const QUEEN: Kind = Kind(16);
 
+fn drop_of(kind: Kind, to: u8) -> Move {
+    Move::Drop {
+        kind,
+        to: Square(to),
+    }
+}
+
+/// The texts of the moves, each with a blank after it.
+fn texts_of(alloc: Global, moves: &[Move]) -> Result<Vec<u8>, AllocError> {
+    let mut told = Vec::new(alloc);
+    for m in moves {
+        told.extend_from_slice(write_move(m).items.as_slice())?;
+        told.push(b' ')?;
+    }
+    Ok(told)
+}
+
 // Squares are 12 * rank + file, both counted from 0: e2 is 16.
 #[test]
-fn texts(rt: HostRuntime) {
-    let rows = [
-        (plain(16, 40), "e2e4"),
-        (plain(108, 119), "a10l10"),
-        (plain(108, 96), "a10a9"),
-        (go(72, 84, Promo::Pawn(QUEEN), None), "a7a8q"),
-        (go(72, 84, Promo::Plus, None), "a7a8+"),
-        (go(1, 26, Promo::Stays, Some(Kind(4))), "b1c3e"),
-        (go(1, 26, Promo::Plus, Some(Kind(4))), "b1c3+e"),
-        (castle(None), "e1g1"),
-        (castle(hawk_at(4)), "e1g1h"),
-        (castle(hawk_at(7)), "h1e1h"),
-        (
-            Move::Drop {
-                kind: PAWN,
-                to: Square(40),
-            },
-            "P@e4",
-        ),
-        (
-            Move::Drop {
-                kind: QUEEN,
-                to: Square(108),
-            },
-            "Q@a10",
-        ),
-        (
-            go(255, 254, Promo::Pawn(Kind(255)), Some(Kind(26))),
-            "d22c22va",
-        ),
+fn texts_of_moves(rt: HostRuntime) -> Result<(), Fail> {
+    let moves = [
+        plain(16, 40),
+        plain(108, 119),
+        plain(108, 96),
+        go(72, 84, Promo::Pawn(QUEEN), None),
+        go(72, 84, Promo::Plus, None),
+        go(1, 26, Promo::Stays, Some(Kind(4))),
+        go(1, 26, Promo::Plus, Some(Kind(4))),
+        go(255, 254, Promo::Pawn(Kind(255)), Some(Kind(26))),
     ];
-    for (m, text) in rows {
-        assert_eq!(rt; write_move(&m).items.as_slice(), text.as_bytes());
+    let told = texts_of(rt.alloc(), &moves)?;
+    let wanted = b"e2e4 a10l10 a10a9 a7a8q a7a8+ b1c3e b1c3+e d22c22va ";
+    assert!(rt; told.as_slice() == wanted.as_slice());
+    Ok(())
+}
+
+#[test]
+fn texts_of_castles_and_drops(rt: HostRuntime) -> Result<(), Fail> {
+    let moves = [
+        castle(None),
+        castle(hawk_at(4)),
+        castle(hawk_at(7)),
+        drop_of(PAWN, 40),
+        drop_of(QUEEN, 108),
+    ];
+    let told = texts_of(rt.alloc(), &moves)?;
+    assert!(rt; told.as_slice() == b"e1g1 e1g1h h1e1h P@e4 Q@a10 ".as_slice());
+    Ok(())
+}
+
+/// Asserts that the key of each move is greater than those before it.
+fn rise<R: Abort>(rt: &R, moves: &[Move]) {
+    let mut before = 0;
+    for m in moves {
+        let key = move_key(m);
+        assert!(rt; before < key, "{m:?}");
+        before = key;
     }
 }
 
 #[test]
-fn keys(rt: HostRuntime) {
-    let drop = Move::Drop {
-        kind: QUEEN,
-        to: Square(0),
-    };
-    let rows = [
-        (plain(0, 1), plain(0, 13)),
-        (plain(108, 96), plain(0, 12)),
-        (plain(0, 12), plain(1, 0)),
-        (plain(72, 84), go(72, 84, Promo::Plus, None)),
-        (go(0, 0, Promo::Plus, None), plain(0, 108)),
-        (plain(0, 108), go(0, 0, Promo::Pawn(QUEEN), None)),
-        (
-            go(72, 84, Promo::Plus, None),
-            go(72, 84, Promo::Pawn(QUEEN), None),
-        ),
-        (drop, plain(0, 1)),
-        (castle(None), castle(hawk_at(4))),
-        (castle(hawk_at(4)), castle(hawk_at(7))),
+fn keys_are_in_the_order_of_texts(rt: HostRuntime) {
+    // Q@a1, a10a9, a1a1+, a1a10, a1a1q, a1a2, a1b1, a1b2
+    let front = [
+        drop_of(QUEEN, 0),
+        plain(108, 96),
+        go(0, 0, Promo::Plus, None),
+        plain(0, 108),
+        go(0, 0, Promo::Pawn(QUEEN), None),
+        plain(0, 12),
+        plain(0, 1),
+        plain(0, 13),
     ];
-    for (less, greater) in rows {
-        assert!(rt; move_key(&less) < move_key(&greater));
-    }
+    rise(&rt, &front);
+    // a7a8, a7a8+, a7a8q, b1a1, e1g1, e1g1h, h1e1h
+    let back = [
+        plain(72, 84),
+        go(72, 84, Promo::Plus, None),
+        go(72, 84, Promo::Pawn(QUEEN), None),
+        plain(1, 0),
+        castle(None),
+        castle(hawk_at(4)),
+        castle(hawk_at(7)),
+    ];
+    rise(&rt, &back);
     // e2e4, and moves of one text
     assert_eq!(rt; move_key(&plain(16, 40)), 0x6532_6534_0000_0000);
     assert_eq!(rt; move_key(&plain(4, 6)), move_key(&castle(None)));
