@@ -17,21 +17,22 @@ use sample_rules::{
 };
 use std::process::Abort;
 
+// A text that names no square is of the first.
 #[test]
 fn squares_are_named(rt: HostRuntime) {
-    for (text, place) in [
-        ("a1", 0),
-        ("e4", 40),
-        ("h8", 91),
-        ("l1", 11),
-        ("i10", 116),
-        ("m1", 0),
-        ("a11", 0),
-        ("a0", 0),
-        ("", 0),
-        ("e", 0),
-    ] {
-        assert_eq!(rt; square(text).0, place, "{text}");
+    let found = [
+        square("a1"),
+        square("e4"),
+        square("h8"),
+        square("l1"),
+        square("i10"),
+    ];
+    assert_eq!(rt;
+        found,
+        [Square(0), Square(40), Square(91), Square(11), Square(116)]
+    );
+    for text in "m1 a11 a0  e".split(' ') {
+        assert_eq!(rt; square(text).0, 0, "{text}");
     }
 }
 
@@ -101,28 +102,21 @@ fn attacks(rules: &Rules, p: &Position, by: Side, to: &str) -> [bool; 2]
     ]
 }
 
-#[test]
-fn sides_attack(rt: HostRuntime) {
+/// Asserts of each of the squares that the side attacks it, or not.
+fn expect_attacks(rt: &impl Abort, by: Side, squares: &str, attacked: bool) {
     let rules = chess();
     let p = castling_side();
-    let rows = [
-        (Side::White, "d5", true),
-        (Side::White, "f5", true),
-        (Side::White, "e5", false),
-        (Side::White, "e1", true),
-        (Side::White, "a8", true),
-        (Side::White, "e8", false),
-        (Side::White, "d2", true),
-        (Side::White, "e3", false),
-        (Side::Black, "c4", true),
-        (Side::Black, "e4", true),
-        (Side::Black, "d4", false),
-        (Side::Black, "e6", false),
-        (Side::Black, "f7", true),
-    ];
-    for (by, to, attacked) in rows {
-        assert_eq!(rt; attacks(&rules, &p, by, to), [attacked; 2], "{to}");
+    for to in squares.split(' ') {
+        assert!(rt; attacks(&rules, &p, by, to) == [attacked; 2], "{to}");
     }
+}
+
+#[test]
+fn sides_attack(rt: HostRuntime) {
+    expect_attacks(&rt, Side::White, "d5 f5 e1 a8 d2", true);
+    expect_attacks(&rt, Side::White, "e5 e8 e3", false);
+    expect_attacks(&rt, Side::Black, "c4 e4 f7", true);
+    expect_attacks(&rt, Side::Black, "d4 e6", false);
 }
 
 // A pawn takes on its diagonals, a piece of any side there or none.
@@ -130,21 +124,13 @@ fn sides_attack(rt: HostRuntime) {
 fn pawns_attack(rt: HostRuntime) {
     let rules = chess();
     let (safe, checked) = (position("Ke1 Pe7 ke8"), position("Ke1 Pd7 ke8"));
-    let rows = [
-        (king_attacked(&rules, &safe.cells, Side::Black), false),
-        (king_attacked(&rules, &checked.cells, Side::Black), true),
-        (
-            pawn_could_take(&rules, &safe.cells, Side::White, square("d8")),
-            true,
-        ),
-        (
-            pawn_could_take(&rules, &safe.cells, Side::White, square("e8")),
-            false,
-        ),
+    let found = [
+        king_attacked(&rules, &safe.cells, Side::Black),
+        king_attacked(&rules, &checked.cells, Side::Black),
+        pawn_could_take(&rules, &safe.cells, Side::White, square("e8")),
+        pawn_could_take(&rules, &safe.cells, Side::White, square("d8")),
     ];
-    for (row, (found, wanted)) in rows.iter().enumerate() {
-        assert_eq!(rt; found, wanted, "row {row}");
-    }
+    assert_eq!(rt; found, [false, true, false, true]);
 }
 
 /// The position is sound by the rules of chess, or not.
@@ -229,27 +215,35 @@ fn castling_is_read(rt: HostRuntime) {
 #[test]
 fn rules_are_read(rt: HostRuntime) {
     let rules = chess();
-    let p = castling_side();
     let (king, pawn, rook) = (kind(b'k'), kind(b'p'), kind(b'r'));
     let (white, black, a8) = (Side::White, Side::Black, square("a8").0);
-    let rows = [
-        (castling_on(&rules), true),
-        (holds_right(&p.rights, white, Wing::Queenside), true),
-        (holds_right(&p.rights, black, Wing::Queenside), false),
-        (has_gate(&[5, 0], white, 2), true),
-        (has_gate(&[5, 0], white, 1), false),
-        (has_kind(&rules, pawn), true),
-        (has_kind(&rules, kind(b'a')), false),
-        (names(rules.king, king), true),
-        (names(rules.flag_kind, king), false),
-        (masks(&rules.castle_rooks, rook), true),
-        (masks(&rules.castle_rooks, pawn), false),
-        (in_region(&rules.promotion, white, a8), true),
-        (in_region(&rules.promotion, black, a8), false),
+    let found = [
+        castling_on(&rules),
+        has_kind(&rules, pawn),
+        names(rules.king, king),
+        masks(&rules.castle_rooks, rook),
+        in_region(&rules.promotion, white, a8),
     ];
-    for (row, (found, wanted)) in rows.iter().enumerate() {
-        assert_eq!(rt; found, wanted, "row {row}");
-    }
+    assert_eq!(rt; found, [true; 5]);
+    let found = [
+        has_kind(&rules, kind(b'a')),
+        names(rules.flag_kind, king),
+        masks(&rules.castle_rooks, pawn),
+        in_region(&rules.promotion, black, a8),
+    ];
+    assert_eq!(rt; found, [false; 4]);
+}
+
+#[test]
+fn rights_and_gates_are_read(rt: HostRuntime) {
+    let p = castling_side();
+    let found = [
+        holds_right(&p.rights, Side::White, Wing::Queenside),
+        holds_right(&p.rights, Side::Black, Wing::Queenside),
+        has_gate(&[5, 0], Side::White, 2),
+        has_gate(&[5, 0], Side::White, 1),
+    ];
+    assert_eq!(rt; found, [true, false, true, false]);
 }
 
 #[test]
@@ -273,21 +267,15 @@ fn sizes_and_hands_are_read(rt: HostRuntime) {
 fn movement_is_read(rt: HostRuntime) {
     let rules = chess();
     let cells = castling_side().cells;
-    let (white, rook) = (Side::White, kind(b'r'));
-    let (a1, e4) = (square("a1"), square("e4"));
-    let rows = [
-        (in_mobility(&rules, white, rook, e4), true),
-        (in_mobility(&rules, white, rook, square("i4")), false),
-        (is_held_back(&rules, white, rook, e4), false),
-        (
-            kind_takes(&rules, &cells, white, rook, a1, square("a8")),
-            true,
-        ),
-        (kind_takes(&rules, &cells, white, rook, a1, e4), false),
+    let (white, rook, a1, e4) = (Side::White, kind(b'r'), square("a1"), square("e4"));
+    let found = [
+        in_mobility(&rules, white, rook, e4),
+        in_mobility(&rules, white, rook, square("i4")),
+        is_held_back(&rules, white, rook, e4),
+        kind_takes(&rules, &cells, white, rook, a1, square("a8")),
+        kind_takes(&rules, &cells, white, rook, a1, e4),
     ];
-    for (row, (found, wanted)) in rows.iter().enumerate() {
-        assert_eq!(rt; found, wanted, "row {row}");
-    }
+    assert_eq!(rt; found, [true, false, false, true, false]);
 }
 
 #[test]
@@ -358,58 +346,69 @@ fn goes_to<R: Abort>(
     pieces: &str,
     letter: u8,
     from: &str,
-    targets: [&str; 2],
+    near: &str,
+    far: &str,
 )
     requires { IsFit rules.now }
 {
     let p = position(pieces);
-    for (near, reached) in targets.iter().zip([true, false]) {
-        for to in near.split(' ') {
-            let found = goes(rules, &p, letter, square(from), square(to));
-            assert_eq!(rt; found, reached, "{from} {to}");
-        }
+    for to in near.split(' ') {
+        assert!(rt;
+            goes(rules, &p, letter, square(from), square(to)),
+            "{from} {to}"
+        );
+    }
+    for to in far.split(' ') {
+        assert!(rt;
+            !goes(rules, &p, letter, square(from), square(to)),
+            "{from} {to}"
+        );
     }
 }
 
 #[test]
-fn pieces_go_where_their_names_say(rt: HostRuntime) {
-    goes_to(&rt, &leapers(), "", b'c', "f1", ["c2 e4 g4", "f2 e3 d4"]);
-    goes_to(&rt, &leapers(), "", b'k', "a1", ["a2 b1 b2", "c1 a3 b3"]);
-    goes_to(&rt, &chess(), "", b'n', "g1", ["e2 f3 h3", "g3 f2 d1"]);
-    goes_to(&rt, &chess(), "pe5", b'q', "e1", ["e5 h4 a1 d2", "e6 f3"]);
+fn pieces_of_leapers_and_chess_go(rt: HostRuntime) {
+    let small = leapers();
+    goes_to(&rt, &small, "", b'c', "f1", "c2 e4 g4", "f2 e3 d4");
+    goes_to(&rt, &small, "", b'k', "a1", "a2 b1 b2", "c1 a3 b3");
+    let rules = chess();
+    goes_to(&rt, &rules, "", b'n', "g1", "e2 f3 h3", "g3 f2 d1");
+    goes_to(&rt, &rules, "pe5", b'q', "e1", "e5 h4 a1 d2", "e6 f3");
+}
+
+#[test]
+fn pieces_of_two_moves_go(rt: HostRuntime) {
     goes_to(
         &rt,
         &capablanca(),
         "Pe5",
         b'a',
         "c3",
-        ["e5 a5 b1 d4", "f6 c4 h8"],
+        "e5 a5 b1 d4",
+        "f6 c4 h8",
     );
-    goes_to(&rt, &shouse(), "", b'e', "a1", ["a8 h1 b3 c2", "b2 c3"]);
+    goes_to(&rt, &shouse(), "", b'e', "a1", "a8 h1 b3 c2", "b2 c3");
+}
+
+#[test]
+fn generals_go(rt: HostRuntime) {
+    let rules = generals();
+    goes_to(&rt, &rules, "", b's', "d4", "c5 d5 e5 c3 e3", "c4 d3");
+    goes_to(&rt, &rules, "", b'g', "d4", "c5 d5 e5 c4 d3", "c3 e3");
+}
+
+#[test]
+fn pieces_of_xiangqi_go(rt: HostRuntime) {
+    let rules = xiangqi();
+    goes_to(&rt, &rules, "", b'b', "c1", "a3 e3", "b2 d2 c3");
+    goes_to(&rt, &rules, "Pd2", b'b', "c1", "a3", "e3");
     goes_to(
         &rt,
-        &generals(),
-        "",
-        b's',
-        "d4",
-        ["c5 d5 e5 c3 e3", "c4 d3"],
-    );
-    goes_to(
-        &rt,
-        &generals(),
-        "",
-        b'g',
-        "d4",
-        ["c5 d5 e5 c4 d3", "c3 e3"],
-    );
-    goes_to(&rt, &xiangqi(), "", b'b', "c1", ["a3 e3", "b2 d2 c3"]);
-    goes_to(&rt, &xiangqi(), "Pd2", b'b', "c1", ["a3", "e3"]);
-    goes_to(
-        &rt,
-        &xiangqi(),
+        &rules,
         "pa4 Pa6",
         b'c',
         "a1",
-        ["a2 a3 a6 i1", "a4 a5 a7 b2"],
+        "a2 a3 a6 i1",
+        "a4 a5 a7 b2",
     );
 }
