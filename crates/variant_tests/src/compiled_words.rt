@@ -1,79 +1,84 @@
 //! Tests of `betza_compile`.
 use betza_compile::compile;
 use betza_text::parse;
-use rules_model::Way;
+use rules_model::{Term, Way};
+use std::alloc::Global;
+use std::io::{self, Write};
 use std::test::Fail;
 
-const ORTHOGONAL: [(i8, i8); 4] = [(0, -1), (-1, 0), (1, 0), (0, 1)];
+/// Writes how a term goes (`m` where it moves and `c` where it takes), how far, and its step.
+fn tell_term(told: &mut Vec<u8>, term: &Term) -> io::Result<()> {
+    let way = match term.way {
+        Way::Leap => "leap",
+        Way::Lame => "lame",
+        Way::Slide => "slide",
+        Way::Hop => "hop",
+        Way::Grass => "grass",
+    };
+    let moves = if term.quiet { "m" } else { "" };
+    let takes = if term.takes { "c" } else { "" };
+    write!(
+        told,
+        "{moves}{takes} {way} {} {},{}|",
+        term.limit, term.dx, term.dy
+    )
+}
 
-const ROYAL: [(i8, i8); 8] = [
-    (0, -1),
-    (-1, 0),
-    (1, 0),
-    (0, 1),
-    (-1, -1),
-    (1, -1),
-    (-1, 1),
-    (1, 1),
-];
-
-const KNIGHT: [(i8, i8); 8] = [
-    (-1, -2),
-    (1, -2),
-    (-2, -1),
-    (2, -1),
-    (-2, 1),
-    (2, 1),
-    (-1, 2),
-    (1, 2),
-];
-
-// Each row: a word of one part, its steps in order, its way, its limit, and whether it moves and takes.
-#[test]
-fn one_part(rt: HostRuntime) -> Result<(), Fail> {
-    let rows: [(&[u8], &[(i8, i8)], Way, u8, bool, bool); 16] = [
-        (b"N", &KNIGHT, Way::Leap, 1, true, true),
-        (b"nN", &KNIGHT, Way::Lame, 1, true, true),
-        (b"mK", &ROYAL, Way::Leap, 1, true, false),
-        (b"cK", &ROYAL, Way::Leap, 1, false, true),
-        (b"cmQ", &ROYAL, Way::Slide, 11, true, true),
-        (b"KK", &ROYAL, Way::Slide, 11, true, true),
-        (b"NN", &KNIGHT, Way::Slide, 11, true, true),
-        (b"NN3", &KNIGHT, Way::Slide, 3, true, true),
-        (b"R", &ORTHOGONAL, Way::Slide, 11, true, true),
-        (b"R0", &ORTHOGONAL, Way::Slide, 11, true, true),
-        (b"W0", &ORTHOGONAL, Way::Slide, 11, true, true),
-        (b"W1", &ORTHOGONAL, Way::Slide, 1, true, true),
-        (b"R10", &ORTHOGONAL, Way::Slide, 10, true, true),
-        (b"cpR", &ORTHOGONAL, Way::Hop, 11, false, true),
-        (b"gW4", &ORTHOGONAL, Way::Grass, 4, true, true),
-        (b"pWW", &ORTHOGONAL, Way::Hop, 11, true, true),
-    ];
-    for (word, steps, way, limit, quiet, takes) in rows {
-        let b = parse(rt.alloc(), word)?;
-        let terms = compile(&b);
-        assert_eq!(rt; terms.items.len(), steps.len());
-        for (term, (dx, dy)) in terms.items.iter().zip(steps.iter().copied()) {
-            assert!(rt; term.dx == dx && term.dy == dy);
-            assert!(rt; term.way == way && term.limit == limit);
-            assert!(rt; term.quiet == quiet && term.takes == takes);
+/// The terms of each word that blanks separate, on a line for each.
+fn terms_of(alloc: Global, words: &[u8]) -> Result<Vec<u8>, Fail> {
+    let mut told = Vec::new(alloc);
+    for word in words.split(|byte| *byte == b' ') {
+        let betza = parse(alloc, word)?;
+        let terms = compile(&betza);
+        for term in terms.items.iter() {
+            tell_term(&mut told, term)?;
         }
+        told.push(b'\n')?;
     }
+    Ok(told)
+}
+
+#[test]
+fn all_steps_in_their_order(rt: HostRuntime) -> Result<(), Fail> {
+    let told = terms_of(rt.alloc(), b"N cmK R")?;
+    let wanted = b"\
+        mc leap 1 -1,-2|mc leap 1 1,-2|mc leap 1 -2,-1|mc leap 1 2,-1|\
+        mc leap 1 -2,1|mc leap 1 2,1|mc leap 1 -1,2|mc leap 1 1,2|\n\
+        mc leap 1 0,-1|mc leap 1 -1,0|mc leap 1 1,0|mc leap 1 0,1|\
+        mc leap 1 -1,-1|mc leap 1 1,-1|mc leap 1 -1,1|mc leap 1 1,1|\n\
+        mc slide 11 0,-1|mc slide 11 -1,0|mc slide 11 1,0|mc slide 11 0,1|\n";
+    assert!(rt; told.as_slice() == wanted.as_slice());
+    Ok(())
+}
+
+// Words of one direction: its way, its limit, and whether it moves and takes.
+#[test]
+fn ways_and_limits(rt: HostRuntime) -> Result<(), Fail> {
+    let words = b"ffnN fmK fcK fcmQ fKK ffNN ffNN3 fR0 fW0 fW1 fR10 fcpR fgW4 fpWW";
+    let told = terms_of(rt.alloc(), words)?;
+    let wanted = b"\
+        mc lame 1 -1,2|mc lame 1 1,2|\n\
+        m leap 1 0,1|m leap 1 -1,1|m leap 1 1,1|\n\
+        c leap 1 0,1|c leap 1 -1,1|c leap 1 1,1|\n\
+        mc slide 11 0,1|mc slide 11 -1,1|mc slide 11 1,1|\n\
+        mc slide 11 0,1|mc slide 11 -1,1|mc slide 11 1,1|\n\
+        mc slide 11 -1,2|mc slide 11 1,2|\n\
+        mc slide 3 -1,2|mc slide 3 1,2|\n\
+        mc slide 11 0,1|\n\
+        mc slide 11 0,1|\n\
+        mc slide 1 0,1|\n\
+        mc slide 10 0,1|\n\
+        c hop 11 0,1|\n\
+        mc grass 4 0,1|\n\
+        mc hop 11 0,1|\n";
+    assert!(rt; told.as_slice() == wanted.as_slice());
     Ok(())
 }
 
 // A rook that moves and, over one piece, takes: the parts stand in order.
 #[test]
 fn two_parts(rt: HostRuntime) -> Result<(), Fail> {
-    let b = parse(rt.alloc(), b"mRcpR")?;
-    let terms = compile(&b);
-    assert_eq!(rt; terms.items.len(), 8);
-    let steps = ORTHOGONAL.iter().chain(ORTHOGONAL.iter());
-    for (k, (term, (dx, dy))) in terms.items.iter().zip(steps.copied()).enumerate() {
-        assert!(rt; term.dx == dx && term.dy == dy && term.limit == 11);
-        let moves = k < 4;
-        assert_eq!(rt; term.way, if moves { Way::Slide } else { Way::Hop });
-        assert!(rt; term.quiet == moves && term.takes != moves);
-    }
+    let told = terms_of(rt.alloc(), b"fmRfcpR")?;
+    assert!(rt; told.as_slice() == b"m slide 11 0,1|c hop 11 0,1|\n".as_slice());
     Ok(())
 }
