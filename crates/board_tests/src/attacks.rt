@@ -11,9 +11,11 @@ use square_set::{EMPTY, Set, Shift};
 use std::alloc::Global;
 use std::process::Abort;
 
-/// The squares of the files and ranks from those of the one corner to those of the other.
-fn block(low: &str, high: &str) -> Set {
-    let (low, high) = (square(low), square(high));
+/// The squares of the files and ranks from those of the one corner to those of the other, as of `a1-h8`.
+fn block(corners: &str) -> Set {
+    let mut names = corners.split('-');
+    let low = square(names.next().unwrap_or(""));
+    let high = square(names.next().unwrap_or(""));
     let mut set = EMPTY;
     for at in 0..120u8 {
         let here = Square(at);
@@ -25,13 +27,11 @@ fn block(low: &str, high: &str) -> Set {
     set
 }
 
-/// Blocks of squares, each by its two corners.
-type Blocks<'a> = &'a [(&'a str, &'a str)];
-
-fn set_of_blocks(blocks: Blocks) -> Set {
+/// The squares of the blocks that blanks separate.
+fn blocks(text: &str) -> Set {
     let mut set = EMPTY;
-    for (low, high) in blocks {
-        set = set.or(block(*low, *high));
+    for corners in text.split(' ') {
+        set = set.or(block(corners));
     }
     set
 }
@@ -42,7 +42,7 @@ fn expect_reach(
     alloc: Global,
     rules: &Rules,
     pieces: &str,
-    rows: &[(&str, Mode, &[&str])],
+    rows: &[(&str, Mode, &str)],
 ) -> Result<(), Memory>
     requires { IsFit rules.now }
 {
@@ -61,14 +61,14 @@ fn expect_reach(
 
 #[test]
 fn chess_pieces_reach(rt: HostRuntime) -> Result<(), Memory> {
-    let rows: [(&str, Mode, &[&str]); 7] = [
-        ("a1", Mode::Take, &["b3", "c2"]),
-        ("e1", Mode::Take, &["d1", "f1", "d2", "e2", "f2"]),
-        ("h1", Mode::Quiet, &["e1", "f1", "g1", "h2", "h3"]),
-        ("h3", Mode::Take, &["g4"]),
-        ("e4", Mode::Take, &["d5", "f5"]),
-        ("b7", Mode::Take, &["a6", "c6"]),
-        ("e8", Mode::Quiet, &["d7", "e7", "f7", "d8", "f8"]),
+    let rows: [(&str, Mode, &str); 7] = [
+        ("a1", Mode::Take, "b3 c2"),
+        ("e1", Mode::Take, "d1 f1 d2 e2 f2"),
+        ("h1", Mode::Quiet, "e1 f1 g1 h2 h3"),
+        ("h3", Mode::Take, "g4"),
+        ("e4", Mode::Take, "d5 f5"),
+        ("b7", Mode::Take, "a6 c6"),
+        ("e8", Mode::Quiet, "d7 e7 f7 d8 f8"),
     ];
     let pieces = "Na1 Ke1 Rh1 Ph3 Pe4 pb7 ke8";
     expect_reach(&rt, rt.alloc(), &chess(), pieces, &rows)
@@ -89,25 +89,19 @@ fn some_reach_nothing(rt: HostRuntime) -> Result<(), Memory> {
 // takes over one piece, and a horse does not leap over the piece at its side.
 #[test]
 fn xiangqi_pieces_reach(rt: HostRuntime) -> Result<(), Memory> {
-    let rows: [(&str, Mode, &[&str]); 12] = [
-        ("c5", Mode::Take, &["a3", "e3"]),
-        (
-            "b3",
-            Mode::Quiet,
-            &[
-                "b1", "b2", "b4", "b5", "b6", "a3", "c3", "d3", "e3", "f3", "g3",
-            ],
-        ),
-        ("b3", Mode::Take, &["b7", "b8", "b9", "h3", "i3"]),
-        ("g3", Mode::Quiet, &["i4", "i2", "e4", "e2", "f1", "h1"]),
-        ("b9", Mode::Quiet, &["d10", "d8", "a7", "c7"]),
-        ("e1", Mode::Take, &["d1", "f1", "e2"]),
-        ("d10", Mode::Take, &["e10", "d9"]),
-        ("e5", Mode::Quiet, &["e6"]),
-        ("b6", Mode::Take, &["b7", "a6", "c6"]),
-        ("i6", Mode::Take, &["i7", "h6"]),
-        ("a6", Mode::Take, &["a5"]),
-        ("g4", Mode::Take, &["g3", "f4", "h4"]),
+    let rows: [(&str, Mode, &str); 12] = [
+        ("c5", Mode::Take, "a3 e3"),
+        ("b3", Mode::Quiet, "b1 b2 b4 b5 b6 a3 c3 d3 e3 f3 g3"),
+        ("b3", Mode::Take, "b7 b8 b9 h3 i3"),
+        ("g3", Mode::Quiet, "i4 i2 e4 e2 f1 h1"),
+        ("b9", Mode::Quiet, "d10 d8 a7 c7"),
+        ("e1", Mode::Take, "d1 f1 e2"),
+        ("d10", Mode::Take, "e10 d9"),
+        ("e5", Mode::Quiet, "e6"),
+        ("b6", Mode::Take, "b7 a6 c6"),
+        ("i6", Mode::Take, "i7 h6"),
+        ("a6", Mode::Take, "a5"),
+        ("g4", Mode::Take, "g3 f4 h4"),
     ];
     let pieces = "Ke1 Bc5 Cb3 Pb6 nb9 kd10 Ng3 pg4 Pi6 pa6 Pe5";
     expect_reach(&rt, rt.alloc(), &xiangqi(), pieces, &rows)
@@ -244,9 +238,9 @@ fn expect_goals(
     tables: &Tables,
     letter: u8,
     from: &str,
-    own: &[&str],
-    enemies: &[&str],
-    goals: &[&str],
+    own: &str,
+    enemies: &str,
+    goals: &str,
 )
     requires low { 97 ≤ letter }
     requires high { letter < 123 }
@@ -261,17 +255,9 @@ fn expect_goals(
 #[test]
 fn a_chess_piece_goes_where_it_takes(rt: HostRuntime) -> Result<(), Memory> {
     let tables = Tables::new(rt.alloc(), &chess())?;
-    let goals = ["b1", "c1", "a2", "a3", "a4"];
-    expect_goals(
-        &rt,
-        &tables,
-        b'r',
-        "a1",
-        &["a1", "d1"],
-        &["a4", "a6"],
-        &goals,
-    );
-    expect_goals(&rt, &tables, b'p', "e4", &["e4"], &["d5"], &["d5"]);
+    let goals = "b1 c1 a2 a3 a4";
+    expect_goals(&rt, &tables, b'r', "a1", "a1 d1", "a4 a6", goals);
+    expect_goals(&rt, &tables, b'p', "e4", "e4", "d5", "d5");
     assert!(rt; tables.castling_on());
     Ok(())
 }
@@ -280,46 +266,38 @@ fn a_chess_piece_goes_where_it_takes(rt: HostRuntime) -> Result<(), Memory> {
 #[test]
 fn a_cannon_does_not(rt: HostRuntime) -> Result<(), Memory> {
     let tables = Tables::new(rt.alloc(), &xiangqi())?;
-    let goals = ["a2", "a3", "b1", "c1", "a7"];
-    expect_goals(
-        &rt,
-        &tables,
-        b'c',
-        "a1",
-        &["a1", "a4", "d1"],
-        &["a7", "a9"],
-        &goals,
-    );
+    let goals = "a2 a3 b1 c1 a7";
+    expect_goals(&rt, &tables, b'c', "a1", "a1 a4 d1", "a7 a9", goals);
     assert!(rt; !tables.castling_on());
     Ok(())
 }
 
-/// From where a pawn goes on a board.
-#[derive(Drop)]
-struct Goers<'a> {
-    board: (&'a str, &'a str),
-    side: Side,
-    plain: Blocks<'a>,
-    once: Blocks<'a>,
-    twice: Blocks<'a>,
-    left: Blocks<'a>,
-    right: Blocks<'a>,
+/// Of the squares of the board these are plain, and of those a pawn goes from these: once, twice, to the left and to
+/// the right.
+fn expect_masks(rt: &impl Abort, tables: &Tables, side: Side, board: &str, rows: [&str; 5]) {
+    let masks = tables.pawn_masks(side);
+    let plain = masks.plain.and(block(board));
+    let goers = [plain, masks.once, masks.twice, masks.left, masks.right];
+    for (goes, row) in goers.iter().zip(rows) {
+        assert!(rt; plain.and(*goes) == blocks(row), "{row}");
+    }
 }
 
-/// These squares of the board are plain, and of these a pawn goes from the others.
-fn expect_masks(rt: &impl Abort, tables: &Tables, row: &Goers) {
-    let masks = tables.pawn_masks(row.side);
-    let plain = masks.plain.and(block(row.board.0, row.board.1));
-    let rows = [
-        (plain, row.plain),
-        (plain.and(masks.once), row.once),
-        (plain.and(masks.twice), row.twice),
-        (plain.and(masks.left), row.left),
-        (plain.and(masks.right), row.right),
-    ];
-    for (k, (found, blocks)) in rows.iter().enumerate() {
-        assert_eq!(rt; *found, set_of_blocks(blocks), "row {k}");
-    }
+/// The same of both sides.
+fn expect_pawns(
+    rt: &impl Abort,
+    alloc: Global,
+    rules: &Rules,
+    board: &str,
+    white: [&str; 5],
+    black: [&str; 5],
+) -> Result<(), Memory>
+    requires { IsFit rules.now }
+{
+    let tables = Tables::new(alloc, rules)?;
+    expect_masks(rt, &tables, Side::White, board, white);
+    expect_masks(rt, &tables, Side::Black, board, black);
+    Ok(())
 }
 
 #[test]
@@ -337,28 +315,9 @@ fn pawns_shift(rt: HostRuntime) -> Result<(), Memory> {
 // A pawn promotes from its last rank but one; on the last rank it goes nowhere.
 #[test]
 fn chess_pawns_go(rt: HostRuntime) -> Result<(), Memory> {
-    let tables = Tables::new(rt.alloc(), &chess())?;
-    let white = Goers {
-        board: ("a1", "h8"),
-        side: Side::White,
-        plain: &[("a1", "h6"), ("a8", "h8")],
-        once: &[("a1", "h6")],
-        twice: &[("a2", "h2")],
-        left: &[("b1", "h6")],
-        right: &[("a1", "g6")],
-    };
-    let black = Goers {
-        board: ("a1", "h8"),
-        side: Side::Black,
-        plain: &[("a3", "h8"), ("a1", "h1")],
-        once: &[("a3", "h8")],
-        twice: &[("a7", "h7")],
-        left: &[("a3", "g8")],
-        right: &[("b3", "h8")],
-    };
-    expect_masks(&rt, &tables, &white);
-    expect_masks(&rt, &tables, &black);
-    Ok(())
+    let white = ["a1-h6 a8-h8", "a1-h6", "a2-h2", "b1-h6", "a1-g6"];
+    let black = ["a3-h8 a1-h1", "a3-h8", "a7-h7", "a3-g8", "b3-h8"];
+    expect_pawns(&rt, rt.alloc(), &chess(), "a1-h8", white, black)
 }
 
 /// Chess where no pawn steps twice at once.
@@ -375,7 +334,7 @@ fn pawns_step_once(rt: HostRuntime) -> Result<(), Memory> {
     let tables = Tables::new(rt.alloc(), &single_steps())?;
     for side in [Side::White, Side::Black] {
         let masks = tables.pawn_masks(side);
-        let plain = masks.plain.and(block("a1", "h8"));
+        let plain = masks.plain.and(block("a1-h8"));
         assert_eq!(rt; plain.and(masks.twice), EMPTY);
         assert_eq!(rt; plain.and(masks.once).count(), 48);
     }
@@ -385,82 +344,37 @@ fn pawns_step_once(rt: HostRuntime) -> Result<(), Memory> {
 // A pawn promotes on the last three ranks.
 #[test]
 fn generals_pawns_go(rt: HostRuntime) -> Result<(), Memory> {
-    let tables = Tables::new(rt.alloc(), &generals())?;
-    let white = Goers {
-        board: ("a1", "h8"),
-        side: Side::White,
-        plain: &[("a1", "h4"), ("a8", "h8")],
-        once: &[("a1", "h4")],
-        twice: &[("a2", "h2")],
-        left: &[("b1", "h4")],
-        right: &[("a1", "g4")],
-    };
-    let black = Goers {
-        board: ("a1", "h8"),
-        side: Side::Black,
-        plain: &[("a5", "h8"), ("a1", "h1")],
-        once: &[("a5", "h8")],
-        twice: &[("a7", "h7")],
-        left: &[("a5", "g8")],
-        right: &[("b5", "h8")],
-    };
-    expect_masks(&rt, &tables, &white);
-    expect_masks(&rt, &tables, &black);
-    Ok(())
+    let white = ["a1-h4 a8-h8", "a1-h4", "a2-h2", "b1-h4", "a1-g4"];
+    let black = ["a5-h8 a1-h1", "a5-h8", "a7-h7", "a5-g8", "b5-h8"];
+    expect_pawns(&rt, rt.alloc(), &generals(), "a1-h8", white, black)
 }
 
 // With soldiers and no pawn nothing promotes, on nine files and ten ranks; a pawn would go as ever.
 #[test]
 fn xiangqi_pawns_would_go(rt: HostRuntime) -> Result<(), Memory> {
-    let tables = Tables::new(rt.alloc(), &xiangqi())?;
-    let white = Goers {
-        board: ("a1", "i10"),
-        side: Side::White,
-        plain: &[("a1", "i10")],
-        once: &[("a1", "i9")],
-        twice: &[("a2", "i2")],
-        left: &[("b1", "i9")],
-        right: &[("a1", "h9")],
-    };
-    let black = Goers {
-        board: ("a1", "i10"),
-        side: Side::Black,
-        plain: &[("a1", "i10")],
-        once: &[("a2", "i10")],
-        twice: &[("a9", "i9")],
-        left: &[("a2", "h10")],
-        right: &[("b2", "i10")],
-    };
-    expect_masks(&rt, &tables, &white);
-    expect_masks(&rt, &tables, &black);
-    Ok(())
+    let white = ["a1-i10", "a1-i9", "a2-i2", "b1-i9", "a1-h9"];
+    let black = ["a1-i10", "a2-i10", "a9-i9", "a2-h10", "b2-i10"];
+    expect_pawns(&rt, rt.alloc(), &xiangqi(), "a1-i10", white, black)
 }
 
 // On the largest board the number after that of a file l is of a file a: no pawn takes over the edge.
 #[test]
 fn wide_pawns_go(rt: HostRuntime) -> Result<(), Memory> {
-    let tables = Tables::new(rt.alloc(), &wide_chess())?;
-    let white = Goers {
-        board: ("a1", "l8"),
-        side: Side::White,
-        plain: &[("a1", "l6"), ("j7", "l7"), ("a8", "l8")],
-        once: &[("a1", "l6"), ("j7", "l7")],
-        twice: &[("a2", "h2")],
-        left: &[("b1", "l6"), ("j7", "l7")],
-        right: &[("a1", "k6"), ("j7", "k7")],
-    };
-    let black = Goers {
-        board: ("a1", "l8"),
-        side: Side::Black,
-        plain: &[("a3", "l8"), ("j2", "l2"), ("a1", "l1")],
-        once: &[("a3", "l8"), ("j2", "l2")],
-        twice: &[("a7", "h7")],
-        left: &[("a3", "k8"), ("j2", "k2")],
-        right: &[("b3", "l8"), ("j2", "l2")],
-    };
-    expect_masks(&rt, &tables, &white);
-    expect_masks(&rt, &tables, &black);
-    Ok(())
+    let white = [
+        "a1-l6 j7-l7 a8-l8",
+        "a1-l6 j7-l7",
+        "a2-h2",
+        "b1-l6 j7-l7",
+        "a1-k6 j7-k7",
+    ];
+    let black = [
+        "a3-l8 j2-l2 a1-l1",
+        "a3-l8 j2-l2",
+        "a7-h7",
+        "a3-k8 j2-k2",
+        "b3-l8 j2-l2",
+    ];
+    expect_pawns(&rt, rt.alloc(), &wide_chess(), "a1-l8", white, black)
 }
 
 /// Chess where a flag piece would win on the last rank, and hand pieces would be put on the second.
@@ -479,11 +393,11 @@ fn zoned() -> Rules
 fn regions_are_sets(rt: HostRuntime) -> Result<(), Memory> {
     let tables = Tables::new(rt.alloc(), &zoned())?;
     for (side, flag, drop) in [
-        (Side::White, ("a8", "h8"), ("a2", "h2")),
-        (Side::Black, ("a1", "h1"), ("a7", "h7")),
+        (Side::White, "a8-h8", "a2-h2"),
+        (Side::Black, "a1-h1", "a7-h7"),
     ] {
-        assert_eq!(rt; tables.flag_region(side), block(flag.0, flag.1));
-        assert_eq!(rt; tables.drop_region(side), block(drop.0, drop.1));
+        assert_eq!(rt; tables.flag_region(side), block(flag));
+        assert_eq!(rt; tables.drop_region(side), block(drop));
     }
     Ok(())
 }

@@ -5,11 +5,13 @@ use rules_model::{Kind, Move, Placed, Promo};
 use sample_rules::{kind, square};
 use square_set::{EMPTY, Set};
 
-/// The set of the squares of these names.
-pub(crate) fn set_of(squares: &[&str]) -> Set {
+/// The set of the squares whose names blanks separate; of no name, none.
+pub(crate) fn set_of(squares: &str) -> Set {
     let mut set = EMPTY;
-    for text in squares {
-        set = set.with(square(*text).0);
+    if !squares.is_empty() {
+        for text in squares.split(' ') {
+            set = set.with(square(text).0);
+        }
     }
     set
 }

@@ -22,14 +22,7 @@ fn drop_of(letter: u8, to: &str) -> Move
 
 /// White's pieces, Black's and White's kings are these after the move, where d6 is the en passant square. Black's king
 /// is on d8.
-fn leads_to<R: Abort>(
-    rt: &R,
-    pieces: &str,
-    m: &Move,
-    own: &[&str],
-    enemies: &[&str],
-    kings: &[&str],
-)
+fn leads_to<R: Abort>(rt: &R, pieces: &str, m: &Move, own: &str, enemies: &str, kings: &str)
     requires { IsFitMove m.now }
 {
     let rules = shouse();
@@ -39,7 +32,7 @@ fn leads_to<R: Abort>(
     };
     let sets = sets_of(&rules, &p.cells, p.side).after(&rules, &p, m);
     let found = [sets.own, sets.enemies, sets.kings, sets.enemy_kings];
-    let wanted = [set_of(own), set_of(enemies), set_of(kings), set_of(&["d8"])];
+    let wanted = [set_of(own), set_of(enemies), set_of(kings), set_of("d8")];
     assert_eq!(rt; found, wanted, "{m:?}");
 }
 
@@ -48,15 +41,15 @@ fn sets_are_those_of_the_board(rt: HostRuntime) {
     let rules = chess();
     let p = position("Ke1 Pe4 Ke5 kd8 pd5 qh5");
     let white = sets_of(&rules, &p.cells, Side::White);
-    let rows: [(Set, &[&str]); 8] = [
-        (white.own, &["e1", "e4", "e5"]),
-        (white.enemies, &["d8", "d5", "h5"]),
-        (white.kings, &["e1", "e5"]),
-        (white.enemy_kings, &["d8"]),
-        (white.pawns, &["e4", "d5"]),
-        (white.own_pawns(), &["e4"]),
-        (white.own_pieces(), &["e1", "e5"]),
-        (white.occupied(), &["e1", "e4", "e5", "d8", "d5", "h5"]),
+    let rows: [(Set, &str); 8] = [
+        (white.own, "e1 e4 e5"),
+        (white.enemies, "d8 d5 h5"),
+        (white.kings, "e1 e5"),
+        (white.enemy_kings, "d8"),
+        (white.pawns, "e4 d5"),
+        (white.own_pawns(), "e4"),
+        (white.own_pieces(), "e1 e5"),
+        (white.occupied(), "e1 e4 e5 d8 d5 h5"),
     ];
     for (row, (set, squares)) in rows.iter().enumerate() {
         assert_eq!(rt; *set, set_of(squares), "row {row}");
@@ -71,7 +64,7 @@ fn sets_are_turned_and_put(rt: HostRuntime) {
     assert_eq!(rt; white.turned(), sets_of(&rules, &p.cells, Side::Black));
     let empty = white.put(&rules, Side::White, square("d8"), None);
     let found = [empty.enemies, empty.enemy_kings];
-    assert_eq!(rt; found, [set_of(&["d5", "h5"]), EMPTY]);
+    assert_eq!(rt; found, [set_of("d5 h5"), EMPTY]);
     let beyond = white.put(&rules, Side::White, Square(120), p.cells[0]);
     assert_eq!(rt; beyond, white);
 }
@@ -83,39 +76,18 @@ fn sets_follow_a_move(rt: HostRuntime) {
         &rt,
         "Ke1 Pe4 kd8 pd5",
         &quiet("e4", "d5"),
-        &["e1", "d5"],
-        &["d8"],
-        &["e1"],
+        "e1 d5",
+        "d8",
+        "e1",
     );
     // en passant, and a pawn that goes straight forward
-    leads_to(
-        &rt,
-        pawns,
-        &quiet("e5", "d6"),
-        &["e1", "d6"],
-        &["d8"],
-        &["e1"],
-    );
-    leads_to(
-        &rt,
-        pawns,
-        &quiet("e5", "e6"),
-        &["e1", "e6"],
-        &["d8", "d5"],
-        &["e1"],
-    );
-    leads_to(
-        &rt,
-        "Ke1 kd8 pd2",
-        &quiet("e1", "d2"),
-        &["d2"],
-        &["d8"],
-        &["d2"],
-    );
+    leads_to(&rt, pawns, &quiet("e5", "d6"), "e1 d6", "d8", "e1");
+    leads_to(&rt, pawns, &quiet("e5", "e6"), "e1 e6", "d8 d5", "e1");
+    leads_to(&rt, "Ke1 kd8 pd2", &quiet("e1", "d2"), "d2", "d8", "d2");
 }
 
 /// The pawns of both sides are on these squares after the move, where d6 is the en passant square.
-fn leaves_pawns<R: Abort>(rt: &R, pieces: &str, m: &Move, pawns: &[&str])
+fn leaves_pawns<R: Abort>(rt: &R, pieces: &str, m: &Move, pawns: &str)
     requires { IsFitMove m.now }
 {
     let rules = shouse();
@@ -130,40 +102,19 @@ fn leaves_pawns<R: Abort>(rt: &R, pieces: &str, m: &Move, pawns: &[&str])
 // A pawn that is taken in passing is gone, one that promotes is none, and one that is dropped is there.
 #[test]
 fn pawns_follow_a_move(rt: HostRuntime) {
-    leaves_pawns(&rt, "Ke1 Pe5 kd8 pd5", &quiet("e5", "d6"), &["d6"]);
+    leaves_pawns(&rt, "Ke1 Pe5 kd8 pd5", &quiet("e5", "d6"), "d6");
     let king = go("a7", "a8", Promo::Pawn(kind(b'k')), None);
-    leaves_pawns(&rt, "Ke1 Pa7 Ph2 kd8", &king, &["h2"]);
-    leaves_pawns(&rt, "Ke1 kd8 pd5", &drop_of(b'p', "h4"), &["d5", "h4"]);
+    leaves_pawns(&rt, "Ke1 Pa7 Ph2 kd8", &king, "h2");
+    leaves_pawns(&rt, "Ke1 kd8 pd5", &drop_of(b'p', "h4"), "d5 h4");
 }
 
 // A pawn becomes a king; a hand piece comes in at the king's gate, and at the rook's as it castles; a pawn is dropped.
 #[test]
 fn sets_follow_a_placing(rt: HostRuntime) {
     let king = go("a7", "a8", Promo::Pawn(kind(b'k')), None);
-    leads_to(
-        &rt,
-        "Ke1 Pa7 kd8",
-        &king,
-        &["e1", "a8"],
-        &["d8"],
-        &["e1", "a8"],
-    );
+    leads_to(&rt, "Ke1 Pa7 kd8", &king, "e1 a8", "d8", "e1 a8");
     let gated = go("e1", "e2", Promo::Stays, Some(kind(b'h')));
-    leads_to(&rt, "Ke1 kd8", &gated, &["e1", "e2"], &["d8"], &["e2"]);
-    leads_to(
-        &rt,
-        "Ke1 Rh1 kd8",
-        &castle(),
-        &["f1", "g1", "h1"],
-        &["d8"],
-        &["g1"],
-    );
-    leads_to(
-        &rt,
-        "Ke1 kd8",
-        &drop_of(b'p', "h4"),
-        &["e1", "h4"],
-        &["d8"],
-        &["e1"],
-    );
+    leads_to(&rt, "Ke1 kd8", &gated, "e1 e2", "d8", "e2");
+    leads_to(&rt, "Ke1 Rh1 kd8", &castle(), "f1 g1 h1", "d8", "g1");
+    leads_to(&rt, "Ke1 kd8", &drop_of(b'p', "h4"), "e1 h4", "d8", "e1");
 }
