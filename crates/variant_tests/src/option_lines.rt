@@ -1,48 +1,51 @@
 //! Tests of `variant_options`.
-use betza_text::BetzaFault;
+use std::alloc::Global;
+use std::io::Write;
 use std::test::Fail;
-use variant_options::{LineFault, line_fault};
+use variant_options::line_fault;
 
-// Each row: a key, a value, and the fault of the line.
+/// The fault of each line of a key and a value, on a line for each.
+fn faults_of(alloc: Global, lines: &str) -> Result<Vec<u8>, Fail> {
+    let mut told = Vec::new(alloc);
+    for line in lines.split('\n') {
+        let (key, value) = line.split_once('=').unwrap_or((line, ""));
+        match line_fault(alloc, key.as_bytes(), value.as_bytes()) {
+            Ok(fault) => writeln!(told, "{fault:?}")?,
+            Err(_) => told.extend_from_slice(b"no memory\n")?,
+        }
+    }
+    Ok(told)
+}
+
+// Each bad line is nearly a good one.
 #[test]
 fn lines_and_their_faults(rt: HostRuntime) -> Result<(), Fail> {
-    let bad = Some(LineFault::BadValue);
-    let unsupported = Some(LineFault::UnsupportedOption);
-    let rows: [(&[u8], &[u8], Option<LineFault>); 26] = [
-        (b"maxRank", b"10", None),
-        (b"maxRank", b"11", bad),
-        (b"maxFile", b"L", None),
-        (b"maxFile", b"13", bad),
-        (b"startFen", b"", None),
-        (b"doubleStep", b"false", None),
-        (b"doubleStep", b"False", bad),
-        (b"nFoldRule", b"0", None),
-        (b"nFoldRule", b"1", bad),
-        (b"stalemateValue", b"none", bad),
-        (b"extinctionValue", b"none", None),
-        (b"extinctionPieceTypes", b"*", None),
-        (b"nMoveRuleTypes", b"*", bad),
-        (b"flagPiece", b"K", None),
-        (b"promotionPieceTypes", b"n b R", None),
-        (b"promotionPieceTypes", b"n,b", bad),
-        (b"promotedPieceType", b"s:g  P:g", None),
-        (b"promotedPieceType", b"s:", bad),
-        (b"flagRegionWhite", b"d4 *10", None),
-        (b"flagRegionWhite", b"m4", bad),
-        (b"mobilityRegionBlackCustomPiece24", b"*1", None),
-        (b"mobilityRegionBlackPawn", b"*1", unsupported),
-        (b"blastOnCapture", b"true", unsupported),
-        (b"pocketSize", b"6", None),
-        (b"king", b"k:WF", None),
-        (
-            b"customPiece1",
-            b"c:fN",
-            Some(LineFault::BadPiece(BetzaFault::AmbiguousDirection(0))),
-        ),
-    ];
-    for (key, value, want) in rows {
-        let fault = line_fault(rt.alloc(), key, value).map_err(|_| "no memory")?;
-        assert!(rt; fault == want, "{key:?} {value:?}: {fault:?}");
-    }
+    let good =
+        "maxRank=10\nmaxFile=L\nstartFen=\ndoubleStep=false\nnFoldRule=0\nextinctionValue=none\n\
+        extinctionPieceTypes=*\nflagPiece=K\npromotionPieceTypes=n b R\npromotedPieceType=s:g  P:g\n\
+        flagRegionWhite=d4 *10\nmobilityRegionBlackCustomPiece24=*1\npocketSize=6\nking=k:WF";
+    let told = faults_of(rt.alloc(), good)?;
+    let wanted =
+        "None\nNone\nNone\nNone\nNone\nNone\nNone\nNone\nNone\nNone\nNone\nNone\nNone\nNone\n";
+    assert!(rt; told.as_slice() == wanted.as_bytes());
+    let bad =
+        "maxRank=11\nmaxFile=13\ndoubleStep=False\nnFoldRule=1\nstalemateValue=none\nnMoveRuleTypes=*\n\
+        promotionPieceTypes=n,b\npromotedPieceType=s:\nflagRegionWhite=m4\nmobilityRegionBlackPawn=*1\n\
+        blastOnCapture=true\ncustomPiece1=c:fN";
+    let told = faults_of(rt.alloc(), bad)?;
+    let wanted = "\
+        Some(BadValue)\n\
+        Some(BadValue)\n\
+        Some(BadValue)\n\
+        Some(BadValue)\n\
+        Some(BadValue)\n\
+        Some(BadValue)\n\
+        Some(BadValue)\n\
+        Some(BadValue)\n\
+        Some(BadValue)\n\
+        Some(UnsupportedOption)\n\
+        Some(UnsupportedOption)\n\
+        Some(BadPiece(AmbiguousDirection(0)))\n";
+    assert!(rt; told.as_slice() == wanted.as_bytes());
     Ok(())
 }
