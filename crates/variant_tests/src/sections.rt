@@ -2,6 +2,7 @@
 use rules_model::{Memory, Square};
 use section_rules::{LetteredSections, Resolved, bare_rules, own_fault, rules_fault};
 use std::alloc::Global;
+use std::io::Write;
 use std::test::Fail;
 use variant_ini::Sections;
 use variant_model::SectionFault;
@@ -12,87 +13,69 @@ fn sections_of(alloc: Global, text: &[u8]) -> Result<Sections, Fail> {
     Ok(sections)
 }
 
-/// What a fault says beside a key.
-#[derive(Clone, Copy, Debug, PartialEq, Eq)]
-enum Seen {
-    Nothing,
-    Option,
-    Value,
-    Word,
-    Letter(u8),
-    Contradiction(u8),
-    Other,
-}
-
-fn seen_in(fault: &Option<SectionFault>) -> Seen {
-    match fault {
-        None => Seen::Nothing,
-        Some(SectionFault::UnsupportedOption(_)) => Seen::Option,
-        Some(SectionFault::BadValue(_)) => Seen::Value,
-        Some(SectionFault::BadPiece(_, _)) => Seen::Word,
-        Some(SectionFault::LetterTwice(kind)) => Seen::Letter(kind.0),
-        Some(SectionFault::Inconsistent(number)) => Seen::Contradiction(*number),
-        _ => Seen::Other,
-    }
-}
-
 // The first fault of the last section but for those of its header and its start.
-fn judged(alloc: Global, sections: &Sections) -> Result<Seen, Memory> {
+fn judged(alloc: Global, sections: &Sections) -> Result<Option<SectionFault>, Memory> {
     if sections.len() == 0 {
-        return Ok(Seen::Other);
+        return Ok(Some(SectionFault::Inconsistent(0)));
     }
     let place = sections.len() - 1;
     let own = own_fault(alloc, sections, place)?;
     if own.is_some() {
-        return Ok(seen_in(&own));
+        return Ok(own);
     }
     let lettered = LetteredSections::new(alloc, sections)?;
     let section = Resolved::new(&lettered, place);
     let rules = bare_rules(alloc, &section)?;
-    Ok(seen_in(&rules_fault(alloc, &section, &rules)?))
+    rules_fault(alloc, &section, &rules)
 }
 
-// Each row: a text, and the fault of its last section.
-#[test]
-fn faults(rt: HostRuntime) -> Result<(), Fail> {
-    let rows: [(&[u8], Seen); 13] = [
-        (b"[a]\nrook = r", Seen::Nothing),
-        (b"[a]\nrook = r\nblast = 1\nmaxRank = 11", Seen::Option),
-        (b"[a]\nrook = r\nmaxRank = 11\nblast = 1", Seen::Value),
-        (b"[a]\nking = k:X", Seen::Word),
-        (
-            b"[a]\nrook = r\nking = r\nqueen = b\nbishop = b",
-            Seen::Letter(1),
-        ),
-        (b"[a]\nrook = r\n[b:a]\nqueen = r", Seen::Nothing),
-        (b"[a]\nmaxRank = 8", Seen::Contradiction(1)),
-        (
-            b"[a]\npawn = p\nrook = r\npromotionPieceTypes = rp",
-            Seen::Contradiction(2),
-        ),
-        (
-            b"[a]\nsilver = s\ngold = g\npromotedPieceType = s:g s:s",
-            Seen::Contradiction(3),
-        ),
-        (
-            b"[a]\nsilver = s\npromotedPieceType = s:z z:s",
-            Seen::Nothing,
-        ),
-        (
-            b"[a]\nking = k\nseirawanGating = true",
-            Seen::Contradiction(4),
-        ),
-        (b"[a]\nking = k\ngating = true\nmaxFile = 10", Seen::Nothing),
-        (
-            b"[a]\nking = k\ngating = true\nmaxFile = k",
-            Seen::Contradiction(5),
-        ),
-    ];
-    for (text, want) in rows {
-        let sections = sections_of(rt.alloc(), text)?;
-        let fault = judged(rt.alloc(), &sections).map_err(|_| "no memory")?;
-        assert!(rt; fault == want, "{text:?}: {fault:?}");
+/// What `judged` says of the sections of each text that bars separate.
+fn faults_of(alloc: Global, texts: &[u8]) -> Result<Vec<u8>, Fail> {
+    let mut told = Vec::new(alloc);
+    for text in texts.split(|byte| *byte == b'|') {
+        let sections = sections_of(alloc, text)?;
+        match judged(alloc, &sections) {
+            Ok(None) => told.extend_from_slice(b"none\n")?,
+            Ok(Some(fault)) => writeln!(told, "{fault}")?,
+            Err(_) => told.extend_from_slice(b"no memory\n")?,
+        }
     }
+    Ok(told)
+}
+
+#[test]
+fn faults_of_lines(rt: HostRuntime) -> Result<(), Fail> {
+    let texts =
+        b"[a]\nrook = r|[a]\nrook = r\nblast = 1\nmaxRank = 11|[a]\nrook = r\nmaxRank = 11\nblast = 1|\
+        [a]\nking = k:X|[a]\nrook = r\nking = r\nqueen = b\nbishop = b|[a]\nrook = r\n[b:a]\nqueen = r";
+    let told = faults_of(rt.alloc(), texts)?;
+    let wanted = b"\
+        none\n\
+        SectionFault 4 UnsupportedOption blast\n\
+        SectionFault 5 BadValue maxRank\n\
+        SectionFault 6 BadPiece king BetzaFault 3 UnknownAtom 0\n\
+        SectionFault 7 LetterTwice b\n\
+        none\n";
+    assert!(rt; told.as_slice() == wanted.as_slice());
+    Ok(())
+}
+
+#[test]
+fn contradictions(rt: HostRuntime) -> Result<(), Fail> {
+    let texts = b"[a]\nmaxRank = 8|[a]\npawn = p\nrook = r\npromotionPieceTypes = rp|\
+        [a]\nsilver = s\ngold = g\npromotedPieceType = s:g s:s|[a]\nsilver = s\npromotedPieceType = s:z z:s|\
+        [a]\nking = k\nseirawanGating = true|[a]\nking = k\ngating = true\nmaxFile = 10|\
+        [a]\nking = k\ngating = true\nmaxFile = k";
+    let told = faults_of(rt.alloc(), texts)?;
+    let wanted = b"\
+        SectionFault 9 Inconsistent 1\n\
+        SectionFault 9 Inconsistent 2\n\
+        SectionFault 9 Inconsistent 3\n\
+        none\n\
+        SectionFault 9 Inconsistent 4\n\
+        none\n\
+        SectionFault 9 Inconsistent 5\n";
+    assert!(rt; told.as_slice() == wanted.as_slice());
     Ok(())
 }
 
