@@ -32,34 +32,41 @@ fn printed(alloc: Global, entry: Result<&Rules, &SectionFault>) -> Result<String
     }
 }
 
+/// Each entry: its name, and how it prints.
+fn entries_of(alloc: Global, variants: &Variants) -> Result<Vec<u8>, AllocError> {
+    let mut told = Vec::new(alloc);
+    for place in 0..variants.len() {
+        let (name, entry) = variants.entry(place);
+        told.extend_from_slice(name)?;
+        told.push(b':')?;
+        let text = printed(alloc, entry)?;
+        told.extend_from_slice(text.as_bytes())?;
+        told.push(b'\n')?;
+    }
+    Ok(told)
+}
+
 #[test]
 fn a_file_stands_below_the_built_in_variants(rt: HostRuntime) -> Result<(), Fail> {
-    let rows: [(&[u8], &str); 15] = [
-        (b"chess", "ok"),
-        (b"crazyhouse", "ok"),
-        (b"3check", "ok"),
-        (b"kingofthehill", "ok"),
-        (b"antichess", "ok"),
-        (b"extinction", "ok"),
-        (b"losalamos", "ok"),
-        (b"capablanca", "ok"),
-        (b"seirawan", "ok"),
-        (b"xiangqi", "ok"),
-        (b"a", "ok"),
-        (b"b", "ok"),
-        (b"c", "ok"),
-        (b"d", "SectionFault 4 UnsupportedOption blastOnCapture"),
-        (b"e", "SectionFault 3 RefusedParent"),
-    ];
     let variants = variants_with(rt.alloc(), CHAIN)?;
-    assert_eq!(rt; variants.len(), rows.len());
-    for (place, (name, expected)) in rows.into_iter().enumerate() {
-        assert!(rt; place < variants.len());
-        let (found, entry) = variants.entry(place);
-        assert_eq!(rt; found, name);
-        let text = printed(rt.alloc(), entry)?;
-        assert_eq!(rt; text.as_str(), expected);
-    }
+    let told = entries_of(rt.alloc(), &variants)?;
+    let wanted = b"\
+        chess:ok\n\
+        crazyhouse:ok\n\
+        3check:ok\n\
+        kingofthehill:ok\n\
+        antichess:ok\n\
+        extinction:ok\n\
+        losalamos:ok\n\
+        capablanca:ok\n\
+        seirawan:ok\n\
+        xiangqi:ok\n\
+        a:ok\n\
+        b:ok\n\
+        c:ok\n\
+        d:SectionFault 4 UnsupportedOption blastOnCapture\n\
+        e:SectionFault 3 RefusedParent\n";
+    assert!(rt; told.as_slice() == wanted.as_slice());
     Ok(())
 }
 
@@ -84,50 +91,46 @@ fn options_come_from_all_parents(rt: HostRuntime) -> Result<(), Fail> {
     Ok(())
 }
 
-// Each row: a file, and how the entry of its first section prints.
+/// How the first section of each file that bars separate prints, on a line for each.
+fn first_entries(alloc: Global, files: &[u8]) -> Result<Vec<u8>, Fail> {
+    let mut told = Vec::new(alloc);
+    for file in files.split(|byte| *byte == b'|') {
+        let variants = variants_with(alloc, file)?;
+        if 10 < variants.len() {
+            let (_, entry) = variants.entry(10);
+            let text = printed(alloc, entry)?;
+            told.extend_from_slice(text.as_bytes())?;
+        }
+        told.push(b'\n')?;
+    }
+    Ok(told)
+}
+
 #[test]
 fn the_first_fault_is_the_answer(rt: HostRuntime) -> Result<(), Fail> {
-    let rows: [(&[u8], &str); 12] = [
-        (b"[chess]\nblast = 1", "SectionFault 1 DuplicateName"),
-        (b"[x:x]\nblast = 1", "SectionFault 2 UnknownParent"),
-        (b"[x:y]\n[y:chess]", "SectionFault 2 UnknownParent"),
-        (
-            b"[x:chess]\nblast = 1\nnFoldRule = 1",
-            "SectionFault 4 UnsupportedOption blast",
-        ),
-        (
-            b"[x:chess]\nnFoldRule = 1\nblast = 1",
-            "SectionFault 5 BadValue nFoldRule",
-        ),
-        (
-            b"[x:chess]\ncustomPiece1 = a:fN",
-            "SectionFault 6 BadPiece customPiece1 BetzaFault 6 AmbiguousDirection 0",
-        ),
-        (
-            b"[x]\nqueen = Q\namazon = q\nrook = a\nbishop = a\nseirawanGating = true",
-            "SectionFault 7 LetterTwice a",
-        ),
-        (
-            b"[x:chess]\nseirawanGating = true\nstartFen = none",
-            "SectionFault 9 Inconsistent 4",
-        ),
-        (b"[x]", "SectionFault 9 Inconsistent 1"),
-        (
-            b"[x:chess]\nstartFen = none",
-            "SectionFault 8 BadStart FenFault 1 Length",
-        ),
-        (
-            b"[x:chess]\ncastling = false",
-            "SectionFault 8 BadStart FenFault 7 Rights",
-        ),
-        (b"[x:chess]", "ok"),
-    ];
-    for (file, expected) in rows {
-        let variants = variants_with(rt.alloc(), file)?;
-        assert!(rt; 10 < variants.len());
-        let (_, entry) = variants.entry(10);
-        let text = printed(rt.alloc(), entry)?;
-        assert_eq!(rt; text.as_str(), expected);
-    }
+    let files =
+        b"[chess]\nblast = 1|[x:x]\nblast = 1|[x:y]\n[y:chess]|[x:chess]\nblast = 1\nnFoldRule = 1|\
+        [x:chess]\nnFoldRule = 1\nblast = 1|[x:chess]\ncustomPiece1 = a:fN|\
+        [x]\nqueen = Q\namazon = q\nrook = a\nbishop = a\nseirawanGating = true";
+    let told = first_entries(rt.alloc(), files)?;
+    let wanted = b"\
+        SectionFault 1 DuplicateName\n\
+        SectionFault 2 UnknownParent\n\
+        SectionFault 2 UnknownParent\n\
+        SectionFault 4 UnsupportedOption blast\n\
+        SectionFault 5 BadValue nFoldRule\n\
+        SectionFault 6 BadPiece customPiece1 BetzaFault 6 AmbiguousDirection 0\n\
+        SectionFault 7 LetterTwice a\n";
+    assert!(rt; told.as_slice() == wanted.as_slice());
+    let files = b"[x:chess]\nseirawanGating = true\nstartFen = none|[x]|[x:chess]\nstartFen = none|\
+        [x:chess]\ncastling = false|[x:chess]";
+    let told = first_entries(rt.alloc(), files)?;
+    let wanted = b"\
+        SectionFault 9 Inconsistent 4\n\
+        SectionFault 9 Inconsistent 1\n\
+        SectionFault 8 BadStart FenFault 1 Length\n\
+        SectionFault 8 BadStart FenFault 7 Rights\n\
+        ok\n";
+    assert!(rt; told.as_slice() == wanted.as_slice());
     Ok(())
 }
