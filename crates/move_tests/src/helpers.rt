@@ -1,4 +1,4 @@
-//! A move of the names of its squares.
+//! Moves of the names of their squares, and the rows of a text.
 use rules_model::{Move, Promo};
 use sample_rules::square;
 
@@ -10,4 +10,9 @@ pub(crate) fn go(from: &str, to: &str, promo: Promo) -> Move {
         promo,
         gate: None,
     }
+}
+
+/// The two texts that the first bar of a row separates.
+pub(crate) fn halves(row: &str) -> (&str, &str) {
+    row.split_once('|').unwrap_or((row, ""))
 }
