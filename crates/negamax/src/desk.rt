@@ -1,9 +1,8 @@
 //! What a worker keeps while it searches.
-ghost use Rattle.std.specs.Prelude.{◌≡◌, ◌==◌, filter, length, not, All, IfOk, IsErrOf, OnOk};
+ghost use Rattle.std.specs.Prelude.{◌≡◌, ◌==◌, length, not, IfOk, IsErrOf, OnOk};
 ghost use Rattle.foundation.specs.Member.{Lists, Member};
 ghost use Rattle.playing.specs.Stance.{legal_in, repeat_in};
 ghost use Rattle.rules_model.specs.Legal.{is_stuck};
-ghost use Rattle.rules_model.specs.Next as Next;
 ghost use Rattle.io_ports.specs.declared.limits.SearchFault.TheVariants as fault;
 ghost use Rattle.watching.specs.declared.halt.Halt.{Halt};
 ghost use Rattle.watching.specs.declared.halt.Halt.TheVariants as halt;
@@ -110,18 +109,32 @@ impl<'h> Desk<'h> {
         Ok(any)
     }
 
+    /// Lists the legal captures, and tells whether any move is legal.
+    fn list_captures(&mut self, board: &Board) -> Result<bool, Memory>
+        ensures any { IfOk result (λ any. any ≡ not (is_stuck board.now.rules (repeat_in board.now))) }
+        ensures listed { OnOk result (Lists (λ m. Member m (captures_in board.now)) self.new.listed) }
+        ensures waiting { OnOk result (self.new.waiting.items ≡ self.old.waiting.items) }
+    {
+        self.listed.items.clear();
+        board.push_captures(&mut self.listed)?;
+        if has_moves(&self.listed) {
+            return Ok(true);
+        }
+        Ok(board.any_legal())
+    }
+
     /// Has all legal captures wait, and tells whether any move is legal.
     fn wait_captures(&mut self, board: &Board, worths: &Worths) -> Result<bool, Memory>
         ensures any { IfOk result (λ any. any ≡ not (is_stuck board.now.rules (repeat_in board.now))) }
         ensures pushes { OnOk result
             (Pushes (λ m. Member m (captures_in board.now)) self.old.waiting.items self.new.waiting.items) }
     {
-        let any = self.list(board)?;
+        let any = self.list_captures(board)?;
         push_taking(
             &mut self.waiting,
             self.listed.items.as_slice(),
-            board,
             worths,
+            board.position(),
         )?;
         Ok(any)
     }
@@ -186,22 +199,18 @@ fn push_all(
     Ok(())
 }
 
-/// Has those of the legal moves wait that capture.
+/// Has all the captures wait.
 fn push_taking(
     waiting: &mut Vec<Candidate>,
     listed: &[Move],
-    board: &Board,
     worths: &Worths,
+    p: &Position,
 ) -> Result<(), AllocError>
-    requires { All (λ m. Member m (legal_in board.now)) listed.now }
-    ensures { OnOk result (Copies (filter (Next.captures board.now.rules (repeat_in board.now)) listed.now)
-        waiting.old.items waiting.new.items) }
+    ensures { OnOk result (Copies listed.now waiting.old.items waiting.new.items) }
 {
     for m in listed {
-        if board.captures(m) {
-            let score = taking_score(worths, board.position(), m).unwrap_or(0);
-            waiting.push(Candidate { chosen: *m, score })?;
-        }
+        let score = taking_score(worths, p, m).unwrap_or(0);
+        waiting.push(Candidate { chosen: *m, score })?;
     }
     Ok(())
 }
