@@ -1,10 +1,8 @@
 -- The legal list, from the candidates.
-use Rattle.std.proofs.Common.{◌≡◌, ℕ, ◌+◌, ◌≤◌, Bool, true, false, not, ◌&&◌, ◌↔◌, cond, ◌⊎◌, inl, inr, IsTrue, Result, Ok, Err, List, [], ◌∷◌, ◌++◌, length, take, drop, refl, sym, ap, ◌∙◌, subst, arith}
+use Rattle.std.proofs.Common.{◌≡◌, ◌+◌, ◌≤◌, Bool, true, false, not, ◌&&◌, ◌↔◌, cond, ◌⊎◌, inl, inr, IsTrue, Result, Ok, Err, List, [], ◌∷◌, ◌++◌, length, refl, sym, ap, ◌∙◌, subst, arith}
 use Rattle.std.specs.Bool.{OnTrue}
 use Rattle.std.specs.List.{list_any, filter}
 use Rattle.std.specs.Result.{OnErr, OnOk}
-use Rattle.std.proofs.Math.Seq.{take-append_seam}
-use Rattle.move_sink.specs.Taking.{TakesAll}
 use Rattle.std.specs.List.Sorted.{IsPermutation, IsStrictlySortedBy}
 use Rattle.std.proofs.lemmas.Bool.{and_from, and_parts, or_cases, or_left, or_right}
 use Rattle.std.proofs.lemmas.List.Sorted.{IsPermutation-sym}
@@ -251,18 +249,6 @@ module _ (rules made : Rules) (r q : Repeat) (same : made ≡ rules) (still : q 
 
   pub made_count : (only : Bool) (ms : List Move) → only ≡ only_captures rules r → is_ongoing (early_end rules r) ≡ true → Lists (FitCandidates rules r) ms → length (filter (is_chosen made q only) ms) ≡ length (legal rules r)
   made_count only ms e on l = ap length (chosen_only only ms e) ∙ chosen_count rules r ms on l
-
-  -- the candidates that were appended
-  pub made_chosen : (only : Bool) (old new : List Move) → TakesAll (λ old' ms new'. new' ≡ old' ++ filter (is_chosen made q only) ms) (FitCandidates rules r) old new → AppendsChosen rules r only old new
-  made_chosen only old new a = record {
-    moves = a.moves;
-    taken = a.taken ∙ ap (λ test. old ++ filter test a.moves) (chosen_same only);
-    each = a.each;
-  }
-
--- where the list found no memory, and was cut back
-pub cut_back : (old added all new : List Move) (k : ℕ) → k ≡ length old → all ≡ old ++ added → new ≡ take k all → new ≡ old
-cut_back old added all new k size a is = is ∙ ap (take k) a ∙ ap (λ n. take n (old ++ added)) size ∙ take-append_seam old added
 
 -- ---- what was appended
 

@@ -109,13 +109,6 @@ module _ (rules : Rules) (r : Repeat) where
   unfolding taken
   taken_there from to e = ap (λ b. if b then cell_on r.cells (behind rules r.side to) else cell_at r.cells to.0) (not_passing rules r from to.0 e)
 
-  -- where any move is wanted
-  pub all_wanted : (only : Bool) (targets : Set) → only ≡ false → AreWantedTo rules r only targets
-  all_wanted only targets any from to gate e = ap (λ b. not b || captures rules r (Go from to Stays gate)) any
-
-  pub none_unwanted : (only : Bool) (targets untold : Set) → AreUnwantedBut rules r only targets targets untold
-  none_unwanted only targets untold from to gate e f o = cc
-
   -- where only captures are
   module _ (only : Bool) (is_only : only ≡ true) (own enemies barred targets wanted untold : Set) (men : AreMen r.side r.cells own) (foes : AreMen (other r.side) r.cells enemies) (bars : IsBarred r own barred)
       (small : (s : ℕ) → has targets s ≡ true → s < 120) (is : (s : ℕ) → has wanted s ≡ ((has targets s && has enemies s) && not (has barred s))) (are : (s : ℕ) → has untold s ≡ (has targets s && has barred s)) where

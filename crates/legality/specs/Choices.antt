@@ -1,5 +1,5 @@
 -- What a choice chooses.
-use Rattle.std.specs.Prelude.{◌≡◌, Bool, ◌&&◌}
+use Rattle.std.specs.Prelude.{Bool, ◌&&◌}
 use Rattle.rules_model.specs.declared.moves.Move.{Move}
 use Rattle.rules_model.specs.Repeats.{repeat_of}
 use Rattle.legality.specs.declared.choice.Choice.{Choice}

@@ -1,7 +1,6 @@
 -- What the keeper of the chosen moves has kept.
 use Rattle.std.specs.Prelude.{List}
 use Rattle.rules_model.specs.declared.moves.Move.{Move}
-use Rattle.move_sink.specs.Taking.{TakesAll, TakesSome}
 use Rattle.legality.specs.declared.keeper.Keeper.{Keeper}
 use Rattle.legality.specs.Choices.{chosen_by}
 use Rattle.legality.specs.Sinks.{Kept}

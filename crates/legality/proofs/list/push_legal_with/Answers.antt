@@ -1,4 +1,4 @@
-use Rattle.std.proofs.Common.{ap, sym, ◌∙◌}
+use Rattle.std.proofs.Common.{sym}
 use Rattle.std.proofs.lemmas.Result.{on_ok_weaker}
 use Rattle.rules_model.specs.Repeats.{repeat_of}
 use Rattle.legality.proofs.ListLaws.{appended_legal, nothing_legal}

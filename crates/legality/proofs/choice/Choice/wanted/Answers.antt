@@ -1,7 +1,7 @@
 use Rattle.std.proofs.Common.{ap, ◌∙◌, ◌&&◌, not}
 use Rattle.square_set.specs.Members.{has}
 use Rattle.rules_model.specs.Repeats.{repeat_of}
-use Rattle.legality.proofs.WantedLaws.{all_wanted, captures_unwanted, captures_wanted, none_unwanted}
+use Rattle.legality.proofs.WantedLaws.{captures_unwanted, captures_wanted}
 use Rattle.legality.proofs.choice.Choice.wanted.Goals as goal
 
 pub returns-clause-wanted : goal.returns-clause-wanted

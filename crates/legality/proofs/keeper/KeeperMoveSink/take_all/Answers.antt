@@ -1,9 +1,9 @@
-use Rattle.std.proofs.Common.{◌≡◌, ◌==◌, true, not, None, refl, ap, sym, ◌∙◌, subst, arith}
+use Rattle.std.proofs.Common.{◌==◌, not, refl, sym, ◌∙◌, arith}
 use Rattle.std.proofs.lemmas.Bool.{and_parts}
 use Rattle.foundation.proofs.AppendedLemmas.{on_err}
-use Rattle.square_set.specs.Members.{has, origin}
+use Rattle.square_set.specs.Members.{has}
 use Rattle.move_sink.specs.InTurn.{target_of}
-use Rattle.move_sink.proofs.GoesLaws.{goes-one, goes-some}
+use Rattle.move_sink.proofs.GoesLaws.{goes-one}
 use Rattle.move_sink.proofs.TurnLemmas.{turn-all, turn-more, turn-some}
 use Rattle.legality.specs.Choices.{chosen_by}
 use Rattle.legality.specs.Keeps.{Keeps}
