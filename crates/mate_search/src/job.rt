@@ -16,6 +16,7 @@ use crate::shared::{Outcome, Round, Shared};
 use crate::solving::room_for;
 use game_play::Game;
 use io_ports::Gate;
+use mate_core::Claim;
 use mate_settle::{FactTable, settle};
 use mate_shards::{Passes, Published, Shards};
 use playing::Board;
@@ -69,14 +70,15 @@ fn settle_next<R: Wait, W: Watch>(
     ensures ended { (why : Halt) → IsErrOf result why →
         W.ended watch.old watch.new (lines_within (seen_in facts.old) task.left next.now.position) why }
 {
-    if let Some(fact) = shards.look(rt, passes, next.position(), task.left) {
+    let p = next.position();
+    if let Some(known) = shards.look_by_key(rt, passes, p, next.board_key(), task.left) {
         return Ok(Outcome {
-            decides: fact.wins == task.attacking,
+            decides: known.wins == task.attacking,
             published: true,
         });
     }
     let fact = settle(alloc, next, task.left, facts, watch)?;
-    let published = shards.publish(rt, passes, &fact);
+    let published = shards.publish_by_key(rt, passes, p, next.board_key(), Claim::of(&fact));
     Ok(Outcome {
         decides: fact.wins == task.attacking,
         published: !matches!(published, Published::Full),

@@ -15,7 +15,7 @@ use game_play::Game;
 use mate_settle::FactTable;
 use mate_shards::{Passes, Shards};
 use playing::Board;
-use rules_model::{Memory, Move};
+use rules_model::{Memory, Move, repeat_of};
 use std::alloc::Global;
 use std::sync::Wait;
 
@@ -86,11 +86,12 @@ fn learn<R: Wait>(
     ensures facts { facts.new ≡ facts.old }
     ensures handed { AreHandedBack shards.now passes.old passes.new }
 {
-    let Some(fact) = shards.look(rt, passes, next.position(), task.left) else {
+    let p = next.position();
+    let Some(known) = shards.look_by_key(rt, passes, p, next.board_key(), task.left) else {
         return None;
     };
-    facts.keep(next, fact);
-    move_if(chosen, fact.wins == task.attacking)
+    facts.keep(next, known.with(repeat_of(p)));
+    move_if(chosen, known.wins == task.attacking)
 }
 
 /// Keeps what the shards know of the positions after the root moves. It answers a move that decides the root, if they

@@ -93,6 +93,7 @@ pub(crate) fn settle_alone<R: Wait, W: Watch>(
     ensures shared { OnOk result (RootIsShared shards.now passes.new game.now n) }
     ensures right { IfOk result (IsRight game.now.rules (story game.now) shards.now.frame.attacker n) }
     ensures decided { IfOk result (λ m. IsInLimit game.now.rules n (story game.now) → IsDecided m) }
+    ensures gone { OnOk result (W.gone watch.old watch.new (closing_lines shards.now.frame n (story game.now).last)) }
     ensures ended { (why : Halt) → IsErrOf result why →
         W.ended watch.old watch.new (closing_lines shards.now.frame n (story game.now).last) why }
 {

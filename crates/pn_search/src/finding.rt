@@ -11,7 +11,7 @@ use attack_tables::Tables;
 use game_play::Game;
 use mate_shards::{Passes, Shards};
 use playing::Board;
-use rules_model::{Memory, Position, Side};
+use rules_model::{Memory, Side};
 use std::alloc::Global;
 use std::sync::Wait;
 
@@ -45,18 +45,19 @@ fn publish_at<R: Wait>(
     shards: &Shards,
     passes: &mut Passes,
     place: usize,
-    p: &Position,
+    board: &Board,
 )
     requires frame { tree.now.frame ≡ shards.now.frame }
-    requires at { Finds.IsAt tree.now place p.now }
+    requires at { Finds.IsAt tree.now place board.now.position }
     requires passes { ArePassesOf shards.now passes.old }
     ensures { AreHandedBack shards.now passes.old passes.new }
 {
     if place == 0 {
         return;
     }
-    if let Some(fact) = tree.known_at(place, p) {
-        shards.publish(rt, passes, &fact);
+    let p = board.position();
+    if let Some(claim) = tree.known_at(place, p) {
+        shards.publish_by_key(rt, passes, p, board.board_key(), claim);
     }
 }
 
@@ -75,7 +76,7 @@ fn publish_below<R: Wait>(
     requires passes { ArePassesOf shards.now passes.old }
     ensures { AreHandedBack shards.now passes.old passes.new }
 {
-    publish_at(rt, tree, shards, passes, place, board.position());
+    publish_at(rt, tree, shards, passes, place, board);
     for k in 0..tree.count_at(place) {
         if let Some(leaf) = tree.settled_child(place, k, board) {
             publish_below(rt, tree, shards, passes, leaf.place, &leaf.board);

@@ -1,6 +1,8 @@
 //! Proof trees.
 ghost use Rattle.std.specs.Prelude.{◌≡◌, ◌<◌, ◌≤◌, ◌+◌, ℕ, ◌==◌, IfOk, IfSome, OnErr, length, true, None};
+ghost use Rattle.rules_model.specs.Repeats.{repeat_of};
 ghost use Rattle.rules_model.specs.Sound.{is_sound};
+ghost use Rattle.mate_core.specs.Claims.{fact_with};
 ghost use Rattle.mate_core.specs.Runs.{IsTrueIn};
 ghost use Rattle.pn_search.specs.Finds.{IsAt};
 ghost use Rattle.pn_search.specs.Kept as Kept;
@@ -15,10 +17,10 @@ use crate::grew::Grew;
 use crate::node::{Node, State};
 use crate::numbers::{OPEN, Pair, is_settled_pair};
 use attack_tables::Tables;
-use mate_core::{Fact, Frame};
+use mate_core::{Claim, Frame};
 use mate_search::copy_of_frame;
 use playing::Board;
-use rules_model::{Memory, Position, repeat_of};
+use rules_model::{Memory, Position};
 use std::alloc::Global;
 use std::marker::Model;
 
@@ -123,18 +125,17 @@ impl Tree {
         root.proof == 0
     }
 
-    /// What is known of a settled node below the root, whose position this is.
-    pub(crate) fn known_at(&self, place: usize, p: &Position) -> Option<Fact>
+    /// What is known of the repeat of a settled node below the root, whose position this is.
+    pub(crate) fn known_at(&self, place: usize, p: &Position) -> Option<Claim>
         requires below { 0 < place }
         requires at { IsAt self.now place p.now }
-        ensures { IfSome result (IsTrueIn self.now.frame) }
+        ensures { IfSome result (λ claim. IsTrueIn self.now.frame (fact_with (repeat_of p.now) claim)) }
     {
         let pair = self.pairs[place];
         if !is_settled_pair(&pair) {
             return None;
         }
-        Some(Fact {
-            repeat: repeat_of(p),
+        Some(Claim {
             attacker: self.frame.attacker,
             moves: u16::from(self.nodes[place].left),
             counter: p.counter,

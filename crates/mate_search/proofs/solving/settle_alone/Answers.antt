@@ -15,6 +15,11 @@ returns-then-is_refuted-clause-right g c =
     subst (λ (x : Rules). wins x c.args.n game f.attacker ≡ false) c.requires.frame.rules
     (not-won f game bl c.args.n (sym (c.is_refuted.ensures.lost c.if-is_refuted.true)))
 
+pub returns-then-is_refuted-clause-gone : goal.returns-then-is_refuted-clause-gone
+returns-then-is_refuted-clause-gone g c =
+    let n = closing_lines c.args.shards.now.frame c.args.n (story c.args.game.now).last in
+    g.met.W.Watch.wider _ _ 0 n (g.met.W.Watch.none c.args.watch.now) (omega arith)
+
 pub returns-in_err-facts-clause-ended : goal.returns-in_err-facts-clause-ended
 returns-in_err-facts-clause-ended g c why is =
     let n = closing_lines c.args.shards.now.frame c.args.n (story c.args.game.now).last in

@@ -1,4 +1,5 @@
 use Rattle.std.proofs.Common.{◌≡◌, ◌==◌, ◌<◌, true, Some, None, nat_eq, slice_get, length, refl, ap, sym, ◌∙◌, subst, arith, rules}
+use Rattle.rules_model.specs.Repeats.{repeat_of}
 use Rattle.forced_wins.specs.declared.fact.Fact.{Fact}
 use Rattle.pn_search.specs.declared.numbers.Pair.{Pair}
 use Rattle.pn_search.specs.Numbers.{pair_at, pairs_of}
@@ -32,5 +33,5 @@ returns c =
     let passed : c.is_settled_pair.result ≡ true = grind arith in
     let settled : is_settled_pair (pair_at (pairs_of u.nodes) place) ≡ true = ap is_settled_pair (sym read) ∙ sym c.is_settled_pair.ensures ∙ passed in
     let moves : c.from.result ≡ v.left = search rules in
-    let k : Fact = record { repeat = c.repeat_of.result; attacker = c.self.inside.frame.attacker; moves = c.from.result; counter = c.args.p.now.counter; best = None; wins = nat_eq c.index.result.now.proof 0 } in
-    known-true u r place v c.args.p.now k c.requires.below stands c.requires.at.position settled c.repeat_of.ensures refl moves (ap (λ (p : Pair). p.proof == 0) read)
+    let k : Fact = record { repeat = repeat_of c.args.p.now; attacker = c.self.inside.frame.attacker; moves = c.from.result; counter = c.args.p.now.counter; best = None; wins = nat_eq c.index.result.now.proof 0 } in
+    known-true u r place v c.args.p.now k c.requires.below stands c.requires.at.position settled refl refl moves (ap (λ (p : Pair). p.proof == 0) read)
