@@ -2,7 +2,7 @@
 ghost use Rattle.rules_model.specs.Fit.{IsFit};
 ghost use Rattle.rules_model.specs.Ready.{IsReady};
 
-use crate::helpers::go;
+use crate::helpers::{go, halves};
 use attack_tables::Tables;
 use board_sets::sets_of;
 use foundation::Memory;
@@ -114,81 +114,66 @@ fn has_moves<R: Abort>(
 }
 
 /// Asserts what `has_moves` does of the pieces of each text, with White to move.
-fn have_moves<R: Abort>(
-    rt: &R,
-    alloc: Global,
-    rules: &Rules,
-    rows: &[(&str, &str)],
-) -> Result<(), Fail>
+fn have_moves<R: Abort>(rt: &R, alloc: Global, rules: &Rules, rows: &str) -> Result<(), Fail>
     requires fit { IsFit rules.now }
 {
-    for (pieces, texts) in rows {
-        has_moves(rt, alloc, rules, &position(*pieces), *texts)?;
+    for row in rows.split('\n') {
+        let (pieces, texts) = halves(row);
+        has_moves(rt, alloc, rules, &position(pieces), texts)?;
     }
     Ok(())
 }
 
 /// Asserts the same where a pawn of Black has just gone from d7 to d5.
-fn passing_moves<R: Abort>(
-    rt: &R,
-    alloc: Global,
-    rules: &Rules,
-    rows: &[(&str, &str)],
-) -> Result<(), Fail>
+fn passing_moves<R: Abort>(rt: &R, alloc: Global, rules: &Rules, rows: &str) -> Result<(), Fail>
     requires fit { IsFit rules.now }
 {
-    for (pieces, texts) in rows {
+    for row in rows.split('\n') {
+        let (pieces, texts) = halves(row);
         let p = Position {
             ep: Some(square("d6")),
-            ..position(*pieces)
+            ..position(pieces)
         };
-        has_moves(rt, alloc, rules, &p, *texts)?;
+        has_moves(rt, alloc, rules, &p, texts)?;
     }
     Ok(())
 }
 
 #[test]
 fn kings_are_kept_safe(rt: HostRuntime) -> Result<(), Fail> {
-    let rows = [
-        // checkmate and stalemate
-        ("Ka1 qb2 kc3", ""),
-        ("Ka1 qc2 kc3", ""),
-        // a check that is blocked, fled from, or ended by taking
-        ("Ka1 Nc2 ra8 kh8", "a1b1 a1b2 c2a3"),
-        ("Ka1 Nc2 ra3 kh8", "a1b1 a1b2 c2a3"),
-        // a piece between its king and a rook
-        ("Ke1 Be2 pd3 re8 ka8", "e1d1 e1d2 e1f1 e1f2"),
-        // the rook attacks the squares after the king too, and the bishop guards the knight
-        ("Ke4 re8 ka1", "e4d3 e4d4 e4d5 e4f3 e4f4 e4f5"),
-        ("Ke2 nd3 bf5 kh8", "e2d1 e2d2 e2e3 e2f1 e2f3"),
-        // of two pinned pawns, one goes along its line
-        ("Ke1 Pd2 Pe2 re8 ba5 kh8", "e1d1 e1f1 e1f2 e2e3 e2e4"),
-    ];
-    have_moves(&rt, rt.alloc(), &chess(), &rows)
+    // in order: checkmate and stalemate; a check that is blocked, fled from, or ended by taking; a piece between its
+    // king and a rook; the rook attacks the squares after the king too, and the bishop guards the knight; of two
+    // pinned pawns, one goes along its line.
+    let rows = "\
+        Ka1 qb2 kc3|\n\
+        Ka1 qc2 kc3|\n\
+        Ka1 Nc2 ra8 kh8|a1b1 a1b2 c2a3\n\
+        Ka1 Nc2 ra3 kh8|a1b1 a1b2 c2a3\n\
+        Ke1 Be2 pd3 re8 ka8|e1d1 e1d2 e1f1 e1f2\n\
+        Ke4 re8 ka1|e4d3 e4d4 e4d5 e4f3 e4f4 e4f5\n\
+        Ke2 nd3 bf5 kh8|e2d1 e2d2 e2e3 e2f1 e2f3\n\
+        Ke1 Pd2 Pe2 re8 ba5 kh8|e1d1 e1f1 e1f2 e2e3 e2e4";
+    have_moves(&rt, rt.alloc(), &chess(), rows)
 }
 
 // A king that goes nowhere else is one piece among others, and kings that fly leave no file open between them.
 #[test]
 fn kings_of_other_variants(rt: HostRuntime) -> Result<(), Fail> {
-    let row = [("Ka1 ra8 kh8", "a1a2 a1b1 a1b2")];
-    have_moves(&rt, rt.alloc(), &kingless(), &row)?;
-    let row = [("Ke1 Ne4 ke10", "e1d1 e1e2 e1f1")];
-    have_moves(&rt, rt.alloc(), &xiangqi(), &row)
+    let row = "Ka1 ra8 kh8|a1a2 a1b1 a1b2";
+    have_moves(&rt, rt.alloc(), &kingless(), row)?;
+    let row = "Ke1 Ne4 ke10|e1d1 e1e2 e1f1";
+    have_moves(&rt, rt.alloc(), &xiangqi(), row)
 }
 
 // En passant may not take both pawns from the rank of the king and a rook. It ends the check of the pawn that it
 // takes, and not that of a rook.
 #[test]
 fn en_passant_keeps_the_king_safe(rt: HostRuntime) -> Result<(), Fail> {
-    let rows = [
-        ("Ka5 Pe5 pd5 rh5 ke8", "a5a4 a5a6 a5b4 a5b5 a5b6 e5e6"),
-        (
-            "Ke4 Pc5 pd5 kh8",
-            "c5d6 e4d3 e4d4 e4d5 e4e3 e4e5 e4f3 e4f4 e4f5",
-        ),
-        ("Ka1 Pe5 pd5 ra8 kh8", "a1b1 a1b2"),
-    ];
-    passing_moves(&rt, rt.alloc(), &chess(), &rows)
+    let rows = "\
+        Ka5 Pe5 pd5 rh5 ke8|a5a4 a5a6 a5b4 a5b5 a5b6 e5e6\n\
+        Ke4 Pc5 pd5 kh8|c5d6 e4d3 e4d4 e4d5 e4e3 e4e5 e4f3 e4f4 e4f5\n\
+        Ka1 Pe5 pd5 ra8 kh8|a1b1 a1b2";
+    passing_moves(&rt, rt.alloc(), &chess(), rows)
 }
 
 #[test]
@@ -214,46 +199,29 @@ fn pinned_pieces_are_not_free(rt: HostRuntime) -> Result<(), Fail> {
 
 #[test]
 fn checks_of_chess_are_ended(rt: HostRuntime) -> Result<(), Fail> {
-    let rows = [
-        // a rook's is blocked on its file, and the bishop takes it
-        (
-            "Ke1 Nc3 Bg6 Ph2 re8 ka8",
-            "c3e2 c3e4 e1d1 e1d2 e1f1 e1f2 g6e4 g6e8",
-        ),
-        // no piece gets between a knight and the king
-        ("Ke1 Ra3 Bh6 nd3 kh8", "a3d3 e1d1 e1d2 e1e2 e1f1"),
-        // of two pieces the rook and the queen would take one, or block one
-        ("Ke1 Rd8 Qh4 re8 nf3 ka7", "e1d1 e1f1 e1f2"),
-        // pawns that become pieces block the rook, or take it
-        (
-            "Ka8 Pc2 Pd7 Pg7 rh8 kh1",
-            "a8a7 a8b7 d7d8b d7d8n d7d8q d7d8r g7g8b g7g8n g7g8q g7g8r g7h8b g7h8n g7h8q g7h8r",
-        ),
-        // other pawns block it by one step and by two, or take it
-        (
-            "Ka4 Pc3 Pe2 Pg3 rh4 kh8",
-            "a4a3 a4a5 a4b3 a4b5 c3c4 e2e4 g3g4 g3h4",
-        ),
-    ];
-    have_moves(&rt, rt.alloc(), &chess(), &rows)
+    // in order: a rook's is blocked on its file, and the bishop takes it; no piece gets between a knight and the king;
+    // of two pieces the rook and the queen would take one, or block one; pawns that become pieces block the rook, or
+    // take it; other pawns block it by one step and by two, or take it.
+    let rows = "\
+        Ke1 Nc3 Bg6 Ph2 re8 ka8|c3e2 c3e4 e1d1 e1d2 e1f1 e1f2 g6e4 g6e8\n\
+        Ke1 Ra3 Bh6 nd3 kh8|a3d3 e1d1 e1d2 e1e2 e1f1\n\
+        Ke1 Rd8 Qh4 re8 nf3 ka7|e1d1 e1f1 e1f2\n\
+        Ka8 Pc2 Pd7 Pg7 rh8 kh1|a8a7 a8b7 d7d8b d7d8n d7d8q d7d8r g7g8b g7g8n g7g8q g7g8r g7h8b g7h8n g7h8q g7h8r\n\
+        Ka4 Pc3 Pe2 Pg3 rh4 kh8|a4a3 a4a5 a4b3 a4b5 c3c4 e2e4 g3g4 g3h4";
+    have_moves(&rt, rt.alloc(), &chess(), rows)
 }
 
 #[test]
 fn checks_of_cannons_and_horses_are_ended(rt: HostRuntime) -> Result<(), Fail> {
-    let rows = [
-        // the horse over which the cannon attacks goes away, or the rook comes between. On the d file kings would face
-        (
-            "Ke1 Ne4 Ra5 ce7 kd10",
-            "a5e5 e1f1 e4c3 e4c5 e4d2 e4d6 e4f2 e4f6 e4g3 e4g5",
-        ),
-        // the rook takes the soldier in vain: the cannon then attacks over the rook
-        ("Ke1 Ra4 Rh7 ce7 pe4 kd10", "e1f1 h7e7"),
-        // the rook and the cannon after it attack: one piece blocks both, and to take the rook is in vain
-        ("Ke1 Ra5 Rh8 re8 ce9 kd10", "a5e5 e1f1"),
-        // the horse goes over d2
-        ("Ke1 Ra2 Ae2 nd3 kf10", "a2d2 e1d1 e2d3"),
-    ];
-    have_moves(&rt, rt.alloc(), &xiangqi(), &rows)
+    // in order: the horse over which the cannon attacks goes away, or the rook comes between. On the d file kings
+    // would face; the rook takes the soldier in vain: the cannon then attacks over the rook; the rook and the cannon
+    // after it attack: one piece blocks both, and to take the rook is in vain; the horse goes over d2.
+    let rows = "\
+        Ke1 Ne4 Ra5 ce7 kd10|a5e5 e1f1 e4c3 e4c5 e4d2 e4d6 e4f2 e4f6 e4g3 e4g5\n\
+        Ke1 Ra4 Rh7 ce7 pe4 kd10|e1f1 h7e7\n\
+        Ke1 Ra5 Rh8 re8 ce9 kd10|a5e5 e1f1\n\
+        Ke1 Ra2 Ae2 nd3 kf10|a2d2 e1d1 e2d3";
+    have_moves(&rt, rt.alloc(), &xiangqi(), rows)
 }
 
 /// The legal moves of White with pieces in hand and gates.
@@ -304,24 +272,23 @@ fn checks_are_ended_from_the_hand(rt: HostRuntime) -> Result<(), Fail> {
 
 #[test]
 fn captures_are_forced(rt: HostRuntime) -> Result<(), Fail> {
-    let rows = [
-        ("Ke1 Pe4 pd5 ke8", "e4d5"),
-        ("Ka1 Pe4 kh8", "a1a2 a1b1 a1b2 e4e5"),
-        // the bishop may not take
-        ("Ke1 Be2 pd3 re8 ka8", "e1d1 e1d2 e1f1 e1f2"),
-        // in check: the pawn takes in vain, and the knight has to take the rook
-        ("Ka1 Pe4 pd5 ra8 kh8", "a1b1 a1b2"),
-        ("Ka1 Nb6 pd5 ra8 kh8", "b6a8"),
-    ];
-    have_moves(&rt, rt.alloc(), &forced(), &rows)?;
-    let row = [("Ka1 Pe5 pd5 kh8", "e5d6")];
-    passing_moves(&rt, rt.alloc(), &forced(), &row)
+    // the third: the bishop may not take; the last two, in check: the pawn takes in vain, and the knight has to take
+    // the rook
+    let rows = "\
+        Ke1 Pe4 pd5 ke8|e4d5\n\
+        Ka1 Pe4 kh8|a1a2 a1b1 a1b2 e4e5\n\
+        Ke1 Be2 pd3 re8 ka8|e1d1 e1d2 e1f1 e1f2\n\
+        Ka1 Pe4 pd5 ra8 kh8|a1b1 a1b2\n\
+        Ka1 Nb6 pd5 ra8 kh8|b6a8";
+    have_moves(&rt, rt.alloc(), &forced(), rows)?;
+    let row = "Ka1 Pe5 pd5 kh8|e5d6";
+    passing_moves(&rt, rt.alloc(), &forced(), row)
 }
 
 #[test]
 fn pieces_stay_mobile(rt: HostRuntime) -> Result<(), Fail> {
-    let row = [("Ka1 Pg7 kd4", "a1a2 a1b1 a1b2 g7g8b g7g8n g7g8q g7g8r")];
-    have_moves(&rt, rt.alloc(), &mobile(), &row)
+    let row = "Ka1 Pg7 kd4|a1a2 a1b1 a1b2 g7g8b g7g8n g7g8q g7g8r";
+    have_moves(&rt, rt.alloc(), &mobile(), row)
 }
 
 /// Whether White may drop a rook there.
@@ -351,35 +318,29 @@ fn drops_give_no_check(rt: HostRuntime) -> Result<(), Fail> {
 }
 
 /// Asserts what `has_moves` does of the pieces of a text, with Black to move.
-fn black_has_moves<R: Abort>(
-    rt: &R,
-    alloc: Global,
-    rules: &Rules,
-    rows: &[(&str, &str)],
-) -> Result<(), Fail>
+fn black_has_moves<R: Abort>(rt: &R, alloc: Global, rules: &Rules, rows: &str) -> Result<(), Fail>
     requires fit { IsFit rules.now }
 {
-    for (pieces, texts) in rows {
-        let mut p = position(*pieces);
+    for row in rows.split('\n') {
+        let (pieces, texts) = halves(row);
+        let mut p = position(pieces);
         p.side = Side::Black;
-        has_moves(rt, alloc, rules, &p, *texts)?;
+        has_moves(rt, alloc, rules, &p, texts)?;
     }
     Ok(())
 }
 
 #[test]
 fn pawns_of_black_go_down_high_boards(rt: HostRuntime) -> Result<(), Fail> {
-    let nine = [
-        ("Ka1 kh8 pe9 Nd8", "e9d8 e9e8 h8g7 h8g8 h8h7"),
-        ("Ka1 kh8 pe7", "e7e5 e7e6 h8g7 h8g8 h8h7"),
-        ("Ka4 kh8 pe2", "e2e1b e2e1n e2e1q e2e1r h8g7 h8g8 h8h7"),
-    ];
-    black_has_moves(&rt, rt.alloc(), &nine_ranks(), &nine)?;
-    let ten = [
-        ("Ka1 kh8 pe10 Nd9", "e10d9 e10e9 h8g7 h8g8 h8h7"),
-        ("Ka1 kh8 pe9", "e9e8 h8g7 h8g8 h8h7"),
-    ];
-    black_has_moves(&rt, rt.alloc(), &ten_ranks(), &ten)
+    let nine = "\
+        Ka1 kh8 pe9 Nd8|e9d8 e9e8 h8g7 h8g8 h8h7\n\
+        Ka1 kh8 pe7|e7e5 e7e6 h8g7 h8g8 h8h7\n\
+        Ka4 kh8 pe2|e2e1b e2e1n e2e1q e2e1r h8g7 h8g8 h8h7";
+    black_has_moves(&rt, rt.alloc(), &nine_ranks(), nine)?;
+    let ten = "\
+        Ka1 kh8 pe10 Nd9|e10d9 e10e9 h8g7 h8g8 h8h7\n\
+        Ka1 kh8 pe9|e9e8 h8g7 h8g8 h8h7";
+    black_has_moves(&rt, rt.alloc(), &ten_ranks(), ten)
 }
 
 /// The king's moves beside those of a rook on f1, with the right to castle short.
@@ -398,12 +359,12 @@ fn castler_has_moves<R: Abort>(
 // The castling rook stands on f1, between the king and its target. A rook of Black attacks g1, or f1 alone.
 #[test]
 fn a_rook_between_king_and_target_castles(rt: HostRuntime) -> Result<(), Fail> {
-    let rows = [
-        ("Ke1 Rf1 ka8", "e1d1 e1d2 e1e2 e1f2 e1g1"),
-        ("Ke1 Rf1 ka8 rg8", "e1d1 e1d2 e1e2 e1f2"),
-        ("Ke1 Rf1 ka8 rf8", "e1d1 e1d2 e1e2"),
-    ];
-    for (pieces, texts) in rows {
+    let rows = "\
+        Ke1 Rf1 ka8|e1d1 e1d2 e1e2 e1f2 e1g1\n\
+        Ke1 Rf1 ka8 rg8|e1d1 e1d2 e1e2 e1f2\n\
+        Ke1 Rf1 ka8 rf8|e1d1 e1d2 e1e2";
+    for row in rows.split('\n') {
+        let (pieces, texts) = halves(row);
         castler_has_moves(&rt, rt.alloc(), pieces, texts)?;
     }
     Ok(())

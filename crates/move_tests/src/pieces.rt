@@ -1,7 +1,7 @@
 //! Tests of `piece_moves`.
 ghost use Rattle.rules_model.specs.Fit.{IsFit};
 
-use crate::helpers::go;
+use crate::helpers::{go, halves};
 use attack_tables::Tables;
 use board_sets::sets_of;
 use foundation::Memory;
@@ -54,19 +54,15 @@ fn each_move_of_chess_once(rt: HostRuntime) -> Result<(), Memory> {
 
 #[test]
 fn each_move_of_xiangqi_once(rt: HostRuntime) -> Result<(), Memory> {
-    let rows = [
-        // the elephant stays on its side of the river
-        ("Bc5 Ke1 kd10", "c5a3 c5e3 e1d1 e1e2 e1f1"),
-        // the king blocks no step of the horse, which goes over the empty squares beside it
-        ("Ne2 Ke1 ke10", "e1d1 e1f1 e2c1 e2c3 e2d4 e2f4 e2g1 e2g3"),
-        // the cannon takes over the soldier, which goes forward alone before the river
-        (
-            "Ca1 Pa4 na7 Ke1 kd10",
-            "a1a2 a1a3 a1a7 a1b1 a1c1 a1d1 a4a5 e1d1 e1e2 e1f1",
-        ),
-        ("Pe6 Ke1 kd10", "e1d1 e1e2 e1f1 e6d6 e6e7 e6f6"),
-    ];
-    for (pieces, moves) in rows {
+    // in order: the elephant stays on its side of the river; the king blocks no step of the horse, which goes over the
+    // empty squares beside it; the cannon takes over the soldier, which goes forward alone before the river
+    let rows = "\
+        Bc5 Ke1 kd10|c5a3 c5e3 e1d1 e1e2 e1f1\n\
+        Ne2 Ke1 ke10|e1d1 e1f1 e2c1 e2c3 e2d4 e2f4 e2g1 e2g3\n\
+        Ca1 Pa4 na7 Ke1 kd10|a1a2 a1a3 a1a7 a1b1 a1c1 a1d1 a4a5 e1d1 e1e2 e1f1\n\
+        Pe6 Ke1 kd10|e1d1 e1e2 e1f1 e6d6 e6e7 e6f6";
+    for row in rows.split('\n') {
+        let (pieces, moves) = halves(row);
         expect_moves(&rt, rt.alloc(), &xiangqi(), pieces, moves)?;
     }
     Ok(())
@@ -108,18 +104,13 @@ fn near_misses(rt: HostRuntime) -> Result<(), Memory> {
     let p = position("Ca1 Pa4 na7 Ke1 kd10");
     // no own piece, an own piece on the target, a hop without taking, a take without hopping, sideways before the
     // river, out of the palace; and no piece of xiangqi is promoted
-    let rows = [
-        move_of("b2b3"),
-        move_of("a7b5"),
-        move_of("a1a4"),
-        move_of("a1a5"),
-        move_of("a1a8"),
-        move_of("a4b4"),
-        move_of("e1e3"),
-        go("a1", "a2", Promo::Plus),
-    ];
-    for m in rows {
-        assert!(rt; !is_candidate(&rules, &tables, &p, &m), "{m:?}");
+    for text in "b2b3 a7b5 a1a4 a1a5 a1a8 a4b4 e1e3".split(' ') {
+        assert!(rt;
+            !is_candidate(&rules, &tables, &p, &move_of(text)),
+            "{text}"
+        );
     }
+    let promotion = go("a1", "a2", Promo::Plus);
+    assert!(rt; !is_candidate(&rules, &tables, &p, &promotion));
     Ok(())
 }
