@@ -12,7 +12,7 @@ use Rattle.square_set.specs.Members.{has}
 use Rattle.move_tables.specs.declared.mode.Mode.TheVariants.{Take}
 use Rattle.move_tables.specs.Occupied.{AreKings, IsOccupied}
 use Rattle.move_tables.specs.Reached.{reaches_as}
-use Rattle.playing.specs.Stance.{Stance}
+use Rattle.legality.specs.Stance.{Stance}
 use Rattle.check_moves.specs.declared.checks.Checks.{Checks}
 use Rattle.check_moves.specs.Shut.{AreShut}
 

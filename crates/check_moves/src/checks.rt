@@ -7,7 +7,7 @@ ghost use Rattle.rules_model.specs.Legal as Legal;
 ghost use Rattle.rules_model.specs.Moves.{IsFitMove};
 ghost use Rattle.rules_model.specs.Repeats.{repeat_of};
 ghost use Rattle.move_tables.specs.Occupied.{IsOccupied};
-ghost use Rattle.playing.specs.Stance as Stance;
+ghost use Rattle.legality.specs.Stance as Stance;
 ghost use Rattle.check_moves.specs.Checks as Spec;
 
 use crate::shut::shut;

@@ -17,7 +17,7 @@ use Rattle.position_key.specs.Key.{key_of}
 use Rattle.game_play.specs.Played.{Played, story, keys_of}
 use Rattle.game_play.proofs.KeyLemmas.{keys-take}
 use Rattle.game_play.proofs.StoryLemmas.{history-push, history-length, legal-push, legal-front}
-use Rattle.playing.specs.Stance.{Stance, after}
+use Rattle.legality.specs.Stance.{Stance, after}
 use Rattle.game_line.specs.Lined.{Lined, line_of, story_of_line, stance_of_line, legal_in, by_rules, positions_of, positions_since, stances_of, IsHeld}
 use Rattle.game_line.proofs.LineLaws.{last-since, history-later, times-append}
 

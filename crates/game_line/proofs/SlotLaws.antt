@@ -11,7 +11,7 @@ use Rattle.rules_model.specs.Repeats.{repeat_of}
 use Rattle.rules_model.proofs.EqualLaws.{repeat-decides}
 use Rattle.position_key.specs.Key.{key_of}
 use Rattle.game_play.specs.Played.{Played, story, keys_of}
-use Rattle.playing.specs.Stance.{Stance}
+use Rattle.legality.specs.Stance.{Stance}
 use Rattle.game_line.specs.Lined.{Lined, all_keys, line_of, positions_since, story_of_line, IsHeld}
 use Rattle.game_line.specs.Slots.{in_slot, AreCounts}
 use Rattle.game_line.proofs.LineLaws.{history-since}

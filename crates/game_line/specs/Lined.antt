@@ -7,7 +7,7 @@ use Rattle.rules_model.specs.Games.{Story, history, story_from, are_legal}
 use Rattle.rules_model.specs.Legal.{legal}
 use Rattle.rules_model.specs.Repeats.{repeat_of}
 use Rattle.game_play.specs.Played.{Played, story, keys_of}
-use Rattle.playing.specs.Stance.{Stance}
+use Rattle.legality.specs.Stance.{Stance}
 
 -- a line: the rules, the game from which it goes on, the moves since, in order, and how many moves it holds at most
 pub record Lined : Type 0 where

@@ -8,7 +8,7 @@ ghost use Rattle.mate_shards.specs.contracts.shards.Passes as PassesRow;
 ghost use Rattle.mate_shards.specs.contracts.shards.Shards as ShardsRow;
 ghost use Rattle.mate_shards.specs.Grown.{HaveParts};
 ghost use Rattle.mate_shards.specs.Views.{ArePassesOf};
-ghost use Rattle.playing.specs.Stance.{legal_in};
+ghost use Rattle.legality.specs.Stance.{legal_in};
 ghost use Rattle.watching.specs.Stopping.{Partly};
 ghost use Rattle.watching.specs.Watched.{Watched, moment, world};
 ghost use Rattle.mate_showing.specs.Answers.{IsDecided, IsFrameOf, IsRight};

@@ -6,7 +6,7 @@ ghost use Rattle.mate_settle.specs.Choices.{lines_of_moves};
 ghost use Rattle.mate_settle.specs.Lines.{lines_within, seen_in};
 ghost use Rattle.mate_settle.specs.Steps.{left_after};
 ghost use Rattle.mate_shards.specs.Views.{ArePassesOf};
-ghost use Rattle.playing.specs.Stance.{legal_in};
+ghost use Rattle.legality.specs.Stance.{legal_in};
 ghost use Rattle.watching.specs.declared.halt.Halt.{Halt};
 ghost use Rattle.mate_showing.specs.Answers.{IsFrameOf};
 ghost use Rattle.mate_search.specs.Handed.{AreHandedBack};

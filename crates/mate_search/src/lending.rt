@@ -5,7 +5,7 @@ ghost use Rattle.foundation.specs.Member.{Lists, Member};
 ghost use Rattle.game_play.specs.Played.{story};
 ghost use Rattle.mate_shards.specs.Grown.{HaveGrown, HaveParts};
 ghost use Rattle.mate_shards.specs.Views.{ArePassesOf};
-ghost use Rattle.playing.specs.Stance.{legal_in};
+ghost use Rattle.legality.specs.Stance.{legal_in};
 ghost use Rattle.mate_showing.specs.Answers.{IsFrameOf};
 ghost use Rattle.mate_search.specs.Handed.{AreHandedBack};
 ghost use Rattle.mate_search.specs.Races.{IsLent};

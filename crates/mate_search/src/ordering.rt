@@ -1,7 +1,7 @@
 //! In which order the root moves are tried. Hints decide over the order, and over nothing else.
 ghost use Rattle.std.specs.Prelude.{IfOk};
 ghost use Rattle.foundation.specs.Member.{Lists, Member};
-ghost use Rattle.playing.specs.Stance.{legal_in};
+ghost use Rattle.legality.specs.Stance.{legal_in};
 
 use game_play::Game;
 use hint_table::{Hint, HintTable};

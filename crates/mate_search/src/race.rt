@@ -6,7 +6,7 @@ ghost use Rattle.foundation.specs.Member.{Lists, Member};
 ghost use Rattle.game_play.specs.Played.{story};
 ghost use Rattle.mate_shards.specs.contracts.shards.Passes as PassesRow;
 ghost use Rattle.mate_shards.specs.contracts.shards.Shards as ShardsRow;
-ghost use Rattle.playing.specs.Stance.{legal_in};
+ghost use Rattle.legality.specs.Stance.{legal_in};
 ghost use Rattle.watching.specs.Watched.{Watched, moment, world};
 ghost use Rattle.mate_shards.specs.Views.{ArePassesOf};
 ghost use Rattle.mate_showing.specs.Answers.{IsFrameOf};

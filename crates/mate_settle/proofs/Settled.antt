@@ -25,7 +25,7 @@ use Rattle.mate_core.proofs.AnswerLemmas.{served, serves-from}
 use Rattle.mate_core.specs.declared.frame.Frame.{Frame}
 use Rattle.mate_core.specs.Runs.{IsTrueIn}
 use Rattle.mate_fact.specs.InFrame as In
-use Rattle.playing.specs.Stance.{Stance, after, legal_in}
+use Rattle.legality.specs.Stance.{Stance, after, legal_in}
 use Rattle.mate_settle.specs.Choices.{some_wins, all_win}
 use Rattle.mate_settle.specs.Known.{Answers}
 use Rattle.mate_settle.specs.Steps.{left_after, farther_of, after_one, after_all, IsFar, NoneDecides}

@@ -8,7 +8,7 @@ use Rattle.mate_core.specs.declared.frame.Frame.{Frame}
 use Rattle.mate_core.specs.Runs.{IsTrueIn}
 use Rattle.mate_settle.specs.declared.known.Kept.{Kept}
 use Rattle.mate_settle.specs.declared.ordering.Ranked.{Ranked}
-use Rattle.playing.specs.Stance.{Stance, repeat_in}
+use Rattle.legality.specs.Stance.{Stance, repeat_in}
 
 -- each kept fact is true in the frame
 abbrev pub HoldTruth : Frame → List Kept → Type 0

@@ -3,7 +3,7 @@ ghost use Rattle.std.specs.Prelude.{◌≡◌, ◌≤◌, ◌<◌, ◌-◌, fals
 ghost use Rattle.std.specs.List.{find};
 ghost use Rattle.foundation.specs.Member.{Lists, Member};
 ghost use Rattle.mate_settle.specs.Choices.{all_win, some_wins, wins_after, move_of, lines_of_moves, IsChoice};
-ghost use Rattle.playing.specs.Stance.{legal_in};
+ghost use Rattle.legality.specs.Stance.{legal_in};
 ghost use Rattle.watching.specs.declared.halt.Halt.{Halt};
 
 use crate::known::FactTable;

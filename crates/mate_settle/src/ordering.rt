@@ -3,7 +3,7 @@ ghost use Rattle.std.specs.Prelude.{◌≡◌, ◌<◌, IfOk, map};
 ghost use Rattle.std.specs.List.Sorted.{IsPermutation};
 ghost use Rattle.foundation.specs.Member.{Member};
 ghost use Rattle.mate_settle.specs.Known.{chosen_of};
-ghost use Rattle.playing.specs.Stance.{legal_in};
+ghost use Rattle.legality.specs.Stance.{legal_in};
 ghost use Rattle.rules_model.specs.declared.moves.Move.{Move};
 
 use playing::Board;

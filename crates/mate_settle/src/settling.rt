@@ -7,7 +7,7 @@ ghost use Rattle.mate_fact.specs.InFrame as In;
 ghost use Rattle.mate_settle.specs.Known.{Answers};
 ghost use Rattle.mate_settle.specs.Lines.{lines_within, seen_in};
 ghost use Rattle.mate_settle.specs.Steps as Steps;
-ghost use Rattle.playing.specs.Stance.{legal_in, repeat_in};
+ghost use Rattle.legality.specs.Stance.{legal_in, repeat_in};
 ghost use Rattle.rules_model.specs.Legal.{is_stuck};
 ghost use Rattle.rules_model.specs.Sides.{same_side};
 ghost use Rattle.watching.specs.declared.halt.Halt.{Halt};

@@ -15,7 +15,7 @@ use Rattle.forced_wins.proofs.Counts.{by_cases}
 use Rattle.forced_wins.proofs.Rules.{laws}
 use Rattle.mate_core.specs.declared.frame.Frame.{Frame}
 use Rattle.mate_settle.specs.Lines.{plies, seen_in}
-use Rattle.playing.specs.Stance.{Stance}
+use Rattle.legality.specs.Stance.{Stance}
 use Rattle.strategy.specs.declared.nodes.Node.{Node}
 use Rattle.mate_showing.specs.declared.plan.Plan.{Plan}
 use Rattle.mate_showing.specs.Tabled.{Tabled, IsKept, GrowsTo}

@@ -2,7 +2,7 @@
 ghost use Rattle.std.specs.Prelude.{◌≡◌, ◌↔◌, None, Some, IsTrue, IfOk, IfSome, slice_get};
 ghost use Rattle.foundation.specs.Member.{Lists, Member};
 ghost use Rattle.mate_showing.specs.Fronts as Fronts;
-ghost use Rattle.playing.specs.Stance.{legal_in};
+ghost use Rattle.legality.specs.Stance.{legal_in};
 
 use mate_core::Fact;
 use mate_settle::{FactTable, moves_to_try};

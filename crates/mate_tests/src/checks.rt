@@ -1,7 +1,7 @@
 //! Tests of `check_moves`.
 ghost use Rattle.foundation.specs.Member.{Member};
 ghost use Rattle.rules_model.specs.Fit.{IsFit};
-ghost use Rattle.playing.specs.Stance as Stance;
+ghost use Rattle.legality.specs.Stance as Stance;
 ghost use Rattle.check_moves.specs.Checks.{AreChecksIn};
 
 use attack_tables::Tables;

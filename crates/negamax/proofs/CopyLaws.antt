@@ -12,7 +12,7 @@ use Rattle.rules_model.specs.Legal.{is_stuck, legal}
 use Rattle.rules_model.specs.Next.{captures}
 use Rattle.negamax.specs.declared.candidates.Candidate.{Candidate}
 use Rattle.negamax.specs.Trials.{Copies, Pushes, captures_in}
-use Rattle.playing.specs.Stance.{IsCaptureIn, Stance, legal_in, repeat_in}
+use Rattle.legality.specs.Stance.{IsCaptureIn, Stance, legal_in, repeat_in}
 
 module _ {X : Type 0} where
   -- what is appended to nothing is all

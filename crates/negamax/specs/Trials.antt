@@ -4,7 +4,7 @@ use Rattle.std.specs.List.Sorted.{IsPermutation}
 use Rattle.foundation.specs.Member.{Lists}
 use Rattle.rules_model.specs.declared.moves.Move.{Move}
 use Rattle.rules_model.specs.Next.{captures}
-use Rattle.playing.specs.Stance.{Stance, legal_in, repeat_in}
+use Rattle.legality.specs.Stance.{Stance, legal_in, repeat_in}
 use Rattle.game_values.specs.Laws.{Within}
 use Rattle.game_values.specs.Values.{greatest}
 use Rattle.negamax.specs.declared.candidates.Candidate.{Candidate}

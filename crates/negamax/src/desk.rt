@@ -1,7 +1,7 @@
 //! What a worker keeps while it searches.
 ghost use Rattle.std.specs.Prelude.{◌≡◌, ◌==◌, length, not, IfOk, IsErrOf, OnOk};
 ghost use Rattle.foundation.specs.Member.{Lists, Member};
-ghost use Rattle.playing.specs.Stance.{legal_in, repeat_in};
+ghost use Rattle.legality.specs.Stance.{legal_in, repeat_in};
 ghost use Rattle.rules_model.specs.Legal.{is_stuck};
 ghost use Rattle.io_ports.specs.declared.limits.SearchFault.TheVariants as fault;
 ghost use Rattle.watching.specs.declared.halt.Halt.{Halt};

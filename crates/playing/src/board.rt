@@ -7,7 +7,7 @@ ghost use Rattle.rules_model.specs.Repeats.{repeat_of};
 ghost use Rattle.rules_model.specs.Sound.{is_sound};
 ghost use Rattle.board_sets.specs.Sets.{AreSets};
 ghost use Rattle.position_key.specs.Key.{IsBoardKey, key_of};
-ghost use Rattle.playing.specs.Stance as Stance;
+ghost use Rattle.legality.specs.Stance as Stance;
 
 use attack_tables::Tables;
 use board_sets::{BoardSets, sets_of};
@@ -27,7 +27,7 @@ pub struct Board<'t> {
 }
 
 impl<'t> Model for Board<'t> {
-    ghost use Rattle.playing.specs.Stance.{Stance, IsBoard};
+    ghost use Rattle.legality.specs.Stance.{Stance, IsBoard};
 
     ghost Value = { Stance };
 

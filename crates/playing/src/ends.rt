@@ -4,7 +4,7 @@ ghost use Rattle.foundation.specs.Member.{Member};
 ghost use Rattle.rules_model.specs.Attacks as Attacks;
 ghost use Rattle.rules_model.specs.Ends as Ends;
 ghost use Rattle.rules_model.specs.Legal as Legal;
-ghost use Rattle.playing.specs.Stance as Stance;
+ghost use Rattle.legality.specs.Stance as Stance;
 
 use crate::board::Board;
 use legality::{early_end_with, end_where, gives_check_with, king_attacked_with, own_end_with};

@@ -4,7 +4,7 @@ ghost use Rattle.foundation.specs.Member.{Member, Appends};
 ghost use Rattle.rules_model.specs.Allowed as Allowed;
 ghost use Rattle.rules_model.specs.Legal as Legal;
 ghost use Rattle.rules_model.specs.Next as Next;
-ghost use Rattle.playing.specs.Stance as Stance;
+ghost use Rattle.legality.specs.Stance as Stance;
 
 use crate::board::Board;
 use legality::{

@@ -1,7 +1,7 @@
 //! The way down to the leaf that proves most.
 ghost use Rattle.std.specs.Prelude.{◌≡◌, ◌==◌, ◌<◌, Some, IfSome, length, position};
 ghost use Rattle.foundation.specs.Member.{Member};
-ghost use Rattle.playing.specs.Stance.{legal_in};
+ghost use Rattle.legality.specs.Stance.{legal_in};
 ghost use Rattle.rules_model.specs.declared.moves.Move.{Move};
 ghost use Rattle.pn_search.specs.Numbers as Numbers;
 ghost use Rattle.pn_search.specs.Shapes as Shapes;

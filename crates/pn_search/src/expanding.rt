@@ -1,6 +1,6 @@
 //! What becomes of a leaf that is expanded.
 ghost use Rattle.std.specs.Prelude.{◌≡◌, ◌+◌, ◌<◌, ◌≤◌, ◌++◌, ◌^◌, ℕ, true, Some, None, IfOk, OnOk, OnErr, length, map, take, replicate, slice_get, slice_set};
-ghost use Rattle.playing.specs.Stance.{legal_in};
+ghost use Rattle.legality.specs.Stance.{legal_in};
 ghost use Rattle.rules_model.specs.Ready.{IsReady};
 ghost use Rattle.pn_search.specs.declared.node.Node.{Node};
 ghost use Rattle.pn_search.specs.declared.node.State.TheVariants.{Inner};

@@ -22,7 +22,7 @@ use Rattle.forced_wins.specs.Contests.{decided, within}
 use Rattle.forced_wins.proofs.ContestLaws.{if_mono, decided-mono, any_mono, all_mono, any_intro, all_intro}
 use Rattle.forced_wins.proofs.Counts.{by_cases}
 use Rattle.game_play.specs.Played.{story}
-use Rattle.playing.specs.Stance.{Stance, after, legal_in, repeat_in}
+use Rattle.legality.specs.Stance.{Stance, after, legal_in, repeat_in}
 use Rattle.stipulation.specs.declared.cert.Step.{Step}
 use Rattle.stipulation.specs.declared.task.Task.{Task}
 use Rattle.stipulation.specs.AtTask as At

@@ -16,7 +16,7 @@ use Rattle.rules_model.specs.Legal.{gives_check, is_stuck, own_end}
 use Rattle.rules_model.specs.Next.{next_repeat}
 use Rattle.rules_model.specs.Sides.{other, same_side}
 use Rattle.forced_wins.specs.Contests.{decided, within}
-use Rattle.playing.specs.Stance.{Stance, repeat_in}
+use Rattle.legality.specs.Stance.{Stance, repeat_in}
 use Rattle.stipulation.specs.declared.task.Task.{Task}
 use Rattle.stipulation.specs.Bare.{bare, reaches}
 use Rattle.stipulation.specs.Stipulations.{is_checkmate, mated_by}

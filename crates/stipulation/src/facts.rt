@@ -1,7 +1,7 @@
 //! What is known of positions by themselves.
 ghost use Rattle.std.specs.Prelude.{◌≡◌, true, IfSome, IfOk};
 ghost use Rattle.std.specs.Bool.{OnTrue};
-ghost use Rattle.playing.specs.Stance.{repeat_in};
+ghost use Rattle.legality.specs.Stance.{repeat_in};
 ghost use Rattle.rules_model.specs.Games.{same_repeat};
 ghost use Rattle.stipulation.specs.Bare.{reaches, tells, IsTrueFact};
 

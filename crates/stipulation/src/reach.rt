@@ -3,7 +3,7 @@ ghost use Rattle.std.specs.Prelude.{◌≡◌, ◌≤◌, ◌+◌, not, None, If
 ghost use Rattle.foundation.specs.Member.{Member, Lists};
 ghost use Rattle.rules_model.specs.Legal.{own_end};
 ghost use Rattle.rules_model.specs.Next.{next_repeat};
-ghost use Rattle.playing.specs.Stance.{legal_in, repeat_in};
+ghost use Rattle.legality.specs.Stance.{legal_in, repeat_in};
 ghost use Rattle.stipulation.specs.Bare.{bare, reaches, IsOf};
 
 use crate::facts::Facts;

@@ -6,7 +6,7 @@ use Rattle.rules_model.specs.Repeats.{repeat_of}
 use Rattle.position_key.specs.Key.{key_of}
 use Rattle.game_play.proofs.KeyLemmas.{keys-at}
 use Rattle.game_play.proofs.RepetitionLemmas.{times-zero, times-yes, times-no}
-use Rattle.playing.specs.Stance.{Stance}
+use Rattle.legality.specs.Stance.{Stance}
 use Rattle.game_line.specs.Lined.{positions_of}
 use Rattle.game_line.proofs.results.standings.Goals as goal
 use Rattle.game_line.proofs.results.standings.Goals.{then-is_standing, else-is_standing}

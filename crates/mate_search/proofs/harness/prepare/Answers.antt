@@ -1,7 +1,7 @@
 use Rattle.std.proofs.Common.{◌≡◌, subst, rules}
 use Rattle.foundation.specs.Member.{Lists, Member}
 use Rattle.game_play.specs.Played.{story}
-use Rattle.playing.specs.Stance.{Stance, legal_in}
+use Rattle.legality.specs.Stance.{Stance, legal_in}
 use Rattle.mate_search.proofs.harness.prepare.Goals as goal
 
 pub returns-clause-roots : goal.returns-clause-roots

@@ -3,7 +3,7 @@ use Rattle.game_play.specs.Played.{story}
 use Rattle.mate_settle.specs.Choices.{lines_of_moves}
 use Rattle.mate_settle.specs.Lines.{lines_within, seen_in}
 use Rattle.foundation.specs.Member.{Lists, Member}
-use Rattle.playing.specs.Stance.{Stance, legal_in}
+use Rattle.legality.specs.Stance.{Stance, legal_in}
 use Rattle.rules_model.specs.Sides.{same_side}
 use Rattle.watching.specs.LookLaws.{on_ok_of}
 use Rattle.mate_search.proofs.RaceLaws.{moves-within}

@@ -1,7 +1,7 @@
 use Rattle.std.proofs.Common.{◌≡◌, sym, subst, rules}
 use Rattle.foundation.specs.Member.{Lists, Member}
 use Rattle.game_play.specs.Played.{story}
-use Rattle.playing.specs.Stance.{Stance, legal_in}
+use Rattle.legality.specs.Stance.{Stance, legal_in}
 use Rattle.mate_search.proofs.job.take_free.Goals as goal
 
 pub take_roots-requires-clause-roots : goal.take_roots-requires-clause-roots

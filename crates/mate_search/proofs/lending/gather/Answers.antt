@@ -2,7 +2,7 @@ use Rattle.std.proofs.Common.{◌≡◌, ◌∙◌, get_or, slice_get, Some, sym
 use Rattle.foundation.specs.Member.{Member}
 use Rattle.game_play.specs.Played.{story}
 use Rattle.mate_settle.proofs.Settled.{member-at}
-use Rattle.playing.specs.Stance.{Stance, legal_in}
+use Rattle.legality.specs.Stance.{Stance, legal_in}
 use Rattle.mate_search.proofs.HandedLaws.{handed_more}
 use Rattle.mate_settle.proofs.OrderLaws.{no_move, read-at}
 use Rattle.mate_search.proofs.lending.gather.Goals as goal

@@ -1,6 +1,6 @@
 use Rattle.std.proofs.Common.{arith, subst, sym}
 use Rattle.foundation.specs.Member.{Lists, Member}
-use Rattle.playing.specs.Stance.{legal_in}
+use Rattle.legality.specs.Stance.{legal_in}
 use Rattle.rules_model.specs.declared.moves.Move.{Move}
 use Rattle.mate_showing.proofs.OrderLaws.{lists-first, written-first}
 use Rattle.mate_search.proofs.ordering.hinted_moves.Goals as goal

@@ -4,7 +4,7 @@ use Rattle.forced_wins.specs.Wins.{near_root, wins}
 use Rattle.game_play.specs.Played.{story}
 use Rattle.mate_core.specs.declared.frame.Frame.{Frame}
 use Rattle.mate_settle.specs.Lines.{lines_within, seen_in}
-use Rattle.playing.specs.Stance.{Stance}
+use Rattle.legality.specs.Stance.{Stance}
 use Rattle.watching.specs.LookLaws.{on_ok_of}
 use Rattle.mate_search.specs.Races.{closing_lines}
 use Rattle.mate_search.proofs.HandedLaws.{handed_none, handed_more, shared_more}

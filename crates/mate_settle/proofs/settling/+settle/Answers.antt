@@ -8,7 +8,7 @@ use Rattle.forced_wins.proofs.Rules.{laws}
 use Rattle.forced_wins.specs.Facts.{ServesMove}
 use Rattle.mate_core.specs.declared.frame.Frame.{Frame}
 use Rattle.mate_fact.specs.InFrame as In
-use Rattle.playing.specs.Stance.{legal_in, repeat_in}
+use Rattle.legality.specs.Stance.{legal_in, repeat_in}
 use Rattle.rules_model.specs.Legal.{is_stuck}
 use Rattle.rules_model.specs.Next.{next}
 use Rattle.rules_model.specs.Sides.{same_side}

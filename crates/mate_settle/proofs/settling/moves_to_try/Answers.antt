@@ -1,6 +1,6 @@
 use Rattle.std.proofs.Common.{◌∙◌, subst, sym}
 use Rattle.foundation.specs.Member.{Member, Lists}
-use Rattle.playing.specs.Stance.{legal_in}
+use Rattle.legality.specs.Stance.{legal_in}
 use Rattle.mate_settle.proofs.OrderLaws.{lists-permuted}
 use Rattle.mate_settle.proofs.settling.moves_to_try.Goals as goal
 

@@ -1,7 +1,7 @@
 use Rattle.std.proofs.Common.{◌≡◌, arith, None, Some, slice_get, subst, sym}
 use Rattle.std.specs.Option.{IfSome}
 use Rattle.foundation.specs.Member.{Lists, Member}
-use Rattle.playing.specs.Stance.{legal_in}
+use Rattle.legality.specs.Stance.{legal_in}
 use Rattle.rules_model.specs.declared.moves.Move.{Move}
 use Rattle.mate_showing.proofs.OrderLaws.{first-named, lists-first, written-first}
 use Rattle.mate_showing.proofs.ordering.moves_from.Goals as goal

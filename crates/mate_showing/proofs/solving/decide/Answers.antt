@@ -10,7 +10,7 @@ use Rattle.forced_wins.proofs.Rules.{laws}
 use Rattle.game_play.specs.Played.{story}
 use Rattle.mate_settle.specs.Choices.{IsChoice}
 use Rattle.mate_settle.specs.Lines.{lines_within, seen_in}
-use Rattle.playing.specs.Stance.{Stance}
+use Rattle.legality.specs.Stance.{Stance}
 use Rattle.mate_settle.proofs.Settled.{is_none}
 use Rattle.mate_showing.specs.Answers.{is_at_move}
 use Rattle.mate_showing.proofs.Judged.{attack-lines, defence-lines}

@@ -6,7 +6,7 @@ use Rattle.forced_wins.specs.Wins.{is_in, near_root}
 use Rattle.game_play.specs.Played.{story}
 use Rattle.mate_core.specs.declared.frame.Frame.{Frame}
 use Rattle.mate_settle.specs.Lines.{lines_within, seen_in}
-use Rattle.playing.specs.Stance.{Stance}
+use Rattle.legality.specs.Stance.{Stance}
 use Rattle.strategy.specs.declared.nodes.Strategy.{Strategy}
 use Rattle.mate_showing.specs.declared.answer.Settled.TheVariants.{Shown}
 use Rattle.mate_showing.specs.Answers.{IsRight, IsShown}

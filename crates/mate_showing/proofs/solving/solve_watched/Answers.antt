@@ -4,7 +4,7 @@ use Rattle.forced_wins.specs.Wins.{wins}
 use Rattle.game_play.specs.Played.{story}
 use Rattle.game_values.specs.Bounds.{solve_bound}
 use Rattle.mate_settle.specs.Lines.{lines_within, seen_in}
-use Rattle.playing.specs.Stance.{Stance}
+use Rattle.legality.specs.Stance.{Stance}
 use Rattle.watching.specs.LookLaws.{on_ok_of}
 use Rattle.mate_showing.proofs.Root.{frame-blocked, lost_by, not-won, solve-lines, walk-lines}
 use Rattle.mate_showing.proofs.solving.solve_watched.Goals as goal

@@ -12,7 +12,7 @@ use Rattle.game_values.proofs.ScoreLaws.{quiet-ended}
 use Rattle.game_values.proofs.TreeLaws.{tree-some}
 use Rattle.rules_model.specs.Games.{played}
 use Rattle.rules_model.specs.Legal.{is_stuck}
-use Rattle.playing.specs.Stance.{repeat_in}
+use Rattle.legality.specs.Stance.{repeat_in}
 use Rattle.rules_model.specs.Next as Next
 use Rattle.rules_model.specs.Repeats.{repeat_of}
 use Rattle.watching.specs.declared.halt.Halt.{Halt}

@@ -11,7 +11,7 @@ use Rattle.game_values.proofs.ScoreLaws.{quiet-ended}
 use Rattle.game_values.proofs.TreeLaws.{tree-some}
 use Rattle.rules_model.specs.Games.{played}
 use Rattle.rules_model.specs.Legal.{is_stuck}
-use Rattle.playing.specs.Stance as Stance
+use Rattle.legality.specs.Stance as Stance
 use Rattle.watching.specs.declared.halt.Halt.{Halt}
 use mir.Val.{to_z, of_z}
 use mir.Syntax.{w32}

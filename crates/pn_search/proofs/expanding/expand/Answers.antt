@@ -3,7 +3,7 @@ use Rattle.std.proofs.lemmas.List.{length-set}
 use Rattle.rules_model.specs.declared.rules.Rules.{Rules}
 use Rattle.rules_model.specs.Legal.{legal}
 use Rattle.rules_model.specs.Repeats.{repeat_of}
-use Rattle.playing.specs.Stance.{legal_in}
+use Rattle.legality.specs.Stance.{legal_in}
 use Rattle.pn_search.specs.declared.node.Node.{Node}
 use Rattle.pn_search.specs.declared.node.State.TheVariants.{Inner}
 use Rattle.pn_search.specs.Kept.{written_child}

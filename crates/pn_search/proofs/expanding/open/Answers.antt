@@ -1,5 +1,5 @@
 use Rattle.std.proofs.Common.{◌≡◌, ◌++◌, map, length, ap, ◌∙◌, arith}
-use Rattle.playing.specs.Stance.{legal_in}
+use Rattle.legality.specs.Stance.{legal_in}
 use Rattle.pn_search.specs.Kept.{written_child}
 use Rattle.pn_search.proofs.Expanded.{opened-is}
 use Rattle.pn_search.proofs.expanding.open.Goals as goal

@@ -3,7 +3,7 @@ use Rattle.rules_model.specs.declared.rules.Rules.{Rules}
 use Rattle.rules_model.specs.Games.{result}
 use Rattle.game_play.specs.Played.{story}
 use Rattle.mate_core.specs.declared.frame.Frame.{Frame}
-use Rattle.playing.specs.Stance.{Stance}
+use Rattle.legality.specs.Stance.{Stance}
 use Rattle.pn_search.specs.Finds.{IsFound}
 use Rattle.pn_search.specs.Trees.{end_at}
 use Rattle.pn_search.proofs.Sought.{sought-ongoing, found-is, at-root}

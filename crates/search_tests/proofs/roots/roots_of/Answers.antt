@@ -4,7 +4,7 @@ use Rattle.std.proofs.lemmas.List.Elements.{Contains-get_or}
 use Rattle.foundation.specs.Member.{Member}
 use Rattle.foundation.proofs.Members.{member-contains}
 use Rattle.game_line.specs.Lined.{legal_in}
-use Rattle.playing.specs.Stance as Stance
+use Rattle.legality.specs.Stance as Stance
 use Rattle.search_tests.proofs.roots.roots_of.Goals as goal
 
 pub returns : goal.returns

@@ -1,6 +1,6 @@
 use Rattle.std.proofs.Common.{rules}
 use Rattle.foundation.specs.Member.{Member}
-use Rattle.playing.specs.Stance.{legal_in}
+use Rattle.legality.specs.Stance.{legal_in}
 use Rattle.stipulation.proofs.BareLaws.{appended-all}
 use Rattle.stipulation.proofs.reach.legal_list.Goals as goal
 

@@ -4,7 +4,7 @@ use Rattle.rules_model.specs.declared.board.Position.{Position}
 use Rattle.rules_model.specs.Games.{history, times}
 use Rattle.rules_model.specs.Repeats.{repeat_of}
 use Rattle.game_play.specs.Played.{story, keys_of}
-use Rattle.playing.specs.Stance.{Stance}
+use Rattle.legality.specs.Stance.{Stance}
 use Rattle.game_line.specs.Lined.{positions_of, story_of_line}
 use Rattle.game_line.proofs.HeldLemmas.{held-count, later-keys, line-times}
 use Rattle.game_line.proofs.line.Line.last_standings.Goals as goal

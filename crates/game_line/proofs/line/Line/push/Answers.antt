@@ -1,8 +1,8 @@
 use Rattle.std.proofs.Common.{◌≡◌, length, ap, sym, subst, arith, ◌∙◌}
 use Rattle.foundation.specs.Member.{Member}
 use Rattle.game_play.specs.Played.{story}
-use Rattle.playing.specs.Stance.{Stance, after}
-use Rattle.playing.specs.Stance as Stance
+use Rattle.legality.specs.Stance.{Stance, after}
+use Rattle.legality.specs.Stance as Stance
 use Rattle.game_line.specs.Lined.{Lined}
 use Rattle.game_line.proofs.HeldLemmas.{line-stance, line-legal, held-last, held-push, held-count}
 use Rattle.game_line.proofs.SlotLaws.{slots-few, slots-push}

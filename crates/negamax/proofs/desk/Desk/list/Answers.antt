@@ -1,5 +1,5 @@
 use Rattle.std.proofs.Common.{◌∙◌, ap, not}
-use Rattle.playing.specs.Stance.{repeat_in}
+use Rattle.legality.specs.Stance.{repeat_in}
 use Rattle.negamax.proofs.CopyLaws.{appended_all, lists-stuck}
 use Rattle.negamax.proofs.desk.Desk.list.Goals as goal
 

@@ -1,5 +1,5 @@
 use Rattle.std.proofs.Common.{sym, ◌∙◌}
-use Rattle.playing.specs.Stance.{repeat_in}
+use Rattle.legality.specs.Stance.{repeat_in}
 use Rattle.rules_model.specs.Next as Next
 use Rattle.negamax.proofs.CopyLaws.{appended_captures, some-not-stuck}
 use Rattle.negamax.proofs.desk.Desk.list_captures.Goals as goal

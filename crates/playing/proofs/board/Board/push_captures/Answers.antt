@@ -4,7 +4,7 @@ use Rattle.foundation.specs.Member.{Appends}
 use Rattle.rules_model.specs.declared.rules.Rules.{Rules}
 use Rattle.rules_model.specs.Repeats.{repeat_of}
 use Rattle.legality.specs.Chosen.{IsLegalCapture}
-use Rattle.playing.specs.Stance.{IsCaptureIn, Stance}
+use Rattle.legality.specs.Stance.{IsCaptureIn, Stance}
 use Rattle.playing.proofs.board.Board.push_captures.Goals as goal
 
 pub returns-clause-ok : goal.returns-clause-ok

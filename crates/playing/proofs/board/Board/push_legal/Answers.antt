@@ -4,7 +4,7 @@ use Rattle.foundation.specs.Member.{Appends, Member}
 use Rattle.rules_model.specs.declared.rules.Rules.{Rules}
 use Rattle.rules_model.specs.Legal.{legal}
 use Rattle.rules_model.specs.Repeats.{repeat_of}
-use Rattle.playing.specs.Stance.{Stance, legal_in}
+use Rattle.legality.specs.Stance.{Stance, legal_in}
 use Rattle.playing.proofs.board.Board.push_legal.Goals as goal
 
 pub returns-clause-ok : goal.returns-clause-ok

@@ -5,7 +5,7 @@ use Rattle.rules_model.specs.declared.rules.Rules.{Rules}
 use Rattle.rules_model.specs.Legal.{legal}
 use Rattle.rules_model.specs.Next.{next}
 use Rattle.rules_model.specs.Repeats.{repeat_of}
-use Rattle.playing.specs.Stance.{Stance}
+use Rattle.legality.specs.Stance.{Stance}
 use Rattle.pn_search.specs.Trees.{position_after, position_of}
 use Rattle.pn_search.proofs.Expanded.{stands-read}
 use Rattle.pn_search.proofs.Grown.{IsRooted, child-of, child-within}

@@ -2,7 +2,7 @@ use Rattle.std.proofs.Common.{◌≡◌, ◌+◌, ◌-◌, not, take, get_or, If
 use Rattle.std.proofs.lemmas.List.{take_all}
 use Rattle.foundation.specs.Member.{Member, Lists}
 use Rattle.rules_model.specs.Next.{next_repeat}
-use Rattle.playing.specs.Stance.{legal_in, repeat_in}
+use Rattle.legality.specs.Stance.{legal_in, repeat_in}
 use Rattle.stipulation.specs.declared.task.Task.{Task}
 use Rattle.stipulation.specs.Bare.{reaches, IsOf}
 use Rattle.stipulation.proofs.BareLaws.{after-reaches, any-stuck, ended-reaches, legal-listed, listed-legal, member-next, next-told, none-tells, one-tells}

@@ -2,7 +2,7 @@ use Rattle.std.proofs.Common.{◌≡◌, ◌+◌, ◌*◌, not, take}
 use Rattle.foundation.specs.Member.{Member}
 use Rattle.rules_model.specs.declared.moves.Move.{Move}
 use Rattle.rules_model.specs.Next.{next_repeat}
-use Rattle.playing.specs.Stance.{repeat_in}
+use Rattle.legality.specs.Stance.{repeat_in}
 use Rattle.stipulation.specs.Bare.{reaches}
 use Rattle.stipulation.proofs.facts.Facts.+reach.Given as goal
 

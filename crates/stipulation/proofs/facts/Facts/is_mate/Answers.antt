@@ -1,5 +1,5 @@
 use Rattle.std.proofs.Common.{sym, ◌∙◌}
-use Rattle.playing.specs.Stance.{repeat_in}
+use Rattle.legality.specs.Stance.{repeat_in}
 use Rattle.stipulation.proofs.BareLaws.{ended-reaches, mate-reaches}
 use Rattle.stipulation.proofs.facts.Facts.is_mate.Goals as goal
 

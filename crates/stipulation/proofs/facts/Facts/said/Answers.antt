@@ -1,5 +1,5 @@
 use Rattle.std.proofs.Common.{rules}
-use Rattle.playing.specs.Stance.{repeat_in}
+use Rattle.legality.specs.Stance.{repeat_in}
 use Rattle.stipulation.proofs.BareLaws.{told}
 use Rattle.stipulation.proofs.facts.Facts.said.Goals as goal
 
