@@ -1,6 +1,9 @@
 //! How many ways a game can go on.
-ghost use Rattle.std.specs.Prelude.{◌≡◌, ◌≤◌, ◌-◌, ◌^◌, min, IfOk, OnOk};
+ghost use Rattle.std.specs.Prelude.{◌≡◌, ◌≤◌, ◌-◌, ◌^◌, length, min, IfOk, OnErr, OnOk};
+ghost use Rattle.foundation.specs.Member.{Appends, Member};
+ghost use Rattle.rules_model.specs.Legal.{legal};
 ghost use Rattle.rules_model.specs.Ready.{IsReady};
+ghost use Rattle.rules_model.specs.Repeats.{repeat_of};
 ghost use Rattle.board_sets.specs.Sets.{AreSets};
 ghost use Rattle.game_play.specs.Perft as Perft;
 ghost use Rattle.game_play.specs.Played.{story};
@@ -8,9 +11,34 @@ ghost use Rattle.game_play.specs.Played.{story};
 use crate::game::Game;
 use attack_tables::Tables;
 use board_sets::{BoardSets, sets_of};
-use legality::{apply_with, count_legal_with, push_legal_with};
+use legality::{Known, apply_with};
 use rules_model::{Memory, MoveList, Position, Rules};
 use std::alloc::Global;
+
+/// Appends the legal moves of the position, which has these sets, each once. Without memory the list is as it was.
+fn push_moves(
+    rules: &Rules,
+    tables: &Tables,
+    p: &Position,
+    sets: &BoardSets,
+    out: &mut MoveList,
+) -> Result<(), Memory>
+    requires ready { IsReady rules.now tables.now p.now }
+    requires sets { AreSets rules.now p.now.side p.now.cells sets.now }
+    ensures ok { OnOk result (Appends (λ m. Member m (legal rules.now (repeat_of p.now))) out.old out.new) }
+    ensures err { OnErr result (out.new ≡ out.old) }
+{
+    Known::of(rules, tables, p, sets).push_legal(out)
+}
+
+/// How many legal moves the position has, up to 2^128 - 1.
+fn count_moves(rules: &Rules, tables: &Tables, p: &Position, sets: &BoardSets) -> u128
+    requires ready { IsReady rules.now tables.now p.now }
+    requires sets { AreSets rules.now p.now.side p.now.cells sets.now }
+    ensures { result ≡ min (length (legal rules.now (repeat_of p.now))) (2 ^ 128 - 1) }
+{
+    Known::of(rules, tables, p, sets).count_legal()
+}
 
 /// How many lists of so many legal moves in turn there are from the position, which has these sets. The moves of each
 /// ply but the last are put at the end of the list, and are taken off again; those of the last are counted alone, with
@@ -30,14 +58,14 @@ fn count_lines(
     ensures kept { OnOk result (moves.new ≡ moves.old) }
 {
     let first = moves.items.len();
-    push_legal_with(rules, tables, p, sets, moves)?;
+    push_moves(rules, tables, p, sets, moves)?;
     let mut total: u128 = 0;
     for i in first..moves.items.len() {
         let m = moves.items[i];
         let mut next = *p;
         let next_sets = apply_with(rules, tables, &mut next, sets, &m);
         let lines = if plies == 2 {
-            count_legal_with(rules, tables, &next, &next_sets)
+            count_moves(rules, tables, &next, &next_sets)
         } else {
             count_lines(rules, tables, &next, &next_sets, plies - 1, moves)?
         };
@@ -59,7 +87,7 @@ impl Game {
         let (rules, p) = (self.rules(), self.position());
         let sets = sets_of(rules, &p.cells, p.side);
         if plies == 1 {
-            return Ok(count_legal_with(rules, &self.tables, p, &sets));
+            return Ok(count_moves(rules, &self.tables, p, &sets));
         }
         let mut moves = MoveList {
             items: Vec::new(alloc),

@@ -65,3 +65,18 @@ module _ {S : Type 0} {takes stops : S → List Move → S → Type 0} (sink : I
   pub candidates-second : (s t u : S) → TakesAll takes (FitPieceMoves rules r) s t → TakesSome stops (FitSpecialMoves rules r) t u → TakesSome stops (FitCandidates rules r) s u
   candidates-second s t u a b =
       some-behind sink (FitPieceMoves rules r) (FitSpecialMoves rules r) (FitCandidates rules r) s t u a b (apart rules r) (from_piece rules r) (from_special rules r)
+
+  -- ---- in the other order
+
+  pub reversed-all : (s t u : S) → TakesAll takes (FitSpecialMoves rules r) s t → TakesAll takes (FitPieceMoves rules r) t u → TakesAll takes (FitCandidates rules r) s u
+  reversed-all s t u a b =
+      all-join sink (FitSpecialMoves rules r) (FitPieceMoves rules r) (FitCandidates rules r) s t u a b (λ m h k. apart rules r m k h)
+      (λ m h. elim (split rules r m h) as (λ _. FitSpecialMoves rules r m ⊎ FitPieceMoves rules r m) [ inl k ↦ inr k | inr k ↦ inl k ])
+      (λ m h. elim h as (λ _. FitCandidates rules r m) [ inl k ↦ from_special rules r m k | inr k ↦ from_piece rules r m k ])
+
+  pub reversed-first : (s t : S) → TakesSome stops (FitSpecialMoves rules r) s t → TakesSome stops (FitCandidates rules r) s t
+  reversed-first s t a = some-within stops (FitSpecialMoves rules r) (FitCandidates rules r) s t a (from_special rules r)
+
+  pub reversed-second : (s t u : S) → TakesAll takes (FitSpecialMoves rules r) s t → TakesSome stops (FitPieceMoves rules r) t u → TakesSome stops (FitCandidates rules r) s u
+  reversed-second s t u a b =
+      some-behind sink (FitSpecialMoves rules r) (FitPieceMoves rules r) (FitCandidates rules r) s t u a b (λ m h k. apart rules r m k h) (from_special rules r) (from_piece rules r)

@@ -7,6 +7,7 @@ use Rattle.rules_model.specs.declared.rules.Rules.{Rules}
 use Rattle.rules_model.specs.Attacks.{king_attacked}
 use Rattle.rules_model.specs.Ends.{early_end, is_ongoing, no_move, or_end}
 use Rattle.rules_model.specs.Legal.{is_stuck, own_end}
+use Rattle.legality.specs.declared.choice.Part.TheVariants.{All}
 use Rattle.legality.specs.Chosen.{can_go}
 use Rattle.legality.specs.LateEnds.{late_end_where}
 use Rattle.legality.proofs.ListLaws.{goes_not_stuck}
@@ -22,5 +23,5 @@ module _ (rules : Rules) (r : Repeat) (on : Ongoing ≡ early_end rules r) where
       let end = no_move rules r.side (king_attacked rules r.cells r.side) in
       ap (late_end_where rules r) e ∙ turned_round (is_stuck rules r) Ongoing end ∙ ap (λ early. or_end early (if is_stuck rules r then end else Ongoing)) on
 
-  pub late_end_found : (any : Bool) → any ≡ can_go rules r false → late_end_where rules r any ≡ own_end rules r
+  pub late_end_found : (any : Bool) → any ≡ can_go rules r All → late_end_where rules r any ≡ own_end rules r
   late_end_found any e = late_end_is any (e ∙ goes_not_stuck rules r (sym (ap is_ongoing on)))

@@ -1,7 +1,8 @@
-pub mod AllGoes
+pub mod AllMade
 pub mod BoardLaws
 pub mod CandidateFit
 pub mod CandidateParts
+pub mod DropLaws
 pub mod FitLaws
 pub mod FlagLaws
 pub mod FreeLaws
@@ -15,5 +16,6 @@ pub mod SafetyLaws
 pub mod SeekLaws
 pub mod ShiftLaws
 pub mod TextLaws
+pub mod ToldLaws
 pub mod VainLaws
 pub mod WantedLaws

@@ -1,10 +1,10 @@
 -- The legal list, from the candidates.
-use Rattle.std.proofs.Common.{◌≡◌, ◌+◌, ◌≤◌, Bool, true, false, not, ◌&&◌, ◌↔◌, cond, ◌⊎◌, inl, inr, IsTrue, Result, Ok, Err, List, [], ◌∷◌, ◌++◌, length, refl, sym, ap, ◌∙◌, subst, arith}
+use Rattle.std.proofs.Common.{◌≡◌, ◌+◌, ◌≤◌, Bool, true, false, not, ◌&&◌, ◌||◌, ◌↔◌, cond, ◌⊎◌, inl, inr, IsTrue, Result, Ok, Err, List, [], ◌∷◌, ◌++◌, length, refl, sym, ap, ◌∙◌, subst, arith}
 use Rattle.std.specs.Bool.{OnTrue}
 use Rattle.std.specs.List.{list_any, filter}
 use Rattle.std.specs.Result.{OnErr, OnOk}
 use Rattle.std.specs.List.Sorted.{IsPermutation, IsStrictlySortedBy}
-use Rattle.std.proofs.lemmas.Bool.{and_from, and_parts, or_cases, or_left, or_right}
+use Rattle.std.proofs.lemmas.Bool.{and_from, and_parts, not-true, or_cases, or_left, or_right}
 use Rattle.std.proofs.lemmas.List.Sorted.{IsPermutation-sym}
 use Rattle.foundation.specs.Member.{Member, IsEachOnce, Lists, Appends}
 use Rattle.foundation.specs.Tests.{is_nil}
@@ -21,7 +21,9 @@ use Rattle.rules_model.specs.Moves.{IsFitMove}
 use Rattle.rules_model.specs.MoveText.{move_cmp}
 use Rattle.rules_model.specs.Next.{captures}
 use Rattle.rules_model.proofs.LegalLaws.{every-fit, every-has, legal-member, legal-once, legal-sorted, member-legal, moves-unique}
-use Rattle.legality.specs.Chosen.{AppendsChosen, FitCandidates, IsLegalCapture, can_go, is_chosen, is_fit_move, is_wanted, only_captures}
+use Rattle.legality.specs.declared.choice.Part.{Part}
+use Rattle.legality.specs.declared.choice.Part.TheVariants.{All, Captures, Others}
+use Rattle.legality.specs.Chosen.{AppendsChosen, FitCandidates, IsLegalCapture, IsLegalOther, can_go, is_chosen, is_fit_move, is_in, is_wanted, legal_part, only_captures, part_of}
 use Rattle.legality.proofs.FitLaws.{from_fit}
 
 -- ---- of lists
@@ -84,17 +86,17 @@ module _ {X : Type 0} where
 
 -- ---- the choice
 
-module _ (rules : Rules) (r : Repeat) (only : Bool) where
-  chosen_parts : (m : Move) → is_chosen rules r only m ≡ true → (is_sane rules r m ≡ true) × (is_wanted rules r only m ≡ true)
+module _ (rules : Rules) (r : Repeat) (part : Part) where
+  chosen_parts : (m : Move) → is_chosen rules r part m ≡ true → (is_sane rules r m ≡ true) × (is_wanted rules r part m ≡ true)
   unfolding is_chosen
   chosen_parts m e =
-      let k = and_parts (is_wanted rules r only m) (is_sane rules r m) (and_parts (is_fit_move m) (is_wanted rules r only m && is_sane rules r m) e).1 in (k.1, k.0)
+      let k = and_parts (is_wanted rules r part m) (is_sane rules r m) (and_parts (is_fit_move m) (is_wanted rules r part m && is_sane rules r m) e).1 in (k.1, k.0)
 
-  from_parts : (m : Move) → IsFitMove m → is_sane rules r m ≡ true → is_wanted rules r only m ≡ true → is_chosen rules r only m ≡ true
+  from_parts : (m : Move) → IsFitMove m → is_sane rules r m ≡ true → is_wanted rules r part m ≡ true → is_chosen rules r part m ≡ true
   unfolding is_chosen
   from_parts m fit e f = and_from _ _ (from_fit m fit) (and_from _ _ f e)
 
-  chosen_allowed : (m : Move) → FitCandidates rules r m → is_chosen rules r only m ≡ true → (is_allowed rules r m ≡ true) × (is_wanted rules r only m ≡ true)
+  chosen_allowed : (m : Move) → FitCandidates rules r m → is_chosen rules r part m ≡ true → (is_allowed rules r m ≡ true) × (is_wanted rules r part m ≡ true)
   unfolding is_allowed
   chosen_allowed m h e = let k = chosen_parts m e in (and_from _ _ h.1 k.0, k.1)
 
@@ -103,28 +105,28 @@ module _ (rules : Rules) (r : Repeat) (only : Bool) where
   allowed_parts m e = and_parts (is_candidate rules r m) (is_sane rules r m) e
 
   -- a move that was found is one that can be made
-  pub found_goes : (ms : List Move) → ((m : Move) → Member m ms → FitCandidates rules r m) → list_any (is_chosen rules r only) ms ≡ true → can_go rules r only ≡ true
+  pub found_goes : (ms : List Move) → ((m : Move) → Member m ms → FitCandidates rules r m) → list_any (is_chosen rules r part) ms ≡ true → can_go rules r part ≡ true
   unfolding can_go
   found_goes ms sound e =
-      let k = any_member (is_chosen rules r only) ms e in
+      let k = any_member (is_chosen rules r part) ms e in
       let h = sound k.0 k.1 in
       let a = chosen_allowed k.0 h k.2 in
-      member_any (is_wanted rules r only) k.0 _ (member-filter (is_allowed rules r) k.0 every_move (every-has k.0 h.0) a.0) a.1
+      member_any (is_wanted rules r part) k.0 _ (member-filter (is_allowed rules r) k.0 every_move (every-has k.0 h.0) a.0) a.1
 
-  goes_found : (ms : List Move) → Lists (FitCandidates rules r) ms → can_go rules r only ≡ true → list_any (is_chosen rules r only) ms ≡ true
+  goes_found : (ms : List Move) → Lists (FitCandidates rules r) ms → can_go rules r part ≡ true → list_any (is_chosen rules r part) ms ≡ true
   unfolding can_go
   goes_found ms l e =
-      let k = any_member (is_wanted rules r only) _ e in
+      let k = any_member (is_wanted rules r part) _ e in
       let f = filter-member (is_allowed rules r) k.0 every_move k.1 in
       let fit = every-fit k.0 f.0 in
       let p = allowed_parts k.0 f.1 in
-      member_any (is_chosen rules r only) k.0 ms (l.complete k.0 (fit, p.0)) (from_parts k.0 fit p.1 k.2)
+      member_any (is_chosen rules r part) k.0 ms (l.complete k.0 (fit, p.0)) (from_parts k.0 fit p.1 k.2)
 
   -- among all the candidates one is found exactly where one can be made
-  pub found_is : (ms : List Move) → Lists (FitCandidates rules r) ms → list_any (is_chosen rules r only) ms ≡ can_go rules r only
+  pub found_is : (ms : List Move) → Lists (FitCandidates rules r) ms → list_any (is_chosen rules r part) ms ≡ can_go rules r part
   found_is ms l = same_both _ _ (found_goes ms l.sound) (goes_found ms l)
 
-captures_go : (rules : Rules) (r : Repeat) → can_go rules r true ≡ can_capture rules r
+captures_go : (rules : Rules) (r : Repeat) → can_go rules r Captures ≡ can_capture rules r
 unfolding can_go can_capture
 captures_go rules r = refl
 
@@ -132,37 +134,44 @@ only_is : (rules : Rules) (r : Repeat) → only_captures rules r ≡ (rules.must
 unfolding only_captures
 only_is rules r = ap (λ b. rules.must_capture && b) (captures_go rules r)
 
+forced_in : (only takes : Bool) → is_in (part_of only) takes ≡ (not only || takes)
+forced_in true takes = refl
+forced_in false takes = refl
+
 module _ (rules : Rules) (r : Repeat) where
-  -- what is legal is allowed, and wanted
-  legal_is : (m : Move) → is_ongoing (early_end rules r) ≡ true → is_legal rules r m ≡ (is_allowed rules r m && is_wanted rules r (only_captures rules r) m)
+  -- what is legal is allowed, and captures where one must and can
+  legal_is : (m : Move) → is_ongoing (early_end rules r) ≡ true → is_legal rules r m ≡ (is_allowed rules r m && (not (only_captures rules r) || captures rules r m))
   unfolding is_legal
   legal_is m on = rw (on, only_is rules r) refl
 
-  legal_parts : (m : Move) → Member m (legal rules r) → IsFitMove m × (is_ongoing (early_end rules r) ≡ true) × (is_allowed rules r m ≡ true) × (is_wanted rules r (only_captures rules r) m ≡ true)
+  wanted_is : (m : Move) → is_wanted rules r (legal_part rules r) m ≡ (not (only_captures rules r) || captures rules r m)
+  wanted_is m = forced_in (only_captures rules r) (captures rules r m)
+
+  legal_parts : (m : Move) → Member m (legal rules r) → IsFitMove m × (is_ongoing (early_end rules r) ≡ true) × (is_allowed rules r m ≡ true) × (is_wanted rules r (legal_part rules r) m ≡ true)
   unfolding is_legal
   legal_parts m h =
       let k = legal-member rules r m h in
       let a = and_parts (is_ongoing (early_end rules r) && is_allowed rules r m) _ k.1 in
       let b = and_parts (is_ongoing (early_end rules r)) (is_allowed rules r m) a.0 in
-      (k.0, b.0, b.1, subst (λ only. is_wanted rules r only m ≡ true) (sym (only_is rules r)) a.1)
+      (k.0, b.0, b.1, wanted_is m ∙ subst (λ only. (not only || captures rules r m) ≡ true) (sym (only_is rules r)) a.1)
 
-  legal_from : (m : Move) → IsFitMove m → is_ongoing (early_end rules r) ≡ true → is_allowed rules r m ≡ true → is_wanted rules r (only_captures rules r) m ≡ true → Member m (legal rules r)
-  legal_from m fit on e f = member-legal rules r m fit (legal_is m on ∙ and_from _ _ e f)
+  legal_from : (m : Move) → IsFitMove m → is_ongoing (early_end rules r) ≡ true → is_allowed rules r m ≡ true → is_wanted rules r (legal_part rules r) m ≡ true → Member m (legal rules r)
+  legal_from m fit on e f = member-legal rules r m fit (legal_is m on ∙ and_from _ _ e (sym (wanted_is m) ∙ f))
 
   -- the chosen ones of all the candidates are the legal moves
-  pub chosen_legal : (ms : List Move) → is_ongoing (early_end rules r) ≡ true → Lists (FitCandidates rules r) ms → Lists (λ m. Member m (legal rules r)) (filter (is_chosen rules r (only_captures rules r)) ms)
+  pub chosen_legal : (ms : List Move) → is_ongoing (early_end rules r) ≡ true → Lists (FitCandidates rules r) ms → Lists (λ m. Member m (legal rules r)) (filter (is_chosen rules r (legal_part rules r)) ms)
   chosen_legal ms on l =
-      let only = only_captures rules r in record {
-        once = once_filter (is_chosen rules r only) ms l.once;
+      let part = legal_part rules r in record {
+        once = once_filter (is_chosen rules r part) ms l.once;
         sound = λ m h.
-            let k = filter-member (is_chosen rules r only) m ms h in
+            let k = filter-member (is_chosen rules r part) m ms h in
             let f = l.sound m k.0 in
-            let a = chosen_allowed rules r only m f k.1 in
+            let a = chosen_allowed rules r part m f k.1 in
             legal_from m f.0 on a.0 a.1;
         complete = λ m h.
             let k = legal_parts m h in
-            let p = allowed_parts rules r only m k.2 in
-            member-filter (is_chosen rules r only) m ms (l.complete m (k.0, p.0)) (from_parts rules r only m k.0 p.1 k.3);
+            let p = allowed_parts rules r part m k.2 in
+            member-filter (is_chosen rules r part) m ms (l.complete m (k.0, p.0)) (from_parts rules r part m k.0 p.1 k.3);
       }
 
   pub none_legal : is_ongoing (early_end rules r) ≡ false → legal rules r ≡ []
@@ -170,7 +179,7 @@ module _ (rules : Rules) (r : Repeat) where
   none_legal off = rw off refl
 
   -- how many these are
-  pub chosen_count : (ms : List Move) → is_ongoing (early_end rules r) ≡ true → Lists (FitCandidates rules r) ms → length (filter (is_chosen rules r (only_captures rules r)) ms) ≡ length (legal rules r)
+  pub chosen_count : (ms : List Move) → is_ongoing (early_end rules r) ≡ true → Lists (FitCandidates rules r) ms → length (filter (is_chosen rules r (legal_part rules r)) ms) ≡ length (legal rules r)
   chosen_count ms on l =
       let k = chosen_legal ms on l in same_length _ (legal rules r) k.once (legal-once rules r) k.sound k.complete
 
@@ -191,37 +200,37 @@ module _ (rules : Rules) (r : Repeat) where
   some_of [] e = cc
   some_of (m ∷ ms) e = (m, inl refl)
 
-  allowed_some : (only : Bool) → can_go rules r only ≡ true → (m : Move) × IsFitMove m × (is_allowed rules r m ≡ true) × (is_wanted rules r only m ≡ true)
+  allowed_some : (part : Part) → can_go rules r part ≡ true → (m : Move) × IsFitMove m × (is_allowed rules r m ≡ true) × (is_wanted rules r part m ≡ true)
   unfolding can_go
-  allowed_some only e =
-      let k = any_member (is_wanted rules r only) _ e in
+  allowed_some part e =
+      let k = any_member (is_wanted rules r part) _ e in
       let f = filter-member (is_allowed rules r) k.0 every_move k.1 in
       (k.0, every-fit k.0 f.0, f.1, k.2)
 
-  wanted_where : (only : Bool) (m : Move) → only ≡ false → is_wanted rules r only m ≡ true
-  wanted_where only m e = rw e refl
+  any_wanted : (m : Move) → only_captures rules r ≡ false → is_wanted rules r (legal_part rules r) m ≡ true
+  any_wanted m e = ap (λ only. is_in (part_of only) (captures rules r m)) e
 
-  capture_wanted : (m : Move) → is_wanted rules r true m ≡ true → is_wanted rules r (only_captures rules r) m ≡ true
-  capture_wanted m e = or_right (not (only_captures rules r)) (captures rules r m) e
+  capture_wanted : (m : Move) → captures rules r m ≡ true → is_wanted rules r (legal_part rules r) m ≡ true
+  capture_wanted m e = wanted_is m ∙ or_right (not (only_captures rules r)) (captures rules r m) e
 
-  some_legal : is_ongoing (early_end rules r) ≡ true → can_go rules r false ≡ true → (m : Move) × Member m (legal rules r)
+  some_legal : is_ongoing (early_end rules r) ≡ true → can_go rules r All ≡ true → (m : Move) × Member m (legal rules r)
   unfolding only_captures
   some_legal on e =
       by_bool (only_captures rules r) ((m : Move) × Member m (legal rules r))
       (λ f.
-      let k = allowed_some true (and_parts rules.must_capture (can_go rules r true) f).1 in
+      let k = allowed_some Captures (and_parts rules.must_capture (can_go rules r Captures) f).1 in
       (k.0, legal_from k.0 k.1 on k.2 (capture_wanted k.0 k.3)))
       (λ f.
-      let k = allowed_some false e in
-      (k.0, legal_from k.0 k.1 on k.2 (wanted_where (only_captures rules r) k.0 f)))
+      let k = allowed_some All e in
+      (k.0, legal_from k.0 k.1 on k.2 (any_wanted k.0 f)))
 
-  legal_goes : (m : Move) → Member m (legal rules r) → can_go rules r false ≡ true
+  legal_goes : (m : Move) → Member m (legal rules r) → can_go rules r All ≡ true
   unfolding can_go
   legal_goes m h =
-      let k = legal_parts m h in member_any (is_wanted rules r false) m _ (member-filter (is_allowed rules r) m every_move (every-has m k.0) k.2) refl
+      let k = legal_parts m h in member_any (is_wanted rules r All) m _ (member-filter (is_allowed rules r) m every_move (every-has m k.0) k.2) refl
 
   -- some move can be made exactly where one is legal
-  pub goes_not_stuck : is_ongoing (early_end rules r) ≡ true → can_go rules r false ≡ not (is_stuck rules r)
+  pub goes_not_stuck : is_ongoing (early_end rules r) ≡ true → can_go rules r All ≡ not (is_stuck rules r)
   unfolding is_stuck
   goes_not_stuck on =
       same_both _ _
@@ -235,55 +244,86 @@ module _ (rules : Rules) (r : Repeat) where
 -- ---- by the tables' rules, which are these rules
 
 module _ (rules made : Rules) (r q : Repeat) (same : made ≡ rules) (still : q ≡ r) where
-  chosen_same : (only : Bool) → is_chosen made q only ≡ is_chosen rules r only
-  chosen_same only = ap (λ rules'. is_chosen rules' q only) same ∙ ap (λ r'. is_chosen rules r' only) still
+  chosen_same : (part : Part) → is_chosen made q part ≡ is_chosen rules r part
+  chosen_same part = ap (λ rules'. is_chosen rules' q part) same ∙ ap (λ r'. is_chosen rules r' part) still
 
-  pub made_found : (only : Bool) (ms : List Move) → Lists (FitCandidates rules r) ms → list_any (is_chosen made q only) ms ≡ can_go rules r only
-  made_found only ms l = ap (λ test. list_any test ms) (chosen_same only) ∙ found_is rules r only ms l
+  pub made_found : (part : Part) (ms : List Move) → Lists (FitCandidates rules r) ms → list_any (is_chosen made q part) ms ≡ can_go rules r part
+  made_found part ms l = ap (λ test. list_any test ms) (chosen_same part) ∙ found_is rules r part ms l
 
-  pub made_goes : (only : Bool) (ms : List Move) → ((m : Move) → Member m ms → FitCandidates rules r m) → list_any (is_chosen made q only) ms ≡ true → can_go rules r only ≡ true
-  made_goes only ms sound e = found_goes rules r only ms sound (sym (ap (λ test. list_any test ms) (chosen_same only)) ∙ e)
+  pub made_goes : (part : Part) (ms : List Move) → ((m : Move) → Member m ms → FitCandidates rules r m) → list_any (is_chosen made q part) ms ≡ true → can_go rules r part ≡ true
+  made_goes part ms sound e = found_goes rules r part ms sound (sym (ap (λ test. list_any test ms) (chosen_same part)) ∙ e)
 
-  chosen_only : (only : Bool) (ms : List Move) → only ≡ only_captures rules r → filter (is_chosen made q only) ms ≡ filter (is_chosen rules r (only_captures rules r)) ms
-  chosen_only only ms e = ap (λ test. filter test ms) (chosen_same only ∙ ap (is_chosen rules r) e)
+  chosen_part : (part : Part) (ms : List Move) → part ≡ legal_part rules r → filter (is_chosen made q part) ms ≡ filter (is_chosen rules r (legal_part rules r)) ms
+  chosen_part part ms e = ap (λ test. filter test ms) (chosen_same part ∙ ap (is_chosen rules r) e)
 
-  pub made_count : (only : Bool) (ms : List Move) → only ≡ only_captures rules r → is_ongoing (early_end rules r) ≡ true → Lists (FitCandidates rules r) ms → length (filter (is_chosen made q only) ms) ≡ length (legal rules r)
-  made_count only ms e on l = ap length (chosen_only only ms e) ∙ chosen_count rules r ms on l
+  pub made_count : (part : Part) (ms : List Move) → part ≡ legal_part rules r → is_ongoing (early_end rules r) ≡ true → Lists (FitCandidates rules r) ms → length (filter (is_chosen made q part) ms) ≡ length (legal rules r)
+  made_count part ms e on l = ap length (chosen_part part ms e) ∙ chosen_count rules r ms on l
 
 -- ---- what was appended
 
-module _ (rules : Rules) (r : Repeat) (on : is_ongoing (early_end rules r) ≡ true) where
-  pub appended_legal : (only : Bool) (old new : List Move) → only ≡ only_captures rules r → AppendsChosen rules r only old new → Appends (λ m. Member m (legal rules r)) old new
-  appended_legal only old new e a = record {
-    added = filter (is_chosen rules r only) a.moves;
-    is = a.taken;
-    each = subst (λ b. Lists (λ m. Member m (legal rules r)) (filter (is_chosen rules r b) a.moves)) (sym e) (chosen_legal rules r a.moves on a.each);
-  }
-
-  capture_legal : (m : Move) → FitCandidates rules r m → is_chosen rules r true m ≡ true → IsLegalCapture rules r m
-  capture_legal m fit e =
-      let k = chosen_allowed rules r true m fit e in
-      (legal_from rules r m fit.0 on k.0 (capture_wanted rules r m k.1), k.1)
-
-  legal_capture : (m : Move) → IsLegalCapture rules r m → FitCandidates rules r m × (is_chosen rules r true m ≡ true)
-  legal_capture m h =
-      let k = legal_parts rules r m h.0 in
-      let p = allowed_parts rules r true m k.2 in
-      ((k.0, p.0), from_parts rules r true m k.0 p.1 h.1)
-
-  pub appended_captures : (old new : List Move) → AppendsChosen rules r true old new → Appends (IsLegalCapture rules r) old new
-  appended_captures old new a = record {
-    added = filter (is_chosen rules r true) a.moves;
+module _ (rules : Rules) (r : Repeat) where
+  appended : (part : Part) (P : Move → Type 0) (old new : List Move) → ((m : Move) → FitCandidates rules r m → is_chosen rules r part m ≡ true → P m) → ((m : Move) → P m → FitCandidates rules r m × (is_chosen rules r part m ≡ true))
+      → AppendsChosen rules r part old new → Appends P old new
+  appended part P old new to from a = record {
+    added = filter (is_chosen rules r part) a.moves;
     is = a.taken;
     each = record {
-      once = once_filter (is_chosen rules r true) a.moves a.each.once;
-      sound = λ m h. (let k = filter-member (is_chosen rules r true) m a.moves h in capture_legal m (a.each.sound m k.0) k.1);
-      complete = λ m h. (let k = legal_capture m h in member-filter (is_chosen rules r true) m a.moves (a.each.complete m k.0) k.1);
+      once = once_filter (is_chosen rules r part) a.moves a.each.once;
+      sound = λ m h. (let k = filter-member (is_chosen rules r part) m a.moves h in to m (a.each.sound m k.0) k.1);
+      complete = λ m h. (let k = from m h in member-filter (is_chosen rules r part) m a.moves (a.each.complete m k.0) k.1);
     };
   }
 
+  -- a legal move that is of the part is chosen
+  legal_chosen : (part : Part) (m : Move) → Member m (legal rules r) → is_wanted rules r part m ≡ true → FitCandidates rules r m × (is_chosen rules r part m ≡ true)
+  legal_chosen part m h wanted =
+      let k = legal_parts rules r m h in
+      let p = allowed_parts rules r part m k.2 in
+      ((k.0, p.0), from_parts rules r part m k.0 p.1 wanted)
+
+  module _ (on : is_ongoing (early_end rules r) ≡ true) where
+    pub appended_legal : (part : Part) (old new : List Move) → part ≡ legal_part rules r → AppendsChosen rules r part old new → Appends (λ m. Member m (legal rules r)) old new
+    appended_legal part old new e a = record {
+      added = filter (is_chosen rules r part) a.moves;
+      is = a.taken;
+      each = subst (λ p. Lists (λ m. Member m (legal rules r)) (filter (is_chosen rules r p) a.moves)) (sym e) (chosen_legal rules r a.moves on a.each);
+    }
+
+    capture_legal : (m : Move) → FitCandidates rules r m → is_chosen rules r Captures m ≡ true → IsLegalCapture rules r m
+    capture_legal m fit e =
+        let k = chosen_allowed rules r Captures m fit e in
+        (legal_from rules r m fit.0 on k.0 (capture_wanted rules r m k.1), k.1)
+
+    pub appended_captures : (old new : List Move) → AppendsChosen rules r Captures old new → Appends (IsLegalCapture rules r) old new
+    appended_captures old new = appended Captures (IsLegalCapture rules r) old new capture_legal (λ m h. legal_chosen Captures m h.0 h.1)
+
+    -- where not only captures are legal
+    module _ (any : only_captures rules r ≡ false) where
+      other_legal : (m : Move) → FitCandidates rules r m → is_chosen rules r Others m ≡ true → IsLegalOther rules r m
+      other_legal m fit e =
+          let k = chosen_allowed rules r Others m fit e in
+          (legal_from rules r m fit.0 on k.0 (any_wanted rules r m any), not-true (captures rules r m) k.1)
+
+      pub appended_others : (old new : List Move) → AppendsChosen rules r Others old new → Appends (IsLegalOther rules r) old new
+      appended_others old new = appended Others (IsLegalOther rules r) old new other_legal (λ m h. legal_chosen Others m h.0 (ap not h.1))
+
 pub no_capture : (rules : Rules) (r : Repeat) (old : List Move) → is_ongoing (early_end rules r) ≡ false → Appends (IsLegalCapture rules r) old old
 no_capture rules r old off = appends-none _ old (λ m h. subst (Member m) (none_legal rules r off) h.0)
+
+pub no_other : (rules : Rules) (r : Repeat) (old : List Move) → is_ongoing (early_end rules r) ≡ false → Appends (IsLegalOther rules r) old old
+no_other rules r old off = appends-none _ old (λ m h. subst (Member m) (none_legal rules r off) h.0)
+
+not_both : (b : Bool) → b ≡ true → b ≡ false → ⊥
+not_both true e f = cc
+not_both false e f = cc
+
+-- where only captures are legal, no other move is
+pub only_no_other : (rules : Rules) (r : Repeat) (old : List Move) → only_captures rules r ≡ true → Appends (IsLegalOther rules r) old old
+only_no_other rules r old only =
+    appends-none _ old
+    (λ m h.
+    not_both (captures rules r m)
+    (sym (ap (λ b. is_in (part_of b) (captures rules r m)) only) ∙ (legal_parts rules r m h.0).3) h.1)
 
 pub nothing_legal : (rules : Rules) (r : Repeat) (old : List Move) → is_ongoing (early_end rules r) ≡ false → Appends (λ m. Member m (legal rules r)) old old
 nothing_legal rules r old off = appends-none _ old (λ m h. subst (Member m) (none_legal rules r off) h)

@@ -13,6 +13,7 @@ use Rattle.square_set.specs.declared.Shift.TheVariants.{Up, Down}
 use Rattle.square_set.specs.Members.{has, HasOrigin, is_led, origin}
 use Rattle.move_sink.specs.InTurn.{GoesBy, target_of}
 use Rattle.move_sink.proofs.TakingLemmas.{all-join}
+use Rattle.legality.specs.declared.choice.Part.{Part}
 use Rattle.legality.specs.declared.count.Counter.{Counter}
 use Rattle.legality.specs.Choices.{chosen_by}
 use Rattle.legality.specs.Counts.{CountsAll}
@@ -50,26 +51,26 @@ may_not_go_by rules r shift leave enter targets led those in_vain are starts is 
     (in_vain from to (below shift 120 to.0 (starts to.0 there.0)) l (led_from shift leave to.0 (sym (are to.0 (omega (arith, l))) ∙ parts.1)) there.1)
 
 -- those that are chosen, of those that are told
-either_way : (a b u t : Bool) → (a ≡ true → t ≡ true) → (b ≡ true → t ≡ false) → (u ≡ true → t ≡ false) → a ≡ (((a || b) || u) && t)
+pub either_way : (a b u t : Bool) → (a ≡ true → t ≡ true) → (b ≡ true → t ≡ false) → (u ≡ true → t ≡ false) → a ≡ (((a || b) || u) && t)
 either_way true b u t f g h = sym (f refl)
 either_way false true u t f g h = sym (g refl)
 either_way false false true t f g h = sym (h refl)
 either_way false false false t f g h = refl
 
-pub told_chosen : (rules : Rules) (r : Repeat) (captures : Bool) (shift : Shift) (targets wanted untold chosen barred unwanted told : Set) → ((s : ℕ) → has targets s ≡ true → s < 120)
-    → ((s : ℕ) → has targets s ≡ true → HasOrigin shift 120 s) → ((s : ℕ) → has wanted s ≡ true → has targets s ≡ true) → AreWantedTo rules r captures wanted → AreUnwantedBut rules r captures targets wanted untold
+pub told_chosen : (rules : Rules) (r : Repeat) (part : Part) (shift : Shift) (targets wanted untold chosen barred unwanted told : Set) → ((s : ℕ) → has targets s ≡ true → s < 120)
+    → ((s : ℕ) → has targets s ≡ true → HasOrigin shift 120 s) → ((s : ℕ) → has wanted s ≡ true → has targets s ≡ true) → AreWantedTo rules r part wanted → AreUnwantedBut rules r part targets wanted untold
     → ((s : ℕ) → has chosen s ≡ true → has wanted s ≡ true) → ((s : ℕ) → has barred s ≡ true → has wanted s ≡ true) → MayGoBy rules r shift chosen → MayNotGoBy rules r shift barred
     → ((s : ℕ) → has unwanted s ≡ ((has targets s && not (has wanted s)) && not (has untold s))) → ((s : ℕ) → has told s ≡ ((has chosen s || has barred s) || has unwanted s))
-    → AreTargetsBy (is_chosen rules r captures) shift told chosen
-told_chosen rules r captures shift targets wanted untold chosen barred unwanted told small starts within are others of_chosen of_barred may may_not left is to =
+    → AreTargetsBy (is_chosen rules r part) shift told chosen
+told_chosen rules r part shift targets wanted untold chosen barred unwanted told small starts within are others of_chosen of_barred may may_not left is to =
     let from : Square = record { 0 = origin shift to.0 } in
     let move : Move = Go from to Stays None in
-    either_way (has chosen to.0) (has barred to.0) (has unwanted to.0) (is_chosen rules r captures move)
+    either_way (has chosen to.0) (has barred to.0) (has unwanted to.0) (is_chosen rules r part move)
     (λ e. let t = of_chosen to.0 e in let k = within to.0 t in
-    chosen_is_sane rules r captures from to (are from to None t) (below shift 120 to.0 (starts to.0 k)) (small to.0 k) ∙ may to (small to.0 k) e)
-    (λ e. let t = within to.0 (of_barred to.0 e) in not_chosen rules r captures move (may_not to (small to.0 t) e))
-    (λ e. not_wanted rules r captures move (unwanted_there rules r captures targets wanted untold unwanted others left from to None e))
-    ∙ ap (λ b. b && is_chosen rules r captures move) (sym (is to.0))
+    chosen_is_sane rules r part from to (are from to None t) (below shift 120 to.0 (starts to.0 k)) (small to.0 k) ∙ may to (small to.0 k) e)
+    (λ e. let t = within to.0 (of_barred to.0 e) in not_chosen rules r part move (may_not to (small to.0 t) e))
+    (λ e. not_wanted rules r part move (unwanted_there rules r part targets wanted untold unwanted others left from to None e))
+    ∙ ap (λ b. b && is_chosen rules r part move) (sym (is to.0))
 
 pub of_first : (targets led barred both those : Set) → ((s : ℕ) → has both s ≡ (has targets s && has led s)) → ((s : ℕ) → has those s ≡ (has both s && not (has barred s)))
     → (s : ℕ) → has those s ≡ true → has targets s ≡ true

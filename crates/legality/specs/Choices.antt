@@ -8,18 +8,21 @@ use Rattle.legality.specs.Chosen.{AreUnwantedBut, AreWantedTo, is_chosen, is_wan
 use Rattle.square_set.specs.declared.Set.{Set}
 
 abbrev pub chosen_by : Choice → Move → Bool
-chosen_by choice m = is_chosen choice.safety.tables.now (repeat_of choice.safety.p.now) choice.captures m
+chosen_by choice m = is_chosen choice.safety.tables.now (repeat_of choice.safety.p.now) choice.part m
+
+-- the move is of the part
+abbrev pub wanted_by : Choice → Move → Bool
+wanted_by choice m = is_wanted choice.safety.tables.now (repeat_of choice.safety.p.now) choice.part m
 
 -- the choice suits a move that is fit: it is wanted, and sane
 abbrev pub suits : Choice → Move → Bool
 suits choice m =
-    is_wanted choice.safety.tables.now (repeat_of choice.safety.p.now) choice.captures m
-    && is_sane choice.safety.tables.now (repeat_of choice.safety.p.now) m
+    wanted_by choice m && is_sane choice.safety.tables.now (repeat_of choice.safety.p.now) m
 
 -- the moves of pieces to the targets are wanted
 abbrev pub AreWanted : Choice → Set → Type 0
-AreWanted choice = AreWantedTo choice.safety.tables.now (repeat_of choice.safety.p.now) choice.captures
+AreWanted choice = AreWantedTo choice.safety.tables.now (repeat_of choice.safety.p.now) choice.part
 
 -- those to the other targets are not
 abbrev pub AreUnwanted : Choice → Set → Set → Set → Type 0
-AreUnwanted choice = AreUnwantedBut choice.safety.tables.now (repeat_of choice.safety.p.now) choice.captures
+AreUnwanted choice = AreUnwantedBut choice.safety.tables.now (repeat_of choice.safety.p.now) choice.part

@@ -16,10 +16,13 @@ use Rattle.rules_model.specs.Candidates.{is_candidate}
 use Rattle.rules_model.specs.Legal.{every_move, is_allowed, is_sane, legal}
 use Rattle.rules_model.specs.Moves.{IsFitMove}
 use Rattle.rules_model.specs.Next.{captures}
+use Rattle.move_sink.specs.InTurn.{go_from}
 use Rattle.move_sink.specs.Taking.{TakesAll}
 use Rattle.square_set.specs.declared.Set.{Set}
 use Rattle.square_set.specs.declared.Shift.{Shift}
 use Rattle.square_set.specs.Members.{has, origin}
+use Rattle.legality.specs.declared.choice.Part.{Part}
+use Rattle.legality.specs.declared.choice.Part.TheVariants.{All, Captures, Others}
 
 -- a candidate on the largest board
 abbrev pub FitCandidates : Rules → Repeat → Move → Type 0
@@ -48,31 +51,48 @@ is_fit_move (Drop kind to) = nat_lt kind.0 26 && nat_lt to.0 120
 
 -- ---- the choice
 
--- it captures, where only captures are wanted
-abbrev pub is_wanted : Rules → Repeat → Bool → Move → Bool
-is_wanted rules r only m = not only || captures rules r m
+-- the moves that capture are of the part, or those that do not
+abbrev pub is_in : Part → Bool → Bool
+is_in All takes = true
+is_in Captures takes = takes
+is_in Others takes = not takes
+
+-- the move is of the part
+abbrev pub is_wanted : Rules → Repeat → Part → Move → Bool
+is_wanted rules r part m = is_in part (captures rules r m)
 
 -- of the candidates: those that are wanted, and sane
-unfoldable pub is_chosen : Rules → Repeat → Bool → Move → Bool
-is_chosen rules r only m = is_fit_move m && (is_wanted rules r only m && is_sane rules r m)
+unfoldable pub is_chosen : Rules → Repeat → Part → Move → Bool
+is_chosen rules r part m = is_fit_move m && (is_wanted rules r part m && is_sane rules r m)
 
 -- some allowed move is wanted
-unfoldable pub can_go : Rules → Repeat → Bool → Bool
-can_go rules r only = list_any (is_wanted rules r only) (filter (is_allowed rules r) every_move)
+unfoldable pub can_go : Rules → Repeat → Part → Bool
+can_go rules r part = list_any (is_wanted rules r part) (filter (is_allowed rules r) every_move)
 
 -- one must capture, and can
 unfoldable pub only_captures : Rules → Repeat → Bool
-only_captures rules r = rules.must_capture && can_go rules r true
+only_captures rules r = rules.must_capture && can_go rules r Captures
+
+-- the captures, where only they are wanted
+abbrev pub part_of : Bool → Part
+part_of true = Captures
+part_of false = All
+
+-- which of the allowed moves are legal
+abbrev pub legal_part : Rules → Repeat → Part
+legal_part rules r = part_of (only_captures rules r)
 
 -- the move captures, or need not
 abbrev pub captures_if_forced : Rules → Repeat → Move → Bool
 captures_if_forced rules r m = not (rules.must_capture && can_capture rules r) || captures rules r m
 
--- the set has those of the targets for which the move passes the test: the piece starts where `start` says, stays what
--- it is, and leaves behind what `gate` names
+-- the set has those of the targets for which the move that is made of the square passes the test
+abbrev pub AreTargetsOf : (Move → Bool) → (Square → Move) → Set → Set → Type 0
+AreTargetsOf test make targets those = (to : Square) → has those to.0 ≡ (has targets to.0 && test (make to))
+
+-- where a piece starts where `start` says, stays what it is, and leaves behind what `gate` names
 abbrev pub AreTargetsWhere : (Move → Bool) → (ℕ → Square) → Option Kind → Set → Set → Type 0
-AreTargetsWhere test start gate targets those =
-    (to : Square) → has those to.0 ≡ (has targets to.0 && test (Go (start to.0) to Stays gate))
+AreTargetsWhere test start gate = AreTargetsOf test (go_from start gate)
 
 -- where the piece goes from the one square
 abbrev pub AreTargetsFrom : (Move → Bool) → Square → Option Kind → Set → Set → Type 0
@@ -82,25 +102,33 @@ AreTargetsFrom test from = AreTargetsWhere test (λ to. from)
 abbrev pub AreTargetsBy : (Move → Bool) → Shift → Set → Set → Type 0
 AreTargetsBy test shift = AreTargetsWhere test (λ to. record { 0 = origin shift to }) None
 
+-- where a piece of the kind is dropped
+abbrev pub AreTargetsOfDrops : (Move → Bool) → Kind → Set → Set → Type 0
+AreTargetsOfDrops test kind = AreTargetsOf test (Drop kind)
+
 -- the moves of pieces to the targets that stay what they are, wherever they start and whatever they leave behind, are
 -- wanted
-abbrev pub AreWantedTo : Rules → Repeat → Bool → Set → Type 0
-AreWantedTo rules r only targets =
+abbrev pub AreWantedTo : Rules → Repeat → Part → Set → Type 0
+AreWantedTo rules r part targets =
     (from to : Square) (gate : Option Kind) → has targets to.0 ≡ true
-    → is_wanted rules r only (Go from to Stays gate) ≡ true
+    → is_wanted rules r part (Go from to Stays gate) ≡ true
 
 -- those to the targets that neither of the sets has are not
-abbrev pub AreUnwantedBut : Rules → Repeat → Bool → Set → Set → Set → Type 0
-AreUnwantedBut rules r only targets wanted untold =
+abbrev pub AreUnwantedBut : Rules → Repeat → Part → Set → Set → Set → Type 0
+AreUnwantedBut rules r part targets wanted untold =
     (from to : Square) (gate : Option Kind) → has targets to.0 ≡ true → has wanted to.0 ≡ false
     → has untold to.0 ≡ false
-    → is_wanted rules r only (Go from to Stays gate) ≡ false
+    → is_wanted rules r part (Go from to Stays gate) ≡ false
 
 -- a legal capture
 abbrev pub IsLegalCapture : Rules → Repeat → Move → Type 0
 IsLegalCapture rules r m = Member m (legal rules r) × (captures rules r m ≡ true)
 
+-- a legal move that does not capture
+abbrev pub IsLegalOther : Rules → Repeat → Move → Type 0
+IsLegalOther rules r m = Member m (legal rules r) × (captures rules r m ≡ false)
+
 -- the candidates that are chosen were appended
-abbrev pub AppendsChosen : Rules → Repeat → Bool → List Move → List Move → Type 0
-AppendsChosen rules r only =
-    TakesAll (λ old ms new. new ≡ old ++ filter (is_chosen rules r only) ms) (FitCandidates rules r)
+abbrev pub AppendsChosen : Rules → Repeat → Part → List Move → List Move → Type 0
+AppendsChosen rules r part =
+    TakesAll (λ old ms new. new ≡ old ++ filter (is_chosen rules r part) ms) (FitCandidates rules r)

@@ -5,5 +5,7 @@ pub mod Flags
 pub mod Keeps
 pub mod LateEnds
 pub mod Moved
+pub mod Seeks
 pub mod Sinks
+pub mod Stance
 pub mod Texts

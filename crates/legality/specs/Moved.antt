@@ -183,6 +183,20 @@ abbrev pub MayNotGate : Rules → Repeat → Square → Kind → Set → Type 0
 MayNotGate rules r from kind targets =
     (to : Square) → to.0 < 120 → has targets to.0 ≡ true → is_sane rules r (Go from to Stays (Some kind)) ≡ false
 
+-- the variant asks no more of a drop than that it leaves the own king safe
+abbrev pub asks_only_safety_of_drops : Rules → Bool
+asks_only_safety_of_drops rules = asks_only_safety rules && rules.drop_checks
+
+-- a piece of the kind that is dropped on any of the targets makes a sane move
+abbrev pub MayDrop : Rules → Repeat → Kind → Set → Type 0
+MayDrop rules r kind targets =
+    (to : Square) → to.0 < 120 → has targets to.0 ≡ true → is_sane rules r (Drop kind to) ≡ true
+
+-- one that is dropped on any of the targets makes no sane move
+abbrev pub MayNotDrop : Rules → Repeat → Kind → Set → Type 0
+MayNotDrop rules r kind targets =
+    (to : Square) → to.0 < 120 → has targets to.0 ≡ true → is_sane rules r (Drop kind to) ≡ false
+
 -- the set has those of the targets to which a piece that goes from the square, and stays what it is, makes a sane move
 abbrev pub AreSane : Rules → Repeat → Square → Set → Set → Type 0
 AreSane rules r from targets sane =

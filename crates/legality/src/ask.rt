@@ -11,14 +11,16 @@ ghost use Rattle.board_sets.specs.Sets.{AreSets};
 ghost use Rattle.legality.specs.Chosen.{captures_if_forced};
 ghost use Rattle.legality.specs.LateEnds.{late_end_where};
 ghost use Rattle.legality.specs.Moved.{AreOwn, HoldNoKing, LeaveSafely};
+ghost use Rattle.legality.specs.Stance.{legal_in, repeat_in};
 
 use crate::candidates::{candidates_are_fit, is_candidate, push_candidates};
 use crate::capture::captures;
-use crate::choice::Choice;
+use crate::choice::{Choice, Part};
 use crate::count::Counter;
+use crate::known::Known;
 use crate::play::king_attacked_with;
 use crate::safety::Safety;
-use crate::search::{can_go, early_end_with, goes_on, only_captures};
+use crate::search::{can_go, early_end_with, goes_on};
 use crate::unpinned::free_squares;
 use attack_tables::Tables;
 use board_sets::{BoardSets, sets_of};
@@ -26,21 +28,49 @@ use end_rules::no_move;
 use rules_model::{Move, Outcome, Position, Rules};
 use square_set::Set;
 
-/// The same as `count_legal`, by the sets of the board, which the caller has.
-pub fn count_legal_with(rules: &Rules, tables: &Tables, p: &Position, sets: &BoardSets) -> u128
-    requires ready { IsReady rules.now tables.now p.now }
-    requires sets { AreSets rules.now p.now.side p.now.cells sets.now }
-    ensures { result ≡ min (length (Legal.legal rules.now (repeat_of p.now))) (2 ^ 128 - 1) }
-{
-    if !goes_on(rules, tables, p, sets) {
-        return 0;
+impl Known<'_> {
+    /// How many legal moves there are, up to 2^128 - 1. No memory is taken.
+    pub fn count_legal(&self) -> u128
+        ensures { result ≡ min (length (legal_in self.now)) (2 ^ 128 - 1) }
+    {
+        if !self.goes_on() {
+            return 0;
+        }
+        let (safety, part) = (self.safety, self.legal_part());
+        let choice = Choice { safety, part };
+        let mut counter = Counter { choice, count: 0 };
+        let _ = push_candidates(
+            safety.tables.rules(),
+            safety.tables,
+            safety.p,
+            &safety.sets,
+            &mut counter,
+        );
+        counter.count
     }
-    let safety = Safety::of_all(rules, tables, p, sets);
-    let captures = only_captures(rules, tables, p, sets, &safety);
-    let choice = Choice { safety, captures };
-    let mut counter = Counter { choice, count: 0 };
-    let _ = push_candidates(rules, tables, p, sets, &mut counter);
-    counter.count
+
+    /// Whether there is a legal move. It stops at the first, and no memory is taken.
+    pub fn any_legal(&self) -> bool
+        ensures { result ≡ not (Legal.is_stuck self.now.rules (repeat_in self.now)) }
+    {
+        self.goes_on() && self.can_go(Part::All)
+    }
+
+    /// The end that the position has by itself: an early end, or that no move is legal; `Outcome::Ongoing` where there
+    /// is none. No memory is taken.
+    #[tactic(auto, unfolding(rules_model::specs::Legal::own_end))]
+    pub fn own_end(&self) -> Outcome
+        ensures { result ≡ Legal.own_end self.now.rules (repeat_in self.now) }
+    {
+        match self.early {
+            Outcome::Ongoing => {
+                let safety = &self.safety;
+                let (tables, any) = (safety.tables, self.can_go(Part::All));
+                late_end(tables.rules(), tables, safety.p, &safety.sets, any)
+            }
+            end => end,
+        }
+    }
 }
 
 /// How many legal moves there are, up to 2^128 - 1. No memory is taken.
@@ -49,19 +79,7 @@ pub fn count_legal(rules: &Rules, tables: &Tables, p: &Position) -> u128
     ensures { result ≡ min (length (Legal.legal rules.now (repeat_of p.now))) (2 ^ 128 - 1) }
 {
     let sets = sets_of(rules, &p.cells, p.side);
-    count_legal_with(rules, tables, p, &sets)
-}
-
-/// The same as `any_legal`, by the sets of the board, which the caller has.
-pub fn any_legal_with(rules: &Rules, tables: &Tables, p: &Position, sets: &BoardSets) -> bool
-    requires ready { IsReady rules.now tables.now p.now }
-    requires sets { AreSets rules.now p.now.side p.now.cells sets.now }
-    ensures { result ≡ not (Legal.is_stuck rules.now (repeat_of p.now)) }
-{
-    if !goes_on(rules, tables, p, sets) {
-        return false;
-    }
-    can_go(rules, tables, p, sets, false)
+    Known::of(rules, tables, p, &sets).count_legal()
 }
 
 /// Whether there is a legal move. It stops at the first, and no memory is taken.
@@ -70,7 +88,7 @@ pub fn any_legal(rules: &Rules, tables: &Tables, p: &Position) -> bool
     ensures { result ≡ not (Legal.is_stuck rules.now (repeat_of p.now)) }
 {
     let sets = sets_of(rules, &p.cells, p.side);
-    any_legal_with(rules, tables, p, &sets)
+    Known::of(rules, tables, p, &sets).any_legal()
 }
 
 /// The end where the position has no early end, for a caller who knows whether some move is legal.
@@ -106,22 +124,6 @@ pub fn end_where(
     }
 }
 
-/// The same as `own_end`, by the sets of the board, which the caller has.
-#[tactic(auto, unfolding(rules_model::specs::Legal::own_end))]
-pub fn own_end_with(rules: &Rules, tables: &Tables, p: &Position, sets: &BoardSets) -> Outcome
-    requires ready { IsReady rules.now tables.now p.now }
-    requires sets { AreSets rules.now p.now.side p.now.cells sets.now }
-    ensures { result ≡ Legal.own_end rules.now (repeat_of p.now) }
-{
-    match early_end_with(rules, tables, p, sets) {
-        Outcome::Ongoing => {
-            let any = can_go(rules, tables, p, sets, false);
-            late_end(rules, tables, p, sets, any)
-        }
-        end => end,
-    }
-}
-
 /// The end that the position has by itself: an early end, or that no move is legal; `Outcome::Ongoing` where there is
 /// none. No memory is taken.
 pub fn own_end(rules: &Rules, tables: &Tables, p: &Position) -> Outcome
@@ -129,7 +131,7 @@ pub fn own_end(rules: &Rules, tables: &Tables, p: &Position) -> Outcome
     ensures { result ≡ Legal.own_end rules.now (repeat_of p.now) }
 {
     let sets = sets_of(rules, &p.cells, p.side);
-    own_end_with(rules, tables, p, &sets)
+    Known::of(rules, tables, p, &sets).own_end()
 }
 
 /// Whether the move is a candidate, and sane.
@@ -152,7 +154,7 @@ fn is_wanted(rules: &Rules, tables: &Tables, p: &Position, sets: &BoardSets, m: 
     requires fit { IsFitMove m.now }
     ensures { result ≡ captures_if_forced rules.now (repeat_of p.now) m.now }
 {
-    !rules.must_capture || captures(rules, p, m) || !can_go(rules, tables, p, sets, true)
+    !rules.must_capture || captures(rules, p, m) || !can_go(rules, tables, p, sets, Part::Captures)
 }
 
 /// Whether the move is legal by the rules.

@@ -63,6 +63,38 @@ pub(crate) fn is_fit_move(m: &Move) -> bool
     }
 }
 
+/// Which of the moves are wanted.
+#[derive(Clone, Copy)]
+pub(crate) enum Part {
+    All,
+    Captures,
+    Others,
+}
+
+impl Part {
+    /// Whether moves that do not capture are of the part.
+    fn has_others(self) -> bool
+        ensures { result ≡ Chosen.is_in self false }
+    {
+        match self {
+            Part::All => true,
+            Part::Captures => false,
+            Part::Others => true,
+        }
+    }
+
+    /// Of the targets, those to which moves are of the part, where exactly those to the enemies capture.
+    fn of_targets(self, targets: Set, enemies: Set) -> Set
+        ensures { (s : ℕ) → has result s ≡ (has targets s && Chosen.is_in self (has enemies s)) }
+    {
+        match self {
+            Part::All => targets,
+            Part::Captures => targets.and(enemies),
+            Part::Others => targets.minus(enemies),
+        }
+    }
+}
+
 /// Of the targets of moves, those of which it is told at once whether the moves are chosen.
 #[derive(Clone, Copy)]
 pub(crate) struct ToldTargets {
@@ -87,43 +119,55 @@ struct WantedTargets {
     untold: Set,
 }
 
-/// What is chosen of the candidates of a position: those that are sane, and perhaps only captures.
+/// What is chosen of the candidates of a position: those of the part that are sane.
 #[derive(Drop)]
 pub(crate) struct Choice<'a> {
     pub safety: Safety<'a>,
-    /// Only captures are wanted.
-    pub captures: bool,
+    pub part: Part,
 }
 
 impl<'a> Choice<'a> {
     ghost use Rattle.legality.specs.Choices as Choices;
+
+    /// Whether the fit move is wanted.
+    fn wants(&self, m: &Move) -> bool
+        requires { IsFitMove m.now }
+        ensures { result ≡ Choices.wanted_by self.now m.now }
+    {
+        let (rules, p) = (self.safety.tables.rules(), self.safety.p);
+        match self.part {
+            Part::All => true,
+            Part::Captures => captures(rules, p, m),
+            Part::Others => !captures(rules, p, m),
+        }
+    }
 
     /// Whether the fit candidate is wanted, and sane.
     fn suits(&self, m: &Move) -> bool
         requires { IsFitMove m.now }
         ensures { result ≡ Choices.suits self.now m.now }
     {
-        let safety = &self.safety;
-        (!self.captures || captures(safety.tables.rules(), safety.p, m)) && safety.is_sane(m)
+        self.wants(m) && self.safety.is_sane(m)
     }
 
-    /// The targets to which the moves are wanted. Where only captures are, they are those of enemies: to an empty
-    /// square a piece captures in passing alone.
+    /// The targets to which the moves are wanted. Captures go to the enemies' squares and other moves to the rest: to
+    /// an empty square a piece captures in passing alone.
     fn wanted(&self, targets: Set) -> WantedTargets
         requires targets { (s : ℕ) → has targets s ≡ true → s < 120 }
         ensures within { (s : ℕ) → has result.wanted s ≡ true → has targets s ≡ true }
         ensures wanted { Choices.AreWanted self.now result.wanted }
         ensures others { Choices.AreUnwanted self.now targets result.wanted result.untold }
     {
-        if !self.captures {
+        if let Part::All = self.part {
             return WantedTargets {
                 wanted: targets,
                 untold: EMPTY,
             };
         }
         let barred = barred_at_once(self.safety.p, self.safety.sets.own);
+        let of_part = self.part.of_targets(targets, self.safety.sets.enemies);
         WantedTargets {
-            wanted: targets.and(self.safety.sets.enemies).minus(barred),
+            wanted: of_part.minus(barred),
             untold: targets.and(barred),
         }
     }
@@ -219,6 +263,28 @@ impl<'a> Choice<'a> {
         let barred = self.safety.bars_shift(shift, split.wanted);
         ToldTargets {
             targets: chosen.or(barred).or(unwanted),
+            chosen,
+        }
+    }
+
+    /// Which of the drops of the kind on the targets are chosen, as far as this is told at once: none, where only
+    /// captures are wanted.
+    pub fn told_drops(&self, kind: Kind, targets: Set) -> ToldTargets
+        requires kind { kind.0 < 26 }
+        requires targets { (s : ℕ) → has targets s ≡ true → s < 120 }
+        ensures within { (s : ℕ) → has result.targets s ≡ true → has targets s ≡ true }
+        ensures chosen { Chosen.AreTargetsOfDrops (Choices.chosen_by self.now) kind result.targets result.chosen }
+    {
+        if !self.part.has_others() {
+            return ToldTargets {
+                targets,
+                chosen: EMPTY,
+            };
+        }
+        let chosen = self.safety.lets_drop(kind, targets);
+        let barred = self.safety.bars_drop(kind, targets);
+        ToldTargets {
+            targets: chosen.or(barred),
             chosen,
         }
     }

@@ -90,4 +90,18 @@ impl<'a> MoveSink for Counter<'a> {
         self.count_told(shift, told);
         self.take_each(shift, targets.minus(told.targets))
     }
+
+    /// Those are counted at once of which it is told at once whether they are chosen.
+    fn take_drops(&mut self, kind: Kind, targets: Set) -> Result<(), ()> {
+        let told = self.choice.told_drops(kind, targets);
+        self.count = self.count.saturating_add(u128::from(told.chosen.count()));
+        let mut left = targets.minus(told.targets);
+        while let Some(to) = left.take_first() {
+            self.take(Move::Drop {
+                kind,
+                to: Square(to),
+            })?;
+        }
+        Ok(())
+    }
 }

@@ -78,4 +78,18 @@ impl<'a> MoveSink for Keeper<'a> {
         }
         Ok(())
     }
+
+    /// Those are not looked at of which it is told at once whether they are chosen.
+    fn take_drops(&mut self, kind: Kind, targets: Set) -> Result<(), Memory> {
+        let told = self.choice.told_drops(kind, targets);
+        let mut left = told.worth(targets);
+        while let Some(to) = left.take_first() {
+            let m = Move::Drop {
+                kind,
+                to: Square(to),
+            };
+            self.keep(m, told.chosen.has(to))?;
+        }
+        Ok(())
+    }
 }

@@ -5,17 +5,17 @@ ghost use Rattle.rules_model.specs.Fit.{IsFit};
 ghost use Rattle.rules_model.specs.Legal.{legal};
 ghost use Rattle.rules_model.specs.Ready.{IsReady};
 ghost use Rattle.rules_model.specs.Repeats.{repeat_of};
-ghost use Rattle.board_sets.specs.Sets.{AreSets};
-ghost use Rattle.legality.specs.Chosen.{AppendsChosen, IsLegalCapture};
+ghost use Rattle.legality.specs.Chosen.{AppendsChosen};
+ghost use Rattle.legality.specs.Stance.{IsCaptureIn, IsOtherIn, legal_in};
 
 use crate::candidates::push_candidates;
-use crate::choice::Choice;
+use crate::choice::{Choice, Part};
 use crate::keeper::Keeper;
+use crate::known::Known;
 use crate::order::sort_moves;
 use crate::safety::Safety;
-use crate::search::{goes_on, only_captures};
 use attack_tables::Tables;
-use board_sets::{BoardSets, sets_of};
+use board_sets::sets_of;
 use foundation::Memory;
 use rules_model::{MoveList, Position, Rules};
 use std::alloc::Global;
@@ -38,27 +38,23 @@ fn emptied(list: &mut MoveList) -> Result<MoveList, Memory>
 }
 
 /// Appends the candidates that are chosen, each once. Without memory the list is as it was.
-fn push_chosen(
-    rules: &Rules,
-    tables: &Tables,
-    p: &Position,
-    sets: &BoardSets,
-    choice: Choice<'_>,
-    out: &mut MoveList,
-) -> Result<(), Memory>
-    requires fit { IsFit rules.now }
-    requires tables { tables.now ≡ rules.now }
-    requires sets { AreSets rules.now p.now.side p.now.cells sets.now }
-    requires by { choice.safety.tables.now ≡ rules.now }
-    requires of { choice.safety.p.now ≡ p.now }
-    ensures ok { OnOk result
-        (AppendsChosen rules.now (repeat_of p.now) choice.entry.captures out.old out.new) }
+fn push_chosen(choice: Choice<'_>, out: &mut MoveList) -> Result<(), Memory>
+    requires { IsFit choice.safety.tables.now }
+    ensures ok { OnOk result (AppendsChosen choice.entry.safety.tables.now (repeat_of choice.entry.safety.p.now)
+        choice.entry.part out.old out.new) }
     ensures err { OnErr result (out.new ≡ out.old) }
 {
+    let safety = choice.safety;
     let start = length_of(out);
     let list = emptied(out)?;
     let mut keeper = Keeper { choice, list };
-    let pushed = push_candidates(rules, tables, p, sets, &mut keeper);
+    let pushed = push_candidates(
+        safety.tables.rules(),
+        safety.tables,
+        safety.p,
+        &safety.sets,
+        &mut keeper,
+    );
     mem::swap(out, &mut keeper.list);
     match pushed {
         Ok(()) => Ok(()),
@@ -69,47 +65,59 @@ fn push_chosen(
     }
 }
 
-/// The same as `push_legal`, by the sets of the board, which the caller has.
-pub fn push_legal_with(
-    rules: &Rules,
-    tables: &Tables,
-    p: &Position,
-    sets: &BoardSets,
-    out: &mut MoveList,
-) -> Result<(), Memory>
-    requires ready { IsReady rules.now tables.now p.now }
-    requires sets { AreSets rules.now p.now.side p.now.cells sets.now }
-    ensures ok { OnOk result (Appends (λ m. Member m (legal rules.now (repeat_of p.now))) out.old out.new) }
-    ensures err { OnErr result (out.new ≡ out.old) }
-{
-    if !goes_on(rules, tables, p, sets) {
-        return Ok(());
+impl Known<'_> {
+    /// Appends the legal moves, each once and in no special order. Without memory the list is as it was.
+    pub fn push_legal(&self, out: &mut MoveList) -> Result<(), Memory>
+        ensures ok { OnOk result (Appends (λ m. Member m (legal_in self.now)) out.old out.new) }
+        ensures err { OnErr result (out.new ≡ out.old) }
+    {
+        if !self.goes_on() {
+            return Ok(());
+        }
+        let (safety, part) = (self.safety, self.legal_part());
+        push_chosen(Choice { safety, part }, out)
     }
-    let safety = Safety::of_all(rules, tables, p, sets);
-    let captures = only_captures(rules, tables, p, sets, &safety);
-    push_chosen(rules, tables, p, sets, Choice { safety, captures }, out)
-}
 
-/// Appends the legal moves that capture, each once and in no special order, by the sets of the board, which the caller
-/// has. Without memory the list is as it was.
-pub fn push_captures_with(
-    rules: &Rules,
-    tables: &Tables,
-    p: &Position,
-    sets: &BoardSets,
-    out: &mut MoveList,
-) -> Result<(), Memory>
-    requires ready { IsReady rules.now tables.now p.now }
-    requires sets { AreSets rules.now p.now.side p.now.cells sets.now }
-    ensures ok { OnOk result (Appends (IsLegalCapture rules.now (repeat_of p.now)) out.old out.new) }
-    ensures err { OnErr result (out.new ≡ out.old) }
-{
-    if !goes_on(rules, tables, p, sets) {
-        return Ok(());
+    /// Appends the legal moves that capture, each once and in no special order. Without memory the list is as it was.
+    pub fn push_captures(&self, out: &mut MoveList) -> Result<(), Memory>
+        ensures ok { OnOk result (Appends (IsCaptureIn self.now) out.old out.new) }
+        ensures err { OnErr result (out.new ≡ out.old) }
+    {
+        if !self.goes_on() {
+            return Ok(());
+        }
+        let (safety, part) = (self.safety, Part::Captures);
+        push_chosen(Choice { safety, part }, out)
     }
-    let safety = Safety::of_all(rules, tables, p, sets);
-    let captures = true;
-    push_chosen(rules, tables, p, sets, Choice { safety, captures }, out)
+
+    /// Appends the legal moves that do not capture, each once and in no special order. Without memory the list is as it
+    /// was.
+    pub fn push_others(&self, out: &mut MoveList) -> Result<(), Memory>
+        ensures ok { OnOk result (Appends (IsOtherIn self.now) out.old out.new) }
+        ensures err { OnErr result (out.new ≡ out.old) }
+    {
+        if !self.goes_on() {
+            return Ok(());
+        }
+        if self.only_captures() {
+            return Ok(());
+        }
+        let (safety, part) = (self.safety, Part::Others);
+        push_chosen(Choice { safety, part }, out)
+    }
+
+    /// The legal moves, each once and in the byte order of their texts; or `Memory`.
+    pub fn legal_moves(&self, alloc: Global) -> Result<MoveList, Memory>
+        ensures { IfOk result (λ ms. ms ≡ legal_in self.now) }
+    {
+        self.is_ready();
+        let mut moves = MoveList {
+            items: Vec::new(alloc),
+        };
+        self.push_legal(&mut moves)?;
+        sort_moves(&mut moves.items)?;
+        Ok(moves)
+    }
 }
 
 /// Appends the legal moves, each once and in no special order. Without memory the list is as it was.
@@ -124,27 +132,7 @@ pub fn push_legal(
     ensures err { OnErr result (out.new ≡ out.old) }
 {
     let sets = sets_of(rules, &p.cells, p.side);
-    push_legal_with(rules, tables, p, &sets, out)
-}
-
-/// The same as `legal_moves`, by the sets of the board, which the caller has.
-pub fn legal_moves_with(
-    alloc: Global,
-    rules: &Rules,
-    tables: &Tables,
-    p: &Position,
-    sets: &BoardSets,
-) -> Result<MoveList, Memory>
-    requires ready { IsReady rules.now tables.now p.now }
-    requires sets { AreSets rules.now p.now.side p.now.cells sets.now }
-    ensures { IfOk result (λ ms. ms ≡ legal rules.now (repeat_of p.now)) }
-{
-    let mut moves = MoveList {
-        items: Vec::new(alloc),
-    };
-    push_legal_with(rules, tables, p, sets, &mut moves)?;
-    sort_moves(&mut moves.items)?;
-    Ok(moves)
+    Known::of(rules, tables, p, &sets).push_legal(out)
 }
 
 /// The legal moves, each once and in the byte order of their texts: those of the rules of movement after which the
@@ -161,5 +149,5 @@ pub fn legal_moves(
     ensures { IfOk result (λ ms. ms ≡ legal rules.now (repeat_of p.now)) }
 {
     let sets = sets_of(rules, &p.cells, p.side);
-    legal_moves_with(alloc, rules, tables, p, &sets)
+    Known::of(rules, tables, p, &sets).legal_moves(alloc)
 }

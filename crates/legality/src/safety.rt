@@ -3,6 +3,7 @@
 ghost use Rattle.std.specs.Prelude.{◌≡◌, ℕ, ◌<◌, true, IfSome};
 ghost use Rattle.std.specs.Bool.{OnTrue};
 ghost use Rattle.square_set.specs.Members.{has, length_of, HasOrigin};
+ghost use Rattle.rules_model.specs.Kinds.{is_king};
 ghost use Rattle.rules_model.specs.Legal as Legal;
 ghost use Rattle.rules_model.specs.Moves.{IsFitMove};
 ghost use Rattle.rules_model.specs.Next as Next;
@@ -22,7 +23,7 @@ use rules_model::kinds::names;
 use rules_model::passing::{is_ep, is_stays};
 use rules_model::sizes::position_sizes;
 use rules_model::{Cells, Kind, Move, Position, Rules, Square};
-use square_set::{Set, Shift};
+use square_set::{EMPTY, Set, Shift};
 
 /// A position, with what is known of it for all its moves.
 #[derive(Clone, Copy)]
@@ -283,6 +284,45 @@ impl<'a> Safety<'a> {
         ensures { OnTrue result (Moved.MayNotGate self.now.tables.now (repeat_of self.now.p.now) from kind targets) }
     {
         self.leaves_another(from, kind) && targets.minus(self.vain.to_enter).is_empty()
+    }
+
+    /// Whether the variant asks no more of a drop than that it leaves the own king safe.
+    fn asks_only_safety_of_drops(&self) -> bool
+        ensures { result ≡ Moved.asks_only_safety_of_drops self.now.tables.now }
+    {
+        let rules = self.tables.rules();
+        !rules.immobile_bad && rules.checking && rules.drop_checks
+    }
+
+    /// Whether the kind is the king's.
+    fn is_king(&self, kind: Kind) -> bool
+        ensures { result ≡ is_king self.now.tables.now kind }
+    {
+        names(self.tables.rules().king, kind)
+    }
+
+    /// Some of the targets, as far as is told at once: a piece of the kind that is dropped on one of them makes a sane
+    /// move.
+    pub fn lets_drop(&self, kind: Kind, targets: Set) -> Set
+        ensures within { (s : ℕ) → has result s ≡ true → has targets s ≡ true }
+        ensures sane { Moved.MayDrop self.now.tables.now (repeat_of self.now.p.now) kind result }
+    {
+        if self.is_king(kind) || !self.asks_only_safety_of_drops() {
+            return EMPTY;
+        }
+        targets.and(self.free.to_enter)
+    }
+
+    /// Some of the targets, as far as is told at once: a piece of the kind that is dropped on one of them makes no sane
+    /// move.
+    pub fn bars_drop(&self, kind: Kind, targets: Set) -> Set
+        ensures within { (s : ℕ) → has result s ≡ true → has targets s ≡ true }
+        ensures sane { Moved.MayNotDrop self.now.tables.now (repeat_of self.now.p.now) kind result }
+    {
+        if self.is_king(kind) {
+            return EMPTY;
+        }
+        targets.and(self.vain.to_enter)
     }
 
     /// The cells after the move.

@@ -5,10 +5,12 @@ ghost use Rattle.rules_model.specs.Fit.{IsFit};
 ghost use Rattle.rules_model.specs.Repeats.{repeat_of};
 ghost use Rattle.board_sets.specs.Sets.{AreSets};
 ghost use Rattle.legality.specs.Chosen as Chosen;
+ghost use Rattle.legality.specs.Stance.{repeat_in};
 
-use crate::candidates::push_candidates;
-use crate::choice::Choice;
+use crate::candidates::push_pawns_first;
+use crate::choice::{Choice, Part};
 use crate::flag::has_flag;
+use crate::known::Known;
 use crate::safety::Safety;
 use crate::seek::Seeker;
 use attack_tables::Tables;
@@ -38,63 +40,68 @@ pub(crate) fn goes_on(rules: &Rules, tables: &Tables, p: &Position, sets: &Board
     }
 }
 
-/// Whether some candidate is sane and, where only captures are wanted, a capture, by what is known of the position. It
-/// stops at the first.
-fn some_goes(
-    rules: &Rules,
-    tables: &Tables,
-    p: &Position,
-    sets: &BoardSets,
-    choice: Choice<'_>,
-) -> bool
-    requires fit { IsFit rules.now }
-    requires tables { tables.now ≡ rules.now }
-    requires sets { AreSets rules.now p.now.side p.now.cells sets.now }
-    requires by { choice.safety.tables.now ≡ rules.now }
-    requires of { choice.safety.p.now ≡ p.now }
-    ensures { result ≡ Chosen.can_go rules.now (repeat_of p.now) choice.entry.captures }
+/// Whether some candidate is wanted and sane, by what is known of the position. It stops at the first.
+fn some_goes(choice: Choice<'_>) -> bool
+    requires { IsFit choice.safety.tables.now }
+    ensures { result ≡ Chosen.can_go choice.entry.safety.tables.now (repeat_of choice.entry.safety.p.now)
+        choice.entry.part }
 {
+    let safety = choice.safety;
     let mut seeker = Seeker { choice };
-    match push_candidates(rules, tables, p, sets, &mut seeker) {
+    match push_pawns_first(
+        safety.tables.rules(),
+        safety.tables,
+        safety.p,
+        &safety.sets,
+        &mut seeker,
+    ) {
         Ok(()) => false,
         Err(_) => true,
     }
 }
 
-/// Whether some candidate is sane and, where only captures are wanted, a capture. It stops at the first.
+/// Whether some candidate of the part is sane. It stops at the first.
 pub(crate) fn can_go(
     rules: &Rules,
     tables: &Tables,
     p: &Position,
     sets: &BoardSets,
-    captures: bool,
+    part: Part,
 ) -> bool
     requires fit { IsFit rules.now }
     requires tables { tables.now ≡ rules.now }
     requires sets { AreSets rules.now p.now.side p.now.cells sets.now }
-    ensures { result ≡ Chosen.can_go rules.now (repeat_of p.now) captures }
+    ensures { result ≡ Chosen.can_go rules.now (repeat_of p.now) part }
 {
     let safety = Safety::of_all(rules, tables, p, sets);
-    some_goes(rules, tables, p, sets, Choice { safety, captures })
+    some_goes(Choice { safety, part })
 }
 
-/// Whether only captures are legal: one must capture, and can.
-#[tactic(auto, unfolding(crate::specs::Chosen::only_captures))]
-pub(crate) fn only_captures(
-    rules: &Rules,
-    tables: &Tables,
-    p: &Position,
-    sets: &BoardSets,
-    safety: &Safety<'_>,
-) -> bool
-    requires fit { IsFit rules.now }
-    requires tables { tables.now ≡ rules.now }
-    requires sets { AreSets rules.now p.now.side p.now.cells sets.now }
-    requires by { safety.now.tables.now ≡ rules.now }
-    requires of { safety.now.p.now ≡ p.now }
-    ensures { result ≡ Chosen.only_captures rules.now (repeat_of p.now) }
-{
-    let captures = true;
-    let safety = *safety;
-    rules.must_capture && some_goes(rules, tables, p, sets, Choice { safety, captures })
+impl Known<'_> {
+    /// Whether some allowed move is of the part. It stops at the first.
+    pub(crate) fn can_go(&self, part: Part) -> bool
+        ensures { result ≡ Chosen.can_go self.now.rules (repeat_in self.now) part }
+    {
+        let safety = self.safety;
+        some_goes(Choice { safety, part })
+    }
+
+    /// Whether only captures are legal: one must capture, and can.
+    #[tactic(auto, unfolding(crate::specs::Chosen::only_captures))]
+    pub(crate) fn only_captures(&self) -> bool
+        ensures { result ≡ Chosen.only_captures self.now.rules (repeat_in self.now) }
+    {
+        self.safety.tables.rules().must_capture && self.can_go(Part::Captures)
+    }
+
+    /// Which of the allowed moves are legal.
+    pub(crate) fn legal_part(&self) -> Part
+        ensures { result ≡ Chosen.legal_part self.now.rules (repeat_in self.now) }
+    {
+        if self.only_captures() {
+            Part::Captures
+        } else {
+            Part::All
+        }
+    }
 }

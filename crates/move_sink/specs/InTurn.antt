@@ -33,11 +33,17 @@ Outside P square left m = P m × (has left (square m) ≡ false)
 abbrev pub go_by : Shift → Square → Move
 go_by shift to = Go (record { 0 = origin shift to.0 }) to Stays None
 
--- the moves to the squares of a set, each of the piece on the square at which it starts, which become nothing else and
--- place this there
+-- the moves to the squares of a set, each as it is made of its square
+abbrev pub MadeTo : (Square → Move) → Set → Move → Type 0
+MadeTo make targets m = (make (record { 0 = target_of m }) ≡ m) × (has targets (target_of m) ≡ true)
+
+-- the move to a square of the piece on the square at which it starts, which becomes nothing else and places this there
+abbrev pub go_from : (ℕ → Square) → Option Kind → Square → Move
+go_from start gate to = Go (start to.0) to Stays gate
+
+-- those to the squares of a set
 abbrev pub GoesFrom : (ℕ → Square) → Option Kind → Set → Move → Type 0
-GoesFrom start gate targets m =
-    (Go (start (target_of m)) (record { 0 = target_of m }) Stays gate ≡ m) × (has targets (target_of m) ≡ true)
+GoesFrom start gate = MadeTo (go_from start gate)
 
 -- the moves of the piece on a square to the squares of a set
 abbrev pub GoesTo : Square → Option Kind → Set → Move → Type 0
@@ -46,3 +52,7 @@ GoesTo from gate = GoesFrom (λ to. from) gate
 -- the moves by a shift to the squares of a set, which place nothing
 abbrev pub GoesBy : Shift → Set → Move → Type 0
 GoesBy shift = GoesFrom (λ to. record { 0 = origin shift to }) None
+
+-- the drops of a kind on the squares of a set
+abbrev pub DropsOf : Kind → Set → Move → Type 0
+DropsOf kind = MadeTo (Drop kind)

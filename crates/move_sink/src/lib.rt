@@ -4,7 +4,7 @@
 ghost use Rattle.std.specs.Prelude.{◌≡◌, ◌<◌, ℕ, true, List, [], ◌∷◌, ◌++◌, OnOk, OnErr};
 ghost use Rattle.rules_model.specs.declared.moves.Move.{Move};
 ghost use Rattle.square_set.specs.Members.{has, length_of, HasOrigin, OnSquares};
-ghost use Rattle.move_sink.specs.InTurn.{GoesTo, GoesBy};
+ghost use Rattle.move_sink.specs.InTurn.{DropsOf, GoesTo, GoesBy};
 ghost use Rattle.move_sink.specs.Taking.{IsChosen, IsSink, TakesAll, TakesSome};
 ghost use Rattle.move_sink.specs.Listed.{list_is_sink};
 
@@ -65,6 +65,24 @@ pub trait MoveSink {
                 to: Square(to),
                 promo: Promo::Stays,
                 gate: None,
+            })?;
+        }
+        Ok(())
+    }
+
+    /// Gives it the drops of the kind on each of these squares. A sink that need not see each of them may do better
+    /// than to take them one by one.
+    fn take_drops(&mut self, kind: Kind, targets: Set) -> Result<(), Self::Full>
+        requires kind { kind.0 < 26 }
+        requires targets { OnSquares targets }
+        ensures ok { OnOk result (TakesAll takes (DropsOf kind targets) self.old self.new) }
+        ensures err { OnErr result (TakesSome stops (DropsOf kind targets) self.old self.new) }
+    {
+        let mut left = targets;
+        while let Some(to) = left.take_first() {
+            self.take(Move::Drop {
+                kind,
+                to: Square(to),
             })?;
         }
         Ok(())

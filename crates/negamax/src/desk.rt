@@ -115,12 +115,13 @@ impl<'h> Desk<'h> {
         ensures listed { OnOk result (Lists (λ m. Member m (captures_in board.now)) self.new.listed) }
         ensures waiting { OnOk result (self.new.waiting.items ≡ self.old.waiting.items) }
     {
+        let known = board.known();
         self.listed.items.clear();
-        board.push_captures(&mut self.listed)?;
+        known.push_captures(&mut self.listed)?;
         if has_moves(&self.listed) {
             return Ok(true);
         }
-        Ok(board.any_legal())
+        Ok(known.any_legal())
     }
 
     /// Has all legal captures wait, and tells whether any move is legal.

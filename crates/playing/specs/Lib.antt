@@ -1,1 +1,1 @@
-pub mod Stance
+pub mod Boards

@@ -11,7 +11,7 @@ ghost use Rattle.legality.specs.Stance as Stance;
 
 use attack_tables::Tables;
 use board_sets::{BoardSets, sets_of};
-use legality::apply_with;
+use legality::{Known, apply_with};
 use position_key::BoardKey;
 use rules_model::{Move, Position, Rules, repeats};
 use std::marker::Model;
@@ -27,7 +27,8 @@ pub struct Board<'t> {
 }
 
 impl<'t> Model for Board<'t> {
-    ghost use Rattle.legality.specs.Stance.{Stance, IsBoard};
+    ghost use Rattle.legality.specs.Stance.{Stance};
+    ghost use Rattle.playing.specs.Boards.{IsBoard};
 
     ghost Value = { Stance };
 
@@ -73,6 +74,13 @@ impl<'t> Board<'t> {
         ensures { IsReady self.now.rules self.now.rules self.now.position }
     {
         let _side = self.position.side;
+    }
+
+    /// What is known of the position for all that is asked of its moves: made once where more than one is asked.
+    pub fn known(&self) -> Known<'_>
+        ensures { result ≡ self.now }
+    {
+        Known::of(self.tables.rules(), self.tables, &self.position, &self.sets)
     }
 
     /// The rules that are played.

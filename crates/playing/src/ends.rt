@@ -7,7 +7,7 @@ ghost use Rattle.rules_model.specs.Legal as Legal;
 ghost use Rattle.legality.specs.Stance as Stance;
 
 use crate::board::Board;
-use legality::{early_end_with, end_where, gives_check_with, king_attacked_with, own_end_with};
+use legality::{early_end_with, end_where, gives_check_with, king_attacked_with};
 use rules_model::{Move, Outcome};
 
 impl Board<'_> {
@@ -41,8 +41,7 @@ impl Board<'_> {
     pub fn own_end(&self) -> Outcome
         ensures { result ≡ Legal.own_end self.now.rules (Stance.repeat_in self.now) }
     {
-        let rules = self.tables.rules();
-        own_end_with(rules, self.tables, &self.position, &self.sets)
+        self.known().own_end()
     }
 
     /// The same, for a caller who knows whether some move is legal.

@@ -7,10 +7,7 @@ ghost use Rattle.rules_model.specs.Next as Next;
 ghost use Rattle.legality.specs.Stance as Stance;
 
 use crate::board::Board;
-use legality::{
-    any_legal_with, captures, count_legal_with, is_legal_with, legal_moves_with,
-    push_captures_with, push_legal_with,
-};
+use legality::{captures, is_legal_with};
 use rules_model::{Memory, Move, MoveList};
 use std::alloc::Global;
 
@@ -28,16 +25,14 @@ impl Board<'_> {
     pub fn any_legal(&self) -> bool
         ensures { result ≡ not (Legal.is_stuck self.now.rules (Stance.repeat_in self.now)) }
     {
-        let rules = self.tables.rules();
-        any_legal_with(rules, self.tables, &self.position, &self.sets)
+        self.known().any_legal()
     }
 
     /// How many legal moves there are, up to 2^128 - 1. No memory is taken.
     pub fn count_legal(&self) -> u128
         ensures { result ≡ min (length (Stance.legal_in self.now)) (2 ^ 128 - 1) }
     {
-        let rules = self.tables.rules();
-        count_legal_with(rules, self.tables, &self.position, &self.sets)
+        self.known().count_legal()
     }
 
     /// Appends the legal moves, each once and in no special order. Without memory the list is as it was.
@@ -45,8 +40,7 @@ impl Board<'_> {
         ensures ok { OnOk result (Appends (λ m. Member m (Stance.legal_in self.now)) out.old out.new) }
         ensures err { OnErr result (out.new ≡ out.old) }
     {
-        let rules = self.tables.rules();
-        push_legal_with(rules, self.tables, &self.position, &self.sets, out)
+        self.known().push_legal(out)
     }
 
     /// Appends the legal moves that capture, each once and in no special order. Without memory the list is as it was.
@@ -54,16 +48,23 @@ impl Board<'_> {
         ensures ok { OnOk result (Appends (Stance.IsCaptureIn self.now) out.old out.new) }
         ensures err { OnErr result (out.new ≡ out.old) }
     {
-        let rules = self.tables.rules();
-        push_captures_with(rules, self.tables, &self.position, &self.sets, out)
+        self.known().push_captures(out)
+    }
+
+    /// Appends the legal moves that do not capture, each once and in no special order. Without memory the list is as it
+    /// was.
+    pub fn push_others(&self, out: &mut MoveList) -> Result<(), Memory>
+        ensures ok { OnOk result (Appends (Stance.IsOtherIn self.now) out.old out.new) }
+        ensures err { OnErr result (out.new ≡ out.old) }
+    {
+        self.known().push_others(out)
     }
 
     /// The legal moves, each once and in the byte order of their texts, or `Memory`.
     pub fn legal_moves(&self, alloc: Global) -> Result<MoveList, Memory>
         ensures { IfOk result (λ ms. ms ≡ Stance.legal_in self.now) }
     {
-        let rules = self.tables.rules();
-        legal_moves_with(alloc, rules, self.tables, &self.position, &self.sets)
+        self.known().legal_moves(alloc)
     }
 
     /// Whether the legal move captures. En passant is a capture.

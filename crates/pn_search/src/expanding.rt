@@ -14,10 +14,9 @@ use crate::node::{Node, State};
 use crate::numbers::{OPEN, Pair};
 use attack_tables::Tables;
 use end_rules::is_run_out;
-use legality::own_end;
+use legality::{Known, own_end};
 use mate_core::Frame;
 use mate_fact::{end_of, won_by};
-use playing::Board;
 use rules_model::{Memory, Move, Position};
 use std::alloc::Global;
 
@@ -43,14 +42,15 @@ pub fn root_end(frame: &Frame, tables: &Tables, p: &Position) -> Option<bool>
 }
 
 // How the leaf's position is ended. The root's is ongoing, and its repeat is not looked up.
-fn end_at(frame: &Frame, leaf: &Leaf) -> Option<bool>
+fn end_at(frame: &Frame, leaf: &Leaf, known: &Known) -> Option<bool>
     requires rules { leaf.now.board.rules ≡ frame.now.rules }
+    requires known { known.now ≡ leaf.now.board }
     requires root { leaf.now.place ≡ 0 → Trees.end_at frame.now 0 leaf.now.board.position ≡ None }
     ensures { result ≡ Trees.end_at frame.now leaf.now.place leaf.now.board.position }
 {
     match leaf.place {
         0 => None,
-        _ => end_of(frame, leaf.board.position(), leaf.board.own_end()),
+        _ => end_of(frame, leaf.board.position(), known.own_end()),
     }
 }
 
@@ -107,15 +107,21 @@ fn push_children(
 }
 
 // The legal moves in the order of the list.
-fn legal_list(alloc: Global, board: &Board) -> Result<Vec<Move>, Memory>
-    ensures { IfOk result (λ ms. ms.items ≡ legal_in board.now) }
+fn legal_list(alloc: Global, known: &Known) -> Result<Vec<Move>, Memory>
+    ensures { IfOk result (λ ms. ms.items ≡ legal_in known.now) }
 {
-    let moves = board.legal_moves(alloc)?;
+    let moves = known.legal_moves(alloc)?;
     Ok(moves.items)
 }
 
 // Makes the children of the leaf. Without memory the nodes and the pairs are as before.
-fn open(leaf: &Leaf, nodes: &mut Vec<Node>, pairs: &mut Vec<Pair>) -> Result<(), Memory>
+fn open(
+    leaf: &Leaf,
+    known: &Known,
+    nodes: &mut Vec<Node>,
+    pairs: &mut Vec<Pair>,
+) -> Result<(), Memory>
+    requires known { known.now ≡ leaf.now.board }
     requires within { leaf.now.place < length nodes.old.items }
     requires len { length pairs.old.items ≡ length nodes.old.items }
     requires few { length nodes.old.items < 2 ^ 32 }
@@ -130,7 +136,7 @@ fn open(leaf: &Leaf, nodes: &mut Vec<Node>, pairs: &mut Vec<Pair>) -> Result<(),
     ensures same_nodes { OnErr result (nodes.new.items ≡ nodes.old.items) }
     ensures same_pairs { OnErr result (pairs.new.items ≡ pairs.old.items) }
 {
-    let moves = legal_list(*nodes.allocator(), &leaf.board)?;
+    let moves = legal_list(*nodes.allocator(), known)?;
     let first = nodes.len();
     let count = moves.len();
     if count > MOST_NODES - first {
@@ -178,10 +184,11 @@ pub(crate) fn expand(
     ensures same_pairs { OnErr result (pairs.new.items ≡ pairs.old.items) }
 {
     let node = nodes[leaf.place];
-    if let Some(state) = state_by(end_at(frame, leaf), &node) {
+    let known = leaf.board.known();
+    if let Some(state) = state_by(end_at(frame, leaf, &known), &node) {
         nodes[leaf.place].state = state;
         return Ok(());
     }
-    open(leaf, nodes, pairs)?;
+    open(leaf, &known, nodes, pairs)?;
     Ok(())
 }

@@ -16,7 +16,7 @@ use Rattle.rules_model.specs.Drops.{bars_pawn, drops_to, is_doubled}
 use Rattle.rules_model.specs.Gating.{castle_gates, gates_from}
 use Rattle.rules_model.specs.Gates.{has_gate}
 use Rattle.rules_model.specs.Hands.{holds}
-use Rattle.rules_model.specs.Kinds.{is_pawn}
+use Rattle.rules_model.specs.Kinds.{is_pawn, names}
 use Rattle.rules_model.specs.Moves.{IsFitMove}
 use Rattle.rules_model.specs.Regions.{first_rank, in_region}
 use Rattle.rules_model.specs.Squares.{cell_at, square_on}
@@ -106,6 +106,14 @@ AreDropSquares rules r squares = (s : ℕ) → has squares s ≡ is_drop_square 
 abbrev pub suits : Rules → Repeat → Kind → ℕ → Bool
 suits rules r kind to =
     not (is_pawn rules kind && bars_pawn rules r.side to) && not (is_doubled rules r.cells r.side kind to)
+
+-- such a piece suits each square: it is no pawn, and may be doubled
+abbrev pub suits_anywhere : Rules → Kind → Bool
+suits_anywhere rules kind = not (is_pawn rules kind) && not (names rules.no_doubled kind)
+
+-- the set has those of the squares that suit it
+abbrev pub AreSuited : Rules → Repeat → Kind → Set → Set → Type 0
+AreSuited rules r kind squares those = (s : ℕ) → has those s ≡ (has squares s && suits rules r kind s)
 
 -- the drop of a hand piece of the kind on the square
 abbrev pub IsDropOn : Rules → Repeat → Kind → ℕ → Move → Type 0

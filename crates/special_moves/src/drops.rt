@@ -12,9 +12,9 @@ ghost use Rattle.special_moves.specs.Parts.{IsDrop, IsDropOf};
 
 use attack_tables::Tables;
 use board_sets::BoardSets;
-use move_sink::{MoveSink, push_if};
+use move_sink::MoveSink;
 use rules_model::kinds::{first_rank, in_hand, in_region, names};
-use rules_model::{Cells, KINDS, Kind, Move, Position, RANKS, Rules, Side, Square};
+use rules_model::{Cells, KINDS, Kind, Position, RANKS, Rules, Side, Square};
 use square_set::Set;
 
 /// Where a pawn is not dropped.
@@ -104,6 +104,31 @@ fn drop_squares(tables: &Tables, p: &Position, sets: &BoardSets) -> Set
     tables.drop_region(p.side).minus(sets.occupied())
 }
 
+/// Whether a piece of the kind suits each square: it is no pawn, and may be doubled.
+fn suits_anywhere(rules: &Rules, kind: Kind) -> bool
+    ensures { result ≡ Parts.suits_anywhere rules.now kind }
+{
+    !names(rules.pawn, kind) && !names(rules.no_doubled, kind)
+}
+
+/// Those of the squares on which a piece of the kind may stand once it was dropped there.
+fn suited_squares(rules: &Rules, p: &Position, squares: Set, kind: Kind) -> Set
+    requires { IsFit rules.now }
+    ensures { Parts.AreSuited rules.now (repeat_of p.now) kind squares result }
+{
+    if suits_anywhere(rules, kind) {
+        return squares;
+    }
+    let mut suited = squares;
+    let mut left = squares;
+    while let Some(to) = left.take_first() {
+        if !suits(rules, p, kind, Square(to)) {
+            suited = suited.without(to);
+        }
+    }
+    suited
+}
+
 /// Gives the drops of a kind, of which a piece is in hand, on these squares.
 fn push_kind<S: MoveSink>(
     rules: &Rules,
@@ -114,16 +139,12 @@ fn push_kind<S: MoveSink>(
 ) -> Result<(), S::Full>
     requires fit { IsFit rules.now }
     requires squares { Parts.AreDropSquares rules.now (repeat_of p.now) squares }
+    requires kind { kind.0 < 26 }
     requires held { Parts.has_drops rules.now (repeat_of p.now) kind ≡ true }
     ensures ok { OnOk result (TakesAll S.takes (IsDropOf rules.now (repeat_of p.now) kind.0) out.old out.new) }
     ensures err { OnErr result (TakesSome S.stops (IsDropOf rules.now (repeat_of p.now) kind.0) out.old out.new) }
 {
-    let mut left = squares;
-    while let Some(to) = left.take_first() {
-        let to = Square(to);
-        push_if(suits(rules, p, kind, to), Move::Drop { kind, to }, out)?;
-    }
-    Ok(())
+    out.take_drops(kind, suited_squares(rules, p, squares, kind))
 }
 
 /// Gives the drops.

@@ -26,7 +26,7 @@ loop-i-preserved t c =
     elim c.if-plies-eq2.branch [
       | then-plies-eq2 w ↦
           let one : c.args.plies - 1 ≡ 1 = let two = w.if-plies-eq2.true in omega (arith, two) in
-          (w.moves-is, w.lines-is ∙ perft-last rules (c.args.plies - 1) _ _ _ (2 ^ 128 - 1) one c.apply_with-next_sets.ensures.next w.count_legal_with-lines.ensures)
+          (w.moves-is, w.lines-is ∙ perft-last rules (c.args.plies - 1) _ _ _ (2 ^ 128 - 1) one c.apply_with-next_sets.ensures.next w.count_moves-lines.ensures)
       | else-plies-eq2+in_ok-lines w ↦ (
         w.moves-is ∙ w.in_ok-lines.ensures.kept,
         w.lines-is ∙ w.in_ok-lines.ensures.count ∙ ap (λ q. min (perft rules (c.args.plies - 1) q) (2 ^ 128 - 1)) c.apply_with-next_sets.ensures.next,

@@ -1,12 +1,19 @@
-use Rattle.std.proofs.Common.{ap, sym, ◌∙◌}
+use Rattle.std.proofs.Common.{ap, refl, sym, ◌∙◌}
 use Rattle.rules_model.specs.Repeats.{repeat_of}
+use Rattle.legality.specs.Chosen.{can_go}
 use Rattle.legality.proofs.ListLaws.{made_found, made_goes}
 use Rattle.legality.proofs.search.some_goes.Goals as goal
 
 pub returns-in-Ok : goal.returns-in-Ok
 returns-in-Ok c =
-    let all = c.in-Ok.ensures.ok in sym all.taken.1 ∙ made_found _ _ _ _ c.requires.by (ap repeat_of c.requires.of) c.args.choice.captures all.moves all.each
+    let all = c.in-Ok.ensures.ok in
+    let part = c.args.choice.part in
+    sym all.taken.1 ∙ made_found _ _ _ _ (sym c.rules.ensures.is) refl part all.moves all.each
+    ∙ ap (λ rules. can_go rules (repeat_of c.args.choice.safety.p.now) part) c.rules.ensures.is
 
 pub returns-in-Err : goal.returns-in-Err
 returns-in-Err c =
-    let some = c.in-Err.ensures.err in sym (made_goes _ _ _ _ c.requires.by (ap repeat_of c.requires.of) c.args.choice.captures some.moves some.sound some.taken.1)
+    let some = c.in-Err.ensures.err in
+    let part = c.args.choice.part in
+    sym (made_goes _ _ _ _ (sym c.rules.ensures.is) refl part some.moves some.sound some.taken.1)
+    ∙ ap (λ rules. can_go rules (repeat_of c.args.choice.safety.p.now) part) c.rules.ensures.is

@@ -1,15 +1,10 @@
 use Rattle.std.proofs.Common.{subst}
 use Rattle.std.specs.Prelude.{OnOk}
 use Rattle.foundation.specs.Member.{Appends, Member}
-use Rattle.rules_model.specs.declared.rules.Rules.{Rules}
-use Rattle.rules_model.specs.Legal.{legal}
-use Rattle.rules_model.specs.Repeats.{repeat_of}
 use Rattle.legality.specs.Stance.{Stance, legal_in}
 use Rattle.playing.proofs.board.Board.push_legal.Goals as goal
 
 pub returns-clause-ok : goal.returns-clause-ok
 returns-clause-ok c =
-    let ByRules : Rules → Type 0 =
-    λ rules. OnOk c.push_legal_with.result (Appends (λ m. Member m (legal rules (repeat_of c.self.inside.position))) c.args.out.now c.push_legal_with.new.out) in
-    let At : Stance → Type 0 = λ stance. OnOk c.push_legal_with.result (Appends (λ m. Member m (legal_in stance)) c.args.out.now c.push_legal_with.new.out) in
-    subst At c.self.view_is (subst ByRules c.rules-rules.ensures.is c.push_legal_with.ensures.ok)
+    let At : Stance → Type 0 = λ s. OnOk c.push_legal.result (Appends (λ m. Member m (legal_in s)) c.args.out.now c.push_legal.new.out) in
+    subst At c.known.ensures c.push_legal.ensures.ok

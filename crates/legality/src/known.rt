@@ -1,0 +1,71 @@
+//! A position with what is known of it for all that is asked of its moves.
+ghost use Rattle.std.specs.Prelude.{◌≡◌};
+ghost use Rattle.rules_model.specs.Ends as Ends;
+ghost use Rattle.rules_model.specs.Ready.{IsReady};
+ghost use Rattle.board_sets.specs.Sets.{AreSets};
+ghost use Rattle.legality.specs.Stance.{repeat_in};
+
+use crate::safety::Safety;
+use crate::search::early_end_with;
+use attack_tables::Tables;
+use board_sets::BoardSets;
+use rules_model::{Outcome, Position, Rules};
+use std::marker::Model;
+
+/// A position with what is known of it for all that is asked of its moves: how it is ended before they are looked at,
+/// and from which squares and to which its pieces may go, or go in vain, without a look at the board. It is made once,
+/// and every answer costs less by it. Contracts see the rules and the position.
+#[derive(Drop)]
+pub struct Known<'a> {
+    pub(crate) early: Outcome,
+    pub(crate) safety: Safety<'a>,
+}
+
+impl<'a> Model for Known<'a> {
+    ghost use Rattle.legality.specs.Stance.{Stance, IsKnown};
+
+    ghost Value = { Stance };
+
+    ghost view = { λ k. record { rules = k.safety.tables.now; position = k.safety.p.now } };
+
+    ghost invariant = { λ k. IsKnown k.safety.tables.now k.safety.p.now k.early };
+}
+
+impl<'a> Known<'a> {
+    /// What is known of the position, by the sets of its board.
+    pub fn of(rules: &Rules, tables: &'a Tables, p: &'a Position, sets: &BoardSets) -> Known<'a>
+        requires ready { IsReady rules.now tables.now p.now }
+        requires sets { AreSets rules.now p.now.side p.now.cells sets.now }
+        ensures { result ≡ record { rules = rules.now; position = p.now } }
+    {
+        Known {
+            early: early_end_with(rules, tables, p, sets),
+            safety: Safety::of_all(rules, tables, p, sets),
+        }
+    }
+
+    /// The rules fit, and the position is sound by them. Nothing is done: the call tells a proof.
+    pub(crate) fn is_ready(&self)
+        ensures { IsReady self.now.rules self.now.rules self.now.position }
+    {
+        let _early = self.early;
+    }
+
+    /// The end before its moves are looked at: flag, checks or extinction; `Outcome::Ongoing` where there is none.
+    pub fn early_end(&self) -> Outcome
+        ensures { result ≡ Ends.early_end self.now.rules (repeat_in self.now) }
+    {
+        self.early
+    }
+
+    /// Whether there is no early end.
+    pub(crate) fn goes_on(&self) -> bool
+        ensures { result ≡ Ends.is_ongoing (Ends.early_end self.now.rules (repeat_in self.now)) }
+    {
+        match self.early {
+            Outcome::Ongoing => true,
+            Outcome::Won(_, _) => false,
+            Outcome::Drawn(_) => false,
+        }
+    }
+}
