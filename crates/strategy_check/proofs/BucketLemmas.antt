@@ -13,7 +13,7 @@ use Rattle.rules_model.specs.declared.board.Position.{Position}
 use Rattle.rules_model.specs.declared.board.Repeat.{Repeat}
 use Rattle.rules_model.specs.Repeats.{repeat_of}
 use Rattle.rules_model.proofs.EqualLaws.{repeat-decides}
-use Rattle.mate_core.specs.Hash.{hash_of}
+use Rattle.position_key.specs.Key as Keys
 use Rattle.forced_wins.proofs.Counts.{by_cases, eq_to, eq_from, true_false, not_true}
 use Rattle.strategy.specs.declared.nodes.Node.{Node}
 use Rattle.strategy_check.specs.declared.places.Key.{Key}
@@ -154,8 +154,8 @@ module _ (key : Key) (s : List Node) where
 
 -- nodes of one repeat and one counter have one key
 twin-key : (key : Key) (p q : Position) → repeat_of p ≡ repeat_of q → p.counter ≡ q.counter → key_of key p ≡ key_of key q
-twin-key by.Repeat p q r c = ap hash_of r
-twin-key by.Counter p q r c = λ i. (hash_of (r i) + c i) % 2 ^ 64
+twin-key by.Repeat p q r c = ap Keys.key_of r
+twin-key by.Counter p q r c = λ i. (Keys.key_of (r i) + c i) % 2 ^ 64
 
 is-repeat : (r : Repeat) (v : Node) → has_repeat r v ≡ true → repeat_of v.position ≡ r
 is-repeat r v h = (repeat-decides (repeat_of v.position) r).0 h
@@ -188,6 +188,6 @@ pub count-found : (key : Key) (s : List Node) (bs : List (List ℕ)) (p : Positi
 count-found by.Counter s bs p is index = absurd (cc)
 count-found by.Repeat s bs p is index =
     ap (count_by (at s (has_repeat (repeat_of p)))) (bucket-is by.Repeat s bs index p)
-    ∙ count-bucket s (falls_into by.Repeat (length bs) (hash_of (repeat_of p) % length bs)) (has_repeat (repeat_of p))
-    (λ v h. falls by.Repeat s bs index p v (ap hash_of (is-repeat (repeat_of p) v h))) (length s) (omega arith)
+    ∙ count-bucket s (falls_into by.Repeat (length bs) (Keys.key_of (repeat_of p) % length bs)) (has_repeat (repeat_of p))
+    (λ v h. falls by.Repeat s bs index p v (ap Keys.key_of (is-repeat (repeat_of p) v h))) (length s) (omega arith)
     ∙ ap (count_by (has_repeat (repeat_of p))) (take_all (length s) s (omega arith))

@@ -6,8 +6,8 @@ use Rattle.rules_model.specs.declared.board.Position.{Position}
 use Rattle.rules_model.specs.declared.board.Repeat.{Repeat}
 use Rattle.rules_model.specs.Games.{same_repeat}
 use Rattle.rules_model.specs.Repeats.{repeat_of}
+use Rattle.position_key.specs.Key as Keys
 use Rattle.forced_wins.specs.Tables.{leads}
-use Rattle.mate_core.specs.Hash.{hash_of}
 use Rattle.strategy.specs.declared.nodes.Node.{Node}
 use Rattle.strategy_check.specs.declared.places.Key as places
 use Rattle.strategy_check.specs.declared.places.Key.TheVariants as by
@@ -24,10 +24,10 @@ is_twin p v = has_repeat (repeat_of p) v && (v.position.counter == p.counter)
 
 -- ---- keys
 
--- a number of the position: of its repeat, or of this and its counter, which makes the number as much greater
+-- a number of the position: the key of its repeat, or this and as much more as its counter
 abbrev pub key_of : places.Key → Position → ℕ
-key_of by.Repeat p = hash_of (repeat_of p)
-key_of by.Counter p = (hash_of (repeat_of p) + p.counter) % 2 ^ 64
+key_of by.Repeat p = Keys.key_of (repeat_of p)
+key_of by.Counter p = (Keys.key_of (repeat_of p) + p.counter) % 2 ^ 64
 
 -- the key where this many repetitions end the game, 0 for none
 abbrev pub key_for : ℕ → places.Key

@@ -2,11 +2,12 @@
 ghost use Rattle.std.specs.Prelude.{◌≡◌, ◌≤◌, ◌<◌, ◌%◌, ◌&&◌, [], length, take, IfOk, OnOk, count_by, replicate, nat_lt};
 ghost use Rattle.std.specs.List.{list_any};
 ghost use Rattle.rules_model.specs.Repeats as Repeats;
+ghost use Rattle.position_key.specs.Key as Keys;
 ghost use Rattle.strategy_check.specs.Buckets.{at, has_repeat, is_twin, found, key_for, key_of, put, IsIndex};
-ghost use Rattle.strategy_check.specs.declared.places.Key.TheVariants as key;
+ghost use Rattle.strategy_check.specs.declared.places.Key.TheVariants as by;
 
-use mate_core::hash_of;
-use rules_model::{Memory, Position, repeat_of, repeats};
+use position_key::key_of;
+use rules_model::{Memory, Position, repeats};
 use std::alloc::{AllocError, Global};
 use std::marker::Model;
 use strategy::Node;
@@ -30,24 +31,25 @@ impl Key {
         if fold == 0 { Key::Counter } else { Key::Repeat }
     }
 
-    /// A number that is the same for positions that are to be found together.
-    fn of(self, p: &Position) -> u64
+    /// A number that is the same for positions that are to be found together, from the key of the position's repeat.
+    fn of(self, p: &Position, key: u64) -> u64
+        requires key { key ≡ Keys.key_of (Repeats.repeat_of p.now) }
         ensures { result ≡ key_of self p.now }
     {
-        let hash = hash_of(&repeat_of(p));
         match self {
-            Key::Repeat => hash,
-            Key::Counter => hash.wrapping_add(u64::from(p.counter)),
+            Key::Repeat => key,
+            Key::Counter => key.wrapping_add(u64::from(p.counter)),
         }
     }
 
-    /// The bucket of the position, among so many.
-    fn bucket(self, p: &Position, size: usize) -> usize
+    /// The bucket of the position, whose repeat has this key, among so many.
+    fn bucket(self, p: &Position, key: u64, size: usize) -> usize
+        requires key { key ≡ Keys.key_of (Repeats.repeat_of p.now) }
         requires some { 0 < size }
         ensures is { result ≡ key_of self p.now % size }
         ensures below { result < size }
     {
-        (self.of(p) % size as u64) as usize
+        (self.of(p, key) % size as u64) as usize
     }
 }
 
@@ -147,36 +149,39 @@ impl Places {
         ensures key { self.new.by ≡ self.old.by }
         ensures put { OnOk result (self.new.buckets.items ≡ put self.old.buckets.items place (key_of self.old.by p.now)) }
     {
-        let b = self.by.bucket(p, self.buckets.len());
+        let b = self.by.bucket(p, key_of(p), self.buckets.len());
         self.buckets[b].places.push(place)?;
         Ok(())
     }
 
-    /// The places of the bucket of the position.
-    fn bucket(&self, p: &Position) -> &[usize]
+    /// The places of the bucket of the position, whose repeat has this key.
+    fn bucket(&self, p: &Position, key: u64) -> &[usize]
+        requires key { key ≡ Keys.key_of (Repeats.repeat_of p.now) }
         requires some { 0 < length self.now.buckets.items }
         ensures { result.now ≡ found self.now.buckets.items (key_of self.now.by p.now) }
     {
-        self.buckets[self.by.bucket(p, self.buckets.len())]
+        self.buckets[self.by.bucket(p, key, self.buckets.len())]
             .places
             .as_slice()
     }
 
-    /// How many of the nodes, which are found by their repeats, have the repeat of the position.
-    pub fn count(&self, nodes: &[Node], p: &Position) -> usize
-        requires key { self.now.by ≡ key.Repeat }
+    /// How many of the nodes, which are found by their repeats, have the repeat of the position, whose key this is.
+    pub fn count(&self, nodes: &[Node], p: &Position, key: u64) -> usize
+        requires by { self.now.by ≡ by.Repeat }
+        requires key { key ≡ Keys.key_of (Repeats.repeat_of p.now) }
         requires index { IsIndex self.now.by nodes.now self.now.buckets.items }
         ensures { result ≡ count_by (has_repeat (Repeats.repeat_of p.now)) nodes.now }
     {
-        count_at(self.bucket(p), nodes, p)
+        count_at(self.bucket(p, key), nodes, p)
     }
 
-    /// Whether one of the first nodes has the repeat and the counter of the position.
-    pub fn has_twin(&self, nodes: &[Node], first: usize, p: &Position) -> bool
+    /// Whether one of the first nodes has the repeat, whose key this is, and the counter of the position.
+    pub fn has_twin(&self, nodes: &[Node], first: usize, p: &Position, key: u64) -> bool
+        requires key { key ≡ Keys.key_of (Repeats.repeat_of p.now) }
         requires index { IsIndex self.now.by nodes.now self.now.buckets.items }
         requires there { first ≤ length nodes.now }
         ensures { result ≡ list_any (is_twin p.now) (take first nodes.now) }
     {
-        has_twin_at(self.bucket(p), nodes, first, p)
+        has_twin_at(self.bucket(p, key), nodes, first, p)
     }
 }

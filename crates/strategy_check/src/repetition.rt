@@ -1,9 +1,12 @@
 //! Nodes that stand again, or so often that the game could end by repetition.
 ghost use Rattle.std.specs.Prelude.{◌≡◌, ◌<◌, length};
+ghost use Rattle.rules_model.specs.Repeats.{repeat_of};
+ghost use Rattle.position_key.specs.Key.{key_of};
 ghost use Rattle.strategy_check.specs.AtTable as At;
 
 use crate::places::Places;
 use crate::table::Table;
+use position_key::key_of;
 use rules_model::repeats;
 use strategy::Node;
 
@@ -18,9 +21,11 @@ impl Table<'_> {
         }
     }
 
-    /// Whether the node's repeat stands as often in the game and among the nodes as the repetition rule says.
+    /// Whether the node's repeat, whose key this is, stands as often in the game and among the nodes as the repetition
+    /// rule says.
     #[tactic(auto, unfolding(forced_wins::specs::Games::times, rules_model::specs::Games::times, forced_wins::specs::Tables::nodes_of))]
-    fn stands_often(&self, places: &Places, v: &Node) -> bool
+    fn stands_often(&self, places: &Places, v: &Node, key: u64) -> bool
+        requires key { key ≡ key_of (repeat_of v.now.position) }
         requires index { At.IsIndex self.now places.now }
         ensures { result ≡ At.stands_often self.now v.now }
     {
@@ -28,8 +33,8 @@ impl Table<'_> {
         if fold == 0 {
             return false;
         }
-        let played = self.game.repeats(&v.position);
-        let standings = places.count(self.nodes, &v.position);
+        let played = self.game.repeats_by_key(&v.position, key);
+        let standings = places.count(self.nodes, &v.position, key);
         u64::from(played) + standings as u64 >= u64::from(fold)
     }
 
@@ -41,7 +46,8 @@ impl Table<'_> {
         requires there { i < length self.now.nodes.now }
         ensures { result ≡ At.repeats self.now i v.now }
     {
-        places.has_twin(self.nodes, i, &v.position)
-            || (i > 0 && (self.is_root_again(v) || self.stands_often(places, v)))
+        let key = key_of(&v.position);
+        places.has_twin(self.nodes, i, &v.position, key)
+            || (i > 0 && (self.is_root_again(v) || self.stands_often(places, v, key)))
     }
 }

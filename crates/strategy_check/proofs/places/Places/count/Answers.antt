@@ -8,4 +8,4 @@ pub returns : goal.returns
 returns c =
     c.count_at.ensures
     ∙ ap (count_by (at c.args.nodes.now (has_repeat (repeat_of c.args.p.now)))) c.bucket.ensures
-    ∙ count-found c.args.self.now.by c.args.nodes.now c.args.self.now.buckets.items c.args.p.now c.requires.key c.requires.index
+    ∙ count-found c.args.self.now.by c.args.nodes.now c.args.self.now.buckets.items c.args.p.now c.requires.by c.requires.index
