@@ -1,17 +1,20 @@
-//! Prints how many positions a second have their legal moves listed and one of them played, and how many have them
-//! counted too, for a few variants. Without a word it prints nothing.
+//! Prints what each question that a search asks of a position costs: nanoseconds for a position of a random walk, for a
+//! few variants. With the name of a question it is asked along a walk in chess, and nothing else is done, so that
+//! instructions can be counted. Without a word it prints nothing.
 #![tactic(auto)]
 
 ghost use Rattle.std.specs.Prelude.{◌≡◌, true};
 ghost use Rattle.rules_model.specs.Fit.{IsFit};
-ghost use Rattle.rules_model.specs.Legal.{legal};
-ghost use Rattle.rules_model.specs.Repeats.{repeat_of};
 ghost use Rattle.rules_model.specs.Sound.{is_sound};
+ghost use Rattle.legality.specs.Stance.{legal_in};
+
+mod question;
 
 use attack_tables::Tables;
 use foundation::Memory;
-use legality::{apply, count_legal, legal_moves};
-use rules_model::{MoveList, Position, Rules};
+use playing::Board;
+use question::{ALL, Question, ask, named};
+use rules_model::{MoveList, Rules};
 use sample_rules::{chess, leapers, shouse, xiangqi};
 use std::alloc::{AllocError, Global};
 use std::time::{Duration, Instant};
@@ -24,80 +27,79 @@ fn next_number(number: u64) -> u64 {
         .wrapping_add(1442695040888963407)
 }
 
-/// Plays one of the legal moves, or goes back to the start where there is none.
-fn play(rules: &Rules, tables: &Tables, p: &mut Position, moves: &MoveList, number: u64)
-    requires fit { IsFit rules.now }
-    requires tables { tables.now ≡ rules.now }
-    requires start { is_sound rules.now rules.now.start ≡ true }
-    requires sound { is_sound rules.now p.old ≡ true }
-    requires listed { moves.now ≡ legal rules.now (repeat_of p.old) }
-    ensures { is_sound rules.now p.new ≡ true }
+/// The board after one of its legal moves, or that of the start where there is none.
+pub(crate) fn played<'t>(board: &Board<'t>, moves: &MoveList, number: u64) -> Board<'t>
+    requires start { is_sound board.now.rules board.now.rules.start ≡ true }
+    requires listed { moves.now ≡ legal_in board.now }
+    ensures { result.rules ≡ board.now.rules }
 {
     let moves = moves.items.as_slice();
     if moves.is_empty() {
-        *p = rules.start;
-        return;
+        return Board::new(board.tables(), &board.rules().start);
     }
     let choice = (number >> 33) as usize % moves.len();
-    apply(rules, tables, p, &moves[choice]);
+    board.after(&moves[choice])
 }
 
-/// Lists the legal moves of so many positions in turn, or counts them too, and answers how many moves these were.
-fn walk(
-    alloc: Global,
-    rules: &Rules,
-    tables: &Tables,
-    plies: u32,
-    counts: bool,
-) -> Result<u128, Memory>
-    requires fit { IsFit rules.now }
-    requires tables { tables.now ≡ rules.now }
-    requires start { is_sound rules.now rules.now.start ≡ true }
+/// Asks the question of so many positions in turn, and answers the sum of the answers.
+fn walk(alloc: Global, tables: &Tables, plies: u32, question: Question) -> Result<u64, Memory>
+    requires start { is_sound tables.now tables.now.start ≡ true }
 {
-    let mut p = rules.start;
+    let mut board = Board::new(tables, &tables.rules().start);
+    let mut listed = MoveList {
+        items: Vec::new(alloc),
+    };
     let mut number = 1;
-    let mut count: u128 = 0;
+    let mut sum: u64 = 0;
     for _ in 0..plies {
-        if counts {
-            count = count.saturating_add(count_legal(rules, tables, &p));
-        }
-        let moves = legal_moves(alloc, rules, tables, &p)?;
-        count = count.saturating_add(moves.items.len() as u128);
+        let moves = board.legal_moves(alloc)?;
+        sum = sum.wrapping_add(ask(&board, &moves, question, &mut listed)?);
         number = next_number(number);
-        play(rules, tables, &mut p, &moves, number);
+        board = played(&board, &moves, number);
     }
-    Ok(count)
+    Ok(sum)
 }
 
-fn positions_a_second(plies: u32, spent: Duration) -> u64 {
-    let micros = u64::try_from(spent.as_micros()).unwrap_or(u64::MAX);
-    u64::from(plies) * 1_000_000 / micros.max(1)
+fn nanoseconds(plies: u32, spent: Duration) -> u64 {
+    u64::try_from(spent.as_nanos()).unwrap_or(u64::MAX) / u64::from(plies.max(1))
 }
 
-/// Prints the rates for the rules.
+/// Prints what each question costs by the rules, the walk itself included.
 fn measure(rt: &HostRuntime, name: &str, rules: &Rules, plies: u32) -> io::Result<()>
     requires fit { IsFit rules.now }
     requires start { is_sound rules.now rules.now.start ≡ true }
 {
     let tables = Tables::new(rt.alloc(), rules).map_err(|_| AllocError)?;
-    let start = Instant::now(rt)?;
-    let moves = walk(rt.alloc(), rules, &tables, plies, false).map_err(|_| AllocError)?;
-    let listed = positions_a_second(plies, start.elapsed(rt)?);
-    let again = Instant::now(rt)?;
-    let _ = walk(rt.alloc(), rules, &tables, plies, true).map_err(|_| AllocError)?;
-    let counted = positions_a_second(plies, again.elapsed(rt)?);
-    println!(rt;
-        "{name}: {moves} legal moves, {listed} positions a second listed, {counted} also counted"
-    )
+    for (word, question) in ALL {
+        let start = Instant::now(rt)?;
+        let sum = walk(rt.alloc(), &tables, plies, question).map_err(|_| AllocError)?;
+        let each = nanoseconds(plies, start.elapsed(rt)?);
+        println!(rt; "{name} {word}: {each} ns, sum {sum}")?;
+    }
+    Ok(())
+}
+
+/// Asks the one question along a walk in chess.
+fn measure_one(rt: &HostRuntime, plies: u32, question: Question) -> io::Result<()> {
+    let tables = Tables::new(rt.alloc(), &chess()).map_err(|_| AllocError)?;
+    let sum = walk(rt.alloc(), &tables, plies, question).map_err(|_| AllocError)?;
+    println!(rt; "sum {sum}")
 }
 
 fn main(rt: HostRuntime) -> io::Result<()> {
-    let Some(word) = env::args(&rt)?.nth(1) else {
+    let mut words = env::args(&rt)?.skip(1);
+    let Some(word) = words.next() else {
         return Ok(());
     };
     let Ok(plies) = word.parse::<u32>() else {
-        return println!(rt; "usage: legal_speed [PLIES]");
+        return println!(rt; "usage: legal_speed [PLIES [QUESTION]]");
     };
+    if let Some(word) = words.next() {
+        return match named(&word) {
+            Some(question) => measure_one(&rt, plies, question),
+            None => println!(rt; "no such question: {word}"),
+        };
+    }
     measure(&rt, "leapers", &leapers(), plies)?;
     measure(&rt, "chess", &chess(), plies)?;
     measure(&rt, "shouse", &shouse(), plies)?;
