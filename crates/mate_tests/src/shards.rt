@@ -5,8 +5,9 @@ ghost use Rattle.mate_shards.specs.Grown.{HaveParts};
 ghost use Rattle.mate_shards.specs.Refuted.{RefutesAll};
 ghost use Rattle.mate_shards.specs.Views.{ArePassesOf};
 
-use mate_core::{Fact, Frame};
+use mate_core::{Claim, Fact, Frame};
 use mate_shards::{Passes, Published, Shards};
+use position_key::BoardKey;
 use rules_model::{Blocked, Memory, Position, Repeat, Side, Value, repeat_of};
 use sample_rules::{empty, leapers};
 use std::alloc::Global;
@@ -152,11 +153,37 @@ fn answers<R: Wait>(
     (published, found)
 }
 
+// The same, where the fact is published by its claim and the key of the board.
+fn answers_by_key<R: Wait>(
+    rt: &R,
+    shards: &Shards,
+    passes: &mut Passes,
+    number: u32,
+) -> (Published, Option<Fact>)
+    requires passes { ArePassesOf shards.now passes.old }
+    requires truth { RefutesAll shards.now.frame }
+    ensures { ArePassesOf shards.now passes.new }
+{
+    let p = numbered(number);
+    let claim = Claim {
+        attacker: Side::White,
+        moves: 2,
+        counter: 0,
+        best: None,
+        wins: false,
+    };
+    let published = shards.publish_by_key(rt, passes, &p, BoardKey::of(&p), claim);
+    let found = shards.look(rt, passes, &p, 2);
+    (published, found)
+}
+
 #[test]
 fn a_shard_of_sixteen_places(rt: HostRuntime) -> Result<(), Fail> {
     let (shards, passes) = drawn_shards(rt.alloc(), Vec::new(rt.alloc()), 1, 16)?;
-    let mut done = publish_all(&rt, &shards, passes, 0, 16);
-    assert_eq!(rt; (done.stored, done.lost), (16, 0));
+    let mut done = publish_all(&rt, &shards, passes, 0, 15);
+    assert_eq!(rt; (done.stored, done.lost), (15, 0));
+    let by_key = answers_by_key(&rt, &shards, &mut done.passes, 15);
+    assert!(rt; by_key == (Published::Stored, Some(refutation(15))));
     let full = answers(&rt, &shards, &mut done.passes, 16, 2);
     assert!(rt; full == (Published::Full, None));
     let known = answers(&rt, &shards, &mut done.passes, 0, 2);

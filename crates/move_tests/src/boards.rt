@@ -72,6 +72,55 @@ fn ends_of_positions(rt: HostRuntime) -> Result<(), Fail> {
     Ok(())
 }
 
+/// Asserts that the captures are those of the legal moves that capture, and so many, and the others the rest.
+fn has_captures<R: Abort>(
+    rt: &R,
+    alloc: Global,
+    tables: &Tables,
+    p: &Position,
+    count: usize,
+) -> Result<(), Memory> {
+    assert!(rt; sound(tables.rules(), p));
+    let board = Board::new(tables, p);
+    let legal = board.known().legal_moves(alloc)?;
+    let mut taking = MoveList {
+        items: Vec::new(alloc),
+    };
+    board.push_captures(&mut taking)?;
+    assert_eq!(rt; taking.items.len(), count);
+    let mut others = MoveList {
+        items: Vec::new(alloc),
+    };
+    board.push_others(&mut others)?;
+    let listed = others.items.len().saturating_add(count);
+    assert_eq!(rt; listed, legal.items.len());
+    for m in &legal.items {
+        let captures = board.is_legal(m) && board.captures(m);
+        let listed = [
+            taking.items.iter().any(|taken| *taken == *m),
+            others.items.iter().any(|other| *other == *m),
+        ];
+        assert!(rt; listed == [captures, !captures], "{m:?}");
+    }
+    Ok(())
+}
+
+// En passant and a promotion on a capture; a king and a rook that may castle, drop or leave a piece behind, and take.
+#[test]
+fn captures_of_positions(rt: HostRuntime) -> Result<(), Fail> {
+    let chess = Tables::new(rt.alloc(), &chess())?;
+    let mut pawns = position("Ke1 Pe5 Pa7 kg8 nb8 pd5");
+    pawns.ep = Some(square("d6"));
+    has_captures(&rt, rt.alloc(), &chess, &pawns, 5)?;
+    let shouse = Tables::new(rt.alloc(), &shouse())?;
+    let mut castling = position("Ke1 Rh1 Ra1 ke8 pa5 pe2");
+    castling.rights[0] = [true, true];
+    castling.gates[0] = 0x91;
+    castling.hands[0] = hand_of(b"eh");
+    has_captures(&rt, rt.alloc(), &shouse, &castling, 6)?;
+    Ok(())
+}
+
 #[test]
 fn moves_of_positions(rt: HostRuntime) -> Result<(), Fail> {
     let rules = chess();
