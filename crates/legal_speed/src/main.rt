@@ -1,6 +1,6 @@
-//! Prints what each question that a search asks of a position costs: nanoseconds for a position of a random walk, for a
-//! few variants. With the name of a question it is asked along a walk in chess, and nothing else is done, so that
-//! instructions can be counted. Without a word it prints nothing.
+//! Prints how long a step of a random walk takes with each question that a search asks of a position, in nanoseconds,
+//! for a few variants; the question `nothing` is the walk alone. With the name of a question it is asked alone, along a
+//! walk in chess, so that instructions can be counted. Without a word it prints nothing.
 #![tactic(auto)]
 
 ghost use Rattle.std.specs.Prelude.{◌≡◌, true};
@@ -41,7 +41,7 @@ pub(crate) fn played<'t>(board: &Board<'t>, moves: &MoveList, number: u64) -> Bo
     board.after(&moves[choice])
 }
 
-/// Asks the question of so many positions in turn, and answers the sum of the answers.
+/// Asks the question of `plies` positions in turn, and answers the sum of the answers, mod 2^64.
 fn walk(alloc: Global, tables: &Tables, plies: u32, question: Question) -> Result<u64, Memory>
     requires start { is_sound tables.now tables.now.start ≡ true }
 {
@@ -64,7 +64,7 @@ fn nanoseconds(plies: u32, spent: Duration) -> u64 {
     u64::try_from(spent.as_nanos()).unwrap_or(u64::MAX) / u64::from(plies.max(1))
 }
 
-/// Prints what each question costs by the rules, the walk itself included.
+/// Prints how long a step of the walk takes with each question, by the rules.
 fn measure(rt: &HostRuntime, name: &str, rules: &Rules, plies: u32) -> io::Result<()>
     requires fit { IsFit rules.now }
     requires start { is_sound rules.now rules.now.start ≡ true }

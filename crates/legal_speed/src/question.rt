@@ -13,9 +13,9 @@ use rules_model::{MoveList, Outcome};
 pub(crate) enum Question {
     /// Nothing: what the walk itself costs.
     Nothing,
-    /// The position after a move.
+    /// The position after a move, and its key.
     After,
-    /// The board made anew, as a position after a move was before sets and key were carried.
+    /// The board made anew of its position, and its key: sets and key by a scan, and no move made.
     Anew,
     /// The key of a repetition.
     Key,
@@ -25,6 +25,8 @@ pub(crate) enum Question {
     Legal,
     /// Those that capture.
     Captures,
+    /// Those that do not capture.
+    Others,
     /// Whether any move is legal.
     Any,
     /// The captures and whether any move is legal, by what is known once.
@@ -38,7 +40,7 @@ pub(crate) enum Question {
 }
 
 /// All questions, with their names.
-pub(crate) const ALL: [(&str, Question); 12] = [
+pub(crate) const ALL: [(&str, Question); 13] = [
     ("nothing", Question::Nothing),
     ("after", Question::After),
     ("anew", Question::Anew),
@@ -46,6 +48,7 @@ pub(crate) const ALL: [(&str, Question); 12] = [
     ("known", Question::Known),
     ("legal", Question::Legal),
     ("captures", Question::Captures),
+    ("others", Question::Others),
     ("any", Question::Any),
     ("resting", Question::Resting),
     ("resting-apart", Question::RestingApart),
@@ -101,6 +104,10 @@ pub(crate) fn ask(
         }
         Question::Captures => {
             board.push_captures(listed)?;
+            Ok(length_of(listed))
+        }
+        Question::Others => {
+            board.push_others(listed)?;
             Ok(length_of(listed))
         }
         Question::Any => Ok(u64::from(board.any_legal())),

@@ -23,8 +23,16 @@ use Rattle.rules_model.specs.Next.{captures}
 use Rattle.rules_model.proofs.LegalLaws.{every-fit, every-has, legal-member, legal-once, legal-sorted, member-legal, moves-unique}
 use Rattle.legality.specs.declared.choice.Part.{Part}
 use Rattle.legality.specs.declared.choice.Part.TheVariants.{All, Captures, Others}
-use Rattle.legality.specs.Chosen.{AppendsChosen, FitCandidates, IsLegalCapture, IsLegalOther, can_go, is_chosen, is_fit_move, is_in, is_wanted, legal_part, only_captures, part_of}
+use Rattle.legality.specs.Chosen.{AppendsChosen, FitCandidates, can_go, is_chosen, is_fit_move, is_in, is_wanted, legal_part, only_captures, part_of}
 use Rattle.legality.proofs.FitLaws.{from_fit}
+
+-- a legal capture
+abbrev pub IsLegalCapture : Rules → Repeat → Move → Type 0
+IsLegalCapture rules r m = Member m (legal rules r) × (captures rules r m ≡ true)
+
+-- a legal move that does not capture
+abbrev pub IsLegalOther : Rules → Repeat → Move → Type 0
+IsLegalOther rules r m = Member m (legal rules r) × (captures rules r m ≡ false)
 
 -- ---- of lists
 

@@ -1,7 +1,6 @@
 -- What is chosen of the candidates.
 use Rattle.std.specs.Prelude.{◌≡◌, ℕ, Bool, true, false, ◌&&◌, ◌||◌, not, nat_lt, Option, Some, None, List, ◌++◌}
 use Rattle.std.specs.List.{list_any, filter}
-use Rattle.foundation.specs.Member.{Member}
 use Rattle.rules_model.specs.declared.board.Kind.{Kind}
 use Rattle.rules_model.specs.declared.board.Repeat.{Repeat}
 use Rattle.rules_model.specs.declared.board.Square.{Square}
@@ -13,7 +12,7 @@ use Rattle.rules_model.specs.declared.moves.Promo.TheVariants.{Stays, Pawn, Plus
 use Rattle.rules_model.specs.declared.rules.Rules.{Rules}
 use Rattle.rules_model.specs.Allowed.{can_capture}
 use Rattle.rules_model.specs.Candidates.{is_candidate}
-use Rattle.rules_model.specs.Legal.{every_move, is_allowed, is_sane, legal}
+use Rattle.rules_model.specs.Legal.{every_move, is_allowed, is_sane}
 use Rattle.rules_model.specs.Moves.{IsFitMove}
 use Rattle.rules_model.specs.Next.{captures}
 use Rattle.move_sink.specs.InTurn.{go_from}
@@ -51,7 +50,7 @@ is_fit_move (Drop kind to) = nat_lt kind.0 26 && nat_lt to.0 120
 
 -- ---- the choice
 
--- the moves that capture are of the part, or those that do not
+-- a move is of the part, by whether it captures
 abbrev pub is_in : Part → Bool → Bool
 is_in All takes = true
 is_in Captures takes = takes
@@ -78,7 +77,7 @@ abbrev pub part_of : Bool → Part
 part_of true = Captures
 part_of false = All
 
--- which of the allowed moves are legal
+-- which of the allowed moves are legal, where there is no early end
 abbrev pub legal_part : Rules → Repeat → Part
 legal_part rules r = part_of (only_captures rules r)
 
@@ -119,14 +118,6 @@ AreUnwantedBut rules r part targets wanted untold =
     (from to : Square) (gate : Option Kind) → has targets to.0 ≡ true → has wanted to.0 ≡ false
     → has untold to.0 ≡ false
     → is_wanted rules r part (Go from to Stays gate) ≡ false
-
--- a legal capture
-abbrev pub IsLegalCapture : Rules → Repeat → Move → Type 0
-IsLegalCapture rules r m = Member m (legal rules r) × (captures rules r m ≡ true)
-
--- a legal move that does not capture
-abbrev pub IsLegalOther : Rules → Repeat → Move → Type 0
-IsLegalOther rules r m = Member m (legal rules r) × (captures rules r m ≡ false)
 
 -- the candidates that are chosen were appended
 abbrev pub AppendsChosen : Rules → Repeat → Part → List Move → List Move → Type 0

@@ -1,5 +1,5 @@
 //! What is asked of the legal moves without a list of them.
-ghost use Rattle.std.specs.Prelude.{◌≡◌, ◌-◌, ◌^◌, ◌↔◌, min, not, true, length, IsTrue};
+ghost use Rattle.std.specs.Prelude.{◌≡◌, ◌-◌, ◌^◌, ◌↔◌, min, not, length, IsTrue};
 ghost use Rattle.std.specs.Bool.{OnTrue};
 ghost use Rattle.foundation.specs.Member.{Member};
 ghost use Rattle.rules_model.specs.Allowed as Allowed;
@@ -8,7 +8,7 @@ ghost use Rattle.rules_model.specs.Moves.{IsFitMove};
 ghost use Rattle.rules_model.specs.Ready.{IsReady};
 ghost use Rattle.rules_model.specs.Repeats.{repeat_of};
 ghost use Rattle.board_sets.specs.Sets.{AreSets};
-ghost use Rattle.legality.specs.Chosen.{captures_if_forced};
+ghost use Rattle.legality.specs.Chosen as Chosen;
 ghost use Rattle.legality.specs.LateEnds.{late_end_where};
 ghost use Rattle.legality.specs.Moved.{AreOwn, HoldNoKing, LeaveSafely};
 ghost use Rattle.legality.specs.Stance.{legal_in, repeat_in};
@@ -146,13 +146,19 @@ fn is_allowed(rules: &Rules, tables: &Tables, p: &Position, sets: &BoardSets, m:
     is_candidate(rules, tables, p, m) && Safety::of_few(rules, tables, p, sets).is_sane(m)
 }
 
-/// Whether the fit move captures, where one must capture and can.
+/// Whether the fit move captures, or need not.
 #[tactic(auto, unfolding(crate::specs::Chosen::can_go, rules_model::specs::Allowed::can_capture))]
-fn is_wanted(rules: &Rules, tables: &Tables, p: &Position, sets: &BoardSets, m: &Move) -> bool
+fn captures_if_forced(
+    rules: &Rules,
+    tables: &Tables,
+    p: &Position,
+    sets: &BoardSets,
+    m: &Move,
+) -> bool
     requires ready { IsReady rules.now tables.now p.now }
     requires sets { AreSets rules.now p.now.side p.now.cells sets.now }
     requires fit { IsFitMove m.now }
-    ensures { result ≡ captures_if_forced rules.now (repeat_of p.now) m.now }
+    ensures { result ≡ Chosen.captures_if_forced rules.now (repeat_of p.now) m.now }
 {
     !rules.must_capture || captures(rules, p, m) || !can_go(rules, tables, p, sets, Part::Captures)
 }
@@ -167,7 +173,7 @@ fn is_lawful(rules: &Rules, tables: &Tables, p: &Position, sets: &BoardSets, m: 
 {
     goes_on(rules, tables, p, sets)
         && is_allowed(rules, tables, p, sets, m)
-        && is_wanted(rules, tables, p, sets, m)
+        && captures_if_forced(rules, tables, p, sets, m)
 }
 
 /// The same as `is_legal`, by the sets of the board, which the caller has.

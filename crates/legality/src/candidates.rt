@@ -36,8 +36,8 @@ pub(crate) fn push_candidates<S: MoveSink>(
     special_moves::push_moves(rules, tables, p, sets, out)
 }
 
-/// The same as `push_candidates`, in another order: the special moves come before the ordinary moves of pieces. This is
-/// for who looks for one move that is legal: moves of pawns are likely to be so, and are found at once.
+/// The same as `push_candidates`, with the special moves before the ordinary moves of pieces: for a caller that looks
+/// for one legal move, since a pawn is likely to have one.
 pub(crate) fn push_pawns_first<S: MoveSink>(
     rules: &Rules,
     tables: &Tables,

@@ -150,8 +150,9 @@ impl<'a> Choice<'a> {
         self.wants(m) && self.safety.is_sane(m)
     }
 
-    /// The targets to which the moves are wanted. Captures go to the enemies' squares and other moves to the rest: to
-    /// an empty square a piece captures in passing alone.
+    /// The targets to which the moves are wanted: for captures the enemies' squares, for others the rest. Own squares
+    /// and that of en passant are not told, unless all moves are wanted: to an empty square a piece captures in passing
+    /// alone.
     fn wanted(&self, targets: Set) -> WantedTargets
         requires targets { (s : ℕ) → has targets s ≡ true → s < 120 }
         ensures within { (s : ℕ) → has result.wanted s ≡ true → has targets s ≡ true }
@@ -260,9 +261,9 @@ impl<'a> Choice<'a> {
         let split = self.wanted(targets);
         let unwanted = targets.minus(split.wanted).minus(split.untold);
         let chosen = self.safety.lets_shift(shift, split.wanted);
-        let barred = self.safety.bars_shift(shift, split.wanted);
+        let vain = self.safety.bars_shift(shift, split.wanted);
         ToldTargets {
-            targets: chosen.or(barred).or(unwanted),
+            targets: chosen.or(vain).or(unwanted),
             chosen,
         }
     }
@@ -282,9 +283,9 @@ impl<'a> Choice<'a> {
             };
         }
         let chosen = self.safety.lets_drop(kind, targets);
-        let barred = self.safety.bars_drop(kind, targets);
+        let vain = self.safety.bars_drop(kind, targets);
         ToldTargets {
-            targets: chosen.or(barred),
+            targets: chosen.or(vain),
             chosen,
         }
     }

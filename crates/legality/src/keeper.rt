@@ -20,14 +20,14 @@ pub(crate) struct Keeper<'a> {
 impl<'a> Keeper<'a> {
     ghost use Rattle.legality.specs.Keeps.{Keeps};
 
-    /// Puts the move on the list where it is chosen. It is not looked at where this is known. Without memory the list
-    /// is as it was.
-    fn keep(&mut self, m: Move, known: bool) -> Result<(), Memory>
-        requires { OnTrue known (chosen_by self.old.choice m ≡ true) }
+    /// Puts the move on the list where it is chosen. It is not looked at where it is known to be chosen. Without
+    /// memory the list is as it was.
+    fn keep(&mut self, m: Move, chosen: bool) -> Result<(), Memory>
+        requires { OnTrue chosen (chosen_by self.old.choice m ≡ true) }
         ensures ok { OnOk result (Keeps self.old (m ∷ []) self.new) }
         ensures err { OnErr result (Keeps self.old [] self.new) }
     {
-        if known || self.choice.holds(&m) {
+        if chosen || self.choice.holds(&m) {
             self.list.take(m)?;
         }
         Ok(())

@@ -136,9 +136,10 @@ pub fn push_legal(
 }
 
 /// The legal moves, each once and in the byte order of their texts: those of the rules of movement after which the
-/// mover's king is not attacked, that give no check which the variant forbids, and where one must capture and can, the
-/// captures alone. Where the position has ended there are none (FIDE Laws of Chess, articles 3.9 and 3.10;
-/// Fairy-Stockfish's `checking`, `dropChecks`, `immobilityIllegal`, `mustCapture`).
+/// mover's king is not attacked, that give no check which the variant forbids and, where it asks so, put no piece where
+/// it can never move; where one must capture and can, the captures alone. Where the position has ended there are none
+/// (FIDE Laws of Chess, articles 3.9 and 3.10; Fairy-Stockfish's `checking`, `dropChecks`, `immobilityIllegal`,
+/// `mustCapture`).
 pub fn legal_moves(
     alloc: Global,
     rules: &Rules,

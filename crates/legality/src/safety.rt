@@ -25,7 +25,7 @@ use rules_model::sizes::position_sizes;
 use rules_model::{Cells, Kind, Move, Position, Rules, Square};
 use square_set::{EMPTY, Set, Shift};
 
-/// A position, with what is known of it for all its moves.
+/// A position, with what tells of its candidates whether they are sane.
 #[derive(Clone, Copy)]
 pub(crate) struct Safety<'a> {
     pub tables: &'a Tables,

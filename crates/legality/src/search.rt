@@ -1,4 +1,4 @@
-//! Whether there is a legal move, or a legal capture.
+//! Whether some allowed move is of a part, and of which part the legal moves are.
 ghost use Rattle.std.specs.Prelude.{◌≡◌};
 ghost use Rattle.rules_model.specs.Ends as Ends;
 ghost use Rattle.rules_model.specs.Fit.{IsFit};
@@ -40,7 +40,7 @@ pub(crate) fn goes_on(rules: &Rules, tables: &Tables, p: &Position, sets: &Board
     }
 }
 
-/// Whether some candidate is wanted and sane, by what is known of the position. It stops at the first.
+/// Whether some allowed move is of the part, by what is known of the position. It stops at the first.
 fn some_goes(choice: Choice<'_>) -> bool
     requires { IsFit choice.safety.tables.now }
     ensures { result ≡ Chosen.can_go choice.entry.safety.tables.now (repeat_of choice.entry.safety.p.now)
@@ -60,7 +60,7 @@ fn some_goes(choice: Choice<'_>) -> bool
     }
 }
 
-/// Whether some candidate of the part is sane. It stops at the first.
+/// Whether some allowed move is of the part. It stops at the first.
 pub(crate) fn can_go(
     rules: &Rules,
     tables: &Tables,
@@ -94,7 +94,7 @@ impl Known<'_> {
         self.safety.tables.rules().must_capture && self.can_go(Part::Captures)
     }
 
-    /// Which of the allowed moves are legal.
+    /// Which of the allowed moves are legal, where there is no early end.
     pub(crate) fn legal_part(&self) -> Part
         ensures { result ≡ Chosen.legal_part self.now.rules (repeat_in self.now) }
     {

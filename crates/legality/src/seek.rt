@@ -23,13 +23,13 @@ pub(crate) struct Found;
 impl<'a> Seeker<'a> {
     ghost use Rattle.legality.specs.Seeks.{SeesNone, SeesOne};
 
-    /// Answers `Err` where the move is chosen. It is not looked at where this is known.
-    fn see(&mut self, m: Move, known: bool) -> Result<(), Found>
-        requires { OnTrue known (chosen_by self.old.choice m ≡ true) }
+    /// Answers `Err` where the move is chosen. It is not looked at where it is known to be chosen.
+    fn see(&mut self, m: Move, chosen: bool) -> Result<(), Found>
+        requires { OnTrue chosen (chosen_by self.old.choice m ≡ true) }
         ensures ok { OnOk result (SeesNone self.old (m ∷ []) self.new) }
         ensures err { OnErr result (TakesSome SeesOne (λ x. x ≡ m) self.old self.new) }
     {
-        if known || self.choice.holds(&m) {
+        if chosen || self.choice.holds(&m) {
             Err(Found)
         } else {
             Ok(())

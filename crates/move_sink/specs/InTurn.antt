@@ -29,10 +29,6 @@ At P square s m = P m × (square m ≡ s)
 abbrev pub Outside : (Move → Type 0) → (Move → ℕ) → Set → Move → Type 0
 Outside P square left m = P m × (has left (square m) ≡ false)
 
--- the move by a shift to a square, which becomes nothing else and places nothing
-abbrev pub go_by : Shift → Square → Move
-go_by shift to = Go (record { 0 = origin shift to.0 }) to Stays None
-
 -- the moves to the squares of a set, each as it is made of its square
 abbrev pub MadeTo : (Square → Move) → Set → Move → Type 0
 MadeTo make targets m = (make (record { 0 = target_of m }) ≡ m) × (has targets (target_of m) ≡ true)

@@ -76,7 +76,8 @@ impl<'t> Board<'t> {
         let _side = self.position.side;
     }
 
-    /// What is known of the position for all that is asked of its moves: made once where more than one is asked.
+    /// What is known of the position for all that is asked of its moves. Each call works it out, so a caller who asks
+    /// more than one thing keeps it.
     pub fn known(&self) -> Known<'_>
         ensures { result ≡ self.now }
     {

@@ -107,7 +107,7 @@ abbrev pub suits : Rules → Repeat → Kind → ℕ → Bool
 suits rules r kind to =
     not (is_pawn rules kind && bars_pawn rules r.side to) && not (is_doubled rules r.cells r.side kind to)
 
--- such a piece suits each square: it is no pawn, and may be doubled
+-- the kind alone tells that such a piece suits each square: it is no pawn, and may be doubled
 abbrev pub suits_anywhere : Rules → Kind → Bool
 suits_anywhere rules kind = not (is_pawn rules kind) && not (names rules.no_doubled kind)
 

@@ -104,7 +104,7 @@ fn drop_squares(tables: &Tables, p: &Position, sets: &BoardSets) -> Set
     tables.drop_region(p.side).minus(sets.occupied())
 }
 
-/// Whether a piece of the kind suits each square: it is no pawn, and may be doubled.
+/// Whether the kind alone tells that a piece of it suits each square: it is no pawn, and may be doubled.
 fn suits_anywhere(rules: &Rules, kind: Kind) -> bool
     ensures { result ≡ Parts.suits_anywhere rules.now kind }
 {

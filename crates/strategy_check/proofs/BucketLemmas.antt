@@ -18,7 +18,7 @@ use Rattle.forced_wins.proofs.Counts.{by_cases, eq_to, eq_from, true_false, not_
 use Rattle.strategy.specs.declared.nodes.Node.{Node}
 use Rattle.strategy_check.specs.declared.places.Key.{Key}
 use Rattle.strategy_check.specs.declared.places.Key.TheVariants as by
-use Rattle.strategy_check.specs.Buckets.{at, has_repeat, is_twin, falls_into, bucket, found, key_of, put, AreFilled, IsIndex}
+use Rattle.strategy_check.specs.Buckets.{at, has_repeat, is_twin, falls_into, bucket, found, number_of, put, AreFilled, IsIndex}
 
 -- the element at a place
 pub element : {X : Type 0} (xs : List X) (k : ℕ) → k < length xs → (x : X) × (slice_get xs k ≡ Some x) × (get_or xs k x ≡ x)
@@ -122,13 +122,13 @@ module _ (key : Key) (s : List Node) where
 
   module _ (i : ℕ) (v : Node) (is : slice_get s i ≡ Some v) (bs : List (List ℕ)) (filled : AreFilled key s i bs) where
     own : ℕ
-    own = key_of key v.position % length bs
+    own = number_of key v.position % length bs
 
     own-below : own < length bs
     unfolding own
     own-below = let some = filled.some in omega arith
 
-    new-each : (b : ℕ) → b < length bs → get_or (put bs i (key_of key v.position)) b [] ≡ bucket key s (length bs) b (i + 1)
+    new-each : (b : ℕ) → b < length bs → get_or (put bs i (number_of key v.position)) b [] ≡ bucket key s (length bs) b (i + 1)
     unfolding own
     new-each b h =
         by_cases (falls_into key (length bs) b v)
@@ -141,9 +141,9 @@ module _ (key : Key) (s : List Node) where
         let more : bucket key s (length bs) b (i + 1) ≡ bucket key s (length bs) b i ++ [] = bucket-more b i (length bs) v is ∙ rw n in
         get_or-set_other bs own b (get_or bs own [] ++ i ∷ []) [] apart ∙ filled.each b h ∙ sym (more ∙ append-nil (bucket key s (length bs) b i)))
 
-    pub filled-more : AreFilled key s (i + 1) (put bs i (key_of key v.position))
+    pub filled-more : AreFilled key s (i + 1) (put bs i (number_of key v.position))
     filled-more =
-        let len : length (put bs i (key_of key v.position)) ≡ length bs = length-set bs _ _ in
+        let len : length (put bs i (number_of key v.position)) ≡ length bs = length-set bs _ _ in
         let some = filled.some in
         record {
           some = omega arith;
@@ -153,7 +153,7 @@ module _ (key : Key) (s : List Node) where
 -- ---- what is found
 
 -- nodes of one repeat and one counter have one key
-twin-key : (key : Key) (p q : Position) → repeat_of p ≡ repeat_of q → p.counter ≡ q.counter → key_of key p ≡ key_of key q
+twin-key : (key : Key) (p q : Position) → repeat_of p ≡ repeat_of q → p.counter ≡ q.counter → number_of key p ≡ number_of key q
 twin-key by.Repeat p q r c = ap Keys.key_of r
 twin-key by.Counter p q r c = λ i. (Keys.key_of (r i) + c i) % 2 ^ 64
 
@@ -162,29 +162,29 @@ is-repeat r v h = (repeat-decides (repeat_of v.position) r).0 h
 
 module _ (key : Key) (s : List Node) (bs : List (List ℕ)) (index : IsIndex key s bs) (p : Position) where
   abbrev into : Node → Bool
-  into v = falls_into key (length bs) (key_of key p % length bs) v
+  into v = falls_into key (length bs) (number_of key p % length bs) v
 
-  falls : (v : Node) → key_of key v.position ≡ key_of key p → into v ≡ true
+  falls : (v : Node) → number_of key v.position ≡ number_of key p → into v ≡ true
   falls v e = eq_to _ _ (ap (λ n. n % length bs) e)
 
-  bucket-is : found bs (key_of key p) ≡ filter (at s (falls_into key (length bs) (key_of key p % length bs))) (below (length s))
+  bucket-is : found bs (number_of key p) ≡ filter (at s (falls_into key (length bs) (number_of key p % length bs))) (below (length s))
   unfolding bucket
-  bucket-is = let some = index.some in index.each (key_of key p % length bs) (omega arith)
+  bucket-is = let some = index.some in index.each (number_of key p % length bs) (omega arith)
 
   twin-falls : (v : Node) → is_twin p v ≡ true → into v ≡ true
   twin-falls v h =
       let both = and_parts (has_repeat (repeat_of p) v) (v.position.counter == p.counter) h in
       falls v (twin-key key v.position p (is-repeat (repeat_of p) v both.0) (eq_from _ _ both.1))
 
-  pub twin-found : (first : ℕ) → first ≤ length s → list_any (λ j. nat_lt j first && at s (is_twin p) j) (found bs (key_of key p)) ≡ list_any (is_twin p) (take first s)
+  pub twin-found : (first : ℕ) → first ≤ length s → list_any (λ j. nat_lt j first && at s (is_twin p) j) (found bs (number_of key p)) ≡ list_any (is_twin p) (take first s)
   twin-found first h =
       let least : min first (length s) ≡ first = omega arith in
       ap (list_any (λ j. nat_lt j first && at s (is_twin p) j)) bucket-is
-      ∙ any-bucket s (falls_into key (length bs) (key_of key p % length bs)) (is_twin p) twin-falls first (length s) (omega arith)
+      ∙ any-bucket s (falls_into key (length bs) (number_of key p % length bs)) (is_twin p) twin-falls first (length s) (omega arith)
       ∙ ap (λ n. list_any (is_twin p) (take n s)) least
 
 pub count-found : (key : Key) (s : List Node) (bs : List (List ℕ)) (p : Position) → key ≡ by.Repeat → IsIndex key s bs
-    → count_by (at s (has_repeat (repeat_of p))) (found bs (key_of key p)) ≡ count_by (has_repeat (repeat_of p)) s
+    → count_by (at s (has_repeat (repeat_of p))) (found bs (number_of key p)) ≡ count_by (has_repeat (repeat_of p)) s
 count-found by.Counter s bs p is index = absurd (cc)
 count-found by.Repeat s bs p is index =
     ap (count_by (at s (has_repeat (repeat_of p)))) (bucket-is by.Repeat s bs index p)

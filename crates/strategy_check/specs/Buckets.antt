@@ -25,9 +25,9 @@ is_twin p v = has_repeat (repeat_of p) v && (v.position.counter == p.counter)
 -- ---- keys
 
 -- a number of the position: the key of its repeat, or this and as much more as its counter
-abbrev pub key_of : places.Key → Position → ℕ
-key_of by.Repeat p = Keys.key_of (repeat_of p)
-key_of by.Counter p = (Keys.key_of (repeat_of p) + p.counter) % 2 ^ 64
+abbrev pub number_of : places.Key → Position → ℕ
+number_of by.Repeat p = Keys.key_of (repeat_of p)
+number_of by.Counter p = (Keys.key_of (repeat_of p) + p.counter) % 2 ^ 64
 
 -- the key where this many repetitions end the game, 0 for none
 abbrev pub key_for : ℕ → places.Key
@@ -37,7 +37,7 @@ key_for fold = if fold == 0 then by.Counter else by.Repeat
 
 -- the node falls into the bucket b of so many
 abbrev pub falls_into : places.Key → ℕ → ℕ → Node → Bool
-falls_into key size b v = (key_of key v.position % size) == b
+falls_into key size b v = (number_of key v.position % size) == b
 
 -- of the places below k those whose nodes fall into the bucket
 unfoldable pub bucket : places.Key → List Node → ℕ → ℕ → ℕ → List ℕ

@@ -3,7 +3,7 @@ ghost use Rattle.std.specs.Prelude.{◌≡◌, ◌≤◌, ◌<◌, ◌%◌, ◌&
 ghost use Rattle.std.specs.List.{list_any};
 ghost use Rattle.rules_model.specs.Repeats as Repeats;
 ghost use Rattle.position_key.specs.Key as Keys;
-ghost use Rattle.strategy_check.specs.Buckets.{at, has_repeat, is_twin, found, key_for, key_of, put, IsIndex};
+ghost use Rattle.strategy_check.specs.Buckets.{at, has_repeat, is_twin, found, key_for, number_of, put, IsIndex};
 ghost use Rattle.strategy_check.specs.declared.places.Key.TheVariants as by;
 
 use position_key::key_of;
@@ -34,7 +34,7 @@ impl Key {
     /// A number that is the same for positions that are to be found together, from the key of the position's repeat.
     fn of(self, p: &Position, key: u64) -> u64
         requires key { key ≡ Keys.key_of (Repeats.repeat_of p.now) }
-        ensures { result ≡ key_of self p.now }
+        ensures { result ≡ number_of self p.now }
     {
         match self {
             Key::Repeat => key,
@@ -46,7 +46,7 @@ impl Key {
     fn bucket(self, p: &Position, key: u64, size: usize) -> usize
         requires key { key ≡ Keys.key_of (Repeats.repeat_of p.now) }
         requires some { 0 < size }
-        ensures is { result ≡ key_of self p.now % size }
+        ensures is { result ≡ number_of self p.now % size }
         ensures below { result < size }
     {
         (self.of(p, key) % size as u64) as usize
@@ -147,7 +147,8 @@ impl Places {
     fn put(&mut self, place: usize, p: &Position) -> Result<(), AllocError>
         requires some { 0 < length self.old.buckets.items }
         ensures key { self.new.by ≡ self.old.by }
-        ensures put { OnOk result (self.new.buckets.items ≡ put self.old.buckets.items place (key_of self.old.by p.now)) }
+        ensures put { OnOk result
+            (self.new.buckets.items ≡ put self.old.buckets.items place (number_of self.old.by p.now)) }
     {
         let b = self.by.bucket(p, key_of(p), self.buckets.len());
         self.buckets[b].places.push(place)?;
@@ -158,7 +159,7 @@ impl Places {
     fn bucket(&self, p: &Position, key: u64) -> &[usize]
         requires key { key ≡ Keys.key_of (Repeats.repeat_of p.now) }
         requires some { 0 < length self.now.buckets.items }
-        ensures { result.now ≡ found self.now.buckets.items (key_of self.now.by p.now) }
+        ensures { result.now ≡ found self.now.buckets.items (number_of self.now.by p.now) }
     {
         self.buckets[self.by.bucket(p, key, self.buckets.len())]
             .places

@@ -11,5 +11,5 @@ returns-then-not-has_others-clause-chosen c =
 pub returns-clause-chosen : goal.returns-clause-chosen
 returns-clause-chosen c =
     let choice = c.args.self.now in
-    drops_told choice.safety.tables.now (repeat_of choice.safety.p.now) choice.part c.args.kind c.args.targets c.lets_drop-chosen.result c.bars_drop-barred.result c.or.result
-    (sym c.if-not-has_others.ensures) c.requires.kind c.requires.targets c.lets_drop-chosen.ensures.within c.bars_drop-barred.ensures.within c.lets_drop-chosen.ensures.sane c.bars_drop-barred.ensures.sane c.or.ensures
+    drops_told choice.safety.tables.now (repeat_of choice.safety.p.now) choice.part c.args.kind c.args.targets c.lets_drop-chosen.result c.bars_drop-vain.result c.or.result
+    (sym c.if-not-has_others.ensures) c.requires.kind c.requires.targets c.lets_drop-chosen.ensures.within c.bars_drop-vain.ensures.within c.lets_drop-chosen.ensures.sane c.bars_drop-vain.ensures.sane c.or.ensures

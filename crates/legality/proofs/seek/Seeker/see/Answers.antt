@@ -4,12 +4,12 @@ use Rattle.legality.specs.Choices.{chosen_by}
 use Rattle.legality.specs.declared.seek.Seeker.{Seeker}
 use Rattle.legality.proofs.SeekLaws.{stops_at}
 use Rattle.legality.proofs.seek.Seeker.see.Goals as goal
-use Rattle.legality.proofs.seek.Seeker.see.Goals.{then-known, else-known}
+use Rattle.legality.proofs.seek.Seeker.see.Goals.{then-chosen, else-chosen}
 
 pub returns-then-holds-clause-err : goal.returns-then-holds-clause-err
 returns-then-holds-clause-err c =
     stops_at (λ (seeker : Seeker). chosen_by seeker.choice) _ _
-    (elim c.if-known.branch [
-      | then-known w ↦ OnTrue_at w.if-known.true c.requires
-      | else-known w ↦ sym w.holds.ensures ∙ sym w.value-is ∙ c.if-holds.true
+    (elim c.if-chosen.branch [
+      | then-chosen w ↦ OnTrue_at w.if-chosen.true c.requires
+      | else-chosen w ↦ sym w.holds.ensures ∙ sym w.value-is ∙ c.if-holds.true
     ])

@@ -1,7 +1,7 @@
 use Rattle.std.proofs.Common.{◌+◌, List, ℕ, length, refl, sym, ap, subst, ◌∙◌, arith}
 use Rattle.std.proofs.lemmas.Option.{slice_get_read}
 use Rattle.strategy_check.specs.declared.places.Key.{Key}
-use Rattle.strategy_check.specs.Buckets.{AreFilled, key_of, put}
+use Rattle.strategy_check.specs.Buckets.{AreFilled, number_of, put}
 use Rattle.strategy_check.proofs.BucketLemmas.{filled-none, filled-more}
 use Rattle.strategy_check.proofs.places.Places.new.Goals as goal
 
@@ -22,7 +22,7 @@ loop-i-preserved c =
     let i = c.loop-i.i in
     let v = c.index-nodes-i.result in
     let bs = c.loop-i.places.buckets.items in
-    let added = c.in_ok-put.ensures.put ∙ ap (λ (key : Key). put bs i (key_of key v.position)) c.loop-i.invariant.key in
+    let added = c.in_ok-put.ensures.put ∙ ap (λ (key : Key). put bs i (number_of key v.position)) c.loop-i.invariant.key in
     record {
       key = c.in_ok-put.ensures.key ∙ c.loop-i.invariant.key;
       filled =
