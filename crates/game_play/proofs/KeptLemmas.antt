@@ -1,6 +1,6 @@
 -- What a `Game` holds, when a move is played and when one is taken back.
 use Rattle.std.proofs.Common.{◌≡◌, ℕ, zero, suc, ◌+◌, ◌-◌, ◌<◌, ◌≤◌, true, List, [], ◌∷◌, ◌++◌, length, take, get_or, slice_index_or, refl, ap, sym, ◌∙◌, subst, arith}
-use Rattle.std.proofs.lemmas.List.{length-append, get_or_append_left, map-append, take_more}
+use Rattle.std.proofs.lemmas.List.{length-append, get_or_append_left, take_more}
 use Rattle.std.proofs.Math.Seq.{take-append_seam, get_or-append_seam, take-length}
 use Rattle.foundation.specs.Member.{Member}
 use Rattle.rules_model.specs.declared.board.Position.{Position}
@@ -15,9 +15,7 @@ use Rattle.rules_model.specs.Ready.{IsReady}
 use Rattle.rules_model.specs.Repeats.{repeat_of}
 use Rattle.rules_model.specs.Sound.{is_sound}
 use Rattle.rules_model.proofs.ResultLaws.{are_legal-none, story_from-none}
-use Rattle.position_key.specs.Key.{key_of}
 use Rattle.game_play.specs.Played.{Played, story, longer, shorter, legal_in, IsPlayed, played_of, IsKept}
-use Rattle.game_play.proofs.KeyLemmas.{keys-take}
 use Rattle.game_play.proofs.StoryLemmas.{history-push, history-length, legal-push, legal-front, last-sound}
 
 -- ---- games
@@ -50,8 +48,8 @@ nothing = Drop (record { 0 = 0 }) (record { 0 = 0 })
 
 module _ (rules : Rules) where
   -- as many positions as moves and one
-  pub kept-count : (ps : List Position) (ms : List Move) (ks : List ℕ) → IsKept rules ps ms ks → length ps ≡ length ms + 1
-  kept-count ps ms ks h =
+  pub kept-count : (ps : List Position) (ms : List Move) → IsKept rules ps ms → length ps ≡ length ms + 1
+  kept-count ps ms h =
       let l = history-length rules (record { earlier = []; last = slice_index_or ps 0 rules.start }) ms in
       ap length h.are_positions ∙ omega arith
 
@@ -62,52 +60,49 @@ module _ (rules : Rules) where
   pub played_of-push : (ps : List Position) (ms : List Move) (p : Position) (m : Move) → 0 < length ps → played_of rules (ps ++ p ∷ []) (ms ++ m ∷ []) ≡ longer (played_of rules ps ms) m
   played_of-push ps ms p m h i = record { rules = rules; start = same-start ps p h i; moves = ms ++ m ∷ [] }
 
-  pub kept-new : (p : Position) → IsFit rules → is_sound rules p ≡ true → IsKept rules (p ∷ []) [] (key_of (repeat_of p) ∷ [])
-  kept-new p fit s = record { by_rules = played-new rules p fit s; are_positions = sym (ap history (story_from-none rules (record { earlier = []; last = p }))); are_keys = refl }
+  pub kept-new : (p : Position) → IsFit rules → is_sound rules p ≡ true → IsKept rules (p ∷ []) []
+  kept-new p fit s = record { by_rules = played-new rules p fit s; are_positions = sym (ap history (story_from-none rules (record { earlier = []; last = p }))) }
 
-  pub kept-push : (ps : List Position) (ms : List Move) (ks : List ℕ) (m : Move) → IsKept rules ps ms ks → Member m (legal_in (played_of rules ps ms)) → length ms < 8192 →
-      let p = next rules (story (played_of rules ps ms)).last m in IsKept rules (ps ++ p ∷ []) (ms ++ m ∷ []) (ks ++ key_of (repeat_of p) ∷ [])
-  kept-push ps ms ks m h k few =
+  pub kept-push : (ps : List Position) (ms : List Move) (m : Move) → IsKept rules ps ms → Member m (legal_in (played_of rules ps ms)) → length ms < 8192 →
+      let p = next rules (story (played_of rules ps ms)).last m in IsKept rules (ps ++ p ∷ []) (ms ++ m ∷ [])
+  kept-push ps ms m h k few =
       let p = next rules (story (played_of rules ps ms)).last m in
-      let c = kept-count ps ms ks h in
+      let c = kept-count ps ms h in
       let e = played_of-push ps ms p m (omega arith) in
       record {
         by_rules = subst IsPlayed (sym e) (played-longer (played_of rules ps ms) m h.by_rules k few);
         are_positions = ap (λ qs. qs ++ p ∷ []) h.are_positions ∙ sym (history-push rules (record { earlier = []; last = slice_index_or ps 0 rules.start }) ms m) ∙ sym (ap (λ (g : Played). history (story g)) e);
-        are_keys = ap (λ qs. qs ++ key_of (repeat_of p) ∷ []) h.are_keys ∙ sym (map-append (λ (q : Position). key_of (repeat_of q)) ps (p ∷ []));
       }
 
   -- ---- the last position
 
-  seam : (xs : List Position) (y : Position) (ps : List Position) (n : ℕ) (x : Position) → ps ≡ xs ++ y ∷ [] → n ≡ length ps → x ≡ get_or ps (n - 1) x → x ≡ y
-  seam xs y ps n x e l h =
-      let k = length-append xs (y ∷ []) in
-      let c = ap length e in
-      let i : n - 1 ≡ length xs = omega arith in
-      h ∙ ap (λ j. get_or ps j x) i ∙ ap (λ qs. get_or qs (length xs) x) e ∙ get_or-append_seam xs y [] x
+  pub kept-end : (ps : List Position) (ms : List Move) → IsKept rules ps ms → (d : Position) → get_or ps (length ps - 1) d ≡ (story (played_of rules ps ms)).last
+  kept-end ps ms h d =
+      let s = story (played_of rules ps ms) in
+      let k = length-append s.earlier (s.last ∷ []) in
+      let c = ap length h.are_positions in
+      let at : length ps - 1 ≡ length s.earlier = omega arith in
+      ap (λ j. get_or ps j d) at ∙ ap (λ qs. get_or qs (length s.earlier) d) h.are_positions ∙ get_or-append_seam s.earlier s.last [] d
 
-  pub kept-last : (ps : List Position) (ms : List Move) (ks : List ℕ) → IsKept rules ps ms ks → (n : ℕ) (x : Position) → n ≡ length ps → x ≡ get_or ps (n - 1) x → x ≡ (story (played_of rules ps ms)).last
-  kept-last ps ms ks h n x l e = seam (story (played_of rules ps ms)).earlier (story (played_of rules ps ms)).last ps n x h.are_positions l e
-
-  pub kept-ready : (ps : List Position) (ms : List Move) (ks : List ℕ) → IsKept rules ps ms ks → (n : ℕ) (x : Position) → n ≡ length ps → x ≡ get_or ps (n - 1) x → (r : Rules) → r ≡ rules → IsReady r rules x
-  kept-ready ps ms ks h n x l e r same = record {
+  pub kept-ready : (ps : List Position) (ms : List Move) → IsKept rules ps ms → (x : Position) → x ≡ (story (played_of rules ps ms)).last → (r : Rules) → r ≡ rules → IsReady r rules x
+  kept-ready ps ms h x is r same = record {
     fit = subst IsFit (sym same) h.by_rules.fit;
     tables = sym same;
-    sound = subst (λ (s : Rules). is_sound s x ≡ true) (sym same) (subst (λ (q : Position). is_sound rules q ≡ true) (sym (kept-last ps ms ks h n x l e)) (played-last-sound (played_of rules ps ms) h.by_rules));
+    sound = subst (λ (s : Rules). is_sound s x ≡ true) (sym same) (subst (λ (q : Position). is_sound rules q ≡ true) (sym is) (played-last-sound (played_of rules ps ms) h.by_rules));
   }
 
-  pub kept-few : (ps : List Position) (ms : List Move) (ks : List ℕ) → IsKept rules ps ms ks → length ps ≤ 8193
-  kept-few ps ms ks h = let c = kept-count ps ms ks h in let f = h.by_rules.few in omega arith
+  pub kept-few : (ps : List Position) (ms : List Move) → IsKept rules ps ms → length ps ≤ 8193
+  kept-few ps ms h = let c = kept-count ps ms h in let f = h.by_rules.few in omega arith
 
   -- ---- a move more and a move less
 
   -- with the names that a call has for what it found and made
-  pub kept-play : (ps : List Position) (ms : List Move) (ks : List ℕ) → IsKept rules ps ms ks → (r : Rules) (x p : Position) (m : Move) → r ≡ rules → x ≡ (story (played_of rules ps ms)).last → Member m (legal r (repeat_of x)) → length ms < 8192 → p ≡ next r x m →
-      (qs : List Position) (ns : List Move) (js : List ℕ) → qs ≡ ps ++ p ∷ [] → ns ≡ ms ++ m ∷ [] → js ≡ ks ++ key_of (repeat_of p) ∷ [] → IsKept rules qs ns js
-  kept-play ps ms ks h r x p m er ex k few ep qs ns js eq en ej =
+  pub kept-play : (ps : List Position) (ms : List Move) → IsKept rules ps ms → (r : Rules) (x p : Position) (m : Move) → r ≡ rules → x ≡ (story (played_of rules ps ms)).last → Member m (legal r (repeat_of x)) → length ms < 8192 → p ≡ next r x m →
+      (qs : List Position) (ns : List Move) → qs ≡ ps ++ p ∷ [] → ns ≡ ms ++ m ∷ [] → IsKept rules qs ns
+  kept-play ps ms h r x p m er ex k few ep qs ns eq en =
       let is : p ≡ next rules (story (played_of rules ps ms)).last m = ep ∙ ap (λ (s : Rules). next s x m) er ∙ ap (λ (q : Position). next rules q m) ex in
       let there : Member m (legal_in (played_of rules ps ms)) = subst (λ (q : Position). Member m (legal rules (repeat_of q))) ex (subst (λ (s : Rules). Member m (legal s (repeat_of x))) er k) in
-      rw (eq, en, ej, is) (kept-push ps ms ks m h there few)
+      rw (eq, en, is) (kept-push ps ms m h there few)
 
   -- all but the last of the moves, and the last
   whole : (ms : List Move) (n : ℕ) → n ≡ length ms → 0 < n → ms ≡ take (n - 1) ms ++ get_or ms (n - 1) nothing ∷ []
@@ -125,9 +120,9 @@ module _ (rules : Rules) where
   pub played_of-front : (ps : List Position) (ms : List Move) (n : ℕ) → n ≡ length ms → 0 < n → played_of rules (take n ps) (take (n - 1) ms) ≡ shorter (played_of rules ps ms)
   played_of-front ps ms n e h i = record { rules = rules; start = start-front ps n h i; moves = take (e i - 1) ms }
 
-  pub kept-front : (ps : List Position) (ms : List Move) (ks : List ℕ) → IsKept rules ps ms ks → (n : ℕ) → n ≡ length ms → 0 < n →
-      (qs : List Position) (ns : List Move) (js : List ℕ) → qs ≡ take n ps → ns ≡ take (n - 1) ms → js ≡ take n ks → IsKept rules qs ns js
-  kept-front ps ms ks h n e pos qs ns js eq en ej =
+  pub kept-front : (ps : List Position) (ms : List Move) → IsKept rules ps ms → (n : ℕ) → n ≡ length ms → 0 < n →
+      (qs : List Position) (ns : List Move) → qs ≡ take n ps → ns ≡ take (n - 1) ms → IsKept rules qs ns
+  kept-front ps ms h n e pos qs ns eq en =
       let start = slice_index_or ps 0 rules.start in
       let front = take (n - 1) ms in
       let m = get_or ms (n - 1) nothing in
@@ -140,8 +135,7 @@ module _ (rules : Rules) where
       let c = ap length w in
       let count : n ≡ length (history (story_from rules s front)) = omega arith in
       let part : take n ps ≡ history (story_from rules s front) = ap (take n) all ∙ ap (λ k. take k (history (story_from rules s front) ++ next rules (story_from rules s front).last m ∷ [])) count ∙ take-append_seam (history (story_from rules s front)) _ in
-      rw (eq, en, ej) (record {
+      rw (eq, en) (record {
         by_rules = subst (λ (p : Position). IsPlayed (record { rules = rules; start = p; moves = front })) (sym (start-front ps n pos)) short;
         are_positions = part ∙ ap (λ (p : Position). history (story_from rules (record { earlier = []; last = p }) front)) (sym (start-front ps n pos));
-        are_keys = ap (take n) h.are_keys ∙ keys-take n ps;
       })

@@ -4,3 +4,4 @@ pub mod KeptLemmas
 pub mod PerftLemmas
 pub mod LineLaws
 pub mod RepetitionLemmas
+pub mod StandingLemmas

@@ -1,8 +1,8 @@
 -- Standings and the repeats that may not stand again.
-use Rattle.std.proofs.Common.{◌≡◌, ℕ, ◌+◌, ◌<◌, Bool, true, false, not, ◌&&◌, ◌||◌, cond, nat_le, None, List, [], ◌∷◌, ◌++◌, map, length, take, drop, get_or, refl, ap, sym, ◌∙◌, append-nil}
-use Rattle.std.specs.List.{filter, list_any}
+use Rattle.std.proofs.Common.{◌≡◌, ℕ, ◌+◌, ◌<◌, Bool, true, false, not, ◌&&◌, ◌||◌, cond, nat_le, None, List, [], ◌∷◌, ◌++◌, map, length, take, get_or, refl, ap, sym, ◌∙◌, append-nil}
+use Rattle.std.specs.List.{filter}
 use Rattle.std.proofs.lemmas.Bool.Decides.{same_from_decides}
-use Rattle.std.proofs.lemmas.List.{take_more, take-append-drop, map-append}
+use Rattle.std.proofs.lemmas.List.{take_more, map-append}
 use Rattle.std.proofs.lemmas.List.Elements.{filter-append}
 use Rattle.std.proofs.lemmas.List.Sums.{count_by_more_yes, count_by_more_no}
 use Rattle.rules_model.specs.declared.board.Position.{Position}
@@ -20,7 +20,7 @@ blank = record { cells = []; hands = []; gates = []; counter = 0; number = 0; ri
 
 -- ---- standings
 
-same_repeat-sym : (a b : Repeat) → same_repeat a b ≡ same_repeat b a
+pub same_repeat-sym : (a b : Repeat) → same_repeat a b ≡ same_repeat b a
 same_repeat-sym a b = same_from_decides _ _ (repeat-decides a b) (λ e. sym ((repeat-decides b a).0 e), λ e. (repeat-decides b a).1 (sym e))
 
 module _ (r : Repeat) (ps : List Position) (i : ℕ) (d : Position) where
@@ -37,18 +37,6 @@ unfolding times
 times-zero r ps = refl
 
 -- ---- the repeats of a game, each once
-
-any-append : {X : Type 0} (p : X → Bool) (xs : List X) (y : X) → list_any p (xs ++ y ∷ []) ≡ (list_any p xs || p y)
-any-append p [] y = or_none (p y)
-  where
-    or_none : (b : Bool) → (b || false) ≡ b
-    or_none true = refl
-    or_none false = refl
-any-append p (x ∷ xs) y = ap (λ b. p x || b) (any-append p xs y) ∙ or_assoc (p x) (list_any p xs) (p y)
-  where
-    or_assoc : (a b c : Bool) → (a || (b || c)) ≡ ((a || b) || c)
-    or_assoc true b c = refl
-    or_assoc false b c = refl
 
 -- one more at the end, unless it was there
 abbrev new_in : Bool → Repeat → List Repeat
@@ -91,43 +79,6 @@ chosen-more test ps i d h =
 pub chosen-none : (test : Repeat → Bool) (ps : List Position) → filter test (each_once (map repeat_of (take 0 ps))) ≡ []
 unfolding each_once
 chosen-none test ps = refl
-
--- ---- has stood
-
--- what is among the first is among all
-in-append : (r : Repeat) (xs ys : List Repeat) → is_in xs r ≡ true → is_in (xs ++ ys) r ≡ true
-in-append r [] ys h = cc
-in-append r (x ∷ xs) ys h = grow (same_repeat r x) (is_in xs r) (is_in (xs ++ ys) r) (in-append r xs ys) h
-  where
-    grow : (a b c : Bool) → (b ≡ true → c ≡ true) → (a || b) ≡ true → (a || c) ≡ true
-    grow true b c f h = refl
-    grow false b c f h = f h
-
-pub in-take : (r : Repeat) (ps : List Position) (i : ℕ) → is_in (map repeat_of (take i ps)) r ≡ true → is_in (map repeat_of ps) r ≡ true
-in-take r ps i h =
-    sym (ap (λ qs. is_in (map repeat_of qs) r) (take-append-drop i ps))
-    ∙ ap (λ zs. is_in zs r) (map-append repeat_of (take i ps) (drop i ps))
-    ∙ in-append r (map repeat_of (take i ps)) (map repeat_of (drop i ps)) h
-
-module _ (r : Repeat) (ps : List Position) (i : ℕ) (d : Position) where
-  pub in-more : i < length ps → is_in (map repeat_of (take (i + 1) ps)) r ≡ (is_in (map repeat_of (take i ps)) r || same_repeat (repeat_of (get_or ps i d)) r)
-  in-more h =
-      ap (λ qs. is_in (map repeat_of qs) r) (take_more ps i d h)
-      ∙ ap (λ zs. is_in zs r) (map-append repeat_of (take i ps) (get_or ps i d ∷ []))
-      ∙ any-append (same_repeat r) (map repeat_of (take i ps)) (repeat_of (get_or ps i d))
-      ∙ ap (λ b. is_in (map repeat_of (take i ps)) r || b) (same_repeat-sym r (repeat_of (get_or ps i d)))
-
-  -- the position at the place has it
-  pub in-here : i < length ps → same_repeat (repeat_of (get_or ps i d)) r ≡ true → is_in (map repeat_of ps) r ≡ true
-  in-here h e = in-take r ps (i + 1) (in-more h ∙ ap (λ b. is_in (map repeat_of (take i ps)) r || b) e ∙ or_true (is_in (map repeat_of (take i ps)) r))
-    where
-      or_true : (b : Bool) → (b || true) ≡ true
-      or_true true = refl
-      or_true false = refl
-
-  -- neither the ones before it nor the one there
-  pub in-not : i < length ps → is_in (map repeat_of (take i ps)) r ≡ false → same_repeat (repeat_of (get_or ps i d)) r ≡ false → is_in (map repeat_of (take (i + 1) ps)) r ≡ false
-  in-not h before e = in-more h ∙ ap (λ b. b || same_repeat (repeat_of (get_or ps i d)) r) before ∙ e
 
 -- ---- the repeats that may not stand again, place by place
 

@@ -1,3 +1,4 @@
 pub mod Played
 pub mod Perft
+pub mod Standings
 pub mod Repetition

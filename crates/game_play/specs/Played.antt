@@ -69,8 +69,7 @@ played_of rules positions moves =
 abbrev pub keys_of : List Position → List ℕ
 keys_of positions = map (λ p. key_of (repeat_of p)) positions
 
--- the positions are those of the game, and the keys are theirs
-pub record IsKept (rules : Rules) (positions : List Position) (moves : List Move) (keys : List ℕ) : Type 0 where
+-- the positions are those of the game
+pub record IsKept (rules : Rules) (positions : List Position) (moves : List Move) : Type 0 where
   pub by_rules : IsPlayed (played_of rules positions moves)
   pub are_positions : positions ≡ history (story (played_of rules positions moves))
-  pub are_keys : keys ≡ keys_of positions

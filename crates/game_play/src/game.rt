@@ -5,8 +5,8 @@ ghost use Rattle.rules_model.specs.Games as Games;
 ghost use Rattle.rules_model.specs.Sound.{is_sound};
 ghost use Rattle.game_play.specs.Played.{story, keys_of, IsPlayed};
 
+use crate::standings::Standings;
 use attack_tables::Tables;
-use position_key::key_of;
 use rules_model::{Memory, Move, Position, Rules};
 use std::alloc::Global;
 use std::marker::Model;
@@ -19,10 +19,9 @@ pub const MOST_PLIES: usize = 8192;
 #[derive(Drop)]
 pub struct Game {
     pub(crate) tables: Tables,
-    pub(crate) positions: Vec<Position>,
+    /// The position from which it started, and the one after each move.
+    pub(crate) standings: Standings,
     pub(crate) moves: Vec<Move>,
-    /// A key for each position.
-    pub(crate) keys: Vec<u64>,
 }
 
 impl Model for Game {
@@ -30,9 +29,9 @@ impl Model for Game {
 
     ghost Value = { Played };
 
-    ghost view = { λ g. played_of g.tables g.positions.items g.moves.items };
+    ghost view = { λ g. played_of g.tables g.standings g.moves.items };
 
-    ghost invariant = { λ g. IsKept g.tables g.positions.items g.moves.items g.keys.items };
+    ghost invariant = { λ g. IsKept g.tables g.standings g.moves.items };
 }
 
 impl Game {
@@ -43,15 +42,11 @@ impl Game {
         ensures { IfOk result (λ g. g ≡ record { rules = rules.now; start = start.now; moves = [] }) }
     {
         let tables = Tables::new(alloc, rules)?;
-        let mut positions = Vec::new(alloc);
-        positions.push(*start)?;
-        let mut keys = Vec::new(alloc);
-        keys.push(key_of(start))?;
+        let standings = Standings::new(alloc, start)?;
         Ok(Game {
             tables,
-            positions,
+            standings,
             moves: Vec::new(alloc),
-            keys,
         })
     }
 
@@ -81,14 +76,14 @@ impl Game {
         ensures is { result.now ≡ (story self.now).last }
         ensures sound { is_sound self.now.rules result.now ≡ true }
     {
-        &self.positions[self.positions.len() - 1]
+        self.standings.last()
     }
 
     /// All positions, from the start to the last one.
     pub fn history(&self) -> &[Position]
         ensures { result.now ≡ Games.history (story self.now) }
     {
-        self.positions.as_slice()
+        self.standings.positions()
     }
 
     /// The key of each position, in their order.
@@ -96,7 +91,7 @@ impl Game {
         ensures is { result.now ≡ keys_of (Games.history (story self.now)) }
         ensures few { length result.now ≤ 8193 }
     {
-        self.keys.as_slice()
+        self.standings.keys()
     }
 
     /// The moves that were played, the first one first.

@@ -9,6 +9,7 @@ mod perft;
 mod play;
 mod repetition;
 mod results;
+mod standings;
 
 pub use faults::{NothingPlayed, PlayFault};
 pub use game::{Game, MOST_PLIES};

@@ -1,37 +1,30 @@
 //! Moves played and taken back.
-ghost use Rattle.std.specs.Prelude.{◌≡◌, ◌↔◌, ◌∷◌, ◌++◌, [], OnOk, OnErr, IsErr};
-ghost use Rattle.rules_model.specs.Repeats.{repeat_of};
-ghost use Rattle.position_key.specs.Key as Key;
+ghost use Rattle.std.specs.Prelude.{◌≡◌, ◌↔◌, ◌<◌, ◌∷◌, ◌++◌, [], length, OnOk, OnErr, IsErr};
 ghost use Rattle.game_play.specs.Played.{longer, shorter, IsAnswer};
 
 use crate::faults::{NothingPlayed, PlayFault};
 use crate::game::{Game, MOST_PLIES};
+use crate::standings::Standings;
 use legality::{apply, is_legal};
-use position_key::key_of;
 use rules_model::{Move, Position};
 use std::alloc::AllocError;
 
-/// Appends one element to each of the three, or to none.
+/// Puts the position at the end of the standings and the move, which led to it, at the end of the moves, or neither.
 fn append(
-    positions: &mut Vec<Position>,
+    standings: &mut Standings,
     moves: &mut Vec<Move>,
-    keys: &mut Vec<u64>,
     next: &Position,
     m: &Move,
 ) -> Result<(), AllocError>
-    ensures positions { OnOk result (positions.new.items ≡ positions.old.items ++ next.now ∷ []) }
+    requires room { length standings.old < 8193 }
+    ensures positions { OnOk result (standings.new ≡ standings.old ++ next.now ∷ []) }
     ensures moves { OnOk result (moves.new.items ≡ moves.old.items ++ m.now ∷ []) }
-    ensures keys { OnOk result (keys.new.items ≡ keys.old.items ++ Key.key_of (repeat_of next.now) ∷ []) }
-    ensures same_positions { OnErr result (positions.new.items ≡ positions.old.items) }
+    ensures same_positions { OnErr result (standings.new ≡ standings.old) }
     ensures same_moves { OnErr result (moves.new.items ≡ moves.old.items) }
-    ensures same_keys { OnErr result (keys.new.items ≡ keys.old.items) }
 {
-    positions.reserve(1)?;
     moves.reserve(1)?;
-    keys.reserve(1)?;
-    positions.push_reserved(*next);
+    standings.push(next)?;
     moves.push_reserved(*m);
-    keys.push_reserved(key_of(next));
     Ok(())
 }
 
@@ -48,7 +41,7 @@ impl Game {
         ensures refused { OnErr result (self.new ≡ self.old) }
     {
         let rules = self.tables.rules();
-        let last = &self.positions[self.positions.len() - 1];
+        let last = self.standings.last();
         if !is_legal(rules, &self.tables, last, m) {
             return Err(PlayFault::Illegal);
         }
@@ -57,13 +50,7 @@ impl Game {
         }
         let mut next = *last;
         apply(rules, &self.tables, &mut next, m);
-        append(
-            &mut self.positions,
-            &mut self.moves,
-            &mut self.keys,
-            &next,
-            m,
-        )?;
+        append(&mut self.standings, &mut self.moves, &next, m)?;
         Ok(())
     }
 
@@ -78,8 +65,7 @@ impl Game {
             return Err(NothingPlayed);
         }
         self.moves.truncate(plies - 1);
-        self.positions.truncate(plies);
-        self.keys.truncate(plies);
+        self.standings.pop();
         Ok(())
     }
 }

@@ -68,6 +68,9 @@ fn moves_are_played_and_taken_back(rt: HostRuntime) -> Result<(), Fail> {
     undo_all(&rt, &mut game, 4);
     assert_eq!(rt; game.undo(), Err(NothingPlayed));
     assert!(rt; *game.position() == start);
+    assert_eq!(rt; game.repeats(&start), 1);
+    assert_eq!(rt; game.play(&go("e1d1")), Ok(()));
+    assert_eq!(rt; game.repeats(game.position()), 1);
     Ok(())
 }
 

@@ -16,11 +16,11 @@ use Rattle.game_text.specs.declared.fault.NoGame.TheVariants.{Faulty, Unread, Me
 use Rattle.game_text.specs.Playing.{and_then, goes_on, most_plies, move_of, play, play_all}
 use Rattle.game_text.specs.ReadView.{Plays}
 use Rattle.session_model.specs.UciLines.{Fen, Startpos}
-use Rattle.session_model.specs.UciState.{State, Outcome, after_moves, from_position, place, with_game}
+use Rattle.session_model.specs.UciState.{State, Outcome, after_moves, from_position, move_fault, place, with_game}
 use Rattle.uci_lines.specs.View.{texts}
 use Rattle.uci_front.specs.declared.refusal.Refusal.{Refusal}
 use Rattle.uci_front.specs.declared.refusal.Refusal.TheVariants.{Fault, Memory as Out}
-use Rattle.uci_front.specs.Outcomes.{IsOutcome, Leads}
+use Rattle.uci_front.specs.Outcomes.{IsOutcome, Leads, Refuses}
 
 drop_suc : {X : Type 0} (xs : List X) (i : ℕ) (d : X) → i < length xs → drop i xs ≡ get_or xs i d ∷ drop (suc i) xs
 drop_suc [] i d below = absurd (omega (arith, below))
@@ -111,3 +111,11 @@ pub placed_fault : (state : State) (said : Outcome) (now : State) (why : Refusal
     → (A : Type 0) → IsOutcome {A = A} said now (Err why)
 placed_fault state said now (Fault text) leads A = leads
 placed_fault state said now Out leads A = tt
+
+pub plays_fault : (A : Type 0) (said : Result Played GameFault) (now : Played) (why : NoGame) (fault : GameFault) → why ≡ Faulty fault → Plays {A = A} said now (Err why) → said ≡ Err fault
+plays_fault A said now why fault e h = subst (λ w. Plays {A = A} said now (Err w)) e h
+
+-- moves that are refused lead to the words of their fault
+pub leads_to_fault : (state : State) (said : Result Played GameFault) (fault : GameFault) (refusal : Refusal) → said ≡ Err fault → Refuses (move_fault fault) refusal → Leads state (after_moves state said) (Err refusal)
+leads_to_fault state said fault (Fault text) e f = ap (after_moves state) e ∙ ap Err (sym f)
+leads_to_fault state said fault Out e f = tt

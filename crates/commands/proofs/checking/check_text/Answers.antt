@@ -15,6 +15,12 @@ returns-in_err-verdict-clause-heard g c =
     let p = err_from_is_err_and c.from_residual-in_err-verdict.result c.from_residual-in_err-verdict.ensures.1 in
     rw (p.1, p.2) (heard_so _ _ _ _ _ _ c.in_ok-proof.ensures.heard (same_needed _) (λ lines says. tt))
 
+pub returns-in_err-verdict-clause-cause : goal.returns-in_err-verdict-clause-cause
+returns-in_err-verdict-clause-cause g c =
+    let p = err_from_is_err_and c.from_residual-in_err-verdict.result c.from_residual-in_err-verdict.ensures.1 in
+    let later = c.in_ok-proof.ensures.cause.later in
+    rw (p.1, p.2) (record { later = omega (arith, later); failed = λ unheard. absurd unheard })
+
 pub returns-clause-heard : goal.returns-clause-heard
 returns-clause-heard g c =
     heard_so _ _ _ _ _ _ c.in_ok-proof.ensures.heard (same_needed _)

@@ -1,15 +1,19 @@
-use Rattle.std.proofs.Common.{◌≡◌, length, ap, arith}
-use Rattle.game_play.specs.Played.{Played}
-use Rattle.game_play.proofs.KeptLemmas.{kept-few, kept-count}
+use Rattle.std.proofs.Common.{◌≡◌, length, ap, ◌∙◌, arith}
+use Rattle.rules_model.specs.Games.{history, times}
+use Rattle.rules_model.specs.Repeats.{repeat_of}
+use Rattle.game_play.specs.Played.{Played, story}
+use Rattle.game_play.proofs.KeptLemmas.{kept-count}
 use Rattle.game_play.proofs.game.Game.repeats_by_key.Goals as goal
 
-pub standings-requires-clause-few : goal.standings-requires-clause-few
-standings-requires-clause-few c = let i = c.self.inside in rw c.as_slice.ensures.value (kept-few i.tables i.positions.items i.moves.items i.keys.items c.self.invariant)
+pub returns-clause-is : goal.returns-clause-is
+returns-clause-is c =
+    let r = repeat_of c.args.p.now in
+    c.from.ensures ∙ c.times.ensures.is ∙ ap (times r) c.self.invariant.are_positions ∙ ap (λ (g : Played). times r (history (story g))) c.self.view_is
 
 pub returns-clause-few : goal.returns-clause-few
 returns-clause-few c =
     let i = c.self.inside in
-    let count = kept-count i.tables i.positions.items i.moves.items i.keys.items c.self.invariant in
+    let count = kept-count i.tables i.standings i.moves.items c.self.invariant in
     let same : length i.moves.items ≡ length c.args.self.now.moves = ap (λ (g : Played). length g.moves) c.self.view_is in
-    let all = ap length c.as_slice.ensures.value in
+    let few = c.times.ensures.few in
     omega arith

@@ -1,14 +1,24 @@
-use Rattle.std.proofs.Common.{arith, ap, ◌∙◌}
+use Rattle.std.proofs.Common.{◌≡◌, ◌-◌, length, take, arith, ap, ◌∙◌}
 use Rattle.game_play.specs.Played.{shorter}
-use Rattle.game_play.proofs.KeptLemmas.{kept-front, played_of-front}
+use Rattle.game_play.proofs.KeptLemmas.{kept-count, kept-front, played_of-front}
 use Rattle.game_play.proofs.game.Game.undo.Goals as goal
+
+pub pop-requires : goal.pop-requires
+pop-requires c =
+    let i = c.self.inside in
+    let count = kept-count i.tables i.standings i.moves.items c.self.invariant in
+    record { some = omega arith }
 
 pub invariant_of-self : goal.invariant_of-self
 invariant_of-self c =
     let i = c.self.inside in
-    kept-front i.tables i.positions.items i.moves.items i.keys.items c.self.invariant c.len-plies.result (omega arith) (omega arith) _ _ _ c.truncate-2.ensures.items c.truncate.ensures.items c.truncate-3.ensures.items
+    let count = kept-count i.tables i.standings i.moves.items c.self.invariant in
+    let plies : length i.standings - 1 ≡ c.len-plies.result = omega arith in
+    kept-front i.tables i.standings i.moves.items c.self.invariant c.len-plies.result (omega arith) (omega arith) _ _ (c.pop.ensures ∙ ap (λ n. take n i.standings) plies) c.truncate.ensures.items
 
 pub returns-clause-undone : goal.returns-clause-undone
 returns-clause-undone c =
     let i = c.self.inside in
-    rw (c.truncate-2.ensures.items, c.truncate.ensures.items) (played_of-front i.tables i.positions.items i.moves.items c.len-plies.result (omega arith) (omega arith) ∙ ap shorter c.self.view_is)
+    let count = kept-count i.tables i.standings i.moves.items c.self.invariant in
+    let plies : length i.standings - 1 ≡ c.len-plies.result = omega arith in
+    rw (c.pop.ensures, plies, c.truncate.ensures.items) (played_of-front i.tables i.standings i.moves.items c.len-plies.result (omega arith) (omega arith) ∙ ap shorter c.self.view_is)
