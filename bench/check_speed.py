@@ -8,15 +8,23 @@ Three texts more are made to be hard: one repeat at as many counters as there ar
 proof text whose second line is faulty and which goes on for 60 megabytes.
 
 Usage: bench/check_speed.py [NODES ..]      (at least so many nodes each, 10000 and 100000 by default)
+VENGINE=FILE names another program.
 """
 import os
 import re
 import subprocess
 import sys
 import tempfile
-import time
 
-ENGINE = os.path.join(os.path.dirname(os.path.abspath(__file__)), "..", "vengine")
+ENGINE = os.environ.get("VENGINE", os.path.join(os.path.dirname(os.path.abspath(__file__)), "..", "vengine"))
+# Runs a program and then says its seconds and its kibibytes, which have at least this small program's own: in a child of the process that
+# made the text they would have the text.
+MEASURED = """
+import resource, subprocess, sys, time
+start = time.perf_counter()
+subprocess.run(sys.argv[1:], stderr=subprocess.DEVNULL)
+print(time.perf_counter() - start, resource.getrusage(resource.RUSAGE_CHILDREN).ru_maxrss, file=sys.stderr)
+"""
 FILES = 12
 RANKS = 10
 LETTERS = "abcdefghijkl"
@@ -153,32 +161,31 @@ def faulty_second_line():
 
 
 def checked(variant, text, answer):
-    """How long `check` takes on the text, which has this answer."""
+    """How long `check` takes on the text, which has this answer, and how many mebibytes it needs."""
     with tempfile.NamedTemporaryFile("w", suffix=".ini") as variants, tempfile.NamedTemporaryFile("w") as input_file:
         variants.write(variant)
         variants.flush()
         input_file.write(text)
         input_file.flush()
-        start = time.perf_counter()
+        words = [sys.executable, "-c", MEASURED, ENGINE, "--variants", variants.name, "check"]
         with open(input_file.name) as given:
-            done = subprocess.run(
-                [ENGINE, "--variants", variants.name, "check"], stdin=given, capture_output=True, text=True
-            )
-        taken = time.perf_counter() - start
+            done = subprocess.run(words, stdin=given, capture_output=True, text=True)
     if done.stdout != answer:
         sys.exit("check_speed: " + done.stdout)
-    return taken
+    taken, kibibytes = done.stderr.split()[-2:]
+    return float(taken), int(kibibytes) / 1024
 
 
 def main():
     wanted = [int(word) for word in sys.argv[1:]] or [10_000, 100_000]
     for least in wanted:
         text, nodes = strategy(least)
-        taken = checked(VARIANT, text, "wins\n")
-        print(f"{nodes} nodes, {len(text)} bytes: {taken:.2f} s, {nodes / taken:.0f} nodes a second")
+        taken, mebibytes = checked(VARIANT, text, "wins\n")
+        print(f"{nodes} nodes, {len(text)} bytes: {taken:.2f} s, {nodes / taken:.0f} nodes a second, {mebibytes:.0f} MiB")
     for name, make in (("nodes of one repeat", one_repeat), ("edges of one node", many_edges), ("lines after a fault", faulty_second_line)):
         variant, text, count, answer = make()
-        print(f"{count} {name}, {len(text)} bytes: {checked(variant, text, answer):.2f} s")
+        taken, mebibytes = checked(variant, text, answer)
+        print(f"{count} {name}, {len(text)} bytes: {taken:.2f} s, {mebibytes:.0f} MiB")
 
 
 if __name__ == "__main__":
