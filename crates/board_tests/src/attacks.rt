@@ -402,11 +402,12 @@ fn regions_are_sets(rt: HostRuntime) -> Result<(), Memory> {
     Ok(())
 }
 
-// Those of a queen's lines and a knight's jumps, and no others: every square would do, and be slow.
+// Those of a queen's lines and a knight's jumps on the largest board, and no others: every square would do, and be
+// slow.
 #[test]
 fn takers_in_chess(rt: HostRuntime) -> Result<(), Memory> {
     let tables = Tables::new(rt.alloc(), &chess())?;
-    for (at, squares) in [("a1", 23), ("e4", 35), ("h4", 25)] {
+    for (at, squares) in [("a1", 31), ("e4", 44), ("h4", 44)] {
         let white = tables.takers(Side::White, square(at));
         let black = tables.takers(Side::Black, square(at));
         assert_eq!(rt; (white.count(), black.count()), (squares, squares), "{at}");
