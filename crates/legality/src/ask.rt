@@ -20,7 +20,7 @@ use crate::count::Counter;
 use crate::known::Known;
 use crate::play::king_attacked_with;
 use crate::safety::Safety;
-use crate::search::{can_go, early_end_with, goes_on};
+use crate::search::{early_end_with, goes_on};
 use crate::unpinned::free_squares;
 use attack_tables::Tables;
 use board_sets::{BoardSets, sets_of};
@@ -160,7 +160,9 @@ fn captures_if_forced(
     requires fit { IsFitMove m.now }
     ensures { result ≡ Chosen.captures_if_forced rules.now (repeat_of p.now) m.now }
 {
-    !rules.must_capture || captures(rules, p, m) || !can_go(rules, tables, p, sets, Part::Captures)
+    !rules.must_capture
+        || captures(rules, p, m)
+        || !Known::of(rules, tables, p, sets).can_go(Part::Captures)
 }
 
 /// Whether the move is legal by the rules.

@@ -36,25 +36,6 @@ pub(crate) fn push_candidates<S: MoveSink>(
     special_moves::push_moves(rules, tables, p, sets, out)
 }
 
-/// The same as `push_candidates`, with the special moves before the ordinary moves of pieces: for a caller that looks
-/// for one legal move, since a pawn is likely to have one.
-pub(crate) fn push_pawns_first<S: MoveSink>(
-    rules: &Rules,
-    tables: &Tables,
-    p: &Position,
-    sets: &BoardSets,
-    out: &mut S,
-) -> Result<(), S::Full>
-    requires fit { IsFit rules.now }
-    requires tables { tables.now ≡ rules.now }
-    requires sets { AreSets rules.now p.now.side p.now.cells sets.now }
-    ensures ok { OnOk result (TakesAll S.takes (FitCandidates rules.now (repeat_of p.now)) out.old out.new) }
-    ensures err { OnErr result (TakesSome S.stops (FitCandidates rules.now (repeat_of p.now)) out.old out.new) }
-{
-    special_moves::push_moves(rules, tables, p, sets, out)?;
-    piece_moves::push_moves(rules, tables, p, sets, out)
-}
-
 /// Whether the move is a candidate.
 #[tactic(auto, unfolding(rules_model::specs::Candidates::is_candidate))]
 pub(crate) fn is_candidate(rules: &Rules, tables: &Tables, p: &Position, m: &Move) -> bool

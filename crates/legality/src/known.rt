@@ -6,7 +6,7 @@ ghost use Rattle.board_sets.specs.Sets.{AreSets};
 ghost use Rattle.legality.specs.Stance.{repeat_in};
 
 use crate::safety::Safety;
-use crate::search::early_end_with;
+use crate::search::{early_end_with, is_ongoing};
 use attack_tables::Tables;
 use board_sets::BoardSets;
 use rules_model::{Outcome, Position, Rules};
@@ -62,10 +62,6 @@ impl<'a> Known<'a> {
     pub(crate) fn goes_on(&self) -> bool
         ensures { result ≡ Ends.is_ongoing (Ends.early_end self.now.rules (repeat_in self.now)) }
     {
-        match self.early {
-            Outcome::Ongoing => true,
-            Outcome::Won(_, _) => false,
-            Outcome::Drawn(_) => false,
-        }
+        is_ongoing(self.early)
     }
 }

@@ -7,11 +7,10 @@ ghost use Rattle.board_sets.specs.Sets.{AreSets};
 ghost use Rattle.legality.specs.Chosen as Chosen;
 ghost use Rattle.legality.specs.Stance.{repeat_in};
 
-use crate::candidates::push_pawns_first;
+use crate::candidates::push_candidates;
 use crate::choice::{Choice, Part};
 use crate::flag::has_flag;
 use crate::known::Known;
-use crate::safety::Safety;
 use crate::seek::Seeker;
 use attack_tables::Tables;
 use board_sets::BoardSets;
@@ -27,17 +26,24 @@ pub fn early_end_with(rules: &Rules, tables: &Tables, p: &Position, sets: &Board
     early_end_by(rules, p, has_flag(rules, tables, p, sets))
 }
 
+/// Whether there is no end.
+pub(crate) fn is_ongoing(end: Outcome) -> bool
+    ensures { result ≡ Ends.is_ongoing end }
+{
+    match end {
+        Outcome::Ongoing => true,
+        Outcome::Won(_, _) => false,
+        Outcome::Drawn(_) => false,
+    }
+}
+
 /// Whether the position has no end by itself before its moves are looked at.
 pub(crate) fn goes_on(rules: &Rules, tables: &Tables, p: &Position, sets: &BoardSets) -> bool
     requires tables { tables.now ≡ rules.now }
     requires sets { AreSets rules.now p.now.side p.now.cells sets.now }
     ensures { result ≡ Ends.is_ongoing (Ends.early_end rules.now (repeat_of p.now)) }
 {
-    match early_end_with(rules, tables, p, sets) {
-        Outcome::Ongoing => true,
-        Outcome::Won(_, _) => false,
-        Outcome::Drawn(_) => false,
-    }
+    is_ongoing(early_end_with(rules, tables, p, sets))
 }
 
 /// Whether some allowed move is of the part, by what is known of the position. It stops at the first.
@@ -48,7 +54,7 @@ fn some_goes(choice: Choice<'_>) -> bool
 {
     let safety = choice.safety;
     let mut seeker = Seeker { choice };
-    match push_pawns_first(
+    match push_candidates(
         safety.tables.rules(),
         safety.tables,
         safety.p,
@@ -58,23 +64,6 @@ fn some_goes(choice: Choice<'_>) -> bool
         Ok(()) => false,
         Err(_) => true,
     }
-}
-
-/// Whether some allowed move is of the part. It stops at the first.
-pub(crate) fn can_go(
-    rules: &Rules,
-    tables: &Tables,
-    p: &Position,
-    sets: &BoardSets,
-    part: Part,
-) -> bool
-    requires fit { IsFit rules.now }
-    requires tables { tables.now ≡ rules.now }
-    requires sets { AreSets rules.now p.now.side p.now.cells sets.now }
-    ensures { result ≡ Chosen.can_go rules.now (repeat_of p.now) part }
-{
-    let safety = Safety::of_all(rules, tables, p, sets);
-    some_goes(Choice { safety, part })
 }
 
 impl Known<'_> {
