@@ -10,3 +10,4 @@ mod targets;
 
 pub use candidate::is_candidate;
 pub use generate::{Mover, mover_on, push_mover, push_moves};
+pub use promotion::holds_a_right;

@@ -18,8 +18,8 @@ pub(crate) fn may_plus(rules: &Rules, side: Side, kind: Kind, from: Square, to: 
         && (in_region(&rules.promotion, side, from.0) || in_region(&rules.promotion, side, to.0))
 }
 
-/// Whether the mover holds a castling right.
-fn holds_a_right(p: &Position) -> bool
+/// Whether the side to move holds a castling right.
+pub fn holds_a_right(p: &Position) -> bool
     ensures { result ≡ Plain.holds_a_right (repeat_of p.now) }
 {
     holds_right(&p.rights, p.side, Wing::Kingside)

@@ -1,6 +1,6 @@
 -- The parts of the castles.
 use Rattle.std.proofs.Common.{◌≡◌, ◌≢◌, ℕ, ◌<◌, nat_lt, Bool, true, false, ◌&&◌, if◌then◌else◌, inl, inr, Option, Some, None, refl, ap, sym, ◌∙◌, subst, arith}
-use Rattle.std.proofs.lemmas.Bool.{and_parts}
+use Rattle.std.proofs.lemmas.Bool.{and_parts, or_parts}
 use Rattle.std.proofs.lemmas.Bool.Decides.{nat_tests}
 use Rattle.rules_model.specs.declared.board.Repeat.{Repeat}
 use Rattle.rules_model.specs.declared.board.Side.{Side}
@@ -18,6 +18,7 @@ use Rattle.rules_model.specs.Hands.{holds}
 use Rattle.rules_model.specs.Moves.{IsFitPlaced}
 use Rattle.rules_model.specs.Regions.{castling_rank, castling_square}
 use Rattle.rules_model.proofs.CandidateLaws.{castle_gate, not_both, rook_file-some}
+use Rattle.piece_moves.specs.Plain.{holds_a_right}
 use Rattle.special_moves.specs.Castles.{is_open, open_castle, where_open}
 use Rattle.move_sink.specs.Taking.{IsChosen}
 use Rattle.special_moves.specs.Parts.{castle_move, IsCastle, IsCastleOf, IsCastleOfSome, IsCastleTo, IsGatedCastle, IsGateOf, IsGateOn, kind_at, placed_on}
@@ -153,6 +154,15 @@ none_open rules r wing (Some castle) m e off h = let on = (open-is rules r wing 
 pub no-castles : (rules : Rules) (r : Repeat) → castling_on rules ≡ false → (m : Move) → IsCastle rules r m → ⊥
 no-castles rules r off m (inl h) = none_open rules r Kingside (open_castle rules r Kingside) m refl off h
 no-castles rules r off m (inr h) = none_open rules r Queenside (open_castle rules r Queenside) m refl off h
+
+-- where the side has no right to a wing there is none to it
+none_held : (rules : Rules) (r : Repeat) (wing : Wing) (o : Option CastleSquares) (m : Move) → open_castle rules r wing ≡ o → holds_right r.rights r.side wing ≡ false → IsCastleOfSome rules r o m → ⊥
+none_held rules r wing None m e off h = h
+none_held rules r wing (Some castle) m e off h = let held = (open-is rules r wing castle e).held in cc
+
+pub no-rights : (rules : Rules) (r : Repeat) → holds_a_right r ≡ false → (m : Move) → IsCastle rules r m → ⊥
+no-rights rules r off m (inl h) = none_held rules r Kingside (open_castle rules r Kingside) m refl (or_parts _ _ off).0 h
+no-rights rules r off m (inr h) = none_held rules r Queenside (open_castle rules r Queenside) m refl (or_parts _ _ off).1 h
 
 pub lt-is : (a b : ℕ) → nat_lt a b ≡ true → a < b
 lt-is a b e = grind (arith, nat_tests)

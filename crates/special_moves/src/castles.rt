@@ -18,6 +18,7 @@ use crate::way::{holds_own_king, way_is_open};
 use attack_tables::{Tables, cell_on};
 use board_sets::{BoardSets, sets_of};
 use move_sink::{MoveSink, push_if};
+use piece_moves::holds_a_right;
 use rules_model::castling::{
     CastleSquares, castle_of, castling_square, holds_right, is_rook, rook_target, rook_to_file,
 };
@@ -315,6 +316,10 @@ pub(crate) fn push_castles<S: MoveSink>(
     ensures err { OnErr result (TakesSome S.stops (IsCastle rules.now (repeat_of p.now)) out.old out.new) }
 {
     if !tables.castling_on() {
+        return Ok(());
+    }
+    // Asked once, before the calls for the wings, since few positions of a game have a right left.
+    if !holds_a_right(p) {
         return Ok(());
     }
     push_castles_to(rules, tables, p, sets, Wing::Kingside, out)?;
