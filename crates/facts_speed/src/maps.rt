@@ -5,7 +5,8 @@ ghost use Rattle.std.specs.Hash as fed;
 ghost use Rattle.std.proofs.Common.{rules};
 
 use crate::store::Store;
-use mate_core::{Fact, hash_of, shard_of_hash};
+use mate_core::{Fact, shard_of_hash};
+use position_key::key_of_repeat;
 use rules_model::{Move, Position, Repeat, Side, repeat_of};
 use std::alloc::{AllocError, Global};
 use std::collections::HashMap;
@@ -42,7 +43,7 @@ struct Claim {
 
 fn key_of(repeat: &Repeat) -> Key {
     Key {
-        hash: hash_of(repeat),
+        hash: key_of_repeat(repeat),
         repeat: *repeat,
     }
 }

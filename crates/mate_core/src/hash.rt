@@ -5,23 +5,16 @@ ghost use Rattle.mate_core.specs.Hash as Hash;
 use position_key::key_of_repeat;
 use rules_model::Repeat;
 
-/// The key of all that a repetition compares. Equal repeats have equal keys.
-pub fn hash_of(r: &Repeat) -> u64
-    ensures { result ≡ Hash.hash_of r.now }
-{
-    key_of_repeat(r)
-}
-
 /// The number of the shard for facts of the repeat, among so many shards.
 pub fn shard_of(r: &Repeat, shards: u32) -> u32
     requires some { 0 < shards }
     ensures is { result ≡ Hash.shard_of r.now shards }
     ensures below { result < shards }
 {
-    shard_of_hash(hash_of(r), shards)
+    shard_of_hash(key_of_repeat(r), shards)
 }
 
-/// The number of the shard for facts of a repeat with this hash, among so many shards.
+/// The number of the shard for facts of a repeat with this key, among so many shards.
 pub fn shard_of_hash(hash: u64, shards: u32) -> u32
     requires some { 0 < shards }
     ensures is { result ≡ Hash.shard_of_hash hash shards }

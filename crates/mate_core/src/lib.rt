@@ -16,7 +16,7 @@ pub use answers::{
 pub use event::{Event, Reply};
 pub use forced_wins::Fact;
 pub use frame::Frame;
-pub use hash::{hash_of, part_of, shard_of, shard_of_hash};
+pub use hash::{part_of, shard_of, shard_of_hash};
 pub use packed_fact::{Claim, PackedFact};
 pub use steps::step;
 pub use store::{FactList, FactLists, Known, KnownList, Store};

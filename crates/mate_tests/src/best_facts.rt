@@ -1,9 +1,10 @@
 //! Tests of `mate_core`.
 use forced_wins::Fact;
 use mate_core::{
-    Event, FactList, FactLists, Frame, KnownList, Reply, Store, best, hash_of, is_as_good, serves,
-    shard_of, step,
+    Event, FactList, FactLists, Frame, KnownList, Reply, Store, best, is_as_good, serves, shard_of,
+    step,
 };
+use position_key::key_of_repeat;
 use rules_model::{Blocked, Cell, Kind, Repeat, Side, Square};
 use sample_rules::leapers;
 use std::alloc::{AllocError, Global};
@@ -67,13 +68,15 @@ fn king_of(side: Side) -> Option<Cell> {
 /// Asserts that the repeat, which differs from the bare one in one part, is another.
 fn expect_another(rt: &impl Abort, other: &Repeat) {
     let win = fact(true, 3, 10);
-    assert!(rt; !serves(&win, other, 10, 3) && hash_of(other) != hash_of(&bare()));
+    assert!(rt; !serves(&win, other, 10, 3) && key_of_repeat(other) != key_of_repeat(&bare()));
 }
 
 #[test]
 fn a_side_a_passing_pawn_and_checks_count(rt: HostRuntime) {
     let win = fact(true, 3, 10);
-    assert!(rt; serves(&win, &bare(), 10, 3) && hash_of(&win.repeat) == hash_of(&bare()));
+    assert!(rt;
+        serves(&win, &bare(), 10, 3) && key_of_repeat(&win.repeat) == key_of_repeat(&bare())
+    );
     let side = Side::Black;
     expect_another(&rt, &Repeat { side, ..bare() });
     let ep = Some(Square(50));
