@@ -1,5 +1,5 @@
 -- What wins by the attacker's last move.
-use Rattle.std.proofs.Common.{◌≡◌, ℕ, ◌-◌, List, [], ◌∷◌, Bool, true, false, Option, Some, None, not, is_some, ◌&&◌, ◌==◌, if◌then◌else◌, slice_index, slice_set, inl, refl, ap, sym, ◌∙◌}
+use Rattle.std.proofs.Common.{◌≡◌, ℕ, List, [], ◌∷◌, Bool, true, false, Option, Some, None, not, is_some, ◌&&◌, ◌==◌, if◌then◌else◌, slice_index, slice_set, inl, refl, ap, sym, ◌∙◌}
 use Rattle.std.specs.List.{list_all}
 use Rattle.std.proofs.lemmas.Bool.{and_parts}
 use Rattle.std.proofs.lemmas.List.{get_or-set_other}
@@ -20,7 +20,7 @@ use Rattle.rules_model.specs.declared.rules.Rules.{Rules}
 use Rattle.rules_model.specs.Attacks.{king_attacked}
 use Rattle.rules_model.specs.Repeats.{repeat_of}
 use Rattle.rules_model.specs.Sides.{other, same_side, side_index}
-use Rattle.rules_model.specs.Ends.{is_ongoing, has_flag, has_none_left, early_end, or_end, valued, no_move}
+use Rattle.rules_model.specs.Ends.{is_ongoing, has_flag, has_none_left, early_end, valued, no_move}
 use Rattle.rules_model.specs.Legal.{legal, is_stuck, own_end, gives_check}
 use Rattle.rules_model.specs.Next.{cells_after, checks_after, next, next_repeat}
 use Rattle.rules_model.proofs.PlayLaws.{own_end-stuck}

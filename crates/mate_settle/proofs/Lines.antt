@@ -1,5 +1,5 @@
 -- The number of lines.
-use Rattle.std.proofs.Common.{◌≡◌, ◌⊎◌, inl, inr, ℕ, zero, suc, ◌+◌, ◌-◌, ◌<◌, ◌≤◌, List, [], ◌∷◌, take, slice_get, Some, Bool, true, false, not, refl, ap, sym, ◌∙◌, subst, arith}
+use Rattle.std.proofs.Common.{◌≡◌, ◌⊎◌, inl, inr, ℕ, zero, suc, ◌+◌, ◌-◌, ◌<◌, ◌≤◌, List, [], ◌∷◌, take, length, get_or, slice_get, Some, Bool, true, false, not, refl, ap, sym, ◌∙◌, subst, arith}
 use Rattle.std.specs.List.{sum_by}
 use Rattle.std.proofs.lemmas.List.Sums.{sum_by_more, sum_by-cons, sum_by-take-le, sum_by-le-sum_by}
 use Rattle.std.proofs.lemmas.Option.{slice_get_within, get_or_from_slice_get}
@@ -8,7 +8,10 @@ use Rattle.forced_wins.specs.Games.{Game, GameLaws}
 use Rattle.forced_wins.proofs.Counts.{by_cases}
 use Rattle.game_values.proofs.TreeLaws.{sum_by-once}
 use Rattle.rules_model.specs.declared.board.Position.{Position}
+use Rattle.rules_model.specs.declared.moves.Move.{Move}
 use Rattle.mate_core.specs.declared.frame.Frame.{Frame}
+use Rattle.mate_settle.proofs.OrderLaws.{read-at}
+use Rattle.mate_settle.specs.Choices.{lines_of_moves}
 use Rattle.mate_settle.specs.Lines.{plies, lines, lines_within, lines_after, seen_in}
 use Rattle.mate_settle.specs.Steps.{left_after}
 
@@ -120,12 +123,6 @@ module _ {P R M : Type 0} (r : Game P R M) (p : P) (left : ℕ) (ms : List M) wh
   pub part-more : (i : ℕ) (m : M) (y : ℕ) → slice_get ms i ≡ Some m → y ≡ lines_after r left p m → sum_by (lines_after r left p) (take i ms) + y ≤ sum_by (lines_after r left p) (take (i + 1) ms)
   part-more i m y h e = let s = sum-more (lines_after r left p) ms i m h in omega arith
 
-  pub part-last : (i : ℕ) (m : M) (y : ℕ) → Lists (λ m. Member m (r.legal p)) ms → slice_get ms i ≡ Some m → y ≡ lines_after r left p m → sum_by (lines_after r left p) (take i ms) + y ≤ sum_by (lines_after r left p) (r.legal p)
-  part-last i m y all h e =
-      let k = part-more i m y h e in
-      let w = part-whole (lines_after r left p) (r.legal p) ms all (i + 1) in
-      omega arith
-
 pub left-small : (a : Bool) (n : ℕ) → left_after a n ≤ n
 left-small true n = omega arith
 left-small false n = omega arith
@@ -133,3 +130,17 @@ left-small false n = omega arith
 -- the same lines, in a frame and from a position that are the same
 pub same-lines : (f g : Frame) (p q : Position) (n : ℕ) → f ≡ g → p ≡ q → lines_within (seen_in f) n p ≡ lines_within (seen_in g) n q
 same-lines f g p q n e d i = lines_within (seen_in (e i)) n (d i)
+
+-- those of the first moves that were tried, and of one more, in a frame that is kept, are some of those of all moves
+module _ (f kept : Frame) (p : Position) (ms : List Move) (n i : ℕ) (d : Move) (same : kept ≡ f) (within : i < length ms) where
+  abbrev tried_then : ℕ
+  tried_then = sum_by (lines_after (seen_in f) n p) (take i ms) + lines_after (seen_in kept) n p (get_or ms i d)
+
+  pub turn-more : tried_then ≤ sum_by (lines_after (seen_in f) n p) (take (i + 1) ms)
+  turn-more = part-more (seen_in f) p n ms i (get_or ms i d) _ (read-at ms i d within) (ap (λ (h : Frame). lines_after (seen_in h) n p (get_or ms i d)) same)
+
+  pub turn-last : Lists (λ m. Member m ((seen_in f).legal p)) ms → tried_then ≤ lines_of_moves f n p
+  turn-last all =
+      let tried = turn-more in
+      let whole = part-whole (lines_after (seen_in f) n p) ((seen_in f).legal p) ms all (i + 1) in
+      omega arith

@@ -1,9 +1,10 @@
 -- How facts follow from those of the moves.
-use Rattle.std.proofs.Common.{◌≡◌, ◌⊎◌, inl, inr, ℕ, zero, suc, ◌+◌, ◌<◌, ◌≤◌, List, [], ◌∷◌, ◌++◌, take, Bool, true, false, not, nat_le, Option, Some, None, slice_get, refl, ap, sym, ◌∙◌, subst, arith, min, max}
+use Rattle.std.proofs.Common.{◌≡◌, ◌⊎◌, inl, inr, ℕ, zero, suc, ◌+◌, ◌<◌, ◌≤◌, List, [], ◌∷◌, ◌++◌, take, Bool, true, false, not, if◌then◌else◌, nat_le, Option, Some, None, is_some, Result, Ok, Err, slice_get, refl, ap, sym, ◌∙◌, subst, arith, min, max}
 use Rattle.std.proofs.lemmas.Bool.{and_parts, leb-true}
 use Rattle.std.proofs.lemmas.Bool.Decides.{nat_tests}
-use Rattle.std.specs.List.{find}
+use Rattle.std.specs.List.{find, sum_by}
 use Rattle.std.specs.Option.{IfSome}
+use Rattle.std.specs.Result.{IfOk}
 use mathlib.Core.Bool.{beq}
 use Rattle.foundation.specs.Member.{Member, Appends, Lists}
 use Rattle.foundation.specs.Tests.{is_nil}
@@ -13,21 +14,26 @@ use Rattle.rules_model.specs.declared.rules.Rules.{Rules}
 use Rattle.rules_model.specs.Legal.{legal}
 use Rattle.rules_model.specs.Next.{next}
 use Rattle.rules_model.specs.Repeats.{repeat_of}
+use Rattle.rules_model.specs.Sides.{same_side}
 use Rattle.rules_model.specs.Sound.{is_sound}
 use Rattle.sound_play.proofs.SoundLaws.{position_parts}
 use Rattle.forced_wins.specs.declared.fact.Fact.{Fact}
 use Rattle.forced_wins.specs.Facts.{Says, covers, serves, fact_of, smaller, WonNow, RefutedNow, EndedLost, OutOfMoves}
-use Rattle.forced_wins.proofs.Counts.{not_true, true_false, le_true, and_true}
+use Rattle.forced_wins.proofs.Counts.{by_cases, not_true, true_false, le_true, and_true}
 use Rattle.forced_wins.proofs.ContestLaws.{all_intro}
 use Rattle.forced_wins.proofs.FactLaws.{near-more}
+use Rattle.forced_wins.proofs.Rules.{laws}
 use Rattle.forced_wins.proofs.TableLaws.{any_member, all_member}
 use Rattle.mate_core.proofs.AnswerLemmas.{served, serves-from}
 use Rattle.mate_core.specs.declared.frame.Frame.{Frame}
 use Rattle.mate_core.specs.Runs.{IsTrueIn}
 use Rattle.mate_fact.specs.InFrame as In
 use Rattle.legality.specs.Stance.{Stance, after, legal_in}
-use Rattle.mate_settle.specs.Choices.{some_wins, all_win}
+use Rattle.mate_settle.specs.declared.choosing.Choice.{Choice}
+use Rattle.mate_settle.specs.Choices.{some_wins, all_win, move_of}
 use Rattle.mate_settle.specs.Known.{Answers}
+use Rattle.mate_settle.specs.Lines.{plies, lines_within, lines_after, seen_in}
+use Rattle.mate_settle.proofs.Lines.{loop-more, loop-last, plies-fall, left-small, same-lines}
 use Rattle.mate_settle.specs.Steps.{left_after, farther_of, after_one, after_all, IsFar, NoneDecides}
 
 -- ---- what a fact that serves covers
@@ -163,6 +169,18 @@ module _ {X : Type 0} (test : X → Bool) where
   find-at (y ∷ xs) zero x at h passes = let same : y ≡ x = (let e : ◌≡◌ {A = Option _} (Some y) (Some x) = at in cc) in rw (same, passes)
   find-at (y ∷ xs) (suc i) x at h passes = rw (h y (inl refl)) (find-at xs i x at (λ z m. h z (inr m)) passes)
 
+  -- what is found, and what is not
+  pub find-none-back : (xs : List X) → find test xs ≡ None → (x : X) → Member x xs → test x ≡ false
+  find-none-back [] h x k = absurd k
+  find-none-back (y ∷ ys) h x (inl e) = by_cases (test y) (λ t. absurd (let n = rw t at h in cc)) (λ t. cc)
+  find-none-back (y ∷ ys) h x (inr k) = by_cases (test y) (λ t. absurd (let n = rw t at h in cc)) (λ t. find-none-back ys (rw t at h) x k)
+
+  pub find-some-back : (xs : List X) (x : X) → find test xs ≡ Some x → Member x xs × (test x ≡ true)
+  find-some-back [] x h = absurd (let e = h in cc)
+  find-some-back (y ∷ ys) x h = by_cases (test y)
+      (λ t. let same : y ≡ x = (let e : ◌≡◌ {A = Option _} (Some y) (Some x) = rw t at h in cc) in (inl same, subst (λ z. test z ≡ true) same t))
+      (λ t. let later = find-some-back ys x (rw t at h) in (inr later.0, later.1))
+
 module _ (f : Frame) (p : Position) where
   pub none-more : (a : Bool) (far i : ℕ) (ms : List Move) (x : Move) (k : Fact) (left : ℕ) → slice_get ms i ≡ Some x → NoneDecides f p a far (take i ms) → Told f k (next f.rules p x) left → k.wins ≡ not a → NoneDecides f p a (farther_of a far k.moves) (take (i + 1) ms)
   none-more a far i ms x k left h n t e = record {
@@ -252,6 +270,20 @@ moves-of f s ms e all = subst (λ (x : Rules). Lists (λ m. Member m (legal x (r
 pub one-told : (f g : Frame) (t : Stance) (q : Position) (k : Fact) (n : ℕ) → g ≡ f → t.position ≡ q → IsTrueIn g k → Answers t n k → Told f k q n
 one-told f g t q k n e d u a = told f k q n (subst (λ x. IsTrueIn x k) e u) (subst (λ (y : Position). serves k (repeat_of y) y.counter n ≡ true) d a)
 
+-- a fact that answers for the position after the move
+pub told-after : {E : Type 0} (f : Frame) (s t : Stance) (m : Move) (n : ℕ) (r : Result Fact E) → s.rules ≡ f.rules → t ≡ after s m → IfOk r (IsTrueIn f) → IfOk r (Answers t n) → IfOk r (λ k. Told f k (next f.rules s.position m) n)
+told-after f s t m n (Ok k) e d u a = one-told f f t (next f.rules s.position m) k n refl (after-is f.rules f s t m e d) u a
+told-after f s t m n (Err why) e d u a = tt
+
+-- a position is won, or is not, as is asked
+pub as-asked : (won w : Bool) → w ≡ won → (if won then w else not w) ≡ true
+as-asked true w e = e
+as-asked false w e = ap not e
+
+pub not-asked : (won w : Bool) → w ≡ not won → (if won then w else not w) ≡ false
+not-asked true w e = e
+not-asked false w e = ap not e
+
 pub none-moved : (f g : Frame) (p q : Position) (a : Bool) (far : ℕ) → g ≡ f → q ≡ p → NoneDecides f p a far (In.legal_in f p) → NoneDecides g q a far (In.legal_in g q)
 none-moved f g p q a far e d h = subst (λ x. NoneDecides x q a far (In.legal_in x q)) (sym e) (subst (λ y. NoneDecides f y a far (In.legal_in f y)) (sym d) h)
 
@@ -259,6 +291,72 @@ pub serves-as : (f g : Frame) (p q : Position) (k : Fact) (moves n : ℕ) (best 
 serves-as f g p q k moves n best w e d is h =
     let same : k ≡ fact_of p f.attacker moves best w = is ∙ (λ i. fact_of (d i) (e i).attacker moves best w) in
     subst (λ x. serves x (repeat_of p) p.counter n ≡ true) (sym same) h
+
+-- ---- a turn over one of the moves of a position
+
+-- the frame that is kept, and the move that is read
+pub record IsTurn (f kept : Frame) (s t : Stance) (ms : List Move) (a : Bool) (left n i : ℕ) (x : Move) : Type 0 where
+  pub kept_is : kept ≡ f
+  pub position_is : t.position ≡ next f.rules s.position x
+  pub read : slice_get ms i ≡ Some x
+  pub all : Lists (λ m. Member m (In.legal_in f s.position)) ms
+  pub turn : same_side s.position.side f.attacker ≡ a
+  pub some : a ≡ true → 0 < n
+  pub left_is : left ≡ left_after a n
+
+module _ (f kept : Frame) (s t : Stance) (ms : List Move) (a : Bool) (left n i : ℕ) (x : Move) where
+  pub turn-at : s.rules ≡ f.rules → t ≡ after s x → kept ≡ f → slice_get ms i ≡ Some x → Lists (λ m. Member m (legal_in s)) ms → same_side s.position.side f.attacker ≡ a → (a ≡ true → 0 < n) → left ≡ left_after a n → IsTurn f kept s t ms a left n i x
+  turn-at rules moved same at all turn some is = record {
+    kept_is = same;
+    position_is = after-is f.rules f s t x rules moved;
+    read = at;
+    all = moves-of f s ms rules all;
+    turn = turn;
+    some = some;
+    left_is = is;
+  }
+
+module _ {f kept : Frame} {s t : Stance} {ms : List Move} {a : Bool} {left n i : ℕ} {x : Move} (u : IsTurn f kept s t ms a left n i x) where
+  lines_same : lines_within (seen_in kept) left t.position ≡ lines_after (seen_in f) left s.position x
+  lines_same = same-lines kept f t.position (next f.rules s.position x) left u.kept_is u.position_is
+
+  -- the lines so far, the position's own among them, and those of the move
+  abbrev turn_lines : ℕ
+  turn_lines = (1 + sum_by (lines_after (seen_in f) left s.position) (take i ms)) + lines_within (seen_in kept) left t.position
+
+  pub turn-lines : turn_lines ≤ 1 + sum_by (lines_after (seen_in f) left s.position) (take (i + 1) ms)
+  turn-lines = loop-more (seen_in f) (laws f.rules f.attacker) s.position left ms i x _ u.read lines_same
+
+  pub turn-ends : turn_lines ≤ lines_within (seen_in f) n s.position
+  turn-ends = loop-last (seen_in f) (laws f.rules f.attacker) s.position left ms a n i x _ u.turn u.some u.left_is u.all u.read lines_same
+
+  pub turn-falls : plies (seen_in kept) left t.position < plies (seen_in f) n s.position
+  turn-falls =
+      let r = seen_in f in
+      let after_it = plies-fall r (laws f.rules f.attacker) a s.position x n u.turn u.some in
+      let of_left = subst (λ k. plies r k (next f.rules s.position x) < plies r n s.position) (sym u.left_is) after_it in
+      let of_position = subst (λ y. plies r left y < plies r n s.position) (sym u.position_is) of_left in
+      subst (λ (y : Frame). plies (seen_in y) left t.position < plies r n s.position) (sym u.kept_is) of_position
+
+  pub turn-told : (k : Fact) → IsTrueIn kept k → Answers t left k → Told f k (next f.rules s.position x) left
+  turn-told k truth serves = one-told f kept t (next f.rules s.position x) k left u.kept_is u.position_is truth serves
+
+-- a fact after a move that is as the side to move wants it
+module _ (f : Frame) (s : Stance) (x : Move) (a : Bool) (n : ℕ) (k : Fact) (rules : s.rules ≡ f.rules) (truth : IsTrueIn f k) (told : Answers (after s x) (left_after a n) k) (wins : k.wins ≡ a) where
+  wanted_told : Told f k (next f.rules s.position x) (left_after a n)
+  wanted_told = one-told f f (after s x) (next f.rules s.position x) k (left_after a n) refl (after-is f.rules f s (after s x) x rules refl) truth told
+
+  pub wanted-serves : In.ServesMoveIn f s.position x a k
+  wanted-serves = serves-move f k s.position x (left_after a n) a wanted_told wins
+
+  pub wanted-short : n ≤ 1000 → a ≡ true → k.moves < 65535
+  wanted-short small e =
+      let short = short-of f k (next f.rules s.position x) (left_after a n) a wanted_told wins e in
+      let left = left-small a n in
+      omega arith
+
+  pub wanted-answers : (a ≡ true → 0 < n) → serves (fact_of s.position f.attacker (after_one a k.moves) (Some x) a) (repeat_of s.position) s.position.counter n ≡ true
+  wanted-answers some = one-answers f a k s.position (next f.rules s.position x) (Some x) (left_after a n) n wanted_told wins refl some
 
 -- what is appended to no list is the whole list
 pub appended-all : {X : Type 0} (P : X → Type 0) (old new : List X) → old ≡ [] → Appends P old new → Lists P new
@@ -279,6 +377,16 @@ module _ (f : Frame) (n : ℕ) (p : Position) (ms : List Move) (all : Lists (λ 
 
   pub one-fails : (m : Move) → Member m (In.legal_in f p) → won m ≡ false → all_win f n p ≡ false
   one-fails m k e = not_true (all_win f n p) (λ t. true_false (won m) (all_member won (In.legal_in f p) t m k) e)
+
+  -- the first that is won, and the first that is not
+  pub none-found : (o : Option Choice) → move_of o ≡ find won ms → o ≡ None → some_wins f n p ≡ false
+  none-found o first e = none-wins (find-none-back won ms (sym first ∙ ap move_of e))
+
+  pub none-lost : (o : Option Choice) → move_of o ≡ find (λ m. not (won m)) ms → not (is_some o) ≡ all_win f n p
+  none-lost None first = sym (each-wins (λ m k. not-false (won m) (find-none-back (λ m. not (won m)) ms (sym first) m k)))
+  none-lost (Some c) first =
+      let back = find-some-back (λ m. not (won m)) ms c.chosen (sym first) in
+      sym (one-fails c.chosen (all.sound c.chosen back.0) (not-true (won c.chosen) back.1))
 
 -- ---- a win that is made for a question answers it
 

@@ -7,7 +7,7 @@ ghost use Rattle.mate_fact.specs.InFrame as In;
 ghost use Rattle.mate_settle.specs.Known.{Answers};
 ghost use Rattle.mate_settle.specs.Lines.{lines_within, seen_in};
 ghost use Rattle.mate_settle.specs.Steps as Steps;
-ghost use Rattle.legality.specs.Stance.{legal_in, repeat_in};
+ghost use Rattle.legality.specs.Stance.{after, legal_in, repeat_in};
 ghost use Rattle.rules_model.specs.Legal.{is_stuck};
 ghost use Rattle.rules_model.specs.Sides.{same_side};
 ghost use Rattle.watching.specs.declared.halt.Halt.{Halt};
@@ -91,7 +91,8 @@ fn known_now(frame: &Frame, board: &Board, n: u16, any: bool) -> Option<Fact>
 
 fn moves_left(attacking: bool, n: u16) -> u16
     requires { attacking ≡ true → 0 < n }
-    ensures { result ≡ Steps.left_after attacking n }
+    ensures is { result ≡ Steps.left_after attacking n }
+    ensures some { attacking ≡ true → 0 < n }
 {
     if attacking { n - 1 } else { n }
 }
@@ -130,6 +131,36 @@ fn by_one(frame: &Frame, board: &Board, m: &Move, attacking: bool, known: &Fact)
     } else {
         refuted_by_move(frame, board.tables(), p, m, known)
     }
+}
+
+/// What one move decides, where the known fact on the position after it is what the side to move wants: a fact that
+/// answers for the position. The fact is kept, and so is the move.
+#[inline]
+fn decide(
+    facts: &mut FactTable,
+    board: &Board,
+    attacking: bool,
+    n: u16,
+    chosen: Move,
+    known: &Fact,
+) -> Fact
+    requires rules { board.now.rules ≡ facts.old.rules }
+    requires ongoing { In.end_in facts.old board.now.position ≡ None }
+    requires turn { same_side board.now.position.side facts.old.attacker ≡ attacking }
+    requires legal { Member chosen (legal_in board.now) }
+    requires some { attacking ≡ true → 0 < n }
+    requires small { n ≤ 1000 }
+    requires truth { IsTrueIn facts.old known.now }
+    requires serves { Answers (after board.now chosen) (Steps.left_after attacking n) known.now }
+    requires wins { known.now.wins ≡ attacking }
+    ensures frame { facts.new ≡ facts.old }
+    ensures truth { IsTrueIn facts.old result }
+    ensures serves { Answers board.now n result }
+{
+    let found = by_one(facts.frame(), board, &chosen, attacking, known);
+    facts.keep_deciding(attacking, n, chosen);
+    facts.keep(board, found);
+    found
 }
 
 /// What all moves together decide.
@@ -192,10 +223,7 @@ pub fn settle<W: Watch>(
         let next = board.after(&chosen);
         let fact = settle(alloc, &next, left, facts, watch)?;
         if fact.wins == attacking {
-            let found = by_one(frame, board, &chosen, attacking, &fact);
-            facts.keep_deciding(attacking, n, chosen);
-            facts.keep(board, found);
-            return Ok(found);
+            return Ok(decide(facts, board, attacking, n, chosen, &fact));
         }
         far = farther(attacking, far, fact.moves);
     }

@@ -1,6 +1,6 @@
 use Rattle.std.proofs.Common.{◌≡◌, ◌<◌, ◌+◌, length, get_or, take, Some, Err, refl, ◌∙◌, arith, rules, slice_get}
 use Rattle.std.specs.List.{sum_by}
-use Rattle.mate_settle.proofs.Lines.{part-more, part-last, part-whole, same-lines}
+use Rattle.mate_settle.proofs.Lines.{part-more, part-whole, same-lines}
 use Rattle.mate_settle.proofs.Settled.{after-is, moves-of, member-at}
 use Rattle.mate_settle.specs.Lines.{lines_within, lines_after, seen_in}
 use Rattle.rules_model.specs.Next.{next}
@@ -42,8 +42,10 @@ returns-in_err-outcome-clause-ended g c why is =
     let kept : c.loop-i.facts ≡ f = c.loop-i.invariant.frame in
     let lines = same-lines c.loop-i.facts f c.after-next.result.position (next f.rules p x) left kept there in
     let back : c.settle_next.result ≡ Err why = search rules in
+    let more = part-more r p left ms i x (lines_within (seen_in c.loop-i.facts) left c.after-next.result.position) at lines in
+    let whole = part-whole (lines_after r left p) (r.legal p) ms all (i + 1) in
     g.met.W.Watch.ends_wider _ _ _ _ why (g.met.W.Watch.ends _ _ _ (sum_by (lines_after r left p) (take i ms)) (lines_within (seen_in c.loop-i.facts) left c.after-next.result.position) why c.loop-i.invariant.gone (c.settle_next.ensures.ended why back))
-    (part-last r p left ms i x _ all at lines)
+    (omega (arith, more, whole))
 
 pub returns-in_err-outcome-clause-handed : goal.returns-in_err-outcome-clause-handed
 returns-in_err-outcome-clause-handed g c = handed_more c.args.shards.now _ _ _ c.loop-i.invariant.handed c.settle_next.ensures.handed

@@ -1,21 +1,16 @@
-use Rattle.std.proofs.Common.{◌≡◌, ◌+◌, ◌<◌, ◌≤◌, length, take, true, Some, None, Err, refl, ap, sym, ◌∙◌, subst, arith, rules, slice_get}
-use Rattle.std.specs.List.{sum_by}
+use Rattle.std.proofs.Common.{◌≡◌, ◌+◌, ◌≤◌, length, take, None, Err, refl, sym, ◌∙◌, subst, arith, rules}
 use Rattle.std.proofs.lemmas.List.{take_all}
 use Rattle.std.proofs.lemmas.Option.{slice_get_read}
 use Rattle.foundation.specs.Member.{Member, Lists}
 use Rattle.foundation.specs.Tests.{is_nil}
 use Rattle.forced_wins.proofs.Rules.{laws}
-use Rattle.forced_wins.specs.Facts.{ServesMove}
-use Rattle.mate_core.specs.declared.frame.Frame.{Frame}
 use Rattle.mate_fact.specs.InFrame as In
 use Rattle.legality.specs.Stance.{legal_in, repeat_in}
 use Rattle.rules_model.specs.Legal.{is_stuck}
-use Rattle.rules_model.specs.Next.{next}
-use Rattle.rules_model.specs.Sides.{same_side}
-use Rattle.mate_settle.specs.Lines.{plies, lines_within, lines_after, seen_in}
-use Rattle.mate_settle.specs.Steps.{left_after, IsFar, NoneDecides}
-use Rattle.mate_settle.proofs.Lines.{lines-some, loop-more, loop-whole, loop-last, left-small, plies-fall, same-lines}
-use Rattle.mate_settle.proofs.Settled.{is_none, after-is, moves-of, one-told, member-at, serves-move, short-of, one-answers, each-answers, serves-as, some-listed, none-moved, none-all, none-more, far-more, same_bool-from, not_same}
+use Rattle.mate_settle.specs.Lines.{plies, seen_in}
+use Rattle.mate_settle.specs.Steps.{IsFar, NoneDecides}
+use Rattle.mate_settle.proofs.Lines.{lines-some, loop-whole, left-small}
+use Rattle.mate_settle.proofs.Settled.{turn-at, turn-lines, turn-ends, turn-falls, turn-told, moves-of, member-at, each-answers, serves-as, some-listed, none-moved, none-all, none-more, far-more, not_same}
 use Rattle.mate_settle.proofs.settling.+settle.Goals as goal
 
 pub returns-in_err-enter-clause-ended : goal.returns-in_err-enter-clause-ended
@@ -80,222 +75,65 @@ returns-then-only_movers_win-clause-gone g t c =
 pub after-next-requires : goal.after-next-requires
 after-next-requires g t c =
     let ms = c.in_ok-moves.moves.items in
-    let i = c.loop-i.i in
-    let x = c.index.result.now in
-    let within : i < length ms = search rules in
-    let at : slice_get ms i ≡ Some x = slice_get_read ms (length ms) i x refl within c.index.ensures in
-    c.in_ok-moves.ensures.sound x (member-at ms i x at)
+    c.in_ok-moves.ensures.sound _ (member-at ms c.loop-i.i _ (slice_get_read ms (length ms) c.loop-i.i c.index.result.now refl (search rules) c.index.ensures))
 
 pub settle-requires : goal.settle-requires
 settle-requires g t c κs within-it =
-    let f = c.args.facts.now in
-    let r = seen_in f in
-    let l = laws f.rules f.attacker in
-    let p = c.args.board.now.position in
-    let n = c.args.n in
-    let a = c.is-attacking.result in
-    let left = c.moves_left-left.result in
-    let same : c.frame-frame.result.now ≡ f = c.frame-frame.ensures in
-    let turn : r.attacking p ≡ a = search rules in
-    let some : a ≡ true → 0 < n = λ e. c.known_now.ensures.more (is_none c.known_now.result c.in_default-known_now.not-Some) (ap (λ (g : Frame). same_side p.side g.attacker) same ∙ turn ∙ e) in
-    let is : left ≡ left_after a n = c.moves_left-left.ensures in
     let ms = c.in_ok-moves.moves.items in
     let i = c.loop-i.i in
     let x = c.index.result.now in
-    let all = moves-of f c.args.board.now ms c.requires.rules c.in_ok-moves.ensures in
-    let within : i < length ms = search rules in
-    let at : slice_get ms i ≡ Some x = slice_get_read ms (length ms) i x refl within c.index.ensures in
-    let there : c.after-next.result.position ≡ next f.rules p x = after-is f.rules f c.args.board.now c.after-next.result x c.requires.rules c.after-next.ensures in
-    let kept : c.loop-i.facts ≡ f = c.loop-i.invariant.frame in
-    let fall : plies (seen_in c.loop-i.facts) left c.after-next.result.position < plies r n p = subst (λ (y : Frame). plies (seen_in y) left c.after-next.result.position < plies r n p) (sym kept)
-    (subst (λ y. plies r left y < plies r n p) (sym there) (subst (λ k. plies r k (next f.rules p x) < plies r n p) (sym is) (plies-fall r l a p x n turn some))) in
-    let small : left ≤ 1000 = let s = left-small a n in let t = c.requires.small in omega arith in
+    let turn = turn-at c.args.facts.now c.loop-i.facts c.args.board.now c.after-next.result ms c.is-attacking.result c.moves_left-left.result c.args.n i x c.requires.rules c.after-next.ensures c.loop-i.invariant.frame
+    (slice_get_read ms (length ms) i x refl (search rules) c.index.ensures) c.in_ok-moves.ensures (search rules) c.moves_left-left.ensures.some c.moves_left-left.ensures.is in
+    let fall = turn-falls turn in
+    let left = c.moves_left-left.result in
+    let is = turn.left_is in
+    let small : left ≤ 1000 = let s = left-small c.is-attacking.result c.args.n in let t = c.requires.small in omega arith in
     let same_rules : c.after-next.result.rules ≡ c.loop-i.facts.rules = search rules in
     (let d = c.decreases in omega arith, (within-it, (same_rules, small)))
 
 pub returns-in_err-fact-clause-ended : goal.returns-in_err-fact-clause-ended
 returns-in_err-fact-clause-ended g t c why is_why =
-    let f = c.args.facts.now in
-    let r = seen_in f in
-    let l = laws f.rules f.attacker in
-    let p = c.args.board.now.position in
-    let n = c.args.n in
-    let a = c.is-attacking.result in
-    let left = c.moves_left-left.result in
-    let same : c.frame-frame.result.now ≡ f = c.frame-frame.ensures in
-    let turn : r.attacking p ≡ a = search rules in
-    let some : a ≡ true → 0 < n = λ e. c.known_now.ensures.more (is_none c.known_now.result c.in_default-known_now.not-Some) (ap (λ (g : Frame). same_side p.side g.attacker) same ∙ turn ∙ e) in
-    let is : left ≡ left_after a n = c.moves_left-left.ensures in
     let ms = c.in_ok-moves.moves.items in
     let i = c.loop-i.i in
     let x = c.index.result.now in
-    let all = moves-of f c.args.board.now ms c.requires.rules c.in_ok-moves.ensures in
-    let within : i < length ms = search rules in
-    let at : slice_get ms i ≡ Some x = slice_get_read ms (length ms) i x refl within c.index.ensures in
-    let there : c.after-next.result.position ≡ next f.rules p x = after-is f.rules f c.args.board.now c.after-next.result x c.requires.rules c.after-next.ensures in
-    let kept : c.loop-i.facts ≡ f = c.loop-i.invariant.frame in
-    let lines = same-lines c.loop-i.facts f c.after-next.result.position (next f.rules p x) left kept there in
+    let turn = turn-at c.args.facts.now c.loop-i.facts c.args.board.now c.after-next.result ms c.is-attacking.result c.moves_left-left.result c.args.n i x c.requires.rules c.after-next.ensures c.loop-i.invariant.frame
+    (slice_get_read ms (length ms) i x refl (search rules) c.index.ensures) c.in_ok-moves.ensures (search rules) c.moves_left-left.ensures.some c.moves_left-left.ensures.is in
     let back : c.settle.result ≡ Err why = search rules in
-    g.met.W.Watch.ends_wider _ _ _ _ why (g.met.W.Watch.ends _ _ _ (1 + sum_by (lines_after r left p) (take i ms)) (lines_within (seen_in c.loop-i.facts) left c.after-next.result.position) why c.loop-i.invariant.gone (c.settle.ensures.ended why back))
-    (loop-last r l p left ms a n i x _ turn some is all at lines)
+    g.met.W.Watch.ends_wider _ _ _ _ why (g.met.W.Watch.ends _ _ _ _ _ why c.loop-i.invariant.gone (c.settle.ensures.ended why back)) (turn-ends turn)
 
-pub by_one-found-requires-clause-legal : goal.by_one-found-requires-clause-legal
-by_one-found-requires-clause-legal g t c =
-    let f = c.args.facts.now in
-    let p = c.args.board.now.position in
+pub decide-requires-clause-legal : goal.decide-requires-clause-legal
+decide-requires-clause-legal g t c =
     let ms = c.in_ok-moves.moves.items in
-    let i = c.loop-i.i in
-    let x = c.index.result.now in
-    let same : c.frame-frame.result.now ≡ f = c.frame-frame.ensures in
-    let all = moves-of f c.args.board.now ms c.requires.rules c.in_ok-moves.ensures in
-    let within : i < length ms = search rules in
-    let at : slice_get ms i ≡ Some x = slice_get_read ms (length ms) i x refl within c.index.ensures in
-    let is_legal : Member x (In.legal_in f p) = all.sound x (member-at ms i x at) in
-    subst (λ g. Member x (In.legal_in g p)) (sym same) is_legal
-
-pub by_one-found-requires-clause-serves : goal.by_one-found-requires-clause-serves
-by_one-found-requires-clause-serves g t c =
-    let f = c.args.facts.now in
-    let r = seen_in f in
-    let l = laws f.rules f.attacker in
-    let p = c.args.board.now.position in
-    let n = c.args.n in
-    let a = c.is-attacking.result in
-    let left = c.moves_left-left.result in
-    let same : c.frame-frame.result.now ≡ f = c.frame-frame.ensures in
-    let turn : r.attacking p ≡ a = search rules in
-    let some : a ≡ true → 0 < n = λ e. c.known_now.ensures.more (is_none c.known_now.result c.in_default-known_now.not-Some) (ap (λ (g : Frame). same_side p.side g.attacker) same ∙ turn ∙ e) in
-    let is : left ≡ left_after a n = c.moves_left-left.ensures in
-    let ms = c.in_ok-moves.moves.items in
-    let i = c.loop-i.i in
-    let x = c.index.result.now in
-    let all = moves-of f c.args.board.now ms c.requires.rules c.in_ok-moves.ensures in
-    let within : i < length ms = search rules in
-    let at : slice_get ms i ≡ Some x = slice_get_read ms (length ms) i x refl within c.index.ensures in
-    let there : c.after-next.result.position ≡ next f.rules p x = after-is f.rules f c.args.board.now c.after-next.result x c.requires.rules c.after-next.ensures in
-    let kept : c.loop-i.facts ≡ f = c.loop-i.invariant.frame in
-    let lines = same-lines c.loop-i.facts f c.after-next.result.position (next f.rules p x) left kept there in
-    let k = c.in_ok-fact.fact in
-    let t = one-told f c.loop-i.facts c.after-next.result (next f.rules p x) k left kept there c.in_ok-fact.ensures.truth c.in_ok-fact.ensures.serves in
-    let e = same_bool-from k.wins a c.if-fact-attacking.true in
-    subst (λ (g : Frame). ServesMove g.rules p x a k) (sym same) (serves-move f k p x left a t e)
-
-pub by_one-found-requires-clause-short : goal.by_one-found-requires-clause-short
-by_one-found-requires-clause-short g t c =
-    let f = c.args.facts.now in
-    let r = seen_in f in
-    let l = laws f.rules f.attacker in
-    let p = c.args.board.now.position in
-    let n = c.args.n in
-    let a = c.is-attacking.result in
-    let left = c.moves_left-left.result in
-    let same : c.frame-frame.result.now ≡ f = c.frame-frame.ensures in
-    let turn : r.attacking p ≡ a = search rules in
-    let some : a ≡ true → 0 < n = λ e. c.known_now.ensures.more (is_none c.known_now.result c.in_default-known_now.not-Some) (ap (λ (g : Frame). same_side p.side g.attacker) same ∙ turn ∙ e) in
-    let is : left ≡ left_after a n = c.moves_left-left.ensures in
-    let ms = c.in_ok-moves.moves.items in
-    let i = c.loop-i.i in
-    let x = c.index.result.now in
-    let all = moves-of f c.args.board.now ms c.requires.rules c.in_ok-moves.ensures in
-    let within : i < length ms = search rules in
-    let at : slice_get ms i ≡ Some x = slice_get_read ms (length ms) i x refl within c.index.ensures in
-    let there : c.after-next.result.position ≡ next f.rules p x = after-is f.rules f c.args.board.now c.after-next.result x c.requires.rules c.after-next.ensures in
-    let kept : c.loop-i.facts ≡ f = c.loop-i.invariant.frame in
-    let lines = same-lines c.loop-i.facts f c.after-next.result.position (next f.rules p x) left kept there in
-    let k = c.in_ok-fact.fact in
-    let t = one-told f c.loop-i.facts c.after-next.result (next f.rules p x) k left kept there c.in_ok-fact.ensures.truth c.in_ok-fact.ensures.serves in
-    let e = same_bool-from k.wins a c.if-fact-attacking.true in
-    λ z.
-    let low = short-of f k (next f.rules p x) left a t e z in
-    let s = left-small a n in
-    let small = c.requires.small in
-    omega arith
-
-pub returns-then-fact-attacking-clause-serves : goal.returns-then-fact-attacking-clause-serves
-returns-then-fact-attacking-clause-serves g t c =
-    let f = c.args.facts.now in
-    let r = seen_in f in
-    let l = laws f.rules f.attacker in
-    let p = c.args.board.now.position in
-    let n = c.args.n in
-    let a = c.is-attacking.result in
-    let left = c.moves_left-left.result in
-    let same : c.frame-frame.result.now ≡ f = c.frame-frame.ensures in
-    let turn : r.attacking p ≡ a = search rules in
-    let some : a ≡ true → 0 < n = λ e. c.known_now.ensures.more (is_none c.known_now.result c.in_default-known_now.not-Some) (ap (λ (g : Frame). same_side p.side g.attacker) same ∙ turn ∙ e) in
-    let is : left ≡ left_after a n = c.moves_left-left.ensures in
-    let ms = c.in_ok-moves.moves.items in
-    let i = c.loop-i.i in
-    let x = c.index.result.now in
-    let all = moves-of f c.args.board.now ms c.requires.rules c.in_ok-moves.ensures in
-    let within : i < length ms = search rules in
-    let at : slice_get ms i ≡ Some x = slice_get_read ms (length ms) i x refl within c.index.ensures in
-    let there : c.after-next.result.position ≡ next f.rules p x = after-is f.rules f c.args.board.now c.after-next.result x c.requires.rules c.after-next.ensures in
-    let kept : c.loop-i.facts ≡ f = c.loop-i.invariant.frame in
-    let lines = same-lines c.loop-i.facts f c.after-next.result.position (next f.rules p x) left kept there in
-    let k = c.in_ok-fact.fact in
-    let t = one-told f c.loop-i.facts c.after-next.result (next f.rules p x) k left kept there c.in_ok-fact.ensures.truth c.in_ok-fact.ensures.serves in
-    let e = same_bool-from k.wins a c.if-fact-attacking.true in
-    serves-as f c.frame-frame.result.now p p c.by_one-found.result _ n _ a same refl c.by_one-found.ensures.is
-    (one-answers f a k p (next f.rules p x) (Some x) left n t e is some)
+    c.in_ok-moves.ensures.sound _ (member-at ms c.loop-i.i _ (slice_get_read ms (length ms) c.loop-i.i c.index.result.now refl (search rules) c.index.ensures))
 
 pub returns-then-fact-attacking-clause-gone : goal.returns-then-fact-attacking-clause-gone
 returns-then-fact-attacking-clause-gone g t c =
-    let f = c.args.facts.now in
-    let r = seen_in f in
-    let l = laws f.rules f.attacker in
-    let p = c.args.board.now.position in
-    let n = c.args.n in
-    let a = c.is-attacking.result in
-    let left = c.moves_left-left.result in
-    let same : c.frame-frame.result.now ≡ f = c.frame-frame.ensures in
-    let turn : r.attacking p ≡ a = search rules in
-    let some : a ≡ true → 0 < n = λ e. c.known_now.ensures.more (is_none c.known_now.result c.in_default-known_now.not-Some) (ap (λ (g : Frame). same_side p.side g.attacker) same ∙ turn ∙ e) in
-    let is : left ≡ left_after a n = c.moves_left-left.ensures in
     let ms = c.in_ok-moves.moves.items in
     let i = c.loop-i.i in
     let x = c.index.result.now in
-    let all = moves-of f c.args.board.now ms c.requires.rules c.in_ok-moves.ensures in
-    let within : i < length ms = search rules in
-    let at : slice_get ms i ≡ Some x = slice_get_read ms (length ms) i x refl within c.index.ensures in
-    let there : c.after-next.result.position ≡ next f.rules p x = after-is f.rules f c.args.board.now c.after-next.result x c.requires.rules c.after-next.ensures in
-    let kept : c.loop-i.facts ≡ f = c.loop-i.invariant.frame in
-    let lines = same-lines c.loop-i.facts f c.after-next.result.position (next f.rules p x) left kept there in
-    g.met.W.Watch.wider _ _ _ _ (g.met.W.Watch.more _ _ _ (1 + sum_by (lines_after r left p) (take i ms)) (lines_within (seen_in c.loop-i.facts) left c.after-next.result.position) c.loop-i.invariant.gone c.in_ok-fact.ensures.gone)
-    (loop-last r l p left ms a n i x _ turn some is all at lines)
+    let turn = turn-at c.args.facts.now c.loop-i.facts c.args.board.now c.after-next.result ms c.is-attacking.result c.moves_left-left.result c.args.n i x c.requires.rules c.after-next.ensures c.loop-i.invariant.frame
+    (slice_get_read ms (length ms) i x refl (search rules) c.index.ensures) c.in_ok-moves.ensures (search rules) c.moves_left-left.ensures.some c.moves_left-left.ensures.is in
+    g.met.W.Watch.wider _ _ _ _ (g.met.W.Watch.more _ _ _ _ _ c.loop-i.invariant.gone c.in_ok-fact.ensures.gone) (turn-ends turn)
 
 pub loop-i-preserved : goal.loop-i-preserved
 loop-i-preserved g t c =
-    let f = c.args.facts.now in
-    let r = seen_in f in
-    let l = laws f.rules f.attacker in
-    let p = c.args.board.now.position in
-    let n = c.args.n in
-    let a = c.is-attacking.result in
-    let left = c.moves_left-left.result in
-    let same : c.frame-frame.result.now ≡ f = c.frame-frame.ensures in
-    let turn : r.attacking p ≡ a = search rules in
-    let some : a ≡ true → 0 < n = λ e. c.known_now.ensures.more (is_none c.known_now.result c.in_default-known_now.not-Some) (ap (λ (g : Frame). same_side p.side g.attacker) same ∙ turn ∙ e) in
-    let is : left ≡ left_after a n = c.moves_left-left.ensures in
     let ms = c.in_ok-moves.moves.items in
     let i = c.loop-i.i in
     let x = c.index.result.now in
-    let all = moves-of f c.args.board.now ms c.requires.rules c.in_ok-moves.ensures in
-    let within : i < length ms = search rules in
-    let at : slice_get ms i ≡ Some x = slice_get_read ms (length ms) i x refl within c.index.ensures in
-    let there : c.after-next.result.position ≡ next f.rules p x = after-is f.rules f c.args.board.now c.after-next.result x c.requires.rules c.after-next.ensures in
-    let kept : c.loop-i.facts ≡ f = c.loop-i.invariant.frame in
-    let lines = same-lines c.loop-i.facts f c.after-next.result.position (next f.rules p x) left kept there in
+    let turn = turn-at c.args.facts.now c.loop-i.facts c.args.board.now c.after-next.result ms c.is-attacking.result c.moves_left-left.result c.args.n i x c.requires.rules c.after-next.ensures c.loop-i.invariant.frame
+    (slice_get_read ms (length ms) i x refl (search rules) c.index.ensures) c.in_ok-moves.ensures (search rules) c.moves_left-left.ensures.some c.moves_left-left.ensures.is in
+    let f = c.args.facts.now in
+    let a = c.is-attacking.result in
+    let left = c.moves_left-left.result in
     let k = c.in_ok-fact.fact in
-    let t = one-told f c.loop-i.facts c.after-next.result (next f.rules p x) k left kept there c.in_ok-fact.ensures.truth c.in_ok-fact.ensures.serves in
+    let told = turn-told turn k c.in_ok-fact.ensures.truth c.in_ok-fact.ensures.serves in
     let e = not_same k.wins a c.if-fact-attacking.false in
     let farther = c.farther-far.ensures in
     record {
-      frame = c.in_ok-fact.ensures.frame ∙ kept;
-      gone = g.met.W.Watch.wider _ _ _ _ (g.met.W.Watch.more _ _ _ (1 + sum_by (lines_after r left p) (take i ms)) (lines_within (seen_in c.loop-i.facts) left c.after-next.result.position) c.loop-i.invariant.gone c.in_ok-fact.ensures.gone)
-          (loop-more r l p left ms i x _ at lines);
-      far = subst (IsFar a left) (sym farther) (far-more f a left c.loop-i.far k (next f.rules p x) c.loop-i.invariant.far t e);
-      none = subst (λ z. NoneDecides f p a z (take (i + 1) ms)) (sym farther) (none-more f p a c.loop-i.far i ms x k left at c.loop-i.invariant.none t e);
+      frame = c.in_ok-fact.ensures.frame ∙ c.loop-i.invariant.frame;
+      gone = g.met.W.Watch.wider _ _ _ _ (g.met.W.Watch.more _ _ _ _ _ c.loop-i.invariant.gone c.in_ok-fact.ensures.gone) (turn-lines turn);
+      far = subst (IsFar a left) (sym farther) (far-more f a left c.loop-i.far k _ c.loop-i.invariant.far told e);
+      none = subst (λ z. NoneDecides f c.args.board.now.position a z (take (i + 1) ms)) (sym farther) (none-more f c.args.board.now.position a c.loop-i.far i ms x k left turn.read c.loop-i.invariant.none told e);
     }
 
 pub by_each-found-requires-clause-none : goal.by_each-found-requires-clause-none
@@ -317,26 +155,14 @@ returns-clause-serves g t c =
     let p = c.args.board.now.position in
     let n = c.args.n in
     let a = c.is-attacking.result in
-    let left = c.moves_left-left.result in
-    let same : c.frame-frame.result.now ≡ f = c.frame-frame.ensures in
-    let is : left ≡ left_after a n = c.moves_left-left.ensures in
-    serves-as f c.frame-frame.result.now p c.position-2.result.now c.by_each-found.result _ n None _ same (search rules) c.by_each-found.ensures.is
-    (each-answers f p a left c.loop-i.far n c.loop-i.invariant.far c.requires.small is)
+    serves-as f c.frame-frame.result.now p c.position-2.result.now c.by_each-found.result _ n None _ c.frame-frame.ensures (search rules) c.by_each-found.ensures.is
+    (each-answers f p a c.moves_left-left.result c.loop-i.far n c.loop-i.invariant.far c.requires.small c.moves_left-left.ensures.is)
 
 pub returns-clause-gone : goal.returns-clause-gone
 returns-clause-gone g t c =
     let f = c.args.facts.now in
-    let r = seen_in f in
-    let l = laws f.rules f.attacker in
     let p = c.args.board.now.position in
-    let n = c.args.n in
-    let a = c.is-attacking.result in
-    let left = c.moves_left-left.result in
-    let same : c.frame-frame.result.now ≡ f = c.frame-frame.ensures in
-    let turn : r.attacking p ≡ a = search rules in
-    let some : a ≡ true → 0 < n = λ e. c.known_now.ensures.more (is_none c.known_now.result c.in_default-known_now.not-Some) (ap (λ (g : Frame). same_side p.side g.attacker) same ∙ turn ∙ e) in
-    let is : left ≡ left_after a n = c.moves_left-left.ensures in
     let ms = c.in_ok-moves.moves.items in
-    let i = c.loop-i.i in
     let all = moves-of f c.args.board.now ms c.requires.rules c.in_ok-moves.ensures in
-    g.met.W.Watch.wider _ _ _ _ c.loop-i.invariant.gone (loop-whole r l p left ms a n i turn some is all)
+    let left = c.moves_left-left in
+    g.met.W.Watch.wider _ _ _ _ c.loop-i.invariant.gone (loop-whole (seen_in f) (laws f.rules f.attacker) p left.result ms c.is-attacking.result c.args.n c.loop-i.i (search rules) left.ensures.some left.ensures.is all)
