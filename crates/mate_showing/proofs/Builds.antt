@@ -193,6 +193,9 @@ module _ (r : Game Position Repeat Move) (l : GameLaws Position Repeat Move r) w
   pub some_lines : (n : ℕ) (p : Position) → 1 ≤ (n + 1) * lines_within r n p
   some_lines n p = let h = lines-some r (plies r n p) p in let k = mul_le 1 (n + 1) 1 (lines_within r n p) (omega arith) h in omega arith
 
+  pub rest_lines : (n : ℕ) (p : Position) → 1 + ((n + 1) * lines_within r n p - 1) ≤ (n + 1) * lines_within r n p
+  rest_lines n p = let least = some_lines n p in omega arith
+
   spread : (k x y z : ℕ) → x ≡ y + z → k * x ≡ k * y + k * z
   spread k x y z e = let u : k * x ≡ k * (y + z) = ap (λ w. k * w) e in omega arith
 
@@ -215,13 +218,13 @@ module _ (r : Game Position Repeat Move) (l : GameLaws Position Repeat Move r) w
       let f = mul_le 1 (n + 1) (lines_within r n p) (lines_within r n p) (omega arith) (omega arith) in omega arith
 
   -- a defence
-  pub defence_more : (n : ℕ) (p : Position) (ms : List Move) (i : ℕ) (m : Move) → slice_get ms i ≡ Some m → (1 + (n + 1) * sum_by (lines_after r n p) (take i ms)) + (n + 1) * lines_within r n (r.next p m) ≡ 1 + (n + 1) * sum_by (lines_after r n p) (take (i + 1) ms)
+  pub defence_more : (n : ℕ) (p : Position) (ms : List Move) (i : ℕ) (m : Move) → slice_get ms i ≡ Some m → (n + 1) * sum_by (lines_after r n p) (take i ms) + (n + 1) * lines_within r n (r.next p m) ≡ (n + 1) * sum_by (lines_after r n p) (take (i + 1) ms)
   defence_more n p ms i m h =
       let e = sum-more (lines_after r n p) ms i m h in
       let d = spread (n + 1) (sum_by (lines_after r n p) (take (i + 1) ms)) (sum_by (lines_after r n p) (take i ms)) (lines_within r n (r.next p m)) e in
       omega arith
 
-  pub defence_lines : (n : ℕ) (p : Position) (ms : List Move) (i : ℕ) → r.attacking p ≡ false → ms ≡ r.legal p → 1 + (n + 1) * sum_by (lines_after r n p) (take i ms) ≤ (n + 1) * lines_within r n p
+  pub defence_lines : (n : ℕ) (p : Position) (ms : List Move) (i : ℕ) → r.attacking p ≡ false → ms ≡ r.legal p → (n + 1) * sum_by (lines_after r n p) (take i ms) ≤ (n + 1) * lines_within r n p - 1
   defence_lines n p ms i turn is =
       let whole = lines-after r l false p n turn (λ e. cc) in
       let part = sum_by-take-le (lines_after r n p) ms i in
@@ -230,7 +233,7 @@ module _ (r : Game Position Repeat Move) (l : GameLaws Position Repeat Move r) w
       let d : (n + 1) * lines_within r n p ≡ (n + 1) * (1 + sum_by (lines_after r n p) (r.legal p)) = ap (λ z. (n + 1) * z) whole in
       total n (sum_by (lines_after r n p) (r.legal p)) _ _ f d
     where
-      total : (n s x y : ℕ) → x ≤ (n + 1) * s → y ≡ (n + 1) * (1 + s) → 1 + x ≤ y
+      total : (n s x y : ℕ) → x ≤ (n + 1) * s → y ≡ (n + 1) * (1 + s) → x ≤ y - 1
       total n s x y f e = let c : (n + 1) * (1 + s) ≡ (n + 1) * s + (n + 1) = omega arith in omega arith
 
   pub plies_less : (n k : ℕ) (p : Position) (m : Move) → r.attacking p ≡ true → 0 < n → k < n → plies r k (r.next p m) < plies r n p

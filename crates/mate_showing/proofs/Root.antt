@@ -1,5 +1,5 @@
 -- From the root, by the rules of play.
-use Rattle.std.proofs.Common.{◌≡◌, ◌⊎◌, ℕ, zero, suc, ◌+◌, ◌-◌, ◌*◌, ◌<◌, ◌≤◌, List, [], ◌∷◌, length, Bool, true, false, not, ◌&&◌, nat_lt, nat_le, Some, None, is_some, slice_get, refl, ap, sym, ◌∙◌, subst, arith}
+use Rattle.std.proofs.Common.{◌≡◌, ◌⊎◌, ℕ, zero, suc, ◌+◌, ◌-◌, ◌*◌, ◌<◌, ◌≤◌, List, [], ◌∷◌, length, Bool, true, false, not, ◌&&◌, nat_lt, nat_le, Option, Some, None, is_some, slice_get, refl, ap, sym, ◌∙◌, subst, arith}
 use Rattle.std.specs.List.{All, sum_by}
 use Rattle.std.proofs.lemmas.List.Elements.{All-nil, All-cons}
 use Rattle.foundation.specs.Member.{IsEachOnce}
@@ -8,6 +8,7 @@ use Rattle.rules_model.specs.declared.board.Repeat.{Repeat}
 use Rattle.rules_model.specs.declared.board.Side.{Side}
 use Rattle.rules_model.specs.declared.moves.Move.{Move}
 use Rattle.rules_model.specs.declared.rules.Rules.{Rules}
+use Rattle.rules_model.specs.declared.moves.Outcome.{Outcome}
 use Rattle.rules_model.specs.Fit.{IsFit}
 use Rattle.rules_model.specs.Games.{Story, history, played, result, same_repeat}
 use Rattle.rules_model.specs.Legal.{legal}
@@ -53,6 +54,10 @@ use Rattle.mate_showing.proofs.Evidence.{evidence}
 
 pub frame-blocked : (g : Played) (f : Frame) → IsFrameOf g f → f.blocked ≡ blocked f.rules (story g)
 frame-blocked g f e = e.blocked ∙ ap (λ (x : Rules). blocked x (story g)) (sym e.rules)
+
+-- what the outcome of the game means for the attacker
+pub outcome-seen : (g : Played) (f h : Frame) (o : Outcome) (w : Option Bool) → IsFrameOf g f → h ≡ f → o ≡ result g.rules (story g) → w ≡ won_by h.attacker o → w ≡ won_by f.attacker (result f.rules (story g))
+outcome-seen g f h o w fr e d is = is ∙ (λ i. won_by (e i).attacker ((d ∙ ap (λ (x : Rules). result x (story g)) (sym fr.rules)) i))
 
 module _ (f : Frame) (g : Story) (bl : f.blocked ≡ blocked f.rules g) where
   abbrev rules : Rules

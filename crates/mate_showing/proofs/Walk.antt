@@ -1,5 +1,5 @@
 -- The second walk, as the code reads tables and frames.
-use Rattle.std.proofs.Common.{◌≡◌, ℕ, ◌+◌, ◌-◌, ◌*◌, ◌<◌, ◌≤◌, List, Bool, true, false, None, refl, sym, ◌∙◌, subst, arith}
+use Rattle.std.proofs.Common.{◌≡◌, ℕ, ◌+◌, ◌-◌, ◌*◌, ◌<◌, ◌≤◌, List, take, slice_get, Bool, true, false, None, Some, refl, ap, sym, ◌∙◌, subst, arith}
 use Rattle.std.specs.List.{list_any, sum_by}
 use Rattle.foundation.specs.Member.{Member}
 use Rattle.rules_model.specs.declared.board.Position.{Position}
@@ -15,14 +15,14 @@ use Rattle.mate_core.specs.declared.frame.Frame.{Frame}
 use Rattle.mate_fact.specs.InFrame as In
 use Rattle.mate_settle.specs.Choices.{some_wins, IsChoice}
 use Rattle.mate_settle.specs.declared.choosing.Choice.{Choice}
-use Rattle.mate_settle.specs.Lines.{lines_within, lines_after, seen_in}
+use Rattle.mate_settle.specs.Lines.{plies, lines_within, lines_after, seen_in}
 use Rattle.mate_settle.specs.Steps.{left_after}
 use Rattle.strategy.specs.declared.nodes.Edge.{Edge}
 use Rattle.strategy.specs.declared.nodes.Node.{Node}
 use Rattle.mate_showing.specs.declared.plan.Plan.{Plan}
 use Rattle.mate_showing.specs.Tabled.{Tabled, rules_of, IsNextIn, StandsIn, AreEdgesIn, GrowsTo}
 use Rattle.mate_showing.specs.Tables.{AreEdges, Grows, IsNext, IsLedTo, Stands}
-use Rattle.mate_showing.proofs.Builds.{goes-attack, goes-defence, next-after, attack_lines, plies_less, plies_next}
+use Rattle.mate_showing.proofs.Builds.{goes-attack, goes-defence, next-after, attack_lines, asked_lines, defence_more, plies_less, plies_next}
 use Rattle.mate_showing.proofs.Growth.{grows-none, grows-on}
 
 pub grows-self : (t : Tabled) → GrowsTo t t
@@ -36,6 +36,21 @@ grows-trans t u v a b =
       plan = b.plan ∙ a.plan;
       grows = grows-on (rules_of t) (laws t.frame.rules t.frame.attacker) t.plan.exact t.nodes u.nodes v.nodes a.grows second;
     }
+
+-- ---- lines, less the node of the position itself
+
+-- those of an attack
+pub attack-asked : (f : Frame) (n : ℕ) (p : Position) → (seen_in f).attacking p ≡ true → 0 < n → sum_by (lines_after (seen_in f) (n - 1) p) (In.legal_in f p) ≤ (n + 1) * lines_within (seen_in f) n p - 1
+attack-asked f n p turn some = let a = asked_lines (seen_in f) (laws f.rules f.attacker) n p turn some in omega arith
+
+attack-end : (f : Frame) (n k : ℕ) (p : Position) (m : Move) (x : ℕ) → (seen_in f).attacking p ≡ true → 0 < n → k < n → Member m (In.legal_in f p) → x ≡ (k + 1) * lines_within (seen_in f) k (next f.rules p m) → sum_by (lines_after (seen_in f) (n - 1) p) (In.legal_in f p) + x ≤ (n + 1) * lines_within (seen_in f) n p - 1
+attack-end f n k p m x turn some less is e = let a = attack_lines (seen_in f) (laws f.rules f.attacker) n k p m turn some less is in omega arith
+
+-- those of a defence: what one more reply adds
+pub defence-step : (f x : Frame) (n : ℕ) (p : Position) (ms : List Move) (i : ℕ) (m : Move) → x ≡ f → slice_get ms i ≡ Some m → (n + 1) * sum_by (lines_after (seen_in f) n p) (take i ms) + (n + 1) * lines_within (seen_in x) n (next x.rules p m) ≤ (n + 1) * sum_by (lines_after (seen_in f) n p) (take (i + 1) ms)
+defence-step f x n p ms i m e at =
+    let same = ap (λ (z : Frame). (n + 1) * lines_within (seen_in z) n (next z.rules p m)) e in
+    let more = defence_more (seen_in f) (laws f.rules f.attacker) n p ms i m at in omega arith
 
 module _ (t : Tabled) (f : Frame) (e : t.frame ≡ f) where
   abbrev r : Game Position Repeat Move
@@ -101,14 +116,21 @@ module _ (t : Tabled) (f : Frame) (e : t.frame ≡ f) where
         next-after r l b t.plan n c.moves p c.chosen here own w.is_legal (λ z. attack-moves turn)
         (subst (λ a. c.moves ≤ left_after a n) (sym turn) (omega arith)) (sym (near-seen c.moves (next f.rules p c.chosen)) ∙ w.won) (omega arith)
 
+    pub attack-fall : r.attacking p ≡ true → (c : Choice) → IsChoice f p n c → (x : Frame) → x ≡ f → plies (seen_in x) c.moves (next x.rules p c.chosen) < plies r n p
+    attack-fall turn c w x d =
+        subst (λ (z : Frame). plies (seen_in z) c.moves (next z.rules p c.chosen) < plies r n p) (sym d) (plies_less r l n c.moves p c.chosen turn (attack-moves turn) w.fewer)
+
+    pub attack-total : r.attacking p ≡ true → (c : Choice) → IsChoice f p n c → (x : Frame) → x ≡ f → sum_by (lines_after r (n - 1) p) (In.legal_in f p) + (c.moves + 1) * lines_within (seen_in x) c.moves (next x.rules p c.chosen) ≤ (n + 1) * lines_within r n p - 1
+    attack-total turn c w x d =
+        attack-end f n c.moves p c.chosen _ turn (attack-moves turn) w.fewer w.is_legal (ap (λ (z : Frame). (c.moves + 1) * lines_within (seen_in z) c.moves (next z.rules p c.chosen)) d)
+
     -- the position after a reply
+    pub defence-fall : r.attacking p ≡ false → (m : Move) (x : Frame) → x ≡ f → plies (seen_in x) n (next x.rules p m) < plies r n p
+    defence-fall turn m x d = subst (λ (z : Frame). plies (seen_in z) n (next z.rules p m) < plies r n p) (sym d) (plies_next r l n p m turn)
+
     pub defence-next : r.attacking p ≡ false → (m : Move) → Member m (r.legal p) → IsNext r b t.plan n (next f.rules p m)
     defence-next turn m is =
         let won = all_member (λ x. AnyGame.near r b n (r.next p x)) (r.legal p) (goes-defence r l b n p here.goes_on own turn) m is in
         let fall = plies_next r l n p m turn in
         next-after r l b t.plan n n p m here own is (λ z. absurd (let x = turn in cc))
         (subst (λ a. n ≤ left_after a n) (sym turn) (omega arith)) won (omega arith)
-
--- the lines of an attack
-pub attack-end : (f : Frame) (n k : ℕ) (p : Position) (m : Move) (x : ℕ) → (seen_in f).attacking p ≡ true → 0 < n → k < n → Member m (In.legal_in f p) → x ≡ (k + 1) * lines_within (seen_in f) k (next f.rules p m) → (1 + sum_by (lines_after (seen_in f) (n - 1) p) (In.legal_in f p)) + x ≤ (n + 1) * lines_within (seen_in f) n p
-attack-end f n k p m x turn some less is e = let a = attack_lines (seen_in f) (laws f.rules f.attacker) n k p m turn some less is in omega arith

@@ -1,12 +1,15 @@
 //! What a game comes to within some number of moves, exactly.
-ghost use Rattle.std.specs.Prelude.{◌≡◌, ◌+◌, ◌*◌, ◌≤◌, ◌<◌, ◌&&◌, ℕ, true, is_some, IfOk, IfSome, OnOk, IsErrOf};
+ghost use Rattle.std.specs.Prelude.{◌≡◌, ◌+◌, ◌*◌, ◌≤◌, ◌<◌, ◌&&◌, ℕ, List, true, false, is_some};
+ghost use Rattle.std.specs.Prelude.{IfOk, IfSome, OnOk, IsErrOf};
 ghost use Rattle.forced_wins.specs.Wins.{IsInLimit, is_in, near_root};
 ghost use Rattle.game_play.specs.Played.{story};
 ghost use Rattle.game_values.specs.Bounds.{solve_bound};
 ghost use Rattle.mate_settle.specs.Lines.{lines_within, seen_in};
 ghost use Rattle.mate_showing.specs.Answers.{IsDecided, IsFrameOf, IsRight, IsWinningMove, is_at_move};
+ghost use Rattle.mate_showing.specs.Counts.{IsTabledIn};
 ghost use Rattle.mate_showing.specs.Tabled.{IsKept};
 ghost use Rattle.mate_showing.specs.Tables as Tables;
+ghost use Rattle.strategy.specs.declared.nodes.Node.{Node};
 ghost use Rattle.watching.specs.declared.halt.Halt.{Halt};
 
 use crate::answer::Settled;
@@ -16,6 +19,7 @@ use crate::node_table::NodeTable;
 use crate::ordering::moves_from;
 use crate::plan::{Plan, plan_for};
 use game_play::Game;
+use mate_core::Frame;
 use mate_fact::won_by;
 use mate_settle::{FactTable, all_won, choose};
 use playing::Board;
@@ -84,6 +88,26 @@ pub fn decide<W: Watch>(
     Ok(Verdict { won, best: None })
 }
 
+/// The plan for a win of the game, whose last position the board has, within n moves.
+fn plan_of(game: &Game, board: &Board, n: u16, frame: &Frame) -> Plan
+    requires frame { IsFrameOf game.now frame.now }
+    requires board { board.now ≡ record { rules = game.now.rules; position = (story game.now).last } }
+    requires some { 0 < n }
+    requires small { n ≤ Tables.most }
+    requires won { near_root frame.now.rules n (story game.now) frame.now.attacker ≡ true }
+    ensures root { result.root ≡ board.now.position }
+    ensures whole { result.whole ≡ n }
+    ensures in_limit { IsInLimit game.now.rules n (story game.now) → result.exact ≡ false }
+    ensures next { Tables.IsNext (seen_in frame.now) (is_in frame.now.blocked) result result.whole board.now.position }
+    ensures tabled { (nodes : List Node) → IsKept frame.now result nodes
+        → ((i : ℕ) × Tables.Stands (seen_in frame.now) result.exact nodes board.now.position result.whole i)
+        → IsTabledIn (story game.now) frame.now result nodes }
+{
+    game.is_played();
+    board.is_ready();
+    plan_for(frame, board.position(), n)
+}
+
 /// The nodes of a win, the root's first.
 fn tabulate<W: Watch>(
     alloc: Global,
@@ -137,10 +161,8 @@ pub fn show<W: Watch>(
     ensures ended { (why : Halt) → IsErrOf result why → W.ended watch.old watch.new
         ((n + 1) * lines_within (seen_in facts.old) n board.now.position) why }
 {
-    game.is_played();
-    board.is_ready();
     let frame = facts.frame();
-    let plan = plan_for(frame, board.position(), n);
+    let plan = plan_of(game, board, n, frame);
     let nodes = tabulate(alloc, board, plan, facts, watch)?;
     if plan.exact {
         let answer = judge(alloc, game, frame, &plan, nodes)?;

@@ -14,64 +14,42 @@ use Rattle.mate_showing.proofs.judging.judge.Goals as goal
 pub returns-then-repeats : goal.returns-then-repeats
 returns-then-repeats c =
     let g = story c.args.game.now in
-    let f = c.args.frame.now in
-    let plan = c.args.plan.now in
     let s = c.args.nodes.items in
-    let t = c.requires.tabled in
-    let i = c.loop-i.i in
     let v = c.index.result.now in
-    let within : i < length s = search rules in
-    let at : slice_get s i ≡ Some v = slice_get_read s (length s) i v refl within c.index.ensures in
-    let last = c.position-last.ensures.is in
-    let e = same-repeats (repeat_of v.position) (repeat_of c.position-last.result.now) c.repeats.result c.repeats.ensures c.if-repeats.true ∙ ap repeat_of last in
-    let some : 0 < i = search rules in
-    let cs = c.in_ok-counters.ensures ∙ ap (λ (y : Position). y.counter ∷ v.position.counter ∷ []) last in
-    subst (λ x. IsEvidence f.rules g f.attacker plan.whole x c.in_ok-counters.counters) (sym (c.repeat_of.ensures ∙ ap repeat_of last))
-    (again-evidence f g plan s t c.requires.exact i v c.in_ok-counters.counters some at e cs)
+    let at : slice_get s c.loop-i.i ≡ Some v = slice_get_read s (length s) c.loop-i.i v refl (search rules) c.index.ensures in
+    let e = same-repeats (repeat_of v.position) (repeat_of c.position-last.result.now) c.repeats.result c.repeats.ensures c.if-repeats.true ∙ ap repeat_of c.position-last.ensures.is in
+    let some : 0 < c.loop-i.i = search rules in
+    let cs = c.in_ok-counters.ensures ∙ ap (λ (y : Position). y.counter ∷ v.position.counter ∷ []) c.position-last.ensures.is in
+    subst (λ x. IsEvidence c.args.frame.now.rules g c.args.frame.now.attacker c.args.plan.now.whole x c.in_ok-counters.counters) (sym (c.repeat_of.ensures ∙ ap repeat_of c.position-last.ensures.is))
+    (again-evidence c.args.frame.now g c.args.plan.now s c.requires.tabled c.requires.exact c.loop-i.i v c.in_ok-counters.counters some at e cs)
 
 pub returns-then-is_often : goal.returns-then-is_often
 returns-then-is_often c =
     let g = story c.args.game.now in
-    let f = c.args.frame.now in
-    let plan = c.args.plan.now in
     let s = c.args.nodes.items in
-    let t = c.requires.tabled in
-    let i = c.loop-i.i in
     let v = c.index.result.now in
-    let within : i < length s = search rules in
-    let at : slice_get s i ≡ Some v = slice_get_read s (length s) i v refl within c.index.ensures in
-    let last = c.position-last.ensures.is in
-    let other : repeat_of v.position ≡ repeat_of g.last → ⊥ = λ e. other-repeats (repeat_of v.position) (repeat_of c.position-last.result.now) c.repeats.result c.repeats.ensures c.if-repeats.false (e ∙ sym (ap repeat_of last)) in
-    let often : is_often f.rules.n_fold g s (repeat_of v.position) ≡ true = subst (λ z. is_often f.rules.n_fold g z (repeat_of v.position) ≡ true) c.as_slice.ensures.value (sym c.is_often.ensures ∙ c.if-is_often.true) in
+    let at : slice_get s c.loop-i.i ≡ Some v = slice_get_read s (length s) c.loop-i.i v refl (search rules) c.index.ensures in
+    let other : repeat_of v.position ≡ repeat_of g.last → ⊥ = λ e. other-repeats (repeat_of v.position) (repeat_of c.position-last.result.now) c.repeats.result c.repeats.ensures c.if-repeats.false (e ∙ sym (ap repeat_of c.position-last.ensures.is)) in
+    let often : is_often c.args.frame.now.rules.n_fold g s (repeat_of v.position) ≡ true = subst (λ z. is_often c.args.frame.now.rules.n_fold g z (repeat_of v.position) ≡ true) c.as_slice.ensures.value (sym c.is_often.ensures ∙ c.if-is_often.true) in
     let cs : c.in_ok-counters-2.counters ≡ counters_of (repeat_of v.position) s = subst (λ z. c.in_ok-counters-2.counters ≡ counters_of (repeat_of v.position) z) c.as_slice-then-is_often.ensures.value c.in_ok-counters-2.ensures in
-    subst (λ x. IsEvidence f.rules g f.attacker plan.whole x c.in_ok-counters-2.counters) (sym c.repeat_of-then-is_often.ensures)
-    (often-evidence f g plan s t c.requires.exact i v c.in_ok-counters-2.counters at other often cs)
+    subst (λ x. IsEvidence c.args.frame.now.rules g c.args.frame.now.attacker c.args.plan.now.whole x c.in_ok-counters-2.counters) (sym c.repeat_of-then-is_often.ensures)
+    (often-evidence c.args.frame.now g c.args.plan.now s c.requires.tabled c.requires.exact c.loop-i.i v c.in_ok-counters-2.counters at other often cs)
 
 pub loop-i-preserved : goal.loop-i-preserved
 loop-i-preserved c =
     let g = story c.args.game.now in
-    let f = c.args.frame.now in
-    let plan = c.args.plan.now in
     let s = c.args.nodes.items in
-    let t = c.requires.tabled in
-    let i = c.loop-i.i in
     let v = c.index.result.now in
-    let within : i < length s = search rules in
-    let at : slice_get s i ≡ Some v = slice_get_read s (length s) i v refl within c.index.ensures in
-    let last = c.position-last.ensures.is in
-    let here : (same_repeat (repeat_of v.position) (repeat_of g.last) ≡ false) × (is_often f.rules.n_fold g s (repeat_of v.position) ≡ false) = (
-      ap (λ (y : Position). same_repeat (repeat_of v.position) (repeat_of y)) (sym last) ∙ sym c.repeats.ensures ∙ c.if-repeats.false,
-      subst (λ z. is_often f.rules.n_fold g z (repeat_of v.position) ≡ false) c.as_slice.ensures.value (sym c.is_often.ensures ∙ c.if-is_often.false),
+    let at : slice_get s c.loop-i.i ≡ Some v = slice_get_read s (length s) c.loop-i.i v refl (search rules) c.index.ensures in
+    let here : (same_repeat (repeat_of v.position) (repeat_of g.last) ≡ false) × (is_often c.args.frame.now.rules.n_fold g s (repeat_of v.position) ≡ false) = (
+      ap (λ (y : Position). same_repeat (repeat_of v.position) (repeat_of y)) (sym c.position-last.ensures.is) ∙ sym c.repeats.ensures ∙ c.if-repeats.false,
+      subst (λ z. is_often c.args.frame.now.rules.n_fold g z (repeat_of v.position) ≡ false) c.as_slice.ensures.value (sym c.is_often.ensures ∙ c.if-is_often.false),
     ) in
-    looked {Q = λ (w : Node). (same_repeat (repeat_of w.position) (repeat_of g.last) ≡ false) × (is_often f.rules.n_fold g s (repeat_of w.position) ≡ false)} s i v c.loop-i.invariant at here
+    looked {Q = λ (w : Node). (same_repeat (repeat_of w.position) (repeat_of g.last) ≡ false) × (is_often c.args.frame.now.rules.n_fold g s (repeat_of w.position) ≡ false)} s c.loop-i.i v c.loop-i.invariant at here
 
 pub returns : goal.returns
 returns c =
     let g = story c.args.game.now in
-    let f = c.args.frame.now in
-    let plan = c.args.plan.now in
     let s = c.args.nodes.items in
-    let t = c.requires.tabled in
-    let i = c.loop-i.i in
-    subst (IsRight f.rules g f.attacker plan.whole) (sym c.shown.ensures)
-    (near-shown f g plan s t c.requires.kept c.requires.exact (seen {Q = λ (w : Node). (same_repeat (repeat_of w.position) (repeat_of g.last) ≡ false) × (is_often f.rules.n_fold g s (repeat_of w.position) ≡ false)} s i c.loop-i.invariant (search rules)))
+    subst (IsRight c.args.frame.now.rules g c.args.frame.now.attacker c.args.plan.now.whole) (sym c.shown.ensures)
+    (near-shown c.args.frame.now g c.args.plan.now s c.requires.tabled c.requires.kept c.requires.exact (seen {Q = λ (w : Node). (same_repeat (repeat_of w.position) (repeat_of g.last) ≡ false) × (is_often c.args.frame.now.rules.n_fold g s (repeat_of w.position) ≡ false)} s c.loop-i.i c.loop-i.invariant (search rules)))

@@ -11,68 +11,31 @@ use Rattle.mate_showing.proofs.solving.solve_watched.Goals as goal
 
 pub returns-in_err-verdict-clause-ended : goal.returns-in_err-verdict-clause-ended
 returns-in_err-verdict-clause-ended g c why is =
-    let f = c.args.facts.now in
-    let r = seen_in f in
-    let game = story c.args.game.now in
-    let by = c.args.game.now.rules in
-    let n = c.args.n in
-    let p = c.new-board.result.position in
-    let last : p ≡ game.last = ap (λ (x : Stance). x.position) c.new-board.ensures ∙ c.position.ensures.is in
-    let e : f.rules ≡ by = c.requires.frame.rules in
-    let lines = solve-lines by f game n p e last in
+    let lines = solve-lines c.args.game.now.rules c.args.facts.now (story c.args.game.now) c.args.n c.new-board.result.position c.requires.frame.rules (ap (λ (x : Stance). x.position) c.new-board.ensures ∙ c.position.ensures.is) in
     let back : c.decide.result ≡ Err why = search rules in
     g.met.W.Watch.ends_wider _ _ _ _ why (c.decide.ensures.ended why back) (omega arith)
 
 pub returns-then-not-verdict-clause-gone : goal.returns-then-not-verdict-clause-gone
 returns-then-not-verdict-clause-gone g c =
-    let f = c.args.facts.now in
-    let r = seen_in f in
-    let game = story c.args.game.now in
-    let by = c.args.game.now.rules in
-    let n = c.args.n in
-    let p = c.new-board.result.position in
-    let last : p ≡ game.last = ap (λ (x : Stance). x.position) c.new-board.ensures ∙ c.position.ensures.is in
-    let e : f.rules ≡ by = c.requires.frame.rules in
-    let lines = solve-lines by f game n p e last in
+    let lines = solve-lines c.args.game.now.rules c.args.facts.now (story c.args.game.now) c.args.n c.new-board.result.position c.requires.frame.rules (ap (λ (x : Stance). x.position) c.new-board.ensures ∙ c.position.ensures.is) in
     g.met.W.Watch.wider _ _ _ _ c.in_ok-verdict.ensures.gone (omega arith)
 
 pub returns-then-not-verdict-clause-right : goal.returns-then-not-verdict-clause-right
 returns-then-not-verdict-clause-right g c =
     let f = c.args.facts.now in
-    let r = seen_in f in
     let game = story c.args.game.now in
-    let by = c.args.game.now.rules in
-    let n = c.args.n in
-    let p = c.new-board.result.position in
-    let last : p ≡ game.last = ap (λ (x : Stance). x.position) c.new-board.ensures ∙ c.position.ensures.is in
-    let e : f.rules ≡ by = c.requires.frame.rules in
-    let bl = frame-blocked c.args.game.now f c.requires.frame in
-    subst (λ (x : Rules). wins x n game f.attacker ≡ false) e
-    (not-won f game bl n (sym (lost_by c.in_ok-verdict.verdict.won c.if-not-verdict.true) ∙ c.in_ok-verdict.ensures.won))
+    subst (λ (x : Rules). wins x c.args.n game f.attacker ≡ false) c.requires.frame.rules
+    (not-won f game (frame-blocked c.args.game.now f c.requires.frame) c.args.n (sym (lost_by c.in_ok-verdict.verdict.won c.if-not-verdict.true) ∙ c.in_ok-verdict.ensures.won))
 
 pub returns-clause-gone : goal.returns-clause-gone
 returns-clause-gone g c =
-    let f = c.args.facts.now in
-    let game = story c.args.game.now in
-    let by = c.args.game.now.rules in
-    let n = c.args.n in
-    let p = c.new-board.result.position in
-    let last : p ≡ game.last = ap (λ (x : Stance). x.position) c.new-board.ensures ∙ c.position.ensures.is in
-    let lines = solve-lines by f game n p c.requires.frame.rules last in
-    let kept : c.decide.new.facts ≡ f = c.decide.ensures.frame in
-    let walk = walk-lines f c.decide.new.facts n n p p kept refl refl in
+    let lines = solve-lines c.args.game.now.rules c.args.facts.now (story c.args.game.now) c.args.n c.new-board.result.position c.requires.frame.rules (ap (λ (x : Stance). x.position) c.new-board.ensures ∙ c.position.ensures.is) in
+    let walk = walk-lines c.args.facts.now c.decide.new.facts c.args.n c.args.n c.new-board.result.position c.new-board.result.position c.decide.ensures.frame refl refl in
     on_ok_of c.show.result c.show.ensures.gone (λ rest.
-    g.met.W.Watch.wider _ _ _ (solve_bound by n game) (g.met.W.Watch.more _ _ _ (lines_within (seen_in f) n p) ((n + 1) * lines_within (seen_in c.decide.new.facts) n p) c.in_ok-verdict.ensures.gone rest) (omega arith))
+    g.met.W.Watch.wider _ _ _ (solve_bound c.args.game.now.rules c.args.n (story c.args.game.now)) (g.met.W.Watch.more _ _ _ (lines_within (seen_in c.args.facts.now) c.args.n c.new-board.result.position) ((c.args.n + 1) * lines_within (seen_in c.decide.new.facts) c.args.n c.new-board.result.position) c.in_ok-verdict.ensures.gone rest) (omega arith))
 
 pub returns-clause-ended : goal.returns-clause-ended
 returns-clause-ended g c why is =
-    let f = c.args.facts.now in
-    let game = story c.args.game.now in
-    let by = c.args.game.now.rules in
-    let n = c.args.n in
-    let p = c.new-board.result.position in
-    let last : p ≡ game.last = ap (λ (x : Stance). x.position) c.new-board.ensures ∙ c.position.ensures.is in
-    let lines = solve-lines by f game n p c.requires.frame.rules last in
-    let kept : c.decide.new.facts ≡ f = c.decide.ensures.frame in
-    let walk = walk-lines f c.decide.new.facts n n p p kept refl refl in
-    g.met.W.Watch.ends_wider _ _ _ (solve_bound by n game) why (g.met.W.Watch.ends _ _ _ (lines_within (seen_in f) n p) ((n + 1) * lines_within (seen_in c.decide.new.facts) n p) why c.in_ok-verdict.ensures.gone (c.show.ensures.ended why is)) (omega arith)
+    let lines = solve-lines c.args.game.now.rules c.args.facts.now (story c.args.game.now) c.args.n c.new-board.result.position c.requires.frame.rules (ap (λ (x : Stance). x.position) c.new-board.ensures ∙ c.position.ensures.is) in
+    let walk = walk-lines c.args.facts.now c.decide.new.facts c.args.n c.args.n c.new-board.result.position c.new-board.result.position c.decide.ensures.frame refl refl in
+    g.met.W.Watch.ends_wider _ _ _ (solve_bound c.args.game.now.rules c.args.n (story c.args.game.now)) why (g.met.W.Watch.ends _ _ _ (lines_within (seen_in c.args.facts.now) c.args.n c.new-board.result.position) ((c.args.n + 1) * lines_within (seen_in c.decide.new.facts) c.args.n c.new-board.result.position) why c.in_ok-verdict.ensures.gone (c.show.ensures.ended why is)) (omega arith)
