@@ -26,7 +26,7 @@ pub fn late_end(rules: &Rules, last: &Position, repeated: bool) -> Outcome
 impl Game {
     /// Whether the last position has stood as often as the repetition rule says.
     #[tactic(auto, unfolding(rules_model::specs::Games::is_repeated))]
-    fn is_repeated(&self) -> bool
+    pub fn is_repeated(&self) -> bool
         ensures { result ≡ Games.is_repeated self.now.rules (story self.now) }
     {
         let fold = self.tables.rules().n_fold;

@@ -17,8 +17,8 @@ use std::marker::Model;
 /// How many slots there are. A key is in the slot of its remainder.
 const SLOTS: usize = 1024;
 
-/// Positions one after another, at most 8,193, each with its key and with how often its repeat had stood by then, itself
-/// counted.
+/// Positions one after another, at most 8,193, each with its key and with how often its repeat had stood by then,
+/// itself counted.
 ///
 /// Those whose keys are in one slot are chained, the newest first, so that a repeat is found with no look at the other
 /// slots. Contracts see the positions.

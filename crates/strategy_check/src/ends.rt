@@ -59,15 +59,6 @@ impl Table<'_> {
         limit > 0 && u32::from(counter) >= limit
     }
 
-    /// Whether the game is ended by repetition.
-    #[tactic(auto, unfolding(rules_model::specs::Games::is_repeated))]
-    fn is_repeated(&self) -> bool
-        ensures { result ≡ At.is_repeated self.now }
-    {
-        let fold = self.game.rules().n_fold;
-        fold != 0 && self.game.repeats(self.game.position()) >= u32::from(fold)
-    }
-
     /// Whether the game itself is ended by repetition or move count.
     fn is_cut(&self) -> bool
         ensures { result ≡ At.is_cut self.now }
@@ -75,7 +66,7 @@ impl Table<'_> {
         let last = self.game.position();
         match self.own_end(last) {
             Some(_) => false,
-            None => self.is_repeated() || self.is_run_out(last.counter),
+            None => self.game.is_repeated() || self.is_run_out(last.counter),
         }
     }
 
