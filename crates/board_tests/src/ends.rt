@@ -64,6 +64,18 @@ fn a_side_dies_out(rt: HostRuntime) {
     assert_eq!(rt; end_of(&rules, &p, Side::White), Outcome::Ongoing);
 }
 
+// Black's one queen is in its hand.
+#[test]
+fn a_piece_in_the_hand_has_not_died_out(rt: HostRuntime) {
+    let mut rules = queens_are_wanted(Value::Loss);
+    let mut p = position("Ke1 Qd1 Qd2 ke8");
+    p.hands[1][kind(b'q').0 as usize] = 1;
+    assert_eq!(rt; end_of(&rules, &p, Side::White), Outcome::Ongoing);
+    rules.extinct_most = 1;
+    let won = Outcome::Won(Side::White, Cause::Extinction);
+    assert_eq!(rt; end_of(&rules, &p, Side::White), won);
+}
+
 // All kinds together: Black has one piece and White two.
 #[test]
 fn a_side_has_few_pieces(rt: HostRuntime) {

@@ -1,1 +1,1 @@
-mod CountedLaws
+mod TallyLaws

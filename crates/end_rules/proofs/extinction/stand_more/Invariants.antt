@@ -1,10 +1,10 @@
 use Rattle.std.proofs.Common.{◌≡◌, ◌≤◌, take}
 use Rattle.std.specs.Prelude.{count_by}
-use Rattle.end_rules.specs.Counted.{is_counted}
+use Rattle.rules_model.specs.Ends.{is_of}
 use Rattle.end_rules.proofs.extinction.stand_more.Given as goal
 
 abbrev pub invariant-loop-at : goal.invariant-loop-at
 invariant-loop-at l = record {
-  found : l.found ≡ count_by (is_counted l.side l.kind) (take l.at l.cells);
+  found : l.found ≡ count_by (is_of l.side) (take l.at l.cells);
   few : l.found ≤ l.most;
 }
