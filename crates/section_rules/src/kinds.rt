@@ -7,6 +7,7 @@ ghost use Rattle.variant_model.specs.PieceRules.{kind_rule_of, piece_row};
 ghost use Rattle.variant_options.specs.PieceTable as PieceTable;
 ghost use Rattle.variant_options.specs.PieceView.{piece_view, key_pair};
 ghost use Rattle.variant_options.specs.Options.{promoted_piece_type, region_keys};
+ghost use Rattle.variant_options.specs.declared.pieces.TheConstants.{PIECE_COUNT};
 ghost use Rattle.rules_model.specs.declared.board.Side.TheVariants.{White, Black};
 ghost use Rattle.section_rules.specs.Said.{IsKeyOf, board_of, held_at, held_by, holds_pair, own_word, resolved_at, rule_at, terms_by};
 
@@ -28,7 +29,7 @@ pub(crate) type Pairs = Vec<(Kind, Kind)>;
 
 /// The letter of the piece at a place of the table.
 pub(crate) fn letter_at(section: &Resolved<'_>, place: usize) -> Option<Kind>
-    requires { place < 56 }
+    requires { place < PIECE_COUNT }
     ensures { result ≡ (resolved_at section.now).letter (PieceRules.piece_row place).key }
 {
     let letters = section.letters();
@@ -38,7 +39,7 @@ pub(crate) fn letter_at(section: &Resolved<'_>, place: usize) -> Option<Kind>
 /// The place in the table of the piece that has the letter.
 fn holder(section: &Resolved<'_>, kind: Kind) -> Option<usize>
     ensures is { option_map PieceRules.piece_row result ≡ PieceRules.holder (resolved_at section.now) kind }
-    ensures below { IfSome result (λ place. place < 56) }
+    ensures below { IfSome result (λ place. place < PIECE_COUNT) }
 {
     for place in 0..PIECE_COUNT {
         if names(letter_at(section, place), kind) {
@@ -181,7 +182,7 @@ fn terms(alloc: Global, section: &Resolved<'_>, piece: &Piece) -> Result<Terms, 
 
 /// The keys of the regions of the piece at a place of the table.
 fn keys_at(place: usize) -> RegionKeys
-    requires { place < 56 }
+    requires { place < PIECE_COUNT }
     ensures { key_pair result ≡ region_keys (PieceRules.piece_row place) }
 {
     let table = region_keys();
@@ -208,7 +209,7 @@ fn kind_rule(
     kind: Kind,
     place: usize,
 ) -> Result<KindRule, Memory>
-    requires place { place < 56 }
+    requires place { place < PIECE_COUNT }
     requires board { board ≡ board_of (resolved_at section.now) }
     requires pairs { pairs.now ≡ PieceRules.held_pairs (resolved_at section.now) }
     ensures { IfOk result (λ rule. rule ≡ kind_rule_of (resolved_at section.now) kind (piece_row place)) }

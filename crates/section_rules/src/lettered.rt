@@ -1,6 +1,7 @@
 //! Sections with the letters of their pieces.
 ghost use Rattle.std.specs.Prelude.{◌≡◌, ◌<◌, IfOk, is_none, length, slice_index_or};
 ghost use Rattle.variant_model.specs.Told.{lacks_piece};
+ghost use Rattle.variant_options.specs.declared.pieces.TheConstants.{PIECE_COUNT};
 ghost use Rattle.section_rules.specs.Letters as table;
 
 use crate::letters::{Letters, all_letters};
@@ -32,7 +33,7 @@ impl<'a> Model for LetteredSections<'a> {
 
 /// Whether letters have none for the piece at a place of the table.
 fn is_absent(letters: &Letters, place: usize) -> bool
-    requires { place < 56 }
+    requires { place < PIECE_COUNT }
     ensures { result ≡ is_none (slice_index_or letters.now place None) }
 {
     letters[place].is_none()

@@ -8,6 +8,7 @@ ghost use Rattle.variant_options.specs.PieceView.{piece_view};
 ghost use Rattle.variant_model.specs.PieceRules.{piece_row};
 ghost use Rattle.variant_model.specs.Entry as Entry;
 ghost use Rattle.variant_model.specs.PieceLetters as PieceLetters;
+ghost use Rattle.variant_options.specs.declared.pieces.TheConstants.{PIECE_COUNT};
 ghost use Rattle.section_rules.specs.Own.{own_value, letter_count, letter_given};
 
 use rules_model::kinds::names;
@@ -48,7 +49,7 @@ fn own_value(sections: &Sections, section: usize, piece: &[u8]) -> Option<Option
 
 /// The piece at a place of the table.
 pub(crate) fn piece_at(place: usize) -> &'static Piece
-    requires { place < 56 }
+    requires { place < PIECE_COUNT }
     ensures { piece_view result.now ≡ piece_row place }
 {
     let table = pieces();
@@ -58,7 +59,7 @@ pub(crate) fn piece_at(place: usize) -> &'static Piece
 /// The place in the table of the piece of the key.
 pub(crate) fn piece_place(key: &[u8]) -> Option<usize>
     ensures is { option_map piece_row result ≡ piece_named key.now }
-    ensures below { IfSome result (λ place. place < 56) }
+    ensures below { IfSome result (λ place. place < PIECE_COUNT) }
 {
     for place in 0..PIECE_COUNT {
         let piece = piece_at(place);
@@ -72,7 +73,7 @@ pub(crate) fn piece_place(key: &[u8]) -> Option<usize>
 /// What the lines of a section say of the piece at a place of the table.
 fn own_at(sections: &Sections, section: usize, place: usize) -> Option<Option<Kind>>
     requires section { section < length sections.now }
-    requires place { place < 56 }
+    requires place { place < PIECE_COUNT }
     ensures { result ≡ own_value (section_at sections.now section).lines (piece_row place).key }
 {
     let piece = piece_at(place);

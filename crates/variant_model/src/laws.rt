@@ -9,6 +9,7 @@ ghost use Rattle.variant_model.specs.declared.fault.SectionFault.{SectionFault};
 ghost use Rattle.variant_model.specs.Entry.{accepted, entry, first_fault, is_refused};
 ghost use Rattle.variant_model.specs.Made.{resolved};
 ghost use Rattle.variant_model.specs.PieceLetters.{letter_in, own_lines, parent_letter, piece_letter, unless_given};
+ghost use Rattle.variant_options.specs.declared.keys.TheConstants.{KEYS};
 ghost use Rattle.variant_model.specs.Told.{line_of, told, told_section};
 
 /// The letter of a piece is that of the section's own last line for it, else the one in its parent, unless the section
@@ -34,13 +35,13 @@ pub fn first_faults_refuse()
 {}
 
 /// A section that has no parent, and the lines that an accepted section tells, has the rules of that section. It has
-/// at least one line, and at most 213, as many as there are keys.
+/// at least one line, and at most as many as there are keys.
 pub fn told_sections_have_the_same_rules()
     ensures same { (sections : List Section) (place : ℕ) (name : List ℕ) (rules : Rules)
         → entry sections place ≡ Ok rules → entry (told_section name sections place ∷ []) 0 ≡ Ok rules }
     ensures some { (sections : List Section) (place : ℕ) (rules : Rules) → entry sections place ≡ Ok rules
         → 1 ≤ length (told sections place) }
-    ensures few { (sections : List Section) (place : ℕ) → length (told sections place) ≤ 213 }
+    ensures few { (sections : List Section) (place : ℕ) → length (told sections place) ≤ KEYS }
 {}
 
 /// The lines that a section tells are lines of files where those of all sections are: no value has blanks at its ends,

@@ -1,6 +1,7 @@
 //! The keys that a variants file may have, in byte order.
 ghost use Rattle.std.specs.Prelude.{◌≡◌, ◌-◌, ◌<◌, [], drop, length, map, slice_index_or, take};
 ghost use Rattle.variant_options.specs.Keys.{ordered_keys};
+ghost use Rattle.variant_options.specs.declared.keys.TheConstants.{KEYS};
 
 /// How many keys there are: those of options, of regions of pieces, and of pieces.
 pub const KEYS: usize = 213;
@@ -258,7 +259,7 @@ fn fourth_keys() -> &'static [&'static [u8]]
 
 /// The key at this place of the keys in byte order.
 pub fn key_at(place: usize) -> &'static [u8]
-    requires { place < 213 }
+    requires { place < KEYS }
     ensures { result.now ≡ slice_index_or ordered_keys place [] }
 {
     if place < 54 {

@@ -7,6 +7,7 @@ ghost use Rattle.variant_options.specs.LineFaults.{piece_named};
 ghost use Rattle.variant_options.specs.Options.{is_mobility_key, is_pawn_key, is_region_key, region_keys};
 ghost use Rattle.variant_options.specs.PieceTable.{pieces};
 ghost use Rattle.variant_options.specs.PieceView.{piece_view, key_pair};
+ghost use Rattle.variant_options.specs.declared.pieces.TheConstants.{PIECE_COUNT};
 
 /// How a piece moves.
 #[derive(Clone, Copy)]
@@ -270,7 +271,7 @@ static REGION_KEYS: [RegionKeys; PIECE_COUNT] = [
 /// The table of pieces.
 pub fn pieces() -> &'static [Piece]
     ensures rows { map piece_view result.now ≡ pieces }
-    ensures count { length result.now ≡ 56 }
+    ensures count { length result.now ≡ PIECE_COUNT }
 {
     &PIECES
 }
@@ -278,7 +279,7 @@ pub fn pieces() -> &'static [Piece]
 /// The keys of their regions.
 pub fn region_keys() -> &'static [RegionKeys]
     ensures rows { map key_pair result.now ≡ map region_keys pieces }
-    ensures count { length result.now ≡ 56 }
+    ensures count { length result.now ≡ PIECE_COUNT }
 {
     &REGION_KEYS
 }
