@@ -1,6 +1,7 @@
 //! Tests of `cecp_front`.
 use cecp_front::{CecpSession, serve};
 use io_ports::{Dialect, ListClock, MemSink, MemSource, OpenGate, PollsOwed, Ports, SearchFault};
+use std::alloc::Global;
 use std::process::Abort;
 use std::sync::Wait;
 use std::test::Fail;
@@ -13,6 +14,25 @@ const FEATURES: &str = "feature ping=1 setboard=1 usermove=1 colors=0 sigint=0 s
     myname=\"vengine\" variants=\"normal,crazyhouse,3check,kingofthehill,antichess,extinction,\
     losalamos,capablanca,seirawan,xiangqi\" done=1\n";
 
+/// How a session of the lines of the source ends.
+fn talk<R: Threads + Wait + Sync>(
+    rt: &R,
+    alloc: Global,
+    session: &mut CecpSession,
+    source: &mut MemSource,
+    sink: &mut MemSink,
+    clock: &mut ListClock,
+) -> Result<Ended, SearchFault> {
+    let mut ports = Ports {
+        source,
+        sink,
+        clock,
+        gate: &OpenGate,
+        dialect: Dialect::Cecp,
+    };
+    serve(rt, alloc, session, &mut ports)
+}
+
 /// How a session of these lines ends, with a clock that stands still, and what it wrote.
 fn served<R: AllocGlobal + Threads + Wait + Sync>(
     rt: &R,
@@ -22,20 +42,13 @@ fn served<R: AllocGlobal + Threads + Wait + Sync>(
     room: usize,
 ) -> Result<(Result<Ended, SearchFault>, MemSink), Fail> {
     let alloc = rt.alloc();
-    let sections = builtin(alloc)?;
-    let variants = load(alloc, &sections)?;
-    let mut session = CecpSession::new(alloc, sections, variants, 1)?;
     let mut source = MemSource::new(alloc, input.as_bytes(), polls, failing)?;
     let mut sink = MemSink::new(alloc, room)?;
     let mut clock = ListClock::new(alloc, &[0])?;
-    let mut ports = Ports {
-        source: &mut source,
-        sink: &mut sink,
-        clock: &mut clock,
-        gate: &OpenGate,
-        dialect: Dialect::Cecp,
-    };
-    let ended = serve(rt, alloc, &mut session, &mut ports);
+    let sections = builtin(alloc)?;
+    let variants = load(alloc, &sections)?;
+    let mut session = CecpSession::new(alloc, sections, variants, 1)?;
+    let ended = talk(rt, alloc, &mut session, &mut source, &mut sink, &mut clock);
     Ok((ended, sink))
 }
 

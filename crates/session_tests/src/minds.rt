@@ -64,13 +64,13 @@ fn searched<R: Threads + Wait + Abort + Sync>(
 ) -> Result<Told, Fail> {
     let (rules, p) = (chess(), position(ROOK));
     assert!(rt; sound(&rules, &p));
-    let game = Game::new(alloc, &rules, &p)?;
-    let roots = Board::new(game.tables(), game.position()).legal_moves(alloc)?;
-    assert!(rt; !roots.items.is_empty());
-    let mut mind = Mind::new(alloc, 1)?;
     let mut sink = MemSink::new(alloc, 100)?;
     let mut clock = ListClock::new(alloc, &[5])?;
     let mut source = MemSource::new(alloc, lines, owed, &[])?;
+    let mut mind = Mind::new(alloc, 1)?;
+    let game = Game::new(alloc, &rules, &p)?;
+    let roots = Board::new(game.tables(), game.position()).legal_moves(alloc)?;
+    assert!(rt; !roots.items.is_empty());
     let searched = search_once(
         rt,
         alloc,
@@ -100,11 +100,11 @@ fn solved<R: Threads + Wait + Abort + Sync>(
 ) -> Result<Told, Fail> {
     let (rules, p) = (chess(), position(ROOK));
     assert!(rt; sound(&rules, &p));
-    let game = Game::new(alloc, &rules, &p)?;
-    let mut mind = Mind::new(alloc, 1)?;
     let mut sink = MemSink::new(alloc, 100)?;
     let mut clock = ListClock::new(alloc, &[5])?;
     let mut source = MemSource::new(alloc, lines, owed, &[])?;
+    let mut mind = Mind::new(alloc, 1)?;
+    let game = Game::new(alloc, &rules, &p)?;
     let solved = solve_once(
         rt,
         alloc,

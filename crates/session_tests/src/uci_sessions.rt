@@ -1,14 +1,47 @@
 //! Tests of `uci_front`.
+use foundation::Memory;
 use io_ports::{
     Dialect, ListClock, MAX_LINE, MemFiles, MemSink, MemSource, OpenGate, PollsOwed, Ports,
     SearchFault,
 };
+use std::alloc::Global;
 use std::process::Abort;
 use std::sync::Wait;
 use std::test::Fail;
 use std::thread::Threads;
 use uci_front::{Ended, UciSession, serve};
 use variant_rules::{builtin, load};
+
+/// Two files of variants, one of which has a fault.
+fn own_files(alloc: Global) -> Result<MemFiles, Memory> {
+    let mut files = MemFiles::new(alloc);
+    files.add(
+        b"own.ini",
+        b"[own:chess]\nstartFen = 7k/8/5KQ1/8/8/8/8/8 w - - 0 1\n",
+    )?;
+    files.add(b"bad.ini", b"castling = true\n")?;
+    Ok(files)
+}
+
+/// How a session of the lines of the source ends.
+fn talk<R: Threads + Wait + Sync>(
+    rt: &R,
+    alloc: Global,
+    session: &mut UciSession,
+    source: &mut MemSource,
+    sink: &mut MemSink,
+    clock: &mut ListClock,
+    files: &mut MemFiles,
+) -> Result<Ended, SearchFault> {
+    let mut ports = Ports {
+        source,
+        sink,
+        clock,
+        gate: &OpenGate,
+        dialect: Dialect::Uci,
+    };
+    serve(rt, alloc, session, &mut ports, files)
+}
 
 /// How a session of these lines ends, with a clock that stands still and two files of variants, and what it wrote.
 fn served<R: AllocGlobal + Threads + Wait + Sync>(
@@ -19,26 +52,22 @@ fn served<R: AllocGlobal + Threads + Wait + Sync>(
     room: usize,
 ) -> Result<(Result<Ended, SearchFault>, MemSink), Fail> {
     let alloc = rt.alloc();
-    let sections = builtin(alloc)?;
-    let variants = load(alloc, &sections)?;
-    let mut session = UciSession::new(alloc, sections, variants, 1)?;
     let mut source = MemSource::new(alloc, input, polls, failing)?;
     let mut sink = MemSink::new(alloc, room)?;
     let mut clock = ListClock::new(alloc, &[0])?;
-    let mut files = MemFiles::new(alloc);
-    files.add(
-        b"own.ini",
-        b"[own:chess]\nstartFen = 7k/8/5KQ1/8/8/8/8/8 w - - 0 1\n",
-    )?;
-    files.add(b"bad.ini", b"castling = true\n")?;
-    let mut ports = Ports {
-        source: &mut source,
-        sink: &mut sink,
-        clock: &mut clock,
-        gate: &OpenGate,
-        dialect: Dialect::Uci,
-    };
-    let ended = serve(rt, alloc, &mut session, &mut ports, &mut files);
+    let mut files = own_files(alloc)?;
+    let sections = builtin(alloc)?;
+    let variants = load(alloc, &sections)?;
+    let mut session = UciSession::new(alloc, sections, variants, 1)?;
+    let ended = talk(
+        rt,
+        alloc,
+        &mut session,
+        &mut source,
+        &mut sink,
+        &mut clock,
+        &mut files,
+    );
     Ok((ended, sink))
 }
 

@@ -3,5 +3,5 @@ use Rattle.std.proofs.lemmas.List.{append-nil}
 use Rattle.variant_model.specs.Builtin.{builtin_sections}
 use Rattle.session_tests.proofs.uci_sessions.served.Goals as goal
 
-pub new-requires-clause-begins : goal.new-requires-clause-begins
-new-requires-clause-begins g c = ([], c.in_ok-sections.ensures.are ∙ sym (append-nil builtin_sections))
+pub new-requires-4-clause-begins : goal.new-requires-4-clause-begins
+new-requires-4-clause-begins g c = ([], c.in_ok-sections.ensures.are ∙ sym (append-nil builtin_sections))
