@@ -56,4 +56,5 @@ listed (s ∷ squares) = flat_map blank_square (s ∷ squares)
 -- the two lines of `reach`
 unfoldable pub reach_text : List (Option Cell) → List Term → Square → List ℕ
 reach_text cells terms from =
-    codes "quiet" ++ listed (squares_where (is_quiet_target cells terms from)) ++ codes "\ntake" ++ listed (squares_where (is_taking_target cells terms from)) ++ codes "\n"
+    codes "quiet" ++ listed (squares_where (is_quiet_target cells terms from))
+    ++ codes "\ntake" ++ listed (squares_where (is_taking_target cells terms from)) ++ codes "\n"

@@ -103,7 +103,8 @@ pub(crate) fn push_shifted<S: MoveSink>(
 ) -> Result<Set, S::Full>
     requires fit { IsFit tables.now }
     requires sets { AreSets tables.now p.now.side p.now.cells sets.now }
-    ensures ok { IfOk result (λ left. TakesAll S.takes (OfOtherPawns tables.now (repeat_of p.now) left) out.old out.new) }
+    ensures ok { IfOk result
+        (λ left. TakesAll S.takes (OfOtherPawns tables.now (repeat_of p.now) left) out.old out.new) }
     ensures on_board { IfOk result (λ left. OnSquares left) }
     ensures own { IfOk result (λ left. OnOwnPawns tables.now (repeat_of p.now) left) }
     ensures err { OnErr result (TakesSome S.stops (FitPawnMoves tables.now (repeat_of p.now)) out.old out.new) }

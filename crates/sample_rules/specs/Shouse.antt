@@ -30,5 +30,10 @@ shouse = record pieces {
   to_hand = true;
   gating = true;
   gate_hand = true;
-  start = record empty { cells = cells_of START.now; rights = all_rights; gates = 255 ∷ 255 ∷ []; hands = hand_of (codes "eh") ∷ hand_of (codes "eh") ∷ [] };
+  start = record empty {
+    cells = cells_of START.now;
+    rights = all_rights;
+    gates = 255 ∷ 255 ∷ [];
+    hands = hand_of (codes "eh") ∷ hand_of (codes "eh") ∷ [];
+  };
 }

@@ -17,7 +17,7 @@ use std::test::Fail;
 use std::thread::Threads;
 use strategy::{Counters, Nodes, Strategy};
 use thinking::{
-    Depths, Evidence, Found, Score, Style, Task, Tried, begin, deepen, lines_of, try_mates,
+    Depths, Evidence, Found, Score, Style, Task, Tried, begin, deepen, depth_lines, try_mates,
     unsettled_line,
 };
 use watching::Cut;
@@ -66,7 +66,7 @@ fn expect_lines(
     text: &str,
 ) -> Result<(), Fail> {
     let found = found(alloc, scored);
-    let written = lines_of(alloc, style, &chess(), 100, 3, &found, reading)?;
+    let written = depth_lines(alloc, style, &chess(), 100, 3, &found, reading)?;
     assert!(rt; written.items.as_slice() == text.as_bytes(), "{text}");
     Ok(())
 }
@@ -152,6 +152,11 @@ fn deepened<R: Threads + Wait + Abort + Sync>(
 {
     let (rules, start) = (chess(), position(text));
     assert!(rt; sound(&rules, &start));
+    let mut source = MemSource::new(alloc, heard.lines, heard.owed, &[])?;
+    let mut sink = MemSink::new(alloc, 1000)?;
+    let mut clock = ListClock::new(alloc, &[100, 130, 90])?;
+    let mut line = LineBuf::new(alloc)?;
+    let mut mind = Mind::new(alloc, 1)?;
     let game = Game::new(alloc, &rules, &start)?;
     let roots = legal_moves(alloc, game.rules(), game.tables(), game.position())?;
     assert!(rt; 0 < roots.items.len());
@@ -163,12 +168,7 @@ fn deepened<R: Threads + Wait + Abort + Sync>(
         share: heard.share,
         time: heard.deadline,
     };
-    let mut source = MemSource::new(alloc, heard.lines, heard.owed, &[])?;
-    let mut sink = MemSink::new(alloc, 1000)?;
-    let mut clock = ListClock::new(alloc, &[100, 130, 90])?;
     let begun = begin(&mut clock, task.time);
-    let mut line = LineBuf::new(alloc)?;
-    let mut mind = Mind::new(alloc, 1)?;
     let depths = deepen(
         rt,
         alloc,
@@ -308,14 +308,14 @@ fn tried<R: Threads + Wait + Abort + Sync>(
 {
     let (rules, start) = (chess(), position(text));
     assert!(rt; sound(&rules, &start));
-    let game = Game::new(alloc, &rules, &start)?;
-    let roots = legal_moves(alloc, game.rules(), game.tables(), game.position())?;
-    assert!(rt; !roots.items.is_empty());
     let mut source = MemSource::new(alloc, heard.lines, heard.owed, &[])?;
     let mut sink = MemSink::new(alloc, 1000)?;
     let mut clock = ListClock::new(alloc, &[130, 90])?;
     let mut line = LineBuf::new(alloc)?;
     let mut mind = Mind::new(alloc, 1)?;
+    let game = Game::new(alloc, &rules, &start)?;
+    let roots = legal_moves(alloc, game.rules(), game.tables(), game.position())?;
+    assert!(rt; !roots.items.is_empty());
     let tried = try_mates(
         rt,
         alloc,

@@ -10,7 +10,8 @@ use Rattle.suite.specs.declared.fault.SuiteFault.TheVariants.{BadLine, UnknownVa
 abbrev pub fault_text : SuiteFault → List ℕ
 fault_text (BadLine line) = codes "SuiteFault 1 BadLine " ++ decimal line
 fault_text (UnknownVariant line) = codes "SuiteFault 2 UnknownVariant " ++ decimal line
-fault_text (RefusedVariant line why) = codes "SuiteFault 3 RefusedVariant " ++ decimal line ++ codes " " ++ section.fault_text why
+fault_text (RefusedVariant line why) =
+    codes "SuiteFault 3 RefusedVariant " ++ decimal line ++ codes " " ++ section.fault_text why
 fault_text (BadPosition line why) = codes "SuiteFault 4 BadPosition " ++ decimal line ++ codes " " ++ fen.fault_text why
 fault_text (NearCount line) = codes "SuiteFault 5 NearCount " ++ decimal line
 fault_text (TooMany line) = codes "SuiteFault 6 TooMany " ++ decimal line

@@ -13,7 +13,7 @@ ghost use Rattle.thinking.specs.Views.{IsTask, task_seen};
 
 use crate::found::{CutSolve, Found};
 use crate::judging::{Explored, Judged, explore};
-use crate::lines::lines_of;
+use crate::lines::depth_lines;
 use crate::style::Style;
 use crate::task::Task;
 use io_ports::{Clock, Dialect, Gate, Limits, LineBuf, SearchFault, Sink, Source};
@@ -107,7 +107,7 @@ pub fn deeper<R: Threads + Wait + Sync, S: Source, K: Sink, C: Clock, G: Gate + 
             let Judged { found, cut } = judged;
             let reading = reading_for(style, clock);
             task.game.is_played();
-            let text = lines_of(
+            let text = depth_lines(
                 alloc,
                 style,
                 task.game.rules(),

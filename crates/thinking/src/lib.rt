@@ -16,7 +16,7 @@ pub use deepening::{Depths, deepen};
 pub use depth::{Depth, deeper};
 pub use found::{CutSolve, Evidence, Found, Kept, Score, evidence_at};
 pub use judging::{Explored, Judged, explore, judge};
-pub use lines::{depth_line, lines_of, unsettled_line};
+pub use lines::{depth_line, depth_lines, unsettled_line};
 pub use mates::{Tried, try_mates};
 pub use scores::{favoured, mate_in, mate_sought, root_move};
 pub use style::Style;

@@ -134,7 +134,7 @@ fn uci_lines(alloc: Global, rules: &Rules, depth: u8, found: &Found) -> Result<T
 }
 
 /// The lines of a depth, one after the other, after a first reading of the clock and one after the depth.
-pub fn lines_of(
+pub fn depth_lines(
     alloc: Global,
     style: Style,
     rules: &Rules,

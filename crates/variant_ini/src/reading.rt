@@ -25,7 +25,8 @@ fn open_section(
     names: Header<'_>,
 ) -> Result<(), IniFault>
     ensures { let kind = header names.entry.name.now (option_copied names.entry.parent) in
-        TakesLine (kind_fault number (length sections.old.items) kind) kind sections.old.items sections.new.items result }
+        TakesLine (kind_fault number (length sections.old.items) kind) kind
+        sections.old.items sections.new.items result }
 {
     if sections.len() >= MOST_SECTIONS {
         return Err(IniFault::TooManySections(number));
@@ -41,7 +42,8 @@ fn push_pair(
     words: Pair<'_>,
 ) -> Result<(), IniFault>
     ensures { let kind = pair words.entry.key.now words.entry.value.now in
-        TakesLine (kind_fault number (length sections.old.items) kind) kind sections.old.items sections.new.items result }
+        TakesLine (kind_fault number (length sections.old.items) kind) kind
+        sections.old.items sections.new.items result }
 {
     if sections.is_empty() {
         return Err(IniFault::NoSection(number));

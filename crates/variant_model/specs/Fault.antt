@@ -18,7 +18,8 @@ fault_text UnknownParent = codes "SectionFault 2 UnknownParent"
 fault_text RefusedParent = codes "SectionFault 3 RefusedParent"
 fault_text (UnsupportedOption key) = codes "SectionFault 4 UnsupportedOption " ++ key_text key
 fault_text (BadValue key) = codes "SectionFault 5 BadValue " ++ key_text key
-fault_text (BadPiece key fault) = codes "SectionFault 6 BadPiece " ++ key_text key ++ codes " " ++ betza.fault_text fault
+fault_text (BadPiece key fault) =
+    codes "SectionFault 6 BadPiece " ++ key_text key ++ codes " " ++ betza.fault_text fault
 fault_text (LetterTwice kind) = codes "SectionFault 7 LetterTwice " ++ lower kind ∷ []
 fault_text (BadStart fault) = codes "SectionFault 8 BadStart " ++ fen.fault_text fault
 fault_text (Inconsistent number) = codes "SectionFault 9 Inconsistent " ++ decimal number

@@ -283,7 +283,8 @@ option_kind key = kind_from (find (λ option. bytes_eq option.key key) options) 
 
 unfoldable pub skipped_keys : List (List ℕ)
 skipped_keys =
-    codes "variantTemplate" ∷ codes "pieceToCharTable" ∷ codes "pocketSize" ∷ codes "pieceValueMg" ∷ codes "pieceValueEg" ∷ []
+    codes "variantTemplate" ∷ codes "pieceToCharTable" ∷ codes "pocketSize" ∷ codes "pieceValueMg"
+    ∷ codes "pieceValueEg" ∷ []
 
 abbrev pub is_skipped : List ℕ → Bool
 is_skipped key = list_any (λ skipped. bytes_eq skipped key) skipped_keys

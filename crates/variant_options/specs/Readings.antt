@@ -19,7 +19,8 @@ use Rattle.variant_options.specs.Words.{is_space, is_hyphen, listed}
 
 -- `true` or `false`
 abbrev pub read_flag : List ℕ → Option Bool
-read_flag text = if bytes_eq text (codes "true") then Some true else if bytes_eq text (codes "false") then Some false else None
+read_flag text =
+    if bytes_eq text (codes "true") then Some true else if bytes_eq text (codes "false") then Some false else None
 
 -- 0, or a number from 2 to 100
 abbrev pub read_fold : List ℕ → Option ℕ
@@ -55,7 +56,8 @@ read_result text =
 
 -- one of these, or `none`
 abbrev pub read_result_or_none : List ℕ → Option (Option Value)
-read_result_or_none text = if bytes_eq text (codes "none") then Some None else option_map (λ value. Some value) (read_result text)
+read_result_or_none text =
+    if bytes_eq text (codes "none") then Some None else option_map (λ value. Some value) (read_result text)
 
 -- ---- letters
 

@@ -10,11 +10,11 @@ use Rattle.thinking.proofs.depth.deeper.Goals as goal
 pub returns-in_err-explored-clause-broke : goal.returns-in_err-explored-clause-broke
 returns-in_err-explored-clause-broke g c why is = broke_before c.args.dialect c.args.style (task_seen c.args.task.now) c.args.first c.args.depth c.args.limits [] c.in_err-explored.ensures.broken
 
-pub lines_of-requires-clause-fit : goal.lines_of-requires-clause-fit
-lines_of-requires-clause-fit g c = rw c.rules.ensures c.is_played.ensures.fit
+pub depth_lines-requires-clause-fit : goal.depth_lines-requires-clause-fit
+depth_lines-requires-clause-fit g c = rw c.rules.ensures c.is_played.ensures.fit
 
-pub lines_of-requires-clause-sound : goal.lines_of-requires-clause-sound
-lines_of-requires-clause-sound g c =
+pub depth_lines-requires-clause-sound : goal.depth_lines-requires-clause-sound
+depth_lines-requires-clause-sound g c =
     let explored = rw c.in-Found.is at c.in_ok-explored.ensures.explored in
     rw c.rules.ensures (finding_sound (task_seen c.args.task.now) c.args.depth c.in-Found.judged.found c.in-Found.judged.cut c.is_played.ensures explored.is)
 
