@@ -1,9 +1,10 @@
 -- Tallies that grow by one square of a board at a time.
-use Rattle.std.proofs.Common.{◌≡◌, ℕ, ◌+◌, ◌<◌, ◌⊎◌, inl, inr, Bool, true, false, not, ◌&&◌, ◌==◌, Option, Some, None, List, [], length, replicate, refl, sym, ap, ◌∙◌, arith, take}
-use Rattle.std.specs.Prelude.{count_by, nat_le, nat_lt, slice_index, slice_index_or, slice_set}
-use Rattle.std.proofs.lemmas.Bool.{cases_eq, eq-eqb, lt-leb, ltb-true, ne_eqb}
-use Rattle.std.proofs.lemmas.List.{get_or-replicate, get_or-set_same, get_or-set_other, length-set}
+use Rattle.std.proofs.Common.{◌≡◌, ℕ, ◌+◌, ◌<◌, ◌⊎◌, inl, inr, Bool, true, false, not, ◌&&◌, ◌==◌, Option, Some, None, List, [], zero, suc, length, replicate, refl, sym, ap, ◌∙◌, subst, arith, take}
+use Rattle.std.specs.Prelude.{◌≤◌, is_some, count_by, nat_le, nat_lt, slice_index, slice_index_or, slice_set}
+use Rattle.std.proofs.lemmas.Bool.{and_parts, cases_eq, cases_lt, eq-eqb, lt-leb, ltb-true, ne_eqb}
+use Rattle.std.proofs.lemmas.List.{get_or-replicate, get_or-set_same, get_or-set_other, length-set, take_all}
 use Rattle.std.proofs.lemmas.List.Sums.{count_by_more_no, count_by_more_yes}
+use Rattle.std.proofs.lemmas.Option.{slice_get-get_or, slice_get_past}
 use Rattle.rules_model.specs.declared.board.Cell.{Cell}
 use Rattle.rules_model.specs.declared.board.Kind.{Kind}
 use Rattle.rules_model.specs.declared.board.Repeat.{Repeat}
@@ -13,6 +14,10 @@ use Rattle.rules_model.specs.Attacks.{is_own}
 use Rattle.rules_model.specs.Ends.{is_of, pieces_of}
 use Rattle.rules_model.specs.Hands.{hand_of, in_hand, taken_in}
 use Rattle.rules_model.specs.Sides.{other, same_side, side_index}
+use Rattle.rules_model.specs.Squares.{flat}
+use Rattle.square_set.specs.declared.Set.{Set}
+use Rattle.square_set.specs.Members.{has, IsFirst, IsWithout}
+use Rattle.move_tables.specs.Occupied.{IsOccupied}
 use Rattle.end_rules.specs.Tallies.{AreTallies}
 
 -- ---- one count that grows
@@ -103,6 +108,112 @@ piece_counted cells tallies at piece l there are =
           | inl g ↦ g.1 ∙ ap (λ n. n + 1) before ∙ sym (count_by_more_yes f cells at None l (ap f there ∙ g.0))
           | inr g ↦ g.1 ∙ before ∙ sym (count_by_more_no f cells at None l (ap f there ∙ g.0))
         ]
+
+-- ---- the occupied squares, one after another
+
+empty : (c : Option Cell) → is_some c ≡ false → c ≡ None
+empty None e = refl
+empty (Some c) e = cc
+
+-- a square that is not occupied has nothing on it
+pub free : (occupied : Set) (cells : List (Option Cell)) (s : ℕ) → IsOccupied occupied cells → s < length cells
+    → has occupied s ≡ false → slice_index_or cells s None ≡ None
+free occupied cells s is l e = empty (slice_index_or cells s None) (sym (ap (λ o. is_some (flat o)) (slice_get-get_or cells s None l)) ∙ sym (is s) ∙ e)
+
+free_squares : (cells : List (Option Cell)) (tallies : List (List ℕ)) (from to : ℕ) → from ≤ to → to ≤ length cells
+    → ((s : ℕ) → from ≤ s → s < to → slice_index_or cells s None ≡ None)
+    → AreTallies (take from cells) tallies → AreTallies (take to cells) tallies
+free_squares cells tallies from zero l m none are =
+    let none : from ≡ zero = omega (arith, l) in
+    subst (λ n. AreTallies (take n cells) tallies) none are
+free_squares cells tallies from (suc to) l m none are =
+    elim (cases_eq from (suc to)) as (λ _. AreTallies (take (suc to) cells) tallies) [
+      | inl e ↦ subst (λ n. AreTallies (take n cells) tallies) e are
+      | inr apart ↦
+          let low : from ≤ to = omega (arith, l, apart) in
+          let before = free_squares cells tallies from to low (omega (arith, m)) (λ s a b. none s a (omega (arith, b))) are in
+          let next : to + 1 ≡ suc to = omega arith in
+          subst (λ n. AreTallies (take n cells) tallies) next (empty_square cells tallies to (omega (arith, m)) (none to low (omega arith)) before)
+    ]
+
+-- the squares below one are counted, and of the others those are left that are occupied
+pub record IsCounted (cells : List (Option Cell)) (occupied left : Set) (tallies : List (List ℕ)) : Type 0 where
+  pub from : ℕ
+  pub low : from ≤ length cells
+  pub within : (s : ℕ) → has left s ≡ true → has occupied s ≡ true
+  pub later : (s : ℕ) → has left s ≡ true → from ≤ s
+  pub passed : (s : ℕ) → from ≤ s → has occupied s ≡ true → has left s ≡ true
+  pub are : AreTallies (take from cells) tallies
+
+pub none_counted : (cells : List (Option Cell)) (occupied : Set) → IsCounted cells occupied occupied (replicate 2 (replicate 26 0))
+none_counted cells occupied = record {
+  from = 0;
+  low = omega arith;
+  within = λ s e. e;
+  later = λ s e. omega arith;
+  passed = λ s l e. e;
+  are = no_square;
+}
+
+apart : true ≡ false → ⊥
+apart e = cc
+
+-- an occupied square is on the board, and something stands there
+pub on_board : (occupied : Set) (cells : List (Option Cell)) (s : ℕ) → IsOccupied occupied cells → has occupied s ≡ true → s < length cells
+on_board occupied cells s is e =
+    elim (cases_lt s (length cells)) as (λ _. s < length cells) [
+      | inl l ↦ l
+      | inr m ↦ absurd (apart (sym e ∙ is s ∙ ap (λ o. is_some (flat o)) (slice_get_past cells s m)))
+    ]
+
+pub not_empty : (occupied : Set) (cells : List (Option Cell)) (s : ℕ) → IsOccupied occupied cells → has occupied s ≡ true
+    → slice_index_or cells s None ≡ None → ⊥
+not_empty occupied cells s is e none =
+    apart (sym e ∙ is s ∙ ap (λ o. is_some (flat o)) (slice_get-get_or cells s None (on_board occupied cells s is e)) ∙ ap is_some none)
+
+not_occupied : (occupied left : Bool) → (occupied ≡ true → left ≡ true) → left ≡ false → occupied ≡ false
+not_occupied true left passed gone = sym (passed refl) ∙ gone
+not_occupied false left passed gone = refl
+
+module _ (cells : List (Option Cell)) (occupied left : Set) (tallies : List (List ℕ)) (is : IsOccupied occupied cells) (c : IsCounted cells occupied left tallies) where
+  -- the squares below one are counted where none of them is left
+  up_to : (to : ℕ) → c.from ≤ to → to ≤ length cells → ((s : ℕ) → s < to → has left s ≡ false) → AreTallies (take to cells) tallies
+  up_to to l m gone = free_squares cells tallies c.from to l m (λ s a b. free occupied cells s is (omega (arith, b, m)) (not_occupied (has occupied s) (has left s) (c.passed s a) (gone s b))) c.are
+
+  pub all_counted : ((s : ℕ) → has left s ≡ false) → AreTallies cells tallies
+  all_counted gone = subst (λ cs. AreTallies cs tallies) (take_all (length cells) cells (omega arith)) (up_to (length cells) c.low (omega arith) (λ s l. gone s))
+
+  pub one_counted : (at : ℕ) (new : Set) (piece : Cell) → IsFirst left at → IsWithout left at new → slice_index_or cells at None ≡ Some piece
+      → IsCounted cells occupied new (taken_in tallies piece.side piece.kind)
+  one_counted at new piece first rest there = record {
+    from = at + 1;
+    low = omega (arith, inside);
+    within = λ s e. c.within s (kept s e).0;
+    later = later;
+    passed = λ s l e. rest s ∙ both (has left s) (s == at) (c.passed s (omega (arith, l, reached)) e) (ne_eqb s at (λ same. omega (arith, l, same)));
+    are = piece_counted cells tallies at piece inside there (up_to at reached (omega (arith, inside)) first.lowest);
+  }
+    where
+      inside : at < length cells
+      inside = on_board occupied cells at is (c.within at first.member)
+
+      reached : c.from ≤ at
+      reached = c.later at first.member
+
+      kept : (s : ℕ) → has new s ≡ true → (has left s ≡ true) × (not (s == at) ≡ true)
+      kept s e = and_parts (has left s) (not (s == at)) (sym (rest s) ∙ e)
+
+      both : (a b : Bool) → a ≡ true → b ≡ false → (a && not b) ≡ true
+      both a b e f = rw (e, f) refl
+
+      later : (s : ℕ) → has new s ≡ true → at + 1 ≤ s
+      later s e = elim (cases_lt s (at + 1)) as (λ _. at + 1 ≤ s) [
+        | inr m ↦ m
+        | inl l ↦ elim (cases_eq s at) as (λ _. at + 1 ≤ s) [
+          | inl same ↦ absurd (apart (sym (kept s e).1 ∙ ap not (eq-eqb s at same)))
+          | inr other ↦ absurd (apart (sym (kept s e).0 ∙ first.lowest s (omega (arith, l, other))))
+        ]
+      ]
 
 -- ---- all pieces of a side
 

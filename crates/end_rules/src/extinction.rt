@@ -5,12 +5,14 @@ ghost use Rattle.rules_model.specs.Ends as Ends;
 ghost use Rattle.rules_model.specs.Hands as Hands;
 ghost use Rattle.rules_model.specs.Repeats.{repeat_of};
 ghost use Rattle.rules_model.specs.Sides.{other};
+ghost use Rattle.move_tables.specs.Occupied.{IsOccupied};
 ghost use Rattle.end_rules.specs.Tallies.{AreTallies, all_die_out};
 
 use crate::valued;
 use rules_model::kinds::{in_hand, masks};
 use rules_model::soundness::{is_of, pieces_of};
 use rules_model::{Cause, Cell, Cells, KINDS, Kind, Outcome, Position, Rules, Side, Value};
+use square_set::Set;
 
 /// Counts a piece of the kind.
 fn add(tally: &mut [u8; KINDS], kind: Kind)
@@ -31,13 +33,15 @@ fn count(tallies: &mut [[u8; KINDS]; 2], piece: Cell)
     add(&mut tallies[piece.side.index()], piece.kind);
 }
 
-/// How many pieces of each kind each side has on the board.
-fn tallies_of(cells: &Cells) -> [[u8; KINDS]; 2]
+/// How many pieces of each kind each side has on the board, by the squares on which they stand.
+fn tallies_of(cells: &Cells, occupied: Set) -> [[u8; KINDS]; 2]
+    requires { IsOccupied occupied cells.now }
     ensures { AreTallies cells.now result }
 {
     let mut tallies = [[0u8; KINDS]; 2];
-    for at in 0..120usize {
-        if let Some(piece) = cells[at] {
+    let mut left = occupied;
+    while let Some(at) = left.take_first() {
+        if let Some(piece) = cells[at as usize] {
             count(&mut tallies, piece);
         }
     }
@@ -119,9 +123,10 @@ fn all_die_out(rules: &Rules, p: &Position, side: Side) -> bool
 }
 
 /// Whether the side that has moved has died out, and whether the side to move has: by one listed kind, or by all kinds
-/// together. The board is looked at once for all listed kinds.
+/// together. The occupied squares are looked at once for all listed kinds.
 #[tactic(auto, unfolding(rules_model::specs::Ends::is_extinct))]
-fn are_extinct(rules: &Rules, p: &Position) -> (bool, bool)
+fn are_extinct(rules: &Rules, p: &Position, occupied: Set) -> (bool, bool)
+    requires { IsOccupied occupied p.now.cells }
     ensures moved { result.0 ≡ Ends.is_extinct rules.now (repeat_of p.now) (other p.now.side) }
     ensures moves { result.1 ≡ Ends.is_extinct rules.now (repeat_of p.now) p.now.side }
 {
@@ -129,7 +134,7 @@ fn are_extinct(rules: &Rules, p: &Position) -> (bool, bool)
     if rules.extinct_all {
         return (all_die_out(rules, p, moved), all_die_out(rules, p, p.side));
     }
-    let tallies = tallies_of(&p.cells);
+    let tallies = tallies_of(&p.cells, occupied);
     (
         some_kind_dies_out(rules, p, &tallies, moved),
         some_kind_dies_out(rules, p, &tallies, p.side),
@@ -137,10 +142,11 @@ fn are_extinct(rules: &Rules, p: &Position) -> (bool, bool)
 }
 
 /// The end by extinction, of this value for the side that dies out; the side that has moved comes first.
-fn extinction_by(rules: &Rules, p: &Position, value: Value) -> Outcome
+fn extinction_by(rules: &Rules, p: &Position, occupied: Set, value: Value) -> Outcome
+    requires { IsOccupied occupied p.now.cells }
     ensures { result ≡ Ends.extinction_by rules.now (repeat_of p.now) (Some value) }
 {
-    match are_extinct(rules, p) {
+    match are_extinct(rules, p, occupied) {
         (true, _) => valued(value, p.side.other(), Cause::Extinction),
         (false, true) => valued(value, p.side, Cause::Extinction),
         (false, false) => Outcome::Ongoing,
@@ -148,11 +154,12 @@ fn extinction_by(rules: &Rules, p: &Position, value: Value) -> Outcome
 }
 
 /// The end by extinction, where the variant has it.
-pub(crate) fn extinction_end(rules: &Rules, p: &Position) -> Outcome
+pub(crate) fn extinction_end(rules: &Rules, p: &Position, occupied: Set) -> Outcome
+    requires { IsOccupied occupied p.now.cells }
     ensures { result ≡ Ends.extinction_by rules.now (repeat_of p.now) rules.now.extinction }
 {
     match rules.extinction {
         None => Outcome::Ongoing,
-        Some(value) => extinction_by(rules, p, value),
+        Some(value) => extinction_by(rules, p, occupied, value),
     }
 }

@@ -11,12 +11,15 @@ ghost use Rattle.rules_model.specs.Ends as Ends;
 ghost use Rattle.rules_model.specs.Games as Games;
 ghost use Rattle.rules_model.specs.Repeats.{repeat_of};
 ghost use Rattle.rules_model.specs.Sides.{other};
+ghost use Rattle.move_tables.specs.Occupied.{IsOccupied};
 
 use checks::checks_end;
 use extinction::extinction_end;
 use flag::has_flag;
 pub use flag::is_flag_piece;
+use move_tables::occupied;
 use rules_model::{Cause, Outcome, Position, Rules, Side, Value};
+use square_set::Set;
 
 /// What a value that a rule names for the side comes to.
 pub fn valued(value: Value, side: Side, cause: Cause) -> Outcome
@@ -29,18 +32,19 @@ pub fn valued(value: Value, side: Side, cause: Cause) -> Outcome
     }
 }
 
-/// The same as `early_end`, for a caller who knows whether the side that has moved has its flag piece in its flag
-/// region.
+/// The same as `early_end`, for a caller who knows the occupied squares, and whether the side that has moved has its
+/// flag piece in its flag region.
 #[tactic(auto, unfolding(rules_model::specs::Ends::early_end))]
-pub fn early_end_by(rules: &Rules, p: &Position, flag: bool) -> Outcome
-    requires { flag ≡ Ends.has_flag rules.now p.now.cells (other p.now.side) }
+pub fn early_end_by(rules: &Rules, p: &Position, occupied: Set, flag: bool) -> Outcome
+    requires occupied { IsOccupied occupied p.now.cells }
+    requires flag { flag ≡ Ends.has_flag rules.now p.now.cells (other p.now.side) }
     ensures { result ≡ Ends.early_end rules.now (repeat_of p.now) }
 {
     if flag {
         return Outcome::Won(p.side.other(), Cause::Flag);
     }
     match checks_end(rules, p) {
-        Outcome::Ongoing => extinction_end(rules, p),
+        Outcome::Ongoing => extinction_end(rules, p, occupied),
         end => end,
     }
 }
@@ -51,7 +55,8 @@ pub fn early_end_by(rules: &Rules, p: &Position, flag: bool) -> Outcome
 pub fn early_end(rules: &Rules, p: &Position) -> Outcome
     ensures { result ≡ Ends.early_end rules.now (repeat_of p.now) }
 {
-    early_end_by(rules, p, has_flag(rules, &p.cells, p.side.other()))
+    let flag = has_flag(rules, &p.cells, p.side.other());
+    early_end_by(rules, p, occupied(&p.cells), flag)
 }
 
 /// The end where the side to move has no legal move: checkmate where its king is attacked, else stalemate, with the

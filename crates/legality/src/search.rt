@@ -23,7 +23,7 @@ pub fn early_end_with(rules: &Rules, tables: &Tables, p: &Position, sets: &Board
     requires sets { AreSets rules.now p.now.side p.now.cells sets.now }
     ensures { result ≡ Ends.early_end rules.now (repeat_of p.now) }
 {
-    early_end_by(rules, p, has_flag(rules, tables, p, sets))
+    early_end_by(rules, p, sets.occupied(), has_flag(rules, tables, p, sets))
 }
 
 /// Whether there is no end.

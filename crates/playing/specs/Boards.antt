@@ -1,5 +1,4 @@
 -- What is kept of a position.
-use Rattle.std.specs.Prelude.{◌≡◌}
 use Rattle.rules_model.specs.declared.board.Position.{Position}
 use Rattle.rules_model.specs.declared.rules.Rules.{Rules}
 use Rattle.rules_model.specs.Ready.{IsReady}

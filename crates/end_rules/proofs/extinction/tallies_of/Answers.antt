@@ -1,17 +1,18 @@
-use Rattle.std.proofs.Common.{◌<◌, ◌∙◌, length, subst, sym, arith}
-use Rattle.end_rules.specs.Tallies.{AreTallies}
-use Rattle.end_rules.proofs.TallyLaws.{empty_square, no_square, piece_counted}
-use Rattle.end_rules.proofs.extinction.tallies_of.Goals.{in-Some, in_default}
+use Rattle.std.proofs.Common.{subst, sym}
+use Rattle.end_rules.proofs.TallyLaws.{IsCounted, all_counted, none_counted, not_empty, one_counted}
 use Rattle.end_rules.proofs.extinction.tallies_of.Goals as goal
 
 pub loop-at-init : goal.loop-at-init
-loop-at-init c = no_square
+loop-at-init c = none_counted _ _
+
+pub loop-at-preserved-in-Some-cells : goal.loop-at-preserved-in-Some-cells
+loop-at-preserved-in-Some-cells c =
+    subst (IsCounted _ _ _) (sym c.count.ensures)
+    (one_counted _ _ _ _ c.requires c.loop-at.invariant c.in-Some.at _ c.in-Some-cells.piece c.in-Some.ensures.some c.in-Some.ensures.rest c.in-Some-cells.is)
 
 pub loop-at-preserved : goal.loop-at-preserved
 loop-at-preserved c =
-    let inside : c.loop-at.at < length c.args.cells.now = omega (arith, c.told-cells, c.loop-at-test.true) in
-    elim c.match-cells-at.branch [
-      | in-Some w ↦ subst (AreTallies _) (sym (w.tallies-is ∙ w.count.ensures))
-          (piece_counted c.args.cells.now c.loop-at.tallies c.loop-at.at w.in-Some.piece inside w.in-Some.is c.loop-at.invariant)
-      | in_default w ↦ subst (AreTallies _) (sym w.tallies-is) (empty_square c.args.cells.now c.loop-at.tallies c.loop-at.at inside w.in_default.is c.loop-at.invariant)
-    ]
+    absurd (not_empty c.args.occupied c.args.cells.now c.in-Some.at c.requires (c.loop-at.invariant.within c.in-Some.at c.in-Some.ensures.some.member) c.in_default-cells.is)
+
+pub returns : goal.returns
+returns c = all_counted _ _ _ _ c.requires c.loop-at.invariant c.in_default.ensures.none
