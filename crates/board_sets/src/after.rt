@@ -43,7 +43,7 @@ impl BoardSets {
 
     /// The sets without the pawn that is taken in passing.
     fn without_passed(self, rules: &Rules, p: &Position, from: Square, to: Square) -> BoardSets
-        requires rules { IsFit rules.now }
+        requires fit { IsFit rules.now }
         requires from { from.0 < 120 }
         requires sets { AreSets rules.now p.now.side p.now.cells self }
         ensures { AreSets rules.now p.now.side (Next.without_passed rules.now (repeat_of p.now) from to) result }
@@ -110,7 +110,7 @@ impl BoardSets {
         promo: Promo,
         gate: Option<Kind>,
     ) -> BoardSets
-        requires rules { IsFit rules.now }
+        requires fit { IsFit rules.now }
         requires from { from.0 < 120 }
         requires sets { AreSets rules.now p.now.side p.now.cells self }
         ensures { AreSetsAfterMove rules.now (repeat_of p.now) (Go from to promo gate) result }
@@ -125,8 +125,8 @@ impl BoardSets {
 
     /// The sets after the move, still by the side that moved.
     pub fn after(self, rules: &Rules, p: &Position, m: &Move) -> BoardSets
-        requires rules { IsFit rules.now }
-        requires fit { IsFitMove m.now }
+        requires fit { IsFit rules.now }
+        requires move_fits { IsFitMove m.now }
         requires sets { AreSets rules.now p.now.side p.now.cells self }
         ensures { AreSetsAfterMove rules.now (repeat_of p.now) m.now result }
     {

@@ -76,8 +76,8 @@ fn holding(pieces: &str) -> Position {
 
 /// After the move the key that was kept is that of the board and the hands, and another than before.
 fn is_kept<R: Abort>(rt: &R, rules: &Rules, p: &Position, m: &Move)
-    requires rules { IsFit rules.now }
-    requires fit { IsFitMove m.now }
+    requires fit { IsFit rules.now }
+    requires move_fits { IsFitMove m.now }
 {
     assert!(rt; sound(rules, p), "{m:?}");
     sound_positions_take_moves();

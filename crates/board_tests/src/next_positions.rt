@@ -61,8 +61,8 @@ fn promote(p: &mut Position, at: &str, before: u8) {
 
 /// Asserts what the position after a move is.
 fn leads_to<R: Abort>(rt: &R, rules: &Rules, p: &Position, m: &Move, next: &Position)
-    requires rules { IsFit rules.now }
-    requires fit { IsFitMove m.now }
+    requires fit { IsFit rules.now }
+    requires move_fits { IsFitMove m.now }
 {
     assert!(rt; sound(rules, p));
     sound_positions_take_moves();

@@ -66,8 +66,8 @@ fn values_by_hand(rt: HostRuntime) {
 
 /// Asserts that the sums after the move are those of the position after it.
 fn goes_along<R: Abort>(rt: &R, rules: &Rules, p: &Position, m: &Move)
-    requires rules { IsFit rules.now }
-    requires fit { IsFitMove m.now }
+    requires fit { IsFit rules.now }
+    requires move_fits { IsFitMove m.now }
 {
     assert!(rt; sound(rules, p));
     sound_positions_take_moves();

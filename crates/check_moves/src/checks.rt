@@ -124,7 +124,7 @@ fn go_may_check(
 fn move_may_check(tables: &Tables, p: &Position, occupied: Set, checks: &Checks, m: &Move) -> bool
     requires occupied { IsOccupied occupied p.now.cells }
     requires checks { Spec.AreChecks tables.now p.now.side p.now.cells checks.now }
-    requires fit { IsFitMove m.now }
+    requires move_fits { IsFitMove m.now }
     ensures { result ≡ false → Legal.gives_check tables.now (repeat_of p.now) m.now ≡ false }
 {
     position_sizes(p);
@@ -148,7 +148,7 @@ fn move_may_check(tables: &Tables, p: &Position, occupied: Set, checks: &Checks,
 /// Whether the move may give check: where the answer is no it gives none. The answer is always yes for castles,
 /// promotions and gates, for what goes to the square of en passant, and where kings fly.
 pub fn may_check(board: &Board, checks: &Checks, m: &Move) -> bool
-    requires fit { IsFitMove m.now }
+    requires move_fits { IsFitMove m.now }
     requires checks { Spec.AreChecksIn board.now checks.now }
     ensures { result ≡ false → Legal.gives_check board.now.rules (Stance.repeat_in board.now) m.now ≡ false }
 {

@@ -157,7 +157,7 @@ fn captures_if_forced(
 ) -> bool
     requires ready { IsReady rules.now tables.now p.now }
     requires sets { AreSets rules.now p.now.side p.now.cells sets.now }
-    requires fit { IsFitMove m.now }
+    requires move_fits { IsFitMove m.now }
     ensures { result ≡ Chosen.captures_if_forced rules.now (repeat_of p.now) m.now }
 {
     !rules.must_capture

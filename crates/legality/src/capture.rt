@@ -23,7 +23,7 @@ fn has_piece(cells: &Cells, at: Option<u8>) -> bool
 /// Whether a piece that goes there takes another, on the square or in passing.
 #[tactic(auto, unfolding(rules_model::specs::Next::taken))]
 fn takes(rules: &Rules, p: &Position, from: Square, to: Square) -> bool
-    requires rules { IsFit rules.now }
+    requires fit { IsFit rules.now }
     requires from { from.0 < 120 }
     requires to { to.0 < 120 }
     ensures { result ≡ is_some (Next.taken rules.now (repeat_of p.now) from to) }
@@ -37,8 +37,8 @@ fn takes(rules: &Rules, p: &Position, from: Square, to: Square) -> bool
 
 /// Whether the move captures. En passant is a capture.
 pub fn captures(rules: &Rules, p: &Position, m: &Move) -> bool
-    requires rules { IsFit rules.now }
-    requires fit { IsFitMove m.now }
+    requires fit { IsFit rules.now }
+    requires move_fits { IsFitMove m.now }
     ensures { result ≡ Next.captures rules.now (repeat_of p.now) m.now }
 {
     match *m {

@@ -60,7 +60,7 @@ fn is_mobile_at(tables: &Tables, side: Side, at: Square, cell: Option<Cell>) -> 
 /// Whether the piece on the target of the move can ever move again. The cells are those after the move.
 #[tactic(auto, unfolding(rules_model::specs::Next::next_repeat))]
 pub(crate) fn stays_mobile(tables: &Tables, p: &Position, m: &Move, cells: &Cells) -> bool
-    requires fit { IsFitMove m.now }
+    requires move_fits { IsFitMove m.now }
     requires after { cells.now ≡ Next.cells_after tables.now (repeat_of p.now) m.now }
     ensures { result ≡ Legal.stays_mobile tables.now (repeat_of p.now) m.now }
 {

@@ -327,7 +327,7 @@ impl<'a> Safety<'a> {
 
     /// The cells after the move.
     fn move_on(&self, m: &Move, cells: &mut Cells)
-        requires fit { IsFitMove m.now }
+        requires move_fits { IsFitMove m.now }
         requires copy { cells.old ≡ self.now.p.now.cells }
         ensures { cells.new ≡ Next.cells_after self.now.tables.now (repeat_of self.now.p.now) m.now }
     {
@@ -336,7 +336,7 @@ impl<'a> Safety<'a> {
 
     /// Whether the move leaves the own king safe, by cells that hold the other side's pieces as they are after it.
     fn is_safe_on(&self, m: &Move, cells: &Cells) -> bool
-        requires fit { IsFitMove m.now }
+        requires move_fits { IsFitMove m.now }
         requires enemies { Moved.HoldsEnemiesAfter self.now.tables.now (repeat_of self.now.p.now) m.now cells.now }
         ensures { result ≡ Legal.is_safe self.now.tables.now (repeat_of self.now.p.now) m.now }
     {
@@ -373,7 +373,7 @@ impl<'a> Safety<'a> {
     /// Whether the move attacks the other king. The cells are those after the move.
     #[tactic(auto, unfolding(rules_model::specs::Legal::gives_check, rules_model::specs::Next::next_repeat))]
     fn checks(&self, m: &Move, cells: &Cells) -> bool
-        requires fit { IsFitMove m.now }
+        requires move_fits { IsFitMove m.now }
         requires after { cells.now ≡ Next.cells_after self.now.tables.now (repeat_of self.now.p.now) m.now }
         ensures { result ≡ Legal.gives_check self.now.tables.now (repeat_of self.now.p.now) m.now }
     {
@@ -389,7 +389,7 @@ impl<'a> Safety<'a> {
     /// Whether the variant lets the move give check, or it gives none. The cells are those after the move.
     #[tactic(auto, unfolding(rules_model::specs::Legal::may_check))]
     fn may_check(&self, m: &Move, cells: &Cells) -> bool
-        requires fit { IsFitMove m.now }
+        requires move_fits { IsFitMove m.now }
         requires after { cells.now ≡ Next.cells_after self.now.tables.now (repeat_of self.now.p.now) m.now }
         ensures { result ≡ Legal.may_check self.now.tables.now (repeat_of self.now.p.now) m.now }
     {

@@ -31,7 +31,7 @@ fn resets_by(rules: &Rules, cell: Option<Cell>) -> bool
 /// Whether the move is a capture or one of a kind that the move-count rule names.
 #[tactic(auto, unfolding(rules_model::specs::Next::resets))]
 fn resets(rules: &Rules, p: &Position, m: &Move, taken: Option<Cell>) -> bool
-    requires fit { IsFitMove m.now }
+    requires move_fits { IsFitMove m.now }
     requires taken { taken ≡ Parts.taken_by rules.now (repeat_of p.now) m.now }
     ensures { result ≡ Next.resets rules.now (repeat_of p.now) m.now }
 {
@@ -44,7 +44,7 @@ fn resets(rules: &Rules, p: &Position, m: &Move, taken: Option<Cell>) -> bool
 
 /// The plies since the last such move, after the move.
 pub(crate) fn counter(rules: &Rules, p: &Position, m: &Move, taken: Option<Cell>) -> u16
-    requires fit { IsFitMove m.now }
+    requires move_fits { IsFitMove m.now }
     requires taken { taken ≡ Parts.taken_by rules.now (repeat_of p.now) m.now }
     ensures { result ≡ Next.next_counter rules.now (repeat_of p.now) m.now p.now.counter }
 {

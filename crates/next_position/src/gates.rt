@@ -31,8 +31,8 @@ fn closed_at(rules: &Rules, side: Side, at: Square, gates: u16) -> u16
 
 /// The side's gates after the move.
 fn side_gates(rules: &Rules, side: Side, m: &Move, gates: u16) -> u16
-    requires rules { IsFit rules.now }
-    requires fit { IsFitMove m.now }
+    requires fit { IsFit rules.now }
+    requires move_fits { IsFitMove m.now }
     ensures { result ≡ Next.side_gates_after rules.now side m.now gates }
 {
     if gates == 0 {
@@ -60,8 +60,8 @@ fn side_gates(rules: &Rules, side: Side, m: &Move, gates: u16) -> u16
 
 /// Closes the gates of the squares that the move leaves and enters.
 pub(crate) fn close(rules: &Rules, m: &Move, gates: &mut [u16; 2])
-    requires rules { IsFit rules.now }
-    requires fit { IsFitMove m.now }
+    requires fit { IsFit rules.now }
+    requires move_fits { IsFitMove m.now }
     ensures { gates.new ≡ Parts.gates_by rules.now m.now gates.old }
 {
     *gates = [

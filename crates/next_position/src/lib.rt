@@ -26,8 +26,8 @@ use rules_model::{Cells, Move, Position, Rules, Side};
 ///
 /// It writes one to five squares, and reads the old pieces alone.
 pub fn move_pieces(rules: &Rules, p: &Position, m: &Move, cells: &mut Cells)
-    requires rules { IsFit rules.now }
-    requires fit { IsFitMove m.now }
+    requires fit { IsFit rules.now }
+    requires move_fits { IsFitMove m.now }
     requires copy { cells.old ≡ p.now.cells }
     ensures { cells.new ≡ Next.cells_after rules.now (repeat_of p.now) m.now }
 {
@@ -39,8 +39,8 @@ pub fn move_pieces(rules: &Rules, p: &Position, m: &Move, cells: &mut Cells)
 /// the position after it. The checks left stay those before it: where the variant counts them, `count_check` does the
 /// rest.
 pub fn make_but_checks(rules: &Rules, p: &mut Position, m: &Move)
-    requires rules { IsFit rules.now }
-    requires fit { IsFitMove m.now }
+    requires fit { IsFit rules.now }
+    requires move_fits { IsFitMove m.now }
     requires room { HasRoom p.old }
     requires rooks { RightsHaveRooks rules.now p.old }
     ensures { p.new ≡ record (Next.next rules.now p.old m.now) { checks = p.old.checks } }
@@ -67,8 +67,8 @@ pub fn make_but_checks(rules: &Rules, p: &mut Position, m: &Move)
 /// Makes the move: pieces, hands, rights, gates, the checks left, the en passant square, both counts and the side to
 /// move are those of the position after it.
 pub fn make_move(rules: &Rules, p: &mut Position, m: &Move)
-    requires rules { IsFit rules.now }
-    requires fit { IsFitMove m.now }
+    requires fit { IsFit rules.now }
+    requires move_fits { IsFitMove m.now }
     requires room { HasRoom p.old }
     requires rooks { RightsHaveRooks rules.now p.old }
     ensures { p.new ≡ Next.next rules.now p.old m.now }

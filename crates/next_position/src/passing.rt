@@ -14,8 +14,8 @@ use rules_model::{Cells, Move, Position, Promo, Rules, Side, Square};
 
 /// Whether the move takes a pawn in passing.
 pub(crate) fn is_passing(rules: &Rules, p: &Position, m: &Move) -> bool
-    requires rules { IsFit rules.now }
-    requires fit { IsFitMove m.now }
+    requires fit { IsFit rules.now }
+    requires move_fits { IsFitMove m.now }
     ensures { result ≡ Parts.is_passing rules.now (repeat_of p.now) m.now }
 {
     match *m {
@@ -27,7 +27,7 @@ pub(crate) fn is_passing(rules: &Rules, p: &Position, m: &Move) -> bool
 
 /// A pawn takes a double step and stays a pawn.
 fn is_double_step(rules: &Rules, p: &Position, from: Square, to: Square, promo: Promo) -> bool
-    requires rules { IsFit rules.now }
+    requires fit { IsFit rules.now }
     requires from { from.0 < 120 }
     ensures { result ≡ Next.is_double_step rules.now (repeat_of p.now) from to promo }
 {
@@ -47,8 +47,8 @@ fn square_at(at: Option<u8>) -> Option<Square>
 
 /// The square that a double step passes over.
 pub(crate) fn passed_over(rules: &Rules, p: &Position, m: &Move) -> Option<Square>
-    requires rules { IsFit rules.now }
-    requires fit { IsFitMove m.now }
+    requires fit { IsFit rules.now }
+    requires move_fits { IsFitMove m.now }
     ensures { result ≡ Parts.passed_over rules.now (repeat_of p.now) m.now }
 {
     match *m {

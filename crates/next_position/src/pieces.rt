@@ -125,8 +125,8 @@ fn place(cells: &mut Cells, side: Side, gate: Option<Placed>)
 
 /// Moves the pieces. `passing` says whether a pawn is taken in passing.
 pub(crate) fn write(rules: &Rules, side: Side, passing: bool, m: &Move, cells: &mut Cells)
-    requires rules { IsFit rules.now }
-    requires fit { IsFitMove m.now }
+    requires fit { IsFit rules.now }
+    requires move_fits { IsFitMove m.now }
     ensures { cells.new ≡ Parts.cells_by rules.now side passing m.now cells.old }
 {
     match *m {
@@ -170,7 +170,7 @@ fn cell_on(cells: &Cells, at: Option<u8>) -> Option<Cell>
 
 /// The piece that a piece takes that goes to the square. `passing` says whether it takes a pawn in passing.
 fn taken_at(rules: &Rules, p: &Position, passing: bool, to: Square) -> Option<Cell>
-    requires rules { IsFit rules.now }
+    requires fit { IsFit rules.now }
     requires to { to.0 < 120 }
     ensures { result ≡ Parts.taken_at rules.now (repeat_of p.now) passing to }
 {
@@ -184,8 +184,8 @@ fn taken_at(rules: &Rules, p: &Position, passing: bool, to: Square) -> Option<Ce
 /// The piece that the move takes.
 #[tactic(auto, unfolding(rules_model::specs::Next::taken))]
 pub(crate) fn taken(rules: &Rules, p: &Position, passing: bool, m: &Move) -> Option<Cell>
-    requires rules { IsFit rules.now }
-    requires fit { IsFitMove m.now }
+    requires fit { IsFit rules.now }
+    requires move_fits { IsFitMove m.now }
     requires passing { passing ≡ Parts.is_passing rules.now (repeat_of p.now) m.now }
     ensures { result ≡ Parts.taken_by rules.now (repeat_of p.now) m.now }
 {

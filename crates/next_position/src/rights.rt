@@ -50,8 +50,8 @@ fn enters(m: &Move, at: Square) -> bool
 
 /// The file of the rook, where the rook stands still.
 fn standing(rules: &Rules, side: Side, m: &Move, file: Option<u8>) -> Option<u8>
-    requires rules { IsFit rules.now }
-    requires fit { IsFitMove m.now }
+    requires fit { IsFit rules.now }
+    requires move_fits { IsFitMove m.now }
     requires file { IfSome file (λ f. f < 12) }
     ensures { result ≡ Parts.standing rules.now side m.now file }
 {
@@ -70,8 +70,8 @@ fn standing(rules: &Rules, side: Side, m: &Move, file: Option<u8>) -> Option<u8>
 
 /// The file of the wing's rook, where the side has the right and neither king nor rook moves.
 fn rook_left(rules: &Rules, p: &Position, m: &Move, side: Side, wing: Wing) -> Option<u8>
-    requires rules { IsFit rules.now }
-    requires fit { IsFitMove m.now }
+    requires fit { IsFit rules.now }
+    requires move_fits { IsFitMove m.now }
     ensures { result ≡ Parts.rook_left rules.now (repeat_of p.now) m.now side wing }
 {
     if holds_right(&p.rights, side, wing)
@@ -121,8 +121,8 @@ pub(crate) fn rights_left(
     m: &Move,
     side: Side,
 ) -> RightsLeft
-    requires rules { IsFit rules.now }
-    requires fit { IsFitMove m.now }
+    requires fit { IsFit rules.now }
+    requires move_fits { IsFitMove m.now }
     ensures { result ≡ Parts.rights_left rules.now (repeat_of p.now) passing m.now side }
 {
     if !holds_any_right(&p.rights, side) || is_apart(rules, side, passing, m) {

@@ -65,8 +65,8 @@ impl BoardKey {
 
     /// The key after the move, which leads from the one position to the next.
     pub fn after_move(self, rules: &Rules, p: &Position, m: &Move, next: &Position) -> BoardKey
-        requires rules { IsFit rules.now }
-        requires fit { IsFitMove m.now }
+        requires fit { IsFit rules.now }
+        requires move_fits { IsFitMove m.now }
         requires key { IsBoardKey self (repeat_of p.now) }
         requires next { next.now ≡ Next.next rules.now p.now m.now }
         ensures { IsBoardKey result (repeat_of next.now) }

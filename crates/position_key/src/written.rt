@@ -63,8 +63,8 @@ fn castle_squares(from: Square, to: Square, rook: Square, gate: Option<Placed>) 
 /// Every square that the move may write: where it leaves and where it enters, the pawn that it passes by, and the rook
 /// and the gate of a castle.
 pub fn touched(rules: &Rules, p: &Position, m: &Move) -> Set
-    requires rules { IsFit rules.now }
-    requires fit { IsFitMove m.now }
+    requires fit { IsFit rules.now }
+    requires move_fits { IsFitMove m.now }
     ensures { AgreeOutside result p.now.cells (Next.cells_after rules.now (repeat_of p.now) m.now) }
 {
     match *m {

@@ -14,8 +14,8 @@ returns c =
     let r = repeat_of c.args.p.now in
     let m = c.args.m.now in
     let later = c.write.new.cells in
-    let white = rights_written rules r m later c.is_passing-passing.result White c.requires.rules (c.requires.rooks.stands White) c.write.ensures c.rights_left-white.ensures c.rights_kept.ensures in
-    let black = rights_written rules r m later c.is_passing-passing.result Black c.requires.rules (c.requires.rooks.stands Black) c.write.ensures c.rights_left-black.ensures c.rights_kept-2.ensures in
+    let white = rights_written rules r m later c.is_passing-passing.result White c.requires.fit (c.requires.rooks.stands White) c.write.ensures c.rights_left-white.ensures c.rights_kept.ensures in
+    let black = rights_written rules r m later c.is_passing-passing.result Black c.requires.fit (c.requires.rooks.stands Black) c.write.ensures c.rights_left-black.ensures c.rights_kept-2.ensures in
     but_checks-by rules p _ m
     (c.write.ensures ∙ ap (λ b. cells_by rules p.side b m p.cells) c.is_passing-passing.ensures ∙ sym (cells_after-by rules r m))
     (c.change.ensures ∙ ap (λ t. hands_by rules p.side t m p.hands) c.taken-taken.ensures ∙ sym (hands_after-by rules r m))

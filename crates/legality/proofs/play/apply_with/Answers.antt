@@ -11,11 +11,11 @@ use Rattle.next_position.proofs.PartLaws.{next-by}
 use Rattle.board_sets.specs.Sets.{AreSets}
 use Rattle.legality.proofs.play.apply_with.Goals as goal
 
-pub after-requires-clause-fit : goal.after-requires-clause-fit
-after-requires-clause-fit c = (legal-member _ _ _ c.requires.legal).0
+pub after-requires-clause-move_fits : goal.after-requires-clause-move_fits
+after-requires-clause-move_fits c = (legal-member _ _ _ c.requires.legal).0
 
-pub make_but_checks-requires-clause-fit : goal.make_but_checks-requires-clause-fit
-make_but_checks-requires-clause-fit c = (legal-member _ _ _ c.requires.legal).0
+pub make_but_checks-requires-clause-move_fits : goal.make_but_checks-requires-clause-move_fits
+make_but_checks-requires-clause-move_fits c = (legal-member _ _ _ c.requires.legal).0
 
 pub is_check_counted-gives-requires-clause-sets : goal.is_check_counted-gives-requires-clause-sets
 unfolding next next_repeat
