@@ -1,13 +1,2 @@
-mod AnswerLemmas
-mod CertLemmas
-mod CheckLemmas
-mod FileLemmas
-mod GenerateLemmas
-mod HeardLemmas
-mod PnMateLemmas
 mod RunLemmas
 mod SessionLemmas
-mod SetupLemmas
-mod ShotLemmas
-mod SuiteLemmas
-mod VariantLemmas

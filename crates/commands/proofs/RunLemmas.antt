@@ -16,28 +16,29 @@ use Rattle.words.specs.Asked.{Asked, asked}
 use Rattle.words.specs.Command.{Command, Uci, Xboard, Moves as MovesOf, Status, Perft, Check, SelfMate, HelpMate, CheckCert, Variants, Reach, Generate, Suite, PnMate}
 use Rattle.words.specs.Options.{Text}
 use Rattle.words.specs.View.{asked_seen, command_seen}
-use Rattle.commands.specs.declared.answers.Answer.{Answer}
-use Rattle.commands.specs.declared.halt.Halt.{Halt}
-use Rattle.commands.specs.declared.halt.Halt.TheVariants as halt
-use Rattle.commands.specs.declared.opening.Opened.{Opened}
-use Rattle.commands.specs.declared.stop.Stop.{Stop}
-use Rattle.commands.specs.declared.stop.Stop.TheVariants as stop
-use Rattle.commands.specs.Commands.{IsOneShot, asks_file, asks_input, lines_asked, lines_needed}
-use Rattle.commands.specs.HaltView.{Finishes, Opens, OutcomeOf}
+use Rattle.one_shots.specs.declared.answers.Answer.{Answer}
+use Rattle.one_shots.specs.declared.halt.Halt.{Halt}
+use Rattle.one_shots.specs.declared.halt.Halt.TheVariants as halt
+use Rattle.one_shots.specs.declared.opening.Opened.{Opened}
+use Rattle.one_shots.specs.declared.stop.Stop.{Stop}
+use Rattle.one_shots.specs.declared.stop.Stop.TheVariants as stop
+use Rattle.one_shots.specs.Commands.{IsOneShot, asks_file, asks_input, lines_asked, lines_needed}
+use Rattle.one_shots.specs.HaltView.{Finishes, Opens, OutcomeOf}
 use Rattle.game_text.specs.HeardLines.{HeardLines}
 use Rattle.game_text.proofs.HeardLemmas.{heard_nothing, heard_so}
 use Rattle.turning.specs.Spoken.{Decide, IsInput}
 use Rattle.turning.specs.Turned.{Further}
 use Rattle.variant_files.specs.Looked.{Looked}
-use Rattle.commands.specs.Looked.{TellsReads}
-use Rattle.commands.specs.Run.{Completes, Did, FilesFailed, HasFileCause, IsCut, IsDone, May, PartBy, PartOf, ShotPart, TellsInput}
-use Rattle.commands.specs.Sessions.{is_session, to_do}
-use Rattle.commands.specs.Shot.{Shot, Says, SaysCommand}
-use Rattle.commands.specs.StopView.{IsUnread, IsUnsaid}
-use Rattle.commands.specs.Variants.{AreFirstReads, fault_in, sections_in}
-use Rattle.commands.proofs.FileLemmas.{no_further, reads_on, same_reads}
-use Rattle.commands.proofs.HeardLemmas.{settle}
-use Rattle.commands.proofs.ShotLemmas.{command_done, done_whole, says_done, says_failing, says_once, says_shot, says_since, says_usage, says_without, shot_asks, shot_says, shot_some}
+use Rattle.one_shots.specs.Looked.{TellsReads}
+use Rattle.commands.specs.Run.{Completes, Did, FilesFailed, HasFileCause, May, PartBy, PartOf, ShotPart, TellsInput}
+use Rattle.one_shots.specs.Statuses.{IsCut, IsDone}
+use Rattle.one_shots.specs.Sessions.{is_session, to_do}
+use Rattle.one_shots.specs.Shot.{Shot, Says, SaysCommand}
+use Rattle.one_shots.specs.StopView.{IsUnread, IsUnsaid}
+use Rattle.one_shots.specs.Variants.{AreFirstReads, fault_in, sections_in}
+use Rattle.one_shots.proofs.FileLemmas.{no_further, reads_on, same_reads}
+use Rattle.one_shots.proofs.HeardLemmas.{settle}
+use Rattle.one_shots.proofs.ShotLemmas.{command_done, done_whole, says_done, says_failing, says_once, says_shot, says_since, says_usage, says_without, shot_asks, shot_says, shot_some}
 
 -- ---- what a run does
 

@@ -36,25 +36,26 @@ use Rattle.words.specs.Asked.{Asked}
 use Rattle.words.specs.Command.{Command, Uci, Xboard, Moves as MovesOf, Status, Perft, Check, SelfMate, HelpMate, CheckCert, Variants, Reach, Generate, Suite, PnMate}
 use Rattle.words.specs.Options.{Text}
 use Rattle.words.specs.View.{asked_seen, command_seen}
-use Rattle.commands.specs.declared.answers.Answer.{Answer}
-use Rattle.commands.specs.declared.fault.Fault.{Fault}
-use Rattle.commands.specs.declared.halt.Halt.{Halt}
-use Rattle.commands.specs.declared.opening.Opened.{Opened}
-use Rattle.commands.specs.declared.stop.Stop.{Stop}
-use Rattle.commands.specs.declared.stop.Stop.TheVariants as stop
-use Rattle.commands.specs.Commands.{IsOneShot, asks_file, lines_asked, lines_needed}
-use Rattle.commands.specs.Fault.{error_line, fault_status, fault_text}
-use Rattle.commands.specs.HaltView.{Finishes, Opens, OutcomeOf}
-use Rattle.commands.specs.Looked.{TellsReads}
+use Rattle.one_shots.specs.declared.answers.Answer.{Answer}
+use Rattle.one_shots.specs.declared.fault.Fault.{Fault}
+use Rattle.one_shots.specs.declared.halt.Halt.{Halt}
+use Rattle.one_shots.specs.declared.opening.Opened.{Opened}
+use Rattle.one_shots.specs.declared.stop.Stop.{Stop}
+use Rattle.one_shots.specs.declared.stop.Stop.TheVariants as stop
+use Rattle.one_shots.specs.Commands.{IsOneShot, asks_file, lines_asked, lines_needed}
+use Rattle.one_shots.specs.Fault.{error_line, fault_status, fault_text}
+use Rattle.one_shots.specs.HaltView.{Finishes, Opens, OutcomeOf}
+use Rattle.one_shots.specs.Looked.{TellsReads}
 use Rattle.commands.specs.Run as run
-use Rattle.commands.specs.Run.{Completes, CompletesSession, Did, DidPart, FilesFailed, IsCut, IsDone, May, MaySpeak, PartOf}
-use Rattle.commands.specs.Sessions.{dialect_of, is_session, lines_wanted, to_do}
-use Rattle.commands.specs.Shot.{Says}
+use Rattle.commands.specs.Run.{Completes, CompletesSession, Did, DidPart, FilesFailed, May, MaySpeak, PartOf}
+use Rattle.one_shots.specs.Statuses.{IsCut, IsDone}
+use Rattle.one_shots.specs.Sessions.{dialect_of, is_session, lines_wanted, to_do}
+use Rattle.one_shots.specs.Shot.{Says}
 use Rattle.commands.specs.Speaking.{BeginsBuiltIn, BrokeFrom, BrokeIn, SpokeFrom, SpokeIn, Talks, ended_status}
-use Rattle.commands.specs.Variants.{Accepts, AreFirstReads, AreReadsOf, fault_found, fault_in, sections_in}
-use Rattle.commands.proofs.FileLemmas.{no_further, reads_on, same_reads}
+use Rattle.one_shots.specs.Variants.{Accepts, AreFirstReads, AreReadsOf, fault_found, fault_in, sections_in}
+use Rattle.one_shots.proofs.FileLemmas.{no_further, reads_on, same_reads}
 use Rattle.commands.proofs.RunLemmas.{decide_so, four, five, seven, may_shot, part_by, refused_first, refused_heard, refused_said, refused_says, session_says, some_reads, tells_found}
-use Rattle.commands.proofs.ShotLemmas.{done_whole, says_done, says_shot, shot_asks, shot_says}
+use Rattle.one_shots.proofs.ShotLemmas.{done_whole, says_done, says_shot, shot_asks, shot_says}
 
 -- ---- the start of a session
 

@@ -8,11 +8,12 @@ use Rattle.io_ports.specs.Source.{Owed, Untold}
 use Rattle.session_model.specs.Speaks.{Speaks}
 use Rattle.turning.specs.Spoken.{Decide, IsInput}
 use Rattle.turning.specs.Turned.{Further}
-use Rattle.commands.specs.Commands.{asks_file, asks_input, lines_asked}
-use Rattle.commands.specs.Looked.{IsTooLarge, TellsReads}
-use Rattle.commands.specs.Sessions.{dialect_of, is_session, to_do}
-use Rattle.commands.specs.Shot.{Shot}
-use Rattle.commands.specs.Variants.{Accepts, sections_in}
+use Rattle.one_shots.specs.Commands.{asks_file, asks_input, lines_asked}
+use Rattle.one_shots.specs.Looked.{TellsReads}
+use Rattle.one_shots.specs.Sessions.{dialect_of, is_session, to_do}
+use Rattle.one_shots.specs.Shot.{Shot}
+use Rattle.one_shots.specs.Statuses.{IsCut, IsUnreadable, NamesFile}
+use Rattle.one_shots.specs.Variants.{Accepts, sections_in}
 use Rattle.words.specs.Asked.{Asked}
 use Rattle.words.specs.Options.{Text}
 
@@ -123,24 +124,6 @@ DidPart moved read contents left words result =
     PartOf (to_do words) (ShotPart moved read contents left words) (SpokePart moved read contents words result)
 
 -- ---- statuses
-
--- the statuses of a run that did what its words ask
-abbrev pub IsDone : ℕ → Type 0
-IsDone status = (status ≡ 0) ⊎ (status ≡ 2) ⊎ (status ≡ 3) ⊎ (status ≡ 6)
-
--- the statuses of a run that was cut short: the source failed, the sink failed, or there was no memory
-abbrev pub IsCut : ℕ → Type 0
-IsCut status = (status ≡ 4) ⊎ (status ≡ 5) ⊎ (status ≡ 7)
-
--- the file is missing or too large, as far as the files tell what they have
-abbrev pub IsUnreadable : Option Contents → Text → Type 0
-IsUnreadable None name = ⊤
-IsUnreadable (Some files) name = (files name ≡ None) ⊎ IsTooLarge (files name)
-
--- a file of variants is named, and this holds of its name
-abbrev pub NamesFile : Option Asked → (Text → Type 0) → Type 0
-NamesFile None Holds = ⊥
-NamesFile (Some a) Holds = IsSomeAnd a.variants Holds
 
 -- the file of variants was not read: it is missing, it is too large, or the files failed
 abbrev pub HasFileCause : Option Contents → ℕ → ℕ → List (List ℕ) → Type 0

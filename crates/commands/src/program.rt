@@ -2,17 +2,15 @@
 ghost use Rattle.std.specs.Prelude.{◌≡◌, ◌⊎◌, ◌↔◌, false, IsErr, IsNone, map, string_bytes};
 ghost use Rattle.io_ports.specs.Cause.{Rose};
 ghost use Rattle.io_ports.specs.Trace.{Moves, Reads};
-ghost use Rattle.commands.specs.Commands.{IsOneShot, asks_file, asks_input};
-ghost use Rattle.commands.specs.HaltView.{Finishes};
+ghost use Rattle.one_shots.specs.Commands.{IsOneShot, asks_file, asks_input};
+ghost use Rattle.one_shots.specs.HaltView.{Finishes};
 ghost use Rattle.commands.specs.Run.{Completes, CompletesSession, Did, DidPart, FilesFailed, HasFileCause};
-ghost use Rattle.commands.specs.Run.{IsCut, IsDone};
-ghost use Rattle.commands.specs.Sessions.{to_do};
+ghost use Rattle.one_shots.specs.Statuses.{IsCut, IsDone};
+ghost use Rattle.one_shots.specs.Sessions.{to_do};
 
-use crate::answers::{Answer, answer_of, answer_to};
-use crate::opening::open;
 use crate::sessions::{dialect_of, speak, status_of};
-use crate::stop::{NO_MEMORY, SINK_FAILED, SOURCE_FAILED, Stop};
 use io_ports::{Clock, Files, Gate, Sink, Source};
+use one_shots::{Answer, NO_MEMORY, SINK_FAILED, SOURCE_FAILED, Stop, answer_of, answer_to, open};
 use std::alloc::Global;
 use std::sync::Wait;
 use std::thread::Threads;

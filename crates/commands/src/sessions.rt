@@ -2,14 +2,14 @@
 ghost use Rattle.std.specs.Prelude.{◌≡◌, ◌≤◌, IsErrOf};
 ghost use Rattle.io_ports.specs.Trace.{Moves, Reads};
 ghost use Rattle.turning.specs.Lines.{Causes};
-ghost use Rattle.commands.specs.Sessions as sessions;
+ghost use Rattle.one_shots.specs.Sessions as sessions;
 ghost use Rattle.commands.specs.Speaking.{BeginsBuiltIn, Talks, ended_status, moved_between};
 ghost use Rattle.watching.specs.Stopping.{AreSamePorts};
 ghost use Rattle.words.specs.View.{command_seen};
 
-use crate::stop::{NO_MEMORY, SINK_FAILED, SOURCE_FAILED};
 use cecp_front::CecpSession;
 use io_ports::{Clock, Dialect, Files, Gate, Ports, SearchFault, Sink, Source};
+use one_shots::{NO_MEMORY, SINK_FAILED, SOURCE_FAILED};
 use session_model::laws::variants_have_places;
 use std::alloc::Global;
 use std::sync::Wait;

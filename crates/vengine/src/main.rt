@@ -2,7 +2,7 @@
 #![tactic(auto)]
 
 ghost use Rattle.std.specs.Prelude.{◌⊎◌};
-ghost use Rattle.commands.specs.Run.{IsCut, IsDone};
+ghost use Rattle.one_shots.specs.Statuses.{IsCut, IsDone};
 
 use commands::{NO_MEMORY, run};
 use foundation::Memory;

@@ -1,5 +1,5 @@
 use Rattle.commands.specs.Run.{FilesFailed}
-use Rattle.commands.specs.Sessions.{to_do}
+use Rattle.one_shots.specs.Sessions.{to_do}
 use Rattle.words.specs.View.{command_seen}
 use Rattle.commands.proofs.RunLemmas.{is_err, not_six, ok_done, part_by, part_of, reached, refused, run_complete, run_did, run_part, run_statuses, run_unread, run_usage, sink_failed, source_failed}
 use Rattle.commands.proofs.SessionLemmas.{opened_one_shot, refused_part, session_complete, session_did, session_part}

@@ -1,0 +1,24 @@
+-- What the code answers of the game text that a command reads, as the definitions have it.
+use Rattle.std.specs.Prelude.{◌≡◌, Result, Ok, Err, ⊤}
+use Rattle.game_play.specs.Played.{Played}
+use Rattle.game_text.specs.declared.fault.GameFault.{GameFault}
+use Rattle.one_shots.specs.declared.fault.Fault.{Fault}
+use Rattle.one_shots.specs.declared.fault.Fault.TheVariants.{Game}
+use Rattle.one_shots.specs.declared.halt.Halt.{Halt}
+use Rattle.one_shots.specs.declared.halt.Halt.TheVariants as halt
+use Rattle.one_shots.specs.declared.stop.Stop.TheVariants as stop
+
+-- the game text has this fault
+pub record IsGameFault (said : Result Played GameFault) (fault : Fault) : Type 0 where
+  pub why : GameFault
+  pub has : said ≡ Err why
+  pub is : fault ≡ Game why
+
+-- the game text says this game, or has this fault; where the run was cut short nothing is known of it
+abbrev pub SaysGame : Result Played GameFault → Result Played Halt → Type 0
+SaysGame said (Ok g) = said ≡ Ok g
+SaysGame said (Err halt.Usage) = ⊥
+SaysGame said (Err (halt.Fault fault)) = IsGameFault said fault
+SaysGame said (Err (halt.Stop stop.Source)) = ⊤
+SaysGame said (Err (halt.Stop stop.Sink)) = ⊥
+SaysGame said (Err (halt.Stop stop.Memory)) = ⊤

@@ -1,0 +1,79 @@
+//! What `generate` prints: a game of random moves.
+ghost use Rattle.std.specs.Prelude.{◌≡◌, ◌≤◌, IfOk};
+ghost use Rattle.session_model.specs.Generate.{SaysGenerate, SaysGenerated};
+ghost use Rattle.variant_rules.specs.Playable.{IsPlayable};
+ghost use Rattle.variant_rules.specs.View.{IfRules, found_view};
+ghost use Rattle.one_shots.specs.HaltView.{Answers, IsUnheard};
+
+use crate::fault::Fault;
+use crate::halt::Halt;
+use foundation::Text;
+use game_text::{GameFault, copy_of};
+use random_games::{random_game, report_of};
+use std::alloc::{AllocError, Global};
+use std::thread::Threads;
+use variant_ini::Sections;
+use variant_model::SectionFault;
+use variant_rules::{Found, load};
+
+fn unknown_variant(alloc: Global, name: &str) -> Result<Halt<'static>, AllocError>
+    ensures { IfOk result (λ halt. halt ≡ Halt.Fault (Fault.Game (GameFault.UnknownVariant name.now))) }
+{
+    let items = name.as_bytes().to_vec(alloc)?;
+    Ok(Halt::Fault(Fault::Game(GameFault::UnknownVariant(Text { items }))))
+}
+
+fn refused_variant(alloc: Global, why: &SectionFault) -> Result<Halt<'static>, AllocError>
+    ensures { IfOk result (λ halt. halt ≡ Halt.Fault (Fault.Game (GameFault.RefusedVariant why.now))) }
+{
+    let why = copy_of(alloc, why)?;
+    Ok(Halt::Fault(Fault::Game(GameFault::RefusedVariant(why))))
+}
+
+// The report of the game, by what is found of the variant's name.
+fn generate_in<R: Threads + Sync>(
+    rt: &R,
+    alloc: Global,
+    found: Found,
+    name: &str,
+    number: u64,
+    plies: u16,
+) -> Result<Text, Halt<'static>>
+    requires playable { IfRules found IsPlayable }
+    requires plies { plies ≤ 8192 }
+    ensures answers { Answers result (SaysGenerated name.now number plies (found_view found.entry)) }
+    ensures reads_nothing { ¬ (IsUnheard result) }
+{
+    match found {
+        Found::Rules(rules) => {
+            let game = random_game(alloc, rules, number, plies)?;
+            Ok(report_of(rt, alloc, name, number, &game)?)
+        }
+        Found::Refused(fault) => Err(refused_variant(alloc, fault)?),
+        Found::Unknown => Err(unknown_variant(alloc, name)?),
+    }
+}
+
+/// The text of `generate`: the report of the random game of this number in the variant of this name.
+pub fn generate<R: Threads + Sync>(
+    rt: &R,
+    alloc: Global,
+    sections: &Sections,
+    name: &str,
+    number: u64,
+    plies: u16,
+) -> Result<Text, Halt<'static>>
+    requires plies { plies ≤ 8192 }
+    ensures answers { Answers result (SaysGenerate sections.now name.now number plies) }
+    ensures reads_nothing { ¬ (IsUnheard result) }
+{
+    let variants = load(alloc, sections)?;
+    generate_in(
+        rt,
+        alloc,
+        variants.find(name.as_bytes()),
+        name,
+        number,
+        plies,
+    )
+}
