@@ -9,7 +9,7 @@ use Rattle.io_ports.specs.declared.dialect.Dialect.{Dialect}
 use Rattle.io_ports.specs.declared.dialect.Dialect.TheVariants as dialect
 use Rattle.io_ports.specs.declared.limits.SearchFault.{SearchFault}
 use Rattle.io_ports.specs.declared.limits.SearchFault.TheVariants as fault
-use Rattle.io_ports.specs.Files.{Contents, Found, Finds, Read}
+use Rattle.io_ports.specs.Files.{Contents, Found, Read}
 use Rattle.io_ports.specs.Files as found
 use Rattle.io_ports.specs.Lines.{Line}
 use Rattle.io_ports.specs.Sink.{AppendsFront}
@@ -47,7 +47,7 @@ use Rattle.one_shots.specs.Fault.{error_line, fault_status, fault_text}
 use Rattle.one_shots.specs.HaltView.{Finishes, Opens, OutcomeOf}
 use Rattle.one_shots.specs.Looked.{TellsReads}
 use Rattle.commands.specs.Run as run
-use Rattle.commands.specs.Run.{Completes, CompletesSession, Did, DidPart, FilesFailed, May, MaySpeak, PartOf}
+use Rattle.commands.specs.Run.{Completes, Did, DidPart, May, MaySpeak}
 use Rattle.one_shots.specs.Statuses.{IsCut, IsDone}
 use Rattle.one_shots.specs.Sessions.{dialect_of, is_session, lines_wanted, to_do}
 use Rattle.one_shots.specs.Shot.{Says}

@@ -1,5 +1,5 @@
 -- What a run has done.
-use Rattle.std.specs.Prelude.{◌≡◌, ◌≤◌, ◌⊎◌, ℕ, Bool, true, false, List, [], ◌++◌, length, Option, Some, None, IsSomeAnd, ⊤}
+use Rattle.std.specs.Prelude.{◌≡◌, ◌≤◌, ◌⊎◌, ℕ, Bool, true, false, List, [], ◌++◌, length, Option, Some, None, IsSomeAnd}
 use Rattle.io_ports.specs.declared.dialect.Dialect.{Dialect}
 use Rattle.io_ports.specs.Cause.{Rose}
 use Rattle.io_ports.specs.Files.{Contents, Read}
@@ -15,7 +15,6 @@ use Rattle.one_shots.specs.Shot.{Shot}
 use Rattle.one_shots.specs.Statuses.{IsCut, IsUnreadable, NamesFile}
 use Rattle.one_shots.specs.Variants.{Accepts, sections_in}
 use Rattle.words.specs.Asked.{Asked}
-use Rattle.words.specs.Options.{Text}
 
 -- the source tells its bytes, and the input is their lines
 abbrev pub TellsInput : Option (List ℕ) → List Line → Type 0
