@@ -2,9 +2,9 @@
 ghost use Rattle.std.specs.Prelude.{◌≤◌, ◌<◌};
 ghost use Rattle.rules_model.specs.Fit.{IsFit};
 
+use crate::expect::{expect, expect_eq, expect_eq_at, expect_of};
 use crate::helpers::set_of;
 use attack_tables::{Mode, Tables, men, occupied};
-use foundation::Memory;
 use rules_model::{Position, Rules, Side, Square};
 use sample_rules::{chess, generals, kind, position, square, wide_chess, xiangqi};
 use square_set::{EMPTY, Set, Shift};
@@ -43,24 +43,23 @@ fn expect_reach(
     rules: &Rules,
     pieces: &str,
     rows: &[(&str, Mode, &str)],
-) -> Result<(), Memory>
+)
     requires { IsFit rules.now }
 {
-    let tables = Tables::new(alloc, rules)?;
+    let tables = Tables::new(alloc, rules).expect(rt, "no fault");
     let p = position(pieces);
     for (from, mode, squares) in rows {
         let reached = tables.reaches(&p, square(*from), *mode);
-        assert_eq!(rt; reached, set_of(*squares), "{from}");
+        expect_eq_at(rt, from, reached, set_of(*squares));
         for to in 0..120 {
             let one = tables.reaches_square(&p, square(*from), *mode, Square(to));
-            assert_eq!(rt; one, reached.has(to));
+            expect_eq(rt, one, reached.has(to));
         }
     }
-    Ok(())
 }
 
 #[test]
-fn chess_pieces_reach(rt: HostRuntime) -> Result<(), Memory> {
+fn chess_pieces_reach(rt: HostRuntime) {
     let rows: [(&str, Mode, &str); 7] = [
         ("a1", Mode::Take, "b3 c2"),
         ("e1", Mode::Take, "d1 f1 d2 e2 f2"),
@@ -71,24 +70,23 @@ fn chess_pieces_reach(rt: HostRuntime) -> Result<(), Memory> {
         ("e8", Mode::Quiet, "d7 e7 f7 d8 f8"),
     ];
     let pieces = "Na1 Ke1 Rh1 Ph3 Pe4 pb7 ke8";
-    expect_reach(&rt, rt.alloc(), &chess(), pieces, &rows)
+    expect_reach(&rt, rt.alloc(), &chess(), pieces, &rows);
 }
 
 // A pawn reaches no square but to take, and an empty square is no piece.
 #[test]
-fn some_reach_nothing(rt: HostRuntime) -> Result<(), Memory> {
-    let tables = Tables::new(rt.alloc(), &chess())?;
+fn some_reach_nothing(rt: HostRuntime) {
+    let tables = Tables::new(rt.alloc(), &chess()).expect(&rt, "no fault");
     let p = position("Ph3 ke8");
-    assert_eq!(rt; tables.reaches(&p, square("h3"), Mode::Quiet), EMPTY);
-    assert_eq!(rt; tables.reaches(&p, square("d5"), Mode::Take), EMPTY);
-    assert_eq!(rt; tables.reaches(&p, Square(200), Mode::Take), EMPTY);
-    Ok(())
+    expect_eq(&rt, tables.reaches(&p, square("h3"), Mode::Quiet), EMPTY);
+    expect_eq(&rt, tables.reaches(&p, square("d5"), Mode::Take), EMPTY);
+    expect_eq(&rt, tables.reaches(&p, Square(200), Mode::Take), EMPTY);
 }
 
 // An elephant does not cross the river, a king stays in its palace, a soldier goes sideways after the river, a cannon
 // takes over one piece, and a horse does not leap over the piece at its side.
 #[test]
-fn xiangqi_pieces_reach(rt: HostRuntime) -> Result<(), Memory> {
+fn xiangqi_pieces_reach(rt: HostRuntime) {
     let rows: [(&str, Mode, &str); 12] = [
         ("c5", Mode::Take, "a3 e3"),
         ("b3", Mode::Quiet, "b1 b2 b4 b5 b6 a3 c3 d3 e3 f3 g3"),
@@ -104,33 +102,26 @@ fn xiangqi_pieces_reach(rt: HostRuntime) -> Result<(), Memory> {
         ("g4", Mode::Take, "g3 f4 h4"),
     ];
     let pieces = "Ke1 Bc5 Cb3 Pb6 nb9 kd10 Ng3 pg4 Pi6 pa6 Pe5";
-    expect_reach(&rt, rt.alloc(), &xiangqi(), pieces, &rows)
+    expect_reach(&rt, rt.alloc(), &xiangqi(), pieces, &rows);
 }
 
 /// The side attacks the square, or not.
-fn expect_attacks(
-    rt: &impl Abort,
-    alloc: Global,
-    rules: &Rules,
-    rows: &[(&str, &str, Side, bool)],
-) -> Result<(), Memory>
+fn expect_attacks(rt: &impl Abort, alloc: Global, rules: &Rules, rows: &[(&str, &str, Side, bool)])
     requires { IsFit rules.now }
 {
-    let tables = Tables::new(alloc, rules)?;
+    let tables = Tables::new(alloc, rules).expect(rt, "no fault");
     for (pieces, at, by, attacked) in rows {
         let p = position(*pieces);
-        assert_eq!(rt;
-            tables.attacked(&p, square(*at), *by),
-            *attacked,
+        assert!(rt;
+            tables.attacked(&p, square(*at), *by) == *attacked,
             "{pieces} {at}"
         );
-        assert!(rt; !tables.attacked(&p, Square(200), *by));
+        expect(rt, !tables.attacked(&p, Square(200), *by));
     }
-    Ok(())
 }
 
 #[test]
-fn sides_attack(rt: HostRuntime) -> Result<(), Memory> {
+fn sides_attack(rt: HostRuntime) {
     let pieces = "Na1 Ke1 Rh1 Ph3 Pe4 pb7 ke8";
     let rows = [
         (pieces, "e4", Side::White, false),
@@ -142,12 +133,12 @@ fn sides_attack(rt: HostRuntime) -> Result<(), Memory> {
         (pieces, "c6", Side::White, false),
         ("Ke1 ke8", "e8", Side::White, false),
     ];
-    expect_attacks(&rt, rt.alloc(), &chess(), &rows)
+    expect_attacks(&rt, rt.alloc(), &chess(), &rows);
 }
 
 // Kings attack each other along an open file, and nothing else on it.
 #[test]
-fn kings_fly_in_xiangqi(rt: HostRuntime) -> Result<(), Memory> {
+fn kings_fly_in_xiangqi(rt: HostRuntime) {
     let river = "Ke1 Bc5 Cb3 Pb6 nb9 kd10 pa6";
     let rows = [
         ("Ke1 ke10", "e10", Side::White, true),
@@ -161,12 +152,12 @@ fn kings_fly_in_xiangqi(rt: HostRuntime) -> Result<(), Memory> {
         (river, "a5", Side::Black, true),
         (river, "b6", Side::Black, false),
     ];
-    expect_attacks(&rt, rt.alloc(), &xiangqi(), &rows)
+    expect_attacks(&rt, rt.alloc(), &xiangqi(), &rows);
 }
 
 #[test]
-fn kings_are_attacked(rt: HostRuntime) -> Result<(), Memory> {
-    let tables = Tables::new(rt.alloc(), &chess())?;
+fn kings_are_attacked(rt: HostRuntime) {
+    let tables = Tables::new(rt.alloc(), &chess()).expect(&rt, "no fault");
     for (pieces, white, black) in [
         ("Ke1 re8 ka8", true, false),
         ("Ke1 Re2 re8 ka8", false, false),
@@ -178,9 +169,8 @@ fn kings_are_attacked(rt: HostRuntime) -> Result<(), Memory> {
             tables.king_attacked(&p, Side::White),
             tables.king_attacked(&p, Side::Black),
         ];
-        assert_eq!(rt; found, [white, black], "{pieces}");
+        expect_eq_at(&rt, pieces, found, [white, black]);
     }
-    Ok(())
 }
 
 /// Whether the king on a square stands attacked once White moved a piece: by the cells before the move, and the sets
@@ -201,20 +191,19 @@ fn expect_after(
     alloc: Global,
     rules: &Rules,
     rows: &[(&str, &str, &str, &str, bool)],
-) -> Result<(), Memory>
+)
     requires { IsFit rules.now }
 {
-    let tables = Tables::new(alloc, rules)?;
+    let tables = Tables::new(alloc, rules).expect(rt, "no fault");
     for (pieces, from, to, king, attacked) in rows {
         let p = position(*pieces);
         let after = is_attacked_after(&tables, &p, square(*from), square(*to), square(*king));
-        assert_eq!(rt; after, *attacked, "{pieces} {to}");
+        assert!(rt; after == *attacked, "{pieces} {to}");
     }
-    Ok(())
 }
 
 #[test]
-fn a_move_opens_and_closes_lines(rt: HostRuntime) -> Result<(), Memory> {
+fn a_move_opens_and_closes_lines(rt: HostRuntime) {
     let pinned = "Ke1 Re2 re8 ka8";
     let chess_rows = [
         (pinned, "e2", "d2", "e1", true),
@@ -228,8 +217,8 @@ fn a_move_opens_and_closes_lines(rt: HostRuntime) -> Result<(), Memory> {
         ("Kd1 pe5 ke10", "d1", "e1", "e1", false),
         ("Ke1 Pe5 ke10", "e5", "d5", "e1", true),
     ];
-    expect_after(&rt, rt.alloc(), &chess(), &chess_rows)?;
-    expect_after(&rt, rt.alloc(), &xiangqi(), &xiangqi_rows)
+    expect_after(&rt, rt.alloc(), &chess(), &chess_rows);
+    expect_after(&rt, rt.alloc(), &xiangqi(), &xiangqi_rows);
 }
 
 /// A piece of the kind on the square goes to these squares, where these are occupied, the last ones by enemies.
@@ -248,28 +237,26 @@ fn expect_goals(
     let enemies = set_of(enemies);
     let occupied = set_of(own).or(enemies);
     let found = tables.goals(Side::White, kind(letter), square(from), occupied, enemies);
-    assert_eq!(rt; found, set_of(goals), "{from}");
+    expect_eq_at(rt, from, found, set_of(goals));
 }
 
 // A rook takes the first enemy and stops before the first own piece; a pawn only takes.
 #[test]
-fn a_chess_piece_goes_where_it_takes(rt: HostRuntime) -> Result<(), Memory> {
-    let tables = Tables::new(rt.alloc(), &chess())?;
+fn a_chess_piece_goes_where_it_takes(rt: HostRuntime) {
+    let tables = Tables::new(rt.alloc(), &chess()).expect(&rt, "no fault");
     let goals = "b1 c1 a2 a3 a4";
     expect_goals(&rt, &tables, b'r', "a1", "a1 d1", "a4 a6", goals);
     expect_goals(&rt, &tables, b'p', "e4", "e4", "d5", "d5");
-    assert!(rt; tables.castling_on());
-    Ok(())
+    expect(&rt, tables.castling_on());
 }
 
 // A cannon goes like a rook, and takes over one piece alone.
 #[test]
-fn a_cannon_does_not(rt: HostRuntime) -> Result<(), Memory> {
-    let tables = Tables::new(rt.alloc(), &xiangqi())?;
+fn a_cannon_does_not(rt: HostRuntime) {
+    let tables = Tables::new(rt.alloc(), &xiangqi()).expect(&rt, "no fault");
     let goals = "a2 a3 b1 c1 a7";
     expect_goals(&rt, &tables, b'c', "a1", "a1 a4 d1", "a7 a9", goals);
-    assert!(rt; !tables.castling_on());
-    Ok(())
+    expect(&rt, !tables.castling_on());
 }
 
 /// Of the squares of the board these are plain, and of those a pawn goes from these: once, twice, to the left and to
@@ -279,7 +266,7 @@ fn expect_masks(rt: &impl Abort, tables: &Tables, side: Side, board: &str, rows:
     let plain = masks.plain.and(block(board));
     let goers = [plain, masks.once, masks.twice, masks.left, masks.right];
     for (goes, row) in goers.iter().zip(rows) {
-        assert!(rt; plain.and(*goes) == blocks(row), "{row}");
+        expect_of(rt, &row, plain.and(*goes) == blocks(row));
     }
 }
 
@@ -291,33 +278,35 @@ fn expect_pawns(
     board: &str,
     white: [&str; 5],
     black: [&str; 5],
-) -> Result<(), Memory>
+)
     requires { IsFit rules.now }
 {
-    let tables = Tables::new(alloc, rules)?;
+    let tables = Tables::new(alloc, rules).expect(rt, "no fault");
     expect_masks(rt, &tables, Side::White, board, white);
     expect_masks(rt, &tables, Side::Black, board, black);
-    Ok(())
 }
 
 #[test]
-fn pawns_shift(rt: HostRuntime) -> Result<(), Memory> {
-    let tables = Tables::new(rt.alloc(), &chess())?;
+fn pawns_shift(rt: HostRuntime) {
+    let tables = Tables::new(rt.alloc(), &chess()).expect(&rt, "no fault");
     let white = tables.pawn_masks(Side::White);
     let found = [white.ahead, white.leftward, white.rightward];
-    assert_eq!(rt; found, [Shift::Up(12), Shift::Up(11), Shift::Up(13)]);
+    expect_eq(&rt, found, [Shift::Up(12), Shift::Up(11), Shift::Up(13)]);
     let black = tables.pawn_masks(Side::Black);
     let found = [black.ahead, black.leftward, black.rightward];
-    assert_eq!(rt; found, [Shift::Down(12), Shift::Down(11), Shift::Down(13)]);
-    Ok(())
+    expect_eq(
+        &rt,
+        found,
+        [Shift::Down(12), Shift::Down(11), Shift::Down(13)],
+    );
 }
 
 // A pawn promotes from its last rank but one; on the last rank it goes nowhere.
 #[test]
-fn chess_pawns_go(rt: HostRuntime) -> Result<(), Memory> {
+fn chess_pawns_go(rt: HostRuntime) {
     let white = ["a1-h6 a8-h8", "a1-h6", "a2-h2", "b1-h6", "a1-g6"];
     let black = ["a3-h8 a1-h1", "a3-h8", "a7-h7", "a3-g8", "b3-h8"];
-    expect_pawns(&rt, rt.alloc(), &chess(), "a1-h8", white, black)
+    expect_pawns(&rt, rt.alloc(), &chess(), "a1-h8", white, black);
 }
 
 /// Chess where no pawn steps twice at once.
@@ -330,36 +319,35 @@ fn single_steps() -> Rules
 }
 
 #[test]
-fn pawns_step_once(rt: HostRuntime) -> Result<(), Memory> {
-    let tables = Tables::new(rt.alloc(), &single_steps())?;
+fn pawns_step_once(rt: HostRuntime) {
+    let tables = Tables::new(rt.alloc(), &single_steps()).expect(&rt, "no fault");
     for side in [Side::White, Side::Black] {
         let masks = tables.pawn_masks(side);
         let plain = masks.plain.and(block("a1-h8"));
-        assert_eq!(rt; plain.and(masks.twice), EMPTY);
-        assert_eq!(rt; plain.and(masks.once).count(), 48);
+        expect_eq(&rt, plain.and(masks.twice), EMPTY);
+        expect_eq(&rt, plain.and(masks.once).count(), 48);
     }
-    Ok(())
 }
 
 // A pawn promotes on the last three ranks.
 #[test]
-fn generals_pawns_go(rt: HostRuntime) -> Result<(), Memory> {
+fn generals_pawns_go(rt: HostRuntime) {
     let white = ["a1-h4 a8-h8", "a1-h4", "a2-h2", "b1-h4", "a1-g4"];
     let black = ["a5-h8 a1-h1", "a5-h8", "a7-h7", "a5-g8", "b5-h8"];
-    expect_pawns(&rt, rt.alloc(), &generals(), "a1-h8", white, black)
+    expect_pawns(&rt, rt.alloc(), &generals(), "a1-h8", white, black);
 }
 
 // With soldiers and no pawn nothing promotes, on nine files and ten ranks; a pawn would go as ever.
 #[test]
-fn xiangqi_pawns_would_go(rt: HostRuntime) -> Result<(), Memory> {
+fn xiangqi_pawns_would_go(rt: HostRuntime) {
     let white = ["a1-i10", "a1-i9", "a2-i2", "b1-i9", "a1-h9"];
     let black = ["a1-i10", "a2-i10", "a9-i9", "a2-h10", "b2-i10"];
-    expect_pawns(&rt, rt.alloc(), &xiangqi(), "a1-i10", white, black)
+    expect_pawns(&rt, rt.alloc(), &xiangqi(), "a1-i10", white, black);
 }
 
 // On the largest board the number after that of a file l is of a file a: no pawn takes over the edge.
 #[test]
-fn wide_pawns_go(rt: HostRuntime) -> Result<(), Memory> {
+fn wide_pawns_go(rt: HostRuntime) {
     let white = [
         "a1-l6 j7-l7 a8-l8",
         "a1-l6 j7-l7",
@@ -374,7 +362,7 @@ fn wide_pawns_go(rt: HostRuntime) -> Result<(), Memory> {
         "a3-k8 j2-k2",
         "b3-l8 j2-l2",
     ];
-    expect_pawns(&rt, rt.alloc(), &wide_chess(), "a1-l8", white, black)
+    expect_pawns(&rt, rt.alloc(), &wide_chess(), "a1-l8", white, black);
 }
 
 /// Chess where a flag piece would win on the last rank, and hand pieces would be put on the second.
@@ -390,27 +378,25 @@ fn zoned() -> Rules
 }
 
 #[test]
-fn regions_are_sets(rt: HostRuntime) -> Result<(), Memory> {
-    let tables = Tables::new(rt.alloc(), &zoned())?;
+fn regions_are_sets(rt: HostRuntime) {
+    let tables = Tables::new(rt.alloc(), &zoned()).expect(&rt, "no fault");
     for (side, flag, drop) in [
         (Side::White, "a8-h8", "a2-h2"),
         (Side::Black, "a1-h1", "a7-h7"),
     ] {
-        assert_eq!(rt; tables.flag_region(side), block(flag));
-        assert_eq!(rt; tables.drop_region(side), block(drop));
+        expect_eq(&rt, tables.flag_region(side), block(flag));
+        expect_eq(&rt, tables.drop_region(side), block(drop));
     }
-    Ok(())
 }
 
 // Those of a queen's lines and a knight's jumps on the largest board, and no others: every square would do, and be
 // slow.
 #[test]
-fn takers_in_chess(rt: HostRuntime) -> Result<(), Memory> {
-    let tables = Tables::new(rt.alloc(), &chess())?;
+fn takers_in_chess(rt: HostRuntime) {
+    let tables = Tables::new(rt.alloc(), &chess()).expect(&rt, "no fault");
     for (at, squares) in [("a1", 31), ("e4", 44), ("h4", 44)] {
         let white = tables.takers(Side::White, square(at));
         let black = tables.takers(Side::Black, square(at));
-        assert_eq!(rt; (white.count(), black.count()), (squares, squares), "{at}");
+        expect_eq_at(&rt, at, (white.count(), black.count()), (squares, squares));
     }
-    Ok(())
 }

@@ -1,4 +1,5 @@
 //! Tests of `forced_wins`.
+use crate::expect::expect;
 use forced_wins::{Fact, is_falling};
 use rules_model::{Repeat, Side};
 
@@ -31,16 +32,16 @@ fn a_win_in_three_and_a_refutation(rt: HostRuntime) {
             best: None,
             wins,
         };
-        assert_eq!(rt;
-            fact.covers(counter, moves),
-            want,
+        assert!(rt;
+            fact.covers(counter, moves) == want,
             "{wins} at {counter} within {moves}"
         );
     }
-    assert!(rt;
+    expect(
+        &rt,
         is_falling(true, 2, 1)
             && !is_falling(true, 2, 2)
             && is_falling(false, 2, 2)
-            && !is_falling(false, 2, 3)
+            && !is_falling(false, 2, 3),
     );
 }

@@ -2,6 +2,7 @@
 ghost use Rattle.rules_model.specs.Fit.{IsFit};
 ghost use Rattle.rules_model.specs.Moves.{IsFitMove};
 
+use crate::expect::{expect, expect_eq, expect_of};
 use crate::helpers::{castle, go};
 use next_position::{make_move, sound_positions_take_moves};
 use position_key::{BoardKey, Packed, key_of, key_of_repeat, touched};
@@ -24,9 +25,9 @@ fn keys_are_sums_of_words(rt: HostRuntime) {
     p.checks = [3, 2];
     p.ep = Some(square("e5"));
     p.side = Side::Black;
-    assert_eq!(rt; BoardKey::of(&p), BoardKey(0x75DC_9B7A_EF04_365A));
-    assert_eq!(rt; key_of(&p), 0x05D0_E764_87F6_708E);
-    assert_eq!(rt; key_of_repeat(&repeat_of(&p)), 0x05D0_E764_87F6_708E);
+    expect_eq(&rt, BoardKey::of(&p), BoardKey(0x75DC_9B7A_EF04_365A));
+    expect_eq(&rt, key_of(&p), 0x05D0_E764_87F6_708E);
+    expect_eq(&rt, key_of_repeat(&repeat_of(&p)), 0x05D0_E764_87F6_708E);
 }
 
 #[test]
@@ -63,8 +64,8 @@ fn an_origin_is_compared(rt: HostRuntime) {
         cell.origin = Some(kind(b'p'));
     }
     let packed = Packed::of_position(&promoted);
-    assert_eq!(rt; packed.hash(), key_of(&plain));
-    assert!(rt; !packed.is(&Packed::of_position(&plain)));
+    expect_eq(&rt, packed.hash(), key_of(&plain));
+    expect(&rt, !packed.is(&Packed::of_position(&plain)));
 }
 
 /// White's elephant and horse in hand, and these pieces on the board.
@@ -85,14 +86,14 @@ fn is_kept<R: Abort>(rt: &R, rules: &Rules, p: &Position, m: &Move)
     make_move(rules, &mut next, m);
     let key = BoardKey::of(p);
     let kept = key.after_move(rules, p, m, &next);
-    assert!(rt; kept != key, "{m:?}");
-    assert_eq!(rt; kept, BoardKey::of(&next), "{m:?}");
-    assert_eq!(rt; kept.whole(&next), key_of(&next), "{m:?}");
-    assert_eq!(rt;
-        Packed::with_key(&next, kept).hash(),
-        key_of(&next),
-        "{m:?}"
-    );
+    let whole = key_of(&next);
+    let found = [
+        kept != key,
+        kept == BoardKey::of(&next),
+        kept.whole(&next) == whole,
+        Packed::with_key(&next, kept).hash() == whole,
+    ];
+    expect_of(rt, &m, found == [true; 4]);
 }
 
 // A capture into the hand, en passant and a promotion.
@@ -131,9 +132,10 @@ fn moves_touch_few_squares(rt: HostRuntime) {
     for text in ["e5", "d6", "d5"] {
         passing = passing.with(square(text).0);
     }
-    assert_eq!(rt;
+    expect_eq(
+        &rt,
         touched(&rules, &p, &go("e5", "d6", Promo::Stays, None)),
-        passing
+        passing,
     );
-    assert_eq!(rt; touched(&rules, &p, &castle()).count(), 4);
+    expect_eq(&rt, touched(&rules, &p, &castle()).count(), 4);
 }

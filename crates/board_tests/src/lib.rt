@@ -7,6 +7,8 @@ mod attacks;
 #[cfg(test)]
 mod ends;
 #[cfg(test)]
+mod expect;
+#[cfg(test)]
 mod facts;
 #[cfg(test)]
 mod helpers;

@@ -1,9 +1,9 @@
 //! Tests of `move_text`.
+use crate::expect::{expect, expect_eq};
 use move_text::{move_key, write_move};
 use rules_model::{Kind, Move, Placed, Promo, Square};
 use std::alloc::{AllocError, Global};
 use std::process::Abort;
-use std::test::Fail;
 
 fn go(from: u8, to: u8, promo: Promo, gate: Option<Kind>) -> Move {
     Move::Go {
@@ -57,7 +57,7 @@ fn texts_of(alloc: Global, moves: &[Move]) -> Result<Vec<u8>, AllocError> {
 
 // Squares are 12 * rank + file, both counted from 0: e2 is 16.
 #[test]
-fn texts_of_moves(rt: HostRuntime) -> Result<(), Fail> {
+fn texts_of_moves(rt: HostRuntime) {
     let moves = [
         plain(16, 40),
         plain(108, 119),
@@ -68,14 +68,13 @@ fn texts_of_moves(rt: HostRuntime) -> Result<(), Fail> {
         go(1, 26, Promo::Plus, Some(Kind(4))),
         go(255, 254, Promo::Pawn(Kind(255)), Some(Kind(26))),
     ];
-    let told = texts_of(rt.alloc(), &moves)?;
+    let told = texts_of(rt.alloc(), &moves).expect(&rt, "no fault");
     let wanted = b"e2e4 a10l10 a10a9 a7a8q a7a8+ b1c3e b1c3+e d22c22va ";
-    assert!(rt; told.as_slice() == wanted.as_slice());
-    Ok(())
+    expect(&rt, told.as_slice() == wanted.as_slice());
 }
 
 #[test]
-fn texts_of_castles_and_drops(rt: HostRuntime) -> Result<(), Fail> {
+fn texts_of_castles_and_drops(rt: HostRuntime) {
     let moves = [
         castle(None),
         castle(hawk_at(4)),
@@ -83,9 +82,11 @@ fn texts_of_castles_and_drops(rt: HostRuntime) -> Result<(), Fail> {
         drop_of(PAWN, 40),
         drop_of(QUEEN, 108),
     ];
-    let told = texts_of(rt.alloc(), &moves)?;
-    assert!(rt; told.as_slice() == b"e1g1 e1g1h h1e1h P@e4 Q@a10 ".as_slice());
-    Ok(())
+    let told = texts_of(rt.alloc(), &moves).expect(&rt, "no fault");
+    expect(
+        &rt,
+        told.as_slice() == b"e1g1 e1g1h h1e1h P@e4 Q@a10 ".as_slice(),
+    );
 }
 
 /// Asserts that the key of each move is greater than those before it.
@@ -124,6 +125,6 @@ fn keys_are_in_the_order_of_texts(rt: HostRuntime) {
     ];
     rise(&rt, &back);
     // e2e4, and moves of one text
-    assert_eq!(rt; move_key(&plain(16, 40)), 0x6532_6534_0000_0000);
-    assert_eq!(rt; move_key(&plain(4, 6)), move_key(&castle(None)));
+    expect_eq(&rt, move_key(&plain(16, 40)), 0x6532_6534_0000_0000);
+    expect_eq(&rt, move_key(&plain(4, 6)), move_key(&castle(None)));
 }

@@ -1,4 +1,5 @@
 //! Tests of `move_names`.
+use crate::expect::expect_of;
 use move_names::read_move;
 use move_text::write_move;
 use rules_model::{Move, Promo};
@@ -13,19 +14,21 @@ fn texts_name_moves_legal_or_not(rt: HostRuntime) {
     ];
     for text in named {
         match read_move(&rules, &rules.start, text.as_bytes()) {
-            Some(m) => assert!(&rt;
+            Some(m) => expect_of(
+                &rt,
+                &text,
                 write_move(&m).items.as_slice() == text.as_bytes(),
-                "{text}"
             ),
-            None => assert!(&rt; false, "{text}"),
+            None => expect_of(&rt, &text, false),
         }
     }
     for text in [
         "", "e4e5", "e7e5", "b1c3+", "b1c3hh", "a2a3+", "e2", "e2e4x1", "e@f3", "E@f0", "e2m4",
     ] {
-        assert!(&rt;
+        expect_of(
+            &rt,
+            &text,
             read_move(&rules, &rules.start, text.as_bytes()).is_none(),
-            "{text}"
         );
     }
 }
@@ -35,7 +38,7 @@ fn castles_and_gates_are_told_apart(rt: HostRuntime) {
     let rules = shouse();
     for text in ["e1g1", "e1c1", "e1g1h", "h1e1e", "a1e1h"] {
         let m = read_move(&rules, &rules.start, text.as_bytes());
-        assert!(&rt; matches!(m, Some(Move::Castle { .. })), "{text}");
+        expect_of(&rt, &text, matches!(m, Some(Move::Castle { .. })));
     }
     for text in ["e1f1", "h1e1", "e1g2"] {
         let m = read_move(&rules, &rules.start, text.as_bytes());
@@ -47,6 +50,6 @@ fn castles_and_gates_are_told_apart(rt: HostRuntime) {
                 ..
             })
         );
-        assert!(&rt; stays, "{text}");
+        expect_of(&rt, &text, stays);
     }
 }

@@ -3,6 +3,7 @@ ghost use Rattle.std.specs.Prelude.{◌<◌};
 ghost use Rattle.rules_model.specs.Fit.{IsFit};
 ghost use Rattle.rules_model.specs.Moves.{IsFitMove};
 
+use crate::expect::{expect_eq, expect_of};
 use crate::helpers::{go, quiet};
 use next_position::{
     count_check, make_but_checks, make_move, move_pieces, sound_positions_take_moves,
@@ -68,10 +69,10 @@ fn leads_to<R: Abort>(rt: &R, rules: &Rules, p: &Position, m: &Move, next: &Posi
     sound_positions_take_moves();
     let mut cells = p.cells;
     move_pieces(rules, p, m, &mut cells);
-    assert!(rt; cells == next.cells, "{m:?}");
+    expect_of(rt, &m, cells == next.cells);
     let mut made = *p;
     make_move(rules, &mut made, m);
-    assert!(rt; made == *next, "{m:?}");
+    expect_of(rt, &m, made == *next);
 }
 
 /// The checks that White has left after it gave one, or not.
@@ -89,13 +90,13 @@ fn checks_are_counted_last(rt: HostRuntime) {
     assert!(rt; sound(&rules, &p));
     sound_positions_take_moves();
     make_but_checks(&rules, &mut p, &quiet("a1", "a8"));
-    assert_eq!(rt; (p.side, p.checks), (Side::Black, [3, 3]));
+    expect_eq(&rt, (p.side, p.checks), (Side::Black, [3, 3]));
     let left = [
         checks_after(&p, 3, false),
         checks_after(&p, 3, true),
         checks_after(&p, 0, true),
     ];
-    assert_eq!(rt; left, [3, 2, 0]);
+    expect_eq(&rt, left, [3, 2, 0]);
 }
 
 // The gates of the king are those of the file e, and of the rooks those of the files a and h, or b and g.

@@ -2,6 +2,7 @@
 ghost use Rattle.std.specs.Prelude.{◌≤◌, ◌<◌};
 ghost use Rattle.rules_model.specs.Moves.{IsFitMove};
 
+use crate::expect::{expect_eq, expect_of};
 use crate::helpers::{castle, go, quiet, set_of};
 use board_sets::sets_of;
 use rules_model::{Move, Position, Promo, Side, Square};
@@ -33,7 +34,7 @@ fn leads_to<R: Abort>(rt: &R, pieces: &str, m: &Move, own: &str, enemies: &str, 
     let sets = sets_of(&rules, &p.cells, p.side).after(&rules, &p, m);
     let found = [sets.own, sets.enemies, sets.kings, sets.enemy_kings];
     let wanted = [set_of(own), set_of(enemies), set_of(kings), set_of("d8")];
-    assert_eq!(rt; found, wanted, "{m:?}");
+    expect_of(rt, &m, found == wanted);
 }
 
 #[test]
@@ -52,7 +53,7 @@ fn sets_are_those_of_the_board(rt: HostRuntime) {
         (white.occupied(), "e1 e4 e5 d8 d5 h5"),
     ];
     for (row, (set, squares)) in rows.iter().enumerate() {
-        assert_eq!(rt; *set, set_of(squares), "row {row}");
+        assert!(rt; *set == set_of(squares), "row {row}");
     }
 }
 
@@ -61,12 +62,12 @@ fn sets_are_turned_and_put(rt: HostRuntime) {
     let rules = chess();
     let p = position("Ke1 Pe4 Ke5 kd8 pd5 qh5");
     let white = sets_of(&rules, &p.cells, Side::White);
-    assert_eq!(rt; white.turned(), sets_of(&rules, &p.cells, Side::Black));
+    expect_eq(&rt, white.turned(), sets_of(&rules, &p.cells, Side::Black));
     let empty = white.put(&rules, Side::White, square("d8"), None);
     let found = [empty.enemies, empty.enemy_kings];
-    assert_eq!(rt; found, [set_of("d5 h5"), EMPTY]);
+    expect_eq(&rt, found, [set_of("d5 h5"), EMPTY]);
     let beyond = white.put(&rules, Side::White, Square(120), p.cells[0]);
-    assert_eq!(rt; beyond, white);
+    expect_eq(&rt, beyond, white);
 }
 
 #[test]
@@ -96,7 +97,7 @@ fn leaves_pawns<R: Abort>(rt: &R, pieces: &str, m: &Move, pawns: &str)
         ..position(pieces)
     };
     let sets = sets_of(&rules, &p.cells, p.side).after(&rules, &p, m);
-    assert_eq!(rt; sets.pawns, set_of(pawns), "{m:?}");
+    expect_of(rt, &m, sets.pawns == set_of(pawns));
 }
 
 // A pawn that is taken in passing is gone, one that promotes is none, and one that is dropped is there.

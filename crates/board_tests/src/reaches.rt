@@ -1,6 +1,7 @@
 //! Tests of what a piece reaches by `rules_model`'s plain program.
 ghost use Rattle.std.specs.Prelude.{◌<◌};
 
+use crate::expect::expect_eq;
 use rules_model::{Board, Cell, Kind, SQUARES, Side, Square, Term, Way, reaches_plain};
 
 const EMPTY: [Option<Cell>; SQUARES] = [None; SQUARES];
@@ -43,7 +44,7 @@ fn leaps(rt: HostRuntime) {
         goes(Side::White, (2, 1), Way::Lame, 1, Square::at(5, 4)),
         goes(Side::White, (0, 3), Way::Lame, 1, Square::at(3, 6)),
     ];
-    assert_eq!(rt; found, [true, false, true, false, true, false, false]);
+    expect_eq(&rt, found, [true, false, true, false, true, false, false]);
 }
 
 /// Whether White's piece goes up the file to the rank.
@@ -61,12 +62,12 @@ fn lines(rt: HostRuntime) {
         goes_up(Way::Slide, 1, 5),
         goes(Side::White, (-3, 0), Way::Slide, 11, Square::at(0, 3)),
     ];
-    assert_eq!(rt; slides, [true, false, false, true]);
+    expect_eq(&rt, slides, [true, false, false, true]);
     let hops = [
         goes_up(Way::Hop, 11, 7),
         goes_up(Way::Hop, 11, 8),
         goes_up(Way::Grass, 11, 6),
         goes_up(Way::Grass, 11, 7),
     ];
-    assert_eq!(rt; hops, [true, false, true, false]);
+    expect_eq(&rt, hops, [true, false, true, false]);
 }

@@ -1,6 +1,7 @@
 //! Tests of `sample_rules`, and of `rules_model` by its variants.
 ghost use Rattle.rules_model.specs.Fit.{IsFit};
 
+use crate::expect::{expect, expect_eq, expect_eq_at, expect_of};
 use rules_model::attacks::{flies_to, pawn_could_take};
 use rules_model::castling::{
     CastleSquares, castle_of, castling_on, castling_square, has_gate, holds_right, rook_file,
@@ -27,12 +28,13 @@ fn squares_are_named(rt: HostRuntime) {
         square("l1"),
         square("i10"),
     ];
-    assert_eq!(rt;
+    expect_eq(
+        &rt,
         found,
-        [Square(0), Square(40), Square(91), Square(11), Square(116)]
+        [Square(0), Square(40), Square(91), Square(11), Square(116)],
     );
     for text in "m1 a11 a0  e".split(' ') {
-        assert_eq!(rt; square(text).0, 0, "{text}");
+        expect_eq_at(&rt, text, square(text).0, 0);
     }
 }
 
@@ -60,7 +62,7 @@ fn positions_are_placed(rt: HostRuntime) {
         ("Ke1 1a2 Q", &[king]),
     ];
     for (text, pieces) in rows {
-        assert!(rt; has_pieces(&position(text), pieces), "{text}");
+        expect_of(&rt, &text, has_pieces(&position(text), pieces));
     }
 }
 
@@ -69,7 +71,7 @@ fn expect_start(rt: &impl Abort, rules: &Rules, pieces: usize)
     requires { IsFit rules.now }
 {
     assert!(rt; sound(rules, &rules.start));
-    assert_eq!(rt; rules.start.cells.iter().flatten().count(), pieces);
+    expect_eq(rt, rules.start.cells.iter().flatten().count(), pieces);
 }
 
 #[test]
@@ -80,7 +82,7 @@ fn starts_are_sound(rt: HostRuntime) {
     expect_start(&rt, &shouse(), 32);
     expect_start(&rt, &generals(), 9);
     expect_start(&rt, &xiangqi(), 32);
-    assert!(rt; leapers().start == position("Kd1 Cf1 Ng1 nb8 cc8 ke8"));
+    expect(&rt, leapers().start == position("Kd1 Cf1 Ng1 nb8 cc8 ke8"));
 }
 
 /// White: king e1, rooks a1 and h1 with both rights, pawn e4. Black: king e8, pawn d5.
@@ -107,7 +109,7 @@ fn expect_attacks(rt: &impl Abort, by: Side, squares: &str, attacked: bool) {
     let rules = chess();
     let p = castling_side();
     for to in squares.split(' ') {
-        assert!(rt; attacks(&rules, &p, by, to) == [attacked; 2], "{to}");
+        expect_of(rt, &to, attacks(&rules, &p, by, to) == [attacked; 2]);
     }
 }
 
@@ -130,12 +132,12 @@ fn pawns_attack(rt: HostRuntime) {
         pawn_could_take(&rules, &safe.cells, Side::White, square("e8")),
         pawn_could_take(&rules, &safe.cells, Side::White, square("d8")),
     ];
-    assert_eq!(rt; found, [false, true, false, true]);
+    expect_eq(&rt, found, [false, true, false, true]);
 }
 
 /// The position is sound by the rules of chess, or not.
 fn expect_sound(rt: &impl Abort, p: &Position, is_sound: bool, name: &str) {
-    assert_eq!(rt; sound(&chess(), p), is_sound, "{name}");
+    expect_eq_at(rt, name, sound(&chess(), p), is_sound);
 }
 
 #[test]
@@ -174,7 +176,7 @@ fn rights_and_marks_are_sound(rt: HostRuntime) {
 /// Asserts that the position is not sound, and whether its repeat is that of the start.
 fn expect_fault(rt: &impl Abort, p: &Position, is_repeat: bool) {
     expect_sound(rt, p, false, "a fault");
-    assert_eq!(rt; repeat_of(p) == repeat_of(&castling_side()), is_repeat);
+    expect_eq(rt, repeat_of(p) == repeat_of(&castling_side()), is_repeat);
 }
 
 #[test]
@@ -198,8 +200,8 @@ fn castling_is_read(rt: HostRuntime) {
         rook_file(&rules, &p.cells, Side::White, Wing::Queenside),
         rook_file(&rules, &p.cells, Side::Black, Wing::Kingside),
     ];
-    assert_eq!(rt; files, [Some(7), Some(0), None]);
-    assert_eq!(rt; castling_square(&rules, Side::Black, 2), square("c8"));
+    expect_eq(&rt, files, [Some(7), Some(0), None]);
+    expect_eq(&rt, castling_square(&rules, Side::Black, 2), square("c8"));
     if castling_on(&rules) {
         let castle = castle_of(&rules, &p.cells, Side::White, Wing::Queenside);
         let squares = CastleSquares {
@@ -208,7 +210,7 @@ fn castling_is_read(rt: HostRuntime) {
             rook: square("a1"),
             rook_to: square("d1"),
         };
-        assert_eq!(rt; castle, Some(squares));
+        expect_eq(&rt, castle, Some(squares));
     }
 }
 
@@ -224,14 +226,14 @@ fn rules_are_read(rt: HostRuntime) {
         masks(&rules.castle_rooks, rook),
         in_region(&rules.promotion, white, a8),
     ];
-    assert_eq!(rt; found, [true; 5]);
+    expect_eq(&rt, found, [true; 5]);
     let found = [
         has_kind(&rules, kind(b'a')),
         names(rules.flag_kind, king),
         masks(&rules.castle_rooks, pawn),
         in_region(&rules.promotion, black, a8),
     ];
-    assert_eq!(rt; found, [false; 4]);
+    expect_eq(&rt, found, [false; 4]);
 }
 
 #[test]
@@ -243,7 +245,7 @@ fn rights_and_gates_are_read(rt: HostRuntime) {
         has_gate(&[5, 0], Side::White, 2),
         has_gate(&[5, 0], Side::White, 1),
     ];
-    assert_eq!(rt; found, [true, false, true, false]);
+    expect_eq(&rt, found, [true, false, true, false]);
 }
 
 #[test]
@@ -260,7 +262,7 @@ fn sizes_and_hands_are_read(rt: HostRuntime) {
         in_hand(&p.hands, Side::White, kind(b'r')),
         in_hand(&shouse().start.hands, Side::Black, kind(b'h')),
     ];
-    assert_eq!(rt; found, [4, 3, 4, 5, 0, 1]);
+    expect_eq(&rt, found, [4, 3, 4, 5, 0, 1]);
 }
 
 #[test]
@@ -275,7 +277,7 @@ fn movement_is_read(rt: HostRuntime) {
         kind_takes(&rules, &cells, white, rook, a1, square("a8")),
         kind_takes(&rules, &cells, white, rook, a1, e4),
     ];
-    assert_eq!(rt; found, [true, false, false, true, false]);
+    expect_eq(&rt, found, [true, false, false, true, false]);
 }
 
 #[test]
@@ -288,7 +290,7 @@ fn soldiers_are_held_back(rt: HostRuntime) {
         (Side::Black, "e5", false),
     ] {
         let found = is_held_back(&rules, side, kind(b'p'), square(at));
-        assert_eq!(rt; found, held, "{at}");
+        expect_eq_at(&rt, at, found, held);
     }
 }
 
@@ -302,7 +304,7 @@ fn kings_keep_to_palaces(rt: HostRuntime) {
         (Side::Black, "f7", false),
     ] {
         let found = in_mobility(&rules, side, kind(b'k'), square(at));
-        assert_eq!(rt; found, inside, "{at}");
+        expect_eq_at(&rt, at, found, inside);
     }
 }
 
@@ -315,10 +317,10 @@ fn kings_face_each_other(rt: HostRuntime) {
         ("Ke1 kd10", false),
     ] {
         let found = flies_to(&xiangqi(), &position(pieces).cells, Side::White, to);
-        assert_eq!(rt; found, faces, "{pieces}");
+        expect_eq_at(&rt, pieces, found, faces);
     }
     let cells = position("Ke1 ke8").cells;
-    assert!(rt; !flies_to(&chess(), &cells, Side::White, square("e8")));
+    expect(&rt, !flies_to(&chess(), &cells, Side::White, square("e8")));
 }
 
 /// Whether the kind goes from the one square to the other, to take where a piece is there.

@@ -1,5 +1,5 @@
 //! Tests of `move_sink`.
-use foundation::Memory;
+use crate::expect::expect_eq;
 use move_sink::MoveSink;
 use rules_model::{Kind, Move, MoveList, Square};
 
@@ -19,11 +19,14 @@ fn give_two<S: MoveSink>(out: &mut S) -> Result<(), S::Full> {
 }
 
 #[test]
-fn a_list_takes_moves_in_their_order(rt: HostRuntime) -> Result<(), Memory> {
+fn a_list_takes_moves_in_their_order(rt: HostRuntime) {
     let mut list = MoveList {
         items: Vec::new(rt.alloc()),
     };
-    give_two(&mut list)?;
-    assert_eq!(rt; list.items.as_slice(), [drop_to(0), drop_to(1)].as_slice());
-    Ok(())
+    give_two(&mut list).expect(&rt, "no fault");
+    expect_eq(
+        &rt,
+        list.items.as_slice(),
+        [drop_to(0), drop_to(1)].as_slice(),
+    );
 }

@@ -1,4 +1,5 @@
 //! Tests of `square_set`.
+use crate::expect::expect_eq;
 use square_set::{BOARD, EMPTY, Set, Shift};
 
 fn set_of(squares: &[u8]) -> Set {
@@ -24,10 +25,10 @@ fn sets_are_joined_and_cut(rt: HostRuntime) {
         (low.without(119), &[0, 5, 64]),
     ];
     for (set, squares) in rows {
-        assert_eq!(rt; set, set_of(squares));
+        expect_eq(&rt, set, set_of(squares));
     }
     for square in 0..128 {
-        assert_eq!(rt; low.has(square), [0, 5, 64].contains(&square));
+        expect_eq(&rt, low.has(square), [0, 5, 64].contains(&square));
     }
 }
 
@@ -44,12 +45,12 @@ fn squares_are_taken_in_order(rt: HostRuntime) {
     for (squares, first, count) in rows {
         let set = set_of(squares);
         let found = (set.first(), set.count(), set.is_empty());
-        assert_eq!(rt; found, (first, count, count == 0));
+        expect_eq(&rt, found, (first, count, count == 0));
         let mut rest = set;
         for square in squares {
-            assert_eq!(rt; rest.take_first(), Some(*square));
+            expect_eq(&rt, rest.take_first(), Some(*square));
         }
-        assert_eq!(rt; (rest.take_first(), rest), (None, EMPTY));
+        expect_eq(&rt, (rest.take_first(), rest), (None, EMPTY));
     }
 }
 
@@ -65,12 +66,12 @@ fn a_shift_leads_each_square_on(rt: HostRuntime) {
         (set.shifted(Shift::Down(119)), &[0]),
     ];
     for (shifted, squares) in rows {
-        assert_eq!(rt; shifted, set_of(squares));
+        expect_eq(&rt, shifted, set_of(squares));
     }
     let origins = [Shift::Up(12).origin(23), Shift::Down(12).origin(52)];
-    assert_eq!(rt; origins, [11, 64]);
+    expect_eq(&rt, origins, [11, 64]);
     let shifts = [Shift::Up(12).back(), Shift::Down(12).twice()];
-    assert_eq!(rt; shifts, [Shift::Down(12), Shift::Down(24)]);
+    expect_eq(&rt, shifts, [Shift::Down(12), Shift::Down(24)]);
 }
 
 #[test]
@@ -79,8 +80,8 @@ fn all_squares_of_the_largest_board_are_120(rt: HostRuntime) {
     for square in 0..120 {
         all = all.with(square);
     }
-    assert_eq!(rt; all, BOARD);
-    assert_eq!(rt; (all.count(), all.first()), (120, Some(0)));
+    expect_eq(&rt, all, BOARD);
+    expect_eq(&rt, (all.count(), all.first()), (120, Some(0)));
 }
 
 // Of 40 and 90: up to 40 where numbers rise, from 90 on where they fall. Of none, all squares.
@@ -101,7 +102,7 @@ fn a_cover_ends_with_the_first(rt: HostRuntime) {
         let cover = set_of(squares).cover(rising);
         for square in 0..128 {
             let is_covered = low <= square && square <= high;
-            assert_eq!(rt; cover.has(square), is_covered, "{square} of {squares:?}");
+            assert!(rt; cover.has(square) == is_covered, "{square} of {squares:?}");
         }
     }
 }

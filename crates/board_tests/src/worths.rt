@@ -3,6 +3,7 @@ ghost use Rattle.std.specs.Prelude.{◌<◌};
 ghost use Rattle.rules_model.specs.Fit.{IsFit};
 ghost use Rattle.rules_model.specs.Moves.{IsFitMove};
 
+use crate::expect::expect_eq;
 use crate::helpers::go;
 use evaluation::{Tally, Worths, evaluate};
 use next_position::{make_move, sound_positions_take_moves};
@@ -23,20 +24,20 @@ fn worths_of_kinds(rt: HostRuntime) {
         (b'x', 20),
     ];
     for (letter, worth) in rows {
-        assert_eq!(rt; worths.kind(kind(letter)), worth);
+        expect_eq(&rt, worths.kind(kind(letter)), worth);
     }
     // a cannon has four slides that do not take, each half of 120, and four hops that take alone, each half of 60; a
     // horse has eight steps that can be blocked, of 25
     let eastern = Worths::of(&xiangqi());
-    assert_eq!(rt; eastern.kind(kind(b'c')), 380);
-    assert_eq!(rt; eastern.kind(kind(b'n')), 220);
+    expect_eq(&rt, eastern.kind(kind(b'c')), 380);
+    expect_eq(&rt, eastern.kind(kind(b'n')), 220);
 }
 
 #[test]
 fn values_by_hand(rt: HostRuntime) {
     let rules = chess();
     let start = rules.start;
-    assert_eq!(rt; evaluate(&rules, &start), 0);
+    expect_eq(&rt, evaluate(&rules, &start), 0);
     let rows = [
         ("Ke1 ke8 Nc3", Side::White, 316),
         ("Ke1 ke8 Nc3", Side::Black, -316),
@@ -48,20 +49,20 @@ fn values_by_hand(rt: HostRuntime) {
             side,
             ..position(pieces)
         };
-        assert_eq!(rt; evaluate(&rules, &p), value);
+        expect_eq(&rt, evaluate(&rules, &p), value);
     }
     // pieces in hands count too, and the sum is clamped
     let full = Position {
         hands: [[200; 26], [0; 26]],
         ..start
     };
-    assert_eq!(rt; evaluate(&rules, &full), 30000);
-    assert_eq!(rt; Tally::of(&rules, &full).value(Side::Black), -30000);
+    expect_eq(&rt, evaluate(&rules, &full), 30000);
+    expect_eq(&rt, Tally::of(&rules, &full).value(Side::Black), -30000);
     let held = Position {
         hands: [hand_of(b"nq"), hand_of(b"p")],
         ..start
     };
-    assert_eq!(rt; evaluate(&rules, &held), 1000);
+    expect_eq(&rt, evaluate(&rules, &held), 1000);
 }
 
 /// Asserts that the sums after the move are those of the position after it.
@@ -75,8 +76,8 @@ fn goes_along<R: Abort>(rt: &R, rules: &Rules, p: &Position, m: &Move)
     make_move(rules, &mut next, m);
     let tally = Tally::of(rules, p);
     let after = Tally::of(rules, &next);
-    assert_eq!(rt; tally.after(rules, p, m), after);
-    assert_eq!(rt; Worths::of(rules).tally_after(tally, rules, p, m), after);
+    expect_eq(rt, tally.after(rules, p, m), after);
+    expect_eq(rt, Worths::of(rules).tally_after(tally, rules, p, m), after);
 }
 
 /// White's short castle, with a piece placed on the king's square.

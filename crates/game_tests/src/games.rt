@@ -1,11 +1,11 @@
 //! Tests of `game_play`.
+use crate::expect::{expect, expect_eq, expect_eq_at, expect_of};
 use crate::helpers::{KINGS, QUEEN, ROUND, at_count, chess_game, go};
 use game_play::{Game, NothingPlayed, PlayFault};
 use rules_model::{Blocked, Cause, Outcome, Position, Side, repeat_of};
 use sample_rules::{chess, position};
 use std::alloc::Global;
 use std::process::Abort;
-use std::test::Fail;
 
 /// Asserts the result of the game of chess from the pieces, at a count of moves.
 fn expect_outcome(
@@ -15,23 +15,22 @@ fn expect_outcome(
     counter: u16,
     moves: &str,
     outcome: Outcome,
-) -> Result<(), Fail> {
-    let game = chess_game(rt, alloc, &at_count(pieces, counter), moves)?;
-    assert_eq!(rt; game.outcome(), outcome, "{moves}");
-    Ok(())
+) {
+    let game = chess_game(rt, alloc, &at_count(pieces, counter), moves);
+    expect_eq_at(rt, moves, game.outcome(), outcome);
 }
 
 // The start is the first of three positions. Checkmate comes before the move count, and so does stalemate.
 #[test]
-fn results(rt: HostRuntime) -> Result<(), Fail> {
+fn results(rt: HostRuntime) {
     let alloc = rt.alloc();
     let twice = "e1d1 e8d8 d1e1 d8e8 e1d1 e8d8 d1e1";
     let thrice = "e1d1 e8d8 d1e1 d8e8 e1d1 e8d8 d1e1 d8e8";
     let repetition = Outcome::Drawn(Cause::Repetition);
     let mate = Outcome::Won(Side::White, Cause::Checkmate);
-    expect_outcome(&rt, alloc, KINGS, 0, twice, Outcome::Ongoing)?;
-    expect_outcome(&rt, alloc, KINGS, 0, thrice, repetition)?;
-    expect_outcome(&rt, alloc, QUEEN, 99, "", Outcome::Ongoing)?;
+    expect_outcome(&rt, alloc, KINGS, 0, twice, Outcome::Ongoing);
+    expect_outcome(&rt, alloc, KINGS, 0, thrice, repetition);
+    expect_outcome(&rt, alloc, QUEEN, 99, "", Outcome::Ongoing);
     expect_outcome(
         &rt,
         alloc,
@@ -39,8 +38,8 @@ fn results(rt: HostRuntime) -> Result<(), Fail> {
         99,
         "g6g5",
         Outcome::Drawn(Cause::MoveCount),
-    )?;
-    expect_outcome(&rt, alloc, QUEEN, 99, "g6g7", mate)?;
+    );
+    expect_outcome(&rt, alloc, QUEEN, 99, "g6g7", mate);
     expect_outcome(
         &rt,
         alloc,
@@ -48,96 +47,84 @@ fn results(rt: HostRuntime) -> Result<(), Fail> {
         99,
         "g6f7",
         Outcome::Drawn(Cause::Stalemate),
-    )
+    );
 }
 
 /// Takes back each of so many moves.
 fn undo_all(rt: &impl Abort, game: &mut Game, plies: usize) {
     for _ply in 0..plies {
-        assert_eq!(rt; game.undo(), Ok(()));
+        expect_eq(rt, game.undo(), Ok(()));
     }
 }
 
 #[test]
-fn moves_are_played_and_taken_back(rt: HostRuntime) -> Result<(), Fail> {
+fn moves_are_played_and_taken_back(rt: HostRuntime) {
     let start = position(KINGS);
-    let mut game = chess_game(&rt, rt.alloc(), &start, ROUND)?;
-    assert_eq!(rt; game.play(&go("e1e3")), Err(PlayFault::Illegal));
+    let mut game = chess_game(&rt, rt.alloc(), &start, ROUND);
+    expect_eq(&rt, game.play(&go("e1e3")), Err(PlayFault::Illegal));
     let lengths = (game.moves().len(), game.history().len());
-    assert_eq!(rt; lengths, (4, 5));
+    expect_eq(&rt, lengths, (4, 5));
     undo_all(&rt, &mut game, 4);
-    assert_eq!(rt; game.undo(), Err(NothingPlayed));
-    assert!(rt; *game.position() == start);
-    assert_eq!(rt; game.repeats(&start), 1);
-    assert_eq!(rt; game.play(&go("e1d1")), Ok(()));
-    assert_eq!(rt; game.repeats(game.position()), 1);
-    Ok(())
+    expect_eq(&rt, game.undo(), Err(NothingPlayed));
+    expect(&rt, *game.position() == start);
+    expect_eq(&rt, game.repeats(&start), 1);
+    expect_eq(&rt, game.play(&go("e1d1")), Ok(()));
+    expect_eq(&rt, game.repeats(game.position()), 1);
 }
 
 #[test]
-fn a_game_knows_its_rules(rt: HostRuntime) -> Result<(), Fail> {
-    let game = chess_game(&rt, rt.alloc(), &position(KINGS), "")?;
+fn a_game_knows_its_rules(rt: HostRuntime) {
+    let game = chess_game(&rt, rt.alloc(), &position(KINGS), "");
     game.is_played();
-    assert_eq!(rt; game.rules().n_fold, 3);
-    assert_eq!(rt; game.tables().rules().n_fold, 3);
-    Ok(())
+    expect_eq(&rt, game.rules().n_fold, 3);
+    expect_eq(&rt, game.tables().rules().n_fold, 3);
 }
 
 /// Asserts that these are the first positions of the game.
 fn expect_first(rt: &impl Abort, blocked: &Blocked, game: &Game) {
     for (repeat, kept) in blocked.items.iter().zip(game.history()) {
-        assert!(rt; *repeat == repeat_of(kept));
+        expect(rt, *repeat == repeat_of(kept));
     }
 }
 
 /// Asserts how often the start stood in the game of the moves, and how many of its first positions are blocked.
-fn expect_repeats(
-    rt: &impl Abort,
-    alloc: Global,
-    moves: &str,
-    count: u32,
-    length: usize,
-) -> Result<(), Fail> {
+fn expect_repeats(rt: &impl Abort, alloc: Global, moves: &str, count: u32, length: usize) {
     let start = position(KINGS);
-    let game = chess_game(rt, alloc, &start, moves)?;
-    let blocked = game.blocked(alloc)?;
+    let game = chess_game(rt, alloc, &start, moves);
+    let blocked = game.blocked(alloc).expect(rt, "no fault");
     let found = (game.repeats(&start), blocked.items.len());
-    assert_eq!(rt; found, (count, length), "{moves}");
+    expect_eq_at(rt, moves, found, (count, length));
     expect_first(rt, &blocked, &game);
-    Ok(())
 }
 
 #[test]
-fn repeats_are_blocked(rt: HostRuntime) -> Result<(), Fail> {
+fn repeats_are_blocked(rt: HostRuntime) {
     let alloc = rt.alloc();
-    expect_repeats(&rt, alloc, "", 1, 0)?;
-    expect_repeats(&rt, alloc, "e1d1 e8d8 d1e1", 1, 0)?;
-    expect_repeats(&rt, alloc, ROUND, 2, 1)?;
-    expect_repeats(&rt, alloc, "e1d1 e8d8 d1e1 d8e8 e1d1", 2, 2)
+    expect_repeats(&rt, alloc, "", 1, 0);
+    expect_repeats(&rt, alloc, "e1d1 e8d8 d1e1", 1, 0);
+    expect_repeats(&rt, alloc, ROUND, 2, 1);
+    expect_repeats(&rt, alloc, "e1d1 e8d8 d1e1 d8e8 e1d1", 2, 2);
 }
 
 /// How many lists of one move, of two and so on go on from the game of the moves.
-fn expect_counts(
-    rt: &impl Abort,
-    alloc: Global,
-    start: &Position,
-    moves: &str,
-    counts: &[u128],
-) -> Result<(), Fail> {
-    let game = chess_game(rt, alloc, start, moves)?;
+fn expect_counts(rt: &impl Abort, alloc: Global, start: &Position, moves: &str, counts: &[u128]) {
+    let game = chess_game(rt, alloc, start, moves);
     for plies in 1..4u8 {
         if let Some(count) = counts.get(plies as usize - 1) {
-            assert_eq!(rt; game.perft(alloc, plies)?, *count, "{plies}");
+            expect_of(
+                rt,
+                &plies,
+                game.perft(alloc, plies).expect(rt, "no fault") == *count,
+            );
         }
     }
-    Ok(())
 }
 
 // A game that is ended by the move count goes on: of the king's squares h7 alone is not attacked.
 #[test]
-fn lists_of_moves_are_counted(rt: HostRuntime) -> Result<(), Fail> {
+fn lists_of_moves_are_counted(rt: HostRuntime) {
     let alloc = rt.alloc();
-    expect_counts(&rt, alloc, &chess().start, "", &[20, 400, 8902])?;
-    expect_counts(&rt, alloc, &at_count(QUEEN, 99), "g6g7", &[0, 0])?;
-    expect_counts(&rt, alloc, &at_count(QUEEN, 99), "g6g5", &[1])
+    expect_counts(&rt, alloc, &chess().start, "", &[20, 400, 8902]);
+    expect_counts(&rt, alloc, &at_count(QUEEN, 99), "g6g7", &[0, 0]);
+    expect_counts(&rt, alloc, &at_count(QUEEN, 99), "g6g5", &[1]);
 }

@@ -1,12 +1,12 @@
 //! Games from short texts of pieces and moves, and a strategy as text.
 ghost use Rattle.rules_model.specs.Fit.{IsFit};
 
+use crate::expect::expect_eq_at;
 use game_play::Game;
 use rules_model::{Move, Position, Promo, Rules, sound};
 use sample_rules::{chess, position, square};
 use std::alloc::Global;
 use std::process::Abort;
-use std::test::Fail;
 
 /// The kings on their squares, and a rook that never moves.
 pub const KINGS: &str = "Ke1 ke8 Ra1";
@@ -46,34 +46,23 @@ pub fn go(text: &str) -> Move {
 pub fn play_all(rt: &impl Abort, game: &mut Game, moves: &str) {
     for text in moves.split(' ') {
         if !text.is_empty() {
-            assert_eq!(rt; game.play(&go(text)), Ok(()), "{text}");
+            expect_eq_at(rt, text, game.play(&go(text)), Ok(()));
         }
     }
 }
 
 /// The game of the moves from the position, by the rules. Asserts that the position is sound and each move legal.
-pub fn game<R: Abort>(
-    rt: &R,
-    alloc: Global,
-    rules: &Rules,
-    start: &Position,
-    moves: &str,
-) -> Result<Game, Fail>
+pub fn game<R: Abort>(rt: &R, alloc: Global, rules: &Rules, start: &Position, moves: &str) -> Game
     requires { IsFit rules.now }
 {
     assert!(rt; sound(rules, start));
-    let mut game = Game::new(alloc, rules, start)?;
+    let mut game = Game::new(alloc, rules, start).expect(rt, "no fault");
     play_all(rt, &mut game, moves);
-    Ok(game)
+    game
 }
 
 /// The game of chess of the moves from the position.
-pub fn chess_game<R: Abort>(
-    rt: &R,
-    alloc: Global,
-    start: &Position,
-    moves: &str,
-) -> Result<Game, Fail> {
+pub fn chess_game<R: Abort>(rt: &R, alloc: Global, start: &Position, moves: &str) -> Game {
     game(rt, alloc, &chess(), start, moves)
 }
 

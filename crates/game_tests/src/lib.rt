@@ -5,6 +5,8 @@
 #[cfg(test)]
 mod certificates;
 #[cfg(test)]
+mod expect;
+#[cfg(test)]
 mod game_lines;
 #[cfg(test)]
 mod games;

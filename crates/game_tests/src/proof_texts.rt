@@ -2,6 +2,7 @@
 ghost use Rattle.std.specs.Prelude.{◌≡◌, IfOk};
 ghost use Rattle.rules_model.specs.Fit.{IsFit};
 
+use crate::expect::expect_eq;
 use crate::helpers::go;
 use foundation::Text;
 use game_play::Game;
@@ -46,12 +47,14 @@ fn number_read(alloc: Global, text: &[u8]) -> u64 {
 }
 
 #[test]
-fn texts_are_read(rt: HostRuntime) -> Result<(), Fail> {
-    let (front, back) = TEXT.split_once("h8g8").ok_or("a move")?;
-    let spoilt = format!(in rt.alloc(); "{front}h8h7{back}")?;
-    assert_eq!(rt; number_read(rt.alloc(), TEXT.as_bytes()), 1);
-    assert_eq!(rt; number_read(rt.alloc(), spoilt.as_bytes()), 9);
-    Ok(())
+fn texts_are_read(rt: HostRuntime) {
+    let (front, back) = TEXT
+        .split_once("h8g8")
+        .ok_or("a move")
+        .expect(&rt, "no fault");
+    let spoilt = format!(in rt.alloc(); "{front}h8h7{back}").expect(&rt, "no fault");
+    expect_eq(&rt, number_read(rt.alloc(), TEXT.as_bytes()), 1);
+    expect_eq(&rt, number_read(rt.alloc(), spoilt.as_bytes()), 9);
 }
 
 /// A parent that takes the queen away, gives its letter to the archbishop and sets options, and a child that gives the
@@ -224,17 +227,25 @@ fn row_of(
     }
 }
 
+/// Whether the proof has the row's moves, attacker, plies and castling.
+fn is_of(proof: &Proof, row: &Row) -> [bool; 4] {
+    let is_black = proof.attacker == Side::Black;
+    let plies = if row.is_played { 2 } else { 0 };
+    [
+        proof.n == row.n,
+        is_black == (row.n == 100),
+        proof.game.moves().len() == plies,
+        proof.game.rules().castling == (row.place == 0),
+    ]
+}
+
 /// Asserts what is written of the row, and that it is read back.
 fn expect_written(rt: &impl Abort, alloc: Global, row: &Row) -> Result<(), Fail> {
     let text = written(alloc, row)?;
     let wanted = format!(in alloc; "{}{}{}", row.rules, row.game, row.body)?;
     assert!(rt; text.items.as_slice() == wanted.as_bytes(), "{}", row.rules);
     let proof = read_proof(alloc, text.items.as_slice()).map_err(|_| "a proof")?;
-    let is_black = proof.attacker == Side::Black;
-    assert!(rt; proof.n == row.n && is_black == (row.n == 100));
-    let plies = proof.game.moves().len();
-    assert!(rt; plies == if row.is_played { 2 } else { 0 });
-    assert!(rt; proof.game.rules().castling == (row.place == 0));
+    expect_eq(rt, is_of(&proof, row), [true; 4]);
     Ok(())
 }
 

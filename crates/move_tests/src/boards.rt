@@ -1,18 +1,17 @@
 //! Tests of `playing`.
+use crate::expect::{expect_eq, expect_of};
 use attack_tables::Tables;
-use foundation::Memory;
 use playing::Board;
 use rules_model::{Cause, MoveList, Outcome, Position, Side, sound};
 use sample_rules::{chess, hand_of, position, shouse, square};
 use std::alloc::Global;
 use std::process::Abort;
-use std::test::Fail;
 
 /// After each legal move all that is kept is what a board that is made anew of the position keeps.
-fn keeps<R: Abort>(rt: &R, alloc: Global, tables: &Tables, p: &Position) -> Result<(), Memory> {
+fn keeps<R: Abort>(rt: &R, alloc: Global, tables: &Tables, p: &Position) {
     assert!(rt; sound(tables.rules(), p));
     let board = Board::new(tables, p);
-    let moves = board.legal_moves(alloc)?;
+    let moves = board.legal_moves(alloc).expect(rt, "no fault");
     assert!(rt; moves.items.len() > 0);
     for m in &moves.items {
         assert!(rt; board.is_legal(m), "{m:?}");
@@ -26,32 +25,30 @@ fn keeps<R: Abort>(rt: &R, alloc: Global, tables: &Tables, p: &Position) -> Resu
             next.repeats(anew.position(), anew.key()),
             next.repeats(p, board.key()),
         ];
-        assert!(rt; found == [true, true, true, true, false], "{m:?}");
+        expect_of(rt, &m, found == [true, true, true, true, false]);
     }
-    Ok(())
 }
 
 // Castles, gates, drops, captures into the hand, en passant and promotions.
 #[test]
-fn boards_are_kept_through_moves(rt: HostRuntime) -> Result<(), Fail> {
+fn boards_are_kept_through_moves(rt: HostRuntime) {
     let rules = shouse();
-    let tables = Tables::new(rt.alloc(), &rules)?;
-    keeps(&rt, rt.alloc(), &tables, &rules.start)?;
+    let tables = Tables::new(rt.alloc(), &rules).expect(&rt, "no fault");
+    keeps(&rt, rt.alloc(), &tables, &rules.start);
     let mut castling = position("Ke1 Rh1 Ra1 ke8 qe7 pe2");
     castling.rights[0] = [true, true];
     castling.gates[0] = 0x91;
     castling.hands[0] = hand_of(b"eh");
-    keeps(&rt, rt.alloc(), &tables, &castling)?;
+    keeps(&rt, rt.alloc(), &tables, &castling);
     let mut pawns = position("Ke1 Pe5 Pa7 kg8 nb8 pd5");
     pawns.ep = Some(square("d6"));
-    keeps(&rt, rt.alloc(), &tables, &pawns)?;
-    Ok(())
+    keeps(&rt, rt.alloc(), &tables, &pawns);
 }
 
 #[test]
-fn ends_of_positions(rt: HostRuntime) -> Result<(), Fail> {
+fn ends_of_positions(rt: HostRuntime) {
     let rules = chess();
-    let tables = Tables::new(rt.alloc(), &rules)?;
+    let tables = Tables::new(rt.alloc(), &rules).expect(&rt, "no fault");
     let mate = Outcome::Won(Side::Black, Cause::Checkmate);
     for (pieces, checked, end) in [
         ("Kh1 qg2 kg3", true, mate),
@@ -66,79 +63,69 @@ fn ends_of_positions(rt: HostRuntime) -> Result<(), Fail> {
             board.own_end(),
             board.end_where(board.any_legal()),
         ];
-        assert!(rt; board.in_check() == checked, "{pieces}");
-        assert!(rt; ends == [Outcome::Ongoing, end, end], "{pieces}");
+        expect_of(&rt, &pieces, board.in_check() == checked);
+        expect_of(&rt, &pieces, ends == [Outcome::Ongoing, end, end]);
     }
-    Ok(())
 }
 
 /// Asserts that the captures are those of the legal moves that capture, and so many, and the others the rest.
-fn has_captures<R: Abort>(
-    rt: &R,
-    alloc: Global,
-    tables: &Tables,
-    p: &Position,
-    count: usize,
-) -> Result<(), Memory> {
+fn has_captures<R: Abort>(rt: &R, alloc: Global, tables: &Tables, p: &Position, count: usize) {
     assert!(rt; sound(tables.rules(), p));
     let board = Board::new(tables, p);
-    let legal = board.known().legal_moves(alloc)?;
+    let legal = board.known().legal_moves(alloc).expect(rt, "no fault");
     let mut taking = MoveList {
         items: Vec::new(alloc),
     };
-    board.push_captures(&mut taking)?;
-    assert_eq!(rt; taking.items.len(), count);
+    board.push_captures(&mut taking).expect(rt, "no fault");
+    expect_eq(rt, taking.items.len(), count);
     let mut others = MoveList {
         items: Vec::new(alloc),
     };
-    board.push_others(&mut others)?;
+    board.push_others(&mut others).expect(rt, "no fault");
     let listed = others.items.len().saturating_add(count);
-    assert_eq!(rt; listed, legal.items.len());
+    expect_eq(rt, listed, legal.items.len());
     for m in &legal.items {
         let captures = board.is_legal(m) && board.captures(m);
         let listed = [
             taking.items.iter().any(|taken| *taken == *m),
             others.items.iter().any(|other| *other == *m),
         ];
-        assert!(rt; listed == [captures, !captures], "{m:?}");
+        expect_of(rt, &m, listed == [captures, !captures]);
     }
-    Ok(())
 }
 
 // En passant and a promotion on a capture; a king and a rook that may castle, drop or leave a piece behind, and take.
 #[test]
-fn captures_of_positions(rt: HostRuntime) -> Result<(), Fail> {
-    let chess = Tables::new(rt.alloc(), &chess())?;
+fn captures_of_positions(rt: HostRuntime) {
+    let chess = Tables::new(rt.alloc(), &chess()).expect(&rt, "no fault");
     let mut pawns = position("Ke1 Pe5 Pa7 kg8 nb8 pd5");
     pawns.ep = Some(square("d6"));
-    has_captures(&rt, rt.alloc(), &chess, &pawns, 5)?;
-    let shouse = Tables::new(rt.alloc(), &shouse())?;
+    has_captures(&rt, rt.alloc(), &chess, &pawns, 5);
+    let shouse = Tables::new(rt.alloc(), &shouse()).expect(&rt, "no fault");
     let mut castling = position("Ke1 Rh1 Ra1 ke8 pa5 pe2");
     castling.rights[0] = [true, true];
     castling.gates[0] = 0x91;
     castling.hands[0] = hand_of(b"eh");
-    has_captures(&rt, rt.alloc(), &shouse, &castling, 6)?;
-    Ok(())
+    has_captures(&rt, rt.alloc(), &shouse, &castling, 6);
 }
 
 #[test]
-fn moves_of_positions(rt: HostRuntime) -> Result<(), Fail> {
+fn moves_of_positions(rt: HostRuntime) {
     let rules = chess();
-    let tables = Tables::new(rt.alloc(), &rules)?;
+    let tables = Tables::new(rt.alloc(), &rules).expect(&rt, "no fault");
     let p = position("Ke1 Rd1 ke8 pd5 pe4");
     assert!(rt; sound(&rules, &p));
     let board = Board::new(&tables, &p);
     let mut moves = MoveList {
         items: Vec::new(rt.alloc()),
     };
-    board.push_legal(&mut moves)?;
+    board.push_legal(&mut moves).expect(&rt, "no fault");
     let mut captures = 0u32;
     for m in &moves.items {
         if board.is_legal(m) && board.captures(m) {
             captures = captures.saturating_add(1);
         }
     }
-    assert_eq!(rt; (moves.items.len(), captures), (11, 1));
-    assert_eq!(rt; board.count_legal(), 11);
-    Ok(())
+    expect_eq(&rt, (moves.items.len(), captures), (11, 1));
+    expect_eq(&rt, board.count_legal(), 11);
 }

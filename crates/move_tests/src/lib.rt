@@ -4,6 +4,8 @@
 #[cfg(test)]
 mod boards;
 #[cfg(test)]
+mod expect;
+#[cfg(test)]
 mod helpers;
 #[cfg(test)]
 mod legal;

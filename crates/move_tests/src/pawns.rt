@@ -1,6 +1,7 @@
 //! Tests of `pawn_moves`.
 ghost use Rattle.rules_model.specs.Fit.{IsFit};
 
+use crate::expect::{expect_eq_at, expect_of};
 use crate::helpers::{go, halves};
 use attack_tables::Tables;
 use board_sets::sets_of;
@@ -63,51 +64,37 @@ fn move_of(text: &str) -> Move {
 }
 
 /// The pawns' moves are these, each once, and no others.
-fn expect_all(
-    rt: &impl Abort,
-    alloc: Global,
-    rules: &Rules,
-    p: &Position,
-    moves: &str,
-) -> Result<(), Memory>
+fn expect_all(rt: &impl Abort, alloc: Global, rules: &Rules, p: &Position, moves: &str)
     requires fit { IsFit rules.now }
 {
-    let found = moves_of(alloc, rules, p)?;
+    let found = moves_of(alloc, rules, p).expect(rt, "no fault");
     let mut wanted: usize = 0;
     for text in moves.split(' ') {
         if !text.is_empty() {
             let m = move_of(text);
             let is_given = found.items.contains(&m) && is_candidate(rules, p, &m);
-            assert!(rt; is_given, "{text}");
+            expect_of(rt, &text, is_given);
             wanted = wanted.saturating_add(1);
         }
     }
-    assert_eq!(rt; found.items.len(), wanted, "{moves}");
-    Ok(())
+    expect_eq_at(rt, moves, found.items.len(), wanted);
 }
 
 /// Asserts what `expect_all` does of each row: pieces, the en passant square and the moves of this side, which bars
 /// separate.
-fn expect_rows(
-    rt: &impl Abort,
-    alloc: Global,
-    rules: &Rules,
-    side: Side,
-    rows: &str,
-) -> Result<(), Memory>
+fn expect_rows(rt: &impl Abort, alloc: Global, rules: &Rules, side: Side, rows: &str)
     requires fit { IsFit rules.now }
 {
     for row in rows.split('\n') {
         let (pieces, rest) = halves(row);
         let (ep, moves) = halves(rest);
         let p = position_of(pieces, side, ep);
-        expect_all(rt, alloc, rules, &p, moves)?;
+        expect_all(rt, alloc, rules, &p, moves);
     }
-    Ok(())
 }
 
 #[test]
-fn each_move_of_a_pawn_once(rt: HostRuntime) -> Result<(), Memory> {
+fn each_move_of_a_pawn_once(rt: HostRuntime) {
     // after two that take or not: over no piece, and onto none straight forward; one step from another rank, to the
     // edge of the board and no further
     let white = "\
@@ -118,79 +105,79 @@ fn each_move_of_a_pawn_once(rt: HostRuntime) -> Result<(), Memory> {
         Pe3||e3-e4\n\
         Ph4 ni5||h4-h5\n\
         Pe8 nd9||";
-    expect_rows(&rt, rt.alloc(), &chess(), Side::White, white)?;
+    expect_rows(&rt, rt.alloc(), &chess(), Side::White, white);
     let black = "\
         pe7 Nf6||e7-e6 e7-e5 e7-f6\n\
         pe6 Nf7||e6-e5";
-    expect_rows(&rt, rt.alloc(), &chess(), Side::Black, black)
+    expect_rows(&rt, rt.alloc(), &chess(), Side::Black, black);
 }
 
 // En passant, also where an enemy is on the square; promotions, which a pawn may not decline; and a pawn that passes
 // another stays one, whatever it may become by going there.
 #[test]
-fn pawns_pass_and_promote(rt: HostRuntime) -> Result<(), Memory> {
+fn pawns_pass_and_promote(rt: HostRuntime) {
     let white = "\
         Pe5 pd5|d6|e5-e6 e5-d6\n\
         Pe5 nd6|d6|e5-e6 e5-d6\n\
         Pa5 pd5|d6|a5-a6\n\
         Pe7 nd8||e7-e8-n e7-e8-b e7-e8-r e7-e8-q e7-d8-n e7-d8-b e7-d8-r e7-d8-q\n\
         Pe7 nd8|d8|e7-e8-n e7-e8-b e7-e8-r e7-e8-q e7-d8 e7-d8-n e7-d8-b e7-d8-r e7-d8-q";
-    expect_rows(&rt, rt.alloc(), &chess(), Side::White, white)?;
+    expect_rows(&rt, rt.alloc(), &chess(), Side::White, white);
     let black = "\
         pd4 Pe4|e3|d4-d3 d4-e3\n\
         pa2 Nb1||a2-a1-n a2-a1-b a2-a1-r a2-a1-q a2-b1-n a2-b1-b a2-b1-r a2-b1-q";
-    expect_rows(&rt, rt.alloc(), &chess(), Side::Black, black)
+    expect_rows(&rt, rt.alloc(), &chess(), Side::Black, black);
 }
 
 // On the edge files, with pieces where a shift from there would lead beyond the edge; where the second square of a
 // double step is not free, or the first; takes to both sides, and onto no own piece; en passant from both sides, beside
 // pawns that do not pass; a pawn that promotes, and those before.
 #[test]
-fn moves_of_many_pawns(rt: HostRuntime) -> Result<(), Memory> {
+fn moves_of_many_pawns(rt: HostRuntime) {
     let white = "\
         Pa2 Ph2 nl2 ni3||a2-a3 a2-a4 h2-h3 h2-h4\n\
         Pd2 Pe2 nd4 ne3||d2-d3 d2-e3\n\
         Pc4 Pe4 nd5 Nf5||c4-c5 c4-d5 e4-e5 e4-d5\n\
         Pa2 Pd5 Pf5 pe5|e6|a2-a3 a2-a4 d5-d6 d5-e6 f5-f6 f5-e6\n\
         Pa7 Pb6 Pc5||a7-a8-n a7-a8-b a7-a8-r a7-a8-q b6-b7 c5-c6";
-    expect_rows(&rt, rt.alloc(), &chess(), Side::White, white)?;
+    expect_rows(&rt, rt.alloc(), &chess(), Side::White, white);
     let black = "\
         pa7 ph7 Nl5 Ni6||a7-a6 a7-a5 h7-h6 h7-h5\n\
         pd7 pe7 Nd5 Ne6||d7-d6 d7-e6\n\
         pc5 pe5 Nd4 nb4||c5-c4 c5-d4 e5-e4 e5-d4\n\
         ph7 pd4 pf4 Pe4|e3|h7-h6 h7-h5 d4-d3 d4-e3 f4-f3 f4-e3\n\
         pa2 pb3 pc4||a2-a1-n a2-a1-b a2-a1-r a2-a1-q b3-b2 c4-c3";
-    expect_rows(&rt, rt.alloc(), &chess(), Side::Black, black)
+    expect_rows(&rt, rt.alloc(), &chess(), Side::Black, black);
 }
 
 // With pieces, and a square behind a double step, to which a shift from the edge would lead on.
 #[test]
-fn no_move_around_the_edge(rt: HostRuntime) -> Result<(), Memory> {
+fn no_move_around_the_edge(rt: HostRuntime) {
     let white = "\
         Pa6 Pl3 na5 nl6||a6-a7 l3-l4\n\
         Pb5 Pl4 pa5|a6|b5-b6 b5-a6 l4-l5";
-    expect_rows(&rt, rt.alloc(), &wide_chess(), Side::White, white)?;
+    expect_rows(&rt, rt.alloc(), &wide_chess(), Side::White, white);
     let black = "pa7 pl4 Nl5 Na4||a7-a6 a7-a5 l4-l3";
-    expect_rows(&rt, rt.alloc(), &wide_chess(), Side::Black, black)
+    expect_rows(&rt, rt.alloc(), &wide_chess(), Side::Black, black);
 }
 
 // Other kinds to become.
 #[test]
-fn moves_in_other_variants(rt: HostRuntime) -> Result<(), Memory> {
+fn moves_in_other_variants(rt: HostRuntime) {
     let alloc = rt.alloc();
     let step = "Pj2 ni3||j2-j3 j2-j4 j2-i3";
-    expect_rows(&rt, alloc, &capablanca(), Side::White, step)?;
+    expect_rows(&rt, alloc, &capablanca(), Side::White, step);
     let last = "pj2||j2-j1-a j2-j1-c j2-j1-n j2-j1-b j2-j1-r j2-j1-q";
-    expect_rows(&rt, alloc, &capablanca(), Side::Black, last)?;
+    expect_rows(&rt, alloc, &capablanca(), Side::Black, last);
     let promotions = "Pd7||d7-d8-e d7-d8-h d7-d8-n d7-d8-b d7-d8-r d7-d8-q";
-    expect_rows(&rt, alloc, &shouse(), Side::White, promotions)
+    expect_rows(&rt, alloc, &shouse(), Side::White, promotions);
 }
 
 // The soldier is no chess pawn.
 #[test]
-fn variants_without_pawns(rt: HostRuntime) -> Result<(), Memory> {
-    expect_rows(&rt, rt.alloc(), &xiangqi(), Side::White, "Pa4||")?;
-    expect_rows(&rt, rt.alloc(), &leapers(), Side::White, "Pa4||")
+fn variants_without_pawns(rt: HostRuntime) {
+    expect_rows(&rt, rt.alloc(), &xiangqi(), Side::White, "Pa4||");
+    expect_rows(&rt, rt.alloc(), &leapers(), Side::White, "Pa4||");
 }
 
 // In order: an empty diagonal, a third step, backward, sideways, another's pawn, no pawn; a promotion that is missing,
@@ -201,7 +188,7 @@ fn near_misses(rt: HostRuntime) {
     let p = position_of("Pe2 Pb7 Pg5 pc3 nd3", Side::White, "h6");
     let moves = "e2-f3 e2-e5 e2-e1 e2-d2 c3-c2 a1-a2 b7-b8 e2-e3-n b7-b8-p b7-b8-k g5-h6-n";
     for text in moves.split(' ') {
-        assert!(rt; !is_candidate(&rules, &p, &move_of(text)), "{text}");
+        expect_of(&rt, &text, !is_candidate(&rules, &p, &move_of(text)));
     }
     let others = [
         go("b7", "b8", Promo::Plus),
@@ -223,6 +210,6 @@ fn near_misses(rt: HostRuntime) {
         },
     ];
     for m in others {
-        assert!(rt; !is_candidate(&rules, &p, &m), "{m:?}");
+        expect_of(&rt, &m, !is_candidate(&rules, &p, &m));
     }
 }

@@ -2,6 +2,7 @@
 ghost use Rattle.std.specs.Prelude.{◌≡◌};
 ghost use Rattle.rules_model.specs.Fit.{IsFit};
 
+use crate::expect::{expect_eq, expect_eq_at, expect_of};
 use attack_tables::Tables;
 use board_sets::sets_of;
 use foundation::Memory;
@@ -25,16 +26,14 @@ fn count(alloc: Global, rules: &Rules, tables: &Tables, p: &Position) -> Result<
 }
 
 /// Asserts how many moves are given in a variant with drops and gates.
-fn expect_count(
-    rt: &impl Abort,
-    alloc: Global,
-    p: &Position,
-    count_of: usize,
-) -> Result<(), Memory> {
+fn expect_count(rt: &impl Abort, alloc: Global, p: &Position, count_of: usize) {
     let rules = shouse();
-    let tables = Tables::new(alloc, &rules)?;
-    assert_eq!(rt; count(alloc, &rules, &tables, p)?, count_of);
-    Ok(())
+    let tables = Tables::new(alloc, &rules).expect(rt, "no fault");
+    expect_eq(
+        rt,
+        count(alloc, &rules, &tables, p).expect(rt, "no fault"),
+        count_of,
+    );
 }
 
 /// White's castle from e1.
@@ -49,31 +48,25 @@ fn castle(to: &str, rook: &str, gate: Option<Placed>) -> Move {
 
 /// Asserts of White's pieces, with rights by wing, whether White castles short and long, and that no other move is
 /// given.
-fn expect_castles(
-    rt: &impl Abort,
-    alloc: Global,
-    rules: &Rules,
-    row: &(&str, [bool; 2], [bool; 2]),
-) -> Result<(), Memory>
+fn expect_castles(rt: &impl Abort, alloc: Global, rules: &Rules, row: &(&str, [bool; 2], [bool; 2]))
     requires { IsFit rules.now }
 {
     let (pieces, rights, castles) = *row;
     let mut p = position(pieces);
     p.rights[0] = rights;
-    let tables = Tables::new(alloc, rules)?;
+    let tables = Tables::new(alloc, rules).expect(rt, "no fault");
     let found = [
         is_candidate(rules, &tables, &p, &castle("g1", "h1", None)),
         is_candidate(rules, &tables, &p, &castle("c1", "a1", None)),
     ];
-    assert_eq!(rt; found, castles, "{pieces}");
+    expect_eq_at(rt, pieces, found, castles);
     let wanted = usize::from(castles[0]) + usize::from(castles[1]);
-    let given = count(alloc, rules, &tables, &p)?;
-    assert_eq!(rt; given, wanted, "{pieces}");
-    Ok(())
+    let given = count(alloc, rules, &tables, &p).expect(rt, "no fault");
+    expect_eq_at(rt, pieces, given, wanted);
 }
 
 #[test]
-fn castles_of_chess(rt: HostRuntime) -> Result<(), Memory> {
+fn castles_of_chess(rt: HostRuntime) {
     let rows = [
         ("Ke1 Ra1 Rh1 ke8", [true, true], [true, true]),
         ("Ke1 Ra1 Rh1 ke8", [true, false], [true, false]),
@@ -90,9 +83,8 @@ fn castles_of_chess(rt: HostRuntime) -> Result<(), Memory> {
         ("Kd1 Ra1 Rh1 ke8", [true, true], [false, false]),
     ];
     for row in &rows {
-        expect_castles(&rt, rt.alloc(), &chess(), row)?;
+        expect_castles(&rt, rt.alloc(), &chess(), row);
     }
-    Ok(())
 }
 
 /// Whether White, with an elephant in hand, may castle short with a rook from there and place the elephant there.
@@ -115,8 +107,8 @@ fn may_place(tables: &Tables, rook: &str, at: &str) -> bool {
 
 // The rook on f1 stands between the king and its target, and stays there.
 #[test]
-fn castles_with_a_gate(rt: HostRuntime) -> Result<(), Memory> {
-    let tables = Tables::new(rt.alloc(), &shouse())?;
+fn castles_with_a_gate(rt: HostRuntime) {
+    let tables = Tables::new(rt.alloc(), &shouse()).expect(&rt, "no fault");
     // the rook's start, where the elephant is placed, and whether it may be
     let rows = [
         ("h1", "e1", true),
@@ -128,9 +120,8 @@ fn castles_with_a_gate(rt: HostRuntime) -> Result<(), Memory> {
         ("f1", "f1", false),
     ];
     for (rook, at, may) in rows {
-        assert_eq!(rt; may_place(&tables, rook, at), may, "{rook} {at}");
+        assert!(rt; may_place(&tables, rook, at) == may, "{rook} {at}");
     }
-    Ok(())
 }
 
 /// King and knight of White with the gate of b1, and with these pieces in hand.
@@ -153,9 +144,9 @@ fn gated(from: &str, to: &str, gate: Kind) -> Move {
 
 // The king's gate is closed, and no hawk is in hand.
 #[test]
-fn gates_place_what_is_in_hand(rt: HostRuntime) -> Result<(), Memory> {
+fn gates_place_what_is_in_hand(rt: HostRuntime) {
     let rules = shouse();
-    let tables = Tables::new(rt.alloc(), &rules)?;
+    let tables = Tables::new(rt.alloc(), &rules).expect(&rt, "no fault");
     let p = with_gate(b"e");
     let rows = [
         ("b1", "c3", b'e', true),
@@ -164,9 +155,8 @@ fn gates_place_what_is_in_hand(rt: HostRuntime) -> Result<(), Memory> {
     ];
     for (from, to, letter, may) in rows {
         let m = gated(from, to, kind(letter));
-        assert_eq!(rt; is_candidate(&rules, &tables, &p, &m), may, "{m:?}");
+        expect_of(&rt, &m, is_candidate(&rules, &tables, &p, &m) == may);
     }
-    Ok(())
 }
 
 /// A drop of a pawn.
@@ -180,18 +170,18 @@ fn pawn_to(to: &str) -> Move {
 // Of an elephant: 3 moves of the knight, and a drop on each of the 61 empty squares; and with a hawk too, as many
 // again. A pawn is dropped on neither the first rank nor the last, and comes in by no gate.
 #[test]
-fn moves_from_the_hand_are_counted(rt: HostRuntime) -> Result<(), Memory> {
-    expect_count(&rt, rt.alloc(), &with_gate(b"e"), 64)?;
-    expect_count(&rt, rt.alloc(), &with_gate(b"eh"), 128)?;
+fn moves_from_the_hand_are_counted(rt: HostRuntime) {
+    expect_count(&rt, rt.alloc(), &with_gate(b"e"), 64);
+    expect_count(&rt, rt.alloc(), &with_gate(b"eh"), 128);
     let mut p = with_gate(b"p");
     p.gates[0] = 0;
-    expect_count(&rt, rt.alloc(), &p, 48)
+    expect_count(&rt, rt.alloc(), &p, 48);
 }
 
 #[test]
-fn pawns_are_dropped_between_the_last_ranks(rt: HostRuntime) -> Result<(), Memory> {
+fn pawns_are_dropped_between_the_last_ranks(rt: HostRuntime) {
     let rules = shouse();
-    let tables = Tables::new(rt.alloc(), &rules)?;
+    let tables = Tables::new(rt.alloc(), &rules).expect(&rt, "no fault");
     let p = with_gate(b"p");
     let rows = [
         ("e2", true),
@@ -201,13 +191,13 @@ fn pawns_are_dropped_between_the_last_ranks(rt: HostRuntime) -> Result<(), Memor
         ("b1", false),
     ];
     for (to, may) in rows {
-        assert_eq!(rt;
+        expect_eq_at(
+            &rt,
+            to,
             is_candidate(&rules, &tables, &p, &pawn_to(to)),
             may,
-            "{to}"
         );
     }
-    Ok(())
 }
 
 /// Chess with drops where White's second rank and Black's take all that is dropped, and a side has one pawn on a file
@@ -223,27 +213,33 @@ fn second_ranks() -> Rules
 }
 
 #[test]
-fn drops_keep_to_their_region(rt: HostRuntime) -> Result<(), Memory> {
+fn drops_keep_to_their_region(rt: HostRuntime) {
     let rules = second_ranks();
-    let tables = Tables::new(rt.alloc(), &rules)?;
+    let tables = Tables::new(rt.alloc(), &rules).expect(&rt, "no fault");
     let mut p = position("Ke1 Nc2 ke8");
     p.hands[0] = hand_of(b"e");
-    assert_eq!(rt; count(rt.alloc(), &rules, &tables, &p)?, 7);
-    Ok(())
+    expect_eq(
+        &rt,
+        count(rt.alloc(), &rules, &tables, &p).expect(&rt, "no fault"),
+        7,
+    );
 }
 
 // A drop on each square of the region but one, and two moves of the pawn. Neither the pawn of the other side nor the
 // knight takes its file.
 #[test]
-fn a_side_has_one_pawn_on_a_file(rt: HostRuntime) -> Result<(), Memory> {
+fn a_side_has_one_pawn_on_a_file(rt: HostRuntime) {
     let rules = second_ranks();
-    let tables = Tables::new(rt.alloc(), &rules)?;
+    let tables = Tables::new(rt.alloc(), &rules).expect(&rt, "no fault");
     let mut p = position("Ke1 Pe4 pd5 Nc3 ke8");
     p.hands[0] = hand_of(b"p");
     for (to, may) in [("e2", false), ("d2", true), ("c2", true)] {
         let found = is_candidate(&rules, &tables, &p, &pawn_to(to));
-        assert_eq!(rt; found, may, "{to}");
+        expect_eq_at(&rt, to, found, may);
     }
-    assert_eq!(rt; count(rt.alloc(), &rules, &tables, &p)?, 9);
-    Ok(())
+    expect_eq(
+        &rt,
+        count(rt.alloc(), &rules, &tables, &p).expect(&rt, "no fault"),
+        9,
+    );
 }

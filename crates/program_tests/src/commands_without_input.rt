@@ -2,7 +2,6 @@
 use crate::runs::{USAGE_LINE, answers_over_files, refuses, tells};
 use std::process::Abort;
 use std::sync::Wait;
-use std::test::Fail;
 use std::thread::Threads;
 
 /// Asserts where a piece goes from a square of the empty board.
@@ -11,25 +10,25 @@ fn reaches<R: Abort + AllocGlobal + Threads + Wait + Sync>(
     piece: &str,
     square: &str,
     text: &str,
-) -> Result<(), Fail> {
-    tells(rt, &["reach", piece, square], "a line\n", text)
+) {
+    tells(rt, &["reach", piece, square], "a line\n", text);
 }
 
 #[test]
-fn reach_says_where_a_piece_goes(rt: HostRuntime) -> Result<(), Fail> {
-    reaches(&rt, "N", "b1", "quiet d2 a3 c3\ntake -\n")?;
-    reaches(&rt, "G", "d4", "quiet a1 g1 a7 g7\ntake -\n")?;
-    reaches(&rt, "NN", "b1", "quiet d2 a3 c3 f3 h4 d5 e7\ntake -\n")?;
-    tells(&rt, &["reach", "nN", "b1", "b2"], "", "quiet d2\ntake -\n")?;
+fn reach_says_where_a_piece_goes(rt: HostRuntime) {
+    reaches(&rt, "N", "b1", "quiet d2 a3 c3\ntake -\n");
+    reaches(&rt, "G", "d4", "quiet a1 g1 a7 g7\ntake -\n");
+    reaches(&rt, "NN", "b1", "quiet d2 a3 c3 f3 h4 d5 e7\ntake -\n");
+    tells(&rt, &["reach", "nN", "b1", "b2"], "", "quiet d2\ntake -\n");
     let cannon = ["reach", "mRcpR", "a1", "a4", "a7"].as_slice();
     tells(
         &rt,
         cannon,
         "",
         "quiet b1 c1 d1 e1 f1 g1 h1 a2 a3\ntake a7\n",
-    )?;
+    );
     let rook = ["reach", "R", "a1", "none", "b1,a3"].as_slice();
-    tells(&rt, rook, "", "quiet a2\ntake b1 a3\n")
+    tells(&rt, rook, "", "quiet a2\ntake b1 a3\n");
 }
 
 /// Asserts the fault of a piece or a square.
@@ -38,45 +37,45 @@ fn reaches_not<R: Abort + AllocGlobal + Threads + Wait + Sync>(
     piece: &str,
     square: &str,
     text: &str,
-) -> Result<(), Fail> {
-    refuses(rt, &["reach", piece, square], "a line\n", text)
+) {
+    refuses(rt, &["reach", piece, square], "a line\n", text);
 }
 
 #[test]
-fn reach_refuses_pieces(rt: HostRuntime) -> Result<(), Fail> {
-    reaches_not(&rt, "fN", "z9", "error BetzaFault 6 AmbiguousDirection 0\n")?;
+fn reach_refuses_pieces(rt: HostRuntime) {
+    reaches_not(&rt, "fN", "z9", "error BetzaFault 6 AmbiguousDirection 0\n");
     reaches_not(
         &rt,
         "NLJNLJNLJ",
         "a1",
         "error BetzaFault 10 TooManyTerms 8\n",
-    )?;
-    reaches_not(&rt, "", "b1", "error BetzaFault 1 Empty 0\n")?;
-    reaches_not(&rt, "Né", "b1", "error BetzaFault 3 UnknownAtom 1\n")
+    );
+    reaches_not(&rt, "", "b1", "error BetzaFault 1 Empty 0\n");
+    reaches_not(&rt, "Né", "b1", "error BetzaFault 3 UnknownAtom 1\n");
 }
 
 #[test]
-fn reach_refuses_squares(rt: HostRuntime) -> Result<(), Fail> {
-    reaches_not(&rt, "N", "é1", "error ReachFault 1 BadSquare é1\n")?;
+fn reach_refuses_squares(rt: HostRuntime) {
+    reaches_not(&rt, "N", "é1", "error ReachFault 1 BadSquare é1\n");
     let twice = ["reach", "R", "a1", "a2,a1", "i9"].as_slice();
-    refuses(&rt, twice, "", "error ReachFault 2 SquareTwice a1\n")?;
+    refuses(&rt, twice, "", "error ReachFault 2 SquareTwice a1\n");
     let empty = ["reach", "R", "a1", ""].as_slice();
-    refuses(&rt, empty, "", "error ReachFault 1 BadSquare \n")?;
+    refuses(&rt, empty, "", "error ReachFault 1 BadSquare \n");
     let none = ["reach", "R", "a1", "b2,none"].as_slice();
-    refuses(&rt, none, "", "error ReachFault 1 BadSquare none\n")
+    refuses(&rt, none, "", "error ReachFault 1 BadSquare none\n");
 }
 
 #[test]
-fn other_words_are_answered_by_the_usage_line(rt: HostRuntime) -> Result<(), Fail> {
-    answers_over_files(&rt, &["moves", "chess"], "quit\n", 2, USAGE_LINE)?;
-    answers_over_files(&rt, &["--"], "quit\n", 2, USAGE_LINE)?;
-    answers_over_files(&rt, &["--threads", "65", "moves"], "quit\n", 2, USAGE_LINE)?;
-    answers_over_files(&rt, &["perft", "10"], "quit\n", 2, USAGE_LINE)
+fn other_words_are_answered_by_the_usage_line(rt: HostRuntime) {
+    answers_over_files(&rt, &["moves", "chess"], "quit\n", 2, USAGE_LINE);
+    answers_over_files(&rt, &["--"], "quit\n", 2, USAGE_LINE);
+    answers_over_files(&rt, &["--threads", "65", "moves"], "quit\n", 2, USAGE_LINE);
+    answers_over_files(&rt, &["perft", "10"], "quit\n", 2, USAGE_LINE);
 }
 
 /// The texts are those of another program.
 #[test]
-fn random_games_are_generated(rt: HostRuntime) -> Result<(), Fail> {
+fn random_games_are_generated(rt: HostRuntime) {
     let extinction = "generated extinction 718 77\n\
         7r/2p1n3/bpkr1p1p/p2p1ppN/PP1P2P1/2P1P1KP/1B6/R5QR b - - 0 39\n\
         won white extinction\nperft2 0\nvalue2 none\n";
@@ -85,12 +84,12 @@ fn random_games_are_generated(rt: HostRuntime) -> Result<(), Fail> {
         &["generate", "extinction", "718", "300"],
         "",
         extinction,
-    )?;
+    );
     let words = ["generate", "xiangqi", "8942364694563039783", "0"].as_slice();
     let xiangqi = "generated xiangqi 8942364694563039783 0\n\
         rnbakabnr/9/1c5c1/p1p1p1p1p/9/9/P1P1P1P1P/1C5C1/9/RNBAKABNR w - - 0 1\n\
         ongoing\nperft2 1920\nvalue2 0\n";
-    tells(&rt, words, "", xiangqi)?;
+    tells(&rt, words, "", xiangqi);
     let none = "error GameFault 2 UnknownVariant none\n";
-    refuses(&rt, &["generate", "none", "0", "1"], "", none)
+    refuses(&rt, &["generate", "none", "0", "1"], "", none);
 }

@@ -4,7 +4,6 @@ use io_ports::{Files, Given, MemFiles};
 use std::alloc::Global;
 use std::process::Abort;
 use std::sync::Wait;
-use std::test::Fail;
 use std::thread::Threads;
 
 /// Files that fail at every call.
@@ -27,13 +26,15 @@ impl Files for FailingFiles {
 }
 
 /// A file of the most bytes that one may have, all of them comments.
-fn largest_file(alloc: Global) -> Result<Vec<u8>, Fail> {
+fn largest_file(rt: &impl Abort, alloc: Global) -> Vec<u8> {
     let mut bytes = Vec::new(alloc);
     for _ in 0..1024 {
-        bytes.extend_from_slice(&[b'#'; 1023])?;
-        bytes.push(b'\n')?;
+        bytes
+            .extend_from_slice(&[b'#'; 1023])
+            .expect(rt, "no fault");
+        bytes.push(b'\n').expect(rt, "no fault");
     }
-    Ok(bytes)
+    bytes
 }
 
 /// Runs words over these files and a source that fails at its first call, and asserts the status and the text.
@@ -43,45 +44,48 @@ fn fails<R: Abort + AllocGlobal + Threads + Wait + Sync, F: Files>(
     words: &[&str],
     status: u8,
     text: &[u8],
-) -> Result<(), Fail> {
-    let (answered, sink) = ran(rt, files, words, b"chess\n", &[0], 1000)?;
+) {
+    let (answered, sink) = ran(rt, files, words, b"chess\n", &[0], 1000);
     assert_eq!(rt; answered, status);
     assert_eq!(rt; sink.taken(), text);
-    Ok(())
 }
 
 /// Files of variants of the most bytes, and of one more.
-fn large_files(alloc: Global) -> Result<MemFiles, Fail> {
-    let mut files = some_files(alloc)?;
-    let mut bytes = largest_file(alloc)?;
-    files.add(b"largest", bytes.as_slice())?;
-    bytes.push(b'#')?;
-    files.add(b"larger", bytes.as_slice())?;
-    Ok(files)
+fn large_files(rt: &impl Abort, alloc: Global) -> MemFiles {
+    let mut files = some_files(rt, alloc);
+    let mut bytes = largest_file(rt, alloc);
+    files
+        .add(b"largest", bytes.as_slice())
+        .expect(rt, "no fault");
+    bytes.push(b'#').expect(rt, "no fault");
+    files
+        .add(b"larger", bytes.as_slice())
+        .expect(rt, "no fault");
+    files
 }
 
 /// A file that is missing, too large, or no list of sections.
 #[test]
-fn the_file_of_variants_is_judged_before_the_command(rt: HostRuntime) -> Result<(), Fail> {
-    let mut files = large_files(rt.alloc())?;
+fn the_file_of_variants_is_judged_before_the_command(rt: HostRuntime) {
+    let mut files = large_files(&rt, rt.alloc());
     let missing = b"error FileFault 1 Missing\n";
     let reach = ["--variants=none", "reach", "fN", "i9"].as_slice();
-    fails(&rt, &mut files, reach, 6, missing)?;
+    fails(&rt, &mut files, reach, 6, missing);
     let words = ["--variants", "larger", "moves"].as_slice();
-    fails(&rt, &mut files, words, 6, b"error FileFault 2 TooLarge\n")?;
+    fails(&rt, &mut files, words, 6, b"error FileFault 2 TooLarge\n");
     let words = ["--variants", "pair", "moves"].as_slice();
-    fails(&rt, &mut files, words, 3, b"error IniFault 4 NoSection 1\n")?;
+    fails(&rt, &mut files, words, 3, b"error IniFault 4 NoSection 1\n");
     let words = ["--variants", "none", "uci"].as_slice();
-    fails(&rt, &mut files, words, 6, missing)
+    fails(&rt, &mut files, words, 6, missing);
 }
 
 /// The source fails at its first call, so that a command that is reached and reads it has status 4; other words are
 /// refused before the file is read.
 #[test]
-fn the_command_comes_after_the_file_of_variants(rt: HostRuntime) -> Result<(), Fail> {
-    let mut files = large_files(rt.alloc())?;
-    fails(&rt, &mut files, &["--variants", "largest", "moves"], 4, b"")?;
-    fails(&rt, &mut files, &["moves"], 4, b"")?;
+fn the_command_comes_after_the_file_of_variants(rt: HostRuntime) {
+    let mut files = large_files(&rt, rt.alloc());
+    fails(&rt, &mut files, &["--variants", "largest", "moves"], 4, b"");
+    fails(&rt, &mut files, &["moves"], 4, b"");
     let usage = USAGE_LINE.as_bytes();
     fails(
         &rt,
@@ -89,7 +93,7 @@ fn the_command_comes_after_the_file_of_variants(rt: HostRuntime) -> Result<(), F
         &["--variants", "pair", "reach", "N"],
         2,
         usage,
-    )?;
+    );
     let words = ["--variants", "empty", "reach", "N", "i9"].as_slice();
     fails(
         &rt,
@@ -97,14 +101,14 @@ fn the_command_comes_after_the_file_of_variants(rt: HostRuntime) -> Result<(), F
         words,
         3,
         b"error ReachFault 1 BadSquare i9\n",
-    )
+    );
 }
 
 #[test]
-fn files_that_fail_have_a_status(rt: HostRuntime) -> Result<(), Fail> {
+fn files_that_fail_have_a_status(rt: HostRuntime) {
     let mut files = FailingFiles { faults: 0 };
     let words = ["--variants", "f", "moves"].as_slice();
-    fails(&rt, &mut files, words, 6, b"error FileFault 3 Failed\n")
+    fails(&rt, &mut files, words, 6, b"error FileFault 3 Failed\n");
 }
 
 /// Asserts that a file of variants is refused, with this text, before each kind of command: the source, which fails at
@@ -114,38 +118,37 @@ fn refuses_each<R: Abort + AllocGlobal + Threads + Wait + Sync>(
     files: &mut MemFiles,
     name: &str,
     text: &str,
-) -> Result<(), Fail> {
+) {
     let text = text.as_bytes();
-    fails(rt, files, &["--variants", name, "moves"], 3, text)?;
-    fails(rt, files, &["--variants", name, "variants"], 3, text)?;
-    fails(rt, files, &["--variants", name, "uci"], 3, text)?;
-    fails(rt, files, &["--variants", name, "xboard"], 3, text)
+    fails(rt, files, &["--variants", name, "moves"], 3, text);
+    fails(rt, files, &["--variants", name, "variants"], 3, text);
+    fails(rt, files, &["--variants", name, "uci"], 3, text);
+    fails(rt, files, &["--variants", name, "xboard"], 3, text);
 }
 
 /// A line of a file with one byte too many, and a file with one section too many.
-fn add_long_and_many(alloc: Global, files: &mut MemFiles) -> Result<(), Fail> {
+fn add_long_and_many(rt: &impl Abort, alloc: Global, files: &mut MemFiles) {
     let mut long = Vec::new(alloc);
-    long.resize(1025, b'[')?;
+    long.resize(1025, b'[').expect(rt, "no fault");
     let mut many = Vec::new(alloc);
     for _ in 0..513 {
-        many.extend_from_slice(b"[a]\n")?;
+        many.extend_from_slice(b"[a]\n").expect(rt, "no fault");
     }
-    files.add(b"long", long.as_slice())?;
-    files.add(b"many", many.as_slice())?;
-    Ok(())
+    files.add(b"long", long.as_slice()).expect(rt, "no fault");
+    files.add(b"many", many.as_slice()).expect(rt, "no fault");
 }
 
 #[test]
-fn a_faulty_file_of_variants_stops_each_command(rt: HostRuntime) -> Result<(), Fail> {
+fn a_faulty_file_of_variants_stops_each_command(rt: HostRuntime) {
     let mut files = MemFiles::new(rt.alloc());
-    add_long_and_many(rt.alloc(), &mut files)?;
-    files.add(b"open", b"[a")?;
-    files.add(b"byte", b"\xff")?;
-    refuses_each(&rt, &mut files, "open", "error IniFault 5 BadLine 1\n")?;
-    refuses_each(&rt, &mut files, "byte", "error IniFault 2 NotAscii 1\n")?;
-    refuses_each(&rt, &mut files, "long", "error IniFault 3 LineTooLong 1\n")?;
+    add_long_and_many(&rt, rt.alloc(), &mut files);
+    files.add(b"open", b"[a").expect(&rt, "no fault");
+    files.add(b"byte", b"\xff").expect(&rt, "no fault");
+    refuses_each(&rt, &mut files, "open", "error IniFault 5 BadLine 1\n");
+    refuses_each(&rt, &mut files, "byte", "error IniFault 2 NotAscii 1\n");
+    refuses_each(&rt, &mut files, "long", "error IniFault 3 LineTooLong 1\n");
     let many = "error IniFault 6 TooManySections 513\n";
-    refuses_each(&rt, &mut files, "many", many)
+    refuses_each(&rt, &mut files, "many", many);
 }
 
 /// A section for each fault that one may have.
@@ -179,16 +182,20 @@ const KEPT: &str = "info string error OptionFault 2 UnknownVariant key\n\
     ongoing\nrnbqkbnr/pppppppp/8/8/4P3/8/PPPP1PPP/RNBQKBNR b - - 0 1\n";
 
 #[test]
-fn each_section_is_judged_by_itself(rt: HostRuntime) -> Result<(), Fail> {
-    let mut larger = largest_file(rt.alloc())?;
-    larger.push(b'#')?;
-    let mut files = some_files(rt.alloc())?;
-    files.add(b"refused", REFUSED.as_bytes())?;
-    files.add(b"larger", larger.as_slice())?;
-    let listed = format!(in rt.alloc(); "{BUILTIN}{JUDGED}")?;
+fn each_section_is_judged_by_itself(rt: HostRuntime) {
+    let mut larger = largest_file(&rt, rt.alloc());
+    larger.push(b'#').expect(&rt, "no fault");
+    let mut files = some_files(&rt, rt.alloc());
+    files
+        .add(b"refused", REFUSED.as_bytes())
+        .expect(&rt, "no fault");
+    files
+        .add(b"larger", larger.as_slice())
+        .expect(&rt, "no fault");
+    let listed = format!(in rt.alloc(); "{BUILTIN}{JUDGED}").expect(&rt, "no fault");
     let words = ["--variants", "refused", "variants"].as_slice();
-    says(&rt, &mut files, words, b"", 0, listed.as_bytes())?;
-    files.fail_at(3)?;
+    says(&rt, &mut files, words, b"", 0, listed.as_bytes());
+    files.fail_at(3).expect(&rt, "no fault");
     let words = ["--variants", "f", "uci"].as_slice();
-    says(&rt, &mut files, words, PATHS.as_bytes(), 0, KEPT.as_bytes())
+    says(&rt, &mut files, words, PATHS.as_bytes(), 0, KEPT.as_bytes());
 }

@@ -4,6 +4,8 @@
 #[cfg(test)]
 mod commands_without_input;
 #[cfg(test)]
+mod expect;
+#[cfg(test)]
 mod failing_ports;
 #[cfg(test)]
 mod files_of_variants;

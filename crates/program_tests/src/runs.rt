@@ -1,10 +1,10 @@
 //! Runs over ports in memory, and what they answer.
+use crate::expect::expect;
 use commands::run;
 use io_ports::{Files, ListClock, MemFiles, MemSink, MemSource, OpenGate, PollsOwed};
 use std::alloc::Global;
 use std::process::Abort;
 use std::sync::Wait;
-use std::test::Fail;
 use std::thread::Threads;
 
 /// The answer to words that are no command.
@@ -19,19 +19,20 @@ pub const BUILTIN: &str =
 pub const ROOM: usize = 1_000_000;
 
 /// A run over these files, this source and this sink.
-pub fn ran_over<R: AllocGlobal + Threads + Wait + Sync, F: Files>(
+pub fn ran_over<R: Abort + AllocGlobal + Threads + Wait + Sync, F: Files>(
     rt: &R,
     files: &mut F,
     words: &[&str],
     mut source: MemSource,
     mut sink: MemSink,
-) -> Result<(u8, MemSink), Fail> {
+) -> (u8, MemSink) {
     let alloc = rt.alloc();
     let mut list = Vec::new(alloc);
     for word in words {
-        list.push(String::from_str(alloc, *word)?)?;
+        list.push(String::from_str(alloc, *word).expect(rt, "no fault"))
+            .expect(rt, "no fault");
     }
-    let mut clock = ListClock::new(alloc, &[])?;
+    let mut clock = ListClock::new(alloc, &[]).expect(rt, "no fault");
     let status = run(
         rt,
         alloc,
@@ -42,20 +43,22 @@ pub fn ran_over<R: AllocGlobal + Threads + Wait + Sync, F: Files>(
         &mut clock,
         &OpenGate,
     );
-    Ok((status, sink))
+    (status, sink)
 }
 
 /// A run over these files: a source that fails at these calls, and a sink that has room for `room` bytes.
-pub fn ran<R: AllocGlobal + Threads + Wait + Sync, F: Files>(
+pub fn ran<R: Abort + AllocGlobal + Threads + Wait + Sync, F: Files>(
     rt: &R,
     files: &mut F,
     words: &[&str],
     input: &[u8],
     failing: &[u64],
     room: usize,
-) -> Result<(u8, MemSink), Fail> {
-    let source = MemSource::new(rt.alloc(), input, PollsOwed::Endless, failing)?;
-    let sink = MemSink::new(rt.alloc(), room)?;
+) -> (u8, MemSink) {
+    let source = MemSource::new(rt.alloc(), input, PollsOwed::Endless, failing).expect(
+        rt, "no fault",
+    );
+    let sink = MemSink::new(rt.alloc(), room).expect(rt, "no fault");
     ran_over(rt, files, words, source, sink)
 }
 
@@ -68,11 +71,10 @@ pub fn answers<R: Abort + AllocGlobal + Threads + Wait + Sync, F: Files>(
     input: &[u8],
     status: u8,
     text: &[u8],
-) -> Result<(), Fail> {
-    let (answered, sink) = ran(rt, files, words, input, &[], 1000)?;
+) {
+    let (answered, sink) = ran(rt, files, words, input, &[], 1000);
     assert_eq!(rt; answered, status);
     assert_eq!(rt; sink.taken(), text);
-    Ok(())
 }
 
 /// The same over the files of `some_files`, of texts.
@@ -82,8 +84,8 @@ pub fn answers_over_files<R: Abort + AllocGlobal + Threads + Wait + Sync>(
     input: &str,
     status: u8,
     text: &str,
-) -> Result<(), Fail> {
-    let mut files = some_files(rt.alloc())?;
+) {
+    let mut files = some_files(rt, rt.alloc());
     answers(
         rt,
         &mut files,
@@ -91,7 +93,7 @@ pub fn answers_over_files<R: Abort + AllocGlobal + Threads + Wait + Sync>(
         input.as_bytes(),
         status,
         text.as_bytes(),
-    )
+    );
 }
 
 /// Asserts that words over those files are answered by the text, with status 0.
@@ -100,8 +102,8 @@ pub fn tells<R: Abort + AllocGlobal + Threads + Wait + Sync>(
     words: &[&str],
     input: &str,
     text: &str,
-) -> Result<(), Fail> {
-    answers_over_files(rt, words, input, 0, text)
+) {
+    answers_over_files(rt, words, input, 0, text);
 }
 
 /// Asserts that words over those files are refused by the text, with status 3.
@@ -110,8 +112,8 @@ pub fn refuses<R: Abort + AllocGlobal + Threads + Wait + Sync>(
     words: &[&str],
     input: &str,
     text: &str,
-) -> Result<(), Fail> {
-    answers_over_files(rt, words, input, 3, text)
+) {
+    answers_over_files(rt, words, input, 3, text);
 }
 
 /// As `answers`, with a sink that has room for every text.
@@ -122,11 +124,10 @@ pub fn says<R: Abort + AllocGlobal + Threads + Wait + Sync, F: Files>(
     input: &[u8],
     status: u8,
     text: &[u8],
-) -> Result<(), Fail> {
-    let (answered, sink) = ran(rt, files, words, input, &[], ROOM)?;
+) {
+    let (answered, sink) = ran(rt, files, words, input, &[], ROOM);
     assert_eq!(rt; answered, status);
     assert_eq!(rt; sink.taken(), text);
-    Ok(())
 }
 
 /// Runs words over a sink with room for each number of bytes below that of the text, and asserts status 5, one fault,
@@ -137,12 +138,14 @@ pub fn is_cut<R: Abort + AllocGlobal + Threads + Wait + Sync, F: Files>(
     words: &[&str],
     input: &[u8],
     text: &[u8],
-) -> Result<(), Fail> {
+) {
     for room in 0..text.len() {
-        let (answered, sink) = ran(rt, files, words, input, &[], room)?;
-        assert!(rt; answered == 5 && sink.taken() == &text[..room] && sink.faults() == 1);
+        let (answered, sink) = ran(rt, files, words, input, &[], room);
+        expect(
+            rt,
+            answered == 5 && sink.taken() == &text[..room] && sink.faults() == 1,
+        );
     }
-    Ok(())
 }
 
 /// Sections of which each has a parent. The option of `d` is not supported, and `e` is its child.
@@ -164,13 +167,17 @@ const MINI: &str =
 const MOODS: &str = "[must:chess]\nmustCapture = true\n[calm:chess]\nchecking = false\n";
 
 /// Files of variants, each by its name.
-pub fn some_files(alloc: Global) -> Result<MemFiles, Fail> {
+pub fn some_files(rt: &impl Abort, alloc: Global) -> MemFiles {
     let mut files = MemFiles::new(alloc);
-    files.add(b"f", SECTIONS.as_bytes())?;
-    files.add(b"unstarted", UNSTARTED.as_bytes())?;
-    files.add(b"mini", MINI.as_bytes())?;
-    files.add(b"moods", MOODS.as_bytes())?;
-    files.add(b"empty", b"")?;
-    files.add(b"pair", b"castling = true\n")?;
-    Ok(files)
+    files.add(b"f", SECTIONS.as_bytes()).expect(rt, "no fault");
+    files
+        .add(b"unstarted", UNSTARTED.as_bytes())
+        .expect(rt, "no fault");
+    files.add(b"mini", MINI.as_bytes()).expect(rt, "no fault");
+    files.add(b"moods", MOODS.as_bytes()).expect(rt, "no fault");
+    files.add(b"empty", b"").expect(rt, "no fault");
+    files
+        .add(b"pair", b"castling = true\n")
+        .expect(rt, "no fault");
+    files
 }

@@ -2,7 +2,6 @@
 use crate::runs::{answers_over_files, tells};
 use std::process::Abort;
 use std::sync::Wait;
-use std::test::Fail;
 use std::thread::Threads;
 
 /// White to move: after the rook's check on e1 Black must take it, which mates.
@@ -29,25 +28,25 @@ fn finds<R: Abort + AllocGlobal + Threads + Wait + Sync>(
     kind: &str,
     game: &str,
     text: &str,
-) -> Result<(), Fail> {
+) {
     let words = ["--variants", "moods", "stipulate", kind, "1"];
-    tells(rt, words.as_slice(), game, text)
+    tells(rt, words.as_slice(), game, text);
 }
 
 #[test]
-fn stipulations_are_found(rt: HostRuntime) -> Result<(), Fail> {
-    finds(&rt, "self", FORCED, FORCED_SELFMATE)?;
+fn stipulations_are_found(rt: HostRuntime) {
+    finds(&rt, "self", FORCED, FORCED_SELFMATE);
     let moved = "must\n4r3/8/8/6k1/8/8/7r/K2R4 w - - 0 1\nd1e1\n";
-    finds(&rt, "self", moved, "none\n")?;
-    finds(&rt, "help", HELPED, HELPMATE)?;
+    finds(&rt, "self", moved, "none\n");
+    finds(&rt, "help", HELPED, HELPMATE);
     finds(
         &rt,
         "help",
         "chess\n7k/8/8/8/8/8/8/K7 b - - 0 1\n",
         "none\n",
-    )?;
-    finds(&rt, "help", DROPPED, "helpmate 1\n1 g8h8\n2 R@a8\nend\n")?;
-    finds(&rt, "help", PALACE, "helpmate 1\n1 a7a6\n2 h1h10\nend\n")
+    );
+    finds(&rt, "help", DROPPED, "helpmate 1\n1 g8h8\n2 R@a8\nend\n");
+    finds(&rt, "help", PALACE, "helpmate 1\n1 a7a6\n2 h1h10\nend\n");
 }
 
 /// Asserts what `stipulate check` answers to a game, its moves with the goal, and a certificate.
@@ -57,27 +56,27 @@ fn expect<R: Abort + AllocGlobal + Threads + Wait + Sync>(
     goal: &str,
     cert: &str,
     text: &str,
-) -> Result<(), Fail> {
+) {
     let words = ["--variants", "moods", "stipulate", "check"];
-    let input = format!(in rt.alloc(); "{game}{goal}{cert}")?;
+    let input = format!(in rt.alloc(); "{game}{goal}{cert}").expect(rt, "no fault");
     let status = if text == "holds\n" { 0 } else { 3 };
-    answers_over_files(rt, words.as_slice(), input.as_str(), status, text)
+    answers_over_files(rt, words.as_slice(), input.as_str(), status, text);
 }
 
 #[test]
-fn certificates_are_checked(rt: HostRuntime) -> Result<(), Fail> {
+fn certificates_are_checked(rt: HostRuntime) {
     let goal = "\nself 1\n";
-    expect(&rt, FORCED, goal, FORCED_SELFMATE, "holds\n")?;
-    expect(&rt, HELPED, "\nhelp 6\n", HELPMATE, "holds\n")?;
+    expect(&rt, FORCED, goal, FORCED_SELFMATE, "holds\n");
+    expect(&rt, HELPED, "\nhelp 6\n", HELPMATE, "holds\n");
     let short = "selfmate 1\n1 d1e1\nend\n";
     let reply = "error CertVerdict 5 MissingReply 1 e8e1\n";
-    expect(&rt, FORCED, goal, short, reply)?;
+    expect(&rt, FORCED, goal, short, reply);
     let other = "error CertVerdict 5 MissingReply 1 a7a1\n";
-    expect(&rt, HELPED, goal, HELPMATE, other)
+    expect(&rt, HELPED, goal, HELPMATE, other);
 }
 
 #[test]
-fn helpmates_are_refused(rt: HostRuntime) -> Result<(), Fail> {
+fn helpmates_are_refused(rt: HostRuntime) {
     let goal = "\nhelp 1\n";
     let facing = "helpmate 1\n1 a7a6\n2 i9i10\nend\n";
     expect(
@@ -86,19 +85,19 @@ fn helpmates_are_refused(rt: HostRuntime) -> Result<(), Fail> {
         goal,
         facing,
         "error CertVerdict 6 Unfinished 2\n",
-    )?;
+    );
     let small = "helpmate 1\n1 g8h8\n2 r@a8\nend\n";
-    expect(&rt, DROPPED, goal, small, "error CertFault 1 BadLine 3\n")?;
+    expect(&rt, DROPPED, goal, small, "error CertFault 1 BadLine 3\n");
     let open = "helpmate 1\n1 g8h8\n2 a7a8\n";
-    expect(&rt, HELPED, goal, open, "error CertFault 2 Ended 4\n")
+    expect(&rt, HELPED, goal, open, "error CertFault 2 Ended 4\n");
 }
 
 #[test]
-fn goals_are_refused(rt: HostRuntime) -> Result<(), Fail> {
+fn goals_are_refused(rt: HostRuntime) {
     let goal = "error GameFault 7 BadGoal 4\n";
-    expect(&rt, HELPED, "\nhelp 7\n", HELPMATE, goal)?;
-    expect(&rt, HELPED, "\nmate white 1\n", HELPMATE, goal)?;
+    expect(&rt, HELPED, "\nhelp 7\n", HELPMATE, goal);
+    expect(&rt, HELPED, "\nmate white 1\n", HELPMATE, goal);
     let twice = "error GameFault 5 BadMove 2 g8h8\n";
-    expect(&rt, HELPED, "g8h8 g8h8\nhelp 1\n", HELPMATE, twice)?;
-    expect(&rt, HELPED, "", "", "error GameFault 1 Missing 3\n")
+    expect(&rt, HELPED, "g8h8 g8h8\nhelp 1\n", HELPMATE, twice);
+    expect(&rt, HELPED, "", "", "error GameFault 1 Missing 3\n");
 }

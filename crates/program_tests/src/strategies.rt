@@ -3,7 +3,6 @@ use crate::runs::answers_over_files;
 use std::alloc::Global;
 use std::process::Abort;
 use std::sync::Wait;
-use std::test::Fail;
 use std::thread::Threads;
 
 /// King and rook against king, mate in two.
@@ -47,12 +46,15 @@ const REPEATED: &str = "chess\n7k/R7/6K1/8/8/8/8/8 b - - 0 1\n";
 const PLIES: &str = "h8g8 g6f6 g8h8 f6g6 h8g8 g6f6 g8h8\nmate white 2\n";
 
 /// The text with one part of it replaced.
-fn replaced(alloc: Global, text: &str, right: &str, wrong: &str) -> Result<String, Fail> {
-    let (before, after) = text.split_once(right).ok_or("a part of the text")?;
-    let mut whole = String::from_str(alloc, before)?;
-    whole.push_str(wrong)?;
-    whole.push_str(after)?;
-    Ok(whole)
+fn replaced(rt: &impl Abort, alloc: Global, text: &str, right: &str, wrong: &str) -> String {
+    let (before, after) = text
+        .split_once(right)
+        .ok_or("a part of the text")
+        .expect(rt, "no fault");
+    let mut whole = String::from_str(alloc, before).expect(rt, "no fault");
+    whole.push_str(wrong).expect(rt, "no fault");
+    whole.push_str(after).expect(rt, "no fault");
+    whole
 }
 
 /// Asserts what `check` answers to a game, with its moves and its goal, and a strategy.
@@ -62,39 +64,39 @@ fn expect<R: Abort + AllocGlobal + Threads + Wait + Sync>(
     goal: &str,
     strategy: &str,
     text: &str,
-) -> Result<(), Fail> {
-    let input = format!(in rt.alloc(); "{game}{goal}{strategy}")?;
+) {
+    let input = format!(in rt.alloc(); "{game}{goal}{strategy}").expect(rt, "no fault");
     let status = if text == "wins\n" { 0 } else { 3 };
-    answers_over_files(rt, &["check"], input.as_str(), status, text)
+    answers_over_files(rt, &["check"], input.as_str(), status, text);
 }
 
 #[test]
-fn strategies_are_checked(rt: HostRuntime) -> Result<(), Fail> {
-    expect(&rt, MATED, IN_TWO, MATE, "wins\n")?;
+fn strategies_are_checked(rt: HostRuntime) {
+    expect(&rt, MATED, IN_TWO, MATE, "wins\n");
     expect(
         &rt,
         MATED,
         "\nmate white 1\n",
         MATE,
         "error Verdict 1 Root\n",
-    )?;
+    );
     let far = "\nmate white 101\n";
-    expect(&rt, MATED, far, MATE, "error GameFault 7 BadGoal 4\n")?;
-    expect(&rt, MATED, "\n", "", "error GameFault 1 Missing 4\n")?;
+    expect(&rt, MATED, far, MATE, "error GameFault 7 BadGoal 4\n");
+    expect(&rt, MATED, "\n", "", "error GameFault 1 Missing 4\n");
     expect(
         &rt,
         MATED,
         "",
         MATE,
         "error GameFault 5 BadMove 1 strategy\n",
-    )?;
+    );
     expect(
         &rt,
         REPEATED,
         PLIES,
         LATE_MATE,
         "error Verdict 6 Repeats 1\n",
-    )
+    );
 }
 
 /// Asserts what `check` answers to the mate with one part of its text replaced.
@@ -103,21 +105,21 @@ fn expect_spoilt<R: Abort + AllocGlobal + Threads + Wait + Sync>(
     right: &str,
     wrong: &str,
     text: &str,
-) -> Result<(), Fail> {
-    let strategy = replaced(rt.alloc(), MATE, right, wrong)?;
-    expect(rt, MATED, IN_TWO, strategy.as_str(), text)
+) {
+    let strategy = replaced(rt, rt.alloc(), MATE, right, wrong);
+    expect(rt, MATED, IN_TWO, strategy.as_str(), text);
 }
 
 #[test]
-fn spoilt_strategies_are_refused(rt: HostRuntime) -> Result<(), Fail> {
+fn spoilt_strategies_are_refused(rt: HostRuntime) {
     let reply = "error Verdict 3 MissingReply 1 h8g8\n";
-    expect_spoilt(&rt, "edge h8g8 2\n", "", reply)?;
+    expect_spoilt(&rt, "edge h8g8 2\n", "", reply);
     let nodes = "error StrategyFault 5 BadNumber 11\n";
-    expect_spoilt(&rt, "nodes 4", "nodes 5", nodes)?;
+    expect_spoilt(&rt, "nodes 4", "nodes 5", nodes);
     let more = "error StrategyFault 6 Ended 12\n";
-    expect_spoilt(&rt, "end\n", "end\n\n", more)?;
+    expect_spoilt(&rt, "end\n", "end\n\n", more);
     let open = "error StrategyFault 6 Ended 11\n";
-    expect_spoilt(&rt, "end\n", "", open)
+    expect_spoilt(&rt, "end\n", "", open);
 }
 
 /// A text that states its own rules, and with them the mate in two.
@@ -152,36 +154,36 @@ fn expect_proof<R: Abort + AllocGlobal + Threads + Wait + Sync>(
     right: &str,
     wrong: &str,
     text: &str,
-) -> Result<(), Fail> {
-    let input = replaced(rt.alloc(), PROOF, right, wrong)?;
+) {
+    let input = replaced(rt, rt.alloc(), PROOF, right, wrong);
     let status = if text == "wins\n" { 0 } else { 3 };
-    answers_over_files(rt, &["check"], input.as_str(), status, text)
+    answers_over_files(rt, &["check"], input.as_str(), status, text);
 }
 
 #[test]
-fn proof_texts_are_checked(rt: HostRuntime) -> Result<(), Fail> {
-    expect_proof(&rt, "end", "end", "wins\n")?;
+fn proof_texts_are_checked(rt: HostRuntime) {
+    expect_proof(&rt, "end", "end", "wins\n");
     let root = "error Verdict 1 Root\n";
-    expect_proof(&rt, "goal white 2", "goal white 1", root)?;
+    expect_proof(&rt, "goal white 2", "goal white 1", root);
     let header = "error ProofFault 1 Header 13\n";
-    expect_proof(&rt, "goal white 2\n", "", header)?;
+    expect_proof(&rt, "goal white 2\n", "", header);
     let rules = "error ProofFault 2 BadRules 11\n";
-    expect_proof(&rt, "rules 8", "rules 9", rules)
+    expect_proof(&rt, "rules 8", "rules 9", rules);
 }
 
 #[test]
-fn parts_of_proof_texts_are_refused(rt: HostRuntime) -> Result<(), Fail> {
+fn parts_of_proof_texts_are_refused(rt: HostRuntime) {
     let letter = "error ProofFault 3 RefusedRules SectionFault 7 LetterTwice q\n";
-    expect_proof(&rt, "rook = r", "rook = q", letter)?;
+    expect_proof(&rt, "rook = r", "rook = q", letter);
     let start = "error ProofFault 4 BadStart 11 FenFault 2 Rank\n";
     expect_proof(
         &rt,
         "start 7k/R7/5K2/8/8/8/8/8",
         "start 7k/R7/5K2/8/8/8/8",
         start,
-    )?;
+    );
     let history = "error ProofFault 5 BadHistory 13\n";
-    expect_proof(&rt, "history 0", "history 1", history)?;
+    expect_proof(&rt, "history 0", "history 1", history);
     let body = "error ProofFault 6 BadBody StrategyFault 5 BadNumber 21\n";
-    expect_proof(&rt, "edge a7a8 3", "edge a7a8 4", body)
+    expect_proof(&rt, "edge a7a8 3", "edge a7a8 4", body);
 }

@@ -4,6 +4,7 @@ ghost use Rattle.foundation.specs.Member.{Member};
 ghost use Rattle.game_line.specs.Lined.{legal_in};
 ghost use Rattle.rules_model.specs.Fit.{IsFit};
 
+use crate::expect::{expect_eq, expect_eq_at, expect_of};
 use foundation::Memory;
 use game_line::Line;
 use game_play::Game;
@@ -13,7 +14,6 @@ use rules_model::{Move, MoveList, Position, Promo, Rules, sound};
 use sample_rules::{capablanca, chess, position, square, xiangqi};
 use std::alloc::Global;
 use std::process::Abort;
-use std::test::Fail;
 use watching::{Cut, Halt, Helper, StopFlag};
 
 /// The move of a text such as `e2-e4`, without promotion.
@@ -28,23 +28,17 @@ fn go(text: &str) -> Move {
 }
 
 /// The game of the moves from the position.
-fn game<R: Abort>(
-    rt: &R,
-    alloc: Global,
-    rules: &Rules,
-    start: &Position,
-    moves: &str,
-) -> Result<Game, Fail>
+fn game<R: Abort>(rt: &R, alloc: Global, rules: &Rules, start: &Position, moves: &str) -> Game
     requires { IsFit rules.now }
 {
     assert!(rt; sound(rules, start));
-    let mut game = Game::new(alloc, rules, start)?;
+    let mut game = Game::new(alloc, rules, start).expect(rt, "no fault");
     for text in moves.split(' ') {
         if !text.is_empty() {
-            assert_eq!(rt; game.play(&go(text)), Ok(()), "{text}");
+            expect_eq_at(rt, text, game.play(&go(text)), Ok(()));
         }
     }
-    Ok(game)
+    game
 }
 
 /// The legal moves after the line.
@@ -62,20 +56,22 @@ fn search_all<R: Abort>(
     game: &Game,
     depth: u8,
     quota: Option<u64>,
-) -> Result<(Result<Best, Halt>, u64), Memory>
+) -> (Result<Best, Halt>, u64)
     requires least { 1 ≤ depth }
     requires most { depth ≤ 9 }
 {
-    let hints = HintTable::new(alloc, 1000)?;
+    let hints = HintTable::new(alloc, 1000).expect(rt, "no fault");
     let flag = StopFlag::new();
     let mut watch = Helper {
         flag: &flag,
         quota,
         nodes: 0,
     };
-    let mut line = Line::new(alloc, game, 20)?;
-    let mut desk = Desk::new(alloc, &hints)?;
-    let roots = roots_of(alloc, &line)?;
+    let mut line = Line::new(alloc, game, 20).expect(rt, "no fault");
+    let mut desk = Desk::new(alloc, &hints).expect(rt, "no fault");
+    let Ok(roots) = roots_of(alloc, &line) else {
+        panic!(rt; "no memory");
+    };
     assert!(rt; roots.items.len() > 0);
     let best = combine(
         &mut line,
@@ -85,65 +81,55 @@ fn search_all<R: Abort>(
         roots.items.as_slice(),
         &[],
     );
-    Ok((best, watch.nodes))
+    (best, watch.nodes)
 }
 
 /// Asserts what the game is worth at the first three depths.
-fn is_worth<R: Abort>(
-    rt: &R,
-    alloc: Global,
-    rules: &Rules,
-    moves: &str,
-    values: [i32; 3],
-) -> Result<(), Fail>
+fn is_worth<R: Abort>(rt: &R, alloc: Global, rules: &Rules, moves: &str, values: [i32; 3])
     requires { IsFit rules.now }
 {
-    let game = game(rt, alloc, rules, &rules.start, moves)?;
+    let game = game(rt, alloc, rules, &rules.start, moves);
     for i in 0..3usize {
-        let (best, _nodes) = search_all(rt, alloc, &game, i as u8 + 1, None)?;
+        let (best, _nodes) = search_all(rt, alloc, &game, i as u8 + 1, None);
         let value = best.map_or(0, |best| best.value);
-        assert_eq!(rt; value, values[i], "{moves}");
+        expect_eq_at(rt, moves, value, values[i]);
     }
-    Ok(())
 }
 
 // The values are those of an independent model of the rules.
 #[test]
-fn values_of_games(rt: HostRuntime) -> Result<(), Fail> {
+fn values_of_games(rt: HostRuntime) {
     let rows = [
         ("g2-g4 h7-h5 g4-h5", [16, 16, 16]),
         ("g2-g3 b7-b6 b2-b3", [8, -4, 8]),
     ];
     for (moves, values) in rows {
-        is_worth(&rt, rt.alloc(), &chess(), moves, values)?;
+        is_worth(&rt, rt.alloc(), &chess(), moves, values);
     }
     let moves = "b3-b10 a10-b10 h3-i3";
-    is_worth(&rt, rt.alloc(), &xiangqi(), moves, [192, 176, 301])?;
-    is_worth(&rt, rt.alloc(), &capablanca(), "", [12, 0, 12])?;
-    Ok(())
+    is_worth(&rt, rt.alloc(), &xiangqi(), moves, [192, 176, 301]);
+    is_worth(&rt, rt.alloc(), &capablanca(), "", [12, 0, 12]);
 }
 
 /// The back rank is open to the rook, and the black king shut in by its pawns.
 const MATE: &str = "Kg1 Ra1 kg8 pf7 pg7 ph7";
 
 #[test]
-fn mates_are_found(rt: HostRuntime) -> Result<(), Fail> {
-    let game = game(&rt, rt.alloc(), &chess(), &position(MATE), "")?;
+fn mates_are_found(rt: HostRuntime) {
+    let game = game(&rt, rt.alloc(), &chess(), &position(MATE), "");
     for depth in 1..4u8 {
-        let (best, _nodes) = search_all(&rt, rt.alloc(), &game, depth, None)?;
+        let (best, _nodes) = search_all(&rt, rt.alloc(), &game, depth, None);
         let found = best.map_or((0, None), |best| (best.value, Some(best.chosen)));
-        assert_eq!(rt; found, (31_999, Some(go("a1-a8"))), "{depth}");
+        expect_of(&rt, &depth, found == (31_999, Some(go("a1-a8"))));
     }
-    Ok(())
 }
 
 #[test]
-fn a_watch_ends_a_search(rt: HostRuntime) -> Result<(), Fail> {
-    let game = game(&rt, rt.alloc(), &chess(), &position(MATE), "")?;
-    let (best, nodes) = search_all(&rt, rt.alloc(), &game, 4, Some(100))?;
-    assert_eq!(rt; best.err(), Some(Halt::Cut(Cut::Quota(100))));
-    assert_eq!(rt; nodes, 100);
-    Ok(())
+fn a_watch_ends_a_search(rt: HostRuntime) {
+    let game = game(&rt, rt.alloc(), &chess(), &position(MATE), "");
+    let (best, nodes) = search_all(&rt, rt.alloc(), &game, 4, Some(100));
+    expect_eq(&rt, best.err(), Some(Halt::Cut(Cut::Quota(100))));
+    expect_eq(&rt, nodes, 100);
 }
 
 /// What a search of the root move above the floor answers: whether it is exact, and its value.
@@ -153,29 +139,28 @@ fn fact_above<R: Abort>(
     game: &Game,
     chosen: &Move,
     floor: i32,
-) -> Result<(bool, i32), Fail> {
-    let hints = HintTable::new(alloc, 1000)?;
+) -> (bool, i32) {
+    let hints = HintTable::new(alloc, 1000).expect(rt, "no fault");
     let flag = StopFlag::new();
     let mut watch = Helper {
         flag: &flag,
         quota: None,
         nodes: 0,
     };
-    let mut line = Line::new(alloc, game, 20)?;
-    let mut desk = Desk::new(alloc, &hints)?;
+    let mut line = Line::new(alloc, game, 20).expect(rt, "no fault");
+    let mut desk = Desk::new(alloc, &hints).expect(rt, "no fault");
     assert!(rt; line.board().is_legal(chosen));
     let fact = search_root(&mut line, &mut desk, &mut watch, 2, chosen, floor);
-    Ok(fact.map_or((false, 0), |fact| (fact.exact, fact.value)))
+    fact.map_or((false, 0), |fact| (fact.exact, fact.value))
 }
 
 #[test]
-fn facts_above_floors(rt: HostRuntime) -> Result<(), Fail> {
-    let game = game(&rt, rt.alloc(), &chess(), &position("Kg1 kg8 Qd1 rd8"), "")?;
+fn facts_above_floors(rt: HostRuntime) {
+    let game = game(&rt, rt.alloc(), &chess(), &position("Kg1 kg8 Qd1 rd8"), "");
     let takes = go("d1-d8");
     // the queen is worth 800, and 12 more on d8
     for (floor, exact) in [(i32::MIN, true), (811, true), (812, false)] {
-        let fact = fact_above(&rt, rt.alloc(), &game, &takes, floor)?;
-        assert_eq!(rt; fact, (exact, 812), "{floor}");
+        let fact = fact_above(&rt, rt.alloc(), &game, &takes, floor);
+        expect_of(&rt, &floor, fact == (exact, 812));
     }
-    Ok(())
 }

@@ -1,6 +1,7 @@
 //! Tests of `alpha_beta`.
 ghost use Rattle.std.specs.Prelude.{◌≡◌, ◌<◌, ◌≤◌};
 
+use crate::expect::{expect, expect_eq};
 use alpha_beta::{Limits, SearchFault, Searched, Stopped, search};
 use game_play::Game;
 use hint_table::HintTable;
@@ -103,14 +104,16 @@ fn answer_to<R: Threads + Abort + Sync, G: Gate + Sync>(
     run: Run,
     gate: &G,
     written: &mut Vec<u8>,
-) -> Result<Told, Fail>
+) -> Told
     requires depth { (1 ≤ run.depth) × (run.depth ≤ 64) }
     requires workers { (0 < run.workers) × (run.workers ≤ 64) }
 {
-    let mut source = MemSource::new(alloc, run.lines, run.owed, &[])?;
-    let mut sink = MemSink::new(alloc, 100)?;
-    let mut clock = ListClock::new(alloc, &[5, 7])?;
-    let roots = Board::new(game.tables(), game.position()).legal_moves(alloc)?;
+    let mut source = MemSource::new(alloc, run.lines, run.owed, &[]).expect(rt, "no fault");
+    let mut sink = MemSink::new(alloc, 100).expect(rt, "no fault");
+    let mut clock = ListClock::new(alloc, &[5, 7]).expect(rt, "no fault");
+    let roots = Board::new(game.tables(), game.position())
+        .legal_moves(alloc)
+        .expect(rt, "no fault");
     assert!(rt; !roots.items.is_empty());
     let answer = {
         let mut ports = Ports {
@@ -133,8 +136,10 @@ fn answer_to<R: Threads + Abort + Sync, G: Gate + Sync>(
         )
     };
     written.clear();
-    written.extend_from_slice(sink.taken())?;
-    Ok(told_of(&answer))
+    written
+        .extend_from_slice(sink.taken())
+        .expect(rt, "no fault");
+    told_of(&answer)
 }
 
 /// Asserts how the search of all legal moves by at most 64 workers ends, without its number of nodes, and what it
@@ -148,15 +153,14 @@ fn ends<R: Threads + Abort + Sync, G: Gate + Sync>(
     gate: &G,
     end: Told,
     text: &[u8],
-) -> Result<(), Fail>
+)
     requires { (1 ≤ run.depth) × (run.depth ≤ 64) }
 {
     assert!(rt; 0 < run.workers && run.workers <= 64);
     let mut written = Vec::new(alloc);
-    let told = answer_to(rt, alloc, game, hints, run, gate, &mut written)?;
-    assert_eq!(rt; uncounted(told), end);
-    assert!(rt; written.as_slice() == text);
-    Ok(())
+    let told = answer_to(rt, alloc, game, hints, run, gate, &mut written);
+    expect_eq(rt, uncounted(told), end);
+    expect(rt, written.as_slice() == text);
 }
 
 /// The value of the search, where nothing cuts it, and its number of nodes.
@@ -172,7 +176,7 @@ fn value_and_nodes<R: Threads + Abort + Sync, G: Gate + Sync>(
     requires workers { (0 < run.workers) × (run.workers ≤ 64) }
 {
     let mut written = Vec::new(alloc);
-    match answer_to(rt, alloc, game, hints, run, gate, &mut written)? {
+    match answer_to(rt, alloc, game, hints, run, gate, &mut written) {
         Told::Done(value, _, nodes) => Ok((Some(value), nodes)),
         _ => Ok((None, 0)),
     }
@@ -197,12 +201,12 @@ fn whole(depth: u8, workers: u32) -> Run<'static>
 
 // By one worker, by two and by the most; the latter two with hints that mislead.
 #[test]
-fn each_number_of_workers_finds_the_mate(rt: HostRuntime) -> Result<(), Fail> {
+fn each_number_of_workers_finds_the_mate(rt: HostRuntime) {
     let alloc = rt.alloc();
     let (rules, start) = (chess(), position(QUEEN));
     assert!(rt; sound(&rules, &start));
-    let game = Game::new(alloc, &rules, &start)?;
-    let hints = HintTable::new(alloc, 1024)?;
+    let game = Game::new(alloc, &rules, &start).expect(&rt, "no fault");
+    let hints = HintTable::new(alloc, 1024).expect(&rt, "no fault");
     let mate = Told::Done(31_999, go("g6g7"), 0);
     for workers in [1u32, 2, 64] {
         ends(
@@ -214,16 +218,15 @@ fn each_number_of_workers_finds_the_mate(rt: HostRuntime) -> Result<(), Fail> {
             &OpenGate,
             mate,
             b"",
-        )?;
+        );
         hints.fill(u64::MAX);
     }
-    Ok(())
 }
 
 /// The game of the chess start.
-fn started(alloc: Global) -> Result<Game, Fail> {
+fn started(rt: &impl Abort, alloc: Global) -> Game {
     let rules = chess();
-    Ok(Game::new(alloc, &rules, &rules.start)?)
+    Game::new(alloc, &rules, &rules.start).expect(rt, "no fault")
 }
 
 /// Asserts what the game is worth at the first three depths, where each search begins with hints that are all this
@@ -243,7 +246,7 @@ fn is_worth<R: Threads + Abort + Sync>(
         hints.fill(word);
         let run = whole(i as u8 + 1, workers);
         let (value, _nodes) = value_and_nodes(rt, alloc, game, &hints, run, &OpenGate)?;
-        assert_eq!(rt; value, Some(values[i]), "{word} {workers}");
+        assert!(rt; value == Some(values[i]), "{word} {workers}");
     }
     Ok(())
 }
@@ -251,7 +254,7 @@ fn is_worth<R: Threads + Abort + Sync>(
 // The values are those of an independent model of the rules.
 #[test]
 fn hints_and_workers_change_no_value(rt: HostRuntime) -> Result<(), Fail> {
-    let game = started(rt.alloc())?;
+    let game = started(&rt, rt.alloc());
     let rows = [
         (0, 1u32),
         (0, 4),
@@ -278,7 +281,7 @@ fn is_cut<R: Threads + Abort + Sync>(
     hints: &HintTable,
     workers: u32,
     row: &Row,
-) -> Result<(), Fail> {
+) {
     let (lines, owed, limits, end, written) = *row;
     let gate = LeaderFirst {
         passed: AtomicBool::new(false),
@@ -289,15 +292,15 @@ fn is_cut<R: Threads + Abort + Sync>(
         limits,
         ..whole(6, workers)
     };
-    ends(rt, alloc, game, hints, run, &gate, end, written.as_bytes())
+    ends(rt, alloc, game, hints, run, &gate, end, written.as_bytes());
 }
 
 // Polls come at the first node and each 1,024 nodes.
 #[test]
-fn the_outside_is_heard(rt: HostRuntime) -> Result<(), Fail> {
+fn the_outside_is_heard(rt: HostRuntime) {
     let alloc = rt.alloc();
-    let game = started(alloc)?;
-    let hints = HintTable::new(alloc, 1024)?;
+    let game = started(&rt, alloc);
+    let hints = HintTable::new(alloc, 1024).expect(&rt, "no fault");
     let few = Limits {
         quota: Some(50),
         ..NONE
@@ -315,17 +318,16 @@ fn the_outside_is_heard(rt: HostRuntime) -> Result<(), Fail> {
     ];
     for workers in [1u32, 4] {
         for row in &rows {
-            is_cut(&rt, alloc, &game, &hints, workers, row)?;
+            is_cut(&rt, alloc, &game, &hints, workers, row);
         }
     }
-    Ok(())
 }
 
 // By 206,603 lines of at most four moves from the start.
 #[test]
 fn lines_are_cut_off(rt: HostRuntime) -> Result<(), Fail> {
     let alloc = rt.alloc();
-    let game = started(alloc)?;
+    let game = started(&rt, alloc);
     let hints = HintTable::new(alloc, 4096)?;
     let (value, nodes) = value_and_nodes(&rt, alloc, &game, &hints, whole(4, 1), &OpenGate)?;
     assert!(rt; value.is_some() && nodes < 206_604);
@@ -338,8 +340,8 @@ fn within<R: Threads + Abort + Sync>(
     alloc: Global,
     game: &Game,
     quota: Option<u64>,
-) -> Result<Told, Fail> {
-    let hints = HintTable::new(alloc, 1024)?;
+) -> Told {
+    let hints = HintTable::new(alloc, 1024).expect(rt, "no fault");
     let run = Run {
         limits: Limits { quota, ..NONE },
         ..whole(2, 1)
@@ -352,15 +354,15 @@ fn within<R: Threads + Abort + Sync>(
 #[test]
 fn nodes_are_those_of_the_quota(rt: HostRuntime) -> Result<(), Fail> {
     let alloc = rt.alloc();
-    let game = started(alloc)?;
-    let free = within(&rt, alloc, &game, None)?;
+    let game = started(&rt, alloc);
+    let free = within(&rt, alloc, &game, None);
     let Told::Done(_, _, nodes) = free else {
         return Err("a whole search".into());
     };
     assert!(rt; nodes > 20);
     let fewer = nodes.saturating_sub(1);
     for (quota, end) in [(nodes, free), (fewer, Told::Quota(fewer))] {
-        assert_eq!(rt; within(&rt, alloc, &game, Some(quota))?, end);
+        expect_eq(&rt, within(&rt, alloc, &game, Some(quota)), end);
     }
     Ok(())
 }
@@ -368,12 +370,12 @@ fn nodes_are_those_of_the_quota(rt: HostRuntime) -> Result<(), Fail> {
 #[test]
 fn two_workers_run_beside_each_other(rt: HostRuntime) -> Result<(), Fail> {
     let alloc = rt.alloc();
-    let game = started(alloc)?;
+    let game = started(&rt, alloc);
     let hints = HintTable::new(alloc, 4096)?;
     let gate = HoldingGate::new();
     let (alone, _nodes) = value_and_nodes(&rt, alloc, &game, &hints, whole(3, 1), &OpenGate)?;
     let (beside, _nodes) = value_and_nodes(&rt, alloc, &game, &hints, whole(3, 2), &gate)?;
     assert!(rt; !gate.gave_up() && alone.is_some());
-    assert_eq!(rt; alone, beside);
+    expect_eq(&rt, alone, beside);
     Ok(())
 }

@@ -1,10 +1,11 @@
 //! Tests of `betza_text`.
 ghost use Rattle.std.specs.Prelude.{◌<◌};
 
+use crate::expect::{expect, expect_eq};
 use betza_text::{BetzaFault, HopKind, Part, parse, part_steps};
 use std::alloc::{AllocError, Global};
 use std::io::{self, Write};
-use std::test::Fail;
+use std::process::Abort;
 
 /// Writes the steps of a part.
 fn tell_steps(told: &mut Vec<u8>, part: &Part) -> io::Result<()> {
@@ -16,15 +17,19 @@ fn tell_steps(told: &mut Vec<u8>, part: &Part) -> io::Result<()> {
 }
 
 /// The steps of the first part of each word that blanks separate, on a line for each.
-fn steps(alloc: Global, words: &[u8]) -> Result<Vec<u8>, Fail> {
+fn steps(rt: &impl Abort, alloc: Global, words: &[u8]) -> Vec<u8> {
     let mut told = Vec::new(alloc);
     for word in words.split(|byte| *byte == b' ') {
-        let betza = parse(alloc, word)?;
-        told.extend_from_slice(word)?;
-        tell_steps(&mut told, betza.items.first().ok_or("no part")?)?;
-        told.push(b'\n')?;
+        let betza = parse(alloc, word).expect(rt, "no fault");
+        told.extend_from_slice(word).expect(rt, "no fault");
+        tell_steps(
+            &mut told,
+            betza.items.first().ok_or("no part").expect(rt, "no fault"),
+        )
+        .expect(rt, "no fault");
+        told.push(b'\n').expect(rt, "no fault");
     }
-    Ok(told)
+    told
 }
 
 /// The fault of each word that bars separate, on a line for each.
@@ -62,11 +67,11 @@ fn signs(alloc: Global, words: &[u8]) -> Result<Vec<u8>, AllocError> {
 }
 
 #[test]
-fn one_direction_letter(rt: HostRuntime) -> Result<(), Fail> {
-    let orthogonal = steps(rt.alloc(), b"fW bD lH rR vW sD")?;
+fn one_direction_letter(rt: HostRuntime) {
+    let orthogonal = steps(&rt, rt.alloc(), b"fW bD lH rR vW sD");
     let wanted = b"fW 0,1\nbD 0,-2\nlH -3,0\nrR 1,0\nvW 0,-1 0,1\nsD -2,0 2,0\n";
-    assert!(rt; orthogonal.as_slice() == wanted.as_slice());
-    let diagonal = steps(rt.alloc(), b"fF bA lG rB vF sA")?;
+    expect(&rt, orthogonal.as_slice() == wanted.as_slice());
+    let diagonal = steps(&rt, rt.alloc(), b"fF bA lG rB vF sA");
     let wanted = b"\
         fF -1,1 1,1\n\
         bA -2,-2 2,-2\n\
@@ -74,19 +79,19 @@ fn one_direction_letter(rt: HostRuntime) -> Result<(), Fail> {
         rB 1,-1 1,1\n\
         vF -1,-1 1,-1 -1,1 1,1\n\
         sA -2,-2 2,-2 -2,2 2,2\n";
-    assert!(rt; diagonal.as_slice() == wanted.as_slice());
-    let royal = steps(rt.alloc(), b"fK bQ lK rQ")?;
+    expect(&rt, diagonal.as_slice() == wanted.as_slice());
+    let royal = steps(&rt, rt.alloc(), b"fK bQ lK rQ");
     let wanted = b"fK 0,1 -1,1 1,1\nbQ 0,-1 -1,-1 1,-1\nlK -1,0 -1,-1 -1,1\nrQ 1,0 1,-1 1,1\n";
-    assert!(rt; royal.as_slice() == wanted.as_slice());
-    Ok(())
+    expect(&rt, royal.as_slice() == wanted.as_slice());
 }
 
 #[test]
-fn more_direction_letters(rt: HostRuntime) -> Result<(), Fail> {
+fn more_direction_letters(rt: HostRuntime) {
     let leaps = steps(
+        &rt,
         rt.alloc(),
         b"ffN llN fsN bhN rhN vvN ssN ffbsN ffffN fsL llJ bsZ ffC",
-    )?;
+    );
     let wanted = b"\
         ffN -1,2 1,2\n\
         llN -2,-1 -2,1\n\
@@ -101,8 +106,12 @@ fn more_direction_letters(rt: HostRuntime) -> Result<(), Fail> {
         llJ -3,-2 -3,2\n\
         bsZ -3,-2 3,-2\n\
         ffC -1,3 1,3\n";
-    assert!(rt; leaps.as_slice() == wanted.as_slice());
-    let others = steps(rt.alloc(), b"flA frblF brF ffF fbF lrsG fflW sfD mfcrW")?;
+    expect(&rt, leaps.as_slice() == wanted.as_slice());
+    let others = steps(
+        &rt,
+        rt.alloc(),
+        b"flA frblF brF ffF fbF lrsG fflW sfD mfcrW",
+    );
     let wanted = b"\
         flA -2,2\n\
         frblF -1,-1 1,1\n\
@@ -113,37 +122,35 @@ fn more_direction_letters(rt: HostRuntime) -> Result<(), Fail> {
         fflW -1,0 0,1\n\
         sfD -2,0 2,0 0,2\n\
         mfcrW 1,0 0,1\n";
-    assert!(rt; others.as_slice() == wanted.as_slice());
-    Ok(())
+    expect(&rt, others.as_slice() == wanted.as_slice());
 }
 
 // `h` has a meaning beside another letter of a leap alone, and `v` and `s` have none for a piece that goes both ways.
 #[test]
-fn some_letters_have_no_one_meaning(rt: HostRuntime) -> Result<(), Fail> {
-    let singles = signs(rt.alloc(), b"hW hD hF hA vK sK hK vQ fN bL lC rJ vZ sN hL")?;
-    assert!(rt; singles.as_slice() == b"???????????????".as_slice());
+fn some_letters_have_no_one_meaning(rt: HostRuntime) {
+    let singles = signs(rt.alloc(), b"hW hD hF hA vK sK hK vQ fN bL lC rJ vZ sN hL").expect(
+        &rt, "no fault",
+    );
+    expect(&rt, singles.as_slice() == b"???????????????".as_slice());
     let more = b"fbN sfN hhN vsN fffN hfN rsL flJ vhN shN lfF flfF flrF fsF hhW ffK flQ";
-    let found = signs(rt.alloc(), more)?;
-    assert!(rt; found.as_slice() == b"?????????????????".as_slice());
-    Ok(())
+    let found = signs(rt.alloc(), more).expect(&rt, "no fault");
+    expect(&rt, found.as_slice() == b"?????????????????".as_slice());
 }
 
 /// Writes what a part says: how it moves (`m`, `c`, `n`, `p` and `g`), its directions, its atom, whether that is
 /// doubled (`*`), and its number.
 fn tell_part(told: &mut Vec<u8>, part: &Part) -> Result<(), io::Error> {
-    if part.quiet {
-        told.push(b'm')?;
-    }
-    if part.takes {
-        told.push(b'c')?;
-    }
-    if part.lame {
-        told.push(b'n')?;
-    }
-    match part.hop {
-        HopKind::No => {}
-        HopKind::Over => told.push(b'p')?,
-        HopKind::Behind => told.push(b'g')?,
+    let signs = [
+        (part.quiet, b'm'),
+        (part.takes, b'c'),
+        (part.lame, b'n'),
+        (matches!(part.hop, HopKind::Over), b'p'),
+        (matches!(part.hop, HopKind::Behind), b'g'),
+    ];
+    for (is_there, sign) in signs {
+        if is_there {
+            told.push(sign)?;
+        }
     }
     told.extend_from_slice(part.dirs.items.as_slice())?;
     told.push(part.atom)?;
@@ -157,33 +164,34 @@ fn tell_part(told: &mut Vec<u8>, part: &Part) -> Result<(), io::Error> {
 }
 
 /// The parts of the words that blanks separate.
-fn parts_of(alloc: Global, words: &[u8]) -> Result<Vec<u8>, Fail> {
+fn parts_of(rt: &impl Abort, alloc: Global, words: &[u8]) -> Vec<u8> {
     let mut told = Vec::new(alloc);
     for word in words.split(|byte| *byte == b' ') {
-        let betza = parse(alloc, word)?;
+        let betza = parse(alloc, word).expect(rt, "no fault");
         for part in betza.items.iter() {
-            tell_part(&mut told, part)?;
+            tell_part(&mut told, part).expect(rt, "no fault");
         }
-        told.push(b'/')?;
+        told.push(b'/').expect(rt, "no fault");
     }
-    Ok(told)
+    told
 }
 
 #[test]
-fn a_word_has_parts(rt: HostRuntime) -> Result<(), Fail> {
-    let atoms = parts_of(rt.alloc(), b"N NN NNN NNNN0 R3R WmW W10F11 KKfQ9 LCJZ")?;
+fn a_word_has_parts(rt: HostRuntime) {
+    let atoms = parts_of(&rt, rt.alloc(), b"N NN NNN NNNN0 R3R WmW W10F11 KKfQ9 LCJZ");
     let wanted =
         b"mcN /mcN* /mcN* mcN /mcN* mcN*0 /mcR3 mcR /mcW mW /mcW10 mcF11 /mcK* mcfQ9 /mcL mcC mcJ mcZ /";
-    assert!(rt; atoms.as_slice() == wanted.as_slice());
-    let modified = parts_of(rt.alloc(), b"mW cW cmW mnN fcpfR lgrR2 bnfmsD")?;
+    expect(&rt, atoms.as_slice() == wanted.as_slice());
+    let modified = parts_of(&rt, rt.alloc(), b"mW cW cmW mnN fcpfR lgrR2 bnfmsD");
     let wanted = b"mW /cW /mcW /mnN /cpffR /mcglrR2 /mnbfsD /";
-    assert!(rt; modified.as_slice() == wanted.as_slice());
-    Ok(())
+    expect(&rt, modified.as_slice() == wanted.as_slice());
 }
 
 #[test]
-fn a_fault_has_a_kind_and_a_place(rt: HostRuntime) -> Result<(), Fail> {
-    let first = faults_of(rt.alloc(), b"|m|E|2W|W W|W\xff|m\0|Wf|mxW|[W]|W)|WF}|W-F")?;
+fn a_fault_has_a_kind_and_a_place(rt: HostRuntime) {
+    let first = faults_of(rt.alloc(), b"|m|E|2W|W W|W\xff|m\0|Wf|mxW|[W]|W)|WF}|W-F").expect(
+        &rt, "no fault",
+    );
     let wanted = b"\
         BetzaFault 1 Empty 0\n\
         BetzaFault 3 UnknownAtom 1\n\
@@ -198,9 +206,9 @@ fn a_fault_has_a_kind_and_a_place(rt: HostRuntime) -> Result<(), Fail> {
         BetzaFault 4 UnsupportedModifier 1\n\
         BetzaFault 4 UnsupportedModifier 2\n\
         BetzaFault 4 UnsupportedModifier 1\n";
-    assert!(rt; first.as_slice() == wanted.as_slice());
+    expect(&rt, first.as_slice() == wanted.as_slice());
     let words = b"cfcW|nfnR|gpgR|mfnhW|WmfN|fmnW|nNN|nN1|pnL|pgR|gfpmR|npN|R12|R100|R01|mRR20W";
-    let later = faults_of(rt.alloc(), words)?;
+    let later = faults_of(rt.alloc(), words).expect(&rt, "no fault");
     let wanted = b"\
         BetzaFault 5 DoubledModifier 2\n\
         BetzaFault 5 DoubledModifier 2\n\
@@ -218,16 +226,15 @@ fn a_fault_has_a_kind_and_a_place(rt: HostRuntime) -> Result<(), Fail> {
         BetzaFault 9 BadNumber 1\n\
         BetzaFault 9 BadNumber 1\n\
         BetzaFault 9 BadNumber 3\n";
-    assert!(rt; later.as_slice() == wanted.as_slice());
-    Ok(())
+    expect(&rt, later.as_slice() == wanted.as_slice());
 }
 
 // The first fault is told: of two modifiers, of a number and a direction, and of two parts.
 #[test]
-fn the_first_fault_is_told(rt: HostRuntime) -> Result<(), Fail> {
+fn the_first_fault_is_told(rt: HostRuntime) {
     let words =
         b"xmm|mmx|fN12|fNx|NnnN|pgN|NLJNLJNLJ|NLJNLJNLmfW|NLJNLJNLpW|NLJNLJNfhNNhhN|NLJNLJNLWx|NLJNLJNL";
-    let found = faults_of(rt.alloc(), words)?;
+    let found = faults_of(rt.alloc(), words).expect(&rt, "no fault");
     let wanted = b"\
         BetzaFault 4 UnsupportedModifier 0\n\
         BetzaFault 5 DoubledModifier 1\n\
@@ -241,21 +248,25 @@ fn the_first_fault_is_told(rt: HostRuntime) -> Result<(), Fail> {
         BetzaFault 6 AmbiguousDirection 11\n\
         BetzaFault 10 TooManyTerms 8\n\
         none\n";
-    assert!(rt; found.as_slice() == wanted.as_slice());
-    Ok(())
+    expect(&rt, found.as_slice() == wanted.as_slice());
 }
 
 #[test]
-fn a_word_has_at_most_64_bytes(rt: HostRuntime) -> Result<(), Fail> {
+fn a_word_has_at_most_64_bytes(rt: HostRuntime) {
     let mut word = [b'f'; 64];
-    let atomless = faults_of(rt.alloc(), &word)?;
-    assert!(rt; atomless.as_slice() == b"BetzaFault 3 UnknownAtom 64\n".as_slice());
+    let atomless = faults_of(rt.alloc(), &word).expect(&rt, "no fault");
+    expect(
+        &rt,
+        atomless.as_slice() == b"BetzaFault 3 UnknownAtom 64\n".as_slice(),
+    );
     word[63] = b'W';
-    let long = faults_of(rt.alloc(), &word)?;
-    assert!(rt; long.as_slice() == b"none\n".as_slice());
-    let longer = faults_of(rt.alloc(), &[b'x'; 65])?;
-    assert!(rt; longer.as_slice() == b"BetzaFault 2 TooLong 64\n".as_slice());
-    Ok(())
+    let long = faults_of(rt.alloc(), &word).expect(&rt, "no fault");
+    expect(&rt, long.as_slice() == b"none\n".as_slice());
+    let longer = faults_of(rt.alloc(), &[b'x'; 65]).expect(&rt, "no fault");
+    expect(
+        &rt,
+        longer.as_slice() == b"BetzaFault 2 TooLong 64\n".as_slice(),
+    );
 }
 
 /// The bytes that give `cfW2` this sign where they are put at this place, after the sign.
@@ -287,19 +298,22 @@ fn bytes_at(alloc: Global, place: usize) -> Result<Vec<u8>, AllocError>
 }
 
 // One byte of `cfW2` changed, in every way: the bytes of each sign. All others are no atoms.
+/// Asserts the bytes of each sign at the place.
+fn expect_bytes_at(rt: &impl Abort, alloc: Global, place: usize, wanted: &[u8])
+    requires { place < 4 }
+{
+    let found = bytes_at(alloc, place).expect(rt, "no fault");
+    expect_eq(rt, found.as_slice(), wanted);
+}
+
 #[test]
-fn one_byte_changed(rt: HostRuntime) -> Result<(), Fail> {
-    let first = bytes_at(rt.alloc(), 0)?;
-    let wanted = b"+ABCDFGHJKLNQRWZbcfglmprsv ?h nn d m()-[]adeijkoqtuwxyz{} ! ";
-    assert!(rt; first.as_slice() == wanted.as_slice());
-    let second = bytes_at(rt.alloc(), 1)?;
-    let wanted = b"+ABCDFGHJKLNQRWZbfglmprsv ?h nn dc m()-[]adeijkoqtuwxyz{} ! ";
-    assert!(rt; second.as_slice() == wanted.as_slice());
-    let atom = bytes_at(rt.alloc(), 2)?;
-    let wanted = b"+ABDFGHKQRW ?CJLNZ n dc m()-[]adeijkoqtuwxyz{} ! ";
-    assert!(rt; atom.as_slice() == wanted.as_slice());
-    let number = bytes_at(rt.alloc(), 3)?;
-    let wanted = b"+0123456789ABCDFGHJKLNQRWZ ? n d m()-[]adeijkoqtuwxyz{} ! ";
-    assert!(rt; number.as_slice() == wanted.as_slice());
-    Ok(())
+fn one_byte_changed(rt: HostRuntime) {
+    let first = b"+ABCDFGHJKLNQRWZbcfglmprsv ?h nn d m()-[]adeijkoqtuwxyz{} ! ";
+    expect_bytes_at(&rt, rt.alloc(), 0, first);
+    let second = b"+ABCDFGHJKLNQRWZbfglmprsv ?h nn dc m()-[]adeijkoqtuwxyz{} ! ";
+    expect_bytes_at(&rt, rt.alloc(), 1, second);
+    let atom = b"+ABDFGHKQRW ?CJLNZ n dc m()-[]adeijkoqtuwxyz{} ! ";
+    expect_bytes_at(&rt, rt.alloc(), 2, atom);
+    let number = b"+0123456789ABCDFGHJKLNQRWZ ? n d m()-[]adeijkoqtuwxyz{} ! ";
+    expect_bytes_at(&rt, rt.alloc(), 3, number);
 }

@@ -1,18 +1,20 @@
 //! Tests of `words`.
+use crate::expect::expect;
 use std::alloc::Global;
 use std::io::{self, Write};
-use std::test::Fail;
+use std::process::Abort;
 use words::{Asked, read_words};
 
 /// The words that bars separate; an empty line has none.
-fn owned(alloc: Global, line: &str) -> Result<Vec<String>, Fail> {
+fn owned(rt: &impl Abort, alloc: Global, line: &str) -> Vec<String> {
     let mut list = Vec::new(alloc);
     if !line.is_empty() {
         for word in line.split('|') {
-            list.push(String::from_str(alloc, word)?)?;
+            list.push(String::from_str(alloc, word).expect(rt, "no fault"))
+                .expect(rt, "no fault");
         }
     }
-    Ok(list)
+    list
 }
 
 /// Writes the file of variants, the number of threads and the command, on a line.
@@ -25,24 +27,24 @@ fn tell(told: &mut Vec<u8>, asked: &Asked) -> io::Result<()> {
 }
 
 /// What the words of the lines ask, on a line for each that asks something.
-fn answers(alloc: Global, lines: &str) -> Result<Vec<u8>, Fail> {
+fn answers(rt: &impl Abort, alloc: Global, lines: &str) -> Vec<u8> {
     let mut told = Vec::new(alloc);
     for line in lines.split('\n') {
-        let list = owned(alloc, line)?;
-        if let Some(asked) = read_words(alloc, list.as_slice())? {
-            tell(&mut told, &asked)?;
+        let list = owned(rt, alloc, line);
+        if let Some(asked) = read_words(alloc, list.as_slice()).expect(rt, "no fault") {
+            tell(&mut told, &asked).expect(rt, "no fault");
         }
     }
-    Ok(told)
+    told
 }
 
 #[test]
-fn commands_are_read(rt: HostRuntime) -> Result<(), Fail> {
+fn commands_are_read(rt: HostRuntime) {
     let lines =
         "\nuci\nxboard\nmoves\nstatus\nperft|1\nperft|00000000000000000009\ncheck\nstipulate|self|1\n\
         stipulate|help|06\nstipulate|check\nvariants\nsuite\npnmate|100\nreach|N|b1\nreach|||\nreach|N|b1|a1,a2|c3\n\
         generate|chess|18446744073709551615|08192";
-    let told = answers(rt.alloc(), lines)?;
+    let told = answers(&rt, rt.alloc(), lines);
     let wanted = b"\
         None 1 Uci\n\
         None 1 Uci\n\
@@ -62,17 +64,16 @@ fn commands_are_read(rt: HostRuntime) -> Result<(), Fail> {
         None 1 Reach { word: \"\", square: \"\", own: \"\", enemy: \"none\" }\n\
         None 1 Reach { word: \"N\", square: \"b1\", own: \"a1,a2\", enemy: \"c3\" }\n\
         None 1 Generate { name: \"chess\", number: 18446744073709551615, plies: 8192 }\n";
-    assert!(rt; told.as_slice() == wanted.as_slice());
-    Ok(())
+    expect(&rt, told.as_slice() == wanted.as_slice());
 }
 
 #[test]
-fn options_are_read(rt: HostRuntime) -> Result<(), Fail> {
+fn options_are_read(rt: HostRuntime) {
     let lines =
         "--threads|4\n--threads|4|moves\n--threads=64|moves\n--threads|00000000000000000007|moves\n\
         --variants|f|moves\n--variants=a=b|moves\n--variants|moves|moves\n--variants|é ü.ini|moves\n\
         --variants|f|--threads|2|moves\n--threads|2|--variants=f|moves";
-    let told = answers(rt.alloc(), lines)?;
+    let told = answers(&rt, rt.alloc(), lines);
     let wanted = "\
         None 4 Uci\n\
         None 4 Moves\n\
@@ -84,25 +85,23 @@ fn options_are_read(rt: HostRuntime) -> Result<(), Fail> {
         Some(\"é ü.ini\") 1 Moves\n\
         Some(\"f\") 2 Moves\n\
         Some(\"f\") 2 Moves\n";
-    assert!(rt; told.as_slice() == wanted.as_bytes());
-    Ok(())
+    expect(&rt, told.as_slice() == wanted.as_bytes());
 }
 
 // The last line of each text asks something.
 #[test]
-fn other_words_ask_nothing(rt: HostRuntime) -> Result<(), Fail> {
+fn other_words_ask_nothing(rt: HostRuntime) {
     let commands =
         "Uci\nMoves\nmoves|\nreach|N\nreach|N|b1|none|none|none\nreach|N|b1|-\nreach|-N|b1\nuci|f\n\
         suite|f\npnmate\npnmate|101\nstipulate\nstipulate|self|0\nstipulate|help|7\nstipulate|mate|1\nperft\nperft|4|4\n\
         perft|0\nperft|10\nperft|000000000000000000004\nxboard|1\nperft|4";
-    let told = answers(rt.alloc(), commands)?;
-    assert!(rt; told.as_slice() == b"None 1 Perft(4)\n".as_slice());
+    let told = answers(&rt, rt.alloc(), commands);
+    expect(&rt, told.as_slice() == b"None 1 Perft(4)\n".as_slice());
     let options = "--help\n--\n--|moves\n-threads|4|moves\n--=4|moves\n--threads\n\
         --threads|4|--threads|4|moves\n--variants|a|--variants=a|moves\n--threads=|moves\n--variants=|moves\n\
         --variants|-f|moves\n--variants|--threads|4|moves\n--threads|0|moves\n--threads|65|moves\n\
         --threads|000000000000000000007|moves\n--threads|18446744073709551616|moves\n--threads|٤|moves\n\
         moves|--threads|4\n--threads|4|moves";
-    let told = answers(rt.alloc(), options)?;
-    assert!(rt; told.as_slice() == b"None 4 Moves\n".as_slice());
-    Ok(())
+    let told = answers(&rt, rt.alloc(), options);
+    expect(&rt, told.as_slice() == b"None 4 Moves\n".as_slice());
 }

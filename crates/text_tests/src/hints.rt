@@ -1,5 +1,5 @@
 //! Tests of `hint_table`.
-use foundation::Memory;
+use crate::expect::expect_eq;
 use hint_table::{Hint, HintTable};
 use std::process::Abort;
 use std::thread::join;
@@ -34,47 +34,44 @@ fn keeps<R: Abort>(rt: &R, table: &HintTable) {
     for key in KEYS {
         for hint in HINTS {
             table.put(key, hint);
-            assert_eq!(rt; table.get(key), Some(hint));
+            expect_eq(rt, table.get(key), Some(hint));
         }
     }
 }
 
 #[test]
-fn a_hint_is_kept(rt: HostRuntime) -> Result<(), Memory> {
+fn a_hint_is_kept(rt: HostRuntime) {
     for words in [1usize, 2, 3, 1000] {
-        let table = HintTable::new(rt.alloc(), words)?;
+        let table = HintTable::new(rt.alloc(), words).expect(&rt, "no fault");
         keeps(&rt, &table);
     }
-    Ok(())
 }
 
 #[test]
-fn a_new_table_is_empty(rt: HostRuntime) -> Result<(), Memory> {
-    let table = HintTable::new(rt.alloc(), 10)?;
+fn a_new_table_is_empty(rt: HostRuntime) {
+    let table = HintTable::new(rt.alloc(), 10).expect(&rt, "no fault");
     for key in KEYS {
-        assert_eq!(rt; table.get(key), None);
+        expect_eq(&rt, table.get(key), None);
     }
     table.put(7, HINTS[0]);
     table.fill(0);
-    assert_eq!(rt; table.get(7), None);
-    Ok(())
+    expect_eq(&rt, table.get(7), None);
 }
 
 #[test]
-fn hints_of_other_positions(rt: HostRuntime) -> Result<(), Memory> {
-    let table = HintTable::new(rt.alloc(), 1)?;
+fn hints_of_other_positions(rt: HostRuntime) {
+    let table = HintTable::new(rt.alloc(), 1).expect(&rt, "no fault");
     table.put(1 << 40, HINTS[0]);
-    assert_eq!(rt; table.get(1 << 41), None);
+    expect_eq(&rt, table.get(1 << 41), None);
     // the low bits are not kept: a hint of another position may be got
-    assert_eq!(rt; table.get((1 << 40) + 1), Some(HINTS[0]));
+    expect_eq(&rt, table.get((1 << 40) + 1), Some(HINTS[0]));
     table.fill(u64::MAX);
     let every = Hint {
         depth: 255,
         slot: 65535,
         bound: i16::MAX,
     };
-    assert_eq!(rt; table.get(u64::MAX), Some(every));
-    Ok(())
+    expect_eq(&rt, table.get(u64::MAX), Some(every));
 }
 
 fn put_many(table: &HintTable) {
@@ -85,9 +82,8 @@ fn put_many(table: &HintTable) {
 }
 
 #[test]
-fn two_threads_use_one_table(rt: HostRuntime) -> Result<(), Memory> {
-    let table = HintTable::new(rt.alloc(), 4)?;
+fn two_threads_use_one_table(rt: HostRuntime) {
+    let table = HintTable::new(rt.alloc(), 4).expect(&rt, "no fault");
     join(&rt, || put_many(&table), || put_many(&table));
     keeps(&rt, &table);
-    Ok(())
 }

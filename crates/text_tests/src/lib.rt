@@ -6,6 +6,8 @@ mod betza_words;
 #[cfg(test)]
 mod command_words;
 #[cfg(test)]
+mod expect;
+#[cfg(test)]
 mod hints;
 #[cfg(test)]
 mod locks;

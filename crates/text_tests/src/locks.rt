@@ -3,9 +3,9 @@ ghost use Rattle.std.specs.Prelude.{◌≡◌, ◌+◌, ◌^◌, ◌<◌, ◌≤
 ghost use Rattle.std.specs.Option.{option_and_then};
 ghost use Rattle.fact_lock.specs.Passes.{IsPassOf, all_parts};
 
+use crate::expect::{expect, expect_eq};
 use fact_lock::{Journal, Lock, Pass};
 use std::sync::Wait;
-use std::test::Fail;
 use std::thread::{Threads, join};
 
 // Numbers up to a limit, which is their key. `Some` adds a number where there is room, and `None` only looks.
@@ -134,12 +134,11 @@ fn add_four_hundred<R: Threads + Wait + Sync>(
 }
 
 #[test]
-fn four_threads_add_each_entry_once(rt: HostRuntime) -> Result<(), Fail> {
-    let items = Vec::with_capacity(rt.alloc(), 400)?;
-    let (lock, pass) = Lock::new(rt.alloc(), Numbers { most: 400, items })?;
+fn four_threads_add_each_entry_once(rt: HostRuntime) {
+    let items = Vec::with_capacity(rt.alloc(), 400).expect(&rt, "no fault");
+    let (lock, pass) = Lock::new(rt.alloc(), Numbers { most: 400, items }).expect(&rt, "no fault");
     let (pass, grows) = add_four_hundred(&rt, &lock, pass);
     let numbers = lock.close(pass);
-    assert!(rt; grows);
-    assert_eq!(rt; (numbers.len(), strays(&numbers, 400)), (400, 0));
-    Ok(())
+    expect(&rt, grows);
+    expect_eq(&rt, (numbers.len(), strays(&numbers, 400)), (400, 0));
 }

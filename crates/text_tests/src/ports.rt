@@ -2,6 +2,7 @@
 mod adapters;
 mod memory;
 
+use crate::expect::expect;
 use foundation::Memory;
 use io_ports::{
     Dialect, Failed, Files, Gate, Given, Got, Heard, HoldingGate, LineBuf, MAX_LINE, Polled, Sink,
@@ -9,7 +10,6 @@ use io_ports::{
 };
 use std::alloc::{AllocError, Global};
 use std::io::{self, BufReader, ErrorKind, Read, Write};
-use std::test::Fail;
 use std::thread::join;
 
 // Writes an answer of a source on a line of its own.
@@ -95,22 +95,27 @@ fn after_command(line: &[u8]) -> &[u8] {
 }
 
 #[test]
-fn a_line_that_is_heard_is_answered_or_skipped_or_stops(rt: HostRuntime) -> Result<(), Fail> {
+fn a_line_that_is_heard_is_answered_or_skipped_or_stops(rt: HostRuntime) {
     let alloc = rt.alloc();
     let text =
         b"\n \t \ndebug isready\nregister\nISREADY\nxquit\n\tgo isready\nx quit\nstrategy\n\t joho  isready now";
-    let uci = hears(alloc, Dialect::Uci, text)?;
-    assert!(rt; uci.as_slice() == b"iiiiiisssr".as_slice());
-    let cecp = hears(alloc, Dialect::Cecp, text)?;
-    assert!(rt; cecp.as_slice() == b"isssssssss".as_slice());
-    Ok(())
+    let uci = hears(alloc, Dialect::Uci, text).expect(&rt, "no fault");
+    expect(&rt, uci.as_slice() == b"iiiiiisssr".as_slice());
+    let cecp = hears(alloc, Dialect::Cecp, text).expect(&rt, "no fault");
+    expect(&rt, cecp.as_slice() == b"isssssssss".as_slice());
 }
 
 #[test]
 fn a_command_is_found_with_the_text_after_it(rt: HostRuntime) {
-    assert!(rt; after_command(b"a\tgo  go depth") == b" go depth".as_slice());
-    assert!(rt; after_command(b"quit") == b"(none)".as_slice());
-    assert!(rt; too_long_answer(Dialect::Cecp) == b"Error (line too long)\n".as_slice());
+    expect(
+        &rt,
+        after_command(b"a\tgo  go depth") == b" go depth".as_slice(),
+    );
+    expect(&rt, after_command(b"quit") == b"(none)".as_slice());
+    expect(
+        &rt,
+        too_long_answer(Dialect::Cecp) == b"Error (line too long)\n".as_slice(),
+    );
 }
 
 #[test]
@@ -179,20 +184,20 @@ fn narrow_puts(alloc: Global, room: usize, flushes: u32) -> Result<Vec<u8>, io::
 }
 
 #[test]
-fn a_writer_gets_each_piece_and_its_failure_is_a_fault(rt: HostRuntime) -> Result<(), Fail> {
+fn a_writer_gets_each_piece_and_its_failure_is_a_fault(rt: HostRuntime) {
     let alloc = rt.alloc();
-    let taken = narrow_puts(alloc, 9, 2)?;
-    assert!(rt; taken.as_slice() == b"++ 0 9 readyokok".as_slice());
-    let full = narrow_puts(alloc, 8, 2)?;
-    assert!(rt; full.as_slice() == b"+- 1 7 readyoko".as_slice());
-    let stuck = narrow_puts(alloc, 9, 1)?;
-    assert!(rt; stuck.as_slice() == b"+- 1 7 readyokok".as_slice());
-    Ok(())
+    let taken = narrow_puts(alloc, 9, 2).expect(&rt, "no fault");
+    expect(&rt, taken.as_slice() == b"++ 0 9 readyokok".as_slice());
+    let full = narrow_puts(alloc, 8, 2).expect(&rt, "no fault");
+    expect(&rt, full.as_slice() == b"+- 1 7 readyoko".as_slice());
+    let stuck = narrow_puts(alloc, 9, 1).expect(&rt, "no fault");
+    expect(&rt, stuck.as_slice() == b"+- 1 7 readyokok".as_slice());
 }
 
 #[test]
 fn standard_output_takes_a_piece(rt: HostRuntime) {
-    assert!(rt; StandardOutput::new(rt.stdout()).put(b"on its way\n") == Ok::<(), Failed>(()));
+    let put = StandardOutput::new(rt.stdout()).put(b"on its way\n");
+    expect(&rt, put == Ok::<(), Failed>(()));
 }
 
 // A reader that gives at most 3 bytes a call, and fails with this kind of error at the calls of these numbers.
@@ -218,7 +223,7 @@ impl Read for Halting {
 }
 
 #[test]
-fn standard_input_takes_up_a_line_that_a_failure_interrupts(rt: HostRuntime) -> Result<(), Fail> {
+fn standard_input_takes_up_a_line_that_a_failure_interrupts(rt: HostRuntime) {
     let alloc = rt.alloc();
     let reader = Halting {
         text: b"uci\r\n\nisready",
@@ -226,13 +231,16 @@ fn standard_input_takes_up_a_line_that_a_failure_interrupts(rt: HostRuntime) -> 
         failing: &[2, 4, 6],
         kind: ErrorKind::BrokenPipe,
     };
-    let mut input = StandardInput::new(alloc, BufReader::new(alloc, reader)?)?;
-    let told = polls(alloc, &mut input, 7)?;
-    assert!(rt;
-        told.as_slice() == b"(fault)\nuci\n\n(fault)\n(fault)\nisready\n(end)\n".as_slice()
+    let mut input = StandardInput::new(
+        alloc,
+        BufReader::new(alloc, reader).expect(&rt, "no fault"),
+    ).expect(&rt, "no fault");
+    let told = polls(alloc, &mut input, 7).expect(&rt, "no fault");
+    expect(
+        &rt,
+        told.as_slice() == b"(fault)\nuci\n\n(fault)\n(fault)\nisready\n(end)\n".as_slice(),
     );
-    assert!(rt; input.faults() == 3);
-    Ok(())
+    expect(&rt, input.faults() == 3);
 }
 
 // What a long line and the next one are to standard input.
@@ -252,16 +260,15 @@ fn long_lines(alloc: Global, len: usize, end: &[u8]) -> Result<Vec<u8>, Memory> 
 }
 
 #[test]
-fn standard_input_takes_a_long_line_whole(rt: HostRuntime) -> Result<(), Fail> {
+fn standard_input_takes_a_long_line_whole(rt: HostRuntime) {
     let alloc = rt.alloc();
-    let fits = long_lines(alloc, MAX_LINE, b"\r\n")?;
-    assert!(rt; fits.as_slice() == b"+next\n(end)\n".as_slice());
+    let fits = long_lines(alloc, MAX_LINE, b"\r\n").expect(&rt, "no fault");
+    expect(&rt, fits.as_slice() == b"+next\n(end)\n".as_slice());
     for len in [MAX_LINE + 1, 3 * MAX_LINE] {
-        let long = long_lines(alloc, len, b"\r\n")?;
+        let long = long_lines(alloc, len, b"\r\n").expect(&rt, "no fault");
         assert!(rt;
             long.as_slice() == b"-next\n(end)\n".as_slice(),
             "a line of {len} bytes"
         );
     }
-    Ok(())
 }

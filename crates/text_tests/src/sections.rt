@@ -1,7 +1,8 @@
 //! Tests of `variant_ini`.
+use crate::expect::{expect, expect_eq};
 use std::alloc::{AllocError, Global};
 use std::io::{self, Write};
-use std::test::Fail;
+use std::process::Abort;
 use variant_ini::Sections;
 
 const BASE: &[u8] =
@@ -10,11 +11,11 @@ const BASE: &[u8] =
 const MORE: &[u8] = b"[a:b]\nx = 3\n[c:b]\n[d:e]\n[e]\nx=4\n[=x:a]";
 
 /// The sections of both texts.
-fn both(alloc: Global) -> Result<Sections, Fail> {
+fn both(rt: &impl Abort, alloc: Global) -> Sections {
     let mut sections = Sections::new(alloc);
-    sections.add(BASE)?;
-    sections.add(MORE)?;
-    Ok(sections)
+    sections.add(BASE).expect(rt, "no fault");
+    sections.add(MORE).expect(rt, "no fault");
+    sections
 }
 
 /// Writes a value, or a dash where there is none.
@@ -41,28 +42,31 @@ fn own_values(alloc: Global, sections: &Sections, key: &[u8]) -> Result<Vec<u8>,
     Ok(told)
 }
 
-#[test]
-fn options_come_from_the_nearest_section(rt: HostRuntime) -> Result<(), Fail> {
-    let sections = both(rt.alloc())?;
-    let found = values(rt.alloc(), &sections, b"x")?;
-    assert!(rt; found.as_slice() == b"2 # two|2 # two|3|2 # two|-|4|2 # two|".as_slice());
-    let found = values(rt.alloc(), &sections, b"X")?;
-    assert!(rt; found.as_slice() == b"-||||-|-|-|".as_slice());
-    let found = values(rt.alloc(), &sections, b"nMoveRule")?;
-    assert!(rt; found.as_slice() == b"40|40|40|40|-|-|40|".as_slice());
-    let found = values(rt.alloc(), &sections, b"nmoverule")?;
-    assert!(rt; found.as_slice() == b"-|-|-|-|-|-|-|".as_slice());
-    Ok(())
+/// Asserts the values of the key.
+fn expect_values(rt: &impl Abort, alloc: Global, sections: &Sections, key: &[u8], wanted: &[u8]) {
+    let found = values(alloc, sections, key).expect(rt, "no fault");
+    expect_eq(rt, found.as_slice(), wanted);
 }
 
 #[test]
-fn own_values_are_not_inherited(rt: HostRuntime) -> Result<(), Fail> {
-    let sections = both(rt.alloc())?;
-    let found = own_values(rt.alloc(), &sections, b"x")?;
-    assert!(rt; found.as_slice() == b"2 # two|-|3|-|-|4|-|".as_slice());
-    let found = own_values(rt.alloc(), &sections, b"X")?;
-    assert!(rt; found.as_slice() == b"-||-|-|-|-|-|".as_slice());
-    Ok(())
+fn options_come_from_the_nearest_section(rt: HostRuntime) {
+    let alloc = rt.alloc();
+    let sections = both(&rt, alloc);
+    let wanted = b"2 # two|2 # two|3|2 # two|-|4|2 # two|";
+    expect_values(&rt, alloc, &sections, b"x", wanted);
+    expect_values(&rt, alloc, &sections, b"X", b"-||||-|-|-|");
+    let wanted = b"40|40|40|40|-|-|40|";
+    expect_values(&rt, alloc, &sections, b"nMoveRule", wanted);
+    expect_values(&rt, alloc, &sections, b"nmoverule", b"-|-|-|-|-|-|-|");
+}
+
+#[test]
+fn own_values_are_not_inherited(rt: HostRuntime) {
+    let sections = both(&rt, rt.alloc());
+    let found = own_values(rt.alloc(), &sections, b"x").expect(&rt, "no fault");
+    expect(&rt, found.as_slice() == b"2 # two|-|3|-|-|4|-|".as_slice());
+    let found = own_values(rt.alloc(), &sections, b"X").expect(&rt, "no fault");
+    expect(&rt, found.as_slice() == b"-||-|-|-|-|-|".as_slice());
 }
 
 /// Each section: its name, its parent, the place of that, and the number of its lines.
@@ -78,9 +82,9 @@ fn heads(alloc: Global, sections: &Sections) -> Result<Vec<u8>, io::Error> {
 }
 
 #[test]
-fn sections_have_names_parents_and_lines(rt: HostRuntime) -> Result<(), Fail> {
-    let sections = both(rt.alloc())?;
-    let told = heads(rt.alloc(), &sections)?;
+fn sections_have_names_parents_and_lines(rt: HostRuntime) {
+    let sections = both(&rt, rt.alloc());
+    let told = heads(rt.alloc(), &sections).expect(&rt, "no fault");
     let wanted = b"\
         a|-|None 3\n\
         b|a|Some(0) 1\n\
@@ -89,14 +93,13 @@ fn sections_have_names_parents_and_lines(rt: HostRuntime) -> Result<(), Fail> {
         d|e|None 0\n\
         e|-|None 1\n\
         =x|a|Some(0) 0\n";
-    assert!(rt; told.as_slice() == wanted.as_slice());
+    expect(&rt, told.as_slice() == wanted.as_slice());
     let places = [
         sections.place_of(b"a"),
         sections.place_of(b"=x"),
         sections.place_of(b"x"),
     ];
-    assert_eq!(rt; places, [Some(0), Some(6), None]);
-    Ok(())
+    expect_eq(&rt, places, [Some(0), Some(6), None]);
 }
 
 /// What comes of each text that bars separate, where it is added: how many sections more there are, or the fault.
@@ -113,41 +116,38 @@ fn additions(alloc: Global, sections: &mut Sections, texts: &[u8]) -> Result<Vec
 }
 
 #[test]
-fn a_bad_line_is_a_fault(rt: HostRuntime) -> Result<(), Fail> {
-    let mut sections = both(rt.alloc())?;
+fn a_bad_line_is_a_fault(rt: HostRuntime) {
+    let mut sections = both(&rt, rt.alloc());
     let texts =
         b"# c\n= 1\n[a]|[a]\n\nword\nword|[a]\n = 1|[a|[]|[a:]|[:a]|[a:b:c]|[a b]|[a(b]|[a}]|[a]]|[a\x7f]|[a]x|[a] ; c";
-    let told = additions(rt.alloc(), &mut sections, texts)?;
+    let told = additions(rt.alloc(), &mut sections, texts).expect(&rt, "no fault");
     let wanted =
         b"BadLine(2) BadLine(3) BadLine(2) BadLine(1) BadLine(1) BadLine(1) BadLine(1) BadLine(1) BadLine(1) \
         BadLine(1) BadLine(1) BadLine(1) BadLine(1) BadLine(1) BadLine(1) ";
-    assert!(rt; told.as_slice() == wanted.as_slice());
-    assert_eq!(rt; sections.len(), 7);
-    Ok(())
+    expect(&rt, told.as_slice() == wanted.as_slice());
+    expect_eq(&rt, sections.len(), 7);
 }
 
 #[test]
-fn the_first_fault_is_the_answer(rt: HostRuntime) -> Result<(), Fail> {
-    let mut sections = both(rt.alloc())?;
+fn the_first_fault_is_the_answer(rt: HostRuntime) {
+    let mut sections = both(&rt, rt.alloc());
     let texts =
         b"castling = true|[a = b|[a]\rx = 1|\xff|#\xff\n;\xc3\xa4\n[a]\nx = \x80|word\n\xff|\xef\xbb\xbf[a]";
-    let told = additions(rt.alloc(), &mut sections, texts)?;
+    let told = additions(rt.alloc(), &mut sections, texts).expect(&rt, "no fault");
     let wanted =
         b"NoSection(1) NoSection(1) NoSection(1) NotAscii(1) NotAscii(4) BadLine(1) NotAscii(1) ";
-    assert!(rt; told.as_slice() == wanted.as_slice());
-    assert_eq!(rt; sections.len(), 7);
-    Ok(())
+    expect(&rt, told.as_slice() == wanted.as_slice());
+    expect_eq(&rt, sections.len(), 7);
 }
 
 #[test]
-fn texts_without_a_fault_are_added(rt: HostRuntime) -> Result<(), Fail> {
-    let mut sections = both(rt.alloc())?;
+fn texts_without_a_fault_are_added(rt: HostRuntime) {
+    let mut sections = both(&rt, rt.alloc());
     let texts =
         b"|\r|\n\n| ;\xff| \t[a]\t \r\n|[a=b]|[a]\nk = v\rw|[a]\n[b = c]\n[kept]|[a:a]\n[b:none]\n\x01 = 1";
-    let told = additions(rt.alloc(), &mut sections, texts)?;
-    assert!(rt; told.as_slice() == b"0 0 0 0 1 1 1 2 2 ".as_slice());
-    assert_eq!(rt; sections.len(), 14);
-    Ok(())
+    let told = additions(rt.alloc(), &mut sections, texts).expect(&rt, "no fault");
+    expect(&rt, told.as_slice() == b"0 0 0 0 1 1 1 2 2 ".as_slice());
+    expect_eq(&rt, sections.len(), 14);
 }
 
 /// A front, a piece this often, and a back.
@@ -187,37 +187,43 @@ fn tell_size(
 }
 
 #[test]
-fn files_have_a_greatest_size(rt: HostRuntime) -> Result<(), Fail> {
+fn files_have_a_greatest_size(rt: HostRuntime) {
     let mut told = Vec::new(rt.alloc());
-    tell_size(&mut told, b"", b"\n", 1_048_576, b"")?;
-    tell_size(&mut told, b"\xff", b"\n", 1_048_576, b"")?;
-    tell_size(&mut told, b"", b"[a]\n", 512, b"")?;
-    tell_size(&mut told, b"", b"[a]\n", 513, b"")?;
-    tell_size(&mut told, b"", b"[a]\n", 512, b"#\nx=1\n[a\n[b]")?;
-    assert!(rt; told.as_slice() == b"0 TooLarge 512 TooManySections(513) BadLine(515) ".as_slice());
-    Ok(())
+    tell_size(&mut told, b"", b"\n", 1_048_576, b"").expect(&rt, "no fault");
+    tell_size(&mut told, b"\xff", b"\n", 1_048_576, b"").expect(&rt, "no fault");
+    tell_size(&mut told, b"", b"[a]\n", 512, b"").expect(&rt, "no fault");
+    tell_size(&mut told, b"", b"[a]\n", 513, b"").expect(&rt, "no fault");
+    tell_size(&mut told, b"", b"[a]\n", 512, b"#\nx=1\n[a\n[b]").expect(&rt, "no fault");
+    expect(
+        &rt,
+        told.as_slice() == b"0 TooLarge 512 TooManySections(513) BadLine(515) ".as_slice(),
+    );
 }
 
 #[test]
-fn names_have_a_greatest_size(rt: HostRuntime) -> Result<(), Fail> {
+fn names_have_a_greatest_size(rt: HostRuntime) {
     let mut told = Vec::new(rt.alloc());
-    tell_size(&mut told, b"[", b"n", 64, b"]")?;
-    tell_size(&mut told, b"[", b"n", 65, b"]")?;
-    tell_size(&mut told, b"[a:", b"n", 64, b"]")?;
-    tell_size(&mut told, b"[a:", b"n", 65, b"]")?;
-    assert!(rt; told.as_slice() == b"1 BadLine(1) 1 BadLine(1) ".as_slice());
-    Ok(())
+    tell_size(&mut told, b"[", b"n", 64, b"]").expect(&rt, "no fault");
+    tell_size(&mut told, b"[", b"n", 65, b"]").expect(&rt, "no fault");
+    tell_size(&mut told, b"[a:", b"n", 64, b"]").expect(&rt, "no fault");
+    tell_size(&mut told, b"[a:", b"n", 65, b"]").expect(&rt, "no fault");
+    expect(
+        &rt,
+        told.as_slice() == b"1 BadLine(1) 1 BadLine(1) ".as_slice(),
+    );
 }
 
 #[test]
-fn lines_have_a_greatest_size(rt: HostRuntime) -> Result<(), Fail> {
+fn lines_have_a_greatest_size(rt: HostRuntime) {
     let mut told = Vec::new(rt.alloc());
-    tell_size(&mut told, b"\n#", b" ", 1_023, b"\n")?;
-    tell_size(&mut told, b"\n#", b" ", 1_023, b"\r")?;
-    tell_size(&mut told, b"\n", b"\xff", 1_025, b"")?;
-    tell_size(&mut told, b"[a]\nk=", b"v", 1_022, b"\n[b:a]\n[c:b]")?;
-    assert!(rt; told.as_slice() == b"0 LineTooLong(2) LineTooLong(2) 3 ".as_slice());
-    Ok(())
+    tell_size(&mut told, b"\n#", b" ", 1_023, b"\n").expect(&rt, "no fault");
+    tell_size(&mut told, b"\n#", b" ", 1_023, b"\r").expect(&rt, "no fault");
+    tell_size(&mut told, b"\n", b"\xff", 1_025, b"").expect(&rt, "no fault");
+    tell_size(&mut told, b"[a]\nk=", b"v", 1_022, b"\n[b:a]\n[c:b]").expect(&rt, "no fault");
+    expect(
+        &rt,
+        told.as_slice() == b"0 LineTooLong(2) LineTooLong(2) 3 ".as_slice(),
+    );
 }
 
 // A chain of 512 parents in a file of about a mebibyte: each section but the first has 227 keys of its own.
@@ -240,12 +246,14 @@ fn chain(alloc: Global) -> Result<Vec<u8>, AllocError> {
 }
 
 #[test]
-fn a_long_chain_is_walked(rt: HostRuntime) -> Result<(), Fail> {
-    let text = chain(rt.alloc())?;
+fn a_long_chain_is_walked(rt: HostRuntime) {
+    let text = chain(rt.alloc()).expect(&rt, "no fault");
     let mut sections = Sections::new(rt.alloc());
-    sections.add(text.as_slice())?;
-    assert_eq!(rt; sections.len(), 512);
-    assert!(rt; sections.resolve(511, b"first") == Some(b"0".as_slice()));
-    assert!(rt; sections.resolve(511, b"last").is_none());
-    Ok(())
+    sections.add(text.as_slice()).expect(&rt, "no fault");
+    assert!(rt; sections.len() == 512);
+    expect(
+        &rt,
+        sections.resolve(511, b"first") == Some(b"0".as_slice()),
+    );
+    expect(&rt, sections.resolve(511, b"last").is_none());
 }

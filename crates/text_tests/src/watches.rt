@@ -1,4 +1,5 @@
 //! Tests of `watching`.
+use crate::expect::{expect, expect_eq};
 use foundation::Memory;
 use io_ports::{Dialect, Limits, LineBuf, ListClock, MemSink, MemSource, PollsOwed, SearchFault};
 use std::alloc::Global;
@@ -80,7 +81,7 @@ fn lines_are_heard(rt: HostRuntime) -> Result<(), Fail> {
         Err(Cut(Line)) 2049 readyok\n\n\
         Err(Cut(End)) 2049 readyok\n\n\
         Err(Cut(End)) 1 \n";
-    assert!(rt; told.as_slice() == wanted.as_slice());
+    expect(&rt, told.as_slice() == wanted.as_slice());
     Ok(())
 }
 
@@ -103,24 +104,31 @@ fn limits_end_a_search(rt: HostRuntime) -> Result<(), Fail> {
         Err(Cut(Deadline(7))) 1025 \n\
         Err(Cut(Deadline(7))) 1025 \n\
         Err(Cut(Quota(1025))) 1025 \n";
-    assert!(rt; told.as_slice() == wanted.as_slice());
+    expect(&rt, told.as_slice() == wanted.as_slice());
     Ok(())
 }
 
 #[test]
-fn faults_end_a_search(rt: HostRuntime) -> Result<(), Memory> {
+fn faults_end_a_search(rt: HostRuntime) {
     let alloc = rt.alloc();
-    let mut source = MemSource::new(alloc, b"isready\n", PollsOwed::Number(0), &[1])?;
-    let mut sink = MemSink::new(alloc, 100)?;
-    let (end, nodes) = watched(alloc, Dialect::Uci, &mut source, &mut sink, NONE)?;
-    assert_eq!(rt; end, Err(Halt::Fault(SearchFault::ReadFault)));
-    assert_eq!(rt; nodes, 1025);
-    let mut again = MemSource::new(alloc, b"isready\n", PollsOwed::Number(0), &[])?;
-    let mut small = MemSink::new(alloc, 3)?;
-    let (ended, _) = watched(alloc, Dialect::Uci, &mut again, &mut small, NONE)?;
-    assert_eq!(rt; ended, Err(Halt::Fault(SearchFault::WriteFault)));
-    assert!(rt; small.taken() == b"rea".as_slice());
-    Ok(())
+    let mut source = MemSource::new(alloc, b"isready\n", PollsOwed::Number(0), &[1]).expect(
+        &rt, "no fault",
+    );
+    let mut sink = MemSink::new(alloc, 100).expect(&rt, "no fault");
+    let (end, nodes) = watched(alloc, Dialect::Uci, &mut source, &mut sink, NONE).expect(
+        &rt, "no fault",
+    );
+    expect_eq(&rt, end, Err(Halt::Fault(SearchFault::ReadFault)));
+    expect_eq(&rt, nodes, 1025);
+    let mut again = MemSource::new(alloc, b"isready\n", PollsOwed::Number(0), &[]).expect(
+        &rt, "no fault",
+    );
+    let mut small = MemSink::new(alloc, 3).expect(&rt, "no fault");
+    let (ended, _) = watched(alloc, Dialect::Uci, &mut again, &mut small, NONE).expect(
+        &rt, "no fault",
+    );
+    expect_eq(&rt, ended, Err(Halt::Fault(SearchFault::WriteFault)));
+    expect(&rt, small.taken() == b"rea".as_slice());
 }
 
 #[test]
@@ -131,15 +139,15 @@ fn helpers_heed_flag_and_quota(rt: HostRuntime) {
         quota: Some(20),
         nodes: 0,
     };
-    assert_eq!(rt; enter(&mut helper, 15), Ok(()));
-    assert_eq!(rt; enter(&mut helper, 15), Err(Halt::Cut(Cut::Quota(20))));
-    assert_eq!(rt; helper.nodes, 20);
+    expect_eq(&rt, enter(&mut helper, 15), Ok(()));
+    expect_eq(&rt, enter(&mut helper, 15), Err(Halt::Cut(Cut::Quota(20))));
+    expect_eq(&rt, helper.nodes, 20);
     flag.raise();
     let mut later = Helper {
         flag: &flag,
         quota: None,
         nodes: 0,
     };
-    assert_eq!(rt; enter(&mut later, 15), Err(Halt::Cut(Cut::End)));
-    assert_eq!(rt; later.nodes, 0);
+    expect_eq(&rt, enter(&mut later, 15), Err(Halt::Cut(Cut::End)));
+    expect_eq(&rt, later.nodes, 0);
 }

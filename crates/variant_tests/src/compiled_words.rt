@@ -1,10 +1,11 @@
 //! Tests of `betza_compile`.
+use crate::expect::expect;
 use betza_compile::compile;
 use betza_text::parse;
 use rules_model::{Term, Way};
 use std::alloc::Global;
 use std::io::{self, Write};
-use std::test::Fail;
+use std::process::Abort;
 
 /// Writes how a term goes (`m` where it moves and `c` where it takes), how far, and its step.
 fn tell_term(told: &mut Vec<u8>, term: &Term) -> io::Result<()> {
@@ -25,37 +26,36 @@ fn tell_term(told: &mut Vec<u8>, term: &Term) -> io::Result<()> {
 }
 
 /// The terms of each word that blanks separate, on a line for each.
-fn terms_of(alloc: Global, words: &[u8]) -> Result<Vec<u8>, Fail> {
+fn terms_of(rt: &impl Abort, alloc: Global, words: &[u8]) -> Vec<u8> {
     let mut told = Vec::new(alloc);
     for word in words.split(|byte| *byte == b' ') {
-        let betza = parse(alloc, word)?;
+        let betza = parse(alloc, word).expect(rt, "no fault");
         let terms = compile(&betza);
         for term in terms.items.iter() {
-            tell_term(&mut told, term)?;
+            tell_term(&mut told, term).expect(rt, "no fault");
         }
-        told.push(b'\n')?;
+        told.push(b'\n').expect(rt, "no fault");
     }
-    Ok(told)
+    told
 }
 
 #[test]
-fn all_steps_in_their_order(rt: HostRuntime) -> Result<(), Fail> {
-    let told = terms_of(rt.alloc(), b"N cmK R")?;
+fn all_steps_in_their_order(rt: HostRuntime) {
+    let told = terms_of(&rt, rt.alloc(), b"N cmK R");
     let wanted = b"\
         mc leap 1 -1,-2|mc leap 1 1,-2|mc leap 1 -2,-1|mc leap 1 2,-1|\
         mc leap 1 -2,1|mc leap 1 2,1|mc leap 1 -1,2|mc leap 1 1,2|\n\
         mc leap 1 0,-1|mc leap 1 -1,0|mc leap 1 1,0|mc leap 1 0,1|\
         mc leap 1 -1,-1|mc leap 1 1,-1|mc leap 1 -1,1|mc leap 1 1,1|\n\
         mc slide 11 0,-1|mc slide 11 -1,0|mc slide 11 1,0|mc slide 11 0,1|\n";
-    assert!(rt; told.as_slice() == wanted.as_slice());
-    Ok(())
+    expect(&rt, told.as_slice() == wanted.as_slice());
 }
 
 // Words of one direction: its way, its limit, and whether it moves and takes.
 #[test]
-fn ways_and_limits(rt: HostRuntime) -> Result<(), Fail> {
+fn ways_and_limits(rt: HostRuntime) {
     let words = b"ffnN fmK fcK fcmQ fKK ffNN ffNN3 fR0 fW0 fW1 fR10 fcpR fgW4 fpWW";
-    let told = terms_of(rt.alloc(), words)?;
+    let told = terms_of(&rt, rt.alloc(), words);
     let wanted = b"\
         mc lame 1 -1,2|mc lame 1 1,2|\n\
         m leap 1 0,1|m leap 1 -1,1|m leap 1 1,1|\n\
@@ -71,14 +71,15 @@ fn ways_and_limits(rt: HostRuntime) -> Result<(), Fail> {
         c hop 11 0,1|\n\
         mc grass 4 0,1|\n\
         mc hop 11 0,1|\n";
-    assert!(rt; told.as_slice() == wanted.as_slice());
-    Ok(())
+    expect(&rt, told.as_slice() == wanted.as_slice());
 }
 
 // A rook that moves and, over one piece, takes: the parts stand in order.
 #[test]
-fn two_parts(rt: HostRuntime) -> Result<(), Fail> {
-    let told = terms_of(rt.alloc(), b"fmRfcpR")?;
-    assert!(rt; told.as_slice() == b"m slide 11 0,1|c hop 11 0,1|\n".as_slice());
-    Ok(())
+fn two_parts(rt: HostRuntime) {
+    let told = terms_of(&rt, rt.alloc(), b"fmRfcpR");
+    expect(
+        &rt,
+        told.as_slice() == b"m slide 11 0,1|c hop 11 0,1|\n".as_slice(),
+    );
 }

@@ -4,6 +4,8 @@
 #[cfg(test)]
 mod compiled_words;
 #[cfg(test)]
+mod expect;
+#[cfg(test)]
 mod fens;
 #[cfg(test)]
 mod option_lines;

@@ -1,4 +1,5 @@
 //! Tests of `variant_options`.
+use crate::expect::expect;
 use std::alloc::Global;
 use std::io::Write;
 use std::test::Fail;
@@ -27,7 +28,7 @@ fn lines_and_their_faults(rt: HostRuntime) -> Result<(), Fail> {
     let told = faults_of(rt.alloc(), good)?;
     let wanted =
         "None\nNone\nNone\nNone\nNone\nNone\nNone\nNone\nNone\nNone\nNone\nNone\nNone\nNone\n";
-    assert!(rt; told.as_slice() == wanted.as_bytes());
+    expect(&rt, told.as_slice() == wanted.as_bytes());
     let bad =
         "maxRank=11\nmaxFile=13\ndoubleStep=False\nnFoldRule=1\nstalemateValue=none\nnMoveRuleTypes=*\n\
         promotionPieceTypes=n,b\npromotedPieceType=s:\nflagRegionWhite=m4\nmobilityRegionBlackPawn=*1\n\
@@ -46,6 +47,6 @@ fn lines_and_their_faults(rt: HostRuntime) -> Result<(), Fail> {
         Some(UnsupportedOption)\n\
         Some(UnsupportedOption)\n\
         Some(BadPiece(AmbiguousDirection(0)))\n";
-    assert!(rt; told.as_slice() == wanted.as_bytes());
+    expect(&rt, told.as_slice() == wanted.as_bytes());
     Ok(())
 }

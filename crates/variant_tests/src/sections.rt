@@ -1,8 +1,10 @@
 //! Tests of `section_rules`.
-use rules_model::{Memory, Square};
+use crate::expect::expect;
+use rules_model::{Kind, KindRule, Memory, Rules, Square};
 use section_rules::{LetteredSections, Resolved, bare_rules, own_fault, rules_fault};
 use std::alloc::Global;
 use std::io::Write;
+use std::process::Abort;
 use std::test::Fail;
 use variant_ini::Sections;
 use variant_model::SectionFault;
@@ -56,7 +58,7 @@ fn faults_of_lines(rt: HostRuntime) -> Result<(), Fail> {
         SectionFault 6 BadPiece king BetzaFault 3 UnknownAtom 0\n\
         SectionFault 7 LetterTwice b\n\
         none\n";
-    assert!(rt; told.as_slice() == wanted.as_slice());
+    expect(&rt, told.as_slice() == wanted.as_slice());
     Ok(())
 }
 
@@ -75,7 +77,7 @@ fn contradictions(rt: HostRuntime) -> Result<(), Fail> {
         SectionFault 9 Inconsistent 4\n\
         none\n\
         SectionFault 9 Inconsistent 5\n";
-    assert!(rt; told.as_slice() == wanted.as_slice());
+    expect(&rt, told.as_slice() == wanted.as_slice());
     Ok(())
 }
 
@@ -94,36 +96,73 @@ checkCounting = true
 nFoldRule = 5
 startFen = x";
 
+/// The numbers of `c`, which come from all three sections.
+fn expect_numbers(rt: &impl Abort, rules: &Rules) {
+    let found = [
+        rules.n_move,
+        rules.n_fold,
+        u16::from(rules.files),
+        u16::from(rules.ranks),
+    ];
+    assert_eq!(rt; found, [40, 5, 9, 8]);
+}
+
+/// The kinds that `c` names. The letter of the rook is the chancellor's.
+fn expect_kinds(rt: &impl Abort, rules: &Rules) {
+    let found = [rules.king, rules.flag_kind, rules.soldier];
+    assert_eq!(rt; found, [Some(Kind(10)), None, None]);
+    expect(rt, rules.check_counting && !rules.castle_rooks[17]);
+}
+
+/// How many terms a kind has, and whether it is the chess pawn.
+fn steps_of(rule: &Option<KindRule>) -> (usize, bool) {
+    match rule {
+        Some(rule) => (rule.terms.items.len(), rule.pawn),
+        None => (0, false),
+    }
+}
+
+/// The steps of the chancellor and of the king, whose word is the value's own.
+fn expect_steps(rt: &impl Abort, rules: &Rules) {
+    let found = (steps_of(&rules.kinds[17]), steps_of(&rules.kinds[10]));
+    assert_eq!(rt; found, ((12, false), (4, false)));
+}
+
+/// Whether each region has its own squares of the board, and none beside it.
+fn expect_regions(rt: &impl Abort, rules: &Rules) {
+    let palace = match &rules.kinds[10] {
+        Some(king) => king.mobility[1],
+        None => rules.promotion[1],
+    };
+    let found = [
+        palace.squares[Square::at(8, 1).0 as usize],
+        palace.squares[Square::at(9, 1).0 as usize],
+        palace.squares[Square::at(8, 2).0 as usize],
+        rules.promotion[0].squares[Square::at(8, 7).0 as usize],
+        rules.promotion[0].squares[Square::at(9, 7).0 as usize],
+    ];
+    assert_eq!(rt; found, [true, false, false, true, false]);
+}
+
+/// The rules of the last section, and whether its start is of this text.
+fn last_rules(alloc: Global, start: &[u8]) -> Result<(Rules, bool), Fail> {
+    let sections = sections_of(alloc, CHAIN)?;
+    if sections.len() != 3 {
+        return Err("three sections".into());
+    }
+    let lettered = LetteredSections::new(alloc, &sections)?;
+    let section = Resolved::new(&lettered, 2);
+    let rules = bare_rules(alloc, &section)?;
+    Ok((rules, section.start_text() == start))
+}
+
 #[test]
 fn fields(rt: HostRuntime) -> Result<(), Fail> {
-    let sections = sections_of(rt.alloc(), CHAIN)?;
-    assert!(rt; sections.len() == 3);
-    let lettered = LetteredSections::new(rt.alloc(), &sections).map_err(|_| "no memory")?;
-    let section = Resolved::new(&lettered, 2);
-    assert!(rt; section.start_text() == b"x".as_slice());
-    let rules = bare_rules(rt.alloc(), &section).map_err(|_| "no memory")?;
-    assert!(rt; rules.n_move == 40 && rules.n_fold == 5 && rules.check_counting);
-    assert!(rt; rules.files == 9 && rules.ranks == 8);
-    assert!(rt; rules.flag_kind.is_none() && rules.soldier.is_none());
-    let king = rules.king.ok_or("no king")?;
-    assert!(rt; king.0 == 10);
-
-    // The letter of the rook is the chancellor's.
-    assert!(rt; !rules.castle_rooks[17]);
-    let Some(chancellor) = &rules.kinds[17] else {
-        return Err("no chancellor".into());
-    };
-    assert!(rt; chancellor.terms.items.len() == 12 && !chancellor.pawn);
-
-    // A word of the value's own, and a region on the board alone.
-    let Some(rule) = &rules.kinds[10] else {
-        return Err("no king".into());
-    };
-    assert!(rt; rule.terms.items.len() == 4);
-    assert!(rt; rule.mobility[1].squares[Square::at(8, 1).0 as usize]);
-    assert!(rt; !rule.mobility[1].squares[Square::at(9, 1).0 as usize]);
-    assert!(rt; !rule.mobility[1].squares[Square::at(8, 2).0 as usize]);
-    assert!(rt; rules.promotion[0].squares[Square::at(8, 7).0 as usize]);
-    assert!(rt; !rules.promotion[0].squares[Square::at(9, 7).0 as usize]);
+    let (rules, has_start) = last_rules(rt.alloc(), b"x")?;
+    expect(&rt, has_start);
+    expect_numbers(&rt, &rules);
+    expect_kinds(&rt, &rules);
+    expect_steps(&rt, &rules);
+    expect_regions(&rt, &rules);
     Ok(())
 }

@@ -1,7 +1,8 @@
 //! Tests of `variant_rules`.
+use crate::expect::expect;
 use rules_model::Rules;
 use std::alloc::{AllocError, Global};
-use std::test::Fail;
+use std::process::Abort;
 use variant_rules::{Found, SectionFault, Variants, builtin, load};
 
 // a changes one option of chess, b one of a, c one of b; d has an option that is refused by its name, and e is its
@@ -18,10 +19,10 @@ const CHAIN: &[u8] = b"[a:chess]\n\
     [e:d]";
 
 // The built-in variants and those of a file.
-fn variants_with(alloc: Global, file: &[u8]) -> Result<Variants, Fail> {
-    let mut sections = builtin(alloc)?;
-    sections.add(file)?;
-    Ok(load(alloc, &sections)?)
+fn variants_with(rt: &impl Abort, alloc: Global, file: &[u8]) -> Variants {
+    let mut sections = builtin(alloc).expect(rt, "no fault");
+    sections.add(file).expect(rt, "no fault");
+    load(alloc, &sections).expect(rt, "no fault")
 }
 
 // How an entry prints.
@@ -47,9 +48,9 @@ fn entries_of(alloc: Global, variants: &Variants) -> Result<Vec<u8>, AllocError>
 }
 
 #[test]
-fn a_file_stands_below_the_built_in_variants(rt: HostRuntime) -> Result<(), Fail> {
-    let variants = variants_with(rt.alloc(), CHAIN)?;
-    let told = entries_of(rt.alloc(), &variants)?;
+fn a_file_stands_below_the_built_in_variants(rt: HostRuntime) {
+    let variants = variants_with(&rt, rt.alloc(), CHAIN);
+    let told = entries_of(rt.alloc(), &variants).expect(&rt, "no fault");
     let wanted = b"\
         chess:ok\n\
         crazyhouse:ok\n\
@@ -66,53 +67,56 @@ fn a_file_stands_below_the_built_in_variants(rt: HostRuntime) -> Result<(), Fail
         c:ok\n\
         d:SectionFault 4 UnsupportedOption blastOnCapture\n\
         e:SectionFault 3 RefusedParent\n";
-    assert!(rt; told.as_slice() == wanted.as_slice());
-    Ok(())
+    expect(&rt, told.as_slice() == wanted.as_slice());
+}
+
+/// The numbers of a variant's move and repetition rules, and whether kings castle there.
+fn counts_of(found: Found) -> Option<(u16, u16, bool)> {
+    match found {
+        Found::Rules(rules) => Some((rules.n_move, rules.n_fold, rules.castling)),
+        _ => None,
+    }
+}
+
+/// What becomes of those that are no variants: one that has a refused parent, and an unknown name.
+fn are_refused(variants: &Variants) -> bool {
+    matches!(
+        variants.find(b"e"),
+        Found::Refused(SectionFault::RefusedParent)
+    ) && matches!(variants.find(b"f"), Found::Unknown)
 }
 
 #[test]
-fn options_come_from_all_parents(rt: HostRuntime) -> Result<(), Fail> {
-    let variants = variants_with(rt.alloc(), CHAIN)?;
-    match variants.find(b"c") {
-        Found::Rules(rules) => {
-            assert_eq!(rt; rules.n_move, 40);
-            assert!(rt; !rules.castling);
-            assert_eq!(rt; rules.n_fold, 2);
-        }
-        _ => assert!(rt; false, "c is refused"),
-    }
-    assert!(rt;
-        matches!(
-            variants.find(b"e"),
-            Found::Refused(SectionFault::RefusedParent)
-        )
-    );
-    assert!(rt; matches!(variants.find(b"f"), Found::Unknown));
-    Ok(())
+fn options_come_from_all_parents(rt: HostRuntime) {
+    let variants = variants_with(&rt, rt.alloc(), CHAIN);
+    let counts = counts_of(variants.find(b"c"));
+    assert_eq!(rt; counts, Some((40, 2, false)));
+    expect(&rt, are_refused(&variants));
 }
 
 /// How the first section of each file that bars separate prints, on a line for each.
-fn first_entries(alloc: Global, files: &[u8]) -> Result<Vec<u8>, Fail> {
+fn first_entries(rt: &impl Abort, alloc: Global, files: &[u8]) -> Vec<u8> {
     let mut told = Vec::new(alloc);
     for file in files.split(|byte| *byte == b'|') {
-        let variants = variants_with(alloc, file)?;
+        let variants = variants_with(rt, alloc, file);
         if 10 < variants.len() {
             let (_, entry) = variants.entry(10);
-            let text = printed(alloc, entry)?;
-            told.extend_from_slice(text.as_bytes())?;
+            let text = printed(alloc, entry).expect(rt, "no fault");
+            told.extend_from_slice(text.as_bytes())
+                .expect(rt, "no fault");
         }
-        told.push(b'\n')?;
+        told.push(b'\n').expect(rt, "no fault");
     }
-    Ok(told)
+    told
 }
 
 #[test]
-fn the_first_fault_is_the_answer(rt: HostRuntime) -> Result<(), Fail> {
+fn the_first_fault_is_the_answer(rt: HostRuntime) {
     let files =
         b"[chess]\nblast = 1|[x:x]\nblast = 1|[x:y]\n[y:chess]|[x:chess]\nblast = 1\nnFoldRule = 1|\
         [x:chess]\nnFoldRule = 1\nblast = 1|[x:chess]\ncustomPiece1 = a:fN|\
         [x]\nqueen = Q\namazon = q\nrook = a\nbishop = a\nseirawanGating = true";
-    let told = first_entries(rt.alloc(), files)?;
+    let told = first_entries(&rt, rt.alloc(), files);
     let wanted = b"\
         SectionFault 1 DuplicateName\n\
         SectionFault 2 UnknownParent\n\
@@ -121,16 +125,15 @@ fn the_first_fault_is_the_answer(rt: HostRuntime) -> Result<(), Fail> {
         SectionFault 5 BadValue nFoldRule\n\
         SectionFault 6 BadPiece customPiece1 BetzaFault 6 AmbiguousDirection 0\n\
         SectionFault 7 LetterTwice a\n";
-    assert!(rt; told.as_slice() == wanted.as_slice());
+    expect(&rt, told.as_slice() == wanted.as_slice());
     let files = b"[x:chess]\nseirawanGating = true\nstartFen = none|[x]|[x:chess]\nstartFen = none|\
         [x:chess]\ncastling = false|[x:chess]";
-    let told = first_entries(rt.alloc(), files)?;
+    let told = first_entries(&rt, rt.alloc(), files);
     let wanted = b"\
         SectionFault 9 Inconsistent 4\n\
         SectionFault 9 Inconsistent 1\n\
         SectionFault 8 BadStart FenFault 1 Length\n\
         SectionFault 8 BadStart FenFault 7 Rights\n\
         ok\n";
-    assert!(rt; told.as_slice() == wanted.as_slice());
-    Ok(())
+    expect(&rt, told.as_slice() == wanted.as_slice());
 }
