@@ -1,4 +1,5 @@
 //! Tests of `mate_core`.
+use crate::expect::{expect, expect_eq};
 use forced_wins::Fact;
 use mate_core::{
     Event, FactList, FactLists, Frame, KnownList, Reply, Store, best, is_as_good, serves, shard_of,
@@ -9,7 +10,6 @@ use rules_model::{Blocked, Cell, Kind, Repeat, Side, Square};
 use sample_rules::leapers;
 use std::alloc::{AllocError, Global};
 use std::process::Abort;
-use std::test::Fail;
 
 fn bare() -> Repeat {
     Repeat {
@@ -44,7 +44,7 @@ fn expect_best(rt: &impl Abort, counter: u16, moves: u16, want: Option<(u16, u16
     ];
     let found = best(&facts, &bare(), counter, moves);
     let found = found.map(|fact| (fact.moves, fact.counter));
-    assert_eq!(rt; found, want, "at {counter} within {moves}");
+    assert!(rt; found == want, "at {counter} within {moves}");
 }
 
 #[test]
@@ -68,14 +68,18 @@ fn king_of(side: Side) -> Option<Cell> {
 /// Asserts that the repeat, which differs from the bare one in one part, is another.
 fn expect_another(rt: &impl Abort, other: &Repeat) {
     let win = fact(true, 3, 10);
-    assert!(rt; !serves(&win, other, 10, 3) && key_of_repeat(other) != key_of_repeat(&bare()));
+    expect(
+        rt,
+        !serves(&win, other, 10, 3) && key_of_repeat(other) != key_of_repeat(&bare()),
+    );
 }
 
 #[test]
 fn a_side_a_passing_pawn_and_checks_count(rt: HostRuntime) {
     let win = fact(true, 3, 10);
-    assert!(rt;
-        serves(&win, &bare(), 10, 3) && key_of_repeat(&win.repeat) == key_of_repeat(&bare())
+    expect(
+        &rt,
+        serves(&win, &bare(), 10, 3) && key_of_repeat(&win.repeat) == key_of_repeat(&bare()),
     );
     let side = Side::Black;
     expect_another(&rt, &Repeat { side, ..bare() });
@@ -103,7 +107,7 @@ fn the_last_of_a_hand_and_of_the_cells_counts(rt: HostRuntime) {
 fn expect_as_good(rt: &impl Abort, known: (u16, u16), given: (u16, u16), wins: bool, want: bool) {
     let known = fact(wins, known.0, known.1);
     let given = fact(wins, given.0, given.1);
-    assert_eq!(rt; is_as_good(&known, &given), want);
+    expect_eq(rt, is_as_good(&known, &given), want);
 }
 
 #[test]
@@ -116,7 +120,7 @@ fn as_good_is_no_slower_at_no_lower_a_counter(rt: HostRuntime) {
     expect_as_good(&rt, (2, 5), (3, 5), false, false);
     expect_as_good(&rt, (2, 5), (2, 4), false, false);
     let (win, refutation) = (fact(true, 2, 5), fact(false, 2, 5));
-    assert!(rt; !is_as_good(&refutation, &win));
+    expect(&rt, !is_as_good(&refutation, &win));
 }
 
 // A king on each square of the largest board: 120 repeats, of which 16 shards get some each.
@@ -126,10 +130,10 @@ fn shards_share_the_repeats(rt: HostRuntime) {
     for square in 0..120 {
         let mut repeat = bare();
         repeat.cells[square] = king_of(Side::Black);
-        assert_eq!(rt; shard_of(&repeat, 1), 0);
+        expect_eq(&rt, shard_of(&repeat, 1), 0);
         filled[shard_of(&repeat, 16) as usize] = true;
     }
-    assert!(rt; filled.iter().all(|is| *is));
+    expect(&rt, filled.iter().all(|is| *is));
 }
 
 // A store with one shard of sixteen places.
@@ -192,37 +196,31 @@ fn name_of(reply: &Reply) -> (&'static str, Option<u8>) {
 }
 
 // The store of sixteen facts.
-fn full(rt: &impl Abort, alloc: Global) -> Result<Store, Fail> {
-    let mut store = small(alloc)?;
+fn full(rt: &impl Abort, alloc: Global) -> Store {
+    let mut store = small(alloc).expect(rt, "no fault");
     for number in 0..16 {
-        let (next, reply) = step(store, &publish(number))?;
-        assert_eq!(rt; name_of(&reply), ("stored", None));
+        let (next, reply) = step(store, &publish(number)).expect(rt, "no fault");
+        expect_eq(rt, name_of(&reply), ("stored", None));
         store = next;
     }
-    Ok(store)
+    store
 }
 
 // Asserts the reply of the full store to the event, after which it still has sixteen facts.
-fn expect_reply(
-    rt: &impl Abort,
-    alloc: Global,
-    event: &Event,
-    wanted: (&str, Option<u8>),
-) -> Result<(), Fail> {
-    let (store, reply) = step(full(rt, alloc)?, event)?;
-    assert_eq!(rt; name_of(&reply), wanted);
+fn expect_reply(rt: &impl Abort, alloc: Global, event: &Event, wanted: (&str, Option<u8>)) {
+    let (store, reply) = step(full(rt, alloc), event).expect(rt, "no fault");
+    expect_eq(rt, name_of(&reply), wanted);
     let list = store.shards.items.get(0);
     assert!(rt; list.is_some_and(|list| list.items.len() == 16));
-    Ok(())
 }
 
 #[test]
-fn a_shard_of_sixteen_places(rt: HostRuntime) -> Result<(), Fail> {
+fn a_shard_of_sixteen_places(rt: HostRuntime) {
     let alloc = rt.alloc();
-    expect_reply(&rt, alloc, &publish(16), ("full", None))?;
-    expect_reply(&rt, alloc, &publish(0), ("known better", None))?;
-    expect_reply(&rt, alloc, &look(0), ("found", Some(0)))?;
-    expect_reply(&rt, alloc, &look(16), ("found", None))?;
+    expect_reply(&rt, alloc, &publish(16), ("full", None));
+    expect_reply(&rt, alloc, &publish(0), ("known better", None));
+    expect_reply(&rt, alloc, &look(0), ("found", Some(0)));
+    expect_reply(&rt, alloc, &look(16), ("found", None));
     let hint = Event::Hint { word: 3, value: 5 };
-    expect_reply(&rt, alloc, &hint, ("nothing", None))
+    expect_reply(&rt, alloc, &hint, ("nothing", None));
 }

@@ -4,9 +4,9 @@ ghost use Rattle.rules_model.specs.Fit.{IsFit};
 ghost use Rattle.legality.specs.Stance as Stance;
 ghost use Rattle.check_moves.specs.Checks.{AreChecksIn};
 
+use crate::expect::{expect_eq, expect_of};
 use attack_tables::Tables;
 use check_moves::{Checks, checks_of, gives_check, may_check};
-use foundation::Memory;
 use playing::Board;
 use rules_model::{Move, Position, Rules, sound};
 use sample_rules::{chess, hand_of, position, shouse, square, xiangqi};
@@ -32,20 +32,14 @@ fn is_asked(board: &Board, checks: &Checks, m: &Move) -> bool
 
 /// Asserts that of White's moves this many have to be asked, and of each that it is told whether it checks as the board
 /// tells it.
-fn expect(
-    rt: &impl Abort,
-    alloc: Global,
-    rules: &Rules,
-    p: &Position,
-    wanted: u32,
-) -> Result<(), Memory>
+fn expect(rt: &impl Abort, alloc: Global, rules: &Rules, p: &Position, wanted: u32)
     requires { IsFit rules.now }
 {
-    let tables = Tables::new(alloc, rules)?;
+    let tables = Tables::new(alloc, rules).expect(rt, "no fault");
     assert!(rt; sound(tables.rules(), p));
     let board = Board::new(&tables, p);
     let checks = checks_of(&board);
-    let moves = board.legal_moves(alloc)?;
+    let moves = board.legal_moves(alloc).expect(rt, "no fault");
     let mut asked = 0u32;
     for m in &moves.items {
         assert!(rt; board.is_legal(m), "{m:?}");
@@ -53,75 +47,74 @@ fn expect(
             asked = asked.saturating_add(1);
         }
         let gives = gives_check(&board, &checks, m);
-        assert!(rt; gives == board.gives_check(m), "{m:?}");
+        expect_of(rt, &m, gives == board.gives_check(m));
     }
-    assert_eq!(rt; asked, wanted);
-    Ok(())
+    expect_eq(rt, asked, wanted);
 }
 
 /// The same in chess.
-fn expect_chess(rt: &impl Abort, alloc: Global, p: &Position, wanted: u32) -> Result<(), Memory> {
-    expect(rt, alloc, &chess(), p, wanted)
+fn expect_chess(rt: &impl Abort, alloc: Global, p: &Position, wanted: u32) {
+    expect(rt, alloc, &chess(), p, wanted);
 }
 
 // A rook's, a knight's, what uncovers and a pawn that stays in the way, a king that uncovers; of two pieces in the way
 // neither does. A promotion is always asked.
 #[test]
-fn few_moves_of_chess_are_asked(rt: HostRuntime) -> Result<(), Memory> {
+fn few_moves_of_chess_are_asked(rt: HostRuntime) {
     let alloc = rt.alloc();
-    expect_chess(&rt, alloc, &position("Ke1 Ra1 ke8"), 1)?;
-    expect_chess(&rt, alloc, &position("Ke1 Nd5 kg8"), 2)?;
-    expect_chess(&rt, alloc, &position("Ke1 Re2 Ne4 ke8"), 8)?;
-    expect_chess(&rt, alloc, &position("Ke1 Re2 Pe4 ke8"), 1)?;
-    expect_chess(&rt, alloc, &position("Ke4 Re1 ke8"), 8)?;
-    expect_chess(&rt, alloc, &position("Ke1 Ra8 Nb8 nd8 kh8"), 0)?;
-    expect_chess(&rt, alloc, &position("Ke1 Pa7 kh8"), 4)
+    expect_chess(&rt, alloc, &position("Ke1 Ra1 ke8"), 1);
+    expect_chess(&rt, alloc, &position("Ke1 Nd5 kg8"), 2);
+    expect_chess(&rt, alloc, &position("Ke1 Re2 Ne4 ke8"), 8);
+    expect_chess(&rt, alloc, &position("Ke1 Re2 Pe4 ke8"), 1);
+    expect_chess(&rt, alloc, &position("Ke4 Re1 ke8"), 8);
+    expect_chess(&rt, alloc, &position("Ke1 Ra8 Nb8 nd8 kh8"), 0);
+    expect_chess(&rt, alloc, &position("Ke1 Pa7 kh8"), 4);
 }
 
 // The castling rook checks. En passant takes two pieces out of the way.
 #[test]
-fn castles_and_passing_captures_are_asked(rt: HostRuntime) -> Result<(), Memory> {
+fn castles_and_passing_captures_are_asked(rt: HostRuntime) {
     let castling = Position {
         rights: [[true, false], [false; 2]],
         ..position("Ke1 Rh1 kf8")
     };
-    expect_chess(&rt, rt.alloc(), &castling, 3)?;
+    expect_chess(&rt, rt.alloc(), &castling, 3);
     let passing = Position {
         ep: Some(square("d6")),
         ..position("Ka1 Ra5 Pe5 kh5 pd5")
     };
-    expect_chess(&rt, rt.alloc(), &passing, 1)
+    expect_chess(&rt, rt.alloc(), &passing, 1);
 }
 
 // A knight is dropped; pieces that gate are asked.
 #[test]
-fn drops_and_gates_are_asked(rt: HostRuntime) -> Result<(), Memory> {
+fn drops_and_gates_are_asked(rt: HostRuntime) {
     let rules = shouse();
     let dropping = Position {
         hands: [hand_of(b"n"), [0; 26]],
         ..position("Ke1 ke8")
     };
-    expect(&rt, rt.alloc(), &rules, &dropping, 4)?;
-    expect(&rt, rt.alloc(), &rules, &rules.start, 12)
+    expect(&rt, rt.alloc(), &rules, &dropping, 4);
+    expect(&rt, rt.alloc(), &rules, &rules.start, 12);
 }
 
 /// The same in xiangqi with kings that do not fly.
-fn expect_walking(rt: &impl Abort, alloc: Global, p: &Position, wanted: u32) -> Result<(), Memory> {
-    expect(rt, alloc, &walking(), p, wanted)
+fn expect_walking(rt: &impl Abort, alloc: Global, p: &Position, wanted: u32) {
+    expect(rt, alloc, &walking(), p, wanted);
 }
 
 // Of a cannon's two screens each uncovers it; without one any piece may be its screen. A piece that holds a horse back.
 #[test]
-fn cannons_and_horses_are_uncovered(rt: HostRuntime) -> Result<(), Memory> {
+fn cannons_and_horses_are_uncovered(rt: HostRuntime) {
     let alloc = rt.alloc();
-    expect_walking(&rt, alloc, &position("Kd1 Ce3 Ne5 pe7 ke10"), 8)?;
-    expect_walking(&rt, alloc, &position("Kd1 Ce3 Rd5 ke10"), 34)?;
-    expect_walking(&rt, alloc, &position("Kd1 Nd8 Rd9 ke10"), 9)
+    expect_walking(&rt, alloc, &position("Kd1 Ce3 Ne5 pe7 ke10"), 8);
+    expect_walking(&rt, alloc, &position("Kd1 Ce3 Rd5 ke10"), 34);
+    expect_walking(&rt, alloc, &position("Kd1 Nd8 Rd9 ke10"), 9);
 }
 
 // Where kings fly every move is asked.
 #[test]
-fn every_move_beside_flying_kings_is_asked(rt: HostRuntime) -> Result<(), Memory> {
+fn every_move_beside_flying_kings_is_asked(rt: HostRuntime) {
     let rules = xiangqi();
-    expect(&rt, rt.alloc(), &rules, &rules.start, 44)
+    expect(&rt, rt.alloc(), &rules, &rules.start, 44);
 }

@@ -7,6 +7,8 @@ mod best_facts;
 #[cfg(test)]
 mod checks;
 #[cfg(test)]
+mod expect;
+#[cfg(test)]
 mod facts;
 #[cfg(test)]
 mod helpers;

@@ -7,7 +7,6 @@ use pn_search::{INFINITE, Tree};
 use rules_model::{Outcome, Position, Side, repeats, sound};
 use std::alloc::Global;
 use std::process::Abort;
-use std::test::Fail;
 
 /// What is known of a node; of an inner one, its first child and the node after its last child.
 #[derive(Clone, Copy)]
@@ -195,21 +194,16 @@ impl Mirror {
     }
 
     /// Expands the node at the place.
-    pub fn expand<R: Abort>(
-        &mut self,
-        rt: &R,
-        alloc: Global,
-        tables: &Tables,
-        at: usize,
-    ) -> Result<(), Fail> {
-        let node = *self.nodes.get(at).ok_or("no such node")?;
+    pub fn expand<R: Abort>(&mut self, rt: &R, alloc: Global, tables: &Tables, at: usize) {
+        let node = *self.nodes.get(at).expect(rt, "no such node");
         assert!(rt; sound(tables.rules(), &node.position));
         let board = Board::new(tables, &node.position);
-        let known = self.known_of(alloc, &board, at, node.left)?;
+        let known = self
+            .known_of(alloc, &board, at, node.left)
+            .expect(rt, "no fault");
         if let Some(node) = self.nodes.get_mut(at) {
             node.known = known;
         }
-        Ok(())
     }
 
     /// Whether the tree has as many nodes, and each of them its numbers.

@@ -5,6 +5,7 @@ ghost use Rattle.mate_shards.specs.Grown.{HaveParts};
 ghost use Rattle.mate_shards.specs.Refuted.{RefutesAll};
 ghost use Rattle.mate_shards.specs.Views.{ArePassesOf};
 
+use crate::expect::{expect, expect_eq};
 use mate_core::{Claim, Fact, Frame};
 use mate_shards::{Passes, Published, Shards};
 use position_key::BoardKey;
@@ -12,7 +13,6 @@ use rules_model::{Blocked, Memory, Position, Repeat, Side, Value, repeat_of};
 use sample_rules::{empty, leapers};
 use std::alloc::Global;
 use std::sync::Wait;
-use std::test::Fail;
 use std::thread::{Threads, join};
 
 // A frame whose rules draw every end, so that the attacker wins no position and every refutation is true.
@@ -178,28 +178,32 @@ fn answers_by_key<R: Wait>(
 }
 
 #[test]
-fn a_shard_of_sixteen_places(rt: HostRuntime) -> Result<(), Fail> {
-    let (shards, passes) = drawn_shards(rt.alloc(), Vec::new(rt.alloc()), 1, 16)?;
+fn a_shard_of_sixteen_places(rt: HostRuntime) {
+    let (shards, passes) = drawn_shards(rt.alloc(), Vec::new(rt.alloc()), 1, 16).expect(
+        &rt, "no fault",
+    );
     let mut done = publish_all(&rt, &shards, passes, 0, 15);
-    assert_eq!(rt; (done.stored, done.lost), (15, 0));
+    expect_eq(&rt, (done.stored, done.lost), (15, 0));
     let by_key = answers_by_key(&rt, &shards, &mut done.passes, 15);
-    assert!(rt; by_key == (Published::Stored, Some(refutation(15))));
     let full = answers(&rt, &shards, &mut done.passes, 16, 2);
-    assert!(rt; full == (Published::Full, None));
     let known = answers(&rt, &shards, &mut done.passes, 0, 2);
-    assert!(rt; known == (Published::KnownBetter, Some(refutation(0))));
     let within_three = answers(&rt, &shards, &mut done.passes, 0, 3);
-    assert!(rt; within_three == (Published::KnownBetter, None));
-    Ok(())
+    let found = [
+        by_key == (Published::Stored, Some(refutation(15))),
+        full == (Published::Full, None),
+        known == (Published::KnownBetter, Some(refutation(0))),
+        within_three == (Published::KnownBetter, None),
+    ];
+    expect_eq(&rt, found, [true; 4]);
 }
 
 #[test]
-fn a_shard_of_all_places(rt: HostRuntime) -> Result<(), Fail> {
+fn a_shard_of_all_places(rt: HostRuntime) -> Result<(), Memory> {
     let (shards, passes) = drawn_shards(rt.alloc(), Vec::new(rt.alloc()), 1, 65536)?;
     let mut done = publish_all(&rt, &shards, passes, 0, 65536);
-    assert_eq!(rt; (done.stored, done.lost), (65536, 0));
+    expect_eq(&rt, (done.stored, done.lost), (65536, 0));
     let more = shards.publish(&rt, &mut done.passes, &refutation(65536));
-    assert_eq!(rt; more, Published::Full);
+    expect_eq(&rt, more, Published::Full);
     Ok(())
 }
 
@@ -259,13 +263,14 @@ fn publish_in_four<R: Threads + Wait + Sync>(
 // A thread shares half of its facts with the one before it and half with the one after it, and each fact is stored for
 // one.
 #[test]
-fn four_threads_store_each_fact_once(rt: HostRuntime) -> Result<(), Fail> {
-    let (shards, passes) = drawn_shards(rt.alloc(), Vec::new(rt.alloc()), 16, 4096)?;
-    let done = publish_in_four(&rt, &shards, passes)?;
-    assert_eq!(rt; (done.stored, done.lost), (25000, 0));
+fn four_threads_store_each_fact_once(rt: HostRuntime) {
+    let (shards, passes) = drawn_shards(rt.alloc(), Vec::new(rt.alloc()), 16, 4096).expect(
+        &rt, "no fault",
+    );
+    let done = publish_in_four(&rt, &shards, passes).expect(&rt, "no fault");
+    expect_eq(&rt, (done.stored, done.lost), (25000, 0));
     let again = publish_all(&rt, &shards, done.passes, 0, 25000);
-    assert_eq!(rt; (again.stored, again.lost), (0, 0));
-    Ok(())
+    expect_eq(&rt, (again.stored, again.lost), (0, 0));
 }
 
 // Cuts passes in two, joins them, and makes the shards anew for another frame.
@@ -297,13 +302,12 @@ fn stays<R: Wait>(
 
 // A refutation stays where a position is blocked besides, and goes where one is free again.
 #[test]
-fn another_frame_keeps_what_stays_true(rt: HostRuntime) -> Result<(), Fail> {
+fn another_frame_keeps_what_stays_true(rt: HostRuntime) {
     let alloc = rt.alloc();
     let none = Vec::new(alloc);
-    let one = vec![in alloc; repeat_of(&numbered(1))]?;
-    assert!(rt; stays(&rt, alloc, none, one)?);
+    let one = vec![in alloc; repeat_of(&numbered(1))].expect(&rt, "no fault");
+    expect(&rt, stays(&rt, alloc, none, one).expect(&rt, "no fault"));
     let none = Vec::new(alloc);
-    let one = vec![in alloc; repeat_of(&numbered(1))]?;
-    assert!(rt; !stays(&rt, alloc, one, none)?);
-    Ok(())
+    let one = vec![in alloc; repeat_of(&numbered(1))].expect(&rt, "no fault");
+    expect(&rt, !stays(&rt, alloc, one, none).expect(&rt, "no fault"));
 }

@@ -4,6 +4,7 @@ ghost use Rattle.mate_search.specs.Solves.{IsFrameFor};
 ghost use Rattle.mate_shards.specs.Grown.{HaveParts};
 ghost use Rattle.mate_shards.specs.Views.{ArePassesOf};
 
+use crate::expect::{expect_eq, expect_of};
 use game_play::Game;
 use hint_table::HintTable;
 use io_ports::{
@@ -17,7 +18,6 @@ use sample_rules::{chess, position, square};
 use std::alloc::Global;
 use std::process::Abort;
 use std::sync::Wait;
-use std::test::Fail;
 use std::thread::Threads;
 
 const NONE: Limits = Limits {
@@ -82,7 +82,7 @@ fn answer_with<R: Threads + Wait + Sync, G: Gate + Sync>(
     shards: &Shards,
     passes: Passes,
     gate: &G,
-) -> Result<(Passes, Told), Fail>
+) -> Result<(Passes, Told), Memory>
     requires frame { IsFrameFor game.now attacker shards.now.frame }
     requires passes { ArePassesOf shards.now passes }
     requires parts { HaveParts 65536 passes }
@@ -152,22 +152,16 @@ fn unsearched(n: u16) -> Run<'static>
 }
 
 /// What `settle` answers of the game, for the side.
-fn settled<R: Wait>(
-    rt: &R,
-    alloc: Global,
-    game: &Game,
-    attacker: Side,
-    n: u16,
-) -> Result<Told, Fail>
+fn settled<R: Abort + Wait>(rt: &R, alloc: Global, game: &Game, attacker: Side, n: u16) -> Told
     requires some { 0 < n }
     requires small { n ≤ 100 }
 {
-    let (shards, passes) = shards_for(alloc, game, attacker)?;
+    let (shards, passes) = shards_for(alloc, game, attacker).expect(rt, "no fault");
     let (_, answer) = settle(rt, alloc, game, attacker, n, &shards, passes);
-    match answer? {
-        Settled::Shown(_) => Ok(Told::Shown),
-        Settled::NoMate => Ok(Told::NoMate),
-        Settled::Unsettled { .. } => Ok(Told::Unsettled),
+    match answer.expect(rt, "no fault") {
+        Settled::Shown(_) => Told::Shown,
+        Settled::NoMate => Told::NoMate,
+        Settled::Unsettled { .. } => Told::Unsettled,
     }
 }
 
@@ -178,12 +172,14 @@ fn solved<R: Threads + Wait + Abort + Sync>(
     game: &Game,
     attacker: Side,
     run: Run,
-) -> Result<Told, Fail> {
+) -> Told {
     assert!(rt; 0 < run.n && run.n <= 100);
     assert!(rt; 0 < run.workers && run.workers <= 64);
-    let (shards, passes) = shards_for(alloc, game, attacker)?;
-    let (_, told) = answer_with(rt, alloc, game, attacker, run, &shards, passes, &OpenGate)?;
-    Ok(told)
+    let (shards, passes) = shards_for(alloc, game, attacker).expect(rt, "no fault");
+    let (_, told) = answer_with(rt, alloc, game, attacker, run, &shards, passes, &OpenGate).expect(
+        rt, "no fault",
+    );
+    told
 }
 
 /// Asserts what `settle` answers of the game, and `solve` by one worker and by four, whose hints are all ones.
@@ -194,20 +190,19 @@ fn expect<R: Threads + Wait + Abort + Sync>(
     attacker: Side,
     n: u16,
     end: Told,
-) -> Result<(), Fail> {
+) {
     assert!(rt; 0 < n && n <= 100);
-    let alone = settled(rt, alloc, game, attacker, n)?;
-    let by_one = solved(rt, alloc, game, attacker, whole(n, 1))?;
+    let alone = settled(rt, alloc, game, attacker, n);
+    let by_one = solved(rt, alloc, game, attacker, whole(n, 1));
     let all_ones = Run {
         hint: u64::MAX,
         ..whole(n, 4)
     };
-    let by_four = solved(rt, alloc, game, attacker, all_ones)?;
+    let by_four = solved(rt, alloc, game, attacker, all_ones);
     assert!(rt;
         alone == end && by_one == end && by_four == end,
         "within {n}"
     );
-    Ok(())
 }
 
 /// The pieces, with this side to move.
@@ -219,10 +214,10 @@ fn placed(pieces: &str, side: Side) -> Position {
 }
 
 /// The game of chess from the position, without a move.
-fn game_from(rt: &impl Abort, alloc: Global, p: &Position) -> Result<Game, Fail> {
+fn game_from(rt: &impl Abort, alloc: Global, p: &Position) -> Game {
     let rules = chess();
     assert!(rt; sound(&rules, p));
-    Ok(Game::new(alloc, &rules, p)?)
+    Game::new(alloc, &rules, p).expect(rt, "no fault")
 }
 
 /// Asserts whether White, who is to move at the counter, mates within n moves.
@@ -233,39 +228,39 @@ fn expect_white<R: Threads + Wait + Abort + Sync>(
     counter: u16,
     n: u16,
     end: Told,
-) -> Result<(), Fail> {
+) {
     let p = Position {
         counter,
         ..position(pieces)
     };
-    let game = game_from(rt, alloc, &p)?;
-    expect(rt, alloc, &game, Side::White, n, end)
+    let game = game_from(rt, alloc, &p);
+    expect(rt, alloc, &game, Side::White, n, end);
 }
 
 // A mate in one, two problems of two moves, a stalemate and a mated side.
 #[test]
-fn least_numbers_of_moves(rt: HostRuntime) -> Result<(), Fail> {
+fn least_numbers_of_moves(rt: HostRuntime) {
     let alloc = rt.alloc();
-    expect_white(&rt, alloc, "Kg6 Ra1 kh8", 0, 1, Told::Shown)?;
+    expect_white(&rt, alloc, "Kg6 Ra1 kh8", 0, 1, Told::Shown);
     let rook = "ra8 kd8 Rc7 pg7 ph6 pa5 Bb5 Rf5 Pb3 Pa2 Pd2 Pf2 Pg2 Ph2 Kg1";
-    expect_white(&rt, alloc, rook, 0, 1, Told::NoMate)?;
-    expect_white(&rt, alloc, rook, 0, 2, Told::Shown)?;
+    expect_white(&rt, alloc, rook, 0, 1, Told::NoMate);
+    expect_white(&rt, alloc, rook, 0, 2, Told::Shown);
     let queen = "Qc8 Rf7 kd6 pe6 ph5 Pd4 Nc3 ne3 Pg3 Pa2 Pb2 Pe2 Kg2 Ra1";
-    expect_white(&rt, alloc, queen, 0, 1, Told::NoMate)?;
-    expect_white(&rt, alloc, queen, 0, 2, Told::Shown)?;
-    expect_white(&rt, alloc, "Kh1 qg3 kf2", 0, 2, Told::NoMate)?;
-    expect_white(&rt, alloc, "Kh1 qg2 kg3", 0, 2, Told::NoMate)
+    expect_white(&rt, alloc, queen, 0, 1, Told::NoMate);
+    expect_white(&rt, alloc, queen, 0, 2, Told::Shown);
+    expect_white(&rt, alloc, "Kh1 qg3 kf2", 0, 2, Told::NoMate);
+    expect_white(&rt, alloc, "Kh1 qg2 kg3", 0, 2, Told::NoMate);
 }
 
 // At 99 the move that mates stands, and at 100 the game is drawn; two rooks mate by their third ply, before the counter
 // is 100 or after.
 #[test]
-fn mates_at_the_limit_of_the_counter(rt: HostRuntime) -> Result<(), Fail> {
+fn mates_at_the_limit_of_the_counter(rt: HostRuntime) {
     let alloc = rt.alloc();
-    expect_white(&rt, alloc, "Kf6 Qg6 kh8", 99, 1, Told::Shown)?;
-    expect_white(&rt, alloc, "Kg6 Ra1 kh8", 100, 2, Told::NoMate)?;
-    expect_white(&rt, alloc, "Ra6 Rb5 Kg1 kg8", 96, 2, Told::Shown)?;
-    expect_white(&rt, alloc, "Ra6 Rb5 Kg1 kg8", 98, 2, Told::NoMate)
+    expect_white(&rt, alloc, "Kf6 Qg6 kh8", 99, 1, Told::Shown);
+    expect_white(&rt, alloc, "Kg6 Ra1 kh8", 100, 2, Told::NoMate);
+    expect_white(&rt, alloc, "Ra6 Rb5 Kg1 kg8", 96, 2, Told::Shown);
+    expect_white(&rt, alloc, "Ra6 Rb5 Kg1 kg8", 98, 2, Told::NoMate);
 }
 
 /// Plays a move from a square to another, without promotion.
@@ -289,25 +284,25 @@ fn play_round(rt: &impl Abort, game: &mut Game) {
 
 // King and rook: a mate in two, and none where its only key would be a third repetition.
 #[test]
-fn a_mate_that_repeats(rt: HostRuntime) -> Result<(), Fail> {
+fn a_mate_that_repeats(rt: HostRuntime) {
     let alloc = rt.alloc();
-    expect_white(&rt, alloc, "Kf6 Ra7 kh8", 0, 2, Told::Shown)?;
-    let mut game = game_from(&rt, alloc, &placed("Kg6 Ra7 kh8", Side::Black))?;
+    expect_white(&rt, alloc, "Kf6 Ra7 kh8", 0, 2, Told::Shown);
+    let mut game = game_from(&rt, alloc, &placed("Kg6 Ra7 kh8", Side::Black));
     play_round(&rt, &mut game);
     play(&rt, &mut game, "h8", "g8");
     play(&rt, &mut game, "g6", "f6");
     play(&rt, &mut game, "g8", "h8");
-    expect(&rt, alloc, &game, Side::White, 2, Told::NoMate)
+    expect(&rt, alloc, &game, Side::White, 2, Told::NoMate);
 }
 
 // The other side to move, and the other attacker.
 #[test]
-fn mates_of_either_side(rt: HostRuntime) -> Result<(), Fail> {
+fn mates_of_either_side(rt: HostRuntime) {
     let alloc = rt.alloc();
-    let mated = game_from(&rt, alloc, &placed("Kg6 Ra7 kh8", Side::Black))?;
-    expect(&rt, alloc, &mated, Side::White, 1, Told::Shown)?;
-    let game = game_from(&rt, alloc, &position("Kh1 qg2 kg3"))?;
-    expect(&rt, alloc, &game, Side::Black, 1, Told::Shown)
+    let mated = game_from(&rt, alloc, &placed("Kg6 Ra7 kh8", Side::Black));
+    expect(&rt, alloc, &mated, Side::White, 1, Told::Shown);
+    let game = game_from(&rt, alloc, &position("Kh1 qg2 kg3"));
+    expect(&rt, alloc, &game, Side::Black, 1, Told::Shown);
 }
 
 /// Asserts what cuts a solve within 8 moves of a king and a rook by one worker and by four.
@@ -318,8 +313,8 @@ fn expect_cut<R: Threads + Wait + Abort + Sync>(
     owed: PollsOwed,
     limits: Limits,
     end: Told,
-) -> Result<(), Fail> {
-    let game = game_from(rt, alloc, &position("Ke3 Ra1 kd5"))?;
+) {
+    let game = game_from(rt, alloc, &position("Ke3 Ra1 kd5"));
     let by_one = Run {
         lines,
         owed,
@@ -330,11 +325,10 @@ fn expect_cut<R: Threads + Wait + Abort + Sync>(
         workers: 4,
         ..by_one
     };
-    let alone = solved(rt, alloc, &game, Side::White, by_one)?;
-    assert_eq!(rt; alone, end);
-    let together = solved(rt, alloc, &game, Side::White, by_four)?;
-    assert_eq!(rt; together, end, "by four");
-    Ok(())
+    let alone = solved(rt, alloc, &game, Side::White, by_one);
+    expect_eq(rt, alone, end);
+    let together = solved(rt, alloc, &game, Side::White, by_four);
+    expect_of(rt, &"by four", together == end);
 }
 
 fn limits(quota: Option<u64>, deadline: Option<u64>) -> Limits {
@@ -342,15 +336,15 @@ fn limits(quota: Option<u64>, deadline: Option<u64>) -> Limits {
 }
 
 #[test]
-fn lines_cut_a_solve(rt: HostRuntime) -> Result<(), Fail> {
+fn lines_cut_a_solve(rt: HostRuntime) {
     let (alloc, now) = (rt.alloc(), PollsOwed::Number(0));
-    expect_cut(&rt, alloc, b"stop\n", now, NONE, Told::Line)?;
-    expect_cut(&rt, alloc, b"", now, NONE, Told::InputEnded)
+    expect_cut(&rt, alloc, b"stop\n", now, NONE, Told::Line);
+    expect_cut(&rt, alloc, b"", now, NONE, Told::InputEnded);
 }
 
 // The solve lasts much longer than the 1,025 nodes of the first worker that the last row needs.
 #[test]
-fn limits_cut_a_solve(rt: HostRuntime) -> Result<(), Fail> {
+fn limits_cut_a_solve(rt: HostRuntime) {
     let (alloc, never) = (rt.alloc(), PollsOwed::Endless);
     expect_cut(
         &rt,
@@ -359,7 +353,7 @@ fn limits_cut_a_solve(rt: HostRuntime) -> Result<(), Fail> {
         never,
         limits(Some(0), None),
         Told::Quota(0),
-    )?;
+    );
     expect_cut(
         &rt,
         alloc,
@@ -367,7 +361,7 @@ fn limits_cut_a_solve(rt: HostRuntime) -> Result<(), Fail> {
         never,
         limits(Some(30), None),
         Told::Quota(30),
-    )?;
+    );
     expect_cut(
         &rt,
         alloc,
@@ -375,7 +369,7 @@ fn limits_cut_a_solve(rt: HostRuntime) -> Result<(), Fail> {
         never,
         limits(None, Some(5)),
         Told::Deadline(5),
-    )?;
+    );
     expect_cut(
         &rt,
         alloc,
@@ -383,7 +377,7 @@ fn limits_cut_a_solve(rt: HostRuntime) -> Result<(), Fail> {
         never,
         limits(None, Some(6)),
         Told::Deadline(7),
-    )
+    );
 }
 
 /// What the solve answers for White.
@@ -394,7 +388,7 @@ fn here<R: Threads + Wait + Sync>(
     run: Run,
     shards: &Shards,
     passes: Passes,
-) -> Result<(Passes, Told), Fail>
+) -> Result<(Passes, Told), Memory>
     requires frame { IsFrameFor game.now Side.White shards.now.frame }
     requires passes { ArePassesOf shards.now passes }
     requires parts { HaveParts 65536 passes }
@@ -423,56 +417,64 @@ fn know_the_next<R: Wait>(rt: &R, shards: &Shards, passes: &mut Passes) -> bool
 
 // King and rook win within 2 moves, and not within 1. A quota of 0 leaves the answer to the shards.
 #[test]
-fn shards_know_a_refuted_root(rt: HostRuntime) -> Result<(), Fail> {
+fn shards_know_a_refuted_root(rt: HostRuntime) {
     let alloc = rt.alloc();
-    let game = game_from(&rt, alloc, &position("Kf6 Ra7 kh8"))?;
-    let (shards, passes) = shards_for(alloc, &game, Side::White)?;
-    let (passes, before) = here(&rt, alloc, &game, unsearched(1), &shards, passes)?;
-    let (passes, searched) = here(&rt, alloc, &game, whole(1, 1), &shards, passes)?;
-    let (_, after) = here(&rt, alloc, &game, unsearched(1), &shards, passes)?;
+    let game = game_from(&rt, alloc, &position("Kf6 Ra7 kh8"));
+    let (shards, passes) = shards_for(alloc, &game, Side::White).expect(&rt, "no fault");
+    let (passes, before) = here(&rt, alloc, &game, unsearched(1), &shards, passes).expect(
+        &rt, "no fault",
+    );
+    let (passes, searched) = here(&rt, alloc, &game, whole(1, 1), &shards, passes).expect(
+        &rt, "no fault",
+    );
+    let (_, after) = here(&rt, alloc, &game, unsearched(1), &shards, passes).expect(
+        &rt, "no fault",
+    );
     assert!(rt; before == Told::Quota(0));
     assert!(rt; searched == Told::NoMate && after == Told::NoMate);
-    Ok(())
 }
 
 // Then the shards know that the game is won, and the position after the first move.
 #[test]
-fn shards_know_a_won_root(rt: HostRuntime) -> Result<(), Fail> {
+fn shards_know_a_won_root(rt: HostRuntime) {
     let alloc = rt.alloc();
     let p = position("Kf6 Ra7 kh8");
-    let game = game_from(&rt, alloc, &p)?;
-    let (shards, passes) = shards_for(alloc, &game, Side::White)?;
-    let (passes, shown) = here(&rt, alloc, &game, whole(2, 1), &shards, passes)?;
-    let (mut passes, won) = here(&rt, alloc, &game, unsearched(2), &shards, passes)?;
+    let game = game_from(&rt, alloc, &p);
+    let (shards, passes) = shards_for(alloc, &game, Side::White).expect(&rt, "no fault");
+    let (passes, shown) = here(&rt, alloc, &game, whole(2, 1), &shards, passes).expect(
+        &rt, "no fault",
+    );
+    let (mut passes, won) = here(&rt, alloc, &game, unsearched(2), &shards, passes).expect(
+        &rt, "no fault",
+    );
     assert!(rt; shown == Told::Shown && won == Told::Quota(0));
     let root = shards.look(&rt, &mut passes, &p, 2);
     assert!(rt; root.is_some_and(|fact| fact.wins));
     assert!(rt; know_the_next(&rt, &shards, &mut passes));
-    Ok(())
 }
 
 #[test]
-fn settled_without_ports(rt: HostRuntime) -> Result<(), Fail> {
+fn settled_without_ports(rt: HostRuntime) {
     let alloc = rt.alloc();
-    let game = game_from(&rt, alloc, &position("Kf6 Ra7 kh8"))?;
-    let (shards, passes) = shards_for(alloc, &game, Side::White)?;
+    let game = game_from(&rt, alloc, &position("Kf6 Ra7 kh8"));
+    let (shards, passes) = shards_for(alloc, &game, Side::White).expect(&rt, "no fault");
     let (passes, one) = settle(&rt, alloc, &game, Side::White, 1, &shards, passes);
     let (mut passes, two) = settle(&rt, alloc, &game, Side::White, 2, &shards, passes);
     assert!(rt; matches!(one, Ok(Settled::NoMate)));
     assert!(rt; matches!(two, Ok(Settled::Shown(_))));
     assert!(rt; know_the_next(&rt, &shards, &mut passes));
-    Ok(())
 }
 
 #[test]
-fn two_workers_run_beside_each_other(rt: HostRuntime) -> Result<(), Fail> {
+fn two_workers_run_beside_each_other(rt: HostRuntime) {
     let alloc = rt.alloc();
-    let game = game_from(&rt, alloc, &position("Ke3 Ra1 kd5"))?;
-    let (shards, passes) = shards_for(alloc, &game, Side::White)?;
+    let game = game_from(&rt, alloc, &position("Ke3 Ra1 kd5"));
+    let (shards, passes) = shards_for(alloc, &game, Side::White).expect(&rt, "no fault");
     let gate = HoldingGate::new();
     let run = whole(2, 2);
-    let (_, told) = answer_with(&rt, alloc, &game, Side::White, run, &shards, passes, &gate)?;
+    let (_, told) = answer_with(&rt, alloc, &game, Side::White, run, &shards, passes, &gate).expect(
+        &rt, "no fault",
+    );
     assert!(rt; !gate.gave_up());
-    assert_eq!(rt; told, Told::NoMate);
-    Ok(())
+    expect_eq(&rt, told, Told::NoMate);
 }

@@ -1,19 +1,23 @@
 //! Suites in memory: their reports, their faults, and workers beside each other.
+use crate::expect::{expect, expect_of};
 use foundation::{Memory, Text};
 use io_ports::{HoldingGate, MemSource, OpenGate, PollsOwed};
 use std::alloc::Global;
 use std::process::Abort;
 use std::sync::Wait;
-use std::test::Fail;
 use std::thread::Threads;
 use suite::{NoSuite, read_suite, solve_all, solve_suite, write_fault};
 use variant_rules::{Variants, builtin, load};
 
 /// The variants that are built in, and one that is refused.
-fn variants(alloc: Global) -> Result<Variants, Fail> {
-    let mut sections = builtin(alloc)?;
-    sections.add(b"[lost:nowhere]\n").ok().ok_or("no section")?;
-    Ok(load(alloc, &sections)?)
+fn variants(rt: &impl Abort, alloc: Global) -> Variants {
+    let mut sections = builtin(alloc).expect(rt, "no fault");
+    sections
+        .add(b"[lost:nowhere]\n")
+        .ok()
+        .ok_or("no section")
+        .expect(rt, "no fault");
+    load(alloc, &sections).expect(rt, "no fault")
 }
 
 fn source(alloc: Global, text: &[u8]) -> Result<MemSource, Memory> {
@@ -39,14 +43,13 @@ fn answers<R: Threads + Wait + Abort + Sync>(
     lines: &[u8],
     workers: u32,
     wanted: &str,
-) -> Result<(), Fail> {
+) {
     assert!(rt; 0 < workers && workers <= 64);
-    let variants = variants(alloc)?;
-    let mut source = source(alloc, lines)?;
+    let variants = variants(rt, alloc);
+    let mut source = source(alloc, lines).expect(rt, "no fault");
     let answer = solve_suite(rt, alloc, &variants, &mut source, workers, &OpenGate);
-    let text = told(alloc, answer)?;
-    assert!(rt; text.items.as_slice() == wanted.as_bytes(), "{wanted}");
-    Ok(())
+    let text = told(alloc, answer).expect(rt, "no fault");
+    expect_of(rt, &wanted, text.items.as_slice() == wanted.as_bytes());
 }
 
 const THREE: &str = "chess 1 7k/8/5KQ1/8/8/8/8/8 w - - 0 1
@@ -170,21 +173,21 @@ solved 21 of 50
 
 // The report does not depend on the number of workers.
 #[test]
-fn reports(rt: HostRuntime) -> Result<(), Fail> {
+fn reports(rt: HostRuntime) {
     let alloc = rt.alloc();
     let three = "1 mate 1\n2 mate 2\n3 none\nsolved 2 of 3\n";
-    answers(&rt, alloc, THREE.as_bytes(), 1, three)?;
-    answers(&rt, alloc, THREE.as_bytes(), 3, three)?;
+    answers(&rt, alloc, THREE.as_bytes(), 1, three);
+    answers(&rt, alloc, THREE.as_bytes(), 3, three);
     let gaps = "2 mate 1\n5 none\nsolved 1 of 2\n";
-    answers(&rt, alloc, GAPS.as_bytes(), 1, gaps)?;
-    answers(&rt, alloc, b"", 3, "solved 0 of 0\n")
+    answers(&rt, alloc, GAPS.as_bytes(), 1, gaps);
+    answers(&rt, alloc, b"", 3, "solved 0 of 0\n");
 }
 
 #[test]
-fn reports_on_five_variants(rt: HostRuntime) -> Result<(), Fail> {
+fn reports_on_five_variants(rt: HostRuntime) {
     let alloc = rt.alloc();
-    answers(&rt, alloc, FIFTY.as_bytes(), 1, FIFTY_ANSWERS)?;
-    answers(&rt, alloc, FIFTY.as_bytes(), 4, FIFTY_ANSWERS)
+    answers(&rt, alloc, FIFTY.as_bytes(), 1, FIFTY_ANSWERS);
+    answers(&rt, alloc, FIFTY.as_bytes(), 4, FIFTY_ANSWERS);
 }
 
 /// Asserts how the fault of the lines prints.
@@ -193,38 +196,38 @@ fn expect_fault<R: Threads + Wait + Abort + Sync>(
     alloc: Global,
     lines: &str,
     wanted: &str,
-) -> Result<(), Fail> {
-    answers(rt, alloc, lines.as_bytes(), 1, wanted)
+) {
+    answers(rt, alloc, lines.as_bytes(), 1, wanted);
 }
 
 // The first faulty line, and on it the first fault.
 #[test]
-fn faulty_lines(rt: HostRuntime) -> Result<(), Fail> {
+fn faulty_lines(rt: HostRuntime) {
     let alloc = rt.alloc();
-    expect_fault(&rt, alloc, "#\nchess 1\n", "SuiteFault 1 BadLine 2")?;
-    expect_fault(&rt, alloc, "chess 21 startpos\n", "SuiteFault 1 BadLine 1")?;
-    expect_fault(&rt, alloc, "chess  1 startpos\n", "SuiteFault 1 BadLine 1")?;
-    expect_fault(&rt, alloc, "chess 1  startpos\n", "SuiteFault 1 BadLine 1")?;
+    expect_fault(&rt, alloc, "#\nchess 1\n", "SuiteFault 1 BadLine 2");
+    expect_fault(&rt, alloc, "chess 21 startpos\n", "SuiteFault 1 BadLine 1");
+    expect_fault(&rt, alloc, "chess  1 startpos\n", "SuiteFault 1 BadLine 1");
+    expect_fault(&rt, alloc, "chess 1  startpos\n", "SuiteFault 1 BadLine 1");
     let two = "lost 0 startpos\nnowhere 1 x\n";
-    expect_fault(&rt, alloc, two, "SuiteFault 1 BadLine 1")
+    expect_fault(&rt, alloc, two, "SuiteFault 1 BadLine 1");
 }
 
 #[test]
-fn faulty_problems(rt: HostRuntime) -> Result<(), Fail> {
+fn faulty_problems(rt: HostRuntime) {
     let alloc = rt.alloc();
     let unknown = "SuiteFault 2 UnknownVariant 1";
-    expect_fault(&rt, alloc, "nowhere 1 startpos\n", unknown)?;
+    expect_fault(&rt, alloc, "nowhere 1 startpos\n", unknown);
     let refused = "SuiteFault 3 RefusedVariant 1 SectionFault 2 UnknownParent";
-    expect_fault(&rt, alloc, "lost 1 startpos\n", refused)?;
+    expect_fault(&rt, alloc, "lost 1 startpos\n", refused);
     let bare = "chess 1 8/8/8/8/8/8/8/8 w - - 0 1\n";
     expect_fault(
         &rt,
         alloc,
         bare,
         "SuiteFault 4 BadPosition 1 FenFault 11 Kings",
-    )?;
+    );
     let late = "chess 1 7k/8/5KQ1/8/8/8/8/8 w - - 99 80\n";
-    expect_fault(&rt, alloc, late, "SuiteFault 5 NearCount 1")
+    expect_fault(&rt, alloc, late, "SuiteFault 5 NearCount 1");
 }
 
 /// So many times the piece.
@@ -237,33 +240,40 @@ fn repeated(alloc: Global, piece: &[u8], times: usize) -> Result<Vec<u8>, Memory
 }
 
 #[test]
-fn a_suite_of_too_many_problems(rt: HostRuntime) -> Result<(), Fail> {
-    let many = repeated(rt.alloc(), b"chess 1 startpos\n", 1001)?;
-    answers(&rt, rt.alloc(), &many, 1, "SuiteFault 6 TooMany 1001")
+fn a_suite_of_too_many_problems(rt: HostRuntime) {
+    let many = repeated(rt.alloc(), b"chess 1 startpos\n", 1001).expect(&rt, "no fault");
+    answers(&rt, rt.alloc(), &many, 1, "SuiteFault 6 TooMany 1001");
 }
 
 #[test]
-fn a_line_that_is_too_long(rt: HostRuntime) -> Result<(), Fail> {
-    let long = repeated(rt.alloc(), b"x", 131_073)?;
-    answers(&rt, rt.alloc(), &long, 1, "SuiteFault 7 LineTooLong 1")
+fn a_line_that_is_too_long(rt: HostRuntime) {
+    let long = repeated(rt.alloc(), b"x", 131_073).expect(&rt, "no fault");
+    answers(&rt, rt.alloc(), &long, 1, "SuiteFault 7 LineTooLong 1");
 }
 
 #[test]
-fn two_workers_run_beside_each_other(rt: HostRuntime) -> Result<(), Fail> {
+fn two_workers_run_beside_each_other(rt: HostRuntime) {
     let alloc = rt.alloc();
-    let variants = variants(alloc)?;
+    let variants = variants(&rt, alloc);
     let gate = HoldingGate::new();
     let two = "chess 2 7k/R7/5K2/8/8/8/8/8 w - - 0 1\nchess 1 7k/R7/5K2/8/8/8/8/8 w - - 0 1\n";
-    let mut source = source(alloc, two.as_bytes())?;
+    let mut source = source(alloc, two.as_bytes()).expect(&rt, "no fault");
     let Ok(suite) = read_suite(alloc, &variants, &mut source) else {
-        assert!(rt; false, "no suite");
-        return Ok(());
+        expect_of(&rt, &"no suite", false);
+        return;
     };
-    let solved = solve_all(&rt, alloc, suite.problems(), 2, &gate)?;
+    let solved = solve_all(&rt, alloc, suite.problems(), 2, &gate).expect(&rt, "no fault");
     assert!(rt; !gate.gave_up());
-    let mate = solved.answers().get(0).ok_or("no answer")?;
-    let none = solved.answers().get(1).ok_or("no answer")?;
+    let mate = solved
+        .answers()
+        .get(0)
+        .ok_or("no answer")
+        .expect(&rt, "no fault");
+    let none = solved
+        .answers()
+        .get(1)
+        .ok_or("no answer")
+        .expect(&rt, "no fault");
     assert!(rt; mate.least == Some(2) && mate.strategy.is_some());
-    assert!(rt; none.least.is_none() && none.strategy.is_none());
-    Ok(())
+    expect(&rt, none.least.is_none() && none.strategy.is_none());
 }

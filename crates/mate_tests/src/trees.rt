@@ -3,6 +3,7 @@ ghost use Rattle.std.specs.Prelude.{◌≡◌, true, None};
 ghost use Rattle.rules_model.specs.Sound.{is_sound};
 ghost use Rattle.pn_search.specs.Trees as Trees;
 
+use crate::expect::{expect, expect_eq};
 use crate::helpers::frame_of;
 use crate::mirror::Mirror;
 use attack_tables::Tables;
@@ -72,7 +73,7 @@ fn expect_root(
     };
     let found = settled(alloc, &frame, &tables, p, n)?;
     let wanted = if wins { (0, INFINITE) } else { (INFINITE, 0) };
-    assert_eq!(rt; found, Some(wanted), "within {n}");
+    assert!(rt; found == Some(wanted), "within {n}");
     Ok(())
 }
 
@@ -92,20 +93,25 @@ fn roots_are_settled(rt: HostRuntime) -> Result<(), Fail> {
 
 // A new tree is one open node, and its first expansion is that of the root.
 #[test]
-fn first_expansion(rt: HostRuntime) -> Result<(), Fail> {
+fn first_expansion(rt: HostRuntime) {
     let p = position("Kf6 Ra7 kh8");
-    let frame = frame_of(rt.alloc(), Side::White, &p)?;
-    let tables = Tables::new(rt.alloc(), &frame.rules)?;
+    let frame = frame_of(rt.alloc(), Side::White, &p).expect(&rt, "no fault");
+    let tables = Tables::new(rt.alloc(), &frame.rules).expect(&rt, "no fault");
     assert!(rt; sound(&frame.rules, &p));
     let None = root_end(&frame, &tables, &p) else {
-        return Ok(());
+        return;
     };
-    let mut tree = Tree::new(rt.alloc(), &frame, &p, 2)?;
-    assert_eq!(rt; tree.len(), 1);
-    assert_eq!(rt; tree.numbers(0), (1, 1));
-    assert!(rt; matches!(tree.grow(&tables)?, Grew::Expanded(0)));
+    let mut tree = Tree::new(rt.alloc(), &frame, &p, 2).expect(&rt, "no fault");
+    expect_eq(&rt, tree.len(), 1);
+    expect_eq(&rt, tree.numbers(0), (1, 1));
+    expect(
+        &rt,
+        matches!(
+            tree.grow(&tables).expect(&rt, "no fault"),
+            Grew::Expanded(0)
+        ),
+    );
     assert!(rt; tree.len() > 10);
-    Ok(())
 }
 
 /// Asserts that the tree is, after each of its first 2,000 expansions, the one that is kept beside it.
@@ -116,25 +122,24 @@ fn grows_as_defined<R: Abort>(
     tables: &Tables,
     p: &Position,
     n: u16,
-) -> Result<(), Fail>
+)
     requires tables { tables.now ≡ frame.now.rules }
     requires sound { is_sound frame.now.rules p.now ≡ true }
     requires ongoing { Trees.end_at frame.now 0 p.now ≡ None }
 {
     assert!(rt; 0 < n && n <= 100);
-    let mut tree = Tree::new(alloc, frame, p, n)?;
-    let mut mirror = Mirror::new(alloc, p, p, n)?;
-    let mut numbers = mirror.numbers(alloc)?;
+    let mut tree = Tree::new(alloc, frame, p, n).expect(rt, "no fault");
+    let mut mirror = Mirror::new(alloc, p, p, n).expect(rt, "no fault");
+    let mut numbers = mirror.numbers(alloc).expect(rt, "no fault");
     'growing: for _ in 0..2_000 {
-        let Grew::Expanded(at) = tree.grow(tables)? else {
-            return Ok(());
+        let Grew::Expanded(at) = tree.grow(tables).expect(rt, "no fault") else {
+            return;
         };
-        assert_eq!(rt; at as usize, mirror.most_proving(&numbers));
-        mirror.expand(rt, alloc, tables, at as usize)?;
-        numbers = mirror.numbers(alloc)?;
+        expect_eq(rt, at as usize, mirror.most_proving(&numbers));
+        mirror.expand(rt, alloc, tables, at as usize);
+        numbers = mirror.numbers(alloc).expect(rt, "no fault");
         assert!(rt; mirror.is_same(&numbers, &tree), "after {at}");
     }
-    Ok(())
 }
 
 /// The same of the tree of White's win within n moves; the root's repeat may not be entered again.
@@ -145,7 +150,8 @@ fn grows(rt: &impl Abort, alloc: Global, p: &Position, n: u16) -> Result<(), Fai
     let None = root_end(&frame, &tables, p) else {
         return Err("an end".into());
     };
-    grows_as_defined(rt, alloc, &frame, &tables, p, n)
+    grows_as_defined(rt, alloc, &frame, &tables, p, n);
+    Ok(())
 }
 
 // Mates that are found and mates that are not, with few moves, so that the trees stay small.
@@ -190,38 +196,43 @@ fn mates_within<R: Abort + Wait>(
     p: &Position,
     n: u16,
     wanted: Result<Option<u16>, PnFault>,
-) -> Result<(), Fail> {
+) {
     assert!(rt; 0 < n && n <= 100);
     assert!(rt; sound(&chess(), p));
-    let game = Game::new(alloc, &chess(), p)?;
-    assert_eq!(rt; least_mate(rt, alloc, &game, n)?, wanted);
-    Ok(())
+    let game = Game::new(alloc, &chess(), p).expect(rt, "no fault");
+    expect_eq(
+        rt,
+        least_mate(rt, alloc, &game, n).expect(rt, "no fault"),
+        wanted,
+    );
 }
 
 // Mates within the moves and not, a count of moves that may run out, and games that are over.
 #[test]
-fn least_mates(rt: HostRuntime) -> Result<(), Fail> {
+fn least_mates(rt: HostRuntime) {
     let alloc = rt.alloc();
     let rook = position("Kf6 Ra7 kh8");
-    mates_within(&rt, alloc, &rook, 2, Ok(Some(2)))?;
-    mates_within(&rt, alloc, &rook, 1, Ok(None))?;
-    mates_within(&rt, alloc, &rook, 9, Ok(Some(2)))?;
+    mates_within(&rt, alloc, &rook, 2, Ok(Some(2)));
+    mates_within(&rt, alloc, &rook, 1, Ok(None));
+    mates_within(&rt, alloc, &rook, 9, Ok(Some(2)));
     let mut queen = position("Kf6 Qg6 kh8");
     queen.counter = 97;
-    mates_within(&rt, alloc, &queen, 1, Ok(Some(1)))?;
+    mates_within(&rt, alloc, &queen, 1, Ok(Some(1)));
     queen.counter = 98;
-    mates_within(&rt, alloc, &queen, 1, Err(PnFault::NearCount))?;
+    mates_within(&rt, alloc, &queen, 1, Err(PnFault::NearCount));
     queen.counter = 100;
-    mates_within(&rt, alloc, &queen, 1, Err(PnFault::Ended))?;
+    mates_within(&rt, alloc, &queen, 1, Err(PnFault::Ended));
     let mated = placed("Kf6 Qg7 kh8", Side::Black);
-    mates_within(&rt, alloc, &mated, 1, Err(PnFault::Ended))
+    mates_within(&rt, alloc, &mated, 1, Err(PnFault::Ended));
 }
 
 #[test]
-fn faults_print(rt: HostRuntime) -> Result<(), Fail> {
-    let near = write_pn_fault(rt.alloc(), &PnFault::NearCount)?;
-    assert!(rt; near.items.as_slice() == b"PnFault 1 NearCount".as_slice());
-    let ended = write_pn_fault(rt.alloc(), &PnFault::Ended)?;
-    assert!(rt; ended.items.as_slice() == b"PnFault 2 Ended".as_slice());
-    Ok(())
+fn faults_print(rt: HostRuntime) {
+    let near = write_pn_fault(rt.alloc(), &PnFault::NearCount).expect(&rt, "no fault");
+    expect(
+        &rt,
+        near.items.as_slice() == b"PnFault 1 NearCount".as_slice(),
+    );
+    let ended = write_pn_fault(rt.alloc(), &PnFault::Ended).expect(&rt, "no fault");
+    expect(&rt, ended.items.as_slice() == b"PnFault 2 Ended".as_slice());
 }

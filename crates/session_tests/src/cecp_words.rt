@@ -1,9 +1,9 @@
 //! Tests of `cecp_lines`.
+use crate::expect::expect_of;
 use cecp_lines::{Command, Limit, depth_for, gives_up, read_line, time_for};
 use io_ports::Got;
 use std::alloc::Global;
 use std::process::Abort;
-use std::test::Fail;
 
 // A command's name, its text and its numbers.
 fn shown<'b>(command: &'b Command) -> (&'static str, &'b [u8], u64, u64) {
@@ -39,106 +39,101 @@ fn expect_all(
     name: &str,
     text: &[u8],
     numbers: (u64, u64),
-) -> Result<(), Fail> {
-    let command = read_line(alloc, Got::Line, line).map_err(|_| "no memory")?;
+) {
+    let command = read_line(alloc, Got::Line, line)
+        .map_err(|_| "no memory")
+        .expect(rt, "no fault");
     let (is, said, one, two) = shown(&command);
-    assert!(rt; is == name && said == text, "{line:?}");
-    assert!(rt; (one, two) == numbers, "{line:?}");
-    Ok(())
+    expect_of(rt, &line, is == name && said == text);
+    expect_of(rt, &line, (one, two) == numbers);
 }
 
 /// The same of a line that has neither a text nor a number.
-fn expect(rt: &impl Abort, alloc: Global, line: &str, name: &str) -> Result<(), Fail> {
-    expect_all(rt, alloc, line.as_bytes(), name, b"", (0, 0))
+fn expect(rt: &impl Abort, alloc: Global, line: &str, name: &str) {
+    expect_all(rt, alloc, line.as_bytes(), name, b"", (0, 0));
 }
 
 #[test]
-fn commands_alone(rt: HostRuntime) -> Result<(), Fail> {
+fn commands_alone(rt: HostRuntime) {
     let alloc = rt.alloc();
-    expect(&rt, alloc, "", "idle")?;
-    expect(&rt, alloc, " \t", "unknown")?;
-    expect(&rt, alloc, "xboard", "idle")?;
-    expect(&rt, alloc, "accepted ping", "idle")?;
-    expect(&rt, alloc, "otim 1", "idle")?;
-    expect(&rt, alloc, "?", "idle")?;
-    expect(&rt, alloc, "\tnew  now", "new")?;
-    expect(&rt, alloc, "force", "force")?;
-    expect(&rt, alloc, "result 1-0 {mate}", "force")?;
-    expect(&rt, alloc, "go", "go")?;
-    expect(&rt, alloc, "playother", "playother")?;
-    expect(&rt, alloc, "quit now", "quit")?;
-    expect(&rt, alloc, "now quit", "unknown")
+    expect(&rt, alloc, "", "idle");
+    expect(&rt, alloc, " \t", "unknown");
+    expect(&rt, alloc, "xboard", "idle");
+    expect(&rt, alloc, "accepted ping", "idle");
+    expect(&rt, alloc, "otim 1", "idle");
+    expect(&rt, alloc, "?", "idle");
+    expect(&rt, alloc, "\tnew  now", "new");
+}
+
+#[test]
+fn commands_that_say_who_plays(rt: HostRuntime) {
+    let alloc = rt.alloc();
+    expect(&rt, alloc, "force", "force");
+    expect(&rt, alloc, "result 1-0 {mate}", "force");
+    expect(&rt, alloc, "go", "go");
+    expect(&rt, alloc, "playother", "playother");
+    expect(&rt, alloc, "quit now", "quit");
+    expect(&rt, alloc, "now quit", "unknown");
 }
 
 /// Asserts the text of a line.
-fn expect_text(
-    rt: &impl Abort,
-    alloc: Global,
-    line: &str,
-    name: &str,
-    text: &str,
-) -> Result<(), Fail> {
-    expect_all(rt, alloc, line.as_bytes(), name, text.as_bytes(), (0, 0))
+fn expect_text(rt: &impl Abort, alloc: Global, line: &str, name: &str, text: &str) {
+    expect_all(rt, alloc, line.as_bytes(), name, text.as_bytes(), (0, 0));
 }
 
 #[test]
-fn commands_with_a_text(rt: HostRuntime) -> Result<(), Fail> {
+fn commands_with_a_text(rt: HostRuntime) {
     let alloc = rt.alloc();
-    expect_text(&rt, alloc, "variant crazyhouse x", "variant", "crazyhouse")?;
-    expect_text(&rt, alloc, "variant", "variant", "")?;
-    expect_text(&rt, alloc, "usermove e2e4", "usermove", "e2e4")?;
-    expect_text(&rt, alloc, "setboard 8/8  w -", "setboard", "8/8 w -")?;
+    expect_text(&rt, alloc, "variant crazyhouse x", "variant", "crazyhouse");
+    expect_text(&rt, alloc, "variant", "variant", "");
+    expect_text(&rt, alloc, "usermove e2e4", "usermove", "e2e4");
+    expect_text(&rt, alloc, "setboard 8/8  w -", "setboard", "8/8 w -");
     let digits = "00000000000000000001";
-    expect_text(&rt, alloc, "ping 00000000000000000001", "ping", digits)
+    expect_text(&rt, alloc, "ping 00000000000000000001", "ping", digits);
 }
 
 #[test]
-fn bad_numbers(rt: HostRuntime) -> Result<(), Fail> {
+fn bad_numbers(rt: HostRuntime) {
     let alloc = rt.alloc();
-    expect(&rt, alloc, "protover 2", "protover")?;
-    expect(&rt, alloc, "protover two", "bad number")?;
-    expect(&rt, alloc, "ping 000000000000000000001", "bad number")?;
-    expect(&rt, alloc, "ping -1", "bad number")?;
-    expect(&rt, alloc, "level 0 5 0.5", "bad number")?;
-    expect(&rt, alloc, "level 40 2:3:0 12", "bad number")?;
-    expect(&rt, alloc, "level 40 5", "bad number")?;
-    expect(&rt, alloc, "time 18446744073709551616", "bad number")
+    expect(&rt, alloc, "protover 2", "protover");
+    expect(&rt, alloc, "protover two", "bad number");
+    expect(&rt, alloc, "ping 000000000000000000001", "bad number");
+    expect(&rt, alloc, "ping -1", "bad number");
+    expect(&rt, alloc, "level 0 5 0.5", "bad number");
+    expect(&rt, alloc, "level 40 2:3:0 12", "bad number");
+    expect(&rt, alloc, "level 40 5", "bad number");
+    expect(&rt, alloc, "time 18446744073709551616", "bad number");
 }
 
 /// Asserts the number of a line.
-fn expect_number(
-    rt: &impl Abort,
-    alloc: Global,
-    line: &str,
-    name: &str,
-    number: u64,
-) -> Result<(), Fail> {
-    expect_all(rt, alloc, line.as_bytes(), name, b"", (number, 0))
+fn expect_number(rt: &impl Abort, alloc: Global, line: &str, name: &str, number: u64) {
+    expect_all(rt, alloc, line.as_bytes(), name, b"", (number, 0));
 }
 
 #[test]
-fn commands_with_numbers(rt: HostRuntime) -> Result<(), Fail> {
+fn commands_with_numbers(rt: HostRuntime) {
     let alloc = rt.alloc();
-    expect_number(&rt, alloc, "undo", "back", 1)?;
-    expect_number(&rt, alloc, "remove", "back", 2)?;
-    expect_number(&rt, alloc, "post", "post", 1)?;
-    expect_number(&rt, alloc, "nopost", "post", 0)?;
-    expect_number(&rt, alloc, "st 5", "st", 5)?;
-    expect_number(&rt, alloc, "sd 99", "sd", 99)?;
-    expect_number(&rt, alloc, "time 18446744073709551615", "time", u64::MAX)?;
-    expect_all(&rt, alloc, b"level 40 2:30 12", "level", b"", (40, 12))
+    expect_number(&rt, alloc, "undo", "back", 1);
+    expect_number(&rt, alloc, "remove", "back", 2);
+    expect_number(&rt, alloc, "post", "post", 1);
+    expect_number(&rt, alloc, "nopost", "post", 0);
+    expect_number(&rt, alloc, "st 5", "st", 5);
+    expect_number(&rt, alloc, "sd 99", "sd", 99);
+    expect_number(&rt, alloc, "time 18446744073709551615", "time", u64::MAX);
+    expect_all(&rt, alloc, b"level 40 2:30 12", "level", b"", (40, 12));
 }
 
 #[test]
-fn a_long_line(rt: HostRuntime) -> Result<(), Fail> {
-    let long = read_line(rt.alloc(), Got::TooLong, b"quit").map_err(|_| "no memory")?;
+fn a_long_line(rt: HostRuntime) {
+    let long = read_line(rt.alloc(), Got::TooLong, b"quit")
+        .map_err(|_| "no memory")
+        .expect(&rt, "no fault");
     assert!(rt; shown(&long).0 == "too long");
-    Ok(())
 }
 
 /// Asserts that a search is given up for the line.
 fn expect_given_up(rt: &impl Abort, line: &str) {
-    assert!(rt; gives_up(line.as_bytes()), "{line}");
+    expect_of(rt, &line, gives_up(line.as_bytes()));
 }
 
 #[test]
@@ -155,7 +150,7 @@ fn lines_give_a_search_up(rt: HostRuntime) {
 
 /// Asserts that a search is not given up for the line.
 fn expect_kept(rt: &impl Abort, line: &str) {
-    assert!(rt; !gives_up(line.as_bytes()), "{line}");
+    expect_of(rt, &line, !gives_up(line.as_bytes()));
 }
 
 #[test]

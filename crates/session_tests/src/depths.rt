@@ -1,7 +1,9 @@
 //! Tests of `thinking`.
 ghost use Rattle.std.specs.Prelude.{◌≡◌, ◌≤◌, None};
 
+use crate::expect::{expect, expect_eq, expect_of};
 use crate::helpers::go;
+use foundation::Memory;
 use game_play::Game;
 use io_ports::{
     Dialect, Limits, LineBuf, ListClock, MemSink, MemSource, OpenGate, PollsOwed, SearchFault,
@@ -13,7 +15,6 @@ use seeking::Mind;
 use std::alloc::Global;
 use std::process::Abort;
 use std::sync::Wait;
-use std::test::Fail;
 use std::thread::Threads;
 use strategy::{Counters, Nodes, Strategy};
 use thinking::{
@@ -64,43 +65,44 @@ fn expect_lines(
     style: Style,
     reading: u64,
     text: &str,
-) -> Result<(), Fail> {
+) {
     let found = found(alloc, scored);
-    let written = depth_lines(alloc, style, &chess(), 100, 3, &found, reading)?;
-    assert!(rt; written.items.as_slice() == text.as_bytes(), "{text}");
-    Ok(())
+    let written = depth_lines(alloc, style, &chess(), 100, 3, &found, reading).expect(
+        rt, "no fault",
+    );
+    expect_of(rt, &text, written.items.as_slice() == text.as_bytes());
 }
 
 #[test]
-fn lines_of_depths_in_uci(rt: HostRuntime) -> Result<(), Fail> {
+fn lines_of_depths_in_uci(rt: HostRuntime) {
     let (alloc, uci) = (rt.alloc(), Style::Uci);
     let points = "info depth 3 score cp -12 pv e2e4\n";
-    expect_lines(&rt, alloc, Scored::Points(-12), uci, 900, points)?;
+    expect_lines(&rt, alloc, Scored::Points(-12), uci, 900, points);
     let mates = "info depth 3 score mate 2 pv e2e4\n";
-    expect_lines(&rt, alloc, Scored::Mates(2), uci, 900, mates)?;
+    expect_lines(&rt, alloc, Scored::Mates(2), uci, 900, mates);
     let mated = "info depth 3 score mate -5 pv e2e4\n";
-    expect_lines(&rt, alloc, Scored::Mated(5), uci, 900, mated)
+    expect_lines(&rt, alloc, Scored::Mated(5), uci, 900, mated);
 }
 
 #[test]
-fn lines_of_depths_that_are_posted(rt: HostRuntime) -> Result<(), Fail> {
+fn lines_of_depths_that_are_posted(rt: HostRuntime) {
     let (alloc, post) = (rt.alloc(), Style::Post);
     let points = "3 -12 113 77 e2e4\n";
-    expect_lines(&rt, alloc, Scored::Points(-12), post, 1234, points)?;
+    expect_lines(&rt, alloc, Scored::Points(-12), post, 1234, points);
     let mates = "3 100002 0 77 e2e4\n";
-    expect_lines(&rt, alloc, Scored::Mates(2), post, 109, mates)?;
+    expect_lines(&rt, alloc, Scored::Mates(2), post, 109, mates);
     let mated = "3 -100005 0 77 e2e4\n";
-    expect_lines(&rt, alloc, Scored::Mated(5), post, 5, mated)?;
-    expect_lines(&rt, alloc, Scored::Mated(5), Style::Silent, 900, "")
+    expect_lines(&rt, alloc, Scored::Mated(5), post, 5, mated);
+    expect_lines(&rt, alloc, Scored::Mated(5), Style::Silent, 900, "");
 }
 
 #[test]
-fn lines_on_evidence(rt: HostRuntime) -> Result<(), Fail> {
+fn lines_on_evidence(rt: HostRuntime) {
     let alloc = rt.alloc();
     let rules = chess();
     let mut others = Vec::new(alloc);
-    others.push(97)?;
-    others.push(98)?;
+    others.push(97).expect(&rt, "no fault");
+    others.push(98).expect(&rt, "no fault");
     let first = Position {
         counter: 96,
         number: 1,
@@ -112,10 +114,9 @@ fn lines_on_evidence(rt: HostRuntime) -> Result<(), Fail> {
         first: 96,
         others: Counters { items: others },
     };
-    let written = unsettled_line(alloc, &rules, &e)?;
+    let written = unsettled_line(alloc, &rules, &e).expect(&rt, "no fault");
     let text = "info string mate unsettled 7k/8/5KQ1/8/8/8/8/8 w - - 96 1 96 97 98\n";
-    assert!(rt; written.items.as_slice() == text.as_bytes());
-    Ok(())
+    expect(&rt, written.items.as_slice() == text.as_bytes());
 }
 
 /// King and queen against a king: g6g7 mates.
@@ -146,7 +147,7 @@ fn deepened<R: Threads + Wait + Abort + Sync>(
     depths: u8,
     heard: Heard,
     written: &mut Vec<u8>,
-) -> Result<Result<Depths, SearchFault>, Fail>
+) -> Result<Result<Depths, SearchFault>, Memory>
     requires least { 1 ≤ depths }
     requires most { depths ≤ 64 }
 {
@@ -209,70 +210,75 @@ fn expect_told<R: Threads + Wait + Abort + Sync>(
     heard: Heard,
     told: Told,
     lines: &str,
-) -> Result<(), Fail> {
+) {
     assert!(rt; 1 <= depths && depths <= 64);
     let mut written = Vec::new(alloc);
-    let found = deepened(rt, alloc, text, style, depths, heard, &mut written)?;
-    assert!(rt; written.as_slice() == lines.as_bytes());
-    let Ok(found) = found else {
-        return Err("a fault".into());
-    };
+    let found = deepened(rt, alloc, text, style, depths, heard, &mut written)
+        .expect(rt, "no fault")
+        .expect(rt, "no fault");
+    expect(rt, written.as_slice() == lines.as_bytes());
     let (best, why, kept) = told;
-    assert!(rt; found.best == go(best) && found.why == why);
-    assert_eq!(rt; kept_moves(&found), kept);
-    Ok(())
+    expect(rt, found.best == go(best) && found.why == why);
+    expect_eq(rt, kept_moves(&found), kept);
 }
 
 // King b3 and rook h8 mate by h8h1 once the king has gone a1b1, its one move.
 #[test]
-fn depths_are_told(rt: HostRuntime) -> Result<(), Fail> {
+fn depths_are_told(rt: HostRuntime) {
     let (alloc, silent) = (rt.alloc(), Style::Silent);
     let mate = ("g6g7", None, 1);
     let lines = "info depth 1 score mate 1 pv g6g7\ninfo depth 2 score mate 1 pv g6g7\n";
-    expect_told(&rt, alloc, MATE, Style::Uci, 2, NOTHING, mate, lines)?;
-    expect_told(&rt, alloc, MATE, silent, 2, NOTHING, mate, "")?;
+    expect_told(&rt, alloc, MATE, Style::Uci, 2, NOTHING, mate, lines);
+    expect_told(&rt, alloc, MATE, silent, 2, NOTHING, mate, "");
     let mated = ("a1b1", None, 1);
-    expect_told(&rt, alloc, "Ka1 kb3 rh8", silent, 2, NOTHING, mated, "")
+    expect_told(&rt, alloc, "Ka1 kb3 rh8", silent, 2, NOTHING, mated, "");
 }
 
 #[test]
-fn depths_are_cut(rt: HostRuntime) -> Result<(), Fail> {
+fn depths_are_cut(rt: HostRuntime) {
     let (alloc, silent) = (rt.alloc(), Style::Silent);
     let one_node = Heard {
         share: Some(1),
         ..NOTHING
     };
     let quota = ("f6e5", Some(Cut::Quota(1)), 0);
-    expect_told(&rt, alloc, MATE, silent, 2, one_node, quota, "")?;
+    expect_told(&rt, alloc, MATE, silent, 2, one_node, quota, "");
     let soon = Heard {
         deadline: Some(20),
         ..NOTHING
     };
     let late = ("f6e5", Some(Cut::Deadline(130)), 0);
-    expect_told(&rt, alloc, MATE, silent, 2, soon, late, "")?;
+    expect_told(&rt, alloc, MATE, silent, 2, soon, late, "");
     let stop = Heard {
         lines: b"isready\nstop\n",
         owed: PollsOwed::Number(0),
         ..NOTHING
     };
     let line = ("g6g7", Some(Cut::Line), 0);
-    expect_told(&rt, alloc, MATE, silent, 3, stop, line, "readyok\n")
+    expect_told(&rt, alloc, MATE, silent, 3, stop, line, "readyok\n");
+}
+
+/// Asserts a line of each of two depths, with a score, a time and nodes, and with one move.
+fn expect_two_lines(rt: &impl Abort, text: &[u8]) {
+    let (first, second) = text.split_at(text.iter().position(|byte| *byte == b'\n').unwrap_or(0));
+    let found = [
+        first.starts_with(b"1 100001 3 ") && !first.starts_with(b"1 100001 3 0 "),
+        first.ends_with(b" g6g7"),
+        second.starts_with(b"\n2 100001 0 "),
+        second.ends_with(b" g6g7\n"),
+    ];
+    expect_eq(rt, found, [true; 4]);
 }
 
 // The first reading is 100, and those after the depths are 130 and 90.
 #[test]
-fn times_and_nodes_are_told(rt: HostRuntime) -> Result<(), Fail> {
+fn times_and_nodes_are_told(rt: HostRuntime) {
     let mut written = Vec::new(rt.alloc());
-    let told = deepened(&rt, rt.alloc(), MATE, Style::Post, 2, NOTHING, &mut written)?;
+    let told = deepened(&rt, rt.alloc(), MATE, Style::Post, 2, NOTHING, &mut written).expect(
+        &rt, "no fault",
+    );
     assert!(rt; told.is_ok());
-    let text = written.as_slice();
-    assert!(rt; text.starts_with(b"1 100001 3 "));
-    assert!(rt; !text.starts_with(b"1 100001 3 0 "));
-    assert!(rt; text.ends_with(b" g6g7\n"));
-    let (first, second) = text.split_at(text.iter().position(|byte| *byte == b'\n').unwrap_or(0));
-    assert!(rt; first.ends_with(b" g6g7"));
-    assert!(rt; second.starts_with(b"\n2 100001 0 "));
-    Ok(())
+    expect_two_lines(&rt, written.as_slice());
 }
 
 /// What the answer of `try_mates` is, and its number of moves.
@@ -302,19 +308,21 @@ fn tried<R: Threads + Wait + Abort + Sync>(
     last: u16,
     limits: Limits,
     heard: Heard,
-) -> Result<Answer, Fail>
+) -> Answer
     requires least { 1 ≤ last }
     requires most { last ≤ 100 }
 {
     let (rules, start) = (chess(), position(text));
     assert!(rt; sound(&rules, &start));
-    let mut source = MemSource::new(alloc, heard.lines, heard.owed, &[])?;
-    let mut sink = MemSink::new(alloc, 1000)?;
-    let mut clock = ListClock::new(alloc, &[130, 90])?;
-    let mut line = LineBuf::new(alloc)?;
-    let mut mind = Mind::new(alloc, 1)?;
-    let game = Game::new(alloc, &rules, &start)?;
-    let roots = legal_moves(alloc, game.rules(), game.tables(), game.position())?;
+    let mut source = MemSource::new(alloc, heard.lines, heard.owed, &[]).expect(rt, "no fault");
+    let mut sink = MemSink::new(alloc, 1000).expect(rt, "no fault");
+    let mut clock = ListClock::new(alloc, &[130, 90]).expect(rt, "no fault");
+    let mut line = LineBuf::new(alloc).expect(rt, "no fault");
+    let mut mind = Mind::new(alloc, 1).expect(rt, "no fault");
+    let game = Game::new(alloc, &rules, &start).expect(rt, "no fault");
+    let roots = legal_moves(alloc, game.rules(), game.tables(), game.position()).expect(
+        rt, "no fault",
+    );
     assert!(rt; !roots.items.is_empty());
     let tried = try_mates(
         rt,
@@ -330,7 +338,7 @@ fn tried<R: Threads + Wait + Abort + Sync>(
         Dialect::Uci,
         &mut line,
     );
-    Ok(answer_of(&tried))
+    answer_of(&tried)
 }
 
 /// Asserts what the answer is.
@@ -342,31 +350,30 @@ fn expect_tried<R: Threads + Wait + Abort + Sync>(
     quota: Option<u64>,
     heard: Heard,
     answer: Answer,
-) -> Result<(), Fail> {
+) {
     assert!(rt; 1 <= last && last <= 100);
     let limits = Limits {
         quota,
         deadline: None,
     };
-    assert_eq!(rt; tried(rt, alloc, text, last, limits, heard)?, answer);
-    Ok(())
+    expect_eq(rt, tried(rt, alloc, text, last, limits, heard), answer);
 }
 
 // A solve within 1 move of the kings in the corners enters at most 8 times the 67 lines of at most 3 moves, so it
 // polls once, and the line that comes next stops the solve within 2.
 #[test]
-fn mates_are_tried(rt: HostRuntime) -> Result<(), Fail> {
+fn mates_are_tried(rt: HostRuntime) {
     let alloc = rt.alloc();
     let shown = Answer::Shown(1, go("g6g7"));
-    expect_tried(&rt, alloc, MATE, 3, None, NOTHING, shown)?;
-    expect_tried(&rt, alloc, "Ke1 ke8", 2, None, NOTHING, Answer::NoMate)?;
+    expect_tried(&rt, alloc, MATE, 3, None, NOTHING, shown);
+    expect_tried(&rt, alloc, "Ke1 ke8", 2, None, NOTHING, Answer::NoMate);
     let stop = Heard {
         lines: b"stop\n",
         owed: PollsOwed::Number(1),
         ..NOTHING
     };
     let by_line = Answer::Stopped(2, Cut::Line);
-    expect_tried(&rt, alloc, "Ka1 kh8", 3, None, stop, by_line)?;
+    expect_tried(&rt, alloc, "Ka1 kh8", 3, None, stop, by_line);
     let by_quota = Answer::Stopped(1, Cut::Quota(0));
-    expect_tried(&rt, alloc, "Ke3 Ra1 kd5", 3, Some(0), NOTHING, by_quota)
+    expect_tried(&rt, alloc, "Ke3 Ra1 kd5", 3, Some(0), NOTHING, by_quota);
 }

@@ -9,6 +9,8 @@ mod cecp_words;
 #[cfg(test)]
 mod depths;
 #[cfg(test)]
+mod expect;
+#[cfg(test)]
 mod helpers;
 #[cfg(test)]
 mod minds;

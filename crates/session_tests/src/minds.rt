@@ -1,4 +1,5 @@
 //! Tests of `seeking`.
+use crate::expect::expect_eq;
 use crate::helpers::go;
 use foundation::Memory;
 use game_play::Game;
@@ -12,7 +13,6 @@ use seeking::{Mind, Search, Solve, search_once, solve_once};
 use std::alloc::Global;
 use std::process::Abort;
 use std::sync::Wait;
-use std::test::Fail;
 use std::thread::Threads;
 use watching::Cut;
 
@@ -61,7 +61,7 @@ fn searched<R: Threads + Wait + Abort + Sync>(
     owed: PollsOwed,
     limits: Limits,
     line: &mut LineBuf,
-) -> Result<Told, Fail> {
+) -> Result<Told, Memory> {
     let (rules, p) = (chess(), position(ROOK));
     assert!(rt; sound(&rules, &p));
     let mut sink = MemSink::new(alloc, 100)?;
@@ -97,14 +97,14 @@ fn solved<R: Threads + Wait + Abort + Sync>(
     owed: PollsOwed,
     limits: Limits,
     line: &mut LineBuf,
-) -> Result<Told, Fail> {
+) -> Told {
     let (rules, p) = (chess(), position(ROOK));
     assert!(rt; sound(&rules, &p));
-    let mut sink = MemSink::new(alloc, 100)?;
-    let mut clock = ListClock::new(alloc, &[5])?;
-    let mut source = MemSource::new(alloc, lines, owed, &[])?;
-    let mut mind = Mind::new(alloc, 1)?;
-    let game = Game::new(alloc, &rules, &p)?;
+    let mut sink = MemSink::new(alloc, 100).expect(rt, "no fault");
+    let mut clock = ListClock::new(alloc, &[5]).expect(rt, "no fault");
+    let mut source = MemSource::new(alloc, lines, owed, &[]).expect(rt, "no fault");
+    let mut mind = Mind::new(alloc, 1).expect(rt, "no fault");
+    let game = Game::new(alloc, &rules, &p).expect(rt, "no fault");
     let solved = solve_once(
         rt,
         alloc,
@@ -120,7 +120,7 @@ fn solved<R: Threads + Wait + Abort + Sync>(
         Dialect::Uci,
         line,
     );
-    Ok(told_solve(&solved))
+    told_solve(&solved)
 }
 
 /// Asserts what both answer, and the line that they leave.
@@ -132,52 +132,52 @@ fn expect<R: Threads + Wait + Abort + Sync>(
     limits: Limits,
     told: (Told, Told),
     text: &str,
-) -> Result<(), Fail> {
-    let mut line = LineBuf::new(alloc)?;
-    let found = searched(rt, alloc, lines.as_bytes(), owed, limits, &mut line)?;
+) {
+    let mut line = LineBuf::new(alloc).expect(rt, "no fault");
+    let found = searched(rt, alloc, lines.as_bytes(), owed, limits, &mut line).expect(
+        rt, "no fault",
+    );
     assert!(rt; found == told.0 && line.text() == text.as_bytes());
-    let mut line = LineBuf::new(alloc)?;
-    let found = solved(rt, alloc, lines.as_bytes(), owed, limits, &mut line)?;
+    let mut line = LineBuf::new(alloc).expect(rt, "no fault");
+    let found = solved(rt, alloc, lines.as_bytes(), owed, limits, &mut line);
     assert!(rt; found == told.1 && line.text() == text.as_bytes());
-    Ok(())
 }
 
 #[test]
-fn one_search_and_one_solve(rt: HostRuntime) -> Result<(), Fail> {
+fn one_search_and_one_solve(rt: HostRuntime) {
     let (alloc, now) = (rt.alloc(), PollsOwed::Number(0));
     let whole = (Told::Found(31999, go("a1a8")), Told::Shown);
-    expect(&rt, alloc, "", PollsOwed::Endless, NONE, whole, "")?;
+    expect(&rt, alloc, "", PollsOwed::Endless, NONE, whole, "");
     let line = (Told::Cut(Cut::Line), Told::Cut(Cut::Line));
-    expect(&rt, alloc, "stop\n", now, NONE, line, "stop")?;
+    expect(&rt, alloc, "stop\n", now, NONE, line, "stop");
     let end = (Told::Cut(Cut::End), Told::Cut(Cut::End));
-    expect(&rt, alloc, "", now, NONE, end, "")
+    expect(&rt, alloc, "", now, NONE, end, "");
 }
 
 #[test]
-fn limits_of_a_search_and_a_solve(rt: HostRuntime) -> Result<(), Fail> {
+fn limits_of_a_search_and_a_solve(rt: HostRuntime) {
     let (alloc, never) = (rt.alloc(), PollsOwed::Endless);
     let none = Limits {
         quota: Some(0),
         deadline: None,
     };
     let quota = Told::Cut(Cut::Quota(0));
-    expect(&rt, alloc, "", never, none, (quota, quota), "")?;
+    expect(&rt, alloc, "", never, none, (quota, quota), "");
     let soon = Limits {
         quota: None,
         deadline: Some(4),
     };
     let late = Told::Cut(Cut::Deadline(5));
-    expect(&rt, alloc, "", never, soon, (late, late), "")
+    expect(&rt, alloc, "", never, soon, (late, late), "");
 }
 
 #[test]
-fn settings_change(rt: HostRuntime) -> Result<(), Memory> {
-    let mut mind = Mind::new(rt.alloc(), 2)?;
-    mind.set_hash(rt.alloc(), 1)?;
+fn settings_change(rt: HostRuntime) {
+    let mut mind = Mind::new(rt.alloc(), 2).expect(&rt, "no fault");
+    mind.set_hash(rt.alloc(), 1).expect(&rt, "no fault");
     mind.set_mate_facts(16);
     mind.forget();
-    assert_eq!(rt; mind.threads(), 2);
+    expect_eq(&rt, mind.threads(), 2);
     mind.set_threads(64);
-    assert_eq!(rt; mind.threads(), 64);
-    Ok(())
+    expect_eq(&rt, mind.threads(), 64);
 }

@@ -1,4 +1,5 @@
 //! Tests of `turning`.
+use crate::expect::{expect, expect_eq};
 use foundation::Memory;
 use io_ports::{Dialect, Got, LineBuf, MAX_LINE, MemSink, MemSource, PollsOwed, SearchFault};
 use std::alloc::Global;
@@ -8,8 +9,8 @@ use watching::Cut;
 
 /// Asserts what is left of the input, and what was written.
 fn leaves<R: Abort>(rt: &R, source: &MemSource, sink: &MemSink, left: &str, written: &str) {
-    assert_eq!(rt; source.left(), left.as_bytes());
-    assert_eq!(rt; sink.taken(), written.as_bytes());
+    expect_eq(rt, source.left(), left.as_bytes());
+    expect_eq(rt, sink.taken(), written.as_bytes());
 }
 
 /// Asserts how a wait for a line of the input ends, what is left then, and what was written.
@@ -21,24 +22,27 @@ fn expect_wait(
     ends: (Cut, &str),
     left: &str,
     written: &str,
-) -> Result<(), Memory> {
-    let mut source = MemSource::new(alloc, input, PollsOwed::Endless, &[])?;
-    let mut sink = MemSink::new(alloc, 100)?;
-    let mut line = LineBuf::new(alloc)?;
+) {
+    let mut source = MemSource::new(alloc, input, PollsOwed::Endless, &[]).expect(rt, "no fault");
+    let mut sink = MemSink::new(alloc, 100).expect(rt, "no fault");
+    let mut line = LineBuf::new(alloc).expect(rt, "no fault");
     let (cut, text) = ends;
-    assert_eq!(rt; wait(&mut source, &mut sink, dialect, &mut line), Ok(cut));
-    assert!(rt; cut != Cut::Line || line.text() == text.as_bytes());
+    expect_eq(
+        rt,
+        wait(&mut source, &mut sink, dialect, &mut line),
+        Ok(cut),
+    );
+    expect(rt, cut != Cut::Line || line.text() == text.as_bytes());
     leaves(rt, &source, &sink, left, written);
-    Ok(())
 }
 
 #[test]
-fn a_wait_ends_with_a_line_that_stops_or_with_the_end(rt: HostRuntime) -> Result<(), Memory> {
+fn a_wait_ends_with_a_line_that_stops_or_with_the_end(rt: HostRuntime) {
     let (alloc, uci) = (rt.alloc(), Dialect::Uci);
     let input = b"isready\ndebug on\n\n words\nisready\nxx stop now\nquit\n";
     let stop = (Cut::Line, "xx stop now");
-    expect_wait(&rt, alloc, uci, input, stop, "quit\n", "readyok\nreadyok\n")?;
-    expect_wait(&rt, alloc, uci, b"quit", (Cut::Line, "quit"), "", "")?;
+    expect_wait(&rt, alloc, uci, input, stop, "quit\n", "readyok\nreadyok\n");
+    expect_wait(&rt, alloc, uci, b"quit", (Cut::Line, "quit"), "", "");
     expect_wait(
         &rt,
         alloc,
@@ -47,16 +51,16 @@ fn a_wait_ends_with_a_line_that_stops_or_with_the_end(rt: HostRuntime) -> Result
         (Cut::End, ""),
         "",
         "readyok\n",
-    )?;
-    expect_wait(&rt, alloc, uci, b"", (Cut::End, ""), "", "")
+    );
+    expect_wait(&rt, alloc, uci, b"", (Cut::End, ""), "", "");
 }
 
 #[test]
-fn a_wait_in_cecp(rt: HostRuntime) -> Result<(), Memory> {
+fn a_wait_in_cecp(rt: HostRuntime) {
     let (alloc, cecp) = (rt.alloc(), Dialect::Cecp);
     let ping = (Cut::Line, "ping 1");
-    expect_wait(&rt, alloc, cecp, b"\n\r\nping 1\n?\n", ping, "?\n", "")?;
-    expect_wait(&rt, alloc, cecp, b"\n\n", (Cut::End, ""), "", "")
+    expect_wait(&rt, alloc, cecp, b"\n\r\nping 1\n?\n", ping, "?\n", "");
+    expect_wait(&rt, alloc, cecp, b"\n\n", (Cut::End, ""), "", "");
 }
 
 /// A line with one byte too many, and one that stops.
@@ -70,15 +74,15 @@ fn too_long(alloc: Global) -> Result<Vec<u8>, Memory> {
 }
 
 #[test]
-fn a_line_that_is_too_long_is_answered(rt: HostRuntime) -> Result<(), Memory> {
-    let input = too_long(rt.alloc())?;
+fn a_line_that_is_too_long_is_answered(rt: HostRuntime) {
+    let input = too_long(rt.alloc()).expect(&rt, "no fault");
     let (stop, uci) = (
         (Cut::Line, "stop"),
         "info string error LineFault 1 TooLong\n",
     );
-    expect_wait(&rt, rt.alloc(), Dialect::Uci, &input, stop, "", uci)?;
+    expect_wait(&rt, rt.alloc(), Dialect::Uci, &input, stop, "", uci);
     let cecp = "Error (line too long)\n";
-    expect_wait(&rt, rt.alloc(), Dialect::Cecp, &input, stop, "", cecp)
+    expect_wait(&rt, rt.alloc(), Dialect::Cecp, &input, stop, "", cecp);
 }
 
 /// Asserts what a search that ended for this reason, and holds its best move back or not, ends for at last.
@@ -90,37 +94,38 @@ fn expect_settled(
     input: &str,
     settled: Option<Cut>,
     leaves_and_writes: (&str, &str),
-) -> Result<(), Memory> {
-    let mut source = MemSource::new(alloc, input.as_bytes(), PollsOwed::Endless, &[])?;
-    let mut sink = MemSink::new(alloc, 100)?;
-    let mut line = LineBuf::new(alloc)?;
+) {
+    let mut source = MemSource::new(alloc, input.as_bytes(), PollsOwed::Endless, &[]).expect(
+        rt, "no fault",
+    );
+    let mut sink = MemSink::new(alloc, 100).expect(rt, "no fault");
+    let mut line = LineBuf::new(alloc).expect(rt, "no fault");
     let answer = settle(&mut source, &mut sink, Dialect::Uci, &mut line, holds, why);
-    assert_eq!(rt; answer, Ok(settled));
+    expect_eq(rt, answer, Ok(settled));
     let (left, written) = leaves_and_writes;
     leaves(rt, &source, &sink, left, written);
-    Ok(())
 }
 
 #[test]
-fn a_best_move_that_is_not_held_back(rt: HostRuntime) -> Result<(), Memory> {
+fn a_best_move_that_is_not_held_back(rt: HostRuntime) {
     let (alloc, late) = (rt.alloc(), Some(Cut::Deadline(7)));
     let whole = ("isready\nstop\n", "");
-    expect_settled(&rt, alloc, false, None, "isready\nstop\n", None, whole)?;
-    expect_settled(&rt, alloc, false, late, "stop\n", late, ("stop\n", ""))
+    expect_settled(&rt, alloc, false, None, "isready\nstop\n", None, whole);
+    expect_settled(&rt, alloc, false, late, "stop\n", late, ("stop\n", ""));
 }
 
 #[test]
-fn a_best_move_is_held_back_until_a_line_or_the_end(rt: HostRuntime) -> Result<(), Memory> {
+fn a_best_move_is_held_back_until_a_line_or_the_end(rt: HostRuntime) {
     let alloc = rt.alloc();
     let (line, end) = (Some(Cut::Line), Some(Cut::End));
     let after = ("go\n", "readyok\n");
-    expect_settled(&rt, alloc, true, None, "isready\nstop\ngo\n", line, after)?;
+    expect_settled(&rt, alloc, true, None, "isready\nstop\ngo\n", line, after);
     let (quota, late) = (Some(Cut::Quota(3)), Some(Cut::Deadline(7)));
     let ready = ("", "readyok\n");
-    expect_settled(&rt, alloc, true, quota, "isready\n", end, ready)?;
-    expect_settled(&rt, alloc, true, late, "stop\n", line, ("", ""))?;
-    expect_settled(&rt, alloc, true, line, "stop\n", line, ("stop\n", ""))?;
-    expect_settled(&rt, alloc, true, end, "", end, ("", ""))
+    expect_settled(&rt, alloc, true, quota, "isready\n", end, ready);
+    expect_settled(&rt, alloc, true, late, "stop\n", line, ("", ""));
+    expect_settled(&rt, alloc, true, line, "stop\n", line, ("stop\n", ""));
+    expect_settled(&rt, alloc, true, end, "", end, ("", ""));
 }
 
 /// Asserts what comes after a search that ended for this reason, its text, and what is left.
@@ -131,21 +136,22 @@ fn expect_next(
     input: &str,
     comes: (Got, &str),
     left: &str,
-) -> Result<(), Memory> {
-    let mut source = MemSource::new(alloc, input.as_bytes(), PollsOwed::Endless, &[])?;
-    let mut line = LineBuf::new(alloc)?;
+) {
+    let mut source = MemSource::new(alloc, input.as_bytes(), PollsOwed::Endless, &[]).expect(
+        rt, "no fault",
+    );
+    let mut line = LineBuf::new(alloc).expect(rt, "no fault");
     line.set(b"held");
     let (got, text) = comes;
-    assert_eq!(rt; next_of(&mut source, &mut line, why), got);
-    assert!(rt; got != Got::Line || line.text() == text.as_bytes());
-    assert_eq!(rt; source.left(), left.as_bytes());
-    Ok(())
+    expect_eq(rt, next_of(&mut source, &mut line, why), got);
+    expect(rt, got != Got::Line || line.text() == text.as_bytes());
+    expect_eq(rt, source.left(), left.as_bytes());
 }
 
 #[test]
-fn the_line_that_cut_a_search_comes_next(rt: HostRuntime) -> Result<(), Memory> {
+fn the_line_that_cut_a_search_comes_next(rt: HostRuntime) {
     let alloc = rt.alloc();
-    expect_next(&rt, alloc, None, "go\nquit\n", (Got::Line, "go"), "quit\n")?;
+    expect_next(&rt, alloc, None, "go\nquit\n", (Got::Line, "go"), "quit\n");
     expect_next(
         &rt,
         alloc,
@@ -153,7 +159,7 @@ fn the_line_that_cut_a_search_comes_next(rt: HostRuntime) -> Result<(), Memory> 
         "go\n",
         (Got::Line, "held"),
         "go\n",
-    )?;
+    );
     expect_next(
         &rt,
         alloc,
@@ -161,9 +167,9 @@ fn the_line_that_cut_a_search_comes_next(rt: HostRuntime) -> Result<(), Memory> 
         "go\n",
         (Got::Line, "go"),
         "",
-    )?;
-    expect_next(&rt, alloc, Some(Cut::Deadline(1)), "", (Got::End, ""), "")?;
-    expect_next(&rt, alloc, Some(Cut::End), "", (Got::End, ""), "")
+    );
+    expect_next(&rt, alloc, Some(Cut::Deadline(1)), "", (Got::End, ""), "");
+    expect_next(&rt, alloc, Some(Cut::End), "", (Got::End, ""), "");
 }
 
 /// Asserts the fault that ends a wait, by a source that fails at these calls or a sink without more room.
@@ -175,22 +181,23 @@ fn expect_fault(
     fault: SearchFault,
     left: &str,
     written: &str,
-) -> Result<(), Memory> {
-    let mut source = MemSource::new(alloc, b"isready\nstop\n", PollsOwed::Endless, failing)?;
-    let mut sink = MemSink::new(alloc, room)?;
-    let mut line = LineBuf::new(alloc)?;
+) {
+    let mut source = MemSource::new(alloc, b"isready\nstop\n", PollsOwed::Endless, failing).expect(
+        rt, "no fault",
+    );
+    let mut sink = MemSink::new(alloc, room).expect(rt, "no fault");
+    let mut line = LineBuf::new(alloc).expect(rt, "no fault");
     let answer = settle(&mut source, &mut sink, Dialect::Uci, &mut line, true, None);
-    assert_eq!(rt; answer, Err(fault));
+    expect_eq(rt, answer, Err(fault));
     leaves(rt, &source, &sink, left, written);
-    Ok(())
 }
 
 #[test]
-fn a_fault_ends_a_wait(rt: HostRuntime) -> Result<(), Memory> {
+fn a_fault_ends_a_wait(rt: HostRuntime) {
     let alloc = rt.alloc();
     let (reads, writes) = (SearchFault::ReadFault, SearchFault::WriteFault);
-    expect_fault(&rt, alloc, &[1], 100, reads, "stop\n", "readyok\n")?;
-    expect_fault(&rt, alloc, &[0], 100, reads, "isready\nstop\n", "")?;
-    expect_fault(&rt, alloc, &[], 5, writes, "stop\n", "ready")?;
-    expect_fault(&rt, alloc, &[], 7, writes, "stop\n", "readyok")
+    expect_fault(&rt, alloc, &[1], 100, reads, "stop\n", "readyok\n");
+    expect_fault(&rt, alloc, &[0], 100, reads, "isready\nstop\n", "");
+    expect_fault(&rt, alloc, &[], 5, writes, "stop\n", "ready");
+    expect_fault(&rt, alloc, &[], 7, writes, "stop\n", "readyok");
 }
