@@ -1,5 +1,5 @@
 //! Tests of `section_rules`.
-use crate::expect::expect;
+use crate::expect::{expect, expect_eq};
 use rules_model::{Kind, KindRule, Memory, Rules, Square};
 use section_rules::{LetteredSections, Resolved, bare_rules, own_fault, rules_fault};
 use std::alloc::Global;
@@ -104,13 +104,13 @@ fn expect_numbers(rt: &impl Abort, rules: &Rules) {
         u16::from(rules.files),
         u16::from(rules.ranks),
     ];
-    assert_eq!(rt; found, [40, 5, 9, 8]);
+    expect_eq(rt, found, [40, 5, 9, 8]);
 }
 
 /// The kinds that `c` names. The letter of the rook is the chancellor's.
 fn expect_kinds(rt: &impl Abort, rules: &Rules) {
     let found = [rules.king, rules.flag_kind, rules.soldier];
-    assert_eq!(rt; found, [Some(Kind(10)), None, None]);
+    expect_eq(rt, found, [Some(Kind(10)), None, None]);
     expect(rt, rules.check_counting && !rules.castle_rooks[17]);
 }
 
@@ -125,7 +125,7 @@ fn steps_of(rule: &Option<KindRule>) -> (usize, bool) {
 /// The steps of the chancellor and of the king, whose word is the value's own.
 fn expect_steps(rt: &impl Abort, rules: &Rules) {
     let found = (steps_of(&rules.kinds[17]), steps_of(&rules.kinds[10]));
-    assert_eq!(rt; found, ((12, false), (4, false)));
+    expect_eq(rt, found, ((12, false), (4, false)));
 }
 
 /// Whether each region has its own squares of the board, and none beside it.
@@ -141,7 +141,7 @@ fn expect_regions(rt: &impl Abort, rules: &Rules) {
         rules.promotion[0].squares[Square::at(8, 7).0 as usize],
         rules.promotion[0].squares[Square::at(9, 7).0 as usize],
     ];
-    assert_eq!(rt; found, [true, false, false, true, false]);
+    expect_eq(rt, found, [true, false, false, true, false]);
 }
 
 /// The rules of the last section, and whether its start is of this text.

@@ -1,5 +1,5 @@
 //! Tests of `variant_rules`.
-use crate::expect::expect;
+use crate::expect::{expect, expect_eq};
 use rules_model::Rules;
 use std::alloc::{AllocError, Global};
 use std::process::Abort;
@@ -90,7 +90,7 @@ fn are_refused(variants: &Variants) -> bool {
 fn options_come_from_all_parents(rt: HostRuntime) {
     let variants = variants_with(&rt, rt.alloc(), CHAIN);
     let counts = counts_of(variants.find(b"c"));
-    assert_eq!(rt; counts, Some((40, 2, false)));
+    expect_eq(&rt, counts, Some((40, 2, false)));
     expect(&rt, are_refused(&variants));
 }
 
