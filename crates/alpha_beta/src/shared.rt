@@ -2,24 +2,8 @@
 use foundation::Memory;
 use negamax::RootFact;
 use std::alloc::Global;
-use std::sync::atomic::{AtomicI32, AtomicU8, Ordering};
-use watching::StopFlag;
-
-/// Which root moves a worker takes.
-#[derive(Clone, Copy, Debug, PartialEq, Eq)]
-pub(crate) enum Round {
-    /// Those that no worker has taken.
-    Free,
-    /// Those that no worker has finished.
-    Unfinished,
-}
-
-/// What became of a root move: it is free, a worker has taken it, or it is finished.
-const FREE: u8 = 0;
-
-const TAKEN: u8 = 1;
-
-const FINISHED: u8 = 2;
+use std::sync::atomic::{AtomicI32, Ordering};
+use watching::{RootMarks, Round, StopFlag};
 
 /// Below every value.
 pub(crate) const WORST: i32 = -32_001;
@@ -30,32 +14,22 @@ pub(crate) const WORST: i32 = -32_001;
 pub(crate) struct Shared {
     pub flag: StopFlag,
     bound: AtomicI32,
-    marks: Vec<AtomicU8>,
+    marks: RootMarks,
 }
 
 impl Shared {
-    /// Nothing is known of so many root moves, and the best score is taken to be above the floor.
+    /// Nothing is known of N root moves, and the best score is taken to be above the floor.
     pub fn new(alloc: Global, roots: usize, floor: i32) -> Result<Shared, Memory> {
-        let mut marks = Vec::with_capacity(alloc, roots)?;
-        for _root in 0..roots {
-            marks.push(AtomicU8::new(FREE))?;
-        }
         Ok(Shared {
             flag: StopFlag::new(),
             bound: AtomicI32::new(floor),
-            marks,
+            marks: RootMarks::new(alloc, roots)?,
         })
     }
 
     /// Whether a worker is to take the root move.
     pub fn takes(&self, i: usize, round: Round) -> bool {
-        match (self.marks.get(i), round) {
-            (None, _) => true,
-            (Some(mark), Round::Free) => mark
-                .compare_exchange(FREE, TAKEN, Ordering::SeqCst, Ordering::SeqCst)
-                .is_ok(),
-            (Some(mark), Round::Unfinished) => mark.load(Ordering::SeqCst) != FINISHED,
-        }
+        self.marks.takes(i, round)
     }
 
     /// The best score so far, as far as was told.
@@ -68,8 +42,6 @@ impl Shared {
         if fact.exact {
             self.bound.fetch_max(fact.value, Ordering::SeqCst);
         }
-        if let Some(mark) = self.marks.get(i) {
-            mark.store(FINISHED, Ordering::SeqCst);
-        }
+        self.marks.finish(i);
     }
 }

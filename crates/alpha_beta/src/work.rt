@@ -6,7 +6,7 @@ ghost use Rattle.alpha_beta.specs.Bests.{IsBest};
 ghost use Rattle.alpha_beta.specs.Roots.{AreLegal, root_lines};
 ghost use Rattle.alpha_beta.specs.Workers.{AreTrueFacts, IsSound, line_after};
 
-use crate::shared::{Round, Shared};
+use crate::shared::Shared;
 use foundation::Memory;
 use game_line::Line;
 use game_play::Game;
@@ -15,7 +15,7 @@ use io_ports::Gate;
 use negamax::{Best, Desk, RootFact, combine, search_root};
 use rules_model::Move;
 use std::alloc::Global;
-use watching::{Halt, Helper, Watch};
+use watching::{Halt, Helper, Round, Watch};
 
 /// What a worker beside the first hands back: what it found, and how many nodes it entered.
 #[derive(Drop)]

@@ -42,7 +42,7 @@ fn undo_one(game: &mut Game)
     let _ = game.undo();
 }
 
-// Takes so many plies back.
+// Takes N plies back.
 fn undo_plies(game: &mut Game, plies: u8)
     requires { plies ≤ length game.old.moves }
     ensures { game.new ≡ CecpState.without_last plies game.old }
@@ -176,7 +176,7 @@ impl CecpSession {
         outcome
     }
 
-    // `undo` and `remove`: so many plies back, or none.
+    // `undo` and `remove`: N plies back, or none.
     fn take_back(&mut self, alloc: Global, line: &[u8], plies: u8) -> Result<Text, Memory>
         ensures { IfOk result (λ text. answered self.new text
             ≡ CecpState.answer_to self.old (TextLine line.now) (CecpLines.TakeBack plies)) }

@@ -1,5 +1,5 @@
 //! The session: one line after another, each answered, up to `quit` or the end of the lines.
-ghost use Rattle.std.specs.Prelude.{◌≡◌, Ok, IfErr, IfOk, IsErr, IsErrOf, OnErr, OnOk, Option};
+ghost use Rattle.std.specs.Prelude.{◌≡◌, Ok, IfOk, IsErrOf, OnErr, OnOk, Option};
 ghost use Rattle.std.specs.Io.KnownBytes.{Appends, IsAtEnd};
 ghost use Rattle.io_ports.specs.Cause.{HasCause, Rose};
 ghost use Rattle.io_ports.specs.Files.{Contents};
@@ -19,20 +19,7 @@ use std::alloc::Global;
 use std::sync::Wait;
 use std::thread::Threads;
 use turning::Ended;
-use watching::say;
-
-// Writes a text, where there is one.
-fn say_text<K: Sink>(sink: &mut K, text: &[u8]) -> Result<(), SearchFault>
-    ensures ok { OnOk result (Appends (K.taken sink.old) (K.taken sink.new) text.now) }
-    ensures err { OnErr result (AppendsFront (K.taken sink.old) (K.taken sink.new) text.now) }
-    ensures only { IfErr result (λ fault. fault ≡ SearchFault.WriteFault) }
-    ensures cause { HasCause (K.faults sink.old) (K.faults sink.new) (IsErr result) }
-{
-    if text.is_empty() {
-        return Ok(());
-    }
-    say(sink, text)
-}
+use watching::say_some;
 
 // Answers the line that was taken, before the engine thinks.
 fn tell<K: Sink>(
@@ -51,7 +38,7 @@ fn tell<K: Sink>(
     ensures cause { HasCause (K.faults sink.old) (K.faults sink.new) (IsErrOf result SearchFault.WriteFault) }
 {
     let text = session.answer_line(alloc, next, line)?;
-    say_text(sink, text.items.as_slice())
+    say_some(sink, text.items.as_slice())
 }
 
 // Answers the line that was taken, thinks where the engine plays, and takes the next line.

@@ -18,4 +18,4 @@ pub use fault::{GameFault, NoGame, write_fault};
 pub use goal::{Goal, ReadGoal, Stipulation, read_goal_after};
 pub use play::play_move;
 pub use problem::{Problem, read_problem, read_problem_after};
-pub use read::read_game;
+pub use read::{position_of, read_game};

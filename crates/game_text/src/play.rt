@@ -22,6 +22,11 @@ fn bad_move(alloc: Global, game: &Game, text: &[u8]) -> Result<NoGame, AllocErro
 }
 
 /// Plays the legal move with this text, which is all of the text.
+///
+/// # Errors
+///
+/// `Faulty` with `TooManyMoves` behind 8,192 plies, or with `BadMove` where the text names no legal move; or `Memory`.
+/// The game is then what it was.
 pub fn play_move(alloc: Global, game: &mut Game, text: &[u8]) -> Result<(), NoGame>
     ensures { Plays (play game.old text.now) game.new result }
 {

@@ -80,9 +80,10 @@ fn read_on<S: Source, G: ReadGoal + Drop>(
 /// Reads the rest of a problem of one of these variants whose line 1 is in the buffer: a game text whose moves stand on
 /// line 3 alone, which may be empty, and on line 4 the goal. What comes after line 4 is left in the source.
 ///
-/// The answer is the problem, or the first fault: that of the first faulty line, and on a line that of the first faulty
-/// word. No line after it is taken. `Unread` is the answer where the source failed, and `Memory` where there was none;
-/// then nothing is known of the lines.
+/// # Errors
+///
+/// The first fault: that of the first faulty line, and on a line that of the first faulty word. No line after it is
+/// taken. `Unread` where the source failed, and `Memory` where there was none; then nothing is known of the lines.
 pub fn read_problem_after<S: Source, G: ReadGoal + Drop>(
     alloc: Global,
     variants: &Variants,
@@ -99,6 +100,10 @@ pub fn read_problem_after<S: Source, G: ReadGoal + Drop>(
 }
 
 /// Reads a problem of one of these variants, as `read_problem_after` does, from its line 1 on.
+///
+/// # Errors
+///
+/// As `read_problem_after`.
 pub fn read_problem<S: Source, G: ReadGoal + Drop>(
     alloc: Global,
     variants: &Variants,

@@ -42,8 +42,12 @@ fn read_moves<S: Source>(
     Err(NoGame::Memory)
 }
 
-// The position that line 2 says.
-fn position_of(rules: &Rules, text: &[u8]) -> Result<Position, FenFault>
+/// The position that a text says: `startpos`, the start of these rules, or a FEN.
+///
+/// # Errors
+///
+/// The fault of the FEN.
+pub fn position_of(rules: &Rules, text: &[u8]) -> Result<Position, FenFault>
     requires fit { IsFit rules.now }
     requires start { is_sound rules.now rules.now.start ≡ true }
     ensures is { result ≡ GameText.position_of rules.now text.now }
@@ -146,9 +150,12 @@ pub(crate) fn read_start<S: Source>(
 
 /// Reads a game text of one of these variants to its end or to its first faulty line, in one pass.
 ///
-/// The answer is the game that the text says, after all its moves, or the text's first fault: that of the first faulty
-/// line, and on a line that of the first faulty word. No line after it is taken. `Unread` is the answer where the
-/// source failed, and `Memory` where there was none; then nothing is known of the text.
+/// The answer is the game that the text says, after all its moves.
+///
+/// # Errors
+///
+/// The text's first fault: that of the first faulty line, and on a line that of the first faulty word. No line after it
+/// is taken. `Unread` where the source failed, and `Memory` where there was none; then nothing is known of the text.
 pub fn read_game<S: Source>(
     alloc: Global,
     variants: &Variants,

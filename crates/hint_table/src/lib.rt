@@ -8,8 +8,11 @@
 
 ghost use Rattle.std.specs.Prelude.{◌<◌, ◌≤◌, ◌^◌, vec_len};
 
+mod slot;
+
 use crossbeam_utils::atomic::AtomicCell;
 use foundation::Memory;
+pub use slot::{NO_SLOT, SLOTS, Slot, slot_of};
 use std::alloc::Global;
 
 /// The most words that a table has: 1 GiB.
@@ -20,8 +23,8 @@ pub const MOST_WORDS: usize = 1 << 27;
 pub struct Hint {
     /// How deep the look was.
     pub depth: u8,
-    /// The move that did best, as 16 bits that the searcher chooses.
-    pub slot: u16,
+    /// The move that did best.
+    pub slot: Slot,
     /// A bound of the value.
     pub bound: i16,
 }

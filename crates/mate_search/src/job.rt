@@ -12,7 +12,7 @@ ghost use Rattle.mate_showing.specs.Answers.{IsFrameOf};
 ghost use Rattle.mate_search.specs.Handed.{AreHandedBack};
 ghost use Rattle.mate_search.specs.Races.{IsLent, race_lines};
 
-use crate::shared::{Outcome, Round, Shared};
+use crate::shared::{Outcome, Shared};
 use crate::solving::room_for;
 use game_play::Game;
 use io_ports::Gate;
@@ -23,7 +23,7 @@ use playing::Board;
 use rules_model::Move;
 use std::alloc::Global;
 use std::sync::Wait;
-use watching::{Halt, Helper, Watch};
+use watching::{Halt, Helper, Round, Watch};
 
 /// The state of a worker: its passes for the shards.
 #[derive(Drop)]
@@ -31,7 +31,7 @@ pub(crate) struct Job {
     pub passes: Passes,
 }
 
-/// What a worker is to settle: the moves of a position, with so many moves left for the attacker after each.
+/// What a worker is to settle: the moves of a position, with N moves left for the attacker after each.
 #[derive(Clone, Copy)]
 pub(crate) struct Task {
     pub left: u16,
@@ -187,7 +187,7 @@ pub(crate) fn take_all<R: Wait, W: Watch, G: Gate>(
         &board,
         task,
         roots,
-        Round::Unsettled,
+        Round::Unfinished,
         shards,
         job,
         shared,

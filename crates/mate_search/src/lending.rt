@@ -19,7 +19,7 @@ use rules_model::{Memory, Move, repeat_of};
 use std::alloc::Global;
 use std::sync::Wait;
 
-/// Room for so many workers beside the first.
+/// Room for N workers beside the first.
 pub(crate) fn room_for_jobs(alloc: Global, count: u32) -> Result<Vec<Job>, Memory>
     ensures none { IfOk result (λ jobs. jobs.items ≡ []) }
     ensures room { IfOk result (λ jobs. count ≤ vec_capacity jobs) }
@@ -27,7 +27,7 @@ pub(crate) fn room_for_jobs(alloc: Global, count: u32) -> Result<Vec<Job>, Memor
     Ok(Vec::with_capacity(alloc, count as usize)?)
 }
 
-/// Cuts passes for so many workers off the given ones, or for fewer where there is no memory for their lists.
+/// Cuts passes for N workers off the given ones, or for fewer where there is no memory for their lists.
 pub(crate) fn share_out(shards: &Shards, passes: Passes, jobs: &mut Vec<Job>, count: u32) -> Passes
     requires passes { ArePassesOf shards.now passes }
     requires parts { (n : ℕ) × HaveParts n passes × (count < n) }

@@ -21,5 +21,5 @@ mod whole;
 pub use answer::Mate;
 pub use counting::is_counted;
 pub use frame::{copy_of_frame, frame_of};
-pub use mate_showing::{Settled, solve_watched};
+pub use mate_showing::Settled;
 pub use whole::{settle, solve};

@@ -4,37 +4,14 @@ ghost use Rattle.foundation.specs.Member.{Lists, Member};
 ghost use Rattle.legality.specs.Stance.{legal_in};
 
 use game_play::Game;
-use hint_table::{Hint, HintTable};
+use hint_table::{Hint, HintTable, NO_SLOT, slot_of};
 use mate_settle::{FactTable, moves_to_try};
 use mate_showing::{Settled, to_front};
 use playing::Board;
-use rules_model::{Memory, Move, Promo};
+use rules_model::{Memory, Move};
 use std::alloc::Global;
 use strategy::Strategy;
 use watching::Halt;
-
-/// A plain move as 16 bits: its form, where it goes from, or the kind that is dropped, and where it goes to.
-type Slot = u16;
-
-/// The slot of all moves that have none of their own: castles, promotions, gates.
-const NO_SLOT: Slot = 0;
-
-const GO: Slot = 1 << 14;
-
-const DROP: Slot = 2 << 14;
-
-fn slot_of(m: &Move) -> Slot {
-    match *m {
-        Move::Go {
-            from,
-            to,
-            promo: Promo::Stays,
-            gate: None,
-        } => GO | u16::from(from.0 & 127) << 7 | u16::from(to.0 & 127),
-        Move::Drop { kind, to } => DROP | u16::from(kind.0 & 127) << 7 | u16::from(to.0 & 127),
-        _ => NO_SLOT,
-    }
-}
 
 /// The legal moves, each once: the hinted one first, if there is a hint, and then those that are likely to decide
 /// within n moves; or `Memory`.

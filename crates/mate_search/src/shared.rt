@@ -1,17 +1,8 @@
 //! What the workers of a solve tell each other. No cell has a rule: any value at any time does no harm.
 use rules_model::Memory;
 use std::alloc::Global;
-use std::sync::atomic::{AtomicU8, AtomicU64, Ordering};
-use watching::StopFlag;
-
-/// Which root moves a worker takes.
-#[derive(Clone, Copy, Debug, PartialEq, Eq)]
-pub(crate) enum Round {
-    /// Those that no worker has taken.
-    Free,
-    /// Those that no worker has settled.
-    Unsettled,
-}
+use std::sync::atomic::{AtomicU64, Ordering};
+use watching::{RootMarks, Round, StopFlag};
 
 /// What a worker found of a root move: whether it decides the root, and whether the shards tell all workers so.
 #[derive(Clone, Copy)]
@@ -20,31 +11,20 @@ pub(crate) struct Outcome {
     pub published: bool,
 }
 
-/// What became of a root move: it is free, a worker has taken it, or it is settled.
-const FREE: u8 = 0;
-
-const TAKEN: u8 = 1;
-
-const SETTLED: u8 = 2;
-
-/// Whether the race is over, what became of each root move, and how many are not settled.
+/// Whether the race is over, what became of each root move, and how many are not settled, which is to be finished.
 #[derive(Drop)]
 pub(crate) struct Shared {
     pub over: StopFlag,
-    marks: Vec<AtomicU8>,
+    marks: RootMarks,
     open: AtomicU64,
 }
 
 impl Shared {
-    /// Nothing is known of so many root moves.
+    /// Nothing is known of N root moves.
     pub fn new(alloc: Global, roots: usize) -> Result<Shared, Memory> {
-        let mut marks = Vec::with_capacity(alloc, roots)?;
-        for _root in 0..roots {
-            marks.push(AtomicU8::new(FREE))?;
-        }
         Ok(Shared {
             over: StopFlag::new(),
-            marks,
+            marks: RootMarks::new(alloc, roots)?,
             open: AtomicU64::new(roots as u64),
         })
     }
@@ -54,13 +34,7 @@ impl Shared {
         if self.over.is_raised() {
             return false;
         }
-        match (self.marks.get(i), round) {
-            (None, _) => true,
-            (Some(mark), Round::Free) => mark
-                .compare_exchange(FREE, TAKEN, Ordering::SeqCst, Ordering::SeqCst)
-                .is_ok(),
-            (Some(mark), Round::Unsettled) => mark.load(Ordering::SeqCst) != SETTLED,
-        }
+        self.marks.takes(i, round)
     }
 
     /// The worker of this number has settled the root move. The race is over where it decides the root, and where no
@@ -73,12 +47,8 @@ impl Shared {
         if outcome.decides {
             self.over.raise();
         }
-        if let Some(mark) = self.marks.get(i) {
-            if mark.swap(SETTLED, Ordering::SeqCst) != SETTLED
-                && self.open.fetch_sub(1, Ordering::SeqCst) <= 1
-            {
-                self.over.raise();
-            }
+        if self.marks.finish(i) && self.open.fetch_sub(1, Ordering::SeqCst) <= 1 {
+            self.over.raise();
         }
     }
 }

@@ -10,10 +10,10 @@ ghost use Rattle.negamax.specs.Trials.{captures_in, Copies, Pushes};
 
 use crate::candidates::Candidate;
 use crate::facts::Best;
-use crate::order::{NO_SLOT, Order, Slot, root_key, slot_of, taking_score};
+use crate::order::{Order, root_key, taking_score};
 use evaluation::Worths;
 use foundation::Memory;
-use hint_table::{Hint, HintTable};
+use hint_table::{Hint, HintTable, NO_SLOT, Slot, slot_of};
 use io_ports::SearchFault;
 use playing::Board;
 use rules_model::{Move, MoveList, Position};

@@ -1,23 +1,10 @@
 //! In which order moves are searched. No contract says anything of it, and no result depends on it.
 use evaluation::{Worths, evaluate};
 use foundation::Memory;
-use hint_table::HintTable;
+use hint_table::{HintTable, NO_SLOT, SLOTS, Slot, slot_of};
 use playing::Board;
 use rules_model::{Move, Position, Promo, cell_at};
 use std::alloc::Global;
-
-/// A plain move as 16 bits: its form, where it goes from, or the kind that is dropped, and where it goes to.
-pub(crate) type Slot = u16;
-
-/// The slot of all moves that have none of their own: castles, promotions, gates.
-pub(crate) const NO_SLOT: Slot = 0;
-
-const GO: Slot = 1 << 14;
-
-const DROP: Slot = 2 << 14;
-
-/// How many slots there are.
-const SLOTS: usize = 3 << 14;
 
 /// How many plies from the root killers are kept.
 const PLIES: usize = 72;
@@ -31,19 +18,6 @@ const KILLING: u32 = 1 << 29;
 
 /// The most that history counts of a move.
 const MOST_HISTORY: u32 = 1 << 28;
-
-pub(crate) fn slot_of(m: &Move) -> Slot {
-    match *m {
-        Move::Go {
-            from,
-            to,
-            promo: Promo::Stays,
-            gate: None,
-        } => GO | u16::from(from.0 & 127) << 7 | u16::from(to.0 & 127),
-        Move::Drop { kind, to } => DROP | u16::from(kind.0 & 127) << 7 | u16::from(to.0 & 127),
-        _ => NO_SLOT,
-    }
-}
 
 /// What moves did before: the last two that cut at each ply, and how often each cut.
 #[derive(Drop)]

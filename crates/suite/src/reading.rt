@@ -1,7 +1,6 @@
 //! Reads a suite from a source.
-ghost use Rattle.std.specs.Prelude.{◌≡◌, ◌≤◌, ◌++◌, ◌∷◌, [], true, nat_lt, length, IfOk, OnOk};
+ghost use Rattle.std.specs.Prelude.{◌≡◌, ◌≤◌, ◌++◌, ◌∷◌, [], nat_lt, length, IfOk, OnOk};
 ghost use Rattle.io_ports.specs.Cause.{HasCause};
-ghost use Rattle.rules_model.specs.Sound.{is_sound};
 ghost use Rattle.variant_rules.specs.Entries.{found};
 ghost use Rattle.variant_rules.specs.Playable.{IsPlayable};
 ghost use Rattle.game_text.specs.GameText as GameText;
@@ -15,13 +14,12 @@ use crate::fault::{NoSuite, SuiteFault};
 use crate::problem::Problem;
 use crate::row::{Row, is_skipped, row_of};
 use foundation::Memory;
-use game_text::copy_of;
+use game_text::{copy_of, position_of};
 use io_ports::{Got, LineBuf, Source};
 use mate_search::is_counted;
-use rules_model::{Position, Rules, copy_of_rules};
+use rules_model::{Rules, copy_of_rules};
 use std::alloc::{AllocError, Global};
 use std::marker::Model;
-use variant_fen::{FenFault, read_fen};
 use variant_model::SectionFault;
 use variant_rules::{Found, Variants};
 
@@ -65,19 +63,6 @@ fn nothing_listed(alloc: Global) -> Suite
     Suite {
         lines: Vec::new(alloc),
         problems: Vec::new(alloc),
-    }
-}
-
-// The position that a text says.
-fn position_of(rules: &Rules, text: &[u8]) -> Result<Position, FenFault>
-    requires { IsPlayable rules.now }
-    ensures is { result ≡ GameText.position_of rules.now text.now }
-    ensures sound { IfOk result (λ p. is_sound rules.now p ≡ true) }
-{
-    if text == b"startpos".as_slice() {
-        Ok(rules.start)
-    } else {
-        read_fen(rules, text)
     }
 }
 

@@ -8,7 +8,7 @@ use crate::problem::Answer;
 use foundation::{Memory, Text};
 use std::alloc::{AllocError, Global};
 
-// The text of a problem that is won within so many moves, or is not won.
+// The text of a problem that is won within N moves, or is not won.
 fn told_of(alloc: Global, line: u64, least: Option<u16>) -> Result<Vec<u8>, AllocError>
     ensures { IfOk result (λ text. text.items ≡ Said.told_of line least) }
 {

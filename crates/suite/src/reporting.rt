@@ -17,7 +17,7 @@ use std::sync::Wait;
 use std::thread::Threads;
 use variant_rules::Variants;
 
-/// The report on the problems, by so many workers.
+/// The report on the problems, by N workers.
 fn report_on<R: Threads + Wait + Sync, G: Gate + Sync>(
     rt: &R,
     alloc: Global,

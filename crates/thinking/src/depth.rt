@@ -1,9 +1,7 @@
 //! One depth, with its lines.
-ghost use Rattle.std.specs.Prelude.{◌≡◌, ◌≤◌, [], IfOk, IfErr, OnOk, OnErr, IsErr, IsErrOf, Some};
-ghost use Rattle.std.specs.Io.KnownBytes.{Appends, IsAtEnd};
-ghost use Rattle.io_ports.specs.Cause.{HasCause};
+ghost use Rattle.std.specs.Prelude.{◌≡◌, ◌≤◌, IfOk, IsErrOf, Some};
+ghost use Rattle.std.specs.Io.KnownBytes.{IsAtEnd};
 ghost use Rattle.io_ports.specs.Clock.{GivesReadings, count_after, last_after};
-ghost use Rattle.io_ports.specs.Sink.{AppendsFront};
 ghost use Rattle.io_ports.specs.Trace.{Moves};
 ghost use Rattle.io_ports.specs.declared.limits.SearchFault.{SearchFault};
 ghost use Rattle.turning.specs.Lines.{Causes};
@@ -21,13 +19,13 @@ use seeking::Mind;
 use std::alloc::Global;
 use std::sync::Wait;
 use std::thread::Threads;
-use watching::{Cut, say};
+use watching::{Cut, say_some};
 
 /// How one depth ended.
 #[derive(Drop)]
 pub enum Depth {
-    /// It was searched: what was found, the reading of the clock after it where lines have times, and the solve that
-    /// was cut after its search, where one was.
+    /// It was searched: what was found, the reading of the clock after it in milliseconds where lines have times, and
+    /// the solve that was cut after its search, where one was.
     Done {
         found: Found,
         clock: u64,
@@ -47,19 +45,6 @@ fn reading_for<C: Clock>(style: Style, clock: &mut C) -> u64
         Style::Post => clock.now(),
         Style::Uci | Style::Silent => 0,
     }
-}
-
-// Writes a text, if it has a byte.
-fn say_some<K: Sink>(sink: &mut K, text: &[u8]) -> Result<(), SearchFault>
-    ensures ok { OnOk result (Appends (K.taken sink.old) (K.taken sink.new) text.now) }
-    ensures err { OnErr result (AppendsFront (K.taken sink.old) (K.taken sink.new) text.now) }
-    ensures only { IfErr result (λ fault. fault ≡ SearchFault.WriteFault) }
-    ensures cause { HasCause (K.faults sink.old) (K.faults sink.new) (IsErr result) }
-{
-    if text.is_empty() {
-        return Ok(());
-    }
-    say(sink, text)
 }
 
 /// Searches the task to one depth, after a first reading of the clock, and tells of it. A mate that the value stands

@@ -26,7 +26,9 @@ pub struct Task<'a> {
 /// The first reading of the clock, and the deadline.
 #[derive(Clone, Copy, Debug, PartialEq, Eq)]
 pub struct Start {
+    /// The first reading, in milliseconds.
     pub first: u64,
+    /// The reading from which on the search ends, in milliseconds.
     pub deadline: Option<u64>,
 }
 
@@ -45,7 +47,7 @@ pub fn begin<C: Clock>(clock: &mut C, time: Option<u64>) -> Start
     Start { first, deadline }
 }
 
-/// What is left of a share after so many nodes.
+/// What is left of a share after N nodes.
 pub fn quota_left(share: Option<u64>, entered: u64) -> Option<u64>
     ensures { result ≡ option_map (λ number. number - entered) share }
 {

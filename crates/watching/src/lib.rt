@@ -2,7 +2,7 @@
 //!
 //! A search knows the world outside by `Watch` alone. The worker in the caller has a `Caller`, which polls for lines,
 //! answers them, reads the clock and heeds limits; the workers beside it have a `Helper`, which knows a flag and a
-//! quota. What ends a worker is a `Halt`.
+//! quota. What ends a worker is a `Halt`. Which root moves are taken and finished, workers tell by `RootMarks`.
 #![tactic(auto)]
 
 mod caller;
@@ -10,6 +10,7 @@ mod flag;
 mod halt;
 mod helper;
 mod listen;
+mod marks;
 mod stopping;
 mod watch;
 
@@ -17,6 +18,7 @@ pub use caller::Caller;
 pub use flag::StopFlag;
 pub use halt::{Cut, Halt};
 pub use helper::Helper;
-pub use listen::{heed, say};
+pub use listen::{heed, say, say_some};
+pub use marks::{RootMarks, Round};
 pub use stopping::stopped_by;
 pub use watch::Watch;
