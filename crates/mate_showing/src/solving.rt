@@ -3,7 +3,6 @@ ghost use Rattle.std.specs.Prelude.{◌≡◌, ◌+◌, ◌*◌, ◌≤◌, ◌<
 ghost use Rattle.std.specs.Prelude.{IfOk, IfSome, OnOk, IsErrOf};
 ghost use Rattle.forced_wins.specs.Wins.{IsInLimit, is_in, near_root};
 ghost use Rattle.game_play.specs.Played.{story};
-ghost use Rattle.game_values.specs.Bounds.{solve_bound};
 ghost use Rattle.mate_settle.specs.Lines.{lines_within, seen_in};
 ghost use Rattle.mate_showing.specs.Answers.{IsDecided, IsFrameOf, IsRight, IsWinningMove, is_at_move};
 ghost use Rattle.mate_showing.specs.Counts.{IsTabledIn};
@@ -169,34 +168,4 @@ pub fn show<W: Watch>(
         return Ok(answer);
     }
     Ok(shown(frame.attacker, nodes))
-}
-
-/// What the game comes to within n moves of the side that attacks in the frame of the facts, n from 1 to 100.
-///
-/// # Errors
-///
-/// What ends the watch, which enters at most `solve_bound` nodes; or `Memory`.
-pub fn solve_watched<W: Watch>(
-    alloc: Global,
-    game: &Game,
-    n: u16,
-    facts: &mut FactTable,
-    watch: &mut W,
-) -> Result<Settled, Halt>
-    requires frame { IsFrameOf game.now facts.old }
-    requires some { 0 < n }
-    requires small { n ≤ 100 }
-    ensures frame { facts.new ≡ facts.old }
-    ensures right { IfOk result (IsRight game.now.rules (story game.now) facts.old.attacker n) }
-    ensures decided { IfOk result (λ m. IsInLimit game.now.rules n (story game.now) → IsDecided m) }
-    ensures gone { OnOk result (W.gone watch.old watch.new (solve_bound game.now.rules n (story game.now))) }
-    ensures ended { (why : Halt) → IsErrOf result why →
-        W.ended watch.old watch.new (solve_bound game.now.rules n (story game.now)) why }
-{
-    let board = Board::new(game.tables(), game.position());
-    let verdict = decide(alloc, game, &board, n, None, facts, watch)?;
-    if !verdict.won {
-        return Ok(Settled::NoMate);
-    }
-    show(alloc, game, &board, n, facts, watch)
 }

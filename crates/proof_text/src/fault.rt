@@ -32,7 +32,7 @@ impl fmt::Display for ProofFault {
     ghost output = { λ fault. Some (fault_text fault) };
 
     /// The type's name, the fault's number, its name and its fields, as `ProofFault 3 RefusedRules SectionFault 7
-    /// LetterTwice q`. An error where a key is not UTF-8; the keys of rules are ASCII.
+    /// LetterTwice q`.
     fn fmt<W: fmt::Write>(&self, f: &mut fmt::Formatter<W>) -> fmt::Result {
         match self {
             ProofFault::Header(line) => write!(f, "ProofFault 1 Header {line}"),

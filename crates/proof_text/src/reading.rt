@@ -183,9 +183,10 @@ fn read_on_rules<S: Source>(
 /// Reads a proof text from a source, after its first line, which was taken already, to its end or to its first faulty
 /// line.
 ///
-/// The answer is the proof, or the first fault in the order of the text; the rules are judged after the last of their
-/// lines. No line after the first faulty one is taken. `Unread` is the answer where the source failed; then nothing is
-/// known of the text.
+/// # Errors
+///
+/// The first fault in the order of the text; the rules are judged after the last of their lines. No line after the
+/// first faulty one is taken. `Unread` where the source failed; then nothing is known of the text.
 pub fn read_proof_after<S: Source>(
     alloc: Global,
     first: &[u8],
@@ -218,9 +219,12 @@ fn read_from<S: Source>(alloc: Global, source: &mut S) -> Result<Proof, NoProof>
 /// Reads a proof text, version 2: a game by rules that the text itself states, the side that is to win it within a
 /// number of moves, and a strategy for it.
 ///
-/// Lines end with LF, which the last may lack; a CR at the end of a line is dropped. The answer is the proof, or the
-/// first fault in the order of the text; the rules are judged after the last of their lines. The positions of the
-/// strategy are sound.
+/// Lines end with LF, which the last may lack; a CR at the end of a line is dropped. The positions of the strategy are
+/// sound.
+///
+/// # Errors
+///
+/// The first fault in the order of the text; the rules are judged after the last of their lines.
 pub fn read_proof(alloc: Global, text: &[u8]) -> Result<Proof, ProofFault>
     ensures answer { Said.Answers (Said.proof_of (lines_of text.now)) result }
     ensures sound { IfOk result (λ p. AreSound p.game.rules p.strategy.nodes) }

@@ -72,6 +72,10 @@ fn take_lines<S: Source>(
 }
 
 /// Reads a strategy from the lines of the source, to their end or to the first faulty one.
+///
+/// # Errors
+///
+/// The fault of the first faulty line. `Unread` where the source failed; then nothing is known of the lines.
 pub fn read_strategy<S: Source>(
     alloc: Global,
     rules: &Rules,

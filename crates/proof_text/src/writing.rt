@@ -18,11 +18,12 @@ use crate::laws::written_proofs_are_read_back;
 use crate::told::told;
 use foundation::{Memory, Text};
 use game_play::Game;
+use move_text::write_move;
 use rules_model::{Move, Position, Rules, Side};
 use section_rules::LetteredSections;
 use std::alloc::Global;
 use strategy::{Strategy, push_line, push_number, push_text, write};
-use variant_fen::{write_fen, write_move};
+use variant_fen::write_fen;
 use variant_ini::{Pair, Sections};
 
 /// The bytes of `strategy 1` and of its line feed.

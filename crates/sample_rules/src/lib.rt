@@ -1,4 +1,5 @@
-//! Rules of a few variants, each fit and with a sound start, and positions from short texts: for tests alone.
+//! Rules of a few variants, each fit and with a sound start, and positions from short texts: for tests, and for
+//! programs that measure or compare.
 //!
 //! A variant says only what differs from the defaults of the options (`variants.ini`), which `base` has.
 #![tactic(auto)]

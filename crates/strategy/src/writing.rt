@@ -8,9 +8,10 @@ ghost use Rattle.strategy.specs.Reading.{AreSound, strategy_of};
 ghost use Rattle.strategy.specs.Writing as Writing;
 
 use crate::nodes::{Edge, Node, Strategy};
+use move_text::write_move;
 use rules_model::{Memory, Rules, Side, Text};
 use std::alloc::Global;
-use variant_fen::{write_fen, write_move};
+use variant_fen::write_fen;
 
 /// Appends bytes.
 pub fn push_text(text: &mut Vec<u8>, bytes: &[u8]) -> Result<(), Memory>

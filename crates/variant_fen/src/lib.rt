@@ -1,4 +1,4 @@
-//! Reads and writes FEN of variants, positions as texts, and reads and writes moves.
+//! Reads and writes FEN of variants, positions as texts.
 #![tactic(auto)]
 
 ghost use Rattle.std.specs.Prelude.{◌≡◌, true, IfOk};
@@ -24,7 +24,6 @@ mod write_fields;
 
 pub use fen_model::FenFault;
 use fields::read_fields;
-pub use move_text::{MoveText, write_move};
 use read::read_position;
 use rules_model::{Memory, Position, Rules, Text};
 use std::alloc::Global;
