@@ -1,8 +1,8 @@
-//! What the words of a command line ask, and the one call that does it.
+//! The one call that does what the words of a command line ask.
 #![tactic(auto)]
 
 mod program;
 mod sessions;
 
-pub use one_shots::NO_MEMORY;
+pub use one_shot_faults::NO_MEMORY;
 pub use program::run;

@@ -3,14 +3,15 @@ ghost use Rattle.std.specs.Prelude.{◌≡◌, ◌⊎◌, ◌↔◌, false, IsEr
 ghost use Rattle.io_ports.specs.Cause.{Rose};
 ghost use Rattle.io_ports.specs.Trace.{Moves, Reads};
 ghost use Rattle.one_shots.specs.Commands.{IsOneShot, asks_file, asks_input};
-ghost use Rattle.one_shots.specs.HaltView.{Finishes};
+ghost use Rattle.one_shots.specs.OutcomeView.{Finishes};
 ghost use Rattle.commands.specs.Run.{Completes, CompletesSession, Did, DidPart, FilesFailed, HasFileCause};
 ghost use Rattle.one_shots.specs.Statuses.{IsCut, IsDone};
 ghost use Rattle.one_shots.specs.Sessions.{to_do};
 
 use crate::sessions::{dialect_of, speak, status_of};
 use io_ports::{Clock, Files, Gate, Sink, Source};
-use one_shots::{Answer, NO_MEMORY, SINK_FAILED, SOURCE_FAILED, Stop, answer_of, answer_to, open};
+use one_shot_faults::{NO_MEMORY, SINK_FAILED, SOURCE_FAILED, Stop};
+use one_shots::{Answer, answer_of, answer_to, open};
 use std::alloc::Global;
 use std::sync::Wait;
 use std::thread::Threads;

@@ -18,19 +18,20 @@ use Rattle.game_text.specs.GameText.{game_of, lines_of_game}
 use Rattle.game_text.specs.HeardLines.{HeardLines}
 use Rattle.game_text.specs.ReadView as read
 use Rattle.one_shots.specs.declared.answers.Answer.{Answer}
-use Rattle.one_shots.specs.declared.halt.Halt.{Halt}
-use Rattle.one_shots.specs.declared.halt.Halt.TheVariants.{Usage, Fault, Stop}
-use Rattle.one_shots.specs.declared.fault.Fault.{Fault as Why}
-use Rattle.one_shots.specs.declared.stop.Stop.{Stop as Cut}
-use Rattle.one_shots.specs.declared.stop.Stop.TheVariants as stop
-use Rattle.one_shots.specs.Fault.{error_line, fault_status, fault_text}
+use Rattle.one_shot_faults.specs.declared.halt.Halt.{Halt}
+use Rattle.one_shot_faults.specs.declared.halt.Halt.TheVariants.{Usage, Fault, Stop}
+use Rattle.one_shot_faults.specs.declared.fault.Fault.{Fault as Why}
+use Rattle.one_shot_faults.specs.declared.stop.Stop.{Stop as Cut}
+use Rattle.one_shot_faults.specs.declared.stop.Stop.TheVariants as stop
+use Rattle.one_shot_faults.specs.Fault.{error_line, fault_status, fault_text}
 use Rattle.one_shots.specs.GameView.{SaysGame}
-use Rattle.one_shots.specs.HaltView.{Answers, IsUnheard, OutcomeOf, betza_halt, game_halt}
-use Rattle.one_shots.specs.ReachText.{reach_text}
-use Rattle.one_shots.specs.Setup.{setup_of}
+use Rattle.one_shot_faults.specs.HaltView.{Answers, IsUnheard, betza_halt, game_halt}
+use Rattle.one_shots.specs.OutcomeView.{OutcomeOf}
+use Rattle.piece_reach.specs.ReachText.{reach_text}
+use Rattle.piece_reach.specs.Setup.{setup_of}
 use Rattle.one_shots.specs.Shot.{SaysOf, SaysReach, reached, faulty_word}
-use Rattle.one_shots.specs.StopView.{IsUnread, IsUnsaid}
-use Rattle.one_shots.proofs.ShotLemmas.{says_at}
+use Rattle.one_shot_faults.specs.StopView.{IsUnread, IsUnsaid}
+use Rattle.one_shot_faults.proofs.HaltLemmas.{says_at}
 
 -- ---- the commands
 
@@ -118,15 +119,6 @@ outcome_unsaid (Err (Stop stop.Source)) (Err stop.Sink) Says is says unsaid = cc
 outcome_unsaid (Err (Stop stop.Sink)) (Err stop.Sink) Says is says unsaid = says
 outcome_unsaid (Err (Stop stop.Memory)) (Err stop.Sink) Says is says unsaid = cc
 outcome_unsaid o (Err stop.Memory) Says is says unsaid = unsaid
-
--- what follows of a status and a text follows of an outcome
-pub answers_so : (o : Result (List ℕ) Halt) (P Q : ℕ → List ℕ → Type 0) → ((status : ℕ) (text : List ℕ) → P status text → Q status text) → Answers o P → Answers o Q
-answers_so (Ok said) P Q so answers = so 0 said answers
-answers_so (Err Usage) P Q so answers = so 2 _ answers
-answers_so (Err (Fault why)) P Q so answers = so (fault_status why) _ answers
-answers_so (Err (Stop stop.Source)) P Q so answers = tt
-answers_so (Err (Stop stop.Sink)) P Q so answers = answers
-answers_so (Err (Stop stop.Memory)) P Q so answers = tt
 
 pub word_heard : (why : BetzaFault) → IsUnheard {A = List ℕ} (Err (betza_halt why)) → ⊥
 word_heard betza.Memory unheard = unheard

@@ -1,5 +1,5 @@
 -- What a run of one command says: a status and a text, for the words, the reads of files and the lines of the input.
-use Rattle.std.specs.Prelude.{◌≡◌, ℕ, List, Option, Some, None, Result, Ok, Err, codes}
+use Rattle.std.specs.Prelude.{◌≡◌, ℕ, List, Option, Some, None, Result, Ok, Err}
 use Rattle.io_ports.specs.Files.{Read}
 use Rattle.io_ports.specs.Lines.{Line}
 use Rattle.betza_text.specs.declared.part.Part.{Part}
@@ -18,23 +18,20 @@ use Rattle.game_text.specs.GameText.{game_of}
 use Rattle.session_model.specs.Generate.{SaysGenerate}
 use Rattle.words.specs.Asked.{Asked}
 use Rattle.words.specs.Command.{Command, Uci, Xboard, Moves, Status, Perft, Check, SelfMate, HelpMate, CheckCert, Variants, Reach, Generate, Suite, PnMate}
-use Rattle.one_shots.specs.declared.fault.Fault.{Fault}
-use Rattle.one_shots.specs.Certificates.{SaysCertCheck}
-use Rattle.one_shots.specs.Checking.{SaysCheck}
-use Rattle.one_shots.specs.Fault.{error_line, fault_status, fault_text, unplaced_text}
+use Rattle.one_shot_faults.specs.declared.fault.Fault.{Fault}
+use Rattle.one_shot_checks.specs.Certificates.{SaysCertCheck}
+use Rattle.one_shot_checks.specs.Checking.{SaysCheck}
+use Rattle.one_shot_faults.specs.Fault.{error_line, fault_status, fault_text, usage_line}
+use Rattle.piece_reach.specs.Setup.{unplaced_text}
 use Rattle.game_reports.specs.GameTexts.{moves_of, status_of, perft_of}
-use Rattle.one_shots.specs.GameTexts.{self_mate_of, help_mate_of}
-use Rattle.one_shots.specs.ReachText.{reach_text}
+use Rattle.one_shot_checks.specs.GameTexts.{self_mate_of, help_mate_of}
+use Rattle.piece_reach.specs.ReachText.{reach_text}
 use Rattle.one_shots.specs.Sessions.{to_do}
 use Rattle.one_shots.specs.PnMates.{SaysPnMate}
-use Rattle.one_shots.specs.Setup.{Unplaced, setup_of}
+use Rattle.piece_reach.specs.Setup.{Unplaced, setup_of}
 use Rattle.one_shots.specs.Suites.{SaysSuite}
 use Rattle.one_shots.specs.Variants.{AreFirstReads, fault_in, sections_in}
 use Rattle.one_shots.specs.VariantsText.{variants_text}
-
--- the answer to words that are not of the command set
-abbrev pub usage_line : List ℕ
-usage_line = codes "usage: vengine [--variants FILE] [--threads N] [COMMAND]\n"
 
 -- `reach`: the squares that a piece of this word reaches on this board, or the fault of the word, or else the first of
 -- the squares

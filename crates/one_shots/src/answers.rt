@@ -1,36 +1,35 @@
 //! What a command is answered.
-ghost use Rattle.std.specs.Prelude.{◌≡◌, ◌≤◌, ℕ, false, IfOk};
+ghost use Rattle.std.specs.Prelude.{◌≡◌, ◌≤◌, false, IfOk};
 ghost use Rattle.io_ports.specs.Cause.{HasCause};
 ghost use Rattle.one_shots.specs.Commands.{lines_needed, reads_input};
 ghost use Rattle.variant_rules.specs.Entries.{entries};
 ghost use Rattle.game_text.specs.GameText.{lines_of_game};
 ghost use Rattle.game_text.specs.HeardLines.{HeardLines};
 ghost use Rattle.game_reports.specs.GameTexts as print;
-ghost use Rattle.one_shots.specs.GameTexts as stipulate;
-ghost use Rattle.one_shots.specs.HaltView.{Answers, IsUnheard, OutcomeOf};
+ghost use Rattle.one_shot_checks.specs.GameTexts as stipulate;
+ghost use Rattle.one_shot_faults.specs.HaltView.{Answers, IsUnheard};
+ghost use Rattle.one_shots.specs.OutcomeView.{OutcomeOf};
 ghost use Rattle.one_shots.specs.Sessions.{is_session};
-ghost use Rattle.one_shots.specs.Shot.{SaysCommand, SaysOfGame, SaysReach, usage_line};
-ghost use Rattle.one_shots.specs.StopView.{IsUnread, IsUnsaid};
+ghost use Rattle.one_shots.specs.Shot.{SaysCommand, SaysOfGame, SaysReach};
+ghost use Rattle.one_shot_faults.specs.Fault.{usage_line};
+ghost use Rattle.one_shot_faults.specs.StopView.{IsUnread, IsUnsaid};
 ghost use Rattle.one_shots.specs.VariantsText.{variants_text};
 ghost use Rattle.words.specs.View.{HasPlies, command_seen};
 
-use crate::certificates::cert_check_text;
-use crate::checking::check_text;
-use crate::game::{game_in, help_mate_of, self_mate_of};
+use crate::game::game_in;
 use crate::generating::generate;
-use crate::halt::Halt;
 use crate::mate_counts::pn_mate_text;
 use crate::opening::Opened;
 use crate::problems::suite_text;
-use crate::reach::reach_text;
-use crate::setup::set_up;
-use crate::stop::Stop;
 use crate::variants::variants_of;
 use betza_compile::compile;
 use betza_text::parse;
-use foundation::{Memory, Text};
+use foundation::Text;
 use game_reports::{moves_of, perft_of, status_of};
 use io_ports::{Gate, Source};
+use one_shot_checks::{cert_check_text, check_text, help_mate_of, self_mate_of};
+use one_shot_faults::{Halt, Stop};
+use piece_reach::{reach_text, set_up};
 use std::alloc::{AllocError, Global};
 use std::sync::Wait;
 use std::thread::Threads;
@@ -204,7 +203,11 @@ fn usage(alloc: Global) -> Result<Text, AllocError>
     Ok(Text { items })
 }
 
-/// The status and the text of an outcome. Any but one that was cut short may find no memory.
+/// The status and the text of an outcome.
+///
+/// # Errors
+///
+/// What cut the run short; or there was no memory for the text.
 pub fn answer_of<'a>(alloc: Global, outcome: Result<Text, Halt<'a>>) -> Result<Answer, Stop>
     ensures { OutcomeOf outcome.entry result }
 {
@@ -223,6 +226,10 @@ pub fn answer_of<'a>(alloc: Global, outcome: Result<Text, Halt<'a>>) -> Result<A
 }
 
 /// The answer of a one-shot command, with what it reads of the source. Workers pass the gate before what they take on.
+///
+/// # Errors
+///
+/// The source failed; or there was no memory.
 pub fn answer_to<R: Threads + Wait + Sync, S: Source, G: Gate + Sync>(
     rt: &R,
     alloc: Global,

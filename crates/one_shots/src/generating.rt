@@ -3,12 +3,11 @@ ghost use Rattle.std.specs.Prelude.{◌≡◌, ◌≤◌, IfOk};
 ghost use Rattle.session_model.specs.Generate.{SaysGenerate, SaysGenerated};
 ghost use Rattle.variant_rules.specs.Playable.{IsPlayable};
 ghost use Rattle.variant_rules.specs.View.{IfRules, found_view};
-ghost use Rattle.one_shots.specs.HaltView.{Answers, IsUnheard};
+ghost use Rattle.one_shot_faults.specs.HaltView.{Answers, IsUnheard};
 
-use crate::fault::Fault;
-use crate::halt::Halt;
 use foundation::Text;
 use game_text::{GameFault, copy_of};
+use one_shot_faults::{Fault, Halt};
 use random_games::{random_game, report_of};
 use std::alloc::{AllocError, Global};
 use std::thread::Threads;

@@ -2,14 +2,14 @@
 ghost use Rattle.std.specs.Prelude.{◌≡◌, ◌≤◌, false, IfOk, map, string_bytes};
 ghost use Rattle.io_ports.specs.Trace.{Reads};
 ghost use Rattle.one_shots.specs.Commands.{asks_file};
-ghost use Rattle.one_shots.specs.HaltView.{IsToDo, Opens};
+ghost use Rattle.one_shots.specs.OpeningView.{IsToDo, Opens};
 ghost use Rattle.variant_files.specs.Looked.{Looked};
 ghost use Rattle.one_shots.specs.Sessions.{to_do};
 ghost use Rattle.words.specs.View.{HasPlies};
 
-use crate::halt::Halt;
 use crate::sections::sections_with;
 use io_ports::Files;
+use one_shot_faults::Halt;
 use std::alloc::Global;
 use variant_ini::Sections;
 use words::{Asked, read_words};
@@ -38,7 +38,10 @@ fn read_asked<'a>(alloc: Global, words: &'a [String]) -> Result<Asked<'a>, Halt<
 
 /// Reads the words of a run, and then the file of variants, where one is named.
 ///
-/// The error is the usage line where the words are not of the command set, or why the file of variants is refused.
+/// # Errors
+///
+/// The usage line where the words are not of the command set, or why the file of variants is refused; or there was no
+/// memory.
 pub fn open<'a, F: Files>(
     alloc: Global,
     words: &'a [String],

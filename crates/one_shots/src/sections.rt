@@ -2,11 +2,11 @@
 ghost use Rattle.std.specs.Prelude.{◌≡◌, IsNone};
 ghost use Rattle.io_ports.specs.Trace.{Reads};
 ghost use Rattle.variant_files.specs.Looked.{Looked};
-ghost use Rattle.one_shots.specs.HaltView.{HasSections};
+ghost use Rattle.one_shots.specs.OpeningView.{HasSections};
 ghost use Rattle.words.specs.View.{text_in};
 
-use crate::halt::Halt;
 use io_ports::Files;
+use one_shot_faults::Halt;
 use std::alloc::Global;
 use variant_files::read_sections;
 use variant_ini::Sections;

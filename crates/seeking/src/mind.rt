@@ -109,11 +109,10 @@ impl Mind {
         self.mate_facts = mate_facts;
     }
 
-    /// Forgets hints and facts.
-    pub fn forget(&mut self)
+    /// Forgets the hints. Facts of mates stay, since they are true of every game by the same rules.
+    pub fn forget_hints(&mut self)
         ensures { self.new ≡ self.old }
     {
-        self.pool = None;
         self.hints.fill(0);
     }
 

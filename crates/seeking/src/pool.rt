@@ -32,7 +32,7 @@ impl Model for Pool {
 }
 
 impl Pool {
-    /// Without facts, with room for so many in a shard.
+    /// Without facts, with room for N in a shard.
     pub fn new(alloc: Global, frame: Frame, capacity: u32) -> Result<Pool, Memory>
         requires { (16 ≤ capacity) × (capacity ≤ 65536) }
         ensures { IfOk result (λ pool. pool ≡ frame) }

@@ -176,7 +176,7 @@ fn settings_change(rt: HostRuntime) {
     let mut mind = Mind::new(rt.alloc(), 2).expect(&rt, "no fault");
     mind.set_hash(rt.alloc(), 1).expect(&rt, "no fault");
     mind.set_mate_facts(16);
-    mind.forget();
+    mind.forget_hints();
     expect_eq(&rt, mind.threads(), 2);
     mind.set_threads(64);
     expect_eq(&rt, mind.threads(), 64);

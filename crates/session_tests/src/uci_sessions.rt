@@ -195,7 +195,7 @@ fn mates_are_found(rt: HostRuntime) {
 }
 
 // A mate that a third repetition forbids; the search of depth 1 comes then. With `nodes 0` a fact that was kept
-// answers.
+// answers, also in another game.
 #[test]
 fn no_mates_are_told(rt: HostRuntime) {
     tells_no_mate(
@@ -207,6 +207,13 @@ fn no_mates_are_told(rt: HostRuntime) {
     tells_no_mate(
         &rt,
         "position fen 7k/R7/5K2/8/8/8/8/8 w - - 0 1\ngo mate 1\ngo mate 1 nodes 0\nquit\n",
+        "info string no mate in 1\ninfo depth 1 score cp ",
+        2,
+    );
+    tells_no_mate(
+        &rt,
+        "position fen 7k/R7/5K2/8/8/8/8/8 w - - 0 1\ngo mate 1\nucinewgame\n\
+        position fen 7k/R7/5K2/8/8/8/8/8 w - - 0 1\ngo mate 1 nodes 0\nquit\n",
         "info string no mate in 1\ninfo depth 1 score cp ",
         2,
     );

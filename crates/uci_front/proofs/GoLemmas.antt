@@ -35,10 +35,11 @@ use Rattle.turning.specs.Turned.{RanPart, Served, Unserved, turn_of}
 use Rattle.turning.proofs.Ending.{further_none}
 use Rattle.turning.proofs.Lawful.{uci_is_lawful}
 use Rattle.turning.proofs.Saying.{AnswersAlways, served_ran, served_said, settled_stops, unserved_part, unserved_said}
-use Rattle.uci_front.specs.declared.plan.Plan.{Plan}
-use Rattle.uci_front.specs.declared.searching.Came.{Came}
-use Rattle.uci_front.specs.Going.{BrokeGoing, Completes, Gone, last_line}
-use Rattle.uci_front.specs.PlanView.{IsPlan, SaidAtOnce, SaidBy}
+use Rattle.uci_session.specs.declared.plan.Plan.{Plan}
+use Rattle.uci_session.specs.declared.searching.Came.{Came}
+use Rattle.uci_session.specs.Searched.{BrokeGoing, Completes, Gone}
+use Rattle.uci_session.specs.TextView.{last_line}
+use Rattle.uci_session.specs.PlanView.{IsPlan, SaidAtOnce, SaidBy}
 use Rattle.thinking.specs.Views.{kept_seen}
 use Rattle.uci_front.proofs.Unanswered.{unserved_quiet}
 
@@ -173,21 +174,6 @@ settled_follows holds moved why text text' why' following settled follows = by_w
     by_wait false e s =
         subst (λ t. Follows why t following) s.1 (subst (λ w. Follows w text' following) s.2 follows)
 
--- the line that is held follows
-pub held_follows : (why : Option Cut) (text : List ℕ) → Follows why text (held why text)
-held_follows None text = tt
-held_follows (Some cut.Line) text = ([], refl)
-held_follows (Some cut.End) text = refl
-held_follows (Some (cut.Quota quota)) text = tt
-held_follows (Some (cut.Deadline reading)) text = tt
-
-pub held_stopped : (why : Option Cut) (text : List ℕ) → (why ≡ Some cut.Line → stops Uci (Text text) ≡ true) → IsStopped Uci (held why text)
-held_stopped None text stops = tt
-held_stopped (Some cut.Line) text stops = stops refl
-held_stopped (Some cut.End) text stops = tt
-held_stopped (Some (cut.Quota quota)) text stops = tt
-held_stopped (Some (cut.Deadline reading)) text stops = tt
-
 -- a best move that is held back is stopped
 pub settled_stopped : (state : State) (plan : Plan) (asked : Go) (moved : Moved) (why : Option Cut) (text : List ℕ) (why' : Option Cut)
     (text' : List ℕ) (following : List Line) → IsPlan state asked plan → Settled Uci moved plan.holds text why text' why'
@@ -280,10 +266,6 @@ unserved_still state plan s k c contents line asked asks is =
     unserved_quiet uci uci_is_lawful.output s k c (λ reads. reads ≡ []) contents state line (ap is_quit asks) refl
 
 -- ---- results
-
-pub on_err : {T E X : Type 0} (r : Result T E) → X → OnErr r X
-on_err (Ok x) h = tt
-on_err (Err why) h = h
 
 pub if_told : {T E P : Type 0} (r : Result T E) (Q R : T → Type 0) → OnOk r P → IfOk r Q → ((x : T) → P → Q x → R x) → IfOk r R
 if_told (Ok x) Q R p q f = f x p q

@@ -1,11 +1,4 @@
-mod TextLemmas
-mod MoveLemmas
-mod SessionLemmas
 mod PlainLemmas
-mod PlanLemmas
 mod Unanswered
 mod GoLemmas
 mod AnswerLemmas
-mod SearchLemmas
-mod ThinkLemmas
-mod MateLemmas

@@ -13,8 +13,8 @@ use Rattle.session_model.specs.UciLines.{Command, Setting}
 use Rattle.session_model.specs.UciSession.{Answers}
 use Rattle.session_model.specs.UciState.{State, file_named}
 use Rattle.session_model.specs.UciTexts.{error_line}
-use Rattle.uci_front.specs.declared.refusal.Refusal.{Refusal}
-use Rattle.uci_front.specs.declared.refusal.Refusal.TheVariants.{Fault, Memory}
+use Rattle.uci_session.specs.declared.refusal.Refusal.{Refusal}
+use Rattle.uci_session.specs.declared.refusal.Refusal.TheVariants.{Fault, Memory}
 use Rattle.uci_lines.specs.declared.line.Kind.{Kind}
 use Rattle.uci_lines.specs.declared.line.Kind.TheVariants as kind
 use Rattle.watching.specs.Events.{Event, Says, Opens}
@@ -34,10 +34,6 @@ IsPlainKind k = Unit {0}
 abbrev pub IsAtOnce : Kind → Type 0
 IsAtOnce kind.SetOption = ⊥
 IsAtOnce k = IsPlainKind k
-
--- the words of the text after a command word
-abbrev pub words_said : Option (Bor (List ℕ)) → List (List ℕ)
-words_said rest = filter is_word (parts_after is_blank (option_copied rest))
 
 -- the event of a text, where there is one
 abbrev pub saying : Option (List ℕ) → List Event

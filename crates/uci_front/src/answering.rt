@@ -9,14 +9,13 @@ ghost use Rattle.turning.specs.Turned.{Served, Unserved};
 
 use crate::going::answer_go;
 use crate::plain::answer_plain;
-use crate::plan::read_plan;
-use crate::session::{UciSession, bytes_of};
 use crate::telling::tell;
 use io_ports::{Clock, Files, Gate, Got, LineBuf, SearchFault, Sink, Source};
 use std::alloc::Global;
 use std::sync::Wait;
 use std::thread::Threads;
 use uci_lines::{Kind, read_line};
+use uci_session::{UciSession, bytes_of, read_plan};
 
 /// Whether the line ends the session.
 pub(crate) fn quits(next: Got, line: &LineBuf) -> bool

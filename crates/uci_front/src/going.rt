@@ -5,13 +5,9 @@ ghost use Rattle.io_ports.specs.Cause.{Rose};
 ghost use Rattle.io_ports.specs.Trace.{Moves};
 ghost use Rattle.turning.specs.Lines.{Causes};
 ghost use Rattle.uci_front.specs.Going.{ServesGo, UnservesGo};
-ghost use Rattle.uci_front.specs.PlanView.{ArePlies, IsAsked, SaidAtOnce};
+ghost use Rattle.uci_session.specs.PlanView.{ArePlies, IsAsked, SaidAtOnce};
 
-use crate::plan::Plan;
-use crate::searching::{Came, search};
-use crate::session::UciSession;
 use crate::telling::tell;
-use crate::texts::{last_line, perft_line};
 use foundation::{Memory, Text};
 use game_play::Game;
 use io_ports::{Clock, Dialect, Gate, Got, LineBuf, SearchFault, Sink, Source};
@@ -19,6 +15,7 @@ use std::alloc::Global;
 use std::sync::Wait;
 use std::thread::Threads;
 use turning::{next_of, settle};
+use uci_session::{Came, Plan, UciSession, last_line, perft_line, search};
 use watching::say;
 
 // What is said at once, without a search: a count, or that no move is legal where no best move is held back.

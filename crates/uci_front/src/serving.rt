@@ -9,12 +9,12 @@ ghost use Rattle.turning.specs.declared.ended.Ended.TheVariants as Ended;
 ghost use Rattle.watching.specs.Stopping.{AreSamePorts};
 
 use crate::answering::{answer, quits};
-use crate::session::UciSession;
 use io_ports::{Clock, Files, Gate, Got, LineBuf, Ports, SearchFault, Sink, Source};
 use std::alloc::Global;
 use std::sync::Wait;
 use std::thread::Threads;
 use turning::Ended;
+use uci_session::UciSession;
 
 /// The same with the ports lent singly.
 fn serve_lent<R, S, K, C, G, F>(

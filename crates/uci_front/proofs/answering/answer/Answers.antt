@@ -8,9 +8,10 @@ use Rattle.turning.proofs.Lawful.{uci_is_lawful}
 use Rattle.turning.specs.Lines.{got_line}
 use Rattle.uci_lines.specs.View.{command_with, line_got}
 use Rattle.session_model.specs.UciSession.{uci}
-use Rattle.uci_front.specs.Plain.{words_said}
+use Rattle.uci_session.specs.PlanView.{words_said}
 use Rattle.uci_front.proofs.AnswerLemmas.{line_is, served_plainly, served_unread, unserved_plainly, unserved_read, unserved_unread}
-use Rattle.uci_front.proofs.GoLemmas.{if_told, if_untold, on_err, if_ok}
+use Rattle.uci_front.proofs.GoLemmas.{if_told, if_untold, if_ok}
+use Rattle.uci_session.proofs.HeldLemmas.{on_err}
 use Rattle.uci_front.proofs.Unanswered.{unserved_quiet}
 use Rattle.uci_front.proofs.answering.answer.Goals as goal
 

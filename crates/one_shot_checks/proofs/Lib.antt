@@ -1,0 +1,2 @@
+pub mod CertLemmas
+pub mod CheckLemmas

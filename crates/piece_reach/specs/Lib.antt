@@ -1,0 +1,3 @@
+pub mod ReachText
+pub mod Setup
+pub mod UnplacedView
