@@ -1,6 +1,9 @@
 //! Commands that take no input, and words that are no command.
-use crate::runs::{USAGE_LINE, answers_over_files, refuses, tells};
+use crate::expect::{expect, expect_eq};
+use crate::runs::{ROOM, USAGE_LINE, answers_over_files, ran, refuses, tells};
+use io_ports::MemFiles;
 use std::process::Abort;
+use std::str;
 use std::sync::Wait;
 use std::thread::Threads;
 
@@ -19,6 +22,7 @@ fn reach_says_where_a_piece_goes(rt: HostRuntime) {
     reaches(&rt, "N", "b1", "quiet d2 a3 c3\ntake -\n");
     reaches(&rt, "G", "d4", "quiet a1 g1 a7 g7\ntake -\n");
     reaches(&rt, "NN", "b1", "quiet d2 a3 c3 f3 h4 d5 e7\ntake -\n");
+    reaches(&rt, "ffN", "d4", "quiet c6 e6\ntake -\n");
     tells(&rt, &["reach", "nN", "b1", "b2"], "", "quiet d2\ntake -\n");
     let cannon = ["reach", "mRcpR", "a1", "a4", "a7"].as_slice();
     tells(
@@ -43,6 +47,7 @@ fn reaches_not<R: Abort + AllocGlobal + Threads + Wait + Sync>(
 
 #[test]
 fn reach_refuses_pieces(rt: HostRuntime) {
+    reaches_not(&rt, "fN", "d4", "error BetzaFault 6 AmbiguousDirection 0\n");
     reaches_not(&rt, "fN", "z9", "error BetzaFault 6 AmbiguousDirection 0\n");
     reaches_not(
         &rt,
@@ -71,6 +76,7 @@ fn other_words_are_answered_by_the_usage_line(rt: HostRuntime) {
     answers_over_files(&rt, &["--"], "quit\n", 2, USAGE_LINE);
     answers_over_files(&rt, &["--threads", "65", "moves"], "quit\n", 2, USAGE_LINE);
     answers_over_files(&rt, &["perft", "10"], "quit\n", 2, USAGE_LINE);
+    answers_over_files(&rt, &["perft", "x"], "quit\n", 2, USAGE_LINE);
 }
 
 /// The texts are those of another program.
@@ -90,6 +96,25 @@ fn random_games_are_generated(rt: HostRuntime) {
         rnbakabnr/9/1c5c1/p1p1p1p1p/9/9/P1P1P1P1P/1C5C1/9/RNBAKABNR w - - 0 1\n\
         ongoing\nperft2 1920\nvalue2 0\n";
     tells(&rt, words, "", xiangqi);
+    let start = "generated chess 7 0\nrnbqkbnr/pppppppp/8/8/8/8/PPPPPPPP/RNBQKBNR w KQkq - 0 1\n\
+        ongoing\nperft2 400\nvalue2 0\n";
+    tells(&rt, &["generate", "chess", "7", "0"], "", start);
     let none = "error GameFault 2 UnknownVariant none\n";
     refuses(&rt, &["generate", "none", "0", "1"], "", none);
+}
+
+/// The number of workers that search changes no line.
+#[test]
+fn a_random_game_is_the_same_for_all_threads(rt: HostRuntime) {
+    let mut files = MemFiles::new(rt.alloc());
+    let words = ["--threads", "1", "generate", "chess", "7", "60"].as_slice();
+    let (status, one) = ran(&rt, &mut files, words, b"", &[], ROOM);
+    let text = str::from_utf8(one.taken()).expect(&rt, "no fault");
+    expect(
+        &rt,
+        status == 0 && text.starts_with("generated chess 7 60\n"),
+    );
+    expect_eq(&rt, text.lines().count(), 5);
+    let words = ["--threads", "4", "generate", "chess", "7", "60"].as_slice();
+    tells(&rt, words, "", text);
 }

@@ -11,3 +11,8 @@ pub fn expect(rt: &impl Abort, holds: bool) {
 pub fn expect_of<N: Debug>(rt: &impl Abort, name: &N, holds: bool) {
     assert!(rt; holds, "{name:?}");
 }
+
+/// Asserts that what was found is what is wanted.
+pub fn expect_eq<T: PartialEq + Debug + Drop>(rt: &impl Abort, found: T, wanted: T) {
+    assert_eq!(rt; found, wanted);
+}

@@ -34,6 +34,9 @@ fn a_run_fails_with_its_sink(rt: HostRuntime) {
         LINES,
         b"error FileFault 1 Missing\n",
     );
+    let (answered, sink) = ran(&rt, &mut files, &["uci"], b"uci\nquit\n", &[], 20);
+    let front = b"id name vengine\nid a".as_slice();
+    expect(&rt, answered == 5 && sink.taken() == front);
 }
 
 #[test]
@@ -44,6 +47,8 @@ fn a_run_fails_with_its_source(rt: HostRuntime) {
         assert!(rt; answered == 4 && sink.taken().is_empty());
     }
     let lines = b"isready\nisready\n";
+    let (answered, sink) = ran(&rt, &mut files, &["uci"], lines, &[0], 1000);
+    assert!(rt; answered == 4 && sink.taken().is_empty());
     let (answered, sink) = ran(&rt, &mut files, &["uci"], lines, &[1], 1000);
     expect(
         &rt,

@@ -1,4 +1,5 @@
 //! The file of variants: when it is read, and its faults.
+use crate::expect::expect_eq;
 use crate::runs::{BUILTIN, USAGE_LINE, ran, says, some_files};
 use io_ports::{Files, Given, MemFiles};
 use std::alloc::Global;
@@ -46,8 +47,8 @@ fn fails<R: Abort + AllocGlobal + Threads + Wait + Sync, F: Files>(
     text: &[u8],
 ) {
     let (answered, sink) = ran(rt, files, words, b"chess\n", &[0], 1000);
-    assert_eq!(rt; answered, status);
-    assert_eq!(rt; sink.taken(), text);
+    expect_eq(rt, answered, status);
+    expect_eq(rt, sink.taken(), text);
 }
 
 /// Files of variants of the most bytes, and of one more.

@@ -1,6 +1,8 @@
 //! What `moves`, `status`, `perft` and `variants` answer, and the faults of game texts.
 use crate::expect::expect;
-use crate::runs::{BUILTIN, ROOM, answers, ran, refuses, says, some_files, tells};
+use crate::runs::{
+    BUILTIN, ROOM, answers, answers_over_files, ran, refuses, says, some_files, tells,
+};
 use io_ports::{MAX_LINE, MemFiles};
 use std::alloc::Global;
 use std::process::Abort;
@@ -29,8 +31,20 @@ fn moves_are_told_and_counted(rt: HostRuntime) {
         "antichess\nstartpos\ne2e3 b7b5",
         "f1b5\nmoves 1\n",
     );
+}
+
+/// Counts of the same positions at each depth.
+#[test]
+fn moves_are_counted(rt: HostRuntime) {
     tells(&rt, &["perft", "4"], "chess\nstartpos\n", "197281\n");
+    let castling = "chess\nr3k2r/p1ppqpb1/bn2pnp1/3PN3/1p2P3/2N2Q1p/PPPBBPPP/R3K2R w KQkq - 0 1";
+    tells(&rt, &["perft", "1"], castling, "48\n");
+    tells(&rt, &["perft", "2"], castling, "2039\n");
+    tells(&rt, &["perft", "3"], castling, "97862\n");
     let pins = "chess\n8/2p5/3p4/KP5r/1R3p1k/8/4P1P1/8 w - - 0 1";
+    tells(&rt, &["perft", "1"], pins, "14\n");
+    tells(&rt, &["perft", "2"], pins, "191\n");
+    tells(&rt, &["perft", "3"], pins, "2812\n");
     tells(&rt, &["perft", "4"], pins, "43238\n");
     tells(&rt, &["perft", "3"], "seirawan\nstartpos", "24830\n");
 }
@@ -44,6 +58,9 @@ fn moves_by_a_file_of_variants(rt: HostRuntime) {
     tells(&rt, words, calm, "a1a2\na1b1\na1b2\nmoves 3\n");
     tells(&rt, &["variants"], "a line", BUILTIN);
 }
+
+/// A game of crazyhouse in which a promoted piece was taken, which is a pawn in the hand.
+const DROPS: &str = "crazyhouse\n4k3/8/8/8/8/3q~4/4P3/4K3[] w - - 0 1\ne2d3 e8e7";
 
 /// Asserts the status of a game that is over or not.
 fn stands<R: Abort + AllocGlobal + Threads + Wait + Sync>(rt: &R, input: &str, text: &str) {
@@ -75,14 +92,17 @@ fn games_of_chess_are_over(rt: HostRuntime) {
 
 #[test]
 fn games_of_variants_are_over(rt: HostRuntime) {
-    let hill = "kingofthehill\n4k3/8/8/8/8/3K4/8/8 w - - 0 1\nd3d4";
-    stands(&rt, hill, "won white flag\n4k3/8/8/8/3K4/8/8/8 b - - 1 1\n");
+    let hill = "kingofthehill\n4k3/8/8/8/8/4K3/8/8 w - - 0 1\ne3e4";
+    stands(&rt, hill, "won white flag\n4k3/8/8/8/4K3/8/8/8 b - - 1 1\n");
     let start = "ongoing\nrnabqkbcnr/pppppppppp/10/10/10/10/PPPPPPPPPP/RNABQKBCNR w KQkq - 0 1\n";
     stands(&rt, "capablanca\nstartpos", start);
     let check = "3check\nrnbqkbnr/pppp1ppp/8/4p2Q/4P3/8/PPPP1PPP/RNB1KBNR w KQkq - 1+3 0 1\nh5e5";
     let checked =
         "won white checks\nrnbqkbnr/pppp1ppp/8/4Q3/4P3/8/PPPP1PPP/RNB1KBNR b KQkq - 0+3 0 1\n";
     stands(&rt, check, checked);
+    tells(&rt, &["moves"], check, "moves 0\n");
+    let taken = "ongoing\n8/4k3/8/8/8/3P4/8/4K3[P] w - - 1 2\n";
+    stands(&rt, DROPS, taken);
     let last = "antichess\n8/8/8/8/8/1p6/P7/8 b - - 0 1\nb3a2";
     stands(
         &rt,
@@ -132,13 +152,24 @@ fn lists<R: Abort + AllocGlobal + Threads + Wait + Sync>(
 fn long_lists_of_moves(rt: HostRuntime) {
     let words = ["moves"].as_slice();
     lists(&rt, words, "capablanca\nstartpos", "b1c3\n", "\nmoves 28\n");
+    lists(&rt, words, "losalamos\nstartpos", "b1a3\n", "\nmoves 10\n");
+    let gated = "\nb1c3\nb1c3e\nb1c3h\n";
+    lists(&rt, words, "seirawan\nstartpos", gated, "\nmoves 28\n");
     let gates = "seirawan\n4k3/8/8/8/8/8/8/4K2R[H] w K - 0 1";
+    lists(&rt, words, gates, "\ne1g1\ne1g1h\n", "\nmoves 31\n");
     lists(&rt, words, gates, "\nh1e1h\n", "\nmoves 31\n");
-    let drops = "crazyhouse\n4k3/8/8/8/8/3q~4/4P3/4K3[] w - - 0 1\ne2d3 e8e7";
-    lists(&rt, words, drops, "P@a2\n", "\nmoves 52\n");
+    lists(&rt, words, DROPS, "P@a2\n", "\nmoves 52\n");
     lists(&rt, words, "xiangqi\nstartpos", "b1a3\n", "\nmoves 44\n");
+}
+
+#[test]
+fn a_variant_of_a_file_is_played(rt: HostRuntime) {
     let mini = ["--variants", "mini", "moves"].as_slice();
     lists(&rt, mini, "mini\nstartpos", "a2a3\n", "\nmoves 14\n");
+    let mini = ["--variants", "mini", "status"].as_slice();
+    let start = "ongoing\nrbsgk/4p/5/P4/KGSBR[] w - - 0 1\n";
+    tells(&rt, mini, "mini\nstartpos", start);
+    tells(&rt, &["--variants", "empty", "variants"], "", BUILTIN);
 }
 
 #[test]
@@ -189,16 +220,28 @@ fn a_faulty_position_of_a_game_text_has_its_fault(rt: HostRuntime) {
     refuses(&rt, &["status"], wide, width);
 }
 
-/// As many plies as a game may have and one more, each between these texts.
-fn longest(rt: &impl Abort, alloc: Global, before: &str, after: &str) -> String {
+/// So many plies, which four by four come back to where they began, each between these texts.
+fn rounds(
+    rt: &impl Abort,
+    alloc: Global,
+    count: usize,
+    round: &[&str; 4],
+    before: &str,
+    after: &str,
+) -> String {
     let mut text = String::new(alloc);
-    for ply in 0..8193usize {
-        let plies = ["g1f3", "g8f6", "f3g1", "f6g8"];
+    for ply in 0..count {
         text.push_str(before).expect(rt, "no fault");
-        text.push_str(plies[ply % 4]).expect(rt, "no fault");
+        text.push_str(round[ply % 4]).expect(rt, "no fault");
         text.push_str(after).expect(rt, "no fault");
     }
     text
+}
+
+/// As many plies of chess as a game may have and one more, each between these texts.
+fn longest(rt: &impl Abort, alloc: Global, before: &str, after: &str) -> String {
+    let knights = ["g1f3", "g8f6", "f3g1", "f6g8"];
+    rounds(rt, alloc, 8193, &knights, before, after)
 }
 
 /// The last of 8,193 plies is refused by the command, and in UCI with all before it.
@@ -216,6 +259,30 @@ fn a_game_has_no_more_than_8192_plies(rt: HostRuntime) {
     let text = b"info string error PositionFault 3 TooManyMoves\nongoing\n\
             rnbqkbnr/pppppppp/8/8/8/8/PPPPPPPP/RNBQKBNR w KQkq - 0 1\n";
     says(&rt, &mut files, &["uci"], input.as_bytes(), 0, text);
+}
+
+/// Asserts the status of a game of so many plies in the largest variant, in which two positions of a kind end a game,
+/// which goes on.
+fn stands_after<R: Abort + AllocGlobal + Threads + Wait + Sync>(
+    rt: &R,
+    plies: usize,
+    status: u8,
+    text: &str,
+) {
+    let corners = ["a1a2", "a10a9", "a2a1", "a9a10"];
+    let moves = rounds(rt, rt.alloc(), plies, &corners, " ", "");
+    let input = format!(in rt.alloc(); "large\nstartpos\n{moves}\n").expect(rt, "no fault");
+    let words = ["--variants", "large", "status"];
+    answers_over_files(rt, words.as_slice(), input.as_str(), status, text);
+}
+
+#[test]
+fn the_largest_variant_has_no_longer_games(rt: HostRuntime) {
+    let last =
+        "drawn repetition\nk10a/12/12/12/12/12/12/12/12/K10A[AAAAABBBBBCCCCCDDDDDEEEEEFFFFFGGGGGHHHHH\
+        IIIIIJJJJJLLLLLMMMMMNNNNNOOOOOPPPPPQQQQQRRRRRSSSSSTTTTTUUUUUVVVVVWWWWWXXXXXYYYYY] w - - 8192 4097\n";
+    stands_after(&rt, 8192, 0, last);
+    stands_after(&rt, 8193, 3, "error GameFault 6 TooManyMoves\n");
 }
 
 /// In CECP it is refused alone.

@@ -1,5 +1,5 @@
 //! Runs over ports in memory, and what they answer.
-use crate::expect::expect;
+use crate::expect::{expect, expect_eq};
 use commands::run;
 use io_ports::{Files, ListClock, MemFiles, MemSink, MemSource, OpenGate, PollsOwed};
 use std::alloc::Global;
@@ -73,8 +73,8 @@ pub fn answers<R: Abort + AllocGlobal + Threads + Wait + Sync, F: Files>(
     text: &[u8],
 ) {
     let (answered, sink) = ran(rt, files, words, input, &[], 1000);
-    assert_eq!(rt; answered, status);
-    assert_eq!(rt; sink.taken(), text);
+    expect_eq(rt, answered, status);
+    expect_eq(rt, sink.taken(), text);
 }
 
 /// The same over the files of `some_files`, of texts.
@@ -126,8 +126,8 @@ pub fn says<R: Abort + AllocGlobal + Threads + Wait + Sync, F: Files>(
     text: &[u8],
 ) {
     let (answered, sink) = ran(rt, files, words, input, &[], ROOM);
-    assert_eq!(rt; answered, status);
-    assert_eq!(rt; sink.taken(), text);
+    expect_eq(rt, answered, status);
+    expect_eq(rt, sink.taken(), text);
 }
 
 /// Runs words over a sink with room for each number of bytes below that of the text, and asserts status 5, one fault,
@@ -163,6 +163,19 @@ const MINI: &str =
     capturesToHand = true\ndropNoDoubled = p\nimmobilityIllegal = true\ncastling = false\nnMoveRule = 0\n\
     nFoldRule = 4\npromotionRegionWhite = *5\npromotionRegionBlack = *1\nstartFen = rbsgk/4p/5/P4/KGSBR[-] w 0 1\n";
 
+/// The largest board, as many pieces of one's own as a variant may have, and five of each in the hand.
+const LARGE: &str =
+    "[large]\nmaxFile = 12\nmaxRank = 10\nking = k\ncastling = false\ndoubleStep = false\n\
+    pieceDrops = true\ncapturesToHand = true\nnFoldRule = 2\nnMoveRule = 0\n\
+    customPiece1 = a:W\ncustomPiece2 = b:F\ncustomPiece3 = c:N\ncustomPiece4 = d:R\ncustomPiece5 = e:B\n\
+    customPiece6 = f:D\ncustomPiece7 = g:A\ncustomPiece8 = h:L\ncustomPiece9 = i:H\ncustomPiece10 = j:mRcpR\n\
+    customPiece11 = l:WF\ncustomPiece12 = m:RN\ncustomPiece13 = n:BN\ncustomPiece14 = o:nN\n\
+    customPiece15 = p:gR\ncustomPiece16 = q:pB\ncustomPiece17 = r:C\ncustomPiece18 = s:Z\n\
+    customPiece19 = t:mNcB\ncustomPiece20 = u:fsW\ncustomPiece21 = v:Q\ncustomPiece22 = w:RF\n\
+    customPiece23 = x:BW\ncustomPiece24 = y:G\n\
+    startFen = k10a/12/12/12/12/12/12/12/12/K10A[AAAAABBBBBCCCCCDDDDDEEEEEFFFFFGGGGGHHHHHIIIIIJJJJJLLLLLMMMMM\
+    NNNNNOOOOOPPPPPQQQQQRRRRRSSSSSTTTTTUUUUUVVVVVWWWWWXXXXXYYYYY] w - - 0 1\n";
+
 /// Chess in which a capture must be made, and chess in which no move may give check.
 const MOODS: &str = "[must:chess]\nmustCapture = true\n[calm:chess]\nchecking = false\n";
 
@@ -174,6 +187,7 @@ pub fn some_files(rt: &impl Abort, alloc: Global) -> MemFiles {
         .add(b"unstarted", UNSTARTED.as_bytes())
         .expect(rt, "no fault");
     files.add(b"mini", MINI.as_bytes()).expect(rt, "no fault");
+    files.add(b"large", LARGE.as_bytes()).expect(rt, "no fault");
     files.add(b"moods", MOODS.as_bytes()).expect(rt, "no fault");
     files.add(b"empty", b"").expect(rt, "no fault");
     files

@@ -1,7 +1,10 @@
 //! Strategies and proof texts: `check`.
-use crate::runs::answers_over_files;
+use crate::expect::expect_eq;
+use crate::runs::{ROOM, answers_over_files, ran};
+use io_ports::MemFiles;
 use std::alloc::Global;
 use std::process::Abort;
+use std::str;
 use std::sync::Wait;
 use std::thread::Threads;
 
@@ -120,6 +123,50 @@ fn spoilt_strategies_are_refused(rt: HostRuntime) {
     expect_spoilt(&rt, "end\n", "end\n\n", more);
     let open = "error StrategyFault 6 Ended 11\n";
     expect_spoilt(&rt, "end\n", "", open);
+}
+
+/// The first lines of the mate, so many of them.
+fn first_lines(rt: &impl Abort, alloc: Global, count: usize) -> String {
+    let mut text = String::new(alloc);
+    for line in MATE.lines().take(count) {
+        text.push_str(line).expect(rt, "no fault");
+        text.push_str("\n").expect(rt, "no fault");
+    }
+    text
+}
+
+#[test]
+fn a_strategy_that_is_cut_short_is_refused_at_its_next_line(rt: HostRuntime) {
+    for count in 0..11usize {
+        let strategy = first_lines(&rt, rt.alloc(), count);
+        let number = count.saturating_add(1);
+        let text = format!(in rt.alloc(); "error StrategyFault 6 Ended {number}\n").expect(
+            &rt, "no fault",
+        );
+        expect(&rt, MATED, IN_TWO, strategy.as_str(), text.as_str());
+    }
+}
+
+/// What a session prints for `strategy`, after this number of threads found the mate in two, wins by `check`.
+fn prints_a_win<R: Abort + AllocGlobal + Threads + Wait + Sync>(rt: &R, threads: &str) {
+    let mut files = MemFiles::new(rt.alloc());
+    let words = ["--threads", threads, "uci"];
+    let lines = b"position fen 7k/R7/5K2/8/8/8/8/8 w - - 0 1\ngo mate 2\nstrategy\nquit\n";
+    let (status, sink) = ran(rt, &mut files, words.as_slice(), lines, &[], ROOM);
+    expect_eq(rt, status, 0);
+    let text = str::from_utf8(sink.taken()).expect(rt, "no fault");
+    let (found, strategy) = text
+        .split_once("bestmove f6g6\n")
+        .ok_or("a best move")
+        .expect(rt, "no fault");
+    expect_eq(rt, found, "info depth 3 score mate 2 pv f6g6\n");
+    answers_over_files(rt, &["check"], strategy, 0, "wins\n");
+}
+
+#[test]
+fn strategies_of_sessions_win(rt: HostRuntime) {
+    prints_a_win(&rt, "1");
+    prints_a_win(&rt, "4");
 }
 
 /// A text that states its own rules, and with them the mate in two.
