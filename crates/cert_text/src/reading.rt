@@ -40,8 +40,10 @@ fn take_lines<S: Source>(
 
 /// Reads a certificate for the game from the lines of the source, to their end or to the first faulty one.
 ///
-/// The answer is the certificate, or the fault of the first faulty line. No line after it is taken. `Unread` is the
-/// answer where the source failed; then nothing is known of the lines.
+/// # Errors
+///
+/// The fault of the first faulty line. No line after it is taken. `Unread` where the source failed; then nothing is
+/// known of the lines.
 pub fn read_cert_lines<S: Source>(
     alloc: Global,
     game: &Game,
@@ -59,9 +61,12 @@ pub fn read_cert_lines<S: Source>(
 
 /// Reads the text of a certificate for the game.
 ///
-/// Lines end with LF, which the last may lack; a CR at the end of a line is dropped. The answer is the certificate, or
-/// the fault of the first faulty line. Whether the certificate holds is asked by `stipulation`'s `check_self` and
-/// `check_help`.
+/// Lines end with LF, which the last may lack; a CR at the end of a line is dropped. Whether the certificate holds is
+/// asked by `stipulation`'s `check_self` and `check_help`.
+///
+/// # Errors
+///
+/// The fault of the first faulty line.
 pub fn read_cert(alloc: Global, game: &Game, text: &[u8]) -> Result<Cert, CertFault>
     ensures { View.Answers (cert_of game.now.rules (story game.now) (lines_of text.now)) result }
 {

@@ -41,7 +41,7 @@ impl Steps {
         Ok(())
     }
 
-    /// Drops the last steps until so many are left.
+    /// Drops the last steps until N are left.
     pub(crate) fn cut(&mut self, count: usize)
         ensures { self.new ≡ take count self.old }
     {

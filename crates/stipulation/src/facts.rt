@@ -21,7 +21,7 @@ const MOST: usize = 0x4_0000;
 /// The slot of no fact.
 const NONE: u32 = u32::MAX;
 
-/// Whether what is aimed at is reached from a position within so many plies.
+/// Whether what is aimed at is reached from a position within N plies.
 #[derive(Drop)]
 pub(crate) struct Fact {
     pub position: Packed,
@@ -51,7 +51,7 @@ impl<'t> Model for Facts<'t> {
 }
 
 impl Fact {
-    /// Whether it says what is reached within so many plies, too.
+    /// Whether it says what is reached within N plies, too.
     fn tells(&self, plies: u16) -> bool
         ensures { result ≡ tells self.now plies }
     {
@@ -97,7 +97,7 @@ impl<'t> Facts<'t> {
         self.kept.get(self.place(key))
     }
 
-    /// What the true fact says of the board's position and so many plies, if it says it.
+    /// What the true fact says of the board's position and N plies, if it says it.
     fn said(&self, fact: &Fact, board: &Board, plies: u16) -> Option<bool>
         requires truth { IsTrueFact self.now fact.now }
         ensures { IfSome result (λ b. b ≡ reaches self.now plies (repeat_in board.now)) }
@@ -109,7 +109,7 @@ impl<'t> Facts<'t> {
         }
     }
 
-    /// Whether what is aimed at is reached from the board's position within so many plies, if that is known.
+    /// Whether what is aimed at is reached from the board's position within N plies, if that is known.
     pub fn look(&self, board: &Board, plies: u16) -> Option<bool>
         ensures { IfSome result (λ b. b ≡ reaches self.now plies (repeat_in board.now)) }
     {

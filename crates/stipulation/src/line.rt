@@ -75,7 +75,7 @@ impl Line {
         self.positions.len()
     }
 
-    /// Takes moves back until so many are left.
+    /// Takes moves back until N are left.
     pub fn cut(&mut self, plies: usize)
         ensures { self.new ≡ take plies self.old }
     {

@@ -17,7 +17,7 @@ use rules_model::Memory;
 use std::alloc::Global;
 
 impl Task<'_> {
-    /// The certificate of what is aimed at within so many plies of the game.
+    /// The certificate of what is aimed at within N plies of the game.
     fn find(&self, alloc: Global, plies: u16, facts: &mut Facts) -> Result<Option<Cert>, Memory>
         requires few { plies ≤ 12 }
         requires task { facts.old ≡ self.now }

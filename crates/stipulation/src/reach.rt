@@ -52,7 +52,7 @@ impl Facts<'_> {
         self.task.help || board.position().side.is(self.task.game.position().side)
     }
 
-    /// Whether what is aimed at is reached from the board's position within so many plies.
+    /// Whether what is aimed at is reached from the board's position within N plies.
     ///
     /// # Errors
     ///
@@ -90,7 +90,7 @@ impl Facts<'_> {
         }
     }
 
-    /// The same by the legal moves, within so many plies after each.
+    /// The same by the legal moves, within N plies after each.
     #[cycle(reach)]
     fn by_moves(
         &mut self,

@@ -16,7 +16,7 @@ use rules_model::{Memory, Move};
 use std::alloc::Global;
 
 impl Task<'_> {
-    /// Whether what is aimed at is reached within so many plies of the line's last position by itself. Where it is not,
+    /// Whether what is aimed at is reached within N plies of the line's last position by itself. Where it is not,
     /// it is not after the line.
     fn may_reach(
         &self,
@@ -34,7 +34,7 @@ impl Task<'_> {
         facts.reaches(alloc, &board, plies)
     }
 
-    /// Whether what is aimed at can be reached after the line within so many plies; where it can, the steps are
+    /// Whether what is aimed at can be reached after the line within N plies; where it can, the steps are
     /// appended.
     #[cycle(search)]
     pub fn search(
@@ -92,7 +92,7 @@ impl Task<'_> {
         }
     }
 
-    /// The same by the first of the legal moves after which it can be reached within so many plies.
+    /// The same by the first of the legal moves after which it can be reached within N plies.
     #[cycle(search)]
     #[tactic(auto, unfolding(crate::specs::Searches::first_of))]
     fn choose(
@@ -152,7 +152,7 @@ impl Task<'_> {
         Ok(true)
     }
 
-    /// The same by the legal move, within so many plies after it.
+    /// The same by the legal move, within N plies after it.
     #[cycle(search)]
     fn follow(
         &self,

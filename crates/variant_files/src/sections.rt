@@ -45,6 +45,10 @@ fn read_file<F: Files>(alloc: Global, files: &mut F, name: &[u8]) -> Result<Text
 }
 
 /// The sections that are built in, and after them those of the file of this name.
+///
+/// # Errors
+///
+/// Why the file was not read, or the first fault of its text; or `Memory`.
 pub fn read_sections<F: Files>(
     alloc: Global,
     files: &mut F,
