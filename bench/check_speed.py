@@ -10,13 +10,14 @@ proof text whose second line is faulty and which goes on for 60 megabytes.
 Usage: bench/check_speed.py [NODES ..]      (at least so many nodes each, 10000 and 100000 by default)
 VENGINE=FILE names another program.
 """
-import os
 import re
 import subprocess
 import sys
 import tempfile
 
-ENGINE = os.environ.get("VENGINE", os.path.join(os.path.dirname(os.path.abspath(__file__)), "..", "vengine"))
+from engine import program
+
+ENGINE = program()
 # Runs a program and then says its seconds and its kibibytes, which have at least this small program's own: in a child of the process that
 # made the text they would have the text.
 MEASURED = """

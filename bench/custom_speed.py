@@ -1,7 +1,7 @@
 #!/usr/bin/env python3
 """How many positions of a large variant have their legal moves found a second: 12 by 10 squares, 24 custom pieces.
 
-Usage: bench/custom_speed.py [PROGRAM [OTHER]]      (../vengine by default; with a second program, alternating runs of both)
+Usage: bench/custom_speed.py [PROGRAM [OTHER]]      (VENGINE or ../vengine by default; with a second program, alternating runs of both)
 
 The pieces are riders, hoppers, grasshoppers, lame leapers and pieces with different moves to go and to take, all of each side on
 their first three ranks. `perft` finds the moves of each position up to its last ply, where it counts them. The time that a program
@@ -13,7 +13,8 @@ import sys
 import tempfile
 import time
 
-HERE = os.path.dirname(os.path.abspath(__file__))
+import engine
+
 LETTERS = "abcdefghijlmnopqrstuvwxy"
 WORDS = "NN WW FF R B Q mRcpR mBcpB pR pB gR gB gQ nN nA nD nNF RN BN mNcB mRcN WFDA C WnN".split()
 RUNS = 3
@@ -44,7 +45,7 @@ def perft(program, file, plies):
 
 
 def main():
-    programs = [os.path.abspath(word) for word in sys.argv[1:]] or [os.path.join(HERE, "..", "vengine")]
+    programs = [os.path.abspath(word) for word in sys.argv[1:]] or [engine.program()]
     best = [None] * len(programs)
     with tempfile.NamedTemporaryFile("w", suffix=".ini") as file:
         file.write(variant())

@@ -3,13 +3,14 @@
 
 Usage: bench/load_speed.py [RUNS]      (runs of each, 5 by default; the best counts)
 """
-import os
 import subprocess
 import sys
 import tempfile
 import time
 
-ENGINE = os.path.join(os.path.dirname(os.path.abspath(__file__)), "..", "vengine")
+from engine import program
+
+ENGINE = program()
 SECTIONS = 512
 START = "startFen = 8/8/8/8/8/8/8/8 w - - 0 1\n"
 

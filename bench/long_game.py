@@ -1,7 +1,7 @@
 #!/usr/bin/env python3
 """Plays the longest game of the largest variant: 8,192 plies on 12 by 10 squares, with 24 custom pieces and 120 pieces in hand.
 
-Usage: bench/long_game.py [PROGRAM]      (../vengine by default)
+Usage: bench/long_game.py [PROGRAM]      (VENGINE or ../vengine by default)
 
 Positions are repeated all the time, and two of a kind end a game of this variant, which may go on. The program must say where the game
 stands after 8,192 plies, and refuse one ply more. Prints the seconds of both, and ends with status 1 where an answer is another.
@@ -12,7 +12,8 @@ import sys
 import tempfile
 import time
 
-HERE = os.path.dirname(os.path.abspath(__file__))
+import engine
+
 LETTERS = "abcdefghijlmnopqrstuvwxy"
 WORDS = "W F N R B D A L H mRcpR WF RN BN nN gR pB C Z mNcB fsW Q RF BW G".split()
 OPTIONS = """[big]
@@ -44,7 +45,7 @@ def status(program, file, plies):
 
 
 def main():
-    program = os.path.abspath(sys.argv[1] if len(sys.argv) > 1 else os.path.join(HERE, "..", "vengine"))
+    program = os.path.abspath(sys.argv[1]) if len(sys.argv) > 1 else engine.program()
     text, hand = variant()
     ranks = "/".join(["k10a"] + ["12"] * 8 + ["K10A"])
     wanted = {

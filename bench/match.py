@@ -18,16 +18,15 @@ import argparse
 import collections
 import glob
 import os
-import queue
 import random
 import shlex
 import subprocess
 import sys
-import threading
 import time
 
-TOP = os.path.join(os.path.dirname(os.path.abspath(__file__)), "..")
-ARBITER = [os.environ.get("VENGINE", os.path.join(TOP, "vengine"))]
+from engine import Session, program
+
+ARBITER = [program()]
 LATE = 0.1
 HANGS = 20.0
 
@@ -53,48 +52,19 @@ def waited(pid):
     return total / 1e9
 
 
-class Engine:
-    """A UCI engine in a process of its own; a thread takes its lines with the times at which they came."""
+class Engine(Session):
+    """A UCI engine that plays, with its slowest move, how many it made and how many were late. One that ends is one that hangs."""
 
     def __init__(self, command, variant, path, grace):
+        super().__init__(shlex.split(command), HANGS, may_end=True)
         self.name = command
-        self.process = subprocess.Popen(shlex.split(command), stdin=subprocess.PIPE, stdout=subprocess.PIPE, text=True, bufsize=1)
-        self.lines = queue.Queue()
         self.grace, self.slowest, self.moves, self.late = grace, 0.0, 0, 0
-        threading.Thread(target=self.take, daemon=True).start()
         self.say("uci")
-        self.wait_for("uciok", HANGS)
+        self.wait_for("uciok")
         if path:
             self.say(f"setoption name VariantPath value {path}")
         self.say(f"setoption name UCI_Variant value {variant}")
         self.ready()
-
-    def take(self):
-        for line in self.process.stdout:
-            self.lines.put((time.monotonic(), line.strip()))
-        self.lines.put((time.monotonic(), None))
-
-    def say(self, line):
-        self.process.stdin.write(line + "\n")
-        self.process.stdin.flush()
-
-    def wait_for(self, word, seconds):
-        """The first line that begins with the word, and when it came; or nothing."""
-        end = time.monotonic() + seconds
-        while True:
-            try:
-                at, line = self.lines.get(timeout=max(0.0, end - time.monotonic()))
-            except queue.Empty:
-                return None, None
-            if line is None:
-                return None, None
-            if line.split()[:1] == [word]:
-                return at, line
-
-    def ready(self):
-        self.say("isready")
-        if self.wait_for("readyok", HANGS)[1] is None:
-            sys.exit("match: an engine does not answer isready")
 
     def new_game(self):
         self.say("ucinewgame")
@@ -106,8 +76,8 @@ class Engine:
         waits = [waited(pid) for pid in (self.process.pid, "self")]
         begun = time.monotonic()
         self.say(go)
-        at, line = self.wait_for("bestmove", max(limit, HANGS))
-        if line is None:
+        said, at = self.wait_for("bestmove", max(limit, HANGS))
+        if at is None:
             return None, "hangs"
         took = at - begun
         self.slowest, self.moves = max(self.slowest, took), self.moves + 1
@@ -118,11 +88,7 @@ class Engine:
                   f"{script:.3f} s, at a load of {os.getloadavg()[0]:.0f}: {self.name}", flush=True)
         if took > limit + self.grace:
             return None, f"loses on time, {took:.2f} s"
-        return line.split()[1], took
-
-    def close(self):
-        self.say("quit")
-        self.process.wait(timeout=HANGS)
+        return said[-1].split()[1], took
 
 
 def opening(variant, chance):

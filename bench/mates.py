@@ -20,88 +20,43 @@ that was found is not the file's, or a strategy is not accepted. `--engine` or V
 import argparse
 import collections
 import json
-import os
-import queue
 import shlex
 import subprocess
 import sys
-import threading
 import time
 
-TOP = os.path.join(os.path.dirname(os.path.abspath(__file__)), "..")
-ENGINE = os.environ.get("VENGINE", os.path.join(TOP, "vengine"))
-OTHER = next((path for path in ("/usr/games/fairy-stockfish", "/usr/bin/fairy-stockfish") if os.path.exists(path)), None)
-HANGS = 60.0
+from engine import OTHER, Session, program
+
 SLOW = 1.0
 
 
-class Session:
-    """A UCI engine in a process of its own; a thread takes its lines with the times at which they came."""
+class Solver(Session):
+    """A UCI engine that looks for mates in positions of a variant."""
 
     def __init__(self, command, variant, threads):
-        self.process = subprocess.Popen(shlex.split(command), stdin=subprocess.PIPE, stdout=subprocess.PIPE, text=True, bufsize=1)
-        self.lines = queue.Queue()
-        threading.Thread(target=self.take, daemon=True).start()
+        super().__init__(shlex.split(command))
         self.say("uci")
-        self.wait_for(lambda words: words == ["uciok"], HANGS)
-        self.say(f"setoption name UCI_Variant value {variant}")
-        self.say(f"setoption name Threads value {threads}")
-
-    def take(self):
-        for line in self.process.stdout:
-            self.lines.put((time.monotonic(), line.rstrip("\n")))
-        self.lines.put((time.monotonic(), None))
-
-    def say(self, line):
-        self.process.stdin.write(line + "\n")
-        self.process.stdin.flush()
-
-    def wait_for(self, is_wanted, seconds):
-        """The lines up to the wanted one, and when that came; None for the time where it did not come."""
-        said, end = [], time.monotonic() + seconds
-        while True:
-            try:
-                at, line = self.lines.get(timeout=max(0.0, end - time.monotonic()))
-            except queue.Empty:
-                return said, None
-            if line is None:
-                sys.exit("mates: an engine ended")
-            said.append(line)
-            if is_wanted(line.split()):
-                return said, at
-
-    def ready(self):
-        self.say("isready")
-        if self.wait_for(lambda words: words == ["readyok"], HANGS)[1] is None:
-            sys.exit("mates: an engine does not answer isready")
+        self.wait_for("uciok")
+        self.say(f"setoption name UCI_Variant value {variant}", f"setoption name Threads value {threads}")
 
     def solve(self, fen, within, limit):
         """The number of moves that was found, or None, and the seconds that it took; the limit where it was stopped."""
-        self.say("ucinewgame")
-        self.say(f"position fen {fen}")
+        self.say("ucinewgame", f"position fen {fen}")
         self.ready()
         begun = time.monotonic()
         self.say(f"go mate {within}")
-        said, at = self.wait_for(is_best, limit)
+        said, at = self.wait_for("bestmove", limit)
         if at is None:
             self.say("stop")
-            self.wait_for(is_best, HANGS)
+            self.wait_for("bestmove")
             return None, limit
         return mate_in(said), at - begun
 
     def strategy(self):
         """The proof text of the mate that was announced last."""
         self.say("strategy")
-        said, at = self.wait_for(lambda words: words == ["end"], HANGS)
-        return None if at is None else "\n".join(said) + "\n"
-
-    def close(self):
-        self.say("quit")
-        self.process.wait(timeout=HANGS)
-
-
-def is_best(words):
-    return words[:1] == ["bestmove"]
+        said, at = self.wait_for(lambda words: words == ["end"])
+        return None if at is None else "".join(said)
 
 
 def mate_in(lines):
@@ -181,7 +136,7 @@ def columns_of(given):
 
 def measure(variant, positions, given, rows):
     """Solves the positions by each column, and says how many went wrong."""
-    sessions = [Session(command, variant, threads) for _, command, threads in columns_of(given)]
+    sessions = [Solver(command, variant, threads) for _, command, threads in columns_of(given)]
     ours = [command == given.engine for _, command, _ in columns_of(given)]
     wrong = 0
     for position in positions:
@@ -216,7 +171,7 @@ def counts_of(text):
 def main():
     parser = argparse.ArgumentParser(description=__doc__, formatter_class=argparse.RawDescriptionHelpFormatter)
     parser.add_argument("file")
-    parser.add_argument("--engine", default=ENGINE)
+    parser.add_argument("--engine", default=program())
     parser.add_argument("--limit", type=float, default=60.0)
     parser.add_argument("--threads", type=counts_of, default=[1])
     parser.add_argument("--slow", action="store_true")

@@ -9,44 +9,31 @@ of these what each engine lists alone. Two differences are known, where the rule
 gates its own blocker may move here, since the king is not attacked after the move; and `extinction` has no castling here, since its
 kings are commoners and a castle asks for a king.
 """
-import os
 import random
 import subprocess
 import sys
 
-TOP = os.path.join(os.path.dirname(os.path.abspath(__file__)), "..")
-ENGINE = os.path.join(TOP, "vengine")
-OTHER = next((path for path in ("/usr/games/fairy-stockfish", "/usr/bin/fairy-stockfish") if os.path.exists(path)), None)
+from engine import OTHER, Direct, program
+
+ENGINE = program()
 VARIANTS = ["chess", "crazyhouse", "3check", "kingofthehill", "antichess", "extinction", "losalamos", "capablanca", "seirawan", "xiangqi"]
 LONGEST = 120
 
 
-class Other:
+class Other(Direct):
     """Fairy-Stockfish, asked for its legal moves by a count of one ply."""
 
     def __init__(self, variant):
-        self.process = subprocess.Popen([OTHER], stdin=subprocess.PIPE, stdout=subprocess.PIPE, text=True, bufsize=1)
+        super().__init__([OTHER])
         self.say(f"setoption name UCI_Variant value {variant}")
 
-    def say(self, line):
-        self.process.stdin.write(line + "\n")
-        self.process.stdin.flush()
-
     def moves(self, played):
-        self.say("position startpos" + (" moves " + " ".join(played) if played else ""))
-        self.say("go perft 1")
-        listed = set()
-        for line in self.process.stdout:
-            if line.startswith("Nodes searched"):
-                return listed
-            move, mark, count = line.strip().rpartition(": ")
-            if mark and count == "1":
-                listed.add(move)
-        sys.exit("moves_agree: Fairy-Stockfish ended")
-
-    def close(self):
-        self.say("quit")
-        self.process.wait()
+        self.say("position startpos" + (" moves " + " ".join(played) if played else ""), "go perft 1")
+        said, at = self.wait_for("Nodes searched")
+        if at is None:
+            sys.exit("moves_agree: Fairy-Stockfish ended")
+        counts = [line.strip().rpartition(": ") for line in said[:-1]]
+        return {move for move, mark, count in counts if mark and count == "1"}
 
 
 def ours(command, variant, played):

@@ -5,7 +5,7 @@ Usage: bench/pages.py [PAGE ..]     (README.md and each page of docs/ by default
 
 A command is a line `$ COMMAND` of a block that is indented by four spaces or fenced; it goes on after a backslash, and to the end of a
 here-document. The lines up to the next command or the end of the block are what it prints, both streams together. The commands of a page
-run in turn, in one new folder that has `vengine`, `examples` and `crates`, with `vengine` in the path; a command has 60 seconds. Blocks
+run in turn, in one new folder that has `vengine`, `examples`, `crates`, `bench` and `docs`, with `vengine` in the path; a command has 60 seconds. Blocks
 without a `$` are not run. VENGINE=FILE names another program. Prints each difference and the number of commands of each page, and ends
 with 1 where there is a difference.
 """
@@ -16,8 +16,10 @@ import subprocess
 import sys
 import tempfile
 
+from engine import program
+
 TOP = os.path.abspath(os.path.join(os.path.dirname(os.path.abspath(__file__)), ".."))
-PROGRAM = os.environ.get("VENGINE", os.path.join(TOP, "vengine"))
+PROGRAM = program()
 LONGEST = 60
 # What needs another machine or the registry of the system.
 ELSEWHERE = re.compile(r"\b(apt-get|ssh|scp|xboard_match|polyglot_game|pychess_game|scid_analysis)\b|fairy-stockfish|Fairy-Stockfish")

@@ -7,15 +7,14 @@ Wants Debian's package fairy-stockfish. The time that each program takes to star
 each of the variants that are named, it prints the count, the millions of moves a second of both, and the ratio. Ends with an error
 where the counts of a row differ. VENGINE=FILE names another program.
 """
-import os
 import subprocess
 import sys
 import tempfile
 import time
 
-TOP = os.path.join(os.path.dirname(os.path.abspath(__file__)), "..")
-ENGINE = os.environ.get("VENGINE", os.path.join(TOP, "vengine"))
-OTHER = next((path for path in ("/usr/games/fairy-stockfish", "/usr/bin/fairy-stockfish") if os.path.exists(path)), None)
+from engine import OTHER, program
+
+ENGINE = program()
 MIDDLE = "r3k2r/p1ppqpb1/bn2pnp1/3PN3/1p2P3/2N2Q1p/PPPBBPPP/R3K2R w KQkq - 0 1"
 OTHER_MIDDLE = "r4rk1/1pp1qppp/p1np1n2/2b1p1B1/2B1P1b1/P1NP1N2/1PP1QPPP/R4RK1 w - - 0 10"
 ENDING = "8/2p5/3p4/KP5r/1R3p1k/8/4P1P1/8 w - - 0 1"

@@ -28,9 +28,9 @@ import tempfile
 import threading
 import time
 
-TOP = os.path.join(os.path.dirname(os.path.abspath(__file__)), "..")
-ENGINE = os.environ.get("VENGINE", os.path.join(TOP, "vengine"))
-OTHER = next((path for path in ("/usr/games/fairy-stockfish", "/usr/bin/fairy-stockfish") if os.path.exists(path)), None)
+from engine import OTHER, TOP, Direct, Session, program
+
+ENGINE = program()
 LEAST, MOST = 6, 10
 # White does not win within the number of moves; how many expansions all its trees have, and the last of them.
 GROWTH = [
@@ -98,28 +98,16 @@ class Run:
 
 def go_mate(variant, fen, moves, limit):
     """The least number of moves that a session of UCI says, and the seconds; nothing where it took too long."""
-    session = subprocess.Popen([ENGINE], stdin=subprocess.PIPE, stdout=subprocess.PIPE, text=True)
-    session.stdin.write(f"setoption name UCI_Variant value {variant}\nposition fen {fen}\nisready\n")
-    session.stdin.flush()
-    while session.stdout.readline().strip() not in ("readyok", ""):
-        pass
-    timer = threading.Timer(limit, session.kill)
-    timer.start()
-    start = time.perf_counter()
-    session.stdin.write(f"go mate {moves}\n")
-    session.stdin.flush()
-    least, taken = None, None
-    for line in session.stdout:
-        words = line.split()
-        if "score" in words and "mate" in words:
-            least = int(words[words.index("mate") + 1])
-        if words[:1] == ["bestmove"]:
-            taken = time.perf_counter() - start
-            break
-    timer.cancel()
-    session.kill()
-    session.wait()
-    return None if taken is None else (least, taken)
+    session = Session([ENGINE], may_end=True)
+    session.say(f"setoption name UCI_Variant value {variant}", f"position fen {fen}")
+    session.ready()
+    begun = time.monotonic()
+    session.say(f"go mate {moves}")
+    said, at = session.wait_for("bestmove", limit)
+    session.process.kill()
+    session.process.wait()
+    told = [words[words.index("mate") + 1] for words in map(str.split, said) if "score" in words and "mate" in words]
+    return None if at is None else (int(told[-1]) if told else None, at - begun)
 
 
 def tell_growth(given):
@@ -157,10 +145,10 @@ def count():
     """Whether the numbers of the problems of growth are those that are counted."""
     sound = True
     with tempfile.TemporaryDirectory() as folder:
-        program = os.path.join(folder, "pn_count")
-        subprocess.run(["cc", "-O2", "-o", program, os.path.join(TOP, "bench", "pn_count.c")], check=True)
+        counter = os.path.join(folder, "pn_count")
+        subprocess.run(["cc", "-O2", "-o", counter, os.path.join(TOP, "bench", "pn_count.c")], check=True)
         for variant, fen, moves, whole, last in GROWTH:
-            words = subprocess.run([program, fen, str(moves)], capture_output=True, text=True, check=True).stdout.splitlines()[-1].split()
+            words = subprocess.run([counter, fen, str(moves)], capture_output=True, text=True, check=True).stdout.splitlines()[-1].split()
             print(f"{variant} {fen} within {moves}: {words[2]} expansions in the last tree, {words[6]} in all", flush=True)
             sound = sound and [words[1], int(words[2]), int(words[6])] == ["none", last, whole]
     return sound
@@ -199,31 +187,29 @@ def placed(rng, row):
     return men if max(abs(king[0] - lone[0]), abs(king[1] - lone[1])) > 1 else None
 
 
-class Other:
+class Other(Direct):
     """A session of Fairy-Stockfish."""
 
     def __init__(self, variant):
-        self.process = subprocess.Popen([OTHER], stdin=subprocess.PIPE, stdout=subprocess.PIPE, text=True, bufsize=1)
-        self.ask(f"setoption name UCI_Variant value {variant}\nisready", "readyok")
+        super().__init__([OTHER])
+        self.answer("readyok", f"setoption name UCI_Variant value {variant}", "isready")
 
-    def ask(self, lines, word):
-        self.process.stdin.write(lines + "\n")
-        said = []
-        for line in self.process.stdout:
-            said.append(line.strip())
-            if line.startswith(word):
-                return said
-        sys.exit("pn: fairy-stockfish ended")
+    def answer(self, wanted, *lines):
+        self.say(*lines)
+        said, at = self.wait_for(wanted)
+        if at is None:
+            sys.exit("pn: fairy-stockfish ended")
+        return said
 
     def count(self, fen):
-        return int(self.ask(f"position fen {fen}\ngo perft 1", "Nodes searched")[-1].split(":")[1])
+        return int(self.answer("Nodes searched", f"position fen {fen}", "go perft 1")[-1].split(":")[1])
 
     def is_checked(self, fen):
-        return self.ask(f"position fen {fen}\nd", "Checkers")[-1] != "Checkers:"
+        return self.answer("Checkers", f"position fen {fen}", "d")[-1].strip() != "Checkers:"
 
     def mate_in(self, fen, nodes):
         """Within how many moves it says a mate, if it does."""
-        said = self.ask(f"ucinewgame\nposition fen {fen}\ngo nodes {nodes}", "bestmove")
+        said = self.answer("bestmove", "ucinewgame", f"position fen {fen}", f"go nodes {nodes}")
         scores = [found.group(1) for found in (re.search(r" score (mate -?\d+|cp)", line) for line in said) if found]
         return int(scores[-1].split()[1]) if scores and scores[-1] != "cp" else 0
 

@@ -1,7 +1,7 @@
 #!/usr/bin/env python3
 """Refuses each allocation, read and write of a run in turn, and says what the program answers.
 
-usage: bench/refusals.py [PROGRAM] [--most N] [--jobs N] [--only WORD]    (crates/vengine/out/vengine, 200 and 1 by default)
+usage: bench/refusals.py [PROGRAM] [--most N] [--jobs N] [--only WORD]    (VENGINE or crates/vengine/out/vengine, 200 and 1 by default)
 
 A small library is built with `cc` and put under the program (LD_PRELOAD). It counts the calls of malloc, calloc, realloc, read, write,
 clock_gettime and pthread_create, and refuses the one whose number it is told; or a read or a write moves one byte. A run must then give
@@ -31,8 +31,7 @@ import sys
 import tempfile
 import time
 
-TOP = os.path.join(os.path.dirname(os.path.abspath(__file__)), "..")
-PROGRAM = os.path.join(TOP, "crates", "vengine", "out", "vengine")
+from engine import built
 
 LIBRARY = r"""
 #define _GNU_SOURCE
@@ -462,14 +461,14 @@ def kept_by(runner, words, lines):
 
 def main():
     parser = argparse.ArgumentParser(description=__doc__, formatter_class=argparse.RawDescriptionHelpFormatter)
-    parser.add_argument("program", nargs="?", default=PROGRAM)
+    parser.add_argument("program", nargs="?")
     parser.add_argument("--most", type=int, default=200)
     parser.add_argument("--jobs", type=int, default=1)
     parser.add_argument("--only", default="", help="only the runs whose words contain this one")
     given = parser.parse_args()
     wrong = 0
     with tempfile.TemporaryDirectory() as folder:
-        runner = Runner(given.program, folder)
+        runner = Runner(given.program or built(), folder)
         runs = [(words, [], [(text.encode(), None)]) for words, text in RUNS]
         runs += [(words, lines, parts_of(lines)) for words, lines in SESSIONS]
         for words, lines, parts in runs:

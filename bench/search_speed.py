@@ -18,15 +18,13 @@ All ratios are of one run. Means of ratios are geometric.
 """
 import argparse
 import math
-import os
 import re
 import shutil
 import subprocess
 import time
 
-TOP = os.path.join(os.path.dirname(os.path.abspath(__file__)), "..")
-PROGRAM = os.path.join(TOP, "crates", "vengine", "out", "vengine")
-OTHER = next((path for path in ("/usr/games/fairy-stockfish", "/usr/bin/fairy-stockfish") if os.path.exists(path)), None)
+from engine import OTHER, Direct, built
+
 POSITIONS = {
     "chess": [
         "rnbqkbnr/pppppppp/8/8/8/8/PPPPPPPP/RNBQKBNR w KQkq - 0 1",
@@ -71,16 +69,11 @@ POSITIONS = {
 }
 
 
-class Session:
+class Session(Direct):
     """A CECP session that shows its thinking."""
 
     def __init__(self, program, workers=1, before=()):
-        words = [*before, program, "--threads", str(workers), "xboard"]
-        self.process = subprocess.Popen(words, stdin=subprocess.PIPE, stdout=subprocess.PIPE, stderr=subprocess.PIPE, text=True)
-
-    def say(self, *lines):
-        self.process.stdin.write("".join(line + "\n" for line in lines))
-        self.process.stdin.flush()
+        super().__init__([*before, program, "--threads", str(workers), "xboard"], stderr=subprocess.PIPE)
 
     def think(self, variant, fen, depth):
         """The nodes of each depth, and the seconds that all took."""
@@ -98,20 +91,16 @@ class Session:
         return nodes, taken
 
     def read_to(self, first):
-        lines = []
-        while True:
-            line = self.process.stdout.readline()
-            if not line:
-                raise SystemExit(f"search_speed: the session ended: {lines}")
-            if line.startswith("Error"):
-                raise SystemExit(f"search_speed: {line.strip()}")
-            if line.startswith(first):
-                return lines
-            lines.append(line)
+        said, at = self.wait_for((first, "Error"))
+        if at is None:
+            raise SystemExit(f"search_speed: the session ended: {said}")
+        if said[-1].startswith("Error"):
+            raise SystemExit(f"search_speed: {said[-1].strip()}")
+        return said[:-1]
 
     def close(self):
         """What the process wrote beside its answers."""
-        return self.process.communicate("quit\n")[1]
+        return self.process.communicate(b"quit\n")[1].decode()
 
 
 def mean(ratios):
@@ -130,19 +119,13 @@ def least_leaves(lines, depth):
 
 def their_rate(variant, fen, seconds):
     """Nodes a second, as Fairy-Stockfish counts them."""
-    process = subprocess.Popen([OTHER], stdin=subprocess.PIPE, stdout=subprocess.PIPE, text=True)
-    lines = ["setoption name Threads value 1", f"setoption name UCI_Variant value {variant}"]
-    lines += [f"position fen {fen}", f"go movetime {max(50, round(1000 * seconds))}"]
-    process.stdin.write("".join(line + "\n" for line in lines))
-    process.stdin.flush()
-    told = ""
-    for line in process.stdout:
-        if " nodes " in line and " nps " in line:
-            told = line
-        if line.startswith("bestmove"):
-            break
-    process.communicate("quit\n")
-    return int(re.search(r" nps (\d+)", told).group(1))
+    session = Direct([OTHER])
+    session.say("setoption name Threads value 1", f"setoption name UCI_Variant value {variant}", f"position fen {fen}",
+                f"go movetime {max(50, round(1000 * seconds))}")
+    said, _ = session.wait_for("bestmove")
+    session.close()
+    told = [line for line in said if " nodes " in line and " nps " in line]
+    return int(re.search(r" nps (\d+)", told[-1]).group(1))
 
 
 def tell_trees_and_speed(program, variants, depth):
@@ -212,8 +195,9 @@ def main():
     parser.add_argument("--workers", type=int, nargs="*", default=[1, 2, 4])
     parser.add_argument("--variant", nargs="*", default=list(POSITIONS), choices=list(POSITIONS))
     parser.add_argument("--callgrind", action="store_true")
-    parser.add_argument("--program", default=PROGRAM)
+    parser.add_argument("--program")
     given = parser.parse_args()
+    given.program = given.program or built()
     tell_trees_and_speed(given.program, given.variant, given.depth)
     if given.workers:
         tell_workers(given.program, given.variant, given.depth, given.workers)

@@ -1,7 +1,7 @@
 #!/usr/bin/env python3
 """Measures a UCI session: start-up, memory, how soon `isready` is answered during a search, and how soon `stop` is.
 
-Usage: bench/session_speed.py [PROGRAM] [--times N]     (crates/vengine/out/vengine and 20 by default)
+Usage: bench/session_speed.py [PROGRAM] [--times N]     (VENGINE or crates/vengine/out/vengine, and 20, by default)
 
 Prints for each figure the median and the worst of N times: from the start of the program to `uciok`; a whole run of `reach N b1`; from
 `isready` to `readyok` in a `go infinite` of the chess start, and from `stop` to `bestmove` in it, and also where mates are being looked
@@ -9,48 +9,13 @@ for. Memory is what the kernel gives of the process (VmRSS and VmHWM in /proc), 
 with the options as they are, and with `Hash` and `MateFacts` at their ends. Times on a machine that does other work are longer.
 """
 import argparse
-import os
 import subprocess
 import time
 
-TOP = os.path.join(os.path.dirname(os.path.abspath(__file__)), "..")
-PROGRAM = os.path.join(TOP, "crates", "vengine", "out", "vengine")
+from engine import Direct, built
+
 START = "position startpos"
 MATED = "position fen r5k1/7p/pp4p1/2P5/P5qP/Q3pr2/1PPn2K1/4RB1R w - - 4 28"
-
-
-class Session:
-    def __init__(self, program):
-        self.process = subprocess.Popen([program], stdin=subprocess.PIPE, stdout=subprocess.PIPE)
-
-    def say(self, line):
-        self.process.stdin.write(line.encode() + b"\n")
-        self.process.stdin.flush()
-
-    def ask(self, line, word):
-        """Seconds until a line that begins with the word."""
-        begun = time.monotonic()
-        self.say(line)
-        while True:
-            said = self.process.stdout.readline()
-            if not said:
-                raise SystemExit(f"session_speed: the session ended after {line!r}")
-            if said.startswith(word.encode()):
-                return time.monotonic() - begun
-
-    def memory(self):
-        """What is in memory now and what was at most, in MiB."""
-        kept = {}
-        with open(f"/proc/{self.process.pid}/status") as file:
-            for line in file:
-                name, _, rest = line.partition(":")
-                if name in ("VmRSS", "VmHWM"):
-                    kept[name] = int(rest.split()[0]) / 1024
-        return kept["VmRSS"], kept["VmHWM"]
-
-    def close(self):
-        self.say("quit")
-        self.process.wait()
 
 
 def tell(name, seconds):
@@ -62,7 +27,7 @@ def starts(program, times):
     took = []
     for _ in range(times):
         begun = time.monotonic()
-        session = Session(program)
+        session = Direct([program])
         session.ask("uci", "uciok")
         took.append(time.monotonic() - begun)
         session.close()
@@ -81,7 +46,7 @@ def reaches(program, times):
 def in_search(program, times, position, line, word):
     """Seconds from a line to its answer, at different moments of a search."""
     took = []
-    session = Session(program)
+    session = Direct([program])
     for turn in range(times):
         session.say(position)
         session.ask("isready", "readyok")
@@ -95,10 +60,9 @@ def in_search(program, times, position, line, word):
 
 
 def tell_memory(program, options):
-    session = Session(program)
+    session = Direct([program])
     session.ask("uci", "uciok")
-    for name, value in options:
-        session.say(f"setoption name {name} value {value}")
+    session.say(*(f"setoption name {name} value {value}" for name, value in options))
     session.ask("isready", "readyok")
     said = [f"at first {session.memory()[0]:.0f}"]
     for line in ("go depth 6", "go mate 4"):
@@ -113,9 +77,10 @@ def tell_memory(program, options):
 
 def main():
     parser = argparse.ArgumentParser(description=__doc__, formatter_class=argparse.RawDescriptionHelpFormatter)
-    parser.add_argument("program", nargs="?", default=PROGRAM)
+    parser.add_argument("program", nargs="?")
     parser.add_argument("--times", type=int, default=20)
     given = parser.parse_args()
+    given.program = given.program or built()
     tell("from the start to uciok", starts(given.program, given.times))
     tell("a run of reach", reaches(given.program, given.times))
     tell("isready in a search", in_search(given.program, given.times, START, "isready", "readyok"))

@@ -2,8 +2,8 @@
 """Loads UCI sessions: many lines, many sessions at once, and a long search.
 
 Usage: bench/sessions_load.py [PROGRAM] [--lines N] [--sessions N] [--minutes M] [--workers W,..] [--seed N]
-       (crates/vengine/out/vengine, 10000 lines, 200 sessions, 10 minutes with 1 worker and with 4, and seed 1 by default; 0 leaves
-       a part out)
+       (VENGINE or crates/vengine/out/vengine, 10000 lines, 200 sessions, 10 minutes with 1 worker and with 4, and seed 1 by default;
+       0 leaves a part out)
 
 1. One session of generated lines: right ones, faulty ones and ones that say nothing. Each `isready`, `go`, `moves` and `status` must have
    its answer, and the session must end with status 0.
@@ -22,8 +22,8 @@ import random
 import subprocess
 import time
 
-TOP = os.path.join(os.path.dirname(os.path.abspath(__file__)), "..")
-PROGRAM = os.path.join(TOP, "crates", "vengine", "out", "vengine")
+from engine import Direct, built
+
 MOVES = ["e2e4", "e7e5", "g1f3", "b8c6", "f1b5", "a7a6", "d2d4", "e5d4", "e1g1", "e2e5", "P@e4", "x", "e7e8q"]
 VARIANTS = ["chess", "crazyhouse", "3check", "losalamos", "capablanca", "seirawan", "xiangqi", "nothing", ""]
 FENS = ["8/8 w - - 0 1", "7k/R7/5K2/8/8/8/8/8 w - - 0 1", "k7/8/8/8/8/8/1q6/K7 w - - 0 1", "7k/8/5KQ1/8/8/8/8/8 w - - 99 80", ""]
@@ -75,37 +75,23 @@ def long_session(program, count, seed):
 
 
 def many_sessions(program, count):
-    text = "uci\nsetoption name Hash value 1\nsetoption name MateFacts value 64\nposition startpos\ngo depth 3\n"
     begun = time.monotonic()
-    held = [subprocess.Popen([program], stdin=subprocess.PIPE, stdout=subprocess.PIPE) for _ in range(count)]
+    held = [Direct([program]) for _ in range(count)]
     for session in held:
-        session.stdin.write(text.encode())
-        session.stdin.flush()
+        session.say("uci", "setoption name Hash value 1", "setoption name MateFacts value 64", "position startpos", "go depth 3")
     answers = collections.Counter()
     for session in held:
-        said = b""
-        for line in session.stdout:
-            said += line
-            if line.startswith(b"bestmove"):
-                break
-        session.stdin.write(b"position fen 7k/R7/5K2/8/8/8/8/8 w - - 0 1\ngo mate 2\n")
-        session.stdin.flush()
-        answers[said] += 1
+        said, _ = session.wait_for("bestmove")
+        session.say("position fen 7k/R7/5K2/8/8/8/8/8 w - - 0 1", "go mate 2")
+        answers["".join(said)] += 1
     for session in held:
-        ends = session.stdout.readline() + session.stdout.readline()
-        session.stdin.write(b"quit\n")
-        session.stdin.close()
-        answers[(session.wait(), ends + session.stdout.read())] += 1
+        said, _ = session.wait_for("bestmove")
+        answers[(session.close(), "".join(said) + session.process.stdout.read().decode())] += 1
     took = time.monotonic() - begun
-    expected = (0, b"info depth 3 score mate 2 pv f6g6\nbestmove f6g6\n")
+    expected = (0, "info depth 3 score mate 2 pv f6g6\nbestmove f6g6\n")
     wrong = answers[expected] != count or len(answers) != 2
     print(f"{count} sessions at once: {took:.1f} s; {'answers that differ' if wrong else 'all say the same'}", flush=True)
     return wrong
-
-
-def memory(process):
-    with open(f"/proc/{process.pid}/status") as file:
-        return next(int(line.split()[1]) / 1024 for line in file if line.startswith("VmRSS"))
 
 
 def spent(path):
@@ -115,33 +101,22 @@ def spent(path):
     return int(ran) / 1e6, int(waited) / 1e6
 
 
-def ask(process, line, word):
-    """The milliseconds until a line that begins with the word."""
-    begun = time.monotonic()
-    process.stdin.write(line.encode() + b"\n")
-    process.stdin.flush()
-    for said in process.stdout:
-        if said.startswith(word):
-            return 1000 * (time.monotonic() - begun)
-    raise SystemExit(f"sessions_load: the session ended after {line!r}")
-
-
 class Answers:
     """How soon a session answers, and where that time went: what its first thread ran, and what its first thread, the reading one and
     this script waited for a processor, each in milliseconds."""
 
-    def __init__(self, process):
-        self.process = process
-        self.threads = sorted(int(task) for task in os.listdir(f"/proc/{process.pid}/task"))[:2]
+    def __init__(self, session):
+        self.session = session
+        self.threads = sorted(int(task) for task in os.listdir(f"/proc/{session.process.pid}/task"))[:2]
         self.rows = []
 
     def counts(self):
-        own = [spent(f"{self.process.pid}/task/{thread}") for thread in self.threads] + [spent("thread-self")]
+        own = [spent(f"{self.session.process.pid}/task/{thread}") for thread in self.threads] + [spent("thread-self")]
         return [own[0][0]] + [waited for _, waited in own]
 
     def ask(self, line, word):
         before = self.counts()
-        took = ask(self.process, line, word)
+        took = 1000 * self.session.ask(line, word)
         self.rows.append([took] + [after - old for old, after in zip(before, self.counts())])
 
     def tell(self):
@@ -156,19 +131,17 @@ class Answers:
 
 
 def long_search(program, minutes, workers):
-    process = subprocess.Popen([program, "--threads", str(workers)], stdin=subprocess.PIPE, stdout=subprocess.PIPE)
-    ask(process, "uci", b"uciok")
-    at_first, answers = memory(process), Answers(process)
-    process.stdin.write(b"position startpos\ngo infinite\n")
+    session = Direct([program, "--threads", str(workers)])
+    session.ask("uci", "uciok")
+    at_first, answers = session.memory()[0], Answers(session)
+    session.say("position startpos", "go infinite")
     ends = time.monotonic() + 60 * minutes
     while time.monotonic() < ends:
         time.sleep(1)
-        answers.ask("isready", b"readyok")
-    then = memory(process)
-    stopped = ask(process, "stop", b"bestmove")
-    process.stdin.write(b"quit\n")
-    process.stdin.flush()
-    status = process.wait()
+        answers.ask("isready", "readyok")
+    then = session.memory()[0]
+    stopped = 1000 * session.ask("stop", "bestmove")
+    status = session.close()
     print(f"a search of {minutes:g} minutes, workers {workers}: stop after {stopped:.1f} ms; memory {at_first:.0f} MiB at first, "
           f"{then:.0f} MiB then; status {status}", flush=True)
     return answers.tell() > 0 or status != 0
@@ -176,13 +149,14 @@ def long_search(program, minutes, workers):
 
 def main():
     parser = argparse.ArgumentParser(description=__doc__, formatter_class=argparse.RawDescriptionHelpFormatter)
-    parser.add_argument("program", nargs="?", default=PROGRAM)
+    parser.add_argument("program", nargs="?")
     parser.add_argument("--lines", type=int, default=10000)
     parser.add_argument("--sessions", type=int, default=200)
     parser.add_argument("--minutes", type=float, default=10)
     parser.add_argument("--workers", default="1,4")
     parser.add_argument("--seed", type=int, default=1)
     given = parser.parse_args()
+    given.program = given.program or built()
     wrong = given.lines > 0 and long_session(given.program, given.lines, given.seed)
     wrong = (given.sessions > 0 and many_sessions(given.program, given.sessions)) or wrong
     for workers in given.workers.split(","):

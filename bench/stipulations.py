@@ -4,7 +4,7 @@
 Usage: bench/stipulations.py [--program FILE] [--older FILE] [--seconds N] [--only WORD]
        bench/stipulations.py --find KIND MOVES COUNT [--seed N] [--program FILE]
 
-  --program   the program that is measured (by default the one in crates/vengine/out)
+  --program   the program that is measured (by default VENGINE, or the one in crates/vengine/out)
   --older     another build, which is measured on the same positions
   --seconds   how long the plain search here, and the older build, may take for one position (30 by default)
   --only      only rows that begin so, as 'help 2'
@@ -22,8 +22,8 @@ import subprocess
 import sys
 import time
 
-TOP = os.path.join(os.path.dirname(os.path.abspath(__file__)), "..")
-PROGRAM = os.path.join(TOP, "crates", "vengine", "out", "vengine")
+from engine import TOP, built
+
 POSITIONS = os.path.join(TOP, "bench", "stipulations.txt")
 
 # ---- chess by its rules, but for castling, which no position here allows
@@ -372,13 +372,14 @@ def measure(options, kind, moves, fen):
 
 def main():
     parser = argparse.ArgumentParser()
-    parser.add_argument("--program", default=PROGRAM)
+    parser.add_argument("--program")
     parser.add_argument("--older")
     parser.add_argument("--seconds", type=float, default=30)
     parser.add_argument("--only", default="")
     parser.add_argument("--find", nargs=3)
     parser.add_argument("--seed", type=int, default=20261129)
     options = parser.parse_args()
+    options.program = options.program or built()
     if options.find:
         kind, moves, count = options.find
         return find(options.program, kind, int(moves), int(count), options.seed)

@@ -7,13 +7,13 @@ FILE has a problem a line, as the command `suite` reads it: a name of a variant,
 to 200 or PROBLEMS. VARIANTS is a file of variants that they need. For each number of threads it prints the time, and how many times as fast that is as one
 thread. Ends with an error where the report is not the one of one thread.
 """
-import os
 import subprocess
 import sys
 import time
 
-TOP = os.path.join(os.path.dirname(os.path.abspath(__file__)), "..")
-ENGINE = os.path.join(TOP, "vengine")
+from engine import program
+
+ENGINE = program()
 THREADS = [1, 2, 4]
 PROBLEMS = 200
 
