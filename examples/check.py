@@ -7,8 +7,7 @@ Beside NAME.ini lies NAME.txt. A line `$ WORDS` in it is a run with `--variants 
 after it are its input, and the other lines are what it prints. A line `% WORDS` is a search: a session with that file
 is given the variant, the position and the moves of the lines `> TEXT` after it, and `go WORDS`; it prints what is said
 of mates, without the move that comes first, since several may do, and then what `check`, without the file, says of the
-strategy. Each file has both, and each prints what it should, and so does each text of FILE_FAULTS; else the status is
-1.
+strategy. Each prints what it should, and so does each text of FILE_FAULTS; else the status is 1.
 """
 import glob
 import os
