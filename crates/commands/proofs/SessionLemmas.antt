@@ -259,6 +259,8 @@ module _ {State : Type 0} (p : Protocol State) (start : Option State) (words : L
           few = subst (λ (x : List Read). length s.lines ≤ lines_asked (to_do words) x s.lines) all (omega (arith, needs, few));
           allowed = subst (λ (x : List Read). May Untold words contents x s.lines s.readings 0 (s.front ++ s.back)) all
               (may_session Untold contents (s.reads ++ s.further) s.lines s.readings (s.front ++ s.back) so.state so.started s.allowed);
+          opened = λ four_is. subst (λ (c : Option Asked). run.OpenedAt c (first ++ s.reads)) (sym is)
+              (record { first = first; later = s.reads; reads_are = refl; accepted = accepted });
           begun = λ four_is. subst (λ (x : List Read). MaySpeak (to_do words) Untold contents x s.lines s.readings 0 (s.front ++ s.back)) all
               (spoke_session Untold contents (s.reads ++ s.further) s.lines s.readings (s.front ++ s.back) so.state so.started s.allowed);
         }
@@ -415,6 +417,7 @@ module _ {S K C F : Type 0} {left : S → Option (List ℕ)} {taken : K → Opti
         after = after;
         few = omega arith;
         allowed = may;
+        opened = λ four_is. absurd (omega (arith, four_is, seven_is));
         begun = λ four_is. absurd (omega (arith, four_is, seven_is));
       }
 
@@ -440,6 +443,7 @@ module _ {S K C F : Type 0} {left : S → Option (List ℕ)} {taken : K → Opti
         few = omega arith;
         allowed = subst (λ (x : List Read). May Untold words (contents f) x [] [] answer.status (wrote.front ++ wrote.back)) (sym (append-nil looked.reads))
             (subst (λ (x : List ℕ). May Untold words (contents f) looked.reads [] [] answer.status x) wrote.whole may);
+        opened = λ four_is. absurd (omega (arith, four_is, five_is));
         begun = λ four_is. absurd (omega (arith, four_is, five_is));
       }
 

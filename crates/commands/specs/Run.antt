@@ -87,9 +87,21 @@ pub record ShotPart (moved : List Line → List ℕ → List ℕ → Type 0) (re
       ⊎ Decide lines rest (λ input. Shot words (reads ++ further) input status (written ++ back))
   pub allowed : Shot words (reads ++ further) (lines ++ rest) status (written ++ back)
 
+-- the first of these reads found the file of variants that is asked for, if one is, and it was taken
+pub record HasOpened (a : Asked) (reads : List Read) : Type 0 where
+  pub first : List Read
+  pub later : List Read
+  pub reads_are : reads ≡ first ++ later
+  pub accepted : Accepts a.variants first
+
+abbrev pub OpenedAt : Option Asked → List Read → Type 0
+OpenedAt None reads = ⊥
+OpenedAt (Some a) reads = HasOpened a reads
+
 -- A run of a session that ended with this status wrote a front part of what it may write to the lines that were taken,
 -- and to no more: as if the input ended after them, and with any answers to its polls. A run that is refused before its
--- session takes no line, and so where the source failed the session had begun, and what was written is the session's.
+-- session takes no line. So where the source failed, the file of variants had been read and taken, if one is named, the
+-- session had begun, and what was written is the session's.
 pub record SpokePart (moved : List Line → List ℕ → List ℕ → Type 0) (read : List Read → Type 0)
     (contents : Option Contents) (words : List (List ℕ)) (result : ℕ) : Type 0 where
   pub lines : List Line
@@ -104,6 +116,7 @@ pub record SpokePart (moved : List Line → List ℕ → List ℕ → Type 0) (r
   pub after : Further contents further
   pub few : length lines ≤ lines_asked (to_do words) (reads ++ further) lines
   pub allowed : May Untold words contents (reads ++ further) lines readings status (written ++ back)
+  pub opened : result ≡ 4 → OpenedAt (to_do words) reads
   pub begun : result ≡ 4
       → MaySpeak (to_do words) Untold contents (reads ++ further) lines readings status (written ++ back)
 
