@@ -98,10 +98,10 @@ pub unstopped_more : (dialect : Dialect) (a b : List Event) → AreUnstopped dia
 unstopped_more dialect [] b h k = k
 unstopped_more dialect (event ∷ a) b h k = (h.0, unstopped_more dialect a b h.1 k)
 
--- the reading since the last text
+-- the reading since the last text and the last line
 pub clock_left : Option ℕ → List Event → Option ℕ
 clock_left last [] = last
-clock_left last (Hears line ∷ events) = clock_left last events
+clock_left last (Hears line ∷ events) = clock_left None events
 clock_left last (Says text ∷ events) = clock_left None events
 clock_left last (Reads reading ∷ events) = clock_left (Some reading) events
 clock_left last (Opens read ∷ events) = clock_left last events
@@ -109,7 +109,7 @@ clock_left last (Opens read ∷ events) = clock_left last events
 pub clocked_append : (last : Option ℕ) (a b : List Event) → clocked last (a ++ b) ≡ clocked last a ++ clocked (clock_left last a) b
 unfolding clocked clock_left
 clocked_append last [] b = refl
-clocked_append last (Hears line ∷ a) b = clocked_append last a b
+clocked_append last (Hears line ∷ a) b = clocked_append None a b
 clocked_append last (Says text ∷ a) b = ap (λ more. last ∷ more) (clocked_append None a b)
 clocked_append last (Reads reading ∷ a) b = clocked_append (Some reading) a b
 clocked_append last (Opens read ∷ a) b = clocked_append last a b
@@ -118,7 +118,7 @@ clocked_append last (Opens read ∷ a) b = clocked_append last a b
 pub clocked_listens : (dialect : Dialect) (last : Option ℕ) (events : List Event) → Listens dialect events → clocked last events ≡ []
 unfolding clocked
 clocked_listens dialect last [] h = refl
-clocked_listens dialect last (Hears line ∷ events) h = clocked_listens dialect last events h.1
+clocked_listens dialect last (Hears line ∷ events) h = clocked_listens dialect None events h.1
 clocked_listens dialect last (Says text ∷ events) h = absurd h.0
 clocked_listens dialect last (Reads reading ∷ events) h = clocked_listens dialect (Some reading) events h.1
 clocked_listens dialect last (Opens read ∷ events) h = absurd h.0

@@ -10,10 +10,10 @@ abbrev pub IsStopped : Dialect → List Line → Type 0
 IsStopped dialect [] = Unit {0}
 IsStopped dialect (line ∷ lines) = stops dialect line ≡ true
 
--- the last reading before each text that is said, since the one before it
+-- the last reading before each text that is said, since the text before it and since the last line that was heard
 unfoldable pub clocked : Option ℕ → List Event → List (Option ℕ)
 clocked last [] = []
-clocked last (Hears line ∷ events) = clocked last events
+clocked last (Hears line ∷ events) = clocked None events
 clocked last (Says text ∷ events) = last ∷ clocked None events
 clocked last (Reads reading ∷ events) = clocked (Some reading) events
 clocked last (Opens read ∷ events) = clocked last events

@@ -74,8 +74,8 @@ posted : Posts true (Reads 1000 ∷ Reads 1239 ∷ Says (codes "1 12 23 5 g6g7\n
 unfolding thinking_opened
 posted = (refl, refl)
 
--- a line that is heard between takes nothing from that
-posted_after_a_line : Posts true (Reads 1000 ∷ Reads 1239 ∷ Hears (Text []) ∷ Says (codes "1 12 23 5 g6g7\n") ∷ []) (report_at 1239 ∷ [])
+-- a line that is heard before that reading takes nothing from it
+posted_after_a_line : Posts true (Reads 1000 ∷ Hears (Text []) ∷ Reads 1239 ∷ Says (codes "1 12 23 5 g6g7\n") ∷ []) (report_at 1239 ∷ [])
 unfolding thinking_opened
 posted_after_a_line = (refl, refl)
 
@@ -88,6 +88,11 @@ first_clock (Some reading ∷ more) = reading
 posted_early : clocked None (Reads 1000 ∷ Reads 1239 ∷ Says [] ∷ []) ≡ Some 1000 ∷ [] → ⊥
 unfolding thinking_opened
 posted_early h = let wrong : 1239 ≡ 1000 = ap first_clock h in absurd (omega (arith, wrong))
+
+-- near miss: a reading from before a line that was heard while the depth was searched
+read_too_soon : clocked None (Reads 1000 ∷ Reads 1239 ∷ Hears (Text []) ∷ Says [] ∷ []) ≡ Some 1239 ∷ [] → ⊥
+unfolding thinking_opened
+read_too_soon h = let wrong : 0 ≡ 1239 = ap first_clock h in absurd (omega (arith, wrong))
 
 -- near miss: two lines after one reading, whatever the reports are
 two_at_once : (one two : List ℕ) (first second : Report) → Posts true (Reads 1000 ∷ Says one ∷ Says two ∷ []) (first ∷ second ∷ []) → ⊥
