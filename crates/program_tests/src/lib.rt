@@ -21,3 +21,5 @@ mod sessions;
 mod stipulations;
 #[cfg(test)]
 mod strategies;
+#[cfg(test)]
+mod worked;

@@ -117,6 +117,10 @@ fn expect_spoilt<R: Abort + AllocGlobal + Threads + Wait + Sync>(
 fn spoilt_strategies_are_refused(rt: HostRuntime) {
     let reply = "error Verdict 3 MissingReply 1 h8g8\n";
     expect_spoilt(&rt, "edge h8g8 2\n", "", reply);
+    let rank = "error Verdict 4 BadRank 0\n";
+    expect_spoilt(&rt, "node 0 2", "node 0 1", rank);
+    let counter = "error Verdict 5 BadCounter 0\n";
+    expect_spoilt(&rt, "b - - 1 1", "b - - 0 1", counter);
     let nodes = "error StrategyFault 5 BadNumber 11\n";
     expect_spoilt(&rt, "nodes 4", "nodes 5", nodes);
     let more = "error StrategyFault 6 Ended 12\n";
