@@ -48,22 +48,20 @@ impl<'h> Desk<'h> {
         self.hints.get(key).map_or(NO_SLOT, |hint| hint.slot)
     }
 
-    /// Leaves in the table what a search came to, and remembers a move that cut.
-    pub(crate) fn leave(&mut self, key: u64, depth: u8, ply: u8, slot: Slot, best: i32, beta: i32)
+    /// Leaves in the table what the search of a position came to, so many plies from the root, and remembers its move
+    /// where that cut.
+    pub(crate) fn leave(&mut self, p: &Position, key: u64, ply: u8, hint: Hint, cuts: bool)
         ensures { self.new.waiting.items ≡ self.old.waiting.items }
     {
-        let bound = best.clamp(-32_001, 32_001) as i16;
-        self.hints.put(key, Hint { depth, slot, bound });
-        if best >= beta {
-            self.order.remember(slot, ply, depth);
+        self.hints.put(key, hint);
+        if cuts {
+            self.order.remember(p, hint.slot, ply, hint.depth);
         }
     }
 
     /// Leaves in the table what a root came to.
     pub(crate) fn leave_root(&self, key: u64, depth: u8, best: &Best) {
-        let bound = best.value.clamp(-32_001, 32_001) as i16;
-        let slot = slot_of(&best.chosen);
-        let hint = Hint { depth, slot, bound };
+        let hint = hint_of(depth, slot_of(&best.chosen), best.value);
         self.hints.put(key, hint);
         self.hints.put(root_key(key, depth), hint);
     }
@@ -102,7 +100,7 @@ impl<'h> Desk<'h> {
             self.listed.items.as_slice(),
             &self.order,
             worths,
-            board.position(),
+            board,
             hint,
             ply,
         )?;
@@ -175,6 +173,12 @@ impl<'h> Desk<'h> {
     }
 }
 
+/// What is left of a search at a depth: the move, and the value as far as it has room.
+pub(crate) fn hint_of(depth: u8, slot: Slot, value: i32) -> Hint {
+    let bound = value.clamp(-32_001, 32_001) as i16;
+    Hint { depth, slot, bound }
+}
+
 fn has_moves(list: &MoveList) -> bool
     ensures { result ≡ not (length list.now == 0) }
 {
@@ -187,14 +191,14 @@ fn push_all(
     listed: &[Move],
     order: &Order,
     worths: &Worths,
-    p: &Position,
+    board: &Board,
     hint: Slot,
     ply: u8,
 ) -> Result<(), AllocError>
     ensures { OnOk result (Copies listed.now waiting.old.items waiting.new.items) }
 {
     for m in listed {
-        let score = order.score(worths, p, m, hint, ply);
+        let score = order.score(worths, board, m, hint, ply);
         waiting.push(Candidate { chosen: *m, score })?;
     }
     Ok(())

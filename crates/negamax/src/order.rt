@@ -3,18 +3,20 @@ use evaluation::{Worths, evaluate};
 use foundation::Memory;
 use hint_table::{HintTable, NO_SLOT, SLOTS, Slot, slot_of};
 use playing::Board;
-use rules_model::{Move, Position, Promo, cell_at};
+use rules_model::{Move, Position, Promo, Square, cell_at};
 use std::alloc::Global;
 
 /// How many plies from the root killers are kept.
 const PLIES: usize = 72;
 
-/// What the groups of moves are scored from, each above all scores of the next one.
+/// What the groups of moves are scored from, each above all scores of the next one: captures that lose a piece are last.
 const HINTED: u32 = 1 << 31;
 
 const TAKING: u32 = 1 << 30;
 
 const KILLING: u32 = 1 << 29;
+
+const QUIET: u32 = 1 << 23;
 
 /// The most that history counts of a move.
 const MOST_HISTORY: u32 = 1 << 28;
@@ -34,9 +36,10 @@ impl Order {
         })
     }
 
-    /// Remembers that the move cut so many plies from the root, with so many plies left.
-    pub fn remember(&mut self, slot: Slot, ply: u8, depth: u8) {
-        if slot == NO_SLOT {
+    /// Remembers that the move of the position cut so many plies from the root, with so many plies left. A capture is
+    /// not remembered: it is tried early anyway, and would push out the quiet moves.
+    pub fn remember(&mut self, p: &Position, slot: Slot, ply: u8, depth: u8) {
+        if slot == NO_SLOT || takes(p, slot) {
             return;
         }
         if let Some(killers) = self.killers.get_mut(ply as usize) {
@@ -54,7 +57,7 @@ impl Order {
     /// The score of a move that does not capture.
     fn quiet_score(&self, slot: Slot, ply: u8) -> u32 {
         if slot == NO_SLOT {
-            return 0;
+            return QUIET;
         }
         if let Some(killers) = self.killers.get(ply as usize) {
             if killers[0] == slot {
@@ -64,23 +67,52 @@ impl Order {
                 return KILLING;
             }
         }
-        self.history.get(slot as usize).copied().unwrap_or(0)
+        let cuts = self.history.get(slot as usize).copied().unwrap_or(0);
+        QUIET.saturating_add(cuts)
     }
 
     /// The score of a move so many plies from the root, where a hint names a move.
-    pub fn score(&self, worths: &Worths, p: &Position, m: &Move, hint: Slot, ply: u8) -> u32 {
+    pub fn score(&self, worths: &Worths, board: &Board, m: &Move, hint: Slot, ply: u8) -> u32 {
         let slot = slot_of(m);
         if slot != NO_SLOT && slot == hint {
             return HINTED;
         }
-        match taking_score(worths, p, m) {
+        match taking_score(worths, board.position(), m) {
+            Some(score) if loses_a_piece(worths, board, m) => score,
             Some(score) => TAKING.saturating_add(score),
             None => self.quiet_score(slot, ply),
         }
     }
 }
 
-/// The most valuable victim first, and the least valuable piece that takes it.
+/// Whether the move of the slot goes to a square on which a piece is.
+fn takes(p: &Position, slot: Slot) -> bool {
+    cell_at(&p.cells, Square((slot & 127) as u8)).is_some()
+}
+
+/// How much more than its victim a piece has to be worth to be lost for it.
+const LEAST_LOSS: u32 = 40;
+
+/// Whether a piece takes one that is worth less, on a square that the other side attacks.
+fn loses_a_piece(worths: &Worths, board: &Board, m: &Move) -> bool {
+    let Move::Go { from, to, .. } = *m else {
+        return false;
+    };
+    let p = board.position();
+    let victim = worth_on(worths, p, to);
+    let own = worth_on(worths, p, from);
+    victim.saturating_add(LEAST_LOSS) < own && board.tables().attacked(p, to, p.side.other())
+}
+
+/// What the piece on the square is worth by its kind: 0 where there is none, and for the king.
+fn worth_on(worths: &Worths, p: &Position, at: Square) -> u32 {
+    cell_at(&p.cells, at).map_or(0, |cell| u32::from(worths.kind(cell.kind)))
+}
+
+/// What the king counts as where it takes, and what a piece counts as at most.
+const DEAREST: u32 = 2047;
+
+/// The most valuable victim first, and the least valuable piece that takes it; the king last.
 pub(crate) fn taking_score(worths: &Worths, p: &Position, m: &Move) -> Option<u32> {
     let Move::Go {
         from,
@@ -91,13 +123,16 @@ pub(crate) fn taking_score(worths: &Worths, p: &Position, m: &Move) -> Option<u3
     else {
         return None;
     };
-    let victim = cell_at(&p.cells, to).map(|cell| u32::from(worths.kind(cell.kind)));
     let raised = if promo == Promo::Stays { 0 } else { 1 << 10 };
-    if victim.is_none() && raised == 0 {
+    if raised == 0 && cell_at(&p.cells, to).is_none() {
         return None;
     }
-    let own = cell_at(&p.cells, from).map_or(0, |cell| u32::from(worths.kind(cell.kind)));
-    Some((victim.unwrap_or(0) + raised) * 16 + (8192 - own.min(8192)) / 512)
+    let own = match worth_on(worths, p, from) {
+        0 => DEAREST,
+        own => own.min(DEAREST),
+    };
+    let victim = worth_on(worths, p, to).min(1 << 13);
+    Some((victim + raised) * 64 + (DEAREST - own) / 16)
 }
 
 /// The slot of the move, where it scored above the floor: the other side answers it by this. Else the slot so far.

@@ -8,7 +8,7 @@ ghost use Rattle.watching.specs.declared.halt.Halt.{Halt};
 ghost use Rattle.negamax.specs.Windows.{Bounds};
 
 use crate::candidates::take_best;
-use crate::desk::Desk;
+use crate::desk::{Desk, hint_of};
 use crate::ends::{end_where, play};
 use crate::order::better;
 use crate::quiet::search_quiet;
@@ -77,6 +77,8 @@ pub(crate) fn search<W: Watch>(
         best = raised(best, found);
     }
     desk.waiting.truncate(first);
-    desk.leave(key, depth, ply, slot, best, window.beta);
+    let hint = hint_of(depth, slot, best);
+    let cuts = best >= window.beta;
+    desk.leave(line.board().position(), key, ply, hint, cuts);
     Ok(best)
 }
