@@ -1,17 +1,17 @@
 #!/usr/bin/env python3
-"""Writes the column 'depends on' of the table of crates in docs/ARCHITECTURE.md as crates.txt has it.
+"""Writes the last column, 'depends on', of the tables of crates in docs/ARCHITECTURE.md as crates.txt has it.
 
 Usage: bench/crate_table.py [--check]
 
-With --check it writes nothing. It ends with an error where a crate has no row or a row no crate, and with --check also where a row
-differs from crates.txt.
+With --check it writes nothing. It ends with an error where a crate has no row or a row no crate, where a crate stands above one that it
+depends on, and with --check also where a row differs from crates.txt.
 """
 import os
 import sys
 
 TOP = os.path.join(os.path.dirname(os.path.abspath(__file__)), "..")
 PAGE = os.path.join(TOP, "docs", "ARCHITECTURE.md")
-HEAD = "| crate | does | depends on |"
+HEAD = "| crate | does | its contract for the layers above | depends on |"
 
 
 def crates():
@@ -34,12 +34,18 @@ def rewritten(lines, below):
         name = cells[1].strip() if inside else ""
         if name in below:
             named.append(name)
-            cells[3] = f" {', '.join(below[name])} " if below[name] else " "
+            cells[4] = f" {', '.join(below[name])} " if below[name] else " "
             line = "|".join(cells)
         elif inside and name not in ("crate", "---"):
             sys.exit(f"crate_table: {name} has a row and is no crate")
         rows.append(line)
     return rows, named
+
+
+def out_of_order(named, below):
+    """Each crate whose row stands above that of one that it depends on."""
+    place = {name: i for i, name in enumerate(named)}
+    return [name for name in named if any(place[name] < place[other] for other in below[name] if other in place)]
 
 
 def main():
@@ -50,6 +56,9 @@ def main():
     lacking = [name for name in below if name not in named]
     if lacking:
         sys.exit(f"crate_table: no row for {' '.join(lacking)}")
+    early = out_of_order(named, below)
+    if early:
+        sys.exit(f"crate_table: above a crate that they depend on: {' '.join(early)}")
     if "--check" in sys.argv[1:]:
         differing = [row.split("|")[1].strip() for row, line in zip(rows, lines) if row != line]
         if differing:
