@@ -83,4 +83,5 @@ def main():
             print(f"    after {' '.join(played) or 'no move'}: here alone {' '.join(here) or '-'}; there alone {' '.join(there) or '-'}")
 
 
-main()
+if __name__ == "__main__":
+    main()
