@@ -16,10 +16,9 @@ import subprocess
 import sys
 import tempfile
 
-from engine import program
+from programs import TOP, find_program
 
-TOP = os.path.abspath(os.path.join(os.path.dirname(os.path.abspath(__file__)), ".."))
-PROGRAM = program()
+PROGRAM = find_program()
 LONGEST = 60
 # What needs another machine or the registry of the system.
 ELSEWHERE = re.compile(r"\b(apt-get|ssh|scp|xboard_match|polyglot_game|pychess_game|scid_analysis)\b|fairy-stockfish|Fairy-Stockfish")
