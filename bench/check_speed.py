@@ -15,9 +15,9 @@ import subprocess
 import sys
 import tempfile
 
-from engine import program
+from programs import find_program
 
-ENGINE = program()
+ENGINE = find_program()
 # Runs a program and then says its seconds and its kibibytes, which have at least this small program's own: in a child of the process that
 # made the text they would have the text.
 MEASURED = """

@@ -13,7 +13,7 @@ import sys
 import tempfile
 import time
 
-import engine
+from programs import find_program
 
 LETTERS = "abcdefghijlmnopqrstuvwxy"
 WORDS = "NN WW FF R B Q mRcpR mBcpB pR pB gR gB gQ nN nA nD nNF RN BN mNcB mRcN WFDA C WnN".split()
@@ -45,7 +45,7 @@ def perft(program, file, plies):
 
 
 def main():
-    programs = [os.path.abspath(word) for word in sys.argv[1:]] or [engine.program()]
+    programs = [os.path.abspath(word) for word in sys.argv[1:]] or [find_program()]
     best = [None] * len(programs)
     with tempfile.NamedTemporaryFile("w", suffix=".ini") as file:
         file.write(variant())

@@ -8,9 +8,9 @@ import sys
 import tempfile
 import time
 
-from engine import program
+from programs import find_program
 
-ENGINE = program()
+ENGINE = find_program()
 SECTIONS = 512
 START = "startFen = 8/8/8/8/8/8/8/8 w - - 0 1\n"
 

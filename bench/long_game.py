@@ -12,7 +12,7 @@ import sys
 import tempfile
 import time
 
-import engine
+from programs import find_program
 
 LETTERS = "abcdefghijlmnopqrstuvwxy"
 WORDS = "W F N R B D A L H mRcpR WF RN BN nN gR pB C Z mNcB fsW Q RF BW G".split()
@@ -45,7 +45,7 @@ def status(program, file, plies):
 
 
 def main():
-    program = os.path.abspath(sys.argv[1]) if len(sys.argv) > 1 else engine.program()
+    program = os.path.abspath(sys.argv[1]) if len(sys.argv) > 1 else find_program()
     text, hand = variant()
     ranks = "/".join(["k10a"] + ["12"] * 8 + ["K10A"])
     wanted = {

@@ -1,5 +1,5 @@
 #!/usr/bin/env python3
-"""Plays a match between two UCI engines, with Vengine's own commands as the arbiter.
+"""Plays a match between two UCI engines, with a session of Vengine as the arbiter.
 
 Usage: bench/match.py FIRST SECOND [--variant NAME] [--variants FILE] [--games N] [--movetime MS | --clock MS+MS] [--plies N] [--seed N]
                       [--grace MS]
@@ -7,7 +7,7 @@ Usage: bench/match.py FIRST SECOND [--variant NAME] [--variants FILE] [--games N
 FIRST and SECOND are the commands of two engines, as `./vengine` or `/usr/games/fairy-stockfish`. By default they play 100 games of chess
 with `go movetime 100`; `--clock 60000+600` gives each side a clock by the wall, with an increment. Each pair of games begins with the
 same four random moves, and colours change. Both engines are given the file of variants by their option VariantPath. After each move
-`status` says how the game stands; a move that `moves` does not list loses, and so does a move that comes later than its time and the
+that session says how the game stands; a move that it does not list loses, and so does a move that comes later than its time and the
 grace, a tenth of a second, or not within 20 seconds; on a machine that does much else give more. Prints a line for each game, and the
 moves of one that did not end by the rules; a line for each move that came more than a tenth of a second after its time, with how much of
 that the threads of the engine and this script waited for a processor, by the kernel's count (/proc/PID/schedstat), and the load; then the
@@ -20,24 +20,14 @@ import glob
 import os
 import random
 import shlex
-import subprocess
 import sys
 import time
 
-from engine import Session, program
+import programs  # noqa: F401 (the way to vengine)
+import vengine
 
-ARBITER = [program()]
 LATE = 0.1
 HANGS = 20.0
-
-
-def ask(command, variant, played):
-    """What the arbiter prints of a game."""
-    text = f"{variant}\nstartpos\n{' '.join(played)}\n"
-    done = subprocess.run([*ARBITER, command], input=text, capture_output=True, text=True)
-    if done.returncode != 0:
-        sys.exit(f"match: {command} of {variant} after {' '.join(played)}: {done.stdout}")
-    return done.stdout.splitlines()
 
 
 def waited(pid):
@@ -52,34 +42,33 @@ def waited(pid):
     return total / 1e9
 
 
-class Engine(Session):
+class Player(vengine.Lines):
     """A UCI engine that plays, with its slowest move, how many it made and how many were late. One that ends is one that hangs."""
 
     def __init__(self, command, variant, path, grace):
-        super().__init__(shlex.split(command), HANGS, may_end=True)
+        super().__init__(shlex.split(command), HANGS)
         self.name = command
         self.grace, self.slowest, self.moves, self.late = grace, 0.0, 0, 0
-        self.say("uci")
-        self.wait_for("uciok")
+        self.ask("uci", "uciok")
         if path:
             self.say(f"setoption name VariantPath value {path}")
         self.say(f"setoption name UCI_Variant value {variant}")
-        self.ready()
+        self.ask("isready", "readyok")
 
     def new_game(self):
         self.say("ucinewgame")
-        self.ready()
+        self.ask("isready", "readyok")
 
     def move(self, played, go, limit):
         """The move that it chooses and how long it took, or why there is none."""
         self.say("position startpos" + (" moves " + " ".join(played) if played else ""))
         waits = [waited(pid) for pid in (self.process.pid, "self")]
         begun = time.monotonic()
-        self.say(go)
-        said, at = self.wait_for("bestmove", max(limit, HANGS))
-        if at is None:
+        try:
+            said = self.ask(go, "bestmove", max(limit, HANGS))
+        except vengine.Ended:
             return None, "hangs"
-        took = at - begun
+        took = time.monotonic() - begun
         self.slowest, self.moves = max(self.slowest, took), self.moves + 1
         if took > limit + LATE:
             self.late += 1
@@ -91,16 +80,16 @@ class Engine(Session):
         return said[-1].split()[1], took
 
 
-def opening(variant, chance):
+def opening(arbiter, variant, chance):
     """Four random moves, after which the game goes on."""
     while True:
         played = []
         while len(played) < 4:
-            listed = ask("moves", variant, played)[:-1]
+            listed = arbiter.legal_moves(variant, moves=played)
             if not listed:
                 break
             played.append(chance.choice(listed))
-        if ask("status", variant, played)[0] == "ongoing":
+        if not arbiter.result(variant, moves=played).is_over:
             return played
 
 
@@ -127,21 +116,19 @@ class Clocks:
             self.left[side] = max(1, self.left[side] - int(took * 1000)) + self.step
 
 
-def play(variant, pair, start, given):
+def play(arbiter, variant, pair, start, given):
     """The result for White, 1, 0 or -1, its cause, and how many plies were played; the pair has White first."""
     played, clocks = start[:], Clocks(given)
     for engine in pair:
         engine.new_game()
     while len(played) < given.plies:
-        state = ask("status", variant, played)[0].split()
-        if state[0] == "won":
-            return (1 if state[1] == "white" else -1), state[2], len(played)
-        if state[0] == "drawn":
-            return 0, state[1], len(played)
+        at = arbiter.position(variant, moves=played)
+        if at.result.is_over:
+            return {"white": 1, "black": -1, None: 0}[at.result.winner], at.result.cause, len(played)
         side = len(played) % 2
         text, took = pair[side].move(played, clocks.go(), clocks.limit(side))
         fault = took if text is None else None
-        if fault is None and text not in ask("moves", variant, played)[:-1]:
+        if fault is None and text not in at.moves:
             fault = f"plays {text}, which is not legal"
         if fault:
             print(f"{'white' if side == 0 else 'black'} {fault} after {' '.join(played)}", flush=True)
@@ -165,19 +152,18 @@ def main():
     parser.add_argument("--grace", type=int, default=100)
     given = parser.parse_args()
     chance = random.Random(given.seed)
-    if given.variants:
-        ARBITER.extend(["--variants", given.variants])
-    engines = [Engine(command, given.variant, given.variants, given.grace / 1000) for command in (given.first, given.second)]
+    arbiter = vengine.Engine(variants=given.variants)
+    engines = [Player(command, given.variant, given.variants, given.grace / 1000) for command in (given.first, given.second)]
     counts, causes, start = collections.Counter(), collections.Counter(), []
     for game in range(given.games):
         if game % 2 == 0:
-            start = opening(given.variant, chance)
+            start = opening(arbiter, given.variant, chance)
         is_first_white = game % 2 == 0
-        value, cause, plies = play(given.variant, engines if is_first_white else engines[::-1], start, given)
+        value, cause, plies = play(arbiter, given.variant, engines if is_first_white else engines[::-1], start, given)
         print(f"{game + 1}: {('0-1', '1/2-1/2', '1-0')[value + 1]} {cause} after {plies} plies", flush=True)
         counts[value if is_first_white else -value] += 1
         causes[cause] += 1
-    for engine in engines:
+    for engine in (arbiter, *engines):
         engine.close()
     print(f"{given.variant}: the first won {counts[1]}, lost {counts[-1]}, drew {counts[0]}")
     print("ends: " + ", ".join(f"{cause} {count}" for cause, count in sorted(causes.items())))
@@ -186,4 +172,7 @@ def main():
 
 
 if __name__ == "__main__":
-    main()
+    try:
+        main()
+    except vengine.VengineError as error:
+        sys.exit(f"match: {error}")

@@ -21,42 +21,38 @@ import argparse
 import collections
 import json
 import shlex
-import subprocess
 import sys
 import time
 
-from engine import OTHER, Session, program
+from programs import OTHER, find_program
+from vengine import Ended, Fault, Lines, TimedOut, run
 
 SLOW = 1.0
 
 
-class Solver(Session):
+class Solver(Lines):
     """A UCI engine that looks for mates in positions of a variant."""
 
     def __init__(self, command, variant, threads):
-        super().__init__(shlex.split(command))
-        self.say("uci")
-        self.wait_for("uciok")
+        super().__init__(shlex.split(command), timeout=60)
+        self.ask("uci", "uciok")
         self.say(f"setoption name UCI_Variant value {variant}", f"setoption name Threads value {threads}")
 
     def solve(self, fen, within, limit):
         """The number of moves that was found, or None, and the seconds that it took; the limit where it was stopped."""
         self.say("ucinewgame", f"position fen {fen}")
-        self.ready()
+        self.ask("isready", "readyok")
         begun = time.monotonic()
-        self.say(f"go mate {within}")
-        said, at = self.wait_for("bestmove", limit)
-        if at is None:
-            self.say("stop")
-            self.wait_for("bestmove")
+        try:
+            said = self.ask(f"go mate {within}", "bestmove", limit)
+        except TimedOut:
+            self.ask("stop", "bestmove")
             return None, limit
-        return mate_in(said), at - begun
+        return mate_in(said), time.monotonic() - begun
 
     def strategy(self):
         """The proof text of the mate that was announced last."""
-        self.say("strategy")
-        said, at = self.wait_for(lambda words: words == ["end"])
-        return None if at is None else "".join(said)
+        return "".join(line + "\n" for line in self.ask("strategy", lambda line: line in ("end", "info string no strategy")))
 
 
 def mate_in(lines):
@@ -71,8 +67,10 @@ def mate_in(lines):
 
 
 def is_accepted(engine, text):
-    done = subprocess.run(shlex.split(engine) + ["check"], input=text, capture_output=True, text=True)
-    return done.returncode == 0 and done.stdout == "wins\n"
+    try:
+        return run(shlex.split(engine) + ["check"], text) == "wins\n"
+    except Fault:
+        return False
 
 
 class Row:
@@ -114,10 +112,8 @@ def fault_of(row, found, session, given):
     least = row.get("least")
     if least is not None and found != least:
         return f"found {found} where the file says {least}"
-    if given.check:
-        text = session.strategy()
-        if text is None or not is_accepted(given.engine, text):
-            return "the strategy is not accepted"
+    if given.check and not is_accepted(given.engine, session.strategy()):
+        return "the strategy is not accepted"
     return None
 
 
@@ -171,7 +167,7 @@ def counts_of(text):
 def main():
     parser = argparse.ArgumentParser(description=__doc__, formatter_class=argparse.RawDescriptionHelpFormatter)
     parser.add_argument("file")
-    parser.add_argument("--engine", default=program())
+    parser.add_argument("--engine", default=find_program())
     parser.add_argument("--limit", type=float, default=60.0)
     parser.add_argument("--threads", type=counts_of, default=[1])
     parser.add_argument("--slow", action="store_true")
@@ -198,4 +194,8 @@ def main():
         sys.exit(f"mates: {wrong} went wrong")
 
 
-main()
+if __name__ == "__main__":
+    try:
+        main()
+    except Ended as error:
+        sys.exit(f"mates: {error}")

@@ -10,17 +10,16 @@ gates its own blocker may move here, since the king is not attacked after the mo
 kings are commoners and a castle asks for a king.
 """
 import random
-import subprocess
 import sys
 
-from engine import OTHER, Direct, program
+from programs import OTHER
+from vengine import Engine, Lines, VengineError
 
-ENGINE = program()
 VARIANTS = ["chess", "crazyhouse", "3check", "kingofthehill", "antichess", "extinction", "losalamos", "capablanca", "seirawan", "xiangqi"]
 LONGEST = 120
 
 
-class Other(Direct):
+class Other(Lines):
     """Fairy-Stockfish, asked for its legal moves by a count of one ply."""
 
     def __init__(self, variant):
@@ -28,35 +27,22 @@ class Other(Direct):
         self.say(f"setoption name UCI_Variant value {variant}")
 
     def moves(self, played):
-        self.say("position startpos" + (" moves " + " ".join(played) if played else ""), "go perft 1")
-        said, at = self.wait_for("Nodes searched")
-        if at is None:
-            sys.exit("moves_agree: Fairy-Stockfish ended")
-        counts = [line.strip().rpartition(": ") for line in said[:-1]]
+        self.say("position startpos" + (" moves " + " ".join(played) if played else ""))
+        counts = [line.rpartition(": ") for line in self.ask("go perft 1", "Nodes searched")[:-1]]
         return {move for move, mark, count in counts if mark and count == "1"}
 
 
-def ours(command, variant, played):
-    text = "\n".join([variant, "startpos", " ".join(played)]) + "\n"
-    done = subprocess.run([ENGINE, command], input=text, capture_output=True, text=True)
-    if done.returncode != 0:
-        sys.exit(f"moves_agree: {command} of {variant} after {' '.join(played)}: {done.stdout}")
-    return done.stdout.splitlines()
-
-
-def is_ongoing(variant, played):
-    return ours("status", variant, played)[0] == "ongoing"
-
-
-def compare(variant, positions, chance):
+def compare(engine, variant, positions, chance):
     other = Other(variant)
     same = differ = 0
     shown = []
     while same + differ < positions:
         played = []
-        while len(played) < LONGEST and same + differ < positions and is_ongoing(variant, played):
-            here = set(ours("moves", variant, played)[:-1])
-            there = other.moves(played)
+        while len(played) < LONGEST and same + differ < positions:
+            at = engine.position(variant, moves=played)
+            if at.result.is_over:
+                break
+            here, there = set(at.moves), other.moves(played)
             if here == there:
                 same += 1
             else:
@@ -76,12 +62,16 @@ def main():
     chance = random.Random(int(sys.argv[2]) if len(sys.argv) > 2 else 1)
     if OTHER is None:
         sys.exit("moves_agree: wants Debian's package fairy-stockfish")
-    for variant in VARIANTS:
-        same, differ, shown = compare(variant, positions // len(VARIANTS), chance)
-        print(f"{variant}: {same + differ} positions, {differ} differ")
-        for played, here, there in shown:
-            print(f"    after {' '.join(played) or 'no move'}: here alone {' '.join(here) or '-'}; there alone {' '.join(there) or '-'}")
+    with Engine() as engine:
+        for variant in VARIANTS:
+            same, differ, shown = compare(engine, variant, positions // len(VARIANTS), chance)
+            print(f"{variant}: {same + differ} positions, {differ} differ", flush=True)
+            for played, here, there in shown:
+                print(f"    after {' '.join(played) or 'no move'}: here alone {' '.join(here) or '-'}; there alone {' '.join(there) or '-'}")
 
 
 if __name__ == "__main__":
-    main()
+    try:
+        main()
+    except VengineError as error:
+        sys.exit(f"moves_agree: {error}")

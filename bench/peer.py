@@ -13,8 +13,9 @@ import re
 import sys
 from collections import Counter
 
-from engine import OTHER, TOP, Direct, program
+from programs import OTHER, TOP, find_program
 from moves_agree import LONGEST, Other
+from vengine import Ended, Lines
 
 FILE = os.path.join(TOP, "examples", "fairy.ini")
 GATE = re.compile(r"[a-l][0-9]+[a-l][0-9]+[a-z]")
@@ -26,19 +27,21 @@ RULES = {
 }
 
 
-class Here(Direct):
+class Here(Lines):
     """A session with the variants of the file."""
 
     def __init__(self, variant):
-        super().__init__([program(), "--variants", FILE])
+        super().__init__([find_program(), "--variants", FILE])
         self.say(f"setoption name UCI_Variant value {variant}")
 
     def asked(self, command, last):
-        self.say(command)
-        said, at = self.wait_for(last)
-        if at is None or any(line.startswith("info string error") for line in said):
-            sys.exit(f"peer: {command}: {''.join(said) or 'the session ended'}")
-        return [line.strip() for line in said]
+        try:
+            said = self.ask(command, last)
+        except Ended:
+            sys.exit(f"peer: {command}: the session ended")
+        if any(line.startswith("info string error") for line in said):
+            sys.exit(f"peer: {command}: {' '.join(said)}")
+        return said
 
     def moves(self, played):
         self.say("position startpos" + (" moves " + " ".join(played) if played else ""))

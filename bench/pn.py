@@ -28,9 +28,10 @@ import tempfile
 import threading
 import time
 
-from engine import OTHER, TOP, Direct, Session, program
+from programs import OTHER, TOP, find_program
+from vengine import Ended, Lines
 
-ENGINE = program()
+ENGINE = find_program()
 LEAST, MOST = 6, 10
 # White does not win within the number of moves; how many expansions all its trees have, and the last of them.
 GROWTH = [
@@ -98,16 +99,18 @@ class Run:
 
 def go_mate(variant, fen, moves, limit):
     """The least number of moves that a session of UCI says, and the seconds; nothing where it took too long."""
-    session = Session([ENGINE], may_end=True)
+    session = Lines([ENGINE], timeout=60)
     session.say(f"setoption name UCI_Variant value {variant}", f"position fen {fen}")
-    session.ready()
+    session.ask("isready", "readyok")
     begun = time.monotonic()
-    session.say(f"go mate {moves}")
-    said, at = session.wait_for("bestmove", limit)
-    session.process.kill()
-    session.process.wait()
+    try:
+        said = session.ask(f"go mate {moves}", "bestmove", limit)
+    except Ended:
+        return None
+    finally:
+        session.kill()
     told = [words[words.index("mate") + 1] for words in map(str.split, said) if "score" in words and "mate" in words]
-    return None if at is None else (int(told[-1]) if told else None, at - begun)
+    return (int(told[-1]) if told else None), time.monotonic() - begun
 
 
 def tell_growth(given):
@@ -187,7 +190,7 @@ def placed(rng, row):
     return men if max(abs(king[0] - lone[0]), abs(king[1] - lone[1])) > 1 else None
 
 
-class Other(Direct):
+class Other(Lines):
     """A session of Fairy-Stockfish."""
 
     def __init__(self, variant):
@@ -196,10 +199,7 @@ class Other(Direct):
 
     def answer(self, wanted, *lines):
         self.say(*lines)
-        said, at = self.wait_for(wanted)
-        if at is None:
-            sys.exit("pn: fairy-stockfish ended")
-        return said
+        return self.wait_for(wanted)
 
     def count(self, fen):
         return int(self.answer("Nodes searched", f"position fen {fen}", "go perft 1")[-1].split(":")[1])
@@ -239,8 +239,7 @@ def draw():
             others[variant] = Other(variant)
         print(f"{variant} {drawn(rng, row, others[variant])}", flush=True)
     for other in others.values():
-        other.process.kill()
-        other.process.wait()
+        other.kill()
 
 
 def main():

@@ -31,7 +31,7 @@ import sys
 import tempfile
 import time
 
-from engine import built
+from programs import built
 
 LIBRARY = r"""
 #define _GNU_SOURCE

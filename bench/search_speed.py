@@ -23,7 +23,8 @@ import shutil
 import subprocess
 import time
 
-from engine import OTHER, Direct, built
+from programs import OTHER, built
+from vengine import Ended, Lines
 
 POSITIONS = {
     "chess": [
@@ -69,7 +70,7 @@ POSITIONS = {
 }
 
 
-class Session(Direct):
+class Session(Lines):
     """A CECP session that shows its thinking."""
 
     def __init__(self, program, workers=1, before=()):
@@ -91,11 +92,12 @@ class Session(Direct):
         return nodes, taken
 
     def read_to(self, first):
-        said, at = self.wait_for((first, "Error"))
-        if at is None:
-            raise SystemExit(f"search_speed: the session ended: {said}")
+        try:
+            said = self.wait_for((first, "Error"))
+        except Ended as end:
+            raise SystemExit(f"search_speed: the session ended: {end.said}") from None
         if said[-1].startswith("Error"):
-            raise SystemExit(f"search_speed: {said[-1].strip()}")
+            raise SystemExit(f"search_speed: {said[-1]}")
         return said[:-1]
 
     def close(self):
@@ -119,10 +121,10 @@ def least_leaves(lines, depth):
 
 def their_rate(variant, fen, seconds):
     """Nodes a second, as Fairy-Stockfish counts them."""
-    session = Direct([OTHER])
+    session = Lines([OTHER])
     session.say("setoption name Threads value 1", f"setoption name UCI_Variant value {variant}", f"position fen {fen}",
                 f"go movetime {max(50, round(1000 * seconds))}")
-    said, _ = session.wait_for("bestmove")
+    said = session.wait_for("bestmove")
     session.close()
     told = [line for line in said if " nodes " in line and " nps " in line]
     return int(re.search(r" nps (\d+)", told[-1]).group(1))

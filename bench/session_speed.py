@@ -12,7 +12,8 @@ import argparse
 import subprocess
 import time
 
-from engine import Direct, built
+from programs import built, memory_of, seconds_of
+from vengine import Lines
 
 START = "position startpos"
 MATED = "position fen r5k1/7p/pp4p1/2P5/P5qP/Q3pr2/1PPn2K1/4RB1R w - - 4 28"
@@ -27,7 +28,7 @@ def starts(program, times):
     took = []
     for _ in range(times):
         begun = time.monotonic()
-        session = Direct([program])
+        session = Lines([program])
         session.ask("uci", "uciok")
         took.append(time.monotonic() - begun)
         session.close()
@@ -46,13 +47,13 @@ def reaches(program, times):
 def in_search(program, times, position, line, word):
     """Seconds from a line to its answer, at different moments of a search."""
     took = []
-    session = Direct([program])
+    session = Lines([program])
     for turn in range(times):
         session.say(position)
         session.ask("isready", "readyok")
         session.say("go infinite")
         time.sleep(0.2 + 0.07 * (turn % 10))
-        took.append(session.ask(line, word))
+        took.append(seconds_of(session, line, word))
         if line != "stop":
             session.ask("stop", "bestmove")
     session.close()
@@ -60,16 +61,16 @@ def in_search(program, times, position, line, word):
 
 
 def tell_memory(program, options):
-    session = Direct([program])
+    session = Lines([program])
     session.ask("uci", "uciok")
     session.say(*(f"setoption name {name} value {value}" for name, value in options))
     session.ask("isready", "readyok")
-    said = [f"at first {session.memory()[0]:.0f}"]
+    said = [f"at first {memory_of(session)[0]:.0f}"]
     for line in ("go depth 6", "go mate 4"):
         session.say("ucinewgame")
         session.ask(line, "bestmove")
-        said.append(f"after {line} {session.memory()[0]:.0f}")
-    said.append(f"at most {session.memory()[1]:.0f}")
+        said.append(f"after {line} {memory_of(session)[0]:.0f}")
+    said.append(f"at most {memory_of(session)[1]:.0f}")
     session.close()
     shown = ", ".join(f"{name} {value}" for name, value in options) or "default options"
     print(f"memory in MiB, {shown}: {', '.join(said)}", flush=True)

@@ -22,7 +22,8 @@ import random
 import subprocess
 import time
 
-from engine import Direct, built
+from programs import built, memory_of, seconds_of
+from vengine import Ended, Lines
 
 MOVES = ["e2e4", "e7e5", "g1f3", "b8c6", "f1b5", "a7a6", "d2d4", "e5d4", "e1g1", "e2e5", "P@e4", "x", "e7e8q"]
 VARIANTS = ["chess", "crazyhouse", "3check", "losalamos", "capablanca", "seirawan", "xiangqi", "nothing", ""]
@@ -74,21 +75,30 @@ def long_session(program, count, seed):
     return wrong
 
 
+def to_the_end(session):
+    """The status and all that is said after the search, up to the end."""
+    said = session.wait_for("bestmove")
+    session.say("quit")
+    try:
+        session.wait_for(lambda line: False)
+    except Ended as end:
+        return end.status, "\n".join(said + end.said)
+
+
 def many_sessions(program, count):
     begun = time.monotonic()
-    held = [Direct([program]) for _ in range(count)]
+    held = [Lines([program]) for _ in range(count)]
     for session in held:
         session.say("uci", "setoption name Hash value 1", "setoption name MateFacts value 64", "position startpos", "go depth 3")
     answers = collections.Counter()
     for session in held:
-        said, _ = session.wait_for("bestmove")
+        said = session.wait_for("bestmove")
         session.say("position fen 7k/R7/5K2/8/8/8/8/8 w - - 0 1", "go mate 2")
-        answers["".join(said)] += 1
+        answers["\n".join(said)] += 1
     for session in held:
-        said, _ = session.wait_for("bestmove")
-        answers[(session.close(), "".join(said) + session.process.stdout.read().decode())] += 1
+        answers[to_the_end(session)] += 1
     took = time.monotonic() - begun
-    expected = (0, "info depth 3 score mate 2 pv f6g6\nbestmove f6g6\n")
+    expected = (0, "info depth 3 score mate 2 pv f6g6\nbestmove f6g6")
     wrong = answers[expected] != count or len(answers) != 2
     print(f"{count} sessions at once: {took:.1f} s; {'answers that differ' if wrong else 'all say the same'}", flush=True)
     return wrong
@@ -116,7 +126,7 @@ class Answers:
 
     def ask(self, line, word):
         before = self.counts()
-        took = 1000 * self.session.ask(line, word)
+        took = 1000 * seconds_of(self.session, line, word)
         self.rows.append([took] + [after - old for old, after in zip(before, self.counts())])
 
     def tell(self):
@@ -131,16 +141,16 @@ class Answers:
 
 
 def long_search(program, minutes, workers):
-    session = Direct([program, "--threads", str(workers)])
+    session = Lines([program, "--threads", str(workers)])
     session.ask("uci", "uciok")
-    at_first, answers = session.memory()[0], Answers(session)
+    at_first, answers = memory_of(session)[0], Answers(session)
     session.say("position startpos", "go infinite")
     ends = time.monotonic() + 60 * minutes
     while time.monotonic() < ends:
         time.sleep(1)
         answers.ask("isready", "readyok")
-    then = session.memory()[0]
-    stopped = 1000 * session.ask("stop", "bestmove")
+    then = memory_of(session)[0]
+    stopped = 1000 * seconds_of(session, "stop", "bestmove")
     status = session.close()
     print(f"a search of {minutes:g} minutes, workers {workers}: stop after {stopped:.1f} ms; memory {at_first:.0f} MiB at first, "
           f"{then:.0f} MiB then; status {status}", flush=True)

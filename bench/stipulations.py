@@ -22,7 +22,7 @@ import subprocess
 import sys
 import time
 
-from engine import TOP, built
+from programs import TOP, built
 
 POSITIONS = os.path.join(TOP, "bench", "stipulations.txt")
 

@@ -11,9 +11,9 @@ import subprocess
 import sys
 import time
 
-from engine import program
+from programs import find_program
 
-ENGINE = program()
+ENGINE = find_program()
 THREADS = [1, 2, 4]
 PROBLEMS = 200
 

@@ -1,0 +1,44 @@
+"""What the scripts of this folder share: where the programs are, and the way to clients/vengine.py, by which they find the program and
+hold sessions. A script imports this module before that one.
+
+The program is that of this repository, or another one that VENGINE=FILE names. OTHER is Fairy-Stockfish, if Debian's package is there.
+"""
+import glob
+import os
+import sys
+import time
+
+SCRIPT = os.path.splitext(os.path.basename(sys.argv[0]))[0]
+TOP = os.path.abspath(os.path.join(os.path.dirname(os.path.abspath(__file__)), ".."))
+OTHER = next((path for path in ("/usr/games/fairy-stockfish", "/usr/bin/fairy-stockfish") if os.path.exists(path)), None)
+
+sys.path.insert(0, os.path.join(TOP, "clients"))
+from vengine import find_program  # noqa: E402, F401
+
+
+def built():
+    """The program itself, for figures that the launcher may be no part of: VENGINE, or else the build, if no source is newer."""
+    if "VENGINE" in os.environ:
+        return os.environ["VENGINE"]
+    name = os.path.join("crates", "vengine", "out", "vengine")
+    path = os.path.join(TOP, name)
+    if not os.path.exists(path):
+        sys.exit(f"{SCRIPT}: there is no {name}; ./vengine builds it")
+    for source in glob.iglob(os.path.join(TOP, "crates", "*", "src", "**", "*.rt"), recursive=True):
+        if os.path.getmtime(source) > os.path.getmtime(path):
+            sys.exit(f"{SCRIPT}: {name} is older than {os.path.relpath(source, TOP)}; ./vengine builds it anew")
+    return path
+
+
+def seconds_of(lines, line, wanted):
+    """How long a program takes from a line to the wanted one of its answer."""
+    begun = time.monotonic()
+    lines.ask(line, wanted)
+    return time.monotonic() - begun
+
+
+def memory_of(lines):
+    """What a program has in memory now and what it had at most, in MiB."""
+    with open(f"/proc/{lines.process.pid}/status") as file:
+        kept = dict(line.split(":", 1) for line in file)
+    return [int(kept[name].split()[0]) / 1024 for name in ("VmRSS", "VmHWM")]
