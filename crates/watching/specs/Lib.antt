@@ -1,7 +1,7 @@
 pub mod CallerLaws
+pub mod Counts
 pub mod EventLaws
 pub mod Events
-pub mod HelperLaws
 pub mod LookLaws
 pub mod Looks
 pub mod PollLaws

@@ -1,6 +1,6 @@
 //! The watch of a worker beside the first.
-ghost use Rattle.std.specs.Prelude.{◌≡◌, ◌+◌, ◌≤◌};
-ghost use Rattle.watching.specs.HelperLaws.{Counts, counts_none, counts_more, counts_wider};
+ghost use Rattle.std.specs.Prelude.{◌≡◌, ℕ};
+ghost use Rattle.watching.specs.Counts.{Counts, counts_none, counts_more, counts_wider};
 
 use crate::flag::StopFlag;
 use crate::halt::{Cut, Halt};
@@ -9,15 +9,30 @@ use crate::watch::Watch;
 /// The watch of a worker that hears only that it is to stop, and counts nodes.
 #[derive(Drop)]
 pub struct Helper<'f> {
-    pub flag: &'f StopFlag,
-    pub quota: Option<u64>,
-    pub nodes: u64,
+    flag: &'f StopFlag,
+    quota: Option<u64>,
+    nodes: u64,
+}
+
+impl<'f> Helper<'f> {
+    /// It has entered no node. It may enter as many as the quota says.
+    pub fn new(flag: &'f StopFlag, quota: Option<u64>) -> Helper<'f>
+        ensures { result.nodes ≡ 0 }
+    {
+        Helper {
+            flag,
+            quota,
+            nodes: 0,
+        }
+    }
 }
 
 impl Watch for Helper<'_> {
     ghost gone = { λ a b n. Counts a.nodes b.nodes n };
 
     ghost ended = { λ a b n why. Counts a.nodes b.nodes n };
+
+    ghost entered = { λ a. a.nodes };
 
     fn enter(&mut self) -> Result<(), Halt> {
         if self.flag.is_raised() {
@@ -32,6 +47,10 @@ impl Watch for Helper<'_> {
         Ok(())
     }
 
+    fn nodes(&self) -> u64 {
+        self.nodes
+    }
+
     ghost none = { λ a. counts_none a.nodes };
 
     ghost more = { λ a b c m n p q. counts_more a.nodes b.nodes c.nodes m n p q };
@@ -43,4 +62,6 @@ impl Watch for Helper<'_> {
     ghost ends_wider = { λ a b m n why p le. counts_wider a.nodes b.nodes m n p le };
 
     ghost memory = { λ a b m p. p };
+
+    ghost counts = { λ a b n p. p };
 }

@@ -2,7 +2,7 @@
 //!
 //! A search knows the world outside by `Watch` alone. The worker in the caller has a `Caller`, which polls for lines,
 //! answers them, reads the clock and heeds limits; the workers beside it have a `Helper`, which knows a flag and a
-//! quota. What ends a worker is a `Halt`. Which root moves are taken and finished, workers tell by `RootMarks`.
+//! quota; and one that nothing disturbs is `Unwatched`. What ends a worker is a `Halt`. Which root moves are taken and finished, workers tell by `RootMarks`.
 #![tactic(auto)]
 
 mod caller;
@@ -12,6 +12,7 @@ mod helper;
 mod listen;
 mod marks;
 mod stopping;
+mod unwatched;
 mod watch;
 
 pub use caller::Caller;
@@ -21,4 +22,5 @@ pub use helper::Helper;
 pub use listen::{heed, say, say_some};
 pub use marks::{RootMarks, Round};
 pub use stopping::stopped_by;
+pub use unwatched::Unwatched;
 pub use watch::Watch;

@@ -1,6 +1,7 @@
 //! What a search knows of the world outside.
 ghost use Rattle.std.specs.Prelude.{◌≡◌, ℕ, ◌+◌, ◌≤◌, OnOk, IsErrOf};
 ghost use Rattle.io_ports.specs.declared.limits.SearchFault.TheVariants as fault;
+ghost use Rattle.watching.specs.Counts.{one_more};
 ghost use Rattle.watching.specs.declared.halt.Halt.{Halt};
 ghost use Rattle.watching.specs.declared.halt.Halt.TheVariants as halt;
 
@@ -15,10 +16,18 @@ pub trait Watch {
     /// The same, and this ended it.
     ghost ended: { Self → Self → ℕ → Halt → Type 0 };
 
+    /// How many nodes it has entered; 2^64 - 1 stands for that many or more.
+    ghost entered: { Self → ℕ };
+
     /// Enters a node, unless something ends the worker there.
     fn enter(&mut self) -> Result<(), Halt>
         ensures gone { OnOk result (gone self.old self.new 1) }
-        ensures ended { (why : Halt) → IsErrOf result why → ended self.old self.new 1 why };
+        ensures ended { (why : Halt) → IsErrOf result why → ended self.old self.new 1 why }
+        ensures counted { OnOk result (entered self.new ≡ one_more (entered self.old)) };
+
+    /// How many nodes it has entered.
+    fn nodes(&self) -> u64
+        ensures { result ≡ entered self.now };
 
     ghost none: { (a : Self) → gone a a 0 };
 
@@ -32,4 +41,7 @@ pub trait Watch {
 
     /// It finds no memory.
     ghost memory: { (a b : Self) (m : ℕ) → gone a b m → ended a b m (halt.Fault fault.Memory) };
+
+    /// The count does not fall, and rises by no more than is said.
+    ghost counts: { (a b : Self) (n : ℕ) → gone a b n → (entered a ≤ entered b) × (entered b ≤ entered a + n) };
 }
