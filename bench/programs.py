@@ -3,8 +3,8 @@ hold sessions. A script imports this module before that one.
 
 The program is that of this repository, or another one that VENGINE=FILE names. OTHER is Fairy-Stockfish, if Debian's package is there.
 """
-import glob
 import os
+import subprocess
 import sys
 import time
 
@@ -17,17 +17,17 @@ from vengine import find_program  # noqa: E402, F401
 
 
 def built():
-    """The program itself, for figures that the launcher may be no part of: VENGINE, or else the build, if no source is newer."""
+    """The program itself, for figures that the launcher may be no part of: VENGINE, or else the one that the launcher becomes."""
     if "VENGINE" in os.environ:
         return os.environ["VENGINE"]
-    name = os.path.join("crates", "vengine", "out", "vengine")
-    path = os.path.join(TOP, name)
-    if not os.path.exists(path):
-        sys.exit(f"{SCRIPT}: there is no {name}; ./vengine builds it")
-    for source in glob.iglob(os.path.join(TOP, "crates", "*", "src", "**", "*.rt"), recursive=True):
-        if os.path.getmtime(source) > os.path.getmtime(path):
-            sys.exit(f"{SCRIPT}: {name} is older than {os.path.relpath(source, TOP)}; ./vengine builds it anew")
-    return path
+    digest = subprocess.run([os.path.join(TOP, "release", "digest")], stdout=subprocess.PIPE, text=True, check=True).stdout.strip()
+    for folder in (os.path.join(TOP, "release", "out"), os.path.join(TOP, "release")):
+        manifest = os.path.join(folder, "MANIFEST")
+        if os.path.exists(manifest):
+            with open(manifest) as file:
+                if f"sources {digest}" in file.read().splitlines():
+                    return os.path.join(folder, "vengine")
+    sys.exit(f"{SCRIPT}: no program here was made of the sources as they are; ./vengine builds it")
 
 
 def seconds_of(lines, line, wanted):

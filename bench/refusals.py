@@ -1,7 +1,7 @@
 #!/usr/bin/env python3
 """Refuses each allocation, read and write of a run in turn, and says what the program answers.
 
-usage: bench/refusals.py [PROGRAM] [--most N] [--jobs N] [--only WORD]    (VENGINE or crates/vengine/out/vengine, 200 and 1 by default)
+usage: bench/refusals.py [PROGRAM] [--most N] [--jobs N] [--only WORD]    (VENGINE or the program that ./vengine becomes, 200 and 1 by default)
 
 A small library is built with `cc` and put under the program (LD_PRELOAD). It counts the calls of malloc, calloc, realloc, read, write,
 clock_gettime and pthread_create, and refuses the one whose number it is told; or a read or a write moves one byte. A run must then give

@@ -1,7 +1,7 @@
 #!/usr/bin/env python3
 """Measures a UCI session: start-up, memory, how soon `isready` is answered during a search, and how soon `stop` is.
 
-Usage: bench/session_speed.py [PROGRAM] [--times N]     (VENGINE or crates/vengine/out/vengine, and 20, by default)
+Usage: bench/session_speed.py [PROGRAM] [--times N]     (VENGINE or the program that ./vengine becomes, and 20, by default)
 
 Prints for each figure the median and the worst of N times: from the start of the program to `uciok`; a whole run of `reach N b1`; from
 `isready` to `readyok` in a `go infinite` of the chess start, and from `stop` to `bestmove` in it, and also where mates are being looked

@@ -2,7 +2,7 @@
 """Loads UCI sessions: many lines, many sessions at once, and a long search.
 
 Usage: bench/sessions_load.py [PROGRAM] [--lines N] [--sessions N] [--minutes M] [--workers W,..] [--seed N]
-       (VENGINE or crates/vengine/out/vengine, 10000 lines, 200 sessions, 10 minutes with 1 worker and with 4, and seed 1 by default;
+       (VENGINE or the program that ./vengine becomes, 10000 lines, 200 sessions, 10 minutes with 1 worker and with 4, and seed 1 by default;
        0 leaves a part out)
 
 1. One session of generated lines: right ones, faulty ones and ones that say nothing. Each `isready`, `go`, `moves` and `status` must have

@@ -4,7 +4,7 @@
 Usage: bench/stipulations.py [--program FILE] [--older FILE] [--seconds N] [--only WORD]
        bench/stipulations.py --find KIND MOVES COUNT [--seed N] [--program FILE]
 
-  --program   the program that is measured (by default VENGINE, or the one in crates/vengine/out)
+  --program   the program that is measured (by default VENGINE, or the one that ./vengine becomes)
   --older     another build, which is measured on the same positions
   --seconds   how long the plain search here, and the older build, may take for one position (30 by default)
   --only      only rows that begin so, as 'help 2'
