@@ -250,6 +250,18 @@ free_to_move f p h =
 goes_early : (f : Frame) (p : Position) → In.end_in f p ≡ None → is_ongoing (early_end f.rules (repeat_of p)) ≡ true
 goes_early f p h = early_goes f.rules (repeat_of p) (free_to_move f p h)
 
+-- a position with a legal move is not ended by itself
+some_there : (m : Move) (ms : List Move) → Member m ms → is_nil ms ≡ false
+some_there m [] k = absurd k
+some_there m (x ∷ ms) k = refl
+
+free_by : (rules : Rules) (r : Repeat) (m : Move) → Member m (legal rules r) → is_stuck rules r ≡ false
+unfolding is_stuck
+free_by rules r m k = some_there m (legal rules r) k
+
+pub own-ongoing : (rules : Rules) (r : Repeat) (m : Move) → Member m (legal rules r) → own_end rules r ≡ Ongoing
+own-ongoing rules r m k = goes_on (own_end rules r) (own_end-stuck rules r ∙ ap not (free_by rules r m k))
+
 -- ---- near wins without a move of the attacker left
 
 not_all : (g : Move → Bool) (ms : List Move) → is_nil ms ≡ false → ((m : Move) → Member m ms → g m ≡ false) → list_all g ms ≡ false
@@ -338,3 +350,6 @@ module _ (f : Frame) where
 
   pub turn-after : (p q : Position) (m : Move) → q ≡ after p m → same_side p.side f.attacker ≡ true → same_side q.side f.attacker ≡ false
   turn-after p q m e t = ap (λ (x : Position). same_side x.side f.attacker) e ∙ (laws f.rules f.attacker).turns p m ∙ ap not t
+
+  pub turn-back : (p q : Position) (m : Move) → q ≡ after p m → same_side p.side f.attacker ≡ false → same_side q.side f.attacker ≡ true
+  turn-back p q m e t = ap (λ (x : Position). same_side x.side f.attacker) e ∙ (laws f.rules f.attacker).turns p m ∙ ap not t

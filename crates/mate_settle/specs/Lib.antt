@@ -3,3 +3,4 @@ pub mod Steps
 pub mod Known
 pub mod Choices
 pub mod LastMoves
+pub mod Refuters

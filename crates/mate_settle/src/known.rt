@@ -5,12 +5,22 @@ ghost use Rattle.mate_settle.specs.Known.{Answers};
 
 use mate_core::{Fact, Frame, serves};
 use playing::Board;
-use rules_model::{Memory, Move, repeat_of};
+use rules_model::{Kind, Memory, Move, Square, repeat_of};
 use std::alloc::Global;
 use std::marker::Model;
 
 /// So many questions, by the side to move and the number of the attacker's moves, have a deciding move of their own.
 const QUESTIONS: usize = 32;
+
+/// So many of the replies that refuted the attacker's last move are kept.
+pub(crate) const REFUTERS: usize = 4;
+
+/// The squares, the kinds on them, and the numbers of the attacker's moves that have counters of their own.
+const SQUARES: usize = 128;
+
+const REPLIES: usize = 26 * SQUARES;
+
+const COUNTERS: usize = 8 * REPLIES;
 
 /// A fact, and the key of its repeat.
 #[derive(Clone, Copy)]
@@ -29,6 +39,11 @@ pub struct FactTable<'f> {
     kept: Vec<Kept>,
     /// For each question, the move that decided it last.
     deciding: [Option<Move>; QUESTIONS],
+    /// The replies that refuted the attacker's last move, the newest first.
+    refuters: [Option<Move>; REFUTERS],
+    /// How often replies refuted, by the attacker's moves, the kind and the target: as many counters as there is room for
+    /// facts, and no more than `COUNTERS`.
+    counters: Vec<u8>,
 }
 
 impl<'f> Model for FactTable<'f> {
@@ -50,6 +65,44 @@ fn place(key: u64, places: usize) -> usize
     (key % places as u64) as usize
 }
 
+// The number of the counter of replies by which a piece of the kind comes to the square.
+fn counter_of(moves: u16, kind: Kind, to: Square) -> usize {
+    let of_moves = usize::from(moves.min(7)) * REPLIES;
+    of_moves + usize::from(kind.0.min(25)) * SQUARES + usize::from(to.0.min(127))
+}
+
+// Halves all counters.
+fn halve(counters: &mut Vec<u8>) {
+    for i in 0..counters.len() {
+        if let Some(count) = counters.get_mut(i) {
+            *count /= 2;
+        }
+    }
+}
+
+// Counts one more at the place, if there is such a place. Where the counter is full, all are halved.
+fn count_at(counters: &mut Vec<u8>, at: usize) {
+    if counters.get(at) == Some(&u8::MAX) {
+        halve(counters);
+    }
+    if let Some(count) = counters.get_mut(at) {
+        *count = count.saturating_add(1);
+    }
+}
+
+// Brings the reply to the front: those before the place where it stood move back by one.
+fn bring_to_front(replies: &mut [Option<Move>; REFUTERS], reply: Move) {
+    let mut carried = Some(reply);
+    for at in 0..REFUTERS {
+        let next = replies[at];
+        replies[at] = carried;
+        if next == Some(reply) {
+            return;
+        }
+        carried = next;
+    }
+}
+
 // The place of the move that decided last.
 fn question(attacking: bool, moves: u16) -> usize
     ensures { result < 32 }
@@ -66,12 +119,18 @@ impl<'f> FactTable<'f> {
         for _i in 0..room {
             numbers.push(0)?;
         }
+        let mut counters = Vec::new(alloc);
+        for _i in 0..room.min(COUNTERS) {
+            counters.push(0)?;
+        }
         let kept = Vec::new(alloc);
         Ok(FactTable {
             frame,
             numbers,
             kept,
             deciding: [None; QUESTIONS],
+            refuters: [None; REFUTERS],
+            counters,
         })
     }
 
@@ -162,5 +221,59 @@ impl<'f> FactTable<'f> {
         ensures { self.new ≡ self.old }
     {
         self.deciding[question(attacking, moves)] = Some(chosen);
+    }
+
+    /// The best move of the fact that is kept for a position of this key, whatever it answers. It may be of another
+    /// position.
+    pub(crate) fn best_on(&self, board: &Board) -> Option<Move> {
+        if self.numbers.is_empty() {
+            return None;
+        }
+        let key = board.key();
+        let at = place(key, self.numbers.len());
+        match self.numbered(self.numbers[at]) {
+            Some(kept) if kept.key == key => kept.fact.best,
+            _ => None,
+        }
+    }
+
+    /// The reply at this place of those that refuted the attacker's last move: 0 is the newest. It may be of another
+    /// position.
+    pub(crate) fn refuter(&self, at: usize) -> Option<Move> {
+        match self.refuters.get(at) {
+            Some(refuter) => *refuter,
+            None => None,
+        }
+    }
+
+    /// Keeps a reply that refutes the attacker's last move, as the newest.
+    pub(crate) fn keep_refuter(&mut self, reply: Move)
+        ensures { self.new ≡ self.old }
+    {
+        bring_to_front(&mut self.refuters, reply);
+    }
+
+    /// How often a reply by which a piece of the kind came to the square refuted, where the attacker had this many moves
+    /// left: roughly, since counters are halved and shared.
+    pub(crate) fn refuted(&self, moves: u16, kind: Kind, to: Square) -> u8 {
+        if self.counters.is_empty() {
+            return 0;
+        }
+        let at = counter_of(moves, kind, to) % self.counters.len();
+        match self.counters.get(at) {
+            Some(count) => *count,
+            None => 0,
+        }
+    }
+
+    /// Counts a reply that refuted.
+    pub(crate) fn count_refuter(&mut self, moves: u16, kind: Kind, to: Square)
+        ensures { self.new ≡ self.old }
+    {
+        if self.counters.is_empty() {
+            return;
+        }
+        let at = counter_of(moves, kind, to) % self.counters.len();
+        count_at(&mut self.counters, at);
     }
 }

@@ -12,7 +12,7 @@ ghost use Rattle.rules_model.specs.declared.moves.Move.{Move};
 ghost use Rattle.rules_model.specs.Next.{next};
 ghost use Rattle.rules_model.specs.Sides.{same_side};
 
-use check_moves::{Checks, checks_of, gives_check};
+use check_moves::{Checks, checks_of, may_check};
 use mate_core::{Fact, Frame};
 use mate_fact::{refuted_by_all_within, won_by};
 use playing::Board;
@@ -88,7 +88,8 @@ fn winning_checks(frame: &Frame, board: &Board) -> Option<Checks>
     }
 }
 
-/// Whether it is known that the attacker's move does not win at once: only checks do, and it gives none.
+/// Whether it is known before the attacker's move is made that it does not win at once: only checks do, and it gives
+/// none.
 fn is_vain(frame: &Frame, board: &Board, m: &Move, checks: Option<Checks>) -> bool
     requires rules { board.now.rules ≡ frame.now.rules }
     requires only { OnSome checks (Last.only_checks_win frame.now.rules ≡ true) }
@@ -98,7 +99,7 @@ fn is_vain(frame: &Frame, board: &Board, m: &Move, checks: Option<Checks>) -> bo
     ensures { OnTrue result (In.near_in frame.now 0 (next frame.now.rules board.now.position m.now) ≡ false) }
 {
     match checks {
-        Some(checks) => !gives_check(board, &checks, m),
+        Some(checks) => !may_check(board, &checks, m),
         None => false,
     }
 }

@@ -5,6 +5,7 @@
 mod choosing;
 mod known;
 mod last_moves;
+mod last_replies;
 mod ordering;
 mod settling;
 

@@ -13,8 +13,8 @@ ghost use Rattle.rules_model.specs.Sides.{same_side};
 ghost use Rattle.watching.specs.declared.halt.Halt.{Halt};
 
 use crate::known::FactTable;
-use crate::last_moves::{by_last_move, only_movers_win};
-use crate::ordering::{Order, in_order};
+use crate::last_replies::known_before;
+use crate::ordering::{comer, in_order};
 use mate_core::{Fact, Frame};
 use mate_fact::{
     by_all_within, by_move, end_of, refuted_by_all_within, refuted_by_move, refuted_where,
@@ -26,7 +26,7 @@ use std::alloc::Global;
 use watching::{Halt, Watch};
 
 // The legal moves, each once.
-fn legal_list(alloc: Global, board: &Board) -> Result<MoveList, Memory>
+pub(crate) fn legal_list(alloc: Global, board: &Board) -> Result<MoveList, Memory>
     ensures { IfOk result (Lists (λ m. Member m (legal_in board.now))) }
 {
     let mut moves = MoveList {
@@ -55,18 +55,13 @@ pub fn moves_to_try(
     if attacking && n < 2 {
         return Ok(moves.items);
     }
-    let order = Order {
-        attacking,
-        moves: n,
-        deciding: facts.deciding(attacking, n),
-    };
-    let ordered = in_order(alloc, board, moves.items.as_slice(), &order)?;
+    let ordered = in_order(alloc, board, moves.items.as_slice(), n, facts)?;
     Ok(ordered)
 }
 
 /// The fact that needs no other: the position is ended, or the attacker, who is to move, has no move left. `any` says
 /// whether some move is legal.
-fn known_now(frame: &Frame, board: &Board, n: u16, any: bool) -> Option<Fact>
+pub(crate) fn known_now(frame: &Frame, board: &Board, n: u16, any: bool) -> Option<Fact>
     requires rules { board.now.rules ≡ frame.now.rules }
     requires any { any ≡ not (is_stuck board.now.rules (repeat_in board.now)) }
     ensures serves { IfSome result (Answers board.now n) }
@@ -133,10 +128,27 @@ fn by_one(frame: &Frame, board: &Board, m: &Move, attacking: bool, known: &Fact)
     }
 }
 
+/// Keeps the move that decides a position, by which others are put in order.
+fn learn(facts: &mut FactTable, board: &Board, attacking: bool, n: u16, chosen: Move)
+    ensures { facts.new ≡ facts.old }
+{
+    facts.keep_deciding(attacking, n, chosen);
+    if attacking {
+        return;
+    }
+    if n < 2 {
+        facts.keep_refuter(chosen);
+        return;
+    }
+    if let Some((kind, to)) = comer(board, &chosen) {
+        facts.count_refuter(n, kind, to);
+    }
+}
+
 /// What one move decides, where the known fact on the position after it is what the side to move wants: a fact that
 /// answers for the position. The fact is kept, and so is the move.
 #[inline]
-fn decide(
+pub(crate) fn decide(
     facts: &mut FactTable,
     board: &Board,
     attacking: bool,
@@ -158,7 +170,7 @@ fn decide(
     ensures serves { Answers board.now n result }
 {
     let found = by_one(facts.frame(), board, &chosen, attacking, known);
-    facts.keep_deciding(attacking, n, chosen);
+    learn(facts, board, attacking, n, chosen);
     facts.keep(board, found);
     found
 }
@@ -201,10 +213,10 @@ pub fn settle<W: Watch>(
         W.ended watch.old watch.new (lines_within (seen_in facts.old) n board.now.position) why }
 {
     watch.enter()?;
-    if let Some(fact) = facts.look(board, n) {
-        return Ok(fact);
-    }
     let frame = facts.frame();
+    if let Some(told) = known_before(alloc, board, n, facts)? {
+        return Ok(told);
+    }
     let moves = moves_to_try(alloc, board, n, facts)?;
     if let Some(fact) = known_now(frame, board, n, !moves.is_empty()) {
         facts.keep(board, fact);
@@ -213,11 +225,6 @@ pub fn settle<W: Watch>(
     let attacking = board.position().side.is(frame.attacker);
     let left = moves_left(attacking, n);
     let mut far = none_yet(attacking);
-    if attacking && n == 1 && only_movers_win(&frame.rules) {
-        let found = by_last_move(frame, board, moves.as_slice());
-        facts.keep(board, found);
-        return Ok(found);
-    }
     for i in 0..moves.len() {
         let chosen = moves[i];
         let next = board.after(&chosen);

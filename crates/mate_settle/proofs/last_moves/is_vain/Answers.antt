@@ -5,12 +5,16 @@ use Rattle.rules_model.specs.declared.rules.Rules.{Rules}
 use Rattle.rules_model.specs.Legal.{gives_check}
 use Rattle.rules_model.specs.Next.{next}
 use Rattle.rules_model.specs.Repeats.{repeat_of}
+use Rattle.rules_model.proofs.LegalLaws.{legal-member}
 use Rattle.check_moves.specs.declared.checks.Checks.{Checks}
 use Rattle.mate_fact.specs.InFrame as In
 use Rattle.mate_settle.specs.LastMoves.{only_checks_win}
 use Rattle.mate_settle.proofs.LastMoves.{quiet-loses}
 use Rattle.forced_wins.proofs.Counts.{by_cases}
 use Rattle.mate_settle.proofs.last_moves.is_vain.Goals as goal
+
+pub may_check-requires-clause-move_fits : goal.may_check-requires-clause-move_fits
+may_check-requires-clause-move_fits c = (legal-member _ _ _ c.requires.legal).0
 
 pub returns-in-Some : goal.returns-in-Some
 returns-in-Some c =
@@ -19,8 +23,8 @@ returns-in-Some c =
     let m = c.args.m.now in
     let Alone : Option Checks → Type 0 = λ o. OnSome o (only_checks_win f.rules ≡ true) in
     let only : only_checks_win f.rules ≡ true = subst Alone c.in-Some.is c.requires.only in
-    by_cases {C = OnTrue (not c.gives_check.result) (In.near_in f 0 (next f.rules p m) ≡ false)} c.gives_check.result
+    by_cases {C = OnTrue (not c.may_check.result) (In.near_in f 0 (next f.rules p m) ≡ false)} c.may_check.result
     (λ e. rw e tt)
     (λ e.
-    let quiet : gives_check f.rules (repeat_of p) m ≡ false = ap (λ (x : Rules). gives_check x (repeat_of p) m) (sym c.requires.rules) ∙ sym c.gives_check.ensures ∙ e in
+    let quiet : gives_check f.rules (repeat_of p) m ≡ false = ap (λ (x : Rules). gives_check x (repeat_of p) m) (sym c.requires.rules) ∙ c.may_check.ensures e in
     rw e (quiet-loses f p m only c.requires.attack.ongoing c.requires.attack.turn quiet))

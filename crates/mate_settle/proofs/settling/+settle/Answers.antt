@@ -38,6 +38,15 @@ returns-in-Some-known_now-clause-gone g t c =
     let n = c.args.n in
     g.met.W.Watch.wider _ _ _ _ c.in_ok-enter.ensures.gone (lines-some r (plies r n p) p)
 
+pub returns-in_err-told-clause-ended : goal.returns-in_err-told-clause-ended
+returns-in_err-told-clause-ended g t c why is =
+    let f = c.args.facts.now in
+    let r = seen_in f in
+    let p = c.args.board.now.position in
+    let n = c.args.n in
+    let memory = g.met.W.Watch.memory _ _ _ (g.met.W.Watch.wider _ _ _ _ c.in_ok-enter.ensures.gone (lines-some r (plies r n p) p)) in
+    search rules
+
 pub returns-in_err-moves-clause-ended : goal.returns-in_err-moves-clause-ended
 returns-in_err-moves-clause-ended g t c why is =
     let f = c.args.facts.now in
@@ -53,24 +62,6 @@ known_now-requires-clause-any g t c =
     let ms = c.in_ok-moves.moves.items in
     let listed : is_nil ms ≡ is_stuck c.args.board.now.rules (repeat_in c.args.board.now) = some-listed (legal_in c.args.board.now) ms c.in_ok-moves.ensures in
     search rules
-
-pub by_last_move-found-requires-clause-moves : goal.by_last_move-found-requires-clause-moves
-by_last_move-found-requires-clause-moves g t c =
-    let f = c.args.facts.now in
-    let p = c.args.board.now.position in
-    let ms = c.in_ok-moves.moves.items in
-    let same : c.frame-frame.result.now ≡ f = c.frame-frame.ensures in
-    let all = moves-of f c.args.board.now ms c.requires.rules c.in_ok-moves.ensures in
-    subst (λ ns. Lists (λ m. Member m (In.legal_in c.frame-frame.result.now p)) ns) (sym c.as_slice.ensures.value)
-    (subst (λ h. Lists (λ m. Member m (In.legal_in h p)) ms) (sym same) all)
-
-pub returns-then-only_movers_win-clause-gone : goal.returns-then-only_movers_win-clause-gone
-returns-then-only_movers_win-clause-gone g t c =
-    let f = c.args.facts.now in
-    let r = seen_in f in
-    let p = c.args.board.now.position in
-    let n = c.args.n in
-    g.met.W.Watch.wider _ _ _ _ c.in_ok-enter.ensures.gone (lines-some r (plies r n p) p)
 
 pub after-next-requires : goal.after-next-requires
 after-next-requires g t c =

@@ -1,0 +1,153 @@
+//! The last moves: the attacker's, and the reply before it. No node is entered for them.
+ghost use Rattle.std.specs.Prelude.{◌≡◌, true, false, IfOk, IfSome};
+ghost use Rattle.mate_core.specs.Runs.{IsTrueIn};
+ghost use Rattle.mate_settle.specs.Known.{Answers};
+ghost use Rattle.mate_settle.specs.LastMoves as Last;
+ghost use Rattle.mate_settle.specs.Refuters.{IsRefuter};
+ghost use Rattle.rules_model.specs.Sides.{same_side};
+
+use crate::known::{FactTable, REFUTERS};
+use crate::last_moves::{by_last_move, only_movers_win};
+use crate::settling::{decide, known_now, legal_list};
+use mate_core::{Fact, Frame};
+use mate_fact::end_of;
+use playing::Board;
+use rules_model::{Memory, Move, Outcome};
+use std::alloc::Global;
+
+/// Whether the attacker, who is to move, wins by one move: a true fact that says it; or `Memory`.
+fn by_one_move(alloc: Global, frame: &Frame, board: &Board) -> Result<Fact, Memory>
+    requires rules { board.now.rules ≡ frame.now.rules }
+    requires movers { Last.only_movers_win frame.now.rules ≡ true }
+    requires turn { same_side board.now.position.side frame.now.attacker ≡ true }
+    ensures truth { IfOk result (IsTrueIn frame.now) }
+    ensures serves { IfOk result (Answers board.now 1) }
+{
+    let moves = legal_list(alloc, board)?;
+    let list = moves.items.as_slice();
+    match known_now(frame, board, 1, !list.is_empty()) {
+        Some(fact) => Ok(fact),
+        None => Ok(by_last_move(frame, board, list)),
+    }
+}
+
+/// A reply that refutes the attacker's last move, and what is known after it.
+#[derive(Clone, Copy)]
+pub(crate) struct Refuter {
+    pub chosen: Move,
+    pub known: Fact,
+}
+
+/// The reply with what is known after it, where it is legal and the attacker does not win by the one move that he has
+/// left; or `Memory`.
+fn refuter_by(
+    alloc: Global,
+    frame: &Frame,
+    board: &Board,
+    reply: Move,
+) -> Result<Option<Refuter>, Memory>
+    requires rules { board.now.rules ≡ frame.now.rules }
+    requires movers { Last.only_movers_win frame.now.rules ≡ true }
+    requires turn { same_side board.now.position.side frame.now.attacker ≡ false }
+    ensures { IfOk result (λ o. IfSome o (IsRefuter frame.now board.now)) }
+{
+    if !board.is_legal(&reply) {
+        return Ok(None);
+    }
+    let ended = end_of(frame, board.position(), Outcome::Ongoing);
+    if ended.is_some() {
+        return Ok(None);
+    }
+    let next = board.after(&reply);
+    let known = by_one_move(alloc, frame, &next)?;
+    if known.wins {
+        return Ok(None);
+    }
+    Ok(Some(Refuter {
+        chosen: reply,
+        known,
+    }))
+}
+
+/// Of the replies that refuted such positions last, the newest that refutes this one, where the attacker has one move
+/// left; or `Memory`.
+fn last_refuter(alloc: Global, board: &Board, facts: &FactTable) -> Result<Option<Refuter>, Memory>
+    requires rules { board.now.rules ≡ facts.now.rules }
+    requires movers { Last.only_movers_win facts.now.rules ≡ true }
+    requires turn { same_side board.now.position.side facts.now.attacker ≡ false }
+    ensures { IfOk result (λ o. IfSome o (IsRefuter facts.now board.now)) }
+{
+    for at in 0..REFUTERS {
+        let Some(reply) = facts.refuter(at) else {
+            return Ok(None);
+        };
+        let found = refuter_by(alloc, facts.frame(), board, reply)?;
+        if found.is_some() {
+            return Ok(found);
+        }
+    }
+    Ok(None)
+}
+
+/// The refutation of a position before the attacker's last move by a reply that refuted such a position lately, if one
+/// does: no list of moves is made. Or `Memory`.
+fn refuted_again(
+    alloc: Global,
+    board: &Board,
+    facts: &mut FactTable,
+) -> Result<Option<Fact>, Memory>
+    requires rules { board.now.rules ≡ facts.old.rules }
+    requires movers { Last.only_movers_win facts.old.rules ≡ true }
+    requires turn { same_side board.now.position.side facts.old.attacker ≡ false }
+    ensures frame { facts.new ≡ facts.old }
+    ensures truth { IfOk result (λ o. IfSome o (IsTrueIn facts.old)) }
+    ensures serves { IfOk result (λ o. IfSome o (Answers board.now 1)) }
+{
+    match last_refuter(alloc, board, facts)? {
+        Some(found) => Ok(Some(decide(facts, board, false, 1, found.chosen, &found.known))),
+        None => Ok(None),
+    }
+}
+
+/// The attacker's last move, where only movers win: a true fact that says whether he wins by it; or `Memory`. A win is
+/// kept.
+fn settled_last(alloc: Global, board: &Board, facts: &mut FactTable) -> Result<Fact, Memory>
+    requires rules { board.now.rules ≡ facts.old.rules }
+    requires movers { Last.only_movers_win facts.old.rules ≡ true }
+    requires turn { same_side board.now.position.side facts.old.attacker ≡ true }
+    ensures frame { facts.new ≡ facts.old }
+    ensures truth { IfOk result (IsTrueIn facts.old) }
+    ensures serves { IfOk result (Answers board.now 1) }
+{
+    let found = by_one_move(alloc, facts.frame(), board)?;
+    if found.wins {
+        facts.keep(board, found);
+    }
+    Ok(found)
+}
+
+/// What is known of a position before its moves are listed: by a kept fact; or, where the attacker has one move left, by
+/// that move, or by a reply that refuted lately. Or `Memory`.
+pub(crate) fn known_before(
+    alloc: Global,
+    board: &Board,
+    n: u16,
+    facts: &mut FactTable,
+) -> Result<Option<Fact>, Memory>
+    requires rules { board.now.rules ≡ facts.old.rules }
+    ensures frame { facts.new ≡ facts.old }
+    ensures truth { IfOk result (λ o. IfSome o (IsTrueIn facts.old)) }
+    ensures serves { IfOk result (λ o. IfSome o (Answers board.now n)) }
+{
+    let frame = facts.frame();
+    let is_last = n == 1 && only_movers_win(&frame.rules);
+    if is_last && board.position().side.is(frame.attacker) {
+        let found = settled_last(alloc, board, facts)?;
+        return Ok(Some(found));
+    }
+    let known = facts.look(board, n);
+    if known.is_some() || !is_last {
+        return Ok(known);
+    }
+    refuted_again(alloc, board, facts)
+}
