@@ -357,13 +357,17 @@ class Board(ThreadingHTTPServer):
             tab.close()
 
     def reap(self):
-        """Ends the sessions of tabs that are silent."""
+        """Looks for silent tabs from time to time."""
         while True:
             time.sleep(10)
-            with self.lock:
-                silent = [name for name, tab in self.tabs.items() if time.monotonic() - tab.heard > SILENT]
-            for name in silent:
-                self.close_tab(name)
+            self.end_silent()
+
+    def end_silent(self):
+        """Ends the sessions of tabs that are silent."""
+        with self.lock:
+            silent = [name for name, tab in self.tabs.items() if time.monotonic() - tab.heard > SILENT]
+        for name in silent:
+            self.close_tab(name)
 
     def server_close(self):
         super().server_close()

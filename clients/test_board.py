@@ -244,6 +244,16 @@ class Conduct(unittest.TestCase):
             self.board.ask("close", tab=tab)
         self.assertTrue(self.board.wait_for_sessions(count))
 
+    def test_a_silent_tab_is_ended(self):
+        own = board.Board(PROGRAM, None)
+        self.addCleanup(own.server_close)
+        silent, heard = own.open_tab(), own.open_tab()
+        pid = own.tabs[silent].engine.pid
+        own.tabs[silent].heard -= board.SILENT + 1
+        own.end_silent()
+        self.assertEqual(list(own.tabs), [heard])
+        self.assertFalse(os.path.exists(f"/proc/{pid}"))
+
     def test_the_end_leaves_no_process(self):
         other = Running(os.path.join(EXAMPLES, "mini.ini"))
         tab = other.ask("open")["tab"]
