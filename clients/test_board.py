@@ -1,0 +1,569 @@
+#!/usr/bin/env python3
+"""Tests of board.py: its conduct by plain requests, and its page in a headless browser.
+
+Usage: clients/test_board.py [TEST ..]      (VENGINE=FILE names another program; BOARD_PICTURES=FOLDER keeps the pictures of docs/BOARD.md)
+
+The browser is Debian's package chromium; without it the tests of the page are skipped.
+"""
+import contextlib
+import http.client
+import json
+import os
+import re
+import signal
+import subprocess
+import sys
+import tempfile
+import time
+import unittest
+
+import board
+from browser import CHROMIUM, Browser
+from vengine import Engine, Fault, Section, find_program
+
+HERE = os.path.dirname(os.path.abspath(__file__))
+EXAMPLES = os.path.join(HERE, "..", "examples")
+PROGRAM = find_program()
+PICTURES = os.environ.get("BOARD_PICTURES")
+THREE_FAULTS = """[fine:chess]
+nMoveRule = 40
+
+[first:chess]
+# the value is too large
+maxRank = 11
+
+[second:ches]
+
+[third:chess]
+customPiece1 = a:NW
+rook = a
+"""
+WIDE = """[wide]
+maxFile = 12
+maxRank = 10
+king = k
+rook = r
+customPiece1 = g:NAD
+customPiece2 = w:FC
+pawn = p
+castling = false
+promotionPieceTypes = rgw
+promotionRegionWhite = *10
+promotionRegionBlack = *1
+doubleStepRegionWhite = *2
+doubleStepRegionBlack = *9
+startFen = rgwwgrkgwwgr/pppppppppppp/12/12/12/12/12/12/PPPPPPPPPPPP/RGWWGRKGWWGR w - - 0 1
+"""
+
+
+def setUpModule():
+    # The launcher builds the program first, for which no test has the time.
+    subprocess.run([PROGRAM, "reach", "W", "a1"], stdout=subprocess.DEVNULL, check=True)
+
+
+def sessions_of(pid):
+    """The processes that a process has started, but for those that have ended."""
+    found = []
+    for name in filter(str.isdigit, os.listdir("/proc")):
+        try:
+            with open(f"/proc/{name}/stat") as file:
+                state, parent = file.read().rpartition(")")[2].split()[:2]
+        except (FileNotFoundError, ProcessLookupError):
+            continue
+        if int(parent) == pid and state != "Z":
+            found.append(int(name))
+    return found
+
+
+class Running:
+    """A board that is served, with a file of variants or without."""
+
+    def __init__(self, *words):
+        self.process = subprocess.Popen([sys.executable, os.path.join(HERE, "board.py"), "--no-browser", "--program", PROGRAM, *words],
+                                        stdout=subprocess.PIPE, text=True)
+        self.address = re.search(r"http://\S+/", self.process.stdout.readline()).group()
+        self.port = int(self.address.rstrip("/").rpartition(":")[2])
+
+    def close(self):
+        """The status after Ctrl-C."""
+        self.process.send_signal(signal.SIGINT)
+        status = self.process.wait(20)
+        self.process.stdout.close()
+        return status
+
+    def request(self, method, path, body=None, **headers):
+        """The status and the body of an answer."""
+        connection = http.client.HTTPConnection("127.0.0.1", self.port, timeout=60)
+        try:
+            connection.request(method, path, body, headers)
+            answer = connection.getresponse()
+            return answer.status, answer.read()
+        finally:
+            connection.close()
+
+    def ask(self, name, **given):
+        """An answer to the page."""
+        _, body = self.request("POST", f"/{name}", json.dumps(given), Origin=f"http://127.0.0.1:{self.port}")
+        return json.loads(body)
+
+    def wait_for_sessions(self, count):
+        """Whether so many sessions are running, soon."""
+        end = time.monotonic() + 20
+        while len(sessions_of(self.process.pid)) != count and time.monotonic() < end:
+            time.sleep(0.05)
+        return len(sessions_of(self.process.pid)) == count
+
+
+class Texts(unittest.TestCase):
+    def test_faults_in_words(self):
+        told = board.said_of(Fault("SectionFault 6 BadPiece customPiece1 BetzaFault 6 AmbiguousDirection 0"))
+        self.assertEqual(told["words"], "the word of the piece is faulty (customPiece1); the directions from here have no one meaning on the atom (0)")
+        self.assertEqual(board.said_of(Fault("PositionFault 2 BadMove 3 e4e5"))["words"], "this move is not legal (3 e4e5)")
+        self.assertEqual(board.said_of(Fault("Verdict 1 Root"))["words"], "node 0 is not the game's position, or not within the goal")
+        self.assertEqual(board.fault_words("/nonexistent"), {})
+
+    def test_the_line_of_a_fault(self):
+        with open(os.path.join(EXAMPLES, "faults.ini")) as file:
+            text = file.read()
+        with Engine(PROGRAM) as engine:
+            engine.load_variant_config(text)
+            told = board.sections_told(text, engine.sections())
+        lines = text.split("\n")
+        shown = {section["name"]: lines[section["line"] - 1] for section in told}
+        self.assertEqual(len(told), 13)
+        self.assertEqual(shown["fourth"], "blastOnCapture = true")
+        self.assertEqual(shown["fifth"], "nFoldRule = 1")
+        self.assertEqual(shown["sixth"], "customPiece1 = a:fN")
+        self.assertEqual(shown["seventh"], "amazon = q")
+        self.assertEqual(shown["second"], "[second:nobody]")
+
+    def test_sections_without_a_fault(self):
+        self.assertEqual(board.sections_told("", [Section("chess", None)]), [])
+        told = board.sections_told("# a\n[b:chess]\n", [Section("chess", None), Section("b", None)])
+        self.assertEqual(told, [{"name": "b", "parent": "chess", "line": 2, "fault": None}])
+
+    def test_names_that_may_be_meant(self):
+        names = ["chess", "crazyhouse", "xiangqi", "mini"]
+        for given, meant in (("ches", ["chess"]), ("Chess", ["chess"]), ("chesss", ["chess"]), ("cress", ["chess"]), ("min", ["mini"]), ("go", [])):
+            self.assertEqual(board.near_names(given, names), meant)
+
+
+class Conduct(unittest.TestCase):
+    @classmethod
+    def setUpClass(cls):
+        cls.board = Running()
+        cls.own = f"http://127.0.0.1:{cls.board.port}"
+
+    @classmethod
+    def tearDownClass(cls):
+        cls.board.close()
+
+    def setUp(self):
+        self.tab = self.board.ask("open")["tab"]
+        self.addCleanup(self.board.ask, "close", tab=self.tab)
+
+    def look(self, **given):
+        return self.board.ask("look", **{"tab": self.tab, "variant": "chess", "fen": "startpos", "moves": [], **given})
+
+    def test_other_addresses_are_refused(self):
+        body = json.dumps({})
+        for headers in ({}, {"Origin": "http://evil.example"}, {"Origin": "null"}, {"Origin": "http://127.0.0.1:1"},
+                        {"Origin": self.own, "Host": "evil.example"}):
+            self.assertEqual(self.board.request("POST", "/open", body, **headers)[0], 403)
+        self.assertEqual(self.board.request("GET", "/", Host="evil.example")[0], 403)
+        self.assertEqual(self.board.request("GET", "/", Origin="http://evil.example")[0], 403)
+        for address in subprocess.run(["hostname", "-I"], capture_output=True, text=True).stdout.split()[:1]:
+            with self.assertRaises(OSError):
+                http.client.HTTPConnection(address, self.board.port, timeout=5).connect()
+
+    def test_no_file_can_be_had(self):
+        self.assertEqual(self.board.request("GET", "/")[0], 200)
+        for path in ("/board.py", "/../board.py", "/board/../../board.py", "//etc/passwd", "/%2e%2e/board.py", "/etc/passwd", "/index.html?a",
+                     "/vengine.py", "/board/", "*"):
+            self.assertEqual(self.board.request("GET", path)[0], 404)
+        answer = self.board.ask("load", tab=self.tab, text="VariantPath=/etc/passwd")
+        self.assertEqual(answer["fault"]["text"], "IniFault 4 NoSection 1")
+
+    def test_requests_that_are_none(self):
+        for body in ("", "[]", "{", "7", "null", "[" * 100_000):
+            self.assertEqual(self.board.request("POST", "/open", body, Origin=self.own)[0], 400)
+        self.assertEqual(self.board.request("POST", "/open", "{}", **{"Origin": self.own, "Content-Length": "-1"})[0], 400)
+        self.assertEqual(self.board.request("POST", "/open", "{}", **{"Origin": self.own, "Content-Length": str(1 << 30)})[0], 400)
+        for name in ("answer", "close_tab", "__init__", "begin", "nothing", "in_turn"):
+            body = json.dumps({"tab": self.tab})
+            self.assertEqual(self.board.request("POST", f"/{name}", body, Origin=self.own)[0], 404)
+        self.assertEqual(self.board.request("POST", "/look", json.dumps({"tab": "x"}), Origin=self.own)[0], 410)
+
+    def test_bad_games_change_nothing(self):
+        self.assertEqual(len(self.look()["moves"]), 20)
+        for given in ({"moves": ["e2e5"]}, {"moves": "e2e4"}, {"moves": ["e2e4\nquit"]}, {"moves": [7]}, {"fen": "a\nb"}, {"fen": None},
+                      {"variant": "nobody"}, {"variant": "a b"}, {"variant": 7}, {"fen": "8/" * 50_000}):
+            answer = self.look(**given)
+            self.assertTrue("fault" in answer or "error" in answer, answer)
+        self.assertEqual(len(self.look()["moves"]), 20)
+        self.assertEqual(self.look(variant="ches")["fault"]["text"], "OptionFault 2 UnknownVariant ches")
+        self.assertEqual(self.board.ask("meant", tab=self.tab, variant="ches")["names"], ["chess"])
+
+    def test_files_of_the_page(self):
+        answer = self.board.ask("load", tab=self.tab, text="[a:chess]\n" + "#" * (1 << 20))
+        self.assertEqual(answer["fault"]["text"], "FileFault 2 TooLarge")
+        with contextlib.suppress(OSError):  # the answer may come before all of it was sent
+            self.assertEqual(self.board.request("POST", "/load", "x" * (5 << 20), Origin=self.own)[0], 400)
+        self.assertEqual(len(self.look()["moves"]), 20)
+        answer = self.board.ask("load", tab=self.tab, text=THREE_FAULTS)
+        self.assertEqual(answer["variants"][-1], "fine")
+        self.assertEqual([(section["name"], section["line"]) for section in answer["sections"]], [("fine", 1), ("first", 6), ("second", 8), ("third", 12)])
+        self.assertEqual([section["fault"] and section["fault"]["text"] for section in answer["sections"]],
+                         [None, "SectionFault 5 BadValue maxRank", "SectionFault 2 UnknownParent", "SectionFault 7 LetterTwice a"])
+
+    def test_words_of_pieces(self):
+        answer = self.board.ask("reach", tab=self.tab, word="mNcF")
+        self.assertEqual(set(answer["quiet"]), {"b3", "b5", "c2", "c6", "e2", "e6", "f3", "f5"})
+        self.assertEqual(set(answer["take"]), {"c3", "c5", "e3", "e5"})
+        for word in ("", "a b", "--threads", "\n", "fN"):
+            answer = self.board.ask("reach", tab=self.tab, word=word)
+            self.assertTrue("fault" in answer or "error" in answer)
+
+    def test_a_session_that_is_killed_is_started_anew(self):
+        before = set(sessions_of(self.board.process.pid))
+        tab = self.board.ask("open")["tab"]
+        self.addCleanup(self.board.ask, "close", tab=tab)
+        self.board.ask("load", tab=tab, text="[own:chess]\n")
+        (pid,) = set(sessions_of(self.board.process.pid)) - before
+        os.kill(pid, signal.SIGKILL)
+        game = {"tab": tab, "variant": "own", "fen": "startpos", "moves": []}
+        self.assertIn("started anew", self.board.ask("look", **game)["error"])
+        self.assertEqual(len(self.board.ask("look", **game)["moves"]), 20)
+
+    def test_a_closed_tab_ends_its_session(self):
+        count = len(sessions_of(self.board.process.pid))
+        tabs = [self.board.ask("open")["tab"] for _ in range(10)]
+        self.assertTrue(self.board.wait_for_sessions(count + 10))
+        self.board.ask("go", tab=tabs[0], variant="chess", fen="startpos", moves=[], depth=64)
+        for tab in tabs:
+            self.board.ask("close", tab=tab)
+        self.assertTrue(self.board.wait_for_sessions(count))
+
+    def test_a_silent_tab_is_ended(self):
+        own = board.Board(PROGRAM, None)
+        self.addCleanup(own.server_close)
+        silent, heard = own.open_tab(), own.open_tab()
+        pid = own.tabs[silent].engine.pid
+        own.tabs[silent].heard -= board.SILENT + 1
+        own.end_silent()
+        self.assertEqual(list(own.tabs), [heard])
+        self.assertFalse(os.path.exists(f"/proc/{pid}"))
+
+    def test_the_end_leaves_no_process(self):
+        other = Running(os.path.join(EXAMPLES, "mini.ini"))
+        tab = other.ask("open")["tab"]
+        other.ask("go", tab=tab, variant="mini", fen="startpos", moves=[], depth=64)
+        pids = sessions_of(other.process.pid)
+        self.assertEqual(len(pids), 1)
+        self.assertEqual(other.close(), 0)
+        self.assertFalse(any(os.path.exists(f"/proc/{pid}") for pid in pids))
+
+
+@unittest.skipUnless(CHROMIUM, "there is no chromium")
+class Pages(unittest.TestCase):
+    """The page in a browser."""
+
+    @classmethod
+    def setUpClass(cls):
+        cls.folder = tempfile.TemporaryDirectory()
+        cls.file = os.path.join(cls.folder.name, "wide.ini")
+        with open(cls.file, "w") as file:
+            file.write(WIDE)
+        cls.board, cls.browser = Running(), Browser()
+
+    @classmethod
+    def tearDownClass(cls):
+        cls.browser.close()
+        cls.board.close()
+        cls.folder.cleanup()
+
+    def open(self, served=None, width=1280, height=900, is_dark=False):
+        page = self.browser.page((served or self.board).address, width, height, is_dark)
+        self.addCleanup(page.close)
+        page.wait("document.body?.dataset.ready")
+        self.addCleanup(lambda: self.assertEqual(page.faults(), []))
+        return page
+
+    def setUp(self):
+        self.page = self.open()
+
+    def start(self, variant, fen=""):
+        """A game of a variant from a position."""
+        self.page.choose("#variant", variant)
+        self.page.wait(f"document.querySelector('#variant').value === '{variant}' && document.querySelectorAll('#moves li').length === 0")
+        if fen:
+            self.page.type("#fen", fen)
+            self.page.click("#start button")
+        wanted = "document.querySelector('#state').textContent"
+        self.page.wait(f"{wanted}.length > 0 && document.querySelector('#message').hidden")
+        time.sleep(0.3)
+
+    def moves(self):
+        return self.page.run("[...document.querySelectorAll('#moves li')].map(one => one.lastChild.textContent)")
+
+    def plays(self, count):
+        self.page.wait(f"document.querySelectorAll('#moves li').length === {count}")
+
+    def square(self, name):
+        return f"[data-square={name}]"
+
+    def move(self, text, added=""):
+        """Clicks on both squares, and on what is meant where there is a choice."""
+        count = len(self.moves())
+        origin, target = re.fullmatch(r"([a-l]\d+)([a-l]\d+)", text).groups()
+        self.page.click(self.square(origin))
+        self.page.wait(f"document.querySelector('.square.chosen')?.dataset.square === '{origin}'")
+        self.page.click(self.square(target))
+        if added is not None and (added or self.page.run("document.querySelector('#choice').open")):
+            self.page.wait("document.querySelector('#choice').open")
+            self.page.click(f"[data-move='{text}{added}']")
+        self.plays(count + 1)
+
+    def keep(self, name, page=None):
+        if PICTURES:
+            (page or self.page).picture(os.path.join(PICTURES, name + ".png"))
+
+    def test_a_game_of_chess_to_mate(self):
+        page = self.page
+        self.assertEqual(page.run("document.querySelectorAll('.square').length"), 64)
+        page.click(self.square("e2"))
+        page.wait("document.querySelectorAll('.dot').length === 2")
+        page.click(self.square("e5"))
+        page.wait("document.querySelectorAll('.dot').length === 0")
+        self.move("e2e4")
+        self.assertEqual(page.text("#state"), "Black to move")
+        page.drag(self.square("e7"), self.square("e5"))
+        self.plays(2)
+        # the queen goes from d1 by keys
+        page.run("document.querySelector('[data-square=d1]').focus()")
+        page.click(self.square("d1"))
+        for key in ("ArrowUp",) * 4 + ("ArrowRight",) * 4 + ("Enter",):
+            page.key(key)
+        self.plays(3)
+        self.move("b8c6")
+        page.type("#move", "f1c4")
+        page.key("Enter")
+        self.plays(5)
+        self.move("g8f6")
+        self.keep("chess")
+        page.click("#undo")
+        self.plays(5)
+        self.move("g8f6")
+        page.click(self.square("h5"))
+        page.wait("document.querySelectorAll('.take').length === 3")
+        page.click(self.square("f7"))
+        self.plays(7)
+        self.assertEqual(page.text("#state"), "White wins by checkmate")
+        self.assertEqual(self.moves(), ["e2e4", "e7e5", "d1h5", "b8c6", "f1c4", "g8f6", "h5f7"])
+        page.click("#copy-fen")
+        page.wait("document.querySelector('#line').textContent === 'r1bqkb1r/pppp1Qpp/2n2n2/4p3/2B1P3/8/PPPP1PPP/RNB1K1NR b KQkq - 0 4'")
+        page.click("#copy-moves")
+        page.wait("document.querySelector('#line').textContent === 'e2e4 e7e5 d1h5 b8c6 f1c4 g8f6 h5f7'")
+        page.type("#move", "e8f7")
+        page.key("Enter")
+        page.wait("!document.querySelector('#message').hidden")
+        self.assertEqual(len(self.moves()), 7)
+
+    def test_crazyhouse_with_drops(self):
+        page = self.page
+        self.start("crazyhouse")
+        for text in ("e2e4", "d7d5", "e4d5", "g8f6"):
+            self.move(text)
+        page.click("[data-hand=P]")
+        page.wait("document.querySelectorAll('.dot').length > 20")
+        self.keep("crazyhouse")
+        page.click(self.square("e6"))
+        self.plays(5)
+        self.assertEqual(self.moves()[-1], "P@e6")
+        self.assertEqual(page.run("document.querySelectorAll('[data-hand]').length"), 0)
+
+    def test_seirawan_with_gates(self):
+        self.start("seirawan")
+        self.move("b1c3", "h")
+        self.move("b8c6", "e")
+        self.move("g1f3", "")
+        self.assertEqual(self.moves(), ["b1c3h", "b8c6e", "g1f3"])
+        self.assertEqual(self.page.run("document.querySelector('[data-square=b1]').getAttribute('aria-label')"), "b1, H")
+        self.page.click(self.square("g8"))
+        self.page.click(self.square("f6"))
+        self.page.wait("document.querySelector('#choice').open")
+        self.keep("seirawan")
+        self.page.click("#cancel")
+
+    def test_xiangqi(self):
+        self.start("xiangqi")
+        self.assertEqual(self.page.run("document.querySelectorAll('.square').length"), 90)
+        for text in ("h3e3", "h10g8", "e3e7"):
+            self.move(text)
+        self.assertEqual(self.page.text("#state"), "Black to move")
+        self.page.click("#turn")
+        self.move("i10h10")
+        self.keep("xiangqi")
+
+    def test_a_promotion(self):
+        self.start("chess", "k7/4P3/8/8/8/8/8/K7 w - - 0 1")
+        self.page.click(self.square("e7"))
+        self.page.click(self.square("e8"))
+        self.page.wait("document.querySelector('#choice').open")
+        self.assertEqual(self.page.run("document.querySelectorAll('#choices button').length"), 4)
+        self.page.click("[data-move=e7e8n]")
+        self.plays(1)
+        self.assertEqual(self.moves(), ["e7e8n"])
+
+    def test_a_large_board_of_a_file(self):
+        served = Running(self.file)
+        self.addCleanup(served.close)
+        self.page = self.open(served)
+        self.page.wait("document.querySelector('#variant').value === 'wide'")
+        self.assertEqual(self.page.run("document.querySelectorAll('.square').length"), 120)
+        self.move("b1d3")
+        self.move("l9l7")
+        self.assertEqual(self.moves(), ["b1d3", "l9l7"])
+        self.keep("wide")
+        with open(self.file, "a") as file:
+            file.write("\n[narrow:wide]\nnMoveRule = 30\n")
+        self.page.wait("[...document.querySelector('#variant').options].some(one => one.value === 'narrow')")
+        self.assertEqual(self.moves(), ["b1d3", "l9l7"])
+
+    def test_a_file_with_three_faults(self):
+        page = self.page
+        page.click("#file-panel summary")
+        page.type("#text", THREE_FAULTS)
+        page.wait("document.querySelectorAll('#sections .fault').length === 3")
+        told = page.run("[...document.querySelectorAll('#sections button')].map(one => one.textContent)")
+        self.assertEqual(told[0], "[fine:chess], line 1: ok")
+        self.assertEqual(told[1], "[first:chess], line 6: the value is not of the key's form (maxRank) (SectionFault 5 BadValue maxRank)")
+        self.assertIn("no earlier section has the parent's name", told[2])
+        self.assertIn("two pieces of the section have one letter", told[3])
+        page.click("#sections li:nth-child(2) button")
+        page.wait("getSelection().toString() === 'maxRank = 11'")
+        self.keep("faults")
+        page.type("#text", "maxRank = 8")
+        page.wait("document.querySelector('#refused').textContent.includes('IniFault 4 NoSection 1')")
+
+    def test_a_mate_is_walked(self):
+        page = self.page
+        self.start("chess", "7k/R7/5K2/8/8/8/8/8 w - - 0 1")
+        page.click("#mate button")
+        page.wait("document.querySelector('#mated').textContent.includes('mates within 2')")
+        self.assertIn("by f6g6. The strategy's check says: wins", page.text("#mated"))
+        for move in ("f6g6", "h8g8"):
+            page.wait(f"document.querySelector('#edges').textContent === '{move}'")
+            page.click("#edges button")
+        page.wait("document.querySelector('#edges').textContent === 'a7a8'")
+        self.keep("mate")
+        page.click("#edges button")
+        page.wait("document.querySelector('#node').textContent.includes('won')")
+        self.assertEqual(page.run("document.querySelector('[data-square=a8]').getAttribute('aria-label')"), "a8, R")
+        page.click("#back")
+        page.wait("document.querySelector('#edges').textContent === 'a7a8'")
+        page.click("#to-game")
+        page.wait("document.querySelector('[data-square=f6]').getAttribute('aria-label') === 'f6, K'")
+        page.type("#within", "1")
+        page.click("#mate button")
+        page.wait("document.querySelector('#mated').textContent === 'White has no mate within 1'")
+
+    def test_the_engine_plays(self):
+        page = self.page
+        page.choose("#limit", "depth")
+        page.type("#amount", "2")
+        page.choose("#side", "b")
+        self.move_and_reply("e2e4", 2)
+        page.click("#undo")
+        self.plays(0)
+        page.choose("#side", "wb")
+        page.wait("document.querySelectorAll('#moves li').length >= 4")
+        page.choose("#side", "")
+        self.assertTrue(page.run("document.querySelector('#message').hidden"))
+
+    def move_and_reply(self, text, count):
+        self.page.click(self.square(text[:2]))
+        self.page.click(self.square(text[2:]))
+        self.plays(count)
+
+    def test_a_long_thought_is_stopped(self):
+        page = self.page
+        page.choose("#limit", "depth")
+        page.type("#amount", "64")
+        page.click("#think")
+        page.wait("/depth \\d/.test(document.querySelector('#thought').textContent)")
+        self.assertTrue(page.run("document.querySelector('#thought').classList.contains('busy')"))
+        self.keep("thinking")
+        page.click(self.square("e2"))
+        page.wait("document.querySelectorAll('.dot').length === 2")
+        page.click("#stop")
+        page.wait("document.querySelector('#stop').disabled")
+        page.click("#best")
+        self.plays(1)
+
+    def test_pictures_of_pieces(self):
+        page = self.page
+        page.click("#pieces-panel summary")
+        page.wait("document.querySelectorAll('#pieces figure').length === 6")
+        marks = page.run("Object.fromEntries([...document.querySelectorAll('#pieces figure')].map(one => [one.querySelector('figcaption').textContent, "
+                         "one.querySelectorAll('.dot').length]))")
+        self.assertEqual(marks, {"bishop": 13, "king": 8, "knight": 8, "pawn": 1, "queen": 27, "rook": 14})
+        page.type("#betza", "mNcF")
+        page.click("#word button")
+        page.wait("document.querySelectorAll('#reach .dot').length === 8 && document.querySelectorAll('#reach .take').length === 4")
+        self.keep("pieces")
+        page.type("#betza", "fN")
+        page.click("#word button")
+        page.wait("document.querySelector('#reach .fault')?.textContent.includes('AmbiguousDirection')")
+
+    def test_a_bad_position_is_told(self):
+        page = self.page
+        page.type("#fen", "8/8/8/8/8/8/8/8 w - - 0 1")
+        page.click("#start button")
+        page.wait("document.querySelector('#message').textContent.includes('FenFault 11 Kings')")
+        self.assertEqual(page.run("document.querySelectorAll('.piece').length"), 32)
+
+    def test_small_and_dark(self):
+        for name, width, is_dark in (("narrow", 400, False), ("narrow-dark", 400, True), ("dark", 1280, True)):
+            page = self.open(width=width, is_dark=is_dark)
+            self.assertLessEqual(page.run("document.documentElement.scrollWidth"), width)
+            self.keep(name, page)
+
+    def test_what_a_program_that_prints_rules_adds(self):
+        # in place of a program that has the commands `rules` and `keys`
+        program, text = (os.path.join(self.folder.name, name) for name in ("program", "rules"))
+        with open(text, "w") as file:
+            file.write("".join(line + "\n" for line in WIDE.splitlines() if "=" in line))
+        with open(program, "w") as file:
+            file.write('#!/bin/sh\ncase "$*" in\n*"rules "*) cat "${0%program}rules";;\n*"keys "*) echo "b1d3 mate 2"; echo "keys 1";;\n'
+                       f'*) exec {PROGRAM} "$@";;\nesac\n')
+        os.chmod(program, 0o755)
+        served = Running(self.file, "--program", program)
+        self.addCleanup(served.close)
+        page = self.page = self.open(served)
+        page.wait("document.querySelector('#variant').value === 'wide' && !document.querySelector('#shades').hidden")
+        self.assertEqual(page.run("document.querySelectorAll('.piece.figure').length"), 2 * (3 + 1 + 12))
+        page.click("#shades input[value=promotion]")
+        page.wait("document.querySelectorAll('.shade.promotion').length === 12")
+        self.assertTrue(page.run("document.querySelector('[data-square=a10] .shade') !== null"))
+        page.click("#pieces-panel summary")
+        page.wait("[...document.querySelectorAll('#pieces figcaption')].some(one => one.textContent === 'W: FC')")
+        page.click("#keys")
+        page.wait("document.querySelector('#mated').textContent === 'b1d3 mate 2, keys 1'")
+
+    def test_ten_tabs(self):
+        pages = [self.open() for _ in range(9)]
+        self.assertTrue(self.board.wait_for_sessions(10))
+        for page in pages:
+            page.click(self.square("e2"))
+            page.click(self.square("e4"))
+            page.wait("document.querySelectorAll('#moves li').length === 1")
+        page = self.browser.page(self.board.address)
+        page.wait("document.body?.dataset.ready")
+        self.assertTrue(self.board.wait_for_sessions(11))
+        page.close()
+        self.assertTrue(self.board.wait_for_sessions(10))
+
+
+if __name__ == "__main__":
+    unittest.main()
