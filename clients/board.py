@@ -55,8 +55,8 @@ def fault_words(path=FAULTS):
     with open(path, encoding="utf-8") as file:
         for line in file:
             cells = [cell.strip() for cell in line.strip().strip("|").split("|")]
-            if "where" in cells:
-                column = cells.index("where")
+            if "what is wrong" in cells:
+                column = cells.index("what is wrong")
             found = re.match(r"`(\w+) (\d+) \w+", cells[0])
             if found and column is not None and column < len(cells):
                 words[found.group(1), int(found.group(2))] = cells[column].replace("`", "")
