@@ -1,9 +1,9 @@
 -- Moves that are kept once each.
-use Rattle.std.proofs.Common.{◌≡◌, ◌⊎◌, inl, inr, ℕ, ◌+◌, ◌<◌, List, [], ◌∷◌, ◌++◌, take, get_or, length, refl, sym, subst}
+use Rattle.std.proofs.Common.{◌≡◌, inl, inr, ℕ, ◌+◌, ◌<◌, List, [], ◌∷◌, ◌++◌, take, get_or, length, sym, subst}
 use Rattle.std.specs.List.Sorted.{IsPermutation}
 use Rattle.std.proofs.lemmas.List.{take_more}
 use Rattle.std.proofs.lemmas.List.Sorted.{IsPermutation-sym}
-use Rattle.foundation.specs.Member.{Member, IsEachOnce}
+use Rattle.foundation.specs.Member.{Member}
 use Rattle.foundation.proofs.Members.{member-left, member-permutation, member-right, member-append, once-append}
 use Rattle.rules_model.specs.declared.moves.Move.{Move}
 use Rattle.alpha_beta.specs.Roots.{AreDistinct}

@@ -1,5 +1,5 @@
 -- A line of no moves after a game stands as the game.
-use Rattle.std.proofs.Common.{◌≡◌, ℕ, None, [], sym, subst}
+use Rattle.std.proofs.Common.{◌≡◌, ℕ, None, sym, subst}
 use Rattle.rules_model.specs.declared.moves.Move.{Move}
 use Rattle.rules_model.specs.declared.moves.Move.TheVariants.{Go}
 use Rattle.rules_model.specs.declared.moves.Promo.TheVariants.{Stays}

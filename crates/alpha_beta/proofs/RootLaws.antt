@@ -1,6 +1,5 @@
 -- Root moves that are searched once each.
 use Rattle.std.proofs.Common.{◌≡◌, ℕ, ◌+◌, ◌*◌, ◌≤◌, ◌<◌, List, [], ◌∷◌, length, take, get_or, ap, ◌∙◌, arith, ℤ, inl, refl}
-use Rattle.std.specs.List.{All}
 use Rattle.std.proofs.lemmas.List.Elements.{All-contains, Contains-get_or}
 use Rattle.std.proofs.lemmas.List.Sums.{sum_by_more, sum_by-take-le}
 use Rattle.foundation.specs.Member.{Member}
@@ -12,7 +11,7 @@ use Rattle.rules_model.specs.Legal.{legal}
 use Rattle.rules_model.specs.Repeats.{repeat_of}
 use Rattle.game_play.specs.Played.{Played, story}
 use Rattle.game_values.specs.Bounds.{search_bound}
-use Rattle.game_values.specs.Values.{Attains, play, root_score, root_value, tree_size, value_of, worst}
+use Rattle.game_values.specs.Values.{play, root_score, root_value, tree_size, value_of, worst}
 use Rattle.game_values.proofs.Greatest.{greatest-set}
 use Rattle.game_values.proofs.TreeLaws.{roots-lines}
 use Rattle.negamax.specs.RootFacts.{root_tree}

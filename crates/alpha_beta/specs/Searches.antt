@@ -1,5 +1,5 @@
 -- What a search answers, and what it did meanwhile.
-use Rattle.std.specs.Prelude.{◌≡◌, ℕ, ◌≤◌, List, Option, Some, None}
+use Rattle.std.specs.Prelude.{◌≡◌, ℕ, ◌+◌, ◌≤◌, List, Option, Some, None}
 use Rattle.rules_model.specs.declared.moves.Move.{Move}
 use Rattle.io_ports.specs.declared.dialect.Dialect.{Dialect}
 use Rattle.io_ports.specs.declared.limits.Limits.{Limits}
@@ -15,6 +15,12 @@ use Rattle.alpha_beta.specs.declared.searching.Searched.TheVariants as searched
 -- how many nodes a worker enters at most
 abbrev pub bound_of : Played → ℕ → ℕ
 bound_of game depth = search_bound game.rules depth (story game)
+
+-- The greatest count of nodes of one worker: at least what the watch counted from one moment to another, and with one
+-- worker that.
+pub record IsCount (workers entered entered' nodes : ℕ) : Type 0 where
+  pub least : entered' ≤ entered + nodes
+  pub alone : workers ≡ 1 → entered' ≡ entered + nodes
 
 -- Done: the value, a root move that attains it, and no more nodes than the bound
 abbrev pub Finds : Played → ℕ → List Move → Searched → Type 0

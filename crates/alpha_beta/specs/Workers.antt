@@ -1,13 +1,13 @@
 -- What workers hand back.
 use Rattle.std.specs.Prelude.{◌≡◌, ℕ, ◌+◌, ◌≤◌, List, [], fold, max}
 use Rattle.std.specs.List.{All}
-use Rattle.rules_model.specs.declared.moves.Move.{Move}
 use Rattle.game_play.specs.Played.{Played, story}
 use Rattle.game_line.specs.Lined.{Lined, line_of}
 use Rattle.negamax.specs.declared.facts.RootFact.{RootFact}
 use Rattle.negamax.specs.RootFacts.{IsTrueFact}
+use Rattle.alpha_beta.specs.declared.plan.Plan.{Plan}
 use Rattle.alpha_beta.specs.declared.work.Job.{Job}
-use Rattle.alpha_beta.specs.Roots.{root_lines}
+use Rattle.alpha_beta.specs.Roots.{AreLegal, root_lines}
 
 -- the line of no moves after the game, with room for a search of this depth
 abbrev pub line_after : Played → ℕ → Lined
@@ -21,14 +21,24 @@ AreTrueFacts game depth facts = All (IsTrueFact game.rules depth (story game)) f
 pub record FoundTrue (game : Played) (depth : ℕ) (facts : List RootFact) : Type 0 where
   pub known : AreTrueFacts game depth facts
 
+-- the depth is from 1 to 64, and the root moves are legal
+pub record IsPlan {G : Type 0} (plan : Plan G) : Type 0 where
+  pub least : 1 ≤ plan.depth
+  pub most : plan.depth ≤ 64
+  pub legal : AreLegal plan.game.now.rules (story plan.game.now) plan.roots.now
+
+-- how many lines a search of its root moves goes along at most
+abbrev pub lines_in : {G : Type 0} → Plan G → ℕ
+lines_in plan = root_lines plan.game.now.rules plan.depth (story plan.game.now) plan.roots.now
+
 -- it has found nothing yet
 abbrev pub HasNone : Job → Type 0
 HasNone job = job.facts.items ≡ []
 
 -- what a worker found is true, and it entered no more nodes than there are lines after the root moves
-pub record IsSound (game : Played) (depth : ℕ) (roots : List Move) (job : Job) : Type 0 where
-  pub facts : AreTrueFacts game depth job.facts.items
-  pub nodes : job.nodes ≤ root_lines game.rules depth (story game) roots
+pub record IsSound {G : Type 0} (plan : Plan G) (job : Job) : Type 0 where
+  pub facts : AreTrueFacts plan.game.now plan.depth job.facts.items
+  pub nodes : job.nodes ≤ lines_in plan
 
 -- the greatest of a count and those of the others
 abbrev pub most_nodes : ℕ → List Job → ℕ

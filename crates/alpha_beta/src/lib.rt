@@ -1,7 +1,8 @@
 //! The search: the exact value of a game at a depth, by workers that race over the root moves. The first of them runs
-//! in the caller and hears the outside.
+//! in the caller and asks a watch that is lent; what the watch hears is its own matter.
 #![tactic(auto)]
 
+mod plan;
 mod race;
 mod roots;
 mod searching;
@@ -9,4 +10,4 @@ mod shared;
 mod work;
 
 pub use io_ports::{Limits, SearchFault, Stopped};
-pub use searching::{Searched, search};
+pub use searching::{Found, Searched, search, search_watched};

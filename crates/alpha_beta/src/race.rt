@@ -1,93 +1,48 @@
 //! The worker in the caller, and the others beside it.
-ghost use Rattle.std.specs.Prelude.{◌≡◌, ◌*◌, ◌≤◌, ◌<◌, [], length};
+ghost use Rattle.std.specs.Prelude.{◌≡◌, ◌*◌, ◌≤◌, ◌<◌, [], length, OnOk, IsErrOf};
 ghost use Rattle.std.specs.List.{All};
-ghost use Rattle.game_play.specs.Played.{story};
-ghost use Rattle.watching.specs.Watched.{Watched, moment, world};
-ghost use Rattle.alpha_beta.specs.Roots.{AreLegal, root_lines};
-ghost use Rattle.alpha_beta.specs.Workers.{FoundTrue, HasNone, IsSound};
+ghost use Rattle.watching.specs.declared.halt.Halt.{Halt};
+ghost use Rattle.alpha_beta.specs.Workers.{FoundTrue, HasNone, IsPlan, IsSound, lines_in};
 
-use crate::shared::Shared;
+use crate::plan::Plan;
 use crate::work::{Job, help, take_all};
-use game_play::Game;
-use hint_table::HintTable;
-use io_ports::{Clock, Dialect, Gate, Limits, LineBuf, Sink, Source};
+use io_ports::Gate;
 use negamax::RootFact;
-use rules_model::Move;
 use std::alloc::Global;
 use std::thread::{Threads, for_each_mut, join_mut};
-use watching::{Caller, Halt};
-
-/// How the worker in the caller ended, and how many nodes it entered.
-#[derive(Clone, Copy, Debug)]
-pub(crate) struct Led {
-    pub nodes: u64,
-    pub end: Result<(), Halt>,
-}
+use watching::{Halt, Watch};
 
 /// The worker in the caller. When it ends, whatever the reason, the others are told to stop.
-fn lead<S: Source, K: Sink, C: Clock, G: Gate>(
+fn lead<W: Watch, G: Gate>(
     alloc: Global,
-    source: &mut S,
-    sink: &mut K,
-    clock: &mut C,
-    line: &mut LineBuf,
-    dialect: Dialect,
-    limits: Limits,
-    gate: &G,
-    shared: &Shared,
-    game: &Game,
-    depth: u8,
-    roots: &[Move],
-    hints: &HintTable,
+    plan: &Plan<G>,
     facts: &mut Vec<RootFact>,
-) -> Led
-    requires least { 1 ≤ depth }
-    requires most { depth ≤ 64 }
-    requires legal { AreLegal game.now.rules (story game.now) roots.now }
+    watch: &mut W,
+) -> Result<(), Halt>
+    requires plan { IsPlan plan.now }
     requires none { facts.old.items ≡ [] }
-    ensures found { FoundTrue game.now depth facts.new.items }
-    ensures watched { Watched (world S.left S.owed S.faults K.taken K.faults C.given C.count C.last) dialect limits
-        (moment source.old sink.old clock.old 0) (moment source.new sink.new clock.new result.nodes) line.new
-        (2 * root_lines game.now.rules depth (story game.now) roots.now) result.end }
+    ensures found { FoundTrue plan.now.game.now plan.now.depth facts.new.items }
+    ensures gone { OnOk result (W.gone watch.old watch.new (2 * lines_in plan.now)) }
+    ensures ended { (why : Halt) → IsErrOf result why → W.ended watch.old watch.new (2 * lines_in plan.now) why }
 {
-    let mut watch = Caller {
-        source,
-        sink,
-        clock,
-        line,
-        dialect,
-        limits,
-        nodes: 0,
-    };
-    let end = take_all(
-        alloc, &mut watch, shared, gate, game, depth, roots, hints, facts,
-    );
-    shared.flag.raise();
-    Led {
-        nodes: watch.nodes,
-        end,
-    }
+    let end = take_all(alloc, plan, facts, watch);
+    plan.shared.flag.raise();
+    end
 }
 
 /// The workers beside the first, each with a line and a desk of its own.
 fn help_all<R: Threads + Sync, G: Gate + Sync>(
     rt: &R,
     alloc: Global,
-    jobs: &mut [Job],
-    shared: &Shared,
-    gate: &G,
+    plan: &Plan<G>,
     quota: Option<u64>,
-    game: &Game,
-    depth: u8,
-    roots: &[Move],
-    hints: &HintTable,
+    jobs: &mut [Job],
 )
-    requires least { 1 ≤ depth }
-    requires most { depth ≤ 64 }
-    requires legal { AreLegal game.now.rules (story game.now) roots.now }
+    requires plan { IsPlan plan.now }
     requires none { All HasNone jobs.old }
     requires count { (0 < length jobs.old) × (length jobs.old ≤ 63) }
-    ensures sound { All (IsSound game.now depth roots.now) jobs.new }
+    ensures sound { All (IsSound plan.now) jobs.new }
+    ensures count { length jobs.new ≡ length jobs.old }
 {
     let count = jobs.len();
     for_each_mut(
@@ -95,79 +50,41 @@ fn help_all<R: Threads + Sync, G: Gate + Sync>(
         jobs,
         count,
         &|k: usize, job: &mut Job|
-            requires { HasNone job.now × AreLegal game.now.rules (story game.now) roots.now
-                × (1 ≤ depth) × (depth ≤ 64) × (k < 63) }
-            ensures { IsSound game.entry.now depth roots.entry.now job.exit.now }
-        {
-            help(
-                alloc,
-                job,
-                shared,
-                gate,
-                k as u32 + 1,
-                quota,
-                game,
-                depth,
-                roots,
-                hints,
-            )
-        },
+            requires { HasNone job.now × IsPlan plan.now × (k < 63) }
+            ensures { IsSound plan.entry.now job.exit.now }
+        { help(alloc, plan, k as u32 + 1, quota, job) },
     );
 }
 
 /// The worker in the caller and the others, beside each other. It returns once all have ended.
-pub(crate) fn race<R: Threads + Sync, S: Source, K: Sink, C: Clock, G: Gate + Sync>(
+pub(crate) fn race<R: Threads + Sync, W: Watch, G: Gate + Sync>(
     rt: &R,
     alloc: Global,
+    plan: &Plan<G>,
+    quota: Option<u64>,
     jobs: &mut [Job],
-    source: &mut S,
-    sink: &mut K,
-    clock: &mut C,
-    line: &mut LineBuf,
-    dialect: Dialect,
-    limits: Limits,
-    gate: &G,
-    shared: &Shared,
-    game: &Game,
-    depth: u8,
-    roots: &[Move],
-    hints: &HintTable,
     facts: &mut Vec<RootFact>,
-) -> Led
-    requires least { 1 ≤ depth }
-    requires most { depth ≤ 64 }
-    requires legal { AreLegal game.now.rules (story game.now) roots.now }
+    watch: &mut W,
+) -> Result<(), Halt>
+    requires plan { IsPlan plan.now }
     requires none { facts.old.items ≡ [] }
     requires ready { All HasNone jobs.old }
     requires count { length jobs.old ≤ 63 }
-    ensures sound { All (IsSound game.now depth roots.now) jobs.new }
-    ensures found { FoundTrue game.now depth facts.new.items }
-    ensures watched { Watched (world S.left S.owed S.faults K.taken K.faults C.given C.count C.last) dialect limits
-        (moment source.old sink.old clock.old 0) (moment source.new sink.new clock.new result.nodes) line.new
-        (2 * root_lines game.now.rules depth (story game.now) roots.now) result.end }
+    ensures sound { All (IsSound plan.now) jobs.new }
+    ensures count { length jobs.new ≡ length jobs.old }
+    ensures found { FoundTrue plan.now.game.now plan.now.depth facts.new.items }
+    ensures gone { OnOk result (W.gone watch.old watch.new (2 * lines_in plan.now)) }
+    ensures ended { (why : Halt) → IsErrOf result why → W.ended watch.old watch.new (2 * lines_in plan.now) why }
 {
     if jobs.is_empty() {
-        return lead(
-            alloc, source, sink, clock, line, dialect, limits, gate, shared, game, depth, roots,
-            hints, facts,
-        );
+        return lead(alloc, plan, facts, watch);
     }
-    let quota = limits.quota;
     let mut others = ||
-        requires { All HasNone jobs.now × AreLegal game.now.rules (story game.now) roots.now
-            × (1 ≤ depth) × (depth ≤ 64) × (0 < length jobs.now) × (length jobs.now ≤ 63) }
-        ensures { All (IsSound game.entry.now depth roots.entry.now) jobs.exit.now }
-    {
-        help_all(
-            rt, alloc, jobs, shared, gate, quota, game, depth, roots, hints,
-        )
-    };
-    let mut first = || {
-        lead(
-            alloc, source, sink, clock, line, dialect, limits, gate, shared, game, depth, roots,
-            hints, facts,
-        )
-    };
+        requires { All HasNone jobs.now × IsPlan plan.now × (0 < length jobs.now) × (length jobs.now ≤ 63) }
+        ensures { All (IsSound plan.entry.now) jobs.exit.now
+            × (length jobs.exit.now ≡ length jobs.entry.now) }
+    { help_all(rt, alloc, plan, quota, jobs) };
+    let mut first = || lead(alloc, plan, facts, watch);
     let (_, led) = join_mut(rt, &mut others, &mut first);
     led
 }

@@ -1,15 +1,17 @@
 //! The whole search.
-ghost use Rattle.std.specs.Prelude.{◌≡◌, ◌<◌, ◌*◌, ◌≤◌, [], length, vec_len, OnOk, IfOk, IsErrOf};
+ghost use Rattle.std.specs.Prelude.{◌≡◌, ◌<◌, ◌+◌, ◌*◌, ◌≤◌, length, vec_len, OnOk, IfOk, IsErrOf};
 ghost use Rattle.std.specs.List.{All};
 ghost use Rattle.io_ports.specs.declared.limits.SearchFault.{SearchFault};
 ghost use Rattle.game_play.specs.Played.{story};
-ghost use Rattle.watching.specs.Stopping.{AreSamePorts, Fails, Partly};
-ghost use Rattle.watching.specs.Watched.{Watched, moment, world};
+ghost use Rattle.watching.specs.declared.halt.Halt.{Halt};
+ghost use Rattle.watching.specs.Stopping.{AreSamePorts, Fails};
+ghost use Rattle.watching.specs.Watched.{moment, world};
 ghost use Rattle.alpha_beta.specs.Bests.{IsBest};
-ghost use Rattle.alpha_beta.specs.Roots.{AreLegal, root_lines};
-ghost use Rattle.alpha_beta.specs.Searches.{Finds, Heard, bound_of};
-ghost use Rattle.alpha_beta.specs.Workers.{AreTrueFacts, HasNone, IsSound, most_nodes};
+ghost use Rattle.alpha_beta.specs.Roots.{AreLegal};
+ghost use Rattle.alpha_beta.specs.Searches.{Finds, Heard, IsCount, bound_of};
+ghost use Rattle.alpha_beta.specs.Workers.{AreTrueFacts, HasNone, IsPlan, IsSound, lines_in, most_nodes};
 
+use crate::plan::Plan;
 use crate::race::race;
 use crate::roots::{floor_for, ordered};
 use crate::shared::Shared;
@@ -17,14 +19,23 @@ use crate::work::{Job, combine_facts};
 use foundation::Memory;
 use game_play::Game;
 use hint_table::HintTable;
-use io_ports::{Clock, Dialect, Gate, Limits, LineBuf, Ports, SearchFault, Sink, Source, Stopped};
-use negamax::{Best, RootFact};
+use io_ports::{Clock, Gate, Limits, LineBuf, Ports, SearchFault, Sink, Source, Stopped};
+use negamax::RootFact;
 use rules_model::Move;
 use std::alloc::Global;
 use std::thread::Threads;
-use watching::{Caller, Halt, stopped_by};
+use watching::{Caller, Halt, Watch, stopped_by};
 
-/// What a search answers.
+/// What a search finds: the value over the root moves, one of them that attains it, and the greatest count of nodes of
+/// one worker.
+#[derive(Clone, Copy, Debug)]
+pub struct Found {
+    pub value: i32,
+    pub best: Move,
+    pub nodes: u64,
+}
+
+/// What a search over ports answers.
 #[derive(Drop)]
 pub enum Searched {
     /// The value over the root moves, one of them that attains it, and the greatest count of nodes of one worker.
@@ -52,16 +63,10 @@ fn jobs_for(alloc: Global, count: u32) -> Vec<Job>
 }
 
 /// Adds what the others found.
-fn gather(
-    facts: &mut Vec<RootFact>,
-    jobs: &[Job],
-    game: &Game,
-    depth: u8,
-    roots: &[Move],
-) -> Result<(), Memory>
-    requires known { AreTrueFacts game.now depth facts.old.items }
-    requires sound { All (IsSound game.now depth roots.now) jobs.now }
-    ensures { OnOk result (AreTrueFacts game.now depth facts.new.items) }
+fn gather<G>(plan: &Plan<G>, jobs: &[Job], facts: &mut Vec<RootFact>) -> Result<(), Memory>
+    requires known { AreTrueFacts plan.now.game.now plan.now.depth facts.old.items }
+    requires sound { All (IsSound plan.now) jobs.now }
+    ensures { OnOk result (AreTrueFacts plan.now.game.now plan.now.depth facts.new.items) }
 {
     for job in jobs {
         facts.extend_from_slice(job.facts.as_slice())?;
@@ -80,195 +85,97 @@ fn greatest_count(nodes: u64, jobs: &[Job]) -> u64
     most
 }
 
-/// How the last part of a search ended, and how many nodes the worker in the caller had entered then.
-#[derive(Clone, Copy, Debug)]
-struct Settled {
-    nodes: u64,
-    end: Result<Best, Halt>,
-}
-
-/// Combines the facts, in the caller.
-fn settle<S: Source, K: Sink, C: Clock>(
-    alloc: Global,
-    source: &mut S,
-    sink: &mut K,
-    clock: &mut C,
-    line: &mut LineBuf,
-    dialect: Dialect,
-    limits: Limits,
-    nodes: u64,
-    game: &Game,
-    depth: u8,
-    roots: &[Move],
-    hints: &HintTable,
-    facts: &[RootFact],
-) -> Settled
-    requires least { 1 ≤ depth }
-    requires most { depth ≤ 64 }
-    requires legal { AreLegal game.now.rules (story game.now) roots.now }
-    requires some { 0 < length roots.now }
-    requires known { AreTrueFacts game.now depth facts.now }
-    ensures watched { Watched (world S.left S.owed S.faults K.taken K.faults C.given C.count C.last) dialect limits
-        (moment source.old sink.old clock.old nodes) (moment source.new sink.new clock.new result.nodes) line.new
-        (root_lines game.now.rules depth (story game.now) roots.now) result.end }
-    ensures best { IfOk result.end (λ best. IsBest game.now depth roots.now best.value best.chosen) }
-{
-    let mut watch = Caller {
-        source,
-        sink,
-        clock,
-        line,
-        dialect,
-        limits,
-        nodes,
-    };
-    let end = combine_facts(alloc, &mut watch, game, depth, roots, hints, facts);
-    Settled {
-        nodes: watch.nodes,
-        end,
-    }
-}
-
-/// What is best, and the greatest count of nodes of one worker.
-#[derive(Clone, Copy, Debug)]
-struct Found {
-    best: Best,
-    nodes: u64,
-}
-
-/// What the facts of all workers amount to.
-fn conclude<S: Source, K: Sink, C: Clock>(
-    alloc: Global,
-    jobs: &[Job],
-    source: &mut S,
-    sink: &mut K,
-    clock: &mut C,
-    line: &mut LineBuf,
-    dialect: Dialect,
-    limits: Limits,
-    nodes: u64,
-    game: &Game,
-    depth: u8,
-    roots: &[Move],
-    hints: &HintTable,
-    facts: &mut Vec<RootFact>,
-) -> Result<Found, Halt>
-    requires least { 1 ≤ depth }
-    requires most { depth ≤ 64 }
-    requires legal { AreLegal game.now.rules (story game.now) roots.now }
-    requires some { 0 < length roots.now }
-    requires known { AreTrueFacts game.now depth facts.old.items }
-    requires sound { All (IsSound game.now depth roots.now) jobs.now }
-    requires nodes { nodes ≤ 2 * root_lines game.now.rules depth (story game.now) roots.now }
-    ensures watched { Partly (world S.left S.owed S.faults K.taken K.faults C.given C.count C.last) dialect limits
-        (moment source.old sink.old clock.old nodes) source.new sink.new clock.new line.new
-        (root_lines game.now.rules depth (story game.now) roots.now) result }
-    ensures best { IfOk result (λ found. IsBest game.now depth roots.now found.best.value found.best.chosen) }
-    ensures nodes { IfOk result (λ found.
-        found.nodes ≤ 3 * root_lines game.now.rules depth (story game.now) roots.now) }
-{
-    gather(facts, jobs, game, depth, roots)?;
-    let settled = settle(
-        alloc, source, sink, clock, line, dialect, limits, nodes, game, depth, roots, hints, facts,
-    );
-    let best = settled.end?;
-    Ok(Found {
-        best,
-        nodes: greatest_count(settled.nodes, jobs),
-    })
-}
-
-/// The search of all workers.
-fn search_by<R: Threads + Sync, S: Source, K: Sink, C: Clock, G: Gate + Sync>(
+/// The search of all workers: they race over the root moves, and the one in the caller combines what they found.
+fn search_by<R: Threads + Sync, W: Watch, G: Gate + Sync>(
     rt: &R,
     alloc: Global,
+    plan: &Plan<G>,
+    quota: Option<u64>,
     jobs: &mut [Job],
-    source: &mut S,
-    sink: &mut K,
-    clock: &mut C,
-    line: &mut LineBuf,
-    dialect: Dialect,
-    limits: Limits,
-    gate: &G,
-    shared: &Shared,
-    game: &Game,
-    depth: u8,
-    roots: &[Move],
-    hints: &HintTable,
-    facts: &mut Vec<RootFact>,
+    watch: &mut W,
 ) -> Result<Found, Halt>
-    requires least { 1 ≤ depth }
-    requires most { depth ≤ 64 }
-    requires legal { AreLegal game.now.rules (story game.now) roots.now }
-    requires some { 0 < length roots.now }
-    requires none { facts.old.items ≡ [] }
+    requires plan { IsPlan plan.now }
+    requires some { 0 < length plan.now.roots.now }
     requires ready { All HasNone jobs.old }
     requires count { length jobs.old ≤ 63 }
-    ensures watched { Partly (world S.left S.owed S.faults K.taken K.faults C.given C.count C.last) dialect limits
-        (moment source.old sink.old clock.old 0) source.new sink.new clock.new line.new
-        (3 * root_lines game.now.rules depth (story game.now) roots.now) result }
-    ensures best { IfOk result (λ found. IsBest game.now depth roots.now found.best.value found.best.chosen) }
-    ensures nodes { IfOk result (λ found.
-        found.nodes ≤ 3 * root_lines game.now.rules depth (story game.now) roots.now) }
+    ensures best { IfOk result (λ found.
+        IsBest plan.now.game.now plan.now.depth plan.now.roots.now found.value found.best) }
+    ensures few { IfOk result (λ found. found.nodes ≤ 3 * lines_in plan.now) }
+    ensures counted { IfOk result (λ found.
+        IsCount (length jobs.old + 1) (W.entered watch.old) (W.entered watch.new) found.nodes) }
+    ensures gone { OnOk result (W.gone watch.old watch.new (3 * lines_in plan.now)) }
+    ensures ended { (why : Halt) → IsErrOf result why → W.ended watch.old watch.new (3 * lines_in plan.now) why }
 {
-    let led = race(
-        rt, alloc, jobs, source, sink, clock, line, dialect, limits, gate, shared, game, depth,
-        roots, hints, facts,
-    );
-    led.end?;
-    conclude(
-        alloc, jobs, source, sink, clock, line, dialect, limits, led.nodes, game, depth, roots,
-        hints, facts,
-    )
-}
-
-/// The search over ports that are lent singly.
-fn search_lent<R: Threads + Sync, S: Source, K: Sink, C: Clock, G: Gate + Sync>(
-    rt: &R,
-    alloc: Global,
-    game: &Game,
-    depth: u8,
-    roots: &[Move],
-    hints: &HintTable,
-    limits: Limits,
-    workers: u32,
-    source: &mut S,
-    sink: &mut K,
-    clock: &mut C,
-    line: &mut LineBuf,
-    dialect: Dialect,
-    gate: &G,
-) -> Result<Found, Halt>
-    requires least { 1 ≤ depth }
-    requires most { depth ≤ 64 }
-    requires legal { AreLegal game.now.rules (story game.now) roots.now }
-    requires some { 0 < length roots.now }
-    requires workers { (0 < workers) × (workers ≤ 64) }
-    ensures watched { Partly (world S.left S.owed S.faults K.taken K.faults C.given C.count C.last) dialect limits
-        (moment source.old sink.old clock.old 0) source.new sink.new clock.new line.new
-        (bound_of game.now depth) result }
-    ensures best { IfOk result (λ found. IsBest game.now depth roots.now found.best.value found.best.chosen) }
-    ensures nodes { IfOk result (λ found. found.nodes ≤ bound_of game.now depth) }
-{
-    let tried = ordered(alloc, game, roots, hints)?;
-    let shared = Shared::new(alloc, tried.len(), floor_for(game, hints, depth))?;
-    let mut jobs = jobs_for(alloc, workers - 1);
+    let before = watch.nodes();
     let mut facts = Vec::new(alloc);
-    search_by(
-        rt, alloc, &mut jobs, source, sink, clock, line, dialect, limits, gate, &shared, game,
-        depth, &tried, hints, &mut facts,
-    )
+    race(rt, alloc, plan, quota, jobs, &mut facts, watch)?;
+    gather(plan, jobs, &mut facts)?;
+    let best = combine_facts(alloc, plan, facts.as_slice(), watch)?;
+    let nodes = watch.nodes().saturating_sub(before);
+    Ok(Found {
+        value: best.value,
+        best: best.chosen,
+        nodes: greatest_count(nodes, jobs),
+    })
 }
 
 /// The value of the game at a depth from 1 to 64 over root moves, at least one and all legal, and one of them that
 /// attains it; by 1 to 64 workers, or by fewer where there is no memory for all. Hints change the time that it takes,
 /// and nothing else.
 ///
-/// The first worker runs in the caller. It polls the source each 1,024 nodes, answers the lines that it hears, and is
-/// cut by a line that stops the search, by the end of the lines, by the deadline, or once it has entered as many nodes
-/// as the quota says. The other workers run beside it; what they do is heard by nobody. No worker enters more nodes
-/// than four times the lines of at most as many legal moves as the depth and four, so a quota of this number never cuts
-/// a search.
+/// The first worker runs in the caller and asks the watch at each node; the others run beside it, each for at most as
+/// many nodes as the quota says, and what they do is heard by nobody. No worker enters more nodes than four times the
+/// lines of at most as many legal moves as the depth and four. The count of nodes is at least what the watch counted
+/// here; with one worker it is that.
+///
+/// # Errors
+///
+/// What ended the watch; or no memory.
+pub fn search_watched<R: Threads + Sync, W: Watch, G: Gate + Sync>(
+    rt: &R,
+    alloc: Global,
+    game: &Game,
+    depth: u8,
+    roots: &[Move],
+    hints: &HintTable,
+    quota: Option<u64>,
+    workers: u32,
+    gate: &G,
+    watch: &mut W,
+) -> Result<Found, Halt>
+    requires least { 1 ≤ depth }
+    requires most { depth ≤ 64 }
+    requires legal { AreLegal game.now.rules (story game.now) roots.now }
+    requires some { 0 < length roots.now }
+    requires workers { (0 < workers) × (workers ≤ 64) }
+    ensures best { IfOk result (λ found. IsBest game.now depth roots.now found.value found.best) }
+    ensures few { IfOk result (λ found. found.nodes ≤ bound_of game.now depth) }
+    ensures counted { IfOk result (λ found.
+        IsCount workers (W.entered watch.old) (W.entered watch.new) found.nodes) }
+    ensures gone { OnOk result (W.gone watch.old watch.new (bound_of game.now depth)) }
+    ensures ended { (why : Halt) → IsErrOf result why → W.ended watch.old watch.new (bound_of game.now depth) why }
+{
+    let tried = ordered(alloc, game, roots, hints)?;
+    let shared = Shared::new(alloc, tried.len(), floor_for(game, hints, depth))?;
+    let plan = Plan {
+        game,
+        depth,
+        roots: tried.as_slice(),
+        hints,
+        gate,
+        shared: &shared,
+    };
+    let mut jobs = jobs_for(alloc, workers - 1);
+    search_by(rt, alloc, &plan, quota, &mut jobs, watch)
+}
+
+/// As `search_watched`, over ports. The first worker polls the source each 1,024 nodes, answers the lines that it
+/// hears, and is cut by a line that stops the search, by the end of the lines, by the deadline, or once it has entered
+/// as many nodes as the quota says; a quota of four times the lines of at most as many legal moves as the depth and
+/// four never cuts it.
+///
+/// The contract says that there is a count of nodes that explains the answer; that this is the count of nodes entered,
+/// `search_watched` says.
 ///
 /// # Errors
 ///
@@ -301,28 +208,29 @@ pub fn search<R: Threads + Sync, S: Source, K: Sink, C: Clock, G: Gate + Sync>(
     ensures same { AreSamePorts ports.entry.now ports.exit.now }
 {
     let mut line = LineBuf::new(alloc)?;
-    let outcome = search_lent(
+    let mut watch = Caller {
+        source: ports.source,
+        sink: ports.sink,
+        clock: ports.clock,
+        line: &mut line,
+        dialect: ports.dialect,
+        limits,
+        nodes: 0,
+    };
+    let outcome = search_watched(
         rt,
         alloc,
         game,
         depth,
         roots,
         hints,
-        limits,
+        limits.quota,
         workers,
-        ports.source,
-        ports.sink,
-        ports.clock,
-        &mut line,
-        ports.dialect,
         ports.gate,
+        &mut watch,
     );
     match outcome {
-        Ok(found) => Ok(Searched::Done {
-            value: found.best.value,
-            best: found.best.chosen,
-            nodes: found.nodes,
-        }),
+        Ok(Found { value, best, nodes }) => Ok(Searched::Done { value, best, nodes }),
         Err(Halt::Cut(why)) => Ok(Searched::Stopped(stopped_by(why, line))),
         Err(Halt::Fault(why)) => Err(why),
     }

@@ -1,19 +1,13 @@
 //! Workers go over the root moves.
 ghost use Rattle.std.specs.Prelude.{◌≡◌, ◌*◌, ◌<◌, ◌≤◌, ◌++◌, ◌∷◌, [], length, OnOk, OnErr, IfOk, IsErrOf};
-ghost use Rattle.game_play.specs.Played.{story};
 ghost use Rattle.watching.specs.declared.halt.Halt.{Halt};
 ghost use Rattle.alpha_beta.specs.Bests.{IsBest};
-ghost use Rattle.alpha_beta.specs.Roots.{AreLegal, root_lines};
-ghost use Rattle.alpha_beta.specs.Workers.{AreTrueFacts, IsSound, line_after};
+ghost use Rattle.alpha_beta.specs.Workers.{AreTrueFacts, IsPlan, IsSound, line_after, lines_in};
 
-use crate::shared::Shared;
+use crate::plan::{Plan, Seat};
 use foundation::Memory;
-use game_line::Line;
-use game_play::Game;
-use hint_table::HintTable;
 use io_ports::Gate;
-use negamax::{Best, Desk, RootFact, combine, search_root};
-use rules_model::Move;
+use negamax::{Best, RootFact, combine, search_root};
 use std::alloc::Global;
 use watching::{Halt, Helper, Round, Watch};
 
@@ -34,37 +28,35 @@ fn remember(facts: &mut Vec<RootFact>, fact: RootFact) -> Result<(), Memory>
 
 /// Takes root moves in a round. What is shared may hold anything.
 fn take_roots<W: Watch, G: Gate>(
-    line: &mut Line,
-    desk: &mut Desk,
-    watch: &mut W,
-    shared: &Shared,
-    gate: &G,
-    number: u32,
-    step: &mut u64,
+    plan: &Plan<G>,
+    seat: &mut Seat,
     round: Round,
-    game: &Game,
-    depth: u8,
-    roots: &[Move],
     facts: &mut Vec<RootFact>,
+    watch: &mut W,
 ) -> Result<(), Halt>
-    requires least { 1 ≤ depth }
-    requires most { depth ≤ 64 }
-    requires legal { AreLegal game.now.rules (story game.now) roots.now }
-    requires line { line.old ≡ line_after game.now depth }
-    requires known { AreTrueFacts game.now depth facts.old.items }
-    ensures known { AreTrueFacts game.now depth facts.new.items }
-    ensures gone { OnOk result
-        (W.gone watch.old watch.new (root_lines game.now.rules depth (story game.now) roots.now)) }
-    ensures ended { (why : Halt) → IsErrOf result why
-        → W.ended watch.old watch.new (root_lines game.now.rules depth (story game.now) roots.now) why }
-    ensures kept { OnOk result (line.new ≡ line_after game.now depth) }
+    requires plan { IsPlan plan.now }
+    requires line { seat.old.line ≡ line_after plan.now.game.now plan.now.depth }
+    requires known { AreTrueFacts plan.now.game.now plan.now.depth facts.old.items }
+    ensures known { AreTrueFacts plan.now.game.now plan.now.depth facts.new.items }
+    ensures gone { OnOk result (W.gone watch.old watch.new (lines_in plan.now)) }
+    ensures ended { (why : Halt) → IsErrOf result why → W.ended watch.old watch.new (lines_in plan.now) why }
+    ensures kept { OnOk result (seat.new.line ≡ line_after plan.now.game.now plan.now.depth) }
 {
-    for i in 0..roots.len() {
-        if shared.takes(i, round) {
-            gate.pass(number, *step);
-            *step = step.saturating_add(1);
-            let fact = search_root(line, desk, watch, depth, &roots[i], shared.floor())?;
-            shared.tell(i, &fact);
+    for i in 0..plan.roots.len() {
+        if plan.shared.takes(i, round) {
+            plan.gate.pass(seat.number, seat.step);
+            seat.step = seat.step.saturating_add(1);
+            let chosen = &plan.roots[i];
+            let floor = plan.shared.floor();
+            let fact = search_root(
+                &mut seat.line,
+                &mut seat.desk,
+                watch,
+                plan.depth,
+                chosen,
+                floor,
+            )?;
+            plan.shared.tell(i, &fact);
             remember(facts, fact)?;
         }
     }
@@ -74,163 +66,78 @@ fn take_roots<W: Watch, G: Gate>(
 /// Takes the root moves that are free, and then those that the others have not finished: so it waits for nobody.
 pub(crate) fn take_all<W: Watch, G: Gate>(
     alloc: Global,
-    watch: &mut W,
-    shared: &Shared,
-    gate: &G,
-    game: &Game,
-    depth: u8,
-    roots: &[Move],
-    hints: &HintTable,
+    plan: &Plan<G>,
     facts: &mut Vec<RootFact>,
+    watch: &mut W,
 ) -> Result<(), Halt>
-    requires least { 1 ≤ depth }
-    requires most { depth ≤ 64 }
-    requires legal { AreLegal game.now.rules (story game.now) roots.now }
-    requires known { AreTrueFacts game.now depth facts.old.items }
-    ensures known { AreTrueFacts game.now depth facts.new.items }
-    ensures gone { OnOk result
-        (W.gone watch.old watch.new (2 * root_lines game.now.rules depth (story game.now) roots.now)) }
-    ensures ended { (why : Halt) → IsErrOf result why
-        → W.ended watch.old watch.new (2 * root_lines game.now.rules depth (story game.now) roots.now) why }
+    requires plan { IsPlan plan.now }
+    requires known { AreTrueFacts plan.now.game.now plan.now.depth facts.old.items }
+    ensures known { AreTrueFacts plan.now.game.now plan.now.depth facts.new.items }
+    ensures gone { OnOk result (W.gone watch.old watch.new (2 * lines_in plan.now)) }
+    ensures ended { (why : Halt) → IsErrOf result why → W.ended watch.old watch.new (2 * lines_in plan.now) why }
 {
-    let mut line = Line::new(alloc, game, depth as usize + 4)?;
-    let mut desk = Desk::new(alloc, hints)?;
-    let mut step = 0u64;
-    take_roots(
-        &mut line,
-        &mut desk,
-        watch,
-        shared,
-        gate,
-        0,
-        &mut step,
-        Round::Free,
-        game,
-        depth,
-        roots,
-        facts,
-    )?;
-    take_roots(
-        &mut line,
-        &mut desk,
-        watch,
-        shared,
-        gate,
-        0,
-        &mut step,
-        Round::Unfinished,
-        game,
-        depth,
-        roots,
-        facts,
-    )
+    let mut seat = Seat::new(alloc, plan.game, plan.depth, plan.hints, 0)?;
+    take_roots(plan, &mut seat, Round::Free, facts, watch)?;
+    take_roots(plan, &mut seat, Round::Unfinished, facts, watch)
 }
 
 /// Takes the root moves that are free.
 fn take_free<W: Watch, G: Gate>(
     alloc: Global,
-    watch: &mut W,
-    shared: &Shared,
-    gate: &G,
+    plan: &Plan<G>,
     number: u32,
-    game: &Game,
-    depth: u8,
-    roots: &[Move],
-    hints: &HintTable,
     facts: &mut Vec<RootFact>,
+    watch: &mut W,
 ) -> Result<(), Halt>
-    requires least { 1 ≤ depth }
-    requires most { depth ≤ 64 }
-    requires legal { AreLegal game.now.rules (story game.now) roots.now }
-    requires known { AreTrueFacts game.now depth facts.old.items }
-    ensures known { AreTrueFacts game.now depth facts.new.items }
-    ensures gone { OnOk result
-        (W.gone watch.old watch.new (root_lines game.now.rules depth (story game.now) roots.now)) }
-    ensures ended { (why : Halt) → IsErrOf result why
-        → W.ended watch.old watch.new (root_lines game.now.rules depth (story game.now) roots.now) why }
+    requires plan { IsPlan plan.now }
+    requires known { AreTrueFacts plan.now.game.now plan.now.depth facts.old.items }
+    ensures known { AreTrueFacts plan.now.game.now plan.now.depth facts.new.items }
+    ensures gone { OnOk result (W.gone watch.old watch.new (lines_in plan.now)) }
+    ensures ended { (why : Halt) → IsErrOf result why → W.ended watch.old watch.new (lines_in plan.now) why }
 {
-    let mut line = Line::new(alloc, game, depth as usize + 4)?;
-    let mut desk = Desk::new(alloc, hints)?;
-    let mut step = 0u64;
-    take_roots(
-        &mut line,
-        &mut desk,
-        watch,
-        shared,
-        gate,
-        number,
-        &mut step,
-        Round::Free,
-        game,
-        depth,
-        roots,
-        facts,
-    )
+    let mut seat = Seat::new(alloc, plan.game, plan.depth, plan.hints, number)?;
+    take_roots(plan, &mut seat, Round::Free, facts, watch)
 }
 
 /// What a worker beside the first does. Where it reaches its quota, finds no memory or is told to stop, what it found
 /// stays.
 pub(crate) fn help<G: Gate>(
     alloc: Global,
-    job: &mut Job,
-    shared: &Shared,
-    gate: &G,
+    plan: &Plan<G>,
     number: u32,
     quota: Option<u64>,
-    game: &Game,
-    depth: u8,
-    roots: &[Move],
-    hints: &HintTable,
+    job: &mut Job,
 )
-    requires least { 1 ≤ depth }
-    requires most { depth ≤ 64 }
-    requires legal { AreLegal game.now.rules (story game.now) roots.now }
+    requires plan { IsPlan plan.now }
     requires none { job.old.facts.items ≡ [] }
-    ensures sound { IsSound game.now depth roots.now job.new }
+    ensures sound { IsSound plan.now job.new }
 {
-    let mut watch = Helper {
-        flag: &shared.flag,
-        quota,
-        nodes: 0,
-    };
-    let _ = take_free(
-        alloc,
-        &mut watch,
-        shared,
-        gate,
-        number,
-        game,
-        depth,
-        roots,
-        hints,
-        &mut job.facts,
-    );
-    job.nodes = watch.nodes;
+    let mut watch = Helper::new(&plan.shared.flag, quota);
+    let _ = take_free(alloc, plan, number, &mut job.facts, &mut watch);
+    job.nodes = watch.nodes();
 }
 
 /// The value over the root moves and one that attains it, from the facts and by searching the root moves that they
 /// leave open.
-pub(crate) fn combine_facts<W: Watch>(
+pub(crate) fn combine_facts<W: Watch, G>(
     alloc: Global,
-    watch: &mut W,
-    game: &Game,
-    depth: u8,
-    roots: &[Move],
-    hints: &HintTable,
+    plan: &Plan<G>,
     facts: &[RootFact],
+    watch: &mut W,
 ) -> Result<Best, Halt>
-    requires least { 1 ≤ depth }
-    requires most { depth ≤ 64 }
-    requires legal { AreLegal game.now.rules (story game.now) roots.now }
-    requires some { 0 < length roots.now }
-    requires known { AreTrueFacts game.now depth facts.now }
-    ensures best { IfOk result (λ best. IsBest game.now depth roots.now best.value best.chosen) }
-    ensures gone { OnOk result
-        (W.gone watch.old watch.new (root_lines game.now.rules depth (story game.now) roots.now)) }
-    ensures ended { (why : Halt) → IsErrOf result why
-        → W.ended watch.old watch.new (root_lines game.now.rules depth (story game.now) roots.now) why }
+    requires plan { IsPlan plan.now }
+    requires some { 0 < length plan.now.roots.now }
+    requires known { AreTrueFacts plan.now.game.now plan.now.depth facts.now }
+    ensures best { IfOk result (λ best.
+        IsBest plan.now.game.now plan.now.depth plan.now.roots.now best.value best.chosen) }
+    ensures gone { OnOk result (W.gone watch.old watch.new (lines_in plan.now)) }
+    ensures ended { (why : Halt) → IsErrOf result why → W.ended watch.old watch.new (lines_in plan.now) why }
 {
-    let mut line = Line::new(alloc, game, depth as usize + 4)?;
-    let mut desk = Desk::new(alloc, hints)?;
-    combine(&mut line, &mut desk, watch, depth, roots, facts)
+    let seat = Seat::new(alloc, plan.game, plan.depth, plan.hints, 0)?;
+    let Seat {
+        mut line,
+        mut desk,
+        ..
+    } = seat;
+    combine(&mut line, &mut desk, watch, plan.depth, plan.roots, facts)
 }

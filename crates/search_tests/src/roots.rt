@@ -14,7 +14,7 @@ use rules_model::{Move, MoveList, Position, Promo, Rules, sound};
 use sample_rules::{capablanca, chess, position, square, xiangqi};
 use std::alloc::Global;
 use std::process::Abort;
-use watching::{Cut, Halt, Helper, StopFlag};
+use watching::{Cut, Halt, Helper, StopFlag, Watch};
 
 /// The move of a text such as `e2-e4`, without promotion.
 fn go(text: &str) -> Move {
@@ -62,11 +62,7 @@ fn search_all<R: Abort>(
 {
     let hints = HintTable::new(alloc, 1000).expect(rt, "no fault");
     let flag = StopFlag::new();
-    let mut watch = Helper {
-        flag: &flag,
-        quota,
-        nodes: 0,
-    };
+    let mut watch = Helper::new(&flag, quota);
     let mut line = Line::new(alloc, game, 20).expect(rt, "no fault");
     let mut desk = Desk::new(alloc, &hints).expect(rt, "no fault");
     let Ok(roots) = roots_of(alloc, &line) else {
@@ -81,7 +77,7 @@ fn search_all<R: Abort>(
         roots.items.as_slice(),
         &[],
     );
-    (best, watch.nodes)
+    (best, watch.nodes())
 }
 
 /// Asserts what the game is worth at the first three depths.
@@ -142,11 +138,7 @@ fn fact_above<R: Abort>(
 ) -> (bool, i32) {
     let hints = HintTable::new(alloc, 1000).expect(rt, "no fault");
     let flag = StopFlag::new();
-    let mut watch = Helper {
-        flag: &flag,
-        quota: None,
-        nodes: 0,
-    };
+    let mut watch = Helper::new(&flag, None);
     let mut line = Line::new(alloc, game, 20).expect(rt, "no fault");
     let mut desk = Desk::new(alloc, &hints).expect(rt, "no fault");
     assert!(rt; line.board().is_legal(chosen));

@@ -5,7 +5,7 @@ use io_ports::{Dialect, Limits, LineBuf, ListClock, MemSink, MemSource, PollsOwe
 use std::alloc::Global;
 use std::io::Write;
 use std::test::Fail;
-use watching::{Caller, Cut, Halt, Helper, StopFlag, Watch};
+use watching::{Caller, Cut, Halt, Helper, StopFlag, Unwatched, Watch};
 
 const NONE: Limits = Limits {
     quota: None,
@@ -40,7 +40,7 @@ fn watched(
         nodes: 0,
     };
     let end = enter(&mut watch, 3000);
-    Ok((end, watch.nodes))
+    Ok((end, watch.nodes()))
 }
 
 /// Writes how it ends with these lines, where this many polls are owed, the nodes, and what it wrote.
@@ -134,20 +134,20 @@ fn faults_end_a_search(rt: HostRuntime) {
 #[test]
 fn helpers_heed_flag_and_quota(rt: HostRuntime) {
     let flag = StopFlag::new();
-    let mut helper = Helper {
-        flag: &flag,
-        quota: Some(20),
-        nodes: 0,
-    };
+    let mut helper = Helper::new(&flag, Some(20));
     expect_eq(&rt, enter(&mut helper, 15), Ok(()));
     expect_eq(&rt, enter(&mut helper, 15), Err(Halt::Cut(Cut::Quota(20))));
-    expect_eq(&rt, helper.nodes, 20);
+    expect_eq(&rt, helper.nodes(), 20);
     flag.raise();
-    let mut later = Helper {
-        flag: &flag,
-        quota: None,
-        nodes: 0,
-    };
+    let mut later = Helper::new(&flag, None);
     expect_eq(&rt, enter(&mut later, 15), Err(Halt::Cut(Cut::End)));
-    expect_eq(&rt, later.nodes, 0);
+    expect_eq(&rt, later.nodes(), 0);
+}
+
+#[test]
+fn nothing_ends_an_unwatched_search(rt: HostRuntime) {
+    let mut watch = Unwatched::new();
+    expect_eq(&rt, watch.nodes(), 0);
+    expect_eq(&rt, enter(&mut watch, 3000), Ok(()));
+    expect_eq(&rt, watch.nodes(), 3000);
 }

@@ -1,16 +1,4 @@
-use Rattle.std.proofs.Common.{rules}
 use Rattle.alpha_beta.proofs.race.lead.Goals as goal
-
-pub returns-clause-watched : goal.returns-clause-watched
-returns-clause-watched g c = record {
-  gone = search rules;
-  ended = λ why is.
-      let stopped = c.take_all-end.ensures.ended why is in
-      let source_is = stopped.lent.same.source_is in let sink_is = stopped.lent.same.sink_is in
-      let clock_is = stopped.lent.same.clock_is in let line_is = stopped.lent.same.line_is in
-      let ended = stopped.ended in
-      search rules;
-}
 
 pub returns-clause-found : goal.returns-clause-found
 returns-clause-found g c = record { known = c.take_all-end.ensures.known }

@@ -1,11 +1,11 @@
-use Rattle.std.proofs.Common.{◌≡◌, None, true, false, true≢false, refl, sym, ◌∙◌, List, get_or, subst}
+use Rattle.std.proofs.Common.{None, true≢false, refl, sym, ◌∙◌, List, get_or, subst}
 use Rattle.std.specs.List.{Contains}
 use Rattle.foundation.specs.Member.{Member}
 use Rattle.foundation.proofs.Members.{contains-member, member-contains}
 use Rattle.rules_model.specs.declared.moves.Move.{Move}
 use Rattle.rules_model.specs.declared.moves.Move.TheVariants.{Go}
 use Rattle.rules_model.specs.declared.moves.Promo.TheVariants.{Stays}
-use Rattle.alpha_beta.proofs.DistinctLemmas.{distinct-none, distinct-kept, distinct-added}
+use Rattle.alpha_beta.proofs.DistinctLemmas.{distinct-kept, distinct-added}
 use Rattle.alpha_beta.proofs.roots.distinct.Goals as goal
 use Rattle.alpha_beta.proofs.roots.distinct.Goals.{then-not-is_among+in_ok-push, else-not-is_among}
 

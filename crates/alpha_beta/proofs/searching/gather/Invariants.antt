@@ -2,4 +2,4 @@ use Rattle.alpha_beta.specs.Workers.{AreTrueFacts}
 use Rattle.alpha_beta.proofs.searching.gather.Given as goal
 
 abbrev pub invariant-loop-job : goal.invariant-loop-job
-invariant-loop-job l = AreTrueFacts l.game l.depth l.facts.items
+invariant-loop-job g l = AreTrueFacts l.plan.game.now l.plan.depth l.facts.items

@@ -1,28 +1,62 @@
-use Rattle.std.proofs.Common.{◌≡◌, ◌*◌, Ok, Err, arith, rules}
-use Rattle.game_play.specs.Played.{story}
+use Rattle.std.proofs.Common.{◌≡◌, ◌*◌, ◌≤◌, ℕ, Err, arith, length, rules, subst}
+use Rattle.std.proofs.lemmas.List.Elements.{All-weaker}
+use Rattle.io_ports.specs.declared.limits.SearchFault.TheVariants as fault
 use Rattle.watching.specs.declared.halt.Halt.{Halt}
-use Rattle.watching.specs.CallerLaws.{ended_wider}
-use Rattle.alpha_beta.specs.Roots.{root_lines}
-use Rattle.alpha_beta.proofs.SearchLaws.{partly_err, partly_more, from_ok}
+use Rattle.watching.specs.declared.halt.Halt.TheVariants as halt
+use Rattle.alpha_beta.specs.declared.work.Job.{Job}
+use Rattle.alpha_beta.specs.Workers.{IsSound, lines_in}
+use Rattle.alpha_beta.proofs.SearchLaws.{most_none, most_start, most_within}
 use Rattle.alpha_beta.proofs.searching.search_by.Goals as goal
 
-pub returns-in_err-led-clause-watched : goal.returns-in_err-led-clause-watched
-returns-in_err-led-clause-watched g c =
-    let game = c.args.game.now in
-    let lines = root_lines game.rules c.args.depth (story game) c.args.roots.now in
-    let why : Halt = c.in_err-led.field-0.0 in
-    let end : c.race-led.result.end ≡ Err why = search rules in
-    let is : c.from_residual.result ≡ Err why = search rules in
-    partly_err _ c.args.dialect c.args.limits _ _ _ _ c.race-led.result.nodes _ _ _ why is
-    (ended_wider _ c.args.dialect c.args.limits _ _ _ (2 * lines) _ why (c.race-led.ensures.watched.ended why end) (omega arith))
+pub returns-in_err-race-clause-ended : goal.returns-in_err-race-clause-ended
+returns-in_err-race-clause-ended g c why is =
+    let back : c.race.result ≡ Err why = search rules in
+    let n : ℕ = lines_in c.args.plan.now in
+    let le : 2 * n ≤ 3 * n = omega arith in
+    g.met.W.Watch.ends_wider _ _ (2 * n) (3 * n) why (c.race.ensures.ended why back) le
 
-pub returns-clause-watched : goal.returns-clause-watched
-returns-clause-watched g c =
-    let game = c.args.game.now in
-    let lines = root_lines game.rules c.args.depth (story game) c.args.roots.now in
-    let end : c.race-led.result.end ≡ Ok c.in_ok-led.field-0 = search rules in
-    let gone = from_ok c.race-led.result.end c.in_ok-led.field-0 end c.race-led.ensures.watched.gone in
-    partly_more _ c.args.dialect c.args.limits _ _ _ _ c.race-led.result.nodes _ _ _ _ _ (2 * lines) lines (3 * lines) c.conclude.result gone c.conclude.ensures.watched (omega arith)
+pub returns-in_err-gather-clause-ended : goal.returns-in_err-gather-clause-ended
+returns-in_err-gather-clause-ended g c why is =
+    let same : halt.Fault fault.Memory ≡ why = search rules in
+    let n : ℕ = lines_in c.args.plan.now in
+    let le : 2 * n ≤ 3 * n = omega arith in
+    subst (λ (w : Halt). g.W.Watch.ended c.args.watch.now c.race.new.watch (3 * n) w) same
+    (g.met.W.Watch.memory _ _ (3 * n) (g.met.W.Watch.wider _ _ (2 * n) (3 * n) c.in_ok-race.ensures.gone le))
 
-pub conclude-requires-clause-known : goal.conclude-requires-clause-known
-conclude-requires-clause-known g c = c.race-led.ensures.found.known
+pub gather-requires-clause-known : goal.gather-requires-clause-known
+gather-requires-clause-known g c = c.race.ensures.found.known
+
+pub returns-in_err-best-clause-ended : goal.returns-in_err-best-clause-ended
+returns-in_err-best-clause-ended g c why is =
+    let back : c.combine_facts.result ≡ Err why = search rules in
+    g.met.W.Watch.ends_wider _ _ _ _ why (g.met.W.Watch.ends _ _ _ _ _ why c.in_ok-race.ensures.gone (c.combine_facts.ensures.ended why back)) (omega arith)
+
+pub returns-clause-gone : goal.returns-clause-gone
+returns-clause-gone g c =
+    g.met.W.Watch.wider _ _ _ _ (g.met.W.Watch.more _ _ _ _ _ c.in_ok-race.ensures.gone c.in_ok-best.ensures.gone) (omega arith)
+
+pub returns-clause-few : goal.returns-clause-few
+returns-clause-few g c =
+    let lines = lines_in c.args.plan.now in
+    let counts = g.met.W.Watch.counts _ _ _ (g.met.W.Watch.more _ _ _ _ _ c.in_ok-race.ensures.gone c.in_ok-best.ensures.gone) in
+    let more = counts.1 in let after = c.nodes.ensures in let before = c.nodes-before.ensures in let nodes = c.saturating_sub-nodes.ensures in
+    let each = All-weaker (IsSound c.args.plan.now) (λ (job : Job). job.nodes ≤ 3 * lines) (λ job sound. (let few = sound.nodes in omega (arith, few))) c.race.new.jobs c.race.ensures.sound in
+    let most = most_within (3 * lines) c.saturating_sub-nodes.result c.race.new.jobs (omega (arith, more, after, before, nodes)) each in
+    let is = c.greatest_count.ensures in
+    omega (arith, is, most)
+
+pub returns-clause-counted : goal.returns-clause-counted
+returns-clause-counted g c =
+    let after = c.nodes.ensures in let before = c.nodes-before.ensures in let nodes = c.saturating_sub-nodes.ensures in
+    let counts = g.met.W.Watch.counts _ _ _ (g.met.W.Watch.more _ _ _ _ _ c.in_ok-race.ensures.gone c.in_ok-best.ensures.gone) in
+    let later = counts.0 in let is = c.greatest_count.ensures in
+    record {
+      least =
+          let start = most_start c.saturating_sub-nodes.result c.race.new.jobs in
+          omega (arith, start, is, after, before, nodes);
+      alone = λ one.
+          let count = c.race.ensures.count in
+          let none : length c.race.new.jobs ≡ 0 = omega (arith, one, count) in
+          let all = most_none c.saturating_sub-nodes.result c.race.new.jobs none in
+          omega (arith, all, is, after, before, nodes, later);
+    }

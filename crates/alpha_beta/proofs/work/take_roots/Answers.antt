@@ -1,9 +1,7 @@
-use Rattle.std.proofs.Common.{◌≡◌, ℕ, ◌+◌, ◌*◌, ◌≤◌, length, sym, ap, ◌∙◌, arith, rules, subst, get_or, take, Err}
+use Rattle.std.proofs.Common.{◌≡◌, ◌+◌, sym, ◌∙◌, arith, rules, subst, get_or, Err}
 use Rattle.std.proofs.lemmas.List.Elements.{All-push}
 use Rattle.foundation.specs.Member.{Member}
 use Rattle.io_ports.specs.declared.limits.SearchFault.TheVariants as fault
-use Rattle.rules_model.specs.declared.rules.Rules.{Rules}
-use Rattle.rules_model.specs.Games.{Story}
 use Rattle.rules_model.specs.Legal.{legal}
 use Rattle.rules_model.specs.Repeats.{repeat_of}
 use Rattle.game_play.specs.Played.{story}
@@ -18,27 +16,27 @@ use Rattle.alpha_beta.proofs.work.take_roots.Goals as goal
 
 pub search_root-requires-clause-legal : goal.search_root-requires-clause-legal
 search_root-requires-clause-legal g c =
-    to_line (λ rules s. Member (get_or c.args.roots.now c.loop-i.i no_move) (legal rules (repeat_of s.last))) c.args.game.now c.args.depth c.loop-i.line c.loop-i.invariant.line_is (c.requires.legal c.loop-i.i no_move c.loop-i-test.true)
+    to_line (λ rules s. Member (get_or c.args.plan.now.roots.now c.loop-i.i no_move) (legal rules (repeat_of s.last))) c.args.plan.now.game.now c.args.plan.now.depth c.loop-i.seat.line c.loop-i.invariant.line_is (c.requires.plan.legal c.loop-i.i no_move c.loop-i-test.true)
 
 pub search_root-requires-clause-room : goal.search_root-requires-clause-room
 search_root-requires-clause-room g c = rw c.loop-i.invariant.line_is (omega arith)
 
 pub returns-in_err-fact-clause-ended : goal.returns-in_err-fact-clause-ended
 returns-in_err-fact-clause-ended g c why is =
-    let game = c.args.game.now in let depth = c.args.depth in let roots = c.args.roots.now in let i = c.loop-i.i in let old = c.loop-i.invariant in
+    let game = c.args.plan.now.game.now in let depth = c.args.plan.now.depth in let roots = c.args.plan.now.roots.now in let i = c.loop-i.i in let old = c.loop-i.invariant in
     let back : c.search_root.result ≡ Err why = search rules in
     let m = get_or roots i no_move in
-    let here = from_line (λ rules s. g.W.Watch.ended c.loop-i.watch c.search_root.new.watch (root_tree rules depth s m) why) game depth c.loop-i.line old.line_is (c.search_root.ensures.ended why back) in
+    let here = from_line (λ rules s. g.W.Watch.ended c.loop-i.watch c.search_root.new.watch (root_tree rules depth s m) why) game depth c.loop-i.seat.line old.line_is (c.search_root.ensures.ended why back) in
     let more = lines-more game.rules depth (story game) roots i no_move c.loop-i-test.true in
     let most = lines-part game.rules depth (story game) roots (i + 1) in
     g.met.W.Watch.ends_wider _ _ _ _ why (g.met.W.Watch.ends _ _ _ _ _ why old.gone here) (omega (arith, more, most))
 
 pub returns-in_err-remember-clause-ended : goal.returns-in_err-remember-clause-ended
 returns-in_err-remember-clause-ended g c why is =
-    let game = c.args.game.now in let depth = c.args.depth in let roots = c.args.roots.now in let i = c.loop-i.i in let old = c.loop-i.invariant in
+    let game = c.args.plan.now.game.now in let depth = c.args.plan.now.depth in let roots = c.args.plan.now.roots.now in let i = c.loop-i.i in let old = c.loop-i.invariant in
     let back : why ≡ halt.Fault fault.Memory = search rules in
     let m = get_or roots i no_move in
-    let here = from_line (λ rules s. g.W.Watch.gone c.loop-i.watch c.search_root.new.watch (root_tree rules depth s m)) game depth c.loop-i.line old.line_is c.in_ok-fact.ensures.gone in
+    let here = from_line (λ rules s. g.W.Watch.gone c.loop-i.watch c.search_root.new.watch (root_tree rules depth s m)) game depth c.loop-i.seat.line old.line_is c.in_ok-fact.ensures.gone in
     let more = lines-more game.rules depth (story game) roots i no_move c.loop-i-test.true in
     let most = lines-part game.rules depth (story game) roots (i + 1) in
     let all = g.met.W.Watch.wider _ _ _ (root_lines game.rules depth (story game) roots) (g.met.W.Watch.more _ _ _ _ _ old.gone here) (omega (arith, more, most)) in
@@ -46,23 +44,23 @@ returns-in_err-remember-clause-ended g c why is =
 
 pub loop-i-preserved : goal.loop-i-preserved
 loop-i-preserved g c =
-    let game = c.args.game.now in let depth = c.args.depth in let roots = c.args.roots.now in let i = c.loop-i.i in let old = c.loop-i.invariant in
+    let game = c.args.plan.now.game.now in let depth = c.args.plan.now.depth in let roots = c.args.plan.now.roots.now in let i = c.loop-i.i in let old = c.loop-i.invariant in
     elim c.if-takes.branch [
       | then-takes+in_ok-fact+in_ok-remember w ↦
           (let m = get_or roots i no_move in
           let e = w.in_ok-fact.ensures in
-          let here = from_line (λ rules s. g.W.Watch.gone c.loop-i.watch w.search_root.new.watch (root_tree rules depth s m)) game depth c.loop-i.line old.line_is e.gone in
-          let fact = from_line (λ rules s. IsTrueFact rules depth s w.in_ok-fact.fact) game depth c.loop-i.line old.line_is e.fact in
+          let here = from_line (λ rules s. g.W.Watch.gone c.loop-i.watch w.search_root.new.watch (root_tree rules depth s m)) game depth c.loop-i.seat.line old.line_is e.gone in
+          let fact = from_line (λ rules s. IsTrueFact rules depth s w.in_ok-fact.fact) game depth c.loop-i.seat.line old.line_is e.fact in
           let more = lines-more game.rules depth (story game) roots i no_move c.loop-i-test.true in
           record {
             gone = rw w.watch-is (g.met.W.Watch.wider _ _ _ _ (g.met.W.Watch.more _ _ _ _ _ old.gone here) more);
             known = rw (w.facts-is, w.in_ok-remember.ensures.ok) (All-push (IsTrueFact game.rules depth (story game)) _ _ old.known fact);
-            line_is = rw w.line-is (e.kept ∙ old.line_is);
+            line_is = rw w.seat-is (e.kept ∙ old.line_is);
           })
       | else-takes w ↦
           record {
             gone = rw w.watch-is (g.met.W.Watch.wider _ _ _ _ old.gone (lines-skip game.rules depth (story game) roots i no_move c.loop-i-test.true));
             known = rw w.facts-is old.known;
-            line_is = rw w.line-is old.line_is;
+            line_is = rw w.seat-is old.line_is;
           }
     ]

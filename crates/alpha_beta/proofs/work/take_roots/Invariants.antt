@@ -6,7 +6,7 @@ use Rattle.alpha_beta.proofs.work.take_roots.Given as goal
 
 abbrev pub invariant-loop-i : goal.invariant-loop-i
 invariant-loop-i g l = record {
-  gone : g.W.Watch.gone l.fn.watch l.watch (root_lines l.game.rules l.depth (story l.game) (take l.i l.roots));
-  known : AreTrueFacts l.game l.depth l.facts.items;
-  line_is : l.line ≡ line_after l.game l.depth;
+  gone : g.W.Watch.gone l.fn.watch l.watch (root_lines l.plan.game.now.rules l.plan.depth (story l.plan.game.now) (take l.i l.plan.roots.now));
+  known : AreTrueFacts l.plan.game.now l.plan.depth l.facts.items;
+  line_is : l.seat.line ≡ line_after l.plan.game.now l.plan.depth;
 }
