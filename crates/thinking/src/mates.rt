@@ -11,14 +11,13 @@ use crate::found::{Evidence, evidence_at};
 use crate::scores::root_move;
 use game_play::Game;
 use io_ports::{Clock, Dialect, Gate, Limits, LineBuf, SearchFault, Sink, Source};
-use mate_showing::Settled;
 use rules_model::Move;
-use seeking::{Mind, solve_once};
+use seeking::{Mind, Solve, solve_once};
 use std::alloc::Global;
 use std::sync::Wait;
 use std::thread::Threads;
 use strategy::Strategy;
-use watching::{Cut, Halt};
+use watching::Cut;
 
 /// The first answer of solves within 1, 2, .. moves that is not that there is no mate; or that there is none.
 #[derive(Drop)]
@@ -82,10 +81,10 @@ pub fn try_mates<R: Threads + Wait + Sync, S: Source, K: Sink, C: Clock, G: Gate
         let moves = before + 1;
         let solved = solve_once(
             rt, alloc, mind, game, mover, moves, limits, source, sink, clock, gate, dialect, line,
-        );
+        )?;
         match solved {
-            Ok(Settled::NoMate) => {}
-            Ok(Settled::Shown(strategy)) => {
+            Solve::NoMate => {}
+            Solve::Shown(strategy) => {
                 let Some(best) = root_move(&strategy) else {
                     unreachable!();
                 };
@@ -95,14 +94,13 @@ pub fn try_mates<R: Threads + Wait + Sync, S: Source, K: Sink, C: Clock, G: Gate
                     best,
                 });
             }
-            Ok(Settled::Unsettled { repeat, counters }) => {
+            Solve::Unsettled { repeat, counters } => {
                 return Ok(Tried::Unsettled {
                     moves,
                     unsettled: evidence_at(repeat, counters),
                 });
             }
-            Err(Halt::Cut(why)) => return Ok(Tried::Stopped { moves, why }),
-            Err(Halt::Fault(why)) => return Err(why),
+            Solve::Cut(why) => return Ok(Tried::Stopped { moves, why }),
         }
     }
     Ok(Tried::NoMate)
