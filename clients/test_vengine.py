@@ -342,8 +342,8 @@ class Mates(EngineCase):
 
     def test_an_unsettled_mate(self):
         self.engine.load(example("tight.ini"))
-        mate = self.engine.mate("tight", "5/PK3/5/4k/1P3 w - - 5 30", within=4)
-        self.assertEqual((mate.answer, mate.note), ("unsettled", "mate unsettled 4Q/5/4k/2K2/1P3 b - - 4 1 4 2"))
+        mate = self.engine.mate("tight", "5/1P1K1/5/1k3/5 w - - 6 30", within=4)
+        self.assertEqual((mate.answer, mate.note), ("unsettled", "mate unsettled 5/5/3K1/5/1Q1k1 b - - 4 1 4 2"))
 
     def test_a_search_announces_a_mate(self):
         found = self.engine.go("chess", "6k1/8/R7/1R6/8/8/8/6K1 b - - 0 1", depth=4)
