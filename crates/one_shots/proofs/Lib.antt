@@ -3,6 +3,7 @@ pub mod FileLemmas
 mod GenerateLemmas
 pub mod HeardLemmas
 mod PnMateLemmas
+mod RulesLemmas
 pub mod ShotLemmas
 mod SuiteLemmas
 mod VariantLemmas

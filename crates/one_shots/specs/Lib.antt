@@ -4,6 +4,7 @@ pub mod Looked
 pub mod OpeningView
 pub mod OutcomeView
 pub mod PnMates
+pub mod RulesTold
 pub mod Sessions
 pub mod Shot
 pub mod Statuses

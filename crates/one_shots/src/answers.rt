@@ -21,6 +21,7 @@ use crate::generating::generate;
 use crate::mate_counts::pn_mate_text;
 use crate::opening::Opened;
 use crate::problems::suite_text;
+use crate::rules_told::rules_text;
 use crate::variants::variants_of;
 use betza_compile::compile;
 use betza_text::parse;
@@ -191,6 +192,7 @@ fn command_text<'a, R: Threads + Wait + Sync, S: Source, G: Gate + Sync>(
             number,
             plies,
         } => generate(rt, alloc, sections, name, number, plies),
+        Command::RulesOf(name) => rules_text(alloc, sections, name),
         Command::Suite => suite_text(rt, alloc, sections, source, threads, gate),
         Command::PnMate(moves) => pn_mate_text(rt, alloc, moves, sections, source),
     }

@@ -8,7 +8,9 @@ mod laws;
 mod mate_counts;
 mod opening;
 mod problems;
+mod rules_told;
 mod sections;
+mod unfound;
 mod variants;
 
 pub use answers::{Answer, answer_of, answer_to};

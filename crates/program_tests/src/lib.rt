@@ -14,6 +14,8 @@ mod game_texts;
 #[cfg(test)]
 mod problems;
 #[cfg(test)]
+mod rules_told;
+#[cfg(test)]
 mod runs;
 #[cfg(test)]
 mod sessions;

@@ -5,7 +5,7 @@ use Rattle.words.specs.declared.command.Command.{Command as Given}
 use Rattle.words.specs.declared.command.Command.TheVariants as given
 use Rattle.words.specs.declared.reading.Asked.{Asked as GivenAsked}
 use Rattle.words.specs.Asked.{Asked}
-use Rattle.words.specs.Command.{Command, Uci, Xboard, Moves, Status, Perft, Check, SelfMate, HelpMate, CheckCert, Variants, Reach, Generate, Suite, PnMate}
+use Rattle.words.specs.Command.{Command, Uci, Xboard, Moves, Status, Perft, Check, SelfMate, HelpMate, CheckCert, Variants, Reach, Generate, RulesOf, Suite, PnMate}
 use Rattle.words.specs.Options.{Text}
 
 -- the text that is referred to, where there is one, and the texts
@@ -30,6 +30,7 @@ command_seen given.Suite = Suite
 command_seen (given.PnMate moves) = PnMate moves
 command_seen (given.Reach word square own enemy) = Reach word.now square.now own.now enemy.now
 command_seen (given.Generate name number plies) = Generate name.now number plies
+command_seen (given.RulesOf name) = RulesOf name.now
 
 abbrev pub asked_seen : GivenAsked → Asked
 asked_seen a = record {
@@ -55,3 +56,4 @@ HasPlies given.Suite = ⊤
 HasPlies (given.PnMate moves) = (1 ≤ moves) × (moves ≤ 100)
 HasPlies (given.Reach word square own enemy) = ⊤
 HasPlies (given.Generate name number plies) = plies ≤ 8192
+HasPlies (given.RulesOf name) = ⊤

@@ -2,7 +2,7 @@
 ghost use Rattle.std.specs.Prelude.{◌≡◌, ◌-◌, ◌^◌, IfSome, option_map};
 ghost use Rattle.words.specs.Command.{Reach, check_of, command_in, command_named, help_mate_of, mate_in, perft_in};
 ghost use Rattle.words.specs.Command.{perft_of, reach_in, self_mate_of, stipulate_in, without_arguments};
-ghost use Rattle.words.specs.Command.{generate_by, generate_in, pn_mate_in, pn_mate_of};
+ghost use Rattle.words.specs.Command.{RulesOf, generate_by, generate_in, pn_mate_in, pn_mate_of, rules_in};
 ghost use Rattle.words.specs.Number.{number_in as NumberIn};
 ghost use Rattle.words.specs.View.{HasPlies, command_seen, texts};
 
@@ -71,6 +71,8 @@ pub enum Command<'a> {
         number: u64,
         plies: u16,
     },
+    /// `rules NAME`: the options and the pieces of the variant of this name, those that it inherits too.
+    RulesOf(&'a str),
 }
 
 // A command that takes no arguments.
@@ -219,6 +221,23 @@ fn generate_in<'a>(arguments: &[&'a str]) -> Option<Command<'a>>
     }
 }
 
+fn rules_of<'a>(name: &'a str) -> Command<'a>
+    ensures is { command_seen result ≡ RulesOf name.now }
+    ensures plies { HasPlies result }
+{
+    Command::RulesOf(name)
+}
+
+fn rules_in<'a>(arguments: &[&'a str]) -> Option<Command<'a>>
+    ensures is { option_map command_seen result ≡ rules_in (texts arguments.now) }
+    ensures plies { IfSome result HasPlies }
+{
+    match arguments {
+        [name] => Some(rules_of(name)),
+        _ => None,
+    }
+}
+
 fn command_named<'a>(name: &str, arguments: &[&'a str]) -> Option<Command<'a>>
     ensures is { option_map command_seen result ≡ command_named name.now (texts arguments.now) }
     ensures plies { IfSome result HasPlies }
@@ -236,6 +255,7 @@ fn command_named<'a>(name: &str, arguments: &[&'a str]) -> Option<Command<'a>>
         "generate" => generate_in(arguments),
         "suite" => without_arguments(Command::Suite, arguments),
         "pnmate" => pn_mate_in(arguments),
+        "rules" => rules_in(arguments),
         _ => None,
     }
 }

@@ -53,6 +53,12 @@ returns-in-Generate-clause-heard g c = rw c.in-Generate.is (heard_nothing _ _ _ 
 pub returns-in-Generate-clause-cause : goal.returns-in-Generate-clause-cause
 returns-in-Generate-clause-cause g c = record { later = omega arith; failed = λ unheard. absurd (c.generate.ensures.reads_nothing unheard) }
 
+pub returns-in-RulesOf-clause-heard : goal.returns-in-RulesOf-clause-heard
+returns-in-RulesOf-clause-heard g c = rw c.in-RulesOf.is (heard_nothing _ _ _ (λ lines. c.rules_text.ensures.answers))
+
+pub returns-in-RulesOf-clause-cause : goal.returns-in-RulesOf-clause-cause
+returns-in-RulesOf-clause-cause g c = record { later = omega arith; failed = λ unheard. absurd (c.rules_text.ensures.reads_nothing unheard) }
+
 pub returns-in-Suite-clause-heard : goal.returns-in-Suite-clause-heard
 returns-in-Suite-clause-heard g c = rw c.in-Suite.is c.suite_text.ensures.heard
 
