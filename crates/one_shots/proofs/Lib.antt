@@ -2,6 +2,7 @@ mod AnswerLemmas
 pub mod FileLemmas
 mod GenerateLemmas
 pub mod HeardLemmas
+mod KeysLemmas
 mod PnMateLemmas
 mod RulesLemmas
 pub mod ShotLemmas

@@ -1,4 +1,5 @@
 pub mod Commands
+pub mod FirstMoves
 pub mod GameView
 pub mod Looked
 pub mod OpeningView

@@ -16,6 +16,7 @@ ghost use Rattle.one_shot_faults.specs.StopView.{IsUnread, IsUnsaid};
 ghost use Rattle.one_shots.specs.VariantsText.{variants_text};
 ghost use Rattle.words.specs.View.{HasPlies, command_seen};
 
+use crate::first_moves::keys_text;
 use crate::game::game_in;
 use crate::generating::generate;
 use crate::mate_counts::pn_mate_text;
@@ -195,6 +196,7 @@ fn command_text<'a, R: Threads + Wait + Sync, S: Source, G: Gate + Sync>(
         Command::RulesOf(name) => rules_text(alloc, sections, name),
         Command::Suite => suite_text(rt, alloc, sections, source, threads, gate),
         Command::PnMate(moves) => pn_mate_text(rt, alloc, moves, sections, source),
+        Command::Keys(moves) => keys_text(rt, alloc, moves, sections, source),
     }
 }
 

@@ -2,6 +2,7 @@
 #![tactic(auto)]
 
 mod answers;
+mod first_moves;
 mod game;
 mod generating;
 mod laws;

@@ -10,6 +10,8 @@ mod failing_ports;
 #[cfg(test)]
 mod files_of_variants;
 #[cfg(test)]
+mod first_moves;
+#[cfg(test)]
 mod game_texts;
 #[cfg(test)]
 mod problems;

@@ -42,7 +42,7 @@ fn answers(rt: &impl Abort, alloc: Global, lines: &str) -> Vec<u8> {
 fn commands_are_read(rt: HostRuntime) {
     let lines =
         "\nuci\nxboard\nmoves\nstatus\nperft|1\nperft|00000000000000000009\ncheck\nstipulate|self|1\n\
-        stipulate|help|06\nstipulate|check\nvariants\nsuite\npnmate|100\nreach|N|b1\nreach|||\nreach|N|b1|a1,a2|c3\n\
+        stipulate|help|06\nstipulate|check\nvariants\nsuite\npnmate|100\nkeys|020\nreach|N|b1\nreach|||\nreach|N|b1|a1,a2|c3\n\
         generate|chess|18446744073709551615|08192\nrules|xiangqi";
     let told = answers(&rt, rt.alloc(), lines);
     let wanted = b"\
@@ -60,6 +60,7 @@ fn commands_are_read(rt: HostRuntime) {
         None 1 Variants\n\
         None 1 Suite\n\
         None 1 PnMate(100)\n\
+        None 1 Keys(20)\n\
         None 1 Reach { word: \"N\", square: \"b1\", own: \"none\", enemy: \"none\" }\n\
         None 1 Reach { word: \"\", square: \"\", own: \"\", enemy: \"none\" }\n\
         None 1 Reach { word: \"N\", square: \"b1\", own: \"a1,a2\", enemy: \"c3\" }\n\
@@ -94,7 +95,7 @@ fn options_are_read(rt: HostRuntime) {
 fn other_words_ask_nothing(rt: HostRuntime) {
     let commands =
         "Uci\nMoves\nmoves|\nreach|N\nreach|N|b1|none|none|none\nreach|N|b1|-\nreach|-N|b1\nuci|f\n\
-        suite|f\nrules\nrules|a|b\npnmate\npnmate|101\nstipulate\nstipulate|self|0\nstipulate|help|7\nstipulate|mate|1\nperft\nperft|4|4\n\
+        suite|f\nrules\nrules|a|b\nkeys|0\nkeys|21\npnmate\npnmate|101\nstipulate\nstipulate|self|0\nstipulate|help|7\nstipulate|mate|1\nperft\nperft|4|4\n\
         perft|0\nperft|10\nperft|000000000000000000004\nxboard|1\nperft|4";
     let told = answers(&rt, rt.alloc(), commands);
     expect(&rt, told.as_slice() == b"None 1 Perft(4)\n".as_slice());

@@ -67,3 +67,9 @@ pn_mate_text-requires g c = let moves = rw c.in-PnMate.is at c.requires.plies in
 
 pub returns-in-PnMate-clause-heard : goal.returns-in-PnMate-clause-heard
 returns-in-PnMate-clause-heard g c = rw c.in-PnMate.is c.pn_mate_text.ensures.heard
+
+pub keys_text-requires : goal.keys_text-requires
+keys_text-requires g c = let moves = rw c.in-Keys.is at c.requires.plies in record { least = moves.0; most = moves.1 }
+
+pub returns-in-Keys-clause-heard : goal.returns-in-Keys-clause-heard
+returns-in-Keys-clause-heard g c = rw c.in-Keys.is c.keys_text.ensures.heard
