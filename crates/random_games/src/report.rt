@@ -5,17 +5,18 @@ ghost use Rattle.game_play.specs.Played.{legal_in, story};
 ghost use Rattle.game_values.specs.Values.{value_of};
 ghost use Rattle.session_model.specs.Generate.{generated_text, value_text};
 
-use alpha_beta::{Searched, search};
+use alpha_beta::search_watched;
 use foundation::{Memory, Text};
 use game_play::Game;
 use game_reports::{Printed, perft_of};
 use hint_table::HintTable;
-use io_ports::{Dialect, Limits, ListClock, MemSink, OpenGate, Ports, QuietSource};
+use io_ports::OpenGate;
 use legality::legal_moves;
 use rules_model::Move;
 use std::alloc::Global;
 use std::thread::Threads;
 use variant_fen::write_fen;
+use watching::Unwatched;
 
 /// How many words of hints a search of two plies has.
 const HINTS: usize = 4096;
@@ -32,24 +33,12 @@ fn value_of<R: Threads + Sync>(
     ensures { IfOk result (λ value. value ≡ value_of game.now.rules 2 (story game.now) roots.now) }
 {
     let hints = HintTable::new(alloc, HINTS)?;
-    let mut source = QuietSource;
-    let mut sink = MemSink::new(alloc, 0)?;
-    let mut clock = ListClock::new(alloc, &[])?;
-    let limits = Limits {
-        quota: None,
-        deadline: None,
-    };
-    let mut ports = Ports {
-        source: &mut source,
-        sink: &mut sink,
-        clock: &mut clock,
-        gate: &OpenGate,
-        dialect: Dialect::Uci,
-    };
-    match search(rt, alloc, game, 2, roots, &hints, limits, 1, &mut ports) {
-        Ok(Searched::Done { value, .. }) => Ok(value),
-        // No line, no end and no limit stops a search over a quiet source: it fails for memory alone.
-        Ok(Searched::Stopped(_)) | Err(_) => Err(Memory),
+    let mut watch = Unwatched::new();
+    let gate = &OpenGate;
+    match search_watched(rt, alloc, game, 2, roots, &hints, None, 1, gate, &mut watch) {
+        Ok(found) => Ok(found.value),
+        // Nothing disturbs the watch: a search fails for memory alone.
+        Err(_) => Err(Memory),
     }
 }
 

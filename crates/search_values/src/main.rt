@@ -9,11 +9,11 @@ ghost use Rattle.alpha_beta.specs.Roots.{AreLegal};
 ghost use Rattle.game_play.specs.Played.{legal_in, story};
 ghost use Rattle.game_values.specs.Values as Values;
 
-use alpha_beta::{Limits, Searched, search};
+use alpha_beta::search_watched;
 use foundation::Memory;
 use game_play::Game;
 use hint_table::HintTable;
-use io_ports::{Dialect, ListClock, MemSink, OpenGate, Ports, QuietSource};
+use io_ports::OpenGate;
 use legality::legal_moves;
 use move_names::read_move;
 use rules_model::{Move, Rules};
@@ -22,11 +22,7 @@ use std::io;
 use std::io::{BufRead, BufReader};
 use std::thread::Threads;
 use variant_rules::{Found, Variants, builtin, load};
-
-const UNLIMITED: Limits = Limits {
-    quota: None,
-    deadline: None,
-};
+use watching::Unwatched;
 
 /// The value of the game at the depth over these root moves.
 fn value_over<R: Threads + Sync>(
@@ -44,23 +40,14 @@ fn value_over<R: Threads + Sync>(
     requires workers { (0 < workers) × (workers ≤ 64) }
     ensures { IfOk result (λ value. value ≡ Values.value_of game.now.rules depth (story game.now) roots.now) }
 {
-    let mut source = QuietSource;
-    let mut sink = MemSink::new(alloc, 0)?;
-    let mut clock = ListClock::new(alloc, &[])?;
-    let mut ports = Ports {
-        source: &mut source,
-        sink: &mut sink,
-        clock: &mut clock,
-        gate: &OpenGate,
-        dialect: Dialect::Uci,
-    };
-    let answer = search(
-        rt, alloc, game, depth, roots, hints, UNLIMITED, workers, &mut ports,
+    let mut watch = Unwatched::new();
+    let found = search_watched(
+        rt, alloc, game, depth, roots, hints, None, workers, &OpenGate, &mut watch,
     );
-    match answer {
-        Ok(Searched::Done { value, .. }) => Ok(value),
-        // No line, no end and no limit stops a search over a quiet source: it fails for memory alone.
-        Ok(Searched::Stopped(_)) | Err(_) => Err(Memory),
+    match found {
+        Ok(found) => Ok(found.value),
+        // Nothing disturbs the watch: a search fails for memory alone.
+        Err(_) => Err(Memory),
     }
 }
 
