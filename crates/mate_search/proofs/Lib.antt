@@ -1,4 +1,5 @@
 mod MateLaws
 pub mod HandedLaws
 pub mod LeastLaws
+mod RaceCrosses
 mod RaceLaws

@@ -1,5 +1,5 @@
 -- Answers of whole solves.
-use Rattle.std.proofs.Common.{◌≡◌, ◌⊎◌, inl, inr, ℕ, zero, suc, ◌+◌, ◌*◌, ◌<◌, ◌≤◌, [], Some, None, refl, sym, subst, arith}
+use Rattle.std.proofs.Common.{◌≡◌, ◌⊎◌, inl, inr, ℕ, zero, suc, ◌+◌, ◌*◌, ◌<◌, ◌≤◌, List, [], Some, None, refl, sym, subst, arith}
 use Rattle.io_ports.specs.declared.dialect.Dialect.{Dialect}
 use Rattle.io_ports.specs.declared.limits.Limits.{Limits}
 use Rattle.io_ports.specs.declared.limits.SearchFault.{SearchFault}
@@ -18,7 +18,9 @@ use Rattle.watching.specs.Stopping.{Fails}
 use Rattle.watching.specs.Watched.{World, moment, Gone}
 use Rattle.mate_search.specs.declared.answer.Mate.{Mate}
 use Rattle.mate_search.specs.declared.answer.Mate.TheVariants as mate
-use Rattle.mate_search.specs.Solves.{Heard, bound_of}
+use Rattle.mate_search.specs.Solves.{Heard, IsAnswer, bound_of, mate_of}
+use Rattle.mate_showing.specs.declared.answer.Settled.{Settled}
+use Rattle.mate_showing.specs.declared.answer.Settled.TheVariants as settled
 
 product-some : (a b : ℕ) → 1 ≤ b → 0 < 4 * (a + 1) * b
 product-some a zero h = elim h [ ]
@@ -27,6 +29,12 @@ product-some a (suc b) h = omega arith
 bound-some : (rules : Rules) (n : ℕ) (g : Story) → 0 < solve_bound rules n g
 unfolding solve_bound
 bound-some rules n g = product-some n _ (tree-some (play rules) (2 * n + 1) g)
+
+-- an answer that nothing cut
+pub answers-uncut : (text : List ℕ) (s : Settled) → IsAnswer None text (mate_of s)
+answers-uncut text (settled.Shown s) = tt
+answers-uncut text settled.NoMate = tt
+answers-uncut text (settled.Unsettled x counters) = tt
 
 module _ {S K C : Type 0} (w : World S K C) (dialect : Dialect) (limits : Limits) (s : S) (k : K) (c : C) where
   -- with a quota of 0 nothing is entered

@@ -1,11 +1,12 @@
--- Workers that race beside each other: their passes, their lines, and the parts of a solve one after another.
+-- Workers that race beside each other: their passes, their lines, and their root.
 use Rattle.std.proofs.Common.{◌≡◌, ℕ, zero, suc, ◌+◌, ◌-◌, ◌<◌, ◌≤◌, List, [], ◌∷◌, ◌++◌, length, Bool, Ok, Err, OnOk, Option, Some, None, slice_get, take, refl, ap, sym, ◌∙◌, subst, arith}
 use Rattle.std.specs.List.{All, sum_by}
 use Rattle.std.specs.declared.result.Result.{Result}
 use Rattle.std.proofs.lemmas.Option.{slice_get_within}
 use Rattle.forced_wins.proofs.Rules.{laws}
-use Rattle.io_ports.specs.declared.dialect.Dialect.{Dialect}
-use Rattle.io_ports.specs.declared.limits.Limits.{Limits}
+use Rattle.foundation.specs.Member.{Lists, Member}
+use Rattle.game_play.specs.Played.{story}
+use Rattle.legality.specs.Stance.{Stance, legal_in}
 use Rattle.mate_core.specs.declared.frame.Frame.{Frame}
 use Rattle.mate_settle.proofs.Lines.{lines-after, sum-more}
 use Rattle.mate_settle.specs.Choices.{lines_of_moves}
@@ -18,12 +19,10 @@ use Rattle.mate_shards.specs.Grown.{HaveGrown, HaveParts}
 use Rattle.mate_shards.specs.Views.{ArePassesOf, ShardPass, ShardsView}
 use Rattle.rules_model.specs.declared.board.Position.{Position}
 use Rattle.rules_model.specs.Sides.{same_side}
-use Rattle.watching.specs.CallerLaws.{gone_more, ended_more, ended_wider, gone_wider}
 use Rattle.watching.specs.declared.halt.Halt.{Halt}
-use Rattle.watching.specs.LookLaws.{on_ok_of}
-use Rattle.watching.specs.Stopping.{Partly}
-use Rattle.watching.specs.Watched.{World, Moment, moment, Gone, Ended, Watched}
 use Rattle.mate_search.specs.Handed.{AreHandedBack}
+use Rattle.mate_search.specs.Races.{IsReady, root_lines}
+use Rattle.mate_search.specs.declared.race.Race.{Race}
 
 -- ---- passes
 
@@ -72,60 +71,33 @@ moves-within f a left n p turn some e =
     let same : lines_of_moves f left p ≡ lines_of_moves f (left_after a n) p = ap (λ k. lines_of_moves f k p) e in
     omega arith
 
--- ---- the parts of a solve
+-- ---- the root of a race
 
-err_of : {T : Type 0} → Halt → Result T Halt → Halt
-err_of other (Ok x) = other
-err_of other (Err why) = why
+-- the board of the game's last position
+abbrev pub root_of : {G : Type 0} → Race G → Stance
+root_of race = record { rules = race.game.now.rules; position = (story race.game.now).last }
 
-same_err : {T : Type 0} (r : Result T Halt) (why other : Halt) → r ≡ Err why → r ≡ Err other → why ≡ other
-unfolding err_of
-same_err r why other e f = ap (err_of why) (sym e ∙ f)
+module _ {G : Type 0} (race : Race G) (ready : IsReady race) where
+  pub root-moves : (board : Stance) → board ≡ root_of race → Lists (λ m. Member m (legal_in board)) race.roots.now
+  root-moves board is = subst (λ (b : Stance). Lists (λ m. Member m (legal_in b)) race.roots.now) (sym is) ready.roots
 
-no_ok : {T : Type 0} (r : Result T Halt) (why : Halt) (P : Type 0) → r ≡ Err why → OnOk r P
-no_ok r why P e = rw e tt
+  module _ (f : Frame) (board : Stance) (kept : f ≡ race.shards.now.frame) (is : board ≡ root_of race) where
+    pub root-rules : board.rules ≡ f.rules
+    root-rules = ap (λ (b : Stance). b.rules) is ∙ sym ready.frame.rules ∙ sym (ap (λ (x : Frame). x.rules) kept)
+
+    pub root-within : (a : Bool) (left : ℕ) → same_side board.position.side race.shards.now.frame.attacker ≡ a → left ≡ left_after a race.n → lines_of_moves f left board.position ≤ root_lines race
+    root-within a left turn e =
+        let h = race.shards.now.frame in
+        let p = board.position in
+        let within = moves-within h a left race.n p turn ready.some e in
+        let last : p ≡ (story race.game.now).last = ap (λ (b : Stance). b.position) is in
+        let at : lines_within (seen_in h) race.n p ≡ lines_within (seen_in h) race.n (story race.game.now).last = ap (lines_within (seen_in h) race.n) last in
+        let same : lines_of_moves f left p ≡ lines_of_moves h left p = ap (λ (x : Frame). lines_of_moves x left p) kept in
+        omega (arith, within, at, same)
+
+-- ---- answers
 
 -- what holds with each answer
 pub either-way : {T P : Type 0} (r : Result T Halt) → OnOk r P → ((why : Halt) → r ≡ Err why → P) → P
 either-way (Ok x) p q = p
 either-way (Err why) p q = q why refl
-
-module _ {S K C : Type 0} (w : World S K C) (dialect : Dialect) (limits : Limits) (a : Moment S K C) (s : S) (k : K) (c : C)
-    (nodes : ℕ) (text : List ℕ) where
-  -- it ended so
-  pub partly_err : {T : Type 0} (bound : ℕ) (r : Result T Halt) (why : Halt) → r ≡ Err why
-      → Ended w dialect limits a (moment s k c nodes) text bound why → Partly w dialect limits a s k c text bound r
-  partly_err bound r why e h = record {
-    entered = nodes;
-    watched = record {
-      gone = no_ok r why _ e;
-      ended = λ other is. subst (Ended w dialect limits a (moment s k c nodes) text bound) (same_err r why other e is) h;
-    };
-  }
-
-  -- a part, and then the rest
-  pub partly_more : {T : Type 0} (s' : S) (k' : K) (c' : C) (nodes' : ℕ) (text' : List ℕ) (m n all : ℕ) (r : Result T Halt)
-      → Gone w dialect limits a (moment s k c nodes) text m None
-      → Watched w dialect limits (moment s k c nodes) (moment s' k' c' nodes') text' n r → m + n ≤ all
-      → Partly w dialect limits a s' k' c' text' all r
-  partly_more s' k' c' nodes' text' m n all r first rest le =
-      let b = moment s k c nodes in
-      let z = moment s' k' c' nodes' in
-      record {
-        entered = nodes';
-        watched = record {
-          gone = on_ok_of r rest.gone (λ gone. gone_wider w dialect limits a z text' (m + n) all None (gone_more w dialect limits a b text z text' m n first None gone) le);
-          ended = λ why is. ended_wider w dialect limits a z text' (m + n) all why (ended_more w dialect limits a b text z text' m n first why (rest.ended why is)) le;
-        };
-      }
-
-  pub partly_wider : {T : Type 0} (m n : ℕ) (r : Result T Halt) → Partly w dialect limits a s k c text m r → m ≤ n → Partly w dialect limits a s k c text n r
-  partly_wider m n r part le =
-      let b = moment s k c part.entered in
-      record {
-        entered = part.entered;
-        watched = record {
-          gone = on_ok_of r part.watched.gone (λ gone. gone_wider w dialect limits a b text m n None gone le);
-          ended = λ why is. ended_wider w dialect limits a b text m n why (part.watched.ended why is) le;
-        };
-      }

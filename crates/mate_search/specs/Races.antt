@@ -1,23 +1,40 @@
 -- What workers that race beside each other know, and how many nodes one of them enters.
-use Rattle.std.specs.Prelude.{ℕ, ◌+◌, ◌*◌}
+use Rattle.std.specs.Prelude.{ℕ, ◌+◌, ◌*◌, ◌<◌, ◌≤◌}
+use Rattle.foundation.specs.Member.{Lists, Member}
+use Rattle.game_play.specs.Played.{story}
+use Rattle.legality.specs.Stance.{legal_in}
 use Rattle.rules_model.specs.declared.board.Position.{Position}
 use Rattle.mate_core.specs.declared.frame.Frame.{Frame}
 use Rattle.mate_settle.specs.Lines.{lines_within, seen_in}
 use Rattle.mate_shards.specs.Grown.{HaveParts}
 use Rattle.mate_shards.specs.Views.{ArePassesOf, ShardsView}
+use Rattle.mate_showing.specs.Answers.{IsFrameOf}
 use Rattle.mate_search.specs.declared.job.Job.{Job}
+use Rattle.mate_search.specs.declared.race.Race.{Race}
 
--- the lines of the root's moves, once in each round of the race
-abbrev pub race_lines : Frame → ℕ → Position → ℕ
-race_lines f n p = 2 * lines_within (seen_in f) n p
+-- the shards are of the game's frame, the root moves are its legal moves, and the number of moves is from 1 to 100
+pub record IsReady {G : Type 0} (race : Race G) : Type 0 where
+  pub frame : IsFrameOf race.game.now race.shards.now.frame
+  pub roots : Lists (λ m. Member m (legal_in
+      (record { rules = race.game.now.rules; position = (story race.game.now).last }))) race.roots.now
+  pub some : 0 < race.n
+  pub small : race.n ≤ 100
+
+-- the lines of the root
+abbrev pub root_lines : {G : Type 0} → Race G → ℕ
+root_lines race = lines_within (seen_in race.shards.now.frame) race.n (story race.game.now).last
+
+-- those of its moves, once in each round of the race
+abbrev pub race_lines : {G : Type 0} → Race G → ℕ
+race_lines race = 2 * root_lines race
 
 -- those of the root, and those of its table
 abbrev pub closing_lines : Frame → ℕ → Position → ℕ
 closing_lines f n p = (n + 2) * lines_within (seen_in f) n p
 
 -- all of them
-abbrev pub raced_lines : Frame → ℕ → Position → ℕ
-raced_lines f n p = (n + 4) * lines_within (seen_in f) n p
+abbrev pub raced_lines : {G : Type 0} → Race G → ℕ
+raced_lines race = (race.n + 4) * root_lines race
 
 -- a worker beside the first has passes of one part for the shards
 pub record IsLent (s : ShardsView) (job : Job) : Type 0 where

@@ -1,17 +1,13 @@
 //! Passes that are cut off for the other workers and joined again, and what the workers found.
 ghost use Rattle.std.specs.Prelude.{◌≡◌, ◌+◌, ◌-◌, ◌<◌, ◌≤◌, ℕ, [], vec_len, vec_capacity, IfOk};
 ghost use Rattle.std.specs.List.{All};
-ghost use Rattle.foundation.specs.Member.{Lists, Member};
-ghost use Rattle.game_play.specs.Played.{story};
 ghost use Rattle.mate_shards.specs.Grown.{HaveGrown, HaveParts};
 ghost use Rattle.mate_shards.specs.Views.{ArePassesOf};
-ghost use Rattle.legality.specs.Stance.{legal_in};
-ghost use Rattle.mate_showing.specs.Answers.{IsFrameOf};
 ghost use Rattle.mate_search.specs.Handed.{AreHandedBack};
-ghost use Rattle.mate_search.specs.Races.{IsLent};
+ghost use Rattle.mate_search.specs.Races.{IsLent, IsReady};
 
 use crate::job::{Job, Task, task_for};
-use game_play::Game;
+use crate::race::Race;
 use mate_settle::FactTable;
 use mate_shards::{Passes, Shards};
 use playing::Board;
@@ -40,12 +36,16 @@ pub(crate) fn share_out(shards: &Shards, passes: Passes, jobs: &mut Vec<Job>, co
     ensures grown { HaveGrown passes result }
 {
     let mut kept = passes;
-    for _ in 0..count {
+    for k in 0..count {
         match shards.split(kept) {
             Err(back) => return back,
             Ok((first, second)) => {
                 kept = first;
-                jobs.push_reserved(Job { passes: second });
+                jobs.push_reserved(Job {
+                    passes: second,
+                    number: k + 1,
+                    step: 0,
+                });
             }
         }
     }
@@ -96,31 +96,28 @@ fn learn<R: Wait>(
 
 /// Keeps what the shards know of the positions after the root moves. It answers a move that decides the root, if they
 /// know one.
-pub(crate) fn gather<R: Wait>(
+pub(crate) fn gather<R: Wait, G>(
     rt: &R,
-    game: &Game,
-    n: u16,
-    roots: &[Move],
-    shards: &Shards,
+    race: &Race<G>,
     passes: &mut Passes,
     facts: &mut FactTable,
 ) -> Option<Move>
-    requires frame { IsFrameOf game.now shards.now.frame }
-    requires facts { facts.old ≡ shards.now.frame }
-    requires passes { ArePassesOf shards.now passes.old }
-    requires roots { Lists (λ m. Member m (legal_in
-        (record { rules = game.now.rules; position = (story game.now).last }))) roots.now }
-    requires some { 0 < n }
+    requires ready { IsReady race.now }
+    requires facts { facts.old ≡ race.now.shards.now.frame }
+    requires passes { ArePassesOf race.now.shards.now passes.old }
     ensures facts { facts.new ≡ facts.old }
-    ensures handed { AreHandedBack shards.now passes.old passes.new }
+    ensures handed { AreHandedBack race.now.shards.now passes.old passes.new }
 {
-    let board = Board::new(game.tables(), game.position());
-    let task = task_for(board.position().side.is(shards.frame().attacker), n);
+    let board = Board::new(race.game.tables(), race.game.position());
+    let task = task_for(
+        board.position().side.is(race.shards.frame().attacker),
+        race.n,
+    );
     let mut decides = None;
-    for i in 0..roots.len() {
-        let chosen = roots[i];
+    for i in 0..race.roots.len() {
+        let chosen = race.roots[i];
         let next = board.after(&chosen);
-        decides = learn(rt, &next, task, chosen, shards, passes, facts).or(decides);
+        decides = learn(rt, &next, task, chosen, race.shards, passes, facts).or(decides);
     }
     decides
 }

@@ -12,14 +12,16 @@ mod lending;
 mod ordering;
 mod race;
 mod racer;
+mod racing;
 mod shared;
 mod shared_root;
 mod solving;
-mod unwatched;
 mod whole;
 
 pub use answer::Mate;
 pub use counting::is_counted;
 pub use frame::{copy_of_frame, frame_of};
+pub use io_ports::{Limits, SearchFault, Stopped};
 pub use mate_showing::Settled;
-pub use whole::{settle, solve};
+pub use strategy::Counters;
+pub use whole::{settle, solve, solve_watched};

@@ -8,16 +8,18 @@ ghost use Rattle.mate_search.specs.Handed.{AreHandedBack, RootIsShared};
 ghost use Rattle.mate_search.specs.Races.{closing_lines};
 ghost use Rattle.watching.specs.declared.halt.Halt.{Halt};
 
+use crate::ordering::{hinted_moves, leave_hint};
 use crate::shared_root::{is_refuted, publish_root, publish_wins};
 use game_play::Game;
+use hint_table::HintTable;
 use mate_settle::FactTable;
 use mate_shards::{Passes, Shards};
 use mate_showing::{Settled, decide, show};
 use playing::Board;
-use rules_model::Move;
+use rules_model::{Memory, Move};
 use std::alloc::Global;
 use std::sync::Wait;
-use watching::{Halt, Watch};
+use watching::{Halt, Unwatched, Watch};
 
 /// How many facts a worker keeps while it looks for a win within some number of moves. A short search meets few
 /// positions, and each place costs time and memory before it begins.
@@ -70,21 +72,17 @@ pub(crate) fn conclude<R: Wait, W: Watch>(
     show(alloc, game, &board, n, facts, watch)
 }
 
-/// As `conclude`, with a table of facts of its own. Where the shards know that the root is not won, nothing is
-/// searched.
-///
-/// # Errors
-///
-/// As of `conclude`.
-pub(crate) fn settle_alone<R: Wait, W: Watch>(
+/// As `conclude`, with a table of facts of its own, and by the hints. Where the shards know that the root is not won,
+/// nothing is searched. Memory alone can end it.
+pub(crate) fn settle_alone<R: Wait>(
     rt: &R,
     alloc: Global,
     game: &Game,
     n: u16,
     shards: &Shards,
     passes: &mut Passes,
-    watch: &mut W,
-) -> Result<Settled, Halt>
+    hints: &HintTable,
+) -> Result<Settled, Memory>
     requires frame { IsFrameOf game.now shards.now.frame }
     requires passes { ArePassesOf shards.now passes.old }
     requires some { 0 < n }
@@ -93,13 +91,22 @@ pub(crate) fn settle_alone<R: Wait, W: Watch>(
     ensures shared { OnOk result (RootIsShared shards.now passes.new game.now n) }
     ensures right { IfOk result (IsRight game.now.rules (story game.now) shards.now.frame.attacker n) }
     ensures decided { IfOk result (λ m. IsInLimit game.now.rules n (story game.now) → IsDecided m) }
-    ensures gone { OnOk result (W.gone watch.old watch.new (closing_lines shards.now.frame n (story game.now).last)) }
-    ensures ended { (why : Halt) → IsErrOf result why →
-        W.ended watch.old watch.new (closing_lines shards.now.frame n (story game.now).last) why }
 {
     if is_refuted(rt, shards, passes, game, n) {
         return Ok(Settled::NoMate);
     }
     let mut facts = FactTable::new(alloc, shards.frame(), room_for(n))?;
-    conclude(rt, alloc, game, n, None, shards, passes, &mut facts, watch)
+    let board = Board::new(game.tables(), game.position());
+    let roots = hinted_moves(alloc, &board, n, &facts, hints)?;
+    let first = roots.first().copied();
+    let mut watch = Unwatched::new();
+    let end = conclude(
+        rt, alloc, game, n, first, shards, passes, &mut facts, &mut watch,
+    );
+    leave_hint(hints, game, n, &end);
+    match end {
+        Ok(settled) => Ok(settled),
+        Err(Halt::Fault(_)) => Err(Memory),
+        Err(Halt::Cut(_)) => unreachable!(),
+    }
 }

@@ -5,31 +5,46 @@ ghost use Rattle.game_play.specs.Played.{story};
 ghost use Rattle.io_ports.specs.declared.limits.SearchFault.{SearchFault};
 ghost use Rattle.mate_shards.specs.Grown.{HaveParts};
 ghost use Rattle.mate_shards.specs.Views.{ArePassesOf};
-ghost use Rattle.watching.specs.Stopping.{AreSamePorts, Fails, Partly};
+ghost use Rattle.watching.specs.declared.halt.Halt.{Halt};
+ghost use Rattle.watching.specs.Stopping.{AreSamePorts, Fails};
 ghost use Rattle.watching.specs.Watched.{moment, world};
 ghost use Rattle.mate_showing.specs.Answers.{IsDecided, IsFrameOf, IsRight};
 ghost use Rattle.mate_search.specs.Handed.{AreHandedBack, RootIsShared};
 ghost use Rattle.mate_search.specs.Solves.{Heard, IsDecidedMate, IsFrameFor, IsLookedUp, IsRightMate, IsUncut, IsUnmoved, bound_of};
 
 use crate::answer::Mate;
-use crate::harness::{prepare, run};
+use crate::harness::{Harness, prepare, run};
 use crate::ordering::leave_hint;
+use crate::race::Race;
 use crate::shared_root::is_refuted;
 use crate::solving::settle_alone;
-use crate::unwatched::Unwatched;
 use game_play::Game;
 use hint_table::HintTable;
-use io_ports::{Clock, Dialect, Gate, Limits, LineBuf, Ports, SearchFault, Sink, Source, Stopped};
+use io_ports::{Clock, Gate, Limits, LineBuf, Ports, SearchFault, Sink, Source, Stopped};
 use mate_shards::{Passes, Shards};
 use mate_showing::Settled;
 use rules_model::{Memory, Side};
 use std::alloc::Global;
 use std::sync::Wait;
 use std::thread::Threads;
-use watching::{Halt, stopped_by};
+use watching::{Caller, Halt, Watch, stopped_by};
 
-/// The solve over ports that are lent singly.
-fn solve_lent<R: Threads + Wait + Sync, S: Source, K: Sink, C: Clock, G: Gate + Sync>(
+/// Whether the game is won within n moves, from 1 to 100, by the side that attacks in the frame of the shards, and how;
+/// by 1 to 64 workers, or by fewer where there is no memory for the passes of all. The frame has the game's rules and
+/// blocked positions; the passes have a part for each worker. Hints change the time that it takes, and nothing else.
+///
+/// The first worker runs in the caller, and the watch that is lent is its own: all that it hears of the outside, and
+/// what may cut it. The other workers settle root moves beside it, each within the quota of nodes, and publish what they
+/// find. No worker enters more nodes than four times n and one times the lines of at most as many legal moves as twice n
+/// and one.
+///
+/// The passes of all workers are joined and handed back with every answer. Where the solve was not cut and the root's
+/// repeat is not blocked, its shard then has a fact that serves the root, or is full.
+///
+/// # Errors
+///
+/// What ends the watch; or `Memory`.
+pub fn solve_watched<R: Threads + Wait + Sync, W: Watch, G: Gate + Sync>(
     rt: &R,
     alloc: Global,
     game: &Game,
@@ -37,14 +52,10 @@ fn solve_lent<R: Threads + Wait + Sync, S: Source, K: Sink, C: Clock, G: Gate + 
     shards: &Shards,
     passes: Passes,
     hints: &HintTable,
-    limits: Limits,
+    quota: Option<u64>,
     workers: u32,
-    source: &mut S,
-    sink: &mut K,
-    clock: &mut C,
-    line: &mut LineBuf,
-    dialect: Dialect,
     gate: &G,
+    watch: &mut W,
 ) -> (Passes, Result<Settled, Halt>)
     requires frame { IsFrameOf game.now shards.now.frame }
     requires passes { ArePassesOf shards.now passes }
@@ -56,9 +67,8 @@ fn solve_lent<R: Threads + Wait + Sync, S: Source, K: Sink, C: Clock, G: Gate + 
     ensures shared { OnOk result.1 (RootIsShared shards.now result.0 game.now n) }
     ensures right { IfOk result.1 (IsRight game.now.rules (story game.now) shards.now.frame.attacker n) }
     ensures decided { IfOk result.1 (λ s. IsInLimit game.now.rules n (story game.now) → IsDecided s) }
-    ensures watched { Partly (world S.left S.owed S.faults K.taken K.faults C.given C.count C.last) dialect limits
-        (moment source.old sink.old clock.old 0) source.new sink.new clock.new line.new
-        (bound_of game.now n) result.1 }
+    ensures gone { OnOk result.1 (W.gone watch.old watch.new (bound_of game.now n)) }
+    ensures ended { (why : Halt) → IsErrOf result.1 why → W.ended watch.old watch.new (bound_of game.now n) why }
 {
     let mut passes = passes;
     if is_refuted(rt, shards, &mut passes, game, n) {
@@ -67,10 +77,23 @@ fn solve_lent<R: Threads + Wait + Sync, S: Source, K: Sink, C: Clock, G: Gate + 
     let Ok(harness) = prepare(alloc, game, n, shards, hints, workers) else {
         return (passes, Err(Halt::Fault(SearchFault::Memory)));
     };
-    let (passes, end) = run(
-        rt, alloc, game, n, shards, passes, harness, limits, workers, source, sink, clock, line,
-        dialect, gate,
-    );
+    let Harness {
+        roots,
+        shared,
+        jobs,
+        mut facts,
+    } = harness;
+    let race = Race {
+        alloc,
+        game,
+        n,
+        shards,
+        roots: &roots,
+        shared: &shared,
+        gate,
+        quota,
+    };
+    let (passes, end) = run(rt, &race, passes, jobs, workers, &mut facts, watch);
     leave_hint(hints, game, n, &end);
     (passes, end)
 }
@@ -90,19 +113,13 @@ fn look_up<R: Wait>(rt: &R, shards: &Shards, passes: &mut Passes, game: &Game, n
     }
 }
 
-/// Whether the game is won by the side within n of its moves, from 1 to 100, and how; by 1 to 64 workers, or by fewer
-/// where there is no memory for the passes of all. The shards are those of the game's rules and blocked positions and
-/// of this attacker; the passes have a part for each worker. Hints change the time that it takes, and nothing else.
+/// As `solve_watched`, for the side that attacks in the frame of the shards, over ports.
 ///
-/// The first worker runs in the caller. It polls the source each 1,024 nodes, answers the lines that it hears, and is
-/// cut by a line that stops the search, by the end of the lines, by the deadline, or once it has entered as many nodes
-/// as the quota says. The other workers settle root moves beside it and publish what they find; what they do is heard
-/// by nobody. No worker enters more nodes than four times n and one times the lines of at most as many legal moves as
-/// twice n and one, so a quota of this number never cuts a solve. With a quota of 0 nothing is searched: the answer is
-/// what the shards know of the root.
-///
-/// The passes of all workers are joined and handed back with every answer. Where the solve was not cut and the root's
-/// repeat is not blocked, its shard then has a fact that serves the root, or is full.
+/// The first worker polls the source each 1,024 nodes, answers the lines that it hears, and is cut by a line that stops
+/// the search, by the end of the lines, by the deadline, or once it has entered as many nodes as the quota says. A quota
+/// of the greatest number that a worker enters never cuts a solve. How many nodes it entered is told by no clause here:
+/// those of `solve_watched` say it of a watch's own count. With a quota of 0 nothing is searched: the answer is what the
+/// shards know of the root.
 ///
 /// # Errors
 ///
@@ -150,7 +167,16 @@ pub fn solve<R: Threads + Wait + Sync, S: Source, K: Sink, C: Clock, G: Gate + S
     let Ok(mut line) = LineBuf::new(alloc) else {
         return (passes, Err(SearchFault::Memory));
     };
-    let (passes, end) = solve_lent(
+    let mut watch = Caller {
+        source: &mut *ports.source,
+        sink: &mut *ports.sink,
+        clock: &mut *ports.clock,
+        line: &mut line,
+        dialect: ports.dialect,
+        limits,
+        nodes: 0,
+    };
+    let (passes, end) = solve_watched(
         rt,
         alloc,
         game,
@@ -158,14 +184,10 @@ pub fn solve<R: Threads + Wait + Sync, S: Source, K: Sink, C: Clock, G: Gate + S
         shards,
         passes,
         hints,
-        limits,
+        limits.quota,
         workers,
-        ports.source,
-        ports.sink,
-        ports.clock,
-        &mut line,
-        ports.dialect,
         ports.gate,
+        &mut watch,
     );
     match end {
         Ok(settled) => (passes, Ok(settled.into())),
@@ -174,7 +196,7 @@ pub fn solve<R: Threads + Wait + Sync, S: Source, K: Sink, C: Clock, G: Gate + S
     }
 }
 
-/// The same by one worker, without ports, limits and hints.
+/// The same by one worker, without ports and limits.
 ///
 /// # Errors
 ///
@@ -187,6 +209,7 @@ pub fn settle<R: Wait>(
     n: u16,
     shards: &Shards,
     passes: Passes,
+    hints: &HintTable,
 ) -> (Passes, Result<Settled, Memory>)
     requires frame { IsFrameFor game.now attacker shards.now.frame }
     requires passes { ArePassesOf shards.now passes }
@@ -198,10 +221,6 @@ pub fn settle<R: Wait>(
     ensures decided { IfOk result.1 (λ s. IsInLimit game.now.rules n (story game.now) → IsDecided s) }
 {
     let mut passes = passes;
-    let mut watch = Unwatched;
-    match settle_alone(rt, alloc, game, n, shards, &mut passes, &mut watch) {
-        Ok(settled) => (passes, Ok(settled)),
-        Err(Halt::Fault(_)) => (passes, Err(Memory)),
-        Err(Halt::Cut(_)) => unreachable!(),
-    }
+    let end = settle_alone(rt, alloc, game, n, shards, &mut passes, hints);
+    (passes, end)
 }

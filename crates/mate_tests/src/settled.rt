@@ -35,11 +35,7 @@ fn won(
     requires rules { board.now.rules ≡ frame.now.rules }
 {
     let flag = StopFlag::new();
-    let mut watch = Helper {
-        flag: &flag,
-        quota: None,
-        nodes: 0,
-    };
+    let mut watch = Helper::new(&flag, None);
     let mut facts = FactTable::new(alloc, frame, room)?;
     if n == 0 || n > 9 {
         return Ok((false, false));

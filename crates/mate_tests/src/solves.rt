@@ -13,6 +13,7 @@ use io_ports::{
 };
 use mate_search::{Mate, Settled, frame_of, settle, solve};
 use mate_shards::{Passes, Shards};
+use playing::Board;
 use rules_model::{Memory, Move, Position, Promo, Side, sound};
 use sample_rules::{chess, position, square};
 use std::alloc::Global;
@@ -59,6 +60,13 @@ fn shards_for(alloc: Global, game: &Game, attacker: Side) -> Result<(Shards, Pas
     let frame = frame_of(alloc, game, attacker)?;
     let (shards, passes) = Shards::new(alloc, frame, 4, 4096)?;
     Ok((shards, passes))
+}
+
+/// A table of hints of which every word is this one.
+fn hints_of(rt: &impl Abort, alloc: Global, word: u64) -> HintTable {
+    let hints = HintTable::new(alloc, 1024).expect(rt, "no fault");
+    hints.fill(word);
+    hints
 }
 
 /// What is asked of a solve besides its game and its shards. Every word of the hints is `hint`.
@@ -151,13 +159,14 @@ fn unsearched(n: u16) -> Run<'static>
     }
 }
 
-/// What `settle` answers of the game, for the side.
+/// What `settle` answers of the game, for the side. Its hints are all ones.
 fn settled<R: Abort + Wait>(rt: &R, alloc: Global, game: &Game, attacker: Side, n: u16) -> Told
     requires some { 0 < n }
     requires small { n ≤ 100 }
 {
     let (shards, passes) = shards_for(alloc, game, attacker).expect(rt, "no fault");
-    let (_, answer) = settle(rt, alloc, game, attacker, n, &shards, passes);
+    let hints = hints_of(rt, alloc, u64::MAX);
+    let (_, answer) = settle(rt, alloc, game, attacker, n, &shards, passes, &hints);
     match answer.expect(rt, "no fault") {
         Settled::Shown(_) => Told::Shown,
         Settled::NoMate => Told::NoMate,
@@ -182,7 +191,7 @@ fn solved<R: Threads + Wait + Abort + Sync>(
     told
 }
 
-/// Asserts what `settle` answers of the game, and `solve` by one worker and by four, whose hints are all ones.
+/// Asserts what `settle` answers of the game, and `solve` by one worker, and by four whose hints are all ones.
 fn expect<R: Threads + Wait + Abort + Sync>(
     rt: &R,
     alloc: Global,
@@ -458,10 +467,13 @@ fn settled_without_ports(rt: HostRuntime) {
     let alloc = rt.alloc();
     let game = game_from(&rt, alloc, &position("Kf6 Ra7 kh8"));
     let (shards, passes) = shards_for(alloc, &game, Side::White).expect(&rt, "no fault");
-    let (passes, one) = settle(&rt, alloc, &game, Side::White, 1, &shards, passes);
-    let (mut passes, two) = settle(&rt, alloc, &game, Side::White, 2, &shards, passes);
+    let hints = hints_of(&rt, alloc, 0);
+    let (passes, one) = settle(&rt, alloc, &game, Side::White, 1, &shards, passes, &hints);
+    let (mut passes, two) = settle(&rt, alloc, &game, Side::White, 2, &shards, passes, &hints);
     assert!(rt; matches!(one, Ok(Settled::NoMate)));
     assert!(rt; matches!(two, Ok(Settled::Shown(_))));
+    let root = Board::new(game.tables(), game.position());
+    assert!(rt; hints.get(root.key()).is_some_and(|hint| hint.depth == 2));
     assert!(rt; know_the_next(&rt, &shards, &mut passes));
 }
 

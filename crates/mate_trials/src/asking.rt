@@ -18,8 +18,9 @@ use std::thread::Threads;
 /// Which call is asked.
 #[derive(Clone, Copy)]
 pub enum Call {
-    Settle,
-    /// By this number of workers, where each word of the hints is `hint`.
+    /// Where each word of the hints is `hint`.
+    Settle { hint: u64 },
+    /// By this number of workers, with such hints.
     Solve { workers: u32, hint: u64 },
 }
 
@@ -57,6 +58,7 @@ fn by_settle<R: Wait>(
     game: &Game,
     attacker: Side,
     n: u16,
+    hint: u64,
     shards: &Shards,
     passes: Passes,
 ) -> Result<(Passes, Said), Memory>
@@ -68,7 +70,9 @@ fn by_settle<R: Wait>(
     ensures passes { IfOk result (λ told. ArePassesOf shards.now told.0) }
     ensures parts { IfOk result (λ told. HaveParts 65536 told.0) }
 {
-    let (passes, answer) = settle(rt, alloc, game, attacker, n, shards, passes);
+    let hints = HintTable::new(alloc, 1024)?;
+    hints.fill(hint);
+    let (passes, answer) = settle(rt, alloc, game, attacker, n, shards, passes, &hints);
     let said = said_by_settle(answer)?;
     Ok((passes, said))
 }
@@ -138,7 +142,7 @@ pub fn ask<R: Threads + Wait + Sync>(
     ensures parts { IfOk result (λ told. HaveParts 65536 told.0) }
 {
     match call {
-        Call::Settle => by_settle(rt, alloc, game, attacker, n, shards, passes),
+        Call::Settle { hint } => by_settle(rt, alloc, game, attacker, n, hint, shards, passes),
         Call::Solve { workers, hint } => {
             // A solve has from 1 to 64 workers, and the type of a call does not say so.
             let workers = workers.max(1).min(64);

@@ -57,7 +57,7 @@ fn calls(number: u64) -> [Call; 3] {
         _ => 1 << 63,
     };
     [
-        Call::Settle,
+        Call::Settle { hint },
         Call::Solve { workers: 1, hint },
         Call::Solve { workers: 4, hint },
     ]

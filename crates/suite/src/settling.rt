@@ -10,6 +10,7 @@ ghost use Rattle.suite.specs.Problems.{IsFair, started};
 use crate::problem::{Answer, Problem};
 use forced_wins::by_rules::good_strategies_win;
 use game_play::Game;
+use hint_table::HintTable;
 use mate_search::{Settled, frame_of, settle};
 use mate_shards::{Passes, Shards};
 use rules_model::{Memory, Side};
@@ -20,6 +21,9 @@ use strategy::{Edge, Node, Strategy};
 /// How many facts are kept of a problem, in one shard.
 const FACTS: u32 = 4096;
 
+/// How many hints: one, on its root.
+const HINTS: usize = 1;
+
 // How the side wins within k moves, where it does. The passes are handed back.
 fn settled_within<R: Wait>(
     rt: &R,
@@ -29,6 +33,7 @@ fn settled_within<R: Wait>(
     k: u16,
     shards: &Shards,
     passes: Passes,
+    hints: &HintTable,
 ) -> (Passes, Result<Option<Strategy>, Memory>)
     requires frame { IsFrameFor game.now side shards.now.frame }
     requires passes { ArePassesOf shards.now passes }
@@ -38,7 +43,7 @@ fn settled_within<R: Wait>(
     ensures passes { ArePassesOf shards.now result.0 }
     ensures settled { IfOk result.1 (IsSettledBy game.now.rules (story game.now) side k) }
 {
-    let (passes, settled) = settle(rt, alloc, game, side, k, shards, passes);
+    let (passes, settled) = settle(rt, alloc, game, side, k, shards, passes, hints);
     match settled {
         Ok(Settled::Shown(strategy)) => (passes, Ok(Some(strategy))),
         Ok(Settled::NoMate) => (passes, Ok(None)),
@@ -65,8 +70,11 @@ fn solve_over<R: Wait>(
     // Tells the prover that a good strategy wins. Nothing is done.
     good_strategies_win::<Node, Edge>();
     let side = problem.position.side;
+    let hints = HintTable::new(alloc, HINTS)?;
     for k in 1..problem.n + 1 {
-        let (handed_back, settled) = settled_within(rt, alloc, game, side, k, shards, passes);
+        let (handed_back, settled) = settled_within(
+            rt, alloc, game, side, k, shards, passes, &hints,
+        );
         passes = handed_back;
         match settled {
             Ok(None) => {}

@@ -1,37 +1,34 @@
-use Rattle.std.proofs.Common.{◌≡◌, Ok, Err, refl, arith, rules}
+use Rattle.std.proofs.Common.{◌≡◌, Ok, Err, arith, rules}
 use Rattle.game_play.specs.Played.{story}
-use Rattle.watching.specs.CallerLaws.{ended_wider}
-use Rattle.watching.specs.declared.halt.Halt.{Halt}
+use Rattle.watching.specs.LookLaws.{on_ok_of}
 use Rattle.mate_search.specs.Races.{closing_lines, race_lines, raced_lines}
 use Rattle.mate_search.proofs.HandedLaws.{handed_more}
 use Rattle.mate_showing.proofs.OrderLaws.{from_ok}
-use Rattle.mate_search.proofs.RaceLaws.{partly_err, partly_more}
 use Rattle.mate_search.proofs.harness.run.Goals as goal
 
-pub returns-in-Err-clause-watched : goal.returns-in-Err-clause-watched
-returns-in-Err-clause-watched g c =
-    let f = c.args.shards.now.frame in
-    let n = c.args.n in
-    let last = (story c.args.game.now).last in
-    let why : Halt = c.in-Err.why in
-    let end : c.race_all-raced.result.led.end ≡ Err why = search rules in
-    partly_err _ c.args.dialect c.args.limits _ _ _ _ c.race_all-raced.result.led.nodes _ (raced_lines f n last) _ why refl
-    (ended_wider _ c.args.dialect c.args.limits _ _ _ (race_lines f n last) (raced_lines f n last) why (c.race_all-raced.ensures.watched.ended why end) (omega arith))
+pub returns-in-Err-clause-ended : goal.returns-in-Err-clause-ended
+returns-in-Err-clause-ended g c why is =
+    let end : c.race_all-raced.result.end ≡ Err why = search rules in
+    g.met.W.Watch.ends_wider _ _ _ (raced_lines c.args.race.now) why (c.race_all-raced.ensures.ended why end) (omega arith)
 
-pub returns-clause-handed : goal.returns-clause-handed
-returns-clause-handed g c = handed_more c.args.shards.now _ _ _ (handed_more c.args.shards.now _ _ _ c.race_all-raced.ensures.handed c.gather-decides.ensures.handed) c.finish-ended.ensures.handed
+pub returns-in-Ok-clause-handed : goal.returns-in-Ok-clause-handed
+returns-in-Ok-clause-handed g c =
+    let s = c.args.race.now.shards.now in
+    handed_more s _ _ _ (handed_more s _ _ _ c.race_all-raced.ensures.handed c.gather-decides.ensures.handed) c.conclude-end.ensures.handed
 
-pub returns-clause-watched : goal.returns-clause-watched
-returns-clause-watched g c =
-    let f = c.args.shards.now.frame in
-    let n = c.args.n in
-    let last = (story c.args.game.now).last in
-    let end : c.race_all-raced.result.led.end ≡ Ok tt = search rules in
-    let gone = from_ok c.race_all-raced.result.led.end tt end c.race_all-raced.ensures.watched.gone in
-    partly_more _ c.args.dialect c.args.limits _ _ _ _ c.race_all-raced.result.led.nodes _ _ _ _ c.finish-ended.result.nodes _ (race_lines f n last) (closing_lines f n last) (raced_lines f n last) c.finish-ended.result.end gone c.finish-ended.ensures.watched (omega arith)
+pub returns-in-Ok-clause-gone : goal.returns-in-Ok-clause-gone
+returns-in-Ok-clause-gone g c =
+    let race = c.args.race.now in
+    let closing = closing_lines race.shards.now.frame race.n (story race.game.now).last in
+    let end : c.race_all-raced.result.end ≡ Ok tt = search rules in
+    let first = from_ok c.race_all-raced.result.end tt end c.race_all-raced.ensures.gone in
+    on_ok_of c.conclude-end.result c.conclude-end.ensures.gone (λ rest.
+    g.met.W.Watch.wider _ _ _ (raced_lines race) (g.met.W.Watch.more _ _ _ (race_lines race) closing first rest) (omega arith))
 
-pub race_all-raced-requires-clause-roots : goal.race_all-raced-requires-clause-roots
-race_all-raced-requires-clause-roots g c κs within = rw c.deref.ensures.value c.requires.roots
-
-pub gather-decides-requires-clause-roots : goal.gather-decides-requires-clause-roots
-gather-decides-requires-clause-roots g c = rw c.deref-in-Ok.ensures.value c.requires.roots
+pub returns-in-Ok-clause-ended : goal.returns-in-Ok-clause-ended
+returns-in-Ok-clause-ended g c why is =
+    let race = c.args.race.now in
+    let closing = closing_lines race.shards.now.frame race.n (story race.game.now).last in
+    let end : c.race_all-raced.result.end ≡ Ok tt = search rules in
+    let first = from_ok c.race_all-raced.result.end tt end c.race_all-raced.ensures.gone in
+    g.met.W.Watch.ends_wider _ _ _ (raced_lines race) why (g.met.W.Watch.ends _ _ _ (race_lines race) closing why first (c.conclude-end.ensures.ended why is)) (omega arith)

@@ -11,7 +11,7 @@ use Rattle.mate_search.proofs.job.settle_next.Goals as goal
 
 pub publish_by_key-published-requires-clause-truth : goal.publish_by_key-published-requires-clause-truth
 publish_by_key-published-requires-clause-truth g c =
-    let f = c.args.shards.now.frame in
+    let f = c.args.race.now.shards.now.frame in
     let k = c.in_ok-fact.fact in
     let p = c.position-p.result.now in
     let truth : IsTrueIn f k = subst (λ (x : Frame). IsTrueIn x k) c.requires.frame c.in_ok-fact.ensures.truth in
@@ -20,6 +20,6 @@ publish_by_key-published-requires-clause-truth g c =
     subst (λ (x : Claim). IsTrueIn f (fact_with (repeat_of p) x)) (sym c.of.ensures) claimed
 
 pub returns-clause-handed : goal.returns-clause-handed
-returns-clause-handed g c = handed_more c.args.shards.now _ _ _
+returns-clause-handed g c = handed_more c.args.race.now.shards.now _ _ _
     (record { passes = c.look_by_key.ensures.passes; parts = c.look_by_key.ensures.parts; grown = c.look_by_key.ensures.grown })
     (record { passes = c.publish_by_key-published.ensures.passes; parts = c.publish_by_key-published.ensures.parts; grown = c.publish_by_key-published.ensures.grown })

@@ -3,4 +3,4 @@ use Rattle.mate_search.specs.Handed.{AreHandedBack}
 use Rattle.mate_search.proofs.lending.gather.Given as goal
 
 abbrev pub invariant-loop-i : goal.invariant-loop-i
-invariant-loop-i g l = record { facts : l.facts ≡ l.fn.facts; handed : AreHandedBack l.shards l.fn.passes l.passes }
+invariant-loop-i g l = record { facts : l.facts ≡ l.fn.facts; handed : AreHandedBack l.race.shards.now l.fn.passes l.passes }

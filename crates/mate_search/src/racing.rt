@@ -1,0 +1,105 @@
+//! The worker in the caller, and the others beside it.
+ghost use denote.Param.Send.{IsSend, IsSync};
+ghost use Rattle.std.specs.Prelude.{◌≡◌, ◌<◌, length, OnOk, IsErrOf};
+ghost use Rattle.std.specs.List.{All};
+ghost use Rattle.mate_shards.specs.contracts.shards.Passes as PassesRow;
+ghost use Rattle.mate_shards.specs.contracts.shards.Shards as ShardsRow;
+ghost use Rattle.mate_shards.specs.Views.{ArePassesOf};
+ghost use Rattle.watching.specs.declared.halt.Halt.{Halt};
+ghost use Rattle.mate_search.specs.Handed.{AreHandedBack};
+ghost use Rattle.mate_search.specs.Races.{IsLent, IsReady, race_lines};
+
+use crate::job::{Job, help, take_all};
+use crate::race::Race;
+use crate::racer::Racer;
+use io_ports::Gate;
+use mate_settle::FactTable;
+use std::sync::Wait;
+use std::thread::{Threads, for_each_mut, join_mut};
+use watching::{Halt, Watch};
+
+/// The worker in the caller. When it ends, whatever the reason, the others are told to stop. That it was told so itself
+/// is no error.
+fn lead<R: Wait, W: Watch, G: Gate>(
+    rt: &R,
+    race: &Race<G>,
+    job: &mut Job,
+    facts: &mut FactTable,
+    watch: &mut W,
+) -> Result<(), Halt>
+    requires ready { IsReady race.now }
+    requires facts { facts.old ≡ race.now.shards.now.frame }
+    requires passes { ArePassesOf race.now.shards.now job.old.passes }
+    ensures facts { facts.new ≡ facts.old }
+    ensures handed { AreHandedBack race.now.shards.now job.old.passes job.new.passes }
+    ensures gone { OnOk result (W.gone watch.old watch.new (race_lines race.now)) }
+    ensures ended { (why : Halt) → IsErrOf result why → W.ended watch.old watch.new (race_lines race.now) why }
+{
+    let mut racer = Racer {
+        watch,
+        over: &race.shared.over,
+        told: false,
+    };
+    let end = take_all(rt, race, job, facts, &mut racer);
+    race.shared.over.raise();
+    if racer.told {
+        return Ok(());
+    }
+    end
+}
+
+/// The workers beside the first.
+fn help_all<R: Threads + Wait + Sync, G: Gate + Sync>(rt: &R, race: &Race<G>, jobs: &mut [Job])
+    requires crosses { IsSync ShardsRow.the_row × IsSend PassesRow.the_row }
+    requires ready { IsReady race.now }
+    requires lent { All (IsLent race.now.shards.now) jobs.old }
+    requires some { 0 < length jobs.old }
+    ensures lent { All (IsLent race.now.shards.now) jobs.new }
+    ensures count { length jobs.new ≡ length jobs.old }
+{
+    let count = jobs.len();
+    for_each_mut(
+        rt,
+        jobs,
+        count,
+        &|_, job: &mut Job|
+            requires { IsLent race.now.shards.now job.now × IsReady race.now }
+            ensures { IsLent race.entry.now.shards.now job.exit.now }
+        { help(rt, race, job) },
+    );
+}
+
+/// The worker in the caller and the others, beside each other. It returns once all have ended.
+pub(crate) fn run_all<R: Threads + Wait + Sync, W: Watch, G: Gate + Sync>(
+    rt: &R,
+    race: &Race<G>,
+    jobs: &mut [Job],
+    mine: &mut Job,
+    facts: &mut FactTable,
+    watch: &mut W,
+) -> Result<(), Halt>
+    requires crosses { IsSync ShardsRow.the_row × IsSend PassesRow.the_row }
+    requires ready { IsReady race.now }
+    requires facts { facts.old ≡ race.now.shards.now.frame }
+    requires passes { ArePassesOf race.now.shards.now mine.old.passes }
+    requires lent { All (IsLent race.now.shards.now) jobs.old }
+    ensures facts { facts.new ≡ facts.old }
+    ensures handed { AreHandedBack race.now.shards.now mine.old.passes mine.new.passes }
+    ensures lent { All (IsLent race.now.shards.now) jobs.new }
+    ensures count { length jobs.new ≡ length jobs.old }
+    ensures gone { OnOk result (W.gone watch.old watch.new (race_lines race.now)) }
+    ensures ended { (why : Halt) → IsErrOf result why → W.ended watch.old watch.new (race_lines race.now) why }
+{
+    if jobs.is_empty() {
+        return lead(rt, race, mine, facts, watch);
+    }
+    let mut others = ||
+        requires { IsSync ShardsRow.the_row × IsSend PassesRow.the_row × IsReady race.now
+            × All (IsLent race.now.shards.now) jobs.now × (0 < length jobs.now) }
+        ensures { All (IsLent race.entry.now.shards.now) jobs.exit.now
+            × (length jobs.exit.now ≡ length jobs.entry.now) }
+    { help_all(rt, race, jobs) };
+    let mut first = || lead(rt, race, mine, facts, watch);
+    let (_, end) = join_mut(rt, &mut others, &mut first);
+    end
+}
