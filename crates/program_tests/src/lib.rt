@@ -22,4 +22,4 @@ mod stipulations;
 #[cfg(test)]
 mod strategies;
 #[cfg(test)]
-mod worked;
+mod whole_answers;
