@@ -33,7 +33,7 @@ pub const VARIANTS: &[u8] = b"\
     [tight:corner]\n\
     nFoldRule = 2\n\
     nMoveRule = 5\n\
-    startFen = 5/PK3/5/4k/1P3 w - - 5 30\n\
+    startFen = 5/1P1K1/5/1k3/5 w - - 6 30\n\
     [takers:corner]\n\
     king = -\n\
     commoner = k\n\
