@@ -2,7 +2,7 @@
 """How many positions a second a client of Python gets the legal moves and the result of, beside one process for each call.
 
 Usage: bench/client_speed.py [--positions N] [--variant NAME ..] [--sessions N]     (100 positions, chess, crazyhouse and xiangqi, and 4
-       sessions at once by default; VENGINE or crates/vengine/out/vengine)
+       sessions at once by default; VENGINE, or the program of these sources in release/out or release)
 
 The positions are those of random games from the start, up to 100 plies long. Of each, one after the other in the same run: `position` of
 clients/vengine.py, which asks a session that is held; and the commands `moves` and `status`, each of which is a process. Then the same

@@ -254,7 +254,7 @@ def main():
         return
     if given.count:
         sys.exit(0 if count() else "pn: the numbers are others")
-    # the first start builds the program where a source is newer
+    # the first start builds the program where none was made of these sources
     subprocess.run([ENGINE, "status"], input="chess\nstartpos\n", capture_output=True, text=True)
     if not all([tell_growth(given), tell_mates(given)]):
         sys.exit("pn: an answer is another one")

@@ -44,7 +44,7 @@ def main():
     count = int(sys.argv[2]) if len(sys.argv) > 2 else PROBLEMS
     variants = sys.argv[3] if len(sys.argv) > 3 else None
     text = problems_of(sys.argv[1], count)
-    # the first start builds the program where a source is newer
+    # the first start builds the program where none was made of these sources
     report_by(1, "", variants)
     first, alone = None, None
     for threads in THREADS:

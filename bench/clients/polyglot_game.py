@@ -9,7 +9,6 @@ game is over. Prints how the game ended, and what Vengine answered by an error, 
 move is not legal or does not come within 30 seconds.
 """
 import argparse
-import os
 import queue
 import random
 import re
