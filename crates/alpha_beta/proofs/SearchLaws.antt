@@ -11,25 +11,25 @@ use Rattle.watching.specs.declared.caller.Caller.{Caller}
 use Rattle.watching.specs.declared.halt.Halt.{Halt}
 use Rattle.watching.specs.CallerLaws.{Goes, IsLent, Stops}
 use Rattle.watching.specs.Watched.{World}
-use Rattle.alpha_beta.specs.declared.work.Job.{Job}
+use Rattle.alpha_beta.specs.declared.root_moves.HelperFacts.{HelperFacts}
 use Rattle.alpha_beta.specs.Bests.{IsBest}
 use Rattle.alpha_beta.specs.Workers.{most_nodes}
 
-most_rec : (n start : ℕ) (jobs : List Job) → start ≤ n → AllByRecursion (λ job. job.nodes ≤ n) jobs → most_nodes start jobs ≤ n
+most_rec : (n start : ℕ) (jobs : List HelperFacts) → start ≤ n → AllByRecursion (λ job. job.nodes ≤ n) jobs → most_nodes start jobs ≤ n
 most_rec n start [] h all = h
 most_rec n start (job ∷ jobs) h all = most_rec n (max start job.nodes) jobs (let first = all.0 in omega arith) all.1
 
 -- if no count is above a number, the greatest is not
-pub most_within : (n start : ℕ) (jobs : List Job) → start ≤ n → All (λ job. job.nodes ≤ n) jobs → most_nodes start jobs ≤ n
+pub most_within : (n start : ℕ) (jobs : List HelperFacts) → start ≤ n → All (λ job. job.nodes ≤ n) jobs → most_nodes start jobs ≤ n
 most_within n start jobs h all = most_rec n start jobs h (recursion_from_All (λ job. job.nodes ≤ n) jobs all)
 
 -- the greatest is at least the first
-pub most_start : (start : ℕ) (jobs : List Job) → start ≤ most_nodes start jobs
+pub most_start : (start : ℕ) (jobs : List HelperFacts) → start ≤ most_nodes start jobs
 most_start start [] = omega arith
 most_start start (job ∷ jobs) = let rest = most_start (max start job.nodes) jobs in omega (arith, rest)
 
 -- and the first, where there are no others
-pub most_none : (start : ℕ) (jobs : List Job) → length jobs ≡ 0 → most_nodes start jobs ≡ start
+pub most_none : (start : ℕ) (jobs : List HelperFacts) → length jobs ≡ 0 → most_nodes start jobs ≡ start
 most_none start [] none = refl
 most_none start (job ∷ jobs) none = absurd (omega (arith, none))
 

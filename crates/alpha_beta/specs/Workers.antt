@@ -6,7 +6,7 @@ use Rattle.game_line.specs.Lined.{Lined, line_of}
 use Rattle.negamax.specs.declared.facts.RootFact.{RootFact}
 use Rattle.negamax.specs.RootFacts.{IsTrueFact}
 use Rattle.alpha_beta.specs.declared.plan.Plan.{Plan}
-use Rattle.alpha_beta.specs.declared.work.Job.{Job}
+use Rattle.alpha_beta.specs.declared.root_moves.HelperFacts.{HelperFacts}
 use Rattle.alpha_beta.specs.Roots.{AreLegal, root_lines}
 
 -- the line of no moves after the game, with room for a search of this depth
@@ -32,14 +32,14 @@ abbrev pub lines_in : {G : Type 0} → Plan G → ℕ
 lines_in plan = root_lines plan.game.now.rules plan.depth (story plan.game.now) plan.roots.now
 
 -- it has found nothing yet
-abbrev pub HasNone : Job → Type 0
+abbrev pub HasNone : HelperFacts → Type 0
 HasNone job = job.facts.items ≡ []
 
 -- what a worker found is true, and it entered no more nodes than there are lines after the root moves
-pub record IsSound {G : Type 0} (plan : Plan G) (job : Job) : Type 0 where
+pub record IsSound {G : Type 0} (plan : Plan G) (job : HelperFacts) : Type 0 where
   pub facts : AreTrueFacts plan.game.now plan.depth job.facts.items
   pub nodes : job.nodes ≤ lines_in plan
 
 -- the greatest of a count and those of the others
-abbrev pub most_nodes : ℕ → List Job → ℕ
-most_nodes nodes jobs = fold (λ most (job : Job). max most job.nodes) nodes jobs
+abbrev pub most_nodes : ℕ → List HelperFacts → ℕ
+most_nodes nodes jobs = fold (λ most (job : HelperFacts). max most job.nodes) nodes jobs

@@ -4,10 +4,10 @@
 
 mod plan;
 mod race;
+mod root_moves;
 mod roots;
 mod searching;
 mod shared;
-mod work;
 
 pub use io_ports::{Limits, SearchFault, Stopped};
 pub use searching::{Found, Searched, search, search_watched};

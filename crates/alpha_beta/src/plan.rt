@@ -2,12 +2,12 @@
 ghost use Rattle.std.specs.Prelude.{◌≡◌, ◌≤◌, IfOk};
 ghost use Rattle.alpha_beta.specs.Workers.{line_after};
 
-use crate::shared::Shared;
+use crate::shared::SharedRoots;
 use foundation::Memory;
 use game_line::Line;
 use game_play::Game;
 use hint_table::HintTable;
-use negamax::Desk;
+use negamax::SearchState;
 use rules_model::Move;
 use std::alloc::Global;
 
@@ -19,14 +19,14 @@ pub(crate) struct Plan<'a, G> {
     pub roots: &'a [Move],
     pub hints: &'a HintTable,
     pub gate: &'a G,
-    pub shared: &'a Shared,
+    pub shared: &'a SharedRoots,
 }
 
 /// What a worker takes from one root move to the next.
 #[derive(Drop)]
 pub(crate) struct Seat<'a> {
     pub line: Line<'a>,
-    pub desk: Desk<'a>,
+    pub desk: SearchState<'a>,
     pub number: u32,
     /// How many root moves it has taken.
     pub step: u64,
@@ -46,7 +46,7 @@ impl<'a> Seat<'a> {
     {
         Ok(Seat {
             line: Line::new(alloc, game, depth as usize + 4)?,
-            desk: Desk::new(alloc, hints)?,
+            desk: SearchState::new(alloc, hints)?,
             number,
             step: 0,
         })

@@ -5,7 +5,7 @@ ghost use Rattle.watching.specs.declared.halt.Halt.{Halt};
 ghost use Rattle.alpha_beta.specs.Workers.{FoundTrue, HasNone, IsPlan, IsSound, lines_in};
 
 use crate::plan::Plan;
-use crate::work::{Job, help, take_all};
+use crate::root_moves::{HelperFacts, help, take_all};
 use io_ports::Gate;
 use negamax::RootFact;
 use std::alloc::Global;
@@ -36,7 +36,7 @@ fn help_all<R: Threads + Sync, G: Gate + Sync>(
     alloc: Global,
     plan: &Plan<G>,
     quota: Option<u64>,
-    jobs: &mut [Job],
+    jobs: &mut [HelperFacts],
 )
     requires plan { IsPlan plan.now }
     requires none { All HasNone jobs.old }
@@ -49,7 +49,7 @@ fn help_all<R: Threads + Sync, G: Gate + Sync>(
         rt,
         jobs,
         count,
-        &|k: usize, job: &mut Job|
+        &|k: usize, job: &mut HelperFacts|
             requires { HasNone job.now × IsPlan plan.now × (k < 63) }
             ensures { IsSound plan.entry.now job.exit.now }
         { help(alloc, plan, k as u32 + 1, quota, job) },
@@ -62,7 +62,7 @@ pub(crate) fn race<R: Threads + Sync, W: Watch, G: Gate + Sync>(
     alloc: Global,
     plan: &Plan<G>,
     quota: Option<u64>,
-    jobs: &mut [Job],
+    jobs: &mut [HelperFacts],
     facts: &mut Vec<RootFact>,
     watch: &mut W,
 ) -> Result<(), Halt>

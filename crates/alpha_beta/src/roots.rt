@@ -7,7 +7,7 @@ use crate::shared::WORST;
 use foundation::Memory;
 use game_play::Game;
 use hint_table::HintTable;
-use negamax::{likely_floor, root_rank};
+use negamax::{aspiration_floor, root_rank};
 use playing::Board;
 use rules_model::Move;
 use std::alloc::Global;
@@ -50,5 +50,5 @@ pub(crate) fn ordered(
 /// What the best score is taken to be above, before any is known.
 pub(crate) fn floor_for(game: &Game, hints: &HintTable, depth: u8) -> i32 {
     let board = Board::new(game.tables(), game.position());
-    likely_floor(&board, hints, depth).unwrap_or(WORST)
+    aspiration_floor(&board, hints, depth).unwrap_or(WORST)
 }

@@ -13,9 +13,9 @@ ghost use Rattle.alpha_beta.specs.Workers.{AreTrueFacts, HasNone, IsPlan, IsSoun
 
 use crate::plan::Plan;
 use crate::race::race;
+use crate::root_moves::{HelperFacts, combine_facts};
 use crate::roots::{floor_for, ordered};
-use crate::shared::Shared;
-use crate::work::{Job, combine_facts};
+use crate::shared::SharedRoots;
 use foundation::Memory;
 use game_play::Game;
 use hint_table::HintTable;
@@ -45,13 +45,13 @@ pub enum Searched {
 }
 
 /// So many workers beside the first, or fewer where there is no memory for more.
-fn jobs_for(alloc: Global, count: u32) -> Vec<Job>
+fn jobs_for(alloc: Global, count: u32) -> Vec<HelperFacts>
     ensures none { All HasNone result.items }
     ensures count { vec_len result ≤ count }
 {
     let mut jobs = Vec::new(alloc);
     for _job in 0..count {
-        let job = Job {
+        let job = HelperFacts {
             facts: Vec::new(alloc),
             nodes: 0,
         };
@@ -63,7 +63,7 @@ fn jobs_for(alloc: Global, count: u32) -> Vec<Job>
 }
 
 /// Adds what the others found.
-fn gather<G>(plan: &Plan<G>, jobs: &[Job], facts: &mut Vec<RootFact>) -> Result<(), Memory>
+fn gather<G>(plan: &Plan<G>, jobs: &[HelperFacts], facts: &mut Vec<RootFact>) -> Result<(), Memory>
     requires known { AreTrueFacts plan.now.game.now plan.now.depth facts.old.items }
     requires sound { All (IsSound plan.now) jobs.now }
     ensures { OnOk result (AreTrueFacts plan.now.game.now plan.now.depth facts.new.items) }
@@ -75,7 +75,7 @@ fn gather<G>(plan: &Plan<G>, jobs: &[Job], facts: &mut Vec<RootFact>) -> Result<
 }
 
 /// The greatest of a count and those of the others.
-fn greatest_count(nodes: u64, jobs: &[Job]) -> u64
+fn greatest_count(nodes: u64, jobs: &[HelperFacts]) -> u64
     ensures { result ≡ most_nodes nodes jobs.now }
 {
     let mut most = nodes;
@@ -91,7 +91,7 @@ fn search_by<R: Threads + Sync, W: Watch, G: Gate + Sync>(
     alloc: Global,
     plan: &Plan<G>,
     quota: Option<u64>,
-    jobs: &mut [Job],
+    jobs: &mut [HelperFacts],
     watch: &mut W,
 ) -> Result<Found, Halt>
     requires plan { IsPlan plan.now }
@@ -156,7 +156,7 @@ pub fn search_watched<R: Threads + Sync, W: Watch, G: Gate + Sync>(
     ensures ended { (why : Halt) → IsErrOf result why → W.ended watch.old watch.new (bound_of game.now depth) why }
 {
     let tried = ordered(alloc, game, roots, hints)?;
-    let shared = Shared::new(alloc, tried.len(), floor_for(game, hints, depth))?;
+    let shared = SharedRoots::new(alloc, tried.len(), floor_for(game, hints, depth))?;
     let plan = Plan {
         game,
         depth,

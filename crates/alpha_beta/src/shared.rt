@@ -11,16 +11,16 @@ pub(crate) const WORST: i32 = -32_001;
 /// What the workers tell each other: whether they are to stop, the best score so far, and what became of each root
 /// move.
 #[derive(Drop)]
-pub(crate) struct Shared {
+pub(crate) struct SharedRoots {
     pub flag: StopFlag,
     bound: AtomicI32,
     marks: RootMarks,
 }
 
-impl Shared {
+impl SharedRoots {
     /// Nothing is known of N root moves, and the best score is taken to be above the floor.
-    pub fn new(alloc: Global, roots: usize, floor: i32) -> Result<Shared, Memory> {
-        Ok(Shared {
+    pub fn new(alloc: Global, roots: usize, floor: i32) -> Result<SharedRoots, Memory> {
+        Ok(SharedRoots {
             flag: StopFlag::new(),
             bound: AtomicI32::new(floor),
             marks: RootMarks::new(alloc, roots)?,

@@ -4,7 +4,7 @@ ghost use Rattle.rules_model.specs.declared.board.Region.{Region};
 ghost use Rattle.attack_tables.specs.RegionSets.{AreSideRegions, IsSideRegion};
 
 use move_tables::region_set;
-use rules_model::sizes::region_size;
+use rules_model::sizes::prove_region_size;
 use rules_model::{Region, Side};
 use square_set::Set;
 
@@ -19,7 +19,7 @@ fn side_region(regions: &[Region; 2], side: Side) -> Set
     ensures { IsSideRegion regions.now side result }
 {
     let region = &regions[side.index()];
-    region_size(region);
+    prove_region_size(region);
     region_set(region)
 }
 

@@ -29,7 +29,7 @@ use foundation::Memory;
 use move_tables::{Mode, MoveTables, Spot, kings, men, occupied};
 use rules_model::attacks::is_own_king;
 use rules_model::castling::castling_on;
-use rules_model::sizes::board_size;
+use rules_model::sizes::prove_board_size;
 use rules_model::{Cell, Kind, Position, Rules, Side, Square};
 use square_set::{EMPTY, Set};
 use std::alloc::Global;
@@ -319,7 +319,7 @@ impl Tables {
         ensures { OnEachBoard by cells.now men occupied
             (λ board. result ≡ any_below (Rule.attacks_from self.now board by at.0) 120) }
     {
-        board_size(cells);
+        prove_board_size(cells);
         let _rules = self.rules();
         let mut near = self.takers(by, at).and(men);
         while let Some(from) = near.take_first() {
@@ -344,7 +344,7 @@ impl Tables {
         ensures { OnEachWithKing self.now by cells.now men occupied at.0
             (λ board. result ≡ any_below (Rule.king_faces self.now board by at.0) 120) }
     {
-        board_size(cells);
+        prove_board_size(cells);
         let rules = self.rules();
         let mut seen = self.sight(at).reach(occupied).and(men);
         while let Some(from) = seen.take_first() {
@@ -386,7 +386,7 @@ impl Tables {
     pub fn attacked(&self, p: &Position, at: Square, by: Side) -> bool
         ensures { result ≡ Rule.attacks self.now p.now.cells by at.0 }
     {
-        board_size(&p.cells);
+        prove_board_size(&p.cells);
         let rules = self.rules();
         if at.0 >= 120 {
             return false;
@@ -429,7 +429,7 @@ impl Tables {
     pub fn king_attacked(&self, p: &Position, side: Side) -> bool
         ensures { result ≡ Rule.king_attacked self.now p.now.cells side }
     {
-        board_size(&p.cells);
+        prove_board_size(&p.cells);
         let rules = self.rules();
         let by = side.other();
         let kings = kings(rules, &p.cells, side);

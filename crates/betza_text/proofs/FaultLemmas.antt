@@ -4,9 +4,9 @@ use Rattle.std.specs.Option.{option_or}
 use Rattle.std.proofs.lemmas.Bool.{cases_lt, ltb-false}
 use Rattle.betza_text.specs.declared.fault.BetzaFault.{BetzaFault}
 use Rattle.betza_text.specs.declared.fault.BetzaFault.TheVariants.{UnknownAtom, AmbiguousDirection, BadLame, BadHopper, BadNumber, TooManyTerms}
-use Rattle.betza_text.specs.declared.cut.Cut.{Cut}
+use Rattle.betza_text.specs.declared.split_part.SplitPart.{SplitPart}
 use Rattle.betza_text.specs.declared.part.Part.{Part}
-use Rattle.betza_text.specs.Cut.{part_of, number_place, direction_place, place_of}
+use Rattle.betza_text.specs.SplitPart.{part_of, number_place, direction_place, place_of}
 use Rattle.std.specs.Prelude.{nat_lt}
 use Rattle.betza_text.specs.Letters.{is_atom}
 use Rattle.betza_text.specs.Steps.{steps_of, shape_of, is_clear}
@@ -60,13 +60,13 @@ last_none false false false true g n f1 f2 f3 f4 f5 f6 h = cc
 last_none false false false false true n f1 f2 f3 f4 f5 f6 h = cc
 last_none false false false false false n f1 f2 f3 f4 f5 f6 h = ltb-false 64 n (last (nat_lt 64 n) f6 h)
 
-atoms_few : (at before : ℕ) (text modifiers : List ℕ) (cut : Cut) (part : Part) → atom_fault at before text modifiers cut part ≡ None → before + length (steps_of part) ≤ 64
+atoms_few : (at before : ℕ) (text modifiers : List ℕ) (cut : SplitPart) (part : Part) → atom_fault at before text modifiers cut part ≡ None → before + length (steps_of part) ≤ 64
 unfolding atom_fault
 atoms_few at before text modifiers cut part h =
     last_none (not (is_atom part.atom)) (is_bad_count text cut) (not (is_clear (shape_of part.atom) part.dirs)) (is_bad_lame part) (is_bad_hopper modifiers part) (before + length (steps_of part))
     (UnknownAtom (at + cut.modifiers)) (BadNumber (at + number_place cut)) (AmbiguousDirection (at + direction_place modifiers)) (BadLame (at + place_of 110 modifiers)) (BadHopper (at + hopper_place modifiers)) (TooManyTerms (at + cut.modifiers)) h
 
 -- a part without a fault brings the terms to 64 at most
-pub terms_few : (at before : ℕ) (text : List ℕ) (cut : Cut) → cut_fault at before text cut ≡ None → before + length (steps_of (part_of text cut)) ≤ 64
+pub terms_few : (at before : ℕ) (text : List ℕ) (cut : SplitPart) → cut_fault at before text cut ≡ None → before + length (steps_of (part_of text cut)) ≤ 64
 unfolding cut_fault
 terms_few at before text cut h = atoms_few at before text _ cut (part_of text cut) (tail_none _ _ h)

@@ -1,34 +1,34 @@
 -- One part more.
 use Rattle.std.proofs.Common.{◌≡◌, ℕ, suc, ◌+◌, ◌-◌, take, ◌<◌, ◌≤◌, Option, Some, None, List, [], ◌∷◌, ◌++◌, length, drop, length-drop, sym, ◌∙◌, ap, subst, arith}
 use Rattle.std.proofs.lemmas.List.{drop-drop, drop_all, take_all}
-use Rattle.betza_text.specs.declared.cut.Cut.{Cut}
+use Rattle.betza_text.specs.declared.split_part.SplitPart.{SplitPart}
 use Rattle.betza_text.specs.declared.part.Part.{Part}
 use Rattle.betza_text.specs.declared.fault.BetzaFault.{BetzaFault}
-use Rattle.betza_text.specs.Cut.{cut_of, cut_length, part_of}
+use Rattle.betza_text.specs.SplitPart.{cut_of, cut_length, part_of}
 use Rattle.betza_text.specs.Steps.{steps_of, step_count}
 use Rattle.betza_text.specs.PartFault.{part_fault, cut_fault}
 use Rattle.betza_text.specs.Word.{SpelledFrom, FaultBehind, first_part, first_length, first_terms, rest_of}
 
 -- what the reader knows of the part at this place: where it is cut, what it says, how long it is and how many terms it has
-pub record IsFirst (text : List ℕ) (cut : Cut) (part : Part) (n m : ℕ) : Type 0 where
+pub record IsFirst (text : List ℕ) (cut : SplitPart) (part : Part) (n m : ℕ) : Type 0 where
   pub cut_is : cut ≡ cut_of text
   pub says : part ≡ part_of text cut
   pub long : n ≡ cut_length cut
   pub terms : m ≡ length (steps_of part)
 
-pub first_fault-is : (at before : ℕ) (text : List ℕ) (cut : Cut) (r : Option BetzaFault) → cut ≡ cut_of text → r ≡ cut_fault at before text cut → part_fault at before text ≡ r
+pub first_fault-is : (at before : ℕ) (text : List ℕ) (cut : SplitPart) (r : Option BetzaFault) → cut ≡ cut_of text → r ≡ cut_fault at before text cut → part_fault at before text ≡ r
 unfolding part_fault
 first_fault-is at before text cut r e h = sym (h ∙ ap (λ c. cut_fault at before text c) e)
 
-part_is : (text : List ℕ) (cut : Cut) (part : Part) (n m : ℕ) → IsFirst text cut part n m → part ≡ first_part text
+part_is : (text : List ℕ) (cut : SplitPart) (part : Part) (n m : ℕ) → IsFirst text cut part n m → part ≡ first_part text
 unfolding first_part
 part_is text cut part n m i = i.says ∙ ap (λ c. part_of text c) i.cut_is
 
-length_is : (text : List ℕ) (cut : Cut) (part : Part) (n m : ℕ) → IsFirst text cut part n m → n ≡ first_length text
+length_is : (text : List ℕ) (cut : SplitPart) (part : Part) (n m : ℕ) → IsFirst text cut part n m → n ≡ first_length text
 unfolding first_length
 length_is text cut part n m i = i.long ∙ ap cut_length i.cut_is
 
-terms_is : (text : List ℕ) (cut : Cut) (part : Part) (n m : ℕ) → IsFirst text cut part n m → m ≡ first_terms text
+terms_is : (text : List ℕ) (cut : SplitPart) (part : Part) (n m : ℕ) → IsFirst text cut part n m → m ≡ first_terms text
 unfolding first_terms
 terms_is text cut part n m i = i.terms ∙ ap (λ p. length (steps_of p)) (part_is text cut part n m i)
 
@@ -36,7 +36,7 @@ rest_is : (text : List ℕ) (at n : ℕ) → n ≡ first_length (drop at text) �
 rest_is text at n e = sym (drop-drop n at text) ∙ ap (λ k. drop k (drop at text)) e
 
 -- the part and those behind it
-pub spelled_next : (text : List ℕ) (at before : ℕ) (cut : Cut) (part : Part) (n m : ℕ) (b : List Part) → at < length text → IsFirst (drop at text) cut part n m → part_fault at before (drop at text) ≡ None → SpelledFrom (at + n) (before + m) (drop (at + n) text) b → SpelledFrom at before (drop at text) (part ∷ b)
+pub spelled_next : (text : List ℕ) (at before : ℕ) (cut : SplitPart) (part : Part) (n m : ℕ) (b : List Part) → at < length text → IsFirst (drop at text) cut part n m → part_fault at before (drop at text) ≡ None → SpelledFrom (at + n) (before + m) (drop (at + n) text) b → SpelledFrom at before (drop at text) (part ∷ b)
 unfolding SpelledFrom
 spelled_next text at before cut part n m b l i e s =
     let some : 0 < length (drop at text) = omega (arith, length-drop at text) in
@@ -47,7 +47,7 @@ spelled_next text at before cut part n m b l i e s =
     (some, e, part_is _ cut part n m i, subst (λ k. SpelledFrom (at + k) (before + first_terms (drop at text)) (rest_of (drop at text)) b) long counted)
 
 -- the fault of a part behind it
-pub fault_next : (text : List ℕ) (at before : ℕ) (cut : Cut) (part : Part) (n m k : ℕ) (f : BetzaFault) → at < length text → IsFirst (drop at text) cut part n m → part_fault at before (drop at text) ≡ None → FaultBehind k (at + n) (before + m) (drop (at + n) text) f → FaultBehind (suc k) at before (drop at text) f
+pub fault_next : (text : List ℕ) (at before : ℕ) (cut : SplitPart) (part : Part) (n m k : ℕ) (f : BetzaFault) → at < length text → IsFirst (drop at text) cut part n m → part_fault at before (drop at text) ≡ None → FaultBehind k (at + n) (before + m) (drop (at + n) text) f → FaultBehind (suc k) at before (drop at text) f
 unfolding FaultBehind
 fault_next text at before cut part n m k f l i e s =
     let some : 0 < length (drop at text) = omega (arith, length-drop at text) in

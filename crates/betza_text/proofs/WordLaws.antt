@@ -4,7 +4,7 @@ use Rattle.std.proofs.lemmas.Bool.{cases_lt}
 use Rattle.betza_text.specs.declared.part.Part.{Part}
 use Rattle.betza_text.specs.declared.fault.BetzaFault.{BetzaFault}
 use Rattle.betza_text.specs.declared.fault.BetzaFault.TheVariants.{Empty, TooLong}
-use Rattle.betza_text.specs.Cut.{cut_length, cut_of, number_place, digit_place}
+use Rattle.betza_text.specs.SplitPart.{cut_length, cut_of, number_place, digit_place}
 use Rattle.betza_text.specs.PartFault.{part_fault}
 use Rattle.betza_text.specs.Word.{Spells, BetzaBad, SpelledFrom, FaultBehind, first_part, first_length, first_terms, rest_of}
 

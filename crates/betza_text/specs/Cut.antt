@@ -1,7 +1,7 @@
 -- How the text of a part is cut, and what it says.
 use Rattle.std.specs.Prelude.{ℕ, ◌+◌, ◌-◌, ◌*◌, ◌≤◌, Bool, not, ◌||◌, ◌&&◌, ◌==◌, nat_lt, if◌then◌else◌, Option, Some, None, List, length, take, drop, filter, take_while, position, unwrap_or, slice_index}
 use Rattle.std.specs.List.{list_any}
-use Rattle.betza_text.specs.declared.cut.Cut.{Cut}
+use Rattle.betza_text.specs.declared.split_part.SplitPart.{SplitPart}
 use Rattle.betza_text.specs.declared.part.HopKind.{HopKind}
 use Rattle.betza_text.specs.declared.part.HopKind.TheVariants.{No, Over, Behind}
 use Rattle.betza_text.specs.declared.part.Part.{Part}
@@ -24,7 +24,7 @@ digit_place modifiers doubled = modifiers + (if doubled then 2 else 1)
 unfoldable pub digit_count : List ℕ → ℕ → ℕ
 digit_count text place = length (take_while is_digit (drop place text))
 
-abbrev pub cut_behind : List ℕ → ℕ → Bool → Cut
+abbrev pub cut_behind : List ℕ → ℕ → Bool → SplitPart
 cut_behind text m d = record {
   modifiers = m;
   doubled = d;
@@ -33,17 +33,17 @@ cut_behind text m d = record {
 
 -- the part at the beginning of a text: all modifiers that stand there, the atom, the same letter again, all digits that
 -- follow
-unfoldable pub cut_of : List ℕ → Cut
+unfoldable pub cut_of : List ℕ → SplitPart
 cut_of text = cut_behind text (modifier_count text) (is_doubled text (modifier_count text))
 
-unfoldable pub number_place : Cut → ℕ
+unfoldable pub number_place : SplitPart → ℕ
 number_place cut = digit_place cut.modifiers cut.doubled
 
-unfoldable pub cut_length : Cut → ℕ
+unfoldable pub cut_length : SplitPart → ℕ
 cut_length cut = number_place cut + cut.digits
 
 -- a cut of this text
-pub record IsWithin (cut : Cut) (text : List ℕ) : Type 0 where
+pub record IsWithin (cut : SplitPart) (text : List ℕ) : Type 0 where
   pub modifiers : cut.modifiers ≤ length text
   pub digits : cut.digits ≤ length text
 
@@ -76,10 +76,10 @@ direction_place modifiers = unwrap_or (position is_direction modifiers) 0
 unfoldable pub hop_of : List ℕ → HopKind
 hop_of modifiers = if has 112 modifiers then Over else if has 103 modifiers then Behind else No
 
-abbrev pub modifiers_of : List ℕ → Cut → List ℕ
+abbrev pub modifiers_of : List ℕ → SplitPart → List ℕ
 modifiers_of text cut = take cut.modifiers text
 
-abbrev pub part_with : List ℕ → List ℕ → Cut → Part
+abbrev pub part_with : List ℕ → List ℕ → SplitPart → Part
 part_with modifiers text cut = record {
   quiet = has 109 modifiers || not (has 99 modifiers);
   takes = has 99 modifiers || not (has 109 modifiers);
@@ -92,5 +92,5 @@ part_with modifiers text cut = record {
 }
 
 -- what the part says: `m` and `c` alone, or both ways; the letters in their order; the number
-unfoldable pub part_of : List ℕ → Cut → Part
+unfoldable pub part_of : List ℕ → SplitPart → Part
 part_of text cut = part_with (modifiers_of text cut) text cut

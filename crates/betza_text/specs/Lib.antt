@@ -1,5 +1,5 @@
 pub mod Letters
-pub mod Cut
+pub mod SplitPart
 pub mod Steps
 pub mod Legs
 pub mod Fault

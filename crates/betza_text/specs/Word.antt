@@ -3,7 +3,7 @@ use Rattle.std.specs.Prelude.{◌≡◌, ℕ, zero, suc, ◌+◌, ◌<◌, ◌�
 use Rattle.betza_text.specs.declared.part.Part.{Part}
 use Rattle.betza_text.specs.declared.fault.BetzaFault.{BetzaFault}
 use Rattle.betza_text.specs.declared.fault.BetzaFault.TheVariants.{Empty, TooLong}
-use Rattle.betza_text.specs.Cut.{cut_of, cut_length, part_of}
+use Rattle.betza_text.specs.SplitPart.{cut_of, cut_length, part_of}
 use Rattle.betza_text.specs.Steps.{steps_of}
 use Rattle.betza_text.specs.PartFault.{part_fault}
 

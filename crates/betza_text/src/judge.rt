@@ -1,13 +1,13 @@
 //! The first fault of a part.
 ghost use Rattle.std.specs.Prelude.{◌≡◌, ◌≤◌, ◌<◌, length};
-ghost use Rattle.betza_text.specs.Cut.{IsWithin, part_of, modifiers_of};
+ghost use Rattle.betza_text.specs.SplitPart.{IsWithin, part_of, modifiers_of};
 ghost use Rattle.betza_text.specs.PartFault as Faults;
 
-use crate::cut::{Cut, byte_at};
 use crate::fault::BetzaFault;
 use crate::letters::{is_atom, is_direction, is_once};
 use crate::part::Part;
 use crate::read::{direction_place, has, is_bad_number, place_of};
+use crate::split_part::{SplitPart, byte_at};
 use crate::steps::{has_clear_directions, part_steps};
 
 /// The most terms of a word.
@@ -45,7 +45,7 @@ fn modifiers_fault(at: usize, modifiers: &[u8]) -> Option<BetzaFault>
 }
 
 #[tactic(auto, unfolding(crate::specs::PartFault::is_bad_count))]
-fn is_bad_count(text: &[u8], cut: Cut) -> bool
+fn is_bad_count(text: &[u8], cut: SplitPart) -> bool
     requires { cut.modifiers ≤ 64 }
     ensures { result ≡ Faults.is_bad_count text.now cut }
 {
@@ -86,7 +86,7 @@ fn atom_fault(
     before: usize,
     text: &[u8],
     modifiers: &[u8],
-    cut: Cut,
+    cut: SplitPart,
     part: &Part,
 ) -> Option<BetzaFault>
     requires at { at ≤ 64 }
@@ -119,7 +119,7 @@ pub(crate) fn first_fault(
     at: usize,
     before: usize,
     text: &[u8],
-    cut: Cut,
+    cut: SplitPart,
     part: &Part,
 ) -> Option<BetzaFault>
     requires at { at ≤ 64 }

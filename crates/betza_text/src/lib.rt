@@ -7,21 +7,21 @@ ghost use Rattle.std.specs.Prelude.{◌≡◌, ◌≢◌, Ok, Err, ◌⊎◌, �
 ghost use Rattle.betza_text.specs.Steps.{step_count};
 ghost use Rattle.betza_text.specs.Word.{Spells, BetzaBad};
 
-mod cut;
 mod fault;
 mod judge;
 mod legs;
 mod letters;
 mod part;
 mod read;
+mod split_part;
 mod steps;
 
-use cut::Cut;
 pub use fault::BetzaFault;
 use judge::first_fault;
 pub use legs::steps_go_by_legs;
 pub use part::{Betza, Dirs, HopKind, Part};
 use read::read;
+use split_part::SplitPart;
 use std::alloc::Global;
 pub use steps::{Step, Steps, part_steps};
 
@@ -58,7 +58,7 @@ pub fn parse(alloc: Global, text: &[u8]) -> Result<Betza, BetzaFault>
     let mut terms = 0;
     while place < text.len() {
         let rest = &text[place..];
-        let cut = Cut::of(rest);
+        let cut = SplitPart::of(rest);
         let part = read(rest, cut);
         if let Some(fault) = first_fault(place, terms, rest, cut, &part) {
             return Err(fault);

@@ -1,12 +1,12 @@
 //! What the text of a part says.
 ghost use Rattle.std.specs.Prelude.{◌≡◌, ◌≤◌, ◌-◌, ◌==◌, length, filter, position};
-ghost use Rattle.betza_text.specs.Cut as Cuts;
-ghost use Rattle.betza_text.specs.Cut.{IsWithin};
+ghost use Rattle.betza_text.specs.SplitPart as Cuts;
+ghost use Rattle.betza_text.specs.SplitPart.{IsWithin};
 ghost use Rattle.betza_text.specs.Letters as Letters;
 
-use crate::cut::{Cut, byte_at};
 use crate::letters::is_direction;
 use crate::part::{Dirs, HopKind, Part};
+use crate::split_part::{SplitPart, byte_at};
 use arrayvec::ArrayVec;
 
 fn digit(byte: u8) -> u16
@@ -16,7 +16,7 @@ fn digit(byte: u8) -> u16
     u16::from(byte.saturating_sub(b'0'))
 }
 
-#[tactic(auto, unfolding(crate::specs::Cut::number_value))]
+#[tactic(auto, unfolding(crate::specs::SplitPart::number_value))]
 fn number_value(count: usize, first: u8, second: u8) -> u16
     ensures { result ≡ Cuts.number_value count first second }
 {
@@ -28,7 +28,7 @@ fn number_value(count: usize, first: u8, second: u8) -> u16
 }
 
 /// Whether so many digits, of which these are the first two, say no number that a part can have.
-#[tactic(auto, unfolding(crate::specs::Cut::is_bad_number))]
+#[tactic(auto, unfolding(crate::specs::SplitPart::is_bad_number))]
 pub(crate) fn is_bad_number(count: usize, first: u8, second: u8) -> bool
     ensures is { result ≡ Cuts.is_bad_number count first second }
 {
@@ -36,7 +36,7 @@ pub(crate) fn is_bad_number(count: usize, first: u8, second: u8) -> bool
         && (count > 2 || (count == 2 && first == b'0') || number_value(count, first, second) > 11)
 }
 
-#[tactic(auto, unfolding(crate::specs::Cut::number_said, crate::specs::Cut::is_bad_number))]
+#[tactic(auto, unfolding(crate::specs::SplitPart::number_said, crate::specs::SplitPart::is_bad_number))]
 fn number(count: usize, first: u8, second: u8) -> Option<u8>
     ensures { result ≡ Cuts.number_said count first second }
 {
@@ -47,7 +47,7 @@ fn number(count: usize, first: u8, second: u8) -> Option<u8>
     }
 }
 
-#[tactic(auto, unfolding(crate::specs::Cut::has))]
+#[tactic(auto, unfolding(crate::specs::SplitPart::has))]
 pub(crate) fn has(letter: u8, modifiers: &[u8]) -> bool
     ensures { result ≡ Cuts.has letter modifiers.now }
 {
@@ -61,7 +61,7 @@ fn letter_position(letter: u8, modifiers: &[u8]) -> Option<usize>
 }
 
 /// The first place of a letter, or 0.
-#[tactic(auto, unfolding(crate::specs::Cut::place_of), using(crate::proofs::PlaceLemmas::places))]
+#[tactic(auto, unfolding(crate::specs::SplitPart::place_of), using(crate::proofs::PlaceLemmas::places))]
 pub(crate) fn place_of(letter: u8, modifiers: &[u8]) -> usize
     ensures is { result ≡ Cuts.place_of letter modifiers.now }
     ensures within { result ≤ length modifiers.now }
@@ -76,7 +76,7 @@ fn direction_position(modifiers: &[u8]) -> Option<usize>
 }
 
 /// The first place of a direction letter, or 0.
-#[tactic(auto, unfolding(crate::specs::Cut::direction_place), using(crate::proofs::PlaceLemmas::places))]
+#[tactic(auto, unfolding(crate::specs::SplitPart::direction_place), using(crate::proofs::PlaceLemmas::places))]
 pub(crate) fn direction_place(modifiers: &[u8]) -> usize
     ensures is { result ≡ Cuts.direction_place modifiers.now }
     ensures within { result ≤ length modifiers.now }
@@ -97,7 +97,7 @@ fn directions(modifiers: &[u8]) -> Dirs
     Dirs { items }
 }
 
-#[tactic(auto, unfolding(crate::specs::Cut::hop_of))]
+#[tactic(auto, unfolding(crate::specs::SplitPart::hop_of))]
 fn hop(modifiers: &[u8]) -> HopKind
     ensures { result ≡ Cuts.hop_of modifiers.now }
 {
@@ -111,8 +111,8 @@ fn hop(modifiers: &[u8]) -> HopKind
 }
 
 /// The part that a text says, cut so. A number that no part can have is left out.
-#[tactic(auto, unfolding(crate::specs::Cut::part_of))]
-pub(crate) fn read(text: &[u8], cut: Cut) -> Part
+#[tactic(auto, unfolding(crate::specs::SplitPart::part_of))]
+pub(crate) fn read(text: &[u8], cut: SplitPart) -> Part
     requires short { length text.now ≤ 64 }
     requires within { IsWithin cut text.now }
     ensures { result ≡ Cuts.part_of text.now cut }

@@ -12,7 +12,7 @@ use crate::sets::BoardSets;
 use next_position::{behind, fresh, gated, promote};
 use rules_model::castling::rook_target;
 use rules_model::passing::{is_stays, passes_by};
-use rules_model::sizes::position_sizes;
+use rules_model::sizes::prove_position_sizes;
 use rules_model::{Kind, Move, Placed, Position, Promo, Rules, Side, Square};
 
 /// Whether a piece goes as it is, and no square is written but the two of the move.
@@ -48,7 +48,7 @@ impl BoardSets {
         requires sets { AreSets rules.now p.now.side p.now.cells self }
         ensures { AreSets rules.now p.now.side (Next.without_passed rules.now (repeat_of p.now) from to) result }
     {
-        position_sizes(p);
+        prove_position_sizes(p);
         if passes_by(rules, p, from, to) {
             self.emptied(rules, p.side, behind(rules, p.side, to))
         } else {
@@ -71,7 +71,7 @@ impl BoardSets {
         requires sets { AreSets rules.now p.now.side p.now.cells self }
         ensures { AreSets rules.now p.now.side (Next.castled p.now.cells from to rook) result }
     {
-        position_sizes(p);
+        prove_position_sizes(p);
         let side = p.side;
         let king = p.cells[from.0 as usize];
         let castling_rook = p.cells[rook.0 as usize];
@@ -115,7 +115,7 @@ impl BoardSets {
         requires sets { AreSets rules.now p.now.side p.now.cells self }
         ensures { AreSetsAfterMove rules.now (repeat_of p.now) (Go from to promo gate) result }
     {
-        position_sizes(p);
+        prove_position_sizes(p);
         let side = p.side;
         let piece = promote(rules, p.cells[from.0 as usize], promo);
         let sets = self.without_passed(rules, p, from, to);
@@ -130,7 +130,7 @@ impl BoardSets {
         requires sets { AreSets rules.now p.now.side p.now.cells self }
         ensures { AreSetsAfterMove rules.now (repeat_of p.now) m.now result }
     {
-        position_sizes(p);
+        prove_position_sizes(p);
         let side = p.side;
         match *m {
             Move::Go {

@@ -2,11 +2,11 @@
 ghost use Rattle.std.specs.Prelude.{◌<◌};
 
 use crate::expect::expect_eq;
-use rules_model::{Board, Cell, Kind, SQUARES, Side, Square, Term, Way, reaches_plain};
+use rules_model::{BoardSize, Cell, Kind, SQUARES, Side, Square, Term, Way, reaches_plain};
 
 const EMPTY: [Option<Cell>; SQUARES] = [None; SQUARES];
 
-const CHESS: Board = Board { files: 8, ranks: 8 };
+const CHESS: BoardSize = BoardSize { files: 8, ranks: 8 };
 
 fn man(side: Side) -> Option<Cell> {
     Some(Cell {

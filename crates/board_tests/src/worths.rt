@@ -5,7 +5,7 @@ ghost use Rattle.rules_model.specs.Moves.{IsFitMove};
 
 use crate::expect::expect_eq;
 use crate::helpers::go;
-use evaluation::{Tally, Worths, evaluate};
+use evaluation::{PieceValues, Tally, evaluate};
 use next_position::{make_move, sound_positions_take_moves};
 use rules_model::{Kind, Move, Placed, Position, Promo, Rules, Side, sound};
 use sample_rules::{chess, generals, hand_of, kind, position, square, xiangqi};
@@ -13,7 +13,7 @@ use std::process::Abort;
 
 #[test]
 fn worths_of_kinds(rt: HostRuntime) {
-    let worths = Worths::of(&chess());
+    let worths = PieceValues::of(&chess());
     let rows = [
         (b'p', 100u16),
         (b'n', 300),
@@ -28,7 +28,7 @@ fn worths_of_kinds(rt: HostRuntime) {
     }
     // a cannon has four slides that do not take, each half of 120, and four hops that take alone, each half of 60; a
     // horse has eight steps that can be blocked, of 25
-    let eastern = Worths::of(&xiangqi());
+    let eastern = PieceValues::of(&xiangqi());
     expect_eq(&rt, eastern.kind(kind(b'c')), 380);
     expect_eq(&rt, eastern.kind(kind(b'n')), 220);
 }
@@ -77,7 +77,11 @@ fn goes_along<R: Abort>(rt: &R, rules: &Rules, p: &Position, m: &Move)
     let tally = Tally::of(rules, p);
     let after = Tally::of(rules, &next);
     expect_eq(rt, tally.after(rules, p, m), after);
-    expect_eq(rt, Worths::of(rules).tally_after(tally, rules, p, m), after);
+    expect_eq(
+        rt,
+        PieceValues::of(rules).tally_after(tally, rules, p, m),
+        after,
+    );
 }
 
 /// White's short castle, with a piece placed on the king's square.

@@ -110,7 +110,7 @@ impl CecpSession {
         ensures { IfOk result (λ text. answered self.new text
             ≡ CecpState.answer_to self.old (TextLine line.now) (CecpLines.SetBoard fen.now)) }
     {
-        self.game.is_played();
+        self.game.prove_played();
         let Ok(position) = read_fen(self.game.rules(), fen) else {
             return error_line(alloc, b"illegal position", line);
         };
@@ -124,7 +124,7 @@ impl CecpSession {
         ensures is { result ≡ move_of self.now.game text.now }
         ensures legal { IfSome result (λ m. Member m (legal_in self.now.game)) }
     {
-        self.game.is_played();
+        self.game.prove_played();
         let rules = self.game.rules();
         let position = self.game.position();
         let m = read_move(rules, position, text)?;

@@ -24,7 +24,7 @@ use rules_model::Move;
 use std::alloc::Global;
 use std::sync::Wait;
 use std::thread::Threads;
-use thinking::{Depths, Style, Task, begin, deepen};
+use thinking::{Depths, Style, Task, begin, iterative_deepening};
 use turning::next_of;
 use watching::{Cut, say};
 
@@ -73,7 +73,7 @@ impl CecpSession {
     fn can_move(&self) -> bool
         ensures { result ≡ not (is_nil (legal_in self.now.game)) }
     {
-        self.game.is_played();
+        self.game.prove_played();
         any_legal(self.game.rules(), self.game.tables(), self.game.position())
     }
 
@@ -127,7 +127,7 @@ impl CecpSession {
         ensures causes { Causes (S.faults source.old) (S.faults source.new) (K.faults sink.old) (K.faults sink.new)
             (IsErrOf result) }
     {
-        self.game.is_played();
+        self.game.prove_played();
         let legal = legal_moves(
             alloc,
             self.game.rules(),
@@ -144,7 +144,7 @@ impl CecpSession {
             time,
         };
         let start = begin(clock, time);
-        deepen(
+        iterative_deepening(
             rt,
             alloc,
             &mut self.mind,

@@ -8,7 +8,7 @@ ghost use Rattle.variant_rules.specs.Entries.{entries};
 use foundation::Memory;
 use game_play::Game;
 use rules_model::Side;
-use seeking::Mind;
+use seeking::EngineState;
 use std::alloc::Global;
 use std::marker::Model;
 use variant_ini::Sections;
@@ -32,7 +32,7 @@ pub struct CecpSession {
     pub(crate) time: Option<u64>,
     /// A move ended the game, which has not changed since but by moves.
     pub(crate) is_over: bool,
-    pub(crate) mind: Mind,
+    pub(crate) mind: EngineState,
 }
 
 impl Model for CecpSession {
@@ -72,7 +72,7 @@ impl CecpSession {
         requires threads { (1 ≤ threads) × (threads ≤ 64) }
         ensures { IfOk result (λ session. CecpState.first_state sections ≡ Some session) }
     {
-        let mind = Mind::new(alloc, threads)?;
+        let mind = EngineState::new(alloc, threads)?;
         let game = match variants.find(b"chess") {
             Found::Rules(rules) => Game::new(alloc, rules, &rules.start)?,
             Found::Refused(_) | Found::Unknown => unreachable!(),

@@ -36,7 +36,7 @@ fn move_after(game: &Game, path: &Line, text: &[u8]) -> Option<Move>
     ensures legal { (m : Move) → result ≡ Some m → Member m (legal_after game.now path.now) }
 {
     // Tells the prover that the game's rules are fit. Nothing is done.
-    game.is_played();
+    game.prove_played();
     let Some(m) = read_move(game.rules(), path.last(game), text) else {
         return None;
     };

@@ -29,7 +29,7 @@ use Rattle.attack_tables.proofs.AttackLaws.{attacks_by_parts, king_at, no_king_a
 use Rattle.attack_tables.proofs.MaskLaws.{from_man, from_none}
 use Rattle.pins.specs.Guards.{IsMoved}
 use Rattle.sound_play.proofs.CellLemmas.{cell_at-set_other, cell_at-set_same, moved, moved-from, moved-other, moved-to}
-use Rattle.legality.proofs.SafetyLaws.{not_passing}
+use Rattle.legality.proofs.PinLaws.{not_passing}
 use Rattle.check_moves.specs.declared.checks.Checks.{Checks}
 use Rattle.check_moves.specs.Checks.{AreChecks, ComesQuietly, ComesTo, ReachesNone}
 

@@ -15,7 +15,7 @@ use attack_tables::{Mode, Tables, cell_on};
 use board_sets::sets_are_on_board;
 use playing::Board;
 use rules_model::passing::{is_ep, is_stays};
-use rules_model::sizes::position_sizes;
+use rules_model::sizes::prove_position_sizes;
 use rules_model::{Kind, Move, Position, Side, Square};
 use square_set::Set;
 
@@ -35,7 +35,7 @@ pub fn checks_of(board: &Board) -> Checks
 {
     let p = board.position();
     let sets = board.sets();
-    position_sizes(p);
+    prove_position_sizes(p);
     sets_are_on_board();
     let occupied = sets.occupied();
     let shut = shut(
@@ -108,7 +108,7 @@ fn go_may_check(
     requires to { to.0 < 120 }
     ensures { result ≡ false → Legal.gives_check tables.now (repeat_of p.now) (Go from to Stays None) ≡ false }
 {
-    position_sizes(p);
+    prove_position_sizes(p);
     match cell_on(&p.cells, from.0) {
         None => true,
         Some(piece) => {
@@ -127,7 +127,7 @@ fn move_may_check(tables: &Tables, p: &Position, occupied: Set, checks: &Checks,
     requires move_fits { IsFitMove m.now }
     ensures { result ≡ false → Legal.gives_check tables.now (repeat_of p.now) m.now ≡ false }
 {
-    position_sizes(p);
+    prove_position_sizes(p);
     match *m {
         Move::Go {
             from,

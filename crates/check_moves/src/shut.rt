@@ -6,8 +6,8 @@ ghost use Rattle.pins.specs.Guards.{AfterLeaving};
 ghost use Rattle.check_moves.specs.Shut as Shut;
 
 use attack_tables::Tables;
-use pins::kings::guards_from;
-use rules_model::sizes::board_size;
+use pins::unpinned::guards_from;
+use rules_model::sizes::prove_board_size;
 use rules_model::{Cells, Side, Square};
 use square_set::{ALL, EMPTY, Set};
 
@@ -24,7 +24,7 @@ fn guards_of_king(
     requires men { AreMen by cells.now men }
     ensures { AfterLeaving occupied result (Shut.StayersSpare tables.now by cells.now king.0) }
 {
-    board_size(cells);
+    prove_board_size(cells);
     let _rules = tables.rules();
     let mut guards = EMPTY;
     let mut near = tables.takers(by, king).and(men);

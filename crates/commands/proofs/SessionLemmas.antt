@@ -38,7 +38,7 @@ use Rattle.words.specs.Options.{Text}
 use Rattle.words.specs.View.{asked_seen, command_seen}
 use Rattle.one_shots.specs.declared.answers.Answer.{Answer}
 use Rattle.one_shot_faults.specs.declared.fault.Fault.{Fault}
-use Rattle.one_shot_faults.specs.declared.halt.Halt.{Halt}
+use Rattle.one_shot_faults.specs.declared.no_answer.NoAnswer.{NoAnswer}
 use Rattle.one_shots.specs.declared.opening.Opened.{Opened}
 use Rattle.one_shot_faults.specs.declared.stop.Stop.{Stop}
 use Rattle.one_shot_faults.specs.declared.stop.Stop.TheVariants as stop
@@ -397,7 +397,7 @@ dialect_in c is = go (dialect_of c) refl is
 
 module _ {S K C F : Type 0} {left : S → Option (List ℕ)} {taken : K → Option (List ℕ)} {given : C → Option (List ℕ)} {count last : C → ℕ} {contents : F → Option Contents} {faults : F → ℕ} where
   -- nothing was written
-  unsaid : (s : S) (k k' : K) (c : C) (f f' : F) (words : List Text) (a : Asked) (why : Halt) (result : ℕ) → result ≡ 7 → to_do words ≡ Some a → is_session a.command ≡ true
+  unsaid : (s : S) (k k' : K) (c : C) (f f' : F) (words : List Text) (a : Asked) (why : NoAnswer) (result : ℕ) → result ≡ 7 → to_do words ≡ Some a → is_session a.command ≡ true
       → Looked (Reads contents faults f f') (λ reads. Opens (to_do words) reads (Err why)) → Appends (taken k) (taken k') []
       → run.SpokePart (Moves left taken given count last s s k k' c c) (Reads contents faults f f') (contents f) words result
   unsaid s k k' c f f' words a why result seven_is is session looked wrote =
@@ -422,7 +422,7 @@ module _ {S K C F : Type 0} {left : S → Option (List ℕ)} {taken : K → Opti
       }
 
   -- a front part of why it was refused
-  said_part : (s : S) (k k' : K) (c : C) (f f' : F) (words : List Text) (why : Halt) (answer : Answer) (result : ℕ) → result ≡ 5 → Looked (Reads contents faults f f') (λ reads. Opens (to_do words) reads (Err why))
+  said_part : (s : S) (k k' : K) (c : C) (f f' : F) (words : List Text) (why : NoAnswer) (answer : Answer) (result : ℕ) → result ≡ 5 → Looked (Reads contents faults f f') (λ reads. Opens (to_do words) reads (Err why))
       → OutcomeOf (Err why) (Ok answer) → AppendsFront (taken k) (taken k') answer.text
       → run.SpokePart (Moves left taken given count last s s k k' c c) (Reads contents faults f f') (contents f) words result
   said_part s k k' c f f' words why answer result five_is looked is wrote =
@@ -448,7 +448,7 @@ module _ {S K C F : Type 0} {left : S → Option (List ℕ)} {taken : K → Opti
       }
 
   -- a run that was cut short before its session began
-  pub refused_part : (s : S) (k k' : K) (c : C) (f f' : F) (words : List Text) (a : Asked) (why : Halt) (before now : ℕ) (r : Result Answer Stop) (status : ℕ) → to_do words ≡ Some a → is_session a.command ≡ true
+  pub refused_part : (s : S) (k k' : K) (c : C) (f f' : F) (words : List Text) (a : Asked) (why : NoAnswer) (before now : ℕ) (r : Result Answer Stop) (status : ℕ) → to_do words ≡ Some a → is_session a.command ≡ true
       → Looked (Reads contents faults f f') (λ reads. Opens (to_do words) reads (Err why)) → OutcomeOf (Err why) r → Finishes r (taken k) (taken k') before now status → IsCut status
       → run.SpokePart (Moves left taken given count last s s k k' c c) (Reads contents faults f f') (contents f) words status
   refused_part s k k' c f f' words a why before now (Ok answer) status is session looked outcome (inl wrote) cut =

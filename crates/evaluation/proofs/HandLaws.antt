@@ -20,7 +20,7 @@ use Rattle.rules_model.specs.Sides.{other, side_index}
 use Rattle.rules_model.specs.Sizes.{HasSizes}
 use Rattle.evaluation.specs.declared.tally.Tally.{Tally}
 use Rattle.evaluation.specs.Evaluation.{board_worth, hand_worth, kind_worth}
-use Rattle.evaluation.specs.Worths.{AreFew}
+use Rattle.evaluation.specs.PieceValues.{AreFew}
 use Rattle.evaluation.specs.Writes.{AreHands, HandsGoTo, HandStep, IsLess, IsMore, PutsDown}
 use Rattle.evaluation.proofs.PutLaws.{board_few, hand_few}
 use Rattle.evaluation.proofs.SumLaws.{sum-but-one, sum-same}
@@ -32,8 +32,8 @@ side_below : (side : Side) → side_index side < 2
 side_below White = omega arith
 side_below Black = omega arith
 
-hand_size : (hands : List (List ℕ)) (side : Side) → AreHands hands → length (hand_of hands side) ≡ 26
-hand_size hands side are =
+prove_hand_size : (hands : List (List ℕ)) (side : Side) → AreHands hands → length (hand_of hands side) ≡ 26
+prove_hand_size hands side are =
     (Decides-eqb (length (hand_of hands side)) 26).0
     (list_all-get (λ (hand : List ℕ). length hand == 26) hands (side_index side) [] (omega (arith, side_below side, are.size)) are.each)
 
@@ -46,7 +46,7 @@ module _ (hands : List (List ℕ)) (side : Side) (kind : Kind) (n : ℕ) (are : 
   pub held_then : kind.0 < 26 → in_hand (with_hand hands side kind n) side kind ≡ n
   held_then l =
       ap (λ hand. slice_index hand kind.0) own_hand
-      ∙ get_or-set_same (hand_of hands side) kind.0 n 0 (omega (arith, l, hand_size hands side are))
+      ∙ get_or-set_same (hand_of hands side) kind.0 n 0 (omega (arith, l, prove_hand_size hands side are))
 
   pub held_beside : (k : ℕ) → k ≢ kind.0
       → in_hand (with_hand hands side kind n) side (record { 0 = k }) ≡ in_hand hands side (record { 0 = k })
@@ -120,7 +120,7 @@ held_letter hands side kind are some = by_letter (cases_lt kind.0 26)
   where
     by_letter : (kind.0 < 26) ⊎ (26 ≤ kind.0) → kind.0 < 26
     by_letter (inl l) = l
-    by_letter (inr l) = absurd (omega (arith, some, get_or_past (hand_of hands side) kind.0 0 (omega (arith, l, hand_size hands side are))))
+    by_letter (inr l) = absurd (omega (arith, some, get_or_past (hand_of hands side) kind.0 0 (omega (arith, l, prove_hand_size hands side are))))
 
 pub puts_down : (rules : Rules) (side : Side) (kind : Kind) (held : Bool) (worth : ℕ) (old new : Tally) → held ≡ true
     → worth ≡ kind_worth rules kind → IsLess side worth old new → PutsDown rules side kind held old new
@@ -144,7 +144,7 @@ puts_down rules Black kind held worth old new true_is is less cells hands are he
 kept : (hands : List (List ℕ)) (side : Side) (kind : Kind) (n : ℕ) → AreHands hands
     → AreHands (with_hand hands side kind n)
 kept hands side kind n are =
-    let whole : length (slice_set (hand_of hands side) kind.0 n) ≡ 26 = length-set (hand_of hands side) kind.0 n ∙ hand_size hands side are in
+    let whole : length (slice_set (hand_of hands side) kind.0 n) ≡ 26 = length-set (hand_of hands side) kind.0 n ∙ prove_hand_size hands side are in
     record {
       size = length-set hands (side_index side) (slice_set (hand_of hands side) kind.0 n) ∙ are.size;
       each = list_all-set (λ (hand : List ℕ). length hand == 26) hands (side_index side) (slice_set (hand_of hands side) kind.0 n) ((Decides-eqb _ 26).1 whole) are.each;

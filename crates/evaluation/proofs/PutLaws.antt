@@ -16,7 +16,7 @@ use Rattle.rules_model.specs.Squares.{cell_at, flat}
 use Rattle.evaluation.specs.declared.tally.Tally.{Tally}
 use Rattle.evaluation.specs.Evaluation.{board_worth, clamped, evaluation, hand_worth, kind_worth, piece_worth, worth_on}
 use Rattle.evaluation.specs.Tallies.{AreSums, tally_value, ValuesPositions}
-use Rattle.evaluation.specs.Worths.{AreFew}
+use Rattle.evaluation.specs.PieceValues.{AreFew}
 use Rattle.evaluation.specs.Writes.{AddsPiece, Counts, DropsPiece, HoldsFew, IsMore, IsSmall, PutsOn}
 use Rattle.evaluation.proofs.SumLaws.{sum-but-one, sum-few, sum-more, sum-none}
 

@@ -9,7 +9,7 @@ use Rattle.rules_model.specs.declared.rules.Rules.{Rules}
 use Rattle.rules_model.specs.Fit.{IsFit, is_there}
 use Rattle.rules_model.specs.Kinds.{kind_rule, names, rule_of}
 use Rattle.evaluation.specs.Evaluation.{kind_worth, square_worth, worth_on}
-use Rattle.evaluation.specs.Worths.{AreFew, AreKindWorths, AreSquareWorths, AreWorths}
+use Rattle.evaluation.specs.PieceValues.{AreFew, AreKindWorths, AreSquareWorths, AreWorths}
 
 -- ---- kinds that are no letters
 
@@ -100,9 +100,9 @@ on_few rules kind s k l = by_king (names rules.king kind)
     by_king true = omega arith
     by_king false = omega (arith, k, l)
 
-pub are_few : (rules : Rules) (kinds squares : List ℕ) (king : Option Kind) → AreWorths rules kinds squares king
+pub prove_few : (rules : Rules) (kinds squares : List ℕ) (king : Option Kind) → AreWorths rules kinds squares king
     → AreFew rules
-are_few rules kinds squares king are =
+prove_few rules kinds squares king are =
     record {
       kinds = kind_few rules kinds squares king are;
       pieces = λ kind s l. on_few rules kind s (kind_few rules kinds squares king are kind) (are.squares_are.few s l);

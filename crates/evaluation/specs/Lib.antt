@@ -1,4 +1,4 @@
 pub mod Evaluation
 pub mod Tallies
-pub mod Worths
+pub mod PieceValues
 pub mod Writes

@@ -6,13 +6,13 @@ ghost use Rattle.rules_model.specs.Next.{next};
 ghost use Rattle.rules_model.specs.Sound.{is_sound};
 ghost use Rattle.evaluation.specs.Tallies.{IsTally};
 
+use crate::piece_values::PieceValues;
 use crate::tally::Tally;
-use crate::worths::Worths;
 use rules_model::{Move, Position, Rules};
 
 impl Tally {
     /// The sums of the position after the move, of those before it. It looks at the squares and the hand that the
-    /// move writes, and takes no memory. The move need not be legal. `Worths::tally_after` is the same for a caller
+    /// move writes, and takes no memory. The move need not be legal. `PieceValues::tally_after` is the same for a caller
     /// who keeps the worths.
     pub fn after(&self, rules: &Rules, p: &Position, m: &Move) -> Tally
         requires fit { IsFit rules.now }
@@ -21,11 +21,11 @@ impl Tally {
         requires tally { IsTally rules.now p.now self.now }
         ensures { IsTally rules.now (next rules.now p.now m.now) result }
     {
-        Worths::of(rules).tally_after(*self, rules, p, m)
+        PieceValues::of(rules).tally_after(*self, rules, p, m)
     }
 }
 
-impl Worths {
+impl PieceValues {
     /// The sums of the position after the move, of those before it. It looks at the squares and the hand that the
     /// move writes, and takes no memory. The move need not be legal.
     pub fn tally_after(&self, tally: Tally, rules: &Rules, p: &Position, m: &Move) -> Tally

@@ -7,12 +7,12 @@ ghost use Rattle.rules_model.specs.Next as Next;
 ghost use Rattle.rules_model.specs.Repeats.{repeat_of};
 ghost use Rattle.evaluation.specs.Writes.{AreHands, HandStep, HandsGoTo, PutsDown};
 
+use crate::piece_values::PieceValues;
 use crate::tally::Tally;
-use crate::worths::Worths;
 use next_position::behind;
 use rules_model::kinds::in_hand;
 use rules_model::passing::passes_by;
-use rules_model::sizes::position_sizes;
+use rules_model::sizes::prove_position_sizes;
 use rules_model::{Cell, KINDS, Kind, Move, Position, Rules, Side, Square, cell_at};
 
 /// What a piece takes that goes there.
@@ -43,7 +43,7 @@ fn holds_then(rules: &Rules, p: &Position, taken: Option<Cell>, kind: Kind) -> b
     requires { kind.0 < 26 }
     ensures { result ≡ Hands.holds (Next.take_into rules.now.to_hand p.now.hands p.now.side taken) p.now.side kind }
 {
-    position_sizes(p);
+    prove_position_sizes(p);
     let held = in_hand(&p.hands, p.side, kind) > 0;
     match taken {
         None => held,
@@ -53,10 +53,10 @@ fn holds_then(rules: &Rules, p: &Position, taken: Option<Cell>, kind: Kind) -> b
 
 impl Tally {
     /// The sums once the side holds one more of the kind.
-    fn taken_in(self, worths: &Worths, side: Side, kind: Kind) -> Tally
+    fn taken_in(self, worths: &PieceValues, side: Side, kind: Kind) -> Tally
         ensures { HandStep worths.now (λ hands. Hands.taken_in hands side kind) self result }
     {
-        worths.are_few();
+        worths.prove_few();
         if (kind.0 as usize) < KINDS {
             self.more(side, u32::from(worths.kind(kind)))
         } else {
@@ -65,7 +65,7 @@ impl Tally {
     }
 
     /// The sums once the side holds one less of the kind, where it holds one.
-    fn put_down(self, worths: &Worths, side: Side, kind: Kind, held: bool) -> Tally
+    fn put_down(self, worths: &PieceValues, side: Side, kind: Kind, held: bool) -> Tally
         ensures { PutsDown worths.now side kind held self result }
     {
         if held {
@@ -76,7 +76,7 @@ impl Tally {
     }
 
     /// The sums once the side has the taken piece in its hand, where the variant has that.
-    fn took(self, worths: &Worths, rules: &Rules, side: Side, taken: Option<Cell>) -> Tally
+    fn took(self, worths: &PieceValues, rules: &Rules, side: Side, taken: Option<Cell>) -> Tally
         requires { worths.now ≡ rules.now }
         ensures { HandStep rules.now (λ hands. Next.take_into rules.now.to_hand hands side taken) self result }
     {
@@ -94,23 +94,29 @@ impl Tally {
 
     /// The sums once a hand piece was dropped, or placed by a castle.
     #[tactic(auto, using(crate::proofs::HandLaws::sized))]
-    fn dropped(self, worths: &Worths, p: &Position, kind: Kind) -> Tally
+    fn dropped(self, worths: &PieceValues, p: &Position, kind: Kind) -> Tally
         ensures { HandsGoTo worths.now p.now.hands (Hands.put_down p.now.hands p.now.side kind) self result }
     {
-        position_sizes(p);
+        prove_position_sizes(p);
         let held = in_hand(&p.hands, p.side, kind) > 0;
         self.put_down(worths, p.side, kind, held)
     }
 
     /// The sums with the hands after the move.
     #[tactic(auto, unfolding(rules_model::specs::Next::hands_after), using(crate::proofs::HandLaws::sized))]
-    pub(crate) fn with_hands(self, worths: &Worths, rules: &Rules, p: &Position, m: &Move) -> Tally
+    pub(crate) fn with_hands(
+        self,
+        worths: &PieceValues,
+        rules: &Rules,
+        p: &Position,
+        m: &Move,
+    ) -> Tally
         requires fit { IsFit rules.now }
         requires worths { worths.now ≡ rules.now }
         requires move_fits { IsFitMove m.now }
         ensures { HandsGoTo rules.now p.now.hands (Next.hands_after rules.now (repeat_of p.now) m.now) self result }
     {
-        position_sizes(p);
+        prove_position_sizes(p);
         match *m {
             Move::Go { from, to, gate, .. } => {
                 let taken = taken(rules, p, from, to);

@@ -6,21 +6,21 @@
 
 mod after;
 mod hands;
+mod piece_values;
 mod pieces;
 mod tally;
-mod worths;
 
 ghost use Rattle.std.specs.Prelude.{◌≡◌};
 ghost use Rattle.rules_model.specs.Fit.{IsFit};
 ghost use Rattle.evaluation.specs.Evaluation.{evaluation};
 
+pub use piece_values::PieceValues;
 use rules_model::{Position, Rules};
 pub use tally::Tally;
-pub use worths::Worths;
 
 /// What the position is worth to the side to move, from -30,000 to 30,000. No memory is taken.
 ///
-/// The worths of all kinds are made anew in each call: a caller who asks more than once makes `Worths` and keeps a
+/// The worths of all kinds are made anew in each call: a caller who asks more than once makes `PieceValues` and keeps a
 /// `Tally`.
 pub fn evaluate(rules: &Rules, p: &Position) -> i32
     requires { IsFit rules.now }

@@ -8,12 +8,12 @@ ghost use Rattle.rules_model.specs.Pawns as Pawns;
 ghost use Rattle.rules_model.specs.Repeats.{repeat_of};
 ghost use Rattle.evaluation.specs.Writes.{GoesTo};
 
+use crate::piece_values::PieceValues;
 use crate::tally::Tally;
-use crate::worths::Worths;
 use next_position::{behind, fresh, gated, promote};
 use rules_model::castling::rook_target;
 use rules_model::passing::passes_by;
-use rules_model::sizes::{board_size, position_sizes};
+use rules_model::sizes::{prove_board_size, prove_position_sizes};
 use rules_model::{
     Cell, Cells, Kind, Move, Placed, Position, Promo, Rules, SQUARES, Side, Square, cell_at,
 };
@@ -27,11 +27,11 @@ struct Draft {
 
 impl Draft {
     /// Puts this on the square, where there is such a square.
-    fn write(&mut self, worths: &Worths, at: u8, cell: Option<Cell>)
+    fn write(&mut self, worths: &PieceValues, at: u8, cell: Option<Cell>)
         ensures cells { self.new.cells ≡ slice_set self.old.cells at cell }
         ensures sums { GoesTo worths.now self.old.cells self.new.cells self.old.tally self.new.tally }
     {
-        board_size(&self.cells);
+        prove_board_size(&self.cells);
         if (at as usize) < SQUARES {
             let square = Square(at);
             let before = cell_at(&self.cells, square);
@@ -41,7 +41,7 @@ impl Draft {
     }
 
     /// Leaves the square empty, where there is one.
-    fn empty(&mut self, worths: &Worths, at: Option<u8>)
+    fn empty(&mut self, worths: &PieceValues, at: Option<u8>)
         ensures cells { self.new.cells ≡ Next.emptied self.old.cells at }
         ensures sums { GoesTo worths.now self.old.cells self.new.cells self.old.tally self.new.tally }
     {
@@ -51,7 +51,7 @@ impl Draft {
     }
 
     /// Places the hand piece of a castle.
-    fn place(&mut self, worths: &Worths, side: Side, gate: Option<Placed>)
+    fn place(&mut self, worths: &PieceValues, side: Side, gate: Option<Placed>)
         ensures cells { self.new.cells ≡ Next.placed_on side gate self.old.cells }
         ensures sums { GoesTo worths.now self.old.cells self.new.cells self.old.tally self.new.tally }
     {
@@ -61,7 +61,7 @@ impl Draft {
     }
 
     /// Has king and rook castle.
-    fn castle(&mut self, worths: &Worths, from: Square, to: Square, rook: Square)
+    fn castle(&mut self, worths: &PieceValues, from: Square, to: Square, rook: Square)
         requires from { from.0 < 120 }
         requires to { to.0 < 120 }
         requires rook { rook.0 < 120 }
@@ -93,7 +93,7 @@ impl Tally {
     /// The sums once a piece has gone that takes nothing in passing, and nothing was placed where it came from.
     fn gone(
         self,
-        worths: &Worths,
+        worths: &PieceValues,
         rules: &Rules,
         p: &Position,
         from: Square,
@@ -108,7 +108,7 @@ impl Tally {
         ensures { GoesTo rules.now p.now.cells
             (Next.cells_after rules.now (repeat_of p.now) (Go from to promo None)) self result }
     {
-        position_sizes(p);
+        prove_position_sizes(p);
         let piece = cell_at(&p.cells, from);
         let target = cell_at(&p.cells, to);
         let left = self.put(worths, from, piece, None);
@@ -119,7 +119,7 @@ impl Tally {
     #[tactic(auto, unfolding(rules_model::specs::Next::cells_after))]
     fn gone_anyhow(
         self,
-        worths: &Worths,
+        worths: &PieceValues,
         rules: &Rules,
         p: &Position,
         from: Square,
@@ -148,7 +148,7 @@ impl Tally {
     #[tactic(auto, unfolding(rules_model::specs::Next::cells_after))]
     fn castled(
         self,
-        worths: &Worths,
+        worths: &PieceValues,
         p: &Position,
         from: Square,
         to: Square,
@@ -171,7 +171,13 @@ impl Tally {
     }
 
     /// The sums with the pieces after the move.
-    pub(crate) fn with_pieces(self, worths: &Worths, rules: &Rules, p: &Position, m: &Move) -> Tally
+    pub(crate) fn with_pieces(
+        self,
+        worths: &PieceValues,
+        rules: &Rules,
+        p: &Position,
+        m: &Move,
+    ) -> Tally
         requires fit { IsFit rules.now }
         requires worths { worths.now ≡ rules.now }
         requires move_fits { IsFitMove m.now }
@@ -197,7 +203,7 @@ impl Tally {
                 gate,
             } => self.castled(worths, p, from, to, rook, gate),
             Move::Drop { kind, to } => {
-                position_sizes(p);
+                prove_position_sizes(p);
                 let before = cell_at(&p.cells, to);
                 self.put(worths, to, before, Some(fresh(p.side, kind)))
             }

@@ -5,10 +5,10 @@ ghost use Rattle.rules_model.specs.Fit.{IsFit};
 ghost use Rattle.evaluation.specs.Evaluation as Evaluation;
 ghost use Rattle.evaluation.specs.Evaluation.{board_worth, hand_worth};
 ghost use Rattle.evaluation.specs.Tallies.{IsTally, tally_value, ValuesPositions};
-ghost use Rattle.evaluation.specs.Worths.{AreFew};
+ghost use Rattle.evaluation.specs.PieceValues.{AreFew};
 ghost use Rattle.evaluation.specs.Writes.{AddsPiece, Counts, DropsPiece, IsLess, IsMore, PutsOn};
 
-use crate::worths::Worths;
+use crate::piece_values::PieceValues;
 use rules_model::kinds::in_hand;
 use rules_model::{Cell, KINDS, Kind, Position, Rules, SQUARES, Side, Square, cell_at};
 
@@ -83,7 +83,7 @@ impl Tally {
     }
 
     /// The sums once this stands on the square besides.
-    fn with(self, worths: &Worths, at: Square, cell: Option<Cell>) -> Tally
+    fn with(self, worths: &PieceValues, at: Square, cell: Option<Cell>) -> Tally
         requires { at.0 < 120 }
         ensures { AddsPiece worths.now at.0 cell self result }
     {
@@ -94,7 +94,7 @@ impl Tally {
     }
 
     /// The sums once this no longer stands on the square.
-    fn without(self, worths: &Worths, at: Square, cell: Option<Cell>) -> Tally
+    fn without(self, worths: &PieceValues, at: Square, cell: Option<Cell>) -> Tally
         requires { at.0 < 120 }
         ensures { DropsPiece worths.now at.0 cell self result }
     {
@@ -107,7 +107,7 @@ impl Tally {
     /// The sums once another thing stands on the square.
     pub(crate) fn put(
         self,
-        worths: &Worths,
+        worths: &PieceValues,
         at: Square,
         before: Option<Cell>,
         after: Option<Cell>,
@@ -115,7 +115,7 @@ impl Tally {
         requires { at.0 < 120 }
         ensures { PutsOn worths.now at.0 before after self result }
     {
-        worths.are_few();
+        worths.prove_few();
         self.without(worths, at, before).with(worths, at, after)
     }
 
@@ -124,7 +124,7 @@ impl Tally {
         requires { IsFit rules.now }
         ensures { IsTally rules.now p.now result }
     {
-        Worths::of(rules).tally(p)
+        PieceValues::of(rules).tally(p)
     }
 
     /// What a position with these sums is worth to the side, where it is to move: from -30,000 to 30,000. No memory
@@ -140,13 +140,13 @@ impl Tally {
     }
 }
 
-impl Worths {
+impl PieceValues {
     /// What the pieces on the board are worth.
     fn board(&self, p: &Position) -> Tally
         ensures is { Counts result (board_worth self.now p.now.cells White) (board_worth self.now p.now.cells Black) }
         ensures few { AreFew self.now }
     {
-        self.are_few();
+        self.prove_few();
         let mut tally = NOTHING;
         for s in 0..SQUARES as u8 {
             tally = tally.with(self, Square(s), cell_at(&p.cells, Square(s)));

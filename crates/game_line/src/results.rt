@@ -9,7 +9,7 @@ ghost use Rattle.game_play.specs.Played.{keys_of};
 ghost use Rattle.game_line.specs.Lined.{positions_of, story_of_line};
 
 use crate::line::Line;
-use game_play::late_end;
+use game_play::counted_end;
 use playing::Board;
 use rules_model::{Outcome, Position};
 
@@ -48,7 +48,7 @@ impl Line<'_> {
     fn last_standings(&self) -> u32
         ensures { result ≡ times (repeat_of (story_of_line self.now).last) (Games.history (story_of_line self.now)) }
     {
-        self.game.is_played();
+        self.game.prove_played();
         let (last, key) = (self.board().position(), self.key());
         let before = self.game.repeats_by_key(last, key);
         let since = standings(&self.boards[1..], &self.keys[1..], last, key);
@@ -81,7 +81,11 @@ impl Line<'_> {
         ensures { result ≡ Games.result self.now.rules (story_of_line self.now) }
     {
         match self.board().own_end() {
-            Outcome::Ongoing => late_end(self.rules(), self.board().position(), self.is_repeated()),
+            Outcome::Ongoing => counted_end(
+                self.rules(),
+                self.board().position(),
+                self.is_repeated(),
+            ),
             end => end,
         }
     }
@@ -93,7 +97,11 @@ impl Line<'_> {
         ensures { result ≡ Games.result self.now.rules (story_of_line self.now) }
     {
         match self.board().end_where(any) {
-            Outcome::Ongoing => late_end(self.rules(), self.board().position(), self.is_repeated()),
+            Outcome::Ongoing => counted_end(
+                self.rules(),
+                self.board().position(),
+                self.is_repeated(),
+            ),
             end => end,
         }
     }

@@ -46,8 +46,8 @@ pub record IsPlayed (g : Played) : Type 0 where
 
 -- the end of a game that its last position does not end by itself: repetition, where that position has stood often
 -- enough, or the move count
-abbrev pub late_end : Rules → Position → Bool → Outcome
-late_end rules last repeated =
+abbrev pub counted_end : Rules → Position → Bool → Outcome
+counted_end rules last repeated =
     if repeated then valued rules.n_fold_value last.side Repetition
     else if is_run_out rules last.counter then Drawn MoveCount else Ongoing
 

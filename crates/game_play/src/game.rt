@@ -51,7 +51,7 @@ impl Game {
     }
 
     /// The game was played by its rules, and has at most 8,192 plies. Nothing is done: the call tells a proof.
-    pub fn is_played(&self)
+    pub fn prove_played(&self)
         ensures { IsPlayed self.now }
     {
         let _plies = self.moves.len();

@@ -13,4 +13,4 @@ mod standings;
 
 pub use faults::{NothingPlayed, PlayFault};
 pub use game::{Game, MOST_PLIES};
-pub use results::late_end;
+pub use results::counted_end;

@@ -11,7 +11,7 @@ ghost use Rattle.game_play.specs.Played.{story};
 use crate::game::Game;
 use attack_tables::Tables;
 use board_sets::{BoardSets, sets_of};
-use legality::{Known, apply_with};
+use legality::{MoveGen, apply_with};
 use rules_model::{Memory, MoveList, Position, Rules};
 use std::alloc::Global;
 
@@ -28,7 +28,7 @@ fn push_moves(
     ensures ok { OnOk result (Appends (λ m. Member m (legal rules.now (repeat_of p.now))) out.old out.new) }
     ensures err { OnErr result (out.new ≡ out.old) }
 {
-    Known::of(rules, tables, p, sets).push_legal(out)
+    MoveGen::of(rules, tables, p, sets).push_legal(out)
 }
 
 /// How many legal moves the position has, up to 2^128 - 1.
@@ -37,7 +37,7 @@ fn count_moves(rules: &Rules, tables: &Tables, p: &Position, sets: &BoardSets) -
     requires sets { AreSets rules.now p.now.side p.now.cells sets.now }
     ensures { result ≡ min (length (legal rules.now (repeat_of p.now))) (2 ^ 128 - 1) }
 {
-    Known::of(rules, tables, p, sets).count_legal()
+    MoveGen::of(rules, tables, p, sets).count_legal()
 }
 
 /// How many lists of so many legal moves in turn there are from the position, which has these sets. The moves of each

@@ -11,8 +11,8 @@ use rules_model::{Cause, Outcome, Position, Rules};
 
 /// The end of a game that its last position does not end by itself: repetition, where that position has stood as often
 /// as the rule says, or the move count; `Outcome::Ongoing` where there is neither.
-pub fn late_end(rules: &Rules, last: &Position, repeated: bool) -> Outcome
-    ensures { result ≡ Played.late_end rules.now last.now repeated }
+pub fn counted_end(rules: &Rules, last: &Position, repeated: bool) -> Outcome
+    ensures { result ≡ Played.counted_end rules.now last.now repeated }
 {
     if repeated {
         valued(rules.n_fold_value, last.side, Cause::Repetition)
@@ -42,7 +42,7 @@ impl Game {
         let rules = self.rules();
         let last = self.position();
         match own_end(rules, &self.tables, last) {
-            Outcome::Ongoing => late_end(rules, last, self.is_repeated()),
+            Outcome::Ongoing => counted_end(rules, last, self.is_repeated()),
             end => end,
         }
     }

@@ -14,7 +14,7 @@ use variant_fen::write_fen;
 pub fn moves_of(alloc: Global, game: &Game) -> Result<Text, Memory>
     ensures { IfOk result (λ text. text ≡ moves_of game.now) }
 {
-    game.is_played();
+    game.prove_played();
     let moves = legal_moves(alloc, game.rules(), game.tables(), game.position())?;
     Ok(text_of_moves(alloc, moves.items.as_slice())?)
 }
@@ -24,7 +24,7 @@ pub fn moves_of(alloc: Global, game: &Game) -> Result<Text, Memory>
 pub fn status_of(alloc: Global, game: &Game) -> Result<Text, Memory>
     ensures { IfOk result (λ text. text ≡ status_of game.now) }
 {
-    game.is_played();
+    game.prove_played();
     let fen = write_fen(alloc, game.rules(), game.position())?;
     let standing = format!(in alloc; "{}\n", Printed(game.outcome()))?;
     let mut items = standing.into_bytes();

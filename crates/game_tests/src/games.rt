@@ -75,7 +75,7 @@ fn moves_are_played_and_taken_back(rt: HostRuntime) {
 #[test]
 fn a_game_knows_its_rules(rt: HostRuntime) {
     let game = chess_game(&rt, rt.alloc(), &position(KINGS), "");
-    game.is_played();
+    game.prove_played();
     expect_eq(&rt, game.rules().n_fold, 3);
     expect_eq(&rt, game.tables().rules().n_fold, 3);
 }

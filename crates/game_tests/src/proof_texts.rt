@@ -160,13 +160,13 @@ fn moves() -> [Move; 2] {
 }
 
 /// The game of the texts by these rules, at its start or after the two moves.
-fn game_by(alloc: Global, rules: &Rules, is_played: bool) -> Result<Game, Fail>
+fn game_by(alloc: Global, rules: &Rules, prove_played: bool) -> Result<Game, Fail>
     requires { IsFit rules.now }
     ensures { IfOk result (λ g. g.rules ≡ rules.now) }
 {
     let start = read_fen(rules, b"7k/R7/5K2/8/8/8/8/8 w - - 0 1")?;
     let mut game = Game::new(alloc, rules, &start)?;
-    if is_played {
+    if prove_played {
         let [first, second] = moves();
         game.play(&first)?;
         game.play(&second)?;
@@ -180,7 +180,7 @@ struct Row {
     file: &'static str,
     place: usize,
     rules: &'static str,
-    is_played: bool,
+    prove_played: bool,
     n: u16,
     game: &'static str,
     body: &'static str,
@@ -201,7 +201,7 @@ fn written(alloc: Global, row: &Row) -> Result<Text, Fail> {
     if row.n == 0 || row.n > 100 {
         return Err("a goal".into());
     }
-    let game = game_by(alloc, rules, row.is_played)?;
+    let game = game_by(alloc, rules, row.prove_played)?;
     let body = format!(in alloc; "strategy 1\n{}", row.body)?;
     let strategy = read(alloc, rules, body.as_bytes())?;
     let text = write_proof(alloc, &sections, row.place, &game, row.n, &strategy)?;
@@ -210,7 +210,7 @@ fn written(alloc: Global, row: &Row) -> Result<Text, Fail> {
 
 fn row_of(
     by: (&'static str, usize, &'static str),
-    is_played: bool,
+    prove_played: bool,
     n: u16,
     game: &'static str,
     body: &'static str,
@@ -220,7 +220,7 @@ fn row_of(
         file,
         place,
         rules,
-        is_played,
+        prove_played,
         n,
         game,
         body,
@@ -230,7 +230,7 @@ fn row_of(
 /// Whether the proof has the row's moves, attacker, plies and castling.
 fn is_of(proof: &Proof, row: &Row) -> [bool; 4] {
     let is_black = proof.attacker == Side::Black;
-    let plies = if row.is_played { 2 } else { 0 };
+    let plies = if row.prove_played { 2 } else { 0 };
     [
         proof.n == row.n,
         is_black == (row.n == 100),

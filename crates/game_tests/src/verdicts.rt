@@ -41,7 +41,7 @@ fn printed(
     n: u16,
     text: &str,
 ) -> String {
-    game.is_played();
+    game.prove_played();
     let s = read(alloc, game.rules(), text.as_bytes()).expect(rt, "no fault");
     let verdict = check(alloc, game, attacker, n, &s).expect(rt, "no fault");
     format!(in alloc; "{verdict}").expect(rt, "no fault")

@@ -15,7 +15,7 @@ fn bad_move(alloc: Global, game: &Game, text: &[u8]) -> Result<NoGame, AllocErro
     ensures { IfOk result (λ why. why ≡ NoGame.Faulty (GameFault.BadMove (length game.now.moves + 1) text.now)) }
 {
     // Tells the prover that the game's rules are fit and that it has at most 8,192 plies. Nothing is done.
-    game.is_played();
+    game.prove_played();
     let number = game.moves().len() as u64 + 1;
     let text = text_of(alloc, text)?;
     Ok(NoGame::Faulty(GameFault::BadMove { number, text }))
@@ -31,7 +31,7 @@ pub fn play_move(alloc: Global, game: &mut Game, text: &[u8]) -> Result<(), NoGa
     ensures { Plays (play game.old text.now) game.new result }
 {
     // Tells the prover that the game's rules are fit and that it has at most 8,192 plies. Nothing is done.
-    game.is_played();
+    game.prove_played();
     let Some(m) = read_move(game.rules(), game.position(), text) else {
         return Err(bad_move(alloc, game, text)?);
     };

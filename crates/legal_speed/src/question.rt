@@ -20,7 +20,7 @@ pub(crate) enum Question {
     /// The key of a repetition.
     Key,
     /// What is known of the position.
-    Known,
+    MoveGen,
     /// The legal moves, in no order.
     Legal,
     /// Those that capture.
@@ -45,7 +45,7 @@ pub(crate) const ALL: [(&str, Question); 13] = [
     ("after", Question::After),
     ("anew", Question::Anew),
     ("key", Question::Key),
-    ("known", Question::Known),
+    ("known", Question::MoveGen),
     ("legal", Question::Legal),
     ("captures", Question::Captures),
     ("others", Question::Others),
@@ -93,11 +93,11 @@ pub(crate) fn ask(
         Question::Nothing => Ok(0),
         Question::After => Ok(played(board, moves, 0).key()),
         Question::Anew => {
-            board.is_ready();
+            board.prove_ready();
             Ok(Board::new(board.tables(), board.position()).key())
         }
         Question::Key => Ok(board.key()),
-        Question::Known => Ok(ended(board.known().early_end())),
+        Question::MoveGen => Ok(ended(board.known().early_end())),
         Question::Legal => {
             board.push_legal(listed)?;
             Ok(length_of(listed))
@@ -107,7 +107,7 @@ pub(crate) fn ask(
             Ok(length_of(listed))
         }
         Question::Others => {
-            board.push_others(listed)?;
+            board.push_quiets(listed)?;
             Ok(length_of(listed))
         }
         Question::Any => Ok(u64::from(board.any_legal())),

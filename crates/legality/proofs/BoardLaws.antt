@@ -34,7 +34,7 @@ use Rattle.pins.proofs.DangerLaws.{HasOnlyKingOn}
 use Rattle.pins.specs.Guards.{IsMoved}
 use Rattle.sound_play.proofs.CellLemmas.{cell_at-set_other, cell_at-set_same, moved, moved-from, moved-other, moved-to}
 use Rattle.legality.specs.Moved.{IsOnly}
-use Rattle.legality.proofs.SafetyLaws.{any_kind, own_apart}
+use Rattle.legality.proofs.PinLaws.{any_kind, own_apart}
 
 -- ---- pieces of a side
 

@@ -15,15 +15,15 @@ use Rattle.square_set.specs.declared.Set.{Set}
 use Rattle.square_set.specs.Members.{has, size}
 use Rattle.square_set.proofs.CoverLaws.{has-zero}
 use Rattle.move_sink.specs.InTurn.{DropsOf, Outside, target_of}
-use Rattle.legality.specs.declared.choice.Part.{Part}
-use Rattle.legality.specs.declared.count.Counter.{Counter}
+use Rattle.legality.specs.declared.move_filter.GenType.{GenType}
+use Rattle.legality.specs.declared.count_sink.CountSink.{CountSink}
 use Rattle.legality.specs.Choices.{chosen_by}
 use Rattle.legality.specs.Chosen.{AreTargetsOfDrops, is_chosen, is_fit_move, is_in, is_wanted}
 use Rattle.legality.specs.Counts.{CountsAll}
 use Rattle.legality.specs.Moved.{DropFreely, DropInVain, MayDrop, MayNotDrop, asks_only_safety_of_drops}
 use Rattle.legality.proofs.AllMade.{made-lists, made_below}
 use Rattle.legality.proofs.GoLaws.{counted_those, not_chosen}
-use Rattle.legality.proofs.SafetyLaws.{not_safe_not_sane, plain_sane}
+use Rattle.legality.proofs.PinLaws.{not_safe_not_sane, plain_sane}
 use Rattle.legality.proofs.ShiftLaws.{either_way}
 use Rattle.legality.proofs.WantedLaws.{not_wanted}
 
@@ -52,14 +52,14 @@ unfolding is_fit_move
 fit_drop kind to k l = rw (lt-ltb kind.0 26 k, lt-ltb to.0 120 l) refl
 
 -- where moves are wanted that do not capture, a drop is chosen if it is sane
-drop_chosen : (rules : Rules) (r : Repeat) (part : Part) (kind : Kind) (to : Square) → is_in part false ≡ true → kind.0 < 26 → to.0 < 120 → is_chosen rules r part (Drop kind to) ≡ is_sane rules r (Drop kind to)
+drop_chosen : (rules : Rules) (r : Repeat) (part : GenType) (kind : Kind) (to : Square) → is_in part false ≡ true → kind.0 < 26 → to.0 < 120 → is_chosen rules r part (Drop kind to) ≡ is_sane rules r (Drop kind to)
 unfolding is_chosen
 drop_chosen rules r part kind to wanted k l =
     let move : Move = Drop kind to in
     ap (λ b. b && (is_wanted rules r part move && is_sane rules r move)) (fit_drop kind to k l)
     ∙ ap (λ b. b && is_sane rules r move) wanted
 
-module _ (rules : Rules) (r : Repeat) (part : Part) (kind : Kind) where
+module _ (rules : Rules) (r : Repeat) (part : GenType) (kind : Kind) where
   pub drops_told : (targets chosen barred told : Set) → is_in part false ≡ true → kind.0 < 26 → ((s : ℕ) → has targets s ≡ true → s < 120)
       → ((s : ℕ) → has chosen s ≡ true → has targets s ≡ true) → ((s : ℕ) → has barred s ≡ true → has targets s ≡ true) → MayDrop rules r kind chosen → MayNotDrop rules r kind barred
       → ((s : ℕ) → has told s ≡ (has chosen s || has barred s)) → AreTargetsOfDrops (is_chosen rules r part) kind told chosen
@@ -92,7 +92,7 @@ not_left a false l is e = cc
 
 -- before the first that is left, those were taken of which it is told whether they are chosen, and those that are were
 -- counted
-pub told_counted : (kind : Kind) (targets told chosen left : Set) (more : ℕ) (s t : Counter) → ((k : ℕ) → has targets k ≡ true → k < 120) → ((k : ℕ) → has told k ≡ true → has targets k ≡ true) → AreTargetsOfDrops (chosen_by s.choice) kind told chosen
+pub told_counted : (kind : Kind) (targets told chosen left : Set) (more : ℕ) (s t : CountSink) → ((k : ℕ) → has targets k ≡ true → k < 120) → ((k : ℕ) → has told k ≡ true → has targets k ≡ true) → AreTargetsOfDrops (chosen_by s.choice) kind told chosen
     → ((k : ℕ) → has left k ≡ (has targets k && not (has told k))) → more ≡ size chosen → t.choice ≡ s.choice → t.count ≡ min (s.count + more) (2 ^ 128 - 1) → CountsAll (Outside (DropsOf kind targets) target_of left) s t
 told_counted kind targets told chosen left more s t small within are is many same counted = record {
   moves = made_below (Drop kind) told 128;

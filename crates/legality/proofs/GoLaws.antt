@@ -17,11 +17,11 @@ use Rattle.square_set.specs.declared.Set.{Set}
 use Rattle.square_set.specs.Members.{has, size}
 use Rattle.square_set.proofs.Cases.{by_bool}
 use Rattle.move_sink.specs.InTurn.{GoesTo, target_of}
-use Rattle.legality.specs.declared.choice.Part.{Part}
+use Rattle.legality.specs.declared.move_filter.GenType.{GenType}
 use Rattle.legality.specs.Chosen.{AreTargetsFrom, AreTargetsOf, AreWantedTo, is_chosen, is_fit_move, is_wanted}
 use Rattle.legality.specs.Moved.{AreSane, GateAtOnce, GateFreely, GoAtOnce, GoFreely, IsBarred, MayGate, MayGo, MayNotGate, MayNotGo, asks_only_safety}
 use Rattle.legality.proofs.AllMade.{made-those, made_below}
-use Rattle.legality.proofs.SafetyLaws.{not_passing, plain_sane}
+use Rattle.legality.proofs.PinLaws.{not_passing, plain_sane}
 
 asks_nothing : (bad checking drops : Bool) → bad ≡ false → checking ≡ true → (bad || not (checking && (drops || true))) ≡ false
 asks_nothing true checking drops e f = cc
@@ -71,7 +71,7 @@ unfolding is_fit_move
 fit_go from to l m = rw (lt-ltb from.0 120 l, lt-ltb to.0 120 m) refl
 
 -- where such moves are wanted, and sane, they are chosen
-pub all_chosen : (rules : Rules) (r : Repeat) (part : Part) (from : Square) (gate : Option Kind) (targets : Set) → AreWantedTo rules r part targets → from.0 < 120 → ((s : ℕ) → has targets s ≡ true → s < 120) → gate ≡ None → MayGo rules r from targets → (m : Move) → GoesTo from gate targets m → is_chosen rules r part m ≡ true
+pub all_chosen : (rules : Rules) (r : Repeat) (part : GenType) (from : Square) (gate : Option Kind) (targets : Set) → AreWantedTo rules r part targets → from.0 < 120 → ((s : ℕ) → has targets s ≡ true → s < 120) → gate ≡ None → MayGo rules r from targets → (m : Move) → GoesTo from gate targets m → is_chosen rules r part m ≡ true
 unfolding is_chosen
 all_chosen rules r part from gate targets wanted l small none may m h =
     let to : Square = record { 0 = target_of m } in
@@ -80,13 +80,13 @@ all_chosen rules r part from gate targets wanted l small none may m h =
     subst (λ x. is_chosen rules r part x ≡ true) is (and_from _ _ (fit_go from to l n) (and_from _ _ (wanted from to None h.1) (may to n h.1)))
 
 -- where the move is wanted, it is chosen if it is sane
-pub chosen_is_sane : (rules : Rules) (r : Repeat) (part : Part) (from to : Square) → is_wanted rules r part (Go from to Stays None) ≡ true → from.0 < 120 → to.0 < 120 → is_chosen rules r part (Go from to Stays None) ≡ is_sane rules r (Go from to Stays None)
+pub chosen_is_sane : (rules : Rules) (r : Repeat) (part : GenType) (from to : Square) → is_wanted rules r part (Go from to Stays None) ≡ true → from.0 < 120 → to.0 < 120 → is_chosen rules r part (Go from to Stays None) ≡ is_sane rules r (Go from to Stays None)
 unfolding is_chosen
 chosen_is_sane rules r part from to wanted l m =
     let move : Move = Go from to Stays None in
     ap (λ b. b && (is_wanted rules r part move && is_sane rules r move)) (fit_go from to l m) ∙ ap (λ b. b && is_sane rules r move) wanted
 
-pub sane_chosen : (rules : Rules) (r : Repeat) (part : Part) (from : Square) (gate : Option Kind) (targets sane : Set) → AreWantedTo rules r part targets → from.0 < 120 → ((s : ℕ) → has targets s ≡ true → s < 120) → gate ≡ None → AreSane rules r from targets sane → AreTargetsFrom (is_chosen rules r part) from gate targets sane
+pub sane_chosen : (rules : Rules) (r : Repeat) (part : GenType) (from : Square) (gate : Option Kind) (targets sane : Set) → AreWantedTo rules r part targets → from.0 < 120 → ((s : ℕ) → has targets s ≡ true → s < 120) → gate ≡ None → AreSane rules r from targets sane → AreTargetsFrom (is_chosen rules r part) from gate targets sane
 sane_chosen rules r part from gate targets sane wanted l small none are to =
     by_bool (has targets to.0) (has sane to.0 ≡ (has targets to.0 && is_chosen rules r part (Go from to Stays gate)))
     (λ e.
@@ -100,7 +100,7 @@ fit_gate : (from to : Square) (kind : Kind) → from.0 < 120 → to.0 < 120 → 
 unfolding is_fit_move
 fit_gate from to kind l m k = rw (lt-ltb from.0 120 l, lt-ltb to.0 120 m, lt-ltb kind.0 26 k) refl
 
-pub all_gated : (rules : Rules) (r : Repeat) (part : Part) (from : Square) (kind : Kind) (targets : Set) → AreWantedTo rules r part targets → from.0 < 120 → kind.0 < 26 → ((s : ℕ) → has targets s ≡ true → s < 120) → MayGate rules r from kind targets → (m : Move) → GoesTo from (Some kind) targets m → is_chosen rules r part m ≡ true
+pub all_gated : (rules : Rules) (r : Repeat) (part : GenType) (from : Square) (kind : Kind) (targets : Set) → AreWantedTo rules r part targets → from.0 < 120 → kind.0 < 26 → ((s : ℕ) → has targets s ≡ true → s < 120) → MayGate rules r from kind targets → (m : Move) → GoesTo from (Some kind) targets m → is_chosen rules r part m ≡ true
 unfolding is_chosen
 all_gated rules r part from kind targets wanted l k small may m h =
     let to : Square = record { 0 = target_of m } in
@@ -114,17 +114,17 @@ last_false true true c e = e
 last_false true false c e = refl
 last_false false b c e = refl
 
-pub not_chosen : (rules : Rules) (r : Repeat) (part : Part) (m : Move) → is_sane rules r m ≡ false → is_chosen rules r part m ≡ false
+pub not_chosen : (rules : Rules) (r : Repeat) (part : GenType) (m : Move) → is_sane rules r m ≡ false → is_chosen rules r part m ≡ false
 unfolding is_chosen
 not_chosen rules r part m e = last_false (is_fit_move m) (is_wanted rules r part m) (is_sane rules r m) e
 
-pub none_chosen : (rules : Rules) (r : Repeat) (part : Part) (from : Square) (gate : Option Kind) (targets : Set) → ((s : ℕ) → has targets s ≡ true → s < 120) → gate ≡ None → MayNotGo rules r from targets → (m : Move) → GoesTo from gate targets m → is_chosen rules r part m ≡ false
+pub none_chosen : (rules : Rules) (r : Repeat) (part : GenType) (from : Square) (gate : Option Kind) (targets : Set) → ((s : ℕ) → has targets s ≡ true → s < 120) → gate ≡ None → MayNotGo rules r from targets → (m : Move) → GoesTo from gate targets m → is_chosen rules r part m ≡ false
 none_chosen rules r part from gate targets small none barred m h =
     let to : Square = record { 0 = target_of m } in
     let is : Go from to Stays None ≡ m = ap (Go from to Stays) (sym none) ∙ h.0 in
     subst (λ x. is_chosen rules r part x ≡ false) is (not_chosen rules r part (Go from to Stays None) (barred to (small (target_of m) h.1) h.1))
 
-pub none_gated : (rules : Rules) (r : Repeat) (part : Part) (from : Square) (kind : Kind) (targets : Set) → ((s : ℕ) → has targets s ≡ true → s < 120) → MayNotGate rules r from kind targets → (m : Move) → GoesTo from (Some kind) targets m → is_chosen rules r part m ≡ false
+pub none_gated : (rules : Rules) (r : Repeat) (part : GenType) (from : Square) (kind : Kind) (targets : Set) → ((s : ℕ) → has targets s ≡ true → s < 120) → MayNotGate rules r from kind targets → (m : Move) → GoesTo from (Some kind) targets m → is_chosen rules r part m ≡ false
 none_gated rules r part from kind targets small barred m h =
     let to : Square = record { 0 = target_of m } in
     subst (λ x. is_chosen rules r part x ≡ false) h.0 (not_chosen rules r part (Go from to Stays (Some kind)) (barred to (small (target_of m) h.1) h.1))

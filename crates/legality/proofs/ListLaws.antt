@@ -21,9 +21,9 @@ use Rattle.rules_model.specs.Moves.{IsFitMove}
 use Rattle.rules_model.specs.MoveText.{move_cmp}
 use Rattle.rules_model.specs.Next.{captures}
 use Rattle.rules_model.proofs.LegalLaws.{every-fit, every-has, legal-member, legal-once, legal-sorted, member-legal, moves-unique}
-use Rattle.legality.specs.declared.choice.Part.{Part}
-use Rattle.legality.specs.declared.choice.Part.TheVariants.{All, Captures, Others}
-use Rattle.legality.specs.Chosen.{AppendsChosen, FitCandidates, can_go, is_chosen, is_fit_move, is_in, is_wanted, legal_part, only_captures, part_of}
+use Rattle.legality.specs.declared.move_filter.GenType.{GenType}
+use Rattle.legality.specs.declared.move_filter.GenType.TheVariants.{All, Captures, Quiets}
+use Rattle.legality.specs.Chosen.{AppendsChosen, FitCandidates, can_go, is_chosen, is_fit_move, is_in, is_wanted, legal_gen_type, only_captures, part_of}
 use Rattle.legality.proofs.FitLaws.{from_fit}
 
 -- a legal capture
@@ -94,7 +94,7 @@ module _ {X : Type 0} where
 
 -- ---- the choice
 
-module _ (rules : Rules) (r : Repeat) (part : Part) where
+module _ (rules : Rules) (r : Repeat) (part : GenType) where
   chosen_parts : (m : Move) → is_chosen rules r part m ≡ true → (is_sane rules r m ≡ true) × (is_wanted rules r part m ≡ true)
   unfolding is_chosen
   chosen_parts m e =
@@ -152,10 +152,10 @@ module _ (rules : Rules) (r : Repeat) where
   unfolding is_legal
   legal_is m on = rw (on, only_is rules r) refl
 
-  wanted_is : (m : Move) → is_wanted rules r (legal_part rules r) m ≡ (not (only_captures rules r) || captures rules r m)
+  wanted_is : (m : Move) → is_wanted rules r (legal_gen_type rules r) m ≡ (not (only_captures rules r) || captures rules r m)
   wanted_is m = forced_in (only_captures rules r) (captures rules r m)
 
-  legal_parts : (m : Move) → Member m (legal rules r) → IsFitMove m × (is_ongoing (early_end rules r) ≡ true) × (is_allowed rules r m ≡ true) × (is_wanted rules r (legal_part rules r) m ≡ true)
+  legal_parts : (m : Move) → Member m (legal rules r) → IsFitMove m × (is_ongoing (early_end rules r) ≡ true) × (is_allowed rules r m ≡ true) × (is_wanted rules r (legal_gen_type rules r) m ≡ true)
   unfolding is_legal
   legal_parts m h =
       let k = legal-member rules r m h in
@@ -163,13 +163,13 @@ module _ (rules : Rules) (r : Repeat) where
       let b = and_parts (is_ongoing (early_end rules r)) (is_allowed rules r m) a.0 in
       (k.0, b.0, b.1, wanted_is m ∙ subst (λ only. (not only || captures rules r m) ≡ true) (sym (only_is rules r)) a.1)
 
-  legal_from : (m : Move) → IsFitMove m → is_ongoing (early_end rules r) ≡ true → is_allowed rules r m ≡ true → is_wanted rules r (legal_part rules r) m ≡ true → Member m (legal rules r)
+  legal_from : (m : Move) → IsFitMove m → is_ongoing (early_end rules r) ≡ true → is_allowed rules r m ≡ true → is_wanted rules r (legal_gen_type rules r) m ≡ true → Member m (legal rules r)
   legal_from m fit on e f = member-legal rules r m fit (legal_is m on ∙ and_from _ _ e (sym (wanted_is m) ∙ f))
 
   -- the chosen ones of all the candidates are the legal moves
-  pub chosen_legal : (ms : List Move) → is_ongoing (early_end rules r) ≡ true → Lists (FitCandidates rules r) ms → Lists (λ m. Member m (legal rules r)) (filter (is_chosen rules r (legal_part rules r)) ms)
+  pub chosen_legal : (ms : List Move) → is_ongoing (early_end rules r) ≡ true → Lists (FitCandidates rules r) ms → Lists (λ m. Member m (legal rules r)) (filter (is_chosen rules r (legal_gen_type rules r)) ms)
   chosen_legal ms on l =
-      let part = legal_part rules r in record {
+      let part = legal_gen_type rules r in record {
         once = once_filter (is_chosen rules r part) ms l.once;
         sound = λ m h.
             let k = filter-member (is_chosen rules r part) m ms h in
@@ -187,7 +187,7 @@ module _ (rules : Rules) (r : Repeat) where
   none_legal off = rw off refl
 
   -- how many these are
-  pub chosen_count : (ms : List Move) → is_ongoing (early_end rules r) ≡ true → Lists (FitCandidates rules r) ms → length (filter (is_chosen rules r (legal_part rules r)) ms) ≡ length (legal rules r)
+  pub chosen_count : (ms : List Move) → is_ongoing (early_end rules r) ≡ true → Lists (FitCandidates rules r) ms → length (filter (is_chosen rules r (legal_gen_type rules r)) ms) ≡ length (legal rules r)
   chosen_count ms on l =
       let k = chosen_legal ms on l in same_length _ (legal rules r) k.once (legal-once rules r) k.sound k.complete
 
@@ -208,17 +208,17 @@ module _ (rules : Rules) (r : Repeat) where
   some_of [] e = cc
   some_of (m ∷ ms) e = (m, inl refl)
 
-  allowed_some : (part : Part) → can_go rules r part ≡ true → (m : Move) × IsFitMove m × (is_allowed rules r m ≡ true) × (is_wanted rules r part m ≡ true)
+  allowed_some : (part : GenType) → can_go rules r part ≡ true → (m : Move) × IsFitMove m × (is_allowed rules r m ≡ true) × (is_wanted rules r part m ≡ true)
   unfolding can_go
   allowed_some part e =
       let k = any_member (is_wanted rules r part) _ e in
       let f = filter-member (is_allowed rules r) k.0 every_move k.1 in
       (k.0, every-fit k.0 f.0, f.1, k.2)
 
-  any_wanted : (m : Move) → only_captures rules r ≡ false → is_wanted rules r (legal_part rules r) m ≡ true
+  any_wanted : (m : Move) → only_captures rules r ≡ false → is_wanted rules r (legal_gen_type rules r) m ≡ true
   any_wanted m e = ap (λ only. is_in (part_of only) (captures rules r m)) e
 
-  capture_wanted : (m : Move) → captures rules r m ≡ true → is_wanted rules r (legal_part rules r) m ≡ true
+  capture_wanted : (m : Move) → captures rules r m ≡ true → is_wanted rules r (legal_gen_type rules r) m ≡ true
   capture_wanted m e = wanted_is m ∙ or_right (not (only_captures rules r)) (captures rules r m) e
 
   some_legal : is_ongoing (early_end rules r) ≡ true → can_go rules r All ≡ true → (m : Move) × Member m (legal rules r)
@@ -252,25 +252,25 @@ module _ (rules : Rules) (r : Repeat) where
 -- ---- by the tables' rules, which are these rules
 
 module _ (rules made : Rules) (r q : Repeat) (same : made ≡ rules) (still : q ≡ r) where
-  chosen_same : (part : Part) → is_chosen made q part ≡ is_chosen rules r part
+  chosen_same : (part : GenType) → is_chosen made q part ≡ is_chosen rules r part
   chosen_same part = ap (λ rules'. is_chosen rules' q part) same ∙ ap (λ r'. is_chosen rules r' part) still
 
-  pub made_found : (part : Part) (ms : List Move) → Lists (FitCandidates rules r) ms → list_any (is_chosen made q part) ms ≡ can_go rules r part
+  pub made_found : (part : GenType) (ms : List Move) → Lists (FitCandidates rules r) ms → list_any (is_chosen made q part) ms ≡ can_go rules r part
   made_found part ms l = ap (λ test. list_any test ms) (chosen_same part) ∙ found_is rules r part ms l
 
-  pub made_goes : (part : Part) (ms : List Move) → ((m : Move) → Member m ms → FitCandidates rules r m) → list_any (is_chosen made q part) ms ≡ true → can_go rules r part ≡ true
+  pub made_goes : (part : GenType) (ms : List Move) → ((m : Move) → Member m ms → FitCandidates rules r m) → list_any (is_chosen made q part) ms ≡ true → can_go rules r part ≡ true
   made_goes part ms sound e = found_goes rules r part ms sound (sym (ap (λ test. list_any test ms) (chosen_same part)) ∙ e)
 
-  chosen_part : (part : Part) (ms : List Move) → part ≡ legal_part rules r → filter (is_chosen made q part) ms ≡ filter (is_chosen rules r (legal_part rules r)) ms
+  chosen_part : (part : GenType) (ms : List Move) → part ≡ legal_gen_type rules r → filter (is_chosen made q part) ms ≡ filter (is_chosen rules r (legal_gen_type rules r)) ms
   chosen_part part ms e = ap (λ test. filter test ms) (chosen_same part ∙ ap (is_chosen rules r) e)
 
-  pub made_count : (part : Part) (ms : List Move) → part ≡ legal_part rules r → is_ongoing (early_end rules r) ≡ true → Lists (FitCandidates rules r) ms → length (filter (is_chosen made q part) ms) ≡ length (legal rules r)
+  pub made_count : (part : GenType) (ms : List Move) → part ≡ legal_gen_type rules r → is_ongoing (early_end rules r) ≡ true → Lists (FitCandidates rules r) ms → length (filter (is_chosen made q part) ms) ≡ length (legal rules r)
   made_count part ms e on l = ap length (chosen_part part ms e) ∙ chosen_count rules r ms on l
 
 -- ---- what was appended
 
 module _ (rules : Rules) (r : Repeat) where
-  appended : (part : Part) (P : Move → Type 0) (old new : List Move) → ((m : Move) → FitCandidates rules r m → is_chosen rules r part m ≡ true → P m) → ((m : Move) → P m → FitCandidates rules r m × (is_chosen rules r part m ≡ true))
+  appended : (part : GenType) (P : Move → Type 0) (old new : List Move) → ((m : Move) → FitCandidates rules r m → is_chosen rules r part m ≡ true → P m) → ((m : Move) → P m → FitCandidates rules r m × (is_chosen rules r part m ≡ true))
       → AppendsChosen rules r part old new → Appends P old new
   appended part P old new to from a = record {
     added = filter (is_chosen rules r part) a.moves;
@@ -283,14 +283,14 @@ module _ (rules : Rules) (r : Repeat) where
   }
 
   -- a legal move that is of the part is chosen
-  legal_chosen : (part : Part) (m : Move) → Member m (legal rules r) → is_wanted rules r part m ≡ true → FitCandidates rules r m × (is_chosen rules r part m ≡ true)
+  legal_chosen : (part : GenType) (m : Move) → Member m (legal rules r) → is_wanted rules r part m ≡ true → FitCandidates rules r m × (is_chosen rules r part m ≡ true)
   legal_chosen part m h wanted =
       let k = legal_parts rules r m h in
       let p = allowed_parts rules r part m k.2 in
       ((k.0, p.0), from_parts rules r part m k.0 p.1 wanted)
 
   module _ (on : is_ongoing (early_end rules r) ≡ true) where
-    pub appended_legal : (part : Part) (old new : List Move) → part ≡ legal_part rules r → AppendsChosen rules r part old new → Appends (λ m. Member m (legal rules r)) old new
+    pub appended_legal : (part : GenType) (old new : List Move) → part ≡ legal_gen_type rules r → AppendsChosen rules r part old new → Appends (λ m. Member m (legal rules r)) old new
     appended_legal part old new e a = record {
       added = filter (is_chosen rules r part) a.moves;
       is = a.taken;
@@ -307,13 +307,13 @@ module _ (rules : Rules) (r : Repeat) where
 
     -- where not only captures are legal
     module _ (any : only_captures rules r ≡ false) where
-      other_legal : (m : Move) → FitCandidates rules r m → is_chosen rules r Others m ≡ true → IsLegalOther rules r m
+      other_legal : (m : Move) → FitCandidates rules r m → is_chosen rules r Quiets m ≡ true → IsLegalOther rules r m
       other_legal m fit e =
-          let k = chosen_allowed rules r Others m fit e in
+          let k = chosen_allowed rules r Quiets m fit e in
           (legal_from rules r m fit.0 on k.0 (any_wanted rules r m any), not-true (captures rules r m) k.1)
 
-      pub appended_others : (old new : List Move) → AppendsChosen rules r Others old new → Appends (IsLegalOther rules r) old new
-      appended_others old new = appended Others (IsLegalOther rules r) old new other_legal (λ m h. legal_chosen Others m h.0 (ap not h.1))
+      pub appended_others : (old new : List Move) → AppendsChosen rules r Quiets old new → Appends (IsLegalOther rules r) old new
+      appended_others old new = appended Quiets (IsLegalOther rules r) old new other_legal (λ m h. legal_chosen Quiets m h.0 (ap not h.1))
 
 pub no_capture : (rules : Rules) (r : Repeat) (old : List Move) → is_ongoing (early_end rules r) ≡ false → Appends (IsLegalCapture rules r) old old
 no_capture rules r old off = appends-none _ old (λ m h. subst (Member m) (none_legal rules r off) h.0)

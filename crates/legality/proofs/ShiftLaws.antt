@@ -13,15 +13,15 @@ use Rattle.square_set.specs.declared.Shift.TheVariants.{Up, Down}
 use Rattle.square_set.specs.Members.{has, HasOrigin, is_led, origin}
 use Rattle.move_sink.specs.InTurn.{GoesBy, target_of}
 use Rattle.move_sink.proofs.TakingLemmas.{all-join}
-use Rattle.legality.specs.declared.choice.Part.{Part}
-use Rattle.legality.specs.declared.count.Counter.{Counter}
+use Rattle.legality.specs.declared.move_filter.GenType.{GenType}
+use Rattle.legality.specs.declared.count_sink.CountSink.{CountSink}
 use Rattle.legality.specs.Choices.{chosen_by}
 use Rattle.legality.specs.Counts.{CountsAll}
 use Rattle.legality.specs.Sinks.{counter_is_sink}
 use Rattle.legality.specs.Chosen.{AreTargetsBy, AreUnwantedBut, AreWantedTo, is_chosen}
 use Rattle.legality.specs.Moved.{GoAtOnce, GoInVain, MayGoBy, MayNotGoBy}
 use Rattle.legality.proofs.GoLaws.{chosen_is_sane, not_chosen}
-use Rattle.legality.proofs.SafetyLaws.{not_safe_not_sane}
+use Rattle.legality.proofs.PinLaws.{not_safe_not_sane}
 use Rattle.legality.proofs.WantedLaws.{not_wanted, unwanted_there}
 
 led_from : (shift : Shift) (set : Set) (t : ℕ) → is_led shift set t ≡ true → has set (origin shift t) ≡ true
@@ -57,7 +57,7 @@ either_way false true u t f g h = sym (g refl)
 either_way false false true t f g h = sym (h refl)
 either_way false false false t f g h = refl
 
-pub told_chosen : (rules : Rules) (r : Repeat) (part : Part) (shift : Shift) (targets wanted untold chosen barred unwanted told : Set) → ((s : ℕ) → has targets s ≡ true → s < 120)
+pub told_chosen : (rules : Rules) (r : Repeat) (part : GenType) (shift : Shift) (targets wanted untold chosen barred unwanted told : Set) → ((s : ℕ) → has targets s ≡ true → s < 120)
     → ((s : ℕ) → has targets s ≡ true → HasOrigin shift 120 s) → ((s : ℕ) → has wanted s ≡ true → has targets s ≡ true) → AreWantedTo rules r part wanted → AreUnwantedBut rules r part targets wanted untold
     → ((s : ℕ) → has chosen s ≡ true → has wanted s ≡ true) → ((s : ℕ) → has barred s ≡ true → has wanted s ≡ true) → MayGoBy rules r shift chosen → MayNotGoBy rules r shift barred
     → ((s : ℕ) → has unwanted s ≡ ((has targets s && not (has wanted s)) && not (has untold s))) → ((s : ℕ) → has told s ≡ ((has chosen s || has barred s) || has unwanted s))
@@ -98,7 +98,7 @@ module _ (shift : Shift) (targets told left : Set) (within : (s : ℕ) → has t
   pub left-within : (s : ℕ) → has left s ≡ true → has targets s ≡ true
   left-within s e = left_of (has told s) (has targets s) (has left s) (is s) e
 
-  pub both_counted : (s t u : Counter) → CountsAll (GoesBy shift told) s t → CountsAll (GoesBy shift left) t u → CountsAll (GoesBy shift targets) s u
+  pub both_counted : (s t u : CountSink) → CountsAll (GoesBy shift told) s t → CountsAll (GoesBy shift left) t u → CountsAll (GoesBy shift targets) s u
   both_counted s t u a b =
       all-join (counter_is_sink (λ counter. counter.choice) (λ counter. counter.count) chosen_by (2 ^ 128 - 1)) (GoesBy shift told) (GoesBy shift left) (GoesBy shift targets) s t u a b
       (λ m h k. apart (has told (target_of m)) (has targets (target_of m)) (has left (target_of m)) (is (target_of m)) h.1 k.1)

@@ -21,10 +21,10 @@ use Rattle.square_set.specs.declared.Set.{Set}
 use Rattle.square_set.specs.Members.{has}
 use Rattle.square_set.proofs.Cases.{by_bool}
 use Rattle.move_tables.specs.Occupied.{AreMen}
-use Rattle.legality.specs.declared.choice.Part.{Part}
+use Rattle.legality.specs.declared.move_filter.GenType.{GenType}
 use Rattle.legality.specs.Chosen.{AreTargetsFrom, AreUnwantedBut, AreWantedTo, is_chosen, is_fit_move, is_in, is_wanted}
 use Rattle.legality.specs.Moved.{IsBarred}
-use Rattle.legality.proofs.SafetyLaws.{any_kind, not_passing}
+use Rattle.legality.proofs.PinLaws.{any_kind, not_passing}
 
 -- ---- of three tests
 
@@ -40,11 +40,11 @@ none_of false w o u is e = cc
 
 -- ---- what is not wanted is not chosen
 
-pub not_wanted : (rules : Rules) (r : Repeat) (part : Part) (m : Move) → is_wanted rules r part m ≡ false → is_chosen rules r part m ≡ false
+pub not_wanted : (rules : Rules) (r : Repeat) (part : GenType) (m : Move) → is_wanted rules r part m ≡ false → is_chosen rules r part m ≡ false
 unfolding is_chosen
 not_wanted rules r part m e = ap (λ b. is_fit_move m && (b && is_sane rules r m)) e ∙ and_false (is_fit_move m)
 
-module _ (rules : Rules) (r : Repeat) (part : Part) (targets wanted untold : Set) where
+module _ (rules : Rules) (r : Repeat) (part : GenType) (targets wanted untold : Set) where
   pub unwanted_there : (unwanted : Set) → AreUnwantedBut rules r part targets wanted untold → ((s : ℕ) → has unwanted s ≡ ((has targets s && not (has wanted s)) && not (has untold s)))
       → (from to : Square) (gate : Option Kind) → has unwanted to.0 ≡ true → is_wanted rules r part (Go from to Stays gate) ≡ false
   unwanted_there unwanted others is from to gate e =
@@ -112,7 +112,7 @@ module _ (rules : Rules) (r : Repeat) where
         let k = bars to.0 small bar in
         ap is_some (taken_there from to k.1) ∙ man_there r.side (cell_at r.cells to.0) (sym (men to.0) ∙ k.0) ∙ sym (foes to.0)
 
-    module _ (part : Part) (targets wanted untold : Set) (small : (s : ℕ) → has targets s ≡ true → s < 120) (is : (s : ℕ) → has wanted s ≡ ((has targets s && is_in part (has enemies s)) && not (has barred s))) where
+    module _ (part : GenType) (targets wanted untold : Set) (small : (s : ℕ) → has targets s ≡ true → s < 120) (is : (s : ℕ) → has wanted s ≡ ((has targets s && is_in part (has enemies s)) && not (has barred s))) where
       pub part_wanted : AreWantedTo rules r part wanted
       part_wanted from to gate e =
           let a = and_parts (has targets to.0 && is_in part (has enemies to.0)) (not (has barred to.0)) (sym (is to.0) ∙ e) in

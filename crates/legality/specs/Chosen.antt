@@ -20,8 +20,8 @@ use Rattle.move_sink.specs.Taking.{TakesAll}
 use Rattle.square_set.specs.declared.Set.{Set}
 use Rattle.square_set.specs.declared.Shift.{Shift}
 use Rattle.square_set.specs.Members.{has, origin}
-use Rattle.legality.specs.declared.choice.Part.{Part}
-use Rattle.legality.specs.declared.choice.Part.TheVariants.{All, Captures, Others}
+use Rattle.legality.specs.declared.move_filter.GenType.{GenType}
+use Rattle.legality.specs.declared.move_filter.GenType.TheVariants.{All, Captures, Quiets}
 
 -- a candidate on the largest board
 abbrev pub FitCandidates : Rules → Repeat → Move → Type 0
@@ -51,21 +51,21 @@ is_fit_move (Drop kind to) = nat_lt kind.0 26 && nat_lt to.0 120
 -- ---- the choice
 
 -- a move is of the part, by whether it captures
-abbrev pub is_in : Part → Bool → Bool
+abbrev pub is_in : GenType → Bool → Bool
 is_in All takes = true
 is_in Captures takes = takes
-is_in Others takes = not takes
+is_in Quiets takes = not takes
 
 -- the move is of the part
-abbrev pub is_wanted : Rules → Repeat → Part → Move → Bool
+abbrev pub is_wanted : Rules → Repeat → GenType → Move → Bool
 is_wanted rules r part m = is_in part (captures rules r m)
 
 -- of the candidates: those that are wanted, and sane
-unfoldable pub is_chosen : Rules → Repeat → Part → Move → Bool
+unfoldable pub is_chosen : Rules → Repeat → GenType → Move → Bool
 is_chosen rules r part m = is_fit_move m && (is_wanted rules r part m && is_sane rules r m)
 
 -- some allowed move is wanted
-unfoldable pub can_go : Rules → Repeat → Part → Bool
+unfoldable pub can_go : Rules → Repeat → GenType → Bool
 can_go rules r part = list_any (is_wanted rules r part) (filter (is_allowed rules r) every_move)
 
 -- one must capture, and can
@@ -73,13 +73,13 @@ unfoldable pub only_captures : Rules → Repeat → Bool
 only_captures rules r = rules.must_capture && can_go rules r Captures
 
 -- the captures, where only they are wanted
-abbrev pub part_of : Bool → Part
+abbrev pub part_of : Bool → GenType
 part_of true = Captures
 part_of false = All
 
 -- which of the allowed moves are legal, where there is no early end
-abbrev pub legal_part : Rules → Repeat → Part
-legal_part rules r = part_of (only_captures rules r)
+abbrev pub legal_gen_type : Rules → Repeat → GenType
+legal_gen_type rules r = part_of (only_captures rules r)
 
 -- the move captures, or need not
 abbrev pub captures_if_forced : Rules → Repeat → Move → Bool
@@ -107,19 +107,19 @@ AreTargetsOfDrops test kind = AreTargetsOf test (Drop kind)
 
 -- the moves of pieces to the targets that stay what they are, wherever they start and whatever they leave behind, are
 -- wanted
-abbrev pub AreWantedTo : Rules → Repeat → Part → Set → Type 0
+abbrev pub AreWantedTo : Rules → Repeat → GenType → Set → Type 0
 AreWantedTo rules r part targets =
     (from to : Square) (gate : Option Kind) → has targets to.0 ≡ true
     → is_wanted rules r part (Go from to Stays gate) ≡ true
 
 -- those to the targets that neither of the sets has are not
-abbrev pub AreUnwantedBut : Rules → Repeat → Part → Set → Set → Set → Type 0
+abbrev pub AreUnwantedBut : Rules → Repeat → GenType → Set → Set → Set → Type 0
 AreUnwantedBut rules r part targets wanted untold =
     (from to : Square) (gate : Option Kind) → has targets to.0 ≡ true → has wanted to.0 ≡ false
     → has untold to.0 ≡ false
     → is_wanted rules r part (Go from to Stays gate) ≡ false
 
 -- the candidates that are chosen were appended
-abbrev pub AppendsChosen : Rules → Repeat → Part → List Move → List Move → Type 0
+abbrev pub AppendsChosen : Rules → Repeat → GenType → List Move → List Move → Type 0
 AppendsChosen rules r part =
     TakesAll (λ old ms new. new ≡ old ++ filter (is_chosen rules r part) ms) (FitCandidates rules r)

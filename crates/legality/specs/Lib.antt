@@ -3,7 +3,7 @@ pub mod Chosen
 pub mod Counts
 pub mod Flags
 pub mod Keeps
-pub mod LateEnds
+pub mod NoMoveEnds
 pub mod Moved
 pub mod Seeks
 pub mod Sinks

@@ -121,11 +121,11 @@ leaves_in_vain rules own kings leave from None = has leave from.0
 leaves_in_vain rules own kings leave from (Some kind) = leaves_another rules own kings from kind
 
 -- one that does so goes to a square of `enter` and stays what it is, or a piece other than a king is dropped on one
-abbrev pub is_in_vain : Rules → Set → Set → Set → Set → Move → Bool
-is_in_vain rules own kings leave enter (Go from to promo gate) =
+abbrev pub is_no_evasion : Rules → Set → Set → Set → Set → Move → Bool
+is_no_evasion rules own kings leave enter (Go from to promo gate) =
     is_stays promo && has enter to.0 && leaves_in_vain rules own kings leave from gate
-is_in_vain rules own kings leave enter (Castle from to rook gate) = false
-is_in_vain rules own kings leave enter (Drop kind to) = has enter to.0 && not (is_king rules kind)
+is_no_evasion rules own kings leave enter (Castle from to rook gate) = false
+is_no_evasion rules own kings leave enter (Drop kind to) = has enter to.0 && not (is_king rules kind)
 
 -- ---- told at once
 

@@ -39,5 +39,5 @@ after s m = record { rules = s.rules; position = next s.rules s.position m }
 
 -- the position is sound for rules that fit, and this is its early end
 pub record IsKnown (rules : Rules) (position : Position) (early : Outcome) : Type 0 where
-  pub is_ready : IsReady rules rules position
+  pub prove_ready : IsReady rules rules position
   pub is_early : early ≡ early_end rules (repeat_of position)

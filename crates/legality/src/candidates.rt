@@ -15,7 +15,7 @@ ghost use Rattle.legality.specs.Chosen.{FitCandidates};
 use attack_tables::Tables;
 use board_sets::BoardSets;
 use move_sink::MoveSink;
-use rules_model::sizes::{position_sizes, region_size};
+use rules_model::sizes::{prove_position_sizes, prove_region_size};
 use rules_model::{KINDS, Move, Position, Region, Rules, Side};
 
 /// Gives the sink the candidates, each once and in no special order: those for which `is_candidate` answers yes.
@@ -48,25 +48,25 @@ pub(crate) fn is_candidate(rules: &Rules, tables: &Tables, p: &Position, m: &Mov
 }
 
 /// A mask has a place for each letter.
-fn mask_size(mask: &[bool; KINDS])
+fn prove_mask_size(mask: &[bool; KINDS])
     ensures { length mask.now ≡ 26 }
 {
     let _first = mask[0];
 }
 
 /// The side's region has a place for each square.
-fn regions_size(regions: &[Region; 2], side: Side)
+fn prove_region_sizes(regions: &[Region; 2], side: Side)
     ensures { length (slice_index_or regions.now (side_index side) no_region).squares ≡ 120 }
 {
-    region_size(&regions[side.index()]);
+    prove_region_size(&regions[side.index()]);
 }
 
 /// The candidates are moves on the largest board.
-pub(crate) fn candidates_are_fit(rules: &Rules, p: &Position)
+pub(crate) fn prove_candidates_fit(rules: &Rules, p: &Position)
     requires { IsFit rules.now }
     ensures { (m : Move) → Candidates.is_candidate rules.now (repeat_of p.now) m ≡ true → IsFitMove m }
 {
-    mask_size(&rules.promotion_kinds);
-    regions_size(&rules.drop_region, p.side);
-    position_sizes(p);
+    prove_mask_size(&rules.promotion_kinds);
+    prove_region_sizes(&rules.drop_region, p.side);
+    prove_position_sizes(p);
 }

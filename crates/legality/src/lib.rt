@@ -1,29 +1,29 @@
 //! The legal moves of a position, for the rules of every variant.
 #![tactic(auto)]
 
-mod ask;
+mod any_sink;
 mod candidates;
 mod capture;
-mod choice;
-mod count;
+mod count_sink;
 mod flag;
-mod keeper;
-mod known;
 mod list;
+mod list_sink;
+mod make_move;
 mod mobile;
-mod order;
-mod play;
-mod safety;
+mod move_filter;
+mod move_gen;
+mod pin_info;
+mod pin_squares;
+mod queries;
 mod search;
-mod seek;
-mod unpinned;
+mod sorting;
 
-pub use ask::{
+pub use capture::captures;
+pub use list::{legal_moves, push_legal};
+pub use make_move::{apply, apply_with, king_attacked_with};
+pub use move_gen::MoveGen;
+pub use queries::{
     any_legal, count_legal, end_where, free, gives_check, gives_check_with, is_legal,
     is_legal_with, own_end,
 };
-pub use capture::captures;
-pub use known::Known;
-pub use list::{legal_moves, push_legal};
-pub use play::{apply, apply_with, king_attacked_with};
 pub use search::early_end_with;

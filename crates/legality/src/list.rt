@@ -9,11 +9,11 @@ ghost use Rattle.legality.specs.Chosen.{AppendsChosen};
 ghost use Rattle.legality.specs.Stance.{IsCaptureIn, IsOtherIn, legal_in};
 
 use crate::candidates::push_candidates;
-use crate::choice::{Choice, Part};
-use crate::keeper::Keeper;
-use crate::known::Known;
-use crate::order::sort_moves;
-use crate::safety::Safety;
+use crate::list_sink::ListSink;
+use crate::move_filter::{GenType, MoveFilter};
+use crate::move_gen::MoveGen;
+use crate::pin_info::PinInfo;
+use crate::sorting::sort_moves;
 use attack_tables::Tables;
 use board_sets::sets_of;
 use foundation::Memory;
@@ -38,7 +38,7 @@ fn emptied(list: &mut MoveList) -> Result<MoveList, Memory>
 }
 
 /// Appends the candidates that are chosen, each once. Without memory the list is as it was.
-fn push_chosen(choice: Choice<'_>, out: &mut MoveList) -> Result<(), Memory>
+fn push_chosen(choice: MoveFilter<'_>, out: &mut MoveList) -> Result<(), Memory>
     requires { IsFit choice.safety.tables.now }
     ensures ok { OnOk result (AppendsChosen choice.entry.safety.tables.now (repeat_of choice.entry.safety.p.now)
         choice.entry.part out.old out.new) }
@@ -47,7 +47,7 @@ fn push_chosen(choice: Choice<'_>, out: &mut MoveList) -> Result<(), Memory>
     let safety = choice.safety;
     let start = length_of(out);
     let list = emptied(out)?;
-    let mut keeper = Keeper { choice, list };
+    let mut keeper = ListSink { choice, list };
     let pushed = push_candidates(
         safety.tables.rules(),
         safety.tables,
@@ -65,7 +65,7 @@ fn push_chosen(choice: Choice<'_>, out: &mut MoveList) -> Result<(), Memory>
     }
 }
 
-impl Known<'_> {
+impl MoveGen<'_> {
     /// Appends the legal moves, each once and in no special order. Without memory the list is as it was.
     pub fn push_legal(&self, out: &mut MoveList) -> Result<(), Memory>
         ensures ok { OnOk result (Appends (λ m. Member m (legal_in self.now)) out.old out.new) }
@@ -74,8 +74,8 @@ impl Known<'_> {
         if !self.goes_on() {
             return Ok(());
         }
-        let (safety, part) = (self.safety, self.legal_part());
-        push_chosen(Choice { safety, part }, out)
+        let (safety, part) = (self.safety, self.legal_gen_type());
+        push_chosen(MoveFilter { safety, part }, out)
     }
 
     /// Appends the legal moves that capture, each once and in no special order. Without memory the list is as it was.
@@ -86,13 +86,13 @@ impl Known<'_> {
         if !self.goes_on() {
             return Ok(());
         }
-        let (safety, part) = (self.safety, Part::Captures);
-        push_chosen(Choice { safety, part }, out)
+        let (safety, part) = (self.safety, GenType::Captures);
+        push_chosen(MoveFilter { safety, part }, out)
     }
 
     /// Appends the legal moves that do not capture, each once and in no special order. Without memory the list is as it
     /// was.
-    pub fn push_others(&self, out: &mut MoveList) -> Result<(), Memory>
+    pub fn push_quiets(&self, out: &mut MoveList) -> Result<(), Memory>
         ensures ok { OnOk result (Appends (IsOtherIn self.now) out.old out.new) }
         ensures err { OnErr result (out.new ≡ out.old) }
     {
@@ -102,15 +102,15 @@ impl Known<'_> {
         if self.only_captures() {
             return Ok(());
         }
-        let (safety, part) = (self.safety, Part::Others);
-        push_chosen(Choice { safety, part }, out)
+        let (safety, part) = (self.safety, GenType::Quiets);
+        push_chosen(MoveFilter { safety, part }, out)
     }
 
     /// The legal moves, each once and in the byte order of their texts; or `Memory`.
     pub fn legal_moves(&self, alloc: Global) -> Result<MoveList, Memory>
         ensures { IfOk result (λ ms. ms ≡ legal_in self.now) }
     {
-        self.is_ready();
+        self.prove_ready();
         let mut moves = MoveList {
             items: Vec::new(alloc),
         };
@@ -132,7 +132,7 @@ pub fn push_legal(
     ensures err { OnErr result (out.new ≡ out.old) }
 {
     let sets = sets_of(rules, &p.cells, p.side);
-    Known::of(rules, tables, p, &sets).push_legal(out)
+    MoveGen::of(rules, tables, p, &sets).push_legal(out)
 }
 
 /// The legal moves, each once and in the byte order of their texts: those of the rules of movement after which the
@@ -150,5 +150,5 @@ pub fn legal_moves(
     ensures { IfOk result (λ ms. ms ≡ legal rules.now (repeat_of p.now)) }
 {
     let sets = sets_of(rules, &p.cells, p.side);
-    Known::of(rules, tables, p, &sets).legal_moves(alloc)
+    MoveGen::of(rules, tables, p, &sets).legal_moves(alloc)
 }

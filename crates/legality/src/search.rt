@@ -7,11 +7,11 @@ ghost use Rattle.board_sets.specs.Sets.{AreSets};
 ghost use Rattle.legality.specs.Chosen as Chosen;
 ghost use Rattle.legality.specs.Stance.{repeat_in};
 
+use crate::any_sink::AnySink;
 use crate::candidates::push_candidates;
-use crate::choice::{Choice, Part};
 use crate::flag::has_flag;
-use crate::known::Known;
-use crate::seek::Seeker;
+use crate::move_filter::{GenType, MoveFilter};
+use crate::move_gen::MoveGen;
 use attack_tables::Tables;
 use board_sets::BoardSets;
 use end_rules::early_end_by;
@@ -47,13 +47,13 @@ pub(crate) fn goes_on(rules: &Rules, tables: &Tables, p: &Position, sets: &Board
 }
 
 /// Whether some allowed move is of the part, by what is known of the position. It stops at the first.
-fn some_goes(choice: Choice<'_>) -> bool
+fn some_goes(choice: MoveFilter<'_>) -> bool
     requires { IsFit choice.safety.tables.now }
     ensures { result ≡ Chosen.can_go choice.entry.safety.tables.now (repeat_of choice.entry.safety.p.now)
         choice.entry.part }
 {
     let safety = choice.safety;
-    let mut seeker = Seeker { choice };
+    let mut seeker = AnySink { choice };
     match push_candidates(
         safety.tables.rules(),
         safety.tables,
@@ -66,13 +66,13 @@ fn some_goes(choice: Choice<'_>) -> bool
     }
 }
 
-impl Known<'_> {
+impl MoveGen<'_> {
     /// Whether some allowed move is of the part. It stops at the first.
-    pub(crate) fn can_go(&self, part: Part) -> bool
+    pub(crate) fn can_go(&self, part: GenType) -> bool
         ensures { result ≡ Chosen.can_go self.now.rules (repeat_in self.now) part }
     {
         let safety = self.safety;
-        some_goes(Choice { safety, part })
+        some_goes(MoveFilter { safety, part })
     }
 
     /// Whether only captures are legal: one must capture, and can.
@@ -80,17 +80,17 @@ impl Known<'_> {
     pub(crate) fn only_captures(&self) -> bool
         ensures { result ≡ Chosen.only_captures self.now.rules (repeat_in self.now) }
     {
-        self.safety.tables.rules().must_capture && self.can_go(Part::Captures)
+        self.safety.tables.rules().must_capture && self.can_go(GenType::Captures)
     }
 
     /// Which of the allowed moves are legal, where there is no early end.
-    pub(crate) fn legal_part(&self) -> Part
-        ensures { result ≡ Chosen.legal_part self.now.rules (repeat_in self.now) }
+    pub(crate) fn legal_gen_type(&self) -> GenType
+        ensures { result ≡ Chosen.legal_gen_type self.now.rules (repeat_in self.now) }
     {
         if self.only_captures() {
-            Part::Captures
+            GenType::Captures
         } else {
-            Part::All
+            GenType::All
         }
     }
 }

@@ -9,7 +9,7 @@ use Rattle.mate_settle.specs.Lines.{lines_within, seen_in}
 use Rattle.mate_shards.specs.Grown.{HaveParts}
 use Rattle.mate_shards.specs.Views.{ArePassesOf, ShardsView}
 use Rattle.mate_showing.specs.Answers.{IsFrameOf}
-use Rattle.mate_search.specs.declared.job.Job.{Job}
+use Rattle.mate_search.specs.declared.job.WorkerPasses.{WorkerPasses}
 use Rattle.mate_search.specs.declared.race.Race.{Race}
 
 -- the shards are of the game's frame, the root moves are its legal moves, and the number of moves is from 1 to 100
@@ -37,6 +37,6 @@ abbrev pub raced_lines : {G : Type 0} → Race G → ℕ
 raced_lines race = (race.n + 4) * root_lines race
 
 -- a worker beside the first has passes of one part for the shards
-pub record IsLent (s : ShardsView) (job : Job) : Type 0 where
+pub record IsLent (s : ShardsView) (job : WorkerPasses) : Type 0 where
   pub passes : ArePassesOf s job.passes
   pub part : HaveParts 1 job.passes

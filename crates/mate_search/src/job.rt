@@ -21,7 +21,7 @@ use watching::{Halt, Helper, Round, Watch};
 /// The state of a worker: its passes for the shards, its number, and how many root moves it has taken. The worker in
 /// the caller has the number 0.
 #[derive(Drop)]
-pub(crate) struct Job {
+pub(crate) struct WorkerPasses {
     pub passes: Passes,
     pub number: u32,
     pub step: u64,
@@ -29,19 +29,19 @@ pub(crate) struct Job {
 
 /// What a worker is to settle: the moves of a position, with N moves left for the attacker after each.
 #[derive(Clone, Copy)]
-pub(crate) struct Task {
+pub(crate) struct RootTask {
     pub left: u16,
     pub attacking: bool,
 }
 
 /// What the moves of the position are to be settled for.
-pub(crate) fn task_for(attacking: bool, n: u16) -> Task
+pub(crate) fn root_task(attacking: bool, n: u16) -> RootTask
     requires { 0 < n }
     ensures left { result.left ≡ left_after attacking n }
     ensures attacking { result.attacking ≡ attacking }
 {
     let left = if attacking { n - 1 } else { n };
-    Task { left, attacking }
+    RootTask { left, attacking }
 }
 
 /// Settles the position after a root move: by a fact of the shards, or by a search whose fact is published.
@@ -49,7 +49,7 @@ fn settle_next<R: Wait, W: Watch, G>(
     rt: &R,
     race: &Race<G>,
     next: &Board,
-    task: Task,
+    task: RootTask,
     passes: &mut Passes,
     facts: &mut FactTable,
     watch: &mut W,
@@ -86,7 +86,7 @@ fn take_roots<R: Wait, W: Watch, G: Gate>(
     rt: &R,
     race: &Race<G>,
     round: Round,
-    job: &mut Job,
+    job: &mut WorkerPasses,
     facts: &mut FactTable,
     watch: &mut W,
 ) -> Result<(), Halt>
@@ -99,7 +99,7 @@ fn take_roots<R: Wait, W: Watch, G: Gate>(
     ensures ended { (why : Halt) → IsErrOf result why → W.ended watch.old watch.new (root_lines race.now) why }
 {
     let board = Board::new(race.game.tables(), race.game.position());
-    let task = task_for(
+    let task = root_task(
         board.position().side.is(race.shards.frame().attacker),
         race.n,
     );
@@ -120,7 +120,7 @@ fn take_roots<R: Wait, W: Watch, G: Gate>(
 pub(crate) fn take_all<R: Wait, W: Watch, G: Gate>(
     rt: &R,
     race: &Race<G>,
-    job: &mut Job,
+    job: &mut WorkerPasses,
     facts: &mut FactTable,
     watch: &mut W,
 ) -> Result<(), Halt>
@@ -140,7 +140,7 @@ pub(crate) fn take_all<R: Wait, W: Watch, G: Gate>(
 fn take_free<R: Wait, W: Watch, G: Gate>(
     rt: &R,
     race: &Race<G>,
-    job: &mut Job,
+    job: &mut WorkerPasses,
     watch: &mut W,
 ) -> Result<(), Halt>
     requires ready { IsReady race.now }
@@ -153,7 +153,7 @@ fn take_free<R: Wait, W: Watch, G: Gate>(
 
 /// What a worker beside the first does. Where it reaches its quota, finds no memory or is told to stop, what it found
 /// stays.
-pub(crate) fn help<R: Wait, G: Gate>(rt: &R, race: &Race<G>, job: &mut Job)
+pub(crate) fn help<R: Wait, G: Gate>(rt: &R, race: &Race<G>, job: &mut WorkerPasses)
     requires ready { IsReady race.now }
     requires lent { IsLent race.now.shards.now job.old }
     ensures lent { IsLent race.now.shards.now job.new }

@@ -6,7 +6,7 @@ ghost use Rattle.mate_shards.specs.Views.{ArePassesOf};
 ghost use Rattle.mate_search.specs.Handed.{AreHandedBack};
 ghost use Rattle.mate_search.specs.Races.{IsLent, IsReady};
 
-use crate::job::{Job, Task, task_for};
+use crate::job::{RootTask, WorkerPasses, root_task};
 use crate::race::Race;
 use mate_settle::FactTable;
 use mate_shards::{Passes, Shards};
@@ -16,7 +16,7 @@ use std::alloc::Global;
 use std::sync::Wait;
 
 /// Room for N workers beside the first.
-pub(crate) fn room_for_jobs(alloc: Global, count: u32) -> Result<Vec<Job>, Memory>
+pub(crate) fn room_for_jobs(alloc: Global, count: u32) -> Result<Vec<WorkerPasses>, Memory>
     ensures none { IfOk result (λ jobs. jobs.items ≡ []) }
     ensures room { IfOk result (λ jobs. count ≤ vec_capacity jobs) }
 {
@@ -24,7 +24,12 @@ pub(crate) fn room_for_jobs(alloc: Global, count: u32) -> Result<Vec<Job>, Memor
 }
 
 /// Cuts passes for N workers off the given ones, or for fewer where there is no memory for their lists.
-pub(crate) fn share_out(shards: &Shards, passes: Passes, jobs: &mut Vec<Job>, count: u32) -> Passes
+pub(crate) fn share_out(
+    shards: &Shards,
+    passes: Passes,
+    jobs: &mut Vec<WorkerPasses>,
+    count: u32,
+) -> Passes
     requires passes { ArePassesOf shards.now passes }
     requires parts { (n : ℕ) × HaveParts n passes × (count < n) }
     requires none { jobs.old.items ≡ [] }
@@ -41,7 +46,7 @@ pub(crate) fn share_out(shards: &Shards, passes: Passes, jobs: &mut Vec<Job>, co
             Err(back) => return back,
             Ok((first, second)) => {
                 kept = first;
-                jobs.push_reserved(Job {
+                jobs.push_reserved(WorkerPasses {
                     passes: second,
                     number: k + 1,
                     step: 0,
@@ -53,7 +58,7 @@ pub(crate) fn share_out(shards: &Shards, passes: Passes, jobs: &mut Vec<Job>, co
 }
 
 /// Joins the passes of all workers.
-pub(crate) fn join_all(shards: &Shards, mine: Passes, mut jobs: Vec<Job>) -> Passes
+pub(crate) fn join_all(shards: &Shards, mine: Passes, mut jobs: Vec<WorkerPasses>) -> Passes
     requires passes { ArePassesOf shards.now mine }
     requires lent { All (IsLent shards.now) jobs.items }
     ensures passes { ArePassesOf shards.now result }
@@ -75,7 +80,7 @@ fn move_if(chosen: Move, decides: bool) -> Option<Move> {
 fn learn<R: Wait>(
     rt: &R,
     next: &Board,
-    task: Task,
+    task: RootTask,
     chosen: Move,
     shards: &Shards,
     passes: &mut Passes,
@@ -109,7 +114,7 @@ pub(crate) fn gather<R: Wait, G>(
     ensures handed { AreHandedBack race.now.shards.now passes.old passes.new }
 {
     let board = Board::new(race.game.tables(), race.game.position());
-    let task = task_for(
+    let task = root_task(
         board.position().side.is(race.shards.frame().attacker),
         race.n,
     );

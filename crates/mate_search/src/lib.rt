@@ -5,16 +5,16 @@
 mod answer;
 mod counting;
 mod frame;
-mod harness;
 mod job;
 pub mod laws;
 mod lending;
 mod ordering;
 mod race;
-mod racer;
+mod race_watch;
 mod racing;
 mod shared;
 mod shared_root;
+mod solve_memory;
 mod solving;
 mod whole;
 

@@ -9,9 +9,9 @@ ghost use Rattle.watching.specs.declared.halt.Halt.{Halt};
 ghost use Rattle.mate_search.specs.Handed.{AreHandedBack};
 ghost use Rattle.mate_search.specs.Races.{IsLent, IsReady, race_lines};
 
-use crate::job::{Job, help, take_all};
+use crate::job::{WorkerPasses, help, take_all};
 use crate::race::Race;
-use crate::racer::Racer;
+use crate::race_watch::RaceWatch;
 use io_ports::Gate;
 use mate_settle::FactTable;
 use std::sync::Wait;
@@ -23,7 +23,7 @@ use watching::{Halt, Watch};
 fn lead<R: Wait, W: Watch, G: Gate>(
     rt: &R,
     race: &Race<G>,
-    job: &mut Job,
+    job: &mut WorkerPasses,
     facts: &mut FactTable,
     watch: &mut W,
 ) -> Result<(), Halt>
@@ -35,7 +35,7 @@ fn lead<R: Wait, W: Watch, G: Gate>(
     ensures gone { OnOk result (W.gone watch.old watch.new (race_lines race.now)) }
     ensures ended { (why : Halt) → IsErrOf result why → W.ended watch.old watch.new (race_lines race.now) why }
 {
-    let mut racer = Racer {
+    let mut racer = RaceWatch {
         watch,
         over: &race.shared.over,
         told: false,
@@ -49,7 +49,11 @@ fn lead<R: Wait, W: Watch, G: Gate>(
 }
 
 /// The workers beside the first.
-fn help_all<R: Threads + Wait + Sync, G: Gate + Sync>(rt: &R, race: &Race<G>, jobs: &mut [Job])
+fn help_all<R: Threads + Wait + Sync, G: Gate + Sync>(
+    rt: &R,
+    race: &Race<G>,
+    jobs: &mut [WorkerPasses],
+)
     requires crosses { IsSync ShardsRow.the_row × IsSend PassesRow.the_row }
     requires ready { IsReady race.now }
     requires lent { All (IsLent race.now.shards.now) jobs.old }
@@ -62,7 +66,7 @@ fn help_all<R: Threads + Wait + Sync, G: Gate + Sync>(rt: &R, race: &Race<G>, jo
         rt,
         jobs,
         count,
-        &|_, job: &mut Job|
+        &|_, job: &mut WorkerPasses|
             requires { IsLent race.now.shards.now job.now × IsReady race.now }
             ensures { IsLent race.entry.now.shards.now job.exit.now }
         { help(rt, race, job) },
@@ -73,8 +77,8 @@ fn help_all<R: Threads + Wait + Sync, G: Gate + Sync>(rt: &R, race: &Race<G>, jo
 pub(crate) fn run_all<R: Threads + Wait + Sync, W: Watch, G: Gate + Sync>(
     rt: &R,
     race: &Race<G>,
-    jobs: &mut [Job],
-    mine: &mut Job,
+    jobs: &mut [WorkerPasses],
+    mine: &mut WorkerPasses,
     facts: &mut FactTable,
     watch: &mut W,
 ) -> Result<(), Halt>

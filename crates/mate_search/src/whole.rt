@@ -13,10 +13,10 @@ ghost use Rattle.mate_search.specs.Handed.{AreHandedBack, RootIsShared};
 ghost use Rattle.mate_search.specs.Solves.{Heard, IsDecidedMate, IsFrameFor, IsLookedUp, IsRightMate, IsUncut, IsUnmoved, bound_of};
 
 use crate::answer::Mate;
-use crate::harness::{Harness, prepare, run};
 use crate::ordering::leave_hint;
 use crate::race::Race;
 use crate::shared_root::is_refuted;
+use crate::solve_memory::{SolveMemory, prepare, run};
 use crate::solving::settle_alone;
 use game_play::Game;
 use hint_table::HintTable;
@@ -77,7 +77,7 @@ pub fn solve_watched<R: Threads + Wait + Sync, W: Watch, G: Gate + Sync>(
     let Ok(harness) = prepare(alloc, game, n, shards, hints, workers) else {
         return (passes, Err(Halt::Fault(SearchFault::Memory)));
     };
-    let Harness {
+    let SolveMemory {
         roots,
         shared,
         jobs,

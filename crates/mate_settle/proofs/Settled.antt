@@ -29,7 +29,7 @@ use Rattle.mate_core.specs.declared.frame.Frame.{Frame}
 use Rattle.mate_core.specs.Runs.{IsTrueIn}
 use Rattle.mate_fact.specs.InFrame as In
 use Rattle.legality.specs.Stance.{Stance, after, legal_in}
-use Rattle.mate_settle.specs.declared.choosing.Choice.{Choice}
+use Rattle.mate_settle.specs.declared.choosing.WinningMove.{WinningMove}
 use Rattle.mate_settle.specs.Choices.{some_wins, all_win, move_of}
 use Rattle.mate_settle.specs.Known.{Answers}
 use Rattle.mate_settle.specs.Lines.{plies, lines_within, lines_after, seen_in}
@@ -379,10 +379,10 @@ module _ (f : Frame) (n : ℕ) (p : Position) (ms : List Move) (all : Lists (λ 
   one-fails m k e = not_true (all_win f n p) (λ t. true_false (won m) (all_member won (In.legal_in f p) t m k) e)
 
   -- the first that is won, and the first that is not
-  pub none-found : (o : Option Choice) → move_of o ≡ find won ms → o ≡ None → some_wins f n p ≡ false
+  pub none-found : (o : Option WinningMove) → move_of o ≡ find won ms → o ≡ None → some_wins f n p ≡ false
   none-found o first e = none-wins (find-none-back won ms (sym first ∙ ap move_of e))
 
-  pub none-lost : (o : Option Choice) → move_of o ≡ find (λ m. not (won m)) ms → not (is_some o) ≡ all_win f n p
+  pub none-lost : (o : Option WinningMove) → move_of o ≡ find (λ m. not (won m)) ms → not (is_some o) ≡ all_win f n p
   none-lost None first = sym (each-wins (λ m k. not-false (won m) (find-none-back (λ m. not (won m)) ms (sym first) m k)))
   none-lost (Some c) first =
       let back = find-some-back (λ m. not (won m)) ms c.chosen (sym first) in

@@ -7,7 +7,7 @@ use Rattle.rules_model.specs.declared.moves.Move.{Move}
 use Rattle.rules_model.specs.Next.{next}
 use Rattle.mate_core.specs.declared.frame.Frame.{Frame}
 use Rattle.mate_fact.specs.InFrame.{near_in, legal_in}
-use Rattle.mate_settle.specs.declared.choosing.Choice.{Choice}
+use Rattle.mate_settle.specs.declared.choosing.WinningMove.{WinningMove}
 use Rattle.mate_settle.specs.Lines.{lines_after, seen_in}
 
 -- after the move the position is won within n moves
@@ -22,13 +22,13 @@ abbrev pub all_win : Frame → ℕ → Position → Bool
 all_win f n p = list_all (λ m. near_in f n (next f.rules p m)) (legal_in f p)
 
 -- a legal move that wins, and within fewer than n moves
-pub record IsChoice (f : Frame) (p : Position) (n : ℕ) (c : Choice) : Type 0 where
+pub record IsChoice (f : Frame) (p : Position) (n : ℕ) (c : WinningMove) : Type 0 where
   pub is_legal : Member c.chosen (legal_in f p)
   pub fewer : c.moves < n
   pub won : near_in f c.moves (next f.rules p c.chosen) ≡ true
 
 -- its move
-abbrev pub move_of : Option Choice → Option Move
+abbrev pub move_of : Option WinningMove → Option Move
 move_of None = None
 move_of (Some c) = Some c.chosen
 

@@ -6,12 +6,12 @@ use Rattle.forced_wins.specs.declared.fact.Fact.{Fact}
 use Rattle.forced_wins.specs.Facts.{serves}
 use Rattle.mate_core.specs.declared.frame.Frame.{Frame}
 use Rattle.mate_core.specs.Runs.{IsTrueIn}
-use Rattle.mate_settle.specs.declared.known.Kept.{Kept}
+use Rattle.mate_settle.specs.declared.known.KeyedFact.{KeyedFact}
 use Rattle.mate_settle.specs.declared.ordering.Ranked.{Ranked}
 use Rattle.legality.specs.Stance.{Stance, repeat_in}
 
 -- each kept fact is true in the frame
-abbrev pub HoldTruth : Frame → List Kept → Type 0
+abbrev pub HoldTruth : Frame → List KeyedFact → Type 0
 HoldTruth f kept = All (λ k. IsTrueIn f k.fact) kept
 
 -- the move that is ranked

@@ -17,7 +17,7 @@ use watching::{Halt, Watch};
 
 /// A move, and a number of the attacker's moves within which it wins.
 #[derive(Clone, Copy, Debug, PartialEq, Eq)]
-pub struct Choice {
+pub struct WinningMove {
     pub chosen: Move,
     pub moves: u16,
 }
@@ -66,7 +66,7 @@ fn first_that<W: Watch>(
     won: bool,
     facts: &mut FactTable,
     watch: &mut W,
-) -> Result<Option<Choice>, Halt>
+) -> Result<Option<WinningMove>, Halt>
     requires rules { board.now.rules ≡ facts.old.rules }
     requires moves { Lists (λ m. Member m (legal_in board.now)) moves.now }
     requires small { n ≤ 1000 }
@@ -84,7 +84,7 @@ fn first_that<W: Watch>(
     for i in 0..moves.len() {
         let fact = settle_after(alloc, board, &moves[i], n, facts, watch)?;
         if fact.wins == won {
-            return Ok(Some(Choice {
+            return Ok(Some(WinningMove {
                 chosen: moves[i],
                 moves: fact.moves,
             }));
@@ -106,7 +106,7 @@ pub fn choose<W: Watch>(
     n: u16,
     facts: &mut FactTable,
     watch: &mut W,
-) -> Result<Option<Choice>, Halt>
+) -> Result<Option<WinningMove>, Halt>
     requires rules { board.now.rules ≡ facts.old.rules }
     requires moves { Lists (λ m. Member m (legal_in board.now)) moves.now }
     requires small { n ≤ 1000 }

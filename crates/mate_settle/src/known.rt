@@ -24,7 +24,7 @@ const COUNTERS: usize = 8 * REPLIES;
 
 /// A fact, and the key of its repeat.
 #[derive(Clone, Copy)]
-pub(crate) struct Kept {
+pub(crate) struct KeyedFact {
     pub key: u64,
     pub fact: Fact,
 }
@@ -36,7 +36,7 @@ pub struct FactTable<'f> {
     frame: &'f Frame,
     /// For each remainder of a key, the number of the fact that is kept for it, from 1 on; 0 where there is none.
     numbers: Vec<u32>,
-    kept: Vec<Kept>,
+    kept: Vec<KeyedFact>,
     /// For each question, the move that decided it last.
     deciding: [Option<Move>; QUESTIONS],
     /// The replies that refuted the attacker's last move, the newest first.
@@ -157,7 +157,7 @@ impl<'f> FactTable<'f> {
     }
 
     /// What is kept for the number, if it is one of a fact.
-    fn numbered(&self, number: u32) -> Option<&Kept>
+    fn numbered(&self, number: u32) -> Option<&KeyedFact>
         ensures { IfSome result (λ kept. IsTrueIn self.now kept.now.fact) }
     {
         if number == 0 {
@@ -201,11 +201,11 @@ impl<'f> FactTable<'f> {
         let at = place(key, self.numbers.len());
         let number = self.numbers[at] as usize;
         if 0 < number && number <= self.kept.len() {
-            self.kept[number - 1] = Kept { key, fact };
+            self.kept[number - 1] = KeyedFact { key, fact };
             return;
         }
         let next = self.kept.len();
-        if next < u32::MAX as usize && self.kept.push(Kept { key, fact }).is_ok() {
+        if next < u32::MAX as usize && self.kept.push(KeyedFact { key, fact }).is_ok() {
             self.numbers[at] = next as u32 + 1;
         }
     }

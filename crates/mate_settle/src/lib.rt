@@ -9,6 +9,6 @@ mod last_replies;
 mod ordering;
 mod settling;
 
-pub use choosing::{Choice, all_won, choose};
+pub use choosing::{WinningMove, all_won, choose};
 pub use known::FactTable;
 pub use settling::{moves_to_try, settle};

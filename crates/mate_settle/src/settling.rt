@@ -69,7 +69,7 @@ pub(crate) fn known_now(frame: &Frame, board: &Board, n: u16, any: bool) -> Opti
     ensures ongoing { result ≡ None → In.end_in frame.now board.now.position ≡ None }
     ensures more { result ≡ None → same_side board.now.position.side frame.now.attacker ≡ true → 0 < n }
 {
-    board.is_ready();
+    board.prove_ready();
     let p = board.position();
     let end = end_of(frame, p, board.end_where(any));
     match end {

@@ -13,7 +13,7 @@ use Rattle.forced_wins.proofs.Counts.{by_cases, not_true}
 use Rattle.forced_wins.proofs.ClaimLaws.{forced-ended, forced-zero, forced-attack, forced-defence, forced-mono}
 use Rattle.strategy.specs.declared.nodes.Node.{Node}
 use Rattle.strategy.specs.declared.nodes.Edge.{Edge}
-use Rattle.mate_showing.specs.declared.plan.Plan.{Plan}
+use Rattle.mate_showing.specs.declared.plan.StrategyPlan.{StrategyPlan}
 use Rattle.mate_settle.specs.Lines.{plies, lines_within, lines_after}
 use Rattle.mate_showing.specs.Reached.{left_along, IsReached}
 use Rattle.mate_settle.specs.Steps.{left_after}
@@ -117,7 +117,7 @@ module _ (r : Game Position Repeat Move) (l : GameLaws Position Repeat Move r) (
         short = subst (λ z. length (x.line ++ m ∷ []) + plies r z (r.next p m) ≤ 2 * whole + 1) (sym ls) (omega arith);
       }
 
-  pub next-after : (plan : Plan) (n k : ℕ) (p : Position) (m : Move) → IsNext r b plan n p → r.own p ≡ None → Member m (r.legal p) → (r.attacking p ≡ true → 0 < n) → k ≤ left_after (r.attacking p) n → near r b k (r.next p m) ≡ true → plies r k (r.next p m) ≤ plies r n p → IsNext r b plan k (r.next p m)
+  pub next-after : (plan : StrategyPlan) (n k : ℕ) (p : Position) (m : Move) → IsNext r b plan n p → r.own p ≡ None → Member m (r.legal p) → (r.attacking p ≡ true → 0 < n) → k ≤ left_after (r.attacking p) n → near r b k (r.next p m) ≡ true → plies r k (r.next p m) ≤ plies r n p → IsNext r b plan k (r.next p m)
   next-after plan n k p m x own is some low h f = record {
     goes_on = near-goes k (r.next p m) h;
     free = inl (near-free k (r.next p m) h, open_root x.free);

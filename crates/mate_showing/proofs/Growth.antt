@@ -11,7 +11,7 @@ use Rattle.std.proofs.lemmas.Bool.Decides.{nat_tests}
 use Rattle.forced_wins.proofs.TableLaws.{both}
 use Rattle.strategy.specs.declared.nodes.Node.{Node}
 use Rattle.strategy.specs.declared.nodes.Edge.{Edge}
-use Rattle.mate_showing.specs.declared.plan.Plan.{Plan}
+use Rattle.mate_showing.specs.declared.plan.StrategyPlan.{StrategyPlan}
 use Rattle.mate_settle.specs.Lines.{plies}
 use Rattle.mate_showing.specs.Reached.{OnLine}
 use Rattle.mate_settle.specs.Steps.{left_after}
@@ -128,7 +128,7 @@ module _ (r : Game Position Repeat Move) (l : GameLaws Position Repeat Move r) w
   edges-grow exact s t p n es None true h f x = (x.0, (x.1.0, x.1.1, led-grows exact s t p n x.1.0 h f x.1.2))
   edges-grow exact s t p n es None false h f x = (x.0, λ e k. led-grows exact s t p n e h f (x.1 e k))
 
-  row-grows : (plan : Plan) (s t : List Node) (v : Node) → v.rank ≤ most → Grows r plan.exact s t → IsRow r plan s v → IsRow r plan t v
+  row-grows : (plan : StrategyPlan) (s t : List Node) (v : Node) → v.rank ≤ most → Grows r plan.exact s t → IsRow r plan s v → IsRow r plan t v
   row-grows plan s t v h f x = record { edges = edges-grow plan.exact s t v.position v.rank v.edges (r.own v.position) (r.attacking v.position) h f x.edges; counted = x.counted; count = x.count }
 
   -- ---- a position with the same key needs the same edges
@@ -157,7 +157,7 @@ module _ (r : Game Position Repeat Move) (l : GameLaws Position Repeat Move r) w
 
   -- ---- a node comes in
 
-  module _ (barred : Repeat → Bool) (plan : Plan) (s t : List Node) (k : ℕ) (v : Node) (p : Position) (n : ℕ) (small : n ≤ most) (next : IsNext r barred plan n p) (es : AreEdges r plan.exact s p n v.edges (r.own p) (r.attacking p)) (same : r.repeat v.position ≡ r.repeat p) (counter : plan.exact ≡ true → r.counter v.position ≡ r.counter p) (count : plan.exact ≡ false → r.counter v.position ≡ min highest (plan.room - plies r n p)) (rank : v.rank ≡ n) (at : IsPut s k v t) (here : (u : Node) → slice_get s k ≡ Some u → (has_key r plan.exact p u ≡ true) × (n < u.rank)) (before : (j : ℕ) (u : Node) → j < k → slice_get s j ≡ Some u → has_key r plan.exact p u ≡ false) (end : k ≤ length s) (sound : IsSound r barred plan s) where
+  module _ (barred : Repeat → Bool) (plan : StrategyPlan) (s t : List Node) (k : ℕ) (v : Node) (p : Position) (n : ℕ) (small : n ≤ most) (next : IsNext r barred plan n p) (es : AreEdges r plan.exact s p n v.edges (r.own p) (r.attacking p)) (same : r.repeat v.position ≡ r.repeat p) (counter : plan.exact ≡ true → r.counter v.position ≡ r.counter p) (count : plan.exact ≡ false → r.counter v.position ≡ min highest (plan.room - plies r n p)) (rank : v.rank ≡ n) (at : IsPut s k v t) (here : (u : Node) → slice_get s k ≡ Some u → (has_key r plan.exact p u ≡ true) × (n < u.rank)) (before : (j : ℕ) (u : Node) → j < k → slice_get s j ≡ Some u → has_key r plan.exact p u ≡ false) (end : k ≤ length s) (sound : IsSound r barred plan s) where
     put-grows : Grows r plan.exact s t
     put-grows = λ i u h m. equal_or i k
         (λ e. let o = here u (subst (λ z. slice_get s z ≡ Some u) e h) in
@@ -255,12 +255,12 @@ module _ (r : Game Position Repeat Move) (l : GameLaws Position Repeat Move r) w
           (λ d o. from j w b (λ z q. alone i u o (e ∙ ap (λ (z : Node). r.repeat z.position) q ∙ same) (λ x. f x ∙ ap (λ (z : Node). r.counter z.position) q ∙ counter x) ∙ sym z) (λ d2 o2. sound.apart i j u w o o2 e f));
     }
 
-  pub record IsPutWell (barred : Repeat → Bool) (plan : Plan) (s t : List Node) (p : Position) (n k : ℕ) : Type 0 where
+  pub record IsPutWell (barred : Repeat → Bool) (plan : StrategyPlan) (s t : List Node) (p : Position) (n k : ℕ) : Type 0 where
     pub sound : IsSound r barred plan t
     pub grows : Grows r plan.exact s t
     pub stands : Stands r plan.exact t p n k
 
-  pub put-well : (barred : Repeat → Bool) (plan : Plan) (s t : List Node) (k : ℕ) (v : Node) (p : Position) (n : ℕ) → n ≤ most → IsNext r barred plan n p → AreEdges r plan.exact s p n v.edges (r.own p) (r.attacking p) → r.repeat v.position ≡ r.repeat p → (plan.exact ≡ true → r.counter v.position ≡ r.counter p) → (plan.exact ≡ false → r.counter v.position ≡ min highest (plan.room - plies r n p)) → v.rank ≡ n → IsPut s k v t → ((u : Node) → slice_get s k ≡ Some u → (has_key r plan.exact p u ≡ true) × (n < u.rank)) → ((j : ℕ) (u : Node) → j < k → slice_get s j ≡ Some u → has_key r plan.exact p u ≡ false) → k ≤ length s → IsSound r barred plan s → IsPutWell barred plan s t p n k
+  pub put-well : (barred : Repeat → Bool) (plan : StrategyPlan) (s t : List Node) (k : ℕ) (v : Node) (p : Position) (n : ℕ) → n ≤ most → IsNext r barred plan n p → AreEdges r plan.exact s p n v.edges (r.own p) (r.attacking p) → r.repeat v.position ≡ r.repeat p → (plan.exact ≡ true → r.counter v.position ≡ r.counter p) → (plan.exact ≡ false → r.counter v.position ≡ min highest (plan.room - plies r n p)) → v.rank ≡ n → IsPut s k v t → ((u : Node) → slice_get s k ≡ Some u → (has_key r plan.exact p u ≡ true) × (n < u.rank)) → ((j : ℕ) (u : Node) → j < k → slice_get s j ≡ Some u → has_key r plan.exact p u ≡ false) → k ≤ length s → IsSound r barred plan s → IsPutWell barred plan s t p n k
   put-well barred plan s t k v p n a b c d e f g h i j m o = record {
     sound = put-sound barred plan s t k v p n a b c d e f g h i j m o;
     grows = put-grows barred plan s t k v p n a b c d e f g h i j m o;

@@ -16,7 +16,7 @@ use Rattle.forced_wins.specs.Tables.{nodes_of, IsGood}
 use Rattle.forced_wins.proofs.Counts.{by_cases, not_true, tests_on, tests_from, below_fold, same_from, times_here}
 use Rattle.forced_wins.proofs.NearLaws.{wins-near_root}
 use Rattle.strategy.specs.declared.nodes.Node.{Node}
-use Rattle.mate_showing.specs.declared.plan.Plan.{Plan}
+use Rattle.mate_showing.specs.declared.plan.StrategyPlan.{StrategyPlan}
 use Rattle.mate_settle.specs.Lines.{plies, lines, lines_within, lines_after}
 use Rattle.mate_showing.specs.Reached.{OnLine}
 use Rattle.mate_showing.specs.Tables.{nodes, most, GoesOnAt, IsNext, IsSound}
@@ -88,7 +88,7 @@ module _ (r : Game Position Repeat Move) (l : GameLaws Position Repeat Move r) (
 
   -- ---- the table of the root alone
 
-  pub first-sound : (plan : Plan) (s : List Node) (u : Node) → s ≡ u ∷ [] → r.repeat u.position ≡ r.repeat plan.root → r.counter u.position ≡ r.counter plan.root → u.rank ≡ 65535 → IsSound r b plan s
+  pub first-sound : (plan : StrategyPlan) (s : List Node) (u : Node) → s ≡ u ∷ [] → r.repeat u.position ≡ r.repeat plan.root → r.counter u.position ≡ r.counter plan.root → u.rank ≡ 65535 → IsSound r b plan s
   first-sound plan s u e p q h = subst (IsSound r b plan) (sym e) (record {
     root = (u, refl, p, λ z. q);
     done = λ i v k. cc;
@@ -132,7 +132,7 @@ module _ (r : Game Position Repeat Move) (l : GameLaws Position Repeat Move r) (
       turn false a = sym (moves-defence r l b n g.last a) ∙ won
 
   -- the root of a near win is a position to begin from
-  pub root-next : (plan : Plan) → 0 < plan.whole → near_root r plan.whole g ≡ true → plan.root ≡ g.last → plan.room ≡ r.counter g.last + plies r plan.whole g.last → IsNext r b plan plan.whole plan.root
+  pub root-next : (plan : StrategyPlan) → 0 < plan.whole → near_root r plan.whole g ≡ true → plan.root ≡ g.last → plan.room ≡ r.counter g.last + plies r plan.whole g.last → IsNext r b plan plan.whole plan.root
   root-next plan some h e f = subst (λ x. IsNext r b plan plan.whole x) (sym e) (record {
     goes_on = record { on = goes_at plan.whole (r.own g.last) some h refl; counted = λ o. (root-live r l g plan.whole h o).1 };
     free = inr (sym e);
@@ -140,7 +140,7 @@ module _ (r : Game Position Repeat Move) (l : GameLaws Position Repeat Move r) (
     reached = record { line = []; won = tt; leads = e; enough = omega arith; short = by_cases (r.attacking g.last) (λ a. rw a (omega arith)) (λ a. rw a (omega arith)) };
   })
 
-module _ (r : Game Position Repeat Move) (l : GameLaws Position Repeat Move r) (once : (p : Position) → IsEachOnce (r.legal p)) (b : Repeat → Bool) (plan : Plan) (g : Story Position) (s : List Node) (t : IsTabled r b plan g s) where
+module _ (r : Game Position Repeat Move) (l : GameLaws Position Repeat Move r) (once : (p : Position) → IsEachOnce (r.legal p)) (b : Repeat → Bool) (plan : StrategyPlan) (g : Story Position) (s : List Node) (t : IsTabled r b plan g s) where
   start_open : r.own g.last ≡ None → (repeated r g ≡ false) × (run_out r (r.counter g.last) ≡ false)
   start_open e = let k = root-live r l g plan.whole t.near_win e in (k.0, k.1)
 
@@ -296,7 +296,7 @@ map_length : {X Y : Type 0} (g : X → Y) (xs : List X) → length (map g xs) �
 map_length g [] = refl
 map_length g (x ∷ xs) = ap suc (map_length g xs)
 
-module _ (r : Game Position Repeat Move) (l : GameLaws Position Repeat Move r) (once : (p : Position) → IsEachOnce (r.legal p)) (b : Repeat → Bool) (plan : Plan) (g : Story Position) (s : List Node) (t : IsTabled r b plan g s) where
+module _ (r : Game Position Repeat Move) (l : GameLaws Position Repeat Move r) (once : (p : Position) → IsEachOnce (r.legal p)) (b : Repeat → Bool) (plan : StrategyPlan) (g : Story Position) (s : List Node) (t : IsTabled r b plan g s) where
   counters-length : (x : Repeat) → length (counters_at r x s) ≡ nodes_of r nodes x s
   unfolding nodes_of
   counters-length x = map_length (λ (v : Node). r.counter v.position) (filter (λ (v : Node). r.same (r.repeat v.position) x) s) ∙ length-filter (λ (v : Node). r.same (r.repeat v.position) x) s

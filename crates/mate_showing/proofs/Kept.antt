@@ -17,7 +17,7 @@ use Rattle.mate_core.specs.declared.frame.Frame.{Frame}
 use Rattle.mate_settle.specs.Lines.{plies, seen_in}
 use Rattle.legality.specs.Stance.{Stance}
 use Rattle.strategy.specs.declared.nodes.Node.{Node}
-use Rattle.mate_showing.specs.declared.plan.Plan.{Plan}
+use Rattle.mate_showing.specs.declared.plan.StrategyPlan.{StrategyPlan}
 use Rattle.mate_showing.specs.Tabled.{Tabled, IsKept, GrowsTo}
 use Rattle.mate_showing.specs.Tables.{highest, most, is_key, AreEdges, Grows, IsNext, IsSound, Stands}
 use Rattle.mate_showing.proofs.Growth.{IsPut, equal_or, one_of, put-well, found-stands}
@@ -35,7 +35,7 @@ written-at rules p c h low =
       counter = low;
     }
 
-module _ (f : Frame) (plan : Plan) where
+module _ (f : Frame) (plan : StrategyPlan) where
   pub kept-put : (s t : List Node) (k : ℕ) (v : Node) → IsPut s k v t → IsKept f plan s → IsSound (seen_in f) (is_in f.blocked) plan t → IsWritten f.rules v.position → IsKept f plan t
   kept-put s t k v at kept sound w = record { sound = sound; written = written }
     where
@@ -94,5 +94,5 @@ module _ (f : Frame) (plan : Plan) where
   found s p n k x here = found-stands r (laws f.rules f.attacker) plan.exact s p n k x.0 x.1 x.2 (here x.0 x.1)
 
 -- a table of the same frame and plan
-pub grows-to : (t : Tabled) (f : Frame) (plan : Plan) (s u : List Node) → ◌≡◌ {A = Tabled} (record { frame = f; plan = plan; nodes = s }) t → Grows (seen_in f) plan.exact s u → GrowsTo t (record { frame = f; plan = plan; nodes = u })
+pub grows-to : (t : Tabled) (f : Frame) (plan : StrategyPlan) (s u : List Node) → ◌≡◌ {A = Tabled} (record { frame = f; plan = plan; nodes = s }) t → Grows (seen_in f) plan.exact s u → GrowsTo t (record { frame = f; plan = plan; nodes = u })
 grows-to t f plan s u e h = subst (λ x. GrowsTo x (record { frame = f; plan = plan; nodes = u })) e (record { frame = refl; plan = refl; grows = h })

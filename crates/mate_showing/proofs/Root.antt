@@ -38,10 +38,10 @@ use Rattle.game_values.specs.Values.{play, tree}
 use Rattle.mate_core.specs.declared.frame.Frame.{Frame}
 use Rattle.mate_fact.specs.InFrame as In
 use Rattle.mate_settle.specs.Choices.{some_wins, all_win, IsChoice}
-use Rattle.mate_settle.specs.declared.choosing.Choice.{Choice}
+use Rattle.mate_settle.specs.declared.choosing.WinningMove.{WinningMove}
 use Rattle.mate_settle.specs.Lines.{plies, lines, lines_within, seen_in}
 use Rattle.strategy.specs.declared.nodes.Node.{Node}
-use Rattle.mate_showing.specs.declared.plan.Plan.{Plan}
+use Rattle.mate_showing.specs.declared.plan.StrategyPlan.{StrategyPlan}
 use Rattle.mate_showing.specs.Answers.{IsFrameOf, IsShown, IsEvidence, IsWinningMove, is_at_move}
 use Rattle.mate_showing.specs.Counts.{nodes_at, counters_of, is_often, IsTabledIn}
 use Rattle.mate_showing.specs.Mates.{stands_often}
@@ -102,7 +102,7 @@ module _ (f : Frame) (g : Story) (bl : f.blocked ≡ blocked f.rules g) where
     pub barred-is : (x : Repeat) → is_in f.blocked x ≡ AnyGame.blocked (seen_in f) (as_any g) x
     barred-is x = ap (λ b. is_in b x) bl ∙ blocked-is rules a g x fit.n_fold_not_one
 
-    pub plan-next : (plan : Plan) (p : Position) → p ≡ g.last → 0 < plan.whole → near_root rules plan.whole g a ≡ true → plan.root ≡ p → plan.room ≡ p.counter + plies (seen_in f) plan.whole p → IsNext (seen_in f) (is_in f.blocked) plan plan.whole p
+    pub plan-next : (plan : StrategyPlan) (p : Position) → p ≡ g.last → 0 < plan.whole → near_root rules plan.whole g a ≡ true → plan.root ≡ p → plan.room ≡ p.counter + plies (seen_in f) plan.whole p → IsNext (seen_in f) (is_in f.blocked) plan plan.whole p
     plan-next plan p e some won root room =
         subst (λ y. IsNext (seen_in f) (is_in f.blocked) plan plan.whole y) root
         (root-next (seen_in f) (laws rules a) (as_any g) (is_in f.blocked) barred-is plan some (sym (near_root-is rules plan.whole g a) ∙ won) (root ∙ e) (subst (λ (y : Position). plan.room ≡ y.counter + plies (seen_in f) plan.whole y) e room))
@@ -125,7 +125,7 @@ module _ (f : Frame) (g : Story) where
   unfolding nodes_of
   often-seen s x = ap (λ k. nat_lt 0 f.rules.n_fold && nat_le f.rules.n_fold (k + nodes_at x s)) (times-is f.rules f.attacker x (history g))
 
-  pub tabled : f.blocked ≡ blocked f.rules g → IsFit f.rules → (plan : Plan) (s : List Node) (p : Position) → p ≡ g.last → plan.root ≡ p → plan.whole ≤ most → IsKept f plan s → (i : ℕ) × Stands (seen_in f) plan.exact s p plan.whole i → near_root f.rules plan.whole g f.attacker ≡ true → AnyGame.IsPlayed (seen_in f) (as_any g) → p.counter ≤ 9999 → (plan.exact ≡ true → (0 < 2 * f.rules.n_move) × (2 * f.rules.n_move ≤ p.counter + (plan.whole + plan.whole))) → (plan.exact ≡ false → (2 * f.rules.n_move ≡ 0) ⊎ (p.counter + (plan.whole + plan.whole) < 2 * f.rules.n_move)) → plan.room ≡ p.counter + plies (seen_in f) plan.whole p → IsTabledIn g f plan s
+  pub tabled : f.blocked ≡ blocked f.rules g → IsFit f.rules → (plan : StrategyPlan) (s : List Node) (p : Position) → p ≡ g.last → plan.root ≡ p → plan.whole ≤ most → IsKept f plan s → (i : ℕ) × Stands (seen_in f) plan.exact s p plan.whole i → near_root f.rules plan.whole g f.attacker ≡ true → AnyGame.IsPlayed (seen_in f) (as_any g) → p.counter ≤ 9999 → (plan.exact ≡ true → (0 < 2 * f.rules.n_move) × (2 * f.rules.n_move ≤ p.counter + (plan.whole + plan.whole))) → (plan.exact ≡ false → (2 * f.rules.n_move ≡ 0) ⊎ (p.counter + (plan.whole + plan.whole) < 2 * f.rules.n_move)) → plan.room ≡ p.counter + plies (seen_in f) plan.whole p → IsTabledIn g f plan s
   tabled bl fit plan s p e root small kept stands won played low close inside room = record {
     same = barred-is f g bl fit;
     root = root ∙ e;
@@ -141,7 +141,7 @@ module _ (f : Frame) (g : Story) where
     room = subst (λ (y : Position). plan.room ≡ y.counter + plies (seen_in f) plan.whole y) e room;
   }
 
-  module _ (plan : Plan) (s : List Node) (t : IsTabledIn g f plan s) where
+  module _ (plan : StrategyPlan) (s : List Node) (t : IsTabledIn g f plan s) where
     shown-by : IsKept f plan s → T.IsGood (seen_in f) nodes true s (as_any g) plan.whole → IsShown f.rules g f.attacker plan.whole (record { attacker = f.attacker; nodes = s })
     shown-by kept good = record {
       good = of_own f.rules f.attacker nodes g plan.whole s good;
@@ -184,12 +184,12 @@ lost_by true h = sym h
 lost_by false h = refl
 
 -- a choice wins
-pub winning-choice : (f : Frame) (n : ℕ) (p : Position) (c : Choice) → IsChoice f p n c → IsWinningMove f n p c.chosen
+pub winning-choice : (f : Frame) (n : ℕ) (p : Position) (c : WinningMove) → IsChoice f p n c → IsWinningMove f n p c.chosen
 winning-choice f n p c w =
     let less = w.fewer in
     record { is_legal = w.is_legal; won = near-more f.rules f.attacker f.blocked c.moves (n - 1) (next f.rules p c.chosen) (omega arith) w.won }
 
-pub some-of-choice : (f : Frame) (n : ℕ) (p : Position) (c : Choice) → IsChoice f p n c → some_wins f (n - 1) p ≡ true
+pub some-of-choice : (f : Frame) (n : ℕ) (p : Position) (c : WinningMove) → IsChoice f p n c → some_wins f (n - 1) p ≡ true
 some-of-choice f n p c w =
     let k = winning-choice f n p c w in
     any_intro (λ m. In.near_in f (n - 1) (next f.rules p m)) c.chosen (In.legal_in f p) k.is_legal k.won

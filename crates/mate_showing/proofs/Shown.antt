@@ -17,7 +17,7 @@ use Rattle.forced_wins.proofs.Unsettled.{once-doubled}
 use Rattle.forced_wins.proofs.Verdicts.{faultless-verdict}
 use Rattle.strategy.specs.declared.nodes.Node.{Node}
 use Rattle.strategy.specs.declared.nodes.Edge.{Edge}
-use Rattle.mate_showing.specs.declared.plan.Plan.{Plan}
+use Rattle.mate_showing.specs.declared.plan.StrategyPlan.{StrategyPlan}
 use Rattle.mate_settle.specs.Lines.{plies}
 use Rattle.mate_settle.specs.Steps.{left_after}
 use Rattle.mate_showing.specs.Tables.{nodes, highest, most, Stands, IsLed, AreEdges, IsRow, IsSound}
@@ -51,7 +51,7 @@ module _ (r : Game Position Repeat Move) (l : GameLaws Position Repeat Move r) (
       let h = times-test r l x p ps false (not_true (r.same (r.repeat p) x) (λ t. f p (inl refl) ((l.decides (r.repeat p) x).0 t))) in
       let k = times_none x ps (λ q m. f q (inr m)) in omega arith
 
-  module _ (g : Story Position) (n : ℕ) (plan : Plan) (s : List Node) (b : Repeat → Bool) (same : (x : Repeat) → b x ≡ blocked r g x) (is_root : plan.root ≡ g.last) (sound : IsSound r b plan s) (place : ℕ) (top : Stands r plan.exact s plan.root n place) (small : n ≤ most) (start : r.own g.last ≡ None → (repeated r g ≡ false) × (run_out r (r.counter g.last) ≡ false)) (played : IsPlayed r g) (capped : (p : Position) (m : Move) → r.counter p ≤ highest → r.counter (r.next p m) ≤ highest) (fits_low : r.counter g.last ≤ highest) where
+  module _ (g : Story Position) (n : ℕ) (plan : StrategyPlan) (s : List Node) (b : Repeat → Bool) (same : (x : Repeat) → b x ≡ blocked r g x) (is_root : plan.root ≡ g.last) (sound : IsSound r b plan s) (place : ℕ) (top : Stands r plan.exact s plan.root n place) (small : n ≤ most) (start : r.own g.last ≡ None → (repeated r g ≡ false) × (run_out r (r.counter g.last) ≡ false)) (played : IsPlayed r g) (capped : (p : Position) (m : Move) → r.counter p ≤ highest → r.counter (r.next p m) ≤ highest) (fits_low : r.counter g.last ≤ highest) where
     top-first : place ≡ 0
     top-first = let u = sound.root in sound.apart place 0 top.node u.0 top.at u.1 (top.repeat ∙ sym u.2) (λ e. top.counter e ∙ sym (u.3 e))
 

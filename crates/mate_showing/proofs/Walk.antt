@@ -14,12 +14,12 @@ use Rattle.forced_wins.proofs.TableLaws.{all_member}
 use Rattle.mate_core.specs.declared.frame.Frame.{Frame}
 use Rattle.mate_fact.specs.InFrame as In
 use Rattle.mate_settle.specs.Choices.{some_wins, IsChoice}
-use Rattle.mate_settle.specs.declared.choosing.Choice.{Choice}
+use Rattle.mate_settle.specs.declared.choosing.WinningMove.{WinningMove}
 use Rattle.mate_settle.specs.Lines.{plies, lines_within, lines_after, seen_in}
 use Rattle.mate_settle.specs.Steps.{left_after}
 use Rattle.strategy.specs.declared.nodes.Edge.{Edge}
 use Rattle.strategy.specs.declared.nodes.Node.{Node}
-use Rattle.mate_showing.specs.declared.plan.Plan.{Plan}
+use Rattle.mate_showing.specs.declared.plan.StrategyPlan.{StrategyPlan}
 use Rattle.mate_showing.specs.Tabled.{Tabled, rules_of, IsNextIn, StandsIn, AreEdgesIn, GrowsTo}
 use Rattle.mate_showing.specs.Tables.{AreEdges, Grows, IsNext, IsLedTo, Stands}
 use Rattle.mate_showing.proofs.Builds.{goes-attack, goes-defence, next-after, attack_lines, asked_lines, defence_more, plies_less, plies_next}
@@ -30,7 +30,7 @@ grows-self t = record { frame = refl; plan = refl; grows = grows-none (rules_of 
 
 pub grows-trans : (t u v : Tabled) → GrowsTo t u → GrowsTo u v → GrowsTo t v
 grows-trans t u v a b =
-    let second : Grows (rules_of t) t.plan.exact u.nodes v.nodes = subst (λ (x : Frame). Grows (seen_in x) t.plan.exact u.nodes v.nodes) a.frame (subst (λ (x : Plan). Grows (rules_of u) x.exact u.nodes v.nodes) a.plan b.grows) in
+    let second : Grows (rules_of t) t.plan.exact u.nodes v.nodes = subst (λ (x : Frame). Grows (seen_in x) t.plan.exact u.nodes v.nodes) a.frame (subst (λ (x : StrategyPlan). Grows (rules_of u) x.exact u.nodes v.nodes) a.plan b.grows) in
     record {
       frame = b.frame ∙ a.frame;
       plan = b.plan ∙ a.plan;
@@ -73,16 +73,16 @@ module _ (t : Tabled) (f : Frame) (e : t.frame ≡ f) where
   pub stands-as : (u : Tabled) (q s : Position) (n i : ℕ) → GrowsTo t u → q ≡ s → StandsIn u q n i → Stands r t.plan.exact u.nodes s n i
   stands-as u q s n i g d h =
       subst (λ (x : Frame). Stands (seen_in x) t.plan.exact u.nodes s n i) (g.frame ∙ e)
-      (subst (λ (x : Plan). Stands (rules_of u) x.exact u.nodes s n i) g.plan (subst (λ y. StandsIn u y n i) d h))
+      (subst (λ (x : StrategyPlan). Stands (rules_of u) x.exact u.nodes s n i) g.plan (subst (λ y. StandsIn u y n i) d h))
 
   pub edges-in : (u : Tabled) (p : Position) (n : ℕ) (es : List Edge) → GrowsTo t u → AreEdges r t.plan.exact u.nodes p n es (r.own p) (r.attacking p) → AreEdgesIn u p n es
   edges-in u p n es g h =
       subst (λ (x : Frame). AreEdges (seen_in x) u.plan.exact u.nodes p n es ((seen_in x).own p) ((seen_in x).attacking p)) (sym (g.frame ∙ e))
-      (subst (λ (x : Plan). AreEdges r x.exact u.nodes p n es (r.own p) (r.attacking p)) (sym g.plan) h)
+      (subst (λ (x : StrategyPlan). AreEdges r x.exact u.nodes p n es (r.own p) (r.attacking p)) (sym g.plan) h)
 
   pub grows-as : (u v : Tabled) → GrowsTo t u → GrowsTo u v → Grows r t.plan.exact u.nodes v.nodes
   grows-as u v g h =
-      subst (λ (x : Frame). Grows (seen_in x) t.plan.exact u.nodes v.nodes) (g.frame ∙ e) (subst (λ (x : Plan). Grows (rules_of u) x.exact u.nodes v.nodes) g.plan h.grows)
+      subst (λ (x : Frame). Grows (seen_in x) t.plan.exact u.nodes v.nodes) (g.frame ∙ e) (subst (λ (x : StrategyPlan). Grows (rules_of u) x.exact u.nodes v.nodes) g.plan h.grows)
 
   pub led-in : (s : List Node) (p : Position) (n : ℕ) (x : Edge) → IsLedTo r t.plan.exact s p n x → IsLedTo (rules_of t) t.plan.exact s p n x
   led-in s p n x h = subst (λ (y : Frame). IsLedTo (seen_in y) t.plan.exact s p n x) (sym e) h
@@ -109,18 +109,18 @@ module _ (t : Tabled) (f : Frame) (e : t.frame ≡ f) where
     attack-wins turn = some-seen (n - 1) p ∙ (goes-attack r l b n p here.goes_on own turn).1
 
     -- the position after the move that is chosen
-    pub attack-next : r.attacking p ≡ true → (c : Choice) → IsChoice f p n c → IsNext r b t.plan c.moves (next f.rules p c.chosen)
+    pub attack-next : r.attacking p ≡ true → (c : WinningMove) → IsChoice f p n c → IsNext r b t.plan c.moves (next f.rules p c.chosen)
     attack-next turn c w =
         let less = w.fewer in
         let fall = plies_less r l n c.moves p c.chosen turn (attack-moves turn) less in
         next-after r l b t.plan n c.moves p c.chosen here own w.is_legal (λ z. attack-moves turn)
         (subst (λ a. c.moves ≤ left_after a n) (sym turn) (omega arith)) (sym (near-seen c.moves (next f.rules p c.chosen)) ∙ w.won) (omega arith)
 
-    pub attack-fall : r.attacking p ≡ true → (c : Choice) → IsChoice f p n c → (x : Frame) → x ≡ f → plies (seen_in x) c.moves (next x.rules p c.chosen) < plies r n p
+    pub attack-fall : r.attacking p ≡ true → (c : WinningMove) → IsChoice f p n c → (x : Frame) → x ≡ f → plies (seen_in x) c.moves (next x.rules p c.chosen) < plies r n p
     attack-fall turn c w x d =
         subst (λ (z : Frame). plies (seen_in z) c.moves (next z.rules p c.chosen) < plies r n p) (sym d) (plies_less r l n c.moves p c.chosen turn (attack-moves turn) w.fewer)
 
-    pub attack-total : r.attacking p ≡ true → (c : Choice) → IsChoice f p n c → (x : Frame) → x ≡ f → sum_by (lines_after r (n - 1) p) (In.legal_in f p) + (c.moves + 1) * lines_within (seen_in x) c.moves (next x.rules p c.chosen) ≤ (n + 1) * lines_within r n p - 1
+    pub attack-total : r.attacking p ≡ true → (c : WinningMove) → IsChoice f p n c → (x : Frame) → x ≡ f → sum_by (lines_after r (n - 1) p) (In.legal_in f p) + (c.moves + 1) * lines_within (seen_in x) c.moves (next x.rules p c.chosen) ≤ (n + 1) * lines_within r n p - 1
     attack-total turn c w x d =
         attack-end f n c.moves p c.chosen _ turn (attack-moves turn) w.fewer w.is_legal (ap (λ (z : Frame). (c.moves + 1) * lines_within (seen_in z) c.moves (next z.rules p c.chosen)) d)
 

@@ -9,7 +9,7 @@ use Rattle.forced_wins.specs.Views.{as_any}
 use Rattle.forced_wins.specs.Wins.{is_in}
 use Rattle.mate_settle.specs.Lines.{seen_in}
 use Rattle.strategy.specs.declared.nodes.Node.{Node}
-use Rattle.mate_showing.specs.declared.plan.Plan.{Plan}
+use Rattle.mate_showing.specs.declared.plan.StrategyPlan.{StrategyPlan}
 use Rattle.mate_showing.specs.Mates.{IsTabled}
 
 -- how many nodes have the repeat, and their counters
@@ -24,5 +24,5 @@ abbrev pub is_often : ℕ → Story → List Node → Repeat → Bool
 is_often fold g s x = nat_lt 0 fold && nat_le fold (times x (history g) + nodes_at x s)
 
 -- what is known of the table of a near win of the game
-abbrev pub IsTabledIn : Story → Frame → Plan → List Node → Type 0
+abbrev pub IsTabledIn : Story → Frame → StrategyPlan → List Node → Type 0
 IsTabledIn g f plan s = IsTabled (seen_in f) (is_in f.blocked) plan (as_any g) s

@@ -9,7 +9,7 @@ use Rattle.forced_wins.specs.Games.{Game, IsPlayed, near_root, near_attack, near
 use Rattle.forced_wins.specs.Tables.{nodes_of}
 use Rattle.strategy.specs.declared.nodes.Node.{Node}
 use Rattle.mate_settle.specs.Lines.{plies}
-use Rattle.mate_showing.specs.declared.plan.Plan.{Plan}
+use Rattle.mate_showing.specs.declared.plan.StrategyPlan.{StrategyPlan}
 use Rattle.mate_showing.specs.Tables.{nodes, most, highest, Stands, IsSound}
 
 -- the moves of the root lead on to a win within n moves
@@ -24,7 +24,7 @@ abbrev pub stands_often : Game Position Repeat Move → AnyGame.Story Position �
 stands_often r g s x = nat_lt 0 r.fold && nat_le r.fold (times r x (history g) + nodes_of r nodes x s)
 
 -- what is known when the table is made
-pub record IsTabled (r : Game Position Repeat Move) (barred : Repeat → Bool) (plan : Plan)
+pub record IsTabled (r : Game Position Repeat Move) (barred : Repeat → Bool) (plan : StrategyPlan)
     (g : AnyGame.Story Position) (s : List Node) : Type 0 where
   pub same : (x : Repeat) → barred x ≡ AnyGame.blocked r g x
   pub root : plan.root ≡ g.last

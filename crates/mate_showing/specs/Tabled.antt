@@ -10,19 +10,19 @@ use Rattle.mate_core.specs.declared.frame.Frame.{Frame}
 use Rattle.mate_settle.specs.Lines.{seen_in}
 use Rattle.strategy.specs.declared.nodes.Edge.{Edge}
 use Rattle.strategy.specs.declared.nodes.Node.{Node}
-use Rattle.mate_showing.specs.declared.plan.Plan.{Plan}
+use Rattle.mate_showing.specs.declared.plan.StrategyPlan.{StrategyPlan}
 use Rattle.mate_showing.specs.Tables.{AreEdges, Grows, IsNext, IsSound, Stands}
 
 pub record Tabled : Type 0 where
   pub frame : Frame
-  pub plan : Plan
+  pub plan : StrategyPlan
   pub nodes : List Node
 
 abbrev pub rules_of : Tabled → Game Position Repeat Move
 rules_of t = seen_in t.frame
 
 -- what holds of every such list of nodes
-pub record IsKept (f : Frame) (plan : Plan) (nodes : List Node) : Type 0 where
+pub record IsKept (f : Frame) (plan : StrategyPlan) (nodes : List Node) : Type 0 where
   pub sound : IsSound (seen_in f) (is_in f.blocked) plan nodes
   pub written : (i : ℕ) (v : Node) → slice_get nodes i ≡ Some v → IsWritten f.rules v.position
 

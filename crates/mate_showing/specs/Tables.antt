@@ -14,7 +14,7 @@ use Rattle.strategy.specs.declared.nodes.Edge.{Edge}
 use Rattle.strategy.specs.declared.nodes.Node.{Node}
 use Rattle.mate_settle.specs.Lines.{plies}
 use Rattle.mate_settle.specs.Steps.{left_after}
-use Rattle.mate_showing.specs.declared.plan.Plan.{Plan}
+use Rattle.mate_showing.specs.declared.plan.StrategyPlan.{StrategyPlan}
 use Rattle.mate_showing.specs.Reached.{IsReached, OnLine}
 
 -- how the nodes and edges of a strategy are read
@@ -55,7 +55,7 @@ pub record GoesOn (r : Game Position Repeat Move) (barred : Repeat → Bool) (n 
   pub counted : r.own p ≡ None → run_out r (r.counter p) ≡ false
 
 -- what is known of the position for which a node is to be made, apart from the table
-pub record IsNext (r : Game Position Repeat Move) (barred : Repeat → Bool) (plan : Plan) (n : ℕ)
+pub record IsNext (r : Game Position Repeat Move) (barred : Repeat → Bool) (plan : StrategyPlan) (n : ℕ)
     (p : Position) : Type 0 where
   pub goes_on : GoesOn r barred n p
   pub free : ((r.own p ≡ None → barred (r.repeat p) ≡ false) × (r.own plan.root ≡ None)) ⊎ (p ≡ plan.root)
@@ -101,18 +101,18 @@ AreEdges r exact s p n es None true = (0 < n) × ((e : Edge) × (es ≡ e ∷ []
 AreEdges r exact s p n es None false = AreOfEach r p es × AreLed r exact s p n es
 
 -- the counter is what is left of the room after the plies of the rank, or the highest
-abbrev pub FitsRoom : Game Position Repeat Move → Plan → Node → Type 0
+abbrev pub FitsRoom : Game Position Repeat Move → StrategyPlan → Node → Type 0
 FitsRoom r plan v =
     (r.counter v.position ≡ min highest (plan.room - plies r v.rank v.position))
     × (plies r v.rank v.position ≤ plan.room)
 
-pub record IsRow (r : Game Position Repeat Move) (plan : Plan) (s : List Node) (v : Node) : Type 0 where
+pub record IsRow (r : Game Position Repeat Move) (plan : StrategyPlan) (s : List Node) (v : Node) : Type 0 where
   pub edges : AreEdges r plan.exact s v.position v.rank v.edges (r.own v.position) (r.attacking v.position)
   pub counted : r.own v.position ≡ None → plan.exact ≡ true → run_out r (r.counter v.position) ≡ false
   pub count : plan.exact ≡ false → FitsRoom r plan v
 
 -- node 0 has the root's repeat, and near the limit its counter
-abbrev pub HasRoot : Game Position Repeat Move → Plan → List Node → Type 0
+abbrev pub HasRoot : Game Position Repeat Move → StrategyPlan → List Node → Type 0
 HasRoot r plan s =
     (u : Node) × (slice_get s 0 ≡ Some u)
     × (r.repeat u.position ≡ r.repeat plan.root)
@@ -125,20 +125,20 @@ AreFree r barred s =
     → r.own v.position ≡ None → barred (r.repeat v.position) ≡ false
 
 -- near the limit each node's repeat and counter is that of a line from the root
-abbrev pub AreOnLines : Game Position Repeat Move → (Repeat → Bool) → Plan → List Node → Type 0
+abbrev pub AreOnLines : Game Position Repeat Move → (Repeat → Bool) → StrategyPlan → List Node → Type 0
 AreOnLines r barred plan s =
     plan.exact ≡ true → (i : ℕ) (v : Node) → slice_get s i ≡ Some v
     → OnLine r barred plan.whole plan.root (r.repeat v.position) (r.counter v.position)
 
 -- no two nodes have one repeat, near the limit one repeat and counter
-abbrev pub AreApart : Game Position Repeat Move → Plan → List Node → Type 0
+abbrev pub AreApart : Game Position Repeat Move → StrategyPlan → List Node → Type 0
 AreApart r plan s =
     (i j : ℕ) (v w : Node) → slice_get s i ≡ Some v → slice_get s j ≡ Some w
     → r.repeat v.position ≡ r.repeat w.position
     → (plan.exact ≡ true → r.counter v.position ≡ r.counter w.position) → i ≡ j
 
 -- node 0 is the root's; it may still be without edges, with a rank that none reaches
-pub record IsSound (r : Game Position Repeat Move) (barred : Repeat → Bool) (plan : Plan)
+pub record IsSound (r : Game Position Repeat Move) (barred : Repeat → Bool) (plan : StrategyPlan)
     (s : List Node) : Type 0 where
   pub root : HasRoot r plan s
   pub done : (i : ℕ) (v : Node) → slice_get s (suc i) ≡ Some v → v.rank ≤ most

@@ -8,7 +8,7 @@ ghost use Rattle.mate_showing.specs.declared.answer.Settled.TheVariants as Said;
 ghost use Rattle.rules_model.specs.Repeats as Repeats;
 
 use crate::answer::Settled;
-use crate::plan::Plan;
+use crate::plan::StrategyPlan;
 use game_play::Game;
 use mate_core::Frame;
 use rules_model::{Memory, Position, Side, repeat_of, repeats};
@@ -69,7 +69,7 @@ pub(crate) fn judge(
     alloc: Global,
     game: &Game,
     frame: &Frame,
-    plan: &Plan,
+    plan: &StrategyPlan,
     nodes: Vec<Node>,
 ) -> Result<Settled, Memory>
     requires tabled { Counts.IsTabledIn (story game.now) frame.now plan.now nodes.items }

@@ -8,7 +8,7 @@ ghost use Rattle.rules_model.specs.Next.{with_counts};
 ghost use Rattle.rules_model.specs.Repeats as Repeats;
 ghost use Rattle.strategy.specs.declared.nodes.Node.{Node};
 
-use crate::plan::{Plan, plies_of};
+use crate::plan::{StrategyPlan, plies_of};
 use mate_core::Frame;
 use playing::Board;
 use rules_model::{Memory, Position, repeats};
@@ -28,7 +28,7 @@ const HIGHEST: u32 = 9999;
 #[derive(Drop)]
 pub(crate) struct NodeTable<'f> {
     frame: &'f Frame,
-    plan: Plan,
+    plan: StrategyPlan,
     nodes: Vec<Node>,
 }
 
@@ -93,7 +93,7 @@ fn put(nodes: &mut Vec<Node>, at: usize, node: Node) -> Result<(), Memory>
 }
 
 // The counter of the node of a position at a rank.
-fn counter_at(frame: &Frame, plan: &Plan, p: &Position, n: u16) -> u16
+fn counter_at(frame: &Frame, plan: &StrategyPlan, p: &Position, n: u16) -> u16
     requires { plan.now.exact ≡ false → plies (seen_in frame.now) n p.now ≤ plan.now.room }
     ensures exact { plan.now.exact ≡ true → result ≡ p.now.counter }
     ensures falling { plan.now.exact ≡ false →
@@ -132,14 +132,14 @@ impl<'f> NodeTable<'f> {
         alloc: Global,
         frame: &'f Frame,
         board: &Board,
-        plan: Plan,
+        plan: StrategyPlan,
     ) -> Result<NodeTable<'f>, Memory>
         requires rules { board.now.rules ≡ frame.now.rules }
         requires root { plan.root ≡ board.now.position }
         ensures frame { IfOk result (λ t. t.frame ≡ frame.now) }
         ensures plan { IfOk result (λ t. t.plan ≡ plan) }
     {
-        board.is_ready();
+        board.prove_ready();
         let mut nodes = Vec::new(alloc);
         nodes.push(Node {
             position: written(&plan.root, plan.root.counter),
@@ -171,7 +171,7 @@ impl<'f> NodeTable<'f> {
         ensures grows { OnOk result (Tabled.GrowsTo self.old self.new) }
         ensures stands { IfOk result (Tabled.StandsIn self.new board.now.position n) }
     {
-        board.is_ready();
+        board.prove_ready();
         let p = board.position();
         let at = place(self.nodes.as_slice(), self.plan.exact, p);
         if is_made(self.nodes.as_slice(), at, n) {

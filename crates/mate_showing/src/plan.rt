@@ -10,7 +10,7 @@ use rules_model::Position;
 /// its own, `exact`. If not, the counter of a node is what is left of `room` after its plies, or the highest that there
 /// is.
 #[derive(Clone, Copy)]
-pub(crate) struct Plan {
+pub(crate) struct StrategyPlan {
     pub root: Position,
     pub whole: u16,
     pub exact: bool,
@@ -31,7 +31,7 @@ pub(crate) fn plies_of(frame: &Frame, p: &Position, n: u16) -> u32
 
 /// The plan for a win from the position within n moves. Each counter has a node of its own where the counter can run
 /// out.
-pub(crate) fn plan_for(frame: &Frame, p: &Position, n: u16) -> Plan
+pub(crate) fn plan_for(frame: &Frame, p: &Position, n: u16) -> StrategyPlan
     requires small { n ≤ most }
     requires low { p.now.counter ≤ 9999 }
     ensures root { result.root ≡ p.now }
@@ -44,7 +44,7 @@ pub(crate) fn plan_for(frame: &Frame, p: &Position, n: u16) -> Plan
 {
     let limit = 2 * u32::from(frame.rules.n_move);
     let counter = u32::from(p.counter);
-    Plan {
+    StrategyPlan {
         root: *p,
         whole: n,
         exact: 0 < limit && limit <= counter + 2 * u32::from(n),

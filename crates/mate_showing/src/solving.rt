@@ -16,7 +16,7 @@ use crate::building::build;
 use crate::judging::{judge, shown};
 use crate::node_table::NodeTable;
 use crate::ordering::moves_from;
-use crate::plan::{Plan, plan_for};
+use crate::plan::{StrategyPlan, plan_for};
 use game_play::Game;
 use mate_core::Frame;
 use mate_fact::won_by;
@@ -88,7 +88,7 @@ pub fn decide<W: Watch>(
 }
 
 /// The plan for a win of the game, whose last position the board has, within n moves.
-fn plan_of(game: &Game, board: &Board, n: u16, frame: &Frame) -> Plan
+fn plan_of(game: &Game, board: &Board, n: u16, frame: &Frame) -> StrategyPlan
     requires frame { IsFrameOf game.now frame.now }
     requires board { board.now ≡ record { rules = game.now.rules; position = (story game.now).last } }
     requires some { 0 < n }
@@ -102,8 +102,8 @@ fn plan_of(game: &Game, board: &Board, n: u16, frame: &Frame) -> Plan
         → ((i : ℕ) × Tables.Stands (seen_in frame.now) result.exact nodes board.now.position result.whole i)
         → IsTabledIn (story game.now) frame.now result nodes }
 {
-    game.is_played();
-    board.is_ready();
+    game.prove_played();
+    board.prove_ready();
     plan_for(frame, board.position(), n)
 }
 
@@ -111,7 +111,7 @@ fn plan_of(game: &Game, board: &Board, n: u16, frame: &Frame) -> Plan
 fn tabulate<W: Watch>(
     alloc: Global,
     board: &Board,
-    plan: Plan,
+    plan: StrategyPlan,
     facts: &mut FactTable,
     watch: &mut W,
 ) -> Result<Vec<Node>, Halt>

@@ -15,7 +15,7 @@ use std::alloc::Global;
 pub fn moves_of(alloc: Global, game: &Game) -> Result<Vec<Move>, Memory>
     ensures { IfOk result (λ moves. moves.items ≡ legal_in game.now) }
 {
-    game.is_played();
+    game.prove_played();
     let moves = legal_moves(alloc, game.rules(), game.tables(), game.position())?;
     Ok(moves.items)
 }

@@ -1,9 +1,9 @@
 -- What code cuts off the front of a text, without where its bytes lie in memory.
-use Rattle.move_names.specs.declared.squares.Cut.{Cut}
+use Rattle.move_names.specs.declared.squares.SplitNumber.{SplitNumber}
 use Rattle.move_names.specs.declared.squares.CutSquares.{CutSquares}
 use Rattle.move_names.specs.Squares.{Front, TwoSquares}
 
-abbrev pub cut_view : Cut → Front
+abbrev pub cut_view : SplitNumber → Front
 cut_view c = record { value = c.value; rest = c.rest.now }
 
 abbrev pub squares_view : CutSquares → TwoSquares

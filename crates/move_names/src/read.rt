@@ -10,11 +10,11 @@ ghost use Rattle.move_names.specs.Squares as Squares;
 
 use crate::castles::castle_said;
 use crate::endings::kind_ending;
-use crate::squares::{Cut, CutSquares, cut_square, cut_squares};
+use crate::squares::{CutSquares, SplitNumber, cut_square, cut_squares};
 use rules_model::{Cell, Kind, Move, Position, Rules, Square};
 
 /// The drop of the letter's kind on the square, where nothing follows it.
-fn drop_on(letter: u8, square: Option<Cut<'_>>) -> Option<Move>
+fn drop_on(letter: u8, square: Option<SplitNumber<'_>>) -> Option<Move>
     requires letter { 65 ≤ letter }
     requires square { IfSome square (λ s. s.value < 120) }
     ensures { result ≡ Read.drop_on letter (option_map cut_view square.entry) }

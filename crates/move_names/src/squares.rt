@@ -8,7 +8,7 @@ use rules_model::Square;
 
 /// A number that stands at the front of a text, and what follows it.
 #[derive(Clone, Copy)]
-pub(crate) struct Cut<'a> {
+pub(crate) struct SplitNumber<'a> {
     pub value: u8,
     pub rest: &'a [u8],
 }
@@ -22,7 +22,7 @@ pub(crate) struct CutSquares<'a> {
 }
 
 /// The rank whose number from 1 to 10 stands at the front, counted from 0.
-fn cut_rank(text: &[u8]) -> Option<Cut<'_>>
+fn cut_rank(text: &[u8]) -> Option<SplitNumber<'_>>
     ensures is { option_map cut_view result ≡ Squares.rank_front text.now }
     ensures below { IfSome result (λ f. f.value < 10) }
 {
@@ -30,12 +30,12 @@ fn cut_rank(text: &[u8]) -> Option<Cut<'_>>
     if *digit == b'1' {
         if let Some((second, rest)) = rest.split_first() {
             if *second == b'0' {
-                return Some(Cut { value: 9, rest });
+                return Some(SplitNumber { value: 9, rest });
             }
         }
     }
     if matches!(*digit, b'1'..=b'9') {
-        Some(Cut {
+        Some(SplitNumber {
             value: *digit - b'1',
             rest,
         })
@@ -46,7 +46,7 @@ fn cut_rank(text: &[u8]) -> Option<Cut<'_>>
 
 /// The square at the front: the letter of a file from `a` to `l`, and the number of a rank.
 #[tactic(auto, unfolding(crate::specs::Squares::square_front))]
-pub(crate) fn cut_square(text: &[u8]) -> Option<Cut<'_>>
+pub(crate) fn cut_square(text: &[u8]) -> Option<SplitNumber<'_>>
     ensures is { option_map cut_view result ≡ Squares.square_front text.now }
     ensures below { IfSome result (λ f. f.value < 120) }
 {
@@ -55,7 +55,7 @@ pub(crate) fn cut_square(text: &[u8]) -> Option<Cut<'_>>
         return None;
     }
     let rank = cut_rank(rest)?;
-    Some(Cut {
+    Some(SplitNumber {
         value: 12 * rank.value + (*file - b'a'),
         rest: rank.rest,
     })

@@ -9,7 +9,7 @@ use Rattle.std.proofs.lemmas.Bool.{lt-ltb, le-ltb}
 use Rattle.std.proofs.lemmas.List.{get_or_past}
 use Rattle.std.proofs.lemmas.Option.{slice_get_past}
 use Rattle.foundation.proofs.CountLemmas.{all_below-each}
-use Rattle.rules_model.specs.declared.board.Board.{Board}
+use Rattle.rules_model.specs.declared.board.BoardSize.{BoardSize}
 use Rattle.rules_model.specs.declared.board.Cell.{Cell}
 use Rattle.rules_model.specs.declared.board.Kind.{Kind}
 use Rattle.rules_model.specs.declared.board.Side.{Side}
@@ -37,7 +37,7 @@ below_step : (t i : ℕ) → t ≢ i → nat_lt t i ≡ nat_lt t (i + 1)
 below_step t i v = by_order t i (nat_lt t i ≡ nat_lt t (i + 1)) (λ m. lt-ltb t i m ∙ sym (lt-ltb t (i + 1) (omega (arith, m)))) (λ m. le-ltb t i m ∙ sym (le-ltb t (i + 1) (omega (arith, m, v))))
 
 -- one more term of a list
-pub gather_term : (rules : Rules) (board : Board) (cells : List (Option Cell)) (side : Side) (test : Term → Bool) (from : Square) (terms : List Term) (k : ℕ) (d : Term) (t : ℕ) (new old : Bool) → board ≡ board_of rules → k < length terms → old ≡ list_any (reaches_by rules cells side test from t) (take k terms) → test (get_or terms k d) ≡ true → new ≡ (old || reaches board cells side (get_or terms k d) from t) → new ≡ list_any (reaches_by rules cells side test from t) (take (k + 1) terms)
+pub gather_term : (rules : Rules) (board : BoardSize) (cells : List (Option Cell)) (side : Side) (test : Term → Bool) (from : Square) (terms : List Term) (k : ℕ) (d : Term) (t : ℕ) (new old : Bool) → board ≡ board_of rules → k < length terms → old ≡ list_any (reaches_by rules cells side test from t) (take k terms) → test (get_or terms k d) ≡ true → new ≡ (old || reaches board cells side (get_or terms k d) from t) → new ≡ list_any (reaches_by rules cells side test from t) (take (k + 1) terms)
 gather_term rules board cells side test from terms k d t new old b l e s n =
     n ∙ ap (λ x. old || reaches x cells side (get_or terms k d) from t) b ∙ ap (λ x. x || reaches (board_of rules) cells side (get_or terms k d) from t) e ∙ ap (λ a. list_any (reaches_by rules cells side test from t) (take k terms) || (a && reaches (board_of rules) cells side (get_or terms k d) from t)) (sym s) ∙ sym (list_any_more (reaches_by rules cells side test from t) terms k d l)
 

@@ -2,7 +2,7 @@
 use Rattle.std.proofs.Common.{◌≡◌, ℕ, ◌<◌, ◌≤◌, ◌/◌, ◌%◌, nat_lt, true, false, Option, Some, None, List, inl, inr, pos, negsuc, refl, arith}
 use Rattle.std.proofs.lemmas.Bool.{and_parts, false_from_ne_true, ltb-true, or_cases, ne_eqb}
 use Rattle.std.proofs.lemmas.Option.{slice_get_past}
-use Rattle.rules_model.specs.declared.board.Board.{Board}
+use Rattle.rules_model.specs.declared.board.BoardSize.{BoardSize}
 use Rattle.rules_model.specs.declared.board.Cell.{Cell}
 use Rattle.rules_model.specs.declared.board.Kind.{Kind}
 use Rattle.rules_model.specs.declared.board.Side.{Side}
@@ -36,7 +36,7 @@ small_step ray k s on e =
     let rank : h.1 < 10 = omega (arith, b.1, on.ranks) in
     omega (arith, file, rank, h.4)
 
-diagonal_small : (board : Board) (side : Side) (from : Square) (t : ℕ) → IsOnBoard board → is_diagonal board side from t ≡ true → t < 120
+diagonal_small : (board : BoardSize) (side : Side) (from : Square) (t : ℕ) → IsOnBoard board → is_diagonal board side from t ≡ true → t < 120
 unfolding is_diagonal
 diagonal_small board side from t on e =
     elim (or_cases (is_at t (right_ahead board side from)) (is_at t (left_ahead board side from)) e) as (λ _. t < 120) [

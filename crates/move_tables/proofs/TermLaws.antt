@@ -4,7 +4,7 @@ use Rattle.std.proofs.lemmas.Bool.{eq-eqb, ne_eqb, lt-ltb, le-ltb, false_from_ne
 use Rattle.std.proofs.Math.Bool.{and-true, and_comm}
 use Rattle.foundation.specs.Count.{any_below}
 use Rattle.foundation.proofs.CountLemmas.{any_below-some, any_below-true}
-use Rattle.rules_model.specs.declared.board.Board.{Board}
+use Rattle.rules_model.specs.declared.board.BoardSize.{BoardSize}
 use Rattle.rules_model.specs.declared.board.Cell.{Cell}
 use Rattle.rules_model.specs.declared.board.Side.{Side}
 use Rattle.rules_model.specs.declared.board.Side.TheVariants.{White, Black}
@@ -47,7 +47,7 @@ unfolding fits_term
 fits_moves side t e = moves_turned side t.dx t.dy (grind arith)
 
 -- the ray of a term that fits, on a board that is no larger than the largest
-pub ray_there : (board : Board) (side : Side) (t : Term) (from : Square) → IsOnBoard board → fits_term t ≡ true → IsRay (ray_of board side t from)
+pub ray_there : (board : BoardSize) (side : Side) (t : Term) (from : Square) → IsOnBoard board → fits_term t ≡ true → IsRay (ray_of board side t from)
 ray_there board side t from on fits = record { files = on.files; ranks = on.ranks; step = fits_moves side t fits }
 
 pub fits_leap : (t : Term) → fits_term t ≡ true → t.way ≡ Leap → t.limit ≡ 1
@@ -137,5 +137,5 @@ lame_reaches ray ok cells occupied is jump target over t =
     rw (sym (target t), c) (and_comm (has jump.target t) (blockers cells (long_leg ray) (block_squares ray) == 0))
 
 -- a term's reach by its way, ray and limit
-pub reaches_by_way : (board : Board) (cells : List (Option Cell)) (side : Side) (t : Term) (from : Square) (to : ℕ) (way : Way) (ray : Ray) (n : ℕ) → t.way ≡ way → ray ≡ ray_of board side t from → t.limit ≡ n → any_below (reaches_over cells way ray to) n ≡ reaches board cells side t from to
+pub reaches_by_way : (board : BoardSize) (cells : List (Option Cell)) (side : Side) (t : Term) (from : Square) (to : ℕ) (way : Way) (ray : Ray) (n : ℕ) → t.way ≡ way → ray ≡ ray_of board side t from → t.limit ≡ n → any_below (reaches_over cells way ray to) n ≡ reaches board cells side t from to
 reaches_by_way board cells side t from to way ray n w r l = rw (sym w, r, sym l) refl

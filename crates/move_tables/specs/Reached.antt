@@ -1,6 +1,6 @@
 -- The squares that a piece reaches in a position by its terms of a mode.
 use Rattle.std.specs.Prelude.{◌≡◌, ℕ, Bool, false, if◌then◌else◌, Option, Some, None, List}
-use Rattle.rules_model.specs.declared.board.Board.{Board}
+use Rattle.rules_model.specs.declared.board.BoardSize.{BoardSize}
 use Rattle.rules_model.specs.declared.board.Cell.{Cell}
 use Rattle.rules_model.specs.declared.board.Kind.{Kind}
 use Rattle.rules_model.specs.declared.board.Side.{Side}
@@ -23,7 +23,7 @@ serves Quiet t = t.quiet
 serves Take t = t.takes
 
 -- the pawn's two diagonals for Take, and none for Quiet
-abbrev pub pawn_reaches : Board → Side → Square → Mode → ℕ → Bool
+abbrev pub pawn_reaches : BoardSize → Side → Square → Mode → ℕ → Bool
 pawn_reaches board side from Quiet to = false
 pawn_reaches board side from Take to = is_diagonal board side from to
 

@@ -11,7 +11,7 @@ use crate::ray::{blocks, rises, square_at, squares_to};
 use crate::spot::Spot;
 use foundation::Memory;
 use rules_model::reach::{Ray, term_ray};
-use rules_model::{Board, Side, Square, Term, Way};
+use rules_model::{BoardSize, Side, Square, Term, Way};
 
 /// Adds the line of a slider or a hopper.
 fn add_rider(spot: &mut Spot, ray: &Ray, limit: u8, passage: Passage) -> Result<(), Memory>
@@ -40,7 +40,7 @@ fn add_rider(spot: &mut Spot, ray: &Ray, limit: u8, passage: Passage) -> Result<
 /// Adds what the term reaches.
 pub(crate) fn add_term(
     spot: &mut Spot,
-    board: Board,
+    board: BoardSize,
     side: Side,
     term: &Term,
     from: Square,

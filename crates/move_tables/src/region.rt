@@ -6,7 +6,7 @@ ghost use Rattle.move_tables.specs.Spots as Spots;
 
 use crate::build::side_of;
 use foundation::Memory;
-use rules_model::sizes::region_size;
+use rules_model::sizes::prove_region_size;
 use rules_model::{Kind, Region, Rules, Side};
 use square_set::{EMPTY, Set};
 use std::alloc::Global;
@@ -22,7 +22,7 @@ fn is_of(region: &Region, at: u8) -> bool
 pub fn region_set(region: &Region) -> Set
     ensures { (t : ℕ) → has result t ≡ Spots.lies_in region.now t }
 {
-    region_size(region);
+    prove_region_size(region);
     let mut set = EMPTY;
     for at in 0..120u8 {
         if is_of(region, at) {

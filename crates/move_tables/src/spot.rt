@@ -20,7 +20,7 @@ pub struct Spot {
 }
 
 /// No set has a square from 128 on.
-fn none_beyond(set: Set)
+fn prove_none_beyond(set: Set)
     ensures { (t : ℕ) → 128 ≤ t → has set t ≡ false }
 {}
 
@@ -51,7 +51,7 @@ impl Spot {
     pub fn reach(&self, occupied: Set) -> Set
         ensures { (t : ℕ) → has result t ≡ Lines.by_spot self.now occupied t }
     {
-        none_beyond(self.within);
+        prove_none_beyond(self.within);
         let straight = along(&self.lines, occupied, self.leaps);
         over(&self.jumps, occupied, straight).and(self.within)
     }

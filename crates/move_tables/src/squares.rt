@@ -5,7 +5,7 @@ ghost use Rattle.rules_model.specs.Squares.{cell_at};
 ghost use Rattle.move_tables.specs.Occupied.{IsOccupied, AreMen, AreKings};
 
 use rules_model::kinds::names;
-use rules_model::sizes::board_size;
+use rules_model::sizes::prove_board_size;
 use rules_model::{Cell, Rules, Side};
 use square_set::{EMPTY, Set};
 
@@ -43,7 +43,7 @@ fn is_king(rules: &Rules, cells: &[Option<Cell>; 120], side: Side, at: u8) -> bo
 pub fn occupied(cells: &[Option<Cell>; 120]) -> Set
     ensures { IsOccupied result cells.now }
 {
-    board_size(cells);
+    prove_board_size(cells);
     let mut set = EMPTY;
     for at in 0..120u8 {
         if is_piece(cells, at) {
@@ -57,7 +57,7 @@ pub fn occupied(cells: &[Option<Cell>; 120]) -> Set
 pub fn men(cells: &[Option<Cell>; 120], side: Side) -> Set
     ensures { AreMen side cells.now result }
 {
-    board_size(cells);
+    prove_board_size(cells);
     let mut set = EMPTY;
     for at in 0..120u8 {
         if is_man(cells, side, at) {
@@ -71,7 +71,7 @@ pub fn men(cells: &[Option<Cell>; 120], side: Side) -> Set
 pub fn kings(rules: &Rules, cells: &[Option<Cell>; 120], side: Side) -> Set
     ensures { AreKings rules.now side cells.now result }
 {
-    board_size(cells);
+    prove_board_size(cells);
     let mut set = EMPTY;
     for at in 0..120u8 {
         if is_king(rules, cells, side, at) {

@@ -16,7 +16,7 @@ fn keeps<R: Abort>(rt: &R, alloc: Global, tables: &Tables, p: &Position) {
     for m in &moves.items {
         assert!(rt; board.is_legal(m), "{m:?}");
         let next = board.after(m);
-        next.is_ready();
+        next.prove_ready();
         let anew = Board::new(tables, next.position());
         let found = [
             *next.sets() == *anew.sets(),
@@ -81,7 +81,7 @@ fn has_captures<R: Abort>(rt: &R, alloc: Global, tables: &Tables, p: &Position, 
     let mut others = MoveList {
         items: Vec::new(alloc),
     };
-    board.push_others(&mut others).expect(rt, "no fault");
+    board.push_quiets(&mut others).expect(rt, "no fault");
     let listed = others.items.len().saturating_add(count);
     expect_eq(rt, listed, legal.items.len());
     for m in &legal.items {

@@ -10,7 +10,7 @@ use Rattle.rules_model.specs.declared.moves.Move.{Move}
 use Rattle.rules_model.specs.declared.rules.Rules.{Rules}
 use Rattle.rules_model.specs.Legal.{is_stuck, legal}
 use Rattle.rules_model.specs.Next.{captures}
-use Rattle.negamax.specs.declared.candidates.Candidate.{Candidate}
+use Rattle.negamax.specs.declared.scored_moves.ScoredMove.{ScoredMove}
 use Rattle.negamax.specs.Trials.{Copies, Pushes, captures_in}
 use Rattle.legality.specs.Stance.{IsCaptureIn, Stance, legal_in, repeat_in}
 
@@ -27,7 +27,7 @@ appended_captures s old new none h =
     (λ m k. filter-member (captures s.rules (repeat_in s)) m (legal_in s) k)
 
 -- candidates of all the moves, each once
-pub copies_push : (all ms ns : List Move) (old old' new : List Candidate) → Lists (λ m. Member m all) ms → ns ≡ ms → Copies ns old' new
+pub copies_push : (all ms ns : List Move) (old old' new : List ScoredMove) → Lists (λ m. Member m all) ms → ns ≡ ms → Copies ns old' new
     → old' ≡ old → Pushes (λ m. Member m all) old new
 copies_push all ms ns old old' new h same k from = record {
   added = k.added;
@@ -63,5 +63,5 @@ some-not-stuck rules r p (m ∷ ms) h e =
     sym (ap not (no_nil m (legal rules r) (filter-member p m (legal rules r) (h.sound m (inl refl))).0))
 
 -- those that were appended are cut off again
-pub pushed-cut : (P : Move → Type 0) (first : ℕ) (old new : List Candidate) → Pushes P old new → first ≡ length old → take first new ≡ old
+pub pushed-cut : (P : Move → Type 0) (first : ℕ) (old new : List ScoredMove) → Pushes P old new → first ≡ length old → take first new ≡ old
 pushed-cut P first old new p e = ap (take first) p.is ∙ ap (λ k. take k (old ++ p.added)) e ∙ take-append_seam old p.added

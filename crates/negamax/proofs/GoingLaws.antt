@@ -11,29 +11,29 @@ use Rattle.foundation.proofs.Members.{member-map, member-permutation}
 use Rattle.rules_model.specs.declared.moves.Move.{Move}
 use Rattle.game_values.specs.Laws.{Within}
 use Rattle.game_values.specs.Values.{greatest}
-use Rattle.negamax.specs.declared.candidates.Candidate.{Candidate}
+use Rattle.negamax.specs.declared.scored_moves.ScoredMove.{ScoredMove}
 use Rattle.negamax.specs.Trials.{Entered, Pushes, Takes, Trial}
 use Rattle.negamax.specs.Windows.{Bounds}
 use Rattle.negamax.proofs.TrialLaws.{entered_fits, entered_next, entered_start, lists-greatest, lists-sum, trial_cut, trial_end, trial_next, trial_start}
 
 -- How far the loop has come: behind the candidates of the plies before, those that are left wait.
 pub record Going {W X : Type 0} (gone : W → W → ℕ → Type 0) (legal : List Move) (after : Move → X) (score : X → ℤ) (size : X → ℕ)
-    (front : List Candidate) (a b v : ℤ) (most : ℕ) (before now : W) (list : List Candidate) (best : ℤ) : Type 0 where
-  pub rest : List Candidate
+    (front : List ScoredMove) (a b v : ℤ) (most : ℕ) (before now : W) (list : List ScoredMove) (best : ℤ) : Type 0 where
+  pub rest : List ScoredMove
   pub is : list ≡ front ++ rest
-  pub legal_moves : (c : Candidate) → Member c rest → Member c.chosen legal
+  pub legal_moves : (c : ScoredMove) → Member c rest → Member c.chosen legal
   pub trial : Trial a b best v (λ c. neg_ℤ (score (after c.chosen))) rest
   pub entered : Entered gone before now (λ c. size (after c.chosen)) rest most
 
 module _ {W X : Type 0} (gone : W → W → ℕ → Type 0) (legal : List Move) (after : Move → X) (score : X → ℤ) (size : X → ℕ) where
-  module _ (front : List Candidate) (a b v : ℤ) (most : ℕ) (before : W) where
+  module _ (front : List ScoredMove) (a b v : ℤ) (most : ℕ) (before : W) where
     -- all moves are listed, and one node is entered
-    pub going_start : (ms : List Move) (now : W) (list : List Candidate) (best : ℤ) → Pushes (λ m. Member m ms) front list
+    pub going_start : (ms : List Move) (now : W) (list : List ScoredMove) (best : ℤ) → Pushes (λ m. Member m ms) front list
         → ((m : Move) → Member m ms → Member m legal) → Within best → v ≡ greatest best (λ m. neg_ℤ (score (after m))) ms
         → gone before now 1 → 1 + sum_by (λ m. size (after m)) ms ≤ most
         → Going gone legal after score size front a b v most before now list best
     going_start ms now list best p among within is g fits =
-        let f = λ (c : Candidate). c.chosen in
+        let f = λ (c : ScoredMove). c.chosen in
         let sum = lists-sum f (λ m. size (after m)) ms p.added p.each in
         record {
           rest = p.added;
@@ -43,26 +43,26 @@ module _ {W X : Type 0} (gone : W → W → ℕ → Type 0) (legal : List Move) 
           entered = entered_start gone _ most before now 1 p.added g (omega arith);
         }
 
-    module _ (now : W) (list : List Candidate) (best : ℤ) (h : Going gone legal after score size front a b v most before now list best) where
+    module _ (now : W) (list : List ScoredMove) (best : ℤ) (h : Going gone legal after score size front a b v most before now list best) where
       rest_of : (first : ℕ) → first ≡ length front → drop first list ≡ h.rest
       rest_of first e = ap (drop first) h.is ∙ ap (λ k. drop k (front ++ h.rest)) e ∙ drop-append_seam front h.rest
 
       pub front_of : (first : ℕ) → first ≡ length front → take first list ≡ front
       front_of first e = ap (take first) h.is ∙ ap (λ k. take k (front ++ h.rest)) e ∙ take-append_seam front h.rest
 
-      are_left : (first : ℕ) (list' : List Candidate) (m : Move) → first ≡ length front → (t : Takes first list list' m)
+      are_left : (first : ℕ) (list' : List ScoredMove) (m : Move) → first ≡ length front → (t : Takes first list list' m)
           → IsPermutation h.rest (t.taken ∷ t.rest)
       are_left first list' m e t = subst (λ xs. IsPermutation xs (t.taken ∷ t.rest)) (rest_of first e) t.are
 
       -- the move that is taken is legal
-      pub going_legal : (first : ℕ) (list' : List Candidate) (m : Move) → first ≡ length front → Takes first list list' m → Member m legal
+      pub going_legal : (first : ℕ) (list' : List ScoredMove) (m : Move) → first ≡ length front → Takes first list list' m → Member m legal
       going_legal first list' m e t =
           let are = are_left first list' m e t in
           let there : Member t.taken h.rest = member-permutation t.taken (t.taken ∷ t.rest) h.rest (IsPermutation-sym h.rest (t.taken ∷ t.rest) are) (inl refl) in
           subst (λ n. Member n legal) (sym t.chosen) (h.legal_moves t.taken there)
 
       -- the nodes of one move more fit
-      pub going_fits : (first : ℕ) (list' : List Candidate) (m : Move) (y : X) → first ≡ length front → Takes first list list' m → y ≡ after m
+      pub going_fits : (first : ℕ) (list' : List ScoredMove) (m : Move) (y : X) → first ≡ length front → Takes first list list' m → y ≡ after m
           → h.entered.nodes + size y ≤ most
       going_fits first list' m y e t ey =
           let are = are_left first list' m e t in
@@ -71,7 +71,7 @@ module _ {W X : Type 0} (gone : W → W → ℕ → Type 0) (legal : List Move) 
           omega arith
 
       -- one move more was searched
-      pub going_next : (first : ℕ) (list' list'' : List Candidate) (m : Move) (y : X) (then : W) (low high r s : ℤ) → first ≡ length front
+      pub going_next : (first : ℕ) (list' list'' : List ScoredMove) (m : Move) (y : X) (then : W) (low high r s : ℤ) → first ≡ length front
           → Takes first list list' m → list'' ≡ list' → y ≡ after m → ((a b c : W) (m n : ℕ) → gone a b m → gone b c n → gone a c (m + n))
           → gone now then (size y) → Bounds low high r (score y) → Within r → low ≡ neg_ℤ b → high ≡ neg_ℤ (int_max a best)
           → s ≡ int_max best (neg_ℤ r) → Going gone legal after score size front a b v most before then list'' s
@@ -87,7 +87,7 @@ module _ {W X : Type 0} (gone : W → W → ℕ → Type 0) (legal : List Move) 
             entered = entered_next gone _ most more before now then (size y) t.taken h.rest t.rest h.entered are le went;
           }
 
-      empty : (xs : List Candidate) → length xs ≤ 0 → xs ≡ []
+      empty : (xs : List ScoredMove) → length xs ≤ 0 → xs ≡ []
       empty [] l = refl
       empty (x ∷ xs) l = absurd (omega arith)
 

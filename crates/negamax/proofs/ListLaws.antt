@@ -3,7 +3,7 @@ use Rattle.std.proofs.Common.{◌≡◌, ℕ, ◌+◌, ◌-◌, ◌<◌, ◌≤�
 use Rattle.std.proofs.Math.Seq.{take-append-add}
 use Rattle.std.proofs.lemmas.List.{length-append, length-drop, length-take, get_or-append_right, get_or-drop, set-append_right, take-append-drop}
 use Rattle.std.proofs.lemmas.List.Sorted.{IsPermutation-swap_remove}
-use Rattle.negamax.specs.declared.candidates.Candidate.{Candidate}
+use Rattle.negamax.specs.declared.scored_moves.ScoredMove.{ScoredMove}
 use Rattle.negamax.specs.Trials.{Takes}
 
 module _ {X : Type 0} where
@@ -22,7 +22,7 @@ module _ {X : Type 0} where
       ∙ ap (λ k. take k (us ++ part)) whole
       ∙ take-append-add us part (length vs - 1)
 
-pub taken_behind : (first place : ℕ) (old new : List Candidate) (c : Candidate) → first ≤ place → place < length old
+pub taken_behind : (first place : ℕ) (old new : List ScoredMove) (c : ScoredMove) → first ≤ place → place < length old
     → c ≡ get_or old place c → new ≡ swap_remove old place c → Takes first old new c.chosen
 taken_behind first place old new c low high is e =
     let front = length-take first old in

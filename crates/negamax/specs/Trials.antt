@@ -7,7 +7,7 @@ use Rattle.rules_model.specs.Next.{captures}
 use Rattle.legality.specs.Stance.{Stance, legal_in, repeat_in}
 use Rattle.game_values.specs.Laws.{Within}
 use Rattle.game_values.specs.Values.{greatest}
-use Rattle.negamax.specs.declared.candidates.Candidate.{Candidate}
+use Rattle.negamax.specs.declared.scored_moves.ScoredMove.{ScoredMove}
 use Rattle.negamax.specs.Windows.{Bounds}
 
 -- the legal moves that capture
@@ -15,25 +15,25 @@ abbrev pub captures_in : Stance → List Move
 captures_in s = filter (captures s.rules (repeat_in s)) (legal_in s)
 
 -- the moves of these candidates
-abbrev pub moves_of : List Candidate → List Move
+abbrev pub moves_of : List ScoredMove → List Move
 moves_of cs = map (λ c. c.chosen) cs
 
 -- candidates of these moves were appended
-pub record Copies (ms : List Move) (old new : List Candidate) : Type 0 where
-  pub added : List Candidate
+pub record Copies (ms : List Move) (old new : List ScoredMove) : Type 0 where
+  pub added : List ScoredMove
   pub is : new ≡ old ++ added
   pub are : moves_of added ≡ ms
 
 -- candidates were appended, whose moves are exactly those that meet P, each once
-pub record Pushes (P : Move → Type 0) (old new : List Candidate) : Type 0 where
-  pub added : List Candidate
+pub record Pushes (P : Move → Type 0) (old new : List ScoredMove) : Type 0 where
+  pub added : List ScoredMove
   pub is : new ≡ old ++ added
   pub each : Lists P (moves_of added)
 
 -- the move of one candidate was taken from those behind the first so many, whose order may have changed
-pub record Takes (first : ℕ) (old new : List Candidate) (m : Move) : Type 0 where
-  pub taken : Candidate
-  pub rest : List Candidate
+pub record Takes (first : ℕ) (old new : List ScoredMove) (m : Move) : Type 0 where
+  pub taken : ScoredMove
+  pub rest : List ScoredMove
   pub is : new ≡ take first old ++ rest
   pub are : IsPermutation (drop first old) (taken ∷ rest)
   pub chosen : m ≡ taken.chosen

@@ -9,7 +9,7 @@ ghost use Rattle.rules_model.specs.Games.{played};
 ghost use Rattle.rules_model.specs.Legal.{is_stuck};
 ghost use Rattle.rules_model.specs.Repeats.{repeat_of};
 
-use evaluation::{Tally, Worths};
+use evaluation::{PieceValues, Tally};
 use game_line::Line;
 use rules_model::{Move, Outcome, Side};
 
@@ -46,12 +46,12 @@ pub(crate) fn end_where(line: &Line, ply: u8, any: bool) -> Option<i32>
 }
 
 /// What kinds and squares are worth by the rules of the line.
-pub(crate) fn worths_of(line: &Line) -> Worths
+pub(crate) fn worths_of(line: &Line) -> PieceValues
     ensures { result ≡ line.now.rules }
 {
     let board = line.board();
-    board.is_ready();
-    Worths::of(board.rules())
+    board.prove_ready();
+    PieceValues::of(board.rules())
 }
 
 /// What the last position is worth at a glance to the side to move.
@@ -77,7 +77,7 @@ pub(crate) fn resting(line: &Line, ply: u8, glance: i32) -> i32
 }
 
 /// Plays the legal move, and gives the sums of the position after it.
-pub(crate) fn play(line: &mut Line, worths: &Worths, tally: Tally, m: &Move) -> Tally
+pub(crate) fn play(line: &mut Line, worths: &PieceValues, tally: Tally, m: &Move) -> Tally
     requires worths { worths.now ≡ line.old.rules }
     requires tally { IsTally line.old.rules (story_of_line line.old).last tally }
     requires legal { Member m.now (legal_in line.old) }
@@ -87,7 +87,7 @@ pub(crate) fn play(line: &mut Line, worths: &Worths, tally: Tally, m: &Move) -> 
     ensures tally { IsTally line.new.rules (story_of_line line.new).last result }
 {
     let board = line.board();
-    board.is_ready();
+    board.prove_ready();
     let next = worths.tally_after(tally, board.rules(), board.position(), m);
     line.push(m);
     next

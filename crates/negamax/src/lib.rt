@@ -5,17 +5,17 @@
 //! each line. Windows, hints and the order of moves change how many nodes are entered and nothing else.
 #![tactic(auto)]
 
-mod candidates;
-mod desk;
 mod ends;
 mod facts;
-mod order;
-mod quiet;
+mod move_order;
+mod quiescence;
 mod root;
+mod scored_moves;
 mod search;
+mod search_state;
 mod window;
 
-pub use desk::Desk;
 pub use facts::{Best, RootFact};
-pub use order::{likely_floor, root_rank};
+pub use move_order::{aspiration_floor, root_rank};
 pub use root::{combine, search_root};
+pub use search_state::SearchState;

@@ -7,10 +7,10 @@ ghost use Rattle.game_values.specs.Values.{Attains, value_of};
 ghost use Rattle.watching.specs.declared.halt.Halt.{Halt};
 ghost use Rattle.negamax.specs.RootFacts.{IsTrueFact, Settles, root_tree};
 
-use crate::desk::Desk;
 use crate::ends::{play, worths_of};
 use crate::facts::{Best, RootFact, best_known, is_covered};
 use crate::search::search;
+use crate::search_state::SearchState;
 use crate::window::Window;
 use game_line::Line;
 use rules_model::Move;
@@ -24,7 +24,7 @@ use watching::{Halt, Watch};
 /// What ended the watch; a line and a desk are then anyhow.
 pub fn search_root<W: Watch>(
     line: &mut Line,
-    desk: &mut Desk,
+    desk: &mut SearchState,
     watch: &mut W,
     depth: u8,
     chosen: &Move,
@@ -60,7 +60,7 @@ pub fn search_root<W: Watch>(
 /// Settles one root move: it is covered by a fact, or searched.
 fn settle<W: Watch>(
     line: &mut Line,
-    desk: &mut Desk,
+    desk: &mut SearchState,
     watch: &mut W,
     depth: u8,
     chosen: &Move,
@@ -103,7 +103,7 @@ fn settle<W: Watch>(
 /// What ended the watch; a line and a desk are then anyhow.
 pub fn combine<W: Watch>(
     line: &mut Line,
-    desk: &mut Desk,
+    desk: &mut SearchState,
     watch: &mut W,
     depth: u8,
     roots: &[Move],

@@ -7,13 +7,13 @@ ghost use Rattle.game_values.specs.Values.{play, tree_size, value};
 ghost use Rattle.watching.specs.declared.halt.Halt.{Halt};
 ghost use Rattle.negamax.specs.Windows.{Bounds};
 
-use crate::candidates::take_best;
-use crate::desk::{Desk, hint_of};
 use crate::ends::{end_where, play};
-use crate::order::better;
-use crate::quiet::search_quiet;
+use crate::move_order::better;
+use crate::quiescence::quiescence;
+use crate::scored_moves::take_best;
+use crate::search_state::{SearchState, hint_of};
 use crate::window::{WORST, Window, raised};
-use evaluation::{Tally, Worths};
+use evaluation::{PieceValues, Tally};
 use game_line::Line;
 use watching::{Halt, Watch};
 
@@ -23,8 +23,8 @@ const CAPTURES: u8 = 4;
 /// What the window asks of the value of the line at a depth, so many plies from the root.
 pub(crate) fn search<W: Watch>(
     line: &mut Line,
-    worths: &Worths,
-    desk: &mut Desk,
+    worths: &PieceValues,
+    desk: &mut SearchState,
     watch: &mut W,
     tally: Tally,
     depth: u8,
@@ -46,7 +46,7 @@ pub(crate) fn search<W: Watch>(
     ensures waiting { OnOk result (desk.new.waiting.items ≡ desk.old.waiting.items) }
 {
     if depth == 0 {
-        let resting = search_quiet(line, worths, desk, watch, tally, CAPTURES, ply, window)?;
+        let resting = quiescence(line, worths, desk, watch, tally, CAPTURES, ply, window)?;
         return Ok(resting);
     }
     watch.enter()?;

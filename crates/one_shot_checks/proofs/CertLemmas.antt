@@ -37,14 +37,14 @@ use Rattle.cert_text.specs.View.{HasWhy, IsUnread}
 use Rattle.one_shot_checks.specs.declared.certificates.Stipulated.{Stipulated}
 use Rattle.one_shot_faults.specs.declared.fault.Fault.{Fault}
 use Rattle.one_shot_faults.specs.declared.fault.Fault.TheVariants as fault
-use Rattle.one_shot_faults.specs.declared.halt.Halt.{Halt}
-use Rattle.one_shot_faults.specs.declared.halt.Halt.TheVariants as halt
+use Rattle.one_shot_faults.specs.declared.no_answer.NoAnswer.{NoAnswer}
+use Rattle.one_shot_faults.specs.declared.no_answer.NoAnswer.TheVariants as halt
 use Rattle.one_shot_faults.specs.declared.stop.Stop.TheVariants as stop
 use Rattle.one_shot_checks.specs.Certificates.{IsMet, Meets, PrintsHelp, PrintsSelf, SaysCertCheck, SaysStipulated, SaysVerdict, by_problem, lines_after, lines_of_cert_check, stipulated_in, verdict_by, verdict_in, with_cert}
 use Rattle.one_shot_checks.specs.CertView.{States}
 use Rattle.one_shot_faults.specs.Fault.{error_line, fault_status, fault_text}
 use Rattle.one_shot_checks.specs.GameTexts.{cert_or_none, help_mate_of, self_mate_of}
-use Rattle.one_shot_faults.specs.HaltView.{Answers, IsUnheard, cert_halt, game_halt}
+use Rattle.one_shot_faults.specs.NoAnswerView.{Answers, IsUnheard, cert_halt, game_halt}
 
 -- ---- what was read, as halts have it
 
@@ -142,7 +142,7 @@ stated_status (Ok p) input why is = cert_status (cert_of p.game.rules (story p.g
     cert_status (Err bad) is = let same : fault.Cert bad ≡ why = cc in ap fault_status (sym same)
 
 -- a halt without a statement is that of the check
-pub states_bad : (variants : List Named) (input : List Line) (why : Halt) → States (stipulated_in variants input) (Err why) → Answers (Err why) (SaysCertCheck variants input)
+pub states_bad : (variants : List Named) (input : List Line) (why : NoAnswer) → States (stipulated_in variants input) (Err why) → Answers (Err why) (SaysCertCheck variants input)
 states_bad variants input halt.Usage is = absurd is
 states_bad variants input (halt.Fault why) is =
     subst (λ (r : Result Stipulated Fault). SaysStipulated r (fault_status why) (error_line (fault_text why))) (sym is)

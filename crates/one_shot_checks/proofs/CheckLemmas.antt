@@ -33,16 +33,16 @@ use Rattle.strategy_check.proofs.RowLemmas.{wins-from}
 use Rattle.proof_text.specs.declared.fault.ProofFault.{ProofFault}
 use Rattle.proof_text.specs.declared.fault.ProofFault.TheVariants as proof_fault
 use Rattle.proof_text.specs.declared.proof.Proof.{Proof}
-use Rattle.proof_text.specs.declared.taking.NoProof.{NoProof}
-use Rattle.proof_text.specs.declared.taking.NoProof.TheVariants as no_proof
+use Rattle.proof_text.specs.declared.source_lines.NoProof.{NoProof}
+use Rattle.proof_text.specs.declared.source_lines.NoProof.TheVariants as no_proof
 use Rattle.proof_text.specs.Reading.{is_proof_text, lines_of_proof, proof_of}
 use Rattle.proof_text.proofs.ReadingLemmas.{proof-needed}
 use Rattle.proof_text.specs.TakingView as taking
 use Rattle.proof_text.specs.Words.{is_version}
 use Rattle.one_shot_faults.specs.declared.fault.Fault.{Fault}
 use Rattle.one_shot_faults.specs.declared.fault.Fault.TheVariants as fault
-use Rattle.one_shot_faults.specs.declared.halt.Halt.{Halt}
-use Rattle.one_shot_faults.specs.declared.halt.Halt.TheVariants as halt
+use Rattle.one_shot_faults.specs.declared.no_answer.NoAnswer.{NoAnswer}
+use Rattle.one_shot_faults.specs.declared.no_answer.NoAnswer.TheVariants as halt
 use Rattle.one_shot_faults.specs.declared.stop.Stop.TheVariants as stop
 use Rattle.proof_text.specs.declared.strategy_lines.NoStrategy.{NoStrategy}
 use Rattle.proof_text.specs.declared.strategy_lines.NoStrategy.TheVariants.{Faulty, Unread}
@@ -50,7 +50,7 @@ use Rattle.one_shot_checks.specs.Checking.{Good, IsWon, SaysCheck, SaysStated, S
 use Rattle.proof_text.specs.StrategyView.{HasWhy, IsUnread}
 use Rattle.one_shot_checks.specs.CheckView.{Prints, States, losing, winning}
 use Rattle.one_shot_faults.specs.Fault.{error_line, fault_status, fault_text}
-use Rattle.one_shot_faults.specs.HaltView.{Answers, IsUnheard, game_halt, proof_halt, strategy_halt}
+use Rattle.one_shot_faults.specs.NoAnswerView.{Answers, IsUnheard, game_halt, proof_halt, strategy_halt}
 
 -- ---- what was read, as halts have it
 
@@ -272,7 +272,7 @@ stated_status true variants input why is = proof_status (proof_of input) why is
 stated_status false variants input why is = problem_status (problem_of goal_said variants input) input why is
 
 -- a halt without a statement is that of the check
-pub states_bad : (variants : List Named) (input : List Line) (why : Halt) → States (stated_in variants input) (Err why) → Answers (Err why) (SaysCheck variants input)
+pub states_bad : (variants : List Named) (input : List Line) (why : NoAnswer) → States (stated_in variants input) (Err why) → Answers (Err why) (SaysCheck variants input)
 states_bad variants input halt.Usage is = absurd is
 states_bad variants input (halt.Fault why) is =
     subst (λ (r : Result Proof Fault). SaysStated r (fault_status why) (error_line (fault_text why))) (sym is) (stated_status (is_proof_text input) variants input why is, refl)

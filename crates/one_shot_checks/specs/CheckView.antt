@@ -5,13 +5,13 @@ use Rattle.strategy_check.specs.declared.verdict.Verdict.{Verdict}
 use Rattle.strategy_check.specs.declared.verdict.Verdict.TheVariants.{Wins}
 use Rattle.strategy_check.specs.Verdicts.{verdict_text}
 use Rattle.one_shot_faults.specs.declared.fault.Fault.{Fault}
-use Rattle.one_shot_faults.specs.declared.halt.Halt.{Halt}
-use Rattle.one_shot_faults.specs.declared.halt.Halt.TheVariants as halt
+use Rattle.one_shot_faults.specs.declared.no_answer.NoAnswer.{NoAnswer}
+use Rattle.one_shot_faults.specs.declared.no_answer.NoAnswer.TheVariants as halt
 use Rattle.one_shot_faults.specs.declared.stop.Stop.TheVariants as stop
 use Rattle.one_shot_faults.specs.Fault.{error_line}
 
 -- the lines state this, or have this fault; where the run was cut short nothing is known of them
-abbrev pub States : Result Proof Fault → Result Proof Halt → Type 0
+abbrev pub States : Result Proof Fault → Result Proof NoAnswer → Type 0
 States said (Ok p) = said ≡ Ok p
 States said (Err halt.Usage) = ⊥
 States said (Err (halt.Fault fault)) = said ≡ Err fault

@@ -5,13 +5,13 @@ ghost use Rattle.variant_rules.specs.Entries.{entries};
 ghost use Rattle.game_text.specs.HeardLines.{HeardLines};
 ghost use Rattle.one_shot_checks.specs.Certificates as Said;
 ghost use Rattle.one_shot_checks.specs.CertView.{States};
-ghost use Rattle.one_shot_faults.specs.HaltView.{Answers, IsUnheard};
+ghost use Rattle.one_shot_faults.specs.NoAnswerView.{Answers, IsUnheard};
 
 use cert_text::read_cert_lines;
 use foundation::{Memory, Text};
 use game_text::{Problem, Stipulation, read_problem};
 use io_ports::Source;
-use one_shot_faults::{Fault, Halt};
+use one_shot_faults::{Fault, NoAnswer};
 use std::alloc::{AllocError, Global};
 use stipulation::{Cert, CertVerdict, check_help, check_self};
 use variant_ini::Sections;
@@ -29,7 +29,7 @@ fn state<S: Source>(
     alloc: Global,
     sections: &Sections,
     source: &mut S,
-) -> Result<Stipulated, Halt<'static>>
+) -> Result<Stipulated, NoAnswer<'static>>
     ensures heard { HeardLines (S.left source.old) (S.left source.new) (Said.lines_of_cert_check (entries sections.now))
         (λ lines. States (Said.stipulated_in (entries sections.now) lines) result) }
     ensures cause { HasCause (S.faults source.old) (S.faults source.new) (IsUnheard result) }
@@ -61,13 +61,13 @@ fn holds(alloc: Global) -> Result<Text, AllocError>
 }
 
 // `holds`, or the failure of the certificate.
-fn print(alloc: Global, verdict: CertVerdict) -> Result<Text, Halt<'static>>
+fn print(alloc: Global, verdict: CertVerdict) -> Result<Text, NoAnswer<'static>>
     ensures prints { Answers result (Said.SaysVerdict verdict) }
     ensures heard { ¬ (IsUnheard result) }
 {
     match verdict {
         CertVerdict::Holds => Ok(holds(alloc)?),
-        failure => Err(Halt::Fault(Fault::CertFailure(failure))),
+        failure => Err(NoAnswer::Fault(Fault::CertFailure(failure))),
     }
 }
 
@@ -82,7 +82,7 @@ pub fn cert_check_text<S: Source>(
     alloc: Global,
     sections: &Sections,
     source: &mut S,
-) -> Result<Text, Halt<'static>>
+) -> Result<Text, NoAnswer<'static>>
     ensures heard { HeardLines (S.left source.old) (S.left source.new) (Said.lines_of_cert_check (entries sections.now))
         (λ lines. Answers result (Said.SaysCertCheck (entries sections.now) lines)) }
     ensures cause { HasCause (S.faults source.old) (S.faults source.new) (IsUnheard result) }

@@ -8,12 +8,12 @@ ghost use Rattle.strategy.specs.Reading.{AreSound};
 ghost use Rattle.proof_text.specs.Reading.{lines_of_proof, proof_of};
 ghost use Rattle.one_shot_checks.specs.Checking as Said;
 ghost use Rattle.one_shot_checks.specs.CheckView.{Prints, States};
-ghost use Rattle.one_shot_faults.specs.HaltView.{Answers, IsUnheard};
+ghost use Rattle.one_shot_faults.specs.NoAnswerView.{Answers, IsUnheard};
 
 use foundation::{Memory, Text};
 use game_text::{GameFault, Goal, Problem, read_problem_after};
 use io_ports::{Got, LineBuf, Source};
-use one_shot_faults::{Fault, Halt, Stop};
+use one_shot_faults::{Fault, NoAnswer, Stop};
 use proof_text::{Proof, is_version, read_proof_after, read_strategy};
 use std::alloc::{AllocError, Global};
 use strategy_check::{Verdict, check};
@@ -25,7 +25,7 @@ fn state_proof<S: Source>(
     alloc: Global,
     first: &[u8],
     source: &mut S,
-) -> Result<Proof, Halt<'static>>
+) -> Result<Proof, NoAnswer<'static>>
     ensures heard { HeardLines (S.left source.old) (S.left source.new)
         (λ lines. lines_of_proof (line_text first.now ∷ lines) - 1)
         (λ lines. States (Said.by_proof (proof_of (line_text first.now ∷ lines))) result) }
@@ -42,7 +42,7 @@ fn state_problem<S: Source>(
     sections: &Sections,
     source: &mut S,
     line: &mut LineBuf,
-) -> Result<Proof, Halt<'static>>
+) -> Result<Proof, NoAnswer<'static>>
     ensures heard { HeardLines (S.left source.old) (S.left source.new)
         (Said.lines_stated_after (entries sections.now) line.old)
         (λ lines. States (Said.stated_after (entries sections.now) line.old lines) result) }
@@ -53,7 +53,7 @@ fn state_problem<S: Source>(
     let problem: Problem<Goal> = read_problem_after(alloc, &variants, source, line)?;
     let game = &problem.game;
     // Tells the prover that the game's rules are fit and that it has at most 8,192 plies. Nothing is done.
-    game.is_played();
+    game.prove_played();
     let strategy = read_strategy(alloc, game.rules(), source)?;
     Ok(Proof {
         game: problem.game,
@@ -69,7 +69,7 @@ fn state_after<S: Source>(
     sections: &Sections,
     source: &mut S,
     line: &mut LineBuf,
-) -> Result<Proof, Halt<'static>>
+) -> Result<Proof, NoAnswer<'static>>
     ensures heard { HeardLines (S.left source.old) (S.left source.new)
         (λ lines. Said.lines_of_check (entries sections.now) (line_text line.old ∷ lines) - 1)
         (λ lines. States (Said.stated_in (entries sections.now) (line_text line.old ∷ lines)) result) }
@@ -90,7 +90,7 @@ fn state_by<S: Source>(
     sections: &Sections,
     source: &mut S,
     line: &mut LineBuf,
-) -> Result<Proof, Halt<'static>>
+) -> Result<Proof, NoAnswer<'static>>
     ensures heard { HeardLines (S.left source.old) (S.left source.new) (Said.lines_of_check (entries sections.now))
         (λ lines. States (Said.stated_in (entries sections.now) lines) result) }
     ensures sound { IfOk result (λ p. AreSound p.game.rules p.strategy.nodes) }
@@ -98,9 +98,9 @@ fn state_by<S: Source>(
 {
     match source.next_line(line) {
         Got::Line => state_after(alloc, sections, source, line),
-        Got::TooLong => Err(Halt::Fault(Fault::Game(GameFault::LineTooLong(1)))),
-        Got::End => Err(Halt::Fault(Fault::Game(GameFault::Missing(1)))),
-        Got::Failed => Err(Halt::Stop(Stop::Source)),
+        Got::TooLong => Err(NoAnswer::Fault(Fault::Game(GameFault::LineTooLong(1)))),
+        Got::End => Err(NoAnswer::Fault(Fault::Game(GameFault::Missing(1)))),
+        Got::Failed => Err(NoAnswer::Stop(Stop::Source)),
     }
 }
 
@@ -109,7 +109,7 @@ fn state<S: Source>(
     alloc: Global,
     sections: &Sections,
     source: &mut S,
-) -> Result<Proof, Halt<'static>>
+) -> Result<Proof, NoAnswer<'static>>
     ensures heard { HeardLines (S.left source.old) (S.left source.new) (Said.lines_of_check (entries sections.now))
         (λ lines. States (Said.stated_in (entries sections.now) lines) result) }
     ensures sound { IfOk result (λ p. AreSound p.game.rules p.strategy.nodes) }
@@ -135,13 +135,13 @@ fn wins(alloc: Global) -> Result<Text, AllocError>
 }
 
 // `wins`, or the fault of the strategy.
-fn print(alloc: Global, verdict: Verdict) -> Result<Text, Halt<'static>>
+fn print(alloc: Global, verdict: Verdict) -> Result<Text, NoAnswer<'static>>
     ensures prints { Answers result (Prints verdict) }
     ensures heard { ¬ (IsUnheard result) }
 {
     match verdict {
         Verdict::Wins => Ok(wins(alloc)?),
-        fault => Err(Halt::Fault(Fault::Verdict(fault))),
+        fault => Err(NoAnswer::Fault(Fault::Verdict(fault))),
     }
 }
 
@@ -156,7 +156,7 @@ pub fn check_text<S: Source>(
     alloc: Global,
     sections: &Sections,
     source: &mut S,
-) -> Result<Text, Halt<'static>>
+) -> Result<Text, NoAnswer<'static>>
     ensures heard { HeardLines (S.left source.old) (S.left source.new) (Said.lines_of_check (entries sections.now))
         (λ lines. Answers result (Said.SaysCheck (entries sections.now) lines)) }
     ensures cause { HasCause (S.faults source.old) (S.faults source.new) (IsUnheard result) }

@@ -1,3 +1,3 @@
 pub mod Fault
-pub mod HaltView
+pub mod NoAnswerView
 pub mod StopView

@@ -3,9 +3,9 @@
 #![tactic(auto)]
 
 mod fault;
-mod halt;
+mod no_answer;
 mod stop;
 
 pub use fault::Fault;
-pub use halt::Halt;
+pub use no_answer::NoAnswer;
 pub use stop::{NO_MEMORY, SINK_FAILED, SOURCE_FAILED, Stop};

@@ -18,14 +18,14 @@ use Rattle.game_text.specs.GameText.{game_of, lines_of_game}
 use Rattle.game_text.specs.HeardLines.{HeardLines}
 use Rattle.game_text.specs.ReadView as read
 use Rattle.one_shots.specs.declared.answers.Answer.{Answer}
-use Rattle.one_shot_faults.specs.declared.halt.Halt.{Halt}
-use Rattle.one_shot_faults.specs.declared.halt.Halt.TheVariants.{Usage, Fault, Stop}
+use Rattle.one_shot_faults.specs.declared.no_answer.NoAnswer.{NoAnswer}
+use Rattle.one_shot_faults.specs.declared.no_answer.NoAnswer.TheVariants.{Usage, Fault, Stop}
 use Rattle.one_shot_faults.specs.declared.fault.Fault.{Fault as Why}
 use Rattle.one_shot_faults.specs.declared.stop.Stop.{Stop as Cut}
 use Rattle.one_shot_faults.specs.declared.stop.Stop.TheVariants as stop
 use Rattle.one_shot_faults.specs.Fault.{error_line, fault_status, fault_text}
 use Rattle.one_shots.specs.GameView.{SaysGame}
-use Rattle.one_shot_faults.specs.HaltView.{Answers, IsUnheard, betza_halt, game_halt}
+use Rattle.one_shot_faults.specs.NoAnswerView.{Answers, IsUnheard, betza_halt, game_halt}
 use Rattle.one_shots.specs.OutcomeView.{OutcomeOf}
 use Rattle.piece_reach.specs.ReachText.{reach_text}
 use Rattle.piece_reach.specs.Setup.{setup_of}
@@ -59,7 +59,7 @@ pub game_answers : (print : Played → List ℕ) (said : Result Played GameFault
 game_answers print said g text is prints = subst (λ (x : Result Played GameFault). SaysOf print x 0 text) (sym is) (refl, prints)
 
 -- or the fault of the game text
-pub no_game_answers : (print : Played → List ℕ) (said : Result Played GameFault) (why : Halt) → SaysGame said (Err why) → Answers (Err why) (SaysOf print said)
+pub no_game_answers : (print : Played → List ℕ) (said : Result Played GameFault) (why : NoAnswer) → SaysGame said (Err why) → Answers (Err why) (SaysOf print said)
 no_game_answers print said Usage says = absurd says
 no_game_answers print said (Fault fault) says =
     subst (λ (x : Why). SaysOf print said (fault_status x) (error_line (fault_text x))) (sym says.is)
@@ -90,14 +90,14 @@ no_game_unheard Memory unheard = absurd unheard
 -- ---- outcomes
 
 -- the status and the text of an outcome are those that it comes to
-pub outcome_answers : (o : Result (List ℕ) Halt) (r : Result Answer Cut) (Says : ℕ → List ℕ → Type 0) → OutcomeOf o r → Answers o Says → IfOk r (λ answer. Says answer.status answer.text)
+pub outcome_answers : (o : Result (List ℕ) NoAnswer) (r : Result Answer Cut) (Says : ℕ → List ℕ → Type 0) → OutcomeOf o r → Answers o Says → IfOk r (λ answer. Says answer.status answer.text)
 outcome_answers (Ok said) (Ok answer) Says is says = says_at Says 0 answer.status said answer.text is.0 is.1 says
 outcome_answers (Err Usage) (Ok answer) Says is says = says_at Says 2 answer.status _ answer.text is.0 is.1 says
 outcome_answers (Err (Fault why)) (Ok answer) Says is says = says_at Says (fault_status why) answer.status _ answer.text is.0 is.1 says
 outcome_answers (Err (Stop why)) (Ok answer) Says is says = absurd is
 outcome_answers o (Err why) Says is says = tt
 
-pub outcome_unheard : (o : Result (List ℕ) Halt) (r : Result Answer Cut) → OutcomeOf o r → IsUnread r → IsUnheard o
+pub outcome_unheard : (o : Result (List ℕ) NoAnswer) (r : Result Answer Cut) → OutcomeOf o r → IsUnread r → IsUnheard o
 outcome_unheard o (Ok answer) is unread = absurd unread
 outcome_unheard (Ok said) (Err stop.Source) is unread = cc
 outcome_unheard (Err Usage) (Err stop.Source) is unread = cc
@@ -109,7 +109,7 @@ outcome_unheard o (Err stop.Sink) is unread = absurd unread
 outcome_unheard o (Err stop.Memory) is unread = absurd unread
 
 -- no sink that failed is why there is none
-pub outcome_unsaid : (o : Result (List ℕ) Halt) (r : Result Answer Cut) (Says : ℕ → List ℕ → Type 0) → OutcomeOf o r → Answers o Says → IsUnsaid r → ⊥
+pub outcome_unsaid : (o : Result (List ℕ) NoAnswer) (r : Result Answer Cut) (Says : ℕ → List ℕ → Type 0) → OutcomeOf o r → Answers o Says → IsUnsaid r → ⊥
 outcome_unsaid o (Ok answer) Says is says unsaid = unsaid
 outcome_unsaid o (Err stop.Source) Says is says unsaid = unsaid
 outcome_unsaid (Ok said) (Err stop.Sink) Says is says unsaid = cc

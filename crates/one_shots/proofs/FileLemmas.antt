@@ -14,7 +14,7 @@ use Rattle.variant_files.specs.declared.fault.NoSections.TheVariants as no_secti
 use Rattle.variant_files.specs.Looked.{HasSections as Loads}
 use Rattle.one_shots.specs.Commands.{asks_file}
 use Rattle.one_shot_faults.specs.Fault.{fault_status}
-use Rattle.one_shot_faults.specs.HaltView.{load_halt}
+use Rattle.one_shot_faults.specs.NoAnswerView.{load_halt}
 use Rattle.one_shots.specs.OpeningView.{AreFirstOrNone, HasSections}
 use Rattle.one_shots.specs.Looked.{IsTooLarge, TellsReads}
 use Rattle.turning.specs.Turned.{Further}

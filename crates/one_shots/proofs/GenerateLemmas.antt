@@ -8,8 +8,8 @@ use Rattle.session_model.specs.Generate.{SaysGenerate, SaysGenerated, generated,
 use Rattle.variant_ini.specs.Section.{Section}
 use Rattle.variant_model.specs.declared.fault.SectionFault.{SectionFault}
 use Rattle.variant_rules.specs.Entries.{entries, found}
-use Rattle.one_shot_faults.specs.declared.halt.Halt.{Halt}
-use Rattle.one_shot_faults.specs.HaltView.{Answers}
+use Rattle.one_shot_faults.specs.declared.no_answer.NoAnswer.{NoAnswer}
+use Rattle.one_shot_faults.specs.NoAnswerView.{Answers}
 
 module _ (name : List ℕ) (number plies : ℕ) where
   some_of : (o : Option (Result Rules SectionFault)) → (status : ℕ) × (text : List ℕ) × SaysGenerated name number plies o status text
@@ -44,6 +44,6 @@ module _ (sections : List Section) (name : List ℕ) (number plies : ℕ) where
   generate_once s s' t t' says says' = once_of name number plies (found (entries sections) name) s s' t t' says says'
 
   -- by what is found of the name
-  pub generate_says : (r : Result (List ℕ) Halt) (o : Option (Result Rules SectionFault)) → o ≡ found (entries sections) name → Answers r (SaysGenerated name number plies o) → Answers r (SaysGenerate sections name number plies)
+  pub generate_says : (r : Result (List ℕ) NoAnswer) (o : Option (Result Rules SectionFault)) → o ≡ found (entries sections) name → Answers r (SaysGenerated name number plies o) → Answers r (SaysGenerate sections name number plies)
   unfolding SaysGenerate
   generate_says r o is says = subst (λ (x : Option (Result Rules SectionFault)). Answers r (SaysGenerated name number plies x)) is says

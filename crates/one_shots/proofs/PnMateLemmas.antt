@@ -10,12 +10,12 @@ use Rattle.game_text.specs.GameText.{game_of}
 use Rattle.pn_search.specs.declared.fault.PnFault.{PnFault}
 use Rattle.pn_search.specs.MateCount.{mate_count, pn_fault_text}
 use Rattle.one_shot_faults.specs.declared.fault.Fault.{Fault as Why}
-use Rattle.one_shot_faults.specs.declared.halt.Halt.{Halt}
-use Rattle.one_shot_faults.specs.declared.halt.Halt.TheVariants.{Usage, Fault, Stop}
+use Rattle.one_shot_faults.specs.declared.no_answer.NoAnswer.{NoAnswer}
+use Rattle.one_shot_faults.specs.declared.no_answer.NoAnswer.TheVariants.{Usage, Fault, Stop}
 use Rattle.one_shot_faults.specs.declared.stop.Stop.TheVariants as stop
 use Rattle.one_shot_faults.specs.Fault.{error_line, fault_status, fault_text}
 use Rattle.one_shots.specs.GameView.{SaysGame}
-use Rattle.one_shot_faults.specs.HaltView.{Answers}
+use Rattle.one_shot_faults.specs.NoAnswerView.{Answers}
 use Rattle.one_shots.specs.PnMates.{SaysMateCount, SaysMateOf, SaysPnMate, mate_line}
 
 -- ---- what was read, as halts have it
@@ -27,7 +27,7 @@ mate_answers n said g count status text is counts says =
     subst (λ (x : Result Played GameFault). SaysMateOf n x status text) (sym is) (subst (λ (x : Result (Option ℕ) PnFault). SaysMateCount x status text) counts says)
 
 -- or the fault of the game text
-pub no_mate_answers : (n : ℕ) (said : Result Played GameFault) (why : Halt) → SaysGame said (Err why) → Answers (Err why) (SaysMateOf n said)
+pub no_mate_answers : (n : ℕ) (said : Result Played GameFault) (why : NoAnswer) → SaysGame said (Err why) → Answers (Err why) (SaysMateOf n said)
 no_mate_answers n said Usage says = absurd says
 no_mate_answers n said (Fault fault) says =
     subst (λ (x : Why). SaysMateOf n said (fault_status x) (error_line (fault_text x))) (sym says.is)

@@ -12,7 +12,7 @@ use Rattle.suite.specs.ReadView as read
 use Rattle.suite.specs.Report.{suite_report}
 use Rattle.suite.specs.Suite.{lines_of_suite}
 use Rattle.one_shot_faults.specs.Fault.{error_line}
-use Rattle.one_shot_faults.specs.HaltView.{Answers, IsUnheard, suite_halt}
+use Rattle.one_shot_faults.specs.NoAnswerView.{Answers, IsUnheard, suite_halt}
 use Rattle.one_shots.specs.Suites.{SaysReport, SaysSuite}
 
 -- ---- what was read, as halts have it

@@ -4,8 +4,8 @@ use Rattle.game_play.specs.Played.{Played}
 use Rattle.game_text.specs.declared.fault.GameFault.{GameFault}
 use Rattle.one_shot_faults.specs.declared.fault.Fault.{Fault}
 use Rattle.one_shot_faults.specs.declared.fault.Fault.TheVariants.{Game}
-use Rattle.one_shot_faults.specs.declared.halt.Halt.{Halt}
-use Rattle.one_shot_faults.specs.declared.halt.Halt.TheVariants as halt
+use Rattle.one_shot_faults.specs.declared.no_answer.NoAnswer.{NoAnswer}
+use Rattle.one_shot_faults.specs.declared.no_answer.NoAnswer.TheVariants as halt
 use Rattle.one_shot_faults.specs.declared.stop.Stop.TheVariants as stop
 
 -- the game text has this fault
@@ -15,7 +15,7 @@ pub record IsGameFault (said : Result Played GameFault) (fault : Fault) : Type 0
   pub is : fault ≡ Game why
 
 -- the game text says this game, or has this fault; where the run was cut short nothing is known of it
-abbrev pub SaysGame : Result Played GameFault → Result Played Halt → Type 0
+abbrev pub SaysGame : Result Played GameFault → Result Played NoAnswer → Type 0
 SaysGame said (Ok g) = said ≡ Ok g
 SaysGame said (Err halt.Usage) = ⊥
 SaysGame said (Err (halt.Fault fault)) = IsGameFault said fault

@@ -3,8 +3,8 @@ use Rattle.std.specs.Prelude.{◌≡◌, ◌⊎◌, List, [], Option, Some, None
 use Rattle.io_ports.specs.Files.{Read}
 use Rattle.variant_ini.specs.Section.{Section}
 use Rattle.one_shot_faults.specs.declared.fault.Fault.{Fault}
-use Rattle.one_shot_faults.specs.declared.halt.Halt.{Halt}
-use Rattle.one_shot_faults.specs.declared.halt.Halt.TheVariants as halt
+use Rattle.one_shot_faults.specs.declared.no_answer.NoAnswer.{NoAnswer}
+use Rattle.one_shot_faults.specs.declared.no_answer.NoAnswer.TheVariants as halt
 use Rattle.one_shot_faults.specs.declared.stop.Stop.TheVariants as stop
 use Rattle.one_shots.specs.declared.opening.Opened.{Opened}
 use Rattle.one_shots.specs.Variants.{Accepts, AreFirstReads, AreReadsOf, Refuses, sections_in}
@@ -14,7 +14,7 @@ use Rattle.words.specs.Options.{Text}
 use Rattle.words.specs.View.{asked_seen}
 
 -- what a run does, or the usage line where it does nothing
-abbrev pub IsToDo : Option Asked → Result GivenAsked Halt → Type 0
+abbrev pub IsToDo : Option Asked → Result GivenAsked NoAnswer → Type 0
 IsToDo asked (Ok given) = asked ≡ Some (asked_seen given)
 IsToDo asked (Err halt.Usage) = asked ≡ None
 IsToDo asked (Err (halt.Fault fault)) = ⊥
@@ -27,7 +27,7 @@ abbrev pub AreReadsOrNone : Option Text → List Read → Type 0
 AreReadsOrNone name reads = (reads ≡ []) ⊎ AreReadsOf name reads
 
 -- the sections are the built-in ones and those that were found of the file of this name, or the file is refused
-abbrev pub HasSections : Option Text → List Read → Result (List Section) Halt → Type 0
+abbrev pub HasSections : Option Text → List Read → Result (List Section) NoAnswer → Type 0
 HasSections name reads (Ok sections) = Accepts name reads × (sections ≡ sections_in name reads)
 HasSections name reads (Err halt.Usage) = ⊥
 HasSections name reads (Err (halt.Fault fault)) = Refuses name reads fault
@@ -45,7 +45,7 @@ abbrev pub AreFirstOrNone : Option Asked → List Read → Type 0
 AreFirstOrNone asked reads = (reads ≡ []) ⊎ AreFirstReads asked reads
 
 -- what a run does, with the sections that there are after these reads, or why it does nothing of it
-abbrev pub Opens : Option Asked → List Read → Result Opened Halt → Type 0
+abbrev pub Opens : Option Asked → List Read → Result Opened NoAnswer → Type 0
 Opens asked reads (Ok o) =
     (asked ≡ Some (asked_seen o.asked)) × Accepts (asked_seen o.asked).variants reads
     × (o.sections ≡ sections_in (asked_seen o.asked).variants reads)

@@ -3,8 +3,8 @@ use Rattle.std.specs.Prelude.{◌≡◌, ◌⊎◌, ℕ, List, [], Option, Resul
 use Rattle.std.specs.Io.KnownBytes.{Appends}
 use Rattle.io_ports.specs.Cause.{Rose}
 use Rattle.io_ports.specs.Sink.{AppendsFront}
-use Rattle.one_shot_faults.specs.declared.halt.Halt.{Halt}
-use Rattle.one_shot_faults.specs.declared.halt.Halt.TheVariants as halt
+use Rattle.one_shot_faults.specs.declared.no_answer.NoAnswer.{NoAnswer}
+use Rattle.one_shot_faults.specs.declared.no_answer.NoAnswer.TheVariants as halt
 use Rattle.one_shot_faults.specs.declared.stop.Stop.{Stop}
 use Rattle.one_shot_faults.specs.declared.stop.Stop.TheVariants as stop
 use Rattle.one_shot_faults.specs.Fault.{error_line, fault_status, fault_text, usage_line}
@@ -12,7 +12,7 @@ use Rattle.one_shots.specs.declared.answers.Answer.{Answer}
 
 -- the answer has the status and the text of the outcome. A run that was cut short stays so, and any other may be out
 -- of memory
-abbrev pub OutcomeOf : Result (List ℕ) Halt → Result Answer Stop → Type 0
+abbrev pub OutcomeOf : Result (List ℕ) NoAnswer → Result Answer Stop → Type 0
 OutcomeOf (Ok said) (Ok answer) = (answer.status ≡ 0) × (answer.text ≡ said)
 OutcomeOf (Err halt.Usage) (Ok answer) = (answer.status ≡ 2) × (answer.text ≡ usage_line)
 OutcomeOf (Err (halt.Fault fault)) (Ok answer) =

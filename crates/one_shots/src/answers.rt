@@ -7,7 +7,7 @@ ghost use Rattle.game_text.specs.GameText.{lines_of_game};
 ghost use Rattle.game_text.specs.HeardLines.{HeardLines};
 ghost use Rattle.game_reports.specs.GameTexts as print;
 ghost use Rattle.one_shot_checks.specs.GameTexts as stipulate;
-ghost use Rattle.one_shot_faults.specs.HaltView.{Answers, IsUnheard};
+ghost use Rattle.one_shot_faults.specs.NoAnswerView.{Answers, IsUnheard};
 ghost use Rattle.one_shots.specs.OutcomeView.{OutcomeOf};
 ghost use Rattle.one_shots.specs.Sessions.{is_session};
 ghost use Rattle.one_shots.specs.Shot.{SaysCommand, SaysOfGame, SaysReach};
@@ -18,9 +18,9 @@ ghost use Rattle.words.specs.View.{HasPlies, command_seen};
 
 use crate::game::game_in;
 use crate::generating::generate;
-use crate::mate_counts::pn_mate_text;
 use crate::opening::Opened;
-use crate::problems::suite_text;
+use crate::pn_mate_text::pn_mate_text;
+use crate::suite_text::suite_text;
 use crate::variants::variants_of;
 use betza_compile::compile;
 use betza_text::parse;
@@ -28,7 +28,7 @@ use foundation::Text;
 use game_reports::{moves_of, perft_of, status_of};
 use io_ports::{Gate, Source};
 use one_shot_checks::{cert_check_text, check_text, help_mate_of, self_mate_of};
-use one_shot_faults::{Halt, Stop};
+use one_shot_faults::{NoAnswer, Stop};
 use piece_reach::{reach_text, set_up};
 use std::alloc::{AllocError, Global};
 use std::sync::Wait;
@@ -54,7 +54,7 @@ fn reach<'a>(
     square: &'a str,
     own: &'a str,
     enemy: &'a str,
-) -> Result<Text, Halt<'a>>
+) -> Result<Text, NoAnswer<'a>>
     ensures answers { Answers result (SaysReach word.now square.now own.now enemy.now) }
     ensures reads_nothing { ¬ (IsUnheard result) }
 {
@@ -69,7 +69,7 @@ fn moves<S: Source>(
     alloc: Global,
     sections: &Sections,
     source: &mut S,
-) -> Result<Text, Halt<'static>>
+) -> Result<Text, NoAnswer<'static>>
     ensures heard { HeardLines (S.left source.old) (S.left source.new) (lines_of_game (entries sections.now))
         (λ lines. Answers result (SaysOfGame print.moves_of sections.now lines)) }
     ensures cause { HasCause (S.faults source.old) (S.faults source.new) (IsUnheard result) }
@@ -83,7 +83,7 @@ fn status<S: Source>(
     alloc: Global,
     sections: &Sections,
     source: &mut S,
-) -> Result<Text, Halt<'static>>
+) -> Result<Text, NoAnswer<'static>>
     ensures heard { HeardLines (S.left source.old) (S.left source.new) (lines_of_game (entries sections.now))
         (λ lines. Answers result (SaysOfGame print.status_of sections.now lines)) }
     ensures cause { HasCause (S.faults source.old) (S.faults source.new) (IsUnheard result) }
@@ -98,7 +98,7 @@ fn perft<S: Source>(
     plies: u8,
     sections: &Sections,
     source: &mut S,
-) -> Result<Text, Halt<'static>>
+) -> Result<Text, NoAnswer<'static>>
     requires least { 1 ≤ plies }
     requires most { plies ≤ 9 }
     ensures heard { HeardLines (S.left source.old) (S.left source.new) (lines_of_game (entries sections.now))
@@ -115,7 +115,7 @@ fn self_mate<S: Source>(
     moves: u16,
     sections: &Sections,
     source: &mut S,
-) -> Result<Text, Halt<'static>>
+) -> Result<Text, NoAnswer<'static>>
     requires least { 1 ≤ moves }
     requires most { moves ≤ 6 }
     ensures heard { HeardLines (S.left source.old) (S.left source.new) (lines_of_game (entries sections.now))
@@ -132,7 +132,7 @@ fn help_mate<S: Source>(
     moves: u16,
     sections: &Sections,
     source: &mut S,
-) -> Result<Text, Halt<'static>>
+) -> Result<Text, NoAnswer<'static>>
     requires least { 1 ≤ moves }
     requires most { moves ≤ 6 }
     ensures heard { HeardLines (S.left source.old) (S.left source.new) (lines_of_game (entries sections.now))
@@ -144,7 +144,7 @@ fn help_mate<S: Source>(
 }
 
 // The text of `variants`.
-fn variants(alloc: Global, sections: &Sections) -> Result<Text, Halt<'static>>
+fn variants(alloc: Global, sections: &Sections) -> Result<Text, NoAnswer<'static>>
     ensures answers { Answers result (λ status text. (status ≡ 0) × (text ≡ variants_text (entries sections.now))) }
     ensures reads_nothing { ¬ (IsUnheard result) }
 {
@@ -160,7 +160,7 @@ fn command_text<'a, R: Threads + Wait + Sync, S: Source, G: Gate + Sync>(
     source: &mut S,
     threads: u32,
     gate: &G,
-) -> Result<Text, Halt<'a>>
+) -> Result<Text, NoAnswer<'a>>
     requires one_shot { is_session (command_seen command) ≡ false }
     requires plies { HasPlies command }
     requires threads { (1 ≤ threads) × (threads ≤ 64) }
@@ -208,20 +208,20 @@ fn usage(alloc: Global) -> Result<Text, AllocError>
 /// # Errors
 ///
 /// What cut the run short; or there was no memory for the text.
-pub fn answer_of<'a>(alloc: Global, outcome: Result<Text, Halt<'a>>) -> Result<Answer, Stop>
+pub fn answer_of<'a>(alloc: Global, outcome: Result<Text, NoAnswer<'a>>) -> Result<Answer, Stop>
     ensures { OutcomeOf outcome.entry result }
 {
     match outcome {
         Ok(text) => Ok(Answer { status: 0, text }),
-        Err(Halt::Usage) => Ok(Answer {
+        Err(NoAnswer::Usage) => Ok(Answer {
             status: 2,
             text: usage(alloc)?,
         }),
-        Err(Halt::Fault(fault)) => Ok(Answer {
+        Err(NoAnswer::Fault(fault)) => Ok(Answer {
             status: fault.status(),
             text: fault.line(alloc)?,
         }),
-        Err(Halt::Stop(stop)) => Err(stop),
+        Err(NoAnswer::Stop(stop)) => Err(stop),
     }
 }
 

@@ -4,12 +4,12 @@ ghost use Rattle.variant_rules.specs.Entries.{entries};
 ghost use Rattle.game_text.specs.GameText.{game_of, lines_of_game};
 ghost use Rattle.game_text.specs.HeardLines.{HeardLines};
 ghost use Rattle.one_shots.specs.GameView.{SaysGame};
-ghost use Rattle.one_shot_faults.specs.HaltView.{IsUnheard};
+ghost use Rattle.one_shot_faults.specs.NoAnswerView.{IsUnheard};
 
 use game_play::Game;
 use game_text::read_game;
 use io_ports::Source;
-use one_shot_faults::Halt;
+use one_shot_faults::NoAnswer;
 use std::alloc::Global;
 use variant_ini::Sections;
 use variant_rules::load;
@@ -19,7 +19,7 @@ pub fn game_in<S: Source>(
     alloc: Global,
     sections: &Sections,
     source: &mut S,
-) -> Result<Game, Halt<'static>>
+) -> Result<Game, NoAnswer<'static>>
     ensures heard { HeardLines (S.left source.old) (S.left source.new) (lines_of_game (entries sections.now))
         (λ lines. SaysGame (game_of (entries sections.now) lines) result) }
     ensures cause { HasCause (S.faults source.old) (S.faults source.new) (IsUnheard result) }

@@ -3,11 +3,11 @@ ghost use Rattle.std.specs.Prelude.{◌≡◌, ◌≤◌, IfOk};
 ghost use Rattle.session_model.specs.Generate.{SaysGenerate, SaysGenerated};
 ghost use Rattle.variant_rules.specs.Playable.{IsPlayable};
 ghost use Rattle.variant_rules.specs.View.{IfRules, found_view};
-ghost use Rattle.one_shot_faults.specs.HaltView.{Answers, IsUnheard};
+ghost use Rattle.one_shot_faults.specs.NoAnswerView.{Answers, IsUnheard};
 
 use foundation::Text;
 use game_text::{GameFault, copy_of};
-use one_shot_faults::{Fault, Halt};
+use one_shot_faults::{Fault, NoAnswer};
 use random_games::{random_game, report_of};
 use std::alloc::{AllocError, Global};
 use std::thread::Threads;
@@ -15,18 +15,18 @@ use variant_ini::Sections;
 use variant_model::SectionFault;
 use variant_rules::{Found, load};
 
-fn unknown_variant(alloc: Global, name: &str) -> Result<Halt<'static>, AllocError>
-    ensures { IfOk result (λ halt. halt ≡ Halt.Fault (Fault.Game (GameFault.UnknownVariant name.now))) }
+fn unknown_variant(alloc: Global, name: &str) -> Result<NoAnswer<'static>, AllocError>
+    ensures { IfOk result (λ halt. halt ≡ NoAnswer.Fault (Fault.Game (GameFault.UnknownVariant name.now))) }
 {
     let items = name.as_bytes().to_vec(alloc)?;
-    Ok(Halt::Fault(Fault::Game(GameFault::UnknownVariant(Text { items }))))
+    Ok(NoAnswer::Fault(Fault::Game(GameFault::UnknownVariant(Text { items }))))
 }
 
-fn refused_variant(alloc: Global, why: &SectionFault) -> Result<Halt<'static>, AllocError>
-    ensures { IfOk result (λ halt. halt ≡ Halt.Fault (Fault.Game (GameFault.RefusedVariant why.now))) }
+fn refused_variant(alloc: Global, why: &SectionFault) -> Result<NoAnswer<'static>, AllocError>
+    ensures { IfOk result (λ halt. halt ≡ NoAnswer.Fault (Fault.Game (GameFault.RefusedVariant why.now))) }
 {
     let why = copy_of(alloc, why)?;
-    Ok(Halt::Fault(Fault::Game(GameFault::RefusedVariant(why))))
+    Ok(NoAnswer::Fault(Fault::Game(GameFault::RefusedVariant(why))))
 }
 
 // The report of the game, by what is found of the variant's name.
@@ -37,7 +37,7 @@ fn generate_in<R: Threads + Sync>(
     name: &str,
     number: u64,
     plies: u16,
-) -> Result<Text, Halt<'static>>
+) -> Result<Text, NoAnswer<'static>>
     requires playable { IfRules found IsPlayable }
     requires plies { plies ≤ 8192 }
     ensures answers { Answers result (SaysGenerated name.now number plies (found_view found.entry)) }
@@ -61,7 +61,7 @@ pub fn generate<R: Threads + Sync>(
     name: &str,
     number: u64,
     plies: u16,
-) -> Result<Text, Halt<'static>>
+) -> Result<Text, NoAnswer<'static>>
     requires plies { plies ≤ 8192 }
     ensures answers { Answers result (SaysGenerate sections.now name.now number plies) }
     ensures reads_nothing { ¬ (IsUnheard result) }

@@ -5,10 +5,10 @@ mod answers;
 mod game;
 mod generating;
 mod laws;
-mod mate_counts;
 mod opening;
-mod problems;
+mod pn_mate_text;
 mod sections;
+mod suite_text;
 mod variants;
 
 pub use answers::{Answer, answer_of, answer_to};

@@ -9,7 +9,7 @@ ghost use Rattle.words.specs.View.{HasPlies};
 
 use crate::sections::sections_with;
 use io_ports::Files;
-use one_shot_faults::Halt;
+use one_shot_faults::NoAnswer;
 use std::alloc::Global;
 use variant_ini::Sections;
 use words::{Asked, read_words};
@@ -25,14 +25,14 @@ pub struct Opened<'a> {
 
 // What the words ask.
 #[tactic(auto, unfolding(crate::specs::Sessions::to_do))]
-fn read_asked<'a>(alloc: Global, words: &'a [String]) -> Result<Asked<'a>, Halt<'a>>
+fn read_asked<'a>(alloc: Global, words: &'a [String]) -> Result<Asked<'a>, NoAnswer<'a>>
     ensures is { IsToDo (to_do (map string_bytes words.now)) result }
     ensures threads { IfOk result (λ a. (1 ≤ a.threads) × (a.threads ≤ 64)) }
     ensures plies { IfOk result (λ a. HasPlies a.command) }
 {
     match read_words(alloc, words)? {
         Some(asked) => Ok(asked),
-        None => Err(Halt::Usage),
+        None => Err(NoAnswer::Usage),
     }
 }
 
@@ -46,7 +46,7 @@ pub fn open<'a, F: Files>(
     alloc: Global,
     words: &'a [String],
     files: &mut F,
-) -> Result<Opened<'a>, Halt<'a>>
+) -> Result<Opened<'a>, NoAnswer<'a>>
     ensures opens { Looked (Reads F.contents F.faults files.old files.new)
         (λ reads. Opens (to_do (map string_bytes words.now)) reads result) }
     ensures unnamed { asks_file (to_do (map string_bytes words.now)) ≡ false → files.new ≡ files.old }

@@ -6,7 +6,7 @@ ghost use Rattle.one_shots.specs.OpeningView.{HasSections};
 ghost use Rattle.words.specs.View.{text_in};
 
 use io_ports::Files;
-use one_shot_faults::Halt;
+use one_shot_faults::NoAnswer;
 use std::alloc::Global;
 use variant_files::read_sections;
 use variant_ini::Sections;
@@ -18,7 +18,7 @@ pub fn sections_with<F: Files>(
     alloc: Global,
     files: &mut F,
     name: Option<&str>,
-) -> Result<Sections, Halt<'static>>
+) -> Result<Sections, NoAnswer<'static>>
     ensures has { Looked (Reads F.contents F.faults files.old files.new)
         (λ reads. HasSections (text_in name.entry) reads result) }
     ensures unnamed { IsNone (text_in name.entry) → files.new ≡ files.old }

@@ -2,7 +2,7 @@
 use Rattle.std.proofs.Common.{◌≡◌, ℕ, ◌+◌, ◌*◌, ◌/◌, ◌%◌, ◌<◌, ◌≤◌, nat_lt, Bool, true, false, if◌then◌else◌, Option, Some, None, ℤ, pos, negsuc, ◌+ℤ◌, ◌*ℤ◌, refl, sym, ◌∙◌, arith}
 use Rattle.std.proofs.lemmas.Bool.Decides.{nat_tests}
 use Rattle.std.proofs.lemmas.Int.{ints}
-use Rattle.rules_model.specs.declared.board.Board.{Board}
+use Rattle.rules_model.specs.declared.board.BoardSize.{BoardSize}
 use Rattle.rules_model.specs.declared.board.Side.{Side}
 use Rattle.rules_model.specs.declared.board.Side.TheVariants.{White, Black}
 use Rattle.rules_model.specs.declared.board.Square.{Square}
@@ -63,7 +63,7 @@ step_below ray k s h e =
 abbrev pub Differ : Option ℕ → Option ℕ → Type 0
 Differ a b = (s : ℕ) → a ≡ Some s → b ≡ Some s → ⊥
 
-module _ (board : Board) (from : Square) (fit : IsOnBoard board) where
+module _ (board : BoardSize) (from : Square) (fit : IsOnBoard board) where
   ranks_differ : (side : Side) (dx dz : ℤ) (s : ℕ) → IsStepped (pawn_ray board side dx from) 1 s → IsStepped (pawn_ray board side dz from) 2 s → ⊥
   ranks_differ White dx dz s u v = let a = u.rank in let b = v.rank in omega (arith, ints, a, b)
   ranks_differ Black dx dz s u v = let a = u.rank in let b = v.rank in omega (arith, ints, a, b)

@@ -12,7 +12,7 @@ ghost use Rattle.pawn_moves.specs.Shifted.{AreFreeBy, HasPassers, IsAcross, IsBy
 use attack_tables::{PawnMasks, Tables};
 use board_sets::{BoardSets, sets_are_on_board};
 use move_sink::MoveSink;
-use rules_model::sizes::position_sizes;
+use rules_model::sizes::prove_position_sizes;
 use rules_model::{Position, Square};
 use square_set::{BOARD, EMPTY, Set, Shift};
 
@@ -109,7 +109,7 @@ pub(crate) fn push_shifted<S: MoveSink>(
     ensures own { IfOk result (λ left. OnOwnPawns tables.now (repeat_of p.now) left) }
     ensures err { OnErr result (TakesSome S.stops (FitPawnMoves tables.now (repeat_of p.now)) out.old out.new) }
 {
-    position_sizes(p);
+    prove_position_sizes(p);
     sets_are_on_board();
     let masks = tables.pawn_masks(p.side);
     let own = sets.own_pawns();

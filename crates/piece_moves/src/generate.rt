@@ -20,7 +20,7 @@ use crate::targets::targets;
 use attack_tables::{Tables, cell_on};
 use board_sets::{BoardSets, sets_are_on_board};
 use move_sink::{MoveSink, push_if};
-use rules_model::sizes::position_sizes;
+use rules_model::sizes::prove_position_sizes;
 use rules_model::{Cell, Kind, Move, Position, Promo, Rules, Square};
 use square_set::Set;
 
@@ -212,7 +212,7 @@ pub fn push_moves<S: MoveSink>(
     ensures ok { OnOk result (TakesAll S.takes (FitPieceMoves rules.now (repeat_of p.now)) out.old out.new) }
     ensures err { OnErr result (TakesSome S.stops (FitPieceMoves rules.now (repeat_of p.now)) out.old out.new) }
 {
-    position_sizes(p);
+    prove_position_sizes(p);
     sets_are_on_board();
     let mut left = sets.own_pieces();
     while let Some(from) = left.take_first() {

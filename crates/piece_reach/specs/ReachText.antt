@@ -1,7 +1,7 @@
 -- What `reach` prints: the squares of an 8 by 8 board that a piece reaches.
 use Rattle.std.specs.Prelude.{ℕ, List, [], ◌∷◌, ◌++◌, Option, Some, None, Bool, true, false, ◌&&◌, is_none, filter, codes}
 use Rattle.std.specs.List.{flat_map, list_any, range_with_len}
-use Rattle.rules_model.specs.declared.board.Board.{Board}
+use Rattle.rules_model.specs.declared.board.BoardSize.{BoardSize}
 use Rattle.rules_model.specs.declared.board.Cell.{Cell}
 use Rattle.rules_model.specs.declared.board.Side.{Side}
 use Rattle.rules_model.specs.declared.board.Side.TheVariants.{White, Black}
@@ -12,7 +12,7 @@ use Rattle.rules_model.specs.Squares.{cell_at}
 use Rattle.rules_model.specs.Reach.{reaches}
 
 -- the board of the command
-abbrev pub chessboard : Board
+abbrev pub chessboard : BoardSize
 chessboard = record { files = 8; ranks = 8 }
 
 abbrev pub is_black : Side → Bool

@@ -6,11 +6,11 @@ ghost use Rattle.piece_reach.specs.ReachText.{is_enemy, reaches_quietly, reaches
 use foundation::Text;
 use move_text::square_text;
 use rules_model::reach::reaches_plain;
-use rules_model::{Board, Cell, Cells, Side, Square, Term, cell_at};
+use rules_model::{BoardSize, Cell, Cells, Side, Square, Term, cell_at};
 use std::alloc::{AllocError, Global};
 
 /// The board of the command.
-const CHESSBOARD: Board = Board { files: 8, ranks: 8 };
+const CHESSBOARD: BoardSize = BoardSize { files: 8, ranks: 8 };
 
 fn is_enemy(cell: Option<Cell>) -> bool
     ensures { result ≡ is_enemy cell }

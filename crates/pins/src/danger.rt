@@ -7,7 +7,7 @@ ghost use Rattle.square_set.specs.Members.{OnSquares};
 ghost use Rattle.pins.specs.Danger as Danger;
 
 use attack_tables::{Mode, Tables, cell_on};
-use rules_model::sizes::board_size;
+use rules_model::sizes::prove_board_size;
 use rules_model::{Cells, Side, Square};
 use square_set::{EMPTY, Set};
 
@@ -40,7 +40,7 @@ fn danger_anywhere(
     requires enemies { HoldsMen (other side) cells.now enemies }
     ensures { Danger.AreDangers tables.now side cells.now king.0 enemies occupied result }
 {
-    board_size(cells);
+    prove_board_size(cells);
     let _rules = tables.rules();
     let left = occupied.without(king.0);
     let mut danger = EMPTY;

@@ -13,7 +13,7 @@ ghost use Rattle.pins.specs.Evasion.{AttackDependsOn, DependsOn};
 use crate::guards::{all, squares_before};
 use attack_tables::{Mode, Tables, cell_on};
 use move_tables::{Jump, Line, Spot};
-use rules_model::sizes::board_size;
+use rules_model::sizes::prove_board_size;
 use rules_model::{Cells, Kind, Side, Square};
 use square_set::{EMPTY, Set};
 
@@ -143,7 +143,7 @@ fn king_evasions(
     ensures { Evasion.AfterVainMoves by cells.now enemies occupied result.leave result.enter
         (Evasion.PiecesAttack tables.now by king.0) }
 {
-    board_size(cells);
+    prove_board_size(cells);
     let mut leave = EMPTY;
     let mut enter = all();
     let mut near = tables.takers(by, king).and(enemies);

@@ -5,6 +5,6 @@
 pub mod danger;
 pub mod evasion;
 pub mod guards;
-pub mod kings;
+pub mod unpinned;
 
-pub use kings::free;
+pub use unpinned::free;

@@ -10,6 +10,6 @@ use Rattle.position_key.specs.Key.{IsBoardKey}
 
 -- the position is sound for rules that fit, the sets are those of its board, and the key is that of its board and hands
 pub record IsBoard (rules : Rules) (position : Position) (sets : BoardSets) (key : BoardKey) : Type 0 where
-  pub is_ready : IsReady rules rules position
+  pub prove_ready : IsReady rules rules position
   pub are_sets : AreSets rules position.side position.cells sets
   pub is_key : IsBoardKey key (repeat_of position)

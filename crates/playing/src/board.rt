@@ -11,7 +11,7 @@ ghost use Rattle.legality.specs.Stance as Stance;
 
 use attack_tables::Tables;
 use board_sets::{BoardSets, sets_of};
-use legality::{Known, apply_with};
+use legality::{MoveGen, apply_with};
 use position_key::BoardKey;
 use rules_model::{Move, Position, Rules, repeats};
 use std::marker::Model;
@@ -70,7 +70,7 @@ impl<'t> Board<'t> {
     }
 
     /// The rules fit, and the position is sound by them. Nothing is done: the call tells a proof.
-    pub fn is_ready(&self)
+    pub fn prove_ready(&self)
         ensures { IsReady self.now.rules self.now.rules self.now.position }
     {
         let _side = self.position.side;
@@ -78,10 +78,10 @@ impl<'t> Board<'t> {
 
     /// What is known of the position for all that is asked of its moves. Each call works it out, so a caller who asks
     /// more than one thing keeps it.
-    pub fn known(&self) -> Known<'_>
+    pub fn known(&self) -> MoveGen<'_>
         ensures { result ≡ self.now }
     {
-        Known::of(self.tables.rules(), self.tables, &self.position, &self.sets)
+        MoveGen::of(self.tables.rules(), self.tables, &self.position, &self.sets)
     }
 
     /// The rules that are played.

@@ -53,11 +53,11 @@ impl Board<'_> {
 
     /// Appends the legal moves that do not capture, each once and in no special order. Without memory the list is as it
     /// was.
-    pub fn push_others(&self, out: &mut MoveList) -> Result<(), Memory>
+    pub fn push_quiets(&self, out: &mut MoveList) -> Result<(), Memory>
         ensures ok { OnOk result (Appends (Stance.IsOtherIn self.now) out.old out.new) }
         ensures err { OnErr result (out.new ≡ out.old) }
     {
-        self.known().push_others(out)
+        self.known().push_quiets(out)
     }
 
     /// The legal moves, each once and in the byte order of their texts, or `Memory`.

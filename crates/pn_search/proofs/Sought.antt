@@ -108,7 +108,7 @@ found-is g f n t sought frame root moves grown decides settled = by_pair (settle
           frame = frame;
           root = root;
           moves = moves;
-          has_grown = grown;
+          prove_grown = grown;
           pair = is ∙ pair ∙ ap (λ c. cond c won_pair lost_pair) (sym shown);
         }
 

@@ -14,7 +14,7 @@ use crate::node::{Node, State};
 use crate::numbers::{OPEN, Pair};
 use attack_tables::Tables;
 use end_rules::is_run_out;
-use legality::{Known, own_end};
+use legality::{MoveGen, own_end};
 use mate_core::Frame;
 use mate_fact::{end_of, won_by};
 use rules_model::{Memory, Move, Position};
@@ -42,7 +42,7 @@ pub fn root_end(frame: &Frame, tables: &Tables, p: &Position) -> Option<bool>
 }
 
 // How the leaf's position is ended. The root's is ongoing, and its repeat is not looked up.
-fn end_at(frame: &Frame, leaf: &Leaf, known: &Known) -> Option<bool>
+fn end_at(frame: &Frame, leaf: &Leaf, known: &MoveGen) -> Option<bool>
     requires rules { leaf.now.board.rules ≡ frame.now.rules }
     requires known { known.now ≡ leaf.now.board }
     requires root { leaf.now.place ≡ 0 → Trees.end_at frame.now 0 leaf.now.board.position ≡ None }
@@ -107,7 +107,7 @@ fn push_children(
 }
 
 // The legal moves in the order of the list.
-fn legal_list(alloc: Global, known: &Known) -> Result<Vec<Move>, Memory>
+fn legal_list(alloc: Global, known: &MoveGen) -> Result<Vec<Move>, Memory>
     ensures { IfOk result (λ ms. ms.items ≡ legal_in known.now) }
 {
     let moves = known.legal_moves(alloc)?;
@@ -117,7 +117,7 @@ fn legal_list(alloc: Global, known: &Known) -> Result<Vec<Move>, Memory>
 // Makes the children of the leaf. Without memory the nodes and the pairs are as before.
 fn open(
     leaf: &Leaf,
-    known: &Known,
+    known: &MoveGen,
     nodes: &mut Vec<Node>,
     pairs: &mut Vec<Pair>,
 ) -> Result<(), Memory>

@@ -102,7 +102,7 @@ pub(crate) fn find_lent<R: Wait>(
 {
     let mut tree = Tree::new(alloc, shards.frame(), game.position(), n)?;
     grow_out(&mut tree, game.tables())?;
-    tree.has_grown();
+    tree.prove_grown();
     let board = Board::new(game.tables(), game.position());
     publish_below(rt, &tree, shards, passes, 0, &board);
     Ok(Found {

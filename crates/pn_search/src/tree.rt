@@ -102,7 +102,7 @@ impl Tree {
 
     /// It is a tree after some number of expansions, and where its root is proved or disproved, its moves win or do
     /// not. Nothing is done: the call tells a proof.
-    pub fn has_grown(&self)
+    pub fn prove_grown(&self)
         ensures grown { Trees.HasGrown self.now }
         ensures decides { PairDecides self.now }
     {

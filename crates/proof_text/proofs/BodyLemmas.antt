@@ -19,8 +19,8 @@ use Rattle.proof_text.specs.Fault.{HasBodyFault, moved_down}
 use Rattle.proof_text.specs.Reading.{body_of, body_on, lines_of_body, with_strategy}
 use Rattle.proof_text.specs.declared.strategy_lines.NoStrategy.{NoStrategy}
 use Rattle.proof_text.specs.declared.strategy_lines.NoStrategy.TheVariants as by
-use Rattle.proof_text.specs.declared.taking.NoProof.{NoProof}
-use Rattle.proof_text.specs.declared.taking.NoProof.TheVariants.{Faulty, Unread}
+use Rattle.proof_text.specs.declared.source_lines.NoProof.{NoProof}
+use Rattle.proof_text.specs.declared.source_lines.NoProof.TheVariants.{Faulty, Unread}
 use Rattle.proof_text.specs.StrategyView as strategy
 use Rattle.proof_text.specs.StrategyView.{HasBodyWhy}
 use Rattle.proof_text.specs.TakingView.{HasWhy, Hears, IsUnread}

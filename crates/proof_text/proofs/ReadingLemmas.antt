@@ -20,8 +20,8 @@ use Rattle.game_text.proofs.HeardLemmas.{heard_end, heard_line, heard_none, hear
 use Rattle.proof_text.specs.declared.fault.ProofFault.{ProofFault}
 use Rattle.proof_text.specs.declared.fault.ProofFault.TheVariants.{Header, BadRules, RefusedRules, BadStart, BadHistory, BadBody, Memory}
 use Rattle.proof_text.specs.declared.proof.Proof.{Proof}
-use Rattle.proof_text.specs.declared.taking.NoProof.{NoProof}
-use Rattle.proof_text.specs.declared.taking.NoProof.TheVariants.{Faulty, Unread}
+use Rattle.proof_text.specs.declared.source_lines.NoProof.{NoProof}
+use Rattle.proof_text.specs.declared.source_lines.NoProof.TheVariants.{Faulty, Unread}
 use Rattle.proof_text.specs.Lines.{first_text}
 use Rattle.proof_text.specs.Reading.{Reading, history_on, if_said, line_on, lines_of_proof, proof_of, proof_on, rules_on, said_or, with_start}
 use Rattle.proof_text.specs.Words.{is_version}

@@ -6,8 +6,8 @@ use Rattle.strategy.specs.declared.reader.Reader.{Reader}
 use Rattle.strategy.specs.Fault.{IsFaultOrMemory}
 use Rattle.proof_text.specs.declared.strategy_lines.NoStrategy.{NoStrategy}
 use Rattle.proof_text.specs.declared.strategy_lines.NoStrategy.TheVariants.{Faulty, Unread}
-use Rattle.proof_text.specs.declared.taking.NoProof.{NoProof}
-use Rattle.proof_text.specs.declared.taking.NoProof.TheVariants as no_proof
+use Rattle.proof_text.specs.declared.source_lines.NoProof.{NoProof}
+use Rattle.proof_text.specs.declared.source_lines.NoProof.TheVariants as no_proof
 use Rattle.proof_text.specs.Fault.{HasBodyFault}
 
 -- the source failed

@@ -9,8 +9,8 @@ use Rattle.rules_model.specs.declared.rules.Rules.{Rules}
 use Rattle.fen_model.specs.declared.fault.FenFault.{FenFault}
 use Rattle.game_play.specs.Played.{Played}
 use Rattle.proof_text.specs.declared.fault.ProofFault.{ProofFault}
-use Rattle.proof_text.specs.declared.taking.NoProof.{NoProof}
-use Rattle.proof_text.specs.declared.taking.NoProof.TheVariants.{Faulty, Unread}
+use Rattle.proof_text.specs.declared.source_lines.NoProof.{NoProof}
+use Rattle.proof_text.specs.declared.source_lines.NoProof.TheVariants.{Faulty, Unread}
 use Rattle.proof_text.specs.declared.proof.Proof.{Proof}
 use Rattle.proof_text.specs.Fault.{IsFaultOrMemory}
 use Rattle.proof_text.specs.Reading.{Reading, history_on, with_start}

@@ -4,8 +4,8 @@ ghost use Rattle.proof_text.specs.Fault.{HasBodyFault, line_in, moved_down};
 ghost use Rattle.proof_text.specs.StrategyView.{HasBodyWhy};
 
 use crate::fault::ProofFault;
+use crate::source_lines::NoProof;
 use crate::strategy_lines::NoStrategy;
-use crate::taking::NoProof;
 use strategy::StrategyFault;
 
 /// The fault, this many lines further down; none where its line would be above 2^64 - 1.

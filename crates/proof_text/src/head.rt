@@ -7,7 +7,7 @@ ghost use Rattle.proof_text.specs.Reading as Said;
 ghost use Rattle.proof_text.specs.TakingView.{IsUnread, Reads, Starts};
 
 use crate::fault::ProofFault;
-use crate::taking::{NoProof, take_text, text_if};
+use crate::source_lines::{NoProof, take_text, text_if};
 use crate::words::{read_goal, read_history, read_rules, read_start, read_version};
 use game_play::Game;
 use game_text::Goal;

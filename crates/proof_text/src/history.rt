@@ -6,7 +6,7 @@ ghost use Rattle.proof_text.specs.Reading.{goal_on, moves_on, played_by};
 ghost use Rattle.proof_text.specs.TakingView.{HasWhy, IsUnread, Reads, text_said};
 
 use crate::fault::ProofFault;
-use crate::taking::{NoProof, take_text, text_if};
+use crate::source_lines::{NoProof, take_text, text_if};
 use game_play::Game;
 use game_text::{NoGame, play_move};
 use io_ports::{LineBuf, Source};

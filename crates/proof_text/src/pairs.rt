@@ -11,7 +11,7 @@ ghost use Rattle.proof_text.specs.Reading.{pairs_on, rules_of, with_rules};
 ghost use Rattle.proof_text.specs.TakingView.{HasWhy, IsUnread, Reads, text_said};
 
 use crate::fault::ProofFault;
-use crate::taking::{NoProof, take_text, text_if};
+use crate::source_lines::{NoProof, take_text, text_if};
 use foundation::Text;
 use io_ports::{LineBuf, Source};
 use std::alloc::{AllocError, Global};

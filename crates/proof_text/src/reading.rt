@@ -18,8 +18,8 @@ use crate::head::{take_goal, take_history, take_rules, take_start, take_version}
 use crate::history::take_moves;
 use crate::pairs::take_pairs;
 use crate::proof::Proof;
+use crate::source_lines::NoProof;
 use crate::strategy_lines::read_body;
-use crate::taking::NoProof;
 use crate::text_source::TextSource;
 use crate::words::is_version;
 use foundation::Memory;
@@ -47,7 +47,7 @@ fn read_on_body<S: Source>(
     ensures cause { HasCause (S.faults source.old) (S.faults source.new) (IsUnread result) }
 {
     // Tells the prover that the game's rules are fit and that it has at most 8,192 plies. Nothing is done.
-    game.is_played();
+    game.prove_played();
     match read_body(alloc, game.rules(), source, line) {
         Ok(strategy) => Ok(Proof {
             game,

@@ -15,7 +15,7 @@ ghost use Rattle.proof_text.specs.Reading.{proof_of};
 ghost use Rattle.proof_text.specs.Writing as Writing;
 
 use crate::laws::written_proofs_are_read_back;
-use crate::told::told;
+use crate::rule_pairs::told;
 use foundation::{Memory, Text};
 use game_play::Game;
 use move_text::write_move;
@@ -85,7 +85,7 @@ fn start_of(game: &Game) -> &Position
     ensures sound { is_sound game.now.rules result.now ≡ true }
 {
     // The start is sound, as that of each game that was played.
-    game.is_played();
+    game.prove_played();
     first_of(game.history())
 }
 
@@ -176,7 +176,7 @@ fn push_game(alloc: Global, text: &mut Vec<u8>, game: &Game) -> Result<(), Memor
         OnOk result (text.new.items ≡ text.old.items ++ ended_lines lines) }
 {
     // The rules are fit, and at most 8,192 moves were played.
-    game.is_played();
+    game.prove_played();
     push_start(alloc, text, game.rules(), start_of(game))?;
     push_history(text, game.moves())?;
     Ok(())
@@ -200,7 +200,7 @@ fn push_section(
 }
 
 /// A strategy has fewer nodes than there are addresses.
-fn nodes_fit(strategy: &Strategy)
+fn prove_nodes_fit(strategy: &Strategy)
     ensures { length strategy.now.nodes < 2 ^ 64 }
 {
     let _nodes = strategy.nodes.items.len();
@@ -236,8 +236,8 @@ pub fn write_proof(
         IfOk result (λ text. proof_of (lines_of text) ≡ Ok proof) }
 {
     // The rules are fit, as the strategy's positions need.
-    game.is_played();
-    nodes_fit(strategy);
+    game.prove_played();
+    prove_nodes_fit(strategy);
     written_proofs_are_read_back();
     let mut text = Vec::new(alloc);
     push_line(&mut text, b"strategy 2")?;

@@ -34,7 +34,7 @@ fn play_picked(alloc: Global, game: &mut Game, generator: &mut Pcg32) -> Result<
     ensures plays { IfOk result (PlaysOne generator.old generator.new game.old game.new) }
     ensures longer { OnOk result (length game.new.moves ≤ length game.old.moves + 1) }
 {
-    game.is_played();
+    game.prove_played();
     let moves = legal_moves(alloc, game.rules(), game.tables(), game.position())?;
     match picked(moves.items.as_slice(), generator) {
         Some(m) => match game.play(&m) {

@@ -46,7 +46,7 @@ fn value_of<R: Threads + Sync>(
 fn value_text<R: Threads + Sync>(rt: &R, alloc: Global, game: &Game) -> Result<Text, Memory>
     ensures { IfOk result (λ text. text ≡ value_text game.now (legal_in game.now)) }
 {
-    game.is_played();
+    game.prove_played();
     let moves = legal_moves(alloc, game.rules(), game.tables(), game.position())?;
     if moves.items.is_empty() {
         let items = b"none".to_vec(alloc)?;
@@ -69,7 +69,7 @@ pub fn report_of<R: Threads + Sync>(
 ) -> Result<Text, Memory>
     ensures { IfOk result (λ text. text ≡ generated_text name.now number game.now) }
 {
-    game.is_played();
+    game.prove_played();
     let plies = game.moves().len();
     let fen = write_fen(alloc, game.rules(), game.position())?;
     let standing = format!(in alloc; "\n{}\nperft2 ", Printed(game.outcome()))?;

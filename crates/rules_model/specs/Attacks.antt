@@ -2,7 +2,7 @@
 -- also where it is itself kept from moving).
 use Rattle.std.specs.Prelude.{ℕ, ◌%◌, min, max, nat_lt, Bool, false, ◌&&◌, ◌||◌, not, ◌==◌, is_some, if◌then◌else◌, Option, Some, None, List, ℤ, pos, negsuc}
 use Rattle.foundation.specs.Count.{any_below}
-use Rattle.rules_model.specs.declared.board.Board.{Board}
+use Rattle.rules_model.specs.declared.board.BoardSize.{BoardSize}
 use Rattle.rules_model.specs.declared.board.Cell.{Cell}
 use Rattle.rules_model.specs.declared.board.Kind.{Kind}
 use Rattle.rules_model.specs.declared.board.Side.{Side}
@@ -16,22 +16,22 @@ use Rattle.rules_model.specs.Kinds.{board_of, is_king, is_pawn}
 use Rattle.rules_model.specs.Movement.{kind_reaches}
 
 -- the squares one rank forward of a square, and dx files to the right at each rank, as the side sees them
-abbrev pub pawn_ray : Board → Side → ℤ → Square → Ray
+abbrev pub pawn_ray : BoardSize → Side → ℤ → Square → Ray
 pawn_ray board side dx from = record { board = board; from = from; dx = turned side dx; dy = turned side (pos 1) }
 
 -- the square so many steps straight forward, where it is on the board
-abbrev pub ahead : Board → Side → Square → ℕ → Option ℕ
+abbrev pub ahead : BoardSize → Side → Square → ℕ → Option ℕ
 ahead board side from k = step_to (pawn_ray board side (pos 0) from) k
 
 -- the square diagonally one step forward, to the right or to the left
-abbrev pub right_ahead : Board → Side → Square → Option ℕ
+abbrev pub right_ahead : BoardSize → Side → Square → Option ℕ
 right_ahead board side from = step_to (pawn_ray board side (pos 1) from) 1
 
-abbrev pub left_ahead : Board → Side → Square → Option ℕ
+abbrev pub left_ahead : BoardSize → Side → Square → Option ℕ
 left_ahead board side from = step_to (pawn_ray board side (negsuc 0) from) 1
 
 -- a pawn of the side has the square diagonally one step forward
-unfoldable pub is_diagonal : Board → Side → Square → ℕ → Bool
+unfoldable pub is_diagonal : BoardSize → Side → Square → ℕ → Bool
 is_diagonal board side from to = is_at to (right_ahead board side from) || is_at to (left_ahead board side from)
 
 -- a piece of the side and of a kind that passes

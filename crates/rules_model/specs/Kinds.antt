@@ -1,13 +1,13 @@
 -- Kinds of pieces in a variant: which it has, which is the king, which the pawn, and what a kind becomes.
 use Rattle.std.specs.Prelude.{Bool, true, false, ◌==◌, is_some, Option, Some, None, List, [], slice_get, slice_index_or}
-use Rattle.rules_model.specs.declared.board.Board.{Board}
+use Rattle.rules_model.specs.declared.board.BoardSize.{BoardSize}
 use Rattle.rules_model.specs.declared.board.Kind.{Kind}
 use Rattle.rules_model.specs.declared.board.Region.{Region}
 use Rattle.rules_model.specs.declared.rules.KindRule.{KindRule}
 use Rattle.rules_model.specs.declared.rules.Term.{Term}
 use Rattle.rules_model.specs.declared.rules.Rules.{Rules}
 
-abbrev pub board_of : Rules → Board
+abbrev pub board_of : Rules → BoardSize
 board_of rules = record { files = rules.files; ranks = rules.ranks }
 
 -- the kind is the one that is named

@@ -1,7 +1,7 @@
 -- What a piece reaches: Betza's leapers, riders, lame leapers, and the hoppers `p` and `g`.
 use Rattle.std.specs.Prelude.{ℕ, zero, suc, ◌+◌, ◌-◌, max, nat_lt, ◌≤◌, ◌==◌, Bool, false, ◌&&◌, if◌then◌else◌, Option, Some, None, List, ℤ, pos, negsuc, nat_abs, ◌≤ℤ◌}
 use Rattle.foundation.specs.Count.{any_below}
-use Rattle.rules_model.specs.declared.board.Board.{Board}
+use Rattle.rules_model.specs.declared.board.BoardSize.{BoardSize}
 use Rattle.rules_model.specs.declared.board.Cell.{Cell}
 use Rattle.rules_model.specs.declared.board.Side.{Side}
 use Rattle.rules_model.specs.declared.board.Square.{Square}
@@ -12,7 +12,7 @@ use Rattle.rules_model.specs.declared.rules.Way.TheVariants.{Leap, Lame, Slide, 
 use Rattle.rules_model.specs.Squares.{turned, step_to, cell_at}
 
 -- the multiples of a term's step from a square, as the side sees them
-abbrev pub ray_of : Board → Side → Term → Square → Ray
+abbrev pub ray_of : BoardSize → Side → Term → Square → Ray
 ray_of board side t from = record { board = board; from = from; dx = turned side t.dx; dy = turned side t.dy }
 
 -- 1 where a piece stands
@@ -65,11 +65,11 @@ unfoldable pub reaches_over : List (Option Cell) → Way → Ray → ℕ → ℕ
 reaches_over cells way ray to j = is_at to (step_to ray (suc j)) && passes cells way ray j
 
 -- a piece of the side on `from` reaches `to` by the term
-abbrev pub reaches : Board → List (Option Cell) → Side → Term → Square → ℕ → Bool
+abbrev pub reaches : BoardSize → List (Option Cell) → Side → Term → Square → ℕ → Bool
 reaches board cells side t from to = any_below (reaches_over cells t.way (ray_of board side t from) to) t.limit
 
 -- a board no larger than the largest
-pub record IsOnBoard (board : Board) : Type 0 where
+pub record IsOnBoard (board : BoardSize) : Type 0 where
   pub files : board.files ≤ 12
   pub ranks : board.ranks ≤ 10
 

@@ -8,14 +8,14 @@ ghost use Rattle.rules_model.specs.Sides as Sides;
 ghost use Rattle.rules_model.specs.Attacks as Attacks;
 ghost use Rattle.rules_model.specs.Fit.{IsFit};
 
-use crate::board::{Board, Cell, Cells, Kind, Position, SQUARES, Side, Square};
+use crate::board::{BoardSize, Cell, Cells, Kind, Position, SQUARES, Side, Square};
 use crate::kinds::{board_of, names};
 use crate::movement::kind_takes;
 use crate::reach::{Ray, is_target, step, turn};
 use crate::rules::Rules;
 
 /// The square so many steps forward and `dx` files to the right at each, as the side sees it.
-fn pawn_step(board: Board, side: Side, dx: i8, from: Square, k: u8) -> Option<u8>
+fn pawn_step(board: BoardSize, side: Side, dx: i8, from: Square, k: u8) -> Option<u8>
     requires { IsOnBoard board }
     ensures is { result ≡ step_to (Attacks.pawn_ray board side dx from) k }
     ensures on_board { IfSome result (λ s. s < 120) }
@@ -30,7 +30,7 @@ fn pawn_step(board: Board, side: Side, dx: i8, from: Square, k: u8) -> Option<u8
 }
 
 /// The square so many steps straight forward, where it is on the board.
-pub fn ahead(board: Board, side: Side, from: Square, k: u8) -> Option<u8>
+pub fn ahead(board: BoardSize, side: Side, from: Square, k: u8) -> Option<u8>
     requires { IsOnBoard board }
     ensures is { result ≡ Attacks.ahead board side from k }
     ensures on_board { IfSome result (λ s. s < 120) }
@@ -40,7 +40,7 @@ pub fn ahead(board: Board, side: Side, from: Square, k: u8) -> Option<u8>
 
 /// Whether `to` is a square diagonally one step forward of `from`, as the side sees it.
 #[tactic(auto, unfolding(crate::specs::Attacks::is_diagonal))]
-pub fn is_diagonal(board: Board, side: Side, from: Square, to: Square) -> bool
+pub fn is_diagonal(board: BoardSize, side: Side, from: Square, to: Square) -> bool
     requires { IsOnBoard board }
     ensures { result ≡ Attacks.is_diagonal board side from to.0 }
 {

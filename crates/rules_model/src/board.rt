@@ -130,7 +130,7 @@ pub struct Region {
 
 /// The size of a variant's board: at most 12 files and 10 ranks.
 #[derive(Clone, Copy, Debug, PartialEq, Eq)]
-pub struct Board {
+pub struct BoardSize {
     pub files: u8,
     pub ranks: u8,
 }

@@ -7,14 +7,14 @@ ghost use Rattle.rules_model.specs.Kinds as Kinds;
 ghost use Rattle.rules_model.specs.Regions as Regions;
 ghost use Rattle.rules_model.specs.Sides as Sides;
 
-use crate::board::{Board, KINDS, Kind, Region, Side};
+use crate::board::{BoardSize, KINDS, Kind, Region, Side};
 use crate::rules::{KindRule, Rules};
 
 /// The size of the variant's board.
-pub fn board_of(rules: &Rules) -> Board
+pub fn board_of(rules: &Rules) -> BoardSize
     ensures { result ≡ Kinds.board_of rules.now }
 {
-    Board {
+    BoardSize {
         files: rules.files,
         ranks: rules.ranks,
     }

@@ -22,7 +22,7 @@ pub mod soundness;
 
 pub use attacks::{attacks_plain, is_attacked, king_attacked};
 pub use board::{
-    Blocked, Board, Cell, Cells, FILES, KINDS, Kind, Position, RANKS, Region, Repeat, SQUARES,
+    Blocked, BoardSize, Cell, Cells, FILES, KINDS, Kind, Position, RANKS, Region, Repeat, SQUARES,
     Side, Square, Wing, cell_at, repeat_of,
 };
 pub use copy::copy_of_rules;

@@ -3,13 +3,13 @@ ghost use Rattle.std.specs.Prelude.{◌≡◌, ◌≤◌, ◌<◌, ◌+◌, ◌*
 ghost use Rattle.rules_model.specs.Squares.{turned, within, step_to};
 ghost use Rattle.rules_model.specs.Reach.{ray_of, weight, blockers, sign, leg, long_leg, block_squares, passes, is_at, reaches_over, reaches, IsOnBoard, IsShort};
 
-use crate::board::{Board, Cells, Side, Square};
+use crate::board::{BoardSize, Cells, Side, Square};
 use crate::rules::{Term, Way};
 
 /// The squares at the multiples of a step from a square.
 #[derive(Clone, Copy)]
 pub struct Ray {
-    pub board: Board,
+    pub board: BoardSize,
     pub from: Square,
     pub dx: i32,
     pub dy: i32,
@@ -26,7 +26,7 @@ pub(crate) fn turn(side: Side, d: i8) -> i32
 }
 
 /// The multiples of the term's step from the square, as the side sees them.
-pub fn term_ray(board: Board, side: Side, term: &Term, from: Square) -> Ray
+pub fn term_ray(board: BoardSize, side: Side, term: &Term, from: Square) -> Ray
     ensures is { result ≡ ray_of board side term.now from }
     ensures short_dx { IsShort result.dx }
     ensures short_dy { IsShort result.dy }
@@ -176,7 +176,7 @@ pub fn is_target(at: Option<u8>, to: Square) -> bool
 /// What stands on the two squares does not matter.
 #[tactic(auto, using(crate::proofs::ReachLemmas::stepping))]
 pub fn reaches_plain(
-    board: Board,
+    board: BoardSize,
     cells: &Cells,
     side: Side,
     term: &Term,

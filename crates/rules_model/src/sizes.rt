@@ -7,48 +7,48 @@ ghost use Rattle.rules_model.specs.Sizes.{HasSizes, has_sizes};
 use crate::board::{Cells, KINDS, Position, Region};
 use crate::rules::Rules;
 
-fn hand_size(hand: &[u8; KINDS])
+fn prove_hand_size(hand: &[u8; KINDS])
     ensures { length hand.now ≡ 26 }
 {
     let _first = hand[0];
 }
 
-fn rights_size(rights: &[bool; 2])
+fn prove_rights_size(rights: &[bool; 2])
     ensures { length rights.now ≡ 2 }
 {
     let _first = rights[0];
 }
 
 /// A position has 120 squares, and a part of each list for each side.
-pub fn position_sizes(p: &Position)
+pub fn prove_position_sizes(p: &Position)
     ensures { HasSizes (repeat_of p.now) }
 {
     let _cell = p.cells[0];
     let _white = p.gates[0];
     let _black = p.gates[1];
     let _checks = p.checks[0];
-    hand_size(&p.hands[0]);
-    hand_size(&p.hands[1]);
-    rights_size(&p.rights[0]);
-    rights_size(&p.rights[1]);
+    prove_hand_size(&p.hands[0]);
+    prove_hand_size(&p.hands[1]);
+    prove_rights_size(&p.rights[0]);
+    prove_rights_size(&p.rights[1]);
 }
 
 /// A board has 120 squares.
-pub fn board_size(cells: &Cells)
+pub fn prove_board_size(cells: &Cells)
     ensures { length cells.now ≡ 120 }
 {
     let _first = cells[0];
 }
 
 /// A region has a place for each of the 120 squares.
-pub fn region_size(region: &Region)
+pub fn prove_region_size(region: &Region)
     ensures { length region.now.squares ≡ 120 }
 {
     let _first = region.squares[0];
 }
 
 /// Rules have a place for each letter.
-pub fn rules_letters(rules: &Rules)
+pub fn prove_letters(rules: &Rules)
     ensures { length rules.now.kinds ≡ 26 }
 {
     let _first = &rules.kinds[0];

@@ -21,7 +21,7 @@ use crate::board::{Cell, Cells, KINDS, Kind, Position, Region, SQUARES, Side, Sq
 use crate::castling::{castling_on, castling_square, has_gate, holds_right, rook_file};
 use crate::kinds::{board_of, first_rank, has_kind, in_hand, in_region, masks, names, promoted_of};
 use crate::rules::Rules;
-use crate::sizes::position_sizes;
+use crate::sizes::prove_position_sizes;
 
 /// Whether the square is on the board of the variant.
 pub fn is_on_board(rules: &Rules, at: Square) -> bool
@@ -284,7 +284,7 @@ fn is_sound_repeat(rules: &Rules, p: &Position) -> bool
     requires { IsFit rules.now }
     ensures { result ≡ Sound.is_sound_repeat rules.now (repeat_of p.now) }
 {
-    position_sizes(p);
+    prove_position_sizes(p);
     are_sound_cells(rules, &p.cells)
         && pieces_of(p, Side::White) + pieces_of(p, Side::Black) <= 240
         && is_sound_side(rules, p, Side::White)

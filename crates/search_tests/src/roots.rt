@@ -9,7 +9,7 @@ use foundation::Memory;
 use game_line::Line;
 use game_play::Game;
 use hint_table::HintTable;
-use negamax::{Best, Desk, combine, search_root};
+use negamax::{Best, SearchState, combine, search_root};
 use rules_model::{Move, MoveList, Position, Promo, Rules, sound};
 use sample_rules::{capablanca, chess, position, square, xiangqi};
 use std::alloc::Global;
@@ -64,7 +64,7 @@ fn search_all<R: Abort>(
     let flag = StopFlag::new();
     let mut watch = Helper::new(&flag, quota);
     let mut line = Line::new(alloc, game, 20).expect(rt, "no fault");
-    let mut desk = Desk::new(alloc, &hints).expect(rt, "no fault");
+    let mut desk = SearchState::new(alloc, &hints).expect(rt, "no fault");
     let Ok(roots) = roots_of(alloc, &line) else {
         panic!(rt; "no memory");
     };
@@ -140,7 +140,7 @@ fn fact_above<R: Abort>(
     let flag = StopFlag::new();
     let mut watch = Helper::new(&flag, None);
     let mut line = Line::new(alloc, game, 20).expect(rt, "no fault");
-    let mut desk = Desk::new(alloc, &hints).expect(rt, "no fault");
+    let mut desk = SearchState::new(alloc, &hints).expect(rt, "no fault");
     assert!(rt; line.board().is_legal(chosen));
     let fact = search_root(&mut line, &mut desk, &mut watch, 2, chosen, floor);
     fact.map_or((false, 0), |fact| (fact.exact, fact.value))

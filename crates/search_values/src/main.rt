@@ -66,7 +66,7 @@ fn value_of<R: Threads + Sync>(
         value ≡ Values.value_of game.now.rules depth (story game.now) (legal_in game.now))) }
     ensures none { IfOk result (λ found. IfNone found (legal_in game.now ≡ [])) }
 {
-    game.is_played();
+    game.prove_played();
     let moves = legal_moves(alloc, game.rules(), game.tables(), game.position())?;
     if moves.items.is_empty() {
         return Ok(None);
@@ -83,7 +83,7 @@ fn game_of(alloc: Global, rules: &Rules, moves: &str) -> Result<Option<Game>, Me
 {
     let mut game = Game::new(alloc, rules, &rules.start)?;
     for text in moves.split_ascii_whitespace() {
-        game.is_played();
+        game.prove_played();
         let Some(m) = read_move(game.rules(), game.position(), text.as_bytes()) else {
             return Ok(None);
         };

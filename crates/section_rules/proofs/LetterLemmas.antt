@@ -13,7 +13,7 @@ use Rattle.variant_options.specs.PieceTable.{PieceRow, pieces}
 use Rattle.variant_options.proofs.FindLemmas.{list_any-map}
 use Rattle.variant_model.specs.PieceLetters.{gives_letter, letter_in, letter_with, own_letter, parent_letter, piece_letter}
 use Rattle.variant_model.proofs.LetterLaws.{piece_letter_is}
-use Rattle.rules_model.specs.declared.board.Board.{Board}
+use Rattle.rules_model.specs.declared.board.BoardSize.{BoardSize}
 use Rattle.rules_model.specs.declared.board.Region.{Region}
 use Rattle.rules_model.specs.declared.board.Side.{Side}
 use Rattle.rules_model.specs.declared.board.Side.TheVariants.{White, Black}
@@ -102,13 +102,13 @@ pub on_board_is : (section : Resolved) (region : Region) → cut_to (board_of se
 unfolding cut_to on_the_board
 on_board_is section region = refl
 
-pub regions_are : (section : Resolved) (board : Board) (white black : List ℕ) (w b : Region) (f : Side → Region) → board ≡ board_of section → value_or section white read_region w ≡ f White → value_or section black read_region b ≡ f Black → regions_on board section (white, black) (w ∷ b ∷ []) ≡ both_sides section f
+pub regions_are : (section : Resolved) (board : BoardSize) (white black : List ℕ) (w b : Region) (f : Side → Region) → board ≡ board_of section → value_or section white read_region w ≡ f White → value_or section black read_region b ≡ f Black → regions_on board section (white, black) (w ∷ b ∷ []) ≡ both_sides section f
 regions_are section board white black w b f is for_white for_black =
     (λ i. cut_to (is i) (for_white i) ∷ cut_to (is i) (for_black i) ∷ [])
     ∙ (λ i. on_board_is section (f White) i ∷ on_board_is section (f Black) i ∷ [])
 
 -- the regions of a piece
-pub mobility_is : (section : Resolved) (board : Board) (white black : List ℕ) (piece : PieceRow) → board ≡ board_of section → white ≡ mobility_key White piece.key → black ≡ mobility_key Black piece.key → regions_on board section (white, black) (all_squares ∷ all_squares ∷ []) ≡ both_sides section (mobility section piece)
+pub mobility_is : (section : Resolved) (board : BoardSize) (white black : List ℕ) (piece : PieceRow) → board ≡ board_of section → white ≡ mobility_key White piece.key → black ≡ mobility_key Black piece.key → regions_on board section (white, black) (all_squares ∷ all_squares ∷ []) ≡ both_sides section (mobility section piece)
 mobility_is section board white black piece is w b =
     regions_are section board white black all_squares all_squares (mobility section piece) is
     (ap (λ key. value_or section key read_region all_squares) w) (ap (λ key. value_or section key read_region all_squares) b)

@@ -7,7 +7,7 @@ use Rattle.std.proofs.lemmas.Bool.Decides.{nat_tests, Decides-eqb}
 use Rattle.std.proofs.lemmas.List.Folds.{list_all-append}
 use Rattle.rules_model.specs.declared.rules.Way.TheVariants.{Lame}
 use Rattle.rules_model.specs.Fit.{is_within, is_lame_step, fits_way, fits_term}
-use Rattle.betza_text.specs.declared.cut.Cut.{Cut}
+use Rattle.betza_text.specs.declared.split_part.SplitPart.{Cut}
 use Rattle.betza_text.specs.declared.fault.BetzaFault.{BetzaFault}
 use Rattle.betza_text.specs.declared.part.HopKind.{HopKind}
 use Rattle.betza_text.specs.declared.part.HopKind.TheVariants.{No, Over, Behind}

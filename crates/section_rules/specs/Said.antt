@@ -2,7 +2,7 @@
 use Rattle.std.specs.Prelude.{◌≡◌, ℕ, ◌%◌, ◌/◌, nat_lt, Bool, false, ◌&&◌, List, [], ◌∷◌, Option, unwrap_or, option_and_then, map, slice_index_or}
 use Rattle.std.specs.List.{range_with_len}
 use Rattle.std.specs.Borrow.{Bor}
-use Rattle.rules_model.specs.declared.board.Board.{Board}
+use Rattle.rules_model.specs.declared.board.BoardSize.{BoardSize}
 use Rattle.rules_model.specs.declared.board.Kind.{Kind}
 use Rattle.rules_model.specs.declared.board.Region.{Region}
 use Rattle.rules_model.specs.declared.board.Side.{Side}
@@ -30,11 +30,11 @@ letters_in section = map (λ piece. section.letter piece.key) pieces
 abbrev pub value_or : {X : Type 0} → Resolved → List ℕ → (List ℕ → Option X) → X → X
 value_or section key read default = unwrap_or (option_and_then read (section.value key)) default
 
-abbrev pub board_of : Resolved → Board
+abbrev pub board_of : Resolved → BoardSize
 board_of section = record { files = files_of section; ranks = said section max_rank }
 
 -- the squares of a region that are on a board
-unfoldable pub cut_to : Board → Region → Region
+unfoldable pub cut_to : BoardSize → Region → Region
 cut_to board region =
     record {
       squares = map (λ s. slice_index_or region.squares s false
@@ -42,11 +42,11 @@ cut_to board region =
     }
 
 -- the region of a key on a board
-abbrev pub region_on : Board → Resolved → List ℕ → Region → Region
+abbrev pub region_on : BoardSize → Resolved → List ℕ → Region → Region
 region_on board section key default = cut_to board (value_or section key read_region default)
 
 -- the regions of two keys, of White's and of Black's
-abbrev pub regions_on : Board → Resolved → List ℕ × List ℕ → List Region → List Region
+abbrev pub regions_on : BoardSize → Resolved → List ℕ × List ℕ → List Region → List Region
 regions_on board section keys defaults =
     region_on board section keys.0 (slice_index_or defaults 0 (record { squares = [] }))
     ∷ region_on board section keys.1 (slice_index_or defaults 1 (record { squares = [] })) ∷ []

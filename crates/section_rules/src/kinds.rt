@@ -16,7 +16,7 @@ use crate::regions::{Keys, regions};
 use crate::resolved::Resolved;
 use arrayvec::ArrayVec;
 use rules_model::kinds::{masks, names};
-use rules_model::{Board, Kind, KindRule, Memory, Terms};
+use rules_model::{BoardSize, Kind, KindRule, Memory, Terms};
 use std::alloc::Global;
 use variant_options::letters::{KINDS, mask_of};
 use variant_options::line::{PieceValue, read_piece};
@@ -204,7 +204,7 @@ fn keys_of(keys: RegionKeys) -> Keys<'static>
 fn kind_rule(
     alloc: Global,
     section: &Resolved<'_>,
-    board: Board,
+    board: BoardSize,
     pairs: &[(Kind, Kind)],
     kind: Kind,
     place: usize,
@@ -228,7 +228,7 @@ fn kind_rule(
 fn kind_at(
     alloc: Global,
     section: &Resolved<'_>,
-    board: Board,
+    board: BoardSize,
     pairs: &[(Kind, Kind)],
     kind: Kind,
 ) -> Result<Option<KindRule>, Memory>
@@ -256,7 +256,7 @@ fn no_kinds() -> [Option<KindRule>; 26]
 pub(crate) fn kinds(
     alloc: Global,
     section: &Resolved<'_>,
-    board: Board,
+    board: BoardSize,
 ) -> Result<[Option<KindRule>; 26], Memory>
     requires board { board ≡ board_of (resolved_at section.now) }
     ensures { IfOk result (λ kinds. kinds ≡ map (PieceRules.kind_at (resolved_at section.now)) (range_with_len 0 26)) }

@@ -4,21 +4,21 @@ ghost use Rattle.variant_options.specs.Readings.{read_region};
 ghost use Rattle.section_rules.specs.Said.{board_of, both_now, cut_to, regions_on, resolved_at, value_or};
 
 use crate::resolved::Resolved;
-use rules_model::{Board, FILES, Memory, Region};
+use rules_model::{BoardSize, FILES, Memory, Region};
 use std::alloc::Global;
 use variant_options::readings::{SQUARES, read_region};
 
 /// The size of a section's board.
-pub(crate) fn board_of(section: &Resolved<'_>) -> Board
+pub(crate) fn board_of(section: &Resolved<'_>) -> BoardSize
     ensures { result ≡ board_of (resolved_at section.now) }
 {
-    Board {
+    BoardSize {
         files: section.file(b"maxFile", 7) + 1,
         ranks: section.small_number(b"maxRank", 1, 10, 8),
     }
 }
 
-fn is_on_board(board: Board, square: u8) -> bool
+fn is_on_board(board: BoardSize, square: u8) -> bool
     ensures { result ≡ nat_lt (square % 12) board.files && nat_lt (square / 12) board.ranks }
 {
     square % FILES < board.files && square / FILES < board.ranks
@@ -26,7 +26,7 @@ fn is_on_board(board: Board, square: u8) -> bool
 
 /// The squares of a region that are on the board.
 #[tactic(auto, unfolding(crate::specs::Said::cut_to))]
-fn cut_to(board: Board, region: &Region) -> Region
+fn cut_to(board: BoardSize, region: &Region) -> Region
     ensures { result ≡ cut_to board region.now }
 {
     let mut squares = [false; 120];
@@ -58,7 +58,7 @@ pub(crate) type Keys<'a> = (&'a [u8], &'a [u8]);
 pub(crate) fn regions(
     alloc: Global,
     section: &Resolved<'_>,
-    board: Board,
+    board: BoardSize,
     keys: Keys<'_>,
     defaults: [Region; 2],
 ) -> Result<[Region; 2], Memory>

@@ -2,11 +2,11 @@
 #![tactic(auto)]
 
 mod cutting;
-mod mind;
-mod pool;
+mod engine_state;
 mod search;
+mod shared_facts;
 mod solve;
 
-pub use mind::Mind;
+pub use engine_state::EngineState;
 pub use search::{Search, search_once};
 pub use solve::{Solve, solve_once};

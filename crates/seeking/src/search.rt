@@ -9,7 +9,7 @@ ghost use Rattle.watching.specs.Watched.{moment, world};
 ghost use Rattle.seeking.specs.Seeks.{GoneBy, IsFound, cut_of_search};
 
 use crate::cutting::cut_by;
-use crate::mind::Mind;
+use crate::engine_state::EngineState;
 use alpha_beta::{Searched, search};
 use game_play::Game;
 use io_ports::{Clock, Dialect, Gate, Limits, LineBuf, Ports, SearchFault, Sink, Source};
@@ -36,7 +36,7 @@ pub enum Search {
 pub fn search_once<R: Threads + Sync, S: Source, K: Sink, C: Clock, G: Gate + Sync>(
     rt: &R,
     alloc: Global,
-    mind: &mut Mind,
+    mind: &mut EngineState,
     game: &Game,
     roots: &[Move],
     depth: u8,

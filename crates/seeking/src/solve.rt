@@ -7,8 +7,8 @@ ghost use Rattle.watching.specs.Watched.{moment, world};
 ghost use Rattle.seeking.specs.Seeks.{GoneBy, IsRight, cut_of_solve};
 
 use crate::cutting::cut_by;
-use crate::mind::Mind;
-use crate::pool::Pool;
+use crate::engine_state::EngineState;
+use crate::shared_facts::SharedFacts;
 use game_play::Game;
 use io_ports::{Clock, Dialect, Gate, Limits, LineBuf, Ports, SearchFault, Sink, Source};
 use mate_search::{Mate, frame_of, solve};
@@ -41,7 +41,7 @@ pub enum Solve {
 pub fn solve_once<R: Threads + Wait + Sync, S: Source, K: Sink, C: Clock, G: Gate + Sync>(
     rt: &R,
     alloc: Global,
-    mind: &mut Mind,
+    mind: &mut EngineState,
     game: &Game,
     attacker: Side,
     n: u16,
@@ -67,7 +67,7 @@ pub fn solve_once<R: Threads + Wait + Sync, S: Source, K: Sink, C: Clock, G: Gat
 {
     mind.make_hints(alloc)?;
     let frame = frame_of(alloc, game, attacker)?;
-    let (shards, passes) = mind.take_pool(alloc, frame)?.into_parts();
+    let (shards, passes) = mind.take_facts(alloc, frame)?.into_parts();
     let mut ports = Ports {
         source,
         sink,
@@ -88,7 +88,7 @@ pub fn solve_once<R: Threads + Wait + Sync, S: Source, K: Sink, C: Clock, G: Gat
         mind.threads(),
         &mut ports,
     );
-    mind.put_pool(Pool::of(shards, passes));
+    mind.put_facts(SharedFacts::of(shards, passes));
     match answer? {
         Mate::Shown(strategy) => Ok(Solve::Shown(strategy)),
         Mate::NoMate => Ok(Solve::NoMate),

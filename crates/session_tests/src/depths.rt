@@ -11,15 +11,15 @@ use io_ports::{
 use legality::legal_moves;
 use rules_model::{Move, Position, Side, repeat_of, sound};
 use sample_rules::{chess, position};
-use seeking::Mind;
+use seeking::EngineState;
 use std::alloc::Global;
 use std::process::Abort;
 use std::sync::Wait;
 use std::thread::Threads;
 use strategy::{Counters, Nodes, Strategy};
 use thinking::{
-    Depths, Evidence, Found, Score, Style, Task, Tried, begin, deepen, depth_lines, try_mates,
-    unsettled_line,
+    Depths, Evidence, Found, Score, Style, Task, Tried, begin, depth_lines, iterative_deepening,
+    try_mates, unsettled_line,
 };
 use watching::Cut;
 
@@ -157,7 +157,7 @@ fn deepened<R: Threads + Wait + Abort + Sync>(
     let mut sink = MemSink::new(alloc, 1000)?;
     let mut clock = ListClock::new(alloc, &[100, 130, 90])?;
     let mut line = LineBuf::new(alloc)?;
-    let mut mind = Mind::new(alloc, 1)?;
+    let mut mind = EngineState::new(alloc, 1)?;
     let game = Game::new(alloc, &rules, &start)?;
     let roots = legal_moves(alloc, game.rules(), game.tables(), game.position())?;
     assert!(rt; 0 < roots.items.len());
@@ -170,7 +170,7 @@ fn deepened<R: Threads + Wait + Abort + Sync>(
         time: heard.deadline,
     };
     let begun = begin(&mut clock, task.time);
-    let depths = deepen(
+    let depths = iterative_deepening(
         rt,
         alloc,
         &mut mind,
@@ -318,7 +318,7 @@ fn tried<R: Threads + Wait + Abort + Sync>(
     let mut sink = MemSink::new(alloc, 1000).expect(rt, "no fault");
     let mut clock = ListClock::new(alloc, &[130, 90]).expect(rt, "no fault");
     let mut line = LineBuf::new(alloc).expect(rt, "no fault");
-    let mut mind = Mind::new(alloc, 1).expect(rt, "no fault");
+    let mut mind = EngineState::new(alloc, 1).expect(rt, "no fault");
     let game = Game::new(alloc, &rules, &start).expect(rt, "no fault");
     let roots = legal_moves(alloc, game.rules(), game.tables(), game.position()).expect(
         rt, "no fault",

@@ -9,7 +9,7 @@ use io_ports::{
 use playing::Board;
 use rules_model::{Move, Side, sound};
 use sample_rules::{chess, position};
-use seeking::{Mind, Search, Solve, search_once, solve_once};
+use seeking::{EngineState, Search, Solve, search_once, solve_once};
 use std::alloc::Global;
 use std::process::Abort;
 use std::sync::Wait;
@@ -67,7 +67,7 @@ fn searched<R: Threads + Wait + Abort + Sync>(
     let mut sink = MemSink::new(alloc, 100)?;
     let mut clock = ListClock::new(alloc, &[5])?;
     let mut source = MemSource::new(alloc, lines, owed, &[])?;
-    let mut mind = Mind::new(alloc, 1)?;
+    let mut mind = EngineState::new(alloc, 1)?;
     let game = Game::new(alloc, &rules, &p)?;
     let roots = Board::new(game.tables(), game.position()).legal_moves(alloc)?;
     assert!(rt; !roots.items.is_empty());
@@ -103,7 +103,7 @@ fn solved<R: Threads + Wait + Abort + Sync>(
     let mut sink = MemSink::new(alloc, 100).expect(rt, "no fault");
     let mut clock = ListClock::new(alloc, &[5]).expect(rt, "no fault");
     let mut source = MemSource::new(alloc, lines, owed, &[]).expect(rt, "no fault");
-    let mut mind = Mind::new(alloc, 1).expect(rt, "no fault");
+    let mut mind = EngineState::new(alloc, 1).expect(rt, "no fault");
     let game = Game::new(alloc, &rules, &p).expect(rt, "no fault");
     let solved = solve_once(
         rt,
@@ -173,7 +173,7 @@ fn limits_of_a_search_and_a_solve(rt: HostRuntime) {
 
 #[test]
 fn settings_change(rt: HostRuntime) {
-    let mut mind = Mind::new(rt.alloc(), 2).expect(&rt, "no fault");
+    let mut mind = EngineState::new(rt.alloc(), 2).expect(&rt, "no fault");
     mind.set_hash(rt.alloc(), 1).expect(&rt, "no fault");
     mind.set_mate_facts(16);
     mind.forget_hints();

@@ -2,7 +2,7 @@
 use Rattle.std.proofs.Common.{◌≡◌, ◌≢◌, ℕ, ◌/◌, ◌%◌, ◌<◌, ◌≤◌, Bool, true, false, ◌&&◌, ◌||◌, if◌then◌else◌, inl, inr, Option, Some, None, length, pos, negsuc, refl, ap, sym, ◌∙◌, subst, arith, nat_lt, is_none}
 use Rattle.std.proofs.lemmas.Bool.{and_from, and_parts, false_from_ne_true, ltb-true, or_cases}
 use Rattle.std.proofs.lemmas.Bool.Decides.{nat_tests}
-use Rattle.rules_model.specs.declared.board.Board.{Board}
+use Rattle.rules_model.specs.declared.board.BoardSize.{BoardSize}
 use Rattle.rules_model.specs.declared.board.Cell.{Cell}
 use Rattle.rules_model.specs.declared.board.Kind.{Kind}
 use Rattle.rules_model.specs.declared.board.Repeat.{Repeat}
@@ -36,7 +36,7 @@ one_or_two : (side : Side) (a b : ℕ) → advances side a b 1 → advances side
 one_or_two White a b e f = omega (arith, e, f)
 one_or_two Black a b e f = omega (arith, e, f)
 
-not_diagonal : (board : Board) (side : Side) (from : Square) (to : ℕ) → board.files ≤ 12 → is_at to (ahead board side from 2) ≡ true → is_diagonal board side from to ≡ true → ⊥
+not_diagonal : (board : BoardSize) (side : Side) (from : Square) (to : ℕ) → board.files ≤ 12 → is_at to (ahead board side from 2) ≡ true → is_diagonal board side from to ≡ true → ⊥
 unfolding is_diagonal
 not_diagonal board side from to few e h =
     let far = step_two board side (pos 0) from to few (at_some to _ e) in

@@ -56,14 +56,14 @@ pub record AreHands (hands : List (List ℕ)) : Type 0 where
   pub two : length hands ≡ 2
   pub each : list_all (λ hand. length hand == 26) hands ≡ true
 
-hand_size : (hands : List (List ℕ)) (side : Side) → AreHands hands → (length (hand_of hands side) == 26) ≡ true
-hand_size hands White h = let two = h.two in list_all-get (λ hand. length hand == 26) hands 0 [] (omega (arith, two)) h.each
-hand_size hands Black h = let two = h.two in list_all-get (λ hand. length hand == 26) hands 1 [] (omega (arith, two)) h.each
+prove_hand_size : (hands : List (List ℕ)) (side : Side) → AreHands hands → (length (hand_of hands side) == 26) ≡ true
+prove_hand_size hands White h = let two = h.two in list_all-get (λ hand. length hand == 26) hands 0 [] (omega (arith, two)) h.each
+prove_hand_size hands Black h = let two = h.two in list_all-get (λ hand. length hand == 26) hands 1 [] (omega (arith, two)) h.each
 
 with_hand-size : (hands : List (List ℕ)) (side : Side) (kind : Kind) (n : ℕ) → AreHands hands → AreHands (with_hand hands side kind n)
 with_hand-size hands side kind n h = record {
   two = length-set hands (side_index side) _ ∙ h.two;
-  each = list_all-set (λ hand. length hand == 26) hands (side_index side) _ (ap (λ l. l == 26) (length-set (hand_of hands side) kind.0 n) ∙ hand_size hands side h) h.each;
+  each = list_all-set (λ hand. length hand == 26) hands (side_index side) _ (ap (λ l. l == 26) (length-set (hand_of hands side) kind.0 n) ∙ prove_hand_size hands side h) h.each;
 }
 
 pub take_into-size : (b : Bool) (hands : List (List ℕ)) (side : Side) (piece : Option Cell) → AreHands hands → AreHands (take_into b hands side piece)

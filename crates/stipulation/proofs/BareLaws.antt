@@ -26,7 +26,7 @@ use Rattle.legality.specs.Stance.{Stance, after, legal_in, repeat_in}
 use Rattle.stipulation.specs.declared.cert.Step.{Step}
 use Rattle.stipulation.specs.declared.task.Task.{Task}
 use Rattle.stipulation.specs.AtTask as At
-use Rattle.stipulation.specs.declared.facts.Fact.{Fact}
+use Rattle.stipulation.specs.declared.reach_facts.Fact.{Fact}
 use Rattle.stipulation.specs.Bare.{bare, bare_games, reaches, tells, IsTrueFact}
 use Rattle.stipulation.specs.Searches.{IsFound}
 use Rattle.stipulation.specs.Stipulations.{mated_by}

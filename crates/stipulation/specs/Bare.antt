@@ -11,7 +11,7 @@ use Rattle.rules_model.specs.Sides.{other, same_side}
 use Rattle.forced_wins.specs.Contests.{Contest, within}
 use Rattle.game_play.specs.Played.{story}
 use Rattle.legality.specs.Stance.{Stance}
-use Rattle.stipulation.specs.declared.facts.Fact.{Fact}
+use Rattle.stipulation.specs.declared.reach_facts.Fact.{Fact}
 use Rattle.stipulation.specs.declared.task.Task.{Task}
 use Rattle.stipulation.specs.Stipulations.{mated_by}
 

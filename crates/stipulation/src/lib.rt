@@ -3,11 +3,11 @@
 
 mod cert;
 mod check;
-mod facts;
 pub mod laws;
 mod line;
 mod mates;
 mod reach;
+mod reach_facts;
 mod search;
 mod task;
 mod tree;

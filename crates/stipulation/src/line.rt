@@ -125,7 +125,7 @@ impl Line {
         requires sound { AreSound game.now.rules self.now }
         ensures { result ≡ Stipulations.mated_by winner (result_after game.now self.now) }
     {
-        game.is_played();
+        game.prove_played();
         match own_end(game.rules(), game.tables(), self.last(game)) {
             Outcome::Ongoing => { if self.is_cut(game) { Some(false) } else { None } }
             end => mated_by(winner, end),
@@ -137,7 +137,7 @@ impl Line {
         requires sound { AreSound game.now.rules self.now }
         ensures { IsTrue result ↔ Member m.now (legal_after game.now self.now) }
     {
-        game.is_played();
+        game.prove_played();
         is_legal(game.rules(), game.tables(), self.last(game), m)
     }
 
@@ -146,7 +146,7 @@ impl Line {
         requires sound { AreSound game.now.rules self.now }
         ensures { IfOk result (λ ms. ms ≡ legal_after game.now self.now) }
     {
-        game.is_played();
+        game.prove_played();
         legal_moves(alloc, game.rules(), game.tables(), self.last(game))
     }
 
@@ -161,7 +161,7 @@ impl Line {
         ensures sound { AreSound game.now.rules self.new }
         ensures refused { OnErr result (self.new ≡ self.old) }
     {
-        game.is_played();
+        game.prove_played();
         let mut next = *self.last(game);
         apply(game.rules(), game.tables(), &mut next, m);
         self.positions.push(next)?;

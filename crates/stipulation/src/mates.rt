@@ -9,8 +9,8 @@ ghost use Rattle.stipulation.specs.Stipulations.{self_wins, HelpWins};
 ghost use Rattle.stipulation.specs.Verdicts as Verdicts;
 
 use crate::cert::{Cert, Steps};
-use crate::facts::Facts;
 use crate::line::Line;
+use crate::reach_facts::ReachFacts;
 use crate::task::Task;
 use game_play::Game;
 use rules_model::Memory;
@@ -18,7 +18,12 @@ use std::alloc::Global;
 
 impl Task<'_> {
     /// The certificate of what is aimed at within N plies of the game.
-    fn find(&self, alloc: Global, plies: u16, facts: &mut Facts) -> Result<Option<Cert>, Memory>
+    fn find(
+        &self,
+        alloc: Global,
+        plies: u16,
+        facts: &mut ReachFacts,
+    ) -> Result<Option<Cert>, Memory>
         requires few { plies ≤ 12 }
         requires task { facts.old ≡ self.now }
         ensures found { let found = Searches.found (At.games self.now) plies 0 (story self.now.game.now) in
@@ -60,7 +65,7 @@ pub fn self_mate(alloc: Global, game: &Game, n: u16) -> Result<Option<Cert>, Mem
         self_wins game.now.rules n (story game.now) (story game.now).last.side ≡ true)) }
 {
     let task = Task { game, help: false };
-    let mut facts = Facts::new(alloc, &task)?;
+    let mut facts = ReachFacts::new(alloc, &task)?;
     task.find(alloc, 2 * n, &mut facts)
 }
 
@@ -84,7 +89,7 @@ pub fn help_mate(alloc: Global, game: &Game, n: u16) -> Result<Option<Cert>, Mem
     if task.is_ended(alloc) {
         return Ok(None);
     }
-    let mut facts = Facts::new(alloc, &task)?;
+    let mut facts = ReachFacts::new(alloc, &task)?;
     for plies in 1..2 * n + 1 {
         if let Some(cert) = task.find(alloc, plies, &mut facts)? {
             return Ok(Some(cert));

@@ -6,8 +6,8 @@ ghost use Rattle.rules_model.specs.Next.{next_repeat};
 ghost use Rattle.legality.specs.Stance.{legal_in, repeat_in};
 ghost use Rattle.stipulation.specs.Bare.{bare, reaches, IsOf};
 
-use crate::facts::Facts;
 use crate::line::mated_by;
+use crate::reach_facts::ReachFacts;
 use playing::Board;
 use rules_model::{Memory, Move, MoveList, Outcome};
 use std::alloc::Global;
@@ -23,7 +23,7 @@ fn legal_list(alloc: Global, board: &Board) -> Result<MoveList, Memory>
     Ok(moves)
 }
 
-impl Facts<'_> {
+impl ReachFacts<'_> {
     /// Whether it is reached where the position is ended by itself, as its own end says.
     fn ended(&self, board: &Board, own: Outcome) -> Option<bool>
         requires rules { IsOf self.now board.now }

@@ -8,8 +8,8 @@ ghost use Rattle.stipulation.specs.Bare as Bare;
 ghost use Rattle.stipulation.specs.Searches as Searches;
 
 use crate::cert::{Step, Steps};
-use crate::facts::Facts;
 use crate::line::Line;
+use crate::reach_facts::ReachFacts;
 use crate::task::Task;
 use playing::Board;
 use rules_model::{Memory, Move};
@@ -23,7 +23,7 @@ impl Task<'_> {
         alloc: Global,
         line: &Line,
         plies: u16,
-        facts: &mut Facts,
+        facts: &mut ReachFacts,
     ) -> Result<bool, Memory>
         requires task { facts.old ≡ self.now }
         requires sound { At.AreSound self.now line.now }
@@ -43,7 +43,7 @@ impl Task<'_> {
         line: &mut Line,
         plies: u16,
         steps: &mut Steps,
-        facts: &mut Facts,
+        facts: &mut ReachFacts,
     ) -> Result<bool, Memory>
         requires task { facts.old ≡ self.now }
         requires sound { At.AreSound self.now line.old }
@@ -68,7 +68,7 @@ impl Task<'_> {
         line: &mut Line,
         plies: u16,
         steps: &mut Steps,
-        facts: &mut Facts,
+        facts: &mut ReachFacts,
     ) -> Result<bool, Memory>
         requires task { facts.old ≡ self.now }
         requires sound { At.AreSound self.now line.old }
@@ -102,7 +102,7 @@ impl Task<'_> {
         plies: u16,
         moves: &[Move],
         steps: &mut Steps,
-        facts: &mut Facts,
+        facts: &mut ReachFacts,
     ) -> Result<bool, Memory>
         requires task { facts.old ≡ self.now }
         requires sound { At.AreSound self.now line.old }
@@ -131,7 +131,7 @@ impl Task<'_> {
         plies: u16,
         moves: &[Move],
         steps: &mut Steps,
-        facts: &mut Facts,
+        facts: &mut ReachFacts,
     ) -> Result<bool, Memory>
         requires task { facts.old ≡ self.now }
         requires sound { At.AreSound self.now line.old }
@@ -161,7 +161,7 @@ impl Task<'_> {
         plies: u16,
         m: &Move,
         steps: &mut Steps,
-        facts: &mut Facts,
+        facts: &mut ReachFacts,
     ) -> Result<bool, Memory>
         requires task { facts.old ≡ self.now }
         requires sound { At.AreSound self.now line.old }

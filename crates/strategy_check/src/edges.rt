@@ -67,7 +67,7 @@ impl Table<'_> {
         ensures is { result ≡ list_any (Moves.same_move m.now) (At.legal self.now p.now) }
         ensures member { result ≡ true → Member m.now (At.legal self.now p.now) }
     {
-        self.game.is_played();
+        self.game.prove_played();
         is_legal(self.game.rules(), self.game.tables(), p, m)
     }
 
@@ -83,7 +83,7 @@ impl Table<'_> {
         if !self.is_legal(&v.position, &e.chosen) {
             return None;
         }
-        self.game.is_played();
+        self.game.prove_played();
         let mut next = v.position;
         apply(self.game.rules(), self.game.tables(), &mut next, &e.chosen);
         if !repeats(&target.position, &next) {

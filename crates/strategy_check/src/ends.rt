@@ -45,7 +45,7 @@ impl Table<'_> {
         requires sound { At.IsSound self.now p.now }
         ensures { result ≡ At.own_end self.now p.now }
     {
-        self.game.is_played();
+        self.game.prove_played();
         let end = own_end(self.game.rules(), self.game.tables(), p);
         won_by(self.attacker, end)
     }

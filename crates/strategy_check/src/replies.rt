@@ -53,7 +53,7 @@ impl Table<'_> {
         if end.is_some() || v.position.side.is(self.attacker) {
             return Ok(None);
         }
-        self.game.is_played();
+        self.game.prove_played();
         let legal = legal_moves(alloc, self.game.rules(), self.game.tables(), &v.position)?;
         Ok(first_missing(v, legal.items.as_slice()))
     }

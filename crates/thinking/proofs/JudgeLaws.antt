@@ -24,8 +24,8 @@ use Rattle.session_model.specs.Thinking.{Task, mate_sought, solve_within}
 use Rattle.thinking.specs.declared.depth.Depth.TheVariants.{Done, Off}
 use Rattle.thinking.specs.declared.found.CutSolve.{CutSolve}
 use Rattle.thinking.specs.declared.found.Found.{Found}
-use Rattle.thinking.specs.declared.judging.Explored.TheVariants as explored
-use Rattle.thinking.specs.declared.judging.Judged.{Judged}
+use Rattle.thinking.specs.declared.judging.DepthSearched.TheVariants as explored
+use Rattle.thinking.specs.declared.judging.DepthJudged.{DepthJudged}
 use Rattle.thinking.specs.declared.style.Style.{Style}
 use Rattle.thinking.specs.Cuts.{CutsBy}
 use Rattle.thinking.specs.Depths.{BrokeDepth, Deeper, IsDepth}
@@ -37,7 +37,7 @@ use Rattle.thinking.proofs.RanLaws.{broke_held, broke_told, ran_told, told, told
 use Rattle.thinking.proofs.TellLaws.{listens_none, listens_tells, tells_told}
 
 -- what holds of a judgement with these parts
-judged_is : (P : Judged → Type 0) (j : Judged) {found : Found} {cut : Option CutSolve} → j.found ≡ found → j.cut ≡ cut
+judged_is : (P : DepthJudged → Type 0) (j : DepthJudged) {found : Found} {cut : Option CutSolve} → j.found ≡ found → j.cut ≡ cut
     → P (record { found = found; cut = cut }) → P j
 judged_is P j {found = found} {cut = cut} f e p =
     subst (λ (x : Found). P (record { found = x; cut = j.cut })) (sym f) (subst (λ (y : Option CutSolve). P (record { found = found; cut = y })) (sym e) p)
@@ -55,7 +55,7 @@ module _ {S K C : Type 0} (w : World S K C) (dialect : Dialect) where
     -- ---- a solve
 
     -- it came to its end
-    pub judged_solved : (n : ℕ) (judged : Judged) {found : Found} → judged.found ≡ found → judged.cut ≡ None → Gone w dialect limits a b text (solve_within t n) None → solve_within t n ≤ asked_at t depth
+    pub judged_solved : (n : ℕ) (judged : DepthJudged) {found : Found} → judged.found ≡ found → judged.cut ≡ None → Gone w dialect limits a b text (solve_within t n) None → solve_within t n ≤ asked_at t depth
         → IsFinding t depth found None
         → IsJudged dialect (MovesOn w a b) (w.owed a.source) (w.owed b.source) t depth limits text judged
     judged_solved n judged f e gone near is = judged_is (IsJudged dialect (MovesOn w a b) (w.owed a.source) (w.owed b.source) t depth limits text) judged f e (record {
@@ -96,7 +96,7 @@ module _ {S K C : Type 0} (w : World S K C) (dialect : Dialect) where
     }
 
     -- it came to its end, and then a mate was looked for
-    pub explored_found : (d : Moment S K C) (text' : List ℕ) (nodes : ℕ) (judged : Judged) → Gone w dialect limits a b text (search_at t depth) None → nodes ≤ search_at t depth
+    pub explored_found : (d : Moment S K C) (text' : List ℕ) (nodes : ℕ) (judged : DepthJudged) → Gone w dialect limits a b text (search_at t depth) None → nodes ≤ search_at t depth
         → IsJudged dialect (MovesOn w b d) (w.owed b.source) (w.owed d.source) t depth (record { quota = option_map (λ number. number - nodes) limits.quota; deadline = limits.deadline }) text' judged
         → IsExplored dialect (MovesOn w a d) (w.owed a.source) (w.owed d.source) t depth limits text' (explored.Found judged)
     explored_found d text' nodes judged gone few j = record {
@@ -120,7 +120,7 @@ module _ {S K C : Type 0} (w : World S K C) (dialect : Dialect) where
     explored_broke d gone broke = broke_more dialect (Listens dialect) (λ x y p q. listens_more dialect x y p.0 q) gone.looked.ran broke
 
   -- no mate is looked for
-  pub judged_none : (a : Moment S K C) (t : Task) (depth : ℕ) (limits : Limits) (text : List ℕ) (judged : Judged) {found : Found} → judged.found ≡ found → judged.cut ≡ None
+  pub judged_none : (a : Moment S K C) (t : Task) (depth : ℕ) (limits : Limits) (text : List ℕ) (judged : DepthJudged) {found : Found} → judged.found ≡ found → judged.cut ≡ None
       → IsFinding t depth found None
       → IsJudged dialect (MovesOn w a a) (w.owed a.source) (w.owed a.source) t depth limits text judged
   judged_none a t depth limits text judged f e is = judged_is (IsJudged dialect (MovesOn w a a) (w.owed a.source) (w.owed a.source) t depth limits text) judged f e (record {
@@ -182,7 +182,7 @@ module _ {S K C : Type 0} {left : S → Option (List ℕ)} {taken : K → Option
     is = tt;
   }
 
-  module _ {s s' : S} {k k' k'' : K} {c c' c'' : C} {o o' : Owed} (judged : Judged) (reading : ℕ)
+  module _ {s s' : S} {k k' k'' : K} {c c' c'' : C} {o o' : Owed} (judged : DepthJudged) (reading : ℕ)
       (e : IsExplored dialect (Moves left taken given count last s s' k k' c c') o o' t depth limits text (explored.Found judged))
       (gives : GivesReadings (count c'') (given c') (given c'') (reads_by style reading)) (counts : count c'' ≡ count_after (count c') (reads_by style reading))
       (lasts : last c'' ≡ last_after (last c') (reads_by style reading)) where

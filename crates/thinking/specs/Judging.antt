@@ -14,9 +14,9 @@ use Rattle.thinking.specs.Cuts.{CutsBy}
 use Rattle.thinking.specs.Views.{report_of}
 use Rattle.thinking.specs.declared.found.CutSolve.{CutSolve}
 use Rattle.thinking.specs.declared.found.Found.{Found}
-use Rattle.thinking.specs.declared.judging.Explored.{Explored}
-use Rattle.thinking.specs.declared.judging.Explored.TheVariants as explored
-use Rattle.thinking.specs.declared.judging.Judged.{Judged}
+use Rattle.thinking.specs.declared.judging.DepthSearched.{DepthSearched}
+use Rattle.thinking.specs.declared.judging.DepthSearched.TheVariants as explored
+use Rattle.thinking.specs.declared.judging.DepthJudged.{DepthJudged}
 
 -- ---- bounds
 
@@ -46,7 +46,7 @@ solve_reach t None = 0
 solve_reach t (Some cut) = solve_within t cut.moves
 
 pub record IsJudged (dialect : Dialect) (moved : Moved) (owed owed' : Owed) (t : Task) (depth : ℕ) (limits : Limits)
-    (text : List ℕ) (judged : Judged) : Type 0 where
+    (text : List ℕ) (judged : DepthJudged) : Type 0 where
   pub ran : Ran dialect moved (held (solve_cut judged.cut) text) (λ events.
       Listens dialect events
       × IfSome (solve_cut judged.cut) (CutsBy dialect owed (asked_at t depth) limits.quota limits.deadline
@@ -56,21 +56,21 @@ pub record IsJudged (dialect : Dialect) (moved : Moved) (owed owed' : Owed) (t :
 
 -- ---- a search, and then that
 
-abbrev pub explored_cut : Explored → Option Cut
+abbrev pub explored_cut : DepthSearched → Option Cut
 explored_cut (explored.Found judged) = solve_cut judged.cut
 explored_cut (explored.Off why) = Some why
 
 -- the nodes that may be reached in what is cut
-abbrev pub explored_reach : Task → ℕ → Explored → ℕ
+abbrev pub explored_reach : Task → ℕ → DepthSearched → ℕ
 explored_reach t depth (explored.Found judged) = search_at t depth + solve_reach t judged.cut
 explored_reach t depth (explored.Off why) = search_at t depth
 
-abbrev pub IsExploration : Task → ℕ → Explored → Type 0
+abbrev pub IsExploration : Task → ℕ → DepthSearched → Type 0
 IsExploration t depth (explored.Found judged) = IsFinding t depth judged.found judged.cut
 IsExploration t depth (explored.Off why) = Unit {0}
 
 pub record IsExplored (dialect : Dialect) (moved : Moved) (owed owed' : Owed) (t : Task) (depth : ℕ) (limits : Limits)
-    (text : List ℕ) (e : Explored) : Type 0 where
+    (text : List ℕ) (e : DepthSearched) : Type 0 where
   pub ran : Ran dialect moved (held (explored_cut e) text) (λ events.
       Listens dialect events
       × IfSome (explored_cut e) (CutsBy dialect owed (bound_at t depth) limits.quota limits.deadline

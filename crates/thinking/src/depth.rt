@@ -10,12 +10,12 @@ ghost use Rattle.thinking.specs.Tells.{reads_by};
 ghost use Rattle.thinking.specs.Views.{IsTask, task_seen};
 
 use crate::found::{CutSolve, Found};
-use crate::judging::{Explored, Judged, explore};
+use crate::judging::{DepthJudged, DepthSearched, search_and_judge};
 use crate::lines::depth_lines;
 use crate::style::Style;
 use crate::task::Task;
 use io_ports::{Clock, Dialect, Gate, Limits, LineBuf, SearchFault, Sink, Source};
-use seeking::Mind;
+use seeking::EngineState;
 use std::alloc::Global;
 use std::sync::Wait;
 use std::thread::Threads;
@@ -53,10 +53,10 @@ fn reading_for<C: Clock>(style: Style, clock: &mut C) -> u64
 /// # Errors
 ///
 /// The fault of the source or of the sink; or no memory. What was written until then can be completed.
-pub fn deeper<R: Threads + Wait + Sync, S: Source, K: Sink, C: Clock, G: Gate + Sync>(
+pub fn search_depth<R: Threads + Wait + Sync, S: Source, K: Sink, C: Clock, G: Gate + Sync>(
     rt: &R,
     alloc: Global,
-    mind: &mut Mind,
+    mind: &mut EngineState,
     task: &Task,
     style: Style,
     first: u64,
@@ -72,7 +72,7 @@ pub fn deeper<R: Threads + Wait + Sync, S: Source, K: Sink, C: Clock, G: Gate + 
     requires task { IsTask task.now }
     requires least { 1 ≤ depth }
     requires most { depth ≤ 64 }
-    ensures deeper { IfOk result (Deeper dialect style
+    ensures search_depth { IfOk result (Deeper dialect style
         (Moves S.left K.taken C.given C.count C.last source.old source.new sink.old sink.new clock.old clock.new)
         (S.owed source.old) (S.owed source.new) (task_seen task.now) first depth limits line.new) }
     ensures broke { (why : SearchFault) → IsErrOf result why → BrokeDepth dialect style
@@ -83,15 +83,15 @@ pub fn deeper<R: Threads + Wait + Sync, S: Source, K: Sink, C: Clock, G: Gate + 
         (IsErrOf result) }
     ensures same { mind.new ≡ mind.old }
 {
-    let explored = explore(
+    let explored = search_and_judge(
         rt, alloc, mind, task, depth, limits, source, sink, clock, gate, dialect, line,
     )?;
     match explored {
-        Explored::Off(why) => Ok(Depth::Off(why)),
-        Explored::Found(judged) => {
-            let Judged { found, cut } = judged;
+        DepthSearched::Off(why) => Ok(Depth::Off(why)),
+        DepthSearched::Found(judged) => {
+            let DepthJudged { found, cut } = judged;
             let reading = reading_for(style, clock);
-            task.game.is_played();
+            task.game.prove_played();
             let text = depth_lines(
                 alloc,
                 style,

@@ -16,7 +16,7 @@ use crate::scores::{favoured, mate_sought, root_move};
 use crate::task::{Task, quota_left};
 use io_ports::{Clock, Dialect, Gate, Limits, LineBuf, SearchFault, Sink, Source};
 use rules_model::Move;
-use seeking::{Mind, Search, Solve, search_once, solve_once};
+use seeking::{EngineState, Search, Solve, search_once, solve_once};
 use std::alloc::Global;
 use std::sync::Wait;
 use std::thread::Threads;
@@ -24,20 +24,20 @@ use watching::Cut;
 
 /// What is found at a depth, and the solve that was cut after its search, where one was.
 #[derive(Drop)]
-pub struct Judged {
+pub struct DepthJudged {
     pub found: Found,
     pub cut: Option<CutSolve>,
 }
 
 /// What a depth comes to: what is found, or a search that was cut.
 #[derive(Drop)]
-pub enum Explored {
-    Found(Judged),
+pub enum DepthSearched {
+    Found(DepthJudged),
     Off(Cut),
 }
 
 // A depth that no cut leaves open.
-fn settled(score: Score, best: Move, unsettled: Option<Evidence>, nodes: u64) -> Judged
+fn settled(score: Score, best: Move, unsettled: Option<Evidence>, nodes: u64) -> DepthJudged
     ensures found { result.found ≡ record { score = score; best = best; unsettled = unsettled; nodes = nodes } }
     ensures cut { result.cut ≡ None }
 {
@@ -47,7 +47,7 @@ fn settled(score: Score, best: Move, unsettled: Option<Evidence>, nodes: u64) ->
         unsettled,
         nodes,
     };
-    Judged { found, cut: None }
+    DepthJudged { found, cut: None }
 }
 
 /// Looks for the mate that the value of a depth stands for, where all legal moves are root moves.
@@ -56,10 +56,10 @@ fn settled(score: Score, best: Move, unsettled: Option<Evidence>, nodes: u64) ->
 ///
 /// The fault of the source or of the sink; or no memory. The lines that were heard until then are answered, the last
 /// one in part.
-pub fn judge<R: Threads + Wait + Sync, S: Source, K: Sink, C: Clock, G: Gate + Sync>(
+pub fn seek_mate<R: Threads + Wait + Sync, S: Source, K: Sink, C: Clock, G: Gate + Sync>(
     rt: &R,
     alloc: Global,
-    mind: &mut Mind,
+    mind: &mut EngineState,
     task: &Task,
     depth: u8,
     value: i32,
@@ -72,7 +72,7 @@ pub fn judge<R: Threads + Wait + Sync, S: Source, K: Sink, C: Clock, G: Gate + S
     gate: &G,
     dialect: Dialect,
     line: &mut LineBuf,
-) -> Result<Judged, SearchFault>
+) -> Result<DepthJudged, SearchFault>
     requires task { IsTask task.now }
     requires least { 1 ≤ depth }
     requires value { value ≡ Thinking.value_at (task_seen task.now) depth }
@@ -112,8 +112,8 @@ pub fn judge<R: Threads + Wait + Sync, S: Source, K: Sink, C: Clock, G: Gate + S
             Ok(settled(Score::Mates(moves, strategy), chosen, None, nodes))
         }
         Solve::Cut(why) => {
-            let Judged { found, .. } = settled(Score::Points(value), best, None, nodes);
-            Ok(Judged {
+            let DepthJudged { found, .. } = settled(Score::Points(value), best, None, nodes);
+            Ok(DepthJudged {
                 found,
                 cut: Some(CutSolve { moves, why }),
             })
@@ -127,10 +127,10 @@ pub fn judge<R: Threads + Wait + Sync, S: Source, K: Sink, C: Clock, G: Gate + S
 ///
 /// The fault of the source or of the sink; or no memory. The lines that were heard until then are answered, the last
 /// one in part.
-pub fn explore<R: Threads + Wait + Sync, S: Source, K: Sink, C: Clock, G: Gate + Sync>(
+pub fn search_and_judge<R: Threads + Wait + Sync, S: Source, K: Sink, C: Clock, G: Gate + Sync>(
     rt: &R,
     alloc: Global,
-    mind: &mut Mind,
+    mind: &mut EngineState,
     task: &Task,
     depth: u8,
     limits: Limits,
@@ -140,7 +140,7 @@ pub fn explore<R: Threads + Wait + Sync, S: Source, K: Sink, C: Clock, G: Gate +
     gate: &G,
     dialect: Dialect,
     line: &mut LineBuf,
-) -> Result<Explored, SearchFault>
+) -> Result<DepthSearched, SearchFault>
     requires task { IsTask task.now }
     requires least { 1 ≤ depth }
     requires most { depth ≤ 64 }
@@ -160,17 +160,17 @@ pub fn explore<R: Threads + Wait + Sync, S: Source, K: Sink, C: Clock, G: Gate +
         line,
     )?;
     match searched {
-        Search::Cut(why) => Ok(Explored::Off(why)),
+        Search::Cut(why) => Ok(DepthSearched::Off(why)),
         Search::Done { value, best, nodes } => {
             let left = Limits {
                 quota: quota_left(limits.quota, nodes),
                 deadline: limits.deadline,
             };
-            let judged = judge(
+            let judged = seek_mate(
                 rt, alloc, mind, task, depth, value, best, nodes, left, source, sink, clock, gate,
                 dialect, line,
             )?;
-            Ok(Explored::Found(judged))
+            Ok(DepthSearched::Found(judged))
         }
     }
 }

@@ -12,7 +12,7 @@ use crate::scores::root_move;
 use game_play::Game;
 use io_ports::{Clock, Dialect, Gate, Limits, LineBuf, SearchFault, Sink, Source};
 use rules_model::Move;
-use seeking::{Mind, Solve, solve_once};
+use seeking::{EngineState, Solve, solve_once};
 use std::alloc::Global;
 use std::sync::Wait;
 use std::thread::Threads;
@@ -51,7 +51,7 @@ pub enum Tried {
 pub fn try_mates<R: Threads + Wait + Sync, S: Source, K: Sink, C: Clock, G: Gate + Sync>(
     rt: &R,
     alloc: Global,
-    mind: &mut Mind,
+    mind: &mut EngineState,
     game: &Game,
     last: u16,
     limits: Limits,

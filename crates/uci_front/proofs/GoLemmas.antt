@@ -35,8 +35,8 @@ use Rattle.turning.specs.Turned.{RanPart, Served, Unserved, turn_of}
 use Rattle.turning.proofs.Ending.{further_none}
 use Rattle.turning.proofs.Lawful.{uci_is_lawful}
 use Rattle.turning.proofs.Saying.{AnswersAlways, served_ran, served_said, settled_stops, unserved_part, unserved_said}
-use Rattle.uci_session.specs.declared.plan.Plan.{Plan}
-use Rattle.uci_session.specs.declared.searching.Came.{Came}
+use Rattle.uci_session.specs.declared.plan.GoPlan.{GoPlan}
+use Rattle.uci_session.specs.declared.searching.GoResult.{GoResult}
 use Rattle.uci_session.specs.Searched.{BrokeGoing, Completes, Gone}
 use Rattle.uci_session.specs.TextView.{last_line}
 use Rattle.uci_session.specs.PlanView.{IsPlan, SaidAtOnce, SaidBy}
@@ -58,7 +58,7 @@ go_is state line asked is = ap (λ (c : Command). bound_of state c) is
 
 -- ---- what is said at once
 
-pub said_goes : (A : Type 0) (state : State) (plan : Plan) (asked : Go) (text : List ℕ) (turn : Turn State) (following : List Line)
+pub said_goes : (A : Type 0) (state : State) (plan : GoPlan) (asked : Go) (text : List ℕ) (turn : Turn State) (following : List Line)
     → IsPlan state asked plan → SaidAtOnce state.game plan (Some text) → turn.after ≡ forgotten state
     → turn.events ≡ Says text ∷ [] → Goes A state asked turn following
 said_goes A state plan asked text turn following is said after events =
@@ -105,7 +105,7 @@ all_shut before heard text first then =
 
 -- ---- a search, lines that are heard, and its best move
 
-module _ (owed : Owed) (state : State) (plan : Plan) (came : Came) (text : List ℕ) where
+module _ (owed : Owed) (state : State) (plan : GoPlan) (came : GoResult) (text : List ℕ) where
   -- lines are heard after a search
   pub record Heard (events : List Event) : Type 0 where
     pub before : List Event
@@ -175,7 +175,7 @@ settled_follows holds moved why text text' why' following settled follows = by_w
         subst (λ t. Follows why t following) s.1 (subst (λ w. Follows w text' following) s.2 follows)
 
 -- a best move that is held back is stopped
-pub settled_stopped : (state : State) (plan : Plan) (asked : Go) (moved : Moved) (why : Option Cut) (text : List ℕ) (why' : Option Cut)
+pub settled_stopped : (state : State) (plan : GoPlan) (asked : Go) (moved : Moved) (why : Option Cut) (text : List ℕ) (why' : Option Cut)
     (text' : List ℕ) (following : List Line) → IsPlan state asked plan → Settled Uci moved plan.holds text why text' why'
     → (why ≡ Some cut.Line → stops Uci (Text text) ≡ true) → Follows why' text' following
     → is_held asked (mover state.game) ≡ true → IsStopped Uci following
@@ -185,7 +185,7 @@ settled_stopped state plan asked moved why text why' text' following is settled 
 
 -- ---- the answer
 
-module _ {moved : Moved} {owed owed' : Owed} (state after : State) (plan : Plan) (came : Came) (text : List ℕ)
+module _ {moved : Moved} {owed owed' : Owed} (state after : State) (plan : GoPlan) (came : GoResult) (text : List ℕ)
     (line : Line) (asked : Go) (asks : command_of line ≡ UciLines.Go asked) (is : IsPlan state asked plan) where
   -- a best move was told, and the next line is there
   pub served_told : {next : Got} {text' : List ℕ} → Ran Uci moved (got_lines next text') (Told owed state plan came text)
@@ -203,7 +203,7 @@ module _ {moved : Moved} {owed owed' : Owed} (state after : State) (plan : Plan)
       (stopped following may) (follows following may))))
       (subst (λ n. Spends owed owed' n) (sym (go_is state line asked asks)) spends)
 
-module _ {moved : Moved} {owed : Owed} (state : State) (plan : Plan) (came : Came) (text : List ℕ)
+module _ {moved : Moved} {owed : Owed} (state : State) (plan : GoPlan) (came : GoResult) (text : List ℕ)
     (line : Line) (asked : Go) (asks : command_of line ≡ UciLines.Go asked) (is : IsPlan state asked plan) where
   -- a front part of it was written
   pub unserved_told : (contents : Option Contents) {behind : List Line} → RanPart Uci moved behind (Told owed state plan came text) → Held behind
@@ -218,7 +218,7 @@ module _ {moved : Moved} {owed : Owed} (state : State) (plan : Plan) (came : Cam
       (further_none contents)
 
 -- a search that broke off, with its best move
-pub unserved_broke : {moved : Moved} (state : State) (plan : Plan) (line : Line) (asked : Go) (contents : Option Contents)
+pub unserved_broke : {moved : Moved} (state : State) (plan : GoPlan) (line : Line) (asked : Go) (contents : Option Contents)
     → command_of line ≡ UciLines.Go asked → IsPlan state asked plan → (b : BrokeGoing moved state plan)
     → RanPart Uci moved b.behind (λ events. (before : List Event) × (events ≡ before ++ Says (last_line b.best) ∷ []) × Completes state plan b.best b.kept b.behind before)
     → Unserved uci moved (λ reads. reads ≡ []) contents state line
@@ -234,7 +234,7 @@ unserved_broke state plan line asked contents asks is b part =
 
 -- ---- what is said at once
 
-module _ (state after : State) (plan : Plan) (game : Played) (text said : List ℕ) (game_is : game ≡ state.game)
+module _ (state after : State) (plan : GoPlan) (game : Played) (text said : List ℕ) (game_is : game ≡ state.game)
     (once : SaidAtOnce game plan (Some text)) (said_is : said ≡ text) (after_is : after ≡ forgotten state) where
   once_goes : (line : Line) (asked : Go) → command_of line ≡ UciLines.Go asked → IsPlan state asked plan
       → AnswersAlways uci state after line (Says said ∷ [])
@@ -259,7 +259,7 @@ module _ (state after : State) (plan : Plan) (game : Played) (text said : List �
 
 -- nothing was done
 pub unserved_still : {S K C : Type 0} {left : S → Maybe (List ℕ)} {taken : K → Maybe (List ℕ)} {given : C → Maybe (List ℕ)} {count last : C → ℕ}
-    (state : State) (plan : Plan) (s : S) (k : K) (c : C) (contents : Option Contents)
+    (state : State) (plan : GoPlan) (s : S) (k : K) (c : C) (contents : Option Contents)
     (line : Line) (asked : Go) → command_of line ≡ UciLines.Go asked → IsPlan state asked plan
     → Unserved uci (Moves left taken given count last s s k k c c) (λ reads. reads ≡ []) contents state line
 unserved_still state plan s k c contents line asked asks is =

@@ -11,17 +11,17 @@ use Rattle.session_model.specs.UciLines.{command_of}
 use Rattle.session_model.specs.UciSession.{uci}
 use Rattle.session_model.specs.UciState.{State}
 use Rattle.turning.specs.Turned.{Served, Unserved}
-use Rattle.uci_session.specs.declared.plan.Plan.{Plan}
+use Rattle.uci_session.specs.declared.plan.GoPlan.{GoPlan}
 use Rattle.uci_session.specs.PlanView.{IsPlan}
 
 -- the line that asks this `go` was answered, and the next one is there; no file was read
-abbrev pub ServesGo : Moved → Owed → Owed → State → State → Plan → Got → List ℕ → Type 0
+abbrev pub ServesGo : Moved → Owed → Owed → State → State → GoPlan → Got → List ℕ → Type 0
 ServesGo moved owed owed' state after plan next text =
     (line : Line) (asked : Go) → command_of line ≡ UciLines.Go asked → IsPlan state asked plan
     → Served uci moved (λ reads. reads ≡ []) owed owed' state after line next text
 
 -- a fault ended the answer to it
-abbrev pub UnservesGo : Moved → State → Plan → Type 0
+abbrev pub UnservesGo : Moved → State → GoPlan → Type 0
 UnservesGo moved state plan =
     (contents : Option Contents) (line : Line) (asked : Go) → command_of line ≡ UciLines.Go asked
     → IsPlan state asked plan

@@ -8,8 +8,8 @@ ghost use Rattle.turning.specs.Lines.{Causes, HasLine, got_line};
 ghost use Rattle.turning.specs.Turned.{Served, Unserved};
 
 use crate::going::answer_go;
-use crate::plain::answer_plain;
-use crate::telling::tell;
+use crate::reply::tell;
+use crate::without_search::answer_plain;
 use io_ports::{Clock, Files, Gate, Got, LineBuf, SearchFault, Sink, Source};
 use std::alloc::Global;
 use std::sync::Wait;

@@ -7,7 +7,7 @@ ghost use Rattle.turning.specs.Lines.{Causes};
 ghost use Rattle.uci_front.specs.Going.{ServesGo, UnservesGo};
 ghost use Rattle.uci_session.specs.PlanView.{ArePlies, IsAsked, SaidAtOnce};
 
-use crate::telling::tell;
+use crate::reply::tell;
 use foundation::{Memory, Text};
 use game_play::Game;
 use io_ports::{Clock, Dialect, Gate, Got, LineBuf, SearchFault, Sink, Source};
@@ -15,11 +15,11 @@ use std::alloc::Global;
 use std::sync::Wait;
 use std::thread::Threads;
 use turning::{next_of, settle};
-use uci_session::{Came, Plan, UciSession, last_line, perft_line, search};
+use uci_session::{GoPlan, GoResult, UciSession, last_line, perft_line, search};
 use watching::say;
 
 // What is said at once, without a search: a count, or that no move is legal where no best move is held back.
-fn at_once(alloc: Global, game: &Game, plan: &Plan) -> Result<Option<Text>, Memory>
+fn at_once(alloc: Global, game: &Game, plan: &GoPlan) -> Result<Option<Text>, Memory>
     requires { ArePlies plan.now.perft }
     ensures { IfOk result (SaidAtOnce game.now plan.now) }
 {
@@ -37,7 +37,7 @@ fn go_on<R: Threads + Wait + Sync, S: Source, K: Sink, C: Clock, G: Gate + Sync>
     rt: &R,
     alloc: Global,
     session: &mut UciSession,
-    plan: &Plan,
+    plan: &GoPlan,
     source: &mut S,
     sink: &mut K,
     clock: &mut C,
@@ -58,7 +58,7 @@ fn go_on<R: Threads + Wait + Sync, S: Source, K: Sink, C: Clock, G: Gate + Sync>
     ensures causes { Causes (S.faults source.old) (S.faults source.new) (K.faults sink.old) (K.faults sink.new)
         (IsErrOf result) }
 {
-    let Came { best, kept, why } = search(
+    let GoResult { best, kept, why } = search(
         rt, alloc, session, plan, source, sink, clock, gate, line,
     )?;
     let text = last_line(alloc, best)?;
@@ -77,7 +77,7 @@ pub(crate) fn answer_go<R: Threads + Wait + Sync, S: Source, K: Sink, C: Clock, 
     rt: &R,
     alloc: Global,
     session: &mut UciSession,
-    plan: &Plan,
+    plan: &GoPlan,
     source: &mut S,
     sink: &mut K,
     clock: &mut C,

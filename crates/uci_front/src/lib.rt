@@ -3,9 +3,9 @@
 
 mod answering;
 mod going;
-mod plain;
+mod reply;
 mod serving;
-mod telling;
+mod without_search;
 
 pub use serving::serve;
 pub use turning::Ended;

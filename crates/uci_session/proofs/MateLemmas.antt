@@ -32,7 +32,7 @@ use Rattle.session_model.specs.UciTexts.{best_line, depth_lines, stopped_line}
 use Rattle.strategy.specs.declared.nodes.Strategy.{Strategy}
 use Rattle.thinking.proofs.CutLaws.{cuts_as}
 use Rattle.thinking.specs.Cuts.{CutsBy, cause_of}
-use Rattle.thinking.specs.declared.deepening.Depths.{Depths}
+use Rattle.thinking.specs.declared.iterative_deepening.Depths.{Depths}
 use Rattle.thinking.specs.declared.mates.Tried.{Tried}
 use Rattle.thinking.specs.declared.mates.Tried.TheVariants as tried
 use Rattle.thinking.specs.declared.style.Style.TheVariants as style
@@ -43,14 +43,14 @@ use Rattle.thinking.specs.Views.{kept_seen}
 use Rattle.turning.proofs.Saying.{broke_say, held_cut, part_more, part_of_broke, part_then, ran_say, unsaid}
 use Rattle.turning.specs.Lines.{Follows, none}
 use Rattle.turning.specs.Turned.{RanPart}
-use Rattle.uci_session.specs.declared.plan.Plan.{Plan}
-use Rattle.uci_session.specs.declared.searching.Came.{Came}
+use Rattle.uci_session.specs.declared.plan.GoPlan.{GoPlan}
+use Rattle.uci_session.specs.declared.searching.GoResult.{GoResult}
 use Rattle.uci_session.specs.Searched.{BrokeGoing, Completes, HasCome}
 use Rattle.uci_session.specs.PlanView.{IsPlan, IsSayable, mate_said}
 use Rattle.uci_session.specs.Trying.{came_by}
 use Rattle.uci_session.proofs.HeldLemmas.{held_follows, held_stopped}
 use Rattle.uci_session.proofs.SearchLemmas.{bound_mate, concludes_of, deepens_kept, deepens_timeless, goes_mate, listens_said, listens_unstopped, may_cut_read, may_cut_wider, searches_of, shown_sound, turn_readings}
-use Rattle.uci_session.proofs.ThinkLemmas.{came_of, depths_stop, mate_some, perft_none, printable_of, read_part, read_then}
+use Rattle.uci_session.proofs.ThinkLemmas.{go_result_of, depths_stop, mate_some, perft_none, printable_of, read_part, read_then}
 use Rattle.watching.specs.declared.halt.Cut.{Cut}
 use Rattle.watching.specs.declared.halt.Cut.TheVariants as cut
 use Rattle.watching.specs.Events.{Event, Says, Reads, AreUnstopped, Listens, heard_lines, readings, said}
@@ -91,7 +91,7 @@ IsAfter NoMate = Unit {0}
 
 -- ---- answers
 
-module _ (A : Type 0) (state : State) (plan : Plan) (asked : Go) (is : IsPlan state asked plan) (perft : plan.perft ≡ None)
+module _ (A : Type 0) (state : State) (plan : GoPlan) (asked : Go) (is : IsPlan state asked plan) (perft : plan.perft ≡ None)
     (last : ℕ) (mate : plan.mate ≡ Some last) (first : Move) (more : List Move) (legal : plan.legal ≡ first ∷ more) where
   as_mate : (turn : Turn State) (following : List Line) (answer : MateAnswer) → AnswersMate A state asked last first turn following answer
       → Goes A state asked turn following
@@ -192,7 +192,7 @@ pub told_mate : (owed : Owed) (limits : Limits) (g : Played) (last reading : ℕ
 told_mate owed limits g last reading text t said events (heard, are, listens, cut) =
     record { heard = heard; events_are = ap (λ e. e ++ Says said ∷ []) are; listens = listens; cut = cut }
 
-module _ (owed : Owed) (state : State) (plan : Plan) (perft : plan.perft ≡ None) (last : ℕ) (most : last ≤ 100) (mate : plan.mate ≡ Some last)
+module _ (owed : Owed) (state : State) (plan : GoPlan) (perft : plan.perft ≡ None) (last : ℕ) (most : last ≤ 100) (mate : plan.mate ≡ Some last)
     (first : Move) (more : List Move) (legal : plan.legal ≡ first ∷ more) (reading : ℕ) (limits : Limits) (share : limits.quota ≡ plan.share)
     (start : (later : List ℕ) → limits.deadline ≡ deadline_of plan.time (reading ∷ later)) (text said : List ℕ) where
   few_spent : (owed' : Owed) → Spends owed owed' (solves_bound state.game.rules last (story state.game))
@@ -339,16 +339,16 @@ module _ (owed : Owed) (state : State) (plan : Plan) (perft : plan.perft ≡ Non
   told_broke tried.NoMate m said_is part = unsearched tried.NoMate m tt said_is part
 
   -- what was tried ends the search
-  pub mate_comes : {moved : Moved} {owed' : Owed} → Spends owed owed' (solves_bound state.game.rules last (story state.game)) → (t : Tried) (came : Came) → came_by first t ≡ Some came → IsMate state.game last (answer_seen t)
+  pub mate_comes : {moved : Moved} {owed' : Owed} → Spends owed owed' (solves_bound state.game.rules last (story state.game)) → (t : Tried) (came : GoResult) → came_by first t ≡ Some came → IsMate state.game last (answer_seen t)
       → said ≡ mate_said state.game.rules last (answer_seen t)
       → Ran Uci moved (held (cut_in t) text) (MateTold owed limits state.game last reading text t said)
       → HasCome moved owed owed' state plan text came
   mate_comes {moved = moved} {owed' = owed'} spends (tried.Shown n s best) came is m said_is ran =
-      let shown : Came = record { best = Some best; kept = Some (record { strategy = s; moves = n }); why = None } in
+      let shown : GoResult = record { best = Some best; kept = Some (record { strategy = s; moves = n }); why = None } in
       let same : shown ≡ came = cc in
       subst (HasCome moved owed owed' state plan text) same (shown_comes spends n s best m said_is ran)
   mate_comes {moved = moved} {owed' = owed'} spends (tried.Stopped n why) came is m said_is ran =
-      let stopped : Came = record { best = Some first; kept = None; why = Some why } in
+      let stopped : GoResult = record { best = Some first; kept = None; why = Some why } in
       let same : stopped ≡ came = cc in
       subst (HasCome moved owed owed' state plan text) same (stopped_comes spends n why m said_is ran)
   mate_comes spends (tried.Unsettled n e) came is m said_is ran = cc
@@ -372,17 +372,17 @@ uncut_after (tried.Unsettled n e) first text is = refl
 uncut_after tried.NoMate first text is = refl
 
 -- depth 1, as the code has it
-abbrev pub depth_one : State → Plan → Task
+abbrev pub depth_one : State → GoPlan → Task
 depth_one state plan = record { game = state.game; roots = plan.legal; depths = 1; share = None; time = None }
 
-one_is : (state : State) (plan : Plan) (asked : Go) → IsPlan state asked plan → depth_one state plan ≡ task_after_mate state
+one_is : (state : State) (plan : GoPlan) (asked : Go) → IsPlan state asked plan → depth_one state plan ≡ task_after_mate state
 one_is state plan asked is = ap at is.legal_is
   where
     at : List Move → Task
     at roots = record { game = state.game; roots = roots; depths = 1; share = None; time = None }
 
 module _ {S K C : Type 0} {left : S → Option (List ℕ)} {taken : K → Option (List ℕ)} {given : C → Option (List ℕ)} {count last_of : C → ℕ}
-    (state : State) (plan : Plan) (perft : plan.perft ≡ None) (last : ℕ) (mate : plan.mate ≡ Some last)
+    (state : State) (plan : GoPlan) (perft : plan.perft ≡ None) (last : ℕ) (mate : plan.mate ≡ Some last)
     (first : Move) (more : List Move) (legal : plan.legal ≡ first ∷ more) (reading : ℕ) where
   module _ {s s' s'' : S} {k k' k'' : K} {c c' c'' : C} {owed : Owed} (limits : Limits) (text' said : List ℕ) (t : Tried) (m : IsMate state.game last (answer_seen t)) (is_after : IsAfter (answer_seen t))
       (said_is : said ≡ mate_said state.game.rules last (answer_seen t))
@@ -390,7 +390,7 @@ module _ {S K C : Type 0} {left : S → Option (List ℕ)} {taken : K → Option
     -- depth 1 was searched, or cut
     pub after_comes : {owed' owed'' : Owed} → Spends owed owed' (solves_bound state.game.rules last (story state.game)) → (text : List ℕ) (depths : Depths)
         → Deepened Uci style.Uci (Moves left taken given count last_of s' s'' k' k'' c' c'') owed' owed'' (depth_one state plan) (first_of first plan.legal) reading text depths
-        → HasCome (Moves left taken given count last_of s s'' k k'' c c'') owed owed'' state plan text (came_of depths)
+        → HasCome (Moves left taken given count last_of s s'' k k'' c c'') owed owed'' state plan text (go_result_of depths)
     after_comes {owed' = owed'} {owed'' = owed''} spends text depths d = record {
       ran = record {
         events = told.events ++ d.ran.events;

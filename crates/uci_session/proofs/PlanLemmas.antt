@@ -11,7 +11,7 @@ use Rattle.std.specs.Option.{option_map}
 use Rattle.game_play.specs.Played.{legal_in}
 use Rattle.session_model.specs.Mates.{mover}
 use Rattle.session_model.specs.UciState.{State}
-use Rattle.uci_session.specs.declared.plan.Plan.{Plan}
+use Rattle.uci_session.specs.declared.plan.GoPlan.{GoPlan}
 use Rattle.uci_session.specs.PlanView.{ArePlies, IsPlan}
 
 plies_within : (n : ℕ) → ArePlies (within 1 9 n)
@@ -83,7 +83,7 @@ pub asked_plies : (words : List Word) → ArePlies (go_of words).perft
 asked_plies words = words_plies words (record { go = asks_nothing; awaited = UciGo.Nothing }) tt
 
 -- what the code keeps is what is asked
-pub plan_is : (state : State) (go asked : Go) (plan : Plan) → go ≡ asked → plan.legal ≡ legal_in state.game
+pub plan_is : (state : State) (go asked : Go) (plan : GoPlan) → go ≡ asked → plan.legal ≡ legal_in state.game
     → plan.roots.items ≡ roots_of go plan.legal → plan.depths ≡ last_depth go
     → plan.mate ≡ option_map last_mate go.mate → plan.perft ≡ go.perft → ArePlies go.perft
     → plan.share ≡ share_of go state.threads → plan.time ≡ time_for go (mover state.game)

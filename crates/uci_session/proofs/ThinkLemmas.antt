@@ -27,7 +27,7 @@ use Rattle.session_model.specs.UciSession.{Goes, GoesNowhere, announced, first_o
 use Rattle.session_model.specs.UciState.{State}
 use Rattle.session_model.specs.UciTexts.{best_line}
 use Rattle.thinking.specs.Cuts.{IsEndedBy}
-use Rattle.thinking.specs.declared.deepening.Depths.{Depths}
+use Rattle.thinking.specs.declared.iterative_deepening.Depths.{Depths}
 use Rattle.thinking.specs.declared.found.Kept.{Kept}
 use Rattle.thinking.specs.declared.style.Style.TheVariants as style
 use Rattle.thinking.specs.Depths.{BrokeOff, Deepened}
@@ -36,8 +36,8 @@ use Rattle.thinking.specs.declared.task.Task.{Task as Lent}
 use Rattle.thinking.specs.Views.{IsTask, kept_seen}
 use Rattle.turning.specs.Lines.{Follows}
 use Rattle.turning.specs.Turned.{RanPart}
-use Rattle.uci_session.specs.declared.plan.Plan.{Plan}
-use Rattle.uci_session.specs.declared.searching.Came.{Came}
+use Rattle.uci_session.specs.declared.plan.GoPlan.{GoPlan}
+use Rattle.uci_session.specs.declared.searching.GoResult.{GoResult}
 use Rattle.uci_session.specs.Searched.{BrokeGoing, Completes, Gone, HasCome}
 use Rattle.uci_session.specs.PlanView.{IsPlan, plan_task}
 use Rattle.uci_session.specs.SessionView.{IsPrintable}
@@ -85,7 +85,7 @@ module _ {S K C : Type 0} {left : S → Option (List ℕ)} {taken : K → Option
 
 -- ---- what is asked
 
-pub task_is : (state : State) (plan : Plan) (asked : Go) → IsPlan state asked plan → plan_task state plan ≡ task_of state asked
+pub task_is : (state : State) (plan : GoPlan) (asked : Go) → IsPlan state asked plan → plan_task state plan ≡ task_of state asked
 task_is state plan asked is =
     ap (λ roots. at roots plan.depths plan.share plan.time) is.roots_are
     ∙ ap (λ depths. at (task_of state asked).roots depths plan.share plan.time) is.depths_is
@@ -96,7 +96,7 @@ task_is state plan asked is =
     at roots depths share time = record { game = state.game; roots = roots; depths = depths; share = share; time = time }
 
 -- `mate` is not asked
-pub mate_none : (plan : Plan) (asked : Go) (state : State) → IsPlan state asked plan → plan.mate ≡ None → None ≡ asked.mate
+pub mate_none : (plan : GoPlan) (asked : Go) (state : State) → IsPlan state asked plan → plan.mate ≡ None → None ≡ asked.mate
 mate_none plan asked state is unasked = by_mate asked.mate (sym unasked ∙ is.mate_is)
   where
     by_mate : (o : Option ℕ) → None ≡ option_map last_mate o → None ≡ o
@@ -104,7 +104,7 @@ mate_none plan asked state is unasked = by_mate asked.mate (sym unasked ∙ is.m
     by_mate (Some n) h = cc
 
 -- or it is, within a number that comes to the last one
-pub mate_some : (plan : Plan) (asked : Go) (state : State) (last : ℕ) → IsPlan state asked plan → plan.mate ≡ Some last
+pub mate_some : (plan : GoPlan) (asked : Go) (state : State) (last : ℕ) → IsPlan state asked plan → plan.mate ≡ Some last
     → (n : ℕ) × (Some n ≡ asked.mate) × (last_mate n ≡ last)
 mate_some plan asked state last is some = by_mate asked.mate (sym some ∙ is.mate_is)
   where
@@ -112,7 +112,7 @@ mate_some plan asked state last is some = by_mate asked.mate (sym some ∙ is.ma
     by_mate None h = cc
     by_mate (Some n) h = let same : last_mate n ≡ last = cc in (n, refl, same)
 
-pub perft_none : (plan : Plan) (asked : Go) (state : State) → IsPlan state asked plan → plan.perft ≡ None → None ≡ asked.perft
+pub perft_none : (plan : GoPlan) (asked : Go) (state : State) → IsPlan state asked plan → plan.perft ≡ None → None ≡ asked.perft
 perft_none plan asked state is unasked = sym unasked ∙ is.perft_is
 
 -- ---- a line that cut a search stops it
@@ -143,10 +143,10 @@ printable_of rules kept a is h = by_kept kept (subst (AreKept rules) (sym is) h)
 
 -- ---- depth after depth
 
-abbrev pub came_of : Depths → Came
-came_of depths = record { best = Some depths.best; kept = depths.kept; why = depths.why }
+abbrev pub go_result_of : Depths → GoResult
+go_result_of depths = record { best = Some depths.best; kept = depths.kept; why = depths.why }
 
-module _ (A : Type 0) (state : State) (plan : Plan) (asked : Go) (is : IsPlan state asked plan) (perft : plan.perft ≡ None) (mate : plan.mate ≡ None)
+module _ (A : Type 0) (state : State) (plan : GoPlan) (asked : Go) (is : IsPlan state asked plan) (perft : plan.perft ≡ None) (mate : plan.mate ≡ None)
     (first : Move) (more : List Move) (legal : plan.legal ≡ first ∷ more) where
   depths_answer : (reading : ℕ) (reports : List Report) (ending : Ending) (events heard : List Event) (best : Move) (kept : Option Announced)
       (turn : Turn State) (following : List Line)
@@ -170,15 +170,15 @@ module _ (A : Type 0) (state : State) (plan : Plan) (asked : Go) (is : IsPlan st
       ∙ ap (λ d. depths_bound state.game.rules d (story state.game)) (sym is.depths_is)
 
 module _ {S K C : Type 0} {left : S → Option (List ℕ)} {taken : K → Option (List ℕ)} {given : C → Option (List ℕ)} {count last : C → ℕ}
-    (state : State) (plan : Plan) (perft : plan.perft ≡ None) (mate : plan.mate ≡ None)
+    (state : State) (plan : GoPlan) (perft : plan.perft ≡ None) (mate : plan.mate ≡ None)
     (first : Move) (more : List Move) (legal : plan.legal ≡ first ∷ more) {s s' : S} {k k' : K} {c c' c'' : C} (reading : ℕ)
     (start : Moves left taken given count last s s k k c c' [] [] (reading ∷ [])) where
   -- all depths were done, or one was cut
   pub depths_come : {owed owed' : Owed} (text : List ℕ) (depths : Depths)
       → Deepened Uci style.Uci (Moves left taken given count last s s' k k' c' c'') owed owed' (plan_task state plan) (first_of first plan.roots.items) reading text depths
-      → HasCome (Moves left taken given count last s s' k k' c c'') owed owed' state plan text (came_of depths)
+      → HasCome (Moves left taken given count last s s' k k' c c'') owed owed' state plan text (go_result_of depths)
   depths_come {owed = owed} {owed' = owed'} text depths d = record {
-    ran = read_then (Gone owed state plan (came_of depths) text) (λ events holds. record {
+    ran = read_then (Gone owed state plan (go_result_of depths) text) (λ events holds. record {
       unstopped = (tt, holds.0.unstopped);
       stops = depths_stop _ (plan_task state plan) d.reports d.ending (reading ∷ readings events) text depths.why holds.1 d.ended;
       answers = λ asked is heard listens turn following events_are after stopped follows.
@@ -221,7 +221,7 @@ module _ {S K C : Type 0} {left : S → Option (List ℕ)} {taken : K → Option
 
 -- where no move is legal, nothing is told before the best move is
 module _ {S K C : Type 0} {left : S → Option (List ℕ)} {taken : K → Option (List ℕ)} {given : C → Option (List ℕ)} {count last : C → ℕ} where
-  pub nowhere_comes : (s : S) (k : K) (c : C) (owed : Owed) (state : State) (plan : Plan) (text : List ℕ) → plan.perft ≡ None
+  pub nowhere_comes : (s : S) (k : K) (c : C) (owed : Owed) (state : State) (plan : GoPlan) (text : List ℕ) → plan.perft ≡ None
       → plan.legal ≡ [] → (plan.legal ≡ [] → plan.holds ≡ true)
       → HasCome (Moves left taken given count last s s k k c c) owed owed state plan text (record { best = None; kept = None; why = None })
   nowhere_comes s k c owed state plan text perft stuck holds = record {
@@ -274,7 +274,7 @@ begins [] some = absurd (omega arith)
 begins (m ∷ ms) some = (m, ms, refl)
 
 -- what is searched can be
-pub ready : (state : State) (plan : Plan) (asked : Go) → IsPlan state asked plan → 0 < length plan.legal → (g : Played) → g ≡ state.game
+pub ready : (state : State) (plan : GoPlan) (asked : Go) → IsPlan state asked plan → 0 < length plan.legal → (g : Played) → g ≡ state.game
     → (roots : List Move) → roots ≡ plan.roots.items → (a b : ℕ) → a ≡ length plan.roots.items → b ≡ length plan.legal
     → All (λ m. Member m (legal_in g)) roots × (0 < length roots) × ((a == b) ≡ (length roots == length (legal_in g)))
     × (1 ≤ plan.depths) × (plan.depths ≤ 64)
@@ -301,12 +301,12 @@ ready_one legal g legal_is roots roots_is some = (
 )
 
 -- `mate` has from 1 to 100 moves
-pub mate_range : (plan : Plan) (asked : Go) (state : State) (last : ℕ) → IsPlan state asked plan → plan.mate ≡ Some last → (1 ≤ last) × (last ≤ 100)
+pub mate_range : (plan : GoPlan) (asked : Go) (state : State) (last : ℕ) → IsPlan state asked plan → plan.mate ≡ Some last → (1 ≤ last) × (last ≤ 100)
 mate_range plan asked state last is some =
     let (n, asks, same) = mate_some plan asked state last is some in (omega (arith, same), omega (arith, same))
 
 -- the same with the plan that the code has open
-pub task_of_plan : (state : State) (g : Played) (roots : List Move) (p plan : Plan) → g ≡ state.game → roots ≡ p.roots.items → p ≡ plan
+pub task_of_plan : (state : State) (g : Played) (roots : List Move) (p plan : GoPlan) → g ≡ state.game → roots ≡ p.roots.items → p ≡ plan
     → ◌≡◌ {A = Task} (record { game = g; roots = roots; depths = p.depths; share = p.share; time = p.time }) (plan_task state plan)
 task_of_plan state g roots p plan game_is roots_are plan_is =
     task_at state g roots p.roots.items p.depths p.share p.time game_is roots_are ∙ ap (plan_task state) plan_is

@@ -15,7 +15,7 @@ use Rattle.session_model.specs.UciSession.{MateAnswer, Shown, Unsettled, Stopped
 use Rattle.session_model.specs.UciGo.{Go, is_held, last_depth, last_mate, roots_of, share_of, time_for}
 use Rattle.session_model.specs.UciState.{State}
 use Rattle.session_model.specs.UciTexts.{depth_line, no_best_line, no_mate_line, perft_line, stopped_line, unsettled_line}
-use Rattle.uci_session.specs.declared.plan.Plan.{Plan}
+use Rattle.uci_session.specs.declared.plan.GoPlan.{GoPlan}
 
 -- the words of the text after a command word
 abbrev pub words_said : Option (Bor (List ℕ)) → List (List ℕ)
@@ -28,7 +28,7 @@ SaidBy g None [] true text = text ≡ None
 SaidBy g None [] false text = text ≡ Some no_best_line
 SaidBy g None (m ∷ ms) holds text = text ≡ None
 
-abbrev pub SaidAtOnce : Played → Plan → Option (List ℕ) → Type 0
+abbrev pub SaidAtOnce : Played → GoPlan → Option (List ℕ) → Type 0
 SaidAtOnce g plan text = SaidBy g plan.perft plan.legal plan.holds text
 
 -- where `perft` is asked, of 1 to 9 plies
@@ -37,7 +37,7 @@ ArePlies None = Unit {0}
 ArePlies (Some plies) = (1 ≤ plies) × (plies ≤ 9)
 
 -- the moves and limits are those that this `go` asks in this state
-pub record IsPlan (state : State) (go : Go) (plan : Plan) : Type 0 where
+pub record IsPlan (state : State) (go : Go) (plan : GoPlan) : Type 0 where
   pub legal_is : plan.legal ≡ legal_in state.game
   pub roots_are : plan.roots.items ≡ roots_of go (legal_in state.game)
   pub depths_is : plan.depths ≡ last_depth go
@@ -49,7 +49,7 @@ pub record IsPlan (state : State) (go : Go) (plan : Plan) : Type 0 where
   pub held_is : plan.holds ≡ is_held go (mover state.game)
 
 -- it is what some `go` asks in this state
-abbrev pub IsAsked : State → Plan → Type 0
+abbrev pub IsAsked : State → GoPlan → Type 0
 IsAsked state plan = (go : Go) × IsPlan state go plan
 
 -- the first legal move
@@ -57,7 +57,7 @@ abbrev pub BeginsWith : List Move → Move → Type 0
 BeginsWith legal first = (more : List Move) × (legal ≡ first ∷ more)
 
 -- what is searched, one depth after another
-abbrev pub plan_task : State → Plan → Task
+abbrev pub plan_task : State → GoPlan → Task
 plan_task state plan = record {
   game = state.game;
   roots = plan.roots.items;

@@ -18,15 +18,15 @@ use Rattle.session_model.specs.UciState.{State}
 use Rattle.thinking.specs.Views.{kept_seen}
 use Rattle.turning.specs.Lines.{Follows, Held}
 use Rattle.turning.specs.Turned.{RanPart}
-use Rattle.uci_session.specs.declared.plan.Plan.{Plan}
-use Rattle.uci_session.specs.declared.searching.Came.{Came}
+use Rattle.uci_session.specs.declared.plan.GoPlan.{GoPlan}
+use Rattle.uci_session.specs.declared.searching.GoResult.{GoResult}
 use Rattle.uci_session.specs.PlanView.{IsPlan}
 use Rattle.uci_session.specs.SessionView.{IsPrintable}
 use Rattle.uci_session.specs.TextView.{last_line}
 
 -- These events, then lines that are heard, and then the best move, are an answer, where the lines that follow are
 -- those that what cut the search leaves, and one of them stops a best move that is held back.
-pub record Gone (owed : Owed) (state : State) (plan : Plan) (came : Came) (text : List ℕ) (events : List Event)
+pub record Gone (owed : Owed) (state : State) (plan : GoPlan) (came : GoResult) (text : List ℕ) (events : List Event)
     : Type 0 where
   pub unstopped : AreUnstopped Uci events
   pub stops : came.why ≡ Some cut.Line → stops Uci (Text text) ≡ true
@@ -39,14 +39,14 @@ pub record Gone (owed : Owed) (state : State) (plan : Plan) (came : Came) (text 
       → Goes (Lacks owed (go_bound state asked)) state asked turn following
 
 -- a search came to this
-pub record HasCome (moved : Moved) (owed owed' : Owed) (state : State) (plan : Plan) (text : List ℕ) (came : Came)
+pub record HasCome (moved : Moved) (owed owed' : Owed) (state : State) (plan : GoPlan) (text : List ℕ) (came : GoResult)
     : Type 0 where
   pub ran : Ran Uci moved (held came.why text) (Gone owed state plan came text)
   pub spends : (asked : Go) → IsPlan state asked plan → Spends owed owed' (go_bound state asked)
   pub printable : IsPrintable state.game.rules came.kept
 
 -- these events, and then this best move, are an answer that leaves this mate announced
-pub record Completes (state : State) (plan : Plan) (best : Option Move) (kept : Option Announced)
+pub record Completes (state : State) (plan : GoPlan) (best : Option Move) (kept : Option Announced)
     (behind : List Line) (events : List Event) : Type 0 where
   pub unstopped : AreUnstopped Uci events
   pub answers : (asked : Go) → IsPlan state asked plan → (turn : Turn State)
@@ -54,7 +54,7 @@ pub record Completes (state : State) (plan : Plan) (best : Option Move) (kept : 
       → Goes (Unit {0}) state asked turn behind
 
 -- a fault ended a search, of whose lines a front part was written; it is completed
-pub record BrokeGoing (moved : Moved) (state : State) (plan : Plan) : Type 0 where
+pub record BrokeGoing (moved : Moved) (state : State) (plan : GoPlan) : Type 0 where
   pub best : Option Move
   pub kept : Option Announced
   pub behind : List Line

@@ -8,8 +8,8 @@ mod searching;
 mod session;
 mod texts;
 
-pub use plan::{Plan, read_plan};
+pub use plan::{GoPlan, read_plan};
 pub use refusal::{Refusal, refused_file};
-pub use searching::{Came, search};
+pub use searching::{GoResult, search};
 pub use session::{UciSession, bytes_of};
 pub use texts::{READY, error_line, last_line, perft_line};

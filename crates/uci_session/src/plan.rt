@@ -15,7 +15,7 @@ use uci_lines::{is_held, last_depth, last_mate, read_go, roots_of, share_of, tim
 
 /// What a line `go` asks of a game, so that its search needs the line no more.
 #[derive(Drop)]
-pub struct Plan {
+pub struct GoPlan {
     /// The legal moves.
     pub legal: MoveList,
     /// Those that are searched.
@@ -54,17 +54,17 @@ fn mate_of(mate: Option<u64>) -> Option<u16>
 }
 
 /// What the words after `go` ask of the session's game.
-pub fn read_plan(alloc: Global, session: &UciSession, rest: Option<&[u8]>) -> Result<Plan, Memory>
+pub fn read_plan(alloc: Global, session: &UciSession, rest: Option<&[u8]>) -> Result<GoPlan, Memory>
     ensures { IfOk result (IsPlan session.now (go_of (words_said rest.entry))) }
 {
     let words = words_in(alloc, rest)?;
     let go = read_go(alloc, &words)?;
     let game = session.game();
-    game.is_played();
+    game.prove_played();
     let side = game.position().side;
     let legal = legal_moves(alloc, game.rules(), game.tables(), game.position())?;
     let roots = roots_of(alloc, &go, legal.items.as_slice())?;
-    Ok(Plan {
+    Ok(GoPlan {
         legal,
         roots,
         depths: last_depth(&go),

@@ -9,7 +9,7 @@ ghost use Rattle.uci_session.specs.Searched.{BrokeGoing, HasCome};
 ghost use Rattle.uci_session.specs.Trying.{came_by};
 ghost use Rattle.uci_session.specs.PlanView.{BeginsWith, IsAsked, IsSayable, mate_said};
 
-use crate::plan::Plan;
+use crate::plan::GoPlan;
 use crate::session::UciSession;
 use crate::texts::{STOPPED, mate_line, no_mate_line};
 use foundation::{Memory, Text};
@@ -18,12 +18,14 @@ use rules_model::{Move, Rules};
 use std::alloc::Global;
 use std::sync::Wait;
 use std::thread::Threads;
-use thinking::{Depths, Kept, Start, Style, Task, Tried, begin, deepen, try_mates, unsettled_line};
+use thinking::{
+    Depths, Kept, Start, Style, Task, Tried, begin, iterative_deepening, try_mates, unsettled_line,
+};
 use watching::{Cut, say};
 
 /// What a `go` comes to that searches.
 #[derive(Drop)]
-pub struct Came {
+pub struct GoResult {
     /// The best move, where one is legal.
     pub best: Option<Move>,
     /// The mate that was announced last, where one was.
@@ -33,11 +35,11 @@ pub struct Came {
 }
 
 // What depths came to, as what `go` came to.
-fn came_of(depths: Depths) -> Came
+fn go_result_of(depths: Depths) -> GoResult
     ensures { result ≡ record { best = Some depths.best; kept = depths.kept; why = depths.why } }
 {
     let Depths { best, kept, why } = depths;
-    Came {
+    GoResult {
         best: Some(best),
         kept,
         why,
@@ -49,13 +51,13 @@ fn search_depths<R: Threads + Wait + Sync, S: Source, K: Sink, C: Clock, G: Gate
     rt: &R,
     alloc: Global,
     session: &mut UciSession,
-    plan: &Plan,
+    plan: &GoPlan,
     source: &mut S,
     sink: &mut K,
     clock: &mut C,
     gate: &G,
     line: &mut LineBuf,
-) -> Result<Came, SearchFault>
+) -> Result<GoResult, SearchFault>
     requires asked { IsAsked session.old plan.now }
     requires perft { plan.now.perft ≡ None }
     requires mate { plan.now.mate ≡ None }
@@ -82,7 +84,7 @@ fn search_depths<R: Threads + Wait + Sync, S: Source, K: Sink, C: Clock, G: Gate
         share: plan.share,
         time: plan.time,
     };
-    let depths = deepen(
+    let depths = iterative_deepening(
         rt,
         alloc,
         &mut session.mind,
@@ -96,7 +98,7 @@ fn search_depths<R: Threads + Wait + Sync, S: Source, K: Sink, C: Clock, G: Gate
         Dialect::Uci,
         line,
     )?;
-    Ok(came_of(depths))
+    Ok(go_result_of(depths))
 }
 
 // What is told of a mate that was looked for, up to N moves.
@@ -117,7 +119,7 @@ fn mate_text(alloc: Global, rules: &Rules, last: u16, tried: &Tried) -> Result<T
 }
 
 // What a mate that was looked for came to, or none where depth 1 is searched after it.
-fn ended_by(tried: Tried, first: Move) -> Option<Came>
+fn ended_by(tried: Tried, first: Move) -> Option<GoResult>
     ensures { result ≡ came_by first tried }
 {
     match tried {
@@ -125,12 +127,12 @@ fn ended_by(tried: Tried, first: Move) -> Option<Came>
             moves,
             strategy,
             best,
-        } => Some(Came {
+        } => Some(GoResult {
             best: Some(best),
             kept: Some(Kept { strategy, moves }),
             why: None,
         }),
-        Tried::Stopped { moves: _moves, why } => Some(Came {
+        Tried::Stopped { moves: _moves, why } => Some(GoResult {
             best: Some(first),
             kept: None,
             why: Some(why),
@@ -148,7 +150,7 @@ fn search_mate<R: Threads + Wait + Sync, S: Source, K: Sink, C: Clock, G: Gate +
     rt: &R,
     alloc: Global,
     session: &mut UciSession,
-    plan: &Plan,
+    plan: &GoPlan,
     first: Move,
     last: u16,
     source: &mut S,
@@ -156,7 +158,7 @@ fn search_mate<R: Threads + Wait + Sync, S: Source, K: Sink, C: Clock, G: Gate +
     clock: &mut C,
     gate: &G,
     line: &mut LineBuf,
-) -> Result<Came, SearchFault>
+) -> Result<GoResult, SearchFault>
     requires asked { IsAsked session.old plan.now }
     requires perft { plan.now.perft ≡ None }
     requires mate { plan.now.mate ≡ Some last }
@@ -173,7 +175,7 @@ fn search_mate<R: Threads + Wait + Sync, S: Source, K: Sink, C: Clock, G: Gate +
     ensures same { session.new ≡ session.old }
 {
     // Tells the prover that the game's rules are fit. Nothing is done.
-    session.game.is_played();
+    session.game.prove_played();
     let begun = begin(clock, plan.time);
     let limits = Limits {
         quota: plan.share,
@@ -210,7 +212,7 @@ fn search_mate<R: Threads + Wait + Sync, S: Source, K: Sink, C: Clock, G: Gate +
         first: begun.first,
         deadline: None,
     };
-    let depths = deepen(
+    let depths = iterative_deepening(
         rt,
         alloc,
         &mut session.mind,
@@ -224,7 +226,7 @@ fn search_mate<R: Threads + Wait + Sync, S: Source, K: Sink, C: Clock, G: Gate +
         Dialect::Uci,
         line,
     )?;
-    Ok(came_of(depths))
+    Ok(go_result_of(depths))
 }
 
 /// Searches what `go` asks, and tells of it, up to the best move.
@@ -236,13 +238,13 @@ pub fn search<R: Threads + Wait + Sync, S: Source, K: Sink, C: Clock, G: Gate + 
     rt: &R,
     alloc: Global,
     session: &mut UciSession,
-    plan: &Plan,
+    plan: &GoPlan,
     source: &mut S,
     sink: &mut K,
     clock: &mut C,
     gate: &G,
     line: &mut LineBuf,
-) -> Result<Came, SearchFault>
+) -> Result<GoResult, SearchFault>
     requires asked { IsAsked session.old plan.now }
     requires perft { plan.now.perft ≡ None }
     requires held { plan.now.legal ≡ [] → plan.now.holds ≡ true }
@@ -258,7 +260,7 @@ pub fn search<R: Threads + Wait + Sync, S: Source, K: Sink, C: Clock, G: Gate + 
     ensures same { session.new ≡ session.old }
 {
     if plan.legal.items.is_empty() {
-        return Ok(Came {
+        return Ok(GoResult {
             best: None,
             kept: None,
             why: None,

@@ -18,7 +18,7 @@ use crate::texts::{NO_STRATEGY, uci_text};
 use foundation::{Memory, Text};
 use game_play::Game;
 use proof_text::write_proof;
-use seeking::Mind;
+use seeking::EngineState;
 use std::alloc::Global;
 use std::marker::Model;
 use thinking::Kept;
@@ -34,7 +34,7 @@ pub struct UciSession {
     variants: Variants,
     place: usize,
     pub(crate) game: Game,
-    pub(crate) mind: Mind,
+    pub(crate) mind: EngineState,
     kept: Option<Kept>,
 }
 
@@ -123,7 +123,7 @@ impl UciSession {
         requires threads { (1 ≤ threads) × (threads ≤ 64) }
         ensures { IfOk result (λ session. first_state sections threads ≡ Some session) }
     {
-        let mind = Mind::new(alloc, threads)?;
+        let mind = EngineState::new(alloc, threads)?;
         let (place, game) = match start_in(alloc, &sections, &variants, b"chess") {
             Ok(start) => start,
             Err(_) => return Err(Memory),

@@ -2,8 +2,8 @@ use Rattle.std.proofs.Common.{◌≡◌, ℕ, suc, ◌-◌, ◌≤◌, ◌<◌, 
 use Rattle.betza_text.specs.declared.part.Part.{Part}
 use Rattle.betza_text.specs.declared.fault.BetzaFault.{BetzaFault}
 use Rattle.betza_text.specs.declared.fault.BetzaFault.TheVariants.{Empty}
-use Rattle.betza_text.specs.declared.cut.Cut.{Cut}
-use Rattle.betza_text.specs.Cut.{cut_of}
+use Rattle.betza_text.specs.declared.split_part.SplitPart.{SplitPart}
+use Rattle.betza_text.specs.SplitPart.{cut_of}
 use Rattle.betza_text.specs.Steps.{step_count, steps_of}
 use Rattle.betza_text.specs.PartFault.{part_fault, cut_fault}
 use Rattle.betza_text.specs.Word.{Spells, BetzaBad, SpelledFrom, FaultBehind}
@@ -30,7 +30,7 @@ loop-place-init c = record {
   count = ap step_count (sym c.new-parts.ensures.items);
 }
 
-bad_here : (text : List ℕ) (at before : ℕ) (cut : Cut) (f : BetzaFault) → length text ≤ 64 → at < length text → cut ≡ cut_of (take (length text - at) (drop at text)) → Some f ≡ cut_fault at before (take (length text - at) (drop at text)) cut → ((k : ℕ) (g : BetzaFault) → FaultBehind k at before (drop at text) g → (j : ℕ) × FaultBehind j 0 0 text g) → BetzaBad text f
+bad_here : (text : List ℕ) (at before : ℕ) (cut : SplitPart) (f : BetzaFault) → length text ≤ 64 → at < length text → cut ≡ cut_of (take (length text - at) (drop at text)) → Some f ≡ cut_fault at before (take (length text - at) (drop at text)) cut → ((k : ℕ) (g : BetzaFault) → FaultBehind k at before (drop at text) g → (j : ℕ) × FaultBehind j 0 0 text g) → BetzaBad text f
 bad_here text at before cut f short l e s h =
     let fault : part_fault at before (drop at text) ≡ Some f = subst (λ t. part_fault at before t ≡ Some f) (tail-is text at) (first_fault-is at before _ cut (Some f) e s) in
     let first : (j : ℕ) × FaultBehind j 0 0 text f = h 0 f (fault_here text at before f l fault) in
@@ -55,7 +55,7 @@ loop-place-preserved c =
     let text : List ℕ = c.args.text.now in
     let at : ℕ = c.loop-place.place in
     let before : ℕ = c.loop-place.terms in
-    let cut : Cut = c.of-cut.result in
+    let cut : SplitPart = c.of-cut.result in
     let part : Part = c.read-part.result in
     let n : ℕ = c.len-place.result in
     let m : ℕ = c.len-terms.result in

@@ -3,7 +3,7 @@ use Rattle.std.proofs.lemmas.List.Elements.{All-weaker}
 use Rattle.io_ports.specs.declared.limits.SearchFault.TheVariants as fault
 use Rattle.watching.specs.declared.halt.Halt.{Halt}
 use Rattle.watching.specs.declared.halt.Halt.TheVariants as halt
-use Rattle.alpha_beta.specs.declared.work.Job.{Job}
+use Rattle.alpha_beta.specs.declared.root_moves.HelperFacts.{HelperFacts}
 use Rattle.alpha_beta.specs.Workers.{IsSound, lines_in}
 use Rattle.alpha_beta.proofs.SearchLaws.{most_none, most_start, most_within}
 use Rattle.alpha_beta.proofs.searching.search_by.Goals as goal
@@ -40,7 +40,7 @@ returns-clause-few g c =
     let lines = lines_in c.args.plan.now in
     let counts = g.met.W.Watch.counts _ _ _ (g.met.W.Watch.more _ _ _ _ _ c.in_ok-race.ensures.gone c.in_ok-best.ensures.gone) in
     let more = counts.1 in let after = c.nodes.ensures in let before = c.nodes-before.ensures in let nodes = c.saturating_sub-nodes.ensures in
-    let each = All-weaker (IsSound c.args.plan.now) (λ (job : Job). job.nodes ≤ 3 * lines) (λ job sound. (let few = sound.nodes in omega (arith, few))) c.race.new.jobs c.race.ensures.sound in
+    let each = All-weaker (IsSound c.args.plan.now) (λ (job : HelperFacts). job.nodes ≤ 3 * lines) (λ job sound. (let few = sound.nodes in omega (arith, few))) c.race.new.jobs c.race.ensures.sound in
     let most = most_within (3 * lines) c.saturating_sub-nodes.result c.race.new.jobs (omega (arith, more, after, before, nodes)) each in
     let is = c.greatest_count.ensures in
     omega (arith, is, most)

@@ -18,7 +18,7 @@ loop-from-init c = record {
 
 pub guards_from-requires-clause-from : goal.guards_from-requires-clause-from
 guards_from-requires-clause-from c =
-    men_small c.args.by c.args.cells.now c.args.men c.in-Some.from c.board_size.ensures (λ s h. sym (c.requires.men s) ∙ h) (c.loop-from.invariant.inside c.in-Some.from c.in-Some.ensures.some.member)
+    men_small c.args.by c.args.cells.now c.args.men c.in-Some.from c.prove_board_size.ensures (λ s h. sym (c.requires.men s) ∙ h) (c.loop-from.invariant.inside c.in-Some.from c.in-Some.ensures.some.member)
 
 pub loop-from-preserved : goal.loop-from-preserved
 loop-from-preserved c = record {

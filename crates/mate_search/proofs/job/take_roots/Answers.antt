@@ -38,7 +38,7 @@ returns-in_err-outcome-clause-ended g c why is =
     let r = seen_in f in
     let board : c.new-board.result ≡ record { rules = race.game.now.rules; position = (story race.game.now).last } = search rules in
     let p = c.new-board.result.position in
-    let left = c.task_for-task.result.left in
+    let left = c.root_task-task.result.left in
     let ms = race.roots.now in
     let i = c.loop-i.i in
     let x = get_or ms i no_move in
@@ -53,7 +53,7 @@ returns-in_err-outcome-clause-ended g c why is =
     let more = part-more r p left ms i x (lines_within (seen_in c.loop-i.facts) left c.after-next.result.position) at lines in
     let whole : sum_by (lines_after r left p) (take (i + 1) ms) ≤ lines_of_moves f left p = part-whole (lines_after r left p) (r.legal p) ms all (i + 1) in
     let turn : same_side p.side race.shards.now.frame.attacker ≡ c.is.result = search rules in
-    let root = root-within race c.requires.ready f c.new-board.result c.requires.facts board c.is.result left turn c.task_for-task.ensures.left in
+    let root = root-within race c.requires.ready f c.new-board.result c.requires.facts board c.is.result left turn c.root_task-task.ensures.left in
     g.met.W.Watch.ends_wider _ _ _ (root_lines race) why (g.met.W.Watch.ends _ _ _ (sum_by (lines_after r left p) (take i ms)) (lines_within (seen_in c.loop-i.facts) left c.after-next.result.position) why c.loop-i.invariant.gone (c.settle_next.ensures.ended why back))
     (omega (arith, more, whole, root))
 
@@ -68,7 +68,7 @@ loop-i-preserved g c =
     let r = seen_in f in
     let board : c.new-board.result ≡ record { rules = race.game.now.rules; position = (story race.game.now).last } = search rules in
     let p = c.new-board.result.position in
-    let left = c.task_for-task.result.left in
+    let left = c.root_task-task.result.left in
     let ms = race.roots.now in
     let i = c.loop-i.i in
     let old = c.loop-i.invariant in
@@ -103,11 +103,11 @@ returns-clause-gone g c =
     let r = seen_in f in
     let board : c.new-board.result ≡ record { rules = race.game.now.rules; position = (story race.game.now).last } = search rules in
     let p = c.new-board.result.position in
-    let left = c.task_for-task.result.left in
+    let left = c.root_task-task.result.left in
     let ms = race.roots.now in
     let same-rules = root-rules race c.requires.ready f c.new-board.result c.requires.facts board in
     let all = moves-of f c.new-board.result ms same-rules (root-moves race c.requires.ready c.new-board.result board) in
     let whole : sum_by (lines_after r left p) (take c.loop-i.i ms) ≤ lines_of_moves f left p = part-whole (lines_after r left p) (r.legal p) ms all c.loop-i.i in
     let turn : same_side p.side race.shards.now.frame.attacker ≡ c.is.result = search rules in
-    let root = root-within race c.requires.ready f c.new-board.result c.requires.facts board c.is.result left turn c.task_for-task.ensures.left in
+    let root = root-within race c.requires.ready f c.new-board.result c.requires.facts board c.is.result left turn c.root_task-task.ensures.left in
     g.met.W.Watch.wider _ _ _ (root_lines race) c.loop-i.invariant.gone (omega (arith, whole, root))

@@ -6,7 +6,7 @@ use Rattle.mate_settle.proofs.settling.known_now.Goals as goal
 pub returns-in-Some-true-clause-serves : goal.returns-in-Some-true-clause-serves
 returns-in-Some-true-clause-serves c =
     won-answers c.args.frame.now c.args.board.now.position c.args.n c.won_where.result
-    (counter-low c.args.board.now.rules c.args.board.now.position c.is_ready.ensures.sound)
+    (counter-low c.args.board.now.rules c.args.board.now.position c.prove_ready.ensures.sound)
     (search rules)
 
 pub returns-in-Some-false-clause-serves : goal.returns-in-Some-false-clause-serves

@@ -11,7 +11,7 @@ use Rattle.mate_showing.proofs.solving.plan_of.Goals as goal
 
 pub plan_for-requires-clause-low : goal.plan_for-requires-clause-low
 plan_for-requires-clause-low c =
-    let low = counter-low c.args.board.now.rules c.args.board.now.position c.is_ready.ensures.sound in
+    let low = counter-low c.args.board.now.rules c.args.board.now.position c.prove_ready.ensures.sound in
     subst (λ (y : Position). y.counter ≤ 9999) (sym c.position.ensures) low
 
 pub returns-clause-next : goal.returns-clause-next
@@ -21,7 +21,7 @@ returns-clause-next c =
     let p = c.args.board.now.position in
     let plan = c.plan_for.result in
     let last : p ≡ game.last = ap (λ (x : Stance). x.position) c.requires.board in
-    let fit : IsFit f.rules = subst IsFit (sym c.requires.frame.rules) c.is_played.ensures.fit in
+    let fit : IsFit f.rules = subst IsFit (sym c.requires.frame.rules) c.prove_played.ensures.fit in
     let whole : plan.whole ≡ c.args.n = c.plan_for.ensures.whole in
     let won : near_root f.rules plan.whole game f.attacker ≡ true = ap (λ k. near_root f.rules k game f.attacker) whole ∙ c.requires.won in
     let room = room-as f f p c.position.result.now c.args.n plan.whole plan.room refl c.position.ensures whole c.plan_for.ensures.room in
@@ -40,10 +40,10 @@ returns-clause-tabled c nodes kept stands =
     let last : p ≡ (story by).last = ap (λ (x : Stance). x.position) c.requires.board in
     let whole : plan.whole ≡ n = c.plan_for.ensures.whole in
     let small : plan.whole ≤ most = let k = c.requires.small in omega arith in
-    let low = counter-low c.args.board.now.rules p c.is_ready.ensures.sound in
-    tabled f (story by) (frame-blocked by f c.requires.frame) (subst IsFit (sym c.requires.frame.rules) c.is_played.ensures.fit) plan nodes p last (c.plan_for.ensures.root ∙ here) small kept stands
+    let low = counter-low c.args.board.now.rules p c.prove_ready.ensures.sound in
+    tabled f (story by) (frame-blocked by f c.requires.frame) (subst IsFit (sym c.requires.frame.rules) c.prove_played.ensures.fit) plan nodes p last (c.plan_for.ensures.root ∙ here) small kept stands
     (ap (λ k. near_root f.rules k (story by) f.attacker) whole ∙ c.requires.won)
-    (played-in by f c.requires.frame.rules c.is_played.ensures) low
+    (played-in by f c.requires.frame.rules c.prove_played.ensures) low
     (λ z. subst (λ k. (0 < 2 * f.rules.n_move) × (2 * f.rules.n_move ≤ p.counter + (k + k))) (sym whole) (near-as f f p q n refl here (c.plan_for.ensures.near z)))
     (λ z. subst (λ k. (2 * f.rules.n_move ≡ 0) ⊎ (p.counter + (k + k) < 2 * f.rules.n_move)) (sym whole) (inside-as f f p q n refl here (c.plan_for.ensures.inside z)))
     (room-as f f p q n plan.whole plan.room refl here whole c.plan_for.ensures.room)

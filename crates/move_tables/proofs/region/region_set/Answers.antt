@@ -13,4 +13,4 @@ loop-at-preserved c = λ t.
     ]
 
 pub returns : goal.returns
-returns c = λ t. c.loop-at.invariant t ∙ region_beyond c.args.region.now.squares t c.loop-at.at (omega (arith, c.region_size.ensures))
+returns c = λ t. c.loop-at.invariant t ∙ region_beyond c.args.region.now.squares t c.loop-at.at (omega (arith, c.prove_region_size.ensures))

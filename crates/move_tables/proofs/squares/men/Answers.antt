@@ -14,4 +14,4 @@ loop-at-preserved c = λ t.
     ]
 
 pub returns : goal.returns
-returns c = λ t. c.loop-at.invariant t ∙ beyond (is_own c.args.side (λ kind. true)) refl c.args.cells.now t c.loop-at.at (omega (arith, c.board_size.ensures))
+returns c = λ t. c.loop-at.invariant t ∙ beyond (is_own c.args.side (λ kind. true)) refl c.args.cells.now t c.loop-at.at (omega (arith, c.prove_board_size.ensures))

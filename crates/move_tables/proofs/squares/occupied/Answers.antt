@@ -13,4 +13,4 @@ loop-at-preserved c = λ t.
     ]
 
 pub returns : goal.returns
-returns c = λ t. c.loop-at.invariant t ∙ beyond is_some refl c.args.cells.now t c.loop-at.at (omega (arith, c.board_size.ensures))
+returns c = λ t. c.loop-at.invariant t ∙ beyond is_some refl c.args.cells.now t c.loop-at.at (omega (arith, c.prove_board_size.ensures))

@@ -28,9 +28,9 @@ use Rattle.negamax.proofs.search.+search.Goals as goal
 pub returns-in_err-resting-clause-ended : goal.returns-in_err-resting-clause-ended
 returns-in_err-resting-clause-ended g t c why is =
     let last : 4 ≡ c.args.depth + 4 = omega arith in
-    let back = halted c.search_quiet.result c.from_residual.result _ why c.in_err-resting.was c.from_residual.ensures.1 is in
-    subst (λ n. g.W.Watch.ended c.args.watch.now c.search_quiet.new.watch (tree_size c.args.line.now.rules n (story_of_line c.args.line.now)) why) last
-    (c.search_quiet.ensures.ended why back)
+    let back = halted c.quiescence.result c.from_residual.result _ why c.in_err-resting.was c.from_residual.ensures.1 is in
+    subst (λ n. g.W.Watch.ended c.args.watch.now c.quiescence.new.watch (tree_size c.args.line.now.rules n (story_of_line c.args.line.now)) why) last
+    (c.quiescence.ensures.ended why back)
 
 pub returns-then-depth-eq0-clause-bounds : goal.returns-then-depth-eq0-clause-bounds
 returns-then-depth-eq0-clause-bounds g t c =
@@ -42,7 +42,7 @@ returns-then-depth-eq0-clause-bounds g t c =
 pub returns-then-depth-eq0-clause-gone : goal.returns-then-depth-eq0-clause-gone
 returns-then-depth-eq0-clause-gone g t c =
     let last : 4 ≡ c.args.depth + 4 = omega arith in
-    subst (λ n. g.W.Watch.gone c.args.watch.now c.search_quiet.new.watch (tree_size c.args.line.now.rules n (story_of_line c.args.line.now))) last
+    subst (λ n. g.W.Watch.gone c.args.watch.now c.quiescence.new.watch (tree_size c.args.line.now.rules n (story_of_line c.args.line.now))) last
     c.in_ok-resting.ensures.gone
 
 pub returns-in_err-enter-clause-ended : goal.returns-in_err-enter-clause-ended

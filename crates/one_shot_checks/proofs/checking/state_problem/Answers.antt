@@ -12,13 +12,13 @@ use Rattle.one_shot_faults.specs.declared.fault.Fault.{Fault}
 use Rattle.game_text.proofs.HeardLemmas.{heard_nothing, heard_so}
 use Rattle.proof_text.specs.StrategyView.{HasWhy}
 use Rattle.one_shot_checks.specs.CheckView.{States}
-use Rattle.one_shot_faults.specs.HaltView.{strategy_halt}
+use Rattle.one_shot_faults.specs.NoAnswerView.{strategy_halt}
 use Rattle.one_shot_checks.specs.Checking.{stated}
 use Rattle.one_shot_checks.proofs.CheckLemmas.{problem_bad, problem_first, problem_unheard, rules_heard, stated_heard, strategy_bad, strategy_good, strategy_unheard, variants_heard}
 use Rattle.one_shot_checks.proofs.checking.state_problem.Goals as goal
 
 pub read_strategy-requires : goal.read_strategy-requires
-read_strategy-requires g c = subst (λ (r : Rules). IsFit r) (sym c.rules.ensures) c.is_played.ensures.fit
+read_strategy-requires g c = subst (λ (r : Rules). IsFit r) (sym c.rules.ensures) c.prove_played.ensures.fit
 
 pub returns-in_err-variants-clause-heard : goal.returns-in_err-variants-clause-heard
 returns-in_err-variants-clause-heard g c =

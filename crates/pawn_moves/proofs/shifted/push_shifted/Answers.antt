@@ -13,12 +13,12 @@ pub push_forward-requires-clause-free : goal.push_forward-requires-clause-free
 push_forward-requires-clause-free g c = free_small _ _ (c.free.ensures _ _ _ c.requires.sets)
 
 pub push_across-requires-clause-enemies : goal.push_across-requires-clause-enemies
-push_across-requires-clause-enemies g c = (c.sets_are_on_board.ensures _ _ _ _ c.position_sizes.ensures.cells c.requires.sets).enemies
+push_across-requires-clause-enemies g c = (c.sets_are_on_board.ensures _ _ _ _ c.prove_position_sizes.ensures.cells c.requires.sets).enemies
 
 pub returns-in_err-push_forward-clause-err : goal.returns-in_err-push_forward-clause-err
 returns-in_err-push_forward-clause-err g c =
     let r = repeat_of c.args.p.now in
-    let board = c.sets_are_on_board.ensures _ _ _ _ c.position_sizes.ensures.cells c.requires.sets in
+    let board = c.sets_are_on_board.ensures _ _ _ _ c.prove_position_sizes.ensures.cells c.requires.sets in
     let owns = c.own_pawns-own.ensures.are _ _ _ c.requires.sets in
     let all = together c.args.tables.now r _ _ _ _ _ _ c.requires.sets board owns c.own_pawns-own.ensures.within c.and.ensures c.passers.ensures c.minus-pawns.ensures c.pawn_masks-masks.ensures _ (c.free.ensures _ _ _ c.requires.sets) in
     on_err _ (some-within g.S.MoveSink.stops _ _ _ _ c.in_err-push_forward.ensures.err (λ m h. (forward_theirs c.args.tables.now r c.requires.fit _ _ _ _ all m h).0))
@@ -27,7 +27,7 @@ pub returns-in_err-push_across-clause-err : goal.returns-in_err-push_across-clau
 returns-in_err-push_across-clause-err g c =
     let rules = c.args.tables.now in
     let r = repeat_of c.args.p.now in
-    let board = c.sets_are_on_board.ensures _ _ _ _ c.position_sizes.ensures.cells c.requires.sets in
+    let board = c.sets_are_on_board.ensures _ _ _ _ c.prove_position_sizes.ensures.cells c.requires.sets in
     let owns = c.own_pawns-own.ensures.are _ _ _ c.requires.sets in
     let all = together rules r _ _ _ _ _ _ c.requires.sets board owns c.own_pawns-own.ensures.within c.and.ensures c.passers.ensures c.minus-pawns.ensures c.pawn_masks-masks.ensures _ (c.free.ensures _ _ _ c.requires.sets) in
     on_err _
@@ -38,7 +38,7 @@ pub returns-clause-ok : goal.returns-clause-ok
 returns-clause-ok g c =
     let rules = c.args.tables.now in
     let r = repeat_of c.args.p.now in
-    let board = c.sets_are_on_board.ensures _ _ _ _ c.position_sizes.ensures.cells c.requires.sets in
+    let board = c.sets_are_on_board.ensures _ _ _ _ c.prove_position_sizes.ensures.cells c.requires.sets in
     let owns = c.own_pawns-own.ensures.are _ _ _ c.requires.sets in
     let all = together rules r _ _ _ _ _ _ c.requires.sets board owns c.own_pawns-own.ensures.within c.and.ensures c.passers.ensures c.minus-pawns.ensures c.pawn_masks-masks.ensures _ (c.free.ensures _ _ _ c.requires.sets) in
     let owned = from_pawn rules r _ owns in
@@ -47,5 +47,5 @@ returns-clause-ok g c =
 
 pub returns-clause-on_board : goal.returns-clause-on_board
 returns-clause-on_board g c =
-    let board = c.sets_are_on_board.ensures _ _ _ _ c.position_sizes.ensures.cells c.requires.sets in
+    let board = c.sets_are_on_board.ensures _ _ _ _ c.prove_position_sizes.ensures.cells c.requires.sets in
     λ s e. board.own s (c.own_pawns-own.ensures.within s (and_parts (has c.own_pawns-own.result s) (not (has c.minus-pawns.result s)) (sym (c.minus.ensures s) ∙ e)).0)

@@ -11,7 +11,7 @@ pub loop-from-init : goal.loop-from-init
 loop-from-init g c =
     let are = c.own_pieces-left.ensures.are _ _ _ c.requires.sets in
     record {
-      small = λ s e. (c.sets_are_on_board.ensures _ _ _ _ c.position_sizes.ensures.cells c.requires.sets).own s (c.own_pieces-left.ensures.within s e);
+      small = λ s e. (c.sets_are_on_board.ensures _ _ _ _ c.prove_position_sizes.ensures.cells c.requires.sets).own s (c.own_pieces-left.ensures.within s e);
       own = λ s e. sym (are s) ∙ e;
       taken = turn-none g.met.S.MoveSink.law _ start_of _ _ (from_piece _ _ _ are);
     }

@@ -21,7 +21,7 @@ loop-from-init c = record {
 
 pub reach_from-requires : goal.reach_from-requires
 reach_from-requires c = record {
-  from = men_small (other c.args.side) c.args.cells.now c.args.enemies c.in-Some.from c.board_size.ensures c.requires.enemies (c.loop-from.invariant.inside c.in-Some.from c.in-Some.ensures.some.member);
+  from = men_small (other c.args.side) c.args.cells.now c.args.enemies c.in-Some.from c.prove_board_size.ensures c.requires.enemies (c.loop-from.invariant.inside c.in-Some.from c.in-Some.ensures.some.member);
 }
 
 pub loop-from-preserved : goal.loop-from-preserved
@@ -29,7 +29,7 @@ loop-from-preserved c =
     let rules = c.args.tables.now in
     let by = other c.args.side in
     let enemy = c.loop-from.invariant.inside c.in-Some.from c.in-Some.ensures.some.member in
-    let small = men_small by c.args.cells.now c.args.enemies c.in-Some.from c.board_size.ensures c.requires.enemies enemy in
+    let small = men_small by c.args.cells.now c.args.enemies c.in-Some.from c.prove_board_size.ensures c.requires.enemies enemy in
     record {
       inside = λ s h. c.loop-from.invariant.inside s (and_parts (has c.loop-from.rest s) (not (s == c.in-Some.from)) (sym (c.in-Some.ensures.rest s) ∙ h)).0;
       taken = λ to men entered board gone is by_it h.

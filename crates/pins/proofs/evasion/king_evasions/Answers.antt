@@ -9,7 +9,7 @@ use Rattle.pins.proofs.evasion.king_evasions.Goals as goal
 pub loop-from-preserved-in-Some-attack_way : goal.loop-from-preserved-in-Some-attack_way
 loop-from-preserved-in-Some-attack_way c =
     let enemy = c.loop-from.invariant.inside c.in-Some.from c.in-Some.ensures.some.member in
-    let small = men_small c.args.by c.args.cells.now c.args.enemies c.in-Some.from c.board_size.ensures c.requires.enemies enemy in
+    let small = men_small c.args.by c.args.cells.now c.args.enemies c.in-Some.from c.prove_board_size.ensures c.requires.enemies enemy in
     let way = c.in-Some-attack_way.way in
     record {
       inside = λ s h. c.loop-from.invariant.inside s (and_parts (has c.loop-from.near s) (not (s == c.in-Some.from)) (sym (c.in-Some.ensures.rest s) ∙ h)).0;

@@ -18,7 +18,7 @@ new-requires-clause-ongoing g c =
 
 pub publish_below-requires-clause-at : goal.publish_below-requires-clause-at
 publish_below-requires-clause-at g c =
-    at-root c.grow_out.new.tree c.new-board.result.position c.has_grown.ensures.grown
+    at-root c.grow_out.new.tree c.new-board.result.position c.prove_grown.ensures.grown
     (ap (λ (s : Stance). s.position) c.new-board.ensures ∙ c.position-2.ensures.is ∙ sym (c.in_ok-grow_out.ensures.root ∙ c.in_ok-tree.ensures.root ∙ c.position.ensures.is))
 
 pub returns-clause-found : goal.returns-clause-found
@@ -28,4 +28,4 @@ returns-clause-found g c =
     (c.in_ok-grow_out.ensures.frame ∙ c.in_ok-tree.ensures.frame ∙ c.frame.ensures)
     (c.in_ok-grow_out.ensures.root ∙ c.in_ok-tree.ensures.root ∙ c.position.ensures.is)
     (c.in_ok-grow_out.ensures.moves ∙ c.in_ok-tree.ensures.moves)
-    c.has_grown.ensures.grown c.has_grown.ensures.decides c.in_ok-grow_out.ensures.settled)
+    c.prove_grown.ensures.grown c.prove_grown.ensures.decides c.in_ok-grow_out.ensures.settled)

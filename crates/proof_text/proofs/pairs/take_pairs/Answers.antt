@@ -2,7 +2,7 @@ use Rattle.std.proofs.Common.{◌+◌, ◌-◌, ◌++◌, ◌∷◌, [], List, s
 use Rattle.std.proofs.lemmas.Result.{err_from_is_err_and}
 use Rattle.variant_ini.specs.declared.key_line.KeyLine.{KeyLine}
 use Rattle.proof_text.specs.declared.fault.ProofFault.TheVariants.{Memory}
-use Rattle.proof_text.specs.declared.taking.NoProof.TheVariants.{Faulty}
+use Rattle.proof_text.specs.declared.source_lines.NoProof.TheVariants.{Faulty}
 use Rattle.proof_text.specs.Reading.{pairs_on}
 use Rattle.proof_text.specs.TakingView.{GoesOn, HasWhy}
 use Rattle.proof_text.proofs.ReadingLemmas.{heard-on, loop-fault, loop-first, loop-last, loop-next, nothing-heard}

@@ -7,7 +7,7 @@ use Rattle.variant_model.specs.declared.fault.SectionFault.{SectionFault}
 use Rattle.variant_rules.specs.View.{lent}
 use Rattle.proof_text.specs.declared.fault.ProofFault.{ProofFault}
 use Rattle.proof_text.specs.declared.fault.ProofFault.TheVariants.{RefusedRules}
-use Rattle.proof_text.specs.declared.taking.NoProof.TheVariants.{Faulty}
+use Rattle.proof_text.specs.declared.source_lines.NoProof.TheVariants.{Faulty}
 use Rattle.proof_text.specs.Reading.{with_rules}
 use Rattle.proof_text.proofs.ReadingLemmas.{nothing-heard, why-heard}
 use Rattle.proof_text.proofs.reading.read_on_entry.Goals as goal

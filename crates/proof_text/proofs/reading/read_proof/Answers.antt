@@ -5,7 +5,7 @@ use Rattle.proof_text.specs.declared.fault.ProofFault.{ProofFault}
 use Rattle.proof_text.specs.declared.proof.Proof.{Proof}
 use Rattle.proof_text.specs.Fault.{IsFaultOrMemory}
 use Rattle.proof_text.specs.Reading.{proof_of, proof_on}
-use Rattle.proof_text.specs.declared.taking.NoProof.{NoProof}
+use Rattle.proof_text.specs.declared.source_lines.NoProof.{NoProof}
 use Rattle.proof_text.specs.TakingView.{HasWhy}
 use Rattle.proof_text.proofs.ReadingLemmas.{text-heard}
 use Rattle.proof_text.proofs.reading.read_proof.Goals as goal

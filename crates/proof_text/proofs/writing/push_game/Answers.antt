@@ -11,7 +11,7 @@ use Rattle.proof_text.proofs.WriteLemmas.{line-lines}
 use Rattle.proof_text.proofs.writing.push_game.Goals as goal
 
 pub push_start-requires-clause-fit : goal.push_start-requires-clause-fit
-push_start-requires-clause-fit c = subst IsFit (sym c.rules.ensures) c.is_played.ensures.fit
+push_start-requires-clause-fit c = subst IsFit (sym c.rules.ensures) c.prove_played.ensures.fit
 
 pub push_start-requires-clause-sound : goal.push_start-requires-clause-sound
 push_start-requires-clause-sound c =

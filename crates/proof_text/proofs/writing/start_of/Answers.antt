@@ -22,4 +22,4 @@ returns-clause-sound c =
     c.first_of.ensures g.start
     ∙ ap (λ (ps : List Position). get_or ps 0 g.start) c.history.ensures
     ∙ start-first g g.start in
-    subst (λ (p : Position). is_sound g.rules p ≡ true) (sym is) c.is_played.ensures.game.sound
+    subst (λ (p : Position). is_sound g.rules p ≡ true) (sym is) c.prove_played.ensures.game.sound

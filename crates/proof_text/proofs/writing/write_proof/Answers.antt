@@ -10,7 +10,7 @@ use Rattle.proof_text.proofs.WriteLemmas.{proof-pushed}
 use Rattle.proof_text.proofs.writing.write_proof.Goals as goal
 
 pub push_body-requires-clause-fit : goal.push_body-requires-clause-fit
-push_body-requires-clause-fit c = subst IsFit (sym c.rules.ensures) c.is_played.ensures.fit
+push_body-requires-clause-fit c = subst IsFit (sym c.rules.ensures) c.prove_played.ensures.fit
 
 pub push_body-requires-clause-sound : goal.push_body-requires-clause-sound
 push_body-requires-clause-sound c =
@@ -29,5 +29,5 @@ pub returns-clause-back : goal.returns-clause-back
 returns-clause-back c = λ files readable.
     ap (λ text. proof_of (lines_of text)) (returns-clause-is c)
     ∙ c.written_proofs_are_read_back.ensures c.args.sections.now c.args.section c.args.game.now c.args.n
-    c.args.strategy.now files c.requires.accepted c.is_played.ensures c.requires.some c.requires.few
-    c.requires.sound readable c.nodes_fit.ensures
+    c.args.strategy.now files c.requires.accepted c.prove_played.ensures c.requires.some c.requires.few
+    c.requires.sound readable c.prove_nodes_fit.ensures

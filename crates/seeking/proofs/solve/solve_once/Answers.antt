@@ -22,8 +22,8 @@ returns-in_err-frame-clause-failed g c why is =
     let memory : why ≡ fault.Memory = search rules in
     fails_memory _ c.args.dialect c.args.limits _ _ _ _ why memory
 
-pub returns-in_err-take_pool-clause-failed : goal.returns-in_err-take_pool-clause-failed
-returns-in_err-take_pool-clause-failed g c why is =
+pub returns-in_err-take_facts-clause-failed : goal.returns-in_err-take_facts-clause-failed
+returns-in_err-take_facts-clause-failed g c why is =
     let memory : why ≡ fault.Memory = search rules in
     fails_memory _ c.args.dialect c.args.limits _ _ _ _ why memory
 

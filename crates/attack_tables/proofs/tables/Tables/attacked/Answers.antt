@@ -6,7 +6,7 @@ use Rattle.attack_tables.proofs.AttackLaws.{attacks_beyond, attacks_by_piece, ow
 use Rattle.attack_tables.proofs.tables.Tables.attacked.Goals as goal
 
 pub returns-then-at-ge120 : goal.returns-then-at-ge120
-returns-then-at-ge120 c = sym (attacks_beyond c.args.self.now c.rules-rules.ensures.fit c.args.p.now.cells c.args.by c.args.at.0 c.board_size.ensures c.if-at-ge120.true)
+returns-then-at-ge120 c = sym (attacks_beyond c.args.self.now c.rules-rules.ensures.fit c.args.p.now.cells c.args.by c.args.at.0 c.prove_board_size.ensures c.if-at-ge120.true)
 
 pub attacks_king-requires-clause-men : goal.attacks_king-requires-clause-men
 attacks_king-requires-clause-men c = λ s h. sym (c.men-men.ensures s) ∙ h

@@ -11,7 +11,7 @@ king_attacked_by-requires c =
     let Own : Side → Type 0 = λ by. AreMen by c.args.p.now.cells c.men-men.result in
     let own = subst Own c.other-by.ensures c.men-men.ensures in
     record {
-      kings = kings_small c.rules-rules.result.now c.args.side c.args.p.now.cells c.kings-kings.result c.board_size.ensures c.kings-kings.ensures;
+      kings = kings_small c.rules-rules.result.now c.args.side c.args.p.now.cells c.kings-kings.result c.prove_board_size.ensures c.kings-kings.ensures;
       men = λ s h. sym (own s) ∙ h;
     }
 

@@ -43,12 +43,12 @@ loop-from-preserved c =
     }
 
 pub cell_on-requires : goal.cell_on-requires
-cell_on-requires c = men_small c.args.by c.args.cells.now c.args.men c.in-Some.from c.board_size.ensures c.requires.men (c.loop-from.invariant.inside c.in-Some.from c.in-Some.ensures.some.member)
+cell_on-requires c = men_small c.args.by c.args.cells.now c.args.men c.in-Some.from c.prove_board_size.ensures c.requires.men (c.loop-from.invariant.inside c.in-Some.from c.in-Some.ensures.some.member)
 
 pub returns-then-is_own_king : goal.returns-then-is_own_king
 returns-then-is_own_king c = λ board is king.
     let man = c.loop-from.invariant.inside c.in-Some.from c.in-Some.ensures.some.member in
-    let small = men_small c.args.by c.args.cells.now c.args.men c.in-Some.from c.board_size.ensures c.requires.men man in
+    let small = men_small c.args.by c.args.cells.now c.args.men c.in-Some.from c.prove_board_size.ensures c.requires.men man in
     let own : is_own_king c.args.self.now c.args.by (cell_at board c.in-Some.from) ≡ true =
     ap (is_own_king c.args.self.now c.args.by) (is.same c.in-Some.from man ∙ sym c.cell_on.ensures) ∙ ap (λ r. is_own_king r c.args.by c.cell_on.result) (sym c.rules-rules.ensures.is) ∙ sym c.is_own_king.ensures ∙ c.if-is_own_king.true in
     sym (any_below-true (king_faces c.args.self.now board c.args.by c.args.at.0) 120 c.in-Some.from small (c.loop-from.invariant.faces board is king c.in-Some.from small c.in-Some.ensures.some.member own))

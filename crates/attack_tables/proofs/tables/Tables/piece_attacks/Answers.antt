@@ -16,7 +16,7 @@ loop-from-init c =
     }
 
 pub attacks_from-requires-clause-from : goal.attacks_from-requires-clause-from
-attacks_from-requires-clause-from c = men_small c.args.by c.args.cells.now c.args.men c.in-Some.from c.board_size.ensures c.requires.men (c.loop-from.invariant.inside c.in-Some.from c.in-Some.ensures.some.member)
+attacks_from-requires-clause-from c = men_small c.args.by c.args.cells.now c.args.men c.in-Some.from c.prove_board_size.ensures c.requires.men (c.loop-from.invariant.inside c.in-Some.from c.in-Some.ensures.some.member)
 
 pub loop-from-preserved : goal.loop-from-preserved
 loop-from-preserved c = record {
@@ -30,7 +30,7 @@ loop-from-preserved c = record {
 pub returns-then-attacks_from : goal.returns-then-attacks_from
 returns-then-attacks_from c = λ board is.
     let man = c.loop-from.invariant.inside c.in-Some.from c.in-Some.ensures.some.member in
-    let small = men_small c.args.by c.args.cells.now c.args.men c.in-Some.from c.board_size.ensures c.requires.men man in
+    let small = men_small c.args.by c.args.cells.now c.args.men c.in-Some.from c.prove_board_size.ensures c.requires.men man in
     sym (any_below-true (attacks_from c.args.self.now board c.args.by c.args.at.0) 120 c.in-Some.from small (sym (c.attacks_from.ensures board is.squares (is.same c.in-Some.from man)) ∙ c.if-attacks_from.true))
 
 pub returns : goal.returns

@@ -9,14 +9,14 @@ use Rattle.board_sets.proofs.sets.BoardSets.after.Goals as goal
 pub returns-then-carries : goal.returns-then-carries
 returns-then-carries c =
     let P : Move → Type 0 = λ m. AreSets c.args.rules.now c.args.p.now.side (cells_after c.args.rules.now (repeat_of c.args.p.now) m) c.carried.result in
-    subst P (sym c.in-Go.is) (carry_sets _ (repeat_of c.args.p.now) c.position_sizes.ensures.cells _ _ _ _ _ _ (sym c.carries.ensures ∙ c.if-carries.true) c.requires.sets c.carried.ensures)
+    subst P (sym c.in-Go.is) (carry_sets _ (repeat_of c.args.p.now) c.prove_position_sizes.ensures.cells _ _ _ _ _ _ (sym c.carries.ensures ∙ c.if-carries.true) c.requires.sets c.carried.ensures)
 
 pub returns-in-Castle : goal.returns-in-Castle
 returns-in-Castle c =
     let P : Move → Type 0 = λ m. AreSets c.args.rules.now c.args.p.now.side (cells_after c.args.rules.now (repeat_of c.args.p.now) m) c.placed.result in
-    subst P (sym c.in-Castle.is) (castle_sets _ (repeat_of c.args.p.now) c.position_sizes.ensures.cells _ _ _ _ _ _ c.castled-sets.ensures c.placed.ensures)
+    subst P (sym c.in-Castle.is) (castle_sets _ (repeat_of c.args.p.now) c.prove_position_sizes.ensures.cells _ _ _ _ _ _ c.castled-sets.ensures c.placed.ensures)
 
 pub returns-in-Drop : goal.returns-in-Drop
 returns-in-Drop c =
     let P : Move → Type 0 = λ m. AreSets c.args.rules.now c.args.p.now.side (cells_after c.args.rules.now (repeat_of c.args.p.now) m) c.put.result in
-    subst P (sym c.in-Drop.is) (drop_sets _ (repeat_of c.args.p.now) c.position_sizes.ensures.cells _ _ _ _ c.requires.sets (rw c.fresh.ensures at c.put.ensures))
+    subst P (sym c.in-Drop.is) (drop_sets _ (repeat_of c.args.p.now) c.prove_position_sizes.ensures.cells _ _ _ _ c.requires.sets (rw c.fresh.ensures at c.put.ensures))

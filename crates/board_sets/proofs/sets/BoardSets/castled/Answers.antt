@@ -7,4 +7,4 @@ returns c =
     let cells = c.args.p.now.cells in
     let king = rw (cell_read cells c.args.from.0) at c.put-there.ensures in
     let rook = rw (c.rook_target.ensures.is, cell_read cells c.args.rook.0) at c.put-2.ensures in
-    four_writes _ _ cells _ _ _ _ _ _ _ _ _ _ _ _ _ c.position_sizes.ensures.cells c.requires.sets c.put.ensures c.put-none.ensures king rook
+    four_writes _ _ cells _ _ _ _ _ _ _ _ _ _ _ _ _ c.prove_position_sizes.ensures.cells c.requires.sets c.put.ensures c.put-none.ensures king rook

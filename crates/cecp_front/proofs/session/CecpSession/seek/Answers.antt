@@ -12,8 +12,8 @@ returns-in_err-legal-clause-broke g c =
     on_error c.from_residual.result
     (seek_none c.args.self.now c.args.source.now c.args.sink.now c.args.clock.now (some_depth c.args.self.now))
 
-pub deepen-requires-clause-task : goal.deepen-requires-clause-task
-deepen-requires-clause-task g c κs within =
+pub iterative_deepening-requires-clause-task : goal.iterative_deepening-requires-clause-task
+iterative_deepening-requires-clause-task g c κs within =
     let roots : c.as_slice.result.now ≡ legal_in c.self.inside.game =
     c.as_slice.ensures.value ∙ c.legal.view_is ∙ c.in_ok-legal.ensures
     ∙ legal_here c.self.inside.game c.rules.result.now c.position.result.now c.rules.ensures c.position.ensures.is in
@@ -38,14 +38,14 @@ returns-clause-sought g c =
     let depths : c.depth_for.result ≡ depth_for state =
     c.depth_for.ensures ∙ ap (λ t. lowered (if is_some t then 64 else 4) c.self.inside.sd) time
     ∙ ap (λ s. lowered (if is_some (time_for state) then 64 else 4) s.sd) c.self.view_is in
-    seek_result g.S.Source.left g.K.Sink.taken g.C.Clock.given g.C.Clock.count g.C.Clock.last c.args.source.now c.deepen.new.source
-    c.args.sink.now c.deepen.new.sink c.args.clock.now c.begin-start.new.clock c.deepen.new.clock state _
+    seek_result g.S.Source.left g.K.Sink.taken g.C.Clock.given g.C.Clock.count g.C.Clock.last c.args.source.now c.iterative_deepening.new.source
+    c.args.sink.now c.iterative_deepening.new.sink c.args.clock.now c.begin-start.new.clock c.iterative_deepening.new.clock state _
     (task_is state c.self.inside.game c.as_slice.result.now c.depth_for.result c.time_for-time.result
     (ap (λ s. s.game) c.self.view_is) roots time depths)
     c.begin-start.result.first c.begin-start.ensures.given c.begin-start.ensures.count c.begin-start.ensures.last
     c.style_of.result (c.style_of.ensures ∙ ap (λ s. style_of s.posts) c.self.view_is)
-    (g.S.Source.owed c.args.source.now) (g.S.Source.owed c.deepen.new.source) c.deepen.new.line c.deepen.result
-    c.deepen.ensures.deepened
+    (g.S.Source.owed c.args.source.now) (g.S.Source.owed c.iterative_deepening.new.source) c.iterative_deepening.new.line c.iterative_deepening.result
+    c.iterative_deepening.ensures.deepened
 
 pub returns-clause-broke : goal.returns-clause-broke
 returns-clause-broke g c =
@@ -58,10 +58,10 @@ returns-clause-broke g c =
     let depths : c.depth_for.result ≡ depth_for state =
     c.depth_for.ensures ∙ ap (λ t. lowered (if is_some t then 64 else 4) c.self.inside.sd) time
     ∙ ap (λ s. lowered (if is_some (time_for state) then 64 else 4) s.sd) c.self.view_is in
-    seek_fault g.S.Source.left g.K.Sink.taken g.C.Clock.given g.C.Clock.count g.C.Clock.last c.args.source.now c.deepen.new.source
-    c.args.sink.now c.deepen.new.sink c.args.clock.now c.begin-start.new.clock c.deepen.new.clock state _
+    seek_fault g.S.Source.left g.K.Sink.taken g.C.Clock.given g.C.Clock.count g.C.Clock.last c.args.source.now c.iterative_deepening.new.source
+    c.args.sink.now c.iterative_deepening.new.sink c.args.clock.now c.begin-start.new.clock c.iterative_deepening.new.clock state _
     (task_is state c.self.inside.game c.as_slice.result.now c.depth_for.result c.time_for-time.result
     (ap (λ s. s.game) c.self.view_is) roots time depths)
     c.begin-start.result.first c.begin-start.ensures.given c.begin-start.ensures.count c.begin-start.ensures.last
     c.style_of.result (c.style_of.ensures ∙ ap (λ s. style_of s.posts) c.self.view_is)
-    c.deepen.result c.deepen.ensures.broke
+    c.iterative_deepening.result c.iterative_deepening.ensures.broke

@@ -29,7 +29,7 @@ well c =
     let end : k ≤ length s = subst (λ z. k ≤ length z) e c.place-at.ensures.within in
     finished f plan s t k c.counter_at-counter.result v b n
     (c.requires.rules ∙ sym (ap (λ (x : Tabled). x.frame.rules) view))
-    c.is_ready.ensures.sound
+    c.prove_ready.ensures.sound
     c.requires.small
     (subst (λ (x : Tabled). IsNextIn x n p) (sym view) c.requires.next)
     (subst (λ (x : Tabled). AreEdgesIn x p n c.args.edges) (sym view) c.requires.edges)

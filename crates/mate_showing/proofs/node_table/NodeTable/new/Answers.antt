@@ -8,4 +8,4 @@ invariant_of-result c =
     let u : Node = record { position = c.written.result; rank = 65535; edges = c.no_edges.result } in
     let is : c.push.new.self.items ≡ u ∷ [] = search rules in
     root-kept c.args.frame.now c.args.plan c.args.board.now c.push.new.self.items u
-    c.requires.rules c.requires.root c.is_ready.ensures.sound is c.written.ensures refl
+    c.requires.rules c.requires.root c.prove_ready.ensures.sound is c.written.ensures refl

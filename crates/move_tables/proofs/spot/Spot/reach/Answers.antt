@@ -15,5 +15,5 @@ returns c = λ t.
     let straight = c.along-straight.ensures t l ∙ ap (λ b. has c.args.self.now.leaps t || b) lines in
     c.and.ensures t ∙ ap (λ b. b && has c.args.self.now.within t)
     (c.over.ensures t l ∙ ap (λ b. has c.along-straight.result t || b) jumps ∙ ap (λ b. b || list_any (λ jump. by_jump jump c.args.occupied t) c.args.self.now.jumps.items) straight))
-    (λ l. let none = c.none_beyond.ensures t l in
+    (λ l. let none = c.prove_none_beyond.ensures t l in
     c.and.ensures t ∙ and_right (has c.over.result t) (has c.args.self.now.within t) none ∙ sym (and_right (by_parts c.args.self.now c.args.occupied t) (has c.args.self.now.within t) none))

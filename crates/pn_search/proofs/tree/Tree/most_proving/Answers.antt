@@ -17,7 +17,7 @@ less n i j h k = omega arith
 pub loop-child-init : goal.loop-child-init
 loop-child-init c =
     let t = c.args.self.now in
-    let root = down-root t (subst HasGrown c.self.view_is c.self.invariant.has_grown) in
+    let root = down-root t (subst HasGrown c.self.view_is c.self.invariant.prove_grown) in
     let position : c.new-board.result.position ≡ t.root = ap (λ (s : Stance). s.position) c.new-board.ensures ∙ ap (λ (u : ProofTree). u.root) c.self.view_is in
     record {
       rules = ap (λ (s : Stance). s.rules) c.new-board.ensures ∙ c.requires.tables;

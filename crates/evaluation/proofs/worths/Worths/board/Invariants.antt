@@ -1,5 +1,0 @@
-use Rattle.evaluation.proofs.PutLaws.{IsBoardPart}
-use Rattle.evaluation.proofs.worths.Worths.board.Given as goal
-
-abbrev pub invariant-loop-s : goal.invariant-loop-s
-invariant-loop-s l = IsBoardPart l.self l.p.cells l.s l.tally

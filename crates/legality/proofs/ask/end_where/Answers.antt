@@ -1,6 +1,0 @@
-use Rattle.std.proofs.Common.{◌∙◌}
-use Rattle.legality.proofs.LateLaws.{late_end_is}
-use Rattle.legality.proofs.ask.end_where.Goals as goal
-
-pub returns-in-Ongoing : goal.returns-in-Ongoing
-returns-in-Ongoing c = c.late_end.ensures ∙ late_end_is _ _ c.in-Ongoing.ensures _ c.requires.any

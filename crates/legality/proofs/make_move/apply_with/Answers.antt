@@ -1,0 +1,55 @@
+use Rattle.std.proofs.Common.{◌≡◌, ◌∙◌, ap, subst, sym, true, ◌&&◌}
+use Rattle.rules_model.specs.declared.board.Position.{Position}
+use Rattle.rules_model.specs.declared.board.Side.{Side}
+use Rattle.rules_model.proofs.LegalLaws.{legal-member}
+use Rattle.rules_model.specs.Attacks.{king_attacked}
+use Rattle.rules_model.specs.Next.{cells_after, next, next_repeat}
+use Rattle.rules_model.specs.Repeats.{repeat_of}
+use Rattle.rules_model.specs.Sides.{other}
+use Rattle.rules_model.specs.Sound.{is_sound}
+use Rattle.next_position.proofs.PartLaws.{next-by}
+use Rattle.board_sets.specs.Sets.{AreSets}
+use Rattle.legality.proofs.make_move.apply_with.Goals as goal
+
+pub after-requires-clause-move_fits : goal.after-requires-clause-move_fits
+after-requires-clause-move_fits c = (legal-member _ _ _ c.requires.legal).0
+
+pub make_but_checks-requires-clause-move_fits : goal.make_but_checks-requires-clause-move_fits
+make_but_checks-requires-clause-move_fits c = (legal-member _ _ _ c.requires.legal).0
+
+pub is_check_counted-gives-requires-clause-sets : goal.is_check_counted-gives-requires-clause-sets
+unfolding next next_repeat
+is_check_counted-gives-requires-clause-sets c =
+    let rules = c.args.rules.now in
+    let p = c.args.p.now in
+    let Sets : Position → Type 0 = λ q. AreSets rules q.side q.cells c.turned-sets.result in
+    let there : Sets (next rules p c.args.m.now) = c.turned-sets.ensures rules p.side (cells_after rules (repeat_of p) c.args.m.now) c.after.ensures in
+    subst Sets (sym c.make_but_checks.ensures) there
+
+pub returns-clause-next : goal.returns-clause-next
+unfolding next next_repeat
+returns-clause-next c =
+    let rules = c.args.rules.now in
+    let p = c.args.p.now in
+    let made = c.make_but_checks.new.p in
+    let side : made.side ≡ other p.side = ap (λ (q : Position). q.side) c.make_but_checks.ensures in
+    let gives = c.is_check_counted-gives.ensures ∙ ap (λ (to_move : Side). rules.check_counting && king_attacked rules made.cells to_move) side in
+    c.count_check.ensures ∙ next-by rules p made c.args.m.now c.is_check_counted-gives.result c.make_but_checks.ensures gives
+
+pub returns-clause-sound : goal.returns-clause-sound
+returns-clause-sound c =
+    let rules = c.args.rules.now in
+    let p = c.args.p.now in
+    let Sound : Position → Type 0 = λ q. is_sound rules q ≡ true in
+    let there : Sound (next rules p c.args.m.now) = c.legal_moves_keep_soundness.ensures rules c.requires.ready.fit p c.args.m.now c.requires.ready.sound c.requires.legal in
+    subst Sound (sym (returns-clause-next c)) there
+
+pub returns-clause-sets : goal.returns-clause-sets
+unfolding next next_repeat
+returns-clause-sets c =
+    let rules = c.args.rules.now in
+    let p = c.args.p.now in
+    let Sets : Position → Type 0 = λ q. AreSets rules q.side q.cells c.turned-sets.result in
+    let there : Sets (next rules p c.args.m.now) = c.turned-sets.ensures rules p.side (cells_after rules (repeat_of p) c.args.m.now) c.after.ensures in
+    let made : Sets c.make_but_checks.new.p = subst Sets (sym c.make_but_checks.ensures) there in
+    subst Sets (sym c.count_check.ensures) made

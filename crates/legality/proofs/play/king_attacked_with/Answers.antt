@@ -1,9 +1,0 @@
-use Rattle.std.proofs.Common.{sym, subst}
-use Rattle.rules_model.specs.declared.rules.Rules.{Rules}
-use Rattle.board_sets.specs.Sets.{AreSets}
-use Rattle.legality.proofs.play.king_attacked_with.Goals as goal
-
-pub is_checked-requires : goal.is_checked-requires
-is_checked-requires c =
-    let Sets : Rules → Type 0 = λ rules. AreSets rules c.args.p.now.side c.args.p.now.cells c.args.sets.now in
-    subst Sets (sym c.requires.tables) c.requires.sets

@@ -1,0 +1,84 @@
+//! The position after a legal move.
+ghost use Rattle.std.specs.Prelude.{◌≡◌, ◌&&◌, true};
+ghost use Rattle.foundation.specs.Member.{Member};
+ghost use Rattle.rules_model.specs.Attacks as Attacks;
+ghost use Rattle.rules_model.specs.Legal.{legal};
+ghost use Rattle.rules_model.specs.Next as Next;
+ghost use Rattle.rules_model.specs.Ready.{IsReady};
+ghost use Rattle.rules_model.specs.Repeats.{repeat_of};
+ghost use Rattle.rules_model.specs.Sound.{is_sound};
+ghost use Rattle.board_sets.specs.Sets.{AreSets};
+
+use attack_tables::Tables;
+use board_sets::{BoardSets, sets_are_on_board};
+use next_position::{count_check, make_but_checks, make_move, sound_positions_take_moves};
+use rules_model::sizes::prove_position_sizes;
+use rules_model::{Move, Position, Rules};
+use sound_play::legal_moves_keep_soundness;
+
+/// Makes the legal move: the position is the one after it, and is sound again. The tables are not read.
+pub fn apply(rules: &Rules, tables: &Tables, p: &mut Position, m: &Move)
+    requires ready { IsReady rules.now tables.now p.old }
+    requires legal { Member m.now (legal rules.now (repeat_of p.old)) }
+    ensures next { p.new ≡ Next.next rules.now p.old m.now }
+    ensures sound { is_sound rules.now p.new ≡ true }
+{
+    sound_positions_take_moves();
+    legal_moves_keep_soundness();
+    make_move(rules, p, m);
+}
+
+/// Whether the king of the side to move is attacked, by the sets of the board.
+fn is_checked(tables: &Tables, p: &Position, sets: &BoardSets) -> bool
+    requires { AreSets tables.now p.now.side p.now.cells sets.now }
+    ensures { result ≡ Attacks.king_attacked tables.now p.now.cells p.now.side }
+{
+    prove_position_sizes(p);
+    sets_are_on_board();
+    let occupied = sets.occupied();
+    tables.king_attacked_by(&p.cells, sets.kings, sets.enemies, occupied, p.side)
+}
+
+/// Whether the king of the side to move is attacked, by the sets of the board, which the caller has.
+pub fn king_attacked_with(rules: &Rules, tables: &Tables, p: &Position, sets: &BoardSets) -> bool
+    requires tables { tables.now ≡ rules.now }
+    requires sets { AreSets rules.now p.now.side p.now.cells sets.now }
+    ensures { result ≡ Attacks.king_attacked rules.now p.now.cells p.now.side }
+{
+    is_checked(tables, p, sets)
+}
+
+/// Whether the king of the side to move is attacked, and such a check counts.
+fn is_check_counted(rules: &Rules, tables: &Tables, p: &Position, sets: &BoardSets) -> bool
+    requires tables { tables.now ≡ rules.now }
+    requires sets { AreSets rules.now p.now.side p.now.cells sets.now }
+    ensures { result ≡ (rules.now.check_counting && Attacks.king_attacked rules.now p.now.cells p.now.side) }
+{
+    rules.check_counting && king_attacked_with(rules, tables, p, sets)
+}
+
+/// The same as `apply`, by the sets of the board. Answered are the sets of the position after the move, for the side
+/// that is then to move. Whether the move gives check is asked, of the tables, only where the variant counts checks.
+pub fn apply_with(
+    rules: &Rules,
+    tables: &Tables,
+    p: &mut Position,
+    sets: &BoardSets,
+    m: &Move,
+) -> BoardSets
+    requires ready { IsReady rules.now tables.now p.old }
+    requires sets { AreSets rules.now p.old.side p.old.cells sets.now }
+    requires legal { Member m.now (legal rules.now (repeat_of p.old)) }
+    ensures next { p.new ≡ Next.next rules.now p.old m.now }
+    ensures sound { is_sound rules.now p.new ≡ true }
+    ensures sets { AreSets rules.now p.new.side p.new.cells result }
+{
+    sound_positions_take_moves();
+    legal_moves_keep_soundness();
+    let side = p.side;
+    let sets = sets.after(rules, p, m).turned();
+    make_but_checks(rules, p, m);
+    let gives = is_check_counted(rules, tables, p, &sets);
+    count_check(p, side, gives);
+    sets
+}

@@ -1,0 +1,67 @@
+//! A position with what is known of it for all that is asked of its moves.
+ghost use Rattle.std.specs.Prelude.{◌≡◌};
+ghost use Rattle.rules_model.specs.Ends as Ends;
+ghost use Rattle.rules_model.specs.Ready.{IsReady};
+ghost use Rattle.board_sets.specs.Sets.{AreSets};
+ghost use Rattle.legality.specs.Stance.{repeat_in};
+
+use crate::pin_info::PinInfo;
+use crate::search::{early_end_with, is_ongoing};
+use attack_tables::Tables;
+use board_sets::BoardSets;
+use rules_model::{Outcome, Position, Rules};
+use std::marker::Model;
+
+/// A position with what is known of it for all that is asked of its moves: how it is ended before they are looked at,
+/// and from which squares and to which its pieces may go, or go in vain, without a look at the board. It is made once,
+/// and every answer costs less by it. Contracts see the rules and the position.
+#[derive(Drop)]
+pub struct MoveGen<'a> {
+    pub(crate) early: Outcome,
+    pub(crate) safety: PinInfo<'a>,
+}
+
+impl<'a> Model for MoveGen<'a> {
+    ghost use Rattle.legality.specs.Stance.{Stance, IsKnown};
+
+    ghost Value = { Stance };
+
+    ghost view = { λ k. record { rules = k.safety.tables.now; position = k.safety.p.now } };
+
+    ghost invariant = { λ k. IsKnown k.safety.tables.now k.safety.p.now k.early };
+}
+
+impl<'a> MoveGen<'a> {
+    /// What is known of the position, by the sets of its board.
+    pub fn of(rules: &Rules, tables: &'a Tables, p: &'a Position, sets: &BoardSets) -> MoveGen<'a>
+        requires ready { IsReady rules.now tables.now p.now }
+        requires sets { AreSets rules.now p.now.side p.now.cells sets.now }
+        ensures { result ≡ record { rules = rules.now; position = p.now } }
+    {
+        MoveGen {
+            early: early_end_with(rules, tables, p, sets),
+            safety: PinInfo::of_all(rules, tables, p, sets),
+        }
+    }
+
+    /// The rules fit, and the position is sound by them. Nothing is done: the call tells a proof.
+    pub(crate) fn prove_ready(&self)
+        ensures { IsReady self.now.rules self.now.rules self.now.position }
+    {
+        let _early = self.early;
+    }
+
+    /// The end before its moves are looked at: flag, checks or extinction; `Outcome::Ongoing` where there is none.
+    pub fn early_end(&self) -> Outcome
+        ensures { result ≡ Ends.early_end self.now.rules (repeat_in self.now) }
+    {
+        self.early
+    }
+
+    /// Whether there is no early end.
+    pub(crate) fn goes_on(&self) -> bool
+        ensures { result ≡ Ends.is_ongoing (Ends.early_end self.now.rules (repeat_in self.now)) }
+    {
+        is_ongoing(self.early)
+    }
+}

@@ -1,0 +1,24 @@
+use Rattle.std.proofs.Common.{◌≡◌, ◌+◌, ◌-◌, length}
+use Rattle.game_line.specs.Lined.{legal_in, story_of_line}
+use Rattle.game_values.specs.Values.{play, quiet, tree_size}
+use Rattle.rules_model.specs.Games.{played}
+use Rattle.negamax.proofs.GoingLaws.{Going}
+use Rattle.negamax.proofs.quiescence.+quiescence.Given as goal
+
+abbrev pub decreases-quiescence : goal.decreases-quiescence
+decreases-quiescence g l = l.limit
+
+abbrev pub decreases-loop-best : goal.decreases-loop-best
+decreases-loop-best g l = length l.desk.waiting.items
+
+abbrev pub invariant-loop-best : goal.invariant-loop-best
+invariant-loop-best g l =
+    let rules = l.fn.line.rules in
+    let story = story_of_line l.fn.line in
+    record {
+      line : l.line ≡ l.fn.line;
+      first : l.first ≡ length l.fn.desk.waiting.items;
+      going : Going g.W.Watch.gone (legal_in l.fn.line) (played rules story) (quiet (play rules) (l.limit - 1) (l.ply + 1))
+          (tree_size rules (l.limit - 1)) l.fn.desk.waiting.items l.window.alpha l.window.beta (quiet (play rules) l.limit l.ply story)
+          (tree_size rules l.limit story) l.fn.watch l.watch l.desk.waiting.items l.best;
+    }

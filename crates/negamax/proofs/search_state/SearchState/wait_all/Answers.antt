@@ -1,0 +1,8 @@
+use Rattle.std.proofs.Common.{ap, ◌∙◌}
+use Rattle.negamax.proofs.CopyLaws.{copies_push}
+use Rattle.negamax.proofs.search_state.SearchState.wait_all.Goals as goal
+
+pub returns-clause-pushes : goal.returns-clause-pushes
+returns-clause-pushes c =
+    copies_push _ _ _ _ _ _ c.in_ok-any.ensures.listed (c.as_slice.ensures.value ∙ ap (λ d. d.listed) c.self.view_is) c.in_ok-push_all.ensures
+    (ap (λ d. d.waiting.items) c.self.view_is ∙ c.in_ok-any.ensures.waiting)

@@ -1,0 +1,71 @@
+//! The facts of mates that a session keeps from one solve to the next.
+ghost use Rattle.std.specs.Prelude.{◌≡◌, ◌≤◌, IfOk};
+ghost use Rattle.fact_lock.specs.Passes.{all_parts};
+ghost use Rattle.mate_shards.specs.Grown.{HaveParts};
+ghost use Rattle.mate_shards.specs.Views.{ArePassesOf};
+
+use foundation::Memory;
+use mate_core::Frame;
+use mate_shards::{Passes, Shards};
+use std::alloc::Global;
+use std::marker::Model;
+
+/// How many shards the facts stand in.
+const SHARDS: u32 = 16;
+
+/// Shards and all passes for them. Contracts see the frame of the shards.
+#[derive(Drop)]
+pub(crate) struct SharedFacts {
+    shards: Shards,
+    passes: Passes,
+}
+
+impl Model for SharedFacts {
+    ghost use Rattle.mate_core.specs.declared.frame.Frame.{Frame};
+    ghost use Rattle.seeking.specs.Pools.{AreWhole};
+
+    ghost Value = { Frame };
+
+    ghost view = { λ pool. pool.shards.frame };
+
+    ghost invariant = { λ pool. AreWhole pool.shards pool.passes };
+}
+
+impl SharedFacts {
+    /// Without facts, with room for N in a shard.
+    pub fn new(alloc: Global, frame: Frame, capacity: u32) -> Result<SharedFacts, Memory>
+        requires { (16 ≤ capacity) × (capacity ≤ 65536) }
+        ensures { IfOk result (λ pool. pool ≡ frame) }
+    {
+        let (shards, passes) = Shards::new(alloc, frame, SHARDS, capacity)?;
+        Ok(SharedFacts { shards, passes })
+    }
+
+    /// With the facts that are still true in another frame, as far as the shards know.
+    pub fn rebased(self, frame: Frame) -> Result<SharedFacts, Memory>
+        ensures { IfOk result (λ pool. pool ≡ frame) }
+    {
+        let (shards, passes) = self.into_parts();
+        let (shards, passes) = shards.rebase(passes, frame)?;
+        Ok(SharedFacts { shards, passes })
+    }
+
+    /// These shards, with all passes for them.
+    pub fn of(shards: Shards, passes: Passes) -> SharedFacts
+        requires passes { ArePassesOf shards passes }
+        requires parts { HaveParts all_parts passes }
+        ensures { result ≡ shards.frame }
+    {
+        SharedFacts { shards, passes }
+    }
+
+    /// The shards and the passes.
+    pub fn into_parts(self) -> (Shards, Passes)
+        ensures frame { result.0.frame ≡ self }
+        ensures passes { ArePassesOf result.0 result.1 }
+        ensures parts { HaveParts all_parts result.1 }
+    {
+        let SharedFacts { shards, passes } = self;
+        (shards, passes)
+    }
+}
