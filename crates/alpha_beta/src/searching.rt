@@ -28,7 +28,7 @@ use watching::{Caller, Halt, Watch, stopped_by};
 
 /// What a search finds: the value over the root moves, one of them that attains it, and the greatest count of nodes of
 /// one worker.
-#[derive(Clone, Copy, Debug)]
+#[derive(Clone, Copy)]
 pub struct Found {
     pub value: i32,
     pub best: Move,

@@ -29,7 +29,7 @@ struct PawnSpot {
 }
 
 /// Where the pawns of a side may go from many squares at once, as far as the rules alone tell.
-#[derive(Clone, Copy, Debug, PartialEq, Eq)]
+#[derive(Clone, Copy, PartialEq, Eq)]
 pub struct PawnMasks {
     /// From these squares a pawn is known to promote nowhere, and to go where the rest tells. There may be more such
     /// squares.

@@ -9,7 +9,7 @@ use square_set::{EMPTY, Set};
 use std::alloc::Global;
 
 /// The other squares of a square's file.
-#[derive(Clone, Copy, Debug, PartialEq, Eq)]
+#[derive(Clone, Copy, PartialEq, Eq)]
 pub struct Sight {
     pub above: Set,
     pub below: Set,

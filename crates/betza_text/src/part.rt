@@ -3,7 +3,7 @@ use arrayvec::ArrayVec;
 use std::marker::Model;
 
 /// Whether a part's piece moves over another piece, and where it lands then.
-#[derive(Clone, Copy, Debug, PartialEq, Eq)]
+#[derive(Clone, Copy, PartialEq, Eq)]
 pub enum HopKind {
     /// It moves over nothing.
     No,

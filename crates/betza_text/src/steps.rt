@@ -10,7 +10,7 @@ use arrayvec::ArrayVec;
 use std::marker::Model;
 
 /// A step: files to the right and ranks forward, as White sees them.
-#[derive(Clone, Copy, Debug, Default, PartialEq, Eq)]
+#[derive(Clone, Copy, Default, PartialEq, Eq)]
 pub struct Step {
     pub dx: i8,
     pub dy: i8,
@@ -43,7 +43,7 @@ impl Model for Steps {
 }
 
 /// What the steps of an atom have in common, up to turns and reflections.
-#[derive(Clone, Copy, Debug, PartialEq, Eq)]
+#[derive(Clone, Copy, PartialEq, Eq)]
 pub enum Shape {
     /// So many squares along a rank or a file.
     Orthogonal(i8),

@@ -12,7 +12,7 @@ use rules_model::{Cell, Cells, Rules, Side, Square};
 use square_set::{EMPTY, Set};
 
 /// The squares of the pieces on a board, by whose move it is.
-#[derive(Clone, Copy, Debug, PartialEq, Eq)]
+#[derive(Clone, Copy, PartialEq, Eq)]
 pub struct BoardSets {
     /// Those of the side to move.
     pub own: Set,

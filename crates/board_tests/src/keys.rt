@@ -2,7 +2,7 @@
 ghost use Rattle.rules_model.specs.Fit.{IsFit};
 ghost use Rattle.rules_model.specs.Moves.{IsFitMove};
 
-use crate::expect::{expect, expect_eq, expect_of};
+use crate::expect::{expect, expect_eq};
 use crate::helpers::{castle, go};
 use next_position::{make_move, sound_positions_take_moves};
 use position_key::{BoardKey, Packed, key_of, key_of_repeat, touched};
@@ -80,7 +80,7 @@ fn is_kept<R: Abort>(rt: &R, rules: &Rules, p: &Position, m: &Move)
     requires fit { IsFit rules.now }
     requires move_fits { IsFitMove m.now }
 {
-    assert!(rt; sound(rules, p), "{m:?}");
+    assert!(rt; sound(rules, p));
     sound_positions_take_moves();
     let mut next = *p;
     make_move(rules, &mut next, m);
@@ -93,7 +93,7 @@ fn is_kept<R: Abort>(rt: &R, rules: &Rules, p: &Position, m: &Move)
         kept.whole(&next) == whole,
         Packed::with_key(&next, kept).hash() == whole,
     ];
-    expect_of(rt, &m, found == [true; 4]);
+    expect(rt, found == [true; 4]);
 }
 
 // A capture into the hand, en passant and a promotion.

@@ -94,7 +94,7 @@ fn rise<R: Abort>(rt: &R, moves: &[Move]) {
     let mut before = 0;
     for m in moves {
         let key = move_key(m);
-        assert!(rt; before < key, "{m:?}");
+        expect(rt, before < key);
         before = key;
     }
 }

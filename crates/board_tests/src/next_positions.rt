@@ -3,7 +3,7 @@ ghost use Rattle.std.specs.Prelude.{◌<◌};
 ghost use Rattle.rules_model.specs.Fit.{IsFit};
 ghost use Rattle.rules_model.specs.Moves.{IsFitMove};
 
-use crate::expect::{expect_eq, expect_of};
+use crate::expect::{expect, expect_eq};
 use crate::helpers::{go, quiet};
 use next_position::{
     count_check, make_but_checks, make_move, move_pieces, sound_positions_take_moves,
@@ -69,10 +69,10 @@ fn leads_to<R: Abort>(rt: &R, rules: &Rules, p: &Position, m: &Move, next: &Posi
     sound_positions_take_moves();
     let mut cells = p.cells;
     move_pieces(rules, p, m, &mut cells);
-    expect_of(rt, &m, cells == next.cells);
+    expect(rt, cells == next.cells);
     let mut made = *p;
     make_move(rules, &mut made, m);
-    expect_of(rt, &m, made == *next);
+    expect(rt, made == *next);
 }
 
 /// The checks that White has left after it gave one, or not.

@@ -34,7 +34,7 @@ fn leads_to<R: Abort>(rt: &R, pieces: &str, m: &Move, own: &str, enemies: &str, 
     let sets = sets_of(&rules, &p.cells, p.side).after(&rules, &p, m);
     let found = [sets.own, sets.enemies, sets.kings, sets.enemy_kings];
     let wanted = [set_of(own), set_of(enemies), set_of(kings), set_of("d8")];
-    expect_of(rt, &m, found == wanted);
+    expect_of(rt, &pieces, found == wanted);
 }
 
 #[test]
@@ -97,7 +97,7 @@ fn leaves_pawns<R: Abort>(rt: &R, pieces: &str, m: &Move, pawns: &str)
         ..position(pieces)
     };
     let sets = sets_of(&rules, &p.cells, p.side).after(&rules, &p, m);
-    expect_of(rt, &m, sets.pawns == set_of(pawns));
+    expect_of(rt, &pieces, sets.pawns == set_of(pawns));
 }
 
 // A pawn that is taken in passing is gone, one that promotes is none, and one that is dropped is there.

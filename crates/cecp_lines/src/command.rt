@@ -18,7 +18,7 @@ use uci_lines::{joined, number, words_in};
 const MOST_DIGITS: usize = 20;
 
 /// A limit of the thinkings after it.
-#[derive(Clone, Copy, Debug, PartialEq, Eq)]
+#[derive(Clone, Copy, PartialEq, Eq)]
 pub enum Limit {
     /// The seconds a move.
     St(u64),

@@ -5,7 +5,7 @@ ghost use Rattle.session_model.specs.UciWords.{Word};
 ghost use Rattle.cecp_lines.specs.View.{command_by, limit_named, verb_gives_up, verb_quits};
 
 /// What the first word of a line asks.
-#[derive(Clone, Copy, Debug, PartialEq, Eq)]
+#[derive(Clone, Copy, PartialEq, Eq)]
 pub(crate) enum Verb {
     /// A command that does nothing.
     Idle,

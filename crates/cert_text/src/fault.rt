@@ -4,7 +4,7 @@ use std::alloc::{AllocError, AllocFailed};
 use std::fmt;
 
 /// The first fault of a text that says no certificate for a game, with the number of its line, counted from 1.
-#[derive(Clone, Copy, Debug, PartialEq, Eq)]
+#[derive(Clone, Copy, PartialEq, Eq)]
 pub enum CertFault {
     /// 1: the line has not its form; or its ply is 0, or more than one above that of the step before, which for the
     /// first step counts as 0; or its move is not the text of a legal move in the position of the parent's game.
@@ -65,7 +65,7 @@ impl From<Memory> for CertFault {
 }
 
 /// Why no certificate was read from a source.
-#[derive(Clone, Copy, Debug, PartialEq, Eq)]
+#[derive(Clone, Copy, PartialEq, Eq)]
 pub enum NoCert {
     /// The lines have this fault, or there was no memory.
     Faulty(CertFault),

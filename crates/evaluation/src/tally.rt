@@ -13,7 +13,7 @@ use rules_model::kinds::in_hand;
 use rules_model::{Cell, KINDS, Kind, Position, Rules, SQUARES, Side, Square, cell_at};
 
 /// What each side of a position has: the worths of its pieces on the board and in its hand, all together.
-#[derive(Clone, Copy, Debug, PartialEq, Eq)]
+#[derive(Clone, Copy, PartialEq, Eq)]
 pub struct Tally {
     pub white: i64,
     pub black: i64,

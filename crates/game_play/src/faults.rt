@@ -5,7 +5,7 @@ ghost use Rattle.game_play.specs.declared.faults.PlayFault.TheVariants as Faults
 use std::alloc::AllocError;
 
 /// Why a move was not played.
-#[derive(Clone, Copy, Debug, PartialEq, Eq)]
+#[derive(Clone, Copy, PartialEq, Eq)]
 pub enum PlayFault {
     /// 1: the move is not legal.
     Illegal,
@@ -24,5 +24,5 @@ impl From<AllocError> for PlayFault {
 }
 
 /// There is no move to take back.
-#[derive(Clone, Copy, Debug, PartialEq, Eq)]
+#[derive(Clone, Copy, PartialEq, Eq)]
 pub struct NothingPlayed;

@@ -45,7 +45,7 @@ fn a_certificate_is_written_and_read(rt: HostRuntime) -> Result<(), Fail> {
     };
     let text = write_cert(rt.alloc(), &found, true)?;
     assert!(rt; text.items.as_slice() == SAMPLE);
-    let cert = read_cert(rt.alloc(), &game, SAMPLE)?;
+    let cert = read_cert(rt.alloc(), &game, SAMPLE).map_err(|_| "a certificate")?;
     expect_eq(
         &rt,
         check_help(rt.alloc(), &game, 1, &cert)?,

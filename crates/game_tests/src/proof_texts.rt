@@ -168,8 +168,8 @@ fn game_by(alloc: Global, rules: &Rules, prove_played: bool) -> Result<Game, Fai
     let mut game = Game::new(alloc, rules, &start)?;
     if prove_played {
         let [first, second] = moves();
-        game.play(&first)?;
-        game.play(&second)?;
+        game.play(&first).map_err(|_| "a move")?;
+        game.play(&second).map_err(|_| "a move")?;
     }
     Ok(game)
 }
@@ -189,7 +189,7 @@ struct Row {
 /// The proof text of the game by the rules of a section of those that are built in and of a file.
 fn written(alloc: Global, row: &Row) -> Result<Text, Fail> {
     let mut sections = builtin(alloc)?;
-    sections.add(row.file.as_bytes())?;
+    sections.add(row.file.as_bytes()).map_err(|_| "sections")?;
     let variants = load(alloc, &sections)?;
     if row.place >= variants.len() {
         return Err("a section".into());

@@ -23,7 +23,7 @@ pub trait ReadGoal: Sized {
 }
 
 /// Which side is to win, and within how many of its own moves.
-#[derive(Clone, Copy, Debug, PartialEq, Eq)]
+#[derive(Clone, Copy, PartialEq, Eq)]
 pub struct Goal {
     pub attacker: Side,
     /// From 1 to 100.
@@ -31,7 +31,7 @@ pub struct Goal {
 }
 
 /// A selfmate or a helpmate, for the side that is to move.
-#[derive(Clone, Copy, Debug, PartialEq, Eq)]
+#[derive(Clone, Copy, PartialEq, Eq)]
 pub struct Stipulation {
     /// Both sides play for it, as in a helpmate.
     pub help: bool,

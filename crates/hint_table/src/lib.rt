@@ -19,7 +19,7 @@ use std::alloc::Global;
 pub const MOST_WORDS: usize = 1 << 27;
 
 /// What a look at a position leaves for the next one.
-#[derive(Clone, Copy, Debug, PartialEq, Eq)]
+#[derive(Clone, Copy, PartialEq, Eq)]
 pub struct Hint {
     /// How deep the look was.
     pub depth: u8,

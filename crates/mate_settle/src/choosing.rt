@@ -16,7 +16,7 @@ use std::alloc::Global;
 use watching::{Halt, Watch};
 
 /// A move, and a number of the attacker's moves within which it wins.
-#[derive(Clone, Copy, Debug, PartialEq, Eq)]
+#[derive(Clone, Copy, PartialEq, Eq)]
 pub struct WinningMove {
     pub chosen: Move,
     pub moves: u16,

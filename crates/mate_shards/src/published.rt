@@ -1,5 +1,5 @@
 /// What became of a fact that was published.
-#[derive(Clone, Copy, Debug, PartialEq, Eq)]
+#[derive(Clone, Copy, PartialEq, Eq)]
 pub enum Published {
     /// It stands at the end of its shard's list, at a place of the pass.
     Stored,

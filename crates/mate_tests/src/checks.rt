@@ -4,7 +4,7 @@ ghost use Rattle.rules_model.specs.Fit.{IsFit};
 ghost use Rattle.legality.specs.Stance as Stance;
 ghost use Rattle.check_moves.specs.Checks.{AreChecksIn};
 
-use crate::expect::{expect_eq, expect_of};
+use crate::expect::expect_eq;
 use attack_tables::Tables;
 use check_moves::{Checks, checks_of, gives_check, may_check};
 use playing::Board;
@@ -42,12 +42,12 @@ fn expect(rt: &impl Abort, alloc: Global, rules: &Rules, p: &Position, wanted: u
     let moves = board.legal_moves(alloc).expect(rt, "no fault");
     let mut asked = 0u32;
     for m in &moves.items {
-        assert!(rt; board.is_legal(m), "{m:?}");
+        assert!(rt; board.is_legal(m));
         if is_asked(&board, &checks, m) {
             asked = asked.saturating_add(1);
         }
         let gives = gives_check(&board, &checks, m);
-        expect_of(rt, &m, gives == board.gives_check(m));
+        assert!(rt; gives == board.gives_check(m));
     }
     expect_eq(rt, asked, wanted);
 }

@@ -27,7 +27,7 @@ const NONE: Limits = Limits {
 };
 
 /// How a solve ended.
-#[derive(Clone, Copy, Debug, PartialEq, Eq)]
+#[derive(Clone, Copy, PartialEq, Eq)]
 enum Told {
     Shown,
     NoMate,

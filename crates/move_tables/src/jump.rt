@@ -6,7 +6,7 @@ ghost use Rattle.move_tables.specs.Lines as Lines;
 use square_set::{EMPTY, Set};
 
 /// The target of a lame leap, which is reached where the squares `over` are empty.
-#[derive(Clone, Copy, Debug, PartialEq, Eq)]
+#[derive(Clone, Copy, PartialEq, Eq)]
 pub struct Jump {
     pub target: Set,
     pub over: Set,

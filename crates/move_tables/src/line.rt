@@ -6,7 +6,7 @@ ghost use Rattle.move_tables.specs.Lines as Lines;
 use square_set::Set;
 
 /// How far along its line a piece reaches.
-#[derive(Clone, Copy, Debug, PartialEq, Eq)]
+#[derive(Clone, Copy, PartialEq, Eq)]
 pub enum Passage {
     /// Up to the first piece.
     Slide,
@@ -17,7 +17,7 @@ pub enum Passage {
 }
 
 /// The squares at the multiples of a step. Their numbers rise or fall with the distance.
-#[derive(Clone, Copy, Debug, PartialEq, Eq)]
+#[derive(Clone, Copy, PartialEq, Eq)]
 pub struct Line {
     pub squares: Set,
     pub rising: bool,

@@ -5,7 +5,7 @@ ghost use Rattle.move_tables.specs.Reached as Reached;
 use rules_model::Term;
 
 /// What a piece goes to a square for: to stand on an empty one, or to take what stands there.
-#[derive(Clone, Copy, Debug, PartialEq, Eq)]
+#[derive(Clone, Copy, PartialEq, Eq)]
 pub enum Mode {
     Quiet,
     Take,

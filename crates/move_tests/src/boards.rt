@@ -1,5 +1,5 @@
 //! Tests of `playing`.
-use crate::expect::{expect_eq, expect_of};
+use crate::expect::{expect, expect_eq, expect_of};
 use attack_tables::Tables;
 use playing::Board;
 use rules_model::{Cause, MoveList, Outcome, Position, Side, sound};
@@ -14,7 +14,7 @@ fn keeps<R: Abort>(rt: &R, alloc: Global, tables: &Tables, p: &Position) {
     let moves = board.legal_moves(alloc).expect(rt, "no fault");
     assert!(rt; moves.items.len() > 0);
     for m in &moves.items {
-        assert!(rt; board.is_legal(m), "{m:?}");
+        assert!(rt; board.is_legal(m));
         let next = board.after(m);
         next.prove_ready();
         let anew = Board::new(tables, next.position());
@@ -25,7 +25,7 @@ fn keeps<R: Abort>(rt: &R, alloc: Global, tables: &Tables, p: &Position) {
             next.repeats(anew.position(), anew.key()),
             next.repeats(p, board.key()),
         ];
-        expect_of(rt, &m, found == [true, true, true, true, false]);
+        expect(rt, found == [true, true, true, true, false]);
     }
 }
 
@@ -90,7 +90,7 @@ fn has_captures<R: Abort>(rt: &R, alloc: Global, tables: &Tables, p: &Position, 
             taking.items.iter().any(|taken| *taken == *m),
             others.items.iter().any(|other| *other == *m),
         ];
-        expect_of(rt, &m, listed == [captures, !captures]);
+        expect(rt, listed == [captures, !captures]);
     }
 }
 

@@ -13,11 +13,11 @@ pub fn expect_of<N: Debug>(rt: &impl Abort, name: &N, holds: bool) {
 }
 
 /// Asserts that what was found is what is wanted.
-pub fn expect_eq<T: PartialEq + Debug + Drop>(rt: &impl Abort, found: T, wanted: T) {
-    assert_eq!(rt; found, wanted);
+pub fn expect_eq<T: PartialEq + Drop>(rt: &impl Abort, found: T, wanted: T) {
+    assert!(rt; found == wanted);
 }
 
 /// Asserts the same of what the text names.
-pub fn expect_eq_at<T: PartialEq + Debug + Drop>(rt: &impl Abort, at: &str, found: T, wanted: T) {
-    assert_eq!(rt; found, wanted, "{at}");
+pub fn expect_eq_at<T: PartialEq + Drop>(rt: &impl Abort, at: &str, found: T, wanted: T) {
+    assert!(rt; found == wanted, "{at}");
 }

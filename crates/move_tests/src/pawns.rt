@@ -1,7 +1,7 @@
 //! Tests of `pawn_moves`.
 ghost use Rattle.rules_model.specs.Fit.{IsFit};
 
-use crate::expect::{expect_eq_at, expect_of};
+use crate::expect::{expect, expect_eq_at, expect_of};
 use crate::helpers::{go, halves};
 use attack_tables::Tables;
 use board_sets::sets_of;
@@ -210,6 +210,6 @@ fn near_misses(rt: HostRuntime) {
         },
     ];
     for m in others {
-        expect_of(&rt, &m, !is_candidate(&rules, &p, &m));
+        expect(&rt, !is_candidate(&rules, &p, &m));
     }
 }

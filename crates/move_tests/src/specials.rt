@@ -155,7 +155,11 @@ fn gates_place_what_is_in_hand(rt: HostRuntime) {
     ];
     for (from, to, letter, may) in rows {
         let m = gated(from, to, kind(letter));
-        expect_of(&rt, &m, is_candidate(&rules, &tables, &p, &m) == may);
+        expect_of(
+            &rt,
+            &(from, letter),
+            is_candidate(&rules, &tables, &p, &m) == may,
+        );
     }
 }
 

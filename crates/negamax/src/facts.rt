@@ -9,7 +9,7 @@ use game_line::Line;
 use rules_model::Move;
 
 /// What a search of a root move found: the move scores at most the value, and exactly the value where it is exact.
-#[derive(Clone, Copy, Debug)]
+#[derive(Clone, Copy)]
 pub struct RootFact {
     pub chosen: Move,
     pub exact: bool,
@@ -17,7 +17,7 @@ pub struct RootFact {
 }
 
 /// The best score of the root moves, and a move that has it.
-#[derive(Clone, Copy, Debug)]
+#[derive(Clone, Copy)]
 pub struct Best {
     pub value: i32,
     pub chosen: Move,

@@ -5,7 +5,7 @@ ghost use Rattle.negamax.specs.Trials.{Pushes, Takes};
 use rules_model::Move;
 
 /// A move, and how soon it is to be searched: that of the greatest score first.
-#[derive(Clone, Copy, Debug)]
+#[derive(Clone, Copy)]
 pub(crate) struct ScoredMove {
     pub chosen: Move,
     pub score: u32,

@@ -8,7 +8,7 @@ pub(crate) const WORST: i32 = -32_001;
 
 /// What is asked of a value: the value itself where it is above `alpha` and below `beta`, and else only on which side
 /// of them it is.
-#[derive(Clone, Copy, Debug)]
+#[derive(Clone, Copy)]
 pub(crate) struct Window {
     pub alpha: i32,
     pub beta: i32,

@@ -12,7 +12,7 @@ pub const SINK_FAILED: u8 = 5;
 pub const NO_MEMORY: u8 = 7;
 
 /// Why a run is cut short.
-#[derive(Clone, Copy, Debug, PartialEq, Eq)]
+#[derive(Clone, Copy, PartialEq, Eq)]
 pub enum Stop {
     /// The source failed.
     Source,

@@ -25,7 +25,7 @@ use rules_model::{Cell, Kind, Move, Position, Promo, Rules, Square};
 use square_set::Set;
 
 /// An own piece that is not the pawn, the square on which it stands, and those to which it goes.
-#[derive(Clone, Copy, Debug, PartialEq, Eq)]
+#[derive(Clone, Copy, PartialEq, Eq)]
 pub struct Mover {
     pub piece: Cell,
     pub from: Square,

@@ -17,7 +17,7 @@ pub struct Setup {
 }
 
 /// Why no piece is put where a text says.
-#[derive(Clone, Copy, Debug, PartialEq, Eq)]
+#[derive(Clone, Copy, PartialEq, Eq)]
 pub enum ReachFault<'a> {
     /// The text names no square of the board.
     BadSquare(&'a str),

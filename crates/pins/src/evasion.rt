@@ -19,7 +19,7 @@ use square_set::{EMPTY, Set};
 
 /// Squares for the moves of pieces other than kings: one that leaves no king of its side attacked leaves one of `leave`
 /// or enters one of `enter`, unless it takes in passing.
-#[derive(Clone, Copy, Debug, PartialEq, Eq)]
+#[derive(Clone, Copy, PartialEq, Eq)]
 pub struct EvasionSquares {
     /// Those on which some attack depends: a piece that leaves one may end it.
     pub leave: Set,

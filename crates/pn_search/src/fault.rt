@@ -6,7 +6,7 @@ use foundation::{Memory, Text};
 use std::alloc::{AllocError, Global};
 
 /// Why a game is not asked within how many moves it is won. `Ended` is tested first.
-#[derive(Clone, Copy, Debug, PartialEq, Eq)]
+#[derive(Clone, Copy, PartialEq, Eq)]
 pub enum PnFault {
     /// 1: the move-count rule could end the game within the moves.
     NearCount,

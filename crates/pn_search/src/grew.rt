@@ -1,7 +1,7 @@
 //! What one step of growth does.
 
 /// What `grow` has done.
-#[derive(Clone, Copy, Debug, PartialEq, Eq)]
+#[derive(Clone, Copy, PartialEq, Eq)]
 pub enum Grew {
     /// The most-proving leaf, which has this number, was expanded.
     Expanded(u64),

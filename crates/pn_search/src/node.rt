@@ -2,7 +2,7 @@
 use rules_model::Move;
 
 /// What is known of a node.
-#[derive(Clone, Copy, Debug, PartialEq, Eq)]
+#[derive(Clone, Copy, PartialEq, Eq)]
 pub enum State {
     /// It was not looked at yet.
     Open,

@@ -7,7 +7,7 @@ ghost use Rattle.pn_search.specs.Trees as Trees;
 pub const INFINITE: u32 = u32::MAX;
 
 /// How many open leaves, at the least, have to be won so that the node is, and how many have to be lost so that it is.
-#[derive(Clone, Copy, Debug, PartialEq, Eq)]
+#[derive(Clone, Copy, PartialEq, Eq)]
 pub struct Pair {
     pub proof: u32,
     pub disproof: u32,

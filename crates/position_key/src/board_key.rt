@@ -16,7 +16,7 @@ use rules_model::{Cells, KINDS, Move, Position, Repeat, Rules, Side, Square};
 use square_set::Set;
 
 /// The key of a board and of what both sides hold. A move changes it in few places.
-#[derive(Clone, Copy, Debug, PartialEq, Eq)]
+#[derive(Clone, Copy, PartialEq, Eq)]
 pub struct BoardKey(pub u64);
 
 /// The key of the board and the hands, from all squares and all counts.

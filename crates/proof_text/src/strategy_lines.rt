@@ -15,7 +15,7 @@ use std::alloc::Global;
 use strategy::{Reader, Strategy, StrategyFault};
 
 /// Why no strategy was read.
-#[derive(Clone, Copy, Debug, PartialEq, Eq)]
+#[derive(Clone, Copy, PartialEq, Eq)]
 pub enum NoStrategy {
     /// The lines have this fault, or there was no memory.
     Faulty(StrategyFault),

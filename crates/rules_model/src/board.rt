@@ -19,7 +19,7 @@ pub const SQUARES: usize = 120;
 pub const KINDS: usize = 26;
 
 /// A square of the largest board: 12 * rank + file, both counted from 0, so below 120.
-#[derive(Clone, Copy, Debug, PartialEq, Eq)]
+#[derive(Clone, Copy, PartialEq, Eq)]
 pub struct Square(pub u8);
 
 impl Square {
@@ -50,7 +50,7 @@ impl Square {
     }
 }
 
-#[derive(Clone, Copy, Debug, PartialEq, Eq)]
+#[derive(Clone, Copy, PartialEq, Eq)]
 pub enum Side {
     White,
     Black,
@@ -87,7 +87,7 @@ impl Side {
 }
 
 /// A side of the king on which it castles: towards higher files, or towards lower ones.
-#[derive(Clone, Copy, Debug, PartialEq, Eq)]
+#[derive(Clone, Copy, PartialEq, Eq)]
 pub enum Wing {
     Kingside,
     Queenside,
@@ -107,11 +107,11 @@ impl Wing {
 }
 
 /// A kind of piece by its letter: 0 is `a`, 25 is `z`.
-#[derive(Clone, Copy, Debug, PartialEq, Eq)]
+#[derive(Clone, Copy, PartialEq, Eq)]
 pub struct Kind(pub u8);
 
 /// A piece that stands on a square.
-#[derive(Clone, Copy, Debug, PartialEq, Eq)]
+#[derive(Clone, Copy, PartialEq, Eq)]
 pub struct Cell {
     pub side: Side,
     pub kind: Kind,
@@ -129,7 +129,7 @@ pub struct Region {
 }
 
 /// The size of a variant's board: at most 12 files and 10 ranks.
-#[derive(Clone, Copy, Debug, PartialEq, Eq)]
+#[derive(Clone, Copy, PartialEq, Eq)]
 pub struct BoardSize {
     pub files: u8,
     pub ranks: u8,

@@ -16,7 +16,7 @@ use crate::kinds::{masks, names_any};
 use crate::rules::Rules;
 
 /// The squares of a castle: where king and rook stand before it, and after it.
-#[derive(Clone, Copy, Debug, PartialEq, Eq)]
+#[derive(Clone, Copy, PartialEq, Eq)]
 pub struct CastleSquares {
     pub king: Square,
     pub king_to: Square,

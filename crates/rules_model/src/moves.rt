@@ -3,7 +3,7 @@ use crate::board::{Kind, Side, Square};
 use std::marker::Model;
 
 /// What a move makes of the piece.
-#[derive(Clone, Copy, Debug, PartialEq, Eq)]
+#[derive(Clone, Copy, PartialEq, Eq)]
 pub enum Promo {
     Stays,
     /// A pawn becomes a piece of the kind.
@@ -13,13 +13,13 @@ pub enum Promo {
 }
 
 /// A hand piece that a castle places.
-#[derive(Clone, Copy, Debug, PartialEq, Eq)]
+#[derive(Clone, Copy, PartialEq, Eq)]
 pub struct Placed {
     pub kind: Kind,
     pub at: Square,
 }
 
-#[derive(Clone, Copy, Debug, PartialEq, Eq)]
+#[derive(Clone, Copy, PartialEq, Eq)]
 pub enum Move {
     Go {
         from: Square,
@@ -55,7 +55,7 @@ impl Model for MoveList {
 }
 
 /// What an end is worth to the side that its rule names.
-#[derive(Clone, Copy, Debug, PartialEq, Eq)]
+#[derive(Clone, Copy, PartialEq, Eq)]
 pub enum Value {
     Win,
     Loss,
@@ -63,7 +63,7 @@ pub enum Value {
 }
 
 /// Why a game has ended.
-#[derive(Clone, Copy, Debug, PartialEq, Eq)]
+#[derive(Clone, Copy, PartialEq, Eq)]
 pub enum Cause {
     Flag,
     Checks,
@@ -75,7 +75,7 @@ pub enum Cause {
 }
 
 /// How a game stands.
-#[derive(Clone, Copy, Debug, PartialEq, Eq)]
+#[derive(Clone, Copy, PartialEq, Eq)]
 pub enum Outcome {
     Ongoing,
     Won(Side, Cause),

@@ -5,7 +5,7 @@ use arrayvec::ArrayVec;
 use std::marker::Model;
 
 /// How a term gets over the squares between.
-#[derive(Clone, Copy, Debug, Default, PartialEq, Eq)]
+#[derive(Clone, Copy, Default, PartialEq, Eq)]
 pub enum Way {
     #[default]
     Leap,
@@ -16,7 +16,7 @@ pub enum Way {
 }
 
 /// A step and its multiples, as White sees them: to higher files and ranks.
-#[derive(Clone, Copy, Debug, Default, PartialEq, Eq)]
+#[derive(Clone, Copy, Default, PartialEq, Eq)]
 pub struct Term {
     pub dx: i8,
     pub dy: i8,

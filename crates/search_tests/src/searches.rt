@@ -45,7 +45,7 @@ impl Gate for LeaderFirst {
 }
 
 /// How a search ended.
-#[derive(Clone, Copy, Debug, PartialEq, Eq)]
+#[derive(Clone, Copy, PartialEq, Eq)]
 enum Told {
     Done(i32, Move, u64),
     Line,

@@ -215,6 +215,7 @@ fn expect_told<R: Threads + Wait + Abort + Sync>(
     let mut written = Vec::new(alloc);
     let found = deepened(rt, alloc, text, style, depths, heard, &mut written)
         .expect(rt, "no fault")
+        .ok()
         .expect(rt, "no fault");
     expect(rt, written.as_slice() == lines.as_bytes());
     let (best, why, kept) = told;
@@ -282,7 +283,7 @@ fn times_and_nodes_are_told(rt: HostRuntime) {
 }
 
 /// What the answer of `try_mates` is, and its number of moves.
-#[derive(Clone, Copy, Debug, PartialEq, Eq)]
+#[derive(Clone, Copy, PartialEq, Eq)]
 enum Answer {
     Shown(u16, Move),
     Unsettled(u16),

@@ -22,7 +22,7 @@ const NONE: Limits = Limits {
 };
 
 /// How a search or a solve ended.
-#[derive(Clone, Copy, Debug, PartialEq, Eq)]
+#[derive(Clone, Copy, PartialEq, Eq)]
 enum Told {
     Found(i32, Move),
     Shown,

@@ -37,7 +37,7 @@ fn shown(setting: &Setting) -> (&'static str, Option<&Text>) {
 /// Asserts the command of a line, and the words after that, joined again.
 fn expect(rt: &impl Abort, alloc: Global, line: &str, want: Kind, rest: &str) {
     let (kind, after) = read_line(Got::Line, line.as_bytes());
-    assert!(rt; kind == want, "{line}: {kind:?}");
+    assert!(rt; kind == want, "{line}");
     let words = words_in(alloc, after)
         .map_err(|_| "no memory")
         .expect(rt, "no fault");

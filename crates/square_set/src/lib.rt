@@ -6,11 +6,11 @@ ghost use Rattle.std.specs.Bool.{OnTrue, OnFalse};
 ghost use Rattle.square_set.specs.Members as Members;
 
 /// A set of squares, each named by its number, which is below 128.
-#[derive(Clone, Copy, Debug, Default, PartialEq, Eq)]
+#[derive(Clone, Copy, Default, PartialEq, Eq)]
 pub struct Set(pub u128);
 
 /// A change of the numbers of squares, the same for each square of a set.
-#[derive(Clone, Copy, Debug, PartialEq, Eq)]
+#[derive(Clone, Copy, PartialEq, Eq)]
 pub enum Shift {
     /// To the number that is greater by this.
     Up(u8),

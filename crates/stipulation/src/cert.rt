@@ -5,7 +5,7 @@ use rules_model::{Memory, Move};
 use std::marker::Model;
 
 /// A move of a certificate's tree.
-#[derive(Clone, Copy, Debug, PartialEq, Eq)]
+#[derive(Clone, Copy, PartialEq, Eq)]
 pub struct Step {
     /// How many moves lead from the root to the position after this one, it included: from 1 on.
     pub ply: u16,

@@ -6,7 +6,7 @@ use std::{fmt, str};
 /// What the check of a certificate answers: that it holds, or its first failure, with the number of the step that has
 /// it. Steps count from 1, and 0 is the root. Every step is tested for `BadPly` first; then the root and the steps, in
 /// order, are each tested for the others, in theirs.
-#[derive(Clone, Copy, Debug, PartialEq, Eq)]
+#[derive(Clone, Copy, PartialEq, Eq)]
 pub enum CertVerdict {
     /// 0: there is no failure.
     Holds,

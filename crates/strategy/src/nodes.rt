@@ -9,7 +9,7 @@ use smallvec::SmallVec;
 use std::marker::Model;
 
 /// A move from a node to the node of the position after it.
-#[derive(Clone, Copy, Debug, PartialEq, Eq)]
+#[derive(Clone, Copy, PartialEq, Eq)]
 pub struct Edge {
     pub chosen: Move,
     /// The place of that node in its strategy.

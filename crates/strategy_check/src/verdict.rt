@@ -4,7 +4,7 @@ use rules_model::Move;
 use std::{fmt, str};
 
 /// What the check of a strategy answers: that it wins, or its first fault, with the place of the node that has it.
-#[derive(Clone, Copy, Debug, PartialEq, Eq)]
+#[derive(Clone, Copy, PartialEq, Eq)]
 pub enum Verdict {
     /// 0: there is no fault.
     Wins,

@@ -3,7 +3,7 @@ use crate::expect::expect;
 use std::alloc::Global;
 use std::io::{self, Write};
 use std::process::Abort;
-use words::{Asked, read_words};
+use words::{Asked, Command, read_words};
 
 /// The words that bars separate; an empty line has none.
 fn owned(rt: &impl Abort, alloc: Global, line: &str) -> Vec<String> {
@@ -17,13 +17,40 @@ fn owned(rt: &impl Abort, alloc: Global, line: &str) -> Vec<String> {
     list
 }
 
+/// Writes a command with its arguments.
+fn tell_command(told: &mut Vec<u8>, command: &Command) -> io::Result<()> {
+    match *command {
+        Command::Uci => write!(told, "Uci"),
+        Command::Xboard => write!(told, "Xboard"),
+        Command::Moves => write!(told, "Moves"),
+        Command::Status => write!(told, "Status"),
+        Command::Perft(plies) => write!(told, "Perft {plies}"),
+        Command::Check => write!(told, "Check"),
+        Command::SelfMate(moves) => write!(told, "SelfMate {moves}"),
+        Command::HelpMate(moves) => write!(told, "HelpMate {moves}"),
+        Command::CheckCert => write!(told, "CheckCert"),
+        Command::Variants => write!(told, "Variants"),
+        Command::Suite => write!(told, "Suite"),
+        Command::PnMate(moves) => write!(told, "PnMate {moves}"),
+        Command::Reach {
+            word,
+            square,
+            own,
+            enemy,
+        } => write!(told, "Reach {word}|{square}|{own}|{enemy}"),
+        Command::Generate {
+            name,
+            number,
+            plies,
+        } => write!(told, "Generate {name}|{number}|{plies}"),
+    }
+}
+
 /// Writes the file of variants, the number of threads and the command, on a line.
 fn tell(told: &mut Vec<u8>, asked: &Asked) -> io::Result<()> {
-    writeln!(
-        told,
-        "{:?} {} {:?}",
-        asked.variants, asked.threads, asked.command
-    )
+    write!(told, "{:?} {} ", asked.variants, asked.threads)?;
+    tell_command(told, &asked.command)?;
+    writeln!(told)
 }
 
 /// What the words of the lines ask, on a line for each that asks something.
@@ -51,19 +78,19 @@ fn commands_are_read(rt: HostRuntime) {
         None 1 Xboard\n\
         None 1 Moves\n\
         None 1 Status\n\
-        None 1 Perft(1)\n\
-        None 1 Perft(9)\n\
+        None 1 Perft 1\n\
+        None 1 Perft 9\n\
         None 1 Check\n\
-        None 1 SelfMate(1)\n\
-        None 1 HelpMate(6)\n\
+        None 1 SelfMate 1\n\
+        None 1 HelpMate 6\n\
         None 1 CheckCert\n\
         None 1 Variants\n\
         None 1 Suite\n\
-        None 1 PnMate(100)\n\
-        None 1 Reach { word: \"N\", square: \"b1\", own: \"none\", enemy: \"none\" }\n\
-        None 1 Reach { word: \"\", square: \"\", own: \"\", enemy: \"none\" }\n\
-        None 1 Reach { word: \"N\", square: \"b1\", own: \"a1,a2\", enemy: \"c3\" }\n\
-        None 1 Generate { name: \"chess\", number: 18446744073709551615, plies: 8192 }\n";
+        None 1 PnMate 100\n\
+        None 1 Reach N|b1|none|none\n\
+        None 1 Reach |||none\n\
+        None 1 Reach N|b1|a1,a2|c3\n\
+        None 1 Generate chess|18446744073709551615|8192\n";
     expect(&rt, told.as_slice() == wanted.as_slice());
 }
 
@@ -96,7 +123,7 @@ fn other_words_ask_nothing(rt: HostRuntime) {
         suite|f\npnmate\npnmate|101\nstipulate\nstipulate|self|0\nstipulate|help|7\nstipulate|mate|1\nperft\nperft|4|4\n\
         perft|0\nperft|10\nperft|000000000000000000004\nxboard|1\nperft|4";
     let told = answers(&rt, rt.alloc(), commands);
-    expect(&rt, told.as_slice() == b"None 1 Perft(4)\n".as_slice());
+    expect(&rt, told.as_slice() == b"None 1 Perft 4\n".as_slice());
     let options = "--help\n--\n--|moves\n-threads|4|moves\n--=4|moves\n--threads\n\
         --threads|4|--threads|4|moves\n--variants|a|--variants=a|moves\n--threads=|moves\n--variants=|moves\n\
         --variants|-f|moves\n--variants|--threads|4|moves\n--threads|0|moves\n--threads|65|moves\n\

@@ -3,7 +3,7 @@ use crate::expect::{expect, expect_eq};
 use foundation::Memory;
 use io_ports::{Dialect, Limits, LineBuf, ListClock, MemSink, MemSource, PollsOwed, SearchFault};
 use std::alloc::Global;
-use std::io::Write;
+use std::io::{self, Write};
 use std::test::Fail;
 use watching::{Caller, Cut, Halt, Helper, StopFlag, Unwatched, Watch};
 
@@ -43,6 +43,18 @@ fn watched(
     Ok((end, watch.nodes()))
 }
 
+/// Writes how a worker ended.
+fn tell_end(told: &mut Vec<u8>, end: Result<(), Halt>) -> io::Result<()> {
+    match end {
+        Ok(()) => write!(told, "done"),
+        Err(Halt::Cut(Cut::Line)) => write!(told, "line"),
+        Err(Halt::Cut(Cut::End)) => write!(told, "end"),
+        Err(Halt::Cut(Cut::Quota(nodes))) => write!(told, "quota {nodes}"),
+        Err(Halt::Cut(Cut::Deadline(reading))) => write!(told, "deadline {reading}"),
+        Err(Halt::Fault(_)) => write!(told, "fault"),
+    }
+}
+
 /// Writes how it ends with these lines, where this many polls are owed, the nodes, and what it wrote.
 fn tell(
     told: &mut Vec<u8>,
@@ -55,7 +67,8 @@ fn tell(
     let mut source = MemSource::new(alloc, lines, PollsOwed::Number(owed), &[])?;
     let mut sink = MemSink::new(alloc, 100)?;
     let (ended, nodes) = watched(alloc, dialect, &mut source, &mut sink, limits)?;
-    write!(told, "{ended:?} {nodes} ")?;
+    tell_end(told, ended)?;
+    write!(told, " {nodes} ")?;
     told.extend_from_slice(sink.taken())?;
     Ok(told.push(b'\n')?)
 }
@@ -76,11 +89,11 @@ fn lines_are_heard(rt: HostRuntime) -> Result<(), Fail> {
     tell(&mut told, Dialect::Uci, b"isready\n", 1, NONE)?;
     tell(&mut told, Dialect::Uci, b"", 0, NONE)?;
     let wanted = b"\
-        Ok(()) 3000 \n\
-        Err(Cut(Line)) 2049 \n\
-        Err(Cut(Line)) 2049 readyok\n\n\
-        Err(Cut(End)) 2049 readyok\n\n\
-        Err(Cut(End)) 1 \n";
+        done 3000 \n\
+        line 2049 \n\
+        line 2049 readyok\n\n\
+        end 2049 readyok\n\n\
+        end 1 \n";
     expect(&rt, told.as_slice() == wanted.as_slice());
     Ok(())
 }
@@ -99,11 +112,11 @@ fn limits_end_a_search(rt: HostRuntime) -> Result<(), Fail> {
     tell_limited(&mut told, None, Some(6))?;
     tell_limited(&mut told, Some(1025), Some(9))?;
     let wanted = b"\
-        Err(Cut(Quota(1000))) 1000 \n\
-        Err(Cut(Quota(0))) 0 \n\
-        Err(Cut(Deadline(7))) 1025 \n\
-        Err(Cut(Deadline(7))) 1025 \n\
-        Err(Cut(Quota(1025))) 1025 \n";
+        quota 1000 1000 \n\
+        quota 0 0 \n\
+        deadline 7 1025 \n\
+        deadline 7 1025 \n\
+        quota 1025 1025 \n";
     expect(&rt, told.as_slice() == wanted.as_slice());
     Ok(())
 }

@@ -39,7 +39,7 @@ pub struct Found {
 }
 
 /// A solve within this number of moves that was cut.
-#[derive(Clone, Copy, Debug, PartialEq, Eq)]
+#[derive(Clone, Copy, PartialEq, Eq)]
 pub struct CutSolve {
     pub moves: u16,
     pub why: Cut,

@@ -1,7 +1,7 @@
 //! How a search tells of its depths.
 
 /// The lines that a search writes for its depths.
-#[derive(Clone, Copy, Debug, PartialEq, Eq)]
+#[derive(Clone, Copy, PartialEq, Eq)]
 pub enum Style {
     /// Those of UCI.
     Uci,

@@ -24,7 +24,7 @@ pub struct Task<'a> {
 }
 
 /// The first reading of the clock, and the deadline.
-#[derive(Clone, Copy, Debug, PartialEq, Eq)]
+#[derive(Clone, Copy, PartialEq, Eq)]
 pub struct Start {
     /// The first reading, in milliseconds.
     pub first: u64,

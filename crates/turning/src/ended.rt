@@ -1,7 +1,7 @@
 //! How a session ends.
 
 /// How a session ended that no fault ended.
-#[derive(Clone, Copy, Debug, PartialEq, Eq)]
+#[derive(Clone, Copy, PartialEq, Eq)]
 pub enum Ended {
     /// A line said `quit`.
     Quit,

@@ -30,7 +30,7 @@ pub struct Go<'a> {
 }
 
 // The words that take a number.
-#[derive(Clone, Copy, Debug, PartialEq, Eq)]
+#[derive(Clone, Copy, PartialEq, Eq)]
 enum Key {
     Depth,
     Nodes,
@@ -45,7 +45,7 @@ enum Key {
 }
 
 // The words that begin something.
-#[derive(Clone, Copy, Debug, PartialEq, Eq)]
+#[derive(Clone, Copy, PartialEq, Eq)]
 enum GoWord {
     Takes(Key),
     Holds,
@@ -53,7 +53,7 @@ enum GoWord {
 }
 
 // What the next word is for.
-#[derive(Clone, Copy, Debug, PartialEq, Eq)]
+#[derive(Clone, Copy, PartialEq, Eq)]
 enum Awaited {
     Nothing,
     Number(Key),

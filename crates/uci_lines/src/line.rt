@@ -10,7 +10,7 @@ ghost use Rattle.uci_lines.specs.View.{command_with, kind_named, line_got};
 use io_ports::{Got, UciWord, find_command};
 
 /// What a line asks, but for what the words after its command say.
-#[derive(Clone, Copy, Debug, PartialEq, Eq)]
+#[derive(Clone, Copy, PartialEq, Eq)]
 pub enum Kind {
     Uci,
     IsReady,

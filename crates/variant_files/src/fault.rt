@@ -9,7 +9,7 @@ use std::fmt;
 use variant_ini::IniFault;
 
 /// Why a file was not read.
-#[derive(Clone, Copy, Debug, PartialEq, Eq)]
+#[derive(Clone, Copy, PartialEq, Eq)]
 pub enum FileFault {
     /// There is no file of this name.
     Missing,
@@ -60,7 +60,7 @@ impl fmt::Display for PrintedIni {
 }
 
 /// Why a file of variants is refused.
-#[derive(Clone, Copy, Debug, PartialEq, Eq)]
+#[derive(Clone, Copy, PartialEq, Eq)]
 pub enum LoadFault {
     /// It was not read.
     File(FileFault),
@@ -84,7 +84,7 @@ impl fmt::Display for LoadFault {
 }
 
 /// Why a file of variants gives no sections.
-#[derive(Clone, Copy, Debug, PartialEq, Eq)]
+#[derive(Clone, Copy, PartialEq, Eq)]
 pub enum NoSections {
     /// It is refused.
     Fault(LoadFault),

@@ -4,7 +4,7 @@ ghost use Rattle.variant_ini.specs.declared.fault.IniFault.TheVariants.{Memory};
 use std::alloc::{AllocError, AllocFailed};
 
 /// Why a variants file was refused. Lines are counted from 1.
-#[derive(Clone, Copy, Debug, PartialEq, Eq)]
+#[derive(Clone, Copy, PartialEq, Eq)]
 pub enum IniFault {
     /// 1: the file has more than 1,048,576 bytes.
     TooLarge,

@@ -2,7 +2,7 @@
 use betza_text::BetzaFault;
 
 /// Why a line of a section is refused.
-#[derive(Clone, Copy, Debug, PartialEq, Eq)]
+#[derive(Clone, Copy, PartialEq, Eq)]
 pub enum LineFault {
     /// The key is none of the options, the pieces and the keys that are skipped.
     UnsupportedOption,

@@ -1,7 +1,7 @@
 //! The kinds of values, and what some of them say.
 
 /// What values an option may have.
-#[derive(Clone, Copy, Debug, PartialEq, Eq)]
+#[derive(Clone, Copy, PartialEq, Eq)]
 pub enum ValueKind {
     /// `true` or `false`.
     Flag,
@@ -30,7 +30,7 @@ pub enum ValueKind {
 }
 
 /// A part of a region of the largest board.
-#[derive(Clone, Copy, Debug, PartialEq, Eq)]
+#[derive(Clone, Copy, PartialEq, Eq)]
 pub enum Area {
     /// 12 * rank + file.
     Square(u8),
@@ -39,7 +39,7 @@ pub enum Area {
 }
 
 /// The kinds that an option lists.
-#[derive(Clone, Copy, Debug, PartialEq, Eq)]
+#[derive(Clone, Copy, PartialEq, Eq)]
 pub enum Listed {
     /// All kinds together.
     All,

@@ -13,6 +13,6 @@ pub fn expect_of<N: Debug>(rt: &impl Abort, name: &N, holds: bool) {
 }
 
 /// Asserts that what was found is what is wanted.
-pub fn expect_eq<T: PartialEq + Debug + Drop>(rt: &impl Abort, found: T, wanted: T) {
-    assert_eq!(rt; found, wanted);
+pub fn expect_eq<T: PartialEq + Drop>(rt: &impl Abort, found: T, wanted: T) {
+    assert!(rt; found == wanted);
 }

@@ -1,9 +1,19 @@
 //! Tests of `variant_options`.
 use crate::expect::expect;
 use std::alloc::Global;
-use std::io::Write;
+use std::io::{self, Write};
 use std::test::Fail;
-use variant_options::line_fault;
+use variant_options::{LineFault, line_fault};
+
+/// Writes the fault of a line, on a line.
+fn tell(told: &mut Vec<u8>, fault: Option<LineFault>) -> io::Result<()> {
+    match fault {
+        None => writeln!(told, "None"),
+        Some(LineFault::UnsupportedOption) => writeln!(told, "UnsupportedOption"),
+        Some(LineFault::BadValue) => writeln!(told, "BadValue"),
+        Some(LineFault::BadPiece(why)) => writeln!(told, "BadPiece {why}"),
+    }
+}
 
 /// The fault of each line of a key and a value, on a line for each.
 fn faults_of(alloc: Global, lines: &str) -> Result<Vec<u8>, Fail> {
@@ -11,7 +21,7 @@ fn faults_of(alloc: Global, lines: &str) -> Result<Vec<u8>, Fail> {
     for line in lines.split('\n') {
         let (key, value) = line.split_once('=').unwrap_or((line, ""));
         match line_fault(alloc, key.as_bytes(), value.as_bytes()) {
-            Ok(fault) => writeln!(told, "{fault:?}")?,
+            Ok(fault) => tell(&mut told, fault)?,
             Err(_) => told.extend_from_slice(b"no memory\n")?,
         }
     }
@@ -35,18 +45,18 @@ fn lines_and_their_faults(rt: HostRuntime) -> Result<(), Fail> {
         blastOnCapture=true\ncustomPiece1=c:fN";
     let told = faults_of(rt.alloc(), bad)?;
     let wanted = "\
-        Some(BadValue)\n\
-        Some(BadValue)\n\
-        Some(BadValue)\n\
-        Some(BadValue)\n\
-        Some(BadValue)\n\
-        Some(BadValue)\n\
-        Some(BadValue)\n\
-        Some(BadValue)\n\
-        Some(BadValue)\n\
-        Some(UnsupportedOption)\n\
-        Some(UnsupportedOption)\n\
-        Some(BadPiece(AmbiguousDirection(0)))\n";
+        BadValue\n\
+        BadValue\n\
+        BadValue\n\
+        BadValue\n\
+        BadValue\n\
+        BadValue\n\
+        BadValue\n\
+        BadValue\n\
+        BadValue\n\
+        UnsupportedOption\n\
+        UnsupportedOption\n\
+        BadPiece BetzaFault 6 AmbiguousDirection 0\n";
     expect(&rt, told.as_slice() == wanted.as_bytes());
     Ok(())
 }

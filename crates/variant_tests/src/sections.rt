@@ -11,7 +11,7 @@ use variant_model::SectionFault;
 
 fn sections_of(alloc: Global, text: &[u8]) -> Result<Sections, Fail> {
     let mut sections = Sections::new(alloc);
-    sections.add(text)?;
+    sections.add(text).map_err(|_| "sections")?;
     Ok(sections)
 }
 

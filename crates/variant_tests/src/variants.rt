@@ -21,7 +21,7 @@ const CHAIN: &[u8] = b"[a:chess]\n\
 // The built-in variants and those of a file.
 fn variants_with(rt: &impl Abort, alloc: Global, file: &[u8]) -> Variants {
     let mut sections = builtin(alloc).expect(rt, "no fault");
-    sections.add(file).expect(rt, "no fault");
+    sections.add(file).ok().expect(rt, "no fault");
     load(alloc, &sections).expect(rt, "no fault")
 }
 

@@ -27,7 +27,7 @@ const MOST_PN_MOVES: u64 = 100;
 ///
 /// A command that is added is a variant here and of `Command` in `specs/Command.antt`, a line of `command_seen` in
 /// `specs/View.antt` and of `command_named` here and there, and a function of its arguments, here and there.
-#[derive(Clone, Copy, Debug, PartialEq, Eq)]
+#[derive(Clone, Copy, PartialEq, Eq)]
 pub enum Command<'a> {
     /// `uci`, and no words: a session of the Universal Chess Interface.
     Uci,

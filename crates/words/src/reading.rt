@@ -17,7 +17,7 @@ use std::alloc::Global;
 const MOST_THREADS: u64 = 64;
 
 /// What the words of a run ask.
-#[derive(Clone, Copy, Debug, PartialEq, Eq)]
+#[derive(Clone, Copy, PartialEq, Eq)]
 pub struct Asked<'a> {
     /// The name of the file of variants.
     pub variants: Option<&'a str>,
