@@ -2,7 +2,8 @@
 //!
 //! A search knows the world outside by `Watch` alone. The worker in the caller has a `Caller`, which polls for lines,
 //! answers them, reads the clock and heeds limits; the workers beside it have a `Helper`, which knows a flag and a
-//! quota; and one that nothing disturbs is `Unwatched`. What ends a worker is a `Halt`. Which root moves are taken and finished, workers tell by `RootMarks`.
+//! quota; and one that nothing disturbs is `Unwatched`. What ends a worker is a `Halt`. Which root moves are taken and
+//! finished, workers tell by `RootMarks`.
 #![tactic(auto)]
 
 mod caller;
