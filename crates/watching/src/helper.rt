@@ -1,6 +1,6 @@
 //! The watch of a worker beside the first.
-ghost use Rattle.std.specs.Prelude.{◌≡◌, ℕ};
-ghost use Rattle.watching.specs.Counts.{Counts, counts_none, counts_more, counts_wider};
+ghost use Rattle.std.specs.Prelude.{◌≡◌};
+ghost use Rattle.watching.specs.Helping.{Helps, HelpEnds, helps_none, helps_more, helps_wider, help_ends_more, help_ends_wider, helps_memory};
 
 use crate::flag::StopFlag;
 use crate::halt::{Cut, Halt};
@@ -9,15 +9,18 @@ use crate::watch::Watch;
 /// The watch of a worker that hears only that it is to stop, and counts nodes.
 #[derive(Drop)]
 pub struct Helper<'f> {
-    flag: &'f StopFlag,
-    quota: Option<u64>,
-    nodes: u64,
+    pub flag: &'f StopFlag,
+    /// How many nodes it may enter, if that is limited.
+    pub quota: Option<u64>,
+    /// How many nodes it has entered.
+    pub nodes: u64,
 }
 
 impl<'f> Helper<'f> {
     /// It has entered no node. It may enter as many as the quota says.
     pub fn new(flag: &'f StopFlag, quota: Option<u64>) -> Helper<'f>
-        ensures { result.nodes ≡ 0 }
+        ensures quota { result.quota ≡ quota }
+        ensures none { result.nodes ≡ 0 }
     {
         Helper {
             flag,
@@ -28,9 +31,9 @@ impl<'f> Helper<'f> {
 }
 
 impl Watch for Helper<'_> {
-    ghost gone = { λ a b n. Counts a.nodes b.nodes n };
+    ghost gone = { Helps };
 
-    ghost ended = { λ a b n why. Counts a.nodes b.nodes n };
+    ghost ended = { HelpEnds };
 
     ghost entered = { λ a. a.nodes };
 
@@ -51,17 +54,17 @@ impl Watch for Helper<'_> {
         self.nodes
     }
 
-    ghost none = { λ a. counts_none a.nodes };
+    ghost none = { helps_none };
 
-    ghost more = { λ a b c m n p q. counts_more a.nodes b.nodes c.nodes m n p q };
+    ghost more = { helps_more };
 
-    ghost wider = { λ a b m n p le. counts_wider a.nodes b.nodes m n p le };
+    ghost wider = { helps_wider };
 
-    ghost ends = { λ a b c m n why p q. counts_more a.nodes b.nodes c.nodes m n p q };
+    ghost ends = { help_ends_more };
 
-    ghost ends_wider = { λ a b m n why p le. counts_wider a.nodes b.nodes m n p le };
+    ghost ends_wider = { help_ends_wider };
 
-    ghost memory = { λ a b m p. p };
+    ghost memory = { helps_memory };
 
-    ghost counts = { λ a b n p. p };
+    ghost counts = { λ a b n p. p.counts };
 }

@@ -2,7 +2,8 @@
 //!
 //! A search knows the world outside by `Watch` alone. The worker in the caller has a `Caller`, which polls for lines,
 //! answers them, reads the clock and heeds limits; the workers beside it have a `Helper`, which knows a flag and a
-//! quota; and one that nothing disturbs is `Unwatched`. What ends a worker is a `Halt`. Which root moves are taken and finished, workers tell by `RootMarks`.
+//! quota; and one that nothing disturbs is `Unwatched`. What ends a worker is a `Halt`. Which root moves are taken and
+//! finished, workers tell by `RootMarks`.
 #![tactic(auto)]
 
 mod caller;
@@ -11,6 +12,7 @@ mod halt;
 mod helper;
 mod listen;
 mod marks;
+mod racing;
 mod stopping;
 mod unwatched;
 mod watch;
@@ -21,6 +23,7 @@ pub use halt::{Cut, Halt};
 pub use helper::Helper;
 pub use listen::{heed, say, say_some};
 pub use marks::{RootMarks, Round};
+pub use racing::race;
 pub use stopping::stopped_by;
 pub use unwatched::Unwatched;
 pub use watch::Watch;

@@ -26,7 +26,7 @@ pub struct RootMarks {
 }
 
 impl RootMarks {
-    /// So many root moves, all of them free.
+    /// N root moves, all of them free.
     ///
     /// # Errors
     ///
