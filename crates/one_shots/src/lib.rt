@@ -2,13 +2,16 @@
 #![tactic(auto)]
 
 mod answers;
+mod first_moves;
 mod game;
 mod generating;
 mod laws;
 mod opening;
 mod pn_mate_text;
+mod rules_told;
 mod sections;
 mod suite_text;
+mod unfound;
 mod variants;
 
 pub use answers::{Answer, answer_of, answer_to};
