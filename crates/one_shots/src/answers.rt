@@ -21,7 +21,7 @@ use crate::game::game_in;
 use crate::generating::generate;
 use crate::opening::Opened;
 use crate::pn_mate_text::pn_mate_text;
-use crate::rules_told::rules_text;
+use crate::rules_text::rules_text;
 use crate::suite_text::suite_text;
 use crate::variants::variants_of;
 use betza_compile::compile;

@@ -5,7 +5,7 @@ ghost use Rattle.variant_rules.specs.Playable.{IsPlayable};
 ghost use Rattle.variant_rules.specs.View.{IfRules, found_view};
 ghost use Rattle.one_shot_faults.specs.NoAnswerView.{Answers, IsUnheard};
 
-use crate::unfound::{refused_variant, unknown_variant};
+use crate::no_variant::{refused_variant, unknown_variant};
 use foundation::Text;
 use one_shot_faults::NoAnswer;
 use random_games::{random_game, report_of};

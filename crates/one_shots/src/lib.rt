@@ -6,12 +6,12 @@ mod first_moves;
 mod game;
 mod generating;
 mod laws;
+mod no_variant;
 mod opening;
 mod pn_mate_text;
-mod rules_told;
+mod rules_text;
 mod sections;
 mod suite_text;
-mod unfound;
 mod variants;
 
 pub use answers::{Answer, answer_of, answer_to};

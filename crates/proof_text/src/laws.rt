@@ -36,10 +36,11 @@ pub fn written_proofs_are_read_back()
     told_values_end_in_no_return();
 }
 
-/// A variants file of one header and the lines that an accepted section among sections of files tells has no fault, and
-/// one section: without a parent, of the name in the header, and with those lines. Loaded after sections that do not
-/// have its name, it has the rules of the section that told it. The name is one that a header can have, and no line has
-/// more than the 1,024 bytes that a line of a variants file may have: `key = value` has two bytes more than `key=value`.
+/// A variants file of one header and the lines that an accepted section among sections of files tells has no fault,
+/// and one section: without a parent, of the name in the header, and with those lines. Loaded after sections that do
+/// not have its name, it has the rules of the section that told it. The name is one that a header can have. For
+/// `faultless` no line has more than the 1,024 bytes that a line of a variants file may have: `key = value` has two
+/// bytes more than `key=value`.
 pub fn told_rules_are_read_back()
     ensures faultless { (sections : List Section) (place : ℕ) (name : List ℕ) (rules : Rules) → AreFileLines sections
         → entry sections place ≡ Ok rules → is_name name ≡ true

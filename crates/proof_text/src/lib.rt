@@ -1,6 +1,6 @@
 //! Proof texts: strategies of forced mates that stand alone. A proof text, `strategy 2`, states the rules of its
-//! variant, a game, a goal and a strategy, so that it says all that a check needs. It is read, and written. The lines of
-//! its rules are written alone, too.
+//! variant, a game, a goal and a strategy, so that it says all that a check needs. It is read, and written. The lines
+//! of its rules are written alone, too.
 #![tactic(auto)]
 
 mod body;

@@ -71,8 +71,8 @@ fn answers(rt: &impl Abort, alloc: Global, lines: &str) -> Vec<u8> {
 fn commands_are_read(rt: HostRuntime) {
     let lines =
         "\nuci\nxboard\nmoves\nstatus\nperft|1\nperft|00000000000000000009\ncheck\nstipulate|self|1\n\
-        stipulate|help|06\nstipulate|check\nvariants\nsuite\npnmate|100\nkeys|020\nreach|N|b1\nreach|||\nreach|N|b1|a1,a2|c3\n\
-        generate|chess|18446744073709551615|08192\nrules|xiangqi";
+        stipulate|help|06\nstipulate|check\nvariants\nsuite\npnmate|100\nkeys|020\nreach|N|b1\nreach|||\n\
+        reach|N|b1|a1,a2|c3\ngenerate|chess|18446744073709551615|08192\nrules|xiangqi";
     let told = answers(&rt, rt.alloc(), lines);
     let wanted = b"\
         None 1 Uci\n\
@@ -124,8 +124,9 @@ fn options_are_read(rt: HostRuntime) {
 fn other_words_ask_nothing(rt: HostRuntime) {
     let commands =
         "Uci\nMoves\nmoves|\nreach|N\nreach|N|b1|none|none|none\nreach|N|b1|-\nreach|-N|b1\nuci|f\n\
-        suite|f\nrules\nrules|a|b\nkeys|0\nkeys|21\npnmate\npnmate|101\nstipulate\nstipulate|self|0\nstipulate|help|7\nstipulate|mate|1\nperft\nperft|4|4\n\
-        perft|0\nperft|10\nperft|000000000000000000004\nxboard|1\nperft|4";
+        suite|f\nrules\nrules|a|b\nkeys|0\nkeys|21\npnmate\npnmate|101\nstipulate\nstipulate|self|0\n\
+        stipulate|help|7\nstipulate|mate|1\nperft\nperft|4|4\nperft|0\n\
+        perft|10\nperft|000000000000000000004\nxboard|1\nperft|4";
     let told = answers(&rt, rt.alloc(), commands);
     expect(&rt, told.as_slice() == b"None 1 Perft 4\n".as_slice());
     let options = "--help\n--\n--|moves\n-threads|4|moves\n--=4|moves\n--threads\n\

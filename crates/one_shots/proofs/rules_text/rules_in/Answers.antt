@@ -2,7 +2,7 @@ use Rattle.std.proofs.Common.{◌<◌, ℕ, length, sym, ap, subst, ◌∙◌}
 use Rattle.variant_ini.specs.OptionValue.{first_named}
 use Rattle.variant_rules.specs.View.{found_view}
 use Rattle.one_shots.proofs.RulesLemmas.{place_within}
-use Rattle.one_shots.proofs.rules_told.rules_in.Goals as goal
+use Rattle.one_shots.proofs.rules_text.rules_in.Goals as goal
 
 pub write_rules-requires : goal.write_rules-requires
 write_rules-requires c =

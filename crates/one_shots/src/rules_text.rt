@@ -5,7 +5,7 @@ ghost use Rattle.variant_rules.specs.View.{found_view};
 ghost use Rattle.one_shot_faults.specs.NoAnswerView.{Answers, IsUnheard};
 ghost use Rattle.one_shots.specs.RulesTold.{SaysRules, SaysTold};
 
-use crate::unfound::{refused_variant, unknown_variant};
+use crate::no_variant::{refused_variant, unknown_variant};
 use foundation::Text;
 use one_shot_faults::NoAnswer;
 use proof_text::write_rules;

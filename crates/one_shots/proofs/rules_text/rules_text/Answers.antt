@@ -1,6 +1,6 @@
 use Rattle.variant_rules.specs.View.{found_view}
 use Rattle.one_shots.proofs.RulesLemmas.{rules_says}
-use Rattle.one_shots.proofs.rules_told.rules_text.Goals as goal
+use Rattle.one_shots.proofs.rules_text.rules_text.Goals as goal
 
 pub rules_in-requires : goal.rules_in-requires
 rules_in-requires c = rw (c.as_bytes.ensures.value, c.in_ok-variants.ensures) at c.find.ensures.is
