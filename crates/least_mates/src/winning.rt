@@ -8,6 +8,7 @@ ghost use Rattle.least_mates.specs.Winning.{IsLeastWin, IsSettledBy};
 
 use forced_wins::by_rules::good_strategies_win;
 use game_play::Game;
+use hint_table::HintTable;
 use mate_search::{Settled, frame_of, settle};
 use mate_shards::{Passes, Shards};
 use rules_model::{Memory, Side};
@@ -17,6 +18,9 @@ use strategy::{Edge, Node, Strategy};
 
 /// How many facts are kept of a game, in one shard.
 const FACTS: u32 = 4096;
+
+/// How many hints: one, on its root.
+const HINTS: usize = 1;
 
 /// How a side wins a game.
 #[derive(Drop)]
@@ -36,6 +40,7 @@ fn settled_within<R: Wait>(
     k: u16,
     shards: &Shards,
     passes: Passes,
+    hints: &HintTable,
 ) -> (Passes, Result<Option<Strategy>, Memory>)
     requires frame { IsFrameFor game.now side shards.now.frame }
     requires passes { ArePassesOf shards.now passes }
@@ -45,7 +50,7 @@ fn settled_within<R: Wait>(
     ensures passes { ArePassesOf shards.now result.0 }
     ensures settled { IfOk result.1 (IsSettledBy game.now.rules (story game.now) side k) }
 {
-    let (passes, settled) = settle(rt, alloc, game, side, k, shards, passes);
+    let (passes, settled) = settle(rt, alloc, game, side, k, shards, passes, hints);
     match settled {
         Ok(Settled::Shown(strategy)) => (passes, Ok(Some(strategy))),
         Ok(Settled::NoMate) => (passes, Ok(None)),
@@ -72,8 +77,11 @@ fn least_over<R: Wait>(
 {
     // Tells the prover that a good strategy wins. Nothing is done.
     good_strategies_win::<Node, Edge>();
+    let hints = HintTable::new(alloc, HINTS)?;
     for k in 1..n + 1 {
-        let (handed_back, settled) = settled_within(rt, alloc, game, side, k, shards, passes);
+        let (handed_back, settled) = settled_within(
+            rt, alloc, game, side, k, shards, passes, &hints,
+        );
         passes = handed_back;
         match settled {
             Ok(None) => {}
