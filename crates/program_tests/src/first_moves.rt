@@ -1,4 +1,5 @@
 //! `keys`: the first moves that win, each within how many moves. The lists of chess are those of another program.
+use crate::expect::expect;
 use crate::runs::{is_cut, ran, refuses, tells};
 use io_ports::MemFiles;
 
@@ -59,7 +60,7 @@ fn first_moves_are_cut_short(rt: HostRuntime) {
             &[call],
             1000,
         );
-        assert!(rt; answered == 4 && sink.taken().is_empty());
+        expect(&rt, answered == 4 && sink.taken().is_empty());
     }
     let rooks = b"a1a8 mate 1\nb1b8 mate 1\nkeys 2\n";
     is_cut(&rt, &mut files, &["keys", "1"], ROOKS.as_bytes(), rooks);
