@@ -13,9 +13,9 @@ import subprocess
 import sys
 import tempfile
 
-from engine import program
+from programs import find_program
 
-ENGINE = program()
+ENGINE = find_program()
 MOVES = 3
 KINDS = {"chess": "QRBNP", "antichess": "QRBNPK", "crazyhouse": "QRBNP", "losalamos": "QRNP"}
 SIZES = {"chess": 8, "antichess": 8, "crazyhouse": 8, "losalamos": 6}
