@@ -42,6 +42,8 @@ MOST_TABS = 64
 SILENT = 600
 # How long a call may take. A search has its own limit.
 PATIENCE = 20.0
+# All first moves of a mate are looked for by a process that nothing stops but the end of this time.
+KEYS_PATIENCE = 60.0
 
 
 # ---- faults in words
@@ -245,14 +247,12 @@ class Tab:
 
     def rules(self, asked):
         """The rules of a variant, where the program prints them."""
-        said = self.engine.command("rules", word_of(asked, "variant")).splitlines()
-        return {"rules": [[part.strip() for part in line.split("=", 1)] for line in said if "=" in line]}
+        return {"rules": list(self.engine.rules(word_of(asked, "variant")).items())}
 
     def keys(self, asked):
-        """All first moves of a mate, where the program prints them."""
-        variant, fen, moves = game_of(asked)
-        text = f"{variant}\n{fen}\n{' '.join(moves)}\n"
-        return {"keys": self.engine.command("keys", str(number_of(asked, "within")), text=text, timeout=600).splitlines()}
+        """Every first move that wins, where the program prints them."""
+        keys = self.engine.keys(*game_of(asked), within=number_of(asked, "within"), timeout=KEYS_PATIENCE)
+        return {"keys": [key._asdict() for key in keys]}
 
     def reach(self, asked):
         """The squares of a Betza word from d4 of an empty board, and with enemies on all other squares."""

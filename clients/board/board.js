@@ -1,7 +1,7 @@
 // The page: it keeps the game as a variant, a start and moves, asks the engine what they mean, and shows the answers.
 import { BoardView, picture, pieceIcon } from "./drawing.js";
 import {
-  addedName, faultText, infoText, isWhite, namesOf, parseFen, parseMove, regionSquares, sideName, squareName, stateText, wordsOf,
+  addedName, faultText, infoText, isWhite, keysText, namesOf, parseFen, parseMove, regionSquares, sideName, squareName, stateText, wordsOf,
 } from "./texts.js";
 
 const $ = (id) => document.getElementById(id);
@@ -131,7 +131,8 @@ function shades() {
   const side = position.side === "w" ? "White" : "Black";
   const rules = new Map(game.rules);
   const keys = { promotion: `promotionRegion${side}`, drop: `dropRegion${side}`, flag: `flagRegion${side}` };
-  const defaults = { promotion: side === "White" ? "*8" : "*1", drop: "-", flag: "-" };
+  const all = position.ranks.map((_, row) => `*${row + 1}`).join(" ");
+  const defaults = { promotion: side === "White" ? "*8" : "*1", drop: rules.get("pieceDrops") === "true" ? all : "-", flag: "-" };
   for (const box of $("shades").querySelectorAll("input:checked")) {
     found[box.value] = regionSquares(rules.get(keys[box.value]) || defaults[box.value], position.files, position.ranks.length);
   }
@@ -376,8 +377,17 @@ $("back").addEventListener("click", () => goTo(strategy.way.slice(0, -1)));
 $("to-game").addEventListener("click", () => goTo([0]));
 $("copy-strategy").addEventListener("click", () => copy(strategy.text));
 $("keys").addEventListener("click", async () => {
-  const answer = await ask("keys", { ...asked(), within: Number($("within").value) });
-  $("mated").textContent = faultText(answer) || answer.keys.join(", ");
+  await stop();
+  leaveStrategy();
+  const number = game.number;
+  const within = Math.floor(Number($("within").value)) || 1;
+  $("mated").textContent = "looking at every first move";
+  $("mated").classList.add("busy");
+  $("keys").disabled = true;
+  const answer = await ask("keys", { ...asked(), within });
+  $("keys").disabled = false;
+  $("mated").classList.remove("busy");
+  if (number === game.number) $("mated").textContent = faultText(answer) || keysText(answer.keys, within);
 });
 
 // ---- the file of variants

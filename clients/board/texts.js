@@ -20,10 +20,12 @@ const STANDARD = { k: "king", q: "queen", r: "rook", b: "bishop", n: "knight", p
 export function namesOf(variant, rules) {
   if (!rules) return BUILT_IN.includes(variant) ? STANDARD : {};
   const names = {};
+  const hasKing = rules.some(([key]) => key === "king");
   for (const [key, value] of rules) {
     const letter = value.slice(0, 1).toLowerCase();
     const isPiece = key in WORDS || key === "pawn" || key === "immobile" || /^customPiece\d+$/.test(key);
-    if (isPiece && /^[a-z]$/.test(letter)) names[letter] = key;
+    // Where there is no king, a commoner is drawn and told as one.
+    if (isPiece && /^[a-z]$/.test(letter)) names[letter] = key === "commoner" && !hasKing ? "king" : key;
   }
   return names;
 }
@@ -88,6 +90,13 @@ export function infoText(info) {
   return `${value} at depth ${info.depth}, best ${info.move}`;
 }
 
+/** The first moves that win, each within how many moves. */
+export function keysText(keys, within) {
+  if (keys.length === 0) return `No first move wins within ${within}`;
+  const told = keys.map((key) => `${key.move} within ${key.moves}`).join(", ");
+  return keys.length === 1 ? `One first move wins: ${told}` : `${keys.length} first moves win: ${told}`;
+}
+
 /** What is wrong with an answer, in words, or null. */
 export function faultText(answer) {
   if (answer.fault) return answer.fault.words ? `${answer.fault.words} (${answer.fault.text})` : answer.fault.text;
@@ -97,11 +106,11 @@ export function faultText(answer) {
 /** The squares of a region of a variants file: squares and whole ranks. */
 export function regionSquares(value, files, ranks) {
   const squares = new Set();
-  for (const part of value.split(/\s+/)) {
+  for (const part of value.toLowerCase().split(/\s+/)) {
     for (let file = 0; file < files; file += 1) {
       for (let rank = 0; rank < ranks; rank += 1) {
         const name = squareName(file, rank);
-        if (part === name || part === `*${rank + 1}` || part === `${name[0]}*`) squares.add(name);
+        if (part === name || part === `*${rank + 1}`) squares.add(name);
       }
     }
   }
