@@ -20,7 +20,7 @@ import time
 import webbrowser
 from http.server import BaseHTTPRequestHandler, ThreadingHTTPServer
 
-from vengine import BadInput, Ended, Engine, Fault, Unsupported, VengineError, find_program, mate_of, nodes_of, run
+from vengine import BadInput, Ended, Engine, Fault, VengineError, find_program, mate_of, nodes_of
 
 HERE = os.path.dirname(os.path.realpath(__file__))
 FAULTS = os.path.join(HERE, "..", "docs", "FAULTS.md")
@@ -246,11 +246,11 @@ class Tab:
         return {"check": "wins" if self.engine.check(text_of(asked, "text")) else ""}
 
     def rules(self, asked):
-        """The rules of a variant, where the program prints them."""
+        """The rules of a variant, each key with its value."""
         return {"rules": list(self.engine.rules(word_of(asked, "variant")).items())}
 
     def keys(self, asked):
-        """Every first move that wins, where the program prints them."""
+        """Every first move that wins."""
         keys = self.engine.keys(*game_of(asked), within=number_of(asked, "within"), timeout=KEYS_PATIENCE)
         return {"keys": [key._asdict() for key in keys]}
 
@@ -307,17 +307,6 @@ CALLS = (*BESIDE, "variants", "load", "look", "go", "think", "stop")
 # ---- the server
 
 
-def knows(program, *words):
-    """Whether the program has this command."""
-    try:
-        run([program, *words], "chess\nstartpos\n", PATIENCE)
-    except Unsupported:
-        return False
-    except Fault:
-        pass
-    return True
-
-
 class Board(ThreadingHTTPServer):
     """The page and its tabs."""
 
@@ -326,7 +315,6 @@ class Board(ThreadingHTTPServer):
     def __init__(self, program, path, port=0):
         super().__init__(("127.0.0.1", port), Handler)
         self.program, self.path, self.tabs, self.lock = program, path, {}, threading.Lock()
-        self.knows = {name: knows(program, *words) for name, words in (("rules", ("rules", "chess")), ("keys", ("keys", "1")))}
         self.origin = f"http://127.0.0.1:{self.server_address[1]}"
         threading.Thread(target=self.reap, daemon=True).start()
 
@@ -432,7 +420,7 @@ class Handler(BaseHTTPRequestHandler):
         """The status and the answer of a call."""
         if name == "open":
             try:
-                return 200, {"tab": self.server.open_tab(), "has_file": self.server.path is not None, "knows": self.server.knows}
+                return 200, {"tab": self.server.open_tab(), "has_file": self.server.path is not None}
             except VengineError as error:
                 return 200, {"error": str(error)}
         if name == "close":
