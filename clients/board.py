@@ -20,7 +20,7 @@ import time
 import webbrowser
 from http.server import BaseHTTPRequestHandler, ThreadingHTTPServer
 
-from vengine import BadInput, Ended, Engine, Fault, Unsupported, VengineError, find_program, mate_of, nodes_of, run
+from vengine import BadInput, Ended, Engine, Fault, VengineError, find_program, mate_of, nodes_of
 
 HERE = os.path.dirname(os.path.realpath(__file__))
 FAULTS = os.path.join(HERE, "..", "docs", "FAULTS.md")
@@ -42,6 +42,8 @@ MOST_TABS = 64
 SILENT = 600
 # How long a call may take. A search has its own limit.
 PATIENCE = 20.0
+# All first moves of a mate are looked for by a process that nothing stops but the end of this time.
+KEYS_PATIENCE = 60.0
 
 
 # ---- faults in words
@@ -244,15 +246,13 @@ class Tab:
         return {"check": "wins" if self.engine.check(text_of(asked, "text")) else ""}
 
     def rules(self, asked):
-        """The rules of a variant, where the program prints them."""
-        said = self.engine.command("rules", word_of(asked, "variant")).splitlines()
-        return {"rules": [[part.strip() for part in line.split("=", 1)] for line in said if "=" in line]}
+        """The rules of a variant, each key with its value."""
+        return {"rules": list(self.engine.rules(word_of(asked, "variant")).items())}
 
     def keys(self, asked):
-        """All first moves of a mate, where the program prints them."""
-        variant, fen, moves = game_of(asked)
-        text = f"{variant}\n{fen}\n{' '.join(moves)}\n"
-        return {"keys": self.engine.command("keys", str(number_of(asked, "within")), text=text, timeout=600).splitlines()}
+        """Every first move that wins."""
+        keys = self.engine.keys(*game_of(asked), within=number_of(asked, "within"), timeout=KEYS_PATIENCE)
+        return {"keys": [key._asdict() for key in keys]}
 
     def reach(self, asked):
         """The squares of a Betza word from d4 of an empty board, and with enemies on all other squares."""
@@ -307,17 +307,6 @@ CALLS = (*BESIDE, "variants", "load", "look", "go", "think", "stop")
 # ---- the server
 
 
-def knows(program, *words):
-    """Whether the program has this command."""
-    try:
-        run([program, *words], "chess\nstartpos\n", PATIENCE)
-    except Unsupported:
-        return False
-    except Fault:
-        pass
-    return True
-
-
 class Board(ThreadingHTTPServer):
     """The page and its tabs."""
 
@@ -326,7 +315,6 @@ class Board(ThreadingHTTPServer):
     def __init__(self, program, path, port=0):
         super().__init__(("127.0.0.1", port), Handler)
         self.program, self.path, self.tabs, self.lock = program, path, {}, threading.Lock()
-        self.knows = {name: knows(program, *words) for name, words in (("rules", ("rules", "chess")), ("keys", ("keys", "1")))}
         self.origin = f"http://127.0.0.1:{self.server_address[1]}"
         threading.Thread(target=self.reap, daemon=True).start()
 
@@ -432,7 +420,7 @@ class Handler(BaseHTTPRequestHandler):
         """The status and the answer of a call."""
         if name == "open":
             try:
-                return 200, {"tab": self.server.open_tab(), "has_file": self.server.path is not None, "knows": self.server.knows}
+                return 200, {"tab": self.server.open_tab(), "has_file": self.server.path is not None}
             except VengineError as error:
                 return 200, {"error": str(error)}
         if name == "close":

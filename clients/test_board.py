@@ -529,27 +529,59 @@ class Pages(unittest.TestCase):
             self.assertLessEqual(page.run("document.documentElement.scrollWidth"), width)
             self.keep(name, page)
 
-    def test_what_a_program_that_prints_rules_adds(self):
-        # in place of a program that has the commands `rules` and `keys`
-        program, text = (os.path.join(self.folder.name, name) for name in ("program", "rules"))
-        with open(text, "w") as file:
-            file.write("".join(line + "\n" for line in WIDE.splitlines() if "=" in line))
-        with open(program, "w") as file:
-            file.write('#!/bin/sh\ncase "$*" in\n*"rules "*) cat "${0%program}rules";;\n*"keys "*) echo "b1d3 mate 2"; echo "keys 1";;\n'
-                       f'*) exec {PROGRAM} "$@";;\nesac\n')
-        os.chmod(program, 0o755)
-        served = Running(self.file, "--program", program)
+    def figures(self):
+        return self.page.run("document.querySelectorAll('.piece.figure').length")
+
+    def shade(self, region):
+        """The squares of a region that is shown."""
+        self.page.click(f"#shades input[value={region}]")
+        self.page.wait(f"document.querySelector('#shades input[value={region}]').checked")
+        return self.page.run(f"[...document.querySelectorAll('.shade.{region}')].map(one => one.parentNode.dataset.square)")
+
+    def test_figures_by_the_rules(self):
+        for variant, figures in (("chess", 32), ("capablanca", 36), ("antichess", 32), ("losalamos", 24), ("xiangqi", 2 * 3)):
+            with self.subTest(variant=variant):
+                self.start(variant)
+                self.assertEqual(self.figures(), figures)
+        self.keep("xiangqi")
+
+    def test_regions_as_shades(self):
+        for variant, region, count in (("chess", "promotion", 8), ("crazyhouse", "drop", 64), ("chess", "drop", 0), ("kingofthehill", "flag", 4)):
+            with self.subTest(variant=variant):
+                self.start(variant)
+                self.assertEqual(len(self.shade(region)), count)
+                self.page.click(f"#shades input[value={region}]")
+        self.start("losalamos")
+        self.assertEqual(set(self.shade("promotion")), {f"{file}6" for file in "abcdef"})
+
+    def test_figures_and_shades_of_a_file(self):
+        served = Running(self.file)
         self.addCleanup(served.close)
         page = self.page = self.open(served)
-        page.wait("document.querySelector('#variant').value === 'wide' && !document.querySelector('#shades').hidden")
-        self.assertEqual(page.run("document.querySelectorAll('.piece.figure').length"), 2 * (3 + 1 + 12))
-        page.click("#shades input[value=promotion]")
-        page.wait("document.querySelectorAll('.shade.promotion').length === 12")
-        self.assertTrue(page.run("document.querySelector('[data-square=a10] .shade') !== null"))
+        page.wait("document.querySelector('#variant').value === 'wide'")
+        self.assertEqual(self.figures(), 2 * (3 + 1 + 12))
+        self.assertEqual(set(self.shade("promotion")), {f"{file}10" for file in "abcdefghijkl"})
+        self.keep("shades")
         page.click("#pieces-panel summary")
         page.wait("[...document.querySelectorAll('#pieces figcaption')].some(one => one.textContent === 'W: FC')")
+        # a text that is changed has other rules
+        page.type("#text", WIDE.replace("promotionRegionWhite = *10", "promotionRegionWhite = a9 *10"))
+        page.wait("document.querySelectorAll('.shade.promotion').length === 13")
+
+    def test_all_first_moves(self):
+        page = self.page
+        self.start("chess", "6k1/8/R7/1R6/8/8/8/6K1 w - - 0 1")
         page.click("#keys")
-        page.wait("document.querySelector('#mated').textContent === 'b1d3 mate 2, keys 1'")
+        page.wait("document.querySelector('#mated').textContent === '2 first moves win: a6a7 within 2, b5b7 within 2'")
+        self.keep("keys")
+        for within, told in (("1", "No first move wins within 1"), ("21", "within has to be a number from 1 to 20, not 21")):
+            page.type("#within", within)
+            page.click("#keys")
+            page.wait(f"document.querySelector('#mated').textContent === '{told}'")
+        self.start("chess", "7k/R7/5K2/8/8/8/8/8 w - - 98 80")
+        page.type("#within", "2")
+        page.click("#keys")
+        page.wait("document.querySelector('#mated').textContent.includes('KeysFault 1 NearCount')")
 
     def test_ten_tabs(self):
         pages = [self.open() for _ in range(9)]

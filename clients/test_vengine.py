@@ -19,7 +19,7 @@ import time
 import unittest
 from concurrent.futures import ThreadPoolExecutor
 
-from vengine import (FEN_OK, VALUE_DRAW, VALUE_MATE, BadInput, Busy, Ended, Engine, Fault, Info, Lines, NotOver, Result, Section, TimedOut,
+from vengine import (FEN_OK, VALUE_DRAW, VALUE_MATE, BadInput, Busy, Ended, Engine, Fault, Info, Key, Lines, NotOver, Result, Section, TimedOut,
                      Unsupported, find_program, nodes_of)
 
 try:
@@ -225,6 +225,26 @@ class Files(EngineCase):
         self.assertEqual(self.engine.variants(), [*VARIANTS, "thirty"])
         self.fault("GameFault 2 UnknownVariant forty", self.engine.command, "moves", text="forty\nstartpos\n")
 
+    def test_the_rules_of_a_variant(self):
+        hill = self.engine.rules("kingofthehill")
+        self.assertEqual(list(hill), sorted(hill))
+        self.assertEqual((hill["king"], hill["flagPiece"], hill["flagRegionBlack"]), ("k", "k", "d4 e4 d5 e5"))
+        self.assertNotIn("king", self.engine.rules("antichess"))
+        self.engine.load_variant_config("[own:chess]\ncustomPiece1 = w:CF\nknight = -\n[none:chess]\nmaxRank = x\n")
+        self.fault("GameFault 3 RefusedVariant SectionFault 8 BadStart FenFault 3 Letter", self.engine.rules, "own")
+        self.fault("GameFault 3 RefusedVariant SectionFault 5 BadValue maxRank", self.engine.rules, "none")
+        self.fault("GameFault 2 UnknownVariant nobody", self.engine.rules, "nobody")
+        for name in ("", "two words", "-x", "--variants=x", "a\nb"):
+            self.assertRaises(BadInput, self.engine.rules, name)
+
+    def test_rules_below_a_header_are_the_variant(self):
+        for name in VARIANTS:
+            with self.subTest(variant=name):
+                rules = self.engine.rules(name)
+                self.engine.load_variant_config("[again]\n" + "".join(f"{key} = {value}\n" for key, value in rules.items()))
+                self.assertEqual(self.engine.rules("again"), rules)
+                self.assertEqual(self.engine.position("again"), self.engine.position(name))
+
     def test_names_of_files(self):
         with tempfile.TemporaryDirectory() as folder:
             for name, is_told in (("a b.ini", True), ("ä.ini", True), ("a  b.ini", False), ("a\nb.ini", False), ("a.ini ", False)):
@@ -366,6 +386,27 @@ class Mates(EngineCase):
     def test_where_a_piece_goes(self):
         self.assertEqual(self.engine.reach("N", "b1"), (["d2", "a3", "c3"], []))
         self.assertEqual(self.engine.reach("mRcpR", "a1", ["a4"], ["a7"])[1], ["a7"])
+
+    def test_every_first_move_that_wins(self):
+        self.assertEqual(self.engine.keys("chess", MATE_IN_TWO, within=2), [Key("f6g6", 2)])
+        self.assertEqual(self.engine.keys("chess", MATE_IN_TWO), [])
+        self.assertEqual(self.engine.keys("chess", "6k1/8/R7/1R6/8/8/8/6K1 w - - 0 1", within=2), [Key("a6a7", 2), Key("b5b7", 2)])
+        self.assertEqual(self.engine.keys("chess", "startpos", FOOLS_MATE[:-1]), [Key("d8h4", 1)])
+        self.fault("KeysFault 1 NearCount", self.engine.keys, "chess", "7k/R7/5K2/8/8/8/8/8 w - - 98 80", within=2)
+        self.fault("KeysFault 2 Ended", self.engine.keys, "chess", "startpos", FOOLS_MATE)
+        self.fault("GameFault 5 BadMove 2 e2e5", self.engine.keys, "chess", "startpos", ["e2e4", "e2e5"])
+        for within in (0, 21, "2", None):
+            self.assertRaises(BadInput, self.engine.keys, "chess", within=within)
+        for fen, moves in (("a\nb", []), ("startpos", "e2e4"), ("startpos", ["e2e4\ne7e5"])):
+            self.assertRaises(BadInput, self.engine.keys, "chess", fen, moves)
+
+    def test_first_moves_beside_a_search(self):
+        search = self.engine.start("chess")
+        self.assertEqual(self.engine.keys("chess", MATE_IN_TWO, within=2), [Key("f6g6", 2)])
+        self.assertEqual(self.engine.rules("chess")["king"], "k")
+        search.stop()
+        self.at_once(TimedOut, lambda: self.engine.keys("chess", within=8, timeout=0.2))
+        self.assertEqual(len(self.engine.legal_moves("chess")), 20)
 
 
 class Hostile(Case):

@@ -158,6 +158,13 @@ class Mate(NamedTuple):
     note: str = ""
 
 
+class Key(NamedTuple):
+    """A first move that wins by force, and the least number of moves within which it does, itself among them."""
+
+    move: str
+    moves: int
+
+
 class Node(NamedTuple):
     """A node of a strategy: the most moves that the attacker still makes, the position, and a node for each move that is looked at."""
 
@@ -212,6 +219,12 @@ def moves_of(moves):
 
 
 MOVE = re.compile(r"([a-l](10|[1-9])){2}[a-z+]?|[A-Z]@[a-l](10|[1-9])")
+
+
+def game_text(variant, fen, moves):
+    """The game as the input of a one-shot command, with a line for each move."""
+    start = fen if fen == "startpos" else fen_of(fen)
+    return "".join(line + "\n" for line in (word_of(variant, "a variant"), start, *moves_of(moves)))
 
 
 def root_move(text):
@@ -697,6 +710,21 @@ class Engine:
     def check(self, text, *, timeout=None):
         """True where a strategy wins: the text is a proof text, or a problem with a strategy after it. Else Fault says why not."""
         return self.command("check", text=text, timeout=timeout) == "wins\n"
+
+    def rules(self, variant, *, timeout=None):
+        """The rules of a variant: each key that says something, with its value. As lines `KEY = VALUE` below a header they are a section
+        without a parent, which is the same variant."""
+        name = word_of(variant, "a variant")
+        if name.startswith("-"):
+            raise BadInput(f"a command cannot be told this name: {name[:80]!r}")
+        return dict(line.split(" = ", 1) for line in self.command("rules", name, timeout=timeout).splitlines())
+
+    def keys(self, variant, fen="startpos", moves=(), *, within=1, timeout=None):
+        """Every first move with which the side to move wins by force within so many moves, 1 to 20, in the order of their texts. Fault says
+        that the game is over, or that the move count could end it within these moves. It is killed where it takes longer than `timeout`."""
+        text = game_text(variant, fen, moves)
+        said = self.command("keys", str(number_of(within, "within", 1, 20)), text=text, timeout=timeout)
+        return [Key(words[0], int(words[2])) for words in map(str.split, said.splitlines()[:-1])]
 
     def reach(self, word, square, own=(), enemy=(), *, timeout=None):
         """Where a White piece with this Betza word goes from a square of an 8 by 8 board, with pieces on other squares: the squares of its

@@ -89,3 +89,46 @@ class Page:
         except (Wrong, subprocess.TimeoutExpired) as error:
             return str(error)
         return None
+
+
+class BuiltIn:
+    """The sections of the built-in variants as a page has them. As a file, under other names, they must have the rules of those that are built in."""
+
+    PAGE = "docs/VARIANTS_INI.md"
+
+    def __init__(self):
+        with open(os.path.join(TOP, self.PAGE)) as file:
+            listed = blocks(file.read().splitlines())
+        (self.lines,) = [[line for _, line in block] for block in listed if block[0][1] == "[chess]"]
+        self.variants = [re.match(r"\[(\w+)", line).group(1) for line in self.lines if line.startswith("[")]
+
+    def names(self):
+        return [f"{self.PAGE}: {what}" for what in ["the variants", *self.variants]]
+
+    def results(self, program):
+        """For all of them whether they are those of the program, and for each whether it has the same rules; or what went wrong."""
+        with tempfile.TemporaryDirectory() as folder:
+            path = os.path.join(folder, "copy.ini")
+            with open(path, "w") as file:
+                file.writelines(re.sub(r"^\[(\w+)(?::(\w+))?\]$", self.copied, line) + "\n" for line in self.lines)
+            pairs = [([f"{name} ok" for name in self.variants], said(program, "variants"))]
+            pairs += [(said(program, "rules", name), said(program, "--variants", path, "rules", f"copied-{name}")) for name in self.variants]
+            return [(name, fault_of(came, wanted)) for name, (wanted, came) in zip(self.names(), pairs)]
+
+    def copied(self, header):
+        name, parent = header.groups()
+        return f"[copied-{name}:copied-{parent}]" if parent else f"[copied-{name}]"
+
+
+def said(program, *words):
+    """The lines that a command prints, which reads nothing."""
+    done = subprocess.run([program, *words], stdin=subprocess.DEVNULL, stdout=subprocess.PIPE, timeout=LONGEST)
+    return done.stdout.decode(errors="replace").splitlines()
+
+
+def fault_of(came, wanted):
+    try:
+        compare(came, wanted)
+    except Wrong as error:
+        return str(error)
+    return None

@@ -1,13 +1,13 @@
 // The page: it keeps the game as a variant, a start and moves, asks the engine what they mean, and shows the answers.
 import { BoardView, picture, pieceIcon } from "./drawing.js";
 import {
-  addedName, faultText, infoText, isWhite, namesOf, parseFen, parseMove, regionSquares, sideName, squareName, stateText, wordsOf,
+  addedName, faultText, infoText, isWhite, keysText, namesOf, parseFen, parseMove, regionSquares, sideName, squareName, stateText, wordsOf,
 } from "./texts.js";
 
 const $ = (id) => document.getElementById(id);
 const view = new BoardView($("board"));
-const tab = { name: null, knows: {}, hasFile: false, changed: null };
-const game = { variant: "chess", fen: "startpos", moves: [], at: null, legal: [], rules: null, names: {}, number: 0 };
+const tab = { name: null, hasFile: false, changed: null };
+const game = { variant: "chess", fen: "startpos", moves: [], at: null, legal: [], rules: [], names: {}, number: 0 };
 const chosen = { from: null };
 const thinking = { isOn: false, infos: [], number: 0 };
 // The nodes of a strategy, and the way from the first to the one that is shown.
@@ -39,7 +39,7 @@ async function post(name, given) {
 async function open() {
   const answer = (await post("open", {})).body;
   if (faultText(answer)) return tell(faultText(answer));
-  Object.assign(tab, { name: answer.tab, knows: answer.knows, hasFile: answer.has_file });
+  Object.assign(tab, { name: answer.tab, hasFile: answer.has_file });
   if ($("text").value) await ask("load", { text: $("text").value });
   return undefined;
 }
@@ -82,10 +82,10 @@ async function meant(variant, answer) {
 }
 
 async function takeRules(variant) {
-  const said = tab.knows.rules ? await ask("rules", { variant }) : {};
-  game.rules = said.rules || null;
-  game.names = namesOf(variant, game.rules);
-  $("shades").hidden = !game.rules;
+  const answer = await ask("rules", { variant });
+  if (faultText(answer)) tell(faultText(answer));
+  game.rules = answer.rules || [];
+  game.names = namesOf(game.rules);
 }
 
 async function play(move) {
@@ -126,12 +126,12 @@ function marks() {
 /** The squares of the regions that are asked for, of the side to move. */
 function shades() {
   const found = {};
-  if (!game.rules) return found;
   const position = parseFen(game.at.fen);
   const side = position.side === "w" ? "White" : "Black";
   const rules = new Map(game.rules);
   const keys = { promotion: `promotionRegion${side}`, drop: `dropRegion${side}`, flag: `flagRegion${side}` };
-  const defaults = { promotion: side === "White" ? "*8" : "*1", drop: "-", flag: "-" };
+  const all = position.ranks.map((_, row) => `*${row + 1}`).join(" ");
+  const defaults = { promotion: side === "White" ? "*8" : "*1", drop: rules.get("pieceDrops") === "true" ? all : "-", flag: "-" };
   for (const box of $("shades").querySelectorAll("input:checked")) {
     found[box.value] = regionSquares(rules.get(keys[box.value]) || defaults[box.value], position.files, position.ranks.length);
   }
@@ -376,8 +376,17 @@ $("back").addEventListener("click", () => goTo(strategy.way.slice(0, -1)));
 $("to-game").addEventListener("click", () => goTo([0]));
 $("copy-strategy").addEventListener("click", () => copy(strategy.text));
 $("keys").addEventListener("click", async () => {
-  const answer = await ask("keys", { ...asked(), within: Number($("within").value) });
-  $("mated").textContent = faultText(answer) || answer.keys.join(", ");
+  await stop();
+  leaveStrategy();
+  const number = game.number;
+  const within = Math.floor(Number($("within").value)) || 1;
+  $("mated").textContent = "looking at every first move";
+  $("mated").classList.add("busy");
+  $("keys").disabled = true;
+  const answer = await ask("keys", { ...asked(), within });
+  $("keys").disabled = false;
+  $("mated").classList.remove("busy");
+  if (number === game.number) $("mated").textContent = faultText(answer) || keysText(answer.keys, within);
 });
 
 // ---- the file of variants
@@ -505,13 +514,13 @@ async function pieceFigure(letter) {
   return null;
 }
 
-/** A picture of each piece of the start, by its legal moves, and by its word where the rules are known. */
+/** A picture of each piece by its legal moves, and one by its word where it is none of the usual kinds. */
 async function showPieces() {
   await stop();
   game.start = (await ask("look", { variant: game.variant, fen: "startpos", moves: [] })).fen;
   const { ranks, hand } = parseFen(game.start);
   const words = wordsOf(game.rules);
-  const letters = [...new Set([...ranks.flat().join(""), ...(hand || ""), ...Object.keys(words)].join("").toUpperCase().match(/[A-Z]/g))];
+  const letters = [...new Set([...ranks.flat().join(""), ...(hand || ""), ...Object.keys(game.names)].join("").toUpperCase().match(/[A-Z]/g))];
   $("pieces").replaceChildren();
   for (const letter of letters.sort()) {
     const drawn = await pieceFigure(letter);
@@ -572,7 +581,6 @@ async function begin() {
   const answer = await ask("variants");
   if (faultText(answer)) return tell(faultText(answer));
   $("text").value = answer.text;
-  $("keys").hidden = !tab.knows.keys;
   showVariants(answer);
   if (answer.text) $("file-panel").open = true;
   await take(answer.text && answer.variants.length > 10 ? answer.variants[10] : "chess", "startpos", []);

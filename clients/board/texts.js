@@ -6,34 +6,33 @@ const CAUSES = {
 };
 
 // The words of the pieces that a variants file may name.
-export const WORDS = {
+const WORDS = {
   wazir: "W", fers: "F", alfil: "A", fersAlfil: "FA", knight: "N", bishop: "B", rook: "R", queen: "Q", king: "K", commoner: "K",
   archbishop: "BN", chancellor: "RN", amazon: "QN", centaur: "KN", silver: "FfW", gold: "WfF", dragonHorse: "BW", dragon: "RF", bers: "RF",
   lance: "fR", shogiPawn: "fW", shogiKnight: "ffN", cannon: "mRcpR", horse: "nN", elephant: "nA", soldier: "fsW", knibis: "mNcB",
   biskni: "mBcN", kniroo: "mNcR", rookni: "mRcN",
 };
 
-const BUILT_IN = ["chess", "crazyhouse", "3check", "kingofthehill", "antichess", "extinction", "losalamos", "capablanca", "seirawan"];
-const STANDARD = { k: "king", q: "queen", r: "rook", b: "bishop", n: "knight", p: "pawn" };
+// The words of these need no picture.
+const USUAL = ["king", "commoner", "queen", "rook", "bishop", "knight", "pawn"];
 
-/** The name of the piece of each letter, by the rules of a variant; without them those that the built-in variants of chess have. */
-export function namesOf(variant, rules) {
-  if (!rules) return BUILT_IN.includes(variant) ? STANDARD : {};
+/** The name of the piece of each letter, by the rules of a variant. Where there is no king, a commoner is drawn and told as one. */
+export function namesOf(rules) {
   const names = {};
+  const hasKing = rules.some(([key]) => key === "king");
   for (const [key, value] of rules) {
-    const letter = value.slice(0, 1).toLowerCase();
     const isPiece = key in WORDS || key === "pawn" || key === "immobile" || /^customPiece\d+$/.test(key);
-    if (isPiece && /^[a-z]$/.test(letter)) names[letter] = key;
+    if (isPiece) names[value.slice(0, 1).toLowerCase()] = key === "commoner" && !hasKing ? "king" : key;
   }
   return names;
 }
 
-/** The Betza word of the piece of each letter, by the rules of a variant. */
+/** The Betza word of the piece of each letter, but for those of the usual kinds. */
 export function wordsOf(rules) {
   const words = {};
-  for (const [key, value] of rules || []) {
-    const [letter, word] = value.split(":");
-    if (/^[A-Za-z]$/.test(letter) && (word || WORDS[key]) && key !== "castlingKingFile") words[letter.toLowerCase()] = word || WORDS[key];
+  for (const [key, value] of rules) {
+    const word = value.split(":")[1] || WORDS[key];
+    if ((key in WORDS || key.startsWith("customPiece")) && !USUAL.includes(key)) words[value.slice(0, 1).toLowerCase()] = word;
   }
   return words;
 }
@@ -88,6 +87,13 @@ export function infoText(info) {
   return `${value} at depth ${info.depth}, best ${info.move}`;
 }
 
+/** The first moves that win, each within how many moves. */
+export function keysText(keys, within) {
+  if (keys.length === 0) return `No first move wins within ${within}`;
+  const told = keys.map((key) => `${key.move} within ${key.moves}`).join(", ");
+  return keys.length === 1 ? `One first move wins: ${told}` : `${keys.length} first moves win: ${told}`;
+}
+
 /** What is wrong with an answer, in words, or null. */
 export function faultText(answer) {
   if (answer.fault) return answer.fault.words ? `${answer.fault.words} (${answer.fault.text})` : answer.fault.text;
@@ -97,11 +103,11 @@ export function faultText(answer) {
 /** The squares of a region of a variants file: squares and whole ranks. */
 export function regionSquares(value, files, ranks) {
   const squares = new Set();
-  for (const part of value.split(/\s+/)) {
+  for (const part of value.toLowerCase().split(/\s+/)) {
     for (let file = 0; file < files; file += 1) {
       for (let rank = 0; rank < ranks; rank += 1) {
         const name = squareName(file, rank);
-        if (part === name || part === `*${rank + 1}` || part === `${name[0]}*`) squares.add(name);
+        if (part === name || part === `*${rank + 1}`) squares.add(name);
       }
     }
   }
