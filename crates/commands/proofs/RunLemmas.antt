@@ -13,7 +13,7 @@ use Rattle.io_ports.specs.Trace.{Moves, Reads, faults_in}
 use Rattle.io_ports.proofs.Moved.{appends_none}
 use Rattle.variant_ini.specs.Section.{Section}
 use Rattle.words.specs.Asked.{Asked, asked}
-use Rattle.words.specs.Command.{Command, Uci, Xboard, Moves as MovesOf, Status, Perft, Check, SelfMate, HelpMate, CheckCert, Variants, Reach, Generate, Suite, PnMate}
+use Rattle.words.specs.Command.{Command, Uci, Xboard, Moves as MovesOf, Status, Perft, Check, SelfMate, HelpMate, CheckCert, Variants, Reach, Generate, RulesOf, Suite, PnMate, Keys}
 use Rattle.words.specs.Options.{Text}
 use Rattle.words.specs.View.{asked_seen, command_seen}
 use Rattle.one_shots.specs.declared.answers.Answer.{Answer}
@@ -306,8 +306,10 @@ session_says sections CheckCert is lines status text says = absurd (false≢true
 session_says sections Variants is lines status text says = absurd (false≢true is)
 session_says sections (Reach word square own enemy) is lines status text says = absurd (false≢true is)
 session_says sections (Generate name number plies) is lines status text says = absurd (false≢true is)
+session_says sections (RulesOf name) is lines status text says = absurd (false≢true is)
 session_says sections Suite is lines status text says = absurd (false≢true is)
 session_says sections (PnMate moves) is lines status text says = absurd (false≢true is)
+session_says sections (Keys moves) is lines status text says = absurd (false≢true is)
 
 -- ---- the status
 

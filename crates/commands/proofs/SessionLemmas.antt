@@ -33,7 +33,7 @@ use Rattle.variant_ini.specs.Section.{Section}
 use Rattle.variant_model.specs.Builtin.{builtin_sections}
 use Rattle.watching.specs.Looks.{Moved}
 use Rattle.words.specs.Asked.{Asked}
-use Rattle.words.specs.Command.{Command, Uci, Xboard, Moves as MovesOf, Status, Perft, Check, SelfMate, HelpMate, CheckCert, Variants, Reach, Generate, Suite, PnMate}
+use Rattle.words.specs.Command.{Command, Uci, Xboard, Moves as MovesOf, Status, Perft, Check, SelfMate, HelpMate, CheckCert, Variants, Reach, Generate, RulesOf, Suite, PnMate, Keys}
 use Rattle.words.specs.Options.{Text}
 use Rattle.words.specs.View.{asked_seen, command_seen}
 use Rattle.one_shots.specs.declared.answers.Answer.{Answer}
@@ -172,8 +172,10 @@ needs_by CheckCert d is sections lines = cc
 needs_by Variants d is sections lines = cc
 needs_by (Reach word square own enemy) d is sections lines = cc
 needs_by (Generate name number plies) d is sections lines = cc
+needs_by (RulesOf name) d is sections lines = cc
 needs_by Suite d is sections lines = cc
 needs_by (PnMate moves) d is sections lines = cc
+needs_by (Keys moves) d is sections lines = cc
 
 -- ---- what a session may do
 

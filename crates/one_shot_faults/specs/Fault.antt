@@ -10,10 +10,11 @@ use Rattle.stipulation.specs.Verdicts as stipulation
 use Rattle.cert_text.specs.Fault as cert
 use Rattle.suite.specs.Fault as suite
 use Rattle.pn_search.specs.MateCount.{pn_fault_text}
+use Rattle.least_mates.specs.FirstMoves.{keys_fault_text}
 use Rattle.variant_files.specs.declared.fault.LoadFault.TheVariants.{File, Ini}
 use Rattle.variant_files.specs.Loading.{file_fault_text, ini_fault_text}
 use Rattle.one_shot_faults.specs.declared.fault.Fault.{Fault}
-use Rattle.one_shot_faults.specs.declared.fault.Fault.TheVariants.{Betza, Reach, Game, Strategy, Proof, Verdict, Cert, CertFailure, Suite, PnMate, Load}
+use Rattle.one_shot_faults.specs.declared.fault.Fault.TheVariants.{Betza, Reach, Game, Strategy, Proof, Verdict, Cert, CertFailure, Suite, PnMate, Keys, Load}
 use Rattle.piece_reach.specs.Setup.{unplaced_text}
 use Rattle.piece_reach.specs.UnplacedView.{unplaced_of}
 
@@ -39,6 +40,7 @@ facts (Cert fault) = (cert.fault_text fault, OfInput)
 facts (CertFailure verdict) = (stipulation.verdict_text verdict, OfInput)
 facts (Suite fault) = (suite.fault_text fault, OfInput)
 facts (PnMate fault) = (pn_fault_text fault, OfInput)
+facts (Keys fault) = (keys_fault_text fault, OfInput)
 facts (Load (Ini fault)) = (ini_fault_text fault, OfInput)
 facts (Load (File fault)) = (file_fault_text fault, OfFile)
 

@@ -1,6 +1,7 @@
 //! What is answered in place of a text: a line `error FAULT`.
 ghost use Rattle.std.specs.Prelude.{◌≡◌, IfOk};
 ghost use Rattle.game_text.specs.Fault.{fault_text as game_fault_text};
+ghost use Rattle.least_mates.specs.FirstMoves.{keys_fault_text};
 ghost use Rattle.pn_search.specs.MateCount.{pn_fault_text};
 ghost use Rattle.suite.specs.Fault.{fault_text as suite_fault_text};
 ghost use Rattle.one_shot_faults.specs.Fault.{error_line, fault_status, fault_text};
@@ -9,6 +10,7 @@ use betza_text::BetzaFault;
 use cert_text::CertFault;
 use foundation::{Memory, Text};
 use game_text::{GameFault, write_fault};
+use least_mates::{KeysFault, write_keys_fault};
 use piece_reach::ReachFault;
 use pn_search::{PnFault, write_pn_fault};
 use proof_text::ProofFault;
@@ -42,6 +44,8 @@ pub enum Fault<'a> {
     Suite(SuiteFault),
     /// `pnmate` does not ask the game of the input.
     PnMate(PnFault),
+    /// `keys` does not ask the game of the input.
+    Keys(KeysFault),
     /// The file of variants is refused.
     Load(LoadFault),
 }
@@ -80,6 +84,14 @@ fn pn_mate_line(alloc: Global, fault: &PnFault) -> Result<Vec<u8>, Memory>
     Ok(line_with(alloc, &text)?)
 }
 
+// The line of why `keys` does not ask a game.
+fn keys_line(alloc: Global, fault: &KeysFault) -> Result<Vec<u8>, Memory>
+    ensures { IfOk result (λ line. line.items ≡ error_line (keys_fault_text fault.now)) }
+{
+    let text = write_keys_fault(alloc, fault)?;
+    Ok(line_with(alloc, &text)?)
+}
+
 impl<'a> Fault<'a> {
     /// The status of a run with this fault: 6 where a file was not read, else 3.
     pub fn status(&self) -> u8
@@ -106,6 +118,7 @@ impl<'a> Fault<'a> {
             Fault::CertFailure(verdict) => format!(in alloc; "error {verdict}\n")?.into_bytes(),
             Fault::Suite(fault) => suite_line(alloc, fault)?,
             Fault::PnMate(fault) => pn_mate_line(alloc, fault)?,
+            Fault::Keys(fault) => keys_line(alloc, fault)?,
             Fault::Load(fault) => format!(in alloc; "error {fault}\n")?.into_bytes(),
         };
         Ok(Text { items })

@@ -2,7 +2,9 @@ mod AnswerLemmas
 pub mod FileLemmas
 mod GenerateLemmas
 pub mod HeardLemmas
+mod KeysLemmas
 mod PnMateLemmas
+mod RulesLemmas
 pub mod ShotLemmas
 mod SuiteLemmas
 mod VariantLemmas

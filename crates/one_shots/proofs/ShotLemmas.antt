@@ -23,7 +23,7 @@ use Rattle.game_text.specs.declared.fault.GameFault.{GameFault}
 use Rattle.game_text.specs.Fault as game
 use Rattle.game_text.specs.GameText.{game_of}
 use Rattle.words.specs.Asked.{Asked}
-use Rattle.words.specs.Command.{Command, Uci, Xboard, Moves, Status, Perft, Check, SelfMate, HelpMate, CheckCert, Variants, Reach, Generate, Suite, PnMate}
+use Rattle.words.specs.Command.{Command, Uci, Xboard, Moves, Status, Perft, Check, SelfMate, HelpMate, CheckCert, Variants, Reach, Generate, RulesOf, Suite, PnMate, Keys}
 use Rattle.words.specs.Options.{Text}
 use Rattle.one_shot_faults.specs.declared.fault.Fault.{Fault}
 use Rattle.one_shot_faults.specs.declared.fault.Fault.TheVariants as fault
@@ -47,7 +47,9 @@ use Rattle.one_shot_checks.proofs.CertLemmas.{cert_done, cert_once, cert_some}
 use Rattle.one_shot_checks.proofs.CheckLemmas.{check_done, check_once, check_some}
 use Rattle.one_shots.proofs.FileLemmas.{same_reads, why_unread}
 use Rattle.one_shots.proofs.GenerateLemmas.{generate_done, generate_once, generate_some}
+use Rattle.one_shots.proofs.KeysLemmas.{keys_done, keys_once, keys_some}
 use Rattle.one_shots.proofs.PnMateLemmas.{pn_mate_done, pn_mate_once, pn_mate_some}
+use Rattle.one_shots.proofs.RulesLemmas.{rules_done, rules_once, rules_some}
 use Rattle.one_shots.proofs.SuiteLemmas.{suite_done, suite_once, suite_some}
 
 -- ---- some answer
@@ -75,8 +77,10 @@ command_some sections Uci input one = absurd (false≢true (sym one))
 command_some sections Xboard input one = absurd (false≢true (sym one))
 command_some sections (Reach word square own enemy) input one = reach_some word square own enemy
 command_some sections (Generate name number plies) input one = generate_some sections name number plies
+command_some sections (RulesOf name) input one = rules_some sections name
 command_some sections Suite input one = suite_some (entries sections) input
 command_some sections (PnMate moves) input one = pn_mate_some moves (entries sections) input
+command_some sections (Keys moves) input one = keys_some moves (entries sections) input
 command_some sections Moves input one = game_some moves_of (game_of (entries sections) input)
 command_some sections Status input one = game_some status_of (game_of (entries sections) input)
 command_some sections (Perft plies) input one = game_some (perft_of plies) (game_of (entries sections) input)
@@ -130,8 +134,10 @@ command_done sections Uci input status text says = absurd says
 command_done sections Xboard input status text says = absurd says
 command_done sections (Reach word square own enemy) input status text says = reach_done word square own enemy status text says
 command_done sections (Generate name number plies) input status text says = generate_done sections name number plies status text says
+command_done sections (RulesOf name) input status text says = rules_done sections name status text says
 command_done sections Suite input status text says = suite_done (entries sections) input status text says
 command_done sections (PnMate moves) input status text says = pn_mate_done moves (entries sections) input status text says
+command_done sections (Keys moves) input status text says = keys_done moves (entries sections) input status text says
 command_done sections Moves input status text says = game_done moves_of (game_of (entries sections) input) status text says
 command_done sections Status input status text says = game_done status_of (game_of (entries sections) input) status text says
 command_done sections (Perft plies) input status text says = game_done (perft_of plies) (game_of (entries sections) input) status text says
@@ -233,8 +239,10 @@ command_once sections Uci input s s' t t' says says' = absurd says
 command_once sections Xboard input s s' t t' says says' = absurd says
 command_once sections (Reach word square own enemy) input s s' t t' says says' = reach_once word square own enemy s s' t t' says says'
 command_once sections (Generate name number plies) input s s' t t' says says' = generate_once sections name number plies s s' t t' says says'
+command_once sections (RulesOf name) input s s' t t' says says' = rules_once sections name s s' t t' says says'
 command_once sections Suite input s s' t t' says says' = suite_once (entries sections) input s s' t t' says says'
 command_once sections (PnMate moves) input s s' t t' says says' = pn_mate_once moves (entries sections) input s s' t t' says says'
+command_once sections (Keys moves) input s s' t t' says says' = keys_once moves (entries sections) input s s' t t' says says'
 command_once sections Moves input s s' t t' says says' = game_once moves_of (game_of (entries sections) input) s s' t t' says says'
 command_once sections Status input s s' t t' says says' = game_once status_of (game_of (entries sections) input) s s' t t' says says'
 command_once sections (Perft plies) input s s' t t' says says' = game_once (perft_of plies) (game_of (entries sections) input) s s' t t' says says'
@@ -298,6 +306,7 @@ command_without sections Uci input input' status text reads says = absurd (false
 command_without sections Xboard input input' status text reads says = absurd (false≢true (sym reads))
 command_without sections (Reach word square own enemy) input input' status text reads says = says
 command_without sections (Generate name number plies) input input' status text reads says = says
+command_without sections (RulesOf name) input input' status text reads says = says
 command_without sections Variants input input' status text reads says = says
 command_without sections Moves input input' status text reads says = absurd (false≢true (sym reads))
 command_without sections Check input input' status text reads says = absurd (false≢true (sym reads))
@@ -308,6 +317,7 @@ command_without sections Status input input' status text reads says = absurd (fa
 command_without sections (Perft plies) input input' status text reads says = absurd (false≢true (sym reads))
 command_without sections Suite input input' status text reads says = absurd (false≢true (sym reads))
 command_without sections (PnMate moves) input input' status text reads says = absurd (false≢true (sym reads))
+command_without sections (Keys moves) input input' status text reads says = absurd (false≢true (sym reads))
 
 loaded_so : (o : Option Fault) (P Q : ℕ → List ℕ → Type 0) (status : ℕ) (text : List ℕ) → (P status text → Q status text) → SaysLoaded o P status text → SaysLoaded o Q status text
 loaded_so None P Q status text so says = so says

@@ -8,7 +8,7 @@ use Rattle.variant_rules.specs.Entries.{entries}
 use Rattle.game_text.specs.GameText.{lines_of_game}
 use Rattle.suite.specs.Suite.{lines_of_suite}
 use Rattle.words.specs.Asked.{Asked}
-use Rattle.words.specs.Command.{Command, Uci, Xboard, Moves, Status, Perft, Check, SelfMate, HelpMate, CheckCert, Variants, Reach, Generate, Suite, PnMate}
+use Rattle.words.specs.Command.{Command, Uci, Xboard, Moves, Status, Perft, Check, SelfMate, HelpMate, CheckCert, Variants, Reach, Generate, RulesOf, Suite, PnMate, Keys}
 use Rattle.one_shot_faults.specs.declared.fault.Fault.{Fault}
 use Rattle.one_shot_checks.specs.Checking.{lines_of_check}
 use Rattle.one_shot_checks.specs.Certificates.{lines_of_cert_check}
@@ -29,8 +29,10 @@ reads_input CheckCert = true
 reads_input Variants = false
 reads_input (Reach word square own enemy) = false
 reads_input (Generate name number plies) = false
+reads_input (RulesOf name) = false
 reads_input Suite = true
 reads_input (PnMate moves) = true
+reads_input (Keys moves) = true
 
 abbrev pub asks_input : Option Asked → Bool
 asks_input None = false
@@ -51,8 +53,10 @@ lines_needed sections CheckCert input = lines_of_cert_check (entries sections) i
 lines_needed sections Variants input = 0
 lines_needed sections (Reach word square own enemy) input = 0
 lines_needed sections (Generate name number plies) input = 0
+lines_needed sections (RulesOf name) input = 0
 lines_needed sections Suite input = lines_of_suite (entries sections) input
 lines_needed sections (PnMate moves) input = lines_of_game (entries sections) input
+lines_needed sections (Keys moves) input = lines_of_game (entries sections) input
 
 -- this number of lines, or none where the file of variants has a fault
 abbrev pub lines_reached : Option Fault → ℕ → ℕ

@@ -1,9 +1,11 @@
 pub mod Commands
+pub mod FirstMoves
 pub mod GameView
 pub mod Looked
 pub mod OpeningView
 pub mod OutcomeView
 pub mod PnMates
+pub mod RulesTold
 pub mod Sessions
 pub mod Shot
 pub mod Statuses

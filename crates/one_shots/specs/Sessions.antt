@@ -7,7 +7,7 @@ use Rattle.session_model.specs.CecpSession.{cecp}
 use Rattle.session_model.specs.Turns as turns
 use Rattle.session_model.specs.UciSession.{uci}
 use Rattle.words.specs.Asked.{Asked, asked}
-use Rattle.words.specs.Command.{Command, Uci, Xboard, Moves, Status, Perft, Check, SelfMate, HelpMate, CheckCert, Variants, Reach, Generate, Suite, PnMate}
+use Rattle.words.specs.Command.{Command, Uci, Xboard, Moves, Status, Perft, Check, SelfMate, HelpMate, CheckCert, Variants, Reach, Generate, RulesOf, Suite, PnMate, Keys}
 
 -- the protocol of a command that is a session
 abbrev pub dialect_of : Command → Option Dialect
@@ -23,8 +23,10 @@ dialect_of CheckCert = None
 dialect_of Variants = None
 dialect_of (Reach word square own enemy) = None
 dialect_of (Generate name number plies) = None
+dialect_of (RulesOf name) = None
 dialect_of Suite = None
 dialect_of (PnMate moves) = None
+dialect_of (Keys moves) = None
 
 -- The command is a session. Every other command has one text and one status: it is a one-shot command.
 abbrev pub is_session : Command → Bool

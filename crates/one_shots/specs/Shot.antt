@@ -17,7 +17,7 @@ use Rattle.game_text.specs.Fault as game
 use Rattle.game_text.specs.GameText.{game_of}
 use Rattle.session_model.specs.Generate.{SaysGenerate}
 use Rattle.words.specs.Asked.{Asked}
-use Rattle.words.specs.Command.{Command, Uci, Xboard, Moves, Status, Perft, Check, SelfMate, HelpMate, CheckCert, Variants, Reach, Generate, Suite, PnMate}
+use Rattle.words.specs.Command.{Command, Uci, Xboard, Moves, Status, Perft, Check, SelfMate, HelpMate, CheckCert, Variants, Reach, Generate, RulesOf, Suite, PnMate, Keys}
 use Rattle.one_shot_faults.specs.declared.fault.Fault.{Fault}
 use Rattle.one_shot_checks.specs.Certificates.{SaysCertCheck}
 use Rattle.one_shot_checks.specs.Checking.{SaysCheck}
@@ -27,8 +27,10 @@ use Rattle.game_reports.specs.GameTexts.{moves_of, status_of, perft_of}
 use Rattle.one_shot_checks.specs.GameTexts.{self_mate_of, help_mate_of}
 use Rattle.piece_reach.specs.ReachText.{reach_text}
 use Rattle.one_shots.specs.Sessions.{to_do}
+use Rattle.one_shots.specs.FirstMoves.{SaysKeys}
 use Rattle.one_shots.specs.PnMates.{SaysPnMate}
 use Rattle.piece_reach.specs.Setup.{Unplaced, setup_of}
+use Rattle.one_shots.specs.RulesTold.{SaysRules}
 use Rattle.one_shots.specs.Suites.{SaysSuite}
 use Rattle.one_shots.specs.Variants.{AreFirstReads, fault_in, sections_in}
 use Rattle.one_shots.specs.VariantsText.{variants_text}
@@ -69,8 +71,10 @@ SaysCommand sections Variants input status text = (status ≡ 0) × (text ≡ va
 SaysCommand sections (Reach word square own enemy) input status text = SaysReach word square own enemy status text
 SaysCommand sections (Generate name number plies) input status text =
     SaysGenerate sections name number plies status text
+SaysCommand sections (RulesOf name) input status text = SaysRules sections name status text
 SaysCommand sections Suite input status text = SaysSuite (entries sections) input status text
 SaysCommand sections (PnMate moves) input status text = SaysPnMate moves (entries sections) input status text
+SaysCommand sections (Keys moves) input status text = SaysKeys moves (entries sections) input status text
 
 -- the status and the line of a fault
 abbrev pub SaysFault : Fault → ℕ → List ℕ → Type 0

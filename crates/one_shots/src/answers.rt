@@ -16,10 +16,12 @@ ghost use Rattle.one_shot_faults.specs.StopView.{IsUnread, IsUnsaid};
 ghost use Rattle.one_shots.specs.VariantsText.{variants_text};
 ghost use Rattle.words.specs.View.{HasPlies, command_seen};
 
+use crate::first_moves::keys_text;
 use crate::game::game_in;
 use crate::generating::generate;
 use crate::opening::Opened;
 use crate::pn_mate_text::pn_mate_text;
+use crate::rules_text::rules_text;
 use crate::suite_text::suite_text;
 use crate::variants::variants_of;
 use betza_compile::compile;
@@ -191,8 +193,10 @@ fn command_text<'a, R: Threads + Wait + Sync, S: Source, G: Gate + Sync>(
             number,
             plies,
         } => generate(rt, alloc, sections, name, number, plies),
+        Command::RulesOf(name) => rules_text(alloc, sections, name),
         Command::Suite => suite_text(rt, alloc, sections, source, threads, gate),
         Command::PnMate(moves) => pn_mate_text(rt, alloc, moves, sections, source),
+        Command::Keys(moves) => keys_text(rt, alloc, moves, sections, source),
     }
 }
 

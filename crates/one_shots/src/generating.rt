@@ -1,33 +1,18 @@
 //! What `generate` prints: a game of random moves.
-ghost use Rattle.std.specs.Prelude.{◌≡◌, ◌≤◌, IfOk};
+ghost use Rattle.std.specs.Prelude.{◌≤◌};
 ghost use Rattle.session_model.specs.Generate.{SaysGenerate, SaysGenerated};
 ghost use Rattle.variant_rules.specs.Playable.{IsPlayable};
 ghost use Rattle.variant_rules.specs.View.{IfRules, found_view};
 ghost use Rattle.one_shot_faults.specs.NoAnswerView.{Answers, IsUnheard};
 
+use crate::no_variant::{refused_variant, unknown_variant};
 use foundation::Text;
-use game_text::{GameFault, copy_of};
-use one_shot_faults::{Fault, NoAnswer};
+use one_shot_faults::NoAnswer;
 use random_games::{random_game, report_of};
-use std::alloc::{AllocError, Global};
+use std::alloc::Global;
 use std::thread::Threads;
 use variant_ini::Sections;
-use variant_model::SectionFault;
 use variant_rules::{Found, load};
-
-fn unknown_variant(alloc: Global, name: &str) -> Result<NoAnswer<'static>, AllocError>
-    ensures { IfOk result (λ halt. halt ≡ NoAnswer.Fault (Fault.Game (GameFault.UnknownVariant name.now))) }
-{
-    let items = name.as_bytes().to_vec(alloc)?;
-    Ok(NoAnswer::Fault(Fault::Game(GameFault::UnknownVariant(Text { items }))))
-}
-
-fn refused_variant(alloc: Global, why: &SectionFault) -> Result<NoAnswer<'static>, AllocError>
-    ensures { IfOk result (λ halt. halt ≡ NoAnswer.Fault (Fault.Game (GameFault.RefusedVariant why.now))) }
-{
-    let why = copy_of(alloc, why)?;
-    Ok(NoAnswer::Fault(Fault::Game(GameFault::RefusedVariant(why))))
-}
 
 // The report of the game, by what is found of the variant's name.
 fn generate_in<R: Threads + Sync>(

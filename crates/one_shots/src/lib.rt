@@ -2,11 +2,14 @@
 #![tactic(auto)]
 
 mod answers;
+mod first_moves;
 mod game;
 mod generating;
 mod laws;
+mod no_variant;
 mod opening;
 mod pn_mate_text;
+mod rules_text;
 mod sections;
 mod suite_text;
 mod variants;

@@ -77,6 +77,7 @@ fn other_words_are_answered_by_the_usage_line(rt: HostRuntime) {
     answers_over_files(&rt, &["--threads", "65", "moves"], "quit\n", 2, USAGE_LINE);
     answers_over_files(&rt, &["perft", "10"], "quit\n", 2, USAGE_LINE);
     answers_over_files(&rt, &["perft", "x"], "quit\n", 2, USAGE_LINE);
+    answers_over_files(&rt, &["rules"], "quit\n", 2, USAGE_LINE);
 }
 
 /// The texts are those of another program.

@@ -10,9 +10,13 @@ mod failing_ports;
 #[cfg(test)]
 mod files_of_variants;
 #[cfg(test)]
+mod first_moves;
+#[cfg(test)]
 mod game_texts;
 #[cfg(test)]
 mod problems;
+#[cfg(test)]
+mod rules_told;
 #[cfg(test)]
 mod runs;
 #[cfg(test)]

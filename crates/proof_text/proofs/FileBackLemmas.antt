@@ -1,9 +1,8 @@
 -- The pairs that an accepted section of files tells are told back.
-use Rattle.std.proofs.Common.{◌≡◌, ℕ, ◌+◌, ◌-◌, ◌<◌, ◌≤◌, ◌==◌, nat_lt, nat_le, ◌&&◌, ◌||◌, Bool, true, false, not, List, [], ◌∷◌, ◌++◌, Option, Some, None, length, reverse, take, slice_index, if◌then◌else◌, refl, sym, ap, subst, ◌∙◌, arith, length-append, append_assoc, append-nil, true≢false}
+use Rattle.std.proofs.Common.{◌≡◌, ℕ, ◌-◌, ◌≤◌, ◌==◌, nat_lt, nat_le, ◌&&◌, ◌||◌, Bool, true, false, not, List, [], ◌∷◌, ◌++◌, Option, Some, None, length, reverse, take, slice_index, if◌then◌else◌, refl, sym, ap, subst, ◌∙◌, arith, append_assoc, append-nil, true≢false}
 use Rattle.std.specs.Prelude.{All, codes}
 use Rattle.std.specs.Io.BufRead.{ends_with_byte}
-use Rattle.std.specs.List.{flat_map, list_all, list_any}
-use Rattle.std.specs.Str.{bytes_eq}
+use Rattle.std.specs.List.{list_all, list_any}
 use Rattle.std.specs.Str.Lines.{strip_carriage_return}
 use Rattle.std.proofs.lemmas.Bool.{and_from, and_parts, le-leb, lt-ltb, ne_eqb, or_from, or_parts}
 use Rattle.std.proofs.lemmas.List.{length-reverse, reverse-append}
@@ -13,9 +12,9 @@ use Rattle.std.proofs.lemmas.Slice.Eq.{bytes_eq-Decides}
 use Rattle.foundation.specs.Cuts.{cut}
 use Rattle.fen_model.proofs.JoinLaws.{Each}
 use Rattle.strategy.proofs.BackLemmas.{cut-word}
-use Rattle.variant_ini.specs.Cuts.{is_feed, trimmed, without_blanks}
+use Rattle.variant_ini.specs.Cuts.{is_feed, trimmed}
 use Rattle.variant_ini.specs.FileLines.{IsFileLine}
-use Rattle.variant_ini.specs.LineKind.{LineKind, comment, foreign, header_of, inside_header, is_comment, kind_from, line_kind, pair, pair_from, pair_of, text_kind}
+use Rattle.variant_ini.specs.LineKind.{comment, foreign, header_of, inside_header, is_comment, kind_from, line_kind, pair, pair_from, pair_of, text_kind}
 use Rattle.variant_ini.specs.Section.{Section}
 use Rattle.variant_ini.proofs.TrimLemmas.{BeginsBare, IsBare, bare-first, bare-trimmed, trimmed-bare}
 use Rattle.variant_options.specs.Keys.{all_keys, in_order, key_inserted, ordered_keys}
@@ -142,7 +141,7 @@ file-back (b ∷ text, value) plain firm is_file no_return =
 
 -- ---- all pairs
 
-keys-firm : list_all is_firm ordered_keys ≡ true
+pub keys-firm : list_all is_firm ordered_keys ≡ true
 unfolding all_keys in_order key_inserted ordered_keys options
 keys-firm = refl
 

@@ -11,3 +11,5 @@ pub mod ToldBackLemmas
 pub mod WordBackLemmas
 pub mod MoveBackLemmas
 pub mod ProofBackLemmas
+mod FileOfRulesLemmas
+mod LaterSectionLemmas

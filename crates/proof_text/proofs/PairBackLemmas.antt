@@ -195,7 +195,7 @@ line-cut key value lacks =
     ∙ cut-word 61 (key ++ 32 ∷ []) (32 ∷ value)
     (list_all-append (λ b. not (b == 61)) key (32 ∷ []) ∙ and_from _ _ lacks refl)
 
-line-pair : (key value : List ℕ) → IsPlain key → IsBare value → pair_of (pair_text (key, value)) ≡ Some (key, value)
+pub line-pair : (key value : List ℕ) → IsPlain key → IsBare value → pair_of (pair_text (key, value)) ≡ Some (key, value)
 unfolding pair_of
 line-pair [] value plain bare = let some = plain.some in absurd (omega (arith, some))
 line-pair (b ∷ key) value plain bare =

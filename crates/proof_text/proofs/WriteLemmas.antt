@@ -20,7 +20,7 @@ use Rattle.game_play.proofs.StoryLemmas.{history-first, history-length}
 use Rattle.strategy.specs.declared.nodes.Strategy.{Strategy}
 use Rattle.strategy.specs.Writing.{ended_line, ended_lines, strategy_text, strategy_texts}
 use Rattle.strategy.proofs.WriteLemmas.{ended_lines-append}
-use Rattle.proof_text.specs.Writing.{body_texts, game_texts, goal_text, pair_text, proof_text, proof_texts, rules_texts}
+use Rattle.proof_text.specs.Writing.{body_texts, game_texts, goal_text, pair_text, proof_text, proof_texts, rules_texts, section_text}
 
 -- ---- lines
 
@@ -83,6 +83,17 @@ rules-pushed pairs old mid new first later =
     old mid new
     (first ∙ ap (λ n. old ++ ended_line (codes "rules " ++ decimal n)) (sym (length-map pairs pair_view)))
     (later ∙ ap (λ ts. mid ++ ended_lines ts) (pairs-texts pairs))
+
+pub section-pushed : (sections : List Section) (section : ℕ) (pairs : List Pair) (old new : List ℕ)
+    → map pair_view pairs ≡ told sections section → old ≡ []
+    → new ≡ old ++ ended_lines (map (λ pair. pair_text (pair_view pair)) pairs)
+    → new ≡ section_text sections section
+unfolding section_text
+section-pushed sections section pairs old new said empty pushed =
+    pushed
+    ∙ ap (λ text. text ++ ended_lines (map (λ pair. pair_text (pair_view pair)) pairs)) empty
+    ∙ ap ended_lines (pairs-texts pairs)
+    ∙ ap (λ ps. ended_lines (map pair_text ps)) said
 
 -- ---- the start
 

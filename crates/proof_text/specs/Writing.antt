@@ -12,7 +12,7 @@ use Rattle.variant_ini.specs.Section.{Section}
 use Rattle.variant_model.specs.Told.{told}
 use Rattle.game_play.specs.Played.{Played}
 use Rattle.strategy.specs.declared.nodes.Strategy.{Strategy}
-use Rattle.strategy.specs.Writing.{ended_lines, strategy_texts}
+use Rattle.strategy.specs.Writing.{ended_line, ended_lines, strategy_texts}
 use Rattle.proof_text.specs.declared.proof.Proof.{Proof}
 
 -- ---- the rules
@@ -21,9 +21,28 @@ use Rattle.proof_text.specs.declared.proof.Proof.{Proof}
 abbrev pub pair_text : List ℕ × List ℕ → List ℕ
 pair_text pair = pair.0 ++ codes " = " ++ pair.1
 
+-- the lines of pairs
+abbrev pub pair_texts : List (List ℕ × List ℕ) → List (List ℕ)
+pair_texts pairs = map pair_text pairs
+
 -- `rules K`, and the K pairs
 abbrev pub rules_texts : List (List ℕ × List ℕ) → List (List ℕ)
-rules_texts pairs = (codes "rules " ++ decimal (length pairs)) ∷ map pair_text pairs
+rules_texts pairs = (codes "rules " ++ decimal (length pairs)) ∷ pair_texts pairs
+
+-- the lines of the pairs that a section tells: those that a proof text of it has after `rules K`
+abbrev pub section_texts : List Section → ℕ → List (List ℕ)
+section_texts sections place = pair_texts (told sections place)
+
+unfoldable pub section_text : List Section → ℕ → List ℕ
+section_text sections place = ended_lines (section_texts sections place)
+
+-- `[name]`
+abbrev pub header_text : List ℕ → List ℕ
+header_text name = codes "[" ++ (name ++ codes "]")
+
+-- a variants file of one section, which has this name and no parent, and tells what the section at the place tells
+abbrev pub told_file : List ℕ → List Section → ℕ → List ℕ
+told_file name sections place = ended_line (header_text name) ++ section_text sections place
 
 -- ---- the game
 

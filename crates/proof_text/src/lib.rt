@@ -1,5 +1,6 @@
 //! Proof texts: strategies of forced mates that stand alone. A proof text, `strategy 2`, states the rules of its
-//! variant, a game, a goal and a strategy, so that it says all that a check needs. It is read, and written.
+//! variant, a game, a goal and a strategy, so that it says all that a check needs. It is read, and written. The lines
+//! of its rules are written alone, too.
 #![tactic(auto)]
 
 mod body;
@@ -24,4 +25,4 @@ pub use source_lines::NoProof;
 pub use strategy_lines::{NoStrategy, read_strategy};
 pub use text_source::TextSource;
 pub use words::is_version;
-pub use writing::write_proof;
+pub use writing::{write_proof, write_rules};

@@ -199,6 +199,25 @@ fn push_section(
     Ok(())
 }
 
+/// Writes the lines `key = value` of the rules of a section, as a proof text of it has them after the line `rules K`:
+/// each key that has a value in the section or in one that it comes from, and each piece that it has, in byte order.
+/// Each line ends with LF. Under a header they are a variants file of the same rules: `told_rules_are_read_back` of
+/// `laws`.
+///
+/// # Errors
+///
+/// `Memory` where there was not enough.
+pub fn write_rules(alloc: Global, sections: &Sections, section: usize) -> Result<Text, Memory>
+    requires { section < length sections.now }
+    ensures { IfOk result (λ text. text ≡ Writing.section_text sections.now section) }
+{
+    let lettered = LetteredSections::new(alloc, sections)?;
+    let pairs = told(alloc, &lettered, section)?;
+    let mut items = Vec::new(alloc);
+    push_pairs(&mut items, pairs.as_slice())?;
+    Ok(Text { items })
+}
+
 /// A strategy has fewer nodes than there are addresses.
 fn prove_nodes_fit(strategy: &Strategy)
     ensures { length strategy.now.nodes < 2 ^ 64 }

@@ -1,20 +1,11 @@
 -- What the answers to problems are.
-use Rattle.std.specs.Prelude.{◌≡◌, ℕ, false, List, Option, Some, None}
+use Rattle.std.specs.Prelude.{◌≡◌, ℕ, List, Option, Some, None}
 use Rattle.std.specs.List.{AllZip}
-use Rattle.rules_model.specs.declared.board.Side.{Side}
-use Rattle.rules_model.specs.declared.rules.Rules.{Rules}
-use Rattle.rules_model.specs.Games.{Story}
-use Rattle.forced_wins.specs.Wins.{wins}
 use Rattle.mate_showing.specs.Answers.{IsShown}
 use Rattle.strategy.specs.declared.nodes.Strategy.{Strategy}
 use Rattle.suite.specs.declared.problem.Answer.{Answer}
 use Rattle.suite.specs.declared.problem.Problem.{Problem}
 use Rattle.suite.specs.Problems.{game_of, least_of}
-
--- a strategy by which the side wins the game within k moves, or none where it does not
-abbrev pub IsSettledBy : Rules → Story → Side → ℕ → Option Strategy → Type 0
-IsSettledBy rules g a k (Some s) = IsShown rules g a k s
-IsSettledBy rules g a k None = wins rules k g a ≡ false
 
 -- there is a strategy exactly where there is a number, and it is good within the number
 abbrev pub IsShownBy : Problem → Option ℕ → Option Strategy → Type 0

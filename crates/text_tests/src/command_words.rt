@@ -32,6 +32,7 @@ fn tell_command(told: &mut Vec<u8>, command: &Command) -> io::Result<()> {
         Command::Variants => write!(told, "Variants"),
         Command::Suite => write!(told, "Suite"),
         Command::PnMate(moves) => write!(told, "PnMate {moves}"),
+        Command::Keys(moves) => write!(told, "Keys {moves}"),
         Command::Reach {
             word,
             square,
@@ -43,6 +44,7 @@ fn tell_command(told: &mut Vec<u8>, command: &Command) -> io::Result<()> {
             number,
             plies,
         } => write!(told, "Generate {name}|{number}|{plies}"),
+        Command::RulesOf(name) => write!(told, "RulesOf {name}"),
     }
 }
 
@@ -69,8 +71,8 @@ fn answers(rt: &impl Abort, alloc: Global, lines: &str) -> Vec<u8> {
 fn commands_are_read(rt: HostRuntime) {
     let lines =
         "\nuci\nxboard\nmoves\nstatus\nperft|1\nperft|00000000000000000009\ncheck\nstipulate|self|1\n\
-        stipulate|help|06\nstipulate|check\nvariants\nsuite\npnmate|100\nreach|N|b1\nreach|||\nreach|N|b1|a1,a2|c3\n\
-        generate|chess|18446744073709551615|08192";
+        stipulate|help|06\nstipulate|check\nvariants\nsuite\npnmate|100\nkeys|020\nreach|N|b1\nreach|||\n\
+        reach|N|b1|a1,a2|c3\ngenerate|chess|18446744073709551615|08192\nrules|xiangqi";
     let told = answers(&rt, rt.alloc(), lines);
     let wanted = b"\
         None 1 Uci\n\
@@ -87,10 +89,12 @@ fn commands_are_read(rt: HostRuntime) {
         None 1 Variants\n\
         None 1 Suite\n\
         None 1 PnMate 100\n\
+        None 1 Keys 20\n\
         None 1 Reach N|b1|none|none\n\
         None 1 Reach |||none\n\
         None 1 Reach N|b1|a1,a2|c3\n\
-        None 1 Generate chess|18446744073709551615|8192\n";
+        None 1 Generate chess|18446744073709551615|8192\n\
+        None 1 RulesOf xiangqi\n";
     expect(&rt, told.as_slice() == wanted.as_slice());
 }
 
@@ -120,8 +124,9 @@ fn options_are_read(rt: HostRuntime) {
 fn other_words_ask_nothing(rt: HostRuntime) {
     let commands =
         "Uci\nMoves\nmoves|\nreach|N\nreach|N|b1|none|none|none\nreach|N|b1|-\nreach|-N|b1\nuci|f\n\
-        suite|f\npnmate\npnmate|101\nstipulate\nstipulate|self|0\nstipulate|help|7\nstipulate|mate|1\nperft\nperft|4|4\n\
-        perft|0\nperft|10\nperft|000000000000000000004\nxboard|1\nperft|4";
+        suite|f\nrules\nrules|a|b\nkeys|0\nkeys|21\npnmate\npnmate|101\nstipulate\nstipulate|self|0\n\
+        stipulate|help|7\nstipulate|mate|1\nperft\nperft|4|4\nperft|0\n\
+        perft|10\nperft|000000000000000000004\nxboard|1\nperft|4";
     let told = answers(&rt, rt.alloc(), commands);
     expect(&rt, told.as_slice() == b"None 1 Perft 4\n".as_slice());
     let options = "--help\n--\n--|moves\n-threads|4|moves\n--=4|moves\n--threads\n\

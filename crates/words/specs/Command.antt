@@ -30,10 +30,14 @@ pub data Command : Type 0 where
   Suite : Command
   -- `pnmate N`: a number of moves
   PnMate : ℕ → Command
+  -- `keys N`: a number of moves
+  Keys : ℕ → Command
   -- `reach WORD SQUARE [OWN [ENEMY]]`: a Betza word, a square, and the lists of own and of enemy squares
   Reach : Text → Text → Text → Text → Command
   -- `generate NAME START N`: a variant, the number from which a random game goes, and the most plies that it has
   Generate : Text → ℕ → ℕ → Command
+  -- `rules NAME`: a variant
+  RulesOf : Text → Command
 
 -- the list of no square
 abbrev pub no_squares : Text
@@ -81,6 +85,14 @@ abbrev pub pn_mate_in : List Text → Option Command
 pn_mate_in (moves ∷ []) = pn_mate_of moves
 pn_mate_in arguments = None
 
+-- from 1 to 20 moves
+abbrev pub keys_of : Text → Option Command
+keys_of moves = option_map Keys (number_in 1 20 moves)
+
+abbrev pub keys_in : List Text → Option Command
+keys_in (moves ∷ []) = keys_of moves
+keys_in arguments = None
+
 -- a list that is left out has no square
 abbrev pub reach_in : List Text → Option Command
 reach_in (word ∷ square ∷ []) = Some (Reach word square no_squares no_squares)
@@ -98,6 +110,10 @@ generate_in (name ∷ number ∷ plies ∷ []) =
     generate_by name (number_in 0 (2 ^ 64 - 1) number) (number_in 0 8192 plies)
 generate_in arguments = None
 
+abbrev pub rules_in : List Text → Option Command
+rules_in (name ∷ []) = Some (RulesOf name)
+rules_in arguments = None
+
 -- the command of this name with these arguments
 abbrev pub command_named : Text → List Text → Option Command
 command_named name arguments =
@@ -112,7 +128,9 @@ command_named name arguments =
     else (if bytes_eq name (codes "reach") then reach_in arguments
     else (if bytes_eq name (codes "generate") then generate_in arguments
     else (if bytes_eq name (codes "suite") then without_arguments Suite arguments
-    else (if bytes_eq name (codes "pnmate") then pn_mate_in arguments else None)))))))))))
+    else (if bytes_eq name (codes "pnmate") then pn_mate_in arguments
+    else (if bytes_eq name (codes "rules") then rules_in arguments
+    else (if bytes_eq name (codes "keys") then keys_in arguments else None)))))))))))))
 
 -- the command that words without options are; that of no words is the session of `uci`
 abbrev pub command_in : List Text → Option Command

@@ -5,7 +5,7 @@ use Rattle.words.specs.declared.command.Command.{Command as Given}
 use Rattle.words.specs.declared.command.Command.TheVariants as given
 use Rattle.words.specs.declared.reading.Asked.{Asked as GivenAsked}
 use Rattle.words.specs.Asked.{Asked}
-use Rattle.words.specs.Command.{Command, Uci, Xboard, Moves, Status, Perft, Check, SelfMate, HelpMate, CheckCert, Variants, Reach, Generate, Suite, PnMate}
+use Rattle.words.specs.Command.{Command, Uci, Xboard, Moves, Status, Perft, Check, SelfMate, HelpMate, CheckCert, Variants, Reach, Generate, RulesOf, Suite, PnMate, Keys}
 use Rattle.words.specs.Options.{Text}
 
 -- the text that is referred to, where there is one, and the texts
@@ -28,8 +28,10 @@ command_seen given.CheckCert = CheckCert
 command_seen given.Variants = Variants
 command_seen given.Suite = Suite
 command_seen (given.PnMate moves) = PnMate moves
+command_seen (given.Keys moves) = Keys moves
 command_seen (given.Reach word square own enemy) = Reach word.now square.now own.now enemy.now
 command_seen (given.Generate name number plies) = Generate name.now number plies
+command_seen (given.RulesOf name) = RulesOf name.now
 
 abbrev pub asked_seen : GivenAsked → Asked
 asked_seen a = record {
@@ -38,8 +40,8 @@ asked_seen a = record {
   command = command_seen a.command;
 }
 
--- a number of plies is from 1 to 9, one of moves from 1 to 6, or to 100 for `pnmate`, and a random game has at most
--- 8,192 plies
+-- a number of plies is from 1 to 9, one of moves from 1 to 6, or to 100 for `pnmate` and to 20 for `keys`, and a random
+-- game has at most 8,192 plies
 abbrev pub HasPlies : Given → Type 0
 HasPlies given.Uci = ⊤
 HasPlies given.Xboard = ⊤
@@ -53,5 +55,7 @@ HasPlies given.CheckCert = ⊤
 HasPlies given.Variants = ⊤
 HasPlies given.Suite = ⊤
 HasPlies (given.PnMate moves) = (1 ≤ moves) × (moves ≤ 100)
+HasPlies (given.Keys moves) = (1 ≤ moves) × (moves ≤ 20)
 HasPlies (given.Reach word square own enemy) = ⊤
 HasPlies (given.Generate name number plies) = plies ≤ 8192
+HasPlies (given.RulesOf name) = ⊤

@@ -2,7 +2,8 @@
 ghost use Rattle.std.specs.Prelude.{◌≡◌, ◌-◌, ◌^◌, IfSome, option_map};
 ghost use Rattle.words.specs.Command.{Reach, check_of, command_in, command_named, help_mate_of, mate_in, perft_in};
 ghost use Rattle.words.specs.Command.{perft_of, reach_in, self_mate_of, stipulate_in, without_arguments};
-ghost use Rattle.words.specs.Command.{generate_by, generate_in, pn_mate_in, pn_mate_of};
+ghost use Rattle.words.specs.Command.{RulesOf, generate_by, generate_in, keys_in, keys_of, pn_mate_in, pn_mate_of};
+ghost use Rattle.words.specs.Command.{rules_in};
 ghost use Rattle.words.specs.Number.{number_in as NumberIn};
 ghost use Rattle.words.specs.View.{HasPlies, command_seen, texts};
 
@@ -22,6 +23,9 @@ const MOST_MATE_MOVES: u64 = 6;
 
 /// The most moves that `pnmate` looks for.
 const MOST_PN_MOVES: u64 = 100;
+
+/// The most moves that `keys` looks for.
+const MOST_KEY_MOVES: u64 = 20;
 
 /// A command with its arguments.
 ///
@@ -56,6 +60,9 @@ pub enum Command<'a> {
     /// `pnmate N`: within how many moves, up to this number, from 1 to 100, the side that is to move wins the game of
     /// the game text that is the input.
     PnMate(u16),
+    /// `keys N`: the first moves with which the side that is to move wins the game of the game text that is the input,
+    /// each within how many moves, up to this number, from 1 to 20.
+    Keys(u16),
     /// `reach WORD SQUARE [OWN [ENEMY]]`: where a piece of this Betza word goes from this square. The lists of squares
     /// of own and of enemy pieces are `none` where they are left out.
     Reach {
@@ -71,6 +78,8 @@ pub enum Command<'a> {
         number: u64,
         plies: u16,
     },
+    /// `rules NAME`: the options and the pieces of the variant of this name, those that it inherits too.
+    RulesOf(&'a str),
 }
 
 // A command that takes no arguments.
@@ -170,6 +179,24 @@ fn pn_mate_in<'a>(arguments: &[&'a str]) -> Option<Command<'a>>
     }
 }
 
+fn keys_of<'a>(moves: &str) -> Option<Command<'a>>
+    ensures is { option_map command_seen result ≡ keys_of moves.now }
+    ensures plies { IfSome result HasPlies }
+{
+    let moves = number_in(1, MOST_KEY_MOVES, moves)?;
+    Some(Command::Keys(moves as u16))
+}
+
+fn keys_in<'a>(arguments: &[&'a str]) -> Option<Command<'a>>
+    ensures is { option_map command_seen result ≡ keys_in (texts arguments.now) }
+    ensures plies { IfSome result HasPlies }
+{
+    match arguments {
+        [moves] => keys_of(moves),
+        _ => None,
+    }
+}
+
 fn reach<'a>(word: &'a str, square: &'a str, own: &'a str, enemy: &'a str) -> Command<'a>
     ensures is { command_seen result ≡ Reach word.now square.now own.now enemy.now }
     ensures plies { HasPlies result }
@@ -219,6 +246,23 @@ fn generate_in<'a>(arguments: &[&'a str]) -> Option<Command<'a>>
     }
 }
 
+fn rules_of<'a>(name: &'a str) -> Command<'a>
+    ensures is { command_seen result ≡ RulesOf name.now }
+    ensures plies { HasPlies result }
+{
+    Command::RulesOf(name)
+}
+
+fn rules_in<'a>(arguments: &[&'a str]) -> Option<Command<'a>>
+    ensures is { option_map command_seen result ≡ rules_in (texts arguments.now) }
+    ensures plies { IfSome result HasPlies }
+{
+    match arguments {
+        [name] => Some(rules_of(name)),
+        _ => None,
+    }
+}
+
 fn command_named<'a>(name: &str, arguments: &[&'a str]) -> Option<Command<'a>>
     ensures is { option_map command_seen result ≡ command_named name.now (texts arguments.now) }
     ensures plies { IfSome result HasPlies }
@@ -236,6 +280,8 @@ fn command_named<'a>(name: &str, arguments: &[&'a str]) -> Option<Command<'a>>
         "generate" => generate_in(arguments),
         "suite" => without_arguments(Command::Suite, arguments),
         "pnmate" => pn_mate_in(arguments),
+        "rules" => rules_in(arguments),
+        "keys" => keys_in(arguments),
         _ => None,
     }
 }

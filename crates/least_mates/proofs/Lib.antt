@@ -1,0 +1,3 @@
+pub mod LeastFor
+mod AtOnceLaws
+mod KeyLaws

@@ -1,0 +1,4 @@
+pub mod Winning
+pub mod AtOnce
+pub mod FirstMoves
+pub mod KeysText

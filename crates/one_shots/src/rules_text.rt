@@ -1,0 +1,47 @@
+//! What `rules` prints: the lines that a variant tells of its rules.
+ghost use Rattle.std.specs.Prelude.{◌≡◌};
+ghost use Rattle.variant_rules.specs.Entries.{entries, found};
+ghost use Rattle.variant_rules.specs.View.{found_view};
+ghost use Rattle.one_shot_faults.specs.NoAnswerView.{Answers, IsUnheard};
+ghost use Rattle.one_shots.specs.RulesTold.{SaysRules, SaysTold};
+
+use crate::no_variant::{refused_variant, unknown_variant};
+use foundation::Text;
+use one_shot_faults::NoAnswer;
+use proof_text::write_rules;
+use session_model::laws::variants_have_places;
+use std::alloc::Global;
+use variant_ini::Sections;
+use variant_rules::{Found, load};
+
+// The lines, by what is found of the variant's name.
+fn rules_in(
+    alloc: Global,
+    sections: &Sections,
+    found: Found,
+    name: &str,
+) -> Result<Text, NoAnswer<'static>>
+    requires { found_view found ≡ found (entries sections.now) name.now }
+    ensures answers { Answers result (SaysTold sections.now name.now (found_view found.entry)) }
+    ensures reads_nothing { ¬ (IsUnheard result) }
+{
+    // Tells the prover that a variant that is found has a place.
+    variants_have_places();
+    match found {
+        Found::Rules(_) => {
+            let place = sections.place_of(name.as_bytes()).unwrap_or(0);
+            Ok(write_rules(alloc, sections, place)?)
+        }
+        Found::Refused(fault) => Err(refused_variant(alloc, fault)?),
+        Found::Unknown => Err(unknown_variant(alloc, name)?),
+    }
+}
+
+/// The text of `rules`: the lines `key = value` of the rules of the variant of this name, those that it inherits too.
+pub fn rules_text(alloc: Global, sections: &Sections, name: &str) -> Result<Text, NoAnswer<'static>>
+    ensures answers { Answers result (SaysRules sections.now name.now) }
+    ensures reads_nothing { ¬ (IsUnheard result) }
+{
+    let variants = load(alloc, sections)?;
+    rules_in(alloc, sections, variants.find(name.as_bytes()), name)
+}
