@@ -40,14 +40,6 @@ pub replied-once : (rules : Rules) (g : Story) (a : Side) (all : Bool) → same_
 replied-once rules g a all turn is all_is =
     all_is ∙ sym (at-once rules g a turn ∙ ap (λ o. decided o (all_end_won rules g a (legal rules (repeat_of g.last)))) is)
 
--- ---- each reply, in turn
-
-pub one-reply : (rules : Rules) (g : Story) (a : Side) (replies : List Move) (i : ℕ) (reply : Move) → i < length replies
-    → reply ≡ get_or replies i reply
-    → all_end_won rules g a (drop i replies)
-    ≡ (is_won rules (played rules g reply) a && all_end_won rules g a (drop (i + 1) replies))
-one-reply rules g a replies i reply within is = ap (all_end_won rules g a) (drop-cons replies i reply within is)
-
 -- ---- one move longer
 
 pub story-longer : (g : Played) (m : Move) → story (longer g m) ≡ played g.rules (story g) m
