@@ -1,7 +1,6 @@
 -- Winning without another move of one's own, and games that go on by a move.
-use Rattle.std.proofs.Common.{◌≡◌, ◌∙◌, ◌+◌, ◌-◌, ◌*◌, ◌<◌, ◌≤◌, ℕ, arith, Bool, true, false, not, ◌&&◌, List, [], ◌∷◌, ◌++◌, length, take, drop, get_or, drop-cons, Option, Some, None, inl, inr, refl, sym, ap, subst, length-append, if◌then◌else◌}
+use Rattle.std.proofs.Common.{◌≡◌, ◌∙◌, ◌-◌, ◌<◌, arith, Bool, false, [], ◌∷◌, ◌++◌, length, take, Option, Some, None, refl, sym, ap, length-append, if◌then◌else◌}
 use Rattle.std.proofs.Math.Seq.{take-append_seam}
-use Rattle.std.specs.List.{list_all}
 use Rattle.std.specs.Prelude.{unwrap_or}
 use Rattle.rules_model.specs.declared.board.Side.{Side}
 use Rattle.rules_model.specs.declared.board.Side.TheVariants.{White, Black}
@@ -10,7 +9,6 @@ use Rattle.rules_model.specs.declared.moves.Outcome.{Outcome}
 use Rattle.rules_model.specs.declared.rules.Rules.{Rules}
 use Rattle.rules_model.specs.Games.{Story, played, result}
 use Rattle.rules_model.specs.Legal.{legal}
-use Rattle.rules_model.specs.Next.{next}
 use Rattle.rules_model.specs.Repeats.{repeat_of}
 use Rattle.rules_model.specs.Sides.{other, same_side}
 use Rattle.rules_model.proofs.PlayLaws.{next-side}
@@ -39,14 +37,6 @@ pub replied-once : (rules : Rules) (g : Story) (a : Side) (all : Bool) → same_
     → won_by a (result rules g) ≡ None → all ≡ all_end_won rules g a (legal rules (repeat_of g.last)) → all ≡ wins rules 0 g a
 replied-once rules g a all turn is all_is =
     all_is ∙ sym (at-once rules g a turn ∙ ap (λ o. decided o (all_end_won rules g a (legal rules (repeat_of g.last)))) is)
-
--- ---- each reply, in turn
-
-pub one-reply : (rules : Rules) (g : Story) (a : Side) (replies : List Move) (i : ℕ) (reply : Move) → i < length replies
-    → reply ≡ get_or replies i reply
-    → all_end_won rules g a (drop i replies)
-    ≡ (is_won rules (played rules g reply) a && all_end_won rules g a (drop (i + 1) replies))
-one-reply rules g a replies i reply within is = ap (all_end_won rules g a) (drop-cons replies i reply within is)
 
 -- ---- one move longer
 

@@ -1,25 +1,22 @@
 -- First moves that win.
-use Rattle.std.proofs.Common.{◌≡◌, ◌∙◌, ◌+◌, ◌-◌, ◌*◌, ◌<◌, ◌≤◌, ℕ, zero, suc, arith, Bool, true, false, not, Option, Some, None, Ok, Err, inl, inr, refl, sym, ap, subst, option_map, nat_lt, nat_le, length, ◌==◌, ◌&&◌, if◌then◌else◌}
+use Rattle.std.proofs.Common.{◌≡◌, ◌∙◌, ◌+◌, ◌-◌, ◌*◌, ◌<◌, ◌≤◌, ℕ, zero, suc, arith, Bool, true, false, not, Option, Some, None, inl, inr, refl, sym, ap, subst, nat_lt, nat_le, length, ◌==◌, ◌&&◌, if◌then◌else◌}
 use Rattle.std.proofs.lemmas.Bool.{eqb-true, le-ltb, leb-false, lt-ltb, ltb-false}
 use Rattle.foundation.specs.Count.{first_below, or_else}
-use Rattle.rules_model.specs.declared.board.Side.{Side}
 use Rattle.rules_model.specs.declared.moves.Move.{Move}
 use Rattle.rules_model.specs.declared.moves.Outcome.{Outcome}
 use Rattle.rules_model.specs.declared.moves.Outcome.TheVariants.{Ongoing, Won, Drawn}
 use Rattle.rules_model.specs.declared.rules.Rules.{Rules}
 use Rattle.rules_model.specs.Ends.{is_ongoing}
 use Rattle.rules_model.specs.Games.{Story, played, result}
-use Rattle.rules_model.specs.Next.{next, next_counter}
 use Rattle.rules_model.specs.Repeats.{repeat_of}
 use Rattle.rules_model.proofs.PlayLaws.{next-counter, next_counter-up}
-use Rattle.forced_wins.specs.Wins.{IsInLimit, wins}
+use Rattle.forced_wins.specs.Wins.{IsInLimit}
 use Rattle.game_play.specs.Played.{Played, story}
 use Rattle.mate_search.specs.Least.{IsFirstWithin, first_within, if_passes, is_counted, or_later}
 use Rattle.mate_search.proofs.LeastLaws.{first-is}
 use Rattle.least_mates.specs.declared.fault.KeysFault.{KeysFault}
 use Rattle.least_mates.specs.declared.fault.KeysFault.TheVariants.{NearCount, Ended, TooLong}
 use Rattle.least_mates.specs.FirstMoves.{fault_of, most_plies}
-use Rattle.least_mates.specs.Winning.{least_for, side_wins}
 
 -- ---- from 0 on
 
@@ -28,11 +25,15 @@ or_more o b n (Some k) = refl
 or_more (Some k) b n None = refl
 or_more None b n None = refl
 
+none-later : (o : Option ℕ) → o ≡ or_later o None
+none-later (Some k) = refl
+none-later None = refl
+
 module _ (test : ℕ → Bool) where
   -- the first number from 0 to n that passes is 0, or else the first from 1 to n
   pub from-zero : (n : ℕ) → first_below test (suc n) ≡ or_later (if_passes test 0) (first_within test n)
   unfolding first_below
-  from-zero zero = refl
+  from-zero zero = none-later (if_passes test 0)
   from-zero (suc n) =
       ap (λ o. or_else o (test (suc n)) (suc n)) (from-zero n)
       ∙ or_more (first_within test n) (test (suc n)) (suc n) (if_passes test 0)

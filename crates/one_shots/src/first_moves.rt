@@ -27,7 +27,7 @@ fn keys_of<R: Wait>(
 ) -> Result<Text, NoAnswer<'static>>
     requires least { 1 ≤ moves }
     requires most { moves ≤ 20 }
-    ensures prints { Answers result (SaysKeyList (mate_keys moves game.entry)) }
+    ensures prints { Answers result (SaysKeyList (mate_keys moves game)) }
     ensures heard { ¬ (IsUnheard result) }
 {
     match mate_keys(rt, alloc, &mut game, moves)? {
