@@ -14,7 +14,7 @@ pub returns : goal.returns
 returns g c =
     let n : ℕ = lines_in c.args.plan.now in
     let bound =
-        few c.new-watch.result c.take_free.new.watch n c.take_free.result c.take_free.ensures.gone c.take_free.ensures.ended in
+    few c.new-watch.result c.take_free.new.watch n c.take_free.result c.take_free.ensures.gone c.take_free.ensures.ended in
     let none = c.new-watch.ensures.none in
     let is = c.nodes-job.ensures in
     record { sound = record { facts = c.take_free.ensures.known; nodes = omega (arith, bound, none, is) } }
