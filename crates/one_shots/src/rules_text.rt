@@ -18,16 +18,16 @@ use variant_rules::{Found, load};
 fn rules_in(
     alloc: Global,
     sections: &Sections,
-    found: Found,
+    variant: Found,
     name: &str,
 ) -> Result<Text, NoAnswer<'static>>
-    requires { found_view found ≡ found (entries sections.now) name.now }
-    ensures answers { Answers result (SaysTold sections.now name.now (found_view found.entry)) }
+    requires { found_view variant ≡ found (entries sections.now) name.now }
+    ensures answers { Answers result (SaysTold sections.now name.now (found_view variant)) }
     ensures reads_nothing { ¬ (IsUnheard result) }
 {
     // Tells the prover that a variant that is found has a place.
     variants_have_places();
-    match found {
+    match variant {
         Found::Rules(_) => {
             let place = sections.place_of(name.as_bytes()).unwrap_or(0);
             Ok(write_rules(alloc, sections, place)?)
