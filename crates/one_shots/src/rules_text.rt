@@ -22,7 +22,7 @@ fn rules_in(
     name: &str,
 ) -> Result<Text, NoAnswer<'static>>
     requires { found_view variant ≡ found (entries sections.now) name.now }
-    ensures answers { Answers result (SaysTold sections.now name.now (found_view variant)) }
+    ensures answers { Answers result (SaysTold sections.now name.now (found_view variant.entry)) }
     ensures reads_nothing { ¬ (IsUnheard result) }
 {
     // Tells the prover that a variant that is found has a place.
