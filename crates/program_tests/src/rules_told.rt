@@ -61,8 +61,8 @@ fn told<R: Abort + AllocGlobal + Threads + Wait + Sync>(
     file: &str,
     name: &str,
 ) -> MemSink {
-    let words = ["--variants", file, "rules", name].as_slice();
-    let (status, sink) = ran(rt, files, words, b"", &[], ROOM);
+    let words = ["--variants", file, "rules", name];
+    let (status, sink) = ran(rt, files, words.as_slice(), b"", &[], ROOM);
     expect_eq(rt, status, 0);
     sink
 }
