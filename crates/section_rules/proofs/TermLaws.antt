@@ -7,7 +7,7 @@ use Rattle.std.proofs.lemmas.Bool.Decides.{nat_tests, Decides-eqb}
 use Rattle.std.proofs.lemmas.List.Folds.{list_all-append}
 use Rattle.rules_model.specs.declared.rules.Way.TheVariants.{Lame}
 use Rattle.rules_model.specs.Fit.{is_within, is_lame_step, fits_way, fits_term}
-use Rattle.betza_text.specs.declared.split_part.SplitPart.{Cut}
+use Rattle.betza_text.specs.declared.split_part.SplitPart.{SplitPart}
 use Rattle.betza_text.specs.declared.fault.BetzaFault.{BetzaFault}
 use Rattle.betza_text.specs.declared.part.HopKind.{HopKind}
 use Rattle.betza_text.specs.declared.part.HopKind.TheVariants.{No, Over, Behind}
@@ -17,7 +17,7 @@ use Rattle.betza_text.specs.declared.steps.Shape.{Shape}
 use Rattle.betza_text.specs.declared.steps.Shape.TheVariants.{Orthogonal, Diagonal, Oblique, Royal, Nothing}
 use Rattle.betza_text.specs.declared.fault.BetzaFault.TheVariants.{AmbiguousDirection, BadHopper, BadLame, BadNumber, TooManyTerms, UnknownAtom}
 use Rattle.betza_text.specs.Letters.{is_atom}
-use Rattle.betza_text.specs.Cut.{cut_of, direction_place, has, place_of, is_bad_number, modifiers_of, number_place, number_said, number_value, part_of}
+use Rattle.betza_text.specs.SplitPart.{cut_of, direction_place, has, place_of, is_bad_number, modifiers_of, number_place, number_said, number_value, part_of}
 use Rattle.betza_text.specs.PartFault.{atom_fault, cut_fault, hopper_place, is_bad_count, is_bad_hopper, is_bad_lame, modifiers_fault, part_fault}
 use Rattle.betza_text.specs.Steps.{all_steps, can_be_lame, is_clear, is_far, is_rider, picks, shape_of, steps_of}
 use Rattle.betza_text.specs.Word.{first_length, first_part, first_terms, rest_of}
@@ -224,14 +224,14 @@ fourth_none false false true d w x y z rest e = cc
 fourth_none false false false true w x y z rest e = cc
 fourth_none false false false false w x y z rest e = refl
 
-no_bad_lame : (at before : ℕ) (text modifiers : List ℕ) (cut : Cut) (part : Part) → atom_fault at before text modifiers cut part ≡ None → is_bad_lame part ≡ false
+no_bad_lame : (at before : ℕ) (text modifiers : List ℕ) (cut : SplitPart) (part : Part) → atom_fault at before text modifiers cut part ≡ None → is_bad_lame part ≡ false
 unfolding atom_fault
 no_bad_lame at before text modifiers cut part e =
     fourth_none (not (is_atom part.atom)) (is_bad_count text cut) (not (is_clear (shape_of part.atom) part.dirs)) (is_bad_lame part)
     (UnknownAtom (at + cut.modifiers)) (BadNumber (at + number_place cut)) (AmbiguousDirection (at + direction_place modifiers)) (BadLame (at + place_of 110 modifiers))
     (if is_bad_hopper modifiers part then Some (BadHopper (at + hopper_place modifiers)) else if nat_lt 64 (before + length (steps_of part)) then Some (TooManyTerms (at + cut.modifiers)) else None) e
 
-part_good : (text : List ℕ) (cut : Cut) → is_bad_lame (part_of text cut) ≡ false → IsGoodPart (part_of text cut)
+part_good : (text : List ℕ) (cut : SplitPart) → is_bad_lame (part_of text cut) ≡ false → IsGoodPart (part_of text cut)
 unfolding part_of
 part_good text cut bad = record {
   number = λ n e. number_fits cut.digits (slice_index text (number_place cut)) (slice_index text (number_place cut + 1)) n e;

@@ -6,7 +6,7 @@ use Rattle.std.proofs.lemmas.List.{get_or-drop}
 use Rattle.std.proofs.lemmas.List.Folds.{length-prefix_len}
 use Rattle.betza_text.specs.declared.fault.BetzaFault.{BetzaFault}
 use Rattle.betza_text.specs.declared.part.Part.{Part}
-use Rattle.betza_text.specs.Cut.{cut_length, cut_of, digit_count, digit_place, is_doubled, modifier_count, modifiers_of, number_place, part_of}
+use Rattle.betza_text.specs.SplitPart.{cut_length, cut_of, digit_count, digit_place, is_doubled, modifier_count, modifiers_of, number_place, part_of}
 use Rattle.betza_text.specs.Letters.{is_atom, is_prefix}
 use Rattle.betza_text.specs.PartFault.{atom_fault, cut_fault, modifiers_fault, part_fault}
 use Rattle.betza_text.specs.Word.{first_length, first_part, first_terms, rest_of}

@@ -4,7 +4,7 @@ use Rattle.std.specs.Prelude.{if◌then◌else◌}
 use Rattle.std.proofs.lemmas.Bool.Decides.{nat_tests}
 use Rattle.betza_text.specs.declared.fault.BetzaFault.{BetzaFault}
 use Rattle.betza_text.specs.declared.part.Part.{Part}
-use Rattle.betza_text.specs.Cut.{cut_of, cut_length, number_place, digit_place}
+use Rattle.betza_text.specs.SplitPart.{cut_of, cut_length, number_place, digit_place}
 use Rattle.betza_text.specs.Word.{first_length, first_terms, rest_of, SpelledFrom, FaultBehind, Spells, BetzaBad}
 use Rattle.variant_options.specs.BetzaWords.{parts_from, parts_of}
 

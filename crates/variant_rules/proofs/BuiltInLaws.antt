@@ -11,8 +11,8 @@ use Rattle.rules_model.specs.Movement.{kind_reaches}
 use Rattle.rules_model.specs.Reach.{blockers, passes, reaches_over}
 use Rattle.rules_model.specs.Sound.{sound_right, sound_gate}
 use Rattle.rules_model.specs.Squares.{step_to}
-use Rattle.betza_text.specs.Cut.{modifier_count, is_doubled, digit_place, digit_count, cut_of, number_place, cut_length, number_value, is_bad_number, number_said, place_of, direction_place, hop_of, part_of}
-use Rattle.betza_text.specs.Cut.{has as has_letter}
+use Rattle.betza_text.specs.SplitPart.{modifier_count, is_doubled, digit_place, digit_count, cut_of, number_place, cut_length, number_value, is_bad_number, number_said, place_of, direction_place, hop_of, part_of}
+use Rattle.betza_text.specs.SplitPart.{has as has_letter}
 use Rattle.betza_text.specs.Legs.{legs_of}
 use Rattle.betza_text.specs.Letters.{is_prefix, is_atom, is_once, is_direction}
 use Rattle.betza_text.specs.PartFault.{modifier_fault, modifiers_fault, is_bad_count, is_bad_lame, is_bad_hopper, hopper_place, atom_fault, cut_fault, part_fault}

@@ -3,7 +3,7 @@ use Rattle.std.proofs.Common.{◌≡◌, false, refl}
 use Rattle.std.specs.Prelude.{is_some}
 use Rattle.std.specs.List.{list_any}
 use Rattle.foundation.specs.Count.{first_below}
-use Rattle.betza_text.specs.Cut.{modifier_count, is_doubled, digit_place, digit_count, cut_of, number_place, cut_length, number_value, is_bad_number, number_said, has, place_of, direction_place, hop_of, part_of}
+use Rattle.betza_text.specs.SplitPart.{modifier_count, is_doubled, digit_place, digit_count, cut_of, number_place, cut_length, number_value, is_bad_number, number_said, has, place_of, direction_place, hop_of, part_of}
 use Rattle.betza_text.specs.Letters.{is_prefix, is_atom, is_once, is_direction}
 use Rattle.betza_text.specs.PartFault.{modifier_fault, modifiers_fault, is_bad_count, is_bad_lame, is_bad_hopper, hopper_place, atom_fault, cut_fault, part_fault}
 use Rattle.betza_text.specs.Steps.{shape_of, points, is_rankwise, is_filewise, is_plain_side, leg_along, is_pair, pair_points, is_bad_pair, is_pair_to, are_pairs, are_single, is_clear, picks, steps_of, step_count, is_far, can_be_lame}

@@ -11,7 +11,7 @@ use Rattle.legality.specs.Choices.{chosen_by}
 use Rattle.legality.specs.Seeks.{SeesNone, SeesOne}
 use Rattle.legality.proofs.SeekLaws.{others_seen, seeker_sink, still_sought}
 use Rattle.legality.proofs.ToldLaws.{chosen_passes, worth-within}
-use Rattle.legality.proofs.any_sink.SeekerMoveSink.take_shifted.Goals as goal
+use Rattle.legality.proofs.any_sink.AnySinkMoveSink.take_shifted.Goals as goal
 
 pub loop-to-init : goal.loop-to-init
 loop-to-init c = record {

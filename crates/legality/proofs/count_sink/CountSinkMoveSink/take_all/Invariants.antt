@@ -4,7 +4,7 @@ use Rattle.move_sink.specs.InTurn.{GoesTo, Outside, target_of}
 use Rattle.move_sink.specs.Taking.{TakesAll}
 use Rattle.legality.specs.Choices.{chosen_by}
 use Rattle.legality.specs.Sinks.{Counted}
-use Rattle.legality.proofs.count_sink.CounterMoveSink.take_all.Given as goal
+use Rattle.legality.proofs.count_sink.CountSinkMoveSink.take_all.Given as goal
 
 abbrev pub invariant-loop-to : goal.invariant-loop-to
 invariant-loop-to l = record {

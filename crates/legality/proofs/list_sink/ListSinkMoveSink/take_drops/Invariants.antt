@@ -1,13 +1,14 @@
 use Rattle.std.proofs.Common.{◌≡◌, ℕ, true}
 use Rattle.square_set.specs.Members.{has, size}
 use Rattle.move_sink.specs.InTurn.{DropsOf, Outside, target_of}
-use Rattle.legality.specs.Counts.{CountsAll}
-use Rattle.legality.proofs.count_sink.CounterMoveSink.take_drops.Given as goal
+use Rattle.move_sink.specs.Taking.{TakesAll}
+use Rattle.legality.specs.Keeps.{Keeps}
+use Rattle.legality.proofs.list_sink.ListSinkMoveSink.take_drops.Given as goal
 
 abbrev pub invariant-loop-to : goal.invariant-loop-to
 invariant-loop-to l = record {
   within : (s : ℕ) → has l.left s ≡ true → has l.fn.targets s ≡ true;
-  taken : CountsAll (Outside (DropsOf l.kind l.fn.targets) target_of l.left) l.fn.self l.self;
+  taken : TakesAll Keeps (Outside (DropsOf l.kind l.fn.targets) target_of l.left) l.initial.self l.self;
 }
 
 abbrev pub decreases-loop-to : goal.decreases-loop-to

@@ -1,14 +1,14 @@
 use Rattle.std.proofs.Common.{◌≡◌, ℕ, true}
 use Rattle.square_set.specs.Members.{has, size}
-use Rattle.move_sink.specs.InTurn.{GoesBy, Outside, target_of}
+use Rattle.move_sink.specs.InTurn.{GoesTo, Outside, target_of}
 use Rattle.move_sink.specs.Taking.{TakesAll}
-use Rattle.legality.specs.Seeks.{SeesNone}
-use Rattle.legality.proofs.any_sink.SeekerMoveSink.take_shifted.Given as goal
+use Rattle.legality.specs.Keeps.{Keeps}
+use Rattle.legality.proofs.list_sink.ListSinkMoveSink.take_all.Given as goal
 
 abbrev pub invariant-loop-to : goal.invariant-loop-to
 invariant-loop-to l = record {
   within : (s : ℕ) → has l.left s ≡ true → has l.fn.targets s ≡ true;
-  taken : TakesAll SeesNone (Outside (GoesBy l.fn.shift l.fn.targets) target_of l.left) l.initial.self l.self;
+  taken : TakesAll Keeps (Outside (GoesTo l.fn.from l.gate l.fn.targets) target_of l.left) l.initial.self l.self;
 }
 
 abbrev pub decreases-loop-to : goal.decreases-loop-to

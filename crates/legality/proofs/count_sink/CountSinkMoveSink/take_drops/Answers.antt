@@ -7,7 +7,7 @@ use Rattle.move_sink.proofs.TurnLemmas.{turn-more}
 use Rattle.legality.specs.Choices.{chosen_by}
 use Rattle.legality.specs.Sinks.{Counted, counter_is_sink}
 use Rattle.legality.proofs.DropLaws.{told_counted}
-use Rattle.legality.proofs.count_sink.CounterMoveSink.take_drops.Goals as goal
+use Rattle.legality.proofs.count_sink.CountSinkMoveSink.take_drops.Goals as goal
 
 pub loop-to-init : goal.loop-to-init
 loop-to-init c = record {

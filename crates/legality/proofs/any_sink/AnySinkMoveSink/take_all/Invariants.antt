@@ -3,7 +3,7 @@ use Rattle.square_set.specs.Members.{has, size}
 use Rattle.move_sink.specs.InTurn.{GoesTo, Outside, target_of}
 use Rattle.move_sink.specs.Taking.{TakesAll}
 use Rattle.legality.specs.Seeks.{SeesNone}
-use Rattle.legality.proofs.any_sink.SeekerMoveSink.take_all.Given as goal
+use Rattle.legality.proofs.any_sink.AnySinkMoveSink.take_all.Given as goal
 
 abbrev pub invariant-loop-to : goal.invariant-loop-to
 invariant-loop-to l = record {

@@ -1,6 +1,6 @@
 use Rattle.std.proofs.lemmas.Result.{on_ok_weaker}
 use Rattle.legality.proofs.ShiftLaws.{both_counted}
-use Rattle.legality.proofs.count_sink.CounterMoveSink.take_shifted.Goals as goal
+use Rattle.legality.proofs.count_sink.CountSinkMoveSink.take_shifted.Goals as goal
 
 pub returns-clause-ok : goal.returns-clause-ok
 returns-clause-ok c =

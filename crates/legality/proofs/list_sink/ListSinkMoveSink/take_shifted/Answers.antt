@@ -11,7 +11,7 @@ use Rattle.legality.specs.Choices.{chosen_by}
 use Rattle.legality.specs.Keeps.{Keeps}
 use Rattle.legality.proofs.ListSinkLaws.{keeper_sink, nothing_kept, others_taken, still_chosen}
 use Rattle.legality.proofs.ToldLaws.{chosen_passes, worth-within}
-use Rattle.legality.proofs.list_sink.KeeperMoveSink.take_shifted.Goals as goal
+use Rattle.legality.proofs.list_sink.ListSinkMoveSink.take_shifted.Goals as goal
 
 pub loop-to-init : goal.loop-to-init
 loop-to-init c = record {

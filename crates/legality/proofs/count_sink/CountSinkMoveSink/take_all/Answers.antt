@@ -10,7 +10,7 @@ use Rattle.legality.specs.Choices.{chosen_by}
 use Rattle.legality.specs.Sinks.{Counted, counter_is_sink}
 use Rattle.legality.proofs.AllMade.{made-lists, made_below}
 use Rattle.legality.proofs.GoLaws.{counted_those}
-use Rattle.legality.proofs.count_sink.CounterMoveSink.take_all.Goals as goal
+use Rattle.legality.proofs.count_sink.CountSinkMoveSink.take_all.Goals as goal
 
 pub returns-in-Some-clause-ok : goal.returns-in-Some-clause-ok
 returns-in-Some-clause-ok c =
