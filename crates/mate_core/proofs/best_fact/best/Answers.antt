@@ -1,6 +1,6 @@
 use Rattle.std.proofs.Common.{None, ◌∙◌}
 use Rattle.mate_core.proofs.AnswerLemmas.{best-fold}
-use Rattle.mate_core.proofs.best.best.Goals as goal
+use Rattle.mate_core.proofs.best_fact.best.Goals as goal
 
 pub returns : goal.returns
 returns c =

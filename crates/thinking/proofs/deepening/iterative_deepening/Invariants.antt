@@ -4,7 +4,7 @@ use Rattle.rules_model.specs.declared.moves.Move.{Move}
 use Rattle.session_model.specs.UciSession.{first_of}
 use Rattle.thinking.specs.Depths.{Deepening}
 use Rattle.thinking.specs.Views.{kept_seen, task_seen}
-use Rattle.thinking.proofs.iterative_deepening.iterative_deepening.Given as goal
+use Rattle.thinking.proofs.deepening.iterative_deepening.Given as goal
 
 abbrev pub invariant-loop-done : goal.invariant-loop-done
 invariant-loop-done g l = record {

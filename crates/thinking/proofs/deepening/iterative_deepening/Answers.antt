@@ -3,7 +3,7 @@ use Rattle.std.specs.Option.{option_map}
 use Rattle.session_model.specs.UciSession.{first_of}
 use Rattle.thinking.specs.Views.{kept_seen, task_seen}
 use Rattle.thinking.proofs.DepthLaws.{deepening_broke, deepening_left, deepening_more, deepening_none, deepening_off, first_read}
-use Rattle.thinking.proofs.iterative_deepening.iterative_deepening.Goals as goal
+use Rattle.thinking.proofs.deepening.iterative_deepening.Goals as goal
 
 pub loop-done-init : goal.loop-done-init
 loop-done-init g c = record {
