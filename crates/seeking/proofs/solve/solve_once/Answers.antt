@@ -1,5 +1,9 @@
-use Rattle.std.proofs.Common.{arith, rules}
+use Rattle.std.proofs.Common.{IfOk, ◌∙◌, ap, arith, rules, subst}
+use Rattle.rules_model.specs.declared.board.Side.{Side}
 use Rattle.fact_lock.specs.Passes.{all_parts}
+use Rattle.game_play.specs.Played.{story}
+use Rattle.mate_core.specs.declared.frame.Frame.{Frame}
+use Rattle.mate_showing.specs.Answers as Solved
 use Rattle.seeking.proofs.AnswerLaws.{right_by}
 use Rattle.seeking.proofs.CutLaws.{sought_memory}
 use Rattle.seeking.proofs.solve.solve_once.Goals as goal
@@ -40,4 +44,8 @@ returns-clause-sought g c = record {
 
 pub returns-clause-right : goal.returns-clause-right
 returns-clause-right g c =
-    right_by c.args.game.now c.args.n c.args.attacker c.solve_watched-passes.result.1 c.solve_watched-passes.ensures.right
+    let game = c.args.game.now in
+    let solved = c.solve_watched-passes.result.1 in
+    let same = ap (λ (f : Frame). f.attacker) (c.into_parts-shards.ensures.frame ∙ c.in_ok-take_facts.ensures.frame) ∙ c.in_ok-frame.ensures.attacker_is in
+    right_by game c.args.n c.args.attacker solved
+    (subst (λ (a : Side). IfOk solved (Solved.IsRight game.rules (story game) a c.args.n)) same c.solve_watched-passes.ensures.right)
