@@ -87,11 +87,11 @@ impl Game {
         let (rules, p) = (self.rules(), self.position());
         let sets = sets_of(rules, &p.cells, p.side);
         if plies == 1 {
-            return Ok(count_moves(rules, &self.tables, p, &sets));
+            return Ok(count_moves(rules, self.tables(), p, &sets));
         }
         let mut moves = MoveList {
             items: Vec::new(alloc),
         };
-        count_lines(rules, &self.tables, p, &sets, plies, &mut moves)
+        count_lines(rules, self.tables(), p, &sets, plies, &mut moves)
     }
 }

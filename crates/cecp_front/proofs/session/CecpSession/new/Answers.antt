@@ -10,9 +10,3 @@ unreachable-requires c =
     let chess = has_chess c.args.sections c.requires.begins in
     found_chess c.find.result chess.0
     (c.find.ensures.is ∙ ap (λ variants. found variants (codes "chess")) c.requires.loaded ∙ chess.1) c.in-Refused.is
-
-pub returns : goal.returns
-returns c =
-    begins c.args.sections c.in-Rules.rules.now
-    (sym (ap (λ variants. found variants (codes "chess")) c.requires.loaded) ∙ sym c.in-Rules.ensures.is)
-    ∙ ap (λ game. Some (record (state_by c.args.sections c.in-Rules.rules.now) { game = game })) (sym c.in_ok-game-in-Rules.ensures)
