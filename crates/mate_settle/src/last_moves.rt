@@ -100,7 +100,13 @@ fn leaves_step(frame: &Frame, board: &Board, m: &Move, flights: &mut KnownFlight
     ensures flights { AreFlights board.now flights.new }
     ensures vain { OnTrue result (In.near_in frame.now 0 (next frame.now.rules board.now.position m.now) ≡ false) }
 {
-    !frame.rules.check_counting && flights.left_open(board, m).is_some()
+    if frame.rules.check_counting {
+        return false;
+    }
+    match flights.left_open(board, m) {
+        Some(_) => true,
+        None => false,
+    }
 }
 
 /// Whether it is known before the attacker's move is made that it does not win at once: only checks do, and it gives
