@@ -128,7 +128,12 @@ fn is_vain(
     ensures vain { OnTrue result (In.near_in frame.now 0 (next frame.now.rules board.now.position m.now) ≡ false) }
 {
     match checks {
-        Some(checks) => { !may_check(board, &checks, m) || leaves_step(frame, board, m, flights) }
+        Some(checks) => {
+            if !may_check(board, &checks, m) {
+                return true;
+            }
+            leaves_step(frame, board, m, flights)
+        }
         None => false,
     }
 }
