@@ -72,7 +72,7 @@ module _ (rules : Rules) (side : Side) (kind : Kind) (cells : List (Option Cell)
       (λ w f. subst (P s) (sym (come.others s f e)) (other s w q)))
 
   module _ (occupied moved : Set) (is : IsOccupied occupied cells) (gone : IsMoved occupied from to moved) where
-    later_occupied : IsOccupied moved later
+    pub later_occupied : IsOccupied moved later
     later_occupied s =
         gone s ∙ by_place (λ t c. ((has occupied t && not (t == from)) || (t == to)) ≡ is_some c)
         (taken_there (has occupied to) (not (to == from)) (to == to) (eq-eqb to to refl))

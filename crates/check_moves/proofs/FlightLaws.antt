@@ -32,11 +32,11 @@ use Rattle.rules_model.specs.Sides.{other, same_side}
 use Rattle.rules_model.specs.Squares.{cell_at}
 use Rattle.rules_model.proofs.LegalLaws.{member-legal}
 use Rattle.square_set.specs.declared.Set.{Set}
-use Rattle.square_set.specs.Members.{IsWithout, has}
+use Rattle.square_set.specs.Members.{IsWith, IsWithout, has}
 use Rattle.square_set.proofs.Cases.{by_bool, by_equal}
 use Rattle.move_tables.specs.declared.mode.Mode.TheVariants.{Quiet, Take}
 use Rattle.move_tables.specs.Occupied.{AreKings, IsOccupied}
-use Rattle.move_tables.specs.Reached.{reaches_as}
+use Rattle.move_tables.specs.Reached.{AreReached, reaches_as}
 use Rattle.attack_tables.proofs.AttackLaws.{attacks_by_parts, king_at, no_king_at, other_other}
 use Rattle.attack_tables.proofs.MaskLaws.{from_man, from_none}
 use Rattle.pins.specs.Guards.{IsMoved}
@@ -44,9 +44,11 @@ use Rattle.sound_play.proofs.CellLemmas.{cell_at-set_other, cell_at-set_same, mo
 use Rattle.legality.specs.Stance.{Stance, repeat_in}
 use Rattle.legality.proofs.PinLaws.{not_passing}
 use Rattle.check_moves.specs.declared.flights.Flight.{Flight}
+use Rattle.check_moves.specs.declared.flights.LoneKing.{LoneKing}
 use Rattle.check_moves.specs.Checks.{ComesTo, ReachesNone}
-use Rattle.check_moves.specs.Flights.{IsFlight, IsOnlyKing, IsOpen, LeavesStep, StaysOpen, are_steps_plain, carried, is_castling_step, repeat_after, step_of}
-use Rattle.check_moves.proofs.ComeLaws.{by_place, dropped, goes, kept_there, left_there, no_other_king, same_is, taken_there, went}
+use Rattle.check_moves.specs.Shut.{AreShut}
+use Rattle.check_moves.specs.Flights.{IsFlight, IsLoneKing, IsOnlyKing, IsOpen, LeavesStep, StaysOpen, are_steps_plain, carried, is_castling_step, repeat_after, step_of}
+use Rattle.check_moves.proofs.ComeLaws.{by_place, dropped, goes, kept_there, later_occupied, left_there, no_other_king, same_is, taken_there, went}
 
 unlike : (a b : ℕ) → (a == b) ≡ false → a ≢ b
 unlike a b n e = let t : (a == b) ≡ true = eq-eqb a b e in cc
@@ -333,3 +335,34 @@ king-alone s kings rest at are without none t k =
 
 pub of-king : (rules : Rules) (side : Side) (c : Cell) → is_own_king rules side (Some c) ≡ true → c.side ≡ side
 of-king rules side c k = same_is c.side side (and_parts (same_side c.side side) (is_king rules c.kind) k).0
+
+-- ---- what the sets of the code say
+
+pub moved-by : (old left new : Set) (from to : ℕ) → IsWithout old from left → IsWith left to new → IsMoved old from to new
+moved-by old left new from to without with t = with t ∙ ap (λ (b : Bool). b || (t == to)) (without t)
+
+module _ (s : Stance) (flight : Flight) (is : IsFlight s flight) (kind : Kind) (from to : ℕ) (from_king : (from == flight.king.at) ≡ false) (from_at : (from == flight.to) ≡ false) (to_king : (to == flight.king.at) ≡ false) (to_at : (to == flight.to) ≡ false) (closed : has flight.shut from ≡ true) where
+  -- no line is opened, the piece does not attack the square, and the king reaches it
+  pub stays-open : (occupied later_set reach moved_on : Set) → IsOccupied occupied s.position.cells → IsMoved occupied from to later_set → AreReached s.rules (other s.position.side) flight.king.kind (record { 0 = flight.king.at }) Quiet later_set reach → has reach flight.to ≡ true → IsMoved flight.stepped from to moved_on → ReachesNone s.rules s.position.side kind to moved_on flight.target → StaysOpen s flight kind from to
+  stays-open occupied later_set reach moved_on all went_on are hit gone none later long come = record {
+    stays = king_stays s flight is kind from to from_king from_at to_king to_at later long come;
+    empty = stays_empty s flight is kind from to from_king from_at to_king to_at later long come;
+    reached = sym (are later (later_occupied s.rules s.position.side kind s.position.cells from to later come occupied later_set all went_on) flight.to) ∙ hit;
+    safe = is_safe_there s flight is kind from to from_king from_at to_king to_at later long come moved_on gone closed none;
+  }
+
+-- a step to an empty square, as the code makes it
+pub flight-of : (s : Stance) (king : LoneKing) (to : ℕ) (occupied left stepped target closed : Set) → IsLoneKing s king → to < 120 → is_some (cell_at s.position.cells to) ≡ false → is_castling_step s.rules (other s.position.side) king.at to ≡ false → IsOccupied occupied s.position.cells → IsWithout occupied king.at left → IsWith left to stepped → has target to ≡ true → AreShut s.rules s.position.side s.position.cells stepped target closed → IsFlight s (record { king = king; to = to; target = target; stepped = stepped; shut = closed })
+flight-of s king to occupied left stepped target closed lone small empty no_castling all without with aim are = record {
+  king = lone;
+  small = small;
+  empty = no_piece (cell_at s.position.cells to) empty;
+  no_castling = no_castling;
+  target = aim;
+  stepped = λ t. moved-by occupied left stepped king.at to without with t ∙ ap (λ (b : Bool). (b && not (t == king.at)) || (t == to)) (all t);
+  shut = are;
+}
+  where
+    no_piece : (c : Option Cell) → is_some c ≡ false → c ≡ None
+    no_piece None e = refl
+    no_piece (Some c) e = cc
