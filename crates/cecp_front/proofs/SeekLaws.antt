@@ -30,7 +30,7 @@ use Rattle.session_model.specs.Thinking.{Task, Report, Score, Points, Mates, Mat
 use Rattle.session_model.specs.UciSession.{first_of}
 use Rattle.thinking.specs.Depths.{BrokeOff, Deepened}
 use Rattle.thinking.specs.Tells.{Tells}
-use Rattle.thinking.specs.declared.iterative_deepening.Depths.{Depths}
+use Rattle.thinking.specs.declared.deepening.Depths.{Depths}
 use Rattle.thinking.specs.declared.style.Style.{Style}
 use Rattle.turning.specs.Lines.{none}
 use Rattle.cecp_front.specs.Thought.{BrokeSeeking, IsFirst, Sought, style_of}

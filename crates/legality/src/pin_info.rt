@@ -226,7 +226,7 @@ impl<'a> PinInfo<'a> {
 
     /// Whether it is told at once that a piece that goes from the square, and stays what it is, may go to none of these
     /// squares.
-    #[tactic(auto, using(crate::proofs::SafetyLaws::not_safe_not_sane))]
+    #[tactic(auto, using(crate::proofs::PinLaws::not_safe_not_sane))]
     pub fn bars_go(&self, from: Square, targets: Set) -> bool
         requires from { from.0 < 120 }
         ensures { OnTrue result (Moved.MayNotGo self.now.tables.now (repeat_of self.now.p.now) from targets) }

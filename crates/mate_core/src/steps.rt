@@ -3,7 +3,7 @@ ghost use Rattle.std.specs.Prelude.{◌≡◌, IfOk, OnOk, slice_get, Some};
 ghost use Rattle.mate_core.specs.Steps as Steps;
 ghost use Rattle.mate_core.specs.Runs.{IsReached, IsAllowed, HoldsTruth};
 
-use crate::best::{best, has_better};
+use crate::best_fact::{best, has_better};
 use crate::event::{Event, Reply};
 use crate::store::{FactList, Known, Store};
 use forced_wins::Fact;

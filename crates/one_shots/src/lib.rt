@@ -8,12 +8,14 @@ mod generating;
 mod laws;
 mod opening;
 mod pn_mate_text;
+mod refereed;
 mod rules_told;
 mod sections;
 mod suite_text;
 mod unfound;
 mod variants;
 
-pub use answers::{Answer, answer_of, answer_to};
+pub use answers::{Answer, answer_of, answer_refereed, answer_to};
 pub use laws::words_have_one_answer;
 pub use opening::{Opened, open};
+pub use refereed::is_refereed;

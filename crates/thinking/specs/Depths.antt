@@ -19,7 +19,7 @@ use Rattle.thinking.specs.Cuts.{CutsBy, IsEndedBy}
 use Rattle.thinking.specs.Judging.{bound_at, search_at, solve_cut, solve_reach}
 use Rattle.thinking.specs.Tells.{BrokeHeld, Tells}
 use Rattle.thinking.specs.Views.{kept_seen, report_of}
-use Rattle.thinking.specs.declared.iterative_deepening.Depths.{Depths}
+use Rattle.thinking.specs.declared.deepening.Depths.{Depths}
 use Rattle.thinking.specs.declared.depth.Depth.{Depth}
 use Rattle.thinking.specs.declared.depth.Depth.TheVariants.{Done, Off}
 use Rattle.thinking.specs.declared.style.Style.{Style}

@@ -2,9 +2,9 @@
 //! and the strategies that show them; mates that are looked for within 1, 2, .. moves; and what cuts all this.
 #![tactic(auto)]
 
+mod deepening;
 mod depth;
 mod found;
-mod iterative_deepening;
 mod judging;
 mod lines;
 mod mates;
@@ -12,9 +12,9 @@ mod scores;
 mod style;
 mod task;
 
+pub use deepening::{Depths, iterative_deepening};
 pub use depth::{Depth, search_depth};
 pub use found::{CutSolve, Evidence, Found, Kept, Score, evidence_at};
-pub use iterative_deepening::{Depths, iterative_deepening};
 pub use judging::{DepthJudged, DepthSearched, search_and_judge, seek_mate};
 pub use lines::{depth_line, depth_lines, unsettled_line};
 pub use mates::{Tried, try_mates};

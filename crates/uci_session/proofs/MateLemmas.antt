@@ -32,7 +32,7 @@ use Rattle.session_model.specs.UciTexts.{best_line, depth_lines, stopped_line}
 use Rattle.strategy.specs.declared.nodes.Strategy.{Strategy}
 use Rattle.thinking.proofs.CutLaws.{cuts_as}
 use Rattle.thinking.specs.Cuts.{CutsBy, cause_of}
-use Rattle.thinking.specs.declared.iterative_deepening.Depths.{Depths}
+use Rattle.thinking.specs.declared.deepening.Depths.{Depths}
 use Rattle.thinking.specs.declared.mates.Tried.{Tried}
 use Rattle.thinking.specs.declared.mates.Tried.TheVariants as tried
 use Rattle.thinking.specs.declared.style.Style.TheVariants as style

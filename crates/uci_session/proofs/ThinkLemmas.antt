@@ -27,7 +27,7 @@ use Rattle.session_model.specs.UciSession.{Goes, GoesNowhere, announced, first_o
 use Rattle.session_model.specs.UciState.{State}
 use Rattle.session_model.specs.UciTexts.{best_line}
 use Rattle.thinking.specs.Cuts.{IsEndedBy}
-use Rattle.thinking.specs.declared.iterative_deepening.Depths.{Depths}
+use Rattle.thinking.specs.declared.deepening.Depths.{Depths}
 use Rattle.thinking.specs.declared.found.Kept.{Kept}
 use Rattle.thinking.specs.declared.style.Style.TheVariants as style
 use Rattle.thinking.specs.Depths.{BrokeOff, Deepened}

@@ -1,5 +1,0 @@
-use Rattle.mate_core.proofs.AnswerLemmas.{as_good-decides}
-use Rattle.mate_core.proofs.best.as_good_facts_serve_as_much.Goals as goal
-
-pub returns : goal.returns
-returns c = as_good-decides

@@ -1,0 +1,2 @@
+pub mod Refereed
+pub mod Replies

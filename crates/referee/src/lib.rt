@@ -1,0 +1,9 @@
+//! The referee in memory: the commands of the program that one thread works out without waiting, over bytes that are
+//! given.
+#![tactic(auto)]
+
+mod answering;
+mod given_file;
+mod word_list;
+
+pub use answering::{Reply, answer};
