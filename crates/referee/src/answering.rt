@@ -50,7 +50,7 @@ fn answer_opened(alloc: Global, opened: &Opened, input: &[u8]) -> Result<Reply, 
 /// # Errors
 ///
 /// There was no memory.
-pub fn answer(
+pub fn reply_to(
     alloc: Global,
     words: &[u8],
     file: Option<&[u8]>,

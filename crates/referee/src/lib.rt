@@ -6,4 +6,4 @@ mod answering;
 mod given_file;
 mod word_list;
 
-pub use answering::{Reply, answer};
+pub use answering::{Reply, reply_to};

@@ -4,7 +4,7 @@
 ghost use Rattle.referee.specs.Refereed.{words_of};
 ghost use Rattle.referee_c.specs.Written.{Answers, Tells, file_of};
 
-use referee::{Reply as Refereed, answer};
+use referee::{Reply as Refereed, reply_to};
 use std::alloc::Global;
 
 /// The status where a referee does not answer the command.
@@ -52,7 +52,7 @@ pub extern "C" fn vengine_answer(
     ensures { Answers (words_of words.now) (file_of has_file file.now) input.now room.old room.new result }
 {
     let file = if has_file { Some(file) } else { None };
-    match answer(alloc, words, file, input) {
+    match reply_to(alloc, words, file, input) {
         Ok(Refereed::Said(answer)) => write(answer.status, answer.text.items.as_slice(), room),
         Ok(Refereed::NotRefereed) => Reply {
             length: 0,
