@@ -84,12 +84,22 @@ module _ (rules : Rules) where
       let at : length ps - 1 ≡ length s.earlier = omega arith in
       ap (λ j. get_or ps j d) at ∙ ap (λ qs. get_or qs (length s.earlier) d) h.are_positions ∙ get_or-append_seam s.earlier s.last [] d
 
-  pub kept-ready : (ps : List Position) (ms : List Move) → IsKept rules ps ms → (x : Position) → x ≡ (story (played_of rules ps ms)).last → (r : Rules) → r ≡ rules → IsReady r rules x
-  kept-ready ps ms h x is r same = record {
-    fit = subst IsFit (sym same) h.by_rules.fit;
-    tables = sym same;
-    sound = subst (λ (s : Rules). is_sound s x ≡ true) (sym same) (subst (λ (q : Position). is_sound rules q ≡ true) (sym is) (played-last-sound (played_of rules ps ms) h.by_rules));
-  }
+  -- rules and tables are those of the game, by whatever name a call has for them
+  pub kept-ready : (ps : List Position) (ms : List Move) → IsKept rules ps ms → (x : Position) → x ≡ (story (played_of rules ps ms)).last
+      → (r made : Rules) → made ≡ rules → r ≡ made → IsReady r made x
+  kept-ready ps ms h x is r made same_made same_r =
+      let same : r ≡ rules = same_r ∙ same_made in
+      record {
+        fit = subst IsFit (sym same) h.by_rules.fit;
+        tables = sym same_r;
+        sound = subst (λ (s : Rules). is_sound s x ≡ true) (sym same) (subst (λ (q : Position). is_sound rules q ≡ true) (sym is) (played-last-sound (played_of rules ps ms) h.by_rules));
+      }
+
+  -- what is legal in the last position is legal in the game
+  pub kept-legal : (ps : List Position) (ms : List Move) (g : Played) → played_of rules ps ms ≡ g → (r : Rules) (x : Position) → r ≡ rules → x ≡ (story (played_of rules ps ms)).last
+      → legal r (repeat_of x) ≡ legal_in g
+  kept-legal ps ms g is r x er ex =
+      ap (λ (s : Rules). legal s (repeat_of x)) er ∙ ap (λ (q : Position). legal rules (repeat_of q)) ex ∙ ap legal_in is
 
   pub kept-few : (ps : List Position) (ms : List Move) → IsKept rules ps ms → length ps ≤ 8193
   kept-few ps ms h = let c = kept-count ps ms h in let f = h.by_rules.few in omega arith

@@ -1,4 +1,5 @@
 //! A game that is kept: its rules, moves and positions.
+ghost use Rattle.std.specs.Arc.{arc_value};
 ghost use Rattle.std.specs.Prelude.{◌≡◌, ◌≤◌, true, IfOk, [], length};
 ghost use Rattle.rules_model.specs.Fit.{IsFit};
 ghost use Rattle.rules_model.specs.Games as Games;
@@ -10,6 +11,7 @@ use attack_tables::Tables;
 use rules_model::{Memory, Move, Position, Rules};
 use std::alloc::Global;
 use std::marker::Model;
+use std::sync::Arc;
 
 /// How many plies a game keeps at most.
 pub const MOST_PLIES: usize = 8192;
@@ -18,20 +20,22 @@ pub const MOST_PLIES: usize = 8192;
 /// position is kept for each ply, some 600 bytes.
 #[derive(Drop)]
 pub struct Game {
-    pub(crate) tables: Tables,
+    /// The tables of its rules, which it shares with the games that `another` began.
+    pub(crate) tables: Arc<Tables, Global>,
     /// The position from which it started, and the one after each move.
     pub(crate) standings: Standings,
     pub(crate) moves: Vec<Move>,
 }
 
 impl Model for Game {
+    ghost use Rattle.std.specs.Arc.{arc_value};
     ghost use Rattle.game_play.specs.Played.{Played, played_of, IsKept};
 
     ghost Value = { Played };
 
-    ghost view = { λ g. played_of g.tables g.standings g.moves.items };
+    ghost view = { λ g. played_of (arc_value g.tables) g.standings g.moves.items };
 
-    ghost invariant = { λ g. IsKept g.tables g.standings g.moves.items };
+    ghost invariant = { λ g. IsKept (arc_value g.tables) g.standings g.moves.items };
 }
 
 impl Game {
@@ -41,7 +45,30 @@ impl Game {
         requires sound { is_sound rules.now start.now ≡ true }
         ensures { IfOk result (λ g. g ≡ record { rules = rules.now; start = start.now; moves = [] }) }
     {
-        let tables = Tables::new(alloc, rules)?;
+        let tables = Arc::new(alloc, Tables::new(alloc, rules)?)?;
+        Game::of_tables(alloc, tables, start)
+    }
+
+    /// Another game by the same rules, which starts from the position, with no move played, or `Memory`. It shares the
+    /// tables of the rules with this one: to make them is nearly all of what `new` takes time for.
+    pub fn another(&self, alloc: Global, start: &Position) -> Result<Game, Memory>
+        requires sound { is_sound self.now.rules start.now ≡ true }
+        ensures { IfOk result (λ g. g ≡ record { rules = self.now.rules; start = start.now; moves = [] }) }
+    {
+        let tables = Arc::try_clone(&self.tables)?;
+        Game::of_tables(alloc, tables, start)
+    }
+
+    // The game that starts from the position, by the rules of these tables.
+    fn of_tables(
+        alloc: Global,
+        tables: Arc<Tables, Global>,
+        start: &Position,
+    ) -> Result<Game, Memory>
+        requires fit { IsFit (arc_value tables) }
+        requires sound { is_sound (arc_value tables) start.now ≡ true }
+        ensures { IfOk result (λ g. g ≡ record { rules = arc_value tables; start = start.now; moves = [] }) }
+    {
         let standings = Standings::new(alloc, start)?;
         Ok(Game {
             tables,

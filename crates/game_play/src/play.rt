@@ -40,16 +40,17 @@ impl Game {
         ensures played { OnOk result (self.new ≡ longer self.old m.now) }
         ensures refused { OnErr result (self.new ≡ self.old) }
     {
-        let rules = self.tables.rules();
+        let tables = &*self.tables;
+        let rules = tables.rules();
         let last = self.standings.last();
-        if !is_legal(rules, &self.tables, last, m) {
+        if !is_legal(rules, tables, last, m) {
             return Err(PlayFault::Illegal);
         }
         if self.moves.len() >= MOST_PLIES {
             return Err(PlayFault::TooLong);
         }
         let mut next = *last;
-        apply(rules, &self.tables, &mut next, m);
+        apply(rules, tables, &mut next, m);
         append(&mut self.standings, &mut self.moves, &next, m)?;
         Ok(())
     }

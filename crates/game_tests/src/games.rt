@@ -72,6 +72,21 @@ fn moves_are_played_and_taken_back(rt: HostRuntime) {
     expect_eq(&rt, game.repeats(game.position()), 1);
 }
 
+// It goes on by the tables that it shared, once the first game is gone.
+#[test]
+fn another_game_has_moves_of_its_own(rt: HostRuntime) {
+    let alloc = rt.alloc();
+    let game = chess_game(&rt, alloc, &position(KINGS), ROUND);
+    let mut other = game
+        .another(alloc, game.position())
+        .expect(&rt, "no fault");
+    expect_eq(&rt, other.play(&go("e1d1")), Ok(()));
+    expect_eq(&rt, (game.moves().len(), other.moves().len()), (4, 1));
+    drop(game);
+    expect_eq(&rt, other.play(&go("e8e6")), Err(PlayFault::Illegal));
+    expect_eq(&rt, other.play(&go("e8d8")), Ok(()));
+}
+
 #[test]
 fn a_game_knows_its_rules(rt: HostRuntime) {
     let game = chess_game(&rt, rt.alloc(), &position(KINGS), "");

@@ -1,3 +1,4 @@
+use Rattle.std.specs.Arc.{arc_value}
 use Rattle.std.proofs.Common.{length, ap, ◌∙◌, arith}
 use Rattle.rules_model.specs.Games.{history}
 use Rattle.game_play.specs.Played.{Played, story, keys_of}
@@ -11,7 +12,7 @@ returns-clause-is c = c.keys.ensures ∙ ap keys_of c.self.invariant.are_positio
 pub returns-clause-few : goal.returns-clause-few
 returns-clause-few c =
     let i = c.self.inside in
-    let few = kept-few i.tables i.standings i.moves.items c.self.invariant in
+    let few = kept-few (arc_value i.tables) i.standings i.moves.items c.self.invariant in
     let same = keys-length i.standings in
     let all = ap length c.keys.ensures in
     omega arith

@@ -1,3 +1,4 @@
+use Rattle.std.specs.Arc.{arc_value}
 use Rattle.std.proofs.Common.{◌≡◌, length, ap, ◌∙◌, arith}
 use Rattle.rules_model.specs.Games.{history, times}
 use Rattle.rules_model.specs.Repeats.{repeat_of}
@@ -13,7 +14,7 @@ returns-clause-is c =
 pub returns-clause-few : goal.returns-clause-few
 returns-clause-few c =
     let i = c.self.inside in
-    let count = kept-count i.tables i.standings i.moves.items c.self.invariant in
+    let count = kept-count (arc_value i.tables) i.standings i.moves.items c.self.invariant in
     let same : length i.moves.items ≡ length c.args.self.now.moves = ap (λ (g : Played). length g.moves) c.self.view_is in
     let few = c.times.ensures.few in
     omega arith
