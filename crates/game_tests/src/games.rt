@@ -77,9 +77,7 @@ fn moves_are_played_and_taken_back(rt: HostRuntime) {
 fn another_game_has_moves_of_its_own(rt: HostRuntime) {
     let alloc = rt.alloc();
     let game = chess_game(&rt, alloc, &position(KINGS), ROUND);
-    let mut other = game
-        .another(alloc, game.position())
-        .expect(&rt, "no fault");
+    let mut other = game.another(alloc, game.position()).expect(&rt, "no fault");
     expect_eq(&rt, other.play(&go("e1d1")), Ok(()));
     expect_eq(&rt, (game.moves().len(), other.moves().len()), (4, 1));
     drop(game);
