@@ -10,12 +10,13 @@ use Rattle.rules_model.specs.declared.board.Side.{Side}
 use Rattle.rules_model.specs.declared.board.Side.TheVariants.{White, Black}
 use Rattle.rules_model.specs.declared.board.Square.{Square}
 use Rattle.rules_model.specs.declared.moves.Move.TheVariants.{Go, Drop}
+use Rattle.rules_model.specs.declared.moves.Promo.{Promo}
 use Rattle.rules_model.specs.declared.moves.Promo.TheVariants.{Stays}
 use Rattle.rules_model.specs.declared.rules.Rules.{Rules}
 use Rattle.rules_model.specs.Attacks.{attacks, attacks_from, is_own_king, king_attacked, king_attacked_at}
 use Rattle.rules_model.specs.Kinds.{is_king}
 use Rattle.rules_model.specs.Legal.{gives_check}
-use Rattle.rules_model.specs.Next.{cells_after, emptied, fresh, next_repeat, promote}
+use Rattle.rules_model.specs.Next.{after_promo, cells_after, emptied, fresh, next_repeat, promote}
 use Rattle.rules_model.specs.Pawns.{behind, is_ep, passes_by}
 use Rattle.rules_model.specs.Sides.{other, same_side}
 use Rattle.rules_model.specs.Squares.{cell_at}
@@ -35,16 +36,16 @@ use Rattle.check_moves.specs.Checks.{AreChecks, ComesQuietly, ComesTo, ReachesNo
 
 -- ---- squares that are left and entered
 
-taken_there : (b c d : Bool) → d ≡ true → ((b && c) || d) ≡ true
+pub taken_there : (b c d : Bool) → d ≡ true → ((b && c) || d) ≡ true
 taken_there true true d e = refl
 taken_there true false d e = e
 taken_there false c d e = e
 
-left_there : (b c d : Bool) → c ≡ true → d ≡ false → ((b && not c) || d) ≡ false
+pub left_there : (b c d : Bool) → c ≡ true → d ≡ false → ((b && not c) || d) ≡ false
 left_there true c d e f = rw (e, f) refl
 left_there false c d e f = f
 
-kept_there : (b c d : Bool) → c ≡ false → d ≡ false → ((b && not c) || d) ≡ b
+pub kept_there : (b c d : Bool) → c ≡ false → d ≡ false → ((b && not c) || d) ≡ b
 kept_there true c d e f = rw e refl
 kept_there false c d e f = f
 
@@ -54,13 +55,13 @@ same_is White Black e = cc
 same_is Black White e = cc
 same_is Black Black e = refl
 
-no_other_king : (side : Side) (king : Bool) → (same_side side (other side) && king) ≡ false
+pub no_other_king : (side : Side) (king : Bool) → (same_side side (other side) && king) ≡ false
 no_other_king White king = refl
 no_other_king Black king = refl
 
 module _ (rules : Rules) (side : Side) (kind : Kind) (cells : List (Option Cell)) (from to : ℕ) (later : List (Option Cell)) (come : ComesTo side kind cells from to later) where
   -- what holds of the target, of the square that was left and of the others holds of each
-  by_place : (P : ℕ → Option Cell → Type 0) → P to (Some come.piece) → (from ≢ to → P from None) → ((s : ℕ) → (s == from) ≡ false → (s == to) ≡ false → P s (cell_at cells s)) → (s : ℕ) → P s (cell_at later s)
+  pub by_place : (P : ℕ → Option Cell → Type 0) → P to (Some come.piece) → (from ≢ to → P from None) → ((s : ℕ) → (s == from) ≡ false → (s == to) ≡ false → P s (cell_at cells s)) → (s : ℕ) → P s (cell_at later s)
   by_place P at_to at_from other s =
       by_equal s to (P s (cell_at later s))
       (λ q e. subst (λ t. P t (cell_at later t)) (sym e) (subst (P to) (sym come.there) at_to))
@@ -71,7 +72,7 @@ module _ (rules : Rules) (side : Side) (kind : Kind) (cells : List (Option Cell)
       (λ w f. subst (P s) (sym (come.others s f e)) (other s w q)))
 
   module _ (occupied moved : Set) (is : IsOccupied occupied cells) (gone : IsMoved occupied from to moved) where
-    later_occupied : IsOccupied moved later
+    pub later_occupied : IsOccupied moved later
     later_occupied s =
         gone s ∙ by_place (λ t c. ((has occupied t && not (t == from)) || (t == to)) ≡ is_some c)
         (taken_there (has occupied to) (not (to == from)) (to == to) (eq-eqb to to refl))
@@ -115,13 +116,13 @@ module _ (rules : Rules) (side : Side) (kind : Kind) (cells : List (Option Cell)
 -- ---- the moves
 
 module _ (rules : Rules) (r : Repeat) (size : length r.cells ≡ 120) where
-  goes : (from to : Square) (x : Cell) → cell_at r.cells from.0 ≡ Some x → passes_by rules r from to.0 ≡ false → cells_after rules r (Go from to Stays None) ≡ moved r.cells from.0 to.0 x
+  pub goes : (from to : Square) (promo : Promo) (x : Cell) → cell_at r.cells from.0 ≡ Some x → passes_by rules r from to.0 ≡ false → cells_after rules r (Go from to promo None) ≡ moved r.cells from.0 to.0 (after_promo rules x promo)
   unfolding cells_after
-  goes from to x there no_passing =
-      ap (λ b. slice_set (slice_set (if b then emptied r.cells (behind rules r.side to) else r.cells) from.0 None) to.0 (promote rules (cell_at r.cells from.0) Stays)) no_passing
-      ∙ ap (λ (c : Option Cell). slice_set (slice_set r.cells from.0 None) to.0 (promote rules c Stays)) there
+  goes from to promo x there no_passing =
+      ap (λ b. slice_set (slice_set (if b then emptied r.cells (behind rules r.side to) else r.cells) from.0 None) to.0 (promote rules (cell_at r.cells from.0) promo)) no_passing
+      ∙ ap (λ (c : Option Cell). slice_set (slice_set r.cells from.0 None) to.0 (promote rules c promo)) there
 
-  went : (from to : Square) (x : Cell) → from.0 < 120 → to.0 < 120 → x.side ≡ r.side → ComesTo r.side x.kind r.cells from.0 to.0 (moved r.cells from.0 to.0 x)
+  pub went : (from to : Square) (x : Cell) → from.0 < 120 → to.0 < 120 → x.side ≡ r.side → ComesTo r.side x.kind r.cells from.0 to.0 (moved r.cells from.0 to.0 x)
   went from to x l m own = record {
     piece = x;
     of_side = own;
@@ -134,10 +135,10 @@ module _ (rules : Rules) (r : Repeat) (size : length r.cells ≡ 120) where
   pub go_is_quiet : (from to : Square) (x : Cell) → from.0 < 120 → to.0 < 120 → cell_at r.cells from.0 ≡ Some x → x.side ≡ r.side → is_ep r.ep to.0 ≡ false → ComesQuietly rules r.side x.kind r.cells from.0 to.0 → gives_check rules r (Go from to Stays None) ≡ false
   unfolding gives_check next_repeat
   go_is_quiet from to x l m there own no_ep quiet =
-      ap (λ cells. king_attacked rules cells (other r.side)) (goes from to x there (not_passing rules r from to.0 no_ep))
+      ap (λ cells. king_attacked rules cells (other r.side)) (goes from to Stays x there (not_passing rules r from to.0 no_ep))
       ∙ quiet (moved r.cells from.0 to.0 x) (went from to x l m own)
 
-  dropped : (kind : Kind) (to : Square) → to.0 < 120 → ComesTo r.side kind r.cells to.0 to.0 (slice_set r.cells to.0 (Some (fresh r.side kind)))
+  pub dropped : (kind : Kind) (to : Square) → to.0 < 120 → ComesTo r.side kind r.cells to.0 to.0 (slice_set r.cells to.0 (Some (fresh r.side kind)))
   dropped kind to m = record {
     piece = fresh r.side kind;
     of_side = refl;

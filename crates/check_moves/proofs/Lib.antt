@@ -1,2 +1,3 @@
 pub mod ShutLaws
 pub mod ComeLaws
+pub mod FlightLaws

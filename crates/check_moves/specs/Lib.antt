@@ -1,2 +1,3 @@
 pub mod Shut
 pub mod Checks
+pub mod Flights

@@ -54,7 +54,14 @@ pub fn checks_of(board: &Board) -> Checks
 
 /// Whether a piece of the kind on the square `from` may attack one of the squares `kings`: where the answer is no it
 /// attacks none. A kind above 25 has no table and is not asked: the answer is yes.
-fn reaches_some(tables: &Tables, by: Side, kind: Kind, from: u8, occupied: Set, kings: Set) -> bool
+pub(crate) fn reaches_some(
+    tables: &Tables,
+    by: Side,
+    kind: Kind,
+    from: u8,
+    occupied: Set,
+    kings: Set,
+) -> bool
     requires { from < 120 }
     ensures { result ≡ false → Spec.ReachesNone tables.now by kind from occupied kings }
 {

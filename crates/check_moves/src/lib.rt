@@ -1,7 +1,10 @@
-//! The moves that may give check, told before they are made: the others need not be made to be known as quiet.
+//! The moves that may give check, and those that leave the attacked king a step, told before they are made: the others
+//! need not be made to be known as quiet, nor these to be known as no mate.
 #![tactic(auto)]
 
 mod checks;
+mod flights;
 mod shut;
 
 pub use checks::{Checks, checks_of, gives_check, may_check};
+pub use flights::{Flight, KnownFlights, LoneKing};

@@ -1,7 +1,7 @@
 -- What wins by the attacker's last move.
 use Rattle.std.proofs.Common.{◌≡◌, ℕ, List, [], ◌∷◌, Bool, true, false, Option, Some, None, not, is_some, ◌&&◌, ◌==◌, if◌then◌else◌, slice_index, slice_set, inl, refl, ap, sym, ◌∙◌}
 use Rattle.std.specs.List.{list_all}
-use Rattle.std.proofs.lemmas.Bool.{and_parts}
+use Rattle.std.proofs.lemmas.Bool.{and_left, and_parts}
 use Rattle.std.proofs.lemmas.List.{get_or-set_other}
 use Rattle.foundation.specs.Member.{Member}
 use Rattle.foundation.specs.Tests.{is_nil}
@@ -218,6 +218,15 @@ own_checks rules r m quiet =
     let off = and_off rules.check_counting (king_attacked rules (cells_after rules r m) (other r.side)) quiet in
     rw off
 
+-- where no flag, no extinction and no count of checks ends the game, nothing does before a side has no move
+early_free : (rules : Rules) (r : Repeat) → rules.flag_kind ≡ None → rules.extinction ≡ None → rules.check_counting ≡ false → early_end rules r ≡ Ongoing
+unfolding early_end
+early_free rules r flag extinction uncounted =
+    let f = flag_none rules r.cells (other r.side) flag in
+    let c : has_none_left rules r (other r.side) ≡ false = and_left rules.check_counting _ uncounted in
+    let d : has_none_left rules r r.side ≡ false = and_left rules.check_counting _ uncounted in
+    rw (f, c, d, extinction)
+
 -- ---- near ends
 
 or_won : (o : Option Bool) (b : Bool) → AnyGame.or_end o (AnyGame.lost_if b) ≡ Some true → o ≡ Some true
@@ -328,6 +337,16 @@ module _ (f : Frame) where
 
       back : has_none_left f.rules (next_repeat f.rules (repeat_of p) m) p.side ≡ false → has_none_left f.rules (repeat_of (after p m)) (other (other p.side)) ≡ false
       back h = ap (has_none_left f.rules (repeat_of (after p m))) (same p.side) ∙ h
+
+  -- nor does one after which the other side has a legal move, where checks are not counted
+  pub met-loses : (p : Position) (m step : Move) → only_checks_win f.rules ≡ true → f.rules.check_counting ≡ false → same_side p.side f.attacker ≡ true → (is_ongoing (early_end f.rules (repeat_of (after p m))) ≡ true → Member step (legal f.rules (repeat_of (after p m)))) → In.near_in f 0 (after p m) ≡ false
+  met-loses p m step only uncounted t leaves =
+      let r = repeat_of (after p m) in
+      let w = checks_win f.rules only in
+      let turn : same_side (after p m).side f.attacker ≡ false = (laws f.rules f.attacker).turns p m ∙ ap not t in
+      let early = early_free f.rules r w.flag (movers_win f.rules w.movers).extinction uncounted in
+      let own = own-ongoing f.rules r step (leaves (ap is_ongoing early)) in
+      lost-at-once (after p m) w.movers turn (λ h. let u = sym (ap (won_by f.attacker) own) ∙ h in cc)
 
   -- what the end by itself says of a position where the other side is to move
   pub at-once : (p : Position) → only_movers_win f.rules ≡ true → same_side p.side f.attacker ≡ false → is_won (won_by f.attacker (own_end f.rules (repeat_of p))) ≡ In.near_in f 0 p

@@ -6,7 +6,7 @@ use Rattle.forced_wins.specs.declared.fact.Fact.{Fact}
 use Rattle.forced_wins.specs.Facts.{serves}
 use Rattle.mate_core.specs.declared.frame.Frame.{Frame}
 use Rattle.mate_core.specs.Runs.{IsTrueIn}
-use Rattle.mate_settle.specs.declared.known.KeyedFact.{KeyedFact}
+use Rattle.mate_settle.specs.declared.fact_table.KeyedFact.{KeyedFact}
 use Rattle.mate_settle.specs.declared.ordering.Ranked.{Ranked}
 use Rattle.legality.specs.Stance.{Stance, repeat_in}
 

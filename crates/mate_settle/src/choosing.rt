@@ -7,7 +7,7 @@ ghost use Rattle.mate_settle.specs.Lines.{lines_after, seen_in};
 ghost use Rattle.legality.specs.Stance.{legal_in};
 ghost use Rattle.watching.specs.declared.halt.Halt.{Halt};
 
-use crate::known::FactTable;
+use crate::fact_table::FactTable;
 use crate::settling::settle;
 use mate_core::Fact;
 use playing::Board;

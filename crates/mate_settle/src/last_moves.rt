@@ -3,6 +3,7 @@ ghost use Rattle.std.specs.Prelude.{◌≡◌, true, false, None, Some, IfSome, 
 ghost use Rattle.std.specs.Bool.{OnTrue};
 ghost use Rattle.foundation.specs.Member.{Member, Lists};
 ghost use Rattle.check_moves.specs.Checks.{AreChecksIn};
+ghost use Rattle.check_moves.specs.Flights.{AreFlights};
 ghost use Rattle.forced_wins.specs.Facts as Facts;
 ghost use Rattle.mate_core.specs.Runs.{IsTrueIn};
 ghost use Rattle.mate_fact.specs.InFrame as In;
@@ -12,7 +13,7 @@ ghost use Rattle.rules_model.specs.declared.moves.Move.{Move};
 ghost use Rattle.rules_model.specs.Next.{next};
 ghost use Rattle.rules_model.specs.Sides.{same_side};
 
-use check_moves::{Checks, checks_of, may_check};
+use check_moves::{Checks, KnownFlights, checks_of, may_check};
 use mate_core::{Fact, Frame};
 use mate_fact::{refuted_by_all_within, won_by};
 use playing::Board;
@@ -88,37 +89,88 @@ fn winning_checks(frame: &Frame, board: &Board) -> Option<Checks>
     }
 }
 
-/// Whether it is known before the attacker's move is made that it does not win at once: only checks do, and it gives
-/// none.
-fn is_vain(frame: &Frame, board: &Board, m: &Move, checks: Option<Checks>) -> bool
+/// Whether the attacker's move leaves the king a step, so that it is no mate. Where checks are counted it is not asked: the
+/// last of them wins without a mate.
+fn leaves_step(frame: &Frame, board: &Board, m: &Move, flights: &mut KnownFlights) -> bool
     requires rules { board.now.rules ≡ frame.now.rules }
-    requires only { OnSome checks (Last.only_checks_win frame.now.rules ≡ true) }
-    requires known { IfSome checks (λ checks. AreChecksIn board.now checks) }
+    requires only { Last.only_checks_win frame.now.rules ≡ true }
+    requires flights { AreFlights board.now flights.old }
     requires attack { In.IsAttackIn frame.now board.now.position }
     requires legal { Member m.now (In.legal_in frame.now board.now.position) }
-    ensures { OnTrue result (In.near_in frame.now 0 (next frame.now.rules board.now.position m.now) ≡ false) }
+    ensures flights { AreFlights board.now flights.new }
+    ensures vain { OnTrue result (In.near_in frame.now 0 (next frame.now.rules board.now.position m.now) ≡ false) }
+{
+    if frame.rules.check_counting {
+        return false;
+    }
+    flights.meets(board, m)
+}
+
+/// Whether it is known before the attacker's move is made that it does not win at once: only checks do, and it gives
+/// none, or leaves the king a step.
+fn is_vain(
+    frame: &Frame,
+    board: &Board,
+    m: &Move,
+    checks: &Option<Checks>,
+    flights: &mut KnownFlights,
+) -> bool
+    requires rules { board.now.rules ≡ frame.now.rules }
+    requires only { OnSome checks.now (Last.only_checks_win frame.now.rules ≡ true) }
+    requires known { IfSome checks.now (λ checks. AreChecksIn board.now checks) }
+    requires flights { AreFlights board.now flights.old }
+    requires attack { In.IsAttackIn frame.now board.now.position }
+    requires legal { Member m.now (In.legal_in frame.now board.now.position) }
+    ensures flights { AreFlights board.now flights.new }
+    ensures vain { OnTrue result (In.near_in frame.now 0 (next frame.now.rules board.now.position m.now) ≡ false) }
 {
     match checks {
-        Some(checks) => !may_check(board, &checks, m),
+        Some(checks) => {
+            if !may_check(board, checks, m) {
+                return true;
+            }
+            leaves_step(frame, board, m, flights)
+        }
         None => false,
     }
 }
 
-/// Whether the attacker's move wins at once. Where only checks do, no other move is made.
-fn wins_by(frame: &Frame, board: &Board, m: &Move, checks: Option<Checks>) -> bool
+/// Whether the attacker's move wins at once: it is made. The position after it is no local of the caller, which makes few
+/// of its moves.
+#[inline(never)]
+fn wins_once_made(frame: &Frame, board: &Board, m: &Move) -> bool
     requires rules { board.now.rules ≡ frame.now.rules }
     requires movers { Last.only_movers_win frame.now.rules ≡ true }
-    requires only { OnSome checks (Last.only_checks_win frame.now.rules ≡ true) }
-    requires known { IfSome checks (λ checks. AreChecksIn board.now checks) }
     requires attack { In.IsAttackIn frame.now board.now.position }
     requires legal { Member m.now (In.legal_in frame.now board.now.position) }
     ensures { result ≡ In.near_in frame.now 0 (next frame.now.rules board.now.position m.now) }
 {
-    if is_vain(frame, board, m, checks) {
-        return false;
-    }
     let next = board.after(m);
     wins_at_once(frame, &next)
+}
+
+/// Whether the attacker's move wins at once. One that is known before it is made to be vain is not made.
+fn wins_by(
+    frame: &Frame,
+    board: &Board,
+    m: &Move,
+    checks: &Option<Checks>,
+    flights: &mut KnownFlights,
+) -> bool
+    requires rules { board.now.rules ≡ frame.now.rules }
+    requires movers { Last.only_movers_win frame.now.rules ≡ true }
+    requires only { OnSome checks.now (Last.only_checks_win frame.now.rules ≡ true) }
+    requires known { IfSome checks.now (λ checks. AreChecksIn board.now checks) }
+    requires flights { AreFlights board.now flights.old }
+    requires attack { In.IsAttackIn frame.now board.now.position }
+    requires legal { Member m.now (In.legal_in frame.now board.now.position) }
+    ensures flights { AreFlights board.now flights.new }
+    ensures wins { result ≡ In.near_in frame.now 0 (next frame.now.rules board.now.position m.now) }
+{
+    if is_vain(frame, board, m, checks, flights) {
+        return false;
+    }
+    wins_once_made(frame, board, m)
 }
 
 /// A move that wins at once, if there is one among these.
@@ -133,9 +185,10 @@ fn winning_move(frame: &Frame, board: &Board, moves: &[Move]) -> Option<Move>
         In.near_in frame.now 0 (next frame.now.rules board.now.position m) ≡ false }
 {
     let checks = winning_checks(frame, board);
+    let mut flights = KnownFlights::of(board);
     for i in 0..moves.len() {
         let chosen = moves[i];
-        if wins_by(frame, board, &chosen, checks) {
+        if wins_by(frame, board, &chosen, &checks, &mut flights) {
             return Some(chosen);
         }
     }

@@ -6,7 +6,7 @@ ghost use Rattle.mate_settle.specs.LastMoves as Last;
 ghost use Rattle.mate_settle.specs.Refuters.{IsRefuter};
 ghost use Rattle.rules_model.specs.Sides.{same_side};
 
-use crate::known::{FactTable, REFUTERS};
+use crate::fact_table::{FactTable, REFUTERS};
 use crate::last_moves::{by_last_move, only_movers_win};
 use crate::settling::{decide, known_now, legal_list};
 use mate_core::{Fact, Frame};

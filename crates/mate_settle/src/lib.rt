@@ -3,12 +3,12 @@
 #![tactic(auto)]
 
 mod choosing;
-mod known;
+mod fact_table;
 mod last_moves;
 mod last_replies;
 mod ordering;
 mod settling;
 
 pub use choosing::{WinningMove, all_won, choose};
-pub use known::FactTable;
+pub use fact_table::FactTable;
 pub use settling::{moves_to_try, settle};

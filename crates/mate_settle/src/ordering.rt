@@ -7,13 +7,14 @@ ghost use Rattle.mate_settle.specs.Known.{chosen_of};
 ghost use Rattle.legality.specs.Stance.{legal_in};
 ghost use Rattle.rules_model.specs.declared.moves.Move.{Move};
 
-use crate::known::FactTable;
+use crate::fact_table::FactTable;
+use crate::last_moves::only_movers_win;
 use attack_tables::{Mode, cell_on};
 use check_moves::{Checks, checks_of, gives_check};
 use playing::Board;
 use rules_model::passing::is_stays;
-use rules_model::{Kind, Memory, Move, Side, Square};
-use square_set::{BOARD, EMPTY, Set};
+use rules_model::{Kind, Memory, Move, Side, Square, cell_at};
+use square_set::{EMPTY, Set};
 use std::alloc::Global;
 
 /// Where checks are counted, a check comes before this rank; and another move of the attacker after it.
@@ -24,8 +25,8 @@ const CHECK: u32 = 100;
 
 const CAPTURING_CHECK: u32 = 80;
 
-/// So many moves are guessed to be left to the attacker by a reply that checks him.
-const CHECKED: u32 = 4;
+/// So much is taken from the attacker by a reply that checks him, and at most by another.
+const CHECKED: u32 = 1000;
 
 /// So many squares are guessed to be reached by a pawn.
 const PAWN_FREEDOM: u32 = 2;
@@ -45,36 +46,30 @@ struct Order<'a, 'f> {
     attacking: bool,
     /// How many moves he has left.
     moves: u16,
-    /// The move that decided last, where the same side was to move and as many moves were left.
-    deciding: Option<Move>,
-    /// The best move of a fact on the position.
+    /// The attacker's move that won last where he had as many moves left.
+    killer: Option<Move>,
+    /// The best move of the fact that is kept for a position of this key.
     best: Option<Move>,
+    /// The rank of the replies that refuted the attacker's last move lately.
+    refuter: u32,
     /// The checks that the side to move may give.
     checks: Checks,
-    /// How many squares the other side's men reach.
-    freedom: u32,
-    /// The squares next to the other side's kings.
+    /// The squares that the other side's kings reach.
     ring: Set,
 }
 
-/// How many legal moves there are, or a number below `QUIET` where there are more.
-fn count_moves(board: &Board) -> u32
-    ensures { result < 1000 }
-{
+/// How many legal moves there are, or the number below `QUIET` where there are more.
+fn count_moves(board: &Board) -> u32 {
     board.count_legal().min(999) as u32
 }
 
 /// The kind of the piece that comes to a square by the move, and the square. Castles are left out.
 pub(crate) fn comer(board: &Board, m: &Move) -> Option<(Kind, Square)> {
     match *m {
-        Move::Go { from, to, .. } => {
-            let p = board.position();
-            match p.cells.get(usize::from(from.0)) {
-                Some(Some(piece)) => Some((piece.kind, to)),
-                Some(None) => None,
-                None => None,
-            }
-        }
+        Move::Go { from, to, .. } => match cell_at(&board.position().cells, from) {
+            Some(piece) => Some((piece.kind, to)),
+            None => None,
+        },
         Move::Castle { .. } => None,
         Move::Drop { kind, to } => Some((kind, to)),
     }
@@ -109,43 +104,13 @@ fn freedom_of(board: &Board, from: u8) -> u32 {
     }
 }
 
-/// How many squares the other side's men on the board reach.
-fn freedom_of_men(board: &Board) -> u32 {
-    let mut freedom = 0u32;
-    let mut men = board.sets().enemies;
-    while let Some(from) = men.take_first() {
-        freedom = freedom.saturating_add(freedom_of(board, from));
-    }
-    freedom
-}
-
-/// How many kinds the other side has in its hand.
-fn kinds_in_hand(board: &Board) -> u32 {
-    let p = board.position();
-    let mut kinds = 0u32;
-    if let Some(hand) = p.hands.get(p.side.other().index()) {
-        for count in hand.iter() {
-            if *count > 0 {
-                kinds = kinds.saturating_add(1);
-            }
-        }
-    }
-    kinds
-}
-
-/// How many squares the other side's men reach, each empty square counted for each kind in its hand.
-fn freedom(board: &Board) -> u32 {
-    let empty = BOARD.minus(board.sets().occupied()).count();
-    freedom_of_men(board).saturating_add(empty.saturating_mul(kinds_in_hand(board)))
-}
-
-/// The squares next to the other side's kings.
+/// The squares that the other side's kings reach.
 fn ring(board: &Board) -> Set {
     let p = board.position();
     let mut ring = EMPTY;
     let mut kings = board.sets().enemy_kings;
     while let Some(at) = kings.take_first() {
-        if let Some(Some(king)) = p.cells.get(usize::from(at)) {
+        if let Some(king) = cell_at(&p.cells, Square(at)) {
             ring = ring.or(reached(board, king.side, king.kind, at));
         }
     }
@@ -168,21 +133,21 @@ fn freedom_taken(board: &Board, m: &Move) -> u32 {
     }
 }
 
-/// How many moves the attacker is guessed to have after the reply.
-fn guess(board: &Board, m: &Move, order: &Order) -> u32
+/// How much of what the attacker may do the reply is guessed to take from him, up to `CHECKED`.
+fn taken(board: &Board, m: &Move, order: &Order) -> u32
     requires legal { Member m.now (legal_in board.now) }
     requires checks { AreChecksIn board.now order.now.checks }
 {
     if gives_check(board, &order.checks, m) {
         return CHECKED;
     }
-    order.freedom.saturating_sub(freedom_taken(board, m)).max(1)
+    freedom_taken(board, m).min(CHECKED - 1)
 }
 
-/// How often such a reply refuted, up to 63.
+/// How often such a reply refuted, in steps of four: up to 63.
 fn refutations(board: &Board, m: &Move, order: &Order) -> u32 {
     match comer(board, m) {
-        Some((kind, to)) => u32::from(order.facts.refuted(order.moves, kind, to)).min(63),
+        Some((kind, to)) => u32::from(order.facts.refuted(order.moves, kind, to) / 4),
         None => 0,
     }
 }
@@ -193,16 +158,17 @@ fn early_reply_rank(board: &Board, m: &Move, order: &Order) -> u32
     requires legal { Member m.now (legal_in board.now) }
     requires checks { AreChecksIn board.now order.now.checks }
 {
-    let guess = guess(board, m, order).min(1 << 20);
-    (guess * 64).saturating_sub(refutations(board, m, order))
+    let left = CHECKED.saturating_sub(taken(board, m, order));
+    ((left + 1) * 64).saturating_sub(refutations(board, m, order))
 }
 
-/// Before the attacker's last move the reply that refuted last comes first, and then the captures.
+/// Before the attacker's last move the replies that refuted lately come first, but last where they were tried already.
+/// Of the others captures come first.
 fn last_reply_rank(board: &Board, m: &Move, order: &Order) -> u32
     requires { Member m.now (legal_in board.now) }
 {
-    if order.deciding == Some(*m) {
-        0
+    if order.facts.is_refuter(m) {
+        order.refuter
     } else if board.captures(m) {
         1
     } else {
@@ -249,13 +215,13 @@ fn gain(board: &Board, m: &Move, order: &Order) -> u32
         .saturating_add(near.saturating_mul(10))
 }
 
-/// The move that decided last, or that is best by a fact, comes first, then checks, and of the others those that gain
-/// most.
+/// The move that won last, and the one that is best by a fact, come first, then checks, and of the others those that
+/// gain most.
 fn attack_rank(board: &Board, m: &Move, order: &Order) -> u32
     requires legal { Member m.now (legal_in board.now) }
     requires checks { AreChecksIn board.now order.now.checks }
 {
-    if order.deciding == Some(*m) || order.best == Some(*m) {
+    if order.killer == Some(*m) || order.best == Some(*m) {
         return 0;
     }
     if gives_check(board, &order.checks, m) {
@@ -281,15 +247,22 @@ fn rank(board: &Board, m: &Move, order: &Order) -> u32
 fn order_for<'a, 'f>(board: &Board, n: u16, facts: &'a FactTable<'f>) -> Order<'a, 'f>
     ensures { AreChecksIn board.now result.checks }
 {
-    let attacking = board.position().side.is(facts.frame().attacker);
+    let frame = facts.frame();
+    let attacking = board.position().side.is(frame.attacker);
+    let tried = only_movers_win(&frame.rules);
+    let checks = checks_of(board);
     Order {
         facts,
         attacking,
         moves: n,
-        deciding: facts.deciding(attacking, n),
-        best: facts.best_on(board),
-        checks: checks_of(board),
-        freedom: if attacking { 0 } else { freedom(board) },
+        killer: if attacking { facts.killer(n) } else { None },
+        best: if attacking {
+            facts.best_on(board)
+        } else {
+            None
+        },
+        refuter: if tried { 3 } else { 0 },
+        checks,
         ring: if attacking { ring(board) } else { EMPTY },
     }
 }

@@ -12,7 +12,7 @@ ghost use Rattle.rules_model.specs.Legal.{is_stuck};
 ghost use Rattle.rules_model.specs.Sides.{same_side};
 ghost use Rattle.watching.specs.declared.halt.Halt.{Halt};
 
-use crate::known::FactTable;
+use crate::fact_table::FactTable;
 use crate::last_replies::known_before;
 use crate::ordering::{comer, in_order};
 use mate_core::{Fact, Frame};
@@ -128,12 +128,12 @@ fn by_one(frame: &Frame, board: &Board, m: &Move, attacking: bool, known: &Fact)
     }
 }
 
-/// Keeps the move that decides a position, by which others are put in order.
+/// Keeps the move that decides a position, by which the moves of others are put in order.
 fn learn(facts: &mut FactTable, board: &Board, attacking: bool, n: u16, chosen: Move)
     ensures { facts.new ≡ facts.old }
 {
-    facts.keep_deciding(attacking, n, chosen);
     if attacking {
+        facts.keep_killer(n, chosen);
         return;
     }
     if n < 2 {

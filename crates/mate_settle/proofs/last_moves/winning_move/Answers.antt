@@ -23,4 +23,7 @@ loop-i-preserved c =
     let p = c.args.board.now.position in
     let ms = c.args.moves.now in
     let i = c.loop-i.i in
-    each-more {Q = λ m. In.near_in f 0 (next f.rules p m) ≡ false} ms i _ (slice_get-get_or ms i _ c.loop-i-test.true) c.loop-i.invariant (sym c.wins_by.ensures ∙ c.if-wins_by.false)
+    record {
+      flights = c.wins_by.ensures.flights;
+      none = each-more {Q = λ m. In.near_in f 0 (next f.rules p m) ≡ false} ms i _ (slice_get-get_or ms i _ c.loop-i-test.true) c.loop-i.invariant.none (sym c.wins_by.ensures.wins ∙ c.if-wins_by.false);
+    }

@@ -1,10 +1,8 @@
 use Rattle.std.proofs.Common.{◌≡◌, ◌+◌, ◌≤◌, length, take, None, Err, refl, sym, ◌∙◌, subst, arith, rules}
 use Rattle.std.proofs.lemmas.List.{take_all}
 use Rattle.std.proofs.lemmas.Option.{slice_get_read}
-use Rattle.foundation.specs.Member.{Member, Lists}
 use Rattle.foundation.specs.Tests.{is_nil}
 use Rattle.forced_wins.proofs.Rules.{laws}
-use Rattle.mate_fact.specs.InFrame as In
 use Rattle.legality.specs.Stance.{legal_in, repeat_in}
 use Rattle.rules_model.specs.Legal.{is_stuck}
 use Rattle.mate_settle.specs.Lines.{plies, seen_in}

@@ -1,6 +1,6 @@
 use Rattle.mate_settle.proofs.LastMoves.{turn-after}
 use Rattle.mate_settle.proofs.Settled.{after-is}
-use Rattle.mate_settle.proofs.last_moves.wins_by.Goals as goal
+use Rattle.mate_settle.proofs.last_moves.wins_once_made.Goals as goal
 
 pub wins_at_once-requires-clause-turn : goal.wins_at_once-requires-clause-turn
 wins_at_once-requires-clause-turn c =

@@ -9,8 +9,8 @@ use rules_model::{Kind, Memory, Move, Square, repeat_of};
 use std::alloc::Global;
 use std::marker::Model;
 
-/// So many questions, by the side to move and the number of the attacker's moves, have a deciding move of their own.
-const QUESTIONS: usize = 32;
+/// So many numbers of the attacker's moves have a killer of their own.
+const KILLERS: usize = 16;
 
 /// So many of the replies that refuted the attacker's last move are kept.
 pub(crate) const REFUTERS: usize = 4;
@@ -37,8 +37,8 @@ pub struct FactTable<'f> {
     /// For each remainder of a key, the number of the fact that is kept for it, from 1 on; 0 where there is none.
     numbers: Vec<u32>,
     kept: Vec<KeyedFact>,
-    /// For each question, the move that decided it last.
-    deciding: [Option<Move>; QUESTIONS],
+    /// For each remainder of the attacker's moves, his move that won last with so many left.
+    killers: [Option<Move>; KILLERS],
     /// The replies that refuted the attacker's last move, the newest first.
     refuters: [Option<Move>; REFUTERS],
     /// How often replies refuted, by the attacker's moves, the kind and the target: as many counters as there is room for
@@ -103,13 +103,6 @@ fn bring_to_front(replies: &mut [Option<Move>; REFUTERS], reply: Move) {
     }
 }
 
-// The place of the move that decided last.
-fn question(attacking: bool, moves: u16) -> usize
-    ensures { result < 32 }
-{
-    (2 * usize::from(moves) + usize::from(attacking)) % QUESTIONS
-}
-
 impl<'f> FactTable<'f> {
     /// A table without facts and with room for this many, which may be none; or `Memory`.
     pub fn new(alloc: Global, frame: &'f Frame, room: usize) -> Result<FactTable<'f>, Memory>
@@ -128,7 +121,7 @@ impl<'f> FactTable<'f> {
             frame,
             numbers,
             kept,
-            deciding: [None; QUESTIONS],
+            killers: [None; KILLERS],
             refuters: [None; REFUTERS],
             counters,
         })
@@ -166,25 +159,28 @@ impl<'f> FactTable<'f> {
         self.kept.get(number as usize - 1)
     }
 
+    /// The fact that is kept for a position of this key, if there is one. It may be of another position.
+    fn of_key(&self, key: u64) -> Option<&Fact>
+        ensures { IfSome result (λ fact. IsTrueIn self.now fact.now) }
+    {
+        if self.numbers.is_empty() {
+            return None;
+        }
+        let at = place(key, self.numbers.len());
+        match self.numbered(self.numbers[at]) {
+            Some(kept) if kept.key == key => Some(&kept.fact),
+            _ => None,
+        }
+    }
+
     /// A kept fact that says whether the position is won within this many moves, if one is found at once.
     pub fn look(&self, board: &Board, moves: u16) -> Option<Fact>
         ensures serves { IfSome result (Answers board.now moves) }
         ensures truth { IfSome result (IsTrueIn self.now) }
     {
-        if self.numbers.is_empty() {
-            return None;
-        }
-        let key = board.key();
-        let at = place(key, self.numbers.len());
-        match self.numbered(self.numbers[at]) {
-            Some(kept) if kept.key == key => {
-                let p = board.position();
-                if serves(&kept.fact, &repeat_of(p), p.counter, moves) {
-                    Some(kept.fact)
-                } else {
-                    None
-                }
-            }
+        let p = board.position();
+        match self.of_key(board.key()) {
+            Some(fact) if serves(fact, &repeat_of(p), p.counter, moves) => Some(*fact),
             _ => None,
         }
     }
@@ -210,30 +206,25 @@ impl<'f> FactTable<'f> {
         }
     }
 
-    /// The move that decided last where this side was to move and the attacker had this many moves left, if one did. It
+    /// The attacker's move that won last where he had this many moves left, or as many by the remainder, if one did. It
     /// may be of another position.
-    pub(crate) fn deciding(&self, attacking: bool, moves: u16) -> Option<Move> {
-        self.deciding[question(attacking, moves)]
+    pub(crate) fn killer(&self, moves: u16) -> Option<Move> {
+        self.killers[usize::from(moves) % KILLERS]
     }
 
-    /// Keeps the move that decides a position.
-    pub(crate) fn keep_deciding(&mut self, attacking: bool, moves: u16, chosen: Move)
+    /// Keeps the attacker's move that wins with this many left.
+    pub(crate) fn keep_killer(&mut self, moves: u16, chosen: Move)
         ensures { self.new ≡ self.old }
     {
-        self.deciding[question(attacking, moves)] = Some(chosen);
+        self.killers[usize::from(moves) % KILLERS] = Some(chosen);
     }
 
     /// The best move of the fact that is kept for a position of this key, whatever it answers. It may be of another
     /// position.
     pub(crate) fn best_on(&self, board: &Board) -> Option<Move> {
-        if self.numbers.is_empty() {
-            return None;
-        }
-        let key = board.key();
-        let at = place(key, self.numbers.len());
-        match self.numbered(self.numbers[at]) {
-            Some(kept) if kept.key == key => kept.fact.best,
-            _ => None,
+        match self.of_key(board.key()) {
+            Some(fact) => fact.best,
+            None => None,
         }
     }
 
@@ -244,6 +235,11 @@ impl<'f> FactTable<'f> {
             Some(refuter) => *refuter,
             None => None,
         }
+    }
+
+    /// Whether the reply is one of those that refuted the attacker's last move.
+    pub(crate) fn is_refuter(&self, reply: &Move) -> bool {
+        self.refuters.iter().any(|kept| *kept == Some(*reply))
     }
 
     /// Keeps a reply that refutes the attacker's last move, as the newest.
