@@ -17,10 +17,6 @@ line_after game depth = line_of game [] (depth + 4)
 abbrev pub AreTrueFacts : Played → ℕ → List RootFact → Type 0
 AreTrueFacts game depth facts = All (IsTrueFact game.rules depth (story game)) facts
 
--- what the worker in the caller found is true
-pub record FoundTrue (game : Played) (depth : ℕ) (facts : List RootFact) : Type 0 where
-  pub known : AreTrueFacts game depth facts
-
 -- the depth is from 1 to 64, and the root moves are legal
 pub record IsPlan {G : Type 0} (plan : Plan G) : Type 0 where
   pub least : 1 ≤ plan.depth

@@ -8,6 +8,8 @@ mod root_moves;
 mod roots;
 mod searching;
 mod shared;
+mod unwatched;
 
 pub use io_ports::{Limits, SearchFault, Stopped};
 pub use searching::{Found, Searched, search, search_watched};
+pub use unwatched::search_unwatched;

@@ -8,7 +8,6 @@ use crate::plan::{Plan, Seat};
 use foundation::Memory;
 use io_ports::Gate;
 use negamax::{Best, RootFact, combine, search_root};
-use std::alloc::Global;
 use watching::{Halt, Helper, Round, Watch};
 
 /// What a worker beside the first hands back: what it found, and how many nodes it entered.
@@ -65,7 +64,6 @@ fn take_roots<W: Watch, G: Gate>(
 
 /// Takes the root moves that are free, and then those that the others have not finished: so it waits for nobody.
 pub(crate) fn take_all<W: Watch, G: Gate>(
-    alloc: Global,
     plan: &Plan<G>,
     facts: &mut Vec<RootFact>,
     watch: &mut W,
@@ -76,14 +74,13 @@ pub(crate) fn take_all<W: Watch, G: Gate>(
     ensures gone { OnOk result (W.gone watch.old watch.new (2 * lines_in plan.now)) }
     ensures ended { (why : Halt) → IsErrOf result why → W.ended watch.old watch.new (2 * lines_in plan.now) why }
 {
-    let mut seat = Seat::new(alloc, plan.game, plan.depth, plan.hints, 0)?;
+    let mut seat = Seat::new(plan, 0)?;
     take_roots(plan, &mut seat, Round::Free, facts, watch)?;
     take_roots(plan, &mut seat, Round::Unfinished, facts, watch)
 }
 
 /// Takes the root moves that are free.
 fn take_free<W: Watch, G: Gate>(
-    alloc: Global,
     plan: &Plan<G>,
     number: u32,
     facts: &mut Vec<RootFact>,
@@ -95,32 +92,25 @@ fn take_free<W: Watch, G: Gate>(
     ensures gone { OnOk result (W.gone watch.old watch.new (lines_in plan.now)) }
     ensures ended { (why : Halt) → IsErrOf result why → W.ended watch.old watch.new (lines_in plan.now) why }
 {
-    let mut seat = Seat::new(alloc, plan.game, plan.depth, plan.hints, number)?;
+    let mut seat = Seat::new(plan, number)?;
     take_roots(plan, &mut seat, Round::Free, facts, watch)
 }
 
 /// What a worker beside the first does. Where it reaches its quota, finds no memory or is told to stop, what it found
 /// stays.
-pub(crate) fn help<G: Gate>(
-    alloc: Global,
-    plan: &Plan<G>,
-    number: u32,
-    quota: Option<u64>,
-    job: &mut HelperFacts,
-)
+pub(crate) fn help<G: Gate>(plan: &Plan<G>, number: u32, job: &mut HelperFacts)
     requires plan { IsPlan plan.now }
     requires none { job.old.facts.items ≡ [] }
     ensures sound { IsSound plan.now job.new }
 {
-    let mut watch = Helper::new(&plan.shared.flag, quota);
-    let _ = take_free(alloc, plan, number, &mut job.facts, &mut watch);
+    let mut watch = Helper::new(&plan.shared.flag, plan.quota);
+    let _ = take_free(plan, number, &mut job.facts, &mut watch);
     job.nodes = watch.nodes();
 }
 
 /// The value over the root moves and one that attains it, from the facts and by searching the root moves that they
 /// leave open.
 pub(crate) fn combine_facts<W: Watch, G>(
-    alloc: Global,
     plan: &Plan<G>,
     facts: &[RootFact],
     watch: &mut W,
@@ -133,7 +123,7 @@ pub(crate) fn combine_facts<W: Watch, G>(
     ensures gone { OnOk result (W.gone watch.old watch.new (lines_in plan.now)) }
     ensures ended { (why : Halt) → IsErrOf result why → W.ended watch.old watch.new (lines_in plan.now) why }
 {
-    let seat = Seat::new(alloc, plan.game, plan.depth, plan.hints, 0)?;
+    let seat = Seat::new(plan, 0)?;
     let Seat {
         mut line,
         mut desk,

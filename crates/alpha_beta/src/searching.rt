@@ -44,7 +44,7 @@ pub enum Searched {
     Stopped(Stopped),
 }
 
-/// So many workers beside the first, or fewer where there is no memory for more.
+/// N workers beside the first, or fewer where there is no memory for more.
 fn jobs_for(alloc: Global, count: u32) -> Vec<HelperFacts>
     ensures none { All HasNone result.items }
     ensures count { vec_len result ≤ count }
@@ -88,9 +88,7 @@ fn greatest_count(nodes: u64, jobs: &[HelperFacts]) -> u64
 /// The search of all workers: they race over the root moves, and the one in the caller combines what they found.
 fn search_by<R: Threads + Sync, W: Watch, G: Gate + Sync>(
     rt: &R,
-    alloc: Global,
     plan: &Plan<G>,
-    quota: Option<u64>,
     jobs: &mut [HelperFacts],
     watch: &mut W,
 ) -> Result<Found, Halt>
@@ -107,10 +105,10 @@ fn search_by<R: Threads + Sync, W: Watch, G: Gate + Sync>(
     ensures ended { (why : Halt) → IsErrOf result why → W.ended watch.old watch.new (3 * lines_in plan.now) why }
 {
     let before = watch.nodes();
-    let mut facts = Vec::new(alloc);
-    race(rt, alloc, plan, quota, jobs, &mut facts, watch)?;
+    let mut facts = Vec::new(plan.alloc);
+    race(rt, plan, jobs, &mut facts, watch)?;
     gather(plan, jobs, &mut facts)?;
-    let best = combine_facts(alloc, plan, facts.as_slice(), watch)?;
+    let best = combine_facts(plan, facts.as_slice(), watch)?;
     let nodes = watch.nodes().saturating_sub(before);
     Ok(Found {
         value: best.value,
@@ -158,15 +156,17 @@ pub fn search_watched<R: Threads + Sync, W: Watch, G: Gate + Sync>(
     let tried = ordered(alloc, game, roots, hints)?;
     let shared = SharedRoots::new(alloc, tried.len(), floor_for(game, hints, depth))?;
     let plan = Plan {
+        alloc,
         game,
         depth,
         roots: tried.as_slice(),
         hints,
         gate,
         shared: &shared,
+        quota,
     };
     let mut jobs = jobs_for(alloc, workers - 1);
-    search_by(rt, alloc, &plan, quota, &mut jobs, watch)
+    search_by(rt, &plan, &mut jobs, watch)
 }
 
 /// As `search_watched`, over ports. The first worker polls the source each 1,024 nodes, answers the lines that it

@@ -21,13 +21,14 @@ use Rattle.rules_model.specs.declared.board.Position.{Position}
 use Rattle.rules_model.specs.Sides.{same_side}
 use Rattle.watching.specs.declared.halt.Halt.{Halt}
 use Rattle.mate_search.specs.Handed.{AreHandedBack}
-use Rattle.mate_search.specs.Races.{IsReady, root_lines}
+use Rattle.mate_search.specs.Races.{IsReady, IsTaskOf, root_lines, root_of}
 use Rattle.mate_search.specs.declared.race.Race.{Race}
+use Rattle.mate_search.specs.declared.race.RootTask.{RootTask}
 
 -- ---- passes
 
 -- as many parts as before, where both are so many at some number
-pub parts-kept : (before after : List ShardPass) (m n : ℕ) → length after ≡ length before → HaveParts m before → HaveParts m after → HaveParts n before → HaveParts n after
+parts-kept : (before after : List ShardPass) (m n : ℕ) → length after ≡ length before → HaveParts m before → HaveParts m after → HaveParts n before → HaveParts n after
 parts-kept before after m n count old new same = all-from (λ p. p.parts ≡ n) after (λ k y at.
     let w = slice_get_within after k y at in
     let x = some-at before k (omega arith) in
@@ -65,17 +66,13 @@ pub part-skip : {M : Type 0} (f : M → ℕ) (ms : List M) (i : ℕ) → i < len
 part-skip f ms i within = let x = some-at ms i within in let s = sum-more f ms i x.0 x.1 in omega arith
 
 -- the lines after the moves of a position are lines of the position
-pub moves-within : (f : Frame) (a : Bool) (left n : ℕ) (p : Position) → same_side p.side f.attacker ≡ a → 0 < n → left ≡ left_after a n → lines_of_moves f left p ≤ lines_within (seen_in f) n p
+moves-within : (f : Frame) (a : Bool) (left n : ℕ) (p : Position) → same_side p.side f.attacker ≡ a → 0 < n → left ≡ left_after a n → lines_of_moves f left p ≤ lines_within (seen_in f) n p
 moves-within f a left n p turn some e =
     let w = lines-after (seen_in f) (laws f.rules f.attacker) a p n turn (λ z. some) in
     let same : lines_of_moves f left p ≡ lines_of_moves f (left_after a n) p = ap (λ k. lines_of_moves f k p) e in
     omega arith
 
 -- ---- the root of a race
-
--- the board of the game's last position
-abbrev pub root_of : {G : Type 0} → Race G → Stance
-root_of race = record { rules = race.game.now.rules; position = (story race.game.now).last }
 
 module _ {G : Type 0} (race : Race G) (ready : IsReady race) where
   pub root-moves : (board : Stance) → board ≡ root_of race → Lists (λ m. Member m (legal_in board)) race.roots.now
@@ -85,14 +82,15 @@ module _ {G : Type 0} (race : Race G) (ready : IsReady race) where
     pub root-rules : board.rules ≡ f.rules
     root-rules = ap (λ (b : Stance). b.rules) is ∙ sym ready.frame.rules ∙ sym (ap (λ (x : Frame). x.rules) kept)
 
-    pub root-within : (a : Bool) (left : ℕ) → same_side board.position.side race.shards.now.frame.attacker ≡ a → left ≡ left_after a race.n → lines_of_moves f left board.position ≤ root_lines race
-    root-within a left turn e =
+    pub root-within : (task : RootTask) → IsTaskOf race task → lines_of_moves f task.left board.position ≤ root_lines race
+    root-within task is_task =
         let h = race.shards.now.frame in
         let p = board.position in
-        let within = moves-within h a left race.n p turn ready.some e in
         let last : p ≡ (story race.game.now).last = ap (λ (b : Stance). b.position) is in
+        let turn : same_side p.side h.attacker ≡ task.attacking = ap (λ (q : Position). same_side q.side h.attacker) last ∙ sym is_task.attacking in
+        let within = moves-within h task.attacking task.left race.n p turn ready.some is_task.left in
         let at : lines_within (seen_in h) race.n p ≡ lines_within (seen_in h) race.n (story race.game.now).last = ap (lines_within (seen_in h) race.n) last in
-        let same : lines_of_moves f left p ≡ lines_of_moves h left p = ap (λ (x : Frame). lines_of_moves x left p) kept in
+        let same : lines_of_moves f task.left p ≡ lines_of_moves h task.left p = ap (λ (x : Frame). lines_of_moves x task.left p) kept in
         omega (arith, within, at, same)
 
 -- ---- answers

@@ -25,7 +25,7 @@ pub record IsFrameFor (game : Played) (attacker : Side) (f : Frame) : Type 0 whe
   pub frame : IsFrameOf game f
   pub attacker_is : f.attacker ≡ attacker
 
--- how many nodes a worker enters at most
+-- how many nodes the worker in the caller enters at most
 abbrev pub bound_of : Played → ℕ → ℕ
 bound_of game n = solve_bound game.rules n (story game)
 

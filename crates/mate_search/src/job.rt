@@ -1,13 +1,12 @@
 //! A worker's state, and how it goes over the root moves.
-ghost use Rattle.std.specs.Prelude.{◌≡◌, ◌≤◌, ◌<◌, OnOk, IsErrOf};
+ghost use Rattle.std.specs.Prelude.{◌≡◌, ◌≤◌, OnOk, IsErrOf};
 ghost use Rattle.mate_settle.specs.Lines.{lines_within, seen_in};
-ghost use Rattle.mate_settle.specs.Steps.{left_after};
 ghost use Rattle.mate_shards.specs.Views.{ArePassesOf};
 ghost use Rattle.watching.specs.declared.halt.Halt.{Halt};
 ghost use Rattle.mate_search.specs.Handed.{AreHandedBack};
 ghost use Rattle.mate_search.specs.Races.{IsLent, IsReady, race_lines, root_lines};
 
-use crate::race::Race;
+use crate::race::{Race, RootTask};
 use crate::shared::Outcome;
 use crate::solving::room_for;
 use io_ports::Gate;
@@ -25,23 +24,6 @@ pub(crate) struct WorkerPasses {
     pub passes: Passes,
     pub number: u32,
     pub step: u64,
-}
-
-/// What a worker is to settle: the moves of a position, with N moves left for the attacker after each.
-#[derive(Clone, Copy)]
-pub(crate) struct RootTask {
-    pub left: u16,
-    pub attacking: bool,
-}
-
-/// What the moves of the position are to be settled for.
-pub(crate) fn root_task(attacking: bool, n: u16) -> RootTask
-    requires { 0 < n }
-    ensures left { result.left ≡ left_after attacking n }
-    ensures attacking { result.attacking ≡ attacking }
-{
-    let left = if attacking { n - 1 } else { n };
-    RootTask { left, attacking }
 }
 
 /// Settles the position after a root move: by a fact of the shards, or by a search whose fact is published.
@@ -98,11 +80,8 @@ fn take_roots<R: Wait, W: Watch, G: Gate>(
     ensures gone { OnOk result (W.gone watch.old watch.new (root_lines race.now)) }
     ensures ended { (why : Halt) → IsErrOf result why → W.ended watch.old watch.new (root_lines race.now) why }
 {
-    let board = Board::new(race.game.tables(), race.game.position());
-    let task = root_task(
-        board.position().side.is(race.shards.frame().attacker),
-        race.n,
-    );
+    let board = race.board();
+    let task = race.task();
     for i in 0..race.roots.len() {
         if race.shared.takes(i, round) {
             race.gate.pass(job.number, job.step);
@@ -146,6 +125,8 @@ fn take_free<R: Wait, W: Watch, G: Gate>(
     requires ready { IsReady race.now }
     requires passes { ArePassesOf race.now.shards.now job.old.passes }
     ensures handed { AreHandedBack race.now.shards.now job.old.passes job.new.passes }
+    ensures gone { OnOk result (W.gone watch.old watch.new (root_lines race.now)) }
+    ensures ended { (why : Halt) → IsErrOf result why → W.ended watch.old watch.new (root_lines race.now) why }
 {
     let mut facts = FactTable::new(race.alloc, race.shards.frame(), room_for(race.n))?;
     take_roots(rt, race, Round::Free, job, &mut facts, watch)

@@ -6,8 +6,8 @@ ghost use Rattle.mate_shards.specs.Views.{ArePassesOf};
 ghost use Rattle.mate_search.specs.Handed.{AreHandedBack};
 ghost use Rattle.mate_search.specs.Races.{IsLent, IsReady};
 
-use crate::job::{RootTask, WorkerPasses, root_task};
-use crate::race::Race;
+use crate::job::WorkerPasses;
+use crate::race::{Race, RootTask};
 use mate_settle::FactTable;
 use mate_shards::{Passes, Shards};
 use playing::Board;
@@ -113,11 +113,8 @@ pub(crate) fn gather<R: Wait, G>(
     ensures facts { facts.new ≡ facts.old }
     ensures handed { AreHandedBack race.now.shards.now passes.old passes.new }
 {
-    let board = Board::new(race.game.tables(), race.game.position());
-    let task = root_task(
-        board.position().side.is(race.shards.frame().attacker),
-        race.n,
-    );
+    let board = race.board();
+    let task = race.task();
     let mut decides = None;
     for i in 0..race.roots.len() {
         let chosen = race.roots[i];

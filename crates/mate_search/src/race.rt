@@ -1,8 +1,11 @@
 //! What the workers of a race share.
+ghost use Rattle.std.specs.Prelude.{◌≡◌, ◌<◌};
+ghost use Rattle.mate_search.specs.Races.{IsTaskOf, root_of};
 
 use crate::shared::Shared;
 use game_play::Game;
 use mate_shards::Shards;
+use playing::Board;
 use rules_model::Move;
 use std::alloc::Global;
 
@@ -20,4 +23,30 @@ pub(crate) struct Race<'r, G> {
     pub gate: &'r G,
     /// How many nodes each worker beside the first may enter.
     pub quota: Option<u64>,
+}
+
+/// What a worker is to settle: the moves of a position, with N moves left for the attacker after each.
+#[derive(Clone, Copy)]
+pub(crate) struct RootTask {
+    pub left: u16,
+    pub attacking: bool,
+}
+
+impl<G> Race<'_, G> {
+    /// The board of the root.
+    pub fn board(&self) -> Board<'_>
+        ensures { result ≡ root_of self.now }
+    {
+        Board::new(self.game.tables(), self.game.position())
+    }
+
+    /// What the root moves are to be settled for.
+    pub fn task(&self) -> RootTask
+        requires { 0 < self.now.n }
+        ensures { IsTaskOf self.now result }
+    {
+        let attacking = self.game.position().side.is(self.shards.frame().attacker);
+        let left = if attacking { self.n - 1 } else { self.n };
+        RootTask { left, attacking }
+    }
 }

@@ -1,6 +1,6 @@
 //! The worker in the caller, and the others beside it.
 ghost use denote.Param.Send.{IsSend, IsSync};
-ghost use Rattle.std.specs.Prelude.{◌≡◌, ◌<◌, length, OnOk, IsErrOf};
+ghost use Rattle.std.specs.Prelude.{◌≡◌, length, OnOk, IsErrOf};
 ghost use Rattle.std.specs.List.{All};
 ghost use Rattle.mate_shards.specs.contracts.shards.Passes as PassesRow;
 ghost use Rattle.mate_shards.specs.contracts.shards.Shards as ShardsRow;
@@ -15,7 +15,7 @@ use crate::race_watch::RaceWatch;
 use io_ports::Gate;
 use mate_settle::FactTable;
 use std::sync::Wait;
-use std::thread::{Threads, for_each_mut, join_mut};
+use std::thread::Threads;
 use watching::{Halt, Watch};
 
 /// The worker in the caller. When it ends, whatever the reason, the others are told to stop. That it was told so itself
@@ -48,31 +48,6 @@ fn lead<R: Wait, W: Watch, G: Gate>(
     end
 }
 
-/// The workers beside the first.
-fn help_all<R: Threads + Wait + Sync, G: Gate + Sync>(
-    rt: &R,
-    race: &Race<G>,
-    jobs: &mut [WorkerPasses],
-)
-    requires crosses { IsSync ShardsRow.the_row × IsSend PassesRow.the_row }
-    requires ready { IsReady race.now }
-    requires lent { All (IsLent race.now.shards.now) jobs.old }
-    requires some { 0 < length jobs.old }
-    ensures lent { All (IsLent race.now.shards.now) jobs.new }
-    ensures count { length jobs.new ≡ length jobs.old }
-{
-    let count = jobs.len();
-    for_each_mut(
-        rt,
-        jobs,
-        count,
-        &|_, job: &mut WorkerPasses|
-            requires { IsLent race.now.shards.now job.now × IsReady race.now }
-            ensures { IsLent race.entry.now.shards.now job.exit.now }
-        { help(rt, race, job) },
-    );
-}
-
 /// The worker in the caller and the others, beside each other. It returns once all have ended.
 pub(crate) fn run_all<R: Threads + Wait + Sync, W: Watch, G: Gate + Sync>(
     rt: &R,
@@ -94,16 +69,13 @@ pub(crate) fn run_all<R: Threads + Wait + Sync, W: Watch, G: Gate + Sync>(
     ensures gone { OnOk result (W.gone watch.old watch.new (race_lines race.now)) }
     ensures ended { (why : Halt) → IsErrOf result why → W.ended watch.old watch.new (race_lines race.now) why }
 {
-    if jobs.is_empty() {
-        return lead(rt, race, mine, facts, watch);
-    }
-    let mut others = ||
-        requires { IsSync ShardsRow.the_row × IsSend PassesRow.the_row × IsReady race.now
-            × All (IsLent race.now.shards.now) jobs.now × (0 < length jobs.now) }
-        ensures { All (IsLent race.entry.now.shards.now) jobs.exit.now
-            × (length jobs.exit.now ≡ length jobs.entry.now) }
-    { help_all(rt, race, jobs) };
-    let mut first = || lead(rt, race, mine, facts, watch);
-    let (_, end) = join_mut(rt, &mut others, &mut first);
-    end
+    watching::race(
+        rt,
+        jobs,
+        &|_, job: &mut WorkerPasses|
+            requires { IsLent race.now.shards.now job.now × IsReady race.now }
+            ensures { IsLent race.entry.now.shards.now job.exit.now }
+        { help(rt, race, job) },
+        &mut || lead(rt, race, mine, facts, watch),
+    )
 }

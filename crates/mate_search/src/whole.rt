@@ -34,9 +34,9 @@ use watching::{Caller, Halt, Watch, stopped_by};
 /// blocked positions; the passes have a part for each worker. Hints change the time that it takes, and nothing else.
 ///
 /// The first worker runs in the caller, and the watch that is lent is its own: all that it hears of the outside, and
-/// what may cut it. The other workers settle root moves beside it, each within the quota of nodes, and publish what they
-/// find. No worker enters more nodes than four times n and one times the lines of at most as many legal moves as twice n
-/// and one.
+/// what may cut it. It enters at most four times n and one times the lines of at most as many legal moves as twice n
+/// and one. The other workers settle root moves beside it, each within the quota of nodes, and publish what they find;
+/// no clause here counts their nodes.
 ///
 /// The passes of all workers are joined and handed back with every answer. Where the solve was not cut and the root's
 /// repeat is not blocked, its shard then has a fact that serves the root, or is full.
@@ -115,11 +115,11 @@ fn look_up<R: Wait>(rt: &R, shards: &Shards, passes: &mut Passes, game: &Game, n
 
 /// As `solve_watched`, for the side that attacks in the frame of the shards, over ports.
 ///
-/// The first worker polls the source each 1,024 nodes, answers the lines that it hears, and is cut by a line that stops
-/// the search, by the end of the lines, by the deadline, or once it has entered as many nodes as the quota says. A quota
-/// of the greatest number that a worker enters never cuts a solve. How many nodes it entered is told by no clause here:
-/// those of `solve_watched` say it of a watch's own count. With a quota of 0 nothing is searched: the answer is what the
-/// shards know of the root.
+/// The first worker polls the source each 1,024 nodes, answers the lines that it hears, and is cut by a line that
+/// stops the search, by the end of the lines, by the deadline, or once it has entered as many nodes as the quota says.
+/// A quota of the greatest number that this worker enters never cuts a solve. How many nodes it entered is told by no
+/// clause here: those of `solve_watched` say it of a watch's own count. With a quota of 0 nothing is searched: the
+/// answer is what the shards know of the root.
 ///
 /// # Errors
 ///

@@ -1,19 +1,21 @@
 //! What the solver says of a game.
 ghost use Rattle.std.specs.Prelude.{◌≡◌, ◌<◌, ◌≤◌, IfOk};
 ghost use Rattle.mate_search.specs.Solves.{IsFrameFor};
+ghost use Rattle.mate_showing.specs.Answers.{IsFrameOf};
 ghost use Rattle.mate_shards.specs.Grown.{HaveParts};
 ghost use Rattle.mate_shards.specs.Views.{ArePassesOf};
 
 use foundation::Memory;
 use game_play::Game;
 use hint_table::HintTable;
-use io_ports::{Dialect, Limits, ListClock, MemSink, OpenGate, Ports, QuietSource, SearchFault};
-use mate_search::{Mate, Settled, settle, solve};
+use io_ports::OpenGate;
+use mate_search::{Settled, settle, solve_watched};
 use mate_shards::{Passes, Shards};
 use rules_model::Side;
 use std::alloc::Global;
 use std::sync::Wait;
 use std::thread::Threads;
+use watching::Unwatched;
 
 /// Which call is asked.
 #[derive(Clone, Copy)]
@@ -32,22 +34,11 @@ pub enum Said {
     Unsettled,
 }
 
-fn said_by_settle(answer: Result<Settled, Memory>) -> Result<Said, Memory> {
-    match answer {
-        Ok(Settled::Shown(_)) => Ok(Said::Won),
-        Ok(Settled::NoMate) => Ok(Said::NotWon),
-        Ok(Settled::Unsettled { .. }) => Ok(Said::Unsettled),
-        Err(memory) => Err(memory),
-    }
-}
-
-fn said_by_solve(answer: Result<Mate, SearchFault>) -> Result<Said, Memory> {
-    match answer {
-        Ok(Mate::Shown(_)) => Ok(Said::Won),
-        Ok(Mate::NoMate) => Ok(Said::NotWon),
-        Ok(Mate::Unsettled { .. }) => Ok(Said::Unsettled),
-        // Nothing cuts a solve over a quiet source without limits: it fails for memory alone.
-        Ok(Mate::Stopped(_)) | Err(_) => Err(Memory),
+fn said_of(settled: &Settled) -> Said {
+    match settled {
+        Settled::Shown(_) => Said::Won,
+        Settled::NoMate => Said::NotWon,
+        Settled::Unsettled { .. } => Said::Unsettled,
     }
 }
 
@@ -73,23 +64,22 @@ fn by_settle<R: Wait>(
     let hints = HintTable::new(alloc, 1024)?;
     hints.fill(hint);
     let (passes, answer) = settle(rt, alloc, game, attacker, n, shards, passes, &hints);
-    let said = said_by_settle(answer)?;
-    Ok((passes, said))
+    let settled = answer?;
+    Ok((passes, said_of(&settled)))
 }
 
-/// What `solve` says by this number of workers over ports that stop nothing, and the passes again.
+/// What `solve_watched` says by this number of workers that nothing disturbs, and the passes again.
 fn by_solve<R: Threads + Wait + Sync>(
     rt: &R,
     alloc: Global,
     game: &Game,
-    attacker: Side,
     n: u16,
     workers: u32,
     hint: u64,
     shards: &Shards,
     passes: Passes,
 ) -> Result<(Passes, Said), Memory>
-    requires frame { IsFrameFor game.now attacker shards.now.frame }
+    requires frame { IsFrameOf game.now shards.now.frame }
     requires passes { ArePassesOf shards.now passes }
     requires parts { HaveParts 65536 passes }
     requires some { 0 < n }
@@ -100,25 +90,15 @@ fn by_solve<R: Threads + Wait + Sync>(
 {
     let hints = HintTable::new(alloc, 1024)?;
     hints.fill(hint);
-    let mut source = QuietSource;
-    let mut sink = MemSink::new(alloc, 0)?;
-    let mut clock = ListClock::new(alloc, &[])?;
-    let limits = Limits {
-        quota: None,
-        deadline: None,
-    };
-    let mut ports = Ports {
-        source: &mut source,
-        sink: &mut sink,
-        clock: &mut clock,
-        gate: &OpenGate,
-        dialect: Dialect::Uci,
-    };
-    let (passes, answer) = solve(
-        rt, alloc, game, attacker, n, shards, passes, &hints, limits, workers, &mut ports,
+    let mut watch = Unwatched::new();
+    let (passes, answer) = solve_watched(
+        rt, alloc, game, n, shards, passes, &hints, None, workers, &OpenGate, &mut watch,
     );
-    let said = said_by_solve(answer)?;
-    Ok((passes, said))
+    match answer {
+        Ok(settled) => Ok((passes, said_of(&settled))),
+        // Nothing disturbs the watch: a solve fails for memory alone.
+        Err(_) => Err(Memory),
+    }
 }
 
 /// What the call says of a win of the game by the side within `n` of its moves, and the passes again. A solve has at
@@ -146,7 +126,7 @@ pub fn ask<R: Threads + Wait + Sync>(
         Call::Solve { workers, hint } => {
             // A solve has from 1 to 64 workers, and the type of a call does not say so.
             let workers = workers.max(1).min(64);
-            by_solve(rt, alloc, game, attacker, n, workers, hint, shards, passes)
+            by_solve(rt, alloc, game, n, workers, hint, shards, passes)
         }
     }
 }

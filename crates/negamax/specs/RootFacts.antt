@@ -36,7 +36,7 @@ pub record Settles (rules : Rules) (depth : ℕ) (g : Story) (m : Move) (before 
   pub most : score_of rules depth g m ≤ℤ after.value
   pub best : (after ≡ before) ⊎ Raises rules depth g m before after
 
--- how far the root moves are settled: this move scores at least the best, and the first so many at most the best
+-- how far the root moves are settled: this move scores at least the best, and the first N at most the best
 pub record Leads (rules : Rules) (depth : ℕ) (g : Story) (roots : List Move) (settled : ℕ) (best : ℤ)
     (chosen : Move) : Type 0 where
   pub within : Within best

@@ -30,7 +30,7 @@ pub record Pushes (P : Move → Type 0) (old new : List ScoredMove) : Type 0 whe
   pub is : new ≡ old ++ added
   pub each : Lists P (moves_of added)
 
--- the move of one candidate was taken from those behind the first so many, whose order may have changed
+-- the move of one candidate was taken from those after the first N, whose order may have changed
 pub record Takes (first : ℕ) (old new : List ScoredMove) (m : Move) : Type 0 where
   pub taken : ScoredMove
   pub rest : List ScoredMove
@@ -45,7 +45,7 @@ pub record Trial {C : Type 0} (a b best v : ℤ) (score : C → ℤ) (rest : Lis
   pub within : Within best
   pub value : greatest so_far score rest ≡ v
 
--- So many nodes were entered that with those of the rest there are at most this many.
+-- The nodes that were entered and those of the rest are together at most this many.
 pub record Entered {W C : Type 0} (gone : W → W → ℕ → Type 0) (before now : W) (size : C → ℕ) (rest : List C)
     (most : ℕ) : Type 0 where
   pub nodes : ℕ

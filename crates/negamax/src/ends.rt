@@ -16,7 +16,7 @@ use rules_model::{Move, Outcome, Side};
 /// The worth of a win at the root.
 const WIN: i32 = 32_000;
 
-/// What an end is worth to the side to move, so many plies from the root; `None` where the game goes on.
+/// What an end is worth to the side to move, at a number of plies from the root; `None` where the game goes on.
 fn worth(mover: Side, ply: u8, outcome: Outcome) -> Option<i32>
     ensures { result ≡ Values.worth mover ply outcome }
 {
@@ -30,7 +30,7 @@ fn worth(mover: Side, ply: u8, outcome: Outcome) -> Option<i32>
     }
 }
 
-/// What the end of the line is worth to the side to move, so many plies from the root; `None` where it goes on.
+/// What the end of the line is worth to the side to move, at a number of plies from the root; `None` where it goes on.
 pub(crate) fn end_of(line: &Line, ply: u8) -> Option<i32>
     ensures { result ≡ (Values.play line.now.rules).ended (story_of_line line.now) ply }
 {
@@ -63,8 +63,8 @@ pub(crate) fn stand_pat(line: &Line, tally: Tally) -> i32
     tally.value(line.board().position().side)
 }
 
-/// What the last position is worth to the side to move without a look at captures: by its end, so many plies from the
-/// root, or at a glance, which is given.
+/// What the last position is worth to the side to move without a look at captures: by its end, at a number of plies from
+/// the root, or at a glance, which is given.
 pub(crate) fn resting(line: &Line, ply: u8, glance: i32) -> i32
     requires glance { glance ≡ (Values.play line.now.rules).eval (story_of_line line.now) }
     ensures is { result ≡ Values.quiet (Values.play line.now.rules) 0 ply (story_of_line line.now) }

@@ -3,13 +3,14 @@ use evaluation::{PieceValues, evaluate};
 use foundation::Memory;
 use hint_table::{HintTable, NO_SLOT, SLOTS, Slot, slot_of};
 use playing::Board;
-use rules_model::{Move, Position, Promo, Square, cell_at};
+use rules_model::{Move, Position, Promo, SQUARES, Square, cell_at};
 use std::alloc::Global;
 
 /// How many plies from the root killers are kept.
 const PLIES: usize = 72;
 
-/// What the groups of moves are scored from, each above all scores of the next one: captures that lose a piece are last.
+/// What the groups of moves are scored from, each above all scores of the next one. Captures that lose a piece are
+/// last.
 const HINTED: u32 = 1 << 31;
 
 const TAKING: u32 = 1 << 30;
@@ -36,8 +37,8 @@ impl MoveOrder {
         })
     }
 
-    /// Remembers that the move of the position cut so many plies from the root, with so many plies left. A capture is
-    /// not remembered: it is tried early anyway, and would push out the quiet moves.
+    /// Remembers that the move of the position cut, at a number of plies from the root and with a number of plies left.
+    /// A capture is not remembered: it is tried early anyway, and would push out the quiet moves.
     pub fn remember(&mut self, p: &Position, slot: Slot, ply: u8, depth: u8) {
         if slot == NO_SLOT || takes(p, slot) {
             return;
@@ -71,7 +72,7 @@ impl MoveOrder {
         QUIET.saturating_add(cuts)
     }
 
-    /// The score of a move so many plies from the root, where a hint names a move.
+    /// The score of a move at a number of plies from the root, where a hint names a move.
     pub fn score(&self, worths: &PieceValues, board: &Board, m: &Move, hint: Slot, ply: u8) -> u32 {
         let slot = slot_of(m);
         if slot != NO_SLOT && slot == hint {
@@ -93,15 +94,38 @@ fn takes(p: &Position, slot: Slot) -> bool {
 /// How much more than its victim a piece has to be worth to be lost for it.
 const LEAST_LOSS: u32 = 40;
 
-/// Whether a piece takes one that is worth less, on a square that the other side attacks.
+/// Whether a piece takes one that is worth less, on a square that the other side attacks. A pawn that promotes is not
+/// counted as lost: what it becomes is worth a try.
 fn loses_a_piece(worths: &PieceValues, board: &Board, m: &Move) -> bool {
-    let Move::Go { from, to, .. } = *m else {
+    let Move::Go {
+        from,
+        to,
+        promo,
+        ..
+    } = *m
+    else {
         return false;
     };
+    if promo != Promo::Stays {
+        return false;
+    }
     let p = board.position();
     let victim = worth_on(worths, p, to);
     let own = worth_on(worths, p, from);
-    victim.saturating_add(LEAST_LOSS) < own && board.tables().attacked(p, to, p.side.other())
+    victim.saturating_add(LEAST_LOSS) < own && is_attacked(board, to)
+}
+
+/// Whether a piece of the other side attacks the square, on which no king of the side to move is.
+fn is_attacked(board: &Board, at: Square) -> bool {
+    if usize::from(at.0) >= SQUARES {
+        return false;
+    }
+    let p = board.position();
+    let sets = board.sets();
+    let by = p.side.other();
+    board
+        .tables()
+        .piece_attacks(&p.cells, sets.enemies, sets.occupied(), at, by)
 }
 
 /// What the piece on the square is worth by its kind: 0 where there is none, and for the king.
@@ -111,6 +135,9 @@ fn worth_on(worths: &PieceValues, p: &Position, at: Square) -> u32 {
 
 /// What the king counts as where it takes, and what a piece counts as at most.
 const DEAREST: u32 = 2047;
+
+/// How many scores there are for one victim: more than `DEAREST / 16`.
+const OF_ONE_VICTIM: u32 = 128;
 
 /// The most valuable victim first, and the least valuable piece that takes it; the king last.
 pub(crate) fn mvv_lva(worths: &PieceValues, p: &Position, m: &Move) -> Option<u32> {
@@ -132,7 +159,7 @@ pub(crate) fn mvv_lva(worths: &PieceValues, p: &Position, m: &Move) -> Option<u3
         own => own.min(DEAREST),
     };
     let victim = worth_on(worths, p, to).min(1 << 13);
-    Some((victim + raised) * 64 + (DEAREST - own) / 16)
+    Some((victim + raised) * OF_ONE_VICTIM + (DEAREST - own) / 16)
 }
 
 /// The slot of the move, where it scored above the floor: the other side answers it by this. Else the slot so far.

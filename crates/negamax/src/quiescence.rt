@@ -15,7 +15,7 @@ use evaluation::{PieceValues, Tally};
 use game_line::Line;
 use watching::{Halt, Watch};
 
-/// What the window asks of the value of standing pat, or of the best line of at most so many captures.
+/// What the window asks of the value of standing pat, or of the best line of at most N captures.
 pub(crate) fn quiescence<W: Watch>(
     line: &mut Line,
     worths: &PieceValues,

@@ -11,7 +11,7 @@ pub(crate) struct ScoredMove {
     pub score: u32,
 }
 
-/// The place of the greatest score behind the first so many.
+/// The place of the greatest score after the first N.
 fn best_place(list: &[ScoredMove], first: usize) -> usize
     requires { first < length list.now }
     ensures behind { first ≤ result }
@@ -26,7 +26,7 @@ fn best_place(list: &[ScoredMove], first: usize) -> usize
     best
 }
 
-/// Takes the move of the greatest score from those behind the first so many.
+/// Takes the move of the greatest score from those after the first N.
 pub(crate) fn take_best(list: &mut Vec<ScoredMove>, first: usize) -> Move
     requires { first < vec_len list.old }
     ensures takes { Takes first list.old.items list.new.items result }

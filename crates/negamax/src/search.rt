@@ -20,7 +20,7 @@ use watching::{Halt, Watch};
 /// How many captures are searched behind the last ply.
 const CAPTURES: u8 = 4;
 
-/// What the window asks of the value of the line at a depth, so many plies from the root.
+/// What the window asks of the value of the line at a depth, at a number of plies from the root.
 pub(crate) fn search<W: Watch>(
     line: &mut Line,
     worths: &PieceValues,

@@ -20,8 +20,8 @@ use rules_model::{Move, MoveList, Position};
 use std::alloc::{AllocError, Global};
 use watching::Halt;
 
-/// What a worker keeps from one search to the next: the moves that wait to be searched, and what orders them. Two desks
-/// find the same values.
+/// What a worker keeps from one search to the next: the moves that wait to be searched, and what orders them. Any two of
+/// them lead to the same values.
 #[derive(Drop)]
 pub struct SearchState<'h> {
     hints: &'h HintTable,
@@ -31,7 +31,7 @@ pub struct SearchState<'h> {
 }
 
 impl<'h> SearchState<'h> {
-    /// An empty desk, some 200 KB, that takes its hints from the table and leaves its own there; or `Memory`.
+    /// An empty one, some 200 KB, that takes its hints from the table and leaves its own there; or `Memory`.
     pub fn new(alloc: Global, hints: &'h HintTable) -> Result<SearchState<'h>, Memory> {
         Ok(SearchState {
             hints,
@@ -48,8 +48,8 @@ impl<'h> SearchState<'h> {
         self.hints.get(key).map_or(NO_SLOT, |hint| hint.slot)
     }
 
-    /// Leaves in the table what the search of a position came to, so many plies from the root, and remembers its move
-    /// where that cut.
+    /// Leaves in the table what the search of a position came to, at a number of plies from the root, and remembers its
+    /// move where that cut.
     pub(crate) fn leave(&mut self, p: &Position, key: u64, ply: u8, hint: Hint, cuts: bool)
         ensures { self.new.waiting.items ≡ self.old.waiting.items }
     {
@@ -82,7 +82,7 @@ impl<'h> SearchState<'h> {
         Ok(has_moves(&self.listed))
     }
 
-    /// Has all legal moves wait, so many plies from the root, and tells whether there are any.
+    /// Has all legal moves wait, at a number of plies from the root, and tells whether there are any.
     fn wait_all(
         &mut self,
         board: &Board,
@@ -138,8 +138,8 @@ impl<'h> SearchState<'h> {
         Ok(any)
     }
 
-    /// Has all legal moves wait, so many plies from the root, and tells whether there are any; or what ends the search
-    /// where there is no memory.
+    /// Has all legal moves wait, at a number of plies from the root, and tells whether there are any; or what ends the
+    /// search where there is no memory.
     pub(crate) fn push_moves(
         &mut self,
         board: &Board,

@@ -5,18 +5,16 @@ ghost use Rattle.game_play.specs.Played.{legal_in, story};
 ghost use Rattle.game_values.specs.Values.{value_of};
 ghost use Rattle.session_model.specs.Generate.{generated_text, value_text};
 
-use alpha_beta::search_watched;
+use alpha_beta::search_unwatched;
 use foundation::{Memory, Text};
 use game_play::Game;
 use game_reports::{Printed, perft_of};
 use hint_table::HintTable;
-use io_ports::OpenGate;
 use legality::legal_moves;
 use rules_model::Move;
 use std::alloc::Global;
 use std::thread::Threads;
 use variant_fen::write_fen;
-use watching::Unwatched;
 
 /// How many words of hints a search of two plies has.
 const HINTS: usize = 4096;
@@ -33,13 +31,8 @@ fn value_of<R: Threads + Sync>(
     ensures { IfOk result (λ value. value ≡ value_of game.now.rules 2 (story game.now) roots.now) }
 {
     let hints = HintTable::new(alloc, HINTS)?;
-    let mut watch = Unwatched::new();
-    let gate = &OpenGate;
-    match search_watched(rt, alloc, game, 2, roots, &hints, None, 1, gate, &mut watch) {
-        Ok(found) => Ok(found.value),
-        // Nothing disturbs the watch: a search fails for memory alone.
-        Err(_) => Err(Memory),
-    }
+    let found = search_unwatched(rt, alloc, game, 2, roots, &hints, 1)?;
+    Ok(found.value)
 }
 
 // The text of the value at depth 2 over all legal moves; `none` where there is none.

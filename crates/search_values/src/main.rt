@@ -2,54 +2,24 @@
 //! input is a game: the name of a variant that is built in, and the moves from its start.
 #![tactic(auto)]
 
-ghost use Rattle.std.specs.Prelude.{◌≡◌, ◌<◌, ◌≤◌, true, [], length, IfOk, IfSome, IfNone};
+ghost use Rattle.std.specs.Prelude.{◌≡◌, ◌<◌, ◌≤◌, true, [], IfOk, IfSome, IfNone};
 ghost use Rattle.rules_model.specs.Fit.{IsFit};
 ghost use Rattle.rules_model.specs.Sound.{is_sound};
-ghost use Rattle.alpha_beta.specs.Roots.{AreLegal};
 ghost use Rattle.game_play.specs.Played.{legal_in, story};
 ghost use Rattle.game_values.specs.Values as Values;
 
-use alpha_beta::search_watched;
+use alpha_beta::search_unwatched;
 use foundation::Memory;
 use game_play::Game;
 use hint_table::HintTable;
-use io_ports::OpenGate;
 use legality::legal_moves;
 use move_names::read_move;
-use rules_model::{Move, Rules};
+use rules_model::Rules;
 use std::alloc::{AllocError, Global};
 use std::io;
 use std::io::{BufRead, BufReader};
 use std::thread::Threads;
 use variant_rules::{Found, Variants, builtin, load};
-use watching::Unwatched;
-
-/// The value of the game at the depth over these root moves.
-fn value_over<R: Threads + Sync>(
-    rt: &R,
-    alloc: Global,
-    game: &Game,
-    roots: &[Move],
-    hints: &HintTable,
-    depth: u8,
-    workers: u32,
-) -> Result<i32, Memory>
-    requires legal { AreLegal game.now.rules (story game.now) roots.now }
-    requires some { 0 < length roots.now }
-    requires depth { (1 ≤ depth) × (depth ≤ 64) }
-    requires workers { (0 < workers) × (workers ≤ 64) }
-    ensures { IfOk result (λ value. value ≡ Values.value_of game.now.rules depth (story game.now) roots.now) }
-{
-    let mut watch = Unwatched::new();
-    let found = search_watched(
-        rt, alloc, game, depth, roots, hints, None, workers, &OpenGate, &mut watch,
-    );
-    match found {
-        Ok(found) => Ok(found.value),
-        // Nothing disturbs the watch: a search fails for memory alone.
-        Err(_) => Err(Memory),
-    }
-}
 
 /// What the game is worth at the depth; `None` where no move is legal.
 fn value_of<R: Threads + Sync>(
@@ -72,8 +42,8 @@ fn value_of<R: Threads + Sync>(
         return Ok(None);
     }
     let roots = moves.items.as_slice();
-    let value = value_over(rt, alloc, game, roots, hints, depth, workers)?;
-    Ok(Some(value))
+    let found = search_unwatched(rt, alloc, game, depth, roots, hints, workers)?;
+    Ok(Some(found.value))
 }
 
 /// The game of the moves from the start of the rules; `None` where one of them is not legal.

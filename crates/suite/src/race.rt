@@ -10,33 +10,7 @@ use crate::work::{Job, work};
 use io_ports::Gate;
 use std::alloc::Global;
 use std::sync::Wait;
-use std::thread::{Threads, for_each_mut, join_mut};
-
-// The workers beside the first.
-fn help_all<R: Threads + Wait + Sync, G: Gate + Sync>(
-    rt: &R,
-    alloc: Global,
-    jobs: &mut [Job],
-    queue: &Queue,
-    gate: &G,
-    problems: &[Problem],
-)
-    requires fair { All IsFair problems.now }
-    requires found { HaveFound problems.now jobs.old }
-    requires count { (0 < length jobs.old) × (length jobs.old ≤ 63) }
-    ensures found { HaveFound problems.now jobs.new }
-{
-    let count = jobs.len();
-    for_each_mut(
-        rt,
-        jobs,
-        count,
-        &|k: usize, job: &mut Job|
-            requires { HasFound problems.now job.now × All IsFair problems.now × (k < 63) }
-            ensures { HasFound problems.entry.now job.exit.now }
-        { work(rt, alloc, job, queue, gate, k as u32 + 1, problems) },
-    );
-}
+use std::thread::Threads;
 
 /// The worker in the caller, whose job is the first one, and the others beside it. It returns once all have ended.
 pub(crate) fn race<R: Threads + Wait + Sync, G: Gate + Sync>(
@@ -55,18 +29,16 @@ pub(crate) fn race<R: Threads + Wait + Sync, G: Gate + Sync>(
     ensures mine { HasFound problems.now mine.new }
     ensures found { HaveFound problems.now jobs.new }
 {
-    if jobs.is_empty() {
-        work(rt, alloc, mine, queue, gate, 0, problems);
-        return;
-    }
-    let mut others = ||
-        requires { HaveFound problems.now jobs.now × All IsFair problems.now
-            × (0 < length jobs.now) × (length jobs.now ≤ 63) }
-        ensures { HaveFound problems.entry.now jobs.exit.now }
-    { help_all(rt, alloc, jobs, queue, gate, problems) };
-    let mut first = ||
-        requires { HasFound problems.now mine.now × All IsFair problems.now }
-        ensures { HasFound problems.entry.now mine.exit.now }
-    { work(rt, alloc, mine, queue, gate, 0, problems) };
-    join_mut(rt, &mut others, &mut first);
+    watching::race(
+        rt,
+        jobs,
+        &|k: usize, job: &mut Job|
+            requires { HasFound problems.now job.now × All IsFair problems.now × (k < 63) }
+            ensures { HasFound problems.entry.now job.exit.now }
+        { work(rt, alloc, job, queue, gate, k as u32 + 1, problems) },
+        &mut ||
+            requires { HasFound problems.now mine.now × All IsFair problems.now }
+            ensures { HasFound problems.entry.now mine.exit.now }
+        { work(rt, alloc, mine, queue, gate, 0, problems) },
+    );
 }

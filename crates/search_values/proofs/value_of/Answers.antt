@@ -5,8 +5,8 @@ use Rattle.rules_model.specs.declared.moves.Move.{Move}
 use Rattle.game_play.specs.Played.{legal_in}
 use Rattle.search_values.proofs.value_of.Goals as goal
 
-pub value_over-requires-clause-legal : goal.value_over-requires-clause-legal
-value_over-requires-clause-legal g c κs within k d below =
+pub search_unwatched-requires-clause-legal : goal.search_unwatched-requires-clause-legal
+search_unwatched-requires-clause-legal g c κs within k d below =
     let viewed : c.as_slice-roots.result.now ≡ c.in_ok-moves.moves = search rules in
     let same : c.as_slice-roots.result.now ≡ legal_in c.args.game.now = viewed ∙ (rw (c.rules.ensures, c.position.ensures.is) at c.in_ok-moves.ensures) in
     subst (λ (ms : List Move). Member (slice_index_or c.as_slice-roots.result.now k d) ms) same (get_or-member c.as_slice-roots.result.now k d below)

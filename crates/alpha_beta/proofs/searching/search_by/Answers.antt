@@ -23,9 +23,6 @@ returns-in_err-gather-clause-ended g c why is =
     subst (λ (w : Halt). g.W.Watch.ended c.args.watch.now c.race.new.watch (3 * n) w) same
     (g.met.W.Watch.memory _ _ (3 * n) (g.met.W.Watch.wider _ _ (2 * n) (3 * n) c.in_ok-race.ensures.gone le))
 
-pub gather-requires-clause-known : goal.gather-requires-clause-known
-gather-requires-clause-known g c = c.race.ensures.found.known
-
 pub returns-in_err-best-clause-ended : goal.returns-in_err-best-clause-ended
 returns-in_err-best-clause-ended g c why is =
     let back : c.combine_facts.result ≡ Err why = search rules in

@@ -21,8 +21,7 @@ after-next-requires g c =
     let x = get_or ms i no_move in
     let within : i < length ms = c.loop-i-test.true in
     let at : slice_get ms i ≡ Some x = read-at ms i no_move within in
-    let board : c.new-board.result ≡ record { rules = c.args.race.now.game.now.rules; position = (story c.args.race.now.game.now).last } = search rules in
-    (root-moves c.args.race.now c.requires.ready c.new-board.result board).sound x (member-at ms i x at)
+    (root-moves c.args.race.now c.requires.ready c.board-board.result c.board-board.ensures).sound x (member-at ms i x at)
 
 pub loop-i-init : goal.loop-i-init
 loop-i-init g c = record {
@@ -36,24 +35,22 @@ returns-in_err-outcome-clause-ended g c why is =
     let race = c.args.race.now in
     let f = c.args.facts.now in
     let r = seen_in f in
-    let board : c.new-board.result ≡ record { rules = race.game.now.rules; position = (story race.game.now).last } = search rules in
-    let p = c.new-board.result.position in
-    let left = c.root_task-task.result.left in
+    let p = c.board-board.result.position in
+    let left = c.task-task.result.left in
     let ms = race.roots.now in
     let i = c.loop-i.i in
     let x = get_or ms i no_move in
-    let same-rules = root-rules race c.requires.ready f c.new-board.result c.requires.facts board in
-    let all = moves-of f c.new-board.result ms same-rules (root-moves race c.requires.ready c.new-board.result board) in
+    let same-rules = root-rules race c.requires.ready f c.board-board.result c.requires.facts c.board-board.ensures in
+    let all = moves-of f c.board-board.result ms same-rules (root-moves race c.requires.ready c.board-board.result c.board-board.ensures) in
     let within : i < length ms = c.loop-i-test.true in
     let at : slice_get ms i ≡ Some x = read-at ms i no_move within in
-    let there : c.after-next.result.position ≡ next f.rules p x = after-is f.rules f c.new-board.result c.after-next.result x same-rules c.after-next.ensures in
+    let there : c.after-next.result.position ≡ next f.rules p x = after-is f.rules f c.board-board.result c.after-next.result x same-rules c.after-next.ensures in
     let kept : c.loop-i.facts ≡ f = c.loop-i.invariant.facts in
     let lines = same-lines c.loop-i.facts f c.after-next.result.position (next f.rules p x) left kept there in
     let back : c.settle_next.result ≡ Err why = search rules in
     let more = part-more r p left ms i x (lines_within (seen_in c.loop-i.facts) left c.after-next.result.position) at lines in
     let whole : sum_by (lines_after r left p) (take (i + 1) ms) ≤ lines_of_moves f left p = part-whole (lines_after r left p) (r.legal p) ms all (i + 1) in
-    let turn : same_side p.side race.shards.now.frame.attacker ≡ c.is.result = search rules in
-    let root = root-within race c.requires.ready f c.new-board.result c.requires.facts board c.is.result left turn c.root_task-task.ensures.left in
+    let root = root-within race c.requires.ready f c.board-board.result c.requires.facts c.board-board.ensures c.task-task.result c.task-task.ensures in
     g.met.W.Watch.ends_wider _ _ _ (root_lines race) why (g.met.W.Watch.ends _ _ _ (sum_by (lines_after r left p) (take i ms)) (lines_within (seen_in c.loop-i.facts) left c.after-next.result.position) why c.loop-i.invariant.gone (c.settle_next.ensures.ended why back))
     (omega (arith, more, whole, root))
 
@@ -66,21 +63,20 @@ loop-i-preserved g c =
     let f = c.args.facts.now in
     let s = race.shards.now in
     let r = seen_in f in
-    let board : c.new-board.result ≡ record { rules = race.game.now.rules; position = (story race.game.now).last } = search rules in
-    let p = c.new-board.result.position in
-    let left = c.root_task-task.result.left in
+    let p = c.board-board.result.position in
+    let left = c.task-task.result.left in
     let ms = race.roots.now in
     let i = c.loop-i.i in
     let old = c.loop-i.invariant in
     let kept : c.loop-i.facts ≡ f = old.facts in
-    let same-rules = root-rules race c.requires.ready f c.new-board.result c.requires.facts board in
+    let same-rules = root-rules race c.requires.ready f c.board-board.result c.requires.facts c.board-board.ensures in
     elim c.if-takes.branch [
       | then-takes+in_ok-outcome w ↦
           (let x = get_or ms i no_move in
           let e = w.in_ok-outcome.ensures in
           let within : i < length ms = c.loop-i-test.true in
           let at : slice_get ms i ≡ Some x = read-at ms i no_move within in
-          let there : w.after-next.result.position ≡ next f.rules p x = after-is f.rules f c.new-board.result w.after-next.result x same-rules w.after-next.ensures in
+          let there : w.after-next.result.position ≡ next f.rules p x = after-is f.rules f c.board-board.result w.after-next.result x same-rules w.after-next.ensures in
           let lines = same-lines c.loop-i.facts f w.after-next.result.position (next f.rules p x) left kept there in
           record {
             facts = rw w.facts-is (e.frame ∙ kept);
@@ -101,13 +97,11 @@ returns-clause-gone g c =
     let race = c.args.race.now in
     let f = c.args.facts.now in
     let r = seen_in f in
-    let board : c.new-board.result ≡ record { rules = race.game.now.rules; position = (story race.game.now).last } = search rules in
-    let p = c.new-board.result.position in
-    let left = c.root_task-task.result.left in
+    let p = c.board-board.result.position in
+    let left = c.task-task.result.left in
     let ms = race.roots.now in
-    let same-rules = root-rules race c.requires.ready f c.new-board.result c.requires.facts board in
-    let all = moves-of f c.new-board.result ms same-rules (root-moves race c.requires.ready c.new-board.result board) in
+    let same-rules = root-rules race c.requires.ready f c.board-board.result c.requires.facts c.board-board.ensures in
+    let all = moves-of f c.board-board.result ms same-rules (root-moves race c.requires.ready c.board-board.result c.board-board.ensures) in
     let whole : sum_by (lines_after r left p) (take c.loop-i.i ms) ≤ lines_of_moves f left p = part-whole (lines_after r left p) (r.legal p) ms all c.loop-i.i in
-    let turn : same_side p.side race.shards.now.frame.attacker ≡ c.is.result = search rules in
-    let root = root-within race c.requires.ready f c.new-board.result c.requires.facts board c.is.result left turn c.root_task-task.ensures.left in
+    let root = root-within race c.requires.ready f c.board-board.result c.requires.facts c.board-board.ensures c.task-task.result c.task-task.ensures in
     g.met.W.Watch.wider _ _ _ (root_lines race) c.loop-i.invariant.gone (omega (arith, whole, root))

@@ -1,5 +1,4 @@
 use Rattle.std.proofs.Common.{◌≡◌, ◌∙◌, get_or, slice_get, Some, rules}
-use Rattle.game_play.specs.Played.{story}
 use Rattle.mate_settle.proofs.Settled.{member-at}
 use Rattle.mate_search.proofs.HandedLaws.{handed_more}
 use Rattle.mate_search.proofs.RaceLaws.{root-moves}
@@ -13,8 +12,7 @@ after-next-requires g c =
     let i = c.loop-i.i in
     let x = get_or ms i no_move in
     let at : slice_get ms i ≡ Some x = read-at ms i no_move c.loop-i-test.true in
-    let board : c.new-board.result ≡ record { rules = race.game.now.rules; position = (story race.game.now).last } = search rules in
-    (root-moves race c.requires.ready c.new-board.result board).sound x (member-at ms i x at)
+    (root-moves race c.requires.ready c.board-board.result c.board-board.ensures).sound x (member-at ms i x at)
 
 pub loop-i-preserved : goal.loop-i-preserved
 loop-i-preserved g c = record {

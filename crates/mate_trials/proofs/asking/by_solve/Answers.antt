@@ -1,8 +1,8 @@
 use Rattle.std.proofs.Common.{arith}
 use Rattle.mate_trials.proofs.asking.by_solve.Goals as goal
 
-pub solve-passes-requires-clause-parts : goal.solve-passes-requires-clause-parts
-solve-passes-requires-clause-parts g c κs within = (65536, c.requires.parts, omega (arith, c.requires.workers))
+pub solve_watched-passes-requires-clause-parts : goal.solve_watched-passes-requires-clause-parts
+solve_watched-passes-requires-clause-parts g c κs within = (65536, c.requires.parts, omega (arith, c.requires.workers))
 
 pub returns-clause-parts : goal.returns-clause-parts
-returns-clause-parts g c = c.solve-passes.ensures.handed.parts 65536 c.requires.parts
+returns-clause-parts g c = c.solve_watched-passes.ensures.handed.parts 65536 c.requires.parts
