@@ -1,5 +1,5 @@
 -- A search, and the solve after it: what both add.
-use Rattle.std.proofs.Common.{◌≡◌, ℕ, ◌+◌, ◌-◌, ◌≤◌, ◌<◌, List, [], ◌∷◌, ◌++◌, length, Option, Some, None, Ok, Err, OnOk, IsErrOf, refl, ap, ◌∙◌, sym, subst, arith}
+use Rattle.std.proofs.Common.{◌≡◌, ℕ, ◌+◌, ◌-◌, ◌≤◌, ◌<◌, List, [], ◌∷◌, ◌++◌, length, Option, Some, None, Ok, Err, IsErrOf, refl, sym, subst, arith}
 use Rattle.std.specs.Prelude.{IfSome}
 use Rattle.std.specs.declared.result.Result.{Result}
 use Rattle.std.specs.Option.{option_map}
@@ -54,32 +54,18 @@ near_of t depth n some least sought = by_roots t.roots refl some
     by_roots [] are some = absurd (omega arith)
     by_roots (first ∷ roots) are some = sought_is_near t depth n first roots are least sought
 
--- what holds of a call that came to its end
-pub at_ok : {T E P : Type 0} (r : Result T E) (x : T) → r ≡ Ok x → OnOk r P → P
-at_ok {T = T} {E = E} {P = P} r x e h = subst (λ (q : Result T E). OnOk q P) e h
-
 -- ---- faults
-
-err_of : {T : Type 0} → SearchFault → Result T SearchFault → SearchFault
-err_of other (Ok x) = other
-err_of other (Err why) = why
-
-same_err : {T : Type 0} (r : Result T SearchFault) (why other : SearchFault) → r ≡ Err why → r ≡ Err other → why ≡ other
-unfolding err_of
-same_err r why other e f = ap (err_of why) (sym e ∙ f)
 
 module _ {T S K C : Type 0} (w : World S K C) (a b : Moment S K C) where
   -- the fault that ended a search is caused, also where it is told on
   pub failed_causes : (dialect : Dialect) (bound : ℕ) (why : SearchFault) (r : Result T SearchFault) → r ≡ Err why → Failed w dialect a b bound why
       → Causes (w.source_faults a.source) (w.source_faults b.source) (w.sink_faults a.sink) (w.sink_faults b.sink) (IsErrOf r)
-  failed_causes dialect bound why r is failed =
-      let caused : SearchFault → Type 0 = λ f. IsCaused (w.source_faults a.source) (w.source_faults b.source) (w.sink_faults a.sink) (w.sink_faults b.sink) f in
-      record {
-        source_later = failed.later.source_later;
-        sink_later = failed.later.sink_later;
-        source_failed = λ e. subst caused (same_err r why fault.ReadFault is e) failed.caused;
-        sink_failed = λ e. subst caused (same_err r why fault.WriteFault is e) failed.caused;
-      }
+  failed_causes dialect bound why r is failed = record {
+    source_later = failed.later.source_later;
+    sink_later = failed.later.sink_later;
+    source_failed = λ (e : r ≡ Err fault.ReadFault). let same : why ≡ fault.ReadFault = cc in subst (λ (f : SearchFault). IsCaused (w.source_faults a.source) (w.source_faults b.source) (w.sink_faults a.sink) (w.sink_faults b.sink) f) same failed.caused;
+    sink_failed = λ (e : r ≡ Err fault.WriteFault). let same : why ≡ fault.WriteFault = cc in subst (λ (f : SearchFault). IsCaused (w.source_faults a.source) (w.source_faults b.source) (w.sink_faults a.sink) (w.sink_faults b.sink) f) same failed.caused;
+  }
 
   -- no fault ended it
   pub ok_causes : (x : T) → Later w a b
@@ -87,8 +73,8 @@ module _ {T S K C : Type 0} (w : World S K C) (a b : Moment S K C) where
   ok_causes x later = record {
     source_later = later.source_later;
     sink_later = later.sink_later;
-    source_failed = λ e. absurd (cc);
-    sink_failed = λ e. absurd (cc);
+    source_failed = λ (e : Ok x ≡ Err fault.ReadFault). absurd (cc);
+    sink_failed = λ (e : Ok x ≡ Err fault.WriteFault). absurd (cc);
   }
 
 module _ {S K C : Type 0} (w : World S K C) (dialect : Dialect) where

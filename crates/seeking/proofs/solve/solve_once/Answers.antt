@@ -4,21 +4,22 @@ use Rattle.fact_lock.specs.Passes.{all_parts}
 use Rattle.game_play.specs.Played.{story}
 use Rattle.mate_core.specs.declared.frame.Frame.{Frame}
 use Rattle.mate_showing.specs.Answers as Solved
+use Rattle.watching.specs.LookLaws.{on_ok_of}
 use Rattle.seeking.proofs.AnswerLaws.{right_by}
 use Rattle.seeking.proofs.CutLaws.{sought_memory}
 use Rattle.seeking.proofs.solve.solve_once.Goals as goal
 
 pub returns-in_err-make_hints-clause-sought : goal.returns-in_err-make_hints-clause-sought
 returns-in_err-make_hints-clause-sought g c =
-    sought_memory _ c.args.dialect c.args.limits _ _ _ c.args.line.now _ _ (search rules)
+    sought_memory _ c.args.dialect c.args.limits _ _ _ c.args.line.now _ c.from_residual.result c.from_residual.ensures.1
 
 pub returns-in_err-frame-clause-sought : goal.returns-in_err-frame-clause-sought
 returns-in_err-frame-clause-sought g c =
-    sought_memory _ c.args.dialect c.args.limits _ _ _ c.args.line.now _ _ (search rules)
+    sought_memory _ c.args.dialect c.args.limits _ _ _ c.args.line.now _ c.from_residual-in_err-frame.result c.from_residual-in_err-frame.ensures.1
 
 pub returns-in_err-take_facts-clause-sought : goal.returns-in_err-take_facts-clause-sought
 returns-in_err-take_facts-clause-sought g c =
-    sought_memory _ c.args.dialect c.args.limits _ _ _ c.args.line.now _ _ (search rules)
+    sought_memory _ c.args.dialect c.args.limits _ _ _ c.args.line.now _ c.from_residual-in_err-take_facts.result c.from_residual-in_err-take_facts.ensures.1
 
 pub solve_watched-passes-requires-clause-parts : goal.solve_watched-passes-requires-clause-parts
 solve_watched-passes-requires-clause-parts g c κs within =
@@ -32,7 +33,11 @@ pub returns-clause-sought : goal.returns-clause-sought
 returns-clause-sought g c = record {
   entered = c.solve_watched-passes.new.watch.nodes;
   watched = record {
-    gone = search rules;
+    gone = on_ok_of c.solve_watched-passes.result.1 c.solve_watched-passes.ensures.gone (λ went.
+        let source_is = went.lent.same.source_is in let sink_is = went.lent.same.sink_is in
+        let clock_is = went.lent.same.clock_is in let line_is = went.lent.same.line_is in
+        let gone = went.gone in
+        search rules);
     ended = λ why is.
         let stopped = c.solve_watched-passes.ensures.ended why is in
         let source_is = stopped.lent.same.source_is in let sink_is = stopped.lent.same.sink_is in

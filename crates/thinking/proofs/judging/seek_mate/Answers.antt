@@ -5,6 +5,7 @@ use mir.Val.{to_z, of_z}
 use Rattle.rules_model.specs.declared.board.Position.{Position}
 use Rattle.rules_model.specs.declared.board.Side.{Side}
 use Rattle.game_play.specs.Played.{legal_in}
+use Rattle.mate_showing.proofs.OrderLaws.{from_ok}
 use Rattle.mate_showing.specs.declared.answer.Settled.TheVariants as settled
 use Rattle.watching.specs.declared.halt.Halt.TheVariants as halt
 use Rattle.watching.specs.Watched.{moment, world}
@@ -13,9 +14,10 @@ use Rattle.session_model.specs.Mates.{IsNoWin, IsEvidence, IsShown, favoured, mo
 use Rattle.session_model.specs.Mates as Mates
 use Rattle.session_model.specs.Thinking.{mate_sought}
 use Rattle.thinking.specs.declared.found.CutSolve.{CutSolve}
+use Rattle.thinking.specs.declared.judging.DepthJudged.{DepthJudged}
 use Rattle.thinking.specs.Views.{evidence_of, task_seen}
 use Rattle.thinking.proofs.FindingLaws.{evidence_same, favours_mover, finding_mated, finding_mates, finding_open, finding_points, legal_some, root_there, settled_by, settled_none}
-use Rattle.thinking.proofs.JudgeLaws.{at_ok, failed_causes, judged_cut, judged_none, judged_solved, near_of, ok_causes}
+use Rattle.thinking.proofs.JudgeLaws.{failed_causes, judged_cut, judged_none, judged_solved, near_of, ok_causes}
 use Rattle.thinking.proofs.judging.seek_mate.Goals as goal
 
 pub returns-in_default-clause-judged : goal.returns-in_default-clause-judged
@@ -41,12 +43,13 @@ returns-in-Err-Fault-clause-broken g c =
 pub returns-in-Err-Fault-clause-causes : goal.returns-in-Err-Fault-clause-causes
 returns-in-Err-Fault-clause-causes g c =
     let end : c.solve_once-solved.result ≡ Err (halt.Fault c.in-Err-Fault.why) = search rules in
-    failed_causes _ _ _ _ _ c.in-Err-Fault.why _ refl (c.solve_once-solved.ensures.sought.watched.ended (halt.Fault c.in-Err-Fault.why) end)
+    failed_causes {T = DepthJudged} (world g.S.Source.left g.S.Source.owed g.S.Source.faults g.K.Sink.taken g.K.Sink.faults g.C.Clock.given g.C.Clock.count g.C.Clock.last) (moment c.args.source.now c.args.sink.now c.args.clock.now 0) (moment c.solve_once-solved.new.source c.solve_once-solved.new.sink c.solve_once-solved.new.clock c.solve_once-solved.ensures.sought.entered) c.args.dialect _ c.in-Err-Fault.why (Err c.in-Err-Fault.why) refl
+    (c.solve_once-solved.ensures.sought.watched.ended (halt.Fault c.in-Err-Fault.why) end)
 
 pub returns-then-value-lt0-clause-judged : goal.returns-then-value-lt0-clause-judged
 returns-then-value-lt0-clause-judged g c =
     let end : c.solve_once-solved.result ≡ Ok (settled.Shown c.in-Ok-Shown.strategy) = search rules in
-    let gone = at_ok _ _ end c.solve_once-solved.ensures.sought.watched.gone in
+    let gone = from_ok _ _ end c.solve_once-solved.ensures.sought.watched.gone in
     let value = to_z-of_z w32 c.args.value c.ranges.value in
     let is = value ∙ c.requires.value in
     let sought : mate_sought (task_seen c.args.task.now) c.args.depth ≡ Some c.in-Some.moves = sym (c.mate_sought.ensures c.args.depth is) ∙ c.in-Some.is in
@@ -70,7 +73,7 @@ unreachable-requires g c =
 pub returns-in-Ok-NoMate-clause-judged : goal.returns-in-Ok-NoMate-clause-judged
 returns-in-Ok-NoMate-clause-judged g c =
     let end : c.solve_once-solved.result ≡ Ok settled.NoMate = search rules in
-    let gone = at_ok _ _ end c.solve_once-solved.ensures.sought.watched.gone in
+    let gone = from_ok _ _ end c.solve_once-solved.ensures.sought.watched.gone in
     let value = to_z-of_z w32 c.args.value c.ranges.value in
     let is = value ∙ c.requires.value in
     let sought : mate_sought (task_seen c.args.task.now) c.args.depth ≡ Some c.in-Some.moves = sym (c.mate_sought.ensures c.args.depth is) ∙ c.in-Some.is in
@@ -84,7 +87,7 @@ returns-in-Ok-NoMate-clause-judged g c =
 pub returns-in-Ok-Unsettled-clause-judged : goal.returns-in-Ok-Unsettled-clause-judged
 returns-in-Ok-Unsettled-clause-judged g c =
     let end : c.solve_once-solved.result ≡ Ok (settled.Unsettled c.in-Ok-Unsettled.repeat c.in-Ok-Unsettled.counters) = search rules in
-    let gone = at_ok _ _ end c.solve_once-solved.ensures.sought.watched.gone in
+    let gone = from_ok _ _ end c.solve_once-solved.ensures.sought.watched.gone in
     let value = to_z-of_z w32 c.args.value c.ranges.value in
     let is = value ∙ c.requires.value in
     let sought : mate_sought (task_seen c.args.task.now) c.args.depth ≡ Some c.in-Some.moves = sym (c.mate_sought.ensures c.args.depth is) ∙ c.in-Some.is in
@@ -100,7 +103,7 @@ returns-in-Ok-Unsettled-clause-judged g c =
 pub returns-in-Some-root_move-clause-judged : goal.returns-in-Some-root_move-clause-judged
 returns-in-Some-root_move-clause-judged g c =
     let end : c.solve_once-solved.result ≡ Ok (settled.Shown c.in-Ok-Shown.strategy) = search rules in
-    let gone = at_ok _ _ end c.solve_once-solved.ensures.sought.watched.gone in
+    let gone = from_ok _ _ end c.solve_once-solved.ensures.sought.watched.gone in
     let value = to_z-of_z w32 c.args.value c.ranges.value in
     let is = value ∙ c.requires.value in
     let sought : mate_sought (task_seen c.args.task.now) c.args.depth ≡ Some c.in-Some.moves = sym (c.mate_sought.ensures c.args.depth is) ∙ c.in-Some.is in
@@ -129,28 +132,33 @@ returns-in-Err-Cut-clause-end g c =
 pub returns-in-Err-Cut-clause-causes : goal.returns-in-Err-Cut-clause-causes
 returns-in-Err-Cut-clause-causes g c =
     let end : c.solve_once-solved.result ≡ Err (halt.Cut c.in-Err-Cut.why) = search rules in
-    ok_causes _ _ _ _ (c.solve_once-solved.ensures.sought.watched.ended (halt.Cut c.in-Err-Cut.why) end).later
+    ok_causes (world g.S.Source.left g.S.Source.owed g.S.Source.faults g.K.Sink.taken g.K.Sink.faults g.C.Clock.given g.C.Clock.count g.C.Clock.last) (moment c.args.source.now c.args.sink.now c.args.clock.now 0) (moment c.solve_once-solved.new.source c.solve_once-solved.new.sink c.solve_once-solved.new.clock c.solve_once-solved.ensures.sought.entered) _
+    (c.solve_once-solved.ensures.sought.watched.ended (halt.Cut c.in-Err-Cut.why) end).later
 
 pub returns-in-Ok-NoMate-clause-causes : goal.returns-in-Ok-NoMate-clause-causes
 returns-in-Ok-NoMate-clause-causes g c =
     let end : c.solve_once-solved.result ≡ Ok settled.NoMate = search rules in
-    let gone = at_ok _ _ end c.solve_once-solved.ensures.sought.watched.gone in
-    ok_causes _ _ _ _ gone.later
+    let gone = from_ok _ _ end c.solve_once-solved.ensures.sought.watched.gone in
+    ok_causes (world g.S.Source.left g.S.Source.owed g.S.Source.faults g.K.Sink.taken g.K.Sink.faults g.C.Clock.given g.C.Clock.count g.C.Clock.last) (moment c.args.source.now c.args.sink.now c.args.clock.now 0) (moment c.solve_once-solved.new.source c.solve_once-solved.new.sink c.solve_once-solved.new.clock c.solve_once-solved.ensures.sought.entered) _
+    gone.later
 
 pub returns-in-Ok-Unsettled-clause-causes : goal.returns-in-Ok-Unsettled-clause-causes
 returns-in-Ok-Unsettled-clause-causes g c =
     let end : c.solve_once-solved.result ≡ Ok (settled.Unsettled c.in-Ok-Unsettled.repeat c.in-Ok-Unsettled.counters) = search rules in
-    let gone = at_ok _ _ end c.solve_once-solved.ensures.sought.watched.gone in
-    ok_causes _ _ _ _ gone.later
+    let gone = from_ok _ _ end c.solve_once-solved.ensures.sought.watched.gone in
+    ok_causes (world g.S.Source.left g.S.Source.owed g.S.Source.faults g.K.Sink.taken g.K.Sink.faults g.C.Clock.given g.C.Clock.count g.C.Clock.last) (moment c.args.source.now c.args.sink.now c.args.clock.now 0) (moment c.solve_once-solved.new.source c.solve_once-solved.new.sink c.solve_once-solved.new.clock c.solve_once-solved.ensures.sought.entered) _
+    gone.later
 
 pub returns-then-value-lt0-clause-causes : goal.returns-then-value-lt0-clause-causes
 returns-then-value-lt0-clause-causes g c =
     let end : c.solve_once-solved.result ≡ Ok (settled.Shown c.in-Ok-Shown.strategy) = search rules in
-    let gone = at_ok _ _ end c.solve_once-solved.ensures.sought.watched.gone in
-    ok_causes _ _ _ _ gone.later
+    let gone = from_ok _ _ end c.solve_once-solved.ensures.sought.watched.gone in
+    ok_causes (world g.S.Source.left g.S.Source.owed g.S.Source.faults g.K.Sink.taken g.K.Sink.faults g.C.Clock.given g.C.Clock.count g.C.Clock.last) (moment c.args.source.now c.args.sink.now c.args.clock.now 0) (moment c.solve_once-solved.new.source c.solve_once-solved.new.sink c.solve_once-solved.new.clock c.solve_once-solved.ensures.sought.entered) _
+    gone.later
 
 pub returns-in-Some-root_move-clause-causes : goal.returns-in-Some-root_move-clause-causes
 returns-in-Some-root_move-clause-causes g c =
     let end : c.solve_once-solved.result ≡ Ok (settled.Shown c.in-Ok-Shown.strategy) = search rules in
-    let gone = at_ok _ _ end c.solve_once-solved.ensures.sought.watched.gone in
-    ok_causes _ _ _ _ gone.later
+    let gone = from_ok _ _ end c.solve_once-solved.ensures.sought.watched.gone in
+    ok_causes (world g.S.Source.left g.S.Source.owed g.S.Source.faults g.K.Sink.taken g.K.Sink.faults g.C.Clock.given g.C.Clock.count g.C.Clock.last) (moment c.args.source.now c.args.sink.now c.args.clock.now 0) (moment c.solve_once-solved.new.source c.solve_once-solved.new.sink c.solve_once-solved.new.clock c.solve_once-solved.ensures.sought.entered) _
+    gone.later
