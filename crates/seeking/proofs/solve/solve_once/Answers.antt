@@ -2,11 +2,14 @@ use Rattle.std.proofs.Common.{IfOk, ◌∙◌, ap, arith, rules, subst}
 use Rattle.rules_model.specs.declared.board.Side.{Side}
 use Rattle.fact_lock.specs.Passes.{all_parts}
 use Rattle.game_play.specs.Played.{story}
+use Rattle.alpha_beta.proofs.SearchLaws.{lent_of}
 use Rattle.mate_core.specs.declared.frame.Frame.{Frame}
+use Rattle.mate_search.specs.Solves.{bound_of}
 use Rattle.mate_showing.specs.Answers as Solved
-use Rattle.watching.specs.LookLaws.{on_ok_of}
+use Rattle.watching.specs.Stopping.{Partly}
+use Rattle.watching.specs.Watched.{moment, world}
 use Rattle.seeking.proofs.AnswerLaws.{right_by}
-use Rattle.seeking.proofs.CutLaws.{sought_memory}
+use Rattle.seeking.proofs.CutLaws.{sought_memory, sought_of}
 use Rattle.seeking.proofs.solve.solve_once.Goals as goal
 
 pub returns-in_err-make_hints-clause-sought : goal.returns-in_err-make_hints-clause-sought
@@ -30,22 +33,17 @@ pub of-requires-clause-parts : goal.of-requires-clause-parts
 of-requires-clause-parts g c = c.solve_watched-passes.ensures.handed.parts all_parts c.into_parts-shards.ensures.parts
 
 pub returns-clause-sought : goal.returns-clause-sought
-returns-clause-sought g c = record {
-  entered = c.solve_watched-passes.new.watch.nodes;
-  watched = record {
-    gone = on_ok_of c.solve_watched-passes.result.1 c.solve_watched-passes.ensures.gone (λ went.
-        let source_is = went.lent.same.source_is in let sink_is = went.lent.same.sink_is in
-        let clock_is = went.lent.same.clock_is in let line_is = went.lent.same.line_is in
-        let gone = went.gone in
-        search rules);
-    ended = λ why is.
-        let stopped = c.solve_watched-passes.ensures.ended why is in
-        let source_is = stopped.lent.same.source_is in let sink_is = stopped.lent.same.sink_is in
-        let clock_is = stopped.lent.same.clock_is in let line_is = stopped.lent.same.line_is in
-        let ended = stopped.ended in
-        search rules;
-  };
-}
+returns-clause-sought g c =
+    let w = world g.S.Source.left g.S.Source.owed g.S.Source.faults g.K.Sink.taken g.K.Sink.faults g.C.Clock.given g.C.Clock.count g.C.Clock.last in
+    let a = moment c.args.source.now c.args.sink.now c.args.clock.now 0 in
+    let watch = c.solve_watched-passes.new.watch in
+    let r = c.solve_watched-passes.result.1 in
+    let e = c.solve_watched-passes.ensures in
+    let sought : Partly w c.args.dialect c.args.limits a watch.source.now watch.sink.now watch.clock.now watch.line.now (bound_of c.args.game.now c.args.n) r = sought_of w _ _ _ r e.gone e.ended in
+    let lent = lent_of w _ _ _ r e.gone e.ended in
+    let source_is = lent.same.source_is in let sink_is = lent.same.sink_is in
+    let clock_is = lent.same.clock_is in let line_is = lent.same.line_is in
+    search rules
 
 pub returns-clause-right : goal.returns-clause-right
 returns-clause-right g c =
