@@ -1,20 +1,22 @@
 //! Tests of `seeking`.
 use crate::expect::expect_eq;
 use crate::helpers::go;
+use alpha_beta::Found;
 use foundation::Memory;
 use game_play::Game;
 use io_ports::{
     Dialect, Limits, LineBuf, ListClock, MemSink, MemSource, OpenGate, PollsOwed, SearchFault,
 };
+use mate_showing::Settled;
 use playing::Board;
 use rules_model::{Move, Side, sound};
 use sample_rules::{chess, position};
-use seeking::{EngineState, Search, Solve, search_once, solve_once};
+use seeking::{EngineState, search_once, solve_once};
 use std::alloc::Global;
 use std::process::Abort;
 use std::sync::Wait;
 use std::thread::Threads;
-use watching::Cut;
+use watching::{Cut, Halt};
 
 const NONE: Limits = Limits {
     quota: None,
@@ -32,21 +34,26 @@ enum Told {
     Fault(SearchFault),
 }
 
-fn told_search(answer: &Result<Search, SearchFault>) -> Told {
-    match answer {
-        Ok(Search::Done { value, best, .. }) => Told::Found(*value, *best),
-        Ok(Search::Cut(why)) => Told::Cut(*why),
-        Err(fault) => Told::Fault(*fault),
+fn told_halt(halt: Halt) -> Told {
+    match halt {
+        Halt::Cut(why) => Told::Cut(why),
+        Halt::Fault(fault) => Told::Fault(fault),
     }
 }
 
-fn told_solve(answer: &Result<Solve, SearchFault>) -> Told {
+fn told_search(answer: &Result<Found, Halt>) -> Told {
     match answer {
-        Ok(Solve::Shown(_)) => Told::Shown,
-        Ok(Solve::NoMate) => Told::NoMate,
-        Ok(Solve::Unsettled { .. }) => Told::Unsettled,
-        Ok(Solve::Cut(why)) => Told::Cut(*why),
-        Err(fault) => Told::Fault(*fault),
+        Ok(found) => Told::Found(found.value, found.best),
+        Err(halt) => told_halt(*halt),
+    }
+}
+
+fn told_solve(answer: &Result<Settled, Halt>) -> Told {
+    match answer {
+        Ok(Settled::Shown(_)) => Told::Shown,
+        Ok(Settled::NoMate) => Told::NoMate,
+        Ok(Settled::Unsettled { .. }) => Told::Unsettled,
+        Err(halt) => told_halt(*halt),
     }
 }
 

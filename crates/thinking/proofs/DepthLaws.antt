@@ -15,7 +15,7 @@ use Rattle.game_play.specs.Played.{story}
 use Rattle.game_values.specs.Bounds.{depths_bound, search_bound}
 use Rattle.watching.specs.declared.halt.Cut.{Cut}
 use Rattle.watching.specs.declared.halt.Cut.TheVariants as cut
-use Rattle.watching.specs.EventLaws.{ran_holds, ran_more, ran_none, readings-append}
+use Rattle.watching.specs.EventLaws.{ran_more, ran_none, readings-append}
 use Rattle.watching.specs.Events.{Event, readings}
 use Rattle.watching.specs.Looks.{held}
 use Rattle.session_model.proofs.Reports.{depths_grow, depths_more, last_announced_snoc, last_best_snoc, reports_snoc, search_bound-some, searches_more}
@@ -290,21 +290,3 @@ module _ {S K C : Type 0} {left : S → Option (List ℕ)} {taken : K → Option
                           (reach_some t (done + 1) solve.moves) le quota_is start q.1 (follows_held solve.why b.text)),
                     )) so.ran broke;
               }
-
-  -- all depths are done
-  pub deepening_whole : {s s' : S} {k k' : K} {c c' : C} {o o' : Owed} (t : Task) (root : Move) (first entered : ℕ) (best : Move) (kept : Option Announced) (kept_at : Option Kept) (text : List ℕ)
-      → Deepening dialect style (Moves left taken given count last s s' k k' c c') o o' t root first t.depths entered best kept → kept ≡ kept_seen kept_at
-      → Deepened dialect style (Moves left taken given count last s s' k k' c c') o o' t root first text (record { best = best; kept = kept_at; why = None })
-  deepening_whole t root first entered best kept kept_at text so kept_is = record {
-    reports = so.reports;
-    ending = Whole;
-    ran = ran_holds dialect
-        (λ events p. (
-          subst (λ rs. Tells dialect style t.game.rules first 1 rs events) (sym (append-nil so.reports)) p,
-          λ following follows. record { valued = so.valued; ended = so.counted },
-        )) so.ran;
-    ended = tt;
-    best_is = so.best_is ∙ ap (last_best root) (sym (append-nil so.reports));
-    kept_is = sym kept_is ∙ so.kept_is ∙ ap (last_announced None) (sym (append-nil so.reports));
-    spends = so.spends;
-  }

@@ -1,12 +1,15 @@
 -- A search, and the solve after it: what both add.
-use Rattle.std.proofs.Common.{◌≡◌, ℕ, ◌+◌, ◌-◌, ◌≤◌, ◌<◌, List, [], ◌∷◌, ◌++◌, length, Option, Some, None, refl, sym, subst, arith}
+use Rattle.std.proofs.Common.{◌≡◌, ℕ, ◌+◌, ◌-◌, ◌≤◌, ◌<◌, List, [], ◌∷◌, ◌++◌, length, Option, Some, None, Ok, Err, IsErrOf, refl, sym, subst, arith}
 use Rattle.std.specs.Prelude.{IfSome}
+use Rattle.std.specs.declared.result.Result.{Result}
 use Rattle.std.specs.Option.{option_map}
 use Rattle.std.specs.Io.KnownBytes.{Appends}
 use Rattle.std.specs.List.{concat}
 use Rattle.io_ports.specs.Clock.{GivesReadings, count_after, last_after}
 use Rattle.io_ports.specs.declared.dialect.Dialect.{Dialect}
 use Rattle.io_ports.specs.declared.limits.Limits.{Limits}
+use Rattle.io_ports.specs.declared.limits.SearchFault.{SearchFault}
+use Rattle.io_ports.specs.declared.limits.SearchFault.TheVariants as fault
 use Rattle.io_ports.specs.Sink.{AppendsFront}
 use Rattle.io_ports.specs.Source.{Owed, Untold}
 use Rattle.io_ports.specs.Trace.{Moves}
@@ -17,10 +20,11 @@ use Rattle.watching.specs.declared.halt.Cut.{Cut}
 use Rattle.watching.specs.declared.halt.Cut.TheVariants as cut
 use Rattle.watching.specs.EventLaws.{broke_more, listens_more, ran_holds, ran_more, ran_none, readings-append}
 use Rattle.watching.specs.Events.{Event, Listens, readings}
-use Rattle.watching.specs.Looks.{Broke}
-use Rattle.watching.specs.Watched.{World, Moment, MovesOn, Gone}
+use Rattle.watching.specs.Looks.{Broke, IsCaused}
+use Rattle.watching.specs.Watched.{World, Moment, MovesOn, Later, Failed, Gone}
 use Rattle.session_model.proofs.Reports.{solve_bound-some, sought_is_near}
 use Rattle.session_model.specs.Thinking.{Task, mate_sought, solve_within}
+use Rattle.turning.specs.Lines.{Causes}
 use Rattle.thinking.specs.declared.depth.Depth.TheVariants.{Done, Off}
 use Rattle.thinking.specs.declared.found.CutSolve.{CutSolve}
 use Rattle.thinking.specs.declared.found.Found.{Found}
@@ -49,6 +53,29 @@ near_of t depth n some least sought = by_roots t.roots refl some
     by_roots : (roots : List Move) → t.roots ≡ roots → 0 < length roots → solve_within t n ≤ asked_at t depth
     by_roots [] are some = absurd (omega arith)
     by_roots (first ∷ roots) are some = sought_is_near t depth n first roots are least sought
+
+-- ---- faults
+
+module _ {T S K C : Type 0} (w : World S K C) (a b : Moment S K C) where
+  -- the fault that ended a search is caused, also where it is told on
+  pub failed_causes : (dialect : Dialect) (bound : ℕ) (why : SearchFault) (r : Result T SearchFault) → r ≡ Err why → Failed w dialect a b bound why
+      → Causes (w.source_faults a.source) (w.source_faults b.source) (w.sink_faults a.sink) (w.sink_faults b.sink) (IsErrOf r)
+  failed_causes dialect bound why r is failed = record {
+    source_later = failed.later.source_later;
+    sink_later = failed.later.sink_later;
+    source_failed = λ (e : r ≡ Err fault.ReadFault). let same : why ≡ fault.ReadFault = cc in subst (λ (f : SearchFault). IsCaused (w.source_faults a.source) (w.source_faults b.source) (w.sink_faults a.sink) (w.sink_faults b.sink) f) same failed.caused;
+    sink_failed = λ (e : r ≡ Err fault.WriteFault). let same : why ≡ fault.WriteFault = cc in subst (λ (f : SearchFault). IsCaused (w.source_faults a.source) (w.source_faults b.source) (w.sink_faults a.sink) (w.sink_faults b.sink) f) same failed.caused;
+  }
+
+  -- no fault ended it
+  pub ok_causes : (x : T) → Later w a b
+      → Causes (w.source_faults a.source) (w.source_faults b.source) (w.sink_faults a.sink) (w.sink_faults b.sink) (IsErrOf (Ok x))
+  ok_causes x later = record {
+    source_later = later.source_later;
+    sink_later = later.sink_later;
+    source_failed = λ (e : Ok x ≡ Err fault.ReadFault). absurd (cc);
+    sink_failed = λ (e : Ok x ≡ Err fault.WriteFault). absurd (cc);
+  }
 
 module _ {S K C : Type 0} (w : World S K C) (dialect : Dialect) where
   module _ {a b : Moment S K C} (t : Task) (depth : ℕ) (limits : Limits) (text : List ℕ) (begins : a.nodes ≡ 0) where

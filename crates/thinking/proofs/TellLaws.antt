@@ -33,14 +33,6 @@ clocked_more style.Post a b reports more p q = λ last.
     ∙ ap (λ l. times_of reports ++ l) (q (clock_left last a)) ∙ sym (map-append (λ (report : Report). Some report.clock) reports more)
 clocked_more style.Silent a b reports more p q = tt
 
-clocked_then : (dialect : Dialect) (style : Style) (a b : List Event) (reports : List Report) → AreClocked style a reports
-    → Listens dialect b → AreClocked style (a ++ b) reports
-clocked_then dialect style.Uci a b reports p q = tt
-clocked_then dialect style.Post a b reports p q = λ last.
-    clocked_append last a b ∙ ap (λ l. clocked last a ++ l) (clocked_listens dialect (clock_left last a) b q)
-    ∙ append-nil (clocked last a) ∙ p last
-clocked_then dialect style.Silent a b reports p q = tt
-
 then_clocked : (dialect : Dialect) (style : Style) (a b : List Event) (reports : List Report) → Listens dialect a
     → AreClocked style b reports → AreClocked style (a ++ b) reports
 then_clocked dialect style.Uci a b reports p q = tt
@@ -78,16 +70,7 @@ module _ (dialect : Dialect) (style : Style) (rules : Rules) (first : ℕ) where
     clocks_are = clocked_more style a b reports more p.clocks_are q.clocks_are;
   }
 
-  -- a search that told nothing came after
-  pub tells_listens : (a b : List Event) (depth : ℕ) (reports : List Report) → Tells dialect style rules first depth reports a
-      → Listens dialect b → Tells dialect style rules first depth reports (a ++ b)
-  tells_listens a b depth reports p q = record {
-    unstopped = unstopped_more dialect a b p.unstopped (listens_unstopped dialect b q);
-    lines_are = said-append a b ∙ ap (λ l. said a ++ l) (listens_silent dialect b q) ∙ append-nil (said a) ∙ p.lines_are;
-    clocks_are = clocked_then dialect style a b reports p.clocks_are q;
-  }
-
-  -- or it came before
+  -- a search that told nothing came before
   pub listens_tells : (a b : List Event) (depth : ℕ) (reports : List Report) → Listens dialect a
       → Tells dialect style rules first depth reports b → Tells dialect style rules first depth reports (a ++ b)
   listens_tells a b depth reports p q = record {

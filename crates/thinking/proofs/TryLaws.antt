@@ -3,21 +3,20 @@ use Rattle.std.proofs.Common.{◌≡◌, ℕ, zero, suc, ◌+◌, ◌-◌, ◌�
 use Rattle.io_ports.specs.declared.dialect.Dialect.{Dialect}
 use Rattle.io_ports.specs.declared.limits.Limits.{Limits}
 use Rattle.io_ports.specs.Owing.{Spends}
-use Rattle.io_ports.proofs.Owing.{spends_more, spends_none, spends_wider}
+use Rattle.io_ports.proofs.Owing.{spends_more, spends_wider}
 use Rattle.rules_model.specs.declared.rules.Rules.{Rules}
 use Rattle.rules_model.specs.Games.{Story}
 use Rattle.game_play.specs.Played.{Played, story}
 use Rattle.game_values.specs.Bounds.{solve_bound, solves_bound}
 use Rattle.watching.specs.declared.halt.Cut.{Cut}
-use Rattle.watching.specs.EventLaws.{broke_more, listens_more, ran_holds, ran_more, ran_none, readings-append}
+use Rattle.watching.specs.EventLaws.{broke_more, listens_more, ran_more, readings-append}
 use Rattle.watching.specs.Events.{Event, Listens, readings}
 use Rattle.watching.specs.Looks.{Broke, MayCut, Ran, held}
 use Rattle.watching.specs.Watched.{World, Moment, MovesOn, Gone, moment}
-use Rattle.session_model.proofs.Shown.{no_shorter_more, no_shorter_than_one}
+use Rattle.session_model.proofs.Shown.{no_shorter_more}
 use Rattle.session_model.specs.Mates.{IsNoWin, mover}
 use Rattle.session_model.specs.UciSession.{Decides}
 use Rattle.thinking.specs.declared.mates.Tried.{Tried}
-use Rattle.thinking.specs.declared.mates.Tried.TheVariants.{NoMate}
 use Rattle.thinking.specs.Cuts.{CutsBy}
 use Rattle.thinking.specs.Tries.{BrokeTrying, IsCutBy, IsMate, IsTried, Trying, answer_seen, cut_in}
 use Rattle.thinking.proofs.CutLaws.{cuts_later, cuts_of_watch, cuts_wider}
@@ -44,14 +43,6 @@ solves_grow rules n last g le =
     subst (λ m. solves_bound rules n g ≤ solves_bound rules m g) same (solves_beyond rules n (last - n) g)
 
 -- ---- one solve after another
-
-pub trying_none : {S K C : Type 0} (w : World S K C) (dialect : Dialect) (a : Moment S K C) (g : Played)
-    → Trying dialect (MovesOn w a a) (w.owed a.source) (w.owed a.source) g 0
-trying_none w dialect a g = record {
-  ran = ran_none dialect a.source a.sink a.clock tt;
-  none = no_shorter_than_one g;
-  spends = spends_none (w.owed a.source) (solves_bound g.rules 0 (story g));
-}
 
 module _ {S K C : Type 0} (w : World S K C) (dialect : Dialect) (g : Played) (last before : ℕ) (a b : Moment S K C)
     (so : Trying dialect (MovesOn w a b) (w.owed a.source) (w.owed b.source) g before) where
@@ -113,13 +104,3 @@ module _ {S K C : Type 0} (w : World S K C) (dialect : Dialect) (g : Played) (la
         cuts_wider dialect why' (w.owed a.source) (solves_bound g.rules before (story g) + n) (solves_bound g.rules last (story g)) limits.quota limits.deadline n n (first ++ taken) text (omega (arith, more, most)) (omega arith)
         (cuts_later dialect why' (w.owed a.source) (w.owed b.source) (solves_bound g.rules before (story g)) n limits.quota limits.deadline n first taken text so.spends
         (cuts_of_watch dialect why' (w.owed b.source) n limits n d.nodes taken text may))
-
--- all numbers were tried
-pub trying_whole : {S K C : Type 0} (w : World S K C) (dialect : Dialect) (g : Played) (last : ℕ) (a b : Moment S K C) (limits : Limits) (text : List ℕ)
-    → Trying dialect (MovesOn w a b) (w.owed a.source) (w.owed b.source) g last
-    → IsTried dialect (MovesOn w a b) (w.owed a.source) (w.owed b.source) limits g last text NoMate
-trying_whole w dialect g last a b limits text so = record {
-  ran = ran_holds dialect (λ events p. (p, tt)) so.ran;
-  is = so.none;
-  spends = so.spends;
-}

@@ -15,12 +15,13 @@ use crate::found::{CutSolve, Evidence, Found, Score, evidence_at};
 use crate::scores::{favoured, mate_sought, root_move};
 use crate::task::{Task, quota_left};
 use io_ports::{Clock, Dialect, Gate, Limits, LineBuf, SearchFault, Sink, Source};
+use mate_showing::Settled;
 use rules_model::Move;
-use seeking::{EngineState, Search, Solve, search_once, solve_once};
+use seeking::{EngineState, search_once, solve_once};
 use std::alloc::Global;
 use std::sync::Wait;
 use std::thread::Threads;
-use watching::Cut;
+use watching::{Cut, Halt};
 
 /// What is found at a depth, and the solve that was cut after its search, where one was.
 #[derive(Drop)]
@@ -95,14 +96,14 @@ pub fn seek_mate<R: Threads + Wait + Sync, S: Source, K: Sink, C: Clock, G: Gate
     let side = favoured(task.game.position().side, value);
     let solved = solve_once(
         rt, alloc, mind, task.game, side, moves, limits, source, sink, clock, gate, dialect, line,
-    )?;
+    );
     match solved {
-        Solve::NoMate => Ok(settled(Score::Points(value), best, None, nodes)),
-        Solve::Unsettled { repeat, counters } => {
+        Ok(Settled::NoMate) => Ok(settled(Score::Points(value), best, None, nodes)),
+        Ok(Settled::Unsettled { repeat, counters }) => {
             let unsettled = Some(evidence_at(repeat, counters));
             Ok(settled(Score::Points(value), best, unsettled, nodes))
         }
-        Solve::Shown(strategy) => {
+        Ok(Settled::Shown(strategy)) => {
             if value < 0 {
                 return Ok(settled(Score::Mated(moves, strategy), best, None, nodes));
             }
@@ -111,13 +112,14 @@ pub fn seek_mate<R: Threads + Wait + Sync, S: Source, K: Sink, C: Clock, G: Gate
             };
             Ok(settled(Score::Mates(moves, strategy), chosen, None, nodes))
         }
-        Solve::Cut(why) => {
+        Err(Halt::Cut(why)) => {
             let DepthJudged { found, .. } = settled(Score::Points(value), best, None, nodes);
             Ok(DepthJudged {
                 found,
                 cut: Some(CutSolve { moves, why }),
             })
         }
+        Err(Halt::Fault(why)) => Err(why),
     }
 }
 
@@ -158,10 +160,10 @@ pub fn search_and_judge<R: Threads + Wait + Sync, S: Source, K: Sink, C: Clock, 
     let searched = search_once(
         rt, alloc, mind, task.game, task.roots, depth, limits, source, sink, clock, gate, dialect,
         line,
-    )?;
+    );
     match searched {
-        Search::Cut(why) => Ok(DepthSearched::Off(why)),
-        Search::Done { value, best, nodes } => {
+        Ok(found) => {
+            let (value, best, nodes) = (found.value, found.best, found.nodes);
             let left = Limits {
                 quota: quota_left(limits.quota, nodes),
                 deadline: limits.deadline,
@@ -172,5 +174,7 @@ pub fn search_and_judge<R: Threads + Wait + Sync, S: Source, K: Sink, C: Clock, 
             )?;
             Ok(DepthSearched::Found(judged))
         }
+        Err(Halt::Cut(why)) => Ok(DepthSearched::Off(why)),
+        Err(Halt::Fault(why)) => Err(why),
     }
 }

@@ -11,13 +11,14 @@ use crate::found::{Evidence, evidence_at};
 use crate::scores::root_move;
 use game_play::Game;
 use io_ports::{Clock, Dialect, Gate, Limits, LineBuf, SearchFault, Sink, Source};
+use mate_showing::Settled;
 use rules_model::Move;
-use seeking::{EngineState, Solve, solve_once};
+use seeking::{EngineState, solve_once};
 use std::alloc::Global;
 use std::sync::Wait;
 use std::thread::Threads;
 use strategy::Strategy;
-use watching::Cut;
+use watching::{Cut, Halt};
 
 /// The first answer of solves within 1, 2, .. moves that is not that there is no mate; or that there is none.
 #[derive(Drop)]
@@ -81,10 +82,10 @@ pub fn try_mates<R: Threads + Wait + Sync, S: Source, K: Sink, C: Clock, G: Gate
         let moves = before + 1;
         let solved = solve_once(
             rt, alloc, mind, game, mover, moves, limits, source, sink, clock, gate, dialect, line,
-        )?;
+        );
         match solved {
-            Solve::NoMate => {}
-            Solve::Shown(strategy) => {
+            Ok(Settled::NoMate) => {}
+            Ok(Settled::Shown(strategy)) => {
                 let Some(best) = root_move(&strategy) else {
                     unreachable!();
                 };
@@ -94,13 +95,14 @@ pub fn try_mates<R: Threads + Wait + Sync, S: Source, K: Sink, C: Clock, G: Gate
                     best,
                 });
             }
-            Solve::Unsettled { repeat, counters } => {
+            Ok(Settled::Unsettled { repeat, counters }) => {
                 return Ok(Tried::Unsettled {
                     moves,
                     unsettled: evidence_at(repeat, counters),
                 });
             }
-            Solve::Cut(why) => return Ok(Tried::Stopped { moves, why }),
+            Err(Halt::Cut(why)) => return Ok(Tried::Stopped { moves, why }),
+            Err(Halt::Fault(why)) => return Err(why),
         }
     }
     Ok(Tried::NoMate)
