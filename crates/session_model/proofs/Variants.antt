@@ -48,7 +48,8 @@ first_entry done (section ∷ rest) name =
     ≡ option_map (λ k. named_at sections (length done + k)) (if bytes_eq s.name name then Some 0 else option_map suc (first_named rest name))) here
     (named_by sections (length done) _ (bytes_eq (section_at sections (length done)).name name) (first_named rest name) later)
 
-found_at : (sections : List Section) (name : List ℕ)
+-- what is found of a name is the entry at the place of the first section of the name
+pub found_at : (sections : List Section) (name : List ℕ)
     → found (entries sections) name ≡ option_map (λ k. entry sections k) (first_named sections name)
 unfolding found entries_before
 found_at sections name = ap (option_map entry_of) (first_entry [] sections name) ∙ twice (first_named sections name)
