@@ -112,7 +112,7 @@ module _ (n : ℕ) (g : Played) where
       asked (is_ongoing (result g.rules (story g))) (is_counted g.rules n (story g).last) (nat_lt most_plies (length g.moves))
       (none ∙ by _ _ _ refl refl refl)
 
-  pub has-room : None ≡ fault_of n g → length g.moves ≤ 8190
+  pub has-room : None ≡ fault_of n g → length g.moves ≤ most_plies
   has-room none = ltb-false most_plies (length g.moves) (parts none).1
 
   free : (off counts : Bool) → (g.rules.n_move == 0) ≡ off

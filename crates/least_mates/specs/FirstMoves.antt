@@ -1,6 +1,6 @@
 -- The first moves by which the side that is to move wins a game, each within how many moves; or why the game is not
 -- asked.
-use Rattle.std.specs.Prelude.{ℕ, suc, List, [], ◌∷◌, length, nat_lt, not, Option, Some, None, Result, Ok, Err, codes, if◌then◌else◌}
+use Rattle.std.specs.Prelude.{ℕ, suc, ◌-◌, List, [], ◌∷◌, length, nat_lt, not, Option, Some, None, Result, Ok, Err, codes, if◌then◌else◌}
 use Rattle.std.specs.List.{flat_map}
 use Rattle.std.specs.Option.{option_map}
 use Rattle.foundation.specs.Count.{first_below}
@@ -9,6 +9,7 @@ use Rattle.rules_model.specs.declared.rules.Rules.{Rules}
 use Rattle.rules_model.specs.Ends.{is_ongoing}
 use Rattle.rules_model.specs.Games.{Story, played, result}
 use Rattle.game_play.specs.Played.{Played, legal_in, story}
+use Rattle.game_play.specs.declared.game.TheConstants.{MOST_PLIES}
 use Rattle.mate_search.specs.Least.{is_counted}
 use Rattle.least_mates.specs.declared.fault.KeysFault.{KeysFault}
 use Rattle.least_mates.specs.declared.fault.KeysFault.TheVariants.{NearCount, Ended, TooLong}
@@ -31,7 +32,7 @@ keys_among rules n g ms = flat_map (λ m. key_by m (moves_by rules n g m)) ms
 
 -- the most plies of a game after which a move and a reply can be kept
 abbrev pub most_plies : ℕ
-most_plies = 8190
+most_plies = MOST_PLIES - 2
 
 -- why a game is not asked: it is not ongoing, or else the move-count rule could end it within n moves, or else it is too
 -- long

@@ -1,11 +1,12 @@
 //! Whether a side has won a game without another move of its own.
-ghost use Rattle.std.specs.Prelude.{◌≡◌, ◌<◌, false, length, IfOk, OnOk};
+ghost use Rattle.std.specs.Prelude.{◌≡◌, ◌<◌, false, length, IfOk};
 ghost use Rattle.std.specs.List.{All};
 ghost use Rattle.foundation.specs.Member.{Member};
 ghost use Rattle.rules_model.specs.Games.{played};
 ghost use Rattle.rules_model.specs.Sides.{same_side};
 ghost use Rattle.forced_wins.specs.Wins.{wins};
 ghost use Rattle.game_play.specs.Played.{legal_in, story};
+ghost use Rattle.game_play.specs.declared.game.TheConstants.{MOST_PLIES};
 ghost use Rattle.least_mates.specs.AtOnce as AtOnce;
 
 use crate::playing_on::{play_on, take_back};
@@ -18,8 +19,8 @@ use std::alloc::Global;
 // Whether the reply ends the game, and the side has won it.
 fn ends_won(game: &mut Game, reply: &Move, side: Side) -> Result<bool, Memory>
     requires legal { Member reply.now (legal_in game.old) }
-    requires room { length game.old.moves < 8192 }
-    ensures same { OnOk result (game.new ≡ game.old) }
+    requires room { length game.old.moves < MOST_PLIES }
+    ensures same { game.new ≡ game.old }
     ensures is { IfOk result (λ won.
         won ≡ AtOnce.is_won game.old.rules (played game.old.rules (story game.old) reply.now) side) }
 {
@@ -32,8 +33,8 @@ fn ends_won(game: &mut Game, reply: &Move, side: Side) -> Result<bool, Memory>
 // Whether each of the replies does.
 fn all_end_won(game: &mut Game, replies: &[Move], side: Side) -> Result<bool, Memory>
     requires legal { All (λ m. Member m (legal_in game.old)) replies.now }
-    requires room { length game.old.moves < 8192 }
-    ensures same { OnOk result (game.new ≡ game.old) }
+    requires room { length game.old.moves < MOST_PLIES }
+    ensures same { game.new ≡ game.old }
     ensures is { IfOk result (λ all. all ≡ AtOnce.all_end_won game.old.rules (story game.old) side replies.now) }
 {
     for reply in replies {
@@ -46,8 +47,8 @@ fn all_end_won(game: &mut Game, replies: &[Move], side: Side) -> Result<bool, Me
 
 // Whether all legal moves do.
 fn each_end_won(alloc: Global, game: &mut Game, side: Side) -> Result<bool, Memory>
-    requires room { length game.old.moves < 8192 }
-    ensures same { OnOk result (game.new ≡ game.old) }
+    requires room { length game.old.moves < MOST_PLIES }
+    ensures same { game.new ≡ game.old }
     ensures is { IfOk result (λ all.
         all ≡ AtOnce.all_end_won game.old.rules (story game.old) side (legal_in game.old)) }
 {
@@ -57,15 +58,15 @@ fn each_end_won(alloc: Global, game: &mut Game, side: Side) -> Result<bool, Memo
 }
 
 /// Whether the side, which is not to move, wins the game without another move of its own: the game has ended and the
-/// side has won it, or each reply ends it so. The game has room for a reply, and is what it was.
+/// side has won it, or each reply ends it so. The game has room for a reply. It is what it was, also after an error.
 ///
 /// # Errors
 ///
 /// `Memory` where there is none.
 pub(crate) fn wins_at_once(alloc: Global, game: &mut Game, side: Side) -> Result<bool, Memory>
     requires turn { same_side (story game.old).last.side side ≡ false }
-    requires room { length game.old.moves < 8192 }
-    ensures same { OnOk result (game.new ≡ game.old) }
+    requires room { length game.old.moves < MOST_PLIES }
+    ensures same { game.new ≡ game.old }
     ensures is { IfOk result (λ won. won ≡ wins game.old.rules 0 (story game.old) side) }
 {
     match won_by(side, game.outcome()) {

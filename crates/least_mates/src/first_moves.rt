@@ -6,6 +6,7 @@ ghost use Rattle.foundation.specs.Member.{Member};
 ghost use Rattle.rules_model.specs.Sides.{same_side};
 ghost use Rattle.forced_wins.specs.Wins.{IsInLimit};
 ghost use Rattle.game_play.specs.Played.{legal_in, story};
+ghost use Rattle.game_play.specs.declared.game.TheConstants.{MOST_PLIES};
 ghost use Rattle.least_mates.specs.FirstMoves as FirstMoves;
 ghost use Rattle.least_mates.specs.Winning.{side_wins};
 
@@ -13,7 +14,7 @@ use crate::at_once::wins_at_once;
 use crate::fault::KeysFault;
 use crate::playing_on::{play_on, take_back};
 use crate::winning::least_win;
-use game_play::Game;
+use game_play::{Game, MOST_PLIES};
 use legality::legal_moves;
 use mate_search::is_counted;
 use rules_model::{Memory, Move, Outcome, Side};
@@ -22,7 +23,7 @@ use std::marker::Model;
 use std::sync::Wait;
 
 /// The most plies of a game after which a move and a reply can be kept.
-const MOST_PLIES: usize = 8190;
+const MOST_BEFORE: usize = MOST_PLIES - 2;
 
 /// A first move by which the side that is to move wins.
 #[derive(Clone, Copy)]
@@ -58,9 +59,9 @@ fn moves_after<R: Wait>(
     requires some { 1 ≤ n }
     requires few { n ≤ 20 }
     requires turn { same_side (story game.old).last.side side ≡ false }
-    requires room { length game.old.moves < 8192 }
+    requires room { length game.old.moves < MOST_PLIES }
     requires in_limit { IsInLimit game.old.rules (n - 1) (story game.old) }
-    ensures same { OnOk result (game.new ≡ game.old) }
+    ensures same { game.new ≡ game.old }
     ensures is { IfOk result (λ k.
         k ≡ option_map suc (first_below (side_wins game.old.rules (story game.old) side) n)) }
 {
@@ -73,7 +74,7 @@ fn moves_after<R: Wait>(
     }
 }
 
-// Within how many moves, up to n, the side that is to move wins with the move. The game is what it was.
+// Within how many moves, up to n, the side that is to move wins with the move.
 fn moves_by<R: Wait>(
     rt: &R,
     alloc: Global,
@@ -84,16 +85,16 @@ fn moves_by<R: Wait>(
     requires legal { Member chosen.now (legal_in game.old) }
     requires some { 1 ≤ n }
     requires few { n ≤ 20 }
-    requires room { length game.old.moves ≤ 8190 }
+    requires room { length game.old.moves ≤ FirstMoves.most_plies }
     requires in_limit { IsInLimit game.old.rules n (story game.old) }
-    ensures same { OnOk result (game.new ≡ game.old) }
+    ensures same { game.new ≡ game.old }
     ensures is { IfOk result (λ k. k ≡ FirstMoves.moves_by game.old.rules n (story game.old) chosen.now) }
 {
     let side = game.position().side;
     play_on(game, chosen)?;
-    let moves = moves_after(rt, alloc, game, side, n)?;
+    let moves = moves_after(rt, alloc, game, side, n);
     take_back(game);
-    Ok(moves)
+    moves
 }
 
 // Appends the move with its number, where it wins.
@@ -121,9 +122,10 @@ fn push_keys<R: Wait>(
     requires legal { All (λ m. Member m (legal_in game.old)) moves.now }
     requires some { 1 ≤ n }
     requires few { n ≤ 20 }
-    requires room { length game.old.moves ≤ 8190 }
+    requires room { length game.old.moves ≤ FirstMoves.most_plies }
     requires in_limit { IsInLimit game.old.rules n (story game.old) }
-    ensures { OnOk result (keys.new.items
+    ensures same { game.new ≡ game.old }
+    ensures pushed { OnOk result (keys.new.items
         ≡ keys.old.items ++ FirstMoves.keys_among game.old.rules n (story game.old) moves.now) }
 {
     for chosen in moves {
@@ -137,9 +139,10 @@ fn push_keys<R: Wait>(
 fn keys_of<R: Wait>(rt: &R, alloc: Global, game: &mut Game, n: u16) -> Result<Keys, Memory>
     requires some { 1 ≤ n }
     requires few { n ≤ 20 }
-    requires room { length game.old.moves ≤ 8190 }
+    requires room { length game.old.moves ≤ FirstMoves.most_plies }
     requires in_limit { IsInLimit game.old.rules n (story game.old) }
-    ensures { IfOk result (λ keys.
+    ensures same { game.new ≡ game.old }
+    ensures keys { IfOk result (λ keys.
         keys ≡ FirstMoves.keys_among game.old.rules n (story game.old) (legal_in game.old)) }
 {
     game.prove_played();
@@ -159,7 +162,7 @@ fn fault_of(game: &Game, n: u16) -> Option<KeysFault>
     if is_counted(game.rules(), n, game.position()) {
         return Some(KeysFault::NearCount);
     }
-    if game.moves().len() > MOST_PLIES {
+    if game.moves().len() > MOST_BEFORE {
         return Some(KeysFault::TooLong);
     }
     None
@@ -167,7 +170,7 @@ fn fault_of(game: &Game, n: u16) -> Option<KeysFault>
 
 /// The first moves by which the side that is to move wins the game by force within `n` moves, 1 to 20, each with the
 /// least such number, in the order of their texts; or why the game is not asked. Each move is looked at by itself, over
-/// facts of its own. Without an error the game is what it was.
+/// facts of its own. The game is what it was, also after an error.
 ///
 /// # Errors
 ///
@@ -180,7 +183,8 @@ pub fn mate_keys<R: Wait>(
 ) -> Result<Result<Keys, KeysFault>, Memory>
     requires some { 1 ≤ n }
     requires few { n ≤ 20 }
-    ensures { IfOk result (λ keys. keys ≡ FirstMoves.mate_keys n game.old) }
+    ensures same { game.new ≡ game.old }
+    ensures keys { IfOk result (λ keys. keys ≡ FirstMoves.mate_keys n game.old) }
 {
     match fault_of(game, n) {
         Some(fault) => Ok(Err(fault)),

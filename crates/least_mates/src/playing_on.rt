@@ -2,6 +2,7 @@
 ghost use Rattle.std.specs.Prelude.{◌≡◌, ◌<◌, length, OnErr, OnOk};
 ghost use Rattle.foundation.specs.Member.{Member};
 ghost use Rattle.game_play.specs.Played.{legal_in, longer, shorter};
+ghost use Rattle.game_play.specs.declared.game.TheConstants.{MOST_PLIES};
 
 use game_play::{Game, PlayFault};
 use rules_model::{Memory, Move};
@@ -13,7 +14,7 @@ use rules_model::{Memory, Move};
 /// `Memory` where there is none.
 pub(crate) fn play_on(game: &mut Game, m: &Move) -> Result<(), Memory>
     requires legal { Member m.now (legal_in game.old) }
-    requires room { length game.old.moves < 8192 }
+    requires room { length game.old.moves < MOST_PLIES }
     ensures played { OnOk result (game.new ≡ longer game.old m.now) }
     ensures refused { OnErr result (game.new ≡ game.old) }
 {

@@ -8,8 +8,8 @@ returns-then-ne c = fault-ended c.args.n c.args.game.now (search rules)
 pub returns-then-is_counted : goal.returns-then-is_counted
 returns-then-is_counted c = fault-near c.args.n c.args.game.now (search rules) (search rules)
 
-pub returns-then-moves-gt-MOST_PLIES : goal.returns-then-moves-gt-MOST_PLIES
-returns-then-moves-gt-MOST_PLIES c = fault-long c.args.n c.args.game.now (search rules) (search rules) (search rules)
+pub returns-then-moves-gt-MOST_BEFORE : goal.returns-then-moves-gt-MOST_BEFORE
+returns-then-moves-gt-MOST_BEFORE c = fault-long c.args.n c.args.game.now (search rules) (search rules) (search rules)
 
 pub returns : goal.returns
 returns c = fault-none c.args.n c.args.game.now (search rules) (search rules) (search rules)

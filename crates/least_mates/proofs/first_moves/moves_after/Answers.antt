@@ -12,20 +12,20 @@ returns-then-branch-clause-is g c =
 pub overflow_add-result : goal.overflow_add-result
 overflow_add-result g c =
     let test = side_wins c.args.game.now.rules (story c.args.game.now) c.args.side in
-    let won = rw (c.in_ok-wins_at_once.ensures.same, c.in-Some.is) at c.in_ok-won.ensures in
+    let won = rw (c.wins_at_once.ensures.same, c.in-Some.is) at c.in_ok-won.ensures in
     let le = within test (c.args.n - 1) c.in-Some.won.moves won.least in
     omega (arith, le, c.requires.few)
 
 pub returns-in-Some-clause-is : goal.returns-in-Some-clause-is
 returns-in-Some-clause-is g c =
     let test = side_wins c.args.game.now.rules (story c.args.game.now) c.args.side in
-    let won = rw (c.in_ok-wins_at_once.ensures.same, c.in-Some.is) at c.in_ok-won.ensures in
+    let won = rw (c.wins_at_once.ensures.same, c.in-Some.is) at c.in_ok-won.ensures in
     let later = first-later test c.args.n c.requires.some (sym c.in_ok-wins_at_once.ensures.is ∙ c.if-branch.false) in
     ap Some (add-one c.in-Some.won.moves) ∙ sym (ap (option_map suc) (later ∙ won.least))
 
 pub returns-in-None-clause-is : goal.returns-in-None-clause-is
 returns-in-None-clause-is g c =
     let test = side_wins c.args.game.now.rules (story c.args.game.now) c.args.side in
-    let none = rw (c.in_ok-wins_at_once.ensures.same, c.in-None.is) at c.in_ok-won.ensures in
+    let none = rw (c.wins_at_once.ensures.same, c.in-None.is) at c.in_ok-won.ensures in
     let later = first-later test c.args.n c.requires.some (sym c.in_ok-wins_at_once.ensures.is ∙ c.if-branch.false) in
     sym (ap (option_map suc) (later ∙ none))
