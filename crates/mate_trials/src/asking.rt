@@ -1,5 +1,5 @@
 //! What the solver says of a game.
-ghost use Rattle.std.specs.Prelude.{◌≡◌, ◌<◌, ◌≤◌, IfOk};
+ghost use Rattle.std.specs.Prelude.{◌<◌, ◌≤◌, IfOk};
 ghost use Rattle.mate_search.specs.Solves.{IsFrameFor};
 ghost use Rattle.mate_showing.specs.Answers.{IsFrameOf};
 ghost use Rattle.mate_shards.specs.Grown.{HaveParts};
