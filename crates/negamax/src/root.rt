@@ -21,7 +21,7 @@ use watching::{Halt, Watch};
 ///
 /// # Errors
 ///
-/// What ended the watch; a line and a desk are then anyhow.
+/// What ended the watch; nothing is said then of the line and the search state.
 pub fn search_root<W: Watch>(
     line: &mut Line,
     desk: &mut SearchState,
@@ -100,7 +100,7 @@ fn settle<W: Watch>(
 ///
 /// # Errors
 ///
-/// What ended the watch; a line and a desk are then anyhow.
+/// What ended the watch; nothing is said then of the line and the search state.
 pub fn combine<W: Watch>(
     line: &mut Line,
     desk: &mut SearchState,

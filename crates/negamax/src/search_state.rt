@@ -20,8 +20,8 @@ use rules_model::{Move, MoveList, Position};
 use std::alloc::{AllocError, Global};
 use watching::Halt;
 
-/// What a worker keeps from one search to the next: the moves that wait to be searched, and what orders them. Two desks
-/// find the same values.
+/// What a worker keeps from one search to the next: the moves that wait to be searched, and what orders them. Any two of
+/// them lead to the same values.
 #[derive(Drop)]
 pub struct SearchState<'h> {
     hints: &'h HintTable,
@@ -31,7 +31,7 @@ pub struct SearchState<'h> {
 }
 
 impl<'h> SearchState<'h> {
-    /// An empty desk, some 200 KB, that takes its hints from the table and leaves its own there; or `Memory`.
+    /// An empty one, some 200 KB, that takes its hints from the table and leaves its own there; or `Memory`.
     pub fn new(alloc: Global, hints: &'h HintTable) -> Result<SearchState<'h>, Memory> {
         Ok(SearchState {
             hints,
