@@ -18,7 +18,7 @@ use Rattle.words.specs.Options.{Text}
 use Rattle.words.specs.View.{asked_seen, command_seen}
 use Rattle.one_shots.specs.declared.answers.Answer.{Answer}
 use Rattle.one_shot_faults.specs.declared.no_answer.NoAnswer.{NoAnswer}
-use Rattle.one_shot_faults.specs.declared.no_answer.NoAnswer.TheVariants as halt
+use Rattle.one_shot_faults.specs.declared.no_answer.NoAnswer.TheVariants as no_answer
 use Rattle.one_shots.specs.declared.opening.Opened.{Opened}
 use Rattle.one_shot_faults.specs.declared.stop.Stop.{Stop}
 use Rattle.one_shot_faults.specs.declared.stop.Stop.TheVariants as stop
@@ -111,28 +111,28 @@ reached contents asks left left' words o r looked heard =
 pub refused_says : (c : Option Asked) (reads : List Read) (why : NoAnswer) (r : Result Answer Stop) (lines : List Line) → Opens c reads (Err why) → OutcomeOf (Err why) r
     → IfOk r (λ answer. Says c reads lines answer.status answer.text)
 refused_says c reads why (Err cut) lines opens is = tt
-refused_says None reads halt.Usage (Ok answer) lines opens is = is
-refused_says (Some a) reads halt.Usage (Ok answer) lines opens is = cc
-refused_says None reads (halt.Fault fault) (Ok answer) lines opens is = absurd opens
-refused_says (Some a) reads (halt.Fault fault) (Ok answer) lines opens is = rw opens.1 is
-refused_says c reads (halt.Stop why) (Ok answer) lines opens is = absurd is
+refused_says None reads no_answer.Usage (Ok answer) lines opens is = is
+refused_says (Some a) reads no_answer.Usage (Ok answer) lines opens is = cc
+refused_says None reads (no_answer.Fault fault) (Ok answer) lines opens is = absurd opens
+refused_says (Some a) reads (no_answer.Fault fault) (Ok answer) lines opens is = rw opens.1 is
+refused_says c reads (no_answer.Stop why) (Ok answer) lines opens is = absurd is
 
 pub refused_first : (c : Option Asked) (reads : List Read) (why : NoAnswer) (r : Result Answer Stop) (answer : Answer) → Opens c reads (Err why) → OutcomeOf (Err why) r → r ≡ Ok answer → AreFirstReads c reads
-refused_first None reads halt.Usage r answer opens is ok = opens.1
-refused_first (Some a) reads halt.Usage r answer opens is ok = cc
-refused_first None reads (halt.Fault fault) r answer opens is ok = absurd opens
-refused_first (Some a) reads (halt.Fault fault) r answer opens is ok = opens.0
-refused_first c reads (halt.Stop why) (Ok x) answer opens is ok = absurd is
-refused_first c reads (halt.Stop why) (Err x) answer opens is ok = cc
+refused_first None reads no_answer.Usage r answer opens is ok = opens.1
+refused_first (Some a) reads no_answer.Usage r answer opens is ok = cc
+refused_first None reads (no_answer.Fault fault) r answer opens is ok = absurd opens
+refused_first (Some a) reads (no_answer.Fault fault) r answer opens is ok = opens.0
+refused_first c reads (no_answer.Stop why) (Ok x) answer opens is ok = absurd is
+refused_first c reads (no_answer.Stop why) (Err x) answer opens is ok = cc
 
 -- the reads that were done, or none of them
 pub some_reads : (c : Option Asked) (reads : List Read) (why : NoAnswer) → Opens c reads (Err why) → (reads ≡ []) ⊎ AreFirstReads c reads
-some_reads c reads halt.Usage opens = inl opens.1
-some_reads None reads (halt.Fault fault) opens = absurd opens
-some_reads (Some a) reads (halt.Fault fault) opens = inr opens.0
-some_reads c reads (halt.Stop stop.Source) opens = absurd opens
-some_reads c reads (halt.Stop stop.Sink) opens = absurd opens
-some_reads c reads (halt.Stop stop.Memory) opens = opens
+some_reads c reads no_answer.Usage opens = inl opens.1
+some_reads None reads (no_answer.Fault fault) opens = absurd opens
+some_reads (Some a) reads (no_answer.Fault fault) opens = inr opens.0
+some_reads c reads (no_answer.Stop stop.Source) opens = absurd opens
+some_reads c reads (no_answer.Stop stop.Sink) opens = absurd opens
+some_reads c reads (no_answer.Stop stop.Memory) opens = opens
 
 pub refused : (contents : Option Contents) (asks : List Read → Type 0) (left : Option (List ℕ)) (words : List Text) (why : NoAnswer) (r : Result Answer Stop)
     → Looked asks (λ reads. Opens (to_do words) reads (Err why)) → OutcomeOf (Err why) r → Answered contents asks left left words r
@@ -426,20 +426,20 @@ not_six (Err stop.Memory) sections c left left' needed old new before now status
 -- an outcome without a source is not cut short by it, nor by the sink
 pub refused_heard : (c : Option Asked) (reads : List Read) (why : NoAnswer) (r : Result Answer Stop) → Opens c reads (Err why) → OutcomeOf (Err why) r → IsUnread r → ⊥
 refused_heard c reads why (Ok answer) opens is unread = unread
-refused_heard c reads halt.Usage (Err stop.Source) opens is unread = cc
-refused_heard c reads (halt.Fault fault) (Err stop.Source) opens is unread = cc
-refused_heard c reads (halt.Stop stop.Source) (Err stop.Source) opens is unread = opens
-refused_heard c reads (halt.Stop stop.Sink) (Err stop.Source) opens is unread = cc
-refused_heard c reads (halt.Stop stop.Memory) (Err stop.Source) opens is unread = cc
+refused_heard c reads no_answer.Usage (Err stop.Source) opens is unread = cc
+refused_heard c reads (no_answer.Fault fault) (Err stop.Source) opens is unread = cc
+refused_heard c reads (no_answer.Stop stop.Source) (Err stop.Source) opens is unread = opens
+refused_heard c reads (no_answer.Stop stop.Sink) (Err stop.Source) opens is unread = cc
+refused_heard c reads (no_answer.Stop stop.Memory) (Err stop.Source) opens is unread = cc
 refused_heard c reads why (Err stop.Sink) opens is unread = unread
 refused_heard c reads why (Err stop.Memory) opens is unread = unread
 
 pub refused_said : (c : Option Asked) (reads : List Read) (why : NoAnswer) (r : Result Answer Stop) → Opens c reads (Err why) → OutcomeOf (Err why) r → IsUnsaid r → ⊥
 refused_said c reads why (Ok answer) opens is unsaid = unsaid
 refused_said c reads why (Err stop.Source) opens is unsaid = unsaid
-refused_said c reads halt.Usage (Err stop.Sink) opens is unsaid = cc
-refused_said c reads (halt.Fault fault) (Err stop.Sink) opens is unsaid = cc
-refused_said c reads (halt.Stop stop.Source) (Err stop.Sink) opens is unsaid = cc
-refused_said c reads (halt.Stop stop.Sink) (Err stop.Sink) opens is unsaid = opens
-refused_said c reads (halt.Stop stop.Memory) (Err stop.Sink) opens is unsaid = cc
+refused_said c reads no_answer.Usage (Err stop.Sink) opens is unsaid = cc
+refused_said c reads (no_answer.Fault fault) (Err stop.Sink) opens is unsaid = cc
+refused_said c reads (no_answer.Stop stop.Source) (Err stop.Sink) opens is unsaid = cc
+refused_said c reads (no_answer.Stop stop.Sink) (Err stop.Sink) opens is unsaid = opens
+refused_said c reads (no_answer.Stop stop.Memory) (Err stop.Sink) opens is unsaid = cc
 refused_said c reads why (Err stop.Memory) opens is unsaid = unsaid

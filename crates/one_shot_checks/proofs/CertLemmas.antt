@@ -38,7 +38,7 @@ use Rattle.one_shot_checks.specs.declared.certificates.Stipulated.{Stipulated}
 use Rattle.one_shot_faults.specs.declared.fault.Fault.{Fault}
 use Rattle.one_shot_faults.specs.declared.fault.Fault.TheVariants as fault
 use Rattle.one_shot_faults.specs.declared.no_answer.NoAnswer.{NoAnswer}
-use Rattle.one_shot_faults.specs.declared.no_answer.NoAnswer.TheVariants as halt
+use Rattle.one_shot_faults.specs.declared.no_answer.NoAnswer.TheVariants as no_answer
 use Rattle.one_shot_faults.specs.declared.stop.Stop.TheVariants as stop
 use Rattle.one_shot_checks.specs.Certificates.{IsMet, Meets, PrintsHelp, PrintsSelf, SaysCertCheck, SaysStipulated, SaysVerdict, by_problem, lines_after, lines_of_cert_check, stipulated_in, verdict_by, verdict_in, with_cert}
 use Rattle.one_shot_checks.specs.CertView.{States}
@@ -46,7 +46,7 @@ use Rattle.one_shot_faults.specs.Fault.{error_line, fault_status, fault_text}
 use Rattle.one_shot_checks.specs.GameTexts.{cert_or_none, help_mate_of, self_mate_of}
 use Rattle.one_shot_faults.specs.NoAnswerView.{Answers, IsUnheard, cert_halt, game_halt}
 
--- ---- what was read, as halts have it
+-- ---- what was read, where it gives no answer
 
 -- of a problem
 pub problem_bad : (input : List Line) (r : Result (Problem Stipulation) GameFault) (why : NoGame) → read.Tells {A = Problem Stipulation} r (Err why) → States (by_problem r input) (Err (game_halt why))
@@ -141,15 +141,15 @@ stated_status (Ok p) input why is = cert_status (cert_of p.game.rules (story p.g
     cert_status (Ok cert) is = absurd (cc)
     cert_status (Err bad) is = let same : fault.Cert bad ≡ why = cc in ap fault_status (sym same)
 
--- a halt without a statement is that of the check
+-- where nothing is stated, the check has no answer either
 pub states_bad : (variants : List Named) (input : List Line) (why : NoAnswer) → States (stipulated_in variants input) (Err why) → Answers (Err why) (SaysCertCheck variants input)
-states_bad variants input halt.Usage is = absurd is
-states_bad variants input (halt.Fault why) is =
+states_bad variants input no_answer.Usage is = absurd is
+states_bad variants input (no_answer.Fault why) is =
     subst (λ (r : Result Stipulated Fault). SaysStipulated r (fault_status why) (error_line (fault_text why))) (sym is)
     (stated_status (problem_of stipulation_said variants input) input why is, refl)
-states_bad variants input (halt.Stop stop.Source) is = tt
-states_bad variants input (halt.Stop stop.Sink) is = absurd is
-states_bad variants input (halt.Stop stop.Memory) is = tt
+states_bad variants input (no_answer.Stop stop.Source) is = tt
+states_bad variants input (no_answer.Stop stop.Sink) is = absurd is
+states_bad variants input (no_answer.Stop stop.Memory) is = tt
 
 pub printed : (variants : List Named) (input : List Line) (s : Stipulated) (v : CertVerdict) (status : ℕ) (text : List ℕ) → stipulated_in variants input ≡ Ok s → v ≡ verdict_in s
     → SaysVerdict v status text → SaysCertCheck variants input status text

@@ -42,7 +42,7 @@ use Rattle.proof_text.specs.Words.{is_version}
 use Rattle.one_shot_faults.specs.declared.fault.Fault.{Fault}
 use Rattle.one_shot_faults.specs.declared.fault.Fault.TheVariants as fault
 use Rattle.one_shot_faults.specs.declared.no_answer.NoAnswer.{NoAnswer}
-use Rattle.one_shot_faults.specs.declared.no_answer.NoAnswer.TheVariants as halt
+use Rattle.one_shot_faults.specs.declared.no_answer.NoAnswer.TheVariants as no_answer
 use Rattle.one_shot_faults.specs.declared.stop.Stop.TheVariants as stop
 use Rattle.proof_text.specs.declared.strategy_lines.NoStrategy.{NoStrategy}
 use Rattle.proof_text.specs.declared.strategy_lines.NoStrategy.TheVariants.{Faulty, Unread}
@@ -52,7 +52,7 @@ use Rattle.one_shot_checks.specs.CheckView.{Prints, States, losing, winning}
 use Rattle.one_shot_faults.specs.Fault.{error_line, fault_status, fault_text}
 use Rattle.one_shot_faults.specs.NoAnswerView.{Answers, IsUnheard, game_halt, proof_halt, strategy_halt}
 
--- ---- what was read, as halts have it
+-- ---- what was read, where it gives no answer
 
 -- of a problem
 pub problem_bad : (input : List Line) (r : Result (Problem Goal) GameFault) (why : NoGame) → read.Tells {A = Problem Goal} r (Err why) → States (by_problem r input) (Err (game_halt why))
@@ -271,14 +271,14 @@ stated_status : (t : Bool) (variants : List Named) (input : List Line) (why : Fa
 stated_status true variants input why is = proof_status (proof_of input) why is
 stated_status false variants input why is = problem_status (problem_of goal_said variants input) input why is
 
--- a halt without a statement is that of the check
+-- where nothing is stated, the check has no answer either
 pub states_bad : (variants : List Named) (input : List Line) (why : NoAnswer) → States (stated_in variants input) (Err why) → Answers (Err why) (SaysCheck variants input)
-states_bad variants input halt.Usage is = absurd is
-states_bad variants input (halt.Fault why) is =
+states_bad variants input no_answer.Usage is = absurd is
+states_bad variants input (no_answer.Fault why) is =
     subst (λ (r : Result Proof Fault). SaysStated r (fault_status why) (error_line (fault_text why))) (sym is) (stated_status (is_proof_text input) variants input why is, refl)
-states_bad variants input (halt.Stop stop.Source) is = tt
-states_bad variants input (halt.Stop stop.Sink) is = absurd is
-states_bad variants input (halt.Stop stop.Memory) is = tt
+states_bad variants input (no_answer.Stop stop.Source) is = tt
+states_bad variants input (no_answer.Stop stop.Sink) is = absurd is
+states_bad variants input (no_answer.Stop stop.Memory) is = tt
 
 prints : (p : Proof) (v : Verdict) (status : ℕ) (text : List ℕ) → verdict_in p ≡ v → Prints v status text → SaysVerdict p status text
 prints p said.Wins status text is winning = good (wins-from _ is)

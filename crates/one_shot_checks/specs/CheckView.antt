@@ -6,18 +6,18 @@ use Rattle.strategy_check.specs.declared.verdict.Verdict.TheVariants.{Wins}
 use Rattle.strategy_check.specs.Verdicts.{verdict_text}
 use Rattle.one_shot_faults.specs.declared.fault.Fault.{Fault}
 use Rattle.one_shot_faults.specs.declared.no_answer.NoAnswer.{NoAnswer}
-use Rattle.one_shot_faults.specs.declared.no_answer.NoAnswer.TheVariants as halt
+use Rattle.one_shot_faults.specs.declared.no_answer.NoAnswer.TheVariants as no_answer
 use Rattle.one_shot_faults.specs.declared.stop.Stop.TheVariants as stop
 use Rattle.one_shot_faults.specs.Fault.{error_line}
 
 -- the lines state this, or have this fault; where the run was cut short nothing is known of them
 abbrev pub States : Result Proof Fault → Result Proof NoAnswer → Type 0
 States said (Ok p) = said ≡ Ok p
-States said (Err halt.Usage) = ⊥
-States said (Err (halt.Fault fault)) = said ≡ Err fault
-States said (Err (halt.Stop stop.Source)) = ⊤
-States said (Err (halt.Stop stop.Sink)) = ⊥
-States said (Err (halt.Stop stop.Memory)) = ⊤
+States said (Err no_answer.Usage) = ⊥
+States said (Err (no_answer.Fault fault)) = said ≡ Err fault
+States said (Err (no_answer.Stop stop.Source)) = ⊤
+States said (Err (no_answer.Stop stop.Sink)) = ⊥
+States said (Err (no_answer.Stop stop.Memory)) = ⊤
 
 -- what is printed of a verdict
 pub data Prints : Verdict → ℕ → List ℕ → Type 0 where

@@ -18,7 +18,7 @@ use Rattle.cert_text.specs.declared.fault.NoCert.TheVariants as no_cert
 use Rattle.suite.specs.declared.fault.NoSuite.{NoSuite}
 use Rattle.suite.specs.declared.fault.NoSuite.TheVariants as no_suite
 use Rattle.one_shot_faults.specs.declared.no_answer.NoAnswer.{NoAnswer}
-use Rattle.one_shot_faults.specs.declared.no_answer.NoAnswer.TheVariants as halt
+use Rattle.one_shot_faults.specs.declared.no_answer.NoAnswer.TheVariants as no_answer
 use Rattle.proof_text.specs.declared.strategy_lines.NoStrategy.{NoStrategy}
 use Rattle.proof_text.specs.declared.strategy_lines.NoStrategy.TheVariants as no_strategy
 use Rattle.one_shot_faults.specs.declared.stop.Stop.TheVariants as stop
@@ -26,78 +26,78 @@ use Rattle.one_shot_faults.specs.Fault.{error_line, fault_status, fault_text, us
 
 -- out of memory is no fault of a word
 abbrev pub betza_halt : BetzaFault → NoAnswer
-betza_halt betza.Memory = halt.Stop stop.Memory
-betza_halt (betza.Empty place) = halt.Fault (Betza (betza.Empty place))
-betza_halt (betza.TooLong place) = halt.Fault (Betza (betza.TooLong place))
-betza_halt (betza.UnknownAtom place) = halt.Fault (Betza (betza.UnknownAtom place))
-betza_halt (betza.UnsupportedModifier place) = halt.Fault (Betza (betza.UnsupportedModifier place))
-betza_halt (betza.DoubledModifier place) = halt.Fault (Betza (betza.DoubledModifier place))
-betza_halt (betza.AmbiguousDirection place) = halt.Fault (Betza (betza.AmbiguousDirection place))
-betza_halt (betza.BadLame place) = halt.Fault (Betza (betza.BadLame place))
-betza_halt (betza.BadHopper place) = halt.Fault (Betza (betza.BadHopper place))
-betza_halt (betza.BadNumber place) = halt.Fault (Betza (betza.BadNumber place))
-betza_halt (betza.TooManyTerms place) = halt.Fault (Betza (betza.TooManyTerms place))
+betza_halt betza.Memory = no_answer.Stop stop.Memory
+betza_halt (betza.Empty place) = no_answer.Fault (Betza (betza.Empty place))
+betza_halt (betza.TooLong place) = no_answer.Fault (Betza (betza.TooLong place))
+betza_halt (betza.UnknownAtom place) = no_answer.Fault (Betza (betza.UnknownAtom place))
+betza_halt (betza.UnsupportedModifier place) = no_answer.Fault (Betza (betza.UnsupportedModifier place))
+betza_halt (betza.DoubledModifier place) = no_answer.Fault (Betza (betza.DoubledModifier place))
+betza_halt (betza.AmbiguousDirection place) = no_answer.Fault (Betza (betza.AmbiguousDirection place))
+betza_halt (betza.BadLame place) = no_answer.Fault (Betza (betza.BadLame place))
+betza_halt (betza.BadHopper place) = no_answer.Fault (Betza (betza.BadHopper place))
+betza_halt (betza.BadNumber place) = no_answer.Fault (Betza (betza.BadNumber place))
+betza_halt (betza.TooManyTerms place) = no_answer.Fault (Betza (betza.TooManyTerms place))
 
 -- nor of the file of variants
 abbrev pub load_halt : NoSections → NoAnswer
-load_halt (no_sections.Fault fault) = halt.Fault (Load fault)
-load_halt no_sections.Memory = halt.Stop stop.Memory
+load_halt (no_sections.Fault fault) = no_answer.Fault (Load fault)
+load_halt no_sections.Memory = no_answer.Stop stop.Memory
 
 abbrev pub game_halt : NoGame → NoAnswer
-game_halt (no_game.Faulty fault) = halt.Fault (Game fault)
-game_halt no_game.Unread = halt.Stop stop.Source
-game_halt no_game.Memory = halt.Stop stop.Memory
+game_halt (no_game.Faulty fault) = no_answer.Fault (Game fault)
+game_halt no_game.Unread = no_answer.Stop stop.Source
+game_halt no_game.Memory = no_answer.Stop stop.Memory
 
 -- out of memory is no fault of a strategy
 abbrev pub strategy_halt : NoStrategy → NoAnswer
-strategy_halt no_strategy.Unread = halt.Stop stop.Source
-strategy_halt (no_strategy.Faulty strategy.Memory) = halt.Stop stop.Memory
-strategy_halt (no_strategy.Faulty (strategy.Header line)) = halt.Fault (Strategy (strategy.Header line))
-strategy_halt (no_strategy.Faulty (strategy.BadLine line)) = halt.Fault (Strategy (strategy.BadLine line))
+strategy_halt no_strategy.Unread = no_answer.Stop stop.Source
+strategy_halt (no_strategy.Faulty strategy.Memory) = no_answer.Stop stop.Memory
+strategy_halt (no_strategy.Faulty (strategy.Header line)) = no_answer.Fault (Strategy (strategy.Header line))
+strategy_halt (no_strategy.Faulty (strategy.BadLine line)) = no_answer.Fault (Strategy (strategy.BadLine line))
 strategy_halt (no_strategy.Faulty (strategy.BadPosition line fault)) =
-    halt.Fault (Strategy (strategy.BadPosition line fault))
-strategy_halt (no_strategy.Faulty (strategy.BadMove line)) = halt.Fault (Strategy (strategy.BadMove line))
-strategy_halt (no_strategy.Faulty (strategy.BadNumber line)) = halt.Fault (Strategy (strategy.BadNumber line))
-strategy_halt (no_strategy.Faulty (strategy.Ended line)) = halt.Fault (Strategy (strategy.Ended line))
+    no_answer.Fault (Strategy (strategy.BadPosition line fault))
+strategy_halt (no_strategy.Faulty (strategy.BadMove line)) = no_answer.Fault (Strategy (strategy.BadMove line))
+strategy_halt (no_strategy.Faulty (strategy.BadNumber line)) = no_answer.Fault (Strategy (strategy.BadNumber line))
+strategy_halt (no_strategy.Faulty (strategy.Ended line)) = no_answer.Fault (Strategy (strategy.Ended line))
 
 -- nor of a proof text
 abbrev pub proof_halt : NoProof → NoAnswer
-proof_halt no_proof.Unread = halt.Stop stop.Source
-proof_halt (no_proof.Faulty proof.Memory) = halt.Stop stop.Memory
-proof_halt (no_proof.Faulty (proof.Header line)) = halt.Fault (Proof (proof.Header line))
-proof_halt (no_proof.Faulty (proof.BadRules line)) = halt.Fault (Proof (proof.BadRules line))
-proof_halt (no_proof.Faulty (proof.RefusedRules why)) = halt.Fault (Proof (proof.RefusedRules why))
-proof_halt (no_proof.Faulty (proof.BadStart line why)) = halt.Fault (Proof (proof.BadStart line why))
-proof_halt (no_proof.Faulty (proof.BadHistory line)) = halt.Fault (Proof (proof.BadHistory line))
-proof_halt (no_proof.Faulty (proof.BadBody why)) = halt.Fault (Proof (proof.BadBody why))
+proof_halt no_proof.Unread = no_answer.Stop stop.Source
+proof_halt (no_proof.Faulty proof.Memory) = no_answer.Stop stop.Memory
+proof_halt (no_proof.Faulty (proof.Header line)) = no_answer.Fault (Proof (proof.Header line))
+proof_halt (no_proof.Faulty (proof.BadRules line)) = no_answer.Fault (Proof (proof.BadRules line))
+proof_halt (no_proof.Faulty (proof.RefusedRules why)) = no_answer.Fault (Proof (proof.RefusedRules why))
+proof_halt (no_proof.Faulty (proof.BadStart line why)) = no_answer.Fault (Proof (proof.BadStart line why))
+proof_halt (no_proof.Faulty (proof.BadHistory line)) = no_answer.Fault (Proof (proof.BadHistory line))
+proof_halt (no_proof.Faulty (proof.BadBody why)) = no_answer.Fault (Proof (proof.BadBody why))
 
 -- nor of a certificate
 abbrev pub cert_halt : NoCert → NoAnswer
-cert_halt no_cert.Unread = halt.Stop stop.Source
-cert_halt (no_cert.Faulty cert.Memory) = halt.Stop stop.Memory
-cert_halt (no_cert.Faulty (cert.BadLine line)) = halt.Fault (Cert (cert.BadLine line))
-cert_halt (no_cert.Faulty (cert.Ended line)) = halt.Fault (Cert (cert.Ended line))
+cert_halt no_cert.Unread = no_answer.Stop stop.Source
+cert_halt (no_cert.Faulty cert.Memory) = no_answer.Stop stop.Memory
+cert_halt (no_cert.Faulty (cert.BadLine line)) = no_answer.Fault (Cert (cert.BadLine line))
+cert_halt (no_cert.Faulty (cert.Ended line)) = no_answer.Fault (Cert (cert.Ended line))
 
 abbrev pub suite_halt : NoSuite → NoAnswer
-suite_halt (no_suite.Faulty fault) = halt.Fault (Suite fault)
-suite_halt no_suite.Unread = halt.Stop stop.Source
-suite_halt no_suite.Memory = halt.Stop stop.Memory
+suite_halt (no_suite.Faulty fault) = no_answer.Fault (Suite fault)
+suite_halt no_suite.Unread = no_answer.Stop stop.Source
+suite_halt no_suite.Memory = no_answer.Stop stop.Memory
 
 -- this holds of the status and the text of the outcome. A run that was cut short has none. The sink has not cut it
 -- short, since it was given nothing yet
 abbrev pub Answers : Result (List ℕ) NoAnswer → (ℕ → List ℕ → Type 0) → Type 0
 Answers (Ok text) Says = Says 0 text
-Answers (Err halt.Usage) Says = Says 2 usage_line
-Answers (Err (halt.Fault fault)) Says = Says (fault_status fault) (error_line (fault_text fault))
-Answers (Err (halt.Stop stop.Source)) Says = ⊤
-Answers (Err (halt.Stop stop.Sink)) Says = ⊥
-Answers (Err (halt.Stop stop.Memory)) Says = ⊤
+Answers (Err no_answer.Usage) Says = Says 2 usage_line
+Answers (Err (no_answer.Fault fault)) Says = Says (fault_status fault) (error_line (fault_text fault))
+Answers (Err (no_answer.Stop stop.Source)) Says = ⊤
+Answers (Err (no_answer.Stop stop.Sink)) Says = ⊥
+Answers (Err (no_answer.Stop stop.Memory)) Says = ⊤
 
 -- the source failed
 abbrev pub IsUnheard : {A : Type 0} → Result A NoAnswer → Type 0
 IsUnheard (Ok x) = ⊥
-IsUnheard (Err halt.Usage) = ⊥
-IsUnheard (Err (halt.Fault fault)) = ⊥
-IsUnheard (Err (halt.Stop stop.Source)) = ⊤
-IsUnheard (Err (halt.Stop stop.Sink)) = ⊥
-IsUnheard (Err (halt.Stop stop.Memory)) = ⊥
+IsUnheard (Err no_answer.Usage) = ⊥
+IsUnheard (Err (no_answer.Fault fault)) = ⊥
+IsUnheard (Err (no_answer.Stop stop.Source)) = ⊤
+IsUnheard (Err (no_answer.Stop stop.Sink)) = ⊥
+IsUnheard (Err (no_answer.Stop stop.Memory)) = ⊥

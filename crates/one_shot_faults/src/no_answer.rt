@@ -1,6 +1,6 @@
 //! Why a command has no text.
 ghost use Rattle.std.specs.Prelude.{◌≡◌};
-ghost use Rattle.one_shot_faults.specs.declared.no_answer.NoAnswer.TheVariants as halt;
+ghost use Rattle.one_shot_faults.specs.declared.no_answer.NoAnswer.TheVariants as no_answer;
 ghost use Rattle.one_shot_faults.specs.declared.fault.Fault.TheVariants as fault;
 ghost use Rattle.one_shot_faults.specs.declared.stop.Stop.TheVariants as stop;
 ghost use Rattle.one_shot_faults.specs.NoAnswerView.{betza_halt, cert_halt, game_halt, load_halt, proof_halt, strategy_halt};
@@ -31,7 +31,7 @@ pub enum NoAnswer<'a> {
 }
 
 impl<'a> From<Memory> for NoAnswer<'a> {
-    ghost from_gives = { λ _ given. given ≡ halt.Stop stop.Memory };
+    ghost from_gives = { λ _ given. given ≡ no_answer.Stop stop.Memory };
 
     fn from(_error: Memory) -> Self {
         NoAnswer::Stop(Stop::Memory)
@@ -39,7 +39,7 @@ impl<'a> From<Memory> for NoAnswer<'a> {
 }
 
 impl<'a> From<AllocError> for NoAnswer<'a> {
-    ghost from_gives = { λ _ given. given ≡ halt.Stop stop.Memory };
+    ghost from_gives = { λ _ given. given ≡ no_answer.Stop stop.Memory };
 
     fn from(_error: AllocError) -> Self {
         NoAnswer::Stop(Stop::Memory)
@@ -47,7 +47,7 @@ impl<'a> From<AllocError> for NoAnswer<'a> {
 }
 
 impl<'a> From<ReachFault<'a>> for NoAnswer<'a> {
-    ghost from_gives = { λ why given. given ≡ halt.Fault (fault.Reach why) };
+    ghost from_gives = { λ why given. given ≡ no_answer.Fault (fault.Reach why) };
 
     fn from(why: ReachFault<'a>) -> Self {
         NoAnswer::Fault(Fault::Reach(why))

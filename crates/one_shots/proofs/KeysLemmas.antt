@@ -20,7 +20,7 @@ use Rattle.one_shots.specs.GameView.{SaysGame}
 use Rattle.one_shot_faults.specs.NoAnswerView.{Answers}
 use Rattle.one_shots.specs.FirstMoves.{SaysKeyList, SaysKeys, SaysKeysOf}
 
--- ---- what was read, as halts have it
+-- ---- what was read, where it gives no answer
 
 -- those of the game that was read
 pub keys_answers : (n : ℕ) (said : Result Played GameFault) (g : Played) (status : ℕ) (text : List ℕ) → said ≡ Ok g

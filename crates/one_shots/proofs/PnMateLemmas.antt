@@ -18,7 +18,7 @@ use Rattle.one_shots.specs.GameView.{SaysGame}
 use Rattle.one_shot_faults.specs.NoAnswerView.{Answers}
 use Rattle.one_shots.specs.PnMates.{SaysMateCount, SaysMateOf, SaysPnMate, mate_line}
 
--- ---- what was read, as halts have it
+-- ---- what was read, where it gives no answer
 
 -- the least number of moves of the game that was read
 pub mate_answers : (n : ℕ) (said : Result Played GameFault) (g : Played) (count : Result (Option ℕ) PnFault) (status : ℕ) (text : List ℕ) → said ≡ Ok g → count ≡ mate_count g.rules n (story g)

@@ -15,7 +15,7 @@ use Rattle.one_shot_faults.specs.Fault.{error_line}
 use Rattle.one_shot_faults.specs.NoAnswerView.{Answers, IsUnheard, suite_halt}
 use Rattle.one_shots.specs.Suites.{SaysReport, SaysSuite}
 
--- ---- what was read, as halts have it
+-- ---- what was read, where it gives no answer
 
 pub report_answers : (said : Result (List ℕ) SuiteFault) (text : List ℕ) → said ≡ Ok text → SaysReport said 0 text
 report_answers said text is = subst (λ (x : Result (List ℕ) SuiteFault). SaysReport x 0 text) (sym is) (refl, refl)

@@ -5,7 +5,7 @@ use Rattle.game_text.specs.declared.fault.GameFault.{GameFault}
 use Rattle.one_shot_faults.specs.declared.fault.Fault.{Fault}
 use Rattle.one_shot_faults.specs.declared.fault.Fault.TheVariants.{Game}
 use Rattle.one_shot_faults.specs.declared.no_answer.NoAnswer.{NoAnswer}
-use Rattle.one_shot_faults.specs.declared.no_answer.NoAnswer.TheVariants as halt
+use Rattle.one_shot_faults.specs.declared.no_answer.NoAnswer.TheVariants as no_answer
 use Rattle.one_shot_faults.specs.declared.stop.Stop.TheVariants as stop
 
 -- the game text has this fault
@@ -17,8 +17,8 @@ pub record IsGameFault (said : Result Played GameFault) (fault : Fault) : Type 0
 -- the game text says this game, or has this fault; where the run was cut short nothing is known of it
 abbrev pub SaysGame : Result Played GameFault → Result Played NoAnswer → Type 0
 SaysGame said (Ok g) = said ≡ Ok g
-SaysGame said (Err halt.Usage) = ⊥
-SaysGame said (Err (halt.Fault fault)) = IsGameFault said fault
-SaysGame said (Err (halt.Stop stop.Source)) = ⊤
-SaysGame said (Err (halt.Stop stop.Sink)) = ⊥
-SaysGame said (Err (halt.Stop stop.Memory)) = ⊤
+SaysGame said (Err no_answer.Usage) = ⊥
+SaysGame said (Err (no_answer.Fault fault)) = IsGameFault said fault
+SaysGame said (Err (no_answer.Stop stop.Source)) = ⊤
+SaysGame said (Err (no_answer.Stop stop.Sink)) = ⊥
+SaysGame said (Err (no_answer.Stop stop.Memory)) = ⊤

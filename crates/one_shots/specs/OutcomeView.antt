@@ -4,7 +4,7 @@ use Rattle.std.specs.Io.KnownBytes.{Appends}
 use Rattle.io_ports.specs.Cause.{Rose}
 use Rattle.io_ports.specs.Sink.{AppendsFront}
 use Rattle.one_shot_faults.specs.declared.no_answer.NoAnswer.{NoAnswer}
-use Rattle.one_shot_faults.specs.declared.no_answer.NoAnswer.TheVariants as halt
+use Rattle.one_shot_faults.specs.declared.no_answer.NoAnswer.TheVariants as no_answer
 use Rattle.one_shot_faults.specs.declared.stop.Stop.{Stop}
 use Rattle.one_shot_faults.specs.declared.stop.Stop.TheVariants as stop
 use Rattle.one_shot_faults.specs.Fault.{error_line, fault_status, fault_text, usage_line}
@@ -14,14 +14,14 @@ use Rattle.one_shots.specs.declared.answers.Answer.{Answer}
 -- of memory
 abbrev pub OutcomeOf : Result (List ℕ) NoAnswer → Result Answer Stop → Type 0
 OutcomeOf (Ok said) (Ok answer) = (answer.status ≡ 0) × (answer.text ≡ said)
-OutcomeOf (Err halt.Usage) (Ok answer) = (answer.status ≡ 2) × (answer.text ≡ usage_line)
-OutcomeOf (Err (halt.Fault fault)) (Ok answer) =
+OutcomeOf (Err no_answer.Usage) (Ok answer) = (answer.status ≡ 2) × (answer.text ≡ usage_line)
+OutcomeOf (Err (no_answer.Fault fault)) (Ok answer) =
     (answer.status ≡ fault_status fault) × (answer.text ≡ error_line (fault_text fault))
-OutcomeOf (Err (halt.Stop why)) (Ok answer) = ⊥
-OutcomeOf (Err (halt.Stop why)) (Err why') = why' ≡ why
+OutcomeOf (Err (no_answer.Stop why)) (Ok answer) = ⊥
+OutcomeOf (Err (no_answer.Stop why)) (Err why') = why' ≡ why
 OutcomeOf (Ok said) (Err why') = why' ≡ stop.Memory
-OutcomeOf (Err halt.Usage) (Err why') = why' ≡ stop.Memory
-OutcomeOf (Err (halt.Fault fault)) (Err why') = why' ≡ stop.Memory
+OutcomeOf (Err no_answer.Usage) (Err why') = why' ≡ stop.Memory
+OutcomeOf (Err (no_answer.Fault fault)) (Err why') = why' ≡ stop.Memory
 
 -- The text of an answer is written, or a front part of it where the sink fails. A run that was cut short writes
 -- nothing. `old` and `new` are what the sink had taken before and has now, and `before` and `now` its counts of faults.
