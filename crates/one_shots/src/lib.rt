@@ -15,5 +15,5 @@ mod suite_text;
 mod variants;
 
 pub use answers::{Answer, answer_of, answer_to};
-pub use laws::words_have_one_answer;
+pub use laws::{printed_rules_are_read_back, words_have_one_answer};
 pub use opening::{Opened, open};

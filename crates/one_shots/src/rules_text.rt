@@ -1,5 +1,6 @@
 //! What `rules` prints: the lines that a variant tells of its rules.
 ghost use Rattle.std.specs.Prelude.{◌≡◌};
+ghost use Rattle.variant_ini.specs.OptionValue.{first_named};
 ghost use Rattle.variant_rules.specs.Entries.{entries, found};
 ghost use Rattle.variant_rules.specs.View.{found_view};
 ghost use Rattle.one_shot_faults.specs.NoAnswerView.{Answers, IsUnheard};
@@ -22,16 +23,17 @@ fn rules_in(
     name: &str,
 ) -> Result<Text, NoAnswer<'static>>
     requires { found_view variant ≡ found (entries sections.now) name.now }
-    ensures answers { Answers result (SaysTold sections.now name.now (found_view variant.entry)) }
+    ensures answers { Answers result
+        (SaysTold sections.now name.now (found_view variant.entry) (first_named sections.now name.now)) }
     ensures reads_nothing { ¬ (IsUnheard result) }
 {
     // Tells the prover that a variant that is found has a place.
     variants_have_places();
     match variant {
-        Found::Rules(_) => {
-            let place = sections.place_of(name.as_bytes()).unwrap_or(0);
-            Ok(write_rules(alloc, sections, place)?)
-        }
+        Found::Rules(_) => match sections.place_of(name.as_bytes()) {
+            Some(place) => Ok(write_rules(alloc, sections, place)?),
+            None => unreachable!(),
+        },
         Found::Refused(fault) => Err(refused_variant(alloc, fault)?),
         Found::Unknown => Err(unknown_variant(alloc, name)?),
     }
