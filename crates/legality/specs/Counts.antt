@@ -8,7 +8,7 @@ use Rattle.legality.specs.Sinks.{Counted, Never}
 
 -- it took exactly the moves that meet P, each once, and counted those that are chosen
 abbrev pub CountsAll : (Move → Type 0) → CountSink → CountSink → Type 0
-CountsAll = TakesAll (Counted (λ counter. counter.choice) (λ counter. counter.count) chosen_by (2 ^ 128 - 1))
+CountsAll = TakesAll (Counted (λ counter. counter.move_filter) (λ counter. counter.count) chosen_by (2 ^ 128 - 1))
 
 -- holds never: this sink is never full
 abbrev pub IsFull : (Move → Type 0) → CountSink → CountSink → Type 0

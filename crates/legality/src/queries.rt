@@ -36,14 +36,17 @@ impl MoveGen<'_> {
         if !self.goes_on() {
             return 0;
         }
-        let (safety, part) = (self.safety, self.legal_gen_type());
-        let choice = MoveFilter { safety, part };
-        let mut counter = CountSink { choice, count: 0 };
+        let (pin_info, gen_type) = (self.pin_info, self.legal_gen_type());
+        let move_filter = MoveFilter { pin_info, gen_type };
+        let mut counter = CountSink {
+            move_filter,
+            count: 0,
+        };
         let _ = push_candidates(
-            safety.tables.rules(),
-            safety.tables,
-            safety.p,
-            &safety.sets,
+            pin_info.tables.rules(),
+            pin_info.tables,
+            pin_info.p,
+            &pin_info.sets,
             &mut counter,
         );
         counter.count
@@ -64,9 +67,9 @@ impl MoveGen<'_> {
     {
         match self.early {
             Outcome::Ongoing => {
-                let safety = &self.safety;
-                let (tables, any) = (safety.tables, self.can_go(GenType::All));
-                no_move_end(tables.rules(), tables, safety.p, &safety.sets, any)
+                let pin_info = &self.pin_info;
+                let (tables, any) = (pin_info.tables, self.can_go(GenType::All));
+                no_move_end(tables.rules(), tables, pin_info.p, &pin_info.sets, any)
             }
             end => end,
         }

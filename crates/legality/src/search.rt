@@ -47,18 +47,18 @@ pub(crate) fn goes_on(rules: &Rules, tables: &Tables, p: &Position, sets: &Board
 }
 
 /// Whether some allowed move is of the part, by what is known of the position. It stops at the first.
-fn some_goes(choice: MoveFilter<'_>) -> bool
-    requires { IsFit choice.safety.tables.now }
-    ensures { result ≡ Chosen.can_go choice.entry.safety.tables.now (repeat_of choice.entry.safety.p.now)
-        choice.entry.part }
+fn some_goes(move_filter: MoveFilter<'_>) -> bool
+    requires { IsFit move_filter.pin_info.tables.now }
+    ensures { result ≡ Chosen.can_go move_filter.entry.pin_info.tables.now (repeat_of move_filter.entry.pin_info.p.now)
+        move_filter.entry.gen_type }
 {
-    let safety = choice.safety;
-    let mut seeker = AnySink { choice };
+    let pin_info = move_filter.pin_info;
+    let mut seeker = AnySink { move_filter };
     match push_candidates(
-        safety.tables.rules(),
-        safety.tables,
-        safety.p,
-        &safety.sets,
+        pin_info.tables.rules(),
+        pin_info.tables,
+        pin_info.p,
+        &pin_info.sets,
         &mut seeker,
     ) {
         Ok(()) => false,
@@ -68,11 +68,11 @@ fn some_goes(choice: MoveFilter<'_>) -> bool
 
 impl MoveGen<'_> {
     /// Whether some allowed move is of the part. It stops at the first.
-    pub(crate) fn can_go(&self, part: GenType) -> bool
-        ensures { result ≡ Chosen.can_go self.now.rules (repeat_in self.now) part }
+    pub(crate) fn can_go(&self, gen_type: GenType) -> bool
+        ensures { result ≡ Chosen.can_go self.now.rules (repeat_in self.now) gen_type }
     {
-        let safety = self.safety;
-        some_goes(MoveFilter { safety, part })
+        let pin_info = self.pin_info;
+        some_goes(MoveFilter { pin_info, gen_type })
     }
 
     /// Whether only captures are legal: one must capture, and can.
@@ -80,7 +80,7 @@ impl MoveGen<'_> {
     pub(crate) fn only_captures(&self) -> bool
         ensures { result ≡ Chosen.only_captures self.now.rules (repeat_in self.now) }
     {
-        self.safety.tables.rules().must_capture && self.can_go(GenType::Captures)
+        self.pin_info.tables.rules().must_capture && self.can_go(GenType::Captures)
     }
 
     /// Which of the allowed moves are legal, where there is no early end.

@@ -7,13 +7,13 @@ use Rattle.legality.proofs.search.some_goes.Goals as goal
 pub returns-in-Ok : goal.returns-in-Ok
 returns-in-Ok c =
     let all = c.in-Ok.ensures.ok in
-    let part = c.args.choice.part in
-    sym all.taken.1 ∙ made_found _ _ _ _ (sym c.rules.ensures.is) refl part all.moves all.each
-    ∙ ap (λ rules. can_go rules (repeat_of c.args.choice.safety.p.now) part) c.rules.ensures.is
+    let gen_type = c.args.move_filter.gen_type in
+    sym all.taken.1 ∙ made_found _ _ _ _ (sym c.rules.ensures.is) refl gen_type all.moves all.each
+    ∙ ap (λ rules. can_go rules (repeat_of c.args.move_filter.pin_info.p.now) gen_type) c.rules.ensures.is
 
 pub returns-in-Err : goal.returns-in-Err
 returns-in-Err c =
     let some = c.in-Err.ensures.err in
-    let part = c.args.choice.part in
-    sym (made_goes _ _ _ _ (sym c.rules.ensures.is) refl part some.moves some.sound some.taken.1)
-    ∙ ap (λ rules. can_go rules (repeat_of c.args.choice.safety.p.now) part) c.rules.ensures.is
+    let gen_type = c.args.move_filter.gen_type in
+    sym (made_goes _ _ _ _ (sym c.rules.ensures.is) refl gen_type some.moves some.sound some.taken.1)
+    ∙ ap (λ rules. can_go rules (repeat_of c.args.move_filter.pin_info.p.now) gen_type) c.rules.ensures.is
