@@ -5,8 +5,8 @@ ghost use Rattle.rules_model.specs.Ready.{IsReady};
 ghost use Rattle.board_sets.specs.Sets.{AreSets};
 ghost use Rattle.legality.specs.Stance.{repeat_in};
 
+use crate::early_end::{early_end_with, is_ongoing};
 use crate::pin_info::PinInfo;
-use crate::search::{early_end_with, is_ongoing};
 use attack_tables::Tables;
 use board_sets::BoardSets;
 use rules_model::{Outcome, Position, Rules};

@@ -2,7 +2,7 @@ use Rattle.std.proofs.Common.{ap, refl, sym, ◌∙◌}
 use Rattle.rules_model.specs.Repeats.{repeat_of}
 use Rattle.legality.specs.Chosen.{can_go}
 use Rattle.legality.proofs.ListLaws.{made_found, made_goes}
-use Rattle.legality.proofs.search.some_goes.Goals as goal
+use Rattle.legality.proofs.forced_capture.some_goes.Goals as goal
 
 pub returns-in-Ok : goal.returns-in-Ok
 returns-in-Ok c =
