@@ -26,7 +26,7 @@ pub(crate) struct Plan<'a, G> {
 #[derive(Drop)]
 pub(crate) struct Seat<'a> {
     pub line: Line<'a>,
-    pub desk: SearchState<'a>,
+    pub state: SearchState<'a>,
     pub number: u32,
     /// How many root moves it has taken.
     pub step: u64,
@@ -46,7 +46,7 @@ impl<'a> Seat<'a> {
     {
         Ok(Seat {
             line: Line::new(alloc, game, depth as usize + 4)?,
-            desk: SearchState::new(alloc, hints)?,
+            state: SearchState::new(alloc, hints)?,
             number,
             step: 0,
         })

@@ -30,7 +30,7 @@ fn lead<W: Watch, G: Gate>(
     end
 }
 
-/// The workers beside the first, each with a line and a desk of its own.
+/// The workers beside the first, each with a line and a search state of its own.
 fn help_all<R: Threads + Sync, G: Gate + Sync>(
     rt: &R,
     alloc: Global,

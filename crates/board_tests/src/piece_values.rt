@@ -12,8 +12,8 @@ use sample_rules::{chess, generals, hand_of, kind, position, square, xiangqi};
 use std::process::Abort;
 
 #[test]
-fn worths_of_kinds(rt: HostRuntime) {
-    let worths = PieceValues::of(&chess());
+fn values_of_kinds(rt: HostRuntime) {
+    let values = PieceValues::of(&chess());
     let rows = [
         (b'p', 100u16),
         (b'n', 300),
@@ -24,7 +24,7 @@ fn worths_of_kinds(rt: HostRuntime) {
         (b'x', 20),
     ];
     for (letter, worth) in rows {
-        expect_eq(&rt, worths.kind(kind(letter)), worth);
+        expect_eq(&rt, values.kind(kind(letter)), worth);
     }
     // a cannon has four slides that do not take, each half of 120, and four hops that take alone, each half of 60; a
     // horse has eight steps that can be blocked, of 25
