@@ -41,13 +41,6 @@ impl Packed {
         pack(&r.cells, rest_of(r), key_of_repeat(r))
     }
 
-    /// Packs the repeat of a position.
-    pub fn of_position(p: &Position) -> Packed
-        ensures { result ≡ repeat_of p.now }
-    {
-        Packed::with_key(p, BoardKey::of(p))
-    }
-
     /// Packs the repeat of a position of which the key of the board and the hands is known.
     pub fn with_key(p: &Position, key: BoardKey) -> Packed
         requires { IsBoardKey key (repeat_of p.now) }
