@@ -21,10 +21,9 @@ mod sorting;
 
 pub use capture::captures;
 pub use early_end::early_end_with;
-pub use list::{legal_moves, push_legal};
+pub use list::legal_moves;
 pub use make_move::{apply, apply_with, king_attacked_with};
 pub use move_gen::MoveGen;
 pub use queries::{
-    any_legal, count_legal, end_where, free, gives_check, gives_check_with, is_legal,
-    is_legal_with, own_end,
+    any_legal, end_where, free, gives_check, gives_check_with, is_legal, is_legal_with, own_end,
 };

@@ -120,21 +120,6 @@ impl MoveGen<'_> {
     }
 }
 
-/// Appends the legal moves, each once and in no special order. Without memory the list is as it was.
-pub fn push_legal(
-    rules: &Rules,
-    tables: &Tables,
-    p: &Position,
-    out: &mut MoveList,
-) -> Result<(), Memory>
-    requires ready { IsReady rules.now tables.now p.now }
-    ensures ok { OnOk result (Appends (λ m. Member m (legal rules.now (repeat_of p.now))) out.old out.new) }
-    ensures err { OnErr result (out.new ≡ out.old) }
-{
-    let sets = sets_of(rules, &p.cells, p.side);
-    MoveGen::of(rules, tables, p, &sets).push_legal(out)
-}
-
 /// The legal moves, each once and in the byte order of their texts: those of the rules of movement after which the
 /// mover's king is not attacked, that give no check which the variant forbids and, where it asks so, put no piece where
 /// it can never move; where one must capture and can, the captures alone. Where the position has ended there are none

@@ -76,15 +76,6 @@ impl MoveGen<'_> {
     }
 }
 
-/// How many legal moves there are, up to 2^128 - 1. No memory is taken.
-pub fn count_legal(rules: &Rules, tables: &Tables, p: &Position) -> u128
-    requires ready { IsReady rules.now tables.now p.now }
-    ensures { result ≡ min (length (Legal.legal rules.now (repeat_of p.now))) (2 ^ 128 - 1) }
-{
-    let sets = sets_of(rules, &p.cells, p.side);
-    MoveGen::of(rules, tables, p, &sets).count_legal()
-}
-
 /// Whether there is a legal move. It stops at the first, and no memory is taken.
 pub fn any_legal(rules: &Rules, tables: &Tables, p: &Position) -> bool
     requires ready { IsReady rules.now tables.now p.now }
