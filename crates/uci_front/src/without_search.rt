@@ -10,7 +10,7 @@ ghost use Rattle.uci_front.specs.Plain.{IsAtOnce, IsPlainKind, IsTold, Plainly, 
 ghost use Rattle.uci_session.specs.PlanView.{words_said};
 
 use foundation::{Memory, Text};
-use game_reports::{moves_of, status_of};
+use game_text::{moves_of, status_of};
 use io_ports::{Dialect, Files, too_long_answer};
 use std::alloc::Global;
 use uci_lines::{Kind, Setting, read_placing, read_setting, words_in};

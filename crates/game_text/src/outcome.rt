@@ -1,6 +1,6 @@
 //! How outcomes print.
 ghost use Rattle.std.specs.Prelude.{◌≡◌};
-ghost use Rattle.game_reports.specs.OutcomeText.{cause_name, side_name};
+ghost use Rattle.game_text.specs.OutcomeText.{cause_name, side_name};
 
 use rules_model::{Cause, Outcome, Side};
 use std::fmt;
@@ -35,7 +35,7 @@ pub struct Printed(pub Outcome);
 
 impl fmt::Display for Printed {
     ghost use Rattle.std.specs.Prelude.{Some};
-    ghost use Rattle.game_reports.specs.OutcomeText.{outcome_text};
+    ghost use Rattle.game_text.specs.OutcomeText.{outcome_text};
 
     ghost output = { λ printed. Some (outcome_text printed.0) };
 

@@ -1,6 +1,6 @@
 //! What is printed of a game.
 ghost use Rattle.std.specs.Prelude.{◌≡◌, ◌≤◌, IfOk};
-ghost use Rattle.game_reports.specs.GameTexts.{moves_of, perft_of, status_of};
+ghost use Rattle.game_text.specs.GameTexts.{moves_of, perft_of, status_of};
 
 use crate::moves::text_of_moves;
 use crate::outcome::Printed;

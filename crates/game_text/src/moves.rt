@@ -1,7 +1,7 @@
 //! What `moves` prints.
 ghost use Rattle.std.specs.Prelude.{◌≡◌, ◌++◌, IfOk, OnOk};
 ghost use Rattle.std.specs.List.{flat_map};
-ghost use Rattle.game_reports.specs.MovesText.{move_line, moves_text};
+ghost use Rattle.game_text.specs.MovesText.{move_line, moves_text};
 
 use foundation::Text;
 use move_text::write_move;
