@@ -14,7 +14,7 @@ use Rattle.rules_model.specs.Legal.{is_sane}
 use Rattle.square_set.specs.declared.Set.{Set}
 use Rattle.square_set.specs.Members.{has, size}
 use Rattle.square_set.proofs.CoverLaws.{has-zero}
-use Rattle.move_sink.specs.InTurn.{DropsOf, Outside, target_of}
+use Rattle.piece_moves.specs.InTurn.{DropsOf, Outside, target_of}
 use Rattle.legality.specs.declared.move_filter.GenType.{GenType}
 use Rattle.legality.specs.declared.count_sink.CountSink.{CountSink}
 use Rattle.legality.specs.Choices.{chosen_by}

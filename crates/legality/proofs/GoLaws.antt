@@ -16,7 +16,7 @@ use Rattle.rules_model.specs.Pawns.{passes_by}
 use Rattle.square_set.specs.declared.Set.{Set}
 use Rattle.square_set.specs.Members.{has, size}
 use Rattle.square_set.proofs.Cases.{by_bool}
-use Rattle.move_sink.specs.InTurn.{GoesTo, target_of}
+use Rattle.piece_moves.specs.InTurn.{GoesTo, target_of}
 use Rattle.legality.specs.declared.move_filter.GenType.{GenType}
 use Rattle.legality.specs.Chosen.{AreTargetsFrom, AreTargetsOf, AreWantedTo, is_chosen, is_fit_move, is_wanted}
 use Rattle.legality.specs.Moved.{AreSane, GateAtOnce, GateFreely, GoAtOnce, GoFreely, IsBarred, MayGate, MayGo, MayNotGate, MayNotGo, asks_only_safety}

@@ -7,8 +7,8 @@ use Rattle.rules_model.specs.declared.board.Square.{Square}
 use Rattle.rules_model.specs.declared.moves.Move.{Move}
 use Rattle.square_set.specs.declared.Set.{Set}
 use Rattle.square_set.specs.Members.{has}
-use Rattle.move_sink.specs.InTurn.{MadeTo, Outside, target_of}
-use Rattle.move_sink.specs.Taking.{IsSink, TakesAll, TakesSome}
+use Rattle.piece_moves.specs.InTurn.{MadeTo, Outside, target_of}
+use Rattle.piece_moves.specs.Taking.{IsSink, TakesAll, TakesSome}
 use Rattle.legality.specs.declared.any_sink.AnySink.{AnySink}
 use Rattle.legality.specs.Choices.{chosen_by}
 use Rattle.legality.specs.Chosen.{AreTargetsOf}

@@ -11,8 +11,8 @@ use Rattle.square_set.specs.declared.Set.{Set}
 use Rattle.square_set.specs.declared.Shift.{Shift}
 use Rattle.square_set.specs.declared.Shift.TheVariants.{Up, Down}
 use Rattle.square_set.specs.Members.{has, HasOrigin, is_led, origin}
-use Rattle.move_sink.specs.InTurn.{GoesBy, target_of}
-use Rattle.move_sink.proofs.TakingLemmas.{all-join}
+use Rattle.piece_moves.specs.InTurn.{GoesBy, target_of}
+use Rattle.piece_moves.proofs.TakingLemmas.{all-join}
 use Rattle.legality.specs.declared.move_filter.GenType.{GenType}
 use Rattle.legality.specs.declared.count_sink.CountSink.{CountSink}
 use Rattle.legality.specs.Choices.{chosen_by}

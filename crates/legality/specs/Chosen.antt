@@ -15,8 +15,8 @@ use Rattle.rules_model.specs.Candidates.{is_candidate}
 use Rattle.rules_model.specs.Legal.{every_move, is_allowed, is_sane}
 use Rattle.rules_model.specs.Moves.{IsFitMove}
 use Rattle.rules_model.specs.Next.{captures}
-use Rattle.move_sink.specs.InTurn.{go_from}
-use Rattle.move_sink.specs.Taking.{TakesAll}
+use Rattle.piece_moves.specs.InTurn.{go_from}
+use Rattle.piece_moves.specs.Taking.{TakesAll}
 use Rattle.square_set.specs.declared.Set.{Set}
 use Rattle.square_set.specs.declared.Shift.{Shift}
 use Rattle.square_set.specs.Members.{has, origin}

@@ -1,7 +1,7 @@
 -- What the counter of the chosen moves has counted.
 use Rattle.std.specs.Prelude.{◌-◌, ◌^◌}
 use Rattle.rules_model.specs.declared.moves.Move.{Move}
-use Rattle.move_sink.specs.Taking.{TakesAll, TakesSome}
+use Rattle.piece_moves.specs.Taking.{TakesAll, TakesSome}
 use Rattle.legality.specs.declared.count_sink.CountSink.{CountSink}
 use Rattle.legality.specs.Choices.{chosen_by}
 use Rattle.legality.specs.Sinks.{Counted, Never}

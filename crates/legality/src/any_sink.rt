@@ -1,12 +1,12 @@
 //! Whether some candidate is chosen.
 ghost use Rattle.std.specs.Prelude.{◌≡◌, true, [], ◌∷◌, OnOk, OnErr};
 ghost use Rattle.std.specs.Bool.{OnTrue};
-ghost use Rattle.move_sink.specs.Taking.{TakesSome};
+ghost use Rattle.piece_moves.specs.Taking.{TakesSome};
 ghost use Rattle.legality.specs.Choices.{chosen_by};
 ghost use Rattle.legality.specs.Sinks.{NonePassed, SomePassed, seeker_is_sink};
 
 use crate::move_filter::MoveFilter;
-use move_sink::MoveSink;
+use piece_moves::MoveSink;
 use rules_model::{Kind, Move, Promo, Square};
 use square_set::{Set, Shift};
 

@@ -1,14 +1,14 @@
 //! How many candidates are chosen.
 ghost use Rattle.std.specs.Prelude.{◌≡◌, ◌<◌, ◌^◌, ◌-◌, ℕ, true, OnOk, OnErr};
 ghost use Rattle.square_set.specs.Members.{has, HasOrigin};
-ghost use Rattle.move_sink.specs.InTurn.{GoesBy};
+ghost use Rattle.piece_moves.specs.InTurn.{GoesBy};
 ghost use Rattle.legality.specs.Choices.{chosen_by};
 ghost use Rattle.legality.specs.Chosen.{AreTargetsBy};
 ghost use Rattle.legality.specs.Counts.{CountsAll, IsFull};
 ghost use Rattle.legality.specs.Sinks.{Counted, Never, counter_is_sink};
 
 use crate::move_filter::{MoveFilter, ToldTargets};
-use move_sink::MoveSink;
+use piece_moves::MoveSink;
 use rules_model::{Kind, Move, Promo, Square};
 use square_set::{Set, Shift};
 

@@ -6,7 +6,7 @@ ghost use Rattle.legality.specs.Sinks.{Kept, keeper_is_sink};
 
 use crate::move_filter::MoveFilter;
 use foundation::Memory;
-use move_sink::MoveSink;
+use piece_moves::MoveSink;
 use rules_model::{Kind, Move, MoveList, Promo, Square};
 use square_set::{Set, Shift};
 

@@ -3,7 +3,7 @@ ghost use Rattle.std.specs.Prelude.{◌≡◌, ◌<◌, ℕ, true, false, not, �
 ghost use Rattle.std.specs.Bool.{OnTrue};
 ghost use Rattle.square_set.specs.Members.{has, length_of, HasOrigin};
 ghost use Rattle.rules_model.specs.declared.moves.Move.{Move};
-ghost use Rattle.move_sink.specs.InTurn.{GoesTo};
+ghost use Rattle.piece_moves.specs.InTurn.{GoesTo};
 ghost use Rattle.legality.specs.Chosen as Chosen;
 ghost use Rattle.rules_model.specs.Moves.{IsFitMove};
 

@@ -24,9 +24,9 @@ use Rattle.rules_model.proofs.CandidateLaws.{at_some, not_both}
 use Rattle.square_set.specs.declared.Set.{Set}
 use Rattle.square_set.specs.Members.{has}
 use Rattle.board_sets.specs.Sets.{AreOwnPawns}
-use Rattle.move_sink.specs.InTurn.{At, start_of}
-use Rattle.move_sink.specs.Taking.{IsChosen, TakesAll, TakesSome}
-use Rattle.move_sink.proofs.TakingLemmas.{all-same, some-within}
+use Rattle.piece_moves.specs.InTurn.{At, start_of}
+use Rattle.piece_moves.specs.Taking.{IsChosen, TakesAll, TakesSome}
+use Rattle.piece_moves.proofs.TakingLemmas.{all-same, some-within}
 use Rattle.pawn_moves.specs.declared.pawn.Flank.TheVariants.{Right, Left}
 use Rattle.pawn_moves.specs.Parts.{go, IsPromotion, becomes, IsMoveTo, IsMoveToSome, IsAhead, IsStep, IsAside, IsTake, IsMoveFrom, IsOwnMoveFrom, may_step_twice}
 use Rattle.pawn_moves.specs.PawnMoves.{is_pawn_move, FitPawnMoves}

@@ -13,7 +13,7 @@ use Rattle.square_set.specs.declared.Shift.{Shift}
 use Rattle.square_set.specs.Members.{bit, has, is_led, leads, length_of, origin, twice, HasOrigin, IsWith, OnSquares}
 use Rattle.square_set.proofs.Cases.{by_order}
 use Rattle.attack_tables.specs.declared.pawns.PawnMasks.{PawnMasks}
-use Rattle.move_sink.specs.InTurn.{GoesBy, start_of, target_of}
+use Rattle.piece_moves.specs.InTurn.{GoesBy, start_of, target_of}
 use Rattle.pawn_moves.specs.Parts.{go}
 use Rattle.pawn_moves.specs.Shifted.{AreFree, HasPassers, IsBy, IsOnce, IsTwiceOver, IsLeft, IsRight}
 use Rattle.pawn_moves.proofs.ShiftLemmas.{halves, has_origin, led_from, led_to, lengths_differ, once_or_twice, origin_is, AreOrigins}

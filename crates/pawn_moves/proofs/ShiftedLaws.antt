@@ -28,7 +28,7 @@ use Rattle.attack_tables.specs.PawnMasks.{ArePawnMasks, is_aside, is_near}
 use Rattle.attack_tables.specs.PawnSpots.{one_ahead, two_ahead}
 use Rattle.board_sets.specs.declared.sets.BoardSets.{BoardSets}
 use Rattle.board_sets.specs.Sets.{AreOnBoard, AreOwnPawns, AreSets}
-use Rattle.move_sink.specs.InTurn.{start_of, target_of}
+use Rattle.piece_moves.specs.InTurn.{start_of, target_of}
 use Rattle.pawn_moves.specs.Parts.{go}
 use Rattle.pawn_moves.specs.PawnMoves.{FitPawnMoves, is_pawn_move}
 use Rattle.pawn_moves.specs.Shifted.{AreFree, HasPassers, IsAcross, IsForward, IsOnce, IsTwiceOver, OfOtherPawns, leads_aside}

@@ -16,7 +16,7 @@ use Rattle.square_set.specs.Members.{has, leads, origin, twice}
 use Rattle.attack_tables.specs.declared.pawns.PawnMasks.{PawnMasks}
 use Rattle.board_sets.specs.declared.sets.BoardSets.{BoardSets}
 use Rattle.board_sets.specs.Sets.{AreSets}
-use Rattle.move_sink.specs.InTurn.{Outside, start_of, target_of}
+use Rattle.piece_moves.specs.InTurn.{Outside, start_of, target_of}
 use Rattle.pawn_moves.specs.Parts.{go}
 use Rattle.pawn_moves.specs.PawnMoves.{FitPawnMoves}
 

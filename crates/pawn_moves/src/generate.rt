@@ -1,6 +1,6 @@
 //! All moves of the own pawns.
 ghost use Rattle.std.specs.Prelude.{◌≡◌, true, OnOk, OnErr};
-ghost use Rattle.move_sink.specs.Taking.{TakesAll, TakesSome};
+ghost use Rattle.piece_moves.specs.Taking.{TakesAll, TakesSome};
 ghost use Rattle.rules_model.specs.Attacks as Attacks;
 ghost use Rattle.rules_model.specs.Fit.{IsFit};
 ghost use Rattle.rules_model.specs.Pawns as Pawns;
@@ -15,7 +15,7 @@ use crate::pawn::{Flank, becomes, diagonal, is_enemy_on, may_step_twice, promote
 use crate::shifted::push_shifted;
 use attack_tables::Tables;
 use board_sets::BoardSets;
-use move_sink::{MoveSink, push_if};
+use piece_moves::{MoveSink, push_if};
 use rules_model::attacks::ahead;
 use rules_model::kinds::{board_of, masks};
 use rules_model::passing::is_ep;

@@ -1,7 +1,7 @@
 //! The moves of many own pawns at once, by shifts of their squares.
 ghost use Rattle.std.specs.Prelude.{◌<◌, IfOk, OnOk, OnErr};
 ghost use Rattle.square_set.specs.Members.{has, length_of, OnSquares};
-ghost use Rattle.move_sink.specs.Taking.{TakesAll, TakesSome};
+ghost use Rattle.piece_moves.specs.Taking.{TakesAll, TakesSome};
 ghost use Rattle.rules_model.specs.Fit.{IsFit};
 ghost use Rattle.rules_model.specs.Repeats.{repeat_of};
 ghost use Rattle.attack_tables.specs.PawnMasks.{HasPawnShifts};
@@ -11,7 +11,7 @@ ghost use Rattle.pawn_moves.specs.Shifted.{AreFreeBy, HasPassers, IsAcross, IsBy
 
 use attack_tables::{PawnMasks, Tables};
 use board_sets::{BoardSets, sets_are_on_board};
-use move_sink::MoveSink;
+use piece_moves::MoveSink;
 use rules_model::sizes::prove_position_sizes;
 use rules_model::{Position, Square};
 use square_set::{BOARD, EMPTY, Set, Shift};

@@ -1,9 +1,10 @@
-//! The ordinary moves of pieces that are not the chess pawn, without gating.
+//! What takes the moves of a generator, and the ordinary moves of pieces that are not the chess pawn, without gating.
 #![tactic(auto)]
 
 pub mod candidate;
 pub mod generate;
 mod goal;
+mod move_sink;
 mod piece;
 mod promotion;
 mod targets;
@@ -11,3 +12,4 @@ mod targets;
 pub use candidate::is_candidate;
 pub use generate::{Mover, mover_on, push_mover, push_moves};
 pub use promotion::holds_a_right;
+pub use crate::{MoveSink, push_if};

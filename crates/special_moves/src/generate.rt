@@ -1,7 +1,7 @@
 //! The moves, given in turn.
 ghost use Rattle.std.specs.Prelude.{◌≡◌, OnOk, OnErr};
 ghost use Rattle.board_sets.specs.Sets.{AreSets};
-ghost use Rattle.move_sink.specs.Taking.{TakesAll, TakesSome};
+ghost use Rattle.piece_moves.specs.Taking.{TakesAll, TakesSome};
 ghost use Rattle.rules_model.specs.Fit.{IsFit};
 ghost use Rattle.rules_model.specs.Repeats.{repeat_of};
 ghost use Rattle.special_moves.specs.Parts.{FitSpecialMoves};
@@ -11,7 +11,7 @@ use crate::drops::push_drops;
 use crate::gates::push_gates;
 use attack_tables::Tables;
 use board_sets::BoardSets;
-use move_sink::MoveSink;
+use piece_moves::MoveSink;
 use rules_model::{Position, Rules};
 
 /// Gives the moves of pawns, those of other pieces with a gate, castles and drops, each once and in no special order:

@@ -1,6 +1,6 @@
 use Rattle.std.proofs.Common.{sym, ◌∙◌}
 use Rattle.std.proofs.lemmas.Result.{on_ok_weaker, on_err_weaker}
-use Rattle.move_sink.proofs.TakingLemmas.{all-none, all-same, some-within}
+use Rattle.piece_moves.proofs.TakingLemmas.{all-none, all-same, some-within}
 use Rattle.pawn_moves.proofs.GoalLemmas.{aside_goes, aside_passes}
 use Rattle.pawn_moves.proofs.PartLemmas.{some-none, some-at, at-some}
 use Rattle.pawn_moves.proofs.generate.push_aside.Goals as goal

@@ -1,6 +1,6 @@
 use Rattle.std.proofs.lemmas.Result.{on_ok_weaker, on_err_weaker}
 use Rattle.foundation.proofs.AppendedLemmas.{on_err}
-use Rattle.move_sink.proofs.TakingLemmas.{all-join, some-behind, some-within}
+use Rattle.piece_moves.proofs.TakingLemmas.{all-join, some-behind, some-within}
 use Rattle.pawn_moves.proofs.PartLemmas.{from-apart, from-split, from-join, from-step, from-take}
 use Rattle.pawn_moves.proofs.generate.push_each.Goals as goal
 

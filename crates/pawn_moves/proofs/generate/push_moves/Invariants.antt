@@ -3,8 +3,8 @@ use Rattle.rules_model.specs.Attacks.{is_own_pawn}
 use Rattle.rules_model.specs.Repeats.{repeat_of}
 use Rattle.rules_model.specs.Squares.{cell_at}
 use Rattle.square_set.specs.Members.{has, size}
-use Rattle.move_sink.specs.InTurn.{Outside, start_of}
-use Rattle.move_sink.specs.Taking.{TakesAll}
+use Rattle.piece_moves.specs.InTurn.{Outside, start_of}
+use Rattle.piece_moves.specs.Taking.{TakesAll}
 use Rattle.pawn_moves.specs.PawnMoves.{FitPawnMoves}
 use Rattle.pawn_moves.proofs.generate.push_moves.Given as goal
 

@@ -1,6 +1,6 @@
 use Rattle.std.proofs.Common.{arith}
 use Rattle.foundation.proofs.AppendedLemmas.{on_err}
-use Rattle.move_sink.proofs.TakingLemmas.{all-none, all-join, some-behind}
+use Rattle.piece_moves.proofs.TakingLemmas.{all-none, all-join, some-behind}
 use Rattle.pawn_moves.proofs.PartLemmas.{promotions-none, promotions-apart, promotions-split, promotions-join, promotions-grow, promotions-gain}
 use Rattle.pawn_moves.proofs.generate.push_promotions.Goals as goal
 

@@ -1,4 +1,4 @@
-use Rattle.move_sink.specs.Taking.{TakesAll}
+use Rattle.piece_moves.specs.Taking.{TakesAll}
 use Rattle.pawn_moves.specs.Parts.{IsPromotion}
 use Rattle.pawn_moves.proofs.generate.push_promotions.Given as goal
 

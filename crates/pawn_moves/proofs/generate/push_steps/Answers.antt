@@ -1,7 +1,7 @@
 use Rattle.std.proofs.Common.{inl, inr}
 use Rattle.std.proofs.lemmas.Result.{on_ok_weaker, on_err_weaker}
 use Rattle.foundation.proofs.AppendedLemmas.{on_err}
-use Rattle.move_sink.proofs.TakingLemmas.{all-join, some-behind, some-within}
+use Rattle.piece_moves.proofs.TakingLemmas.{all-join, some-behind, some-within}
 use Rattle.pawn_moves.proofs.PartLemmas.{step-apart}
 use Rattle.pawn_moves.proofs.generate.push_steps.Goals as goal
 

@@ -1,7 +1,7 @@
 use Rattle.std.proofs.Common.{sym, ◌∙◌}
 use Rattle.std.proofs.lemmas.Result.{on_ok_weaker, on_err_weaker}
 use Rattle.foundation.proofs.AppendedLemmas.{on_err}
-use Rattle.move_sink.proofs.TakingLemmas.{all-join, all-same, some-behind, some-within}
+use Rattle.piece_moves.proofs.TakingLemmas.{all-join, all-same, some-behind, some-within}
 use Rattle.pawn_moves.proofs.PartLemmas.{to-apart, to-split, to-only, to-stays, to-promotes, to-join}
 use Rattle.pawn_moves.proofs.generate.push_to.Goals as goal
 

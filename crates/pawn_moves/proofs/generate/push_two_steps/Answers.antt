@@ -1,6 +1,6 @@
 use Rattle.std.proofs.Common.{sym, ◌∙◌}
 use Rattle.std.proofs.lemmas.Result.{on_ok_weaker, on_err_weaker}
-use Rattle.move_sink.proofs.TakingLemmas.{all-none, all-same, some-within}
+use Rattle.piece_moves.proofs.TakingLemmas.{all-none, all-same, some-within}
 use Rattle.pawn_moves.proofs.GoalLemmas.{two_goes_then, two_passes}
 use Rattle.pawn_moves.proofs.PartLemmas.{some-none, some-at, at-some, two-none}
 use Rattle.pawn_moves.proofs.generate.push_two_steps.Goals as goal

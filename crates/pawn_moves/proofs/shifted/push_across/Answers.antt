@@ -1,7 +1,7 @@
 use Rattle.std.proofs.Common.{inl, inr}
 use Rattle.std.proofs.lemmas.Result.{on_ok_weaker, on_err_weaker}
 use Rattle.foundation.proofs.AppendedLemmas.{on_err}
-use Rattle.move_sink.proofs.TakingLemmas.{all-join, all-same, some-behind, some-within}
+use Rattle.piece_moves.proofs.TakingLemmas.{all-join, all-same, some-behind, some-within}
 use Rattle.pawn_moves.proofs.SetLemmas.{across_apart, left_from, left_to, right_from, right_to}
 use Rattle.pawn_moves.proofs.shifted.push_across.Goals as goal
 

@@ -1,6 +1,6 @@
 use Rattle.std.proofs.lemmas.Result.{on_ok_weaker, on_err_weaker}
-use Rattle.move_sink.specs.InTurn.{target_of}
-use Rattle.move_sink.proofs.TakingLemmas.{all-none, all-same, some-within}
+use Rattle.piece_moves.specs.InTurn.{target_of}
+use Rattle.piece_moves.proofs.TakingLemmas.{all-none, all-same, some-within}
 use Rattle.attack_tables.proofs.AlikeLaws.{holds}
 use Rattle.pawn_moves.proofs.SetLemmas.{by_goes, goes_is_by, target_has_origin}
 use Rattle.pawn_moves.proofs.shifted.push_by.Goals as goal

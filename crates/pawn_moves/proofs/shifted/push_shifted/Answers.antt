@@ -3,7 +3,7 @@ use Rattle.std.proofs.lemmas.Bool.{and_parts}
 use Rattle.foundation.proofs.AppendedLemmas.{on_err}
 use Rattle.rules_model.specs.Repeats.{repeat_of}
 use Rattle.square_set.specs.Members.{has}
-use Rattle.move_sink.proofs.TakingLemmas.{all-join, some-behind, some-within}
+use Rattle.piece_moves.proofs.TakingLemmas.{all-join, some-behind, some-within}
 use Rattle.pawn_moves.proofs.PartLemmas.{from_pawn}
 use Rattle.pawn_moves.proofs.SetLemmas.{free_small}
 use Rattle.pawn_moves.proofs.ShiftedLaws.{across_theirs, forward_theirs, given_join, given_split, together, ways_apart}

@@ -3,9 +3,9 @@ use Rattle.std.proofs.lemmas.Bool.{OnTrue_from, and_parts}
 use Rattle.foundation.proofs.AppendedLemmas.{on_err}
 use Rattle.rules_model.specs.declared.moves.Move.TheVariants.{Drop}
 use Rattle.square_set.specs.Members.{has}
-use Rattle.move_sink.specs.InTurn.{target_of}
-use Rattle.move_sink.proofs.GoesLaws.{drops-one, drops-some}
-use Rattle.move_sink.proofs.TurnLemmas.{turn-all, turn-more, turn-some}
+use Rattle.piece_moves.specs.InTurn.{target_of}
+use Rattle.piece_moves.proofs.GoesLaws.{drops-one, drops-some}
+use Rattle.piece_moves.proofs.TurnLemmas.{turn-all, turn-more, turn-some}
 use Rattle.legality.specs.Choices.{chosen_by}
 use Rattle.legality.specs.Seeks.{SeesNone, SeesOne}
 use Rattle.legality.proofs.SeekLaws.{others_seen, seeker_sink, still_sought}

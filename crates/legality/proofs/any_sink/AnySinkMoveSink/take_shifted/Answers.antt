@@ -4,9 +4,9 @@ use Rattle.foundation.proofs.AppendedLemmas.{on_err}
 use Rattle.rules_model.specs.declared.moves.Move.TheVariants.{Go}
 use Rattle.rules_model.specs.declared.moves.Promo.TheVariants.{Stays}
 use Rattle.square_set.specs.Members.{has, origin}
-use Rattle.move_sink.specs.InTurn.{go_from, target_of}
-use Rattle.move_sink.proofs.GoesLaws.{goes-one, goes-some}
-use Rattle.move_sink.proofs.TurnLemmas.{turn-all, turn-more, turn-some}
+use Rattle.piece_moves.specs.InTurn.{go_from, target_of}
+use Rattle.piece_moves.proofs.GoesLaws.{goes-one, goes-some}
+use Rattle.piece_moves.proofs.TurnLemmas.{turn-all, turn-more, turn-some}
 use Rattle.legality.specs.Choices.{chosen_by}
 use Rattle.legality.specs.Seeks.{SeesNone, SeesOne}
 use Rattle.legality.proofs.SeekLaws.{others_seen, seeker_sink, still_sought}

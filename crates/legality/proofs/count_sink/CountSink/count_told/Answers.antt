@@ -2,7 +2,7 @@ use Rattle.std.proofs.Common.{◌-◌, ◌^◌, None, refl, ◌∙◌, arith}
 use Rattle.rules_model.specs.declared.board.Square.{Square}
 use Rattle.rules_model.specs.declared.moves.Move.{Move}
 use Rattle.square_set.specs.Members.{origin}
-use Rattle.move_sink.specs.InTurn.{go_from}
+use Rattle.piece_moves.specs.InTurn.{go_from}
 use Rattle.legality.specs.Choices.{chosen_by}
 use Rattle.legality.proofs.AllMade.{made-lists, made_below}
 use Rattle.legality.proofs.GoLaws.{counted_those}

@@ -3,9 +3,9 @@ use Rattle.std.proofs.lemmas.Bool.{and_parts}
 use Rattle.rules_model.specs.declared.board.Square.{Square}
 use Rattle.rules_model.specs.declared.moves.Move.{Move}
 use Rattle.square_set.specs.Members.{has}
-use Rattle.move_sink.specs.InTurn.{go_from, target_of}
-use Rattle.move_sink.proofs.GoesLaws.{goes-one}
-use Rattle.move_sink.proofs.TurnLemmas.{turn-more}
+use Rattle.piece_moves.specs.InTurn.{go_from, target_of}
+use Rattle.piece_moves.proofs.GoesLaws.{goes-one}
+use Rattle.piece_moves.proofs.TurnLemmas.{turn-more}
 use Rattle.legality.specs.Choices.{chosen_by}
 use Rattle.legality.specs.Sinks.{Counted, counter_is_sink}
 use Rattle.legality.proofs.AllMade.{made-lists, made_below}

@@ -1,9 +1,9 @@
 use Rattle.std.proofs.Common.{◌-◌, ◌^◌, ◌==◌, not, refl, sym, ◌∙◌}
 use Rattle.std.proofs.lemmas.Bool.{and_parts}
 use Rattle.square_set.specs.Members.{has}
-use Rattle.move_sink.specs.InTurn.{target_of}
-use Rattle.move_sink.proofs.GoesLaws.{drops-one}
-use Rattle.move_sink.proofs.TurnLemmas.{turn-more}
+use Rattle.piece_moves.specs.InTurn.{target_of}
+use Rattle.piece_moves.proofs.GoesLaws.{drops-one}
+use Rattle.piece_moves.proofs.TurnLemmas.{turn-more}
 use Rattle.legality.specs.Choices.{chosen_by}
 use Rattle.legality.specs.Sinks.{Counted, counter_is_sink}
 use Rattle.legality.proofs.DropLaws.{told_counted}

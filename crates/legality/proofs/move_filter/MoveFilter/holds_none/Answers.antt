@@ -1,6 +1,6 @@
 use Rattle.std.proofs.Common.{Option, subst}
 use Rattle.rules_model.specs.declared.board.Kind.{Kind}
-use Rattle.move_sink.specs.InTurn.{GoesTo}
+use Rattle.piece_moves.specs.InTurn.{GoesTo}
 use Rattle.rules_model.specs.Repeats.{repeat_of}
 use Rattle.legality.proofs.GoLaws.{none_chosen, none_gated, on_true}
 use Rattle.legality.proofs.move_filter.MoveFilter.holds_none.Goals as goal

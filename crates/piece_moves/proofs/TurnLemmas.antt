@@ -4,9 +4,9 @@ use Rattle.rules_model.specs.declared.moves.Move.{Move}
 use Rattle.square_set.specs.declared.Set.{Set}
 use Rattle.square_set.specs.Members.{has, IsWithout}
 use Rattle.square_set.proofs.Cases.{by_equal}
-use Rattle.move_sink.specs.InTurn.{At, Outside}
-use Rattle.move_sink.specs.Taking.{IsSink, TakesAll, TakesSome}
-use Rattle.move_sink.proofs.TakingLemmas.{all-none, all-join, all-same, some-behind}
+use Rattle.piece_moves.specs.InTurn.{At, Outside}
+use Rattle.piece_moves.specs.Taking.{IsSink, TakesAll, TakesSome}
+use Rattle.piece_moves.proofs.TakingLemmas.{all-none, all-join, all-same, some-behind}
 
 kept : (b : Bool) → (b && not false) ≡ b
 kept true = refl

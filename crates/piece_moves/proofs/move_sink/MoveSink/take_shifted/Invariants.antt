@@ -1,13 +1,13 @@
 use Rattle.std.proofs.Common.{◌≡◌, ℕ, true}
 use Rattle.square_set.specs.Members.{has, size}
-use Rattle.move_sink.specs.InTurn.{GoesTo, Outside, target_of}
-use Rattle.move_sink.specs.Taking.{TakesAll}
-use Rattle.move_sink.proofs.MoveSink.take_all.Given as goal
+use Rattle.piece_moves.specs.InTurn.{GoesBy, Outside, target_of}
+use Rattle.piece_moves.specs.Taking.{TakesAll}
+use Rattle.piece_moves.proofs.move_sink.MoveSink.take_shifted.Given as goal
 
 abbrev pub invariant-loop-to : goal.invariant-loop-to
 invariant-loop-to g l = record {
   within : (s : ℕ) → has l.left s ≡ true → has l.fn.targets s ≡ true;
-  taken : TakesAll g.Self.MoveSink.takes (Outside (GoesTo l.fn.from l.gate l.fn.targets) target_of l.left) l.initial.self l.self;
+  taken : TakesAll g.Self.MoveSink.takes (Outside (GoesBy l.fn.shift l.fn.targets) target_of l.left) l.initial.self l.self;
 }
 
 abbrev pub decreases-loop-to : goal.decreases-loop-to

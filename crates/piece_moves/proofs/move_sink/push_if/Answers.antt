@@ -1,6 +1,6 @@
 use Rattle.std.proofs.lemmas.Result.{on_ok_weaker, on_err_weaker}
-use Rattle.move_sink.proofs.TakingLemmas.{not-wanted, wanted-all, wanted-some}
-use Rattle.move_sink.proofs.push_if.Goals as goal
+use Rattle.piece_moves.proofs.TakingLemmas.{not-wanted, wanted-all, wanted-some}
+use Rattle.piece_moves.proofs.move_sink.push_if.Goals as goal
 
 pub returns-then-wanted-clause-ok : goal.returns-then-wanted-clause-ok
 returns-then-wanted-clause-ok g c = on_ok_weaker c.take.result (λ is. wanted-all _ _ _ _ _ c.if-wanted.true is) c.take.ensures.ok

@@ -2,7 +2,7 @@
 use Rattle.std.proofs.Common.{◌≡◌, Bool, true, false, List, [], ◌∷◌, ◌++◌, ◌⊎◌, inl, inr, refl, sym}
 use Rattle.foundation.proofs.Members.{lists-none, lists-one, lists-join, lists-same, member-append, once-append}
 use Rattle.rules_model.specs.declared.moves.Move.{Move}
-use Rattle.move_sink.specs.Taking.{IsChosen, IsSink, TakesAll, TakesSome}
+use Rattle.piece_moves.specs.Taking.{IsChosen, IsSink, TakesAll, TakesSome}
 
 module _ {S : Type 0} {takes stops : S → List Move → S → Type 0} (sink : IsSink takes stops) where
   pub all-none : (P : Move → Type 0) (s : S) → ((m : Move) → P m → ⊥) → TakesAll takes P s s

@@ -6,9 +6,9 @@ use Rattle.rules_model.specs.declared.moves.Move.{Move}
 use Rattle.rules_model.specs.declared.moves.Move.TheVariants.{Drop}
 use Rattle.square_set.specs.declared.Set.{Set}
 use Rattle.square_set.specs.Members.{has}
-use Rattle.move_sink.specs.InTurn.{At, DropsOf, GoesFrom, MadeTo, go_from, target_of}
-use Rattle.move_sink.specs.Taking.{TakesAll, TakesSome}
-use Rattle.move_sink.proofs.TakingLemmas.{all-one, some-within}
+use Rattle.piece_moves.specs.InTurn.{At, DropsOf, GoesFrom, MadeTo, go_from, target_of}
+use Rattle.piece_moves.specs.Taking.{TakesAll, TakesSome}
+use Rattle.piece_moves.proofs.TakingLemmas.{all-one, some-within}
 
 module _ (make : Square → Move) (goes_there : (to : Square) → target_of (make to) ≡ to.0) (targets : Set) where
   abbrev made : ℕ → Move

@@ -4,10 +4,10 @@ use Rattle.foundation.proofs.AppendedLemmas.{on_err}
 use Rattle.rules_model.specs.declared.moves.Move.TheVariants.{Go}
 use Rattle.rules_model.specs.declared.moves.Promo.TheVariants.{Stays}
 use Rattle.square_set.specs.Members.{has, origin}
-use Rattle.move_sink.specs.InTurn.{target_of}
-use Rattle.move_sink.proofs.GoesLaws.{goes-one, goes-some}
-use Rattle.move_sink.proofs.TurnLemmas.{turn-all, turn-more, turn-none, turn-some}
-use Rattle.move_sink.proofs.MoveSink.take_shifted.Goals as goal
+use Rattle.piece_moves.specs.InTurn.{target_of}
+use Rattle.piece_moves.proofs.GoesLaws.{goes-one, goes-some}
+use Rattle.piece_moves.proofs.TurnLemmas.{turn-all, turn-more, turn-none, turn-some}
+use Rattle.piece_moves.proofs.move_sink.MoveSink.take_shifted.Goals as goal
 
 pub loop-to-init : goal.loop-to-init
 loop-to-init g c = record {

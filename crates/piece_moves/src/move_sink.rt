@@ -1,12 +1,10 @@
 //! What takes the moves of a generator: a list, or whatever else uses each of them at once.
-#![tactic(auto)]
-
 ghost use Rattle.std.specs.Prelude.{◌≡◌, ◌<◌, ℕ, true, List, [], ◌∷◌, ◌++◌, OnOk, OnErr};
 ghost use Rattle.rules_model.specs.declared.moves.Move.{Move};
 ghost use Rattle.square_set.specs.Members.{has, length_of, HasOrigin, OnSquares};
-ghost use Rattle.move_sink.specs.InTurn.{DropsOf, GoesTo, GoesBy};
-ghost use Rattle.move_sink.specs.Taking.{IsChosen, IsSink, TakesAll, TakesSome};
-ghost use Rattle.move_sink.specs.Listed.{list_is_sink};
+ghost use Rattle.piece_moves.specs.InTurn.{DropsOf, GoesTo, GoesBy};
+ghost use Rattle.piece_moves.specs.Taking.{IsChosen, IsSink, TakesAll, TakesSome};
+ghost use Rattle.piece_moves.specs.Listed.{list_is_sink};
 
 use foundation::Memory;
 use rules_model::{Kind, Move, MoveList, Promo, Square};

@@ -1,6 +1,6 @@
 -- The list of moves as a sink.
 use Rattle.std.proofs.Common.{◌≡◌, ◌++◌, ap, sym, ◌∙◌, append-nil, append_assoc}
-use Rattle.move_sink.specs.Taking.{IsSink}
+use Rattle.piece_moves.specs.Taking.{IsSink}
 
 pub list_is_sink : IsSink (λ old ms new. new ≡ old ++ ms) (λ old ms new. new ≡ old ++ ms)
 list_is_sink = record {
