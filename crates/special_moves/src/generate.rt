@@ -6,6 +6,7 @@ ghost use Rattle.rules_model.specs.Fit.{IsFit};
 ghost use Rattle.rules_model.specs.Repeats.{repeat_of};
 ghost use Rattle.special_moves.specs.Parts.{FitSpecialMoves};
 
+use crate::push_pawn_moves;
 use crate::castles::push_castles;
 use crate::drops::push_drops;
 use crate::gates::push_gates;
@@ -29,7 +30,7 @@ pub fn push_moves<S: MoveSink>(
     ensures ok { OnOk result (TakesAll S.takes (FitSpecialMoves rules.now (repeat_of p.now)) out.old out.new) }
     ensures err { OnErr result (TakesSome S.stops (FitSpecialMoves rules.now (repeat_of p.now)) out.old out.new) }
 {
-    pawn_moves::push_moves(rules, tables, p, sets, out)?;
+    push_pawn_moves(rules, tables, p, sets, out)?;
     push_gates(rules, tables, p, sets, out)?;
     push_castles(rules, tables, p, sets, out)?;
     push_drops(rules, tables, p, sets, out)
