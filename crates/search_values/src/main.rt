@@ -15,7 +15,7 @@ use game_play::Game;
 use hint_table::HintTable;
 use io_ports::OpenGate;
 use legality::legal_moves;
-use move_names::read_move;
+use move_text::read_move;
 use rules_model::{Move, Rules};
 use std::alloc::{AllocError, Global};
 use std::io;

@@ -4,10 +4,10 @@ ghost use Rattle.rules_model.specs.Candidates.{is_special_move};
 ghost use Rattle.rules_model.specs.Fit.{IsFit};
 ghost use Rattle.rules_model.specs.Repeats.{repeat_of};
 
-use crate::is_pawn_candidate;
 use crate::castles::{castle_gates, castles};
 use crate::drops::drops_to;
 use crate::gates::moves_and_gates;
+use crate::pawn_candidate::is_pawn_candidate;
 use attack_tables::Tables;
 use rules_model::{Move, Position, Rules};
 

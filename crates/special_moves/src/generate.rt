@@ -6,10 +6,10 @@ ghost use Rattle.rules_model.specs.Fit.{IsFit};
 ghost use Rattle.rules_model.specs.Repeats.{repeat_of};
 ghost use Rattle.special_moves.specs.Parts.{FitSpecialMoves};
 
-use crate::push_pawn_moves;
 use crate::castles::push_castles;
 use crate::drops::push_drops;
 use crate::gates::push_gates;
+use crate::pawn_generate::push_pawn_moves;
 use attack_tables::Tables;
 use board_sets::BoardSets;
 use piece_moves::MoveSink;

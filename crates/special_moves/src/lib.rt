@@ -1,6 +1,6 @@
-//! The moves of pawns, castles, drops and the moves that place a hand piece at a gate. Those of the chess pawn are one step,
-//! two steps, taking, en passant and promotions (FIDE Laws of Chess, article 3.7), by the regions and options of the
-//! variant.
+//! The moves of pawns, castles, drops and the moves that place a hand piece at a gate. Those of the chess pawn are one
+//! step, two steps, taking, en passant and promotions (FIDE Laws of Chess, article 3.7), by the regions and options of
+//! the variant.
 #![tactic(auto)]
 
 pub mod candidate;

@@ -2,10 +2,12 @@
 #![tactic(auto)]
 
 mod built_in;
+mod fault;
 mod found;
 pub mod laws;
 mod loading;
 mod named;
+mod sections;
 mod variants;
 
 pub use built_in::builtin;
@@ -13,3 +15,5 @@ pub use found::Found;
 pub use loading::load;
 pub use variant_model::SectionFault;
 pub use variants::Variants;
+pub use fault::{FileFault, LoadFault, NoSections, PrintedIni};
+pub use sections::read_sections;
