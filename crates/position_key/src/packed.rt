@@ -9,7 +9,7 @@ ghost use Rattle.position_key.specs.Packed.{repeat_with};
 use crate::board_key::{BoardKey, key_of_repeat};
 use crate::cells::{CellWords, in_threes};
 use crate::rest::{Rest, rest_of, rest_of_position};
-use rules_model::{Cells, Position, Repeat};
+use rules_model::{Cells, Position, Repeat, are_same_hands, are_same_rights};
 use std::marker::Model;
 use std::snapshot::Snapshot;
 
@@ -94,18 +94,6 @@ fn is_same_rest(a: &Rest, b: &Rest) -> bool
 }
 
 fn are_same_words(a: &CellWords, b: &CellWords) -> bool
-    ensures { IsTrue result ↔ (a.now ≡ b.now) }
-{
-    a == b
-}
-
-fn are_same_hands(a: &[[u8; 26]; 2], b: &[[u8; 26]; 2]) -> bool
-    ensures { IsTrue result ↔ (a.now ≡ b.now) }
-{
-    a == b
-}
-
-fn are_same_rights(a: &[[bool; 2]; 2], b: &[[bool; 2]; 2]) -> bool
     ensures { IsTrue result ↔ (a.now ≡ b.now) }
 {
     a == b
