@@ -9,7 +9,7 @@ ghost use Rattle.evaluation.specs.Writes.{AreHands, HandStep, HandsGoTo, PutsDow
 
 use crate::piece_values::PieceValues;
 use crate::tally::Tally;
-use next_position::behind;
+use next_position::{behind, hand_kind};
 use rules_model::kinds::in_hand;
 use rules_model::passing::passes_by;
 use rules_model::sizes::prove_position_sizes;
@@ -29,13 +29,6 @@ fn taken(rules: &Rules, p: &Position, from: Square, to: Square) -> Option<Cell>
     } else {
         cell_at(&p.cells, to)
     }
-}
-
-/// The kind that a taken piece has in a hand.
-fn hand_kind(piece: Cell) -> Kind
-    ensures { result ≡ Next.hand_kind piece }
-{
-    piece.origin.unwrap_or(piece.kind)
 }
 
 /// Whether the side holds the kind once it has taken the piece into its hand, where the variant does so.
