@@ -11,9 +11,9 @@ mod sections;
 mod variants;
 
 pub use built_in::builtin;
+pub use fault::{FileFault, LoadFault, NoSections, PrintedIni};
 pub use found::Found;
 pub use loading::load;
+pub use sections::read_sections;
 pub use variant_model::SectionFault;
 pub use variants::Variants;
-pub use fault::{FileFault, LoadFault, NoSections, PrintedIni};
-pub use sections::read_sections;

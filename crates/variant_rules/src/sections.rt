@@ -6,12 +6,12 @@ ghost use Rattle.variant_rules.specs.Looked.{HasFile, HasSections, Looked};
 ghost use Rattle.variant_rules.specs.declared.fault.NoSections.TheVariants as no_sections;
 ghost use Rattle.variant_rules.specs.declared.fault.LoadFault.TheVariants as load_fault;
 
+use crate::builtin;
 use crate::fault::{FileFault, LoadFault, NoSections};
 use foundation::Text;
 use io_ports::{Files, Given, MAX_FILE};
 use std::alloc::Global;
 use variant_ini::Sections;
-use crate::builtin;
 
 fn unread(why: FileFault) -> NoSections
     ensures { result ≡ no_sections.Fault (load_fault.File why) }
