@@ -29,7 +29,7 @@ pub(crate) struct Plan<'a, G> {
 #[derive(Drop)]
 pub(crate) struct Seat<'a> {
     pub line: Line<'a>,
-    pub desk: SearchState<'a>,
+    pub state: SearchState<'a>,
     pub number: u32,
     /// How many root moves it has taken.
     pub step: u64,
@@ -43,7 +43,7 @@ impl<'a> Seat<'a> {
     {
         Ok(Seat {
             line: Line::new(plan.alloc, plan.game, plan.depth as usize + 4)?,
-            desk: SearchState::new(plan.alloc, plan.hints)?,
+            state: SearchState::new(plan.alloc, plan.hints)?,
             number,
             step: 0,
         })

@@ -49,7 +49,7 @@ fn take_roots<W: Watch, G: Gate>(
             let floor = plan.shared.floor();
             let fact = search_root(
                 &mut seat.line,
-                &mut seat.desk,
+                &mut seat.state,
                 watch,
                 plan.depth,
                 chosen,
@@ -126,8 +126,8 @@ pub(crate) fn combine_facts<W: Watch, G>(
     let seat = Seat::new(plan, 0)?;
     let Seat {
         mut line,
-        mut desk,
+        mut state,
         ..
     } = seat;
-    combine(&mut line, &mut desk, watch, plan.depth, plan.roots, facts)
+    combine(&mut line, &mut state, watch, plan.depth, plan.roots, facts)
 }

@@ -26,7 +26,7 @@ use crate::pawns::{PawnMasks, pawn_masks};
 use crate::regions::RegionSets;
 use crate::sight::{Sight, sights};
 use foundation::Memory;
-use move_tables::{Mode, MoveTables, Spot, kings, men, occupied};
+use move_tables::{Mode, MoveTables, Spot, men, occupied};
 use rules_model::attacks::is_own_king;
 use rules_model::castling::castling_on;
 use rules_model::sizes::prove_board_size;
@@ -423,18 +423,5 @@ impl Tables {
             }
         }
         false
-    }
-
-    /// Whether the side's king stands attacked. In a variant without a king it never does. No memory is taken.
-    pub fn king_attacked(&self, p: &Position, side: Side) -> bool
-        ensures { result ≡ Rule.king_attacked self.now p.now.cells side }
-    {
-        prove_board_size(&p.cells);
-        let rules = self.rules();
-        let by = side.other();
-        let kings = kings(rules, &p.cells, side);
-        let men = men(&p.cells, by);
-        let occupied = occupied(&p.cells);
-        self.king_attacked_by(&p.cells, kings, men, occupied, side)
     }
 }

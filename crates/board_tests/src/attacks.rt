@@ -157,20 +157,15 @@ fn kings_fly_in_xiangqi(rt: HostRuntime) {
 
 #[test]
 fn kings_are_attacked(rt: HostRuntime) {
-    let tables = Tables::new(rt.alloc(), &chess()).expect(&rt, "no fault");
-    for (pieces, white, black) in [
-        ("Ke1 re8 ka8", true, false),
-        ("Ke1 Re2 re8 ka8", false, false),
-        ("Ke1 Ra2 ka8", false, true),
-        ("Ra2", false, false),
-    ] {
-        let p = position(pieces);
-        let found = [
-            tables.king_attacked(&p, Side::White),
-            tables.king_attacked(&p, Side::Black),
-        ];
-        expect_eq_at(&rt, pieces, found, [white, black]);
-    }
+    let rows = [
+        ("Ke1 re8 ka8", "e1", Side::Black, true),
+        ("Ke1 re8 ka8", "a8", Side::White, false),
+        ("Ke1 Re2 re8 ka8", "e1", Side::Black, false),
+        ("Ke1 Re2 re8 ka8", "a8", Side::White, false),
+        ("Ke1 Ra2 ka8", "e1", Side::Black, false),
+        ("Ke1 Ra2 ka8", "a8", Side::White, true),
+    ];
+    expect_attacks(&rt, rt.alloc(), &chess(), &rows);
 }
 
 /// Whether the king on a square stands attacked once White moved a piece: by the cells before the move, and the sets

@@ -63,9 +63,9 @@ fn an_origin_is_compared(rt: HostRuntime) {
     if let Some(cell) = &mut promoted.cells[square("d1").0 as usize] {
         cell.origin = Some(kind(b'p'));
     }
-    let packed = Packed::of_position(&promoted);
+    let packed = Packed::of(&repeat_of(&promoted));
     expect_eq(&rt, packed.hash(), key_of(&plain));
-    expect(&rt, !packed.is(&Packed::of_position(&plain)));
+    expect(&rt, !packed.is(&Packed::of(&repeat_of(&plain))));
 }
 
 /// White's elephant and horse in hand, and these pieces on the board.

@@ -1,4 +1,4 @@
-//! Tests of the crates that tell of one position: its squares and attacks, its key and its worth, the texts of its
+//! Tests of the crates that tell of one position: its squares and attacks, its key and its value, the texts of its
 //! moves, and the position after each.
 #![tactic(auto)]
 
@@ -25,6 +25,8 @@ mod next_positions;
 #[cfg(test)]
 mod piece_sets;
 #[cfg(test)]
+mod piece_values;
+#[cfg(test)]
 mod reaches;
 #[cfg(test)]
 mod samples;
@@ -32,5 +34,3 @@ mod samples;
 mod sinks;
 #[cfg(test)]
 mod square_sets;
-#[cfg(test)]
-mod worths;

@@ -1,7 +1,6 @@
-//! Tests of `move_names`.
+//! Tests of the moves that texts name, of `move_text`.
 use crate::expect::expect_of;
-use move_names::read_move;
-use move_text::write_move;
+use move_text::{read_move, write_move};
 use rules_model::{Move, Promo};
 use sample_rules::shouse;
 

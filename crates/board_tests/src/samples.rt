@@ -8,7 +8,7 @@ use rules_model::castling::{
 };
 use rules_model::kinds::{board_of, has_kind, in_hand, in_region, masks, names};
 use rules_model::movement::{in_mobility, is_held_back, kind_takes, rank_for};
-use rules_model::sizes::{prove_letters, prove_position_sizes};
+use rules_model::sizes::prove_position_sizes;
 use rules_model::{
     Cell, Position, Rules, Side, Square, Wing, attacks_plain, is_attacked, king_attacked,
     reaches_plain, repeat_of, sound,
@@ -253,7 +253,6 @@ fn sizes_and_hands_are_read(rt: HostRuntime) {
     let rules = chess();
     let (p, e4) = (castling_side(), square("e4"));
     prove_position_sizes(&p);
-    prove_letters(&rules);
     let found = [
         e4.file(),
         e4.rank(),

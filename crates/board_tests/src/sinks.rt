@@ -1,6 +1,6 @@
-//! Tests of `move_sink`.
+//! Tests of the sinks of `piece_moves`.
 use crate::expect::expect_eq;
-use move_sink::MoveSink;
+use piece_moves::MoveSink;
 use rules_model::{Kind, Move, MoveList, Square};
 
 fn drop_to(to: u8) -> Move {

@@ -21,7 +21,7 @@ use Rattle.io_ports.specs.Lines as lines
 use Rattle.io_ports.specs.declared.dialect.Dialect.TheVariants.{Cecp}
 use Rattle.io_ports.specs.declared.source.Got.{Got}
 use Rattle.io_ports.specs.declared.source.Got.TheVariants as got
-use Rattle.move_names.specs.Names.{Names, NamesNothing}
+use Rattle.move_text.specs.Names.{Names, NamesNothing}
 use Rattle.rules_model.specs.declared.board.Position.{Position}
 use Rattle.rules_model.specs.declared.moves.Move.{Move}
 use Rattle.rules_model.specs.Legal.{legal}

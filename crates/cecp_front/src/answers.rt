@@ -19,7 +19,7 @@ use foundation::{Memory, Text};
 use game_play::{Game, MOST_PLIES, PlayFault};
 use io_ports::Got;
 use legality::is_legal;
-use move_names::read_move;
+use move_text::read_move;
 use rules_model::{Move, Outcome, Side};
 use std::alloc::Global;
 use variant_fen::read_fen;

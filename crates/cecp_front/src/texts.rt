@@ -9,7 +9,7 @@ ghost use Rattle.uci_lines.specs.View.{texts};
 ghost use Rattle.variant_rules.specs.Entries.{is_accepted};
 
 use foundation::{Memory, Text};
-use game_reports::cause_name;
+use game_text::cause_name;
 use io_ports::{Dialect, too_long_answer};
 use move_text::write_move;
 use rules_model::{Move, Outcome, Side};

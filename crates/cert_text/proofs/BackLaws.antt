@@ -22,7 +22,7 @@ use Rattle.rules_model.specs.Sound.{is_sound}
 use Rattle.sound_play.proofs.NextLaws.{next-sound}
 use Rattle.fen_model.proofs.DecimalLaws.{number-back}
 use Rattle.fen_model.proofs.JoinLaws.{Each}
-use Rattle.move_names.proofs.LegalLaws.{legal-named}
+use Rattle.move_text.proofs.LegalLaws.{legal-named}
 use Rattle.forced_wins.specs.Contests.{Contest}
 use Rattle.game_play.specs.Played.{Played, story}
 use Rattle.game_play.proofs.KeptLemmas.{played-last-sound}

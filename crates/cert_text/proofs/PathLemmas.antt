@@ -11,7 +11,7 @@ use Rattle.rules_model.specs.Legal.{legal}
 use Rattle.rules_model.specs.Repeats.{repeat_of}
 use Rattle.rules_model.specs.Sound.{is_sound}
 use Rattle.forced_wins.proofs.Counts.{true_false}
-use Rattle.move_names.specs.Names.{Names, NamesNothing}
+use Rattle.move_text.specs.Names.{Names, NamesNothing}
 use Rattle.game_play.specs.Played.{IsPlayed, Played, story}
 use Rattle.game_text.specs.Playing.{move_in}
 use Rattle.game_text.proofs.PlayLemmas.{plays-illegal, plays-named, plays-nothing}

@@ -12,7 +12,7 @@ ghost use Rattle.cert_text.specs.View as View;
 use crate::fault::CertFault;
 use crate::said::{SaidText, is_title, read_said};
 use game_play::Game;
-use move_names::read_move;
+use move_text::read_move;
 use rules_model::Move;
 use std::alloc::Global;
 use stipulation::{Cert, Line, Step, Steps};

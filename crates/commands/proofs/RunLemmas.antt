@@ -29,7 +29,7 @@ use Rattle.game_text.specs.HeardLines.{HeardLines}
 use Rattle.game_text.proofs.HeardLemmas.{heard_nothing, heard_so}
 use Rattle.turning.specs.Spoken.{Decide, IsInput}
 use Rattle.turning.specs.Turned.{Further}
-use Rattle.variant_files.specs.Looked.{Looked}
+use Rattle.variant_rules.specs.Looked.{Looked}
 use Rattle.one_shots.specs.Looked.{TellsReads}
 use Rattle.commands.specs.Run.{Completes, Did, FilesFailed, HasFileCause, May, PartBy, PartOf, ShotPart, TellsInput}
 use Rattle.one_shots.specs.Statuses.{IsCut, IsDone}

@@ -27,8 +27,8 @@ use Rattle.session_model.specs.UciState as UciState
 use Rattle.session_model.proofs.Variants.{sessions_begin}
 use Rattle.turning.specs.Spoken.{Spoke, SpokePart}
 use Rattle.turning.proofs.Ending.{further_none, part_none}
-use Rattle.variant_files.specs.Loading.{found_sections}
-use Rattle.variant_files.specs.Looked.{Looked}
+use Rattle.variant_rules.specs.Loading.{found_sections}
+use Rattle.variant_rules.specs.Looked.{Looked}
 use Rattle.variant_ini.specs.Section.{Section}
 use Rattle.variant_model.specs.Builtin.{builtin_sections}
 use Rattle.watching.specs.Looks.{Moved}

@@ -1,4 +1,4 @@
--- The worths of kinds and squares in tables.
+-- The values of kinds and squares in tables.
 use Rattle.std.specs.Prelude.{◌≡◌, ℕ, ◌<◌, ◌≤◌, List, Option, length, slice_index}
 use Rattle.rules_model.specs.declared.board.Kind.{Kind}
 use Rattle.rules_model.specs.declared.rules.Rules.{Rules}

@@ -12,8 +12,8 @@ use rules_model::{Move, Position, Rules};
 
 impl Tally {
     /// The sums of the position after the move, of those before it. It looks at the squares and the hand that the
-    /// move writes, and takes no memory. The move need not be legal. `PieceValues::tally_after` is the same for a caller
-    /// who keeps the worths.
+    /// move writes, and takes no memory. The move need not be legal. `PieceValues::tally_after` is the same for a
+    /// caller who keeps the piece values.
     pub fn after(&self, rules: &Rules, p: &Position, m: &Move) -> Tally
         requires fit { IsFit rules.now }
         requires sound { is_sound rules.now p.now ≡ true }
@@ -30,7 +30,7 @@ impl PieceValues {
     /// move writes, and takes no memory. The move need not be legal.
     pub fn tally_after(&self, tally: Tally, rules: &Rules, p: &Position, m: &Move) -> Tally
         requires fit { IsFit rules.now }
-        requires worths { self.now ≡ rules.now }
+        requires values { self.now ≡ rules.now }
         requires sound { is_sound rules.now p.now ≡ true }
         requires move_fits { IsFitMove m.now }
         requires tally { IsTally rules.now p.now tally }

@@ -9,7 +9,7 @@ ghost use Rattle.evaluation.specs.Writes.{AreHands, HandStep, HandsGoTo, PutsDow
 
 use crate::piece_values::PieceValues;
 use crate::tally::Tally;
-use next_position::behind;
+use next_position::{behind, hand_kind};
 use rules_model::kinds::in_hand;
 use rules_model::passing::passes_by;
 use rules_model::sizes::prove_position_sizes;
@@ -31,13 +31,6 @@ fn taken(rules: &Rules, p: &Position, from: Square, to: Square) -> Option<Cell>
     }
 }
 
-/// The kind that a taken piece has in a hand.
-fn hand_kind(piece: Cell) -> Kind
-    ensures { result ≡ Next.hand_kind piece }
-{
-    piece.origin.unwrap_or(piece.kind)
-}
-
 /// Whether the side holds the kind once it has taken the piece into its hand, where the variant does so.
 fn holds_then(rules: &Rules, p: &Position, taken: Option<Cell>, kind: Kind) -> bool
     requires { kind.0 < 26 }
@@ -53,38 +46,38 @@ fn holds_then(rules: &Rules, p: &Position, taken: Option<Cell>, kind: Kind) -> b
 
 impl Tally {
     /// The sums once the side holds one more of the kind.
-    fn taken_in(self, worths: &PieceValues, side: Side, kind: Kind) -> Tally
-        ensures { HandStep worths.now (λ hands. Hands.taken_in hands side kind) self result }
+    fn taken_in(self, values: &PieceValues, side: Side, kind: Kind) -> Tally
+        ensures { HandStep values.now (λ hands. Hands.taken_in hands side kind) self result }
     {
-        worths.prove_few();
+        values.prove_few();
         if (kind.0 as usize) < KINDS {
-            self.more(side, u32::from(worths.kind(kind)))
+            self.more(side, u32::from(values.kind(kind)))
         } else {
             self
         }
     }
 
     /// The sums once the side holds one less of the kind, where it holds one.
-    fn put_down(self, worths: &PieceValues, side: Side, kind: Kind, held: bool) -> Tally
-        ensures { PutsDown worths.now side kind held self result }
+    fn put_down(self, values: &PieceValues, side: Side, kind: Kind, held: bool) -> Tally
+        ensures { PutsDown values.now side kind held self result }
     {
         if held {
-            self.less(side, u32::from(worths.kind(kind)))
+            self.less(side, u32::from(values.kind(kind)))
         } else {
             self
         }
     }
 
     /// The sums once the side has the taken piece in its hand, where the variant has that.
-    fn took(self, worths: &PieceValues, rules: &Rules, side: Side, taken: Option<Cell>) -> Tally
-        requires { worths.now ≡ rules.now }
+    fn took(self, values: &PieceValues, rules: &Rules, side: Side, taken: Option<Cell>) -> Tally
+        requires { values.now ≡ rules.now }
         ensures { HandStep rules.now (λ hands. Next.take_into rules.now.to_hand hands side taken) self result }
     {
         match taken {
             None => self,
             Some(piece) => {
                 if rules.to_hand {
-                    self.taken_in(worths, side, hand_kind(piece))
+                    self.taken_in(values, side, hand_kind(piece))
                 } else {
                     self
                 }
@@ -94,25 +87,25 @@ impl Tally {
 
     /// The sums once a hand piece was dropped, or placed by a castle.
     #[tactic(auto, using(crate::proofs::HandLaws::sized))]
-    fn dropped(self, worths: &PieceValues, p: &Position, kind: Kind) -> Tally
-        ensures { HandsGoTo worths.now p.now.hands (Hands.put_down p.now.hands p.now.side kind) self result }
+    fn dropped(self, values: &PieceValues, p: &Position, kind: Kind) -> Tally
+        ensures { HandsGoTo values.now p.now.hands (Hands.put_down p.now.hands p.now.side kind) self result }
     {
         prove_position_sizes(p);
         let held = in_hand(&p.hands, p.side, kind) > 0;
-        self.put_down(worths, p.side, kind, held)
+        self.put_down(values, p.side, kind, held)
     }
 
     /// The sums with the hands after the move.
     #[tactic(auto, unfolding(rules_model::specs::Next::hands_after), using(crate::proofs::HandLaws::sized))]
     pub(crate) fn with_hands(
         self,
-        worths: &PieceValues,
+        values: &PieceValues,
         rules: &Rules,
         p: &Position,
         m: &Move,
     ) -> Tally
         requires fit { IsFit rules.now }
-        requires worths { worths.now ≡ rules.now }
+        requires values { values.now ≡ rules.now }
         requires move_fits { IsFitMove m.now }
         ensures { HandsGoTo rules.now p.now.hands (Next.hands_after rules.now (repeat_of p.now) m.now) self result }
     {
@@ -120,20 +113,20 @@ impl Tally {
         match *m {
             Move::Go { from, to, gate, .. } => {
                 let taken = taken(rules, p, from, to);
-                let took = self.took(worths, rules, p.side, taken);
+                let took = self.took(values, rules, p.side, taken);
                 match gate {
                     None => took,
                     Some(kind) => {
                         let held = holds_then(rules, p, taken, kind);
-                        took.put_down(worths, p.side, kind, held)
+                        took.put_down(values, p.side, kind, held)
                     }
                 }
             }
             Move::Castle { gate, .. } => match gate {
                 None => self,
-                Some(placed) => self.dropped(worths, p, placed.kind),
+                Some(placed) => self.dropped(values, p, placed.kind),
             },
-            Move::Drop { kind, .. } => self.dropped(worths, p, kind),
+            Move::Drop { kind, .. } => self.dropped(values, p, kind),
         }
     }
 }

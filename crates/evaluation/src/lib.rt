@@ -20,7 +20,7 @@ pub use tally::Tally;
 
 /// What the position is worth to the side to move, from -30,000 to 30,000. No memory is taken.
 ///
-/// The worths of all kinds are made anew in each call: a caller who asks more than once makes `PieceValues` and keeps a
+/// The values of all kinds are made anew in each call: a caller who asks more than once makes `PieceValues` and keeps a
 /// `Tally`.
 pub fn evaluate(rules: &Rules, p: &Position) -> i32
     requires { IsFit rules.now }

@@ -147,7 +147,7 @@ fn square_worths(rules: &Rules) -> [u16; SQUARES]
 }
 
 impl PieceValues {
-    /// The worths of the kinds and squares of these rules. No memory is taken.
+    /// What the kinds and squares are worth by these rules. No memory is taken.
     pub fn of(rules: &Rules) -> PieceValues
         requires { IsFit rules.now }
         ensures { result ≡ rules.now }

@@ -27,53 +27,53 @@ struct Draft {
 
 impl Draft {
     /// Puts this on the square, where there is such a square.
-    fn write(&mut self, worths: &PieceValues, at: u8, cell: Option<Cell>)
+    fn write(&mut self, values: &PieceValues, at: u8, cell: Option<Cell>)
         ensures cells { self.new.cells ≡ slice_set self.old.cells at cell }
-        ensures sums { GoesTo worths.now self.old.cells self.new.cells self.old.tally self.new.tally }
+        ensures sums { GoesTo values.now self.old.cells self.new.cells self.old.tally self.new.tally }
     {
         prove_board_size(&self.cells);
         if (at as usize) < SQUARES {
             let square = Square(at);
             let before = cell_at(&self.cells, square);
-            self.tally = self.tally.put(worths, square, before, cell);
+            self.tally = self.tally.put(values, square, before, cell);
             self.cells[at as usize] = cell;
         }
     }
 
     /// Leaves the square empty, where there is one.
-    fn empty(&mut self, worths: &PieceValues, at: Option<u8>)
+    fn empty(&mut self, values: &PieceValues, at: Option<u8>)
         ensures cells { self.new.cells ≡ Next.emptied self.old.cells at }
-        ensures sums { GoesTo worths.now self.old.cells self.new.cells self.old.tally self.new.tally }
+        ensures sums { GoesTo values.now self.old.cells self.new.cells self.old.tally self.new.tally }
     {
         if let Some(at) = at {
-            self.write(worths, at, None);
+            self.write(values, at, None);
         }
     }
 
     /// Places the hand piece of a castle.
-    fn place(&mut self, worths: &PieceValues, side: Side, gate: Option<Placed>)
+    fn place(&mut self, values: &PieceValues, side: Side, gate: Option<Placed>)
         ensures cells { self.new.cells ≡ Next.placed_on side gate self.old.cells }
-        ensures sums { GoesTo worths.now self.old.cells self.new.cells self.old.tally self.new.tally }
+        ensures sums { GoesTo values.now self.old.cells self.new.cells self.old.tally self.new.tally }
     {
         if let Some(placed) = gate {
-            self.write(worths, placed.at.0, Some(fresh(side, placed.kind)));
+            self.write(values, placed.at.0, Some(fresh(side, placed.kind)));
         }
     }
 
     /// Has king and rook castle.
-    fn castle(&mut self, worths: &PieceValues, from: Square, to: Square, rook: Square)
+    fn castle(&mut self, values: &PieceValues, from: Square, to: Square, rook: Square)
         requires from { from.0 < 120 }
         requires to { to.0 < 120 }
         requires rook { rook.0 < 120 }
         ensures cells { self.new.cells ≡ Next.castled self.old.cells from to rook }
-        ensures sums { GoesTo worths.now self.old.cells self.new.cells self.old.tally self.new.tally }
+        ensures sums { GoesTo values.now self.old.cells self.new.cells self.old.tally self.new.tally }
     {
         let king = cell_at(&self.cells, from);
         let castling_rook = cell_at(&self.cells, rook);
-        self.write(worths, from.0, None);
-        self.write(worths, rook.0, None);
-        self.write(worths, to.0, king);
-        self.write(worths, rook_target(from, to, rook), castling_rook);
+        self.write(values, from.0, None);
+        self.write(values, rook.0, None);
+        self.write(values, to.0, king);
+        self.write(values, rook_target(from, to, rook), castling_rook);
     }
 }
 
@@ -93,14 +93,14 @@ impl Tally {
     /// The sums once a piece has gone that takes nothing in passing, and nothing was placed where it came from.
     fn gone(
         self,
-        worths: &PieceValues,
+        values: &PieceValues,
         rules: &Rules,
         p: &Position,
         from: Square,
         to: Square,
         promo: Promo,
     ) -> Tally
-        requires worths { worths.now ≡ rules.now }
+        requires values { values.now ≡ rules.now }
         requires from { from.0 < 120 }
         requires to { to.0 < 120 }
         requires apart { from.0 ≢ to.0 }
@@ -111,15 +111,15 @@ impl Tally {
         prove_position_sizes(p);
         let piece = cell_at(&p.cells, from);
         let target = cell_at(&p.cells, to);
-        let left = self.put(worths, from, piece, None);
-        left.put(worths, to, target, promote(rules, piece, promo))
+        let left = self.put(values, from, piece, None);
+        left.put(values, to, target, promote(rules, piece, promo))
     }
 
     /// The sums once a piece has gone, whatever it takes and leaves.
     #[tactic(auto, unfolding(rules_model::specs::Next::cells_after))]
     fn gone_anyhow(
         self,
-        worths: &PieceValues,
+        values: &PieceValues,
         rules: &Rules,
         p: &Position,
         from: Square,
@@ -128,7 +128,7 @@ impl Tally {
         gate: Option<Kind>,
     ) -> Tally
         requires fit { IsFit rules.now }
-        requires worths { worths.now ≡ rules.now }
+        requires values { values.now ≡ rules.now }
         ensures { GoesTo rules.now p.now.cells
             (Next.cells_after rules.now (repeat_of p.now) (Go from to promo gate)) self result }
     {
@@ -138,9 +138,9 @@ impl Tally {
         };
         let passed = passed(rules, p, from, to);
         let piece = promote(rules, cell_at(&p.cells, from), promo);
-        draft.empty(worths, passed);
-        draft.write(worths, from.0, gated(p.side, gate));
-        draft.write(worths, to.0, piece);
+        draft.empty(values, passed);
+        draft.write(values, from.0, gated(p.side, gate));
+        draft.write(values, to.0, piece);
         draft.tally
     }
 
@@ -148,7 +148,7 @@ impl Tally {
     #[tactic(auto, unfolding(rules_model::specs::Next::cells_after))]
     fn castled(
         self,
-        worths: &PieceValues,
+        values: &PieceValues,
         p: &Position,
         from: Square,
         to: Square,
@@ -158,28 +158,28 @@ impl Tally {
         requires from { from.0 < 120 }
         requires to { to.0 < 120 }
         requires rook { rook.0 < 120 }
-        ensures { GoesTo worths.now p.now.cells
-            (Next.cells_after worths.now (repeat_of p.now) (Castle from to rook gate)) self result }
+        ensures { GoesTo values.now p.now.cells
+            (Next.cells_after values.now (repeat_of p.now) (Castle from to rook gate)) self result }
     {
         let mut draft = Draft {
             cells: p.cells,
             tally: self,
         };
-        draft.castle(worths, from, to, rook);
-        draft.place(worths, p.side, gate);
+        draft.castle(values, from, to, rook);
+        draft.place(values, p.side, gate);
         draft.tally
     }
 
     /// The sums with the pieces after the move.
     pub(crate) fn with_pieces(
         self,
-        worths: &PieceValues,
+        values: &PieceValues,
         rules: &Rules,
         p: &Position,
         m: &Move,
     ) -> Tally
         requires fit { IsFit rules.now }
-        requires worths { worths.now ≡ rules.now }
+        requires values { values.now ≡ rules.now }
         requires move_fits { IsFitMove m.now }
         ensures { GoesTo rules.now p.now.cells (Next.cells_after rules.now (repeat_of p.now) m.now) self result }
     {
@@ -191,9 +191,9 @@ impl Tally {
                 gate,
             } => {
                 if gate.is_none() && from.0 != to.0 && !passes_by(rules, p, from, to) {
-                    self.gone(worths, rules, p, from, to, promo)
+                    self.gone(values, rules, p, from, to, promo)
                 } else {
-                    self.gone_anyhow(worths, rules, p, from, to, promo, gate)
+                    self.gone_anyhow(values, rules, p, from, to, promo, gate)
                 }
             }
             Move::Castle {
@@ -201,11 +201,11 @@ impl Tally {
                 to,
                 rook,
                 gate,
-            } => self.castled(worths, p, from, to, rook, gate),
+            } => self.castled(values, p, from, to, rook, gate),
             Move::Drop { kind, to } => {
                 prove_position_sizes(p);
                 let before = cell_at(&p.cells, to);
-                self.put(worths, to, before, Some(fresh(p.side, kind)))
+                self.put(values, to, before, Some(fresh(p.side, kind)))
             }
         }
     }

@@ -12,7 +12,7 @@ use crate::piece_values::PieceValues;
 use rules_model::kinds::in_hand;
 use rules_model::{Cell, KINDS, Kind, Position, Rules, SQUARES, Side, Square, cell_at};
 
-/// What each side of a position has: the worths of its pieces on the board and in its hand, all together.
+/// What each side of a position has: the values of its pieces on the board and in its hand, all together.
 #[derive(Clone, Copy, PartialEq, Eq)]
 pub struct Tally {
     pub white: i64,
@@ -83,40 +83,40 @@ impl Tally {
     }
 
     /// The sums once this stands on the square besides.
-    fn with(self, worths: &PieceValues, at: Square, cell: Option<Cell>) -> Tally
+    fn with(self, values: &PieceValues, at: Square, cell: Option<Cell>) -> Tally
         requires { at.0 < 120 }
-        ensures { AddsPiece worths.now at.0 cell self result }
+        ensures { AddsPiece values.now at.0 cell self result }
     {
         match cell {
             None => self,
-            Some(piece) => self.more(piece.side, u32::from(worths.on(piece.kind, at))),
+            Some(piece) => self.more(piece.side, u32::from(values.on(piece.kind, at))),
         }
     }
 
     /// The sums once this no longer stands on the square.
-    fn without(self, worths: &PieceValues, at: Square, cell: Option<Cell>) -> Tally
+    fn without(self, values: &PieceValues, at: Square, cell: Option<Cell>) -> Tally
         requires { at.0 < 120 }
-        ensures { DropsPiece worths.now at.0 cell self result }
+        ensures { DropsPiece values.now at.0 cell self result }
     {
         match cell {
             None => self,
-            Some(piece) => self.less(piece.side, u32::from(worths.on(piece.kind, at))),
+            Some(piece) => self.less(piece.side, u32::from(values.on(piece.kind, at))),
         }
     }
 
     /// The sums once another thing stands on the square.
     pub(crate) fn put(
         self,
-        worths: &PieceValues,
+        values: &PieceValues,
         at: Square,
         before: Option<Cell>,
         after: Option<Cell>,
     ) -> Tally
         requires { at.0 < 120 }
-        ensures { PutsOn worths.now at.0 before after self result }
+        ensures { PutsOn values.now at.0 before after self result }
     {
-        worths.prove_few();
-        self.without(worths, at, before).with(worths, at, after)
+        values.prove_few();
+        self.without(values, at, before).with(values, at, after)
     }
 
     /// The sums of a position. No memory is taken.

@@ -6,6 +6,8 @@
 
 pub mod any_game;
 pub mod by_rules;
+mod ends;
 mod fact;
 
+pub use ends::won_by;
 pub use fact::{Fact, is_falling};

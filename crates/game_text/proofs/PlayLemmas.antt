@@ -11,10 +11,10 @@ use Rattle.rules_model.specs.Legal.{legal}
 use Rattle.rules_model.specs.MoveText.{text_of}
 use Rattle.rules_model.specs.Repeats.{repeat_of}
 use Rattle.rules_model.specs.Sound.{is_sound}
-use Rattle.move_names.specs.Names.{Names, NamesNothing}
-use Rattle.move_names.proofs.CastleLaws.{the_move}
-use Rattle.move_names.proofs.LegalLaws.{legal-named}
-use Rattle.move_names.proofs.ReadLaws.{names-read}
+use Rattle.move_text.specs.Names.{Names, NamesNothing}
+use Rattle.move_text.proofs.CastleLaws.{the_move}
+use Rattle.move_text.proofs.LegalLaws.{legal-named}
+use Rattle.move_text.proofs.ReadLaws.{names-read}
 use Rattle.game_play.specs.Played.{IsPlayed, Played, legal_in, longer, story}
 use Rattle.game_text.specs.declared.fault.GameFault.{GameFault}
 use Rattle.game_text.specs.declared.fault.GameFault.TheVariants.{BadMove, TooManyMoves}

@@ -1,7 +1,10 @@
-pub mod Playing
-pub mod GameText
-pub mod Goal
-pub mod Problem
 pub mod Fault
+pub mod GameText
+pub mod GameTexts
+pub mod Goal
 pub mod HeardLines
+pub mod MovesText
+pub mod OutcomeText
+pub mod Playing
+pub mod Problem
 pub mod ReadView

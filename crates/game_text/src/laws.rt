@@ -2,7 +2,7 @@
 ghost use Rattle.std.specs.Prelude.{◌≡◌, ◌↔◌, ℕ, List, Some};
 ghost use Rattle.foundation.specs.Member.{Member};
 ghost use Rattle.rules_model.specs.declared.moves.Move.{Move};
-ghost use Rattle.move_names.specs.Names.{Names};
+ghost use Rattle.move_text.specs.Names.{Names};
 ghost use Rattle.game_play.specs.Played.{IsPlayed, Played, legal_in, story};
 ghost use Rattle.game_text.specs.Playing.{move_of};
 

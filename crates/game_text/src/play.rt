@@ -7,7 +7,7 @@ use crate::copies::text_of;
 use crate::fault::{GameFault, NoGame};
 use foundation::cut_word;
 use game_play::{Game, PlayFault};
-use move_names::read_move;
+use move_text::read_move;
 use std::alloc::{AllocError, Global};
 
 // The text is not that of a legal move of the game.

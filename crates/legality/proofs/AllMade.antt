@@ -8,7 +8,7 @@ use Rattle.square_set.specs.declared.Set.{Set}
 use Rattle.square_set.specs.Members.{has, count_below, size}
 use Rattle.square_set.proofs.Cases.{by_equal}
 use Rattle.square_set.proofs.CountLaws.{count_below-zero, count_below-suc}
-use Rattle.move_sink.specs.InTurn.{MadeTo, target_of}
+use Rattle.piece_moves.specs.InTurn.{MadeTo, target_of}
 use Rattle.legality.specs.Chosen.{AreTargetsOf}
 
 module _ (make : Square → Move) (targets : Set) where

@@ -15,8 +15,8 @@ use Rattle.rules_model.specs.Pieces.{piece_moves}
 use Rattle.rules_model.specs.Pawns.{pawn_moves}
 use Rattle.rules_model.specs.Candidates.{own_piece_moves, own_pawn_moves, is_piece_move, is_special_move, is_candidate}
 use Rattle.rules_model.proofs.CandidateLaws.{not_both}
-use Rattle.move_sink.specs.Taking.{IsSink, TakesAll, TakesSome}
-use Rattle.move_sink.proofs.TakingLemmas.{all-join, some-behind, some-within}
+use Rattle.piece_moves.specs.Taking.{IsSink, TakesAll, TakesSome}
+use Rattle.piece_moves.proofs.TakingLemmas.{all-join, some-behind, some-within}
 use Rattle.piece_moves.specs.Parts.{FitPieceMoves}
 use Rattle.special_moves.specs.Parts.{FitSpecialMoves}
 use Rattle.legality.specs.Chosen.{FitCandidates}

@@ -16,7 +16,7 @@ use Rattle.rules_model.specs.Pawns.{passes_by}
 use Rattle.square_set.specs.declared.Set.{Set}
 use Rattle.square_set.specs.Members.{has, size}
 use Rattle.square_set.proofs.Cases.{by_bool}
-use Rattle.move_sink.specs.InTurn.{GoesTo, target_of}
+use Rattle.piece_moves.specs.InTurn.{GoesTo, target_of}
 use Rattle.legality.specs.declared.move_filter.GenType.{GenType}
 use Rattle.legality.specs.Chosen.{AreTargetsFrom, AreTargetsOf, AreWantedTo, is_chosen, is_fit_move, is_wanted}
 use Rattle.legality.specs.Moved.{AreSane, GateAtOnce, GateFreely, GoAtOnce, GoFreely, IsBarred, MayGate, MayGo, MayNotGate, MayNotGo, asks_only_safety}
@@ -71,27 +71,27 @@ unfolding is_fit_move
 fit_go from to l m = rw (lt-ltb from.0 120 l, lt-ltb to.0 120 m) refl
 
 -- where such moves are wanted, and sane, they are chosen
-pub all_chosen : (rules : Rules) (r : Repeat) (part : GenType) (from : Square) (gate : Option Kind) (targets : Set) → AreWantedTo rules r part targets → from.0 < 120 → ((s : ℕ) → has targets s ≡ true → s < 120) → gate ≡ None → MayGo rules r from targets → (m : Move) → GoesTo from gate targets m → is_chosen rules r part m ≡ true
+pub all_chosen : (rules : Rules) (r : Repeat) (gen_type : GenType) (from : Square) (gate : Option Kind) (targets : Set) → AreWantedTo rules r gen_type targets → from.0 < 120 → ((s : ℕ) → has targets s ≡ true → s < 120) → gate ≡ None → MayGo rules r from targets → (m : Move) → GoesTo from gate targets m → is_chosen rules r gen_type m ≡ true
 unfolding is_chosen
-all_chosen rules r part from gate targets wanted l small none may m h =
+all_chosen rules r gen_type from gate targets wanted l small none may m h =
     let to : Square = record { 0 = target_of m } in
     let is : Go from to Stays None ≡ m = ap (Go from to Stays) (sym none) ∙ h.0 in
     let n = small (target_of m) h.1 in
-    subst (λ x. is_chosen rules r part x ≡ true) is (and_from _ _ (fit_go from to l n) (and_from _ _ (wanted from to None h.1) (may to n h.1)))
+    subst (λ x. is_chosen rules r gen_type x ≡ true) is (and_from _ _ (fit_go from to l n) (and_from _ _ (wanted from to None h.1) (may to n h.1)))
 
 -- where the move is wanted, it is chosen if it is sane
-pub chosen_is_sane : (rules : Rules) (r : Repeat) (part : GenType) (from to : Square) → is_wanted rules r part (Go from to Stays None) ≡ true → from.0 < 120 → to.0 < 120 → is_chosen rules r part (Go from to Stays None) ≡ is_sane rules r (Go from to Stays None)
+pub chosen_is_sane : (rules : Rules) (r : Repeat) (gen_type : GenType) (from to : Square) → is_wanted rules r gen_type (Go from to Stays None) ≡ true → from.0 < 120 → to.0 < 120 → is_chosen rules r gen_type (Go from to Stays None) ≡ is_sane rules r (Go from to Stays None)
 unfolding is_chosen
-chosen_is_sane rules r part from to wanted l m =
+chosen_is_sane rules r gen_type from to wanted l m =
     let move : Move = Go from to Stays None in
-    ap (λ b. b && (is_wanted rules r part move && is_sane rules r move)) (fit_go from to l m) ∙ ap (λ b. b && is_sane rules r move) wanted
+    ap (λ b. b && (is_wanted rules r gen_type move && is_sane rules r move)) (fit_go from to l m) ∙ ap (λ b. b && is_sane rules r move) wanted
 
-pub sane_chosen : (rules : Rules) (r : Repeat) (part : GenType) (from : Square) (gate : Option Kind) (targets sane : Set) → AreWantedTo rules r part targets → from.0 < 120 → ((s : ℕ) → has targets s ≡ true → s < 120) → gate ≡ None → AreSane rules r from targets sane → AreTargetsFrom (is_chosen rules r part) from gate targets sane
-sane_chosen rules r part from gate targets sane wanted l small none are to =
-    by_bool (has targets to.0) (has sane to.0 ≡ (has targets to.0 && is_chosen rules r part (Go from to Stays gate)))
+pub sane_chosen : (rules : Rules) (r : Repeat) (gen_type : GenType) (from : Square) (gate : Option Kind) (targets sane : Set) → AreWantedTo rules r gen_type targets → from.0 < 120 → ((s : ℕ) → has targets s ≡ true → s < 120) → gate ≡ None → AreSane rules r from targets sane → AreTargetsFrom (is_chosen rules r gen_type) from gate targets sane
+sane_chosen rules r gen_type from gate targets sane wanted l small none are to =
+    by_bool (has targets to.0) (has sane to.0 ≡ (has targets to.0 && is_chosen rules r gen_type (Go from to Stays gate)))
     (λ e.
     are to ∙ ap (λ b. has targets to.0 && b)
-    (sym (chosen_is_sane rules r part from to (wanted from to None e) l (small to.0 e)) ∙ ap (λ g. is_chosen rules r part (Go from to Stays g)) (sym none)))
+    (sym (chosen_is_sane rules r gen_type from to (wanted from to None e) l (small to.0 e)) ∙ ap (λ g. is_chosen rules r gen_type (Go from to Stays g)) (sym none)))
     (λ e. are to ∙ rw e refl)
 
 -- ---- with a piece that comes in behind
@@ -100,12 +100,12 @@ fit_gate : (from to : Square) (kind : Kind) → from.0 < 120 → to.0 < 120 → 
 unfolding is_fit_move
 fit_gate from to kind l m k = rw (lt-ltb from.0 120 l, lt-ltb to.0 120 m, lt-ltb kind.0 26 k) refl
 
-pub all_gated : (rules : Rules) (r : Repeat) (part : GenType) (from : Square) (kind : Kind) (targets : Set) → AreWantedTo rules r part targets → from.0 < 120 → kind.0 < 26 → ((s : ℕ) → has targets s ≡ true → s < 120) → MayGate rules r from kind targets → (m : Move) → GoesTo from (Some kind) targets m → is_chosen rules r part m ≡ true
+pub all_gated : (rules : Rules) (r : Repeat) (gen_type : GenType) (from : Square) (kind : Kind) (targets : Set) → AreWantedTo rules r gen_type targets → from.0 < 120 → kind.0 < 26 → ((s : ℕ) → has targets s ≡ true → s < 120) → MayGate rules r from kind targets → (m : Move) → GoesTo from (Some kind) targets m → is_chosen rules r gen_type m ≡ true
 unfolding is_chosen
-all_gated rules r part from kind targets wanted l k small may m h =
+all_gated rules r gen_type from kind targets wanted l k small may m h =
     let to : Square = record { 0 = target_of m } in
     let n = small (target_of m) h.1 in
-    subst (λ x. is_chosen rules r part x ≡ true) h.0 (and_from _ _ (fit_gate from to kind l n k) (and_from _ _ (wanted from to (Some kind) h.1) (may to n h.1)))
+    subst (λ x. is_chosen rules r gen_type x ≡ true) h.0 (and_from _ _ (fit_gate from to kind l n k) (and_from _ _ (wanted from to (Some kind) h.1) (may to n h.1)))
 
 -- ---- of which none is sane
 
@@ -114,20 +114,20 @@ last_false true true c e = e
 last_false true false c e = refl
 last_false false b c e = refl
 
-pub not_chosen : (rules : Rules) (r : Repeat) (part : GenType) (m : Move) → is_sane rules r m ≡ false → is_chosen rules r part m ≡ false
+pub not_chosen : (rules : Rules) (r : Repeat) (gen_type : GenType) (m : Move) → is_sane rules r m ≡ false → is_chosen rules r gen_type m ≡ false
 unfolding is_chosen
-not_chosen rules r part m e = last_false (is_fit_move m) (is_wanted rules r part m) (is_sane rules r m) e
+not_chosen rules r gen_type m e = last_false (is_fit_move m) (is_wanted rules r gen_type m) (is_sane rules r m) e
 
-pub none_chosen : (rules : Rules) (r : Repeat) (part : GenType) (from : Square) (gate : Option Kind) (targets : Set) → ((s : ℕ) → has targets s ≡ true → s < 120) → gate ≡ None → MayNotGo rules r from targets → (m : Move) → GoesTo from gate targets m → is_chosen rules r part m ≡ false
-none_chosen rules r part from gate targets small none barred m h =
+pub none_chosen : (rules : Rules) (r : Repeat) (gen_type : GenType) (from : Square) (gate : Option Kind) (targets : Set) → ((s : ℕ) → has targets s ≡ true → s < 120) → gate ≡ None → MayNotGo rules r from targets → (m : Move) → GoesTo from gate targets m → is_chosen rules r gen_type m ≡ false
+none_chosen rules r gen_type from gate targets small none barred m h =
     let to : Square = record { 0 = target_of m } in
     let is : Go from to Stays None ≡ m = ap (Go from to Stays) (sym none) ∙ h.0 in
-    subst (λ x. is_chosen rules r part x ≡ false) is (not_chosen rules r part (Go from to Stays None) (barred to (small (target_of m) h.1) h.1))
+    subst (λ x. is_chosen rules r gen_type x ≡ false) is (not_chosen rules r gen_type (Go from to Stays None) (barred to (small (target_of m) h.1) h.1))
 
-pub none_gated : (rules : Rules) (r : Repeat) (part : GenType) (from : Square) (kind : Kind) (targets : Set) → ((s : ℕ) → has targets s ≡ true → s < 120) → MayNotGate rules r from kind targets → (m : Move) → GoesTo from (Some kind) targets m → is_chosen rules r part m ≡ false
-none_gated rules r part from kind targets small barred m h =
+pub none_gated : (rules : Rules) (r : Repeat) (gen_type : GenType) (from : Square) (kind : Kind) (targets : Set) → ((s : ℕ) → has targets s ≡ true → s < 120) → MayNotGate rules r from kind targets → (m : Move) → GoesTo from (Some kind) targets m → is_chosen rules r gen_type m ≡ false
+none_gated rules r gen_type from kind targets small barred m h =
     let to : Square = record { 0 = target_of m } in
-    subst (λ x. is_chosen rules r part x ≡ false) h.0 (not_chosen rules r part (Go from to Stays (Some kind)) (barred to (small (target_of m) h.1) h.1))
+    subst (λ x. is_chosen rules r gen_type x ≡ false) h.0 (not_chosen rules r gen_type (Go from to Stays (Some kind)) (barred to (small (target_of m) h.1) h.1))
 
 -- ---- as many as are counted
 

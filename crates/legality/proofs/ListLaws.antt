@@ -23,7 +23,7 @@ use Rattle.rules_model.specs.Next.{captures}
 use Rattle.rules_model.proofs.LegalLaws.{every-fit, every-has, legal-member, legal-once, legal-sorted, member-legal, moves-unique}
 use Rattle.legality.specs.declared.move_filter.GenType.{GenType}
 use Rattle.legality.specs.declared.move_filter.GenType.TheVariants.{All, Captures, Quiets}
-use Rattle.legality.specs.Chosen.{AppendsChosen, FitCandidates, can_go, is_chosen, is_fit_move, is_in, is_wanted, legal_gen_type, only_captures, part_of}
+use Rattle.legality.specs.Chosen.{AppendsChosen, FitCandidates, can_go, is_chosen, is_fit_move, is_in, is_wanted, legal_gen_type, only_captures, gen_type_of}
 use Rattle.legality.proofs.FitLaws.{from_fit}
 
 -- a legal capture
@@ -92,19 +92,19 @@ module _ {X : Type 0} where
   same_length : (xs ys : List X) → IsEachOnce xs → IsEachOnce ys → ((x : X) → Member x xs → Member x ys) → ((x : X) → Member x ys → Member x xs) → length xs ≡ length ys
   same_length xs ys a b to from = omega (arith, no_longer xs ys a to, no_longer ys xs b from)
 
--- ---- the choice
+-- ---- what is chosen
 
-module _ (rules : Rules) (r : Repeat) (part : GenType) where
-  chosen_parts : (m : Move) → is_chosen rules r part m ≡ true → (is_sane rules r m ≡ true) × (is_wanted rules r part m ≡ true)
+module _ (rules : Rules) (r : Repeat) (gen_type : GenType) where
+  chosen_parts : (m : Move) → is_chosen rules r gen_type m ≡ true → (is_sane rules r m ≡ true) × (is_wanted rules r gen_type m ≡ true)
   unfolding is_chosen
   chosen_parts m e =
-      let k = and_parts (is_wanted rules r part m) (is_sane rules r m) (and_parts (is_fit_move m) (is_wanted rules r part m && is_sane rules r m) e).1 in (k.1, k.0)
+      let k = and_parts (is_wanted rules r gen_type m) (is_sane rules r m) (and_parts (is_fit_move m) (is_wanted rules r gen_type m && is_sane rules r m) e).1 in (k.1, k.0)
 
-  from_parts : (m : Move) → IsFitMove m → is_sane rules r m ≡ true → is_wanted rules r part m ≡ true → is_chosen rules r part m ≡ true
+  from_parts : (m : Move) → IsFitMove m → is_sane rules r m ≡ true → is_wanted rules r gen_type m ≡ true → is_chosen rules r gen_type m ≡ true
   unfolding is_chosen
   from_parts m fit e f = and_from _ _ (from_fit m fit) (and_from _ _ f e)
 
-  chosen_allowed : (m : Move) → FitCandidates rules r m → is_chosen rules r part m ≡ true → (is_allowed rules r m ≡ true) × (is_wanted rules r part m ≡ true)
+  chosen_allowed : (m : Move) → FitCandidates rules r m → is_chosen rules r gen_type m ≡ true → (is_allowed rules r m ≡ true) × (is_wanted rules r gen_type m ≡ true)
   unfolding is_allowed
   chosen_allowed m h e = let k = chosen_parts m e in (and_from _ _ h.1 k.0, k.1)
 
@@ -113,25 +113,25 @@ module _ (rules : Rules) (r : Repeat) (part : GenType) where
   allowed_parts m e = and_parts (is_candidate rules r m) (is_sane rules r m) e
 
   -- a move that was found is one that can be made
-  pub found_goes : (ms : List Move) → ((m : Move) → Member m ms → FitCandidates rules r m) → list_any (is_chosen rules r part) ms ≡ true → can_go rules r part ≡ true
+  pub found_goes : (ms : List Move) → ((m : Move) → Member m ms → FitCandidates rules r m) → list_any (is_chosen rules r gen_type) ms ≡ true → can_go rules r gen_type ≡ true
   unfolding can_go
   found_goes ms sound e =
-      let k = any_member (is_chosen rules r part) ms e in
+      let k = any_member (is_chosen rules r gen_type) ms e in
       let h = sound k.0 k.1 in
       let a = chosen_allowed k.0 h k.2 in
-      member_any (is_wanted rules r part) k.0 _ (member-filter (is_allowed rules r) k.0 every_move (every-has k.0 h.0) a.0) a.1
+      member_any (is_wanted rules r gen_type) k.0 _ (member-filter (is_allowed rules r) k.0 every_move (every-has k.0 h.0) a.0) a.1
 
-  goes_found : (ms : List Move) → Lists (FitCandidates rules r) ms → can_go rules r part ≡ true → list_any (is_chosen rules r part) ms ≡ true
+  goes_found : (ms : List Move) → Lists (FitCandidates rules r) ms → can_go rules r gen_type ≡ true → list_any (is_chosen rules r gen_type) ms ≡ true
   unfolding can_go
   goes_found ms l e =
-      let k = any_member (is_wanted rules r part) _ e in
+      let k = any_member (is_wanted rules r gen_type) _ e in
       let f = filter-member (is_allowed rules r) k.0 every_move k.1 in
       let fit = every-fit k.0 f.0 in
       let p = allowed_parts k.0 f.1 in
-      member_any (is_chosen rules r part) k.0 ms (l.complete k.0 (fit, p.0)) (from_parts k.0 fit p.1 k.2)
+      member_any (is_chosen rules r gen_type) k.0 ms (l.complete k.0 (fit, p.0)) (from_parts k.0 fit p.1 k.2)
 
   -- among all the candidates one is found exactly where one can be made
-  pub found_is : (ms : List Move) → Lists (FitCandidates rules r) ms → list_any (is_chosen rules r part) ms ≡ can_go rules r part
+  pub found_is : (ms : List Move) → Lists (FitCandidates rules r) ms → list_any (is_chosen rules r gen_type) ms ≡ can_go rules r gen_type
   found_is ms l = same_both _ _ (found_goes ms l.sound) (goes_found ms l)
 
 captures_go : (rules : Rules) (r : Repeat) → can_go rules r Captures ≡ can_capture rules r
@@ -142,7 +142,7 @@ only_is : (rules : Rules) (r : Repeat) → only_captures rules r ≡ (rules.must
 unfolding only_captures
 only_is rules r = ap (λ b. rules.must_capture && b) (captures_go rules r)
 
-forced_in : (only takes : Bool) → is_in (part_of only) takes ≡ (not only || takes)
+forced_in : (only takes : Bool) → is_in (gen_type_of only) takes ≡ (not only || takes)
 forced_in true takes = refl
 forced_in false takes = refl
 
@@ -169,17 +169,17 @@ module _ (rules : Rules) (r : Repeat) where
   -- the chosen ones of all the candidates are the legal moves
   pub chosen_legal : (ms : List Move) → is_ongoing (early_end rules r) ≡ true → Lists (FitCandidates rules r) ms → Lists (λ m. Member m (legal rules r)) (filter (is_chosen rules r (legal_gen_type rules r)) ms)
   chosen_legal ms on l =
-      let part = legal_gen_type rules r in record {
-        once = once_filter (is_chosen rules r part) ms l.once;
+      let gen_type = legal_gen_type rules r in record {
+        once = once_filter (is_chosen rules r gen_type) ms l.once;
         sound = λ m h.
-            let k = filter-member (is_chosen rules r part) m ms h in
+            let k = filter-member (is_chosen rules r gen_type) m ms h in
             let f = l.sound m k.0 in
-            let a = chosen_allowed rules r part m f k.1 in
+            let a = chosen_allowed rules r gen_type m f k.1 in
             legal_from m f.0 on a.0 a.1;
         complete = λ m h.
             let k = legal_parts m h in
-            let p = allowed_parts rules r part m k.2 in
-            member-filter (is_chosen rules r part) m ms (l.complete m (k.0, p.0)) (from_parts rules r part m k.0 p.1 k.3);
+            let p = allowed_parts rules r gen_type m k.2 in
+            member-filter (is_chosen rules r gen_type) m ms (l.complete m (k.0, p.0)) (from_parts rules r gen_type m k.0 p.1 k.3);
       }
 
   pub none_legal : is_ongoing (early_end rules r) ≡ false → legal rules r ≡ []
@@ -208,15 +208,15 @@ module _ (rules : Rules) (r : Repeat) where
   some_of [] e = cc
   some_of (m ∷ ms) e = (m, inl refl)
 
-  allowed_some : (part : GenType) → can_go rules r part ≡ true → (m : Move) × IsFitMove m × (is_allowed rules r m ≡ true) × (is_wanted rules r part m ≡ true)
+  allowed_some : (gen_type : GenType) → can_go rules r gen_type ≡ true → (m : Move) × IsFitMove m × (is_allowed rules r m ≡ true) × (is_wanted rules r gen_type m ≡ true)
   unfolding can_go
-  allowed_some part e =
-      let k = any_member (is_wanted rules r part) _ e in
+  allowed_some gen_type e =
+      let k = any_member (is_wanted rules r gen_type) _ e in
       let f = filter-member (is_allowed rules r) k.0 every_move k.1 in
       (k.0, every-fit k.0 f.0, f.1, k.2)
 
   any_wanted : (m : Move) → only_captures rules r ≡ false → is_wanted rules r (legal_gen_type rules r) m ≡ true
-  any_wanted m e = ap (λ only. is_in (part_of only) (captures rules r m)) e
+  any_wanted m e = ap (λ only. is_in (gen_type_of only) (captures rules r m)) e
 
   capture_wanted : (m : Move) → captures rules r m ≡ true → is_wanted rules r (legal_gen_type rules r) m ≡ true
   capture_wanted m e = wanted_is m ∙ or_right (not (only_captures rules r)) (captures rules r m) e
@@ -252,47 +252,47 @@ module _ (rules : Rules) (r : Repeat) where
 -- ---- by the tables' rules, which are these rules
 
 module _ (rules made : Rules) (r q : Repeat) (same : made ≡ rules) (still : q ≡ r) where
-  chosen_same : (part : GenType) → is_chosen made q part ≡ is_chosen rules r part
-  chosen_same part = ap (λ rules'. is_chosen rules' q part) same ∙ ap (λ r'. is_chosen rules r' part) still
+  chosen_same : (gen_type : GenType) → is_chosen made q gen_type ≡ is_chosen rules r gen_type
+  chosen_same gen_type = ap (λ rules'. is_chosen rules' q gen_type) same ∙ ap (λ r'. is_chosen rules r' gen_type) still
 
-  pub made_found : (part : GenType) (ms : List Move) → Lists (FitCandidates rules r) ms → list_any (is_chosen made q part) ms ≡ can_go rules r part
-  made_found part ms l = ap (λ test. list_any test ms) (chosen_same part) ∙ found_is rules r part ms l
+  pub made_found : (gen_type : GenType) (ms : List Move) → Lists (FitCandidates rules r) ms → list_any (is_chosen made q gen_type) ms ≡ can_go rules r gen_type
+  made_found gen_type ms l = ap (λ test. list_any test ms) (chosen_same gen_type) ∙ found_is rules r gen_type ms l
 
-  pub made_goes : (part : GenType) (ms : List Move) → ((m : Move) → Member m ms → FitCandidates rules r m) → list_any (is_chosen made q part) ms ≡ true → can_go rules r part ≡ true
-  made_goes part ms sound e = found_goes rules r part ms sound (sym (ap (λ test. list_any test ms) (chosen_same part)) ∙ e)
+  pub made_goes : (gen_type : GenType) (ms : List Move) → ((m : Move) → Member m ms → FitCandidates rules r m) → list_any (is_chosen made q gen_type) ms ≡ true → can_go rules r gen_type ≡ true
+  made_goes gen_type ms sound e = found_goes rules r gen_type ms sound (sym (ap (λ test. list_any test ms) (chosen_same gen_type)) ∙ e)
 
-  chosen_part : (part : GenType) (ms : List Move) → part ≡ legal_gen_type rules r → filter (is_chosen made q part) ms ≡ filter (is_chosen rules r (legal_gen_type rules r)) ms
-  chosen_part part ms e = ap (λ test. filter test ms) (chosen_same part ∙ ap (is_chosen rules r) e)
+  chosen_gen_type : (gen_type : GenType) (ms : List Move) → gen_type ≡ legal_gen_type rules r → filter (is_chosen made q gen_type) ms ≡ filter (is_chosen rules r (legal_gen_type rules r)) ms
+  chosen_gen_type gen_type ms e = ap (λ test. filter test ms) (chosen_same gen_type ∙ ap (is_chosen rules r) e)
 
-  pub made_count : (part : GenType) (ms : List Move) → part ≡ legal_gen_type rules r → is_ongoing (early_end rules r) ≡ true → Lists (FitCandidates rules r) ms → length (filter (is_chosen made q part) ms) ≡ length (legal rules r)
-  made_count part ms e on l = ap length (chosen_part part ms e) ∙ chosen_count rules r ms on l
+  pub made_count : (gen_type : GenType) (ms : List Move) → gen_type ≡ legal_gen_type rules r → is_ongoing (early_end rules r) ≡ true → Lists (FitCandidates rules r) ms → length (filter (is_chosen made q gen_type) ms) ≡ length (legal rules r)
+  made_count gen_type ms e on l = ap length (chosen_gen_type gen_type ms e) ∙ chosen_count rules r ms on l
 
 -- ---- what was appended
 
 module _ (rules : Rules) (r : Repeat) where
-  appended : (part : GenType) (P : Move → Type 0) (old new : List Move) → ((m : Move) → FitCandidates rules r m → is_chosen rules r part m ≡ true → P m) → ((m : Move) → P m → FitCandidates rules r m × (is_chosen rules r part m ≡ true))
-      → AppendsChosen rules r part old new → Appends P old new
-  appended part P old new to from a = record {
-    added = filter (is_chosen rules r part) a.moves;
+  appended : (gen_type : GenType) (P : Move → Type 0) (old new : List Move) → ((m : Move) → FitCandidates rules r m → is_chosen rules r gen_type m ≡ true → P m) → ((m : Move) → P m → FitCandidates rules r m × (is_chosen rules r gen_type m ≡ true))
+      → AppendsChosen rules r gen_type old new → Appends P old new
+  appended gen_type P old new to from a = record {
+    added = filter (is_chosen rules r gen_type) a.moves;
     is = a.taken;
     each = record {
-      once = once_filter (is_chosen rules r part) a.moves a.each.once;
-      sound = λ m h. (let k = filter-member (is_chosen rules r part) m a.moves h in to m (a.each.sound m k.0) k.1);
-      complete = λ m h. (let k = from m h in member-filter (is_chosen rules r part) m a.moves (a.each.complete m k.0) k.1);
+      once = once_filter (is_chosen rules r gen_type) a.moves a.each.once;
+      sound = λ m h. (let k = filter-member (is_chosen rules r gen_type) m a.moves h in to m (a.each.sound m k.0) k.1);
+      complete = λ m h. (let k = from m h in member-filter (is_chosen rules r gen_type) m a.moves (a.each.complete m k.0) k.1);
     };
   }
 
-  -- a legal move that is of the part is chosen
-  legal_chosen : (part : GenType) (m : Move) → Member m (legal rules r) → is_wanted rules r part m ≡ true → FitCandidates rules r m × (is_chosen rules r part m ≡ true)
-  legal_chosen part m h wanted =
+  -- a legal move that is wanted is chosen
+  legal_chosen : (gen_type : GenType) (m : Move) → Member m (legal rules r) → is_wanted rules r gen_type m ≡ true → FitCandidates rules r m × (is_chosen rules r gen_type m ≡ true)
+  legal_chosen gen_type m h wanted =
       let k = legal_parts rules r m h in
-      let p = allowed_parts rules r part m k.2 in
-      ((k.0, p.0), from_parts rules r part m k.0 p.1 wanted)
+      let p = allowed_parts rules r gen_type m k.2 in
+      ((k.0, p.0), from_parts rules r gen_type m k.0 p.1 wanted)
 
   module _ (on : is_ongoing (early_end rules r) ≡ true) where
-    pub appended_legal : (part : GenType) (old new : List Move) → part ≡ legal_gen_type rules r → AppendsChosen rules r part old new → Appends (λ m. Member m (legal rules r)) old new
-    appended_legal part old new e a = record {
-      added = filter (is_chosen rules r part) a.moves;
+    pub appended_legal : (gen_type : GenType) (old new : List Move) → gen_type ≡ legal_gen_type rules r → AppendsChosen rules r gen_type old new → Appends (λ m. Member m (legal rules r)) old new
+    appended_legal gen_type old new e a = record {
+      added = filter (is_chosen rules r gen_type) a.moves;
       is = a.taken;
       each = subst (λ p. Lists (λ m. Member m (legal rules r)) (filter (is_chosen rules r p) a.moves)) (sym e) (chosen_legal rules r a.moves on a.each);
     }
@@ -331,7 +331,7 @@ only_no_other rules r old only =
     appends-none _ old
     (λ m h.
     not_both (captures rules r m)
-    (sym (ap (λ b. is_in (part_of b) (captures rules r m)) only) ∙ (legal_parts rules r m h.0).3) h.1)
+    (sym (ap (λ b. is_in (gen_type_of b) (captures rules r m)) only) ∙ (legal_parts rules r m h.0).3) h.1)
 
 pub nothing_legal : (rules : Rules) (r : Repeat) (old : List Move) → is_ongoing (early_end rules r) ≡ false → Appends (λ m. Member m (legal rules r)) old old
 nothing_legal rules r old off = appends-none _ old (λ m h. subst (Member m) (none_legal rules r off) h)

@@ -6,8 +6,8 @@ use Rattle.rules_model.specs.declared.board.Square.{Square}
 use Rattle.rules_model.specs.declared.moves.Move.{Move}
 use Rattle.square_set.specs.declared.Set.{Set}
 use Rattle.square_set.specs.Members.{has}
-use Rattle.move_sink.specs.InTurn.{MadeTo, Outside, target_of}
-use Rattle.move_sink.specs.Taking.{IsSink, TakesAll, TakesSome}
+use Rattle.piece_moves.specs.InTurn.{MadeTo, Outside, target_of}
+use Rattle.piece_moves.specs.Taking.{IsSink, TakesAll, TakesSome}
 use Rattle.legality.specs.declared.list_sink.ListSink.{ListSink}
 use Rattle.legality.specs.Choices.{chosen_by}
 use Rattle.legality.specs.Chosen.{AreTargetsOf}
@@ -20,10 +20,10 @@ none_kept p [] h = refl
 none_kept p (x ∷ xs) h = ap (λ b. cond b (x ∷ filter p xs) (filter p xs)) (h x (inl refl)) ∙ none_kept p xs (λ y m. h y (inr m))
 
 -- before the first that is worth a look, the others were taken, and none of them was kept
-pub others_taken : (make : Square → Move) (targets told chosen worth : Set) (s : ListSink) → ((to : Square) → target_of (make to) ≡ to.0) → ((k : ℕ) → has told k ≡ true → has targets k ≡ true) → AreTargetsOf (chosen_by s.choice) make told chosen
+pub others_taken : (make : Square → Move) (targets told chosen worth : Set) (s : ListSink) → ((to : Square) → target_of (make to) ≡ to.0) → ((k : ℕ) → has told k ≡ true → has targets k ≡ true) → AreTargetsOf (chosen_by s.move_filter) make told chosen
     → ((k : ℕ) → has worth k ≡ ((has targets k && not (has told k)) || has chosen k)) → ((k : ℕ) → has targets k ≡ true → k < 128) → TakesAll Keeps (Outside (MadeTo make targets) target_of worth) s s
 others_taken make targets told chosen worth s goes_there within are is small =
-    let test = chosen_by s.choice in
+    let test = chosen_by s.move_filter in
     let ms = others make targets told chosen worth test within are is in
     record {
       moves = ms;
@@ -32,12 +32,12 @@ others_taken make targets told chosen worth s goes_there within are is small =
     }
 
 pub keeper_sink : IsSink Keeps Keeps
-keeper_sink = keeper_is_sink (λ (keeper : ListSink). keeper.choice) (λ (keeper : ListSink). keeper.list) chosen_by
+keeper_sink = keeper_is_sink (λ (keeper : ListSink). keeper.move_filter) (λ (keeper : ListSink). keeper.list) chosen_by
 
 -- of the one move that was not put on the list for want of memory
 pub nothing_kept : (P : Move → Type 0) (s t : ListSink) → Keeps s [] t → TakesSome Keeps P s t
 nothing_kept P s t e = record { moves = []; taken = e; once = tt; sound = λ m h. absurd h }
 
--- what is told of the choice is told of it later
-pub still_chosen : (P : Move → Type 0) (s t : ListSink) (m : Move) → TakesAll Keeps P s t → chosen_by s.choice m ≡ true → chosen_by t.choice m ≡ true
-still_chosen P s t m a e = subst (λ choice. chosen_by choice m ≡ true) (sym a.taken.0) e
+-- what is told by the filter is told by it later
+pub still_chosen : (P : Move → Type 0) (s t : ListSink) (m : Move) → TakesAll Keeps P s t → chosen_by s.move_filter m ≡ true → chosen_by t.move_filter m ≡ true
+still_chosen P s t m a e = subst (λ move_filter. chosen_by move_filter m ≡ true) (sym a.taken.0) e

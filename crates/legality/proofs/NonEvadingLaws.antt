@@ -1,4 +1,4 @@
--- Moves that are in vain: a king that is attacked stays so.
+-- Moves that are no evasion: a king that is attacked stays so.
 use Rattle.std.proofs.Common.{◌≡◌, ℕ, ◌<◌, Bool, true, false, not, ◌&&◌, ◌==◌, None, Some, length, refl, sym, ap, ◌∙◌}
 use Rattle.std.proofs.lemmas.Bool.{and_parts, eq-eqb, not-true}
 use Rattle.square_set.proofs.CoverLaws.{has-zero}
@@ -14,7 +14,7 @@ use Rattle.move_tables.specs.Occupied.{IsOccupied}
 use Rattle.board_sets.specs.declared.sets.BoardSets.{BoardSets}
 use Rattle.board_sets.specs.Sets.{AreSets}
 use Rattle.pins.specs.Evasion.{AreEvasions}
-use Rattle.legality.specs.Moved.{DropInVain, GateInVain, GoInVain, IsBarred}
+use Rattle.legality.specs.Moved.{DropWithoutEvading, GateWithoutEvading, GoWithoutEvading, IsBarred}
 use Rattle.legality.proofs.BoardLaws.{BoardAfter, KeepsKings, drop_board, gate_board, go_board}
 use Rattle.legality.proofs.PinLaws.{not_passing}
 
@@ -28,8 +28,8 @@ left_for_itself false s = refl
 
 module _ (rules : Rules) (r : Repeat) (sets : BoardSets) (occupied : Set) (are : AreSets rules r.side r.cells sets) (are_occupied : IsOccupied occupied r.cells) (size : length r.cells ≡ 120) where
   module _ (leave enter barred : Set) (are_evasions : AreEvasions rules r.side r.cells sets.kings sets.enemies occupied leave enter) (bars : IsBarred r sets.own barred) where
-    in_vain : (from to : ℕ) (m : Move) → to < 120 → (has leave from && not (from == to)) ≡ false → has enter to ≡ false → BoardAfter rules r sets occupied from to m (KeepsKings rules r sets) → is_safe rules r m ≡ false
-    in_vain from to m l leaves enters after =
+    without_evading : (from to : ℕ) (m : Move) → to < 120 → (has leave from && not (from == to)) ≡ false → has enter to ≡ false → BoardAfter rules r sets occupied from to m (KeepsKings rules r sets) → is_safe rules r m ≡ false
+    without_evading from to m l leaves enters after =
         after.told ∙ ap (λ k. not k) (are_evasions from to after.men after.now after.board l leaves enters after.are_men after.is_now after.is_board after.has_kings)
 
     -- to the squares that are not barred, and that end no attack
@@ -43,33 +43,33 @@ module _ (rules : Rules) (r : Repeat) (sets : BoardSets) (occupied : Set) (are :
           not-true _ (and_parts (has all s) (not (has barred s)) (sym (is_unbarred s) ∙ a.0)).1
 
       -- own pieces other than kings go, whose leaving ends none
-      pub go_in_vain : (movers to_leave : Set) → ((s : ℕ) → has movers s ≡ (has sets.own s && not (has sets.kings s))) → ((s : ℕ) → has to_leave s ≡ (has movers s && not (has leave s))) → GoInVain rules r to_leave to_enter
-      go_in_vain movers to_leave is_mover is_to_leave from to l m h k =
+      pub go_without_evading : (movers to_leave : Set) → ((s : ℕ) → has movers s ≡ (has sets.own s && not (has sets.kings s))) → ((s : ℕ) → has to_leave s ≡ (has movers s && not (has leave s))) → GoWithoutEvading rules r to_leave to_enter
+      go_without_evading movers to_leave is_mover is_to_leave from to l m h k =
           let a = and_parts (has movers from.0) (not (has leave from.0)) (sym (is_to_leave from.0) ∙ h) in
           let b = and_parts (has sets.own from.0) (not (has sets.kings from.0)) (sym (is_mover from.0) ∙ a.0) in
           let bar = bars to.0 m (not_barred to.0 k) in
-          in_vain from.0 to.0 (Go from to Stays None) m (left_by_none (has leave from.0) (not (from.0 == to.0)) (not-true _ a.1)) (ends_none to.0 k)
+          without_evading from.0 to.0 (Go from to Stays None) m (left_by_none (has leave from.0) (not (from.0 == to.0)) (not-true _ a.1)) (ends_none to.0 k)
           (go_board rules r sets occupied are are_occupied size from to l m b.0 (not-true _ b.1) bar.0 (not_passing rules r from to.0 bar.1))
 
       -- a piece is dropped
-      pub drop_in_vain : DropInVain rules r to_enter
-      drop_in_vain kind to m k mere =
-          in_vain to.0 to.0 (Drop kind to) m (left_for_itself (has leave to.0) to.0) (ends_none to.0 k)
+      pub drop_without_evading : DropWithoutEvading rules r to_enter
+      drop_without_evading kind to m k mere =
+          without_evading to.0 to.0 (Drop kind to) m (left_for_itself (has leave to.0) to.0) (ends_none to.0 k)
           (drop_board rules r sets occupied are are_occupied size kind to m (bars to.0 m (not_barred to.0 k)).0 mere)
 
       -- or goes there while another comes in behind it
-      pub gate_in_vain : GateInVain rules r sets.own sets.kings to_enter
-      gate_in_vain kind from to l m own king k mere =
+      pub gate_without_evading : GateWithoutEvading rules r sets.own sets.kings to_enter
+      gate_without_evading kind from to l m own king k mere =
           let bar = bars to.0 m (not_barred to.0 k) in
-          in_vain to.0 to.0 (Go from to Stays (Some kind)) m (left_for_itself (has leave to.0) to.0) (ends_none to.0 k)
+          without_evading to.0 to.0 (Go from to Stays (Some kind)) m (left_for_itself (has leave to.0) to.0) (ends_none to.0 k)
           (gate_board rules r sets occupied are are_occupied size kind from to l m own king bar.0 mere (not_passing rules r from to.0 bar.1))
 
-pub none_goes_in_vain : (rules : Rules) (r : Repeat) (enter : Set) → GoInVain rules r (record { 0 = 0 }) enter
-none_goes_in_vain rules r enter from to l m h k = absurd (let f : ⊥ = (let n = has-zero (record { 0 = 0 }) refl from.0 in cc) in f)
+pub none_goes_without_evading : (rules : Rules) (r : Repeat) (enter : Set) → GoWithoutEvading rules r (record { 0 = 0 }) enter
+none_goes_without_evading rules r enter from to l m h k = absurd (let f : ⊥ = (let n = has-zero (record { 0 = 0 }) refl from.0 in cc) in f)
 
-pub none_dropped_in_vain : (rules : Rules) (r : Repeat) → DropInVain rules r (record { 0 = 0 })
-none_dropped_in_vain rules r kind to m h mere = absurd (let f : ⊥ = (let n = has-zero (record { 0 = 0 }) refl to.0 in cc) in f)
+pub none_dropped_without_evading : (rules : Rules) (r : Repeat) → DropWithoutEvading rules r (record { 0 = 0 })
+none_dropped_without_evading rules r kind to m h mere = absurd (let f : ⊥ = (let n = has-zero (record { 0 = 0 }) refl to.0 in cc) in f)
 
-pub none_gating_in_vain : (rules : Rules) (r : Repeat) (own kings : Set) → GateInVain rules r own kings (record { 0 = 0 })
-none_gating_in_vain rules r own kings kind from to l m h king enter mere =
+pub none_gating_without_evading : (rules : Rules) (r : Repeat) (own kings : Set) → GateWithoutEvading rules r own kings (record { 0 = 0 })
+none_gating_without_evading rules r own kings kind from to l m h king enter mere =
     absurd (let f : ⊥ = (let n = has-zero (record { 0 = 0 }) refl to.0 in cc) in f)

@@ -30,7 +30,7 @@ use Rattle.attack_tables.specs.Boards.{HoldsMen, IsBoardBy}
 use Rattle.board_sets.specs.declared.sets.BoardSets.{BoardSets}
 use Rattle.board_sets.specs.Sets.{AreSets}
 use Rattle.sound_play.proofs.CellLemmas.{cell_at-set_other, cell_at-set_same}
-use Rattle.legality.specs.Moved.{DropFreely, DropInVain, GateInVain, GoFreely, GoInVain, HoldsMenOf, asks_more, is_free_go, is_free_drop, is_no_evasion, leaves_another, moves_own}
+use Rattle.legality.specs.Moved.{DropFreely, DropWithoutEvading, GateWithoutEvading, GoFreely, GoWithoutEvading, HoldsMenOf, asks_more, is_free_go, is_free_drop, is_no_evasion, leaves_another, moves_own}
 
 -- ---- where the variant asks no more than a safe king
 
@@ -166,7 +166,7 @@ free_drop_is_safe rules r enter (Drop kind to) freely fit e =
     let a = and_parts (has enter to.0) (not (is_king rules kind)) e in
     freely kind to fit.1 a.0 (not-true (is_king rules kind) a.1)
 
--- ---- a move in vain
+-- ---- a move that is no evasion
 
 -- what is in the one set, and not in it without the other, is in the other
 pub missed : (a b : Bool) → a ≡ true → (a && not b) ≡ false → b ≡ true
@@ -174,20 +174,20 @@ missed true true e h = refl
 missed true false e h = cc
 missed false b e h = cc
 
-module _ (rules : Rules) (r : Repeat) (own kings leave enter : Set) (goes : GoInVain rules r leave enter) (drops : DropInVain rules r enter) (gates : GateInVain rules r own kings enter) where
-  pub in_vain_is_not_safe : (m : Move) → IsFitMove m → is_no_evasion rules own kings leave enter m ≡ true → is_safe rules r m ≡ false
-  in_vain_is_not_safe (Go from to Stays None) fit e =
+module _ (rules : Rules) (r : Repeat) (own kings leave enter : Set) (goes : GoWithoutEvading rules r leave enter) (drops : DropWithoutEvading rules r enter) (gates : GateWithoutEvading rules r own kings enter) where
+  pub no_evasion_is_not_safe : (m : Move) → IsFitMove m → is_no_evasion rules own kings leave enter m ≡ true → is_safe rules r m ≡ false
+  no_evasion_is_not_safe (Go from to Stays None) fit e =
       let a = and_parts (has enter to.0) (has leave from.0) e in
       goes from to fit.0 fit.1 a.1 a.0
-  in_vain_is_not_safe (Go from to Stays (Some kind)) fit e =
+  no_evasion_is_not_safe (Go from to Stays (Some kind)) fit e =
       let a = and_parts (has enter to.0) (leaves_another rules own kings from kind) e in
       let b = and_parts (has own from.0 && not (has kings from.0)) (not (is_king rules kind)) a.1 in
       let c = and_parts (has own from.0) (not (has kings from.0)) b.0 in
       gates kind from to fit.0 fit.1 c.0 (not-true (has kings from.0) c.1) a.0 (not-true (is_king rules kind) b.1)
-  in_vain_is_not_safe (Go from to (Pawn kind) gate) fit e = cc
-  in_vain_is_not_safe (Go from to Plus gate) fit e = cc
-  in_vain_is_not_safe (Castle from to rook gate) fit e = cc
-  in_vain_is_not_safe (Drop kind to) fit e =
+  no_evasion_is_not_safe (Go from to (Pawn kind) gate) fit e = cc
+  no_evasion_is_not_safe (Go from to Plus gate) fit e = cc
+  no_evasion_is_not_safe (Castle from to rook gate) fit e = cc
+  no_evasion_is_not_safe (Drop kind to) fit e =
       let a = and_parts (has enter to.0) (not (is_king rules kind)) e in
       drops kind to fit.1 a.0 (not-true (is_king rules kind) a.1)
 

@@ -7,8 +7,8 @@ use Rattle.rules_model.specs.declared.board.Square.{Square}
 use Rattle.rules_model.specs.declared.moves.Move.{Move}
 use Rattle.square_set.specs.declared.Set.{Set}
 use Rattle.square_set.specs.Members.{has}
-use Rattle.move_sink.specs.InTurn.{MadeTo, Outside, target_of}
-use Rattle.move_sink.specs.Taking.{IsSink, TakesAll, TakesSome}
+use Rattle.piece_moves.specs.InTurn.{MadeTo, Outside, target_of}
+use Rattle.piece_moves.specs.Taking.{IsSink, TakesAll, TakesSome}
 use Rattle.legality.specs.declared.any_sink.AnySink.{AnySink}
 use Rattle.legality.specs.Choices.{chosen_by}
 use Rattle.legality.specs.Chosen.{AreTargetsOf}
@@ -30,10 +30,10 @@ none_passes p [] h = refl
 none_passes p (x ∷ xs) h = ap (λ b. b || list_any p xs) (h x (inl refl)) ∙ none_passes p xs (λ y m. h y (inr m))
 
 -- before the first that is worth a look, the others were seen, and none of them is chosen
-pub others_seen : (make : Square → Move) (targets told chosen worth : Set) (s : AnySink) → ((to : Square) → target_of (make to) ≡ to.0) → ((k : ℕ) → has told k ≡ true → has targets k ≡ true) → AreTargetsOf (chosen_by s.choice) make told chosen
+pub others_seen : (make : Square → Move) (targets told chosen worth : Set) (s : AnySink) → ((to : Square) → target_of (make to) ≡ to.0) → ((k : ℕ) → has told k ≡ true → has targets k ≡ true) → AreTargetsOf (chosen_by s.move_filter) make told chosen
     → ((k : ℕ) → has worth k ≡ ((has targets k && not (has told k)) || has chosen k)) → ((k : ℕ) → has targets k ≡ true → k < 128) → TakesAll SeesNone (Outside (MadeTo make targets) target_of worth) s s
 others_seen make targets told chosen worth s goes_there within are is small =
-    let test = chosen_by s.choice in
+    let test = chosen_by s.move_filter in
     let ms = others make targets told chosen worth test within are is in
     record {
       moves = ms;
@@ -42,8 +42,8 @@ others_seen make targets told chosen worth s goes_there within are is small =
     }
 
 pub seeker_sink : IsSink SeesNone SeesOne
-seeker_sink = seeker_is_sink (λ (seeker : AnySink). chosen_by seeker.choice)
+seeker_sink = seeker_is_sink (λ (seeker : AnySink). chosen_by seeker.move_filter)
 
--- what is told of the choice is told of it later
-pub still_sought : (P : Move → Type 0) (s t : AnySink) (m : Move) → TakesAll SeesNone P s t → chosen_by s.choice m ≡ true → chosen_by t.choice m ≡ true
-still_sought P s t m a e = subst (λ (seeker : AnySink). chosen_by seeker.choice m ≡ true) (sym a.taken.0) e
+-- what is told by the filter is told by it later
+pub still_sought : (P : Move → Type 0) (s t : AnySink) (m : Move) → TakesAll SeesNone P s t → chosen_by s.move_filter m ≡ true → chosen_by t.move_filter m ≡ true
+still_sought P s t m a e = subst (λ (seeker : AnySink). chosen_by seeker.move_filter m ≡ true) (sym a.taken.0) e

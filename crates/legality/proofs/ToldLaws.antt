@@ -8,7 +8,7 @@ use Rattle.rules_model.specs.declared.board.Square.{Square}
 use Rattle.rules_model.specs.declared.moves.Move.{Move}
 use Rattle.square_set.specs.declared.Set.{Set}
 use Rattle.square_set.specs.Members.{has}
-use Rattle.move_sink.specs.InTurn.{MadeTo, Outside, target_of}
+use Rattle.piece_moves.specs.InTurn.{MadeTo, Outside, target_of}
 use Rattle.legality.specs.Chosen.{AreTargetsOf}
 use Rattle.legality.proofs.AllMade.{made-lists, made_below}
 use Rattle.legality.proofs.ListLaws.{once_filter}

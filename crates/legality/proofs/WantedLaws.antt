@@ -40,48 +40,48 @@ none_of false w o u is e = cc
 
 -- ---- what is not wanted is not chosen
 
-pub not_wanted : (rules : Rules) (r : Repeat) (part : GenType) (m : Move) → is_wanted rules r part m ≡ false → is_chosen rules r part m ≡ false
+pub not_wanted : (rules : Rules) (r : Repeat) (gen_type : GenType) (m : Move) → is_wanted rules r gen_type m ≡ false → is_chosen rules r gen_type m ≡ false
 unfolding is_chosen
-not_wanted rules r part m e = ap (λ b. is_fit_move m && (b && is_sane rules r m)) e ∙ and_false (is_fit_move m)
+not_wanted rules r gen_type m e = ap (λ b. is_fit_move m && (b && is_sane rules r m)) e ∙ and_false (is_fit_move m)
 
-module _ (rules : Rules) (r : Repeat) (part : GenType) (targets wanted untold : Set) where
-  pub unwanted_there : (unwanted : Set) → AreUnwantedBut rules r part targets wanted untold → ((s : ℕ) → has unwanted s ≡ ((has targets s && not (has wanted s)) && not (has untold s)))
-      → (from to : Square) (gate : Option Kind) → has unwanted to.0 ≡ true → is_wanted rules r part (Go from to Stays gate) ≡ false
+module _ (rules : Rules) (r : Repeat) (gen_type : GenType) (targets wanted untold : Set) where
+  pub unwanted_there : (unwanted : Set) → AreUnwantedBut rules r gen_type targets wanted untold → ((s : ℕ) → has unwanted s ≡ ((has targets s && not (has wanted s)) && not (has untold s)))
+      → (from to : Square) (gate : Option Kind) → has unwanted to.0 ≡ true → is_wanted rules r gen_type (Go from to Stays gate) ≡ false
   unwanted_there unwanted others is from to gate e =
       let k = none_of (has targets to.0) (has wanted to.0) (has untold to.0) (has unwanted to.0) (is to.0) e in others from to gate k.0 k.1 k.2
 
   -- where all are told that are wanted, all are told
-  pub told_of_wanted : (from : Square) (gate : Option Kind) (those : Set) → AreUnwantedBut rules r part targets wanted untold → ((s : ℕ) → has wanted s ≡ true → has targets s ≡ true) → ((s : ℕ) → has untold s ≡ false)
-      → AreTargetsFrom (is_chosen rules r part) from gate wanted those → AreTargetsFrom (is_chosen rules r part) from gate targets those
+  pub told_of_wanted : (from : Square) (gate : Option Kind) (those : Set) → AreUnwantedBut rules r gen_type targets wanted untold → ((s : ℕ) → has wanted s ≡ true → has targets s ≡ true) → ((s : ℕ) → has untold s ≡ false)
+      → AreTargetsFrom (is_chosen rules r gen_type) from gate wanted those → AreTargetsFrom (is_chosen rules r gen_type) from gate targets those
   told_of_wanted from gate those others within none are to =
       let move : Move = Go from to Stays gate in
-      by_bool (has wanted to.0) (has those to.0 ≡ (has targets to.0 && is_chosen rules r part move))
-      (λ e. are to ∙ ap (λ b. b && is_chosen rules r part move) (e ∙ sym (within to.0 e)))
+      by_bool (has wanted to.0) (has those to.0 ≡ (has targets to.0 && is_chosen rules r gen_type move))
+      (λ e. are to ∙ ap (λ b. b && is_chosen rules r gen_type move) (e ∙ sym (within to.0 e)))
       (λ e.
-      are to ∙ ap (λ b. b && is_chosen rules r part move) e
-      ∙ sym (by_bool (has targets to.0) ((has targets to.0 && is_chosen rules r part move) ≡ false)
-      (λ t. ap (λ b. has targets to.0 && b) (not_wanted rules r part move (others from to gate t e (none to.0))) ∙ and_false (has targets to.0))
-      (λ t. ap (λ b. b && is_chosen rules r part move) t)))
+      are to ∙ ap (λ b. b && is_chosen rules r gen_type move) e
+      ∙ sym (by_bool (has targets to.0) ((has targets to.0 && is_chosen rules r gen_type move) ≡ false)
+      (λ t. ap (λ b. has targets to.0 && b) (not_wanted rules r gen_type move (others from to gate t e (none to.0))) ∙ and_false (has targets to.0))
+      (λ t. ap (λ b. b && is_chosen rules r gen_type move) t)))
 
   -- where none are wanted, none are chosen
-  pub none_told : (from : Square) (gate : Option Kind) (those : Set) → AreUnwantedBut rules r part targets wanted untold → ((s : ℕ) → has untold s ≡ false) → ((s : ℕ) → has wanted s ≡ false) → ((s : ℕ) → has those s ≡ false)
-      → AreTargetsFrom (is_chosen rules r part) from gate targets those
+  pub none_told : (from : Square) (gate : Option Kind) (those : Set) → AreUnwantedBut rules r gen_type targets wanted untold → ((s : ℕ) → has untold s ≡ false) → ((s : ℕ) → has wanted s ≡ false) → ((s : ℕ) → has those s ≡ false)
+      → AreTargetsFrom (is_chosen rules r gen_type) from gate targets those
   none_told from gate those others closed none empty to =
       let move : Move = Go from to Stays gate in
       empty to.0
-      ∙ sym (by_bool (has targets to.0) ((has targets to.0 && is_chosen rules r part move) ≡ false)
-      (λ t. ap (λ b. has targets to.0 && b) (not_wanted rules r part move (others from to gate t (none to.0) (closed to.0))) ∙ and_false (has targets to.0))
-      (λ t. ap (λ b. b && is_chosen rules r part move) t))
+      ∙ sym (by_bool (has targets to.0) ((has targets to.0 && is_chosen rules r gen_type move) ≡ false)
+      (λ t. ap (λ b. has targets to.0 && b) (not_wanted rules r gen_type move (others from to gate t (none to.0) (closed to.0))) ∙ and_false (has targets to.0))
+      (λ t. ap (λ b. b && is_chosen rules r gen_type move) t))
 
   -- of those that are not wanted none are chosen
-  pub unwanted_told : (from : Square) (gate : Option Kind) (unwanted those : Set) → AreUnwantedBut rules r part targets wanted untold → ((s : ℕ) → has unwanted s ≡ ((has targets s && not (has wanted s)) && not (has untold s)))
-      → ((s : ℕ) → has those s ≡ false) → AreTargetsFrom (is_chosen rules r part) from gate unwanted those
+  pub unwanted_told : (from : Square) (gate : Option Kind) (unwanted those : Set) → AreUnwantedBut rules r gen_type targets wanted untold → ((s : ℕ) → has unwanted s ≡ ((has targets s && not (has wanted s)) && not (has untold s)))
+      → ((s : ℕ) → has those s ≡ false) → AreTargetsFrom (is_chosen rules r gen_type) from gate unwanted those
   unwanted_told from gate unwanted those others is empty to =
       let move : Move = Go from to Stays gate in
       empty to.0
-      ∙ sym (by_bool (has unwanted to.0) ((has unwanted to.0 && is_chosen rules r part move) ≡ false)
-      (λ t. ap (λ b. has unwanted to.0 && b) (not_wanted rules r part move (unwanted_there unwanted others is from to gate t)) ∙ and_false (has unwanted to.0))
-      (λ t. ap (λ b. b && is_chosen rules r part move) t))
+      ∙ sym (by_bool (has unwanted to.0) ((has unwanted to.0 && is_chosen rules r gen_type move) ≡ false)
+      (λ t. ap (λ b. has unwanted to.0 && b) (not_wanted rules r gen_type move (unwanted_there unwanted others is from to gate t)) ∙ and_false (has unwanted to.0))
+      (λ t. ap (λ b. b && is_chosen rules r gen_type move) t))
 
 -- ---- captures are of enemies, but for those in passing
 
@@ -112,15 +112,15 @@ module _ (rules : Rules) (r : Repeat) where
         let k = bars to.0 small bar in
         ap is_some (taken_there from to k.1) ∙ man_there r.side (cell_at r.cells to.0) (sym (men to.0) ∙ k.0) ∙ sym (foes to.0)
 
-    module _ (part : GenType) (targets wanted untold : Set) (small : (s : ℕ) → has targets s ≡ true → s < 120) (is : (s : ℕ) → has wanted s ≡ ((has targets s && is_in part (has enemies s)) && not (has barred s))) where
-      pub part_wanted : AreWantedTo rules r part wanted
-      part_wanted from to gate e =
-          let a = and_parts (has targets to.0 && is_in part (has enemies to.0)) (not (has barred to.0)) (sym (is to.0) ∙ e) in
-          let b = and_parts (has targets to.0) (is_in part (has enemies to.0)) a.0 in
-          ap (is_in part) (takes_enemy from to gate (small to.0 b.0) (not-true (has barred to.0) a.1)) ∙ b.1
+    module _ (gen_type : GenType) (targets wanted untold : Set) (small : (s : ℕ) → has targets s ≡ true → s < 120) (is : (s : ℕ) → has wanted s ≡ ((has targets s && is_in gen_type (has enemies s)) && not (has barred s))) where
+      pub gen_type_wanted : AreWantedTo rules r gen_type wanted
+      gen_type_wanted from to gate e =
+          let a = and_parts (has targets to.0 && is_in gen_type (has enemies to.0)) (not (has barred to.0)) (sym (is to.0) ∙ e) in
+          let b = and_parts (has targets to.0) (is_in gen_type (has enemies to.0)) a.0 in
+          ap (is_in gen_type) (takes_enemy from to gate (small to.0 b.0) (not-true (has barred to.0) a.1)) ∙ b.1
 
-      pub part_unwanted : ((s : ℕ) → has untold s ≡ (has targets s && has barred s)) → AreUnwantedBut rules r part targets wanted untold
-      part_unwanted are from to gate t w o =
+      pub gen_type_unwanted : ((s : ℕ) → has untold s ≡ (has targets s && has barred s)) → AreUnwantedBut rules r gen_type targets wanted untold
+      gen_type_unwanted are from to gate t w o =
           let bar : has barred to.0 ≡ false = sym (ap (λ b. b && has barred to.0) t) ∙ sym (are to.0) ∙ o in
-          ap (is_in part) (takes_enemy from to gate (small to.0 t) bar)
-          ∙ second_false (has targets to.0) (is_in part (has enemies to.0)) (has barred to.0) (has wanted to.0) (is to.0) t bar w
+          ap (is_in gen_type) (takes_enemy from to gate (small to.0 t) bar)
+          ∙ second_false (has targets to.0) (is_in gen_type (has enemies to.0)) (has barred to.0) (has wanted to.0) (is to.0) t bar w

@@ -1,4 +1,4 @@
--- What a choice chooses.
+-- What a filter of moves chooses.
 use Rattle.std.specs.Prelude.{Bool, ◌&&◌}
 use Rattle.rules_model.specs.declared.moves.Move.{Move}
 use Rattle.rules_model.specs.Repeats.{repeat_of}
@@ -8,21 +8,25 @@ use Rattle.legality.specs.Chosen.{AreUnwantedBut, AreWantedTo, is_chosen, is_wan
 use Rattle.square_set.specs.declared.Set.{Set}
 
 abbrev pub chosen_by : MoveFilter → Move → Bool
-chosen_by choice m = is_chosen choice.safety.tables.now (repeat_of choice.safety.p.now) choice.part m
+chosen_by move_filter m =
+    is_chosen move_filter.pin_info.tables.now (repeat_of move_filter.pin_info.p.now) move_filter.gen_type m
 
--- the move is of the part
+-- the move is wanted
 abbrev pub wanted_by : MoveFilter → Move → Bool
-wanted_by choice m = is_wanted choice.safety.tables.now (repeat_of choice.safety.p.now) choice.part m
+wanted_by move_filter m =
+    is_wanted move_filter.pin_info.tables.now (repeat_of move_filter.pin_info.p.now) move_filter.gen_type m
 
--- the choice suits a move that is fit: it is wanted, and sane
+-- the filter lets a fit move pass: it is wanted, and sane
 abbrev pub suits : MoveFilter → Move → Bool
-suits choice m =
-    wanted_by choice m && is_sane choice.safety.tables.now (repeat_of choice.safety.p.now) m
+suits move_filter m =
+    wanted_by move_filter m && is_sane move_filter.pin_info.tables.now (repeat_of move_filter.pin_info.p.now) m
 
 -- the moves of pieces to the targets are wanted
 abbrev pub AreWanted : MoveFilter → Set → Type 0
-AreWanted choice = AreWantedTo choice.safety.tables.now (repeat_of choice.safety.p.now) choice.part
+AreWanted move_filter =
+    AreWantedTo move_filter.pin_info.tables.now (repeat_of move_filter.pin_info.p.now) move_filter.gen_type
 
 -- those to the other targets are not
 abbrev pub AreUnwanted : MoveFilter → Set → Set → Set → Type 0
-AreUnwanted choice = AreUnwantedBut choice.safety.tables.now (repeat_of choice.safety.p.now) choice.part
+AreUnwanted move_filter =
+    AreUnwantedBut move_filter.pin_info.tables.now (repeat_of move_filter.pin_info.p.now) move_filter.gen_type

@@ -15,8 +15,8 @@ use Rattle.rules_model.specs.Candidates.{is_candidate}
 use Rattle.rules_model.specs.Legal.{every_move, is_allowed, is_sane}
 use Rattle.rules_model.specs.Moves.{IsFitMove}
 use Rattle.rules_model.specs.Next.{captures}
-use Rattle.move_sink.specs.InTurn.{go_from}
-use Rattle.move_sink.specs.Taking.{TakesAll}
+use Rattle.piece_moves.specs.InTurn.{go_from}
+use Rattle.piece_moves.specs.Taking.{TakesAll}
 use Rattle.square_set.specs.declared.Set.{Set}
 use Rattle.square_set.specs.declared.Shift.{Shift}
 use Rattle.square_set.specs.Members.{has, origin}
@@ -48,38 +48,38 @@ is_fit_move (Go from to promo gate) = nat_lt from.0 120 && nat_lt to.0 120 && is
 is_fit_move (Castle from to rook gate) = nat_lt from.0 120 && nat_lt to.0 120 && nat_lt rook.0 120 && is_fit_placed gate
 is_fit_move (Drop kind to) = nat_lt kind.0 26 && nat_lt to.0 120
 
--- ---- the choice
+-- ---- what is chosen
 
--- a move is of the part, by whether it captures
+-- moves are wanted, by whether they capture
 abbrev pub is_in : GenType → Bool → Bool
 is_in All takes = true
 is_in Captures takes = takes
 is_in Quiets takes = not takes
 
--- the move is of the part
+-- the move is wanted
 abbrev pub is_wanted : Rules → Repeat → GenType → Move → Bool
-is_wanted rules r part m = is_in part (captures rules r m)
+is_wanted rules r gen_type m = is_in gen_type (captures rules r m)
 
 -- of the candidates: those that are wanted, and sane
 unfoldable pub is_chosen : Rules → Repeat → GenType → Move → Bool
-is_chosen rules r part m = is_fit_move m && (is_wanted rules r part m && is_sane rules r m)
+is_chosen rules r gen_type m = is_fit_move m && (is_wanted rules r gen_type m && is_sane rules r m)
 
 -- some allowed move is wanted
 unfoldable pub can_go : Rules → Repeat → GenType → Bool
-can_go rules r part = list_any (is_wanted rules r part) (filter (is_allowed rules r) every_move)
+can_go rules r gen_type = list_any (is_wanted rules r gen_type) (filter (is_allowed rules r) every_move)
 
 -- one must capture, and can
 unfoldable pub only_captures : Rules → Repeat → Bool
 only_captures rules r = rules.must_capture && can_go rules r Captures
 
 -- the captures, where only they are wanted
-abbrev pub part_of : Bool → GenType
-part_of true = Captures
-part_of false = All
+abbrev pub gen_type_of : Bool → GenType
+gen_type_of true = Captures
+gen_type_of false = All
 
 -- which of the allowed moves are legal, where there is no early end
 abbrev pub legal_gen_type : Rules → Repeat → GenType
-legal_gen_type rules r = part_of (only_captures rules r)
+legal_gen_type rules r = gen_type_of (only_captures rules r)
 
 -- the move captures, or need not
 abbrev pub captures_if_forced : Rules → Repeat → Move → Bool
@@ -108,18 +108,18 @@ AreTargetsOfDrops test kind = AreTargetsOf test (Drop kind)
 -- the moves of pieces to the targets that stay what they are, wherever they start and whatever they leave behind, are
 -- wanted
 abbrev pub AreWantedTo : Rules → Repeat → GenType → Set → Type 0
-AreWantedTo rules r part targets =
+AreWantedTo rules r gen_type targets =
     (from to : Square) (gate : Option Kind) → has targets to.0 ≡ true
-    → is_wanted rules r part (Go from to Stays gate) ≡ true
+    → is_wanted rules r gen_type (Go from to Stays gate) ≡ true
 
 -- those to the targets that neither of the sets has are not
 abbrev pub AreUnwantedBut : Rules → Repeat → GenType → Set → Set → Set → Type 0
-AreUnwantedBut rules r part targets wanted untold =
+AreUnwantedBut rules r gen_type targets wanted untold =
     (from to : Square) (gate : Option Kind) → has targets to.0 ≡ true → has wanted to.0 ≡ false
     → has untold to.0 ≡ false
-    → is_wanted rules r part (Go from to Stays gate) ≡ false
+    → is_wanted rules r gen_type (Go from to Stays gate) ≡ false
 
 -- the candidates that are chosen were appended
 abbrev pub AppendsChosen : Rules → Repeat → GenType → List Move → List Move → Type 0
-AppendsChosen rules r part =
-    TakesAll (λ old ms new. new ≡ old ++ filter (is_chosen rules r part) ms) (FitCandidates rules r)
+AppendsChosen rules r gen_type =
+    TakesAll (λ old ms new. new ≡ old ++ filter (is_chosen rules r gen_type) ms) (FitCandidates rules r)

@@ -7,4 +7,4 @@ use Rattle.legality.specs.Sinks.{Kept}
 
 -- it took these moves, and put those that are chosen at the end of its list
 abbrev pub Keeps : ListSink → List Move → ListSink → Type 0
-Keeps = Kept (λ keeper. keeper.choice) (λ keeper. keeper.list) chosen_by
+Keeps = Kept (λ keeper. keeper.move_filter) (λ keeper. keeper.list) chosen_by

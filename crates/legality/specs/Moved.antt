@@ -89,24 +89,24 @@ AreOwn r set = (s : ℕ) → has set s ≡ true → is_own r.side (λ kind. true
 abbrev pub HoldNoKing : Rules → Repeat → Set → Type 0
 HoldNoKing rules r set = (s : ℕ) → has set s ≡ true → is_own_king rules r.side (cell_at r.cells s) ≡ false
 
--- ---- in vain
+-- ---- no evasion
 
 -- a piece that goes from a square of the first set to one of the second without a gate, and stays what it is, leaves
 -- its king attacked
-abbrev pub GoInVain : Rules → Repeat → Set → Set → Type 0
-GoInVain rules r leave enter =
+abbrev pub GoWithoutEvading : Rules → Repeat → Set → Set → Type 0
+GoWithoutEvading rules r leave enter =
     (from to : Square) → from.0 < 120 → to.0 < 120 → has leave from.0 ≡ true → has enter to.0 ≡ true
     → is_safe rules r (Go from to Stays None) ≡ false
 
 -- so does a piece other than a king that is dropped on a square of the set
-abbrev pub DropInVain : Rules → Repeat → Set → Type 0
-DropInVain rules r enter =
+abbrev pub DropWithoutEvading : Rules → Repeat → Set → Type 0
+DropWithoutEvading rules r enter =
     (kind : Kind) (to : Square) → to.0 < 120 → has enter to.0 ≡ true → is_king rules kind ≡ false
     → is_safe rules r (Drop kind to) ≡ false
 
 -- and an own piece other than a king that goes there, stays what it is and leaves a piece other than a king behind
-abbrev pub GateInVain : Rules → Repeat → Set → Set → Set → Type 0
-GateInVain rules r own kings enter =
+abbrev pub GateWithoutEvading : Rules → Repeat → Set → Set → Set → Type 0
+GateWithoutEvading rules r own kings enter =
     (kind : Kind) (from to : Square) → from.0 < 120 → to.0 < 120 → has own from.0 ≡ true → has kings from.0 ≡ false
     → has enter to.0 ≡ true → is_king rules kind ≡ false → is_safe rules r (Go from to Stays (Some kind)) ≡ false
 
@@ -116,14 +116,14 @@ leaves_another rules own kings from kind = has own from.0 && not (has kings from
 
 -- without a gate a piece goes from a square of 'leave'; with one, an own piece other than a king leaves one other than
 -- a king behind
-abbrev pub leaves_in_vain : Rules → Set → Set → Set → Square → Option Kind → Bool
-leaves_in_vain rules own kings leave from None = has leave from.0
-leaves_in_vain rules own kings leave from (Some kind) = leaves_another rules own kings from kind
+abbrev pub leaves_without_evading : Rules → Set → Set → Set → Square → Option Kind → Bool
+leaves_without_evading rules own kings leave from None = has leave from.0
+leaves_without_evading rules own kings leave from (Some kind) = leaves_another rules own kings from kind
 
 -- one that does so goes to a square of `enter` and stays what it is, or a piece other than a king is dropped on one
 abbrev pub is_no_evasion : Rules → Set → Set → Set → Set → Move → Bool
 is_no_evasion rules own kings leave enter (Go from to promo gate) =
-    is_stays promo && has enter to.0 && leaves_in_vain rules own kings leave from gate
+    is_stays promo && has enter to.0 && leaves_without_evading rules own kings leave from gate
 is_no_evasion rules own kings leave enter (Castle from to rook gate) = false
 is_no_evasion rules own kings leave enter (Drop kind to) = has enter to.0 && not (is_king rules kind)
 

@@ -7,8 +7,8 @@ use Rattle.legality.specs.Sinks.{NonePassed, SomePassed}
 
 -- it took these moves, and none of them is chosen
 abbrev pub SeesNone : AnySink → List Move → AnySink → Type 0
-SeesNone = NonePassed (λ seeker. chosen_by seeker.choice)
+SeesNone = NonePassed (λ seeker. chosen_by seeker.move_filter)
 
 -- it took these, and one of them is chosen
 abbrev pub SeesOne : AnySink → List Move → AnySink → Type 0
-SeesOne = SomePassed (λ seeker. chosen_by seeker.choice)
+SeesOne = SomePassed (λ seeker. chosen_by seeker.move_filter)

@@ -2,7 +2,7 @@
 use Rattle.std.proofs.Common.{◌≡◌, ℕ, ◌+◌, ◌≤◌, Bool, true, false, ◌||◌, cond, List, [], ◌∷◌, ◌++◌, length, min, refl, sym, ap, ◌∙◌, subst, arith, append-nil, append_assoc}
 use Rattle.std.specs.List.{list_any, filter}
 use Rattle.rules_model.specs.declared.moves.Move.{Move}
-use Rattle.move_sink.specs.Taking.{IsSink}
+use Rattle.piece_moves.specs.Taking.{IsSink}
 
 -- ---- until one passes
 

@@ -1,19 +1,19 @@
 //! Whether some candidate is chosen.
 ghost use Rattle.std.specs.Prelude.{◌≡◌, true, [], ◌∷◌, OnOk, OnErr};
 ghost use Rattle.std.specs.Bool.{OnTrue};
-ghost use Rattle.move_sink.specs.Taking.{TakesSome};
+ghost use Rattle.piece_moves.specs.Taking.{TakesSome};
 ghost use Rattle.legality.specs.Choices.{chosen_by};
 ghost use Rattle.legality.specs.Sinks.{NonePassed, SomePassed, seeker_is_sink};
 
 use crate::move_filter::MoveFilter;
-use move_sink::MoveSink;
+use piece_moves::MoveSink;
 use rules_model::{Kind, Move, Promo, Square};
 use square_set::{Set, Shift};
 
 /// Looks at candidates until one is chosen.
 #[derive(Drop)]
 pub(crate) struct AnySink<'a> {
-    pub choice: MoveFilter<'a>,
+    pub move_filter: MoveFilter<'a>,
 }
 
 /// One was chosen.
@@ -25,11 +25,11 @@ impl<'a> AnySink<'a> {
 
     /// Answers `Err` where the move is chosen. It is not looked at where it is known to be chosen.
     fn see(&mut self, m: Move, chosen: bool) -> Result<(), Found>
-        requires { OnTrue chosen (chosen_by self.old.choice m ≡ true) }
+        requires { OnTrue chosen (chosen_by self.old.move_filter m ≡ true) }
         ensures ok { OnOk result (SeesNone self.old (m ∷ []) self.new) }
         ensures err { OnErr result (TakesSome SeesOne (λ x. x ≡ m) self.old self.new) }
     {
-        if chosen || self.choice.holds(&m) {
+        if chosen || self.move_filter.holds(&m) {
             Err(Found)
         } else {
             Ok(())
@@ -38,11 +38,11 @@ impl<'a> AnySink<'a> {
 }
 
 impl<'a> MoveSink for AnySink<'a> {
-    ghost takes = { NonePassed (λ seeker. chosen_by seeker.choice) };
+    ghost takes = { NonePassed (λ seeker. chosen_by seeker.move_filter) };
 
-    ghost stops = { SomePassed (λ seeker. chosen_by seeker.choice) };
+    ghost stops = { SomePassed (λ seeker. chosen_by seeker.move_filter) };
 
-    ghost law = { seeker_is_sink (λ seeker. chosen_by seeker.choice) };
+    ghost law = { seeker_is_sink (λ seeker. chosen_by seeker.move_filter) };
 
     type Full = Found;
 
@@ -52,7 +52,7 @@ impl<'a> MoveSink for AnySink<'a> {
 
     /// Those are not looked at of which it is told at once whether they are chosen.
     fn take_all(&mut self, from: Square, gate: Option<Kind>, targets: Set) -> Result<(), Found> {
-        let told = self.choice.told_from(from, gate, targets);
+        let told = self.move_filter.told_from(from, gate, targets);
         let mut left = told.worth(targets);
         while let Some(to) = left.take_first() {
             let m = Move::Go {
@@ -68,7 +68,7 @@ impl<'a> MoveSink for AnySink<'a> {
 
     /// Those are not looked at of which it is told at once whether they are chosen.
     fn take_shifted(&mut self, shift: Shift, targets: Set) -> Result<(), Found> {
-        let told = self.choice.told_by(shift, targets);
+        let told = self.move_filter.told_by(shift, targets);
         let mut left = told.worth(targets);
         while let Some(to) = left.take_first() {
             let m = Move::Go {
@@ -84,7 +84,7 @@ impl<'a> MoveSink for AnySink<'a> {
 
     /// Those are not looked at of which it is told at once whether they are chosen.
     fn take_drops(&mut self, kind: Kind, targets: Set) -> Result<(), Found> {
-        let told = self.choice.told_drops(kind, targets);
+        let told = self.move_filter.told_drops(kind, targets);
         let mut left = told.worth(targets);
         while let Some(to) = left.take_first() {
             let m = Move::Drop {

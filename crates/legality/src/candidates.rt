@@ -5,7 +5,7 @@ ghost use Rattle.rules_model.specs.Regions.{no_region};
 ghost use Rattle.rules_model.specs.Sides.{side_index};
 ghost use Rattle.rules_model.specs.declared.moves.Move.{Move};
 ghost use Rattle.rules_model.specs.Moves.{IsFitMove};
-ghost use Rattle.move_sink.specs.Taking.{TakesAll, TakesSome};
+ghost use Rattle.piece_moves.specs.Taking.{TakesAll, TakesSome};
 ghost use Rattle.rules_model.specs.Candidates as Candidates;
 ghost use Rattle.rules_model.specs.Fit.{IsFit};
 ghost use Rattle.rules_model.specs.Repeats.{repeat_of};
@@ -14,7 +14,7 @@ ghost use Rattle.legality.specs.Chosen.{FitCandidates};
 
 use attack_tables::Tables;
 use board_sets::BoardSets;
-use move_sink::MoveSink;
+use piece_moves::MoveSink;
 use rules_model::sizes::{prove_position_sizes, prove_region_size};
 use rules_model::{KINDS, Move, Position, Region, Rules, Side};
 

@@ -5,7 +5,9 @@ mod any_sink;
 mod candidates;
 mod capture;
 mod count_sink;
+mod early_end;
 mod flag;
+mod forced_capture;
 mod list;
 mod list_sink;
 mod make_move;
@@ -15,15 +17,13 @@ mod move_gen;
 mod pin_info;
 mod pin_squares;
 mod queries;
-mod search;
 mod sorting;
 
 pub use capture::captures;
-pub use list::{legal_moves, push_legal};
+pub use early_end::early_end_with;
+pub use list::legal_moves;
 pub use make_move::{apply, apply_with, king_attacked_with};
 pub use move_gen::MoveGen;
 pub use queries::{
-    any_legal, count_legal, end_where, free, gives_check, gives_check_with, is_legal,
-    is_legal_with, own_end,
+    any_legal, end_where, free, gives_check, gives_check_with, is_legal, is_legal_with, own_end,
 };
-pub use search::early_end_with;

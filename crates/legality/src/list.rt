@@ -38,21 +38,21 @@ fn emptied(list: &mut MoveList) -> Result<MoveList, Memory>
 }
 
 /// Appends the candidates that are chosen, each once. Without memory the list is as it was.
-fn push_chosen(choice: MoveFilter<'_>, out: &mut MoveList) -> Result<(), Memory>
-    requires { IsFit choice.safety.tables.now }
-    ensures ok { OnOk result (AppendsChosen choice.entry.safety.tables.now (repeat_of choice.entry.safety.p.now)
-        choice.entry.part out.old out.new) }
+fn push_chosen(move_filter: MoveFilter<'_>, out: &mut MoveList) -> Result<(), Memory>
+    requires { IsFit move_filter.pin_info.tables.now }
+    ensures ok { OnOk result (AppendsChosen move_filter.entry.pin_info.tables.now
+        (repeat_of move_filter.entry.pin_info.p.now) move_filter.entry.gen_type out.old out.new) }
     ensures err { OnErr result (out.new ≡ out.old) }
 {
-    let safety = choice.safety;
+    let pin_info = move_filter.pin_info;
     let start = length_of(out);
     let list = emptied(out)?;
-    let mut keeper = ListSink { choice, list };
+    let mut keeper = ListSink { move_filter, list };
     let pushed = push_candidates(
-        safety.tables.rules(),
-        safety.tables,
-        safety.p,
-        &safety.sets,
+        pin_info.tables.rules(),
+        pin_info.tables,
+        pin_info.p,
+        &pin_info.sets,
         &mut keeper,
     );
     mem::swap(out, &mut keeper.list);
@@ -74,8 +74,8 @@ impl MoveGen<'_> {
         if !self.goes_on() {
             return Ok(());
         }
-        let (safety, part) = (self.safety, self.legal_gen_type());
-        push_chosen(MoveFilter { safety, part }, out)
+        let (pin_info, gen_type) = (self.pin_info, self.legal_gen_type());
+        push_chosen(MoveFilter { pin_info, gen_type }, out)
     }
 
     /// Appends the legal moves that capture, each once and in no special order. Without memory the list is as it was.
@@ -86,8 +86,8 @@ impl MoveGen<'_> {
         if !self.goes_on() {
             return Ok(());
         }
-        let (safety, part) = (self.safety, GenType::Captures);
-        push_chosen(MoveFilter { safety, part }, out)
+        let (pin_info, gen_type) = (self.pin_info, GenType::Captures);
+        push_chosen(MoveFilter { pin_info, gen_type }, out)
     }
 
     /// Appends the legal moves that do not capture, each once and in no special order. Without memory the list is as it
@@ -102,8 +102,8 @@ impl MoveGen<'_> {
         if self.only_captures() {
             return Ok(());
         }
-        let (safety, part) = (self.safety, GenType::Quiets);
-        push_chosen(MoveFilter { safety, part }, out)
+        let (pin_info, gen_type) = (self.pin_info, GenType::Quiets);
+        push_chosen(MoveFilter { pin_info, gen_type }, out)
     }
 
     /// The legal moves, each once and in the byte order of their texts; or `Memory`.
@@ -118,21 +118,6 @@ impl MoveGen<'_> {
         sort_moves(&mut moves.items)?;
         Ok(moves)
     }
-}
-
-/// Appends the legal moves, each once and in no special order. Without memory the list is as it was.
-pub fn push_legal(
-    rules: &Rules,
-    tables: &Tables,
-    p: &Position,
-    out: &mut MoveList,
-) -> Result<(), Memory>
-    requires ready { IsReady rules.now tables.now p.now }
-    ensures ok { OnOk result (Appends (λ m. Member m (legal rules.now (repeat_of p.now))) out.old out.new) }
-    ensures err { OnErr result (out.new ≡ out.old) }
-{
-    let sets = sets_of(rules, &p.cells, p.side);
-    MoveGen::of(rules, tables, p, &sets).push_legal(out)
 }
 
 /// The legal moves, each once and in the byte order of their texts: those of the rules of movement after which the

@@ -6,14 +6,14 @@ ghost use Rattle.legality.specs.Sinks.{Kept, keeper_is_sink};
 
 use crate::move_filter::MoveFilter;
 use foundation::Memory;
-use move_sink::MoveSink;
+use piece_moves::MoveSink;
 use rules_model::{Kind, Move, MoveList, Promo, Square};
 use square_set::{Set, Shift};
 
 /// Puts the candidates that are chosen at the end of a list.
 #[derive(Drop)]
 pub(crate) struct ListSink<'a> {
-    pub choice: MoveFilter<'a>,
+    pub move_filter: MoveFilter<'a>,
     pub list: MoveList,
 }
 
@@ -23,11 +23,11 @@ impl<'a> ListSink<'a> {
     /// Puts the move on the list where it is chosen. It is not looked at where it is known to be chosen. Without
     /// memory the list is as it was.
     fn keep(&mut self, m: Move, chosen: bool) -> Result<(), Memory>
-        requires { OnTrue chosen (chosen_by self.old.choice m ≡ true) }
+        requires { OnTrue chosen (chosen_by self.old.move_filter m ≡ true) }
         ensures ok { OnOk result (Keeps self.old (m ∷ []) self.new) }
         ensures err { OnErr result (Keeps self.old [] self.new) }
     {
-        if chosen || self.choice.holds(&m) {
+        if chosen || self.move_filter.holds(&m) {
             self.list.take(m)?;
         }
         Ok(())
@@ -35,11 +35,11 @@ impl<'a> ListSink<'a> {
 }
 
 impl<'a> MoveSink for ListSink<'a> {
-    ghost takes = { Kept (λ keeper. keeper.choice) (λ keeper. keeper.list) chosen_by };
+    ghost takes = { Kept (λ keeper. keeper.move_filter) (λ keeper. keeper.list) chosen_by };
 
-    ghost stops = { Kept (λ keeper. keeper.choice) (λ keeper. keeper.list) chosen_by };
+    ghost stops = { Kept (λ keeper. keeper.move_filter) (λ keeper. keeper.list) chosen_by };
 
-    ghost law = { keeper_is_sink (λ keeper. keeper.choice) (λ keeper. keeper.list) chosen_by };
+    ghost law = { keeper_is_sink (λ keeper. keeper.move_filter) (λ keeper. keeper.list) chosen_by };
 
     type Full = Memory;
 
@@ -49,7 +49,7 @@ impl<'a> MoveSink for ListSink<'a> {
 
     /// Those are not looked at of which it is told at once whether they are chosen.
     fn take_all(&mut self, from: Square, gate: Option<Kind>, targets: Set) -> Result<(), Memory> {
-        let told = self.choice.told_from(from, gate, targets);
+        let told = self.move_filter.told_from(from, gate, targets);
         let mut left = told.worth(targets);
         while let Some(to) = left.take_first() {
             let m = Move::Go {
@@ -65,7 +65,7 @@ impl<'a> MoveSink for ListSink<'a> {
 
     /// Those are not looked at of which it is told at once whether they are chosen.
     fn take_shifted(&mut self, shift: Shift, targets: Set) -> Result<(), Memory> {
-        let told = self.choice.told_by(shift, targets);
+        let told = self.move_filter.told_by(shift, targets);
         let mut left = told.worth(targets);
         while let Some(to) = left.take_first() {
             let m = Move::Go {
@@ -81,7 +81,7 @@ impl<'a> MoveSink for ListSink<'a> {
 
     /// Those are not looked at of which it is told at once whether they are chosen.
     fn take_drops(&mut self, kind: Kind, targets: Set) -> Result<(), Memory> {
-        let told = self.choice.told_drops(kind, targets);
+        let told = self.move_filter.told_drops(kind, targets);
         let mut left = told.worth(targets);
         while let Some(to) = left.take_first() {
             let m = Move::Drop {

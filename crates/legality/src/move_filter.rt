@@ -1,9 +1,9 @@
-//! The choice among the candidates.
+//! Which of the candidates are wanted, and what is told of them at once.
 ghost use Rattle.std.specs.Prelude.{◌≡◌, ◌<◌, ℕ, true, false, not, ◌&&◌, ◌||◌, IfSome};
 ghost use Rattle.std.specs.Bool.{OnTrue};
 ghost use Rattle.square_set.specs.Members.{has, length_of, HasOrigin};
 ghost use Rattle.rules_model.specs.declared.moves.Move.{Move};
-ghost use Rattle.move_sink.specs.InTurn.{GoesTo};
+ghost use Rattle.piece_moves.specs.InTurn.{GoesTo};
 ghost use Rattle.legality.specs.Chosen as Chosen;
 ghost use Rattle.rules_model.specs.Moves.{IsFitMove};
 
@@ -72,7 +72,7 @@ pub(crate) enum GenType {
 }
 
 impl GenType {
-    /// Whether moves that do not capture are of the part.
+    /// Whether moves that do not capture are wanted.
     fn has_quiets(self) -> bool
         ensures { result ≡ Chosen.is_in self false }
     {
@@ -83,7 +83,7 @@ impl GenType {
         }
     }
 
-    /// Of the targets, those to which moves are of the part, where exactly those to the enemies capture.
+    /// Of the targets, those to which moves are wanted, where exactly those to the enemies capture.
     fn of_targets(self, targets: Set, enemies: Set) -> Set
         ensures { (s : ℕ) → has result s ≡ (has targets s && Chosen.is_in self (has enemies s)) }
     {
@@ -119,11 +119,11 @@ struct WantedTargets {
     untold: Set,
 }
 
-/// What is chosen of the candidates of a position: those of the part that are sane.
+/// What is chosen of the candidates of a position: those that are wanted and sane.
 #[derive(Drop)]
 pub(crate) struct MoveFilter<'a> {
-    pub safety: PinInfo<'a>,
-    pub part: GenType,
+    pub pin_info: PinInfo<'a>,
+    pub gen_type: GenType,
 }
 
 impl<'a> MoveFilter<'a> {
@@ -134,8 +134,8 @@ impl<'a> MoveFilter<'a> {
         requires { IsFitMove m.now }
         ensures { result ≡ Choices.wanted_by self.now m.now }
     {
-        let (rules, p) = (self.safety.tables.rules(), self.safety.p);
-        match self.part {
+        let (rules, p) = (self.pin_info.tables.rules(), self.pin_info.p);
+        match self.gen_type {
             GenType::All => true,
             GenType::Captures => captures(rules, p, m),
             GenType::Quiets => !captures(rules, p, m),
@@ -147,7 +147,7 @@ impl<'a> MoveFilter<'a> {
         requires { IsFitMove m.now }
         ensures { result ≡ Choices.suits self.now m.now }
     {
-        self.wants(m) && self.safety.is_sane(m)
+        self.wants(m) && self.pin_info.is_sane(m)
     }
 
     /// The targets to which the moves are wanted: for captures the enemies' squares, for others the rest. Own squares
@@ -159,16 +159,18 @@ impl<'a> MoveFilter<'a> {
         ensures wanted { Choices.AreWanted self.now result.wanted }
         ensures others { Choices.AreUnwanted self.now targets result.wanted result.untold }
     {
-        if let GenType::All = self.part {
+        if let GenType::All = self.gen_type {
             return WantedTargets {
                 wanted: targets,
                 untold: EMPTY,
             };
         }
-        let barred = barred_at_once(self.safety.p, self.safety.sets.own);
-        let of_part = self.part.of_targets(targets, self.safety.sets.enemies);
+        let barred = barred_at_once(self.pin_info.p, self.pin_info.sets.own);
+        let of_gen_type = self
+            .gen_type
+            .of_targets(targets, self.pin_info.sets.enemies);
         WantedTargets {
-            wanted: of_part.minus(barred),
+            wanted: of_gen_type.minus(barred),
             untold: targets.and(barred),
         }
     }
@@ -181,8 +183,8 @@ impl<'a> MoveFilter<'a> {
         ensures { OnTrue result ((m : Move) → GoesTo from gate targets m → Choices.chosen_by self.now m ≡ true) }
     {
         match gate {
-            None => self.safety.lets_go(from, targets),
-            Some(kind) => kind.0 < 26 && self.safety.lets_gate(from, kind, targets),
+            None => self.pin_info.lets_go(from, targets),
+            Some(kind) => kind.0 < 26 && self.pin_info.lets_gate(from, kind, targets),
         }
     }
 
@@ -193,8 +195,8 @@ impl<'a> MoveFilter<'a> {
         ensures { OnTrue result ((m : Move) → GoesTo from gate targets m → Choices.chosen_by self.now m ≡ false) }
     {
         match gate {
-            None => self.safety.bars_go(from, targets),
-            Some(kind) => self.safety.bars_gate(from, kind, targets),
+            None => self.pin_info.bars_go(from, targets),
+            Some(kind) => self.pin_info.bars_gate(from, kind, targets),
         }
     }
 
@@ -212,7 +214,7 @@ impl<'a> MoveFilter<'a> {
             return Some(EMPTY);
         }
         match gate {
-            None => self.safety.lets_king(from, targets),
+            None => self.pin_info.lets_king(from, targets),
             Some(_) => None,
         }
     }
@@ -260,10 +262,10 @@ impl<'a> MoveFilter<'a> {
     {
         let split = self.wanted(targets);
         let unwanted = targets.minus(split.wanted).minus(split.untold);
-        let chosen = self.safety.lets_shift(shift, split.wanted);
-        let vain = self.safety.bars_shift(shift, split.wanted);
+        let chosen = self.pin_info.lets_shift(shift, split.wanted);
+        let barred = self.pin_info.bars_shift(shift, split.wanted);
         ToldTargets {
-            targets: chosen.or(vain).or(unwanted),
+            targets: chosen.or(barred).or(unwanted),
             chosen,
         }
     }
@@ -276,16 +278,16 @@ impl<'a> MoveFilter<'a> {
         ensures within { (s : ℕ) → has result.targets s ≡ true → has targets s ≡ true }
         ensures chosen { Chosen.AreTargetsOfDrops (Choices.chosen_by self.now) kind result.targets result.chosen }
     {
-        if !self.part.has_quiets() {
+        if !self.gen_type.has_quiets() {
             return ToldTargets {
                 targets,
                 chosen: EMPTY,
             };
         }
-        let chosen = self.safety.lets_drop(kind, targets);
-        let vain = self.safety.bars_drop(kind, targets);
+        let chosen = self.pin_info.lets_drop(kind, targets);
+        let barred = self.pin_info.bars_drop(kind, targets);
         ToldTargets {
-            targets: chosen.or(vain),
+            targets: chosen.or(barred),
             chosen,
         }
     }

@@ -5,20 +5,20 @@ ghost use Rattle.rules_model.specs.Ready.{IsReady};
 ghost use Rattle.board_sets.specs.Sets.{AreSets};
 ghost use Rattle.legality.specs.Stance.{repeat_in};
 
+use crate::early_end::{early_end_with, is_ongoing};
 use crate::pin_info::PinInfo;
-use crate::search::{early_end_with, is_ongoing};
 use attack_tables::Tables;
 use board_sets::BoardSets;
 use rules_model::{Outcome, Position, Rules};
 use std::marker::Model;
 
 /// A position with what is known of it for all that is asked of its moves: how it is ended before they are looked at,
-/// and from which squares and to which its pieces may go, or go in vain, without a look at the board. It is made once,
-/// and every answer costs less by it. Contracts see the rules and the position.
+/// and from which squares and to which its pieces may go, or evade no check, without a look at the board. It is made
+/// once, and every answer costs less by it. Contracts see the rules and the position.
 #[derive(Drop)]
 pub struct MoveGen<'a> {
     pub(crate) early: Outcome,
-    pub(crate) safety: PinInfo<'a>,
+    pub(crate) pin_info: PinInfo<'a>,
 }
 
 impl<'a> Model for MoveGen<'a> {
@@ -26,9 +26,9 @@ impl<'a> Model for MoveGen<'a> {
 
     ghost Value = { Stance };
 
-    ghost view = { λ k. record { rules = k.safety.tables.now; position = k.safety.p.now } };
+    ghost view = { λ k. record { rules = k.pin_info.tables.now; position = k.pin_info.p.now } };
 
-    ghost invariant = { λ k. IsKnown k.safety.tables.now k.safety.p.now k.early };
+    ghost invariant = { λ k. IsKnown k.pin_info.tables.now k.pin_info.p.now k.early };
 }
 
 impl<'a> MoveGen<'a> {
@@ -40,7 +40,7 @@ impl<'a> MoveGen<'a> {
     {
         MoveGen {
             early: early_end_with(rules, tables, p, sets),
-            safety: PinInfo::of_all(rules, tables, p, sets),
+            pin_info: PinInfo::of_all(rules, tables, p, sets),
         }
     }
 

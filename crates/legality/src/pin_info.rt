@@ -13,8 +13,8 @@ ghost use Rattle.legality.specs.Moved as Moved;
 
 use crate::mobile::stays_mobile;
 use crate::pin_squares::{
-    NONE_FREE, NONE_VAIN, NonEvadingSquares, UnpinnedSquares, barred_at_once, free_at_once,
-    free_squares, king_at_once, vain_unless_free,
+    NONE_FREE, NONE_NON_EVADING, NonEvadingSquares, UnpinnedSquares, barred_at_once, free_at_once,
+    free_squares, king_at_once, non_evading_unless_free,
 };
 use attack_tables::Tables;
 use board_sets::{BoardSets, sets_are_on_board};
@@ -37,16 +37,18 @@ pub(crate) struct PinInfo<'a> {
     pub at_once: UnpinnedSquares,
     /// The squares of own pieces, and that of en passant: what goes there is not told at once.
     pub barred: Set,
-    /// The squares from which and to which pieces are known to go in vain: to none where no piece attacks a king.
-    pub vain: NonEvadingSquares,
+    /// The squares from which and to which pieces are known to evade no check: to none where no piece attacks a king.
+    pub non_evading: NonEvadingSquares,
     ghost are_sets: { AreSets tables.now p.now.side p.now.cells sets },
     ghost go_freely: { Moved.GoFreely tables.now (repeat_of p.now) sets.own free.to_leave },
     ghost drop_freely: { Moved.DropFreely tables.now (repeat_of p.now) free.to_enter },
     ghost go_at_once: { Moved.GoAtOnce tables.now (repeat_of p.now) at_once.to_leave barred },
     ghost gate_at_once: { Moved.GateAtOnce tables.now (repeat_of p.now) sets.own sets.kings at_once.to_enter },
-    ghost go_in_vain: { Moved.GoInVain tables.now (repeat_of p.now) vain.to_leave vain.to_enter },
-    ghost drop_in_vain: { Moved.DropInVain tables.now (repeat_of p.now) vain.to_enter },
-    ghost gate_in_vain: { Moved.GateInVain tables.now (repeat_of p.now) sets.own sets.kings vain.to_enter },
+    ghost go_without_evading: { Moved.GoWithoutEvading tables.now (repeat_of p.now) non_evading.to_leave
+        non_evading.to_enter },
+    ghost drop_without_evading: { Moved.DropWithoutEvading tables.now (repeat_of p.now) non_evading.to_enter },
+    ghost gate_without_evading: { Moved.GateWithoutEvading tables.now (repeat_of p.now) sets.own sets.kings
+        non_evading.to_enter },
 }
 
 fn is_drop(m: &Move) -> bool
@@ -75,7 +77,7 @@ impl<'a> PinInfo<'a> {
         let free = free_squares(rules, tables, p, sets);
         let barred = barred_at_once(p, sets.own);
         let at_once = free_at_once(rules, p, sets, barred, free);
-        let vain = vain_unless_free(tables, p, sets, barred, free);
+        let non_evading = non_evading_unless_free(tables, p, sets, barred, free);
         PinInfo {
             tables,
             p,
@@ -83,11 +85,11 @@ impl<'a> PinInfo<'a> {
             free,
             at_once,
             barred,
-            vain,
+            non_evading,
         }
     }
 
-    /// For a few moves: no square is taken to be free, or in vain.
+    /// For a few moves: no square is taken to be free, or not to evade.
     pub fn of_few(
         rules: &Rules,
         tables: &'a Tables,
@@ -106,7 +108,7 @@ impl<'a> PinInfo<'a> {
             free: NONE_FREE,
             at_once: NONE_FREE,
             barred: sets.own,
-            vain: NONE_VAIN,
+            non_evading: NONE_NON_EVADING,
         }
     }
 
@@ -179,25 +181,25 @@ impl<'a> PinInfo<'a> {
             && !names(self.tables.rules().king, kind)
     }
 
-    /// Whether what goes from the square goes in vain to each square of `vain.to_enter`: from one of `vain.to_leave`,
-    /// or where it leaves another piece behind.
-    fn leaves_in_vain(&self, from: Square, gate: Option<Kind>) -> bool
+    /// Whether what goes from the square to any square of `non_evading.to_enter` evades no check: from one of
+    /// `non_evading.to_leave`, or where it leaves another piece behind.
+    fn leaves_without_evading(&self, from: Square, gate: Option<Kind>) -> bool
         requires { from.0 < 120 }
-        ensures { result ≡ Moved.leaves_in_vain self.now.tables.now self.now.sets.own self.now.sets.kings
-            self.now.vain.to_leave from gate }
+        ensures { result ≡ Moved.leaves_without_evading self.now.tables.now self.now.sets.own self.now.sets.kings
+            self.now.non_evading.to_leave from gate }
     {
         match gate {
-            None => self.vain.to_leave.has(from.0),
+            None => self.non_evading.to_leave.has(from.0),
             Some(kind) => self.leaves_another(from, kind),
         }
     }
 
-    /// Whether it is told at once that the move is in vain: a piece goes so and stays what it is, or one other than a
-    /// king is dropped.
+    /// Whether it is told at once that the move leaves a king attacked: a piece goes so and stays what it is, or one
+    /// other than a king is dropped.
     fn is_no_evasion(&self, m: &Move) -> bool
         requires { IsFitMove m.now }
         ensures { result ≡ Moved.is_no_evasion self.now.tables.now self.now.sets.own self.now.sets.kings
-            self.now.vain.to_leave self.now.vain.to_enter m.now }
+            self.now.non_evading.to_leave self.now.non_evading.to_enter m.now }
     {
         match *m {
             Move::Go {
@@ -206,11 +208,13 @@ impl<'a> PinInfo<'a> {
                 promo,
                 gate,
             } => {
-                is_stays(promo) && self.vain.to_enter.has(to.0) && self.leaves_in_vain(from, gate)
+                is_stays(promo)
+                    && self.non_evading.to_enter.has(to.0)
+                    && self.leaves_without_evading(from, gate)
             }
             Move::Castle { .. } => false,
             Move::Drop { kind, to } => {
-                self.vain.to_enter.has(to.0) && !names(self.tables.rules().king, kind)
+                self.non_evading.to_enter.has(to.0) && !names(self.tables.rules().king, kind)
             }
         }
     }
@@ -231,7 +235,7 @@ impl<'a> PinInfo<'a> {
         requires from { from.0 < 120 }
         ensures { OnTrue result (Moved.MayNotGo self.now.tables.now (repeat_of self.now.p.now) from targets) }
     {
-        self.vain.to_leave.has(from.0) && targets.minus(self.vain.to_enter).is_empty()
+        self.non_evading.to_leave.has(from.0) && targets.minus(self.non_evading.to_enter).is_empty()
     }
 
     /// Some of the targets, as far as is told at once: a piece that goes to one of them by the shift, and stays what it
@@ -254,8 +258,8 @@ impl<'a> PinInfo<'a> {
         ensures within { (s : ℕ) → has result s ≡ true → has targets s ≡ true }
         ensures sane { Moved.MayNotGoBy self.now.tables.now (repeat_of self.now.p.now) shift result }
     {
-        let led = self.vain.to_leave.shifted(shift);
-        targets.and(self.vain.to_enter).and(led)
+        let led = self.non_evading.to_leave.shifted(shift);
+        targets.and(self.non_evading.to_enter).and(led)
     }
 
     /// Of the targets, those to which the king on the square may go, where this is told at once.
@@ -283,7 +287,7 @@ impl<'a> PinInfo<'a> {
         requires from { from.0 < 120 }
         ensures { OnTrue result (Moved.MayNotGate self.now.tables.now (repeat_of self.now.p.now) from kind targets) }
     {
-        self.leaves_another(from, kind) && targets.minus(self.vain.to_enter).is_empty()
+        self.leaves_another(from, kind) && targets.minus(self.non_evading.to_enter).is_empty()
     }
 
     /// Whether the variant asks no more of a drop than that it leaves the own king safe.
@@ -322,7 +326,7 @@ impl<'a> PinInfo<'a> {
         if self.is_king(kind) {
             return EMPTY;
         }
-        targets.and(self.vain.to_enter)
+        targets.and(self.non_evading.to_enter)
     }
 
     /// The cells after the move.
@@ -415,7 +419,7 @@ impl<'a> PinInfo<'a> {
 
     /// Whether the move leaves the own king safe, gives no check that the variant forbids, and, where the variant asks
     /// it, leaves a piece on its target that can ever move. Whether it is a candidate is not asked. Where the variant
-    /// asks no more than a safe king, a free piece, a drop on a free square and what is in vain need no look at the
+    /// asks no more than a safe king, a free piece, a drop on a free square and what is no evasion need no look at the
     /// board, and only a castle a copy of it.
     pub fn is_sane(&self, m: &Move) -> bool
         requires { IsFitMove m.now }

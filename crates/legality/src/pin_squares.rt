@@ -6,7 +6,7 @@ ghost use Rattle.rules_model.specs.Repeats.{repeat_of};
 ghost use Rattle.board_sets.specs.Sets.{AreSets};
 ghost use Rattle.legality.specs.Moved as Moved;
 ghost use Rattle.legality.specs.Moved.{AreOwn, DropFreely, GateAtOnce, GateFreely, GoAtOnce, GoFreely};
-ghost use Rattle.legality.specs.Moved.{DropInVain, GateInVain, GoInVain, HoldNoKing, IsBarred};
+ghost use Rattle.legality.specs.Moved.{DropWithoutEvading, GateWithoutEvading, GoWithoutEvading, HoldNoKing, IsBarred};
 
 use attack_tables::Tables;
 use board_sets::{BoardSets, sets_are_on_board};
@@ -33,18 +33,18 @@ pub(crate) const NONE_FREE: UnpinnedSquares = UnpinnedSquares {
     to_enter: EMPTY,
 };
 
-/// Squares from which and to which a piece goes in vain: a king of the mover is attacked, and stays so.
+/// Squares from which and to which a piece evades no check: a king of the mover is attacked, and stays so.
 #[derive(Clone, Copy)]
 pub(crate) struct NonEvadingSquares {
-    /// Those of own pieces other than kings, which go from there in vain to each square of `to_enter`.
+    /// Those of own pieces other than kings, which evade no check by going from there to any square of `to_enter`.
     pub to_leave: Set,
-    /// Those to which a piece other than a king that leaves no square empty comes in vain. None holds an own piece, or
-    /// is that of en passant.
+    /// Those to which a piece other than a king comes that leaves no square empty, and evades no check. None holds an
+    /// own piece, or is that of en passant.
     pub to_enter: Set,
 }
 
-/// None is known to be in vain.
-pub(crate) const NONE_VAIN: NonEvadingSquares = NonEvadingSquares {
+/// None is known to evade no check.
+pub(crate) const NONE_NON_EVADING: NonEvadingSquares = NonEvadingSquares {
     to_leave: EMPTY,
     to_enter: EMPTY,
 };
@@ -75,14 +75,19 @@ pub(crate) fn free_squares(
     UnpinnedSquares { to_leave, to_enter }
 }
 
-/// The squares from which and to which pieces go in vain. Where no piece attacks a king of the mover, `to_enter` is
+/// The squares from which and to which pieces evade no check. Where no piece attacks a king of the mover, `to_enter` is
 /// empty. `barred` are those of own pieces and that of en passant.
-fn vain_squares(tables: &Tables, p: &Position, sets: &BoardSets, barred: Set) -> NonEvadingSquares
+fn non_evading_squares(
+    tables: &Tables,
+    p: &Position,
+    sets: &BoardSets,
+    barred: Set,
+) -> NonEvadingSquares
     requires sets { AreSets tables.now p.now.side p.now.cells sets.now }
     requires barred { IsBarred (repeat_of p.now) sets.now.own barred }
-    ensures go { GoInVain tables.now (repeat_of p.now) result.to_leave result.to_enter }
-    ensures drop { DropInVain tables.now (repeat_of p.now) result.to_enter }
-    ensures gate { GateInVain tables.now (repeat_of p.now) sets.now.own sets.now.kings result.to_enter }
+    ensures go { GoWithoutEvading tables.now (repeat_of p.now) result.to_leave result.to_enter }
+    ensures drop { DropWithoutEvading tables.now (repeat_of p.now) result.to_enter }
+    ensures gate { GateWithoutEvading tables.now (repeat_of p.now) sets.now.own sets.now.kings result.to_enter }
 {
     prove_position_sizes(p);
     sets_are_on_board();
@@ -95,7 +100,7 @@ fn vain_squares(tables: &Tables, p: &Position, sets: &BoardSets, barred: Set) ->
 }
 
 /// The same, but none where a square is free: no king is attacked then.
-pub(crate) fn vain_unless_free(
+pub(crate) fn non_evading_unless_free(
     tables: &Tables,
     p: &Position,
     sets: &BoardSets,
@@ -104,14 +109,14 @@ pub(crate) fn vain_unless_free(
 ) -> NonEvadingSquares
     requires sets { AreSets tables.now p.now.side p.now.cells sets.now }
     requires barred { IsBarred (repeat_of p.now) sets.now.own barred }
-    ensures go { GoInVain tables.now (repeat_of p.now) result.to_leave result.to_enter }
-    ensures drop { DropInVain tables.now (repeat_of p.now) result.to_enter }
-    ensures gate { GateInVain tables.now (repeat_of p.now) sets.now.own sets.now.kings result.to_enter }
+    ensures go { GoWithoutEvading tables.now (repeat_of p.now) result.to_leave result.to_enter }
+    ensures drop { DropWithoutEvading tables.now (repeat_of p.now) result.to_enter }
+    ensures gate { GateWithoutEvading tables.now (repeat_of p.now) sets.now.own sets.now.kings result.to_enter }
 {
     if free.to_leave.is_empty() && free.to_enter.is_empty() {
-        vain_squares(tables, p, sets, barred)
+        non_evading_squares(tables, p, sets, barred)
     } else {
-        NONE_VAIN
+        NONE_NON_EVADING
     }
 }
 

@@ -16,12 +16,12 @@ ghost use Rattle.legality.specs.Stance.{legal_in, repeat_in};
 use crate::candidates::{is_candidate, prove_candidates_fit, push_candidates};
 use crate::capture::captures;
 use crate::count_sink::CountSink;
+use crate::early_end::{early_end_with, goes_on};
 use crate::make_move::king_attacked_with;
 use crate::move_filter::{GenType, MoveFilter};
 use crate::move_gen::MoveGen;
 use crate::pin_info::PinInfo;
 use crate::pin_squares::free_squares;
-use crate::search::{early_end_with, goes_on};
 use attack_tables::Tables;
 use board_sets::{BoardSets, sets_of};
 use end_rules::no_move;
@@ -36,14 +36,17 @@ impl MoveGen<'_> {
         if !self.goes_on() {
             return 0;
         }
-        let (safety, part) = (self.safety, self.legal_gen_type());
-        let choice = MoveFilter { safety, part };
-        let mut counter = CountSink { choice, count: 0 };
+        let (pin_info, gen_type) = (self.pin_info, self.legal_gen_type());
+        let move_filter = MoveFilter { pin_info, gen_type };
+        let mut counter = CountSink {
+            move_filter,
+            count: 0,
+        };
         let _ = push_candidates(
-            safety.tables.rules(),
-            safety.tables,
-            safety.p,
-            &safety.sets,
+            pin_info.tables.rules(),
+            pin_info.tables,
+            pin_info.p,
+            &pin_info.sets,
             &mut counter,
         );
         counter.count
@@ -64,22 +67,13 @@ impl MoveGen<'_> {
     {
         match self.early {
             Outcome::Ongoing => {
-                let safety = &self.safety;
-                let (tables, any) = (safety.tables, self.can_go(GenType::All));
-                no_move_end(tables.rules(), tables, safety.p, &safety.sets, any)
+                let pin_info = &self.pin_info;
+                let (tables, any) = (pin_info.tables, self.can_go(GenType::All));
+                no_move_end(tables.rules(), tables, pin_info.p, &pin_info.sets, any)
             }
             end => end,
         }
     }
-}
-
-/// How many legal moves there are, up to 2^128 - 1. No memory is taken.
-pub fn count_legal(rules: &Rules, tables: &Tables, p: &Position) -> u128
-    requires ready { IsReady rules.now tables.now p.now }
-    ensures { result ≡ min (length (Legal.legal rules.now (repeat_of p.now))) (2 ^ 128 - 1) }
-{
-    let sets = sets_of(rules, &p.cells, p.side);
-    MoveGen::of(rules, tables, p, &sets).count_legal()
 }
 
 /// Whether there is a legal move. It stops at the first, and no memory is taken.

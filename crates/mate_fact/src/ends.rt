@@ -1,34 +1,14 @@
 //! How a position is ended, looked at without its history.
 ghost use Rattle.std.specs.Prelude.{◌≡◌};
-ghost use Rattle.forced_wins.specs.Views as Views;
 ghost use Rattle.forced_wins.specs.Wins.{is_in};
 ghost use Rattle.mate_fact.specs.InFrame.{end_in};
 ghost use Rattle.rules_model.specs.Legal as Legal;
 ghost use Rattle.rules_model.specs.Repeats as Repeats;
 
 use end_rules::is_run_out;
+use forced_wins::won_by;
 use mate_core::Frame;
-use rules_model::{Blocked, Cause, Outcome, Position, Side, is_same_repeat, repeat_of};
-
-fn is_repetition(cause: Cause) -> bool
-    ensures { result ≡ Views.is_repetition cause }
-{
-    match cause {
-        Cause::Repetition => true,
-        _ => false,
-    }
-}
-
-/// Whether the side has won by the outcome, if that is an end: no repetition is a win.
-pub fn won_by(side: Side, outcome: Outcome) -> Option<bool>
-    ensures { result ≡ Views.won_by side outcome }
-{
-    match outcome {
-        Outcome::Ongoing => None,
-        Outcome::Won(winner, cause) => Some(winner.is(side) && !is_repetition(cause)),
-        Outcome::Drawn(_) => Some(false),
-    }
-}
+use rules_model::{Blocked, Outcome, Position, is_same_repeat, repeat_of};
 
 /// Whether the position may not be entered again.
 pub fn is_blocked(blocked: &Blocked, p: &Position) -> bool

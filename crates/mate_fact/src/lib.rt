@@ -6,7 +6,8 @@ mod ends;
 mod refuted;
 mod won;
 
-pub use ends::{end_of, is_blocked, won_by};
+pub use ends::{end_of, is_blocked};
+pub use forced_wins::won_by;
 pub use refuted::{
     refuted_by_all, refuted_by_all_within, refuted_by_move, refuted_now, refuted_where,
 };

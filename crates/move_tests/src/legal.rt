@@ -7,7 +7,7 @@ use crate::helpers::{go, halves};
 use attack_tables::Tables;
 use board_sets::sets_of;
 use legality::{
-    any_legal, apply, apply_with, count_legal, free, gives_check, is_legal, legal_moves, own_end,
+    MoveGen, any_legal, apply, apply_with, free, gives_check, is_legal, legal_moves, own_end,
 };
 use move_text::write_move;
 use rules_model::{Cause, Move, MoveList, Outcome, Position, Promo, Rules, Side, sound};
@@ -83,6 +83,13 @@ fn are_named(moves: &MoveList, texts: &str) -> bool {
         }
     }
     found == moves.items.len()
+}
+
+fn count_legal(rules: &Rules, tables: &Tables, p: &Position) -> u128
+    requires ready { IsReady rules.now tables.now p.now }
+{
+    let sets = sets_of(rules, &p.cells, p.side);
+    MoveGen::of(rules, tables, p, &sets).count_legal()
 }
 
 /// Whether these are the legal moves by each of the calls that answer no list.

@@ -1,4 +1,4 @@
-//! Tests of `pawn_moves`.
+//! Tests of the pawns' moves of `special_moves`.
 ghost use Rattle.rules_model.specs.Fit.{IsFit};
 
 use crate::expect::{expect, expect_eq_at, expect_of};
@@ -6,7 +6,7 @@ use crate::helpers::{go, halves};
 use attack_tables::Tables;
 use board_sets::sets_of;
 use foundation::Memory;
-use pawn_moves::{is_candidate, push_moves};
+use special_moves::{is_pawn_candidate, push_pawn_moves};
 use rules_model::{Move, MoveList, Position, Promo, Rules, Side};
 use sample_rules::{
     capablanca, chess, kind, leapers, position, shouse, square, wide_chess, xiangqi,
@@ -46,7 +46,7 @@ fn moves_of(alloc: Global, rules: &Rules, p: &Position) -> Result<MoveList, Memo
     };
     let tables = Tables::new(alloc, rules)?;
     let sets = sets_of(rules, &p.cells, p.side);
-    push_moves(rules, &tables, p, &sets, &mut found)?;
+    push_pawn_moves(rules, &tables, p, &sets, &mut found)?;
     Ok(found)
 }
 
@@ -72,7 +72,7 @@ fn expect_all(rt: &impl Abort, alloc: Global, rules: &Rules, p: &Position, moves
     for text in moves.split(' ') {
         if !text.is_empty() {
             let m = move_of(text);
-            let is_given = found.items.contains(&m) && is_candidate(rules, p, &m);
+            let is_given = found.items.contains(&m) && is_pawn_candidate(rules, p, &m);
             expect_of(rt, &text, is_given);
             wanted = wanted.saturating_add(1);
         }
@@ -188,7 +188,7 @@ fn near_misses(rt: HostRuntime) {
     let p = position_of("Pe2 Pb7 Pg5 pc3 nd3", Side::White, "h6");
     let moves = "e2-f3 e2-e5 e2-e1 e2-d2 c3-c2 a1-a2 b7-b8 e2-e3-n b7-b8-p b7-b8-k g5-h6-n";
     for text in moves.split(' ') {
-        expect_of(&rt, &text, !is_candidate(&rules, &p, &move_of(text)));
+        expect_of(&rt, &text, !is_pawn_candidate(&rules, &p, &move_of(text)));
     }
     let others = [
         go("b7", "b8", Promo::Plus),
@@ -210,6 +210,6 @@ fn near_misses(rt: HostRuntime) {
         },
     ];
     for m in others {
-        expect(&rt, !is_candidate(&rules, &p, &m));
+        expect(&rt, !is_pawn_candidate(&rules, &p, &m));
     }
 }

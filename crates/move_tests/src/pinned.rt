@@ -9,7 +9,7 @@ use attack_tables::{Tables, kings, men, occupied};
 use pins::danger::danger;
 use pins::evasion::{EvasionSquares, evasions};
 use pins::free;
-use rules_model::{Position, Rules, Side, Square};
+use rules_model::{Position, Rules, Side, Square, king_attacked};
 use sample_rules::{chess, position, square, xiangqi};
 use square_set::{ALL, EMPTY, Set};
 use std::alloc::Global;
@@ -27,8 +27,9 @@ fn free_men(tables: &Tables, p: &Position) -> Set {
 }
 
 /// The piece on the square goes to each square without one of its own side, and leaves no king of its side attacked.
-fn expect_safe(rt: &impl Abort, tables: &Tables, p: &Position, from: u8)
-    requires { from < 120 }
+fn expect_safe(rt: &impl Abort, rules: &Rules, p: &Position, from: u8)
+    requires fit { IsFit rules.now }
+    requires from { from < 120 }
 {
     let own = men(&p.cells, Side::White);
     for to in 0..120u8 {
@@ -36,7 +37,10 @@ fn expect_safe(rt: &impl Abort, tables: &Tables, p: &Position, from: u8)
             let mut later = *p;
             later.cells[to as usize] = p.cells[from as usize];
             later.cells[from as usize] = None;
-            assert!(rt; !tables.king_attacked(&later, Side::White), "{from} {to}");
+            assert!(rt;
+                !king_attacked(rules, &later.cells, Side::White),
+                "{from} {to}"
+            );
         }
     }
 }
@@ -58,7 +62,7 @@ fn expect_free(rt: &impl Abort, alloc: Global, rules: &Rules, rows: &str)
         expect_of(rt, &pieces, free == set_of(wanted));
         for from in 0..120u8 {
             if free.has(from) {
-                expect_safe(rt, &tables, &p, from);
+                expect_safe(rt, rules, &p, from);
             }
         }
     }

@@ -1,1 +1,6 @@
+pub mod Cuts
+pub mod Form
 pub mod Keys
+pub mod Names
+pub mod Read
+pub mod Squares

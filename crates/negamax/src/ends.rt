@@ -46,7 +46,7 @@ pub(crate) fn end_where(line: &Line, ply: u8, any: bool) -> Option<i32>
 }
 
 /// What kinds and squares are worth by the rules of the line.
-pub(crate) fn worths_of(line: &Line) -> PieceValues
+pub(crate) fn piece_values_of(line: &Line) -> PieceValues
     ensures { result ≡ line.now.rules }
 {
     let board = line.board();
@@ -77,8 +77,8 @@ pub(crate) fn resting(line: &Line, ply: u8, glance: i32) -> i32
 }
 
 /// Plays the legal move, and gives the sums of the position after it.
-pub(crate) fn play(line: &mut Line, worths: &PieceValues, tally: Tally, m: &Move) -> Tally
-    requires worths { worths.now ≡ line.old.rules }
+pub(crate) fn play(line: &mut Line, values: &PieceValues, tally: Tally, m: &Move) -> Tally
+    requires values { values.now ≡ line.old.rules }
     requires tally { IsTally line.old.rules (story_of_line line.old).last tally }
     requires legal { Member m.now (legal_in line.old) }
     requires room { length line.old.moves < line.old.room }
@@ -88,7 +88,7 @@ pub(crate) fn play(line: &mut Line, worths: &PieceValues, tally: Tally, m: &Move
 {
     let board = line.board();
     board.prove_ready();
-    let next = worths.tally_after(tally, board.rules(), board.position(), m);
+    let next = values.tally_after(tally, board.rules(), board.position(), m);
     line.push(m);
     next
 }

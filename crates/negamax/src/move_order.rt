@@ -73,13 +73,13 @@ impl MoveOrder {
     }
 
     /// The score of a move at a number of plies from the root, where a hint names a move.
-    pub fn score(&self, worths: &PieceValues, board: &Board, m: &Move, hint: Slot, ply: u8) -> u32 {
+    pub fn score(&self, values: &PieceValues, board: &Board, m: &Move, hint: Slot, ply: u8) -> u32 {
         let slot = slot_of(m);
         if slot != NO_SLOT && slot == hint {
             return HINTED;
         }
-        match mvv_lva(worths, board.position(), m) {
-            Some(score) if loses_a_piece(worths, board, m) => score,
+        match mvv_lva(values, board.position(), m) {
+            Some(score) if loses_a_piece(values, board, m) => score,
             Some(score) => TAKING.saturating_add(score),
             None => self.quiet_score(slot, ply),
         }
@@ -96,7 +96,7 @@ const LEAST_LOSS: u32 = 40;
 
 /// Whether a piece takes one that is worth less, on a square that the other side attacks. A pawn that promotes is not
 /// counted as lost: what it becomes is worth a try.
-fn loses_a_piece(worths: &PieceValues, board: &Board, m: &Move) -> bool {
+fn loses_a_piece(values: &PieceValues, board: &Board, m: &Move) -> bool {
     let Move::Go {
         from,
         to,
@@ -110,8 +110,8 @@ fn loses_a_piece(worths: &PieceValues, board: &Board, m: &Move) -> bool {
         return false;
     }
     let p = board.position();
-    let victim = worth_on(worths, p, to);
-    let own = worth_on(worths, p, from);
+    let victim = worth_on(values, p, to);
+    let own = worth_on(values, p, from);
     victim.saturating_add(LEAST_LOSS) < own && is_attacked(board, to)
 }
 
@@ -129,8 +129,8 @@ fn is_attacked(board: &Board, at: Square) -> bool {
 }
 
 /// What the piece on the square is worth by its kind: 0 where there is none, and for the king.
-fn worth_on(worths: &PieceValues, p: &Position, at: Square) -> u32 {
-    cell_at(&p.cells, at).map_or(0, |cell| u32::from(worths.kind(cell.kind)))
+fn worth_on(values: &PieceValues, p: &Position, at: Square) -> u32 {
+    cell_at(&p.cells, at).map_or(0, |cell| u32::from(values.kind(cell.kind)))
 }
 
 /// What the king counts as where it takes, and what a piece counts as at most.
@@ -140,7 +140,7 @@ const DEAREST: u32 = 2047;
 const OF_ONE_VICTIM: u32 = 128;
 
 /// The most valuable victim first, and the least valuable piece that takes it; the king last.
-pub(crate) fn mvv_lva(worths: &PieceValues, p: &Position, m: &Move) -> Option<u32> {
+pub(crate) fn mvv_lva(values: &PieceValues, p: &Position, m: &Move) -> Option<u32> {
     let Move::Go {
         from,
         to,
@@ -154,11 +154,11 @@ pub(crate) fn mvv_lva(worths: &PieceValues, p: &Position, m: &Move) -> Option<u3
     if raised == 0 && cell_at(&p.cells, to).is_none() {
         return None;
     }
-    let own = match worth_on(worths, p, from) {
+    let own = match worth_on(values, p, from) {
         0 => DEAREST,
         own => own.min(DEAREST),
     };
-    let victim = worth_on(worths, p, to).min(1 << 13);
+    let victim = worth_on(values, p, to).min(1 << 13);
     Some((victim + raised) * OF_ONE_VICTIM + (DEAREST - own) / 16)
 }
 

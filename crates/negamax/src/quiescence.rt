@@ -18,15 +18,15 @@ use watching::{Halt, Watch};
 /// What the window asks of the value of standing pat, or of the best line of at most N captures.
 pub(crate) fn quiescence<W: Watch>(
     line: &mut Line,
-    worths: &PieceValues,
-    desk: &mut SearchState,
+    values: &PieceValues,
+    state: &mut SearchState,
     watch: &mut W,
     tally: Tally,
     limit: u8,
     ply: u8,
     window: Window,
 ) -> Result<i32, Halt>
-    requires worths { worths.now ≡ line.old.rules }
+    requires values { values.now ≡ line.old.rules }
     requires tally { IsTally line.old.rules (story_of_line line.old).last tally }
     requires room { length line.old.moves + limit ≤ line.old.room }
     requires plies { ply + limit ≤ 80 }
@@ -37,26 +37,26 @@ pub(crate) fn quiescence<W: Watch>(
     ensures ended { (why : Halt) → IsErrOf result why
         → W.ended watch.old watch.new (tree_size line.old.rules limit (story_of_line line.old)) why }
     ensures line { OnOk result (line.new ≡ line.old) }
-    ensures waiting { OnOk result (desk.new.waiting.items ≡ desk.old.waiting.items) }
+    ensures waiting { OnOk result (state.new.waiting.items ≡ state.old.waiting.items) }
 {
     watch.enter()?;
     let mut best = stand_pat(line, tally);
     if limit == 0 || best >= window.beta {
         return Ok(resting(line, ply, best));
     }
-    let first = desk.waiting.len();
-    let any = desk.push_captures(line.board(), worths)?;
+    let first = state.waiting.len();
+    let any = state.push_captures(line.board(), values)?;
     if let Some(worth) = end_where(line, ply, any) {
-        desk.waiting.truncate(first);
+        state.waiting.truncate(first);
         return Ok(worth);
     }
-    while best < window.beta && desk.waiting.len() > first {
-        let m = take_best(&mut desk.waiting, first);
-        let next = play(line, worths, tally, &m);
+    while best < window.beta && state.waiting.len() > first {
+        let m = take_best(&mut state.waiting, first);
+        let next = play(line, values, tally, &m);
         let found = quiescence(
             line,
-            worths,
-            desk,
+            values,
+            state,
             watch,
             next,
             limit - 1,
@@ -66,6 +66,6 @@ pub(crate) fn quiescence<W: Watch>(
         line.back();
         best = raised(best, found);
     }
-    desk.waiting.truncate(first);
+    state.waiting.truncate(first);
     Ok(best)
 }

@@ -7,7 +7,7 @@ ghost use Rattle.game_values.specs.Values.{Attains, value_of};
 ghost use Rattle.watching.specs.declared.halt.Halt.{Halt};
 ghost use Rattle.negamax.specs.RootFacts.{IsTrueFact, Settles, root_tree};
 
-use crate::ends::{play, worths_of};
+use crate::ends::{piece_values_of, play};
 use crate::facts::{Best, RootFact, best_known, is_covered};
 use crate::search::search;
 use crate::search_state::SearchState;
@@ -24,7 +24,7 @@ use watching::{Halt, Watch};
 /// What ended the watch; nothing is said then of the line and the search state.
 pub fn search_root<W: Watch>(
     line: &mut Line,
-    desk: &mut SearchState,
+    state: &mut SearchState,
     watch: &mut W,
     depth: u8,
     chosen: &Move,
@@ -43,12 +43,12 @@ pub fn search_root<W: Watch>(
         → W.ended watch.old watch.new (root_tree line.old.rules depth (story_of_line line.old) chosen.now) why }
     ensures kept { OnOk result (line.new ≡ line.old) }
 {
-    desk.clear();
-    let worths = worths_of(line);
-    let tally = worths.tally(line.board().position());
+    state.clear();
+    let values = piece_values_of(line);
+    let tally = values.tally(line.board().position());
     let window = Window::above(floor);
-    let next = play(line, &worths, tally, chosen);
-    let found = search(line, &worths, desk, watch, next, depth - 1, 1, window)?;
+    let next = play(line, &values, tally, chosen);
+    let found = search(line, &values, state, watch, next, depth - 1, 1, window)?;
     line.back();
     Ok(RootFact {
         chosen: *chosen,
@@ -60,7 +60,7 @@ pub fn search_root<W: Watch>(
 /// Settles one root move: it is covered by a fact, or searched.
 fn settle<W: Watch>(
     line: &mut Line,
-    desk: &mut SearchState,
+    state: &mut SearchState,
     watch: &mut W,
     depth: u8,
     chosen: &Move,
@@ -84,7 +84,7 @@ fn settle<W: Watch>(
     if is_covered(line, depth, facts, chosen, best.value) {
         return Ok(best);
     }
-    let fact = search_root(line, desk, watch, depth, chosen, best.value)?;
+    let fact = search_root(line, state, watch, depth, chosen, best.value)?;
     if best.value < fact.value {
         Ok(Best {
             value: fact.value,
@@ -103,7 +103,7 @@ fn settle<W: Watch>(
 /// What ended the watch; nothing is said then of the line and the search state.
 pub fn combine<W: Watch>(
     line: &mut Line,
-    desk: &mut SearchState,
+    state: &mut SearchState,
     watch: &mut W,
     depth: u8,
     roots: &[Move],
@@ -127,8 +127,8 @@ pub fn combine<W: Watch>(
 {
     let mut best = best_known(line, depth, roots, facts);
     for m in roots {
-        best = settle(line, desk, watch, depth, m, facts, best)?;
+        best = settle(line, state, watch, depth, m, facts, best)?;
     }
-    desk.leave_root(line.key(), depth, &best);
+    state.leave_root(line.key(), depth, &best);
     Ok(best)
 }

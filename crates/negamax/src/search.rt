@@ -23,15 +23,15 @@ const CAPTURES: u8 = 4;
 /// What the window asks of the value of the line at a depth, at a number of plies from the root.
 pub(crate) fn search<W: Watch>(
     line: &mut Line,
-    worths: &PieceValues,
-    desk: &mut SearchState,
+    values: &PieceValues,
+    state: &mut SearchState,
     watch: &mut W,
     tally: Tally,
     depth: u8,
     ply: u8,
     window: Window,
 ) -> Result<i32, Halt>
-    requires worths { worths.now ≡ line.old.rules }
+    requires values { values.now ≡ line.old.rules }
     requires tally { IsTally line.old.rules (story_of_line line.old).last tally }
     requires room { length line.old.moves + depth + 4 ≤ line.old.room }
     requires plies { ply + depth ≤ 70 }
@@ -43,29 +43,29 @@ pub(crate) fn search<W: Watch>(
     ensures ended { (why : Halt) → IsErrOf result why
         → W.ended watch.old watch.new (tree_size line.old.rules (depth + 4) (story_of_line line.old)) why }
     ensures line { OnOk result (line.new ≡ line.old) }
-    ensures waiting { OnOk result (desk.new.waiting.items ≡ desk.old.waiting.items) }
+    ensures waiting { OnOk result (state.new.waiting.items ≡ state.old.waiting.items) }
 {
     if depth == 0 {
-        let resting = quiescence(line, worths, desk, watch, tally, CAPTURES, ply, window)?;
+        let resting = quiescence(line, values, state, watch, tally, CAPTURES, ply, window)?;
         return Ok(resting);
     }
     watch.enter()?;
     let key = line.key();
-    let mut slot = desk.hint(key);
-    let first = desk.waiting.len();
-    let any = desk.push_moves(line.board(), worths, slot, ply)?;
+    let mut slot = state.hint(key);
+    let first = state.waiting.len();
+    let any = state.push_moves(line.board(), values, slot, ply)?;
     if let Some(worth) = end_where(line, ply, any) {
-        desk.waiting.truncate(first);
+        state.waiting.truncate(first);
         return Ok(worth);
     }
     let mut best = WORST;
-    while best < window.beta && desk.waiting.len() > first {
-        let m = take_best(&mut desk.waiting, first);
-        let next = play(line, worths, tally, &m);
+    while best < window.beta && state.waiting.len() > first {
+        let m = take_best(&mut state.waiting, first);
+        let next = play(line, values, tally, &m);
         let found = search(
             line,
-            worths,
-            desk,
+            values,
+            state,
             watch,
             next,
             depth - 1,
@@ -76,9 +76,9 @@ pub(crate) fn search<W: Watch>(
         slot = better(slot, &m, window.alpha.max(best), found);
         best = raised(best, found);
     }
-    desk.waiting.truncate(first);
+    state.waiting.truncate(first);
     let hint = hint_of(depth, slot, best);
     let cuts = best >= window.beta;
-    desk.leave(line.board().position(), key, ply, hint, cuts);
+    state.leave(line.board().position(), key, ply, hint, cuts);
     Ok(best)
 }

@@ -86,7 +86,7 @@ impl<'h> SearchState<'h> {
     fn wait_all(
         &mut self,
         board: &Board,
-        worths: &PieceValues,
+        values: &PieceValues,
         hint: Slot,
         ply: u8,
     ) -> Result<bool, Memory>
@@ -99,7 +99,7 @@ impl<'h> SearchState<'h> {
             &mut self.waiting,
             self.listed.items.as_slice(),
             &self.order,
-            worths,
+            values,
             board,
             hint,
             ply,
@@ -123,7 +123,7 @@ impl<'h> SearchState<'h> {
     }
 
     /// Has all legal captures wait, and tells whether any move is legal.
-    fn wait_captures(&mut self, board: &Board, worths: &PieceValues) -> Result<bool, Memory>
+    fn wait_captures(&mut self, board: &Board, values: &PieceValues) -> Result<bool, Memory>
         ensures any { IfOk result (λ any. any ≡ not (is_stuck board.now.rules (repeat_in board.now))) }
         ensures pushes { OnOk result
             (Pushes (λ m. Member m (captures_in board.now)) self.old.waiting.items self.new.waiting.items) }
@@ -132,7 +132,7 @@ impl<'h> SearchState<'h> {
         push_taking(
             &mut self.waiting,
             self.listed.items.as_slice(),
-            worths,
+            values,
             board.position(),
         )?;
         Ok(any)
@@ -143,7 +143,7 @@ impl<'h> SearchState<'h> {
     pub(crate) fn push_moves(
         &mut self,
         board: &Board,
-        worths: &PieceValues,
+        values: &PieceValues,
         hint: Slot,
         ply: u8,
     ) -> Result<bool, Halt>
@@ -152,7 +152,7 @@ impl<'h> SearchState<'h> {
             (Pushes (λ m. Member m (legal_in board.now)) self.old.waiting.items self.new.waiting.items) }
         ensures memory { (why : Halt) → IsErrOf result why → why ≡ halt.Fault fault.Memory }
     {
-        match self.wait_all(board, worths, hint, ply) {
+        match self.wait_all(board, values, hint, ply) {
             Ok(any) => Ok(any),
             Err(_) => Err(Halt::Fault(SearchFault::Memory)),
         }
@@ -163,14 +163,14 @@ impl<'h> SearchState<'h> {
     pub(crate) fn push_captures(
         &mut self,
         board: &Board,
-        worths: &PieceValues,
+        values: &PieceValues,
     ) -> Result<bool, Halt>
         ensures any { IfOk result (λ any. any ≡ not (is_stuck board.now.rules (repeat_in board.now))) }
         ensures pushes { OnOk result
             (Pushes (λ m. Member m (captures_in board.now)) self.old.waiting.items self.new.waiting.items) }
         ensures memory { (why : Halt) → IsErrOf result why → why ≡ halt.Fault fault.Memory }
     {
-        match self.wait_captures(board, worths) {
+        match self.wait_captures(board, values) {
             Ok(any) => Ok(any),
             Err(_) => Err(Halt::Fault(SearchFault::Memory)),
         }
@@ -194,7 +194,7 @@ fn push_all(
     waiting: &mut Vec<ScoredMove>,
     listed: &[Move],
     order: &MoveOrder,
-    worths: &PieceValues,
+    values: &PieceValues,
     board: &Board,
     hint: Slot,
     ply: u8,
@@ -202,7 +202,7 @@ fn push_all(
     ensures { OnOk result (Copies listed.now waiting.old.items waiting.new.items) }
 {
     for m in listed {
-        let score = order.score(worths, board, m, hint, ply);
+        let score = order.score(values, board, m, hint, ply);
         waiting.push(ScoredMove { chosen: *m, score })?;
     }
     Ok(())
@@ -212,13 +212,13 @@ fn push_all(
 fn push_taking(
     waiting: &mut Vec<ScoredMove>,
     listed: &[Move],
-    worths: &PieceValues,
+    values: &PieceValues,
     p: &Position,
 ) -> Result<(), AllocError>
     ensures { OnOk result (Copies listed.now waiting.old.items waiting.new.items) }
 {
     for m in listed {
-        let score = mvv_lva(worths, p, m).unwrap_or(0);
+        let score = mvv_lva(values, p, m).unwrap_or(0);
         waiting.push(ScoredMove { chosen: *m, score })?;
     }
     Ok(())

@@ -11,8 +11,8 @@ use Rattle.cert_text.specs.Fault as cert
 use Rattle.suite.specs.Fault as suite
 use Rattle.pn_search.specs.MateCount.{pn_fault_text}
 use Rattle.least_mates.specs.FirstMoves.{keys_fault_text}
-use Rattle.variant_files.specs.declared.fault.LoadFault.TheVariants.{File, Ini}
-use Rattle.variant_files.specs.Loading.{file_fault_text, ini_fault_text}
+use Rattle.variant_rules.specs.declared.fault.LoadFault.TheVariants.{File, Ini}
+use Rattle.variant_rules.specs.Loading.{file_fault_text, ini_fault_text}
 use Rattle.one_shot_faults.specs.declared.fault.Fault.{Fault}
 use Rattle.one_shot_faults.specs.declared.fault.Fault.TheVariants.{Betza, Reach, Game, Strategy, Proof, Verdict, Cert, CertFailure, Suite, PnMate, Keys, Load}
 use Rattle.piece_reach.specs.Setup.{unplaced_text}

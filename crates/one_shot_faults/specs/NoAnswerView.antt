@@ -2,8 +2,8 @@
 use Rattle.std.specs.Prelude.{ℕ, List, Result, Ok, Err, ⊤}
 use Rattle.betza_text.specs.declared.fault.BetzaFault.{BetzaFault}
 use Rattle.betza_text.specs.declared.fault.BetzaFault.TheVariants as betza
-use Rattle.variant_files.specs.declared.fault.NoSections.{NoSections}
-use Rattle.variant_files.specs.declared.fault.NoSections.TheVariants as no_sections
+use Rattle.variant_rules.specs.declared.fault.NoSections.{NoSections}
+use Rattle.variant_rules.specs.declared.fault.NoSections.TheVariants as no_sections
 use Rattle.one_shot_faults.specs.declared.fault.Fault.{Fault}
 use Rattle.one_shot_faults.specs.declared.fault.Fault.TheVariants.{Betza, Game, Strategy, Proof, Cert, Suite, Load}
 use Rattle.game_text.specs.declared.fault.NoGame.{NoGame}

@@ -19,7 +19,7 @@ use stipulation::CertVerdict;
 use strategy::StrategyFault;
 use strategy_check::Verdict;
 use suite::{SuiteFault, write_fault as write_suite_fault};
-use variant_files::LoadFault;
+use variant_rules::LoadFault;
 
 /// The fault of an argument, of the file of variants, or of the input.
 #[derive(Drop)]

@@ -17,7 +17,7 @@ use proof_text::{NoProof, NoStrategy, ProofFault};
 use std::alloc::AllocError;
 use strategy::StrategyFault;
 use suite::NoSuite;
-use variant_files::NoSections;
+use variant_rules::NoSections;
 
 /// Why a command has no text.
 #[derive(Drop)]

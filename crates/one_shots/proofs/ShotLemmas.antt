@@ -27,12 +27,12 @@ use Rattle.words.specs.Command.{Command, Uci, Xboard, Moves, Status, Perft, Chec
 use Rattle.words.specs.Options.{Text}
 use Rattle.one_shot_faults.specs.declared.fault.Fault.{Fault}
 use Rattle.one_shot_faults.specs.declared.fault.Fault.TheVariants as fault
-use Rattle.variant_files.specs.declared.fault.FileFault.TheVariants.{Failed}
-use Rattle.variant_files.specs.declared.fault.LoadFault.TheVariants.{File}
+use Rattle.variant_rules.specs.declared.fault.FileFault.TheVariants.{Failed}
+use Rattle.variant_rules.specs.declared.fault.LoadFault.TheVariants.{File}
 use Rattle.one_shots.specs.Commands.{IsOneShot, asks_input, reads_input}
 use Rattle.one_shot_faults.specs.Fault.{FaultClass, OfFile, OfInput, class_status, error_line, facts, fault_status, fault_text}
 use Rattle.piece_reach.specs.Setup.{unplaced_text}
-use Rattle.game_reports.specs.GameTexts.{moves_of, status_of, perft_of}
+use Rattle.game_text.specs.GameTexts.{moves_of, status_of, perft_of}
 use Rattle.one_shot_checks.specs.GameTexts.{self_mate_of, help_mate_of}
 use Rattle.piece_reach.specs.ReachText.{reach_text}
 use Rattle.one_shots.specs.Looked.{TellsReads}

@@ -23,7 +23,7 @@ use Rattle.one_shot_checks.specs.Certificates.{SaysCertCheck}
 use Rattle.one_shot_checks.specs.Checking.{SaysCheck}
 use Rattle.one_shot_faults.specs.Fault.{error_line, fault_status, fault_text, usage_line}
 use Rattle.piece_reach.specs.Setup.{unplaced_text}
-use Rattle.game_reports.specs.GameTexts.{moves_of, status_of, perft_of}
+use Rattle.game_text.specs.GameTexts.{moves_of, status_of, perft_of}
 use Rattle.one_shot_checks.specs.GameTexts.{self_mate_of, help_mate_of}
 use Rattle.piece_reach.specs.ReachText.{reach_text}
 use Rattle.one_shots.specs.Sessions.{to_do}

@@ -1,7 +1,7 @@
 -- The file of variants, read and judged before the command.
 use Rattle.std.specs.Prelude.{◌≡◌, List, [], ◌∷◌, Option, Some, None, option_map}
 use Rattle.io_ports.specs.Files.{Found, Read}
-use Rattle.variant_files.specs.Loading.{refusal, sections_with}
+use Rattle.variant_rules.specs.Loading.{refusal, sections_with}
 use Rattle.variant_ini.specs.Section.{Section}
 use Rattle.variant_model.specs.Builtin.{builtin_sections}
 use Rattle.one_shot_faults.specs.declared.fault.Fault.{Fault}

@@ -3,7 +3,7 @@ ghost use Rattle.std.specs.Prelude.{◌≡◌, ◌≤◌, false, IfOk, map, stri
 ghost use Rattle.io_ports.specs.Trace.{Reads};
 ghost use Rattle.one_shots.specs.Commands.{asks_file};
 ghost use Rattle.one_shots.specs.OpeningView.{IsToDo, Opens};
-ghost use Rattle.variant_files.specs.Looked.{Looked};
+ghost use Rattle.variant_rules.specs.Looked.{Looked};
 ghost use Rattle.one_shots.specs.Sessions.{to_do};
 ghost use Rattle.words.specs.View.{HasPlies};
 

@@ -1,16 +1,15 @@
 //! The sections of variants: those that are built in, and those of the file of variants.
 ghost use Rattle.std.specs.Prelude.{◌≡◌, IsNone};
 ghost use Rattle.io_ports.specs.Trace.{Reads};
-ghost use Rattle.variant_files.specs.Looked.{Looked};
+ghost use Rattle.variant_rules.specs.Looked.{Looked};
 ghost use Rattle.one_shots.specs.OpeningView.{HasSections};
 ghost use Rattle.words.specs.View.{text_in};
 
 use io_ports::Files;
 use one_shot_faults::NoAnswer;
 use std::alloc::Global;
-use variant_files::read_sections;
+use variant_rules::{builtin, read_sections};
 use variant_ini::Sections;
-use variant_rules::builtin;
 
 /// The sections that are built in, and after them those of the file of variants of this name, where one is named. Where
 /// none is, no file is read.

@@ -22,9 +22,9 @@ use Rattle.square_set.specs.declared.Set.{Set}
 use Rattle.square_set.specs.Members.{has}
 use Rattle.move_tables.specs.Occupied.{AreMen}
 use Rattle.board_sets.specs.Sets.{AreOwnPieces}
-use Rattle.move_sink.specs.InTurn.{At, start_of, target_of}
-use Rattle.move_sink.specs.Taking.{IsChosen, IsSink, TakesAll, TakesSome}
-use Rattle.move_sink.proofs.TakingLemmas.{all-none, all-join, all-same, some-behind, some-within}
+use Rattle.piece_moves.specs.InTurn.{At, start_of, target_of}
+use Rattle.piece_moves.specs.Taking.{IsChosen, IsSink, TakesAll, TakesSome}
+use Rattle.piece_moves.proofs.TakingLemmas.{all-none, all-join, all-same, some-behind, some-within}
 use Rattle.piece_moves.specs.Goals.{own_piece, makes}
 use Rattle.piece_moves.specs.Parts.{IsMoveFrom, FitPieceMoves}
 use Rattle.piece_moves.proofs.GoalLemmas.{own_makes}

@@ -19,9 +19,9 @@ use Rattle.rules_model.specs.Squares.{cell_at}
 use Rattle.rules_model.proofs.CandidateLaws.{not_both}
 use Rattle.square_set.specs.declared.Set.{Set}
 use Rattle.square_set.specs.Members.{has}
-use Rattle.move_sink.specs.InTurn.{GoesTo, target_of}
-use Rattle.move_sink.specs.Taking.{IsSink, TakesAll, TakesSome}
-use Rattle.move_sink.proofs.TakingLemmas.{all-none, all-same, some-within}
+use Rattle.piece_moves.specs.InTurn.{GoesTo, target_of}
+use Rattle.piece_moves.specs.Taking.{IsSink, TakesAll, TakesSome}
+use Rattle.piece_moves.proofs.TakingLemmas.{all-none, all-same, some-within}
 use Rattle.piece_moves.specs.Goals.{own_piece}
 use Rattle.piece_moves.specs.Parts.{IsMoveFrom}
 use Rattle.piece_moves.specs.Plain.{holds_a_right, is_plain}

@@ -6,7 +6,7 @@ use Rattle.rules_model.specs.declared.moves.Move.{Move}
 use Rattle.rules_model.specs.declared.rules.Rules.{Rules}
 use Rattle.rules_model.specs.Repeats.{repeat_of}
 use Rattle.rules_model.specs.Squares.{cell_at}
-use Rattle.move_sink.specs.InTurn.{At, target_of}
+use Rattle.piece_moves.specs.InTurn.{At, target_of}
 use Rattle.piece_moves.specs.declared.generate.Mover.{Mover}
 use Rattle.piece_moves.specs.Goals.{own_piece}
 use Rattle.piece_moves.specs.Parts.{IsMoveFrom}

@@ -1,6 +1,6 @@
 //! The moves, given in turn.
 ghost use Rattle.std.specs.Prelude.{◌≡◌, ◌<◌, true, not, None, OnOk, OnErr, IfSome, IfNone};
-ghost use Rattle.move_sink.specs.Taking.{TakesAll, TakesSome};
+ghost use Rattle.piece_moves.specs.Taking.{TakesAll, TakesSome};
 ghost use Rattle.rules_model.specs.declared.moves.Move.TheVariants.{Go};
 ghost use Rattle.rules_model.specs.Attacks.{is_own};
 ghost use Rattle.rules_model.specs.Fit.{IsFit};
@@ -19,7 +19,7 @@ use crate::promotion::{becomes, is_plain, may_plus, means_castling};
 use crate::targets::targets;
 use attack_tables::{Tables, cell_on};
 use board_sets::{BoardSets, sets_are_on_board};
-use move_sink::{MoveSink, push_if};
+use crate::{MoveSink, push_if};
 use rules_model::sizes::prove_position_sizes;
 use rules_model::{Cell, Kind, Move, Position, Promo, Rules, Square};
 use square_set::Set;

@@ -1,13 +1,15 @@
-//! The ordinary moves of pieces that are not the chess pawn, without gating.
+//! What takes the moves of a generator, and the ordinary moves of pieces that are not the chess pawn, without gating.
 #![tactic(auto)]
 
 pub mod candidate;
 pub mod generate;
 mod goal;
+mod move_sink;
 mod piece;
 mod promotion;
 mod targets;
 
 pub use candidate::is_candidate;
 pub use generate::{Mover, mover_on, push_mover, push_moves};
+pub use move_sink::{MoveSink, push_if};
 pub use promotion::holds_a_right;

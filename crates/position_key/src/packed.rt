@@ -9,7 +9,7 @@ ghost use Rattle.position_key.specs.Packed.{repeat_with};
 use crate::board_key::{BoardKey, key_of_repeat};
 use crate::cells::{CellWords, in_threes};
 use crate::rest::{Rest, rest_of, rest_of_position};
-use rules_model::{Cells, Position, Repeat};
+use rules_model::{Cells, Position, Repeat, are_same_hands, are_same_rights};
 use std::marker::Model;
 use std::snapshot::Snapshot;
 
@@ -39,13 +39,6 @@ impl Packed {
         ensures { result ≡ r.now }
     {
         pack(&r.cells, rest_of(r), key_of_repeat(r))
-    }
-
-    /// Packs the repeat of a position.
-    pub fn of_position(p: &Position) -> Packed
-        ensures { result ≡ repeat_of p.now }
-    {
-        Packed::with_key(p, BoardKey::of(p))
     }
 
     /// Packs the repeat of a position of which the key of the board and the hands is known.
@@ -101,18 +94,6 @@ fn is_same_rest(a: &Rest, b: &Rest) -> bool
 }
 
 fn are_same_words(a: &CellWords, b: &CellWords) -> bool
-    ensures { IsTrue result ↔ (a.now ≡ b.now) }
-{
-    a == b
-}
-
-fn are_same_hands(a: &[[u8; 26]; 2], b: &[[u8; 26]; 2]) -> bool
-    ensures { IsTrue result ↔ (a.now ≡ b.now) }
-{
-    a == b
-}
-
-fn are_same_rights(a: &[[bool; 2]; 2], b: &[[bool; 2]; 2]) -> bool
     ensures { IsTrue result ↔ (a.now ≡ b.now) }
 {
     a == b

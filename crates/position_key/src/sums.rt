@@ -1,10 +1,10 @@
 //! The sums of words: those of a whole board and of whole hands, and how they change.
-ghost use Rattle.std.specs.Prelude.{◌≡◌, ◌+◌, ◌%◌, ◌^◌, ◌↔◌, IsTrue};
+ghost use Rattle.std.specs.Prelude.{◌≡◌, ◌+◌, ◌%◌, ◌^◌};
 ghost use Rattle.position_key.specs.Changed.{AgreeOutside, IsExchanged};
 ghost use Rattle.position_key.specs.Key as Key;
 
 use crate::words::{cell_word, hand_word};
-use rules_model::{Cells, KINDS, SQUARES, Side, Square, cell_at};
+use rules_model::{Cells, KINDS, SQUARES, Side, Square, are_same_hands, cell_at};
 use square_set::Set;
 
 /// The key with the second number in the place of the first.
@@ -64,12 +64,6 @@ fn with_hand(mut key: u64, side: Side, before: &[u8; KINDS], next: &[u8; KINDS])
         }
     }
     key
-}
-
-fn are_same_hands(a: &[[u8; KINDS]; 2], b: &[[u8; KINDS]; 2]) -> bool
-    ensures { IsTrue result ↔ (a.now ≡ b.now) }
-{
-    a == b
 }
 
 /// The key once the hands are the second ones.

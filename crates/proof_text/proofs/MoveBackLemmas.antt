@@ -11,7 +11,7 @@ use Rattle.rules_model.specs.Legal.{legal}
 use Rattle.rules_model.specs.MoveText.{text_of}
 use Rattle.rules_model.specs.Repeats.{repeat_of}
 use Rattle.rules_model.proofs.ResultLaws.{are_legal-more}
-use Rattle.move_names.proofs.LegalLaws.{legal-named}
+use Rattle.move_text.proofs.LegalLaws.{legal-named}
 use Rattle.game_play.specs.Played.{IsPlayed, Played, story}
 use Rattle.game_play.proofs.KeptLemmas.{played-last-sound}
 use Rattle.game_play.proofs.StoryLemmas.{legal-front}

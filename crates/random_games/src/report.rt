@@ -8,7 +8,7 @@ ghost use Rattle.session_model.specs.Generate.{generated_text, value_text};
 use alpha_beta::search_unwatched;
 use foundation::{Memory, Text};
 use game_play::Game;
-use game_reports::{Printed, perft_of};
+use game_text::{Printed, perft_of};
 use hint_table::HintTable;
 use legality::legal_moves;
 use rules_model::Move;

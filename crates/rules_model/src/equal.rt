@@ -52,13 +52,15 @@ fn are_same_cells(a: &[Option<Cell>; 120], b: &[Option<Cell>; 120]) -> bool
     a == b
 }
 
-fn are_same_hands(a: &[[u8; 26]; 2], b: &[[u8; 26]; 2]) -> bool
+/// Whether these are the same hands.
+pub fn are_same_hands(a: &[[u8; 26]; 2], b: &[[u8; 26]; 2]) -> bool
     ensures { IsTrue result ↔ (a.now ≡ b.now) }
 {
     a == b
 }
 
-fn are_same_rights(a: &[[bool; 2]; 2], b: &[[bool; 2]; 2]) -> bool
+/// Whether these are the same castling rights.
+pub fn are_same_rights(a: &[[bool; 2]; 2], b: &[[bool; 2]; 2]) -> bool
     ensures { IsTrue result ↔ (a.now ≡ b.now) }
 {
     a == b

@@ -5,7 +5,6 @@ ghost use Rattle.rules_model.specs.Repeats.{repeat_of};
 ghost use Rattle.rules_model.specs.Sizes.{HasSizes, has_sizes};
 
 use crate::board::{Cells, KINDS, Position, Region};
-use crate::rules::Rules;
 
 fn prove_hand_size(hand: &[u8; KINDS])
     ensures { length hand.now ≡ 26 }
@@ -45,11 +44,4 @@ pub fn prove_region_size(region: &Region)
     ensures { length region.now.squares ≡ 120 }
 {
     let _first = region.squares[0];
-}
-
-/// Rules have a place for each letter.
-pub fn prove_letters(rules: &Rules)
-    ensures { length rules.now.kinds ≡ 26 }
-{
-    let _first = &rules.kinds[0];
 }

@@ -64,14 +64,14 @@ fn search_all<R: Abort>(
     let flag = StopFlag::new();
     let mut watch = Helper::new(&flag, quota);
     let mut line = Line::new(alloc, game, 20).expect(rt, "no fault");
-    let mut desk = SearchState::new(alloc, &hints).expect(rt, "no fault");
+    let mut state = SearchState::new(alloc, &hints).expect(rt, "no fault");
     let Ok(roots) = roots_of(alloc, &line) else {
         panic!(rt; "no memory");
     };
     assert!(rt; roots.items.len() > 0);
     let best = combine(
         &mut line,
-        &mut desk,
+        &mut state,
         &mut watch,
         depth,
         roots.items.as_slice(),
@@ -140,9 +140,9 @@ fn fact_above<R: Abort>(
     let flag = StopFlag::new();
     let mut watch = Helper::new(&flag, None);
     let mut line = Line::new(alloc, game, 20).expect(rt, "no fault");
-    let mut desk = SearchState::new(alloc, &hints).expect(rt, "no fault");
+    let mut state = SearchState::new(alloc, &hints).expect(rt, "no fault");
     assert!(rt; line.board().is_legal(chosen));
-    let fact = search_root(&mut line, &mut desk, &mut watch, 2, chosen, floor);
+    let fact = search_root(&mut line, &mut state, &mut watch, 2, chosen, floor);
     fact.map_or((false, 0), |fact| (fact.exact, fact.value))
 }
 

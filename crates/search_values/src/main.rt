@@ -13,7 +13,7 @@ use foundation::Memory;
 use game_play::Game;
 use hint_table::HintTable;
 use legality::legal_moves;
-use move_names::read_move;
+use move_text::read_move;
 use rules_model::Rules;
 use std::alloc::{AllocError, Global};
 use std::io;

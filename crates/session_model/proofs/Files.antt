@@ -4,7 +4,7 @@ use Rattle.std.specs.Prelude.{nat_lt}
 use Rattle.io_ports.specs.declared.files.TheConstants.{MAX_FILE}
 use Rattle.io_ports.specs.Files.{Bytes, found_of}
 use Rattle.session_model.specs.Laws.{BytesAreRefusedAsFiles}
-use Rattle.variant_files.specs.Loading.{found_fault}
+use Rattle.variant_rules.specs.Loading.{found_fault}
 
 by_size : (bytes : List ℕ) (b : Bool) → nat_lt MAX_FILE (length bytes) ≡ b → found_fault (Bytes bytes) ≡ found_fault (found_of (Some bytes))
 by_size bytes true is = rw is

@@ -27,7 +27,7 @@ use Rattle.game_text.specs.Playing.{move_of, most_plies}
 use Rattle.session_model.specs.CecpLines.{Command, Idle, Protover, New, Variant, Force, Go, PlayOther, UserMove, SetBoard, Ping, TakeBack, Post, St, Sd, Level, Time, Quit, BadNumber, Unknown, TooLong}
 use Rattle.io_ports.specs.Heard.{too_long}
 use Rattle.session_model.specs.Mates.{mover}
-use Rattle.game_reports.specs.OutcomeText.{cause_name}
+use Rattle.game_text.specs.OutcomeText.{cause_name}
 
 pub record State : Type 0 where
   pub sections : List Section

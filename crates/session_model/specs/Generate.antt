@@ -15,8 +15,8 @@ use Rattle.game_text.specs.Fault.{fault_text}
 use Rattle.game_text.specs.declared.fault.GameFault.TheVariants.{UnknownVariant, RefusedVariant}
 use Rattle.game_text.specs.GameText.{started}
 use Rattle.fen_model.specs.Printing.{fen_text}
-use Rattle.game_reports.specs.GameTexts.{perft_of}
-use Rattle.game_reports.specs.OutcomeText.{outcome_text}
+use Rattle.game_text.specs.GameTexts.{perft_of}
+use Rattle.game_text.specs.OutcomeText.{outcome_text}
 use Rattle.game_values.specs.Values.{value_of}
 
 -- ---- the game

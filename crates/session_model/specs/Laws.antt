@@ -17,7 +17,7 @@ use Rattle.rules_model.specs.Sound.{is_sound}
 use Rattle.foundation.specs.Member.{Member}
 use Rattle.game_values.specs.Bounds.{asked_bound}
 use Rattle.game_play.specs.Played.{Played, IsPlayed, legal_in, story}
-use Rattle.variant_files.specs.Loading.{found_fault}
+use Rattle.variant_rules.specs.Loading.{found_fault}
 use Rattle.session_model.specs.Mates.{Evidence, HasNoShorter, IsEvidence, IsShown, IsWin, mover, position_at, root_move}
 use Rattle.io_ports.specs.Owing.{Covers, Lacks}
 use Rattle.session_model.specs.Thinking.{Task, Report, Score, Points, Mates, Mated, Ending, Whole, Deepens, IsReport, AreReports, last_best, mate_sought, solve_within}

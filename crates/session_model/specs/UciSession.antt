@@ -10,7 +10,7 @@ use Rattle.game_values.specs.Bounds.{depths_bound, mates_bound, solve_bound}
 use Rattle.io_ports.specs.Heard.{too_long}
 use Rattle.watching.specs.Events.{Event, Says, Opens, AreUnstopped, readings, said}
 use Rattle.session_model.specs.Events.{IsStopped}
-use Rattle.game_reports.specs.GameTexts.{moves_of, status_of}
+use Rattle.game_text.specs.GameTexts.{moves_of, status_of}
 use Rattle.session_model.specs.Mates.{Announced, Evidence, HasNoShorter, IsEvidence, IsShown, mover, root_move}
 use Rattle.session_model.specs.Thinking.{Task, Report, Ending, Cause, Mates, Deepens, MayCut, last_announced, last_best, reported}
 use Rattle.session_model.specs.Turns.{Protocol, Turn}

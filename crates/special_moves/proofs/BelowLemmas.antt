@@ -2,8 +2,8 @@
 use Rattle.std.proofs.Common.{◌≡◌, ℕ, ◌+◌, ◌<◌, ◌≤◌, ◌⊎◌, inl, inr, List, arith, subst}
 use Rattle.std.proofs.Math.Nat.{eq-or-lt_of_le}
 use Rattle.rules_model.specs.declared.moves.Move.{Move}
-use Rattle.move_sink.specs.Taking.{IsSink, TakesAll, TakesSome}
-use Rattle.move_sink.proofs.TakingLemmas.{all-none, all-join, some-behind, all-same, some-within}
+use Rattle.piece_moves.specs.Taking.{IsSink, TakesAll, TakesSome}
+use Rattle.piece_moves.proofs.TakingLemmas.{all-none, all-join, some-behind, all-same, some-within}
 use Rattle.special_moves.specs.Parts.{IsBelow, IsEither}
 
 -- two parts have a move in common only where they are one

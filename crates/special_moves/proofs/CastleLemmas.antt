@@ -20,7 +20,7 @@ use Rattle.rules_model.specs.Regions.{castling_rank, castling_square}
 use Rattle.rules_model.proofs.CandidateLaws.{castle_gate, not_both, rook_file-some}
 use Rattle.piece_moves.specs.Plain.{holds_a_right}
 use Rattle.special_moves.specs.Castles.{is_open, open_castle, where_open}
-use Rattle.move_sink.specs.Taking.{IsChosen}
+use Rattle.piece_moves.specs.Taking.{IsChosen}
 use Rattle.special_moves.specs.Parts.{castle_move, IsCastle, IsCastleOf, IsCastleOfSome, IsCastleTo, IsGatedCastle, IsGateOf, IsGateOn, kind_at, placed_on}
 use Rattle.special_moves.proofs.SquareLemmas.{same_file, same_square}
 use Rattle.special_moves.proofs.BelowLemmas.{AreApart}

@@ -18,9 +18,9 @@ use Rattle.rules_model.proofs.CandidateLaws.{not_both}
 use Rattle.square_set.specs.declared.Set.{Set}
 use Rattle.square_set.specs.Members.{has}
 use Rattle.move_tables.specs.Occupied.{IsOccupied}
-use Rattle.move_sink.specs.InTurn.{DropsOf, target_of}
-use Rattle.move_sink.specs.Taking.{TakesAll, TakesSome}
-use Rattle.move_sink.proofs.TakingLemmas.{all-same, some-within}
+use Rattle.piece_moves.specs.InTurn.{DropsOf, target_of}
+use Rattle.piece_moves.specs.Taking.{TakesAll, TakesSome}
+use Rattle.piece_moves.proofs.TakingLemmas.{all-same, some-within}
 use Rattle.special_moves.specs.Parts.{AreDropSquares, AreSuited, IsDrop, IsDropOf, has_drops, kind_at, square_at, suits, suits_anywhere, takes_drops}
 use Rattle.special_moves.proofs.BelowLemmas.{AreApart}
 

@@ -16,7 +16,7 @@ use Rattle.rules_model.proofs.CandidateLaws.{not_both}
 use Rattle.rules_model.proofs.SquareLaws.{file_of_at}
 use Rattle.square_set.specs.declared.Set.{Set}
 use Rattle.square_set.specs.Members.{has}
-use Rattle.move_sink.specs.InTurn.{At}
+use Rattle.piece_moves.specs.InTurn.{At}
 use Rattle.piece_moves.specs.Goals.{own_piece}
 use Rattle.piece_moves.specs.Parts.{IsMoveFrom}
 use Rattle.piece_moves.proofs.PartLemmas.{no_piece}

@@ -4,6 +4,12 @@ pub mod CastleLemmas
 pub mod CastlesLaws
 pub mod DropLemmas
 pub mod GateLemmas
+pub mod GoalLemmas
+pub mod PartLemmas
+pub mod SetLemmas
+pub mod ShiftLemmas
+pub mod ShiftedLaws
 pub mod SpecialLemmas
 pub mod SquareLemmas
+pub mod StepLemmas
 pub mod WayLemmas

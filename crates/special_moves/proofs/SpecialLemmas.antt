@@ -19,9 +19,9 @@ use Rattle.rules_model.specs.Gating.{gates_from}
 use Rattle.rules_model.specs.Hands.{holds}
 use Rattle.rules_model.specs.Regions.{first_rank, on_first_rank}
 use Rattle.rules_model.specs.Squares.{cell_at, square_on}
-use Rattle.move_sink.specs.Taking.{IsSink, TakesAll, TakesSome}
-use Rattle.move_sink.proofs.TakingLemmas.{all-same, some-within}
-use Rattle.pawn_moves.specs.PawnMoves.{FitPawnMoves, is_pawn_move}
+use Rattle.piece_moves.specs.Taking.{IsSink, TakesAll, TakesSome}
+use Rattle.piece_moves.proofs.TakingLemmas.{all-same, some-within}
+use Rattle.special_moves.specs.PawnMoves.{FitPawnMoves, is_pawn_move}
 use Rattle.special_moves.specs.Parts.{FitSpecialMoves, IsCastle, IsDrop, IsEither, IsBelow, IsGate, IsGateWith, kind_at}
 use Rattle.special_moves.proofs.SquareLemmas.{on_board}
 use Rattle.special_moves.proofs.BelowLemmas.{either-all, either-some}

@@ -1,2 +1,5 @@
-pub mod Parts
 pub mod Castles
+pub mod Parts
+pub mod PawnMoves
+pub mod PawnParts
+pub mod Shifted

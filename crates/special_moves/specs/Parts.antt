@@ -22,7 +22,7 @@ use Rattle.rules_model.specs.Regions.{first_rank, in_region}
 use Rattle.rules_model.specs.Squares.{cell_at, square_on}
 use Rattle.square_set.specs.declared.Set.{Set}
 use Rattle.square_set.specs.Members.{has}
-use Rattle.move_sink.specs.Taking.{IsChosen}
+use Rattle.piece_moves.specs.Taking.{IsChosen}
 use Rattle.piece_moves.specs.Parts.{IsMoveFrom}
 use Rattle.special_moves.specs.Castles.{open_castle}
 

@@ -7,19 +7,20 @@ ghost use Rattle.rules_model.specs.Repeats.{repeat_of};
 use crate::castles::{castle_gates, castles};
 use crate::drops::drops_to;
 use crate::gates::moves_and_gates;
+use crate::pawn_candidate::is_pawn_candidate;
 use attack_tables::Tables;
 use rules_model::{Move, Position, Rules};
 
 /// Whether the move is a pawn's without a gate, an ordinary move of another piece with one, a castle with or without
 /// one, or a drop. Whether it leaves the king safe is not asked.
-#[tactic(auto, unfolding(rules_model::specs::Candidates::is_special_move, pawn_moves::specs::PawnMoves::is_pawn_move))]
+#[tactic(auto, unfolding(rules_model::specs::Candidates::is_special_move, crate::specs::PawnMoves::is_pawn_move))]
 pub fn is_candidate(rules: &Rules, tables: &Tables, p: &Position, m: &Move) -> bool
     requires fit { IsFit rules.now }
     requires tables { tables.now ≡ rules.now }
     ensures { result ≡ is_special_move rules.now (repeat_of p.now) m.now }
 {
     match *m {
-        Move::Go { gate: None, .. } => pawn_moves::is_candidate(rules, p, m),
+        Move::Go { gate: None, .. } => is_pawn_candidate(rules, p, m),
         Move::Go {
             from,
             to,

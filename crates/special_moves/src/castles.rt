@@ -1,7 +1,7 @@
 //! Castles, with a gate or without one.
 ghost use Rattle.std.specs.Prelude.{◌≡◌, ◌≢◌, ◌<◌, ◌&&◌, true, not, is_some, None, OnOk, OnErr, IfSome};
 ghost use Rattle.std.specs.Bool.{OnTrue};
-ghost use Rattle.move_sink.specs.Taking.{TakesAll, TakesSome};
+ghost use Rattle.piece_moves.specs.Taking.{TakesAll, TakesSome};
 ghost use Rattle.rules_model.specs.Attacks.{is_own};
 ghost use Rattle.rules_model.specs.Castling as Castling;
 ghost use Rattle.rules_model.specs.Castling.{IsFitCastle, castling_on};
@@ -17,8 +17,7 @@ ghost use Rattle.special_moves.specs.Parts.{IsCastle, IsCastleOf, IsCastleTo, Is
 use crate::way::{holds_own_king, way_is_open};
 use attack_tables::{Tables, cell_on};
 use board_sets::{BoardSets, sets_of};
-use move_sink::{MoveSink, push_if};
-use piece_moves::holds_a_right;
+use piece_moves::{MoveSink, holds_a_right, push_if};
 use rules_model::castling::{
     CastleSquares, castle_of, castling_square, holds_right, is_rook, rook_target, rook_to_file,
 };

@@ -1,7 +1,7 @@
 //! Drops: a hand piece is put on an empty square.
 ghost use Rattle.std.specs.Prelude.{◌≡◌, ◌<◌, true, is_none, OnOk, OnErr};
 ghost use Rattle.foundation.specs.Count.{any_below};
-ghost use Rattle.move_sink.specs.Taking.{TakesAll, TakesSome};
+ghost use Rattle.piece_moves.specs.Taking.{TakesAll, TakesSome};
 ghost use Rattle.rules_model.specs.Drops as Drops;
 ghost use Rattle.rules_model.specs.Fit.{IsFit};
 ghost use Rattle.rules_model.specs.Repeats.{repeat_of};
@@ -12,7 +12,7 @@ ghost use Rattle.special_moves.specs.Parts.{IsDrop, IsDropOf};
 
 use attack_tables::Tables;
 use board_sets::BoardSets;
-use move_sink::MoveSink;
+use piece_moves::MoveSink;
 use rules_model::kinds::{first_rank, in_hand, in_region, names};
 use rules_model::{Cells, KINDS, Kind, Position, RANKS, Rules, Side, Square};
 use square_set::Set;

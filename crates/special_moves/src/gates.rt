@@ -1,7 +1,7 @@
 //! Gates: an ordinary move places a hand piece on the square that it leaves.
 ghost use Rattle.std.specs.Prelude.{◌≡◌, ◌<◌, OnOk, OnErr};
 ghost use Rattle.board_sets.specs.Sets.{AreSets};
-ghost use Rattle.move_sink.specs.Taking.{TakesAll, TakesSome};
+ghost use Rattle.piece_moves.specs.Taking.{TakesAll, TakesSome};
 ghost use Rattle.rules_model.specs.Fit.{IsFit};
 ghost use Rattle.rules_model.specs.Gating as Gating;
 ghost use Rattle.rules_model.specs.Repeats.{repeat_of};
@@ -11,8 +11,7 @@ ghost use Rattle.special_moves.specs.Parts.{IsGate, IsGateAt};
 
 use attack_tables::Tables;
 use board_sets::BoardSets;
-use move_sink::MoveSink;
-use piece_moves::{Mover, mover_on, push_mover};
+use piece_moves::{MoveSink, Mover, mover_on, push_mover};
 use rules_model::castling::has_gate;
 use rules_model::kinds::{first_rank, in_hand};
 use rules_model::{FILES, KINDS, Kind, Move, Position, Promo, Rules, Square};

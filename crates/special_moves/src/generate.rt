@@ -1,7 +1,7 @@
 //! The moves, given in turn.
 ghost use Rattle.std.specs.Prelude.{◌≡◌, OnOk, OnErr};
 ghost use Rattle.board_sets.specs.Sets.{AreSets};
-ghost use Rattle.move_sink.specs.Taking.{TakesAll, TakesSome};
+ghost use Rattle.piece_moves.specs.Taking.{TakesAll, TakesSome};
 ghost use Rattle.rules_model.specs.Fit.{IsFit};
 ghost use Rattle.rules_model.specs.Repeats.{repeat_of};
 ghost use Rattle.special_moves.specs.Parts.{FitSpecialMoves};
@@ -9,9 +9,10 @@ ghost use Rattle.special_moves.specs.Parts.{FitSpecialMoves};
 use crate::castles::push_castles;
 use crate::drops::push_drops;
 use crate::gates::push_gates;
+use crate::pawn_generate::push_pawn_moves;
 use attack_tables::Tables;
 use board_sets::BoardSets;
-use move_sink::MoveSink;
+use piece_moves::MoveSink;
 use rules_model::{Position, Rules};
 
 /// Gives the moves of pawns, those of other pieces with a gate, castles and drops, each once and in no special order:
@@ -29,7 +30,7 @@ pub fn push_moves<S: MoveSink>(
     ensures ok { OnOk result (TakesAll S.takes (FitSpecialMoves rules.now (repeat_of p.now)) out.old out.new) }
     ensures err { OnErr result (TakesSome S.stops (FitSpecialMoves rules.now (repeat_of p.now)) out.old out.new) }
 {
-    pawn_moves::push_moves(rules, tables, p, sets, out)?;
+    push_pawn_moves(rules, tables, p, sets, out)?;
     push_gates(rules, tables, p, sets, out)?;
     push_castles(rules, tables, p, sets, out)?;
     push_drops(rules, tables, p, sets, out)

@@ -17,8 +17,8 @@ use Rattle.fen_model.specs.Printing.{fen_text}
 use Rattle.fen_model.specs.Reading.{fen_of}
 use Rattle.fen_model.proofs.GivesBack.{gives-back}
 use Rattle.fen_model.proofs.SoundParts.{parts}
-use Rattle.move_names.specs.Read.{move_said}
-use Rattle.move_names.proofs.ReadLaws.{names-read}
+use Rattle.move_text.specs.Read.{move_said}
+use Rattle.move_text.proofs.ReadLaws.{names-read}
 use Rattle.strategy.specs.declared.fault.StrategyFault.{StrategyFault}
 use Rattle.strategy.specs.declared.fault.StrategyFault.TheVariants.{BadNumber}
 use Rattle.strategy.specs.declared.nodes.Edge.{Edge}

@@ -4,7 +4,7 @@ use Rattle.std.specs.Option.{option_map}
 use Rattle.std.specs.Prelude.{slice_get}
 use Rattle.std.proofs.lemmas.Bool.{and_parts, eq-eqb, eqb-true, leb-true, le-leb, lt-ltb, ltb-true, le-ltb, ne_eqb}
 use Rattle.fen_model.specs.Reading.{fen_of}
-use Rattle.move_names.specs.Read.{move_said}
+use Rattle.move_text.specs.Read.{move_said}
 use Rattle.rules_model.specs.declared.rules.Rules.{Rules}
 use Rattle.strategy.specs.declared.fault.StrategyFault.TheVariants.{BadNumber}
 use Rattle.strategy.specs.declared.nodes.Node.{Node}

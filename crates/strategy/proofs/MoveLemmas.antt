@@ -6,9 +6,9 @@ use Rattle.rules_model.specs.declared.moves.Move.{Move}
 use Rattle.rules_model.specs.declared.rules.Rules.{Rules}
 use Rattle.rules_model.specs.Fit.{IsFit}
 use Rattle.rules_model.specs.Sound.{is_sound}
-use Rattle.move_names.specs.Names.{Names, NamesNothing}
-use Rattle.move_names.specs.Read.{move_said}
-use Rattle.move_names.proofs.ReadLaws.{names-read, read-names}
+use Rattle.move_text.specs.Names.{Names, NamesNothing}
+use Rattle.move_text.specs.Read.{move_said}
+use Rattle.move_text.proofs.ReadLaws.{names-read, read-names}
 
 none_said : (rules : Rules) (p : Position) (text : List ℕ) (o : Option Move) → move_said rules p text ≡ o → IsFit rules → is_sound rules p ≡ true → NamesNothing rules p text → None ≡ move_said rules p text
 none_said rules p text None is fit sound nothing = sym is

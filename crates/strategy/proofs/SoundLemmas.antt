@@ -15,7 +15,7 @@ use Rattle.rules_model.specs.Sound.{is_sound, is_sound_repeat}
 use Rattle.fen_model.specs.declared.fault.FenFault.{FenFault}
 use Rattle.fen_model.specs.Reading.{fen_of}
 use Rattle.fen_model.proofs.SoundLaws.{text_sound}
-use Rattle.move_names.specs.Read.{move_said}
+use Rattle.move_text.specs.Read.{move_said}
 use Rattle.strategy.specs.declared.fault.StrategyFault.{StrategyFault}
 use Rattle.strategy.specs.declared.nodes.Edge.{Edge}
 use Rattle.strategy.specs.declared.nodes.Node.{Node}

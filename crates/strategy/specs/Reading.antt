@@ -10,7 +10,7 @@ use Rattle.rules_model.specs.Sound.{is_sound}
 use Rattle.foundation.specs.Numbers.{capped}
 use Rattle.fen_model.specs.declared.fault.FenFault.{FenFault}
 use Rattle.fen_model.specs.Reading.{fen_of}
-use Rattle.move_names.specs.Read.{move_said}
+use Rattle.move_text.specs.Read.{move_said}
 use Rattle.strategy.specs.declared.fault.StrategyFault.{StrategyFault}
 use Rattle.strategy.specs.declared.fault.StrategyFault.TheVariants.{Header, BadLine, BadPosition, BadMove, BadNumber, Ended}
 use Rattle.strategy.specs.declared.nodes.Edge.{Edge}

@@ -8,7 +8,7 @@ use Rattle.rules_model.specs.declared.board.Side.TheVariants.{White, Black}
 use Rattle.rules_model.specs.declared.rules.Rules.{Rules}
 use Rattle.rules_model.specs.MoveText.{text_of}
 use Rattle.fen_model.specs.Printing.{fen_text}
-use Rattle.move_names.specs.Names.{Names}
+use Rattle.move_text.specs.Names.{Names}
 use Rattle.strategy.specs.declared.nodes.Edge.{Edge}
 use Rattle.strategy.specs.declared.nodes.Node.{Node}
 use Rattle.strategy.specs.declared.nodes.Strategy.{Strategy}

@@ -4,7 +4,7 @@ ghost use Rattle.io_ports.specs.Lines.{Text, TooLong};
 ghost use Rattle.rules_model.specs.declared.rules.Rules.{Rules};
 ghost use Rattle.rules_model.specs.Fit.{IsFit};
 ghost use Rattle.rules_model.specs.Sound.{is_sound};
-ghost use Rattle.move_names.specs.Read.{move_said};
+ghost use Rattle.move_text.specs.Read.{move_said};
 ghost use Rattle.strategy.specs.Said.{attacker_said, count_said};
 ghost use Rattle.strategy.specs.SaidView.{said_view};
 
@@ -12,7 +12,7 @@ use crate::StrategyFault;
 use crate::header::{read_attacker, read_count};
 use crate::nodes::{Edge, Edges, Node, Nodes, Strategy};
 use crate::said::{SaidText, read_said};
-use move_names::read_move;
+use move_text::read_move;
 use rules_model::{Move, Position, Rules, Side};
 use smallvec::SmallVec;
 use std::alloc::Global;

@@ -1,34 +1,14 @@
 //! How the game and its nodes are ended.
 ghost use Rattle.std.specs.Prelude.{◌≡◌};
 ghost use Rattle.forced_wins.specs.Tables as Tables;
-ghost use Rattle.forced_wins.specs.Views as Views;
 ghost use Rattle.strategy.specs.declared.nodes.Node.{Node};
 ghost use Rattle.strategy_check.specs.AtTable as At;
 
 use crate::table::Table;
+use forced_wins::won_by;
 use legality::own_end;
-use rules_model::{Cause, Outcome, Position, Side};
+use rules_model::Position;
 use strategy::Node;
-
-fn is_repetition(cause: Cause) -> bool
-    ensures { result ≡ Views.is_repetition cause }
-{
-    match cause {
-        Cause::Repetition => true,
-        _ => false,
-    }
-}
-
-/// Whether the side has won by the outcome, if that is an end: no repetition is a win.
-fn won_by(side: Side, outcome: Outcome) -> Option<bool>
-    ensures { result ≡ Views.won_by side outcome }
-{
-    match outcome {
-        Outcome::Ongoing => None,
-        Outcome::Won(winner, cause) => Some(winner.is(side) && !is_repetition(cause)),
-        Outcome::Drawn(_) => Some(false),
-    }
-}
 
 fn ends_lost(end: Option<bool>) -> bool
     ensures { result ≡ Tables.ends_lost end }

@@ -13,7 +13,7 @@ use Rattle.uci_session.specs.declared.refusal.Refusal.{Refusal}
 use Rattle.uci_session.specs.declared.refusal.Refusal.TheVariants.{Fault, Memory}
 use Rattle.uci_session.specs.Outcomes.{IsOutcome, LoadsFile, SetsBy}
 use Rattle.uci_front.specs.Plain.{IsNamedRead, IsTold, Plainly, file_of, outcome_said, plain_events, saying, text_said}
-use Rattle.variant_files.specs.Looked.{OneRead}
+use Rattle.variant_rules.specs.Looked.{OneRead}
 use Rattle.watching.specs.Events.{Event, Says, Opens, heard_lines, opened, readings, written}
 
 -- ---- what such events take and leave

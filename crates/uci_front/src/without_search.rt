@@ -2,7 +2,7 @@
 ghost use Rattle.std.specs.Prelude.{◌≡◌, [], IfOk, OnErr};
 ghost use Rattle.std.specs.Option.{option_copied};
 ghost use Rattle.io_ports.specs.Trace.{Reads};
-ghost use Rattle.variant_files.specs.Looked.{Looked};
+ghost use Rattle.variant_rules.specs.Looked.{Looked};
 ghost use Rattle.uci_lines.specs.SettingView.{setting_seen};
 ghost use Rattle.uci_lines.specs.View.{command_with};
 ghost use Rattle.uci_session.specs.Outcomes.{LoadsFile, SetsBy};
@@ -10,12 +10,12 @@ ghost use Rattle.uci_front.specs.Plain.{IsAtOnce, IsPlainKind, IsTold, Plainly, 
 ghost use Rattle.uci_session.specs.PlanView.{words_said};
 
 use foundation::{Memory, Text};
-use game_reports::{moves_of, status_of};
+use game_text::{moves_of, status_of};
 use io_ports::{Dialect, Files, too_long_answer};
 use std::alloc::Global;
 use uci_lines::{Kind, Setting, read_placing, read_setting, words_in};
 use uci_session::{READY, Refusal, UciSession, error_line, refused_file};
-use variant_files::{NoSections, read_sections};
+use variant_rules::{NoSections, read_sections};
 
 // Loads the sections that are built in and those of a file, and sets chess.
 fn load_file<F: Files>(

@@ -11,10 +11,10 @@ use Rattle.uci_session.specs.declared.refusal.Refusal.{Refusal}
 use Rattle.uci_session.specs.declared.refusal.Refusal.TheVariants.{Fault, Memory}
 use Rattle.uci_session.specs.Outcomes.{IsOutcome, LoadsFile, Refuses, Starts, StartsIn, variant_fault}
 use Rattle.uci_session.specs.SessionView.{IsSession}
-use Rattle.variant_files.specs.declared.fault.LoadFault.{LoadFault}
-use Rattle.variant_files.specs.declared.fault.NoSections.TheVariants as no_sections
-use Rattle.variant_files.specs.Loading.{found_fault, load_fault_text, refusal, sections_with}
-use Rattle.variant_files.specs.Looked.{HasSections}
+use Rattle.variant_rules.specs.declared.fault.LoadFault.{LoadFault}
+use Rattle.variant_rules.specs.declared.fault.NoSections.TheVariants as no_sections
+use Rattle.variant_rules.specs.Loading.{found_fault, load_fault_text, refusal, sections_with}
+use Rattle.variant_rules.specs.Looked.{HasSections}
 use Rattle.variant_ini.specs.OptionValue.{first_named}
 use Rattle.variant_ini.specs.Section.{Section}
 use Rattle.variant_model.specs.Entry.{entry}

@@ -9,7 +9,7 @@ use Rattle.rules_model.specs.declared.moves.Move.{Move}
 use Rattle.rules_model.specs.MoveText.{text_of}
 use Rattle.session_model.specs.Thinking.{Mates}
 use Rattle.strategy.specs.declared.nodes.Strategy.{Strategy}
-use Rattle.game_reports.specs.GameTexts.{perft_of}
+use Rattle.game_text.specs.GameTexts.{perft_of}
 use Rattle.variant_ini.specs.Section.{Section}
 use Rattle.variant_rules.specs.Entries.{Named, entries, is_accepted}
 use Rattle.session_model.specs.UciTexts.{depth_line, perft_line, uci_text, variant_choice}

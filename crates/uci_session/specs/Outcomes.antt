@@ -11,7 +11,7 @@ use Rattle.variant_model.specs.declared.fault.SectionFault.{SectionFault}
 use Rattle.variant_rules.specs.Entries.{entries, found}
 use Rattle.session_model.specs.UciLines.{Setting}
 use Rattle.session_model.specs.UciState.{State, Outcome, bad_value, load, set, unknown_variant, with_game}
-use Rattle.variant_files.specs.Looked.{OneRead}
+use Rattle.variant_rules.specs.Looked.{OneRead}
 use Rattle.uci_session.specs.declared.refusal.Refusal.{Refusal}
 use Rattle.uci_session.specs.declared.refusal.Refusal.TheVariants.{Fault, Memory}
 

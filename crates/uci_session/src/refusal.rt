@@ -3,14 +3,14 @@ ghost use Rattle.std.specs.Prelude.{◌≡◌, ◌++◌, IfOk, OnOk, OnErr, code
 ghost use Rattle.fen_model.specs.Fault as fen;
 ghost use Rattle.variant_model.specs.Fault as section;
 ghost use Rattle.session_model.specs.UciState as UciState;
-ghost use Rattle.variant_files.specs.Loading.{load_fault_text};
+ghost use Rattle.variant_rules.specs.Loading.{load_fault_text};
 ghost use Rattle.uci_session.specs.Outcomes.{Refuses};
 
 use foundation::{Memory, Text};
 use game_text::GameFault;
 use std::alloc::{AllocError, Global};
 use variant_fen::FenFault;
-use variant_files::LoadFault;
+use variant_rules::LoadFault;
 use variant_model::SectionFault;
 
 /// Why a line sets nothing: its fault in words, or there was no memory.

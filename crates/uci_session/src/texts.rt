@@ -12,7 +12,7 @@ ghost use Rattle.uci_session.specs.TextView.{choice_at, introduction};
 
 use foundation::{Memory, Text};
 use game_play::Game;
-use game_reports::perft_of;
+use game_text::perft_of;
 use move_text::write_move;
 use rules_model::Move;
 use std::alloc::{AllocError, Global};

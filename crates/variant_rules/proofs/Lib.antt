@@ -1,4 +1,5 @@
-pub mod StartLaws
-pub mod PlayableLaws
-pub mod EntryLemmas
 pub mod BuiltInLaws
+pub mod EntryLemmas
+pub mod FileLemmas
+pub mod PlayableLaws
+pub mod StartLaws

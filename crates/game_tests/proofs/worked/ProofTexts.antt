@@ -45,8 +45,8 @@ use Rattle.variant_model.specs.PieceLetters.{letter_within, piece_letter, letter
 use Rattle.variant_model.specs.PieceRules.{on_the_board, kind_rule_of}
 use Rattle.variant_ini.specs.Cuts.{trimmed}
 use Rattle.foundation.specs.Cuts.{cut}
-use Rattle.move_names.specs.Read.{castle_to, castle_said, drop_said, move_said}
-use Rattle.move_names.specs.Squares.{square_front, squares_front}
+use Rattle.move_text.specs.Read.{castle_to, castle_said, drop_said, move_said}
+use Rattle.move_text.specs.Squares.{square_front, squares_front}
 use Rattle.strategy.specs.Said.{attacker_said, count_said, node_said, edge_said, said}
 use Rattle.strategy.specs.Needed.{lines_on}
 use Rattle.strategy.specs.Reading.{with_node, with_edge, with_said, with_text, step, taken, strategy_of, with_last_edge}

@@ -28,8 +28,8 @@ use Rattle.fen_model.specs.Passed.{is_passed, passed_of}
 use Rattle.fen_model.specs.Pocket.{no_hands, hands_of}
 use Rattle.fen_model.specs.Reading.{judged, said_by, fen_of}
 use Rattle.fen_model.specs.Tokens.{tokens_of}
-use Rattle.move_names.specs.Read.{castle_to, castle_said, drop_said, move_said}
-use Rattle.move_names.specs.Squares.{square_front, squares_front}
+use Rattle.move_text.specs.Read.{castle_to, castle_said, drop_said, move_said}
+use Rattle.move_text.specs.Squares.{square_front, squares_front}
 
 unfoldable reading_opened : Unit {0}
 unfolding opened chess cut attacker_said count_said node_said edge_said said with_node with_edge with_said with_text step taken strategy_of with_last_edge squares_of row_of rows_of cells_from cells_of side_of checks_of count_of pocket_place fields_of has are_letters gate_said bits_of may_hold held_of are_digits value_after is_number number_of is_passed passed_of no_hands hands_of judged said_by fen_of tokens_of castle_to castle_said drop_said move_said square_front squares_front

@@ -94,13 +94,13 @@ loop-best-init g t c =
     let on = sym c.end_where.ensures ∙ is_none _ c.in_default.not-Some in
     let is = c.stand_pat-best.ensures.is in
     let within = c.stand_pat-best.ensures.within in let least = within.least in let most = within.most in
-    let listed = subst (λ s. Pushes (λ m. Member m (captures_in s)) c.args.desk.now.waiting.items c.push_captures.new.self.waiting.items) c.board.ensures c.in_ok-any.ensures.pushes in
+    let listed = subst (λ s. Pushes (λ m. Member m (captures_in s)) c.args.state.now.waiting.items c.push_captures.new.self.waiting.items) c.board.ensures c.in_ok-any.ensures.pushes in
     let stands : (play rules).eval story ≡ to_z w32 (of_z w32 c.stand_pat-best.result) = omega (arith, ints) in
     record {
       line = refl;
       first = (let n = c.len-first.ensures in omega (arith, n));
       going = going_start g.W.Watch.gone (legal_in c.args.line.now) (played rules story) (quiet (play rules) (c.args.limit - 1) (c.args.ply + 1))
-          (tree_size rules (c.args.limit - 1)) c.args.desk.now.waiting.items c.args.window.alpha c.args.window.beta _ _ c.args.watch.now
+          (tree_size rules (c.args.limit - 1)) c.args.state.now.waiting.items c.args.window.alpha c.args.window.beta _ _ c.args.watch.now
           (captures_in (stance_of_line c.args.line.now)) c.enter.new.self c.push_captures.new.self.waiting.items _ listed
           (λ m h. (filter-member takes m (legal_in c.args.line.now) h).0) (record { least = omega (arith, ints); most = omega (arith, ints) })
           (quiet_on (play rules) c.args.limit c.args.ply story on (omega arith)

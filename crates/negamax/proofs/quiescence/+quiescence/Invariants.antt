@@ -9,7 +9,7 @@ abbrev pub decreases-quiescence : goal.decreases-quiescence
 decreases-quiescence g l = l.limit
 
 abbrev pub decreases-loop-best : goal.decreases-loop-best
-decreases-loop-best g l = length l.desk.waiting.items
+decreases-loop-best g l = length l.state.waiting.items
 
 abbrev pub invariant-loop-best : goal.invariant-loop-best
 invariant-loop-best g l =
@@ -17,8 +17,8 @@ invariant-loop-best g l =
     let story = story_of_line l.fn.line in
     record {
       line : l.line ≡ l.fn.line;
-      first : l.first ≡ length l.fn.desk.waiting.items;
+      first : l.first ≡ length l.fn.state.waiting.items;
       going : Going g.W.Watch.gone (legal_in l.fn.line) (played rules story) (quiet (play rules) (l.limit - 1) (l.ply + 1))
-          (tree_size rules (l.limit - 1)) l.fn.desk.waiting.items l.window.alpha l.window.beta (quiet (play rules) l.limit l.ply story)
-          (tree_size rules l.limit story) l.fn.watch l.watch l.desk.waiting.items l.best;
+          (tree_size rules (l.limit - 1)) l.fn.state.waiting.items l.window.alpha l.window.beta (quiet (play rules) l.limit l.ply story)
+          (tree_size rules l.limit story) l.fn.watch l.watch l.state.waiting.items l.best;
     }

@@ -92,12 +92,12 @@ loop-best-init g t c =
     let rules = c.args.line.now.rules in
     let story = story_of_line c.args.line.now in
     let on = sym c.end_where.ensures ∙ is_none _ c.in_default.not-Some in
-    let listed = subst (λ s. Pushes (λ m. Member m (Stance.legal_in s)) c.args.desk.now.waiting.items c.push_moves.new.self.waiting.items) c.board.ensures c.in_ok-any.ensures.pushes in
+    let listed = subst (λ s. Pushes (λ m. Member m (Stance.legal_in s)) c.args.state.now.waiting.items c.push_moves.new.self.waiting.items) c.board.ensures c.in_ok-any.ensures.pushes in
     record {
       line = refl;
       first = (let n = c.len-first.ensures in omega (arith, n));
       going = going_start g.W.Watch.gone (legal_in c.args.line.now) (played rules story) (value (play rules) (c.args.depth - 1) (c.args.ply + 1))
-          (tree_size rules (c.args.depth - 1 + 4)) c.args.desk.now.waiting.items c.args.window.alpha c.args.window.beta _ _ c.args.watch.now
+          (tree_size rules (c.args.depth - 1 + 4)) c.args.state.now.waiting.items c.args.window.alpha c.args.window.beta _ _ c.args.watch.now
           (legal_in c.args.line.now) c.enter.new.self c.push_moves.new.self.waiting.items _ listed
           (λ m h. h) (record { least = omega (arith, ints); most = omega (arith, ints) })
           (value_on (play rules) c.args.depth c.args.ply story on (omega arith))

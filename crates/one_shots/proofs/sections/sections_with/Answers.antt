@@ -1,6 +1,6 @@
 use Rattle.std.proofs.Common.{inl, refl}
 use Rattle.std.proofs.lemmas.Result.{err_from_is_err_and}
-use Rattle.variant_files.proofs.FileLemmas.{looked_none}
+use Rattle.variant_rules.proofs.FileLemmas.{looked_none}
 use Rattle.one_shots.proofs.sections.sections_with.Goals as goal
 
 pub returns-in_err-builtin-in-None-clause-has : goal.returns-in_err-builtin-in-None-clause-has

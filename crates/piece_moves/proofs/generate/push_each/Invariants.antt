@@ -1,8 +1,8 @@
 use Rattle.std.proofs.Common.{◌≡◌, ℕ, true}
 use Rattle.rules_model.specs.Repeats.{repeat_of}
 use Rattle.square_set.specs.Members.{has, size}
-use Rattle.move_sink.specs.InTurn.{Outside, target_of}
-use Rattle.move_sink.specs.Taking.{TakesAll}
+use Rattle.piece_moves.specs.InTurn.{Outside, target_of}
+use Rattle.piece_moves.specs.Taking.{TakesAll}
 use Rattle.piece_moves.specs.Parts.{IsMoveFrom}
 use Rattle.piece_moves.proofs.generate.push_each.Given as goal
 

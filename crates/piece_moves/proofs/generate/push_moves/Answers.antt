@@ -2,8 +2,8 @@ use Rattle.std.proofs.Common.{◌==◌, not, sym, ◌∙◌}
 use Rattle.std.proofs.lemmas.Bool.{and_parts}
 use Rattle.foundation.proofs.AppendedLemmas.{on_err}
 use Rattle.square_set.specs.Members.{has}
-use Rattle.move_sink.specs.InTurn.{start_of}
-use Rattle.move_sink.proofs.TurnLemmas.{turn-all, turn-more, turn-none, turn-some}
+use Rattle.piece_moves.specs.InTurn.{start_of}
+use Rattle.piece_moves.proofs.TurnLemmas.{turn-all, turn-more, turn-none, turn-some}
 use Rattle.piece_moves.proofs.PartLemmas.{fit-at, fit-some, from_piece}
 use Rattle.piece_moves.proofs.generate.push_moves.Goals as goal
 

@@ -4,8 +4,8 @@ use Rattle.rules_model.specs.Kinds.{is_pawn}
 use Rattle.rules_model.specs.Repeats.{repeat_of}
 use Rattle.rules_model.specs.Squares.{cell_at}
 use Rattle.square_set.specs.Members.{has, size}
-use Rattle.move_sink.specs.InTurn.{Outside, start_of}
-use Rattle.move_sink.specs.Taking.{TakesAll}
+use Rattle.piece_moves.specs.InTurn.{Outside, start_of}
+use Rattle.piece_moves.specs.Taking.{TakesAll}
 use Rattle.piece_moves.specs.Parts.{FitPieceMoves}
 use Rattle.piece_moves.proofs.generate.push_moves.Given as goal
 

@@ -3,8 +3,8 @@ use Rattle.std.proofs.lemmas.Grind.{common_steps}
 use Rattle.std.specs.Fmt.{decimal}
 use Rattle.fen_model.specs.Printing.{fen_text}
 use Rattle.game_play.specs.Played.{legal_in, story}
-use Rattle.game_reports.specs.GameTexts.{perft_of}
-use Rattle.game_reports.specs.OutcomeText.{outcome_text}
+use Rattle.game_text.specs.GameTexts.{perft_of}
+use Rattle.game_text.specs.OutcomeText.{outcome_text}
 use Rattle.rules_model.specs.Games.{result}
 use Rattle.session_model.specs.Generate.{generated_text, value_text}
 use Rattle.random_games.proofs.report.report_of.Goals as goal

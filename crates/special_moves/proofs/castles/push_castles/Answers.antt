@@ -1,7 +1,7 @@
 use Rattle.std.proofs.Common.{ap, sym, ◌∙◌}
 use Rattle.std.proofs.lemmas.Result.{on_ok_weaker, on_err_weaker}
 use Rattle.foundation.proofs.AppendedLemmas.{on_err}
-use Rattle.move_sink.proofs.TakingLemmas.{all-none}
+use Rattle.piece_moves.proofs.TakingLemmas.{all-none}
 use Rattle.rules_model.specs.Castling.{castling_on}
 use Rattle.rules_model.specs.Repeats.{repeat_of}
 use Rattle.special_moves.proofs.BelowLemmas.{either-all, either-left, either-some}

@@ -1,6 +1,6 @@
 use Rattle.std.proofs.Common.{sym, ◌∙◌}
 use Rattle.std.proofs.lemmas.Result.{on_ok_weaker, on_err_weaker}
-use Rattle.move_sink.proofs.TakingLemmas.{all-none, all-same, some-within}
+use Rattle.piece_moves.proofs.TakingLemmas.{all-none, all-same, some-within}
 use Rattle.special_moves.proofs.CastleLemmas.{open-is, rook-beside, wing-none, wing-of, wing-some}
 use Rattle.special_moves.proofs.castles.push_castles_to.Goals as goal
 

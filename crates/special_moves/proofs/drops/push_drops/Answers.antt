@@ -1,6 +1,6 @@
 use Rattle.std.proofs.Common.{arith, sym, ◌∙◌}
 use Rattle.foundation.proofs.AppendedLemmas.{on_err}
-use Rattle.move_sink.proofs.TakingLemmas.{all-none}
+use Rattle.piece_moves.proofs.TakingLemmas.{all-none}
 use Rattle.rules_model.specs.Repeats.{repeat_of}
 use Rattle.special_moves.proofs.BelowLemmas.{below-last, below-more, below-none, below-skip, below-some}
 use Rattle.special_moves.proofs.DropLemmas.{kinds-apart, no-drops, none-held}

@@ -1,4 +1,4 @@
-use Rattle.move_sink.specs.Taking.{TakesAll}
+use Rattle.piece_moves.specs.Taking.{TakesAll}
 use Rattle.rules_model.specs.Repeats.{repeat_of}
 use Rattle.special_moves.specs.Parts.{IsBelow, IsDropOf}
 use Rattle.special_moves.proofs.drops.push_drops.Given as goal

@@ -1,4 +1,4 @@
-use Rattle.move_sink.proofs.TakingLemmas.{all-none}
+use Rattle.piece_moves.proofs.TakingLemmas.{all-none}
 use Rattle.rules_model.specs.Repeats.{repeat_of}
 use Rattle.special_moves.proofs.GateLemmas.{none-there}
 use Rattle.special_moves.proofs.gates.push_gates_from.Goals as goal

@@ -1,8 +1,8 @@
 use Rattle.std.proofs.Common.{◌≡◌, ℕ, Bool, ◌&&◌, ◌<◌, nat_lt, ◌==◌, not, true, sym, ◌∙◌}
 use Rattle.std.proofs.lemmas.Bool.{and_parts, ltb-true}
 use Rattle.foundation.proofs.AppendedLemmas.{on_err}
-use Rattle.move_sink.proofs.TakingLemmas.{all-none, all-same, some-within}
-use Rattle.move_sink.proofs.TurnLemmas.{turn-all, turn-more, turn-none, turn-some}
+use Rattle.piece_moves.proofs.TakingLemmas.{all-none, all-same, some-within}
+use Rattle.piece_moves.proofs.TurnLemmas.{turn-all, turn-more, turn-none, turn-some}
 use Rattle.rules_model.specs.Repeats.{repeat_of}
 use Rattle.square_set.specs.Members.{has}
 use Rattle.special_moves.specs.Parts.{holds_kind}

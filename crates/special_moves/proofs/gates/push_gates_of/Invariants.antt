@@ -1,6 +1,6 @@
 use Rattle.std.proofs.Common.{◌≡◌, ℕ, true}
-use Rattle.move_sink.specs.InTurn.{Outside}
-use Rattle.move_sink.specs.Taking.{TakesAll}
+use Rattle.piece_moves.specs.InTurn.{Outside}
+use Rattle.piece_moves.specs.Taking.{TakesAll}
 use Rattle.rules_model.specs.Repeats.{repeat_of}
 use Rattle.square_set.specs.Members.{has, size}
 use Rattle.special_moves.specs.Parts.{IsGateAt}

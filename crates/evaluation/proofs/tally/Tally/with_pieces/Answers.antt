@@ -6,4 +6,4 @@ pub returns-in-Drop : goal.returns-in-Drop
 returns-in-Drop c =
     rw c.in-Drop.is
     (is_dropped c.args.rules.now (repeat_of c.args.p.now) c.prove_position_sizes.ensures.cells _ _ _ _
-    (rw (c.requires.worths, c.cell_at-before.ensures, c.fresh.ensures) at c.put.ensures))
+    (rw (c.requires.values, c.cell_at-before.ensures, c.fresh.ensures) at c.put.ensures))

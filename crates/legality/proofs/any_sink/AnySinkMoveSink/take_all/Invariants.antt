@@ -1,7 +1,7 @@
 use Rattle.std.proofs.Common.{◌≡◌, ℕ, true}
 use Rattle.square_set.specs.Members.{has, size}
-use Rattle.move_sink.specs.InTurn.{GoesTo, Outside, target_of}
-use Rattle.move_sink.specs.Taking.{TakesAll}
+use Rattle.piece_moves.specs.InTurn.{GoesTo, Outside, target_of}
+use Rattle.piece_moves.specs.Taking.{TakesAll}
 use Rattle.legality.specs.Seeks.{SeesNone}
 use Rattle.legality.proofs.any_sink.AnySinkMoveSink.take_all.Given as goal
 

@@ -4,9 +4,9 @@ use Rattle.foundation.proofs.AppendedLemmas.{on_err}
 use Rattle.rules_model.specs.declared.moves.Move.TheVariants.{Go}
 use Rattle.rules_model.specs.declared.moves.Promo.TheVariants.{Stays}
 use Rattle.square_set.specs.Members.{has, origin}
-use Rattle.move_sink.specs.InTurn.{go_from, target_of}
-use Rattle.move_sink.proofs.GoesLaws.{goes-one, goes-some}
-use Rattle.move_sink.proofs.TurnLemmas.{turn-all, turn-more, turn-some}
+use Rattle.piece_moves.specs.InTurn.{go_from, target_of}
+use Rattle.piece_moves.proofs.GoesLaws.{goes-one, goes-some}
+use Rattle.piece_moves.proofs.TurnLemmas.{turn-all, turn-more, turn-some}
 use Rattle.legality.specs.Choices.{chosen_by}
 use Rattle.legality.specs.Seeks.{SeesNone, SeesOne}
 use Rattle.legality.proofs.SeekLaws.{others_seen, seeker_sink, still_sought}
@@ -15,7 +15,7 @@ use Rattle.legality.proofs.any_sink.AnySinkMoveSink.take_shifted.Goals as goal
 
 pub loop-to-init : goal.loop-to-init
 loop-to-init c = record {
-  within = worth-within (go_from (λ to. record { 0 = origin c.args.shift to }) None) c.args.targets c.told_by-told.result.targets c.told_by-told.result.chosen c.worth-left.result (chosen_by c.args.self.now.choice) c.told_by-told.ensures.within c.told_by-told.ensures.chosen c.worth-left.ensures;
+  within = worth-within (go_from (λ to. record { 0 = origin c.args.shift to }) None) c.args.targets c.told_by-told.result.targets c.told_by-told.result.chosen c.worth-left.result (chosen_by c.args.self.now.move_filter) c.told_by-told.ensures.within c.told_by-told.ensures.chosen c.worth-left.ensures;
   taken = others_seen (go_from (λ to. record { 0 = origin c.args.shift to }) None) c.args.targets c.told_by-told.result.targets c.told_by-told.result.chosen c.worth-left.result c.args.self.now (λ to. refl) c.told_by-told.ensures.within c.told_by-told.ensures.chosen c.worth-left.ensures
       (λ k e. let l = c.requires.targets k e in omega (arith, l));
 }
@@ -24,7 +24,7 @@ pub see-requires : goal.see-requires
 see-requires c =
     OnTrue_from c.has.result _
     (λ e. still_sought _ c.args.self.now c.loop-to.self _ c.loop-to.invariant.taken
-    (subst (λ m. chosen_by c.args.self.now.choice m ≡ true) (sym (ap (λ o. Go (record { 0 = o }) (record { 0 = c.in-Some.to }) Stays None) c.origin.ensures)) (chosen_passes (go_from (λ to. record { 0 = origin c.args.shift to }) None) c.args.targets c.told_by-told.result.targets c.told_by-told.result.chosen c.worth-left.result (chosen_by c.args.self.now.choice) c.told_by-told.ensures.within c.told_by-told.ensures.chosen c.worth-left.ensures c.in-Some.to (sym c.has.ensures ∙ e))))
+    (subst (λ m. chosen_by c.args.self.now.move_filter m ≡ true) (sym (ap (λ o. Go (record { 0 = o }) (record { 0 = c.in-Some.to }) Stays None) c.origin.ensures)) (chosen_passes (go_from (λ to. record { 0 = origin c.args.shift to }) None) c.args.targets c.told_by-told.result.targets c.told_by-told.result.chosen c.worth-left.result (chosen_by c.args.self.now.move_filter) c.told_by-told.ensures.within c.told_by-told.ensures.chosen c.worth-left.ensures c.in-Some.to (sym c.has.ensures ∙ e))))
 
 pub loop-to-preserved : goal.loop-to-preserved
 loop-to-preserved c = record {

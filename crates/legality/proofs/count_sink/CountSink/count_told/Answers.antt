@@ -2,7 +2,7 @@ use Rattle.std.proofs.Common.{◌-◌, ◌^◌, None, refl, ◌∙◌, arith}
 use Rattle.rules_model.specs.declared.board.Square.{Square}
 use Rattle.rules_model.specs.declared.moves.Move.{Move}
 use Rattle.square_set.specs.Members.{origin}
-use Rattle.move_sink.specs.InTurn.{go_from}
+use Rattle.piece_moves.specs.InTurn.{go_from}
 use Rattle.legality.specs.Choices.{chosen_by}
 use Rattle.legality.proofs.AllMade.{made-lists, made_below}
 use Rattle.legality.proofs.GoLaws.{counted_those}
@@ -14,6 +14,6 @@ returns c =
     let told = c.args.told in
     record {
       moves = made_below make told.targets 128;
-      taken = (refl, λ l. counted_those (chosen_by c.args.self.now.choice) make told.targets told.chosen (2 ^ 128 - 1) c.args.self.now.count c.from.result c.saturating_add-self.result (c.from.ensures ∙ c.count.ensures) c.requires.chosen c.saturating_add-self.ensures);
+      taken = (refl, λ l. counted_those (chosen_by c.args.self.now.move_filter) make told.targets told.chosen (2 ^ 128 - 1) c.args.self.now.count c.from.result c.saturating_add-self.result (c.from.ensures ∙ c.count.ensures) c.requires.chosen c.saturating_add-self.ensures);
       each = made-lists make told.targets (λ to. refl) (λ s e. let l = c.requires.targets s e in omega (arith, l));
     }

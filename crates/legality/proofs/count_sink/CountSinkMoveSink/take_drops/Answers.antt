@@ -1,9 +1,9 @@
 use Rattle.std.proofs.Common.{◌-◌, ◌^◌, ◌==◌, not, refl, sym, ◌∙◌}
 use Rattle.std.proofs.lemmas.Bool.{and_parts}
 use Rattle.square_set.specs.Members.{has}
-use Rattle.move_sink.specs.InTurn.{target_of}
-use Rattle.move_sink.proofs.GoesLaws.{drops-one}
-use Rattle.move_sink.proofs.TurnLemmas.{turn-more}
+use Rattle.piece_moves.specs.InTurn.{target_of}
+use Rattle.piece_moves.proofs.GoesLaws.{drops-one}
+use Rattle.piece_moves.proofs.TurnLemmas.{turn-more}
 use Rattle.legality.specs.Choices.{chosen_by}
 use Rattle.legality.specs.Sinks.{Counted, counter_is_sink}
 use Rattle.legality.proofs.DropLaws.{told_counted}
@@ -19,6 +19,6 @@ loop-to-init c = record {
 pub loop-to-preserved : goal.loop-to-preserved
 loop-to-preserved c = record {
   within = λ s e. c.loop-to.invariant.within s (and_parts (has c.loop-to.left s) (not (s == c.in-Some.to)) (sym (c.in-Some.ensures.rest s) ∙ e)).0;
-  taken = turn-more (counter_is_sink (λ counter. counter.choice) (λ counter. counter.count) chosen_by (2 ^ 128 - 1)) _ target_of _ _ _ _ _ _ c.in-Some.ensures.some.member c.in-Some.ensures.rest c.loop-to.invariant.taken
-      (drops-one c.args.kind c.args.targets (Counted (λ counter. counter.choice) (λ counter. counter.count) chosen_by (2 ^ 128 - 1)) _ _ _ _ (c.loop-to.invariant.within _ c.in-Some.ensures.some.member) refl c.in_ok-take.ensures.ok);
+  taken = turn-more (counter_is_sink (λ counter. counter.move_filter) (λ counter. counter.count) chosen_by (2 ^ 128 - 1)) _ target_of _ _ _ _ _ _ c.in-Some.ensures.some.member c.in-Some.ensures.rest c.loop-to.invariant.taken
+      (drops-one c.args.kind c.args.targets (Counted (λ counter. counter.move_filter) (λ counter. counter.count) chosen_by (2 ^ 128 - 1)) _ _ _ _ (c.loop-to.invariant.within _ c.in-Some.ensures.some.member) refl c.in_ok-take.ensures.ok);
 }

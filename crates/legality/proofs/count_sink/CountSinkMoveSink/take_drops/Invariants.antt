@@ -1,6 +1,6 @@
 use Rattle.std.proofs.Common.{◌≡◌, ℕ, true}
 use Rattle.square_set.specs.Members.{has, size}
-use Rattle.move_sink.specs.InTurn.{DropsOf, Outside, target_of}
+use Rattle.piece_moves.specs.InTurn.{DropsOf, Outside, target_of}
 use Rattle.legality.specs.Counts.{CountsAll}
 use Rattle.legality.proofs.count_sink.CountSinkMoveSink.take_drops.Given as goal
 

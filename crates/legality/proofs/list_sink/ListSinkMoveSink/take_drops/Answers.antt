@@ -3,9 +3,9 @@ use Rattle.std.proofs.lemmas.Bool.{OnTrue_from, and_parts}
 use Rattle.foundation.proofs.AppendedLemmas.{on_err}
 use Rattle.rules_model.specs.declared.moves.Move.TheVariants.{Drop}
 use Rattle.square_set.specs.Members.{has}
-use Rattle.move_sink.specs.InTurn.{target_of}
-use Rattle.move_sink.proofs.GoesLaws.{drops-one}
-use Rattle.move_sink.proofs.TurnLemmas.{turn-all, turn-more, turn-some}
+use Rattle.piece_moves.specs.InTurn.{target_of}
+use Rattle.piece_moves.proofs.GoesLaws.{drops-one}
+use Rattle.piece_moves.proofs.TurnLemmas.{turn-all, turn-more, turn-some}
 use Rattle.legality.specs.Choices.{chosen_by}
 use Rattle.legality.specs.Keeps.{Keeps}
 use Rattle.legality.proofs.ListSinkLaws.{keeper_sink, nothing_kept, others_taken, still_chosen}
@@ -14,7 +14,7 @@ use Rattle.legality.proofs.list_sink.ListSinkMoveSink.take_drops.Goals as goal
 
 pub loop-to-init : goal.loop-to-init
 loop-to-init c = record {
-  within = worth-within (Drop c.args.kind) c.args.targets c.told_drops-told.result.targets c.told_drops-told.result.chosen c.worth-left.result (chosen_by c.args.self.now.choice) c.told_drops-told.ensures.within c.told_drops-told.ensures.chosen c.worth-left.ensures;
+  within = worth-within (Drop c.args.kind) c.args.targets c.told_drops-told.result.targets c.told_drops-told.result.chosen c.worth-left.result (chosen_by c.args.self.now.move_filter) c.told_drops-told.ensures.within c.told_drops-told.ensures.chosen c.worth-left.ensures;
   taken = others_taken (Drop c.args.kind) c.args.targets c.told_drops-told.result.targets c.told_drops-told.result.chosen c.worth-left.result c.args.self.now (λ to. refl) c.told_drops-told.ensures.within c.told_drops-told.ensures.chosen c.worth-left.ensures
       (λ k e. let l = c.requires.targets k e in omega (arith, l));
 }
@@ -23,7 +23,7 @@ pub keep-requires : goal.keep-requires
 keep-requires c =
     OnTrue_from c.has.result _
     (λ e. still_chosen _ c.args.self.now c.loop-to.self _ c.loop-to.invariant.taken
-    (chosen_passes (Drop c.args.kind) c.args.targets c.told_drops-told.result.targets c.told_drops-told.result.chosen c.worth-left.result (chosen_by c.args.self.now.choice) c.told_drops-told.ensures.within c.told_drops-told.ensures.chosen c.worth-left.ensures c.in-Some.to (sym c.has.ensures ∙ e)))
+    (chosen_passes (Drop c.args.kind) c.args.targets c.told_drops-told.result.targets c.told_drops-told.result.chosen c.worth-left.result (chosen_by c.args.self.now.move_filter) c.told_drops-told.ensures.within c.told_drops-told.ensures.chosen c.worth-left.ensures c.in-Some.to (sym c.has.ensures ∙ e)))
 
 pub loop-to-preserved : goal.loop-to-preserved
 loop-to-preserved c = record {

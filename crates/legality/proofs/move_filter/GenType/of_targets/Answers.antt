@@ -7,4 +7,4 @@ use Rattle.legality.proofs.move_filter.GenType.of_targets.Goals as goal
 pub returns-in-All : goal.returns-in-All
 returns-in-All c s =
     let targets = c.args.targets in
-    sym (ap (λ part. has targets s && is_in part (has c.args.enemies s)) c.in-All.is ∙ and-true (has targets s))
+    sym (ap (λ gen_type. has targets s && is_in gen_type (has c.args.enemies s)) c.in-All.is ∙ and-true (has targets s))

@@ -4,6 +4,6 @@ use Rattle.legality.proofs.move_filter.MoveFilter.chosen_of.Goals as goal
 
 pub returns-in-None : goal.returns-in-None
 returns-in-None c =
-    let choice = c.args.self.now in
+    let move_filter = c.args.self.now in
     in_some c.lets_king.result c.lets_king.ensures
-    (λ sane are. sane_chosen choice.safety.tables.now (repeat_of choice.safety.p.now) choice.part c.args.from c.args.gate c.args.targets sane c.requires.wanted c.requires.from c.requires.targets c.in-None.is are)
+    (λ sane are. sane_chosen move_filter.pin_info.tables.now (repeat_of move_filter.pin_info.p.now) move_filter.gen_type c.args.from c.args.gate c.args.targets sane c.requires.wanted c.requires.from c.requires.targets c.in-None.is are)

@@ -15,4 +15,4 @@ returns-then-leaves_another c = known c.is_empty.result (λ none to l h.
     let a = and_parts (own && not kings) (not (is_king rules c.args.kind)) (sym c.leaves_another.ensures ∙ c.if-leaves_another.true) in
     let b = and_parts own (not kings) a.0 in
     let enter = missed _ _ h (sym (c.minus.ensures to.0) ∙ holds c.is_empty.result none c.is_empty.ensures.empty to.0) in
-    not_safe_not_sane _ _ _ (now.gate_in_vain c.args.kind c.args.from to c.requires.from l b.0 (not-true kings b.1) enter (not-true (is_king rules c.args.kind) a.1)))
+    not_safe_not_sane _ _ _ (now.gate_without_evading c.args.kind c.args.from to c.requires.from l b.0 (not-true kings b.1) enter (not-true (is_king rules c.args.kind) a.1)))

@@ -23,7 +23,7 @@ invariant_of-result c =
       drop_freely = subst Drops same c.free_squares-free.ensures.drops;
       go_at_once = subst GoesAtOnce same c.free_at_once-at_once.ensures.goes;
       gate_at_once = subst GatesAtOnce same c.free_at_once-at_once.ensures.gates;
-      go_in_vain = c.vain_unless_free-vain.ensures.go;
-      drop_in_vain = c.vain_unless_free-vain.ensures.drop;
-      gate_in_vain = c.vain_unless_free-vain.ensures.gate;
+      go_without_evading = c.non_evading_unless_free-non_evading.ensures.go;
+      drop_without_evading = c.non_evading_unless_free-non_evading.ensures.drop;
+      gate_without_evading = c.non_evading_unless_free-non_evading.ensures.gate;
     }

@@ -3,7 +3,7 @@ use Rattle.rules_model.specs.declared.rules.Rules.{Rules}
 use Rattle.rules_model.specs.Repeats.{repeat_of}
 use Rattle.board_sets.specs.Sets.{AreSets}
 use Rattle.legality.proofs.UnpinnedLaws.{none_dropped, none_freely, none_gating, none_going}
-use Rattle.legality.proofs.NonEvadingLaws.{none_dropped_in_vain, none_gating_in_vain, none_goes_in_vain}
+use Rattle.legality.proofs.NonEvadingLaws.{none_dropped_without_evading, none_gating_without_evading, none_goes_without_evading}
 use Rattle.legality.proofs.pin_info.PinInfo.of_few.Goals as goal
 
 pub invariant_of-result : goal.invariant_of-result
@@ -15,7 +15,7 @@ invariant_of-result c =
       drop_freely = none_dropped c.args.tables.now (repeat_of c.args.p.now);
       go_at_once = none_going c.args.tables.now (repeat_of c.args.p.now) c.args.sets.now.own;
       gate_at_once = none_gating c.args.tables.now (repeat_of c.args.p.now) c.args.sets.now.own c.args.sets.now.kings;
-      go_in_vain = none_goes_in_vain c.args.tables.now (repeat_of c.args.p.now) (record { 0 = 0 });
-      drop_in_vain = none_dropped_in_vain c.args.tables.now (repeat_of c.args.p.now);
-      gate_in_vain = none_gating_in_vain c.args.tables.now (repeat_of c.args.p.now) c.args.sets.now.own c.args.sets.now.kings;
+      go_without_evading = none_goes_without_evading c.args.tables.now (repeat_of c.args.p.now) (record { 0 = 0 });
+      drop_without_evading = none_dropped_without_evading c.args.tables.now (repeat_of c.args.p.now);
+      gate_without_evading = none_gating_without_evading c.args.tables.now (repeat_of c.args.p.now) c.args.sets.now.own c.args.sets.now.kings;
     }

@@ -1,3 +1,0 @@
-pub mod MovesText
-pub mod OutcomeText
-pub mod GameTexts

@@ -1,4 +1,0 @@
-use Rattle.legality.proofs.search.early_end_with.Goals as goal
-
-pub early_end_by-requires-clause-occupied : goal.early_end_by-requires-clause-occupied
-early_end_by-requires-clause-occupied c = c.occupied.ensures c.args.rules.now c.args.p.now.side c.args.p.now.cells c.requires.sets

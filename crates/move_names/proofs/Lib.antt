@@ -1,6 +1,0 @@
-pub mod SquareLaws
-pub mod EndingLaws
-pub mod CastleLaws
-pub mod ReadLaws
-pub mod LegalLaws
-pub mod FormLaws

@@ -1,3 +1,0 @@
-pub mod GoesLaws
-pub mod TakingLemmas
-pub mod TurnLemmas

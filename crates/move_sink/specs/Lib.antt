@@ -1,3 +1,0 @@
-pub mod InTurn
-pub mod Listed
-pub mod Taking

@@ -1,6 +1,0 @@
-use Rattle.std.proofs.Common.{subst, sym}
-use Rattle.rules_model.specs.Fit.{IsFit}
-use Rattle.negamax.proofs.ends.worths_of.Goals as goal
-
-pub of-requires : goal.of-requires
-of-requires c = subst IsFit (sym c.rules.ensures) c.prove_ready.ensures.fit

@@ -1,6 +1,0 @@
-use Rattle.move_sink.specs.Taking.{TakesAll}
-use Rattle.pawn_moves.specs.Parts.{IsPromotion}
-use Rattle.pawn_moves.proofs.generate.push_promotions.Given as goal
-
-abbrev pub invariant-loop-k : goal.invariant-loop-k
-invariant-loop-k g l = TakesAll g.S.MoveSink.takes (IsPromotion l.kinds l.from l.to l.k) l.initial.out l.out
