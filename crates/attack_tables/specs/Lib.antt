@@ -1,5 +1,6 @@
 pub mod Boards
 pub mod Goals
+pub mod KindMasks
 pub mod Masks
 pub mod PawnMasks
 pub mod PawnSpots

@@ -2,6 +2,7 @@
 #![tactic(auto)]
 
 mod alike;
+mod kind_masks;
 mod masks;
 mod pawns;
 mod regions;

@@ -17,7 +17,8 @@ pub(crate) fn side_of(n: usize) -> Side
     if n == 0 { Side::White } else { Side::Black }
 }
 
-fn range_of_kind(moves: &MoveTables, side: Side, kind: u8, from: u8) -> Set
+/// The squares on which a piece of the kind may take from the square.
+pub(crate) fn range_of_kind(moves: &MoveTables, side: Side, kind: u8, from: u8) -> Set
     requires kind { kind < 26 }
     requires from { from < 120 }
     ensures { (at : ℕ) → at < 120 → has result at ≡ false → Masks.NeverTakes moves.now side kind from at }

@@ -15,12 +15,14 @@ ghost use Rattle.move_tables.specs.Reached as Reached;
 ghost use Rattle.move_tables.specs.Spots as Spots;
 ghost use Rattle.attack_tables.specs.Boards.{HoldsMen, OnEachBoard, OnEachWithKing};
 ghost use Rattle.attack_tables.specs.Goals as Goals;
+ghost use Rattle.attack_tables.specs.KindMasks.{IsKindMask};
 ghost use Rattle.attack_tables.specs.Masks.{IsMask};
 ghost use Rattle.attack_tables.specs.PawnMasks.{ArePawnMasks};
 ghost use Rattle.attack_tables.specs.RegionSets.{IsSideRegion};
 ghost use Rattle.attack_tables.specs.Sights.{IsSightOf};
 
 use crate::alike::alike_kinds;
+use crate::kind_masks::{kind_masks, kind_place_of};
 use crate::masks::{masks, place_of};
 use crate::pawns::{PawnMasks, pawn_masks};
 use crate::regions::RegionSets;
@@ -40,6 +42,7 @@ use std::marker::Model;
 pub struct Tables {
     moves: MoveTables,
     masks: Vec<Set>,
+    kind_masks: Vec<Set>,
     sights: Vec<Sight>,
     alike: Vec<bool>,
     white_pawns: PawnMasks,
@@ -55,6 +58,7 @@ impl Model for Tables {
     ghost use Rattle.rules_model.specs.Castling.{castling_on};
     ghost use Rattle.rules_model.specs.Fit.{IsFit};
     ghost use Rattle.attack_tables.specs.Goals.{AreAlike};
+    ghost use Rattle.attack_tables.specs.KindMasks.{AreKindMasks};
     ghost use Rattle.attack_tables.specs.Masks.{AreMasks};
     ghost use Rattle.rules_model.specs.declared.board.Side.TheVariants.{White, Black};
     ghost use Rattle.attack_tables.specs.PawnMasks.{ArePawnMasks};
@@ -69,7 +73,7 @@ impl Model for Tables {
         IsFit t.moves × AreMasks t.moves t.masks.items × AreSights t.sights.items × AreAlike t.moves t.alike.items
         × ArePawnMasks t.moves White t.white_pawns × ArePawnMasks t.moves Black t.black_pawns
         × AreSideRegions t.moves.flag_region t.flag_regions × AreSideRegions t.moves.drop_region t.drop_regions
-        × (t.castling ≡ castling_on t.moves) };
+        × (t.castling ≡ castling_on t.moves) × AreKindMasks t.moves t.kind_masks.items };
 }
 
 /// What stands on the square.
@@ -81,7 +85,7 @@ pub fn cell_on(cells: &[Option<Cell>; 120], at: u8) -> Option<Cell>
 }
 
 impl Tables {
-    /// The tables of the rules, or `Memory`. They take some 1.2 MB for a spot of each side, kind, mode and square of
+    /// The tables of the rules, or `Memory`. They take some 1.3 MB for a spot of each side, kind, mode and square of
     /// the largest board, and for each line of a slider or hopper from such a square, as for each jump of a lame
     /// leaper, 32 bytes more: a queen takes some 120 KB, 24 queens some 3 MB.
     pub fn new(alloc: Global, rules: &Rules) -> Result<Tables, Memory>
@@ -90,6 +94,7 @@ impl Tables {
     {
         let moves = MoveTables::new(alloc, rules)?;
         let masks = masks(alloc, &moves)?;
+        let kind_masks = kind_masks(alloc, &moves, &masks)?;
         let sights = sights(alloc)?;
         let alike = alike_kinds(alloc, rules)?;
         let white_pawns = pawn_masks(rules, Side::White);
@@ -100,6 +105,7 @@ impl Tables {
         Ok(Tables {
             moves,
             masks,
+            kind_masks,
             sights,
             alike,
             white_pawns,
@@ -230,6 +236,15 @@ impl Tables {
         ensures { IsMask self.now by at.0 result }
     {
         self.masks[place_of(by, at.0)]
+    }
+
+    /// Squares outside of which no piece of the side and the kind takes on the square on any board.
+    pub fn takers_of(&self, by: Side, kind: Kind, at: Square) -> Set
+        requires kind { kind.0 < 26 }
+        requires at { at.0 < 120 }
+        ensures { IsKindMask self.now by kind.0 at.0 result }
+    {
+        self.kind_masks[kind_place_of(by, at.0, kind.0)]
     }
 
     /// The other squares of the square's file, above it and below.

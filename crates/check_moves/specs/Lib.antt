@@ -1,3 +1,4 @@
 pub mod Shut
 pub mod Checks
 pub mod Flights
+pub mod Listing

@@ -4,7 +4,9 @@
 
 mod checks;
 mod flights;
+mod listing;
 mod shut;
 
 pub use checks::{Checks, checks_of, gives_check, may_check};
 pub use flights::{Flight, KnownFlights, LoneKing};
+pub use listing::push_checks;

@@ -1,3 +1,5 @@
+pub mod AskedChoices
+pub mod Asking
 pub mod Choices
 pub mod Chosen
 pub mod Counts

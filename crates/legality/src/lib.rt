@@ -2,6 +2,8 @@
 #![tactic(auto)]
 
 mod any_sink;
+mod asked;
+mod asked_sink;
 mod candidates;
 mod capture;
 mod count_sink;
@@ -19,6 +21,7 @@ mod pin_squares;
 mod queries;
 mod sorting;
 
+pub use asked::Asked;
 pub use capture::captures;
 pub use early_end::early_end_with;
 pub use list::legal_moves;

@@ -5,9 +5,13 @@ ghost use Rattle.rules_model.specs.Fit.{IsFit};
 ghost use Rattle.rules_model.specs.Legal.{legal};
 ghost use Rattle.rules_model.specs.Ready.{IsReady};
 ghost use Rattle.rules_model.specs.Repeats.{repeat_of};
+ghost use Rattle.legality.specs.AskedChoices.{AppendsAsked};
+ghost use Rattle.legality.specs.Asking.{IsAskedIn};
 ghost use Rattle.legality.specs.Chosen.{AppendsChosen};
 ghost use Rattle.legality.specs.Stance.{IsCaptureIn, IsOtherIn, legal_in};
 
+use crate::asked::Asked;
+use crate::asked_sink::AskedSink;
 use crate::candidates::push_candidates;
 use crate::list_sink::ListSink;
 use crate::move_filter::{GenType, MoveFilter};
@@ -65,6 +69,41 @@ fn push_chosen(move_filter: MoveFilter<'_>, out: &mut MoveList) -> Result<(), Me
     }
 }
 
+/// Appends the candidates that are chosen and asked for, each once. Without memory the list is as it was.
+fn push_asked_of(
+    move_filter: MoveFilter<'_>,
+    asked: &Asked,
+    out: &mut MoveList,
+) -> Result<(), Memory>
+    requires { IsFit move_filter.pin_info.tables.now }
+    ensures ok { OnOk result (AppendsAsked asked.now move_filter.entry.pin_info.tables.now
+        (repeat_of move_filter.entry.pin_info.p.now) move_filter.entry.gen_type out.old out.new) }
+    ensures err { OnErr result (out.new ≡ out.old) }
+{
+    let pin_info = move_filter.pin_info;
+    let start = length_of(out);
+    let list = emptied(out)?;
+    let mut sink = AskedSink {
+        keeper: ListSink { move_filter, list },
+        asked,
+    };
+    let pushed = push_candidates(
+        pin_info.tables.rules(),
+        pin_info.tables,
+        pin_info.p,
+        &pin_info.sets,
+        &mut sink,
+    );
+    mem::swap(out, &mut sink.keeper.list);
+    match pushed {
+        Ok(()) => Ok(()),
+        Err(full) => {
+            out.items.truncate(start);
+            Err(full)
+        }
+    }
+}
+
 impl MoveGen<'_> {
     /// Appends the legal moves, each once and in no special order. Without memory the list is as it was.
     pub fn push_legal(&self, out: &mut MoveList) -> Result<(), Memory>
@@ -76,6 +115,19 @@ impl MoveGen<'_> {
         }
         let (pin_info, gen_type) = (self.pin_info, self.legal_gen_type());
         push_chosen(MoveFilter { pin_info, gen_type }, out)
+    }
+
+    /// Appends the legal moves that are asked for, each once and in no special order. Without memory the list is as it
+    /// was.
+    pub fn push_asked(&self, asked: &Asked, out: &mut MoveList) -> Result<(), Memory>
+        ensures ok { OnOk result (Appends (IsAskedIn asked.now self.now) out.old out.new) }
+        ensures err { OnErr result (out.new ≡ out.old) }
+    {
+        if !self.goes_on() {
+            return Ok(());
+        }
+        let (pin_info, gen_type) = (self.pin_info, self.legal_gen_type());
+        push_asked_of(MoveFilter { pin_info, gen_type }, asked, out)
     }
 
     /// Appends the legal moves that capture, each once and in no special order. Without memory the list is as it was.

@@ -4,3 +4,4 @@ pub mod Known
 pub mod Choices
 pub mod LastMoves
 pub mod Refuters
+pub mod Tried

@@ -1,7 +1,7 @@
 //! The attacker's last move, which wins by what it does itself and by no reply to it.
 ghost use Rattle.std.specs.Prelude.{◌≡◌, true, false, None, Some, IfSome, OnSome};
 ghost use Rattle.std.specs.Bool.{OnTrue};
-ghost use Rattle.foundation.specs.Member.{Member, Lists};
+ghost use Rattle.foundation.specs.Member.{Member};
 ghost use Rattle.check_moves.specs.Checks.{AreChecksIn};
 ghost use Rattle.check_moves.specs.Flights.{AreFlights};
 ghost use Rattle.forced_wins.specs.Facts as Facts;
@@ -9,6 +9,7 @@ ghost use Rattle.mate_core.specs.Runs.{IsTrueIn};
 ghost use Rattle.mate_fact.specs.InFrame as In;
 ghost use Rattle.mate_settle.specs.Known.{Answers};
 ghost use Rattle.mate_settle.specs.LastMoves as Last;
+ghost use Rattle.mate_settle.specs.Tried as Tried;
 ghost use Rattle.rules_model.specs.declared.moves.Move.{Move};
 ghost use Rattle.rules_model.specs.Next.{next};
 ghost use Rattle.rules_model.specs.Sides.{same_side};
@@ -78,7 +79,7 @@ fn wins_at_once(frame: &Frame, board: &Board) -> bool
 }
 
 /// What is known of the checks, where no move wins at once that gives none.
-fn winning_checks(frame: &Frame, board: &Board) -> Option<Checks>
+pub(crate) fn winning_checks(frame: &Frame, board: &Board) -> Option<Checks>
     ensures only { OnSome result (Last.only_checks_win frame.now.rules ≡ true) }
     ensures known { IfSome result (λ checks. AreChecksIn board.now checks) }
 {
@@ -174,9 +175,16 @@ fn wins_by(
 }
 
 /// A move that wins at once, if there is one among these.
-fn winning_move(frame: &Frame, board: &Board, moves: &[Move]) -> Option<Move>
+fn winning_move(
+    frame: &Frame,
+    board: &Board,
+    moves: &[Move],
+    checks: &Option<Checks>,
+) -> Option<Move>
     requires rules { board.now.rules ≡ frame.now.rules }
     requires movers { Last.only_movers_win frame.now.rules ≡ true }
+    requires only { OnSome checks.now (Last.only_checks_win frame.now.rules ≡ true) }
+    requires known { IfSome checks.now (λ checks. AreChecksIn board.now checks) }
     requires attack { In.IsAttackIn frame.now board.now.position }
     requires legal { (m : Move) → Member m moves.now → Member m (In.legal_in frame.now board.now.position) }
     ensures listed { IfSome result (λ m. Member m moves.now) }
@@ -184,11 +192,10 @@ fn winning_move(frame: &Frame, board: &Board, moves: &[Move]) -> Option<Move>
     ensures none { result ≡ None → (m : Move) → Member m moves.now →
         In.near_in frame.now 0 (next frame.now.rules board.now.position m) ≡ false }
 {
-    let checks = winning_checks(frame, board);
     let mut flights = KnownFlights::of(board);
     for i in 0..moves.len() {
         let chosen = moves[i];
-        if wins_by(frame, board, &chosen, &checks, &mut flights) {
+        if wins_by(frame, board, &chosen, checks, &mut flights) {
             return Some(chosen);
         }
     }
@@ -211,17 +218,24 @@ fn win_in_one(frame: &Frame, p: &Position, m: Move) -> Fact
     }
 }
 
-/// Whether the attacker wins by his last move, which is one of these: a true fact that says it.
-pub(crate) fn by_last_move(frame: &Frame, board: &Board, moves: &[Move]) -> Fact
+/// Whether the attacker wins by his last move, where each that does so is one of these: a true fact that says it.
+pub(crate) fn by_last_move(
+    frame: &Frame,
+    board: &Board,
+    moves: &[Move],
+    checks: &Option<Checks>,
+) -> Fact
     requires rules { board.now.rules ≡ frame.now.rules }
     requires movers { Last.only_movers_win frame.now.rules ≡ true }
+    requires only { OnSome checks.now (Last.only_checks_win frame.now.rules ≡ true) }
+    requires known { IfSome checks.now (λ checks. AreChecksIn board.now checks) }
     requires attack { In.IsAttackIn frame.now board.now.position }
-    requires moves { Lists (λ m. Member m (In.legal_in frame.now board.now.position)) moves.now }
+    requires moves { Tried.HoldsWins frame.now board.now.position moves.now }
     ensures serves { Answers board.now 1 result }
     ensures truth { IsTrueIn frame.now result }
 {
     let p = board.position();
-    match winning_move(frame, board, moves) {
+    match winning_move(frame, board, moves, checks) {
         Some(chosen) => win_in_one(frame, p, chosen),
         None => refuted_by_all_within(frame, p, 0),
     }

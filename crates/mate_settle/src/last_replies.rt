@@ -1,19 +1,54 @@
 //! The last moves: the attacker's, and the reply before it. No node is entered for them.
-ghost use Rattle.std.specs.Prelude.{◌≡◌, true, false, IfOk, IfSome};
+ghost use Rattle.std.specs.Prelude.{◌≡◌, true, false, not, IfOk, IfSome};
+ghost use Rattle.foundation.specs.Member.{Member};
+ghost use Rattle.legality.specs.Stance.{legal_in, repeat_in};
+ghost use Rattle.rules_model.specs.declared.moves.Move.{Move};
+ghost use Rattle.rules_model.specs.Legal.{is_stuck};
+ghost use Rattle.check_moves.specs.Checks.{AreChecksIn};
 ghost use Rattle.mate_core.specs.Runs.{IsTrueIn};
 ghost use Rattle.mate_settle.specs.Known.{Answers};
 ghost use Rattle.mate_settle.specs.LastMoves as Last;
+ghost use Rattle.mate_settle.specs.Tried as Tried;
 ghost use Rattle.mate_settle.specs.Refuters.{IsRefuter};
 ghost use Rattle.rules_model.specs.Sides.{same_side};
 
 use crate::fact_table::{FactTable, REFUTERS};
-use crate::last_moves::{by_last_move, only_movers_win};
+use crate::last_moves::{by_last_move, only_movers_win, winning_checks};
 use crate::settling::{decide, known_now, legal_list};
+use check_moves::{Checks, push_checks};
 use mate_core::{Fact, Frame};
 use mate_fact::end_of;
 use playing::Board;
-use rules_model::{Memory, Move, Outcome};
+use rules_model::{Memory, Move, MoveList, Outcome};
 use std::alloc::Global;
+
+/// Legal moves, each that gives check among them where only checks win, and all where not; or `Memory`.
+fn last_moves(alloc: Global, board: &Board, checks: &Option<Checks>) -> Result<MoveList, Memory>
+    requires known { IfSome checks.now (λ checks. AreChecksIn board.now checks) }
+    ensures { IfOk result (λ ms. Tried.AreTried board.now checks.now ms.items) }
+{
+    match checks {
+        Some(checks) => {
+            let mut moves = MoveList {
+                items: Vec::new(alloc),
+            };
+            push_checks(board, checks, &mut moves)?;
+            Ok(moves)
+        }
+        None => legal_list(alloc, board),
+    }
+}
+
+/// Whether some move is legal, where these are some of the legal moves.
+fn some_legal(board: &Board, moves: &[Move]) -> bool
+    requires { (m : Move) → Member m moves.now → Member m (legal_in board.now) }
+    ensures { result ≡ not (is_stuck board.now.rules (repeat_in board.now)) }
+{
+    if moves.is_empty() {
+        return board.any_legal();
+    }
+    true
+}
 
 /// Whether the attacker, who is to move, wins by one move: a true fact that says it; or `Memory`.
 fn by_one_move(alloc: Global, frame: &Frame, board: &Board) -> Result<Fact, Memory>
@@ -23,11 +58,12 @@ fn by_one_move(alloc: Global, frame: &Frame, board: &Board) -> Result<Fact, Memo
     ensures truth { IfOk result (IsTrueIn frame.now) }
     ensures serves { IfOk result (Answers board.now 1) }
 {
-    let moves = legal_list(alloc, board)?;
+    let checks = winning_checks(frame, board);
+    let moves = last_moves(alloc, board, &checks)?;
     let list = moves.items.as_slice();
-    match known_now(frame, board, 1, !list.is_empty()) {
+    match known_now(frame, board, 1, some_legal(board, list)) {
         Some(fact) => Ok(fact),
-        None => Ok(by_last_move(frame, board, list)),
+        None => Ok(by_last_move(frame, board, list, &checks)),
     }
 }
 

@@ -4,10 +4,11 @@ ghost use Rattle.foundation.specs.Member.{Member, Appends};
 ghost use Rattle.rules_model.specs.Allowed as Allowed;
 ghost use Rattle.rules_model.specs.Legal as Legal;
 ghost use Rattle.rules_model.specs.Next as Next;
+ghost use Rattle.legality.specs.Asking as Asking;
 ghost use Rattle.legality.specs.Stance as Stance;
 
 use crate::board::Board;
-use legality::{captures, is_legal_with};
+use legality::{Asked, captures, is_legal_with};
 use rules_model::{Memory, Move, MoveList};
 use std::alloc::Global;
 
@@ -41,6 +42,15 @@ impl Board<'_> {
         ensures err { OnErr result (out.new ≡ out.old) }
     {
         self.known().push_legal(out)
+    }
+
+    /// Appends the legal moves that are asked for, each once and in no special order. Without memory the list is as it
+    /// was.
+    pub fn push_asked(&self, asked: &Asked, out: &mut MoveList) -> Result<(), Memory>
+        ensures ok { OnOk result (Appends (Asking.IsAskedIn asked.now self.now) out.old out.new) }
+        ensures err { OnErr result (out.new ≡ out.old) }
+    {
+        self.known().push_asked(asked, out)
     }
 
     /// Appends the legal moves that capture, each once and in no special order. Without memory the list is as it was.

@@ -1,0 +1,106 @@
+//! Moves that are asked for by the square that is left, and by the kind that comes to another.
+ghost use Rattle.std.specs.Prelude.{◌≡◌, ◌<◌, ℕ, true, ◌&&◌, ◌||◌, not};
+ghost use Rattle.square_set.specs.Members.{has, length_of, HasOrigin};
+ghost use Rattle.rules_model.specs.Moves.{IsFitMove};
+ghost use Rattle.rules_model.specs.Repeats.{repeat_of};
+ghost use Rattle.legality.specs.Asking as Asking;
+
+use attack_tables::cell_on;
+use rules_model::passing::is_stays;
+use rules_model::{KINDS, Kind, Move, Position, Square};
+use square_set::{EMPTY, Set, Shift};
+
+/// Which moves are asked for: of those that leave a square of `shut`, or are dropped on one, and stay what they are
+/// without a gate, only those to the squares of their kind; castles and all other moves.
+#[derive(Clone, Copy)]
+pub struct Asked {
+    /// Squares from which not all moves are asked for.
+    pub shut: Set,
+    /// For each kind the squares to which its moves are asked for all the same.
+    pub to: [Set; KINDS],
+}
+
+impl Asked {
+    /// Of the targets, those of the kind. A kind above 25 has none of its own: all are asked for.
+    fn of_kind(&self, kind: Kind, targets: Set) -> Set
+        ensures { (s : ℕ) → has result s ≡ (has targets s && Asking.is_to self.now kind s) }
+    {
+        if kind.0 < 26 {
+            targets.and(self.to[kind.0 as usize])
+        } else {
+            targets
+        }
+    }
+
+    /// Of the targets of the piece that goes from the square and stays what it is, those that are asked for.
+    pub(crate) fn of_targets(
+        &self,
+        p: &Position,
+        from: Square,
+        gate: Option<Kind>,
+        targets: Set,
+    ) -> Set
+        requires from { from.0 < 120 }
+        ensures { (s : ℕ) → has result s ≡ (has targets s && Asking.is_asked_to self.now (repeat_of p.now) from gate s) }
+    {
+        if gate.is_some() {
+            return targets;
+        }
+        if !self.shut.has(from.0) {
+            return targets;
+        }
+        match cell_on(&p.cells, from.0) {
+            None => targets,
+            Some(piece) => {
+                if piece.side.is(p.side) {
+                    self.of_kind(piece.kind, targets)
+                } else {
+                    targets
+                }
+            }
+        }
+    }
+
+    /// Of the targets to which the shift leads, those to which a move by it is asked for.
+    pub(crate) fn of_shift(&self, p: &Position, shift: Shift, targets: Set) -> Set
+        requires length { length_of shift < 128 }
+        requires starts { (s : ℕ) → has targets s ≡ true → HasOrigin shift 120 s }
+        ensures { (s : ℕ) → has result s ≡ (has targets s && Asking.is_asked_by self.now (repeat_of p.now) shift s) }
+    {
+        let mut asked = EMPTY;
+        let mut left = targets;
+        while let Some(to) = left.take_first() {
+            let one = EMPTY.with(to);
+            asked = asked.or(self.of_targets(p, Square(shift.origin(to)), None, one));
+        }
+        asked
+    }
+
+    /// Of the targets, those on which a drop of the kind is asked for.
+    pub(crate) fn of_drops(&self, kind: Kind, targets: Set) -> Set
+        requires { kind.0 < 26 }
+        ensures { (s : ℕ) → has result s ≡ (has targets s && Asking.is_drop_asked self.now kind s) }
+    {
+        targets.minus(self.shut).or(self.of_kind(kind, targets))
+    }
+
+    /// Whether the fit move is asked for.
+    pub(crate) fn asks(&self, p: &Position, m: &Move) -> bool
+        requires { IsFitMove m.now }
+        ensures { result ≡ Asking.is_asked self.now (repeat_of p.now) m.now }
+    {
+        match *m {
+            Move::Go {
+                from,
+                to,
+                promo,
+                gate,
+            } => {
+                let one = EMPTY.with(to.0);
+                !is_stays(promo) || self.of_targets(p, from, gate, one).has(to.0)
+            }
+            Move::Castle { .. } => true,
+            Move::Drop { kind, to } => self.of_drops(kind, EMPTY.with(to.0)).has(to.0),
+        }
+    }
+}

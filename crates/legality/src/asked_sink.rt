@@ -1,0 +1,66 @@
+//! The list of the candidates that are chosen and asked for.
+ghost use Rattle.std.specs.Prelude.{◌≡◌};
+ghost use Rattle.legality.specs.AskedChoices.{asked_by};
+ghost use Rattle.legality.specs.Sinks.{Kept, keeper_is_sink};
+
+use crate::asked::Asked;
+use crate::list_sink::ListSink;
+use foundation::Memory;
+use piece_moves::MoveSink;
+use rules_model::{Kind, Move, Square};
+use square_set::{Set, Shift};
+
+/// Puts the candidates that are chosen and asked for at the end of a list. The others are not looked at.
+#[derive(Drop)]
+pub(crate) struct AskedSink<'a> {
+    pub keeper: ListSink<'a>,
+    pub asked: &'a Asked,
+}
+
+impl<'a> AskedSink<'a> {
+    ghost use Rattle.legality.specs.AskedChoices.{filter_of};
+
+    /// Whether the move is chosen and asked for.
+    fn chooses(&self, m: &Move) -> bool
+        ensures { result ≡ asked_by (filter_of self.now) m.now }
+    {
+        let move_filter = &self.keeper.move_filter;
+        move_filter.holds(m) && self.asked.asks(move_filter.pin_info.p, m)
+    }
+}
+
+impl<'a> MoveSink for AskedSink<'a> {
+    ghost use Rattle.legality.specs.AskedChoices.{filter_of};
+
+    ghost takes = { Kept filter_of (λ sink. sink.keeper.list) asked_by };
+
+    ghost stops = { Kept filter_of (λ sink. sink.keeper.list) asked_by };
+
+    ghost law = { keeper_is_sink filter_of (λ sink. sink.keeper.list) asked_by };
+
+    type Full = Memory;
+
+    fn take(&mut self, m: Move) -> Result<(), Memory> {
+        if self.chooses(&m) {
+            self.keeper.list.take(m)?;
+        }
+        Ok(())
+    }
+
+    fn take_all(&mut self, from: Square, gate: Option<Kind>, targets: Set) -> Result<(), Memory> {
+        let p = self.keeper.move_filter.pin_info.p;
+        let asked = self.asked.of_targets(p, from, gate, targets);
+        self.keeper.take_all(from, gate, asked)
+    }
+
+    fn take_shifted(&mut self, shift: Shift, targets: Set) -> Result<(), Memory> {
+        let p = self.keeper.move_filter.pin_info.p;
+        let asked = self.asked.of_shift(p, shift, targets);
+        self.keeper.take_shifted(shift, asked)
+    }
+
+    fn take_drops(&mut self, kind: Kind, targets: Set) -> Result<(), Memory> {
+        let asked = self.asked.of_drops(kind, targets);
+        self.keeper.take_drops(kind, asked)
+    }
+}
