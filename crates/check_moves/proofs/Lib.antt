@@ -1,3 +1,4 @@
 pub mod ShutLaws
 pub mod ComeLaws
 pub mod FlightLaws
+pub mod ListingLaws

@@ -1,4 +1,6 @@
 pub mod AllMade
+pub mod AskedLaws
+pub mod AskingLaws
 pub mod BoardLaws
 pub mod CandidateFit
 pub mod CandidateParts

@@ -24,7 +24,10 @@ use Rattle.rules_model.proofs.LegalLaws.{every-fit, every-has, legal-member, leg
 use Rattle.legality.specs.declared.move_filter.GenType.{GenType}
 use Rattle.legality.specs.declared.move_filter.GenType.TheVariants.{All, Captures, Quiets}
 use Rattle.legality.specs.Chosen.{AppendsChosen, FitCandidates, can_go, is_chosen, is_fit_move, is_in, is_wanted, legal_gen_type, only_captures, gen_type_of}
-use Rattle.legality.proofs.FitLaws.{from_fit}
+use Rattle.legality.specs.declared.asked.Asked.{Asked}
+use Rattle.legality.specs.AskedChoices.{AppendsAsked}
+use Rattle.legality.specs.Asking.{is_asked}
+use Rattle.legality.proofs.FitLaws.{fit_from, from_fit}
 
 -- a legal capture
 abbrev pub IsLegalCapture : Rules → Repeat → Move → Type 0
@@ -99,6 +102,10 @@ module _ (rules : Rules) (r : Repeat) (gen_type : GenType) where
   unfolding is_chosen
   chosen_parts m e =
       let k = and_parts (is_wanted rules r gen_type m) (is_sane rules r m) (and_parts (is_fit_move m) (is_wanted rules r gen_type m && is_sane rules r m) e).1 in (k.1, k.0)
+
+  pub chosen_fit : (m : Move) → is_chosen rules r gen_type m ≡ true → IsFitMove m
+  unfolding is_chosen
+  chosen_fit m e = fit_from m (and_parts (is_fit_move m) (is_wanted rules r gen_type m && is_sane rules r m) e).0
 
   from_parts : (m : Move) → IsFitMove m → is_sane rules r m ≡ true → is_wanted rules r gen_type m ≡ true → is_chosen rules r gen_type m ≡ true
   unfolding is_chosen
@@ -297,6 +304,28 @@ module _ (rules : Rules) (r : Repeat) where
       each = subst (λ p. Lists (λ m. Member m (legal rules r)) (filter (is_chosen rules r p) a.moves)) (sym e) (chosen_legal rules r a.moves on a.each);
     }
 
+    -- those that are asked for as well
+    pub appended_asked : (asked : Asked) (gen_type : GenType) (old new : List Move) → gen_type ≡ legal_gen_type rules r → AppendsAsked asked rules r gen_type old new → Appends (λ m. Member m (legal rules r) × (is_asked asked r m ≡ true)) old new
+    appended_asked asked gen_type old new e a =
+        let both : Move → Bool = λ m. is_chosen rules r gen_type m && is_asked asked r m in
+        record {
+          added = filter both a.moves;
+          is = a.taken;
+          each = record {
+            once = once_filter both a.moves a.each.once;
+            sound = λ m h.
+                let k = filter-member both m a.moves h in
+                let fit = a.each.sound m k.0 in
+                let p = and_parts (is_chosen rules r gen_type m) (is_asked asked r m) k.1 in
+                let w = chosen_allowed rules r gen_type m fit p.0 in
+                (legal_from rules r m fit.0 on w.0 (subst (λ t. is_wanted rules r t m ≡ true) e w.1), p.1);
+            complete = λ m h.
+                let wanted = subst (λ t. is_wanted rules r t m ≡ true) (sym e) (legal_parts rules r m h.0).3 in
+                let k = legal_chosen gen_type m h.0 wanted in
+                member-filter both m a.moves (a.each.complete m k.0) (and_from _ _ k.1 h.1);
+          };
+        }
+
     capture_legal : (m : Move) → FitCandidates rules r m → is_chosen rules r Captures m ≡ true → IsLegalCapture rules r m
     capture_legal m fit e =
         let k = chosen_allowed rules r Captures m fit e in
@@ -317,6 +346,9 @@ module _ (rules : Rules) (r : Repeat) where
 
 pub no_capture : (rules : Rules) (r : Repeat) (old : List Move) → is_ongoing (early_end rules r) ≡ false → Appends (IsLegalCapture rules r) old old
 no_capture rules r old off = appends-none _ old (λ m h. subst (Member m) (none_legal rules r off) h.0)
+
+pub no_asked : (asked : Asked) (rules : Rules) (r : Repeat) (old : List Move) → is_ongoing (early_end rules r) ≡ false → Appends (λ m. Member m (legal rules r) × (is_asked asked r m ≡ true)) old old
+no_asked asked rules r old off = appends-none _ old (λ m h. subst (Member m) (none_legal rules r off) h.0)
 
 pub no_other : (rules : Rules) (r : Repeat) (old : List Move) → is_ongoing (early_end rules r) ≡ false → Appends (IsLegalOther rules r) old old
 no_other rules r old off = appends-none _ old (λ m h. subst (Member m) (none_legal rules r off) h.0)

@@ -15,7 +15,7 @@ use Rattle.legality.specs.Keeps.{Keeps}
 use Rattle.legality.specs.Sinks.{keeper_is_sink}
 use Rattle.legality.proofs.ToldLaws.{not_passed, others, others_each}
 
-none_kept : {X : Type 0} (p : X → Bool) (xs : List X) → ((x : X) → Member x xs → p x ≡ false) → filter p xs ≡ []
+pub none_kept : {X : Type 0} (p : X → Bool) (xs : List X) → ((x : X) → Member x xs → p x ≡ false) → filter p xs ≡ []
 none_kept p [] h = refl
 none_kept p (x ∷ xs) h = ap (λ b. cond b (x ∷ filter p xs) (filter p xs)) (h x (inl refl)) ∙ none_kept p xs (λ y m. h y (inr m))
 

@@ -2,3 +2,4 @@ pub mod Lines
 pub mod Settled
 pub mod LastMoves
 pub mod OrderLaws
+pub mod TriedLaws

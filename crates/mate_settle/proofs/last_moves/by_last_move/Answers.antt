@@ -4,6 +4,7 @@ use Rattle.rules_model.specs.declared.moves.Move.{Move}
 use Rattle.rules_model.specs.Next.{next}
 use Rattle.mate_fact.specs.InFrame as In
 use Rattle.mate_settle.proofs.LastMoves.{one-move}
+use Rattle.mate_settle.proofs.TriedLaws.{none_wins}
 use Rattle.mate_settle.proofs.Settled.{serves-as, win-answers, loss-answers}
 use Rattle.mate_settle.proofs.last_moves.by_last_move.Goals as goal
 
@@ -20,7 +21,7 @@ refuted_by_all_within-requires-clause-refuted c =
     let f = c.args.frame.now in
     let p = c.args.board.now.position in
     subst (λ x. (m : Move) → Member m (In.legal_in f x) → In.near_in f 0 (next f.rules x m) ≡ false) (sym c.position-p.ensures)
-    (λ m k. c.winning_move.ensures.none c.in-None.is m (c.requires.moves.complete m k))
+    (none_wins f c.args.board.now c.args.moves.now c.requires.moves (c.winning_move.ensures.none c.in-None.is))
 
 pub returns-in-Some-clause-serves : goal.returns-in-Some-clause-serves
 returns-in-Some-clause-serves c =

@@ -1,22 +1,21 @@
-use Rattle.std.proofs.Common.{rules, ◌≡◌, ◌∙◌, subst, sym}
-use Rattle.foundation.specs.Member.{Member, Lists}
-use Rattle.foundation.specs.Tests.{is_nil}
-use Rattle.legality.specs.Stance.{legal_in, repeat_in}
-use Rattle.rules_model.specs.Legal.{is_stuck}
-use Rattle.mate_settle.proofs.Settled.{moves-of, some-listed}
+use Rattle.std.proofs.Common.{◌∙◌, List, sym, subst}
+use Rattle.rules_model.specs.declared.moves.Move.{Move}
+use Rattle.mate_settle.specs.Tried.{AreTried}
+use Rattle.mate_settle.proofs.TriedLaws.{holds_wins, tried_legal}
 use Rattle.mate_settle.proofs.last_replies.by_one_move.Goals as goal
 
-pub known_now-requires-clause-any : goal.known_now-requires-clause-any
-unfolding is_stuck
-known_now-requires-clause-any c =
+pub some_legal-requires : goal.some_legal-requires
+some_legal-requires c =
     let s = c.args.board.now in
-    let ms = c.as_slice-list.result.now in
-    let all = subst (Lists (λ m. Member m (legal_in s))) (sym (c.as_slice-list.ensures.value ∙ c.moves.view_is)) c.in_ok-moves.ensures in
-    let listed : is_nil ms ≡ is_stuck s.rules (repeat_in s) = some-listed (legal_in s) ms all in
-    search rules
+    let o = c.winning_checks-checks.result in
+    let Tried : List Move → Type 0 = λ ms. AreTried s o ms in
+    tried_legal s o c.as_slice-list.result.now (subst Tried (sym (c.as_slice-list.ensures.value ∙ c.moves.view_is)) c.in_ok-moves.ensures)
 
 pub by_last_move-requires-clause-moves : goal.by_last_move-requires-clause-moves
 by_last_move-requires-clause-moves c =
     let s = c.args.board.now in
-    let all = subst (Lists (λ m. Member m (legal_in s))) (sym (c.as_slice-list.ensures.value ∙ c.moves.view_is)) c.in_ok-moves.ensures in
-    moves-of c.args.frame.now s c.as_slice-list.result.now c.requires.rules all
+    let o = c.winning_checks-checks.result in
+    let ms = c.as_slice-list.result.now in
+    let Tried : List Move → Type 0 = λ ms. AreTried s o ms in
+    holds_wins c.args.frame.now s ms c.requires.rules (record { ongoing = c.known_now.ensures.ongoing c.in-None.is; turn = c.requires.turn }) o c.winning_checks-checks.ensures.only
+    (subst Tried (sym (c.as_slice-list.ensures.value ∙ c.moves.view_is)) c.in_ok-moves.ensures)

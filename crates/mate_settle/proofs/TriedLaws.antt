@@ -1,0 +1,67 @@
+-- Of the moves that are tried as the attacker's last: each that wins at once is one of them.
+use Rattle.std.proofs.Common.{◌≡◌, Bool, true, false, not, Option, Some, None, List, [], ◌∷◌, inl, refl, sym, ap, ◌∙◌, subst}
+use Rattle.std.specs.Prelude.{OnSome}
+use Rattle.foundation.specs.Member.{Member, Lists}
+use Rattle.foundation.specs.Tests.{is_nil}
+use Rattle.rules_model.specs.declared.moves.Move.{Move}
+use Rattle.rules_model.specs.declared.rules.Rules.{Rules}
+use Rattle.rules_model.specs.Legal.{gives_check, is_stuck, legal}
+use Rattle.rules_model.specs.Next.{next}
+use Rattle.rules_model.specs.Repeats.{repeat_of}
+use Rattle.legality.specs.Stance.{Stance, legal_in, repeat_in}
+use Rattle.square_set.proofs.Cases.{by_bool}
+use Rattle.check_moves.specs.declared.checks.Checks.{Checks}
+use Rattle.check_moves.specs.Listing.{ListsChecks}
+use Rattle.mate_core.specs.declared.frame.Frame.{Frame}
+use Rattle.mate_fact.specs.InFrame as In
+use Rattle.mate_settle.specs.LastMoves.{only_checks_win}
+use Rattle.mate_settle.specs.Tried.{AreTried, HoldsWins}
+use Rattle.mate_settle.proofs.LastMoves.{quiet-loses}
+use Rattle.mate_settle.proofs.Settled.{moves-of}
+
+never : (b : Bool) → b ≡ true → b ≡ false → ⊥
+never true e f = cc
+never false e f = cc
+
+module _ (f : Frame) (s : Stance) (ms : List Move) (same : s.rules ≡ f.rules) (attack : In.IsAttackIn f s.position) where
+  of_all : Lists (λ m. Member m (legal s.rules (repeat_of s.position))) ms → HoldsWins f s.position ms
+  of_all all = let those = moves-of f s ms same all in record { sound = those.sound; complete = λ m legal wins. those.complete m legal }
+
+  of_checks : only_checks_win f.rules ≡ true → ListsChecks s ms → HoldsWins f s.position ms
+  of_checks only listed =
+      let Of : Rules → Type 0 = λ x. (m : Move) → Member m ms → Member m (legal x (repeat_of s.position)) in
+      let Has : Rules → Type 0 = λ x. (m : Move) → Member m (legal x (repeat_of s.position)) → gives_check x (repeat_of s.position) m ≡ true → Member m ms in
+      let complete = subst Has same listed.complete in
+      record {
+        sound = subst Of same listed.sound;
+        complete = λ m legal wins.
+            by_bool (gives_check f.rules (repeat_of s.position) m) (Member m ms)
+            (λ check. complete m legal check)
+            (λ quiet. absurd (never (In.near_in f 0 (next f.rules s.position m)) wins (quiet-loses f s.position m only attack.ongoing attack.turn quiet)));
+      }
+
+  pub holds_wins : (o : Option Checks) → OnSome o (only_checks_win f.rules ≡ true) → AreTried s o ms → HoldsWins f s.position ms
+  holds_wins None only tried = of_all tried
+  holds_wins (Some checks) only tried = of_checks only tried
+
+-- none of the legal moves wins, where none of those that hold the wins does
+pub none_wins : (f : Frame) (s : Stance) (ms : List Move) → HoldsWins f s.position ms → ((m : Move) → Member m ms → In.near_in f 0 (next f.rules s.position m) ≡ false) → (m : Move) → Member m (In.legal_in f s.position) → In.near_in f 0 (next f.rules s.position m) ≡ false
+none_wins f s ms holds none m legal =
+    by_bool (In.near_in f 0 (next f.rules s.position m)) (In.near_in f 0 (next f.rules s.position m) ≡ false)
+    (λ wins. none m (holds.complete m legal wins))
+    (λ loses. loses)
+
+-- they are legal
+pub tried_legal : (s : Stance) (o : Option Checks) (ms : List Move) → AreTried s o ms → (m : Move) → Member m ms → Member m (legal_in s)
+tried_legal s None ms tried m h = tried.sound m h
+tried_legal s (Some checks) ms tried m h = tried.sound m h
+
+not_nil : (legal : List Move) (m : Move) → Member m legal → is_nil legal ≡ false
+not_nil [] m h = absurd h
+not_nil (x ∷ legal) m h = refl
+
+-- where there are some, the position is not stuck
+pub some_not_stuck : (s : Stance) (ms : List Move) → ((m : Move) → Member m ms → Member m (legal_in s)) → is_nil ms ≡ false → true ≡ not (is_stuck s.rules (repeat_in s))
+unfolding is_stuck
+some_not_stuck s [] sound e = cc
+some_not_stuck s (m ∷ ms) sound e = sym (ap not (not_nil (legal_in s) m (sound m (inl refl))))
