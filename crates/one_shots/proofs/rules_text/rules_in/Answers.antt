@@ -21,4 +21,4 @@ returns-in_ok-write_rules-in-Some-clause-answers c =
     told_at c.args.sections.now c.args.name.now (found_view c.args.variant) c.in-Rules.field-0.now
     (first_named c.args.sections.now c.args.name.now) c.in-Some.place _ (ap found_view c.in-Rules.is)
     (ap (first_named c.args.sections.now) (sym c.as_bytes.ensures.value) ∙ sym c.place_of.ensures ∙ c.in-Some.is)
-    c.in_ok-write_rules.ensures
+    c.in_ok-write_rules-in-Some.ensures
