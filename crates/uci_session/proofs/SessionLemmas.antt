@@ -1,5 +1,7 @@
 -- What is true of a session, and of what lines set.
-use Rattle.std.proofs.Common.{◌≡◌, ◌∙◌, ℕ, ◌<◌, List, length, Option, Some, None, Result, Ok, Err, inr, sym, ap, subst}
+use Rattle.std.proofs.Common.{◌≡◌, ◌∙◌, ◌==◌, ℕ, ◌<◌, List, length, Option, Some, None, Result, Ok, Err, true, inr, sym, ap, subst}
+use Rattle.std.proofs.lemmas.Bool.{eqb-true}
+use Rattle.std.specs.Option.{option_eq}
 use Rattle.std.specs.Prelude.{codes, option_map, unwrap_or}
 use Rattle.io_ports.specs.Files.{Found, Read}
 use Rattle.rules_model.specs.declared.rules.Rules.{Rules}
@@ -31,6 +33,11 @@ starts_at sections name place game rules first is first_is place_is game_is =
     let (at, at_is, there, accepted) = variant_places sections name rules is in
     let same : place ≡ at = place_is ∙ ap (λ f. unwrap_or f 0) (first_is ∙ at_is) in
     record { rules = rules; found_is = is; place_is = at_is ∙ ap (λ n. Some n) (sym same); game_is = game_is }
+
+-- a place that is said to be this one is
+pub same_place : (first : Option ℕ) (place : ℕ) → option_eq ◌==◌ first (Some place) ≡ true → first ≡ Some place
+same_place None place h = cc
+same_place (Some at) place h = ap (λ n. Some n) (eqb-true at place h)
 
 -- the variant that is set already, whose rules are those of the game
 pub starts_again : (sections : List Section) (name : List ℕ) (place : ℕ) (rules : Rules) (game : Played)
