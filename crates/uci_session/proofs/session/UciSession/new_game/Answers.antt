@@ -1,7 +1,6 @@
-use Rattle.std.proofs.Common.{sym, subst}
+use Rattle.std.proofs.Common.{sym}
 use Rattle.std.specs.Prelude.{Ok}
 use Rattle.variant_rules.proofs.PlayableLaws.{entry_playable}
-use Rattle.variant_rules.specs.Playable.{IsPlayable}
 use Rattle.uci_session.proofs.session.UciSession.new_game.Goals as goal
 
 pub another-requires : goal.another-requires

@@ -1,4 +1,4 @@
-use Rattle.std.proofs.Common.{◌≡◌, ◌∙◌, List, ap, subst, sym}
+use Rattle.std.proofs.Common.{◌∙◌, List, ap, subst, sym}
 use Rattle.std.specs.Prelude.{Ok}
 use Rattle.game_text.specs.GameText.{started}
 use Rattle.rules_model.specs.declared.rules.Rules.{Rules}
