@@ -18,6 +18,7 @@ use Rattle.session_model.proofs.Variants.{chess_is_first}
 use Rattle.foundation.specs.Member.{Member}
 use Rattle.io_ports.specs.Heard.{too_long}
 use Rattle.io_ports.specs.Lines as lines
+use Rattle.io_ports.specs.Lines.{Line}
 use Rattle.io_ports.specs.declared.dialect.Dialect.TheVariants.{Cecp}
 use Rattle.io_ports.specs.declared.source.Got.{Got}
 use Rattle.io_ports.specs.declared.source.Got.TheVariants as got
@@ -28,11 +29,12 @@ use Rattle.rules_model.specs.Legal.{legal}
 use Rattle.rules_model.specs.Repeats.{repeat_of}
 use Rattle.rules_model.specs.Sound.{is_sound}
 use Rattle.game_play.specs.Played.{IsPlayed, Played, shorter, story}
+use Rattle.game_text.specs.GameText.{started}
 use Rattle.game_text.specs.Playing.{move_of}
 use Rattle.game_text.proofs.PlayLemmas.{plays-illegal, plays-named, plays-nothing}
-use Rattle.session_model.specs.CecpLines.{command_of}
+use Rattle.session_model.specs.CecpLines.{command_of, New}
 use Rattle.session_model.specs.CecpSession.{answer_of}
-use Rattle.session_model.specs.CecpState.{State, first_state, rules_said, shown_name, state_by, without_last}
+use Rattle.session_model.specs.CecpState.{State, answer_to, first_state, renewed, rules_said, set_variant, shown_name, state_by, with_game, without_last}
 use Rattle.cecp_front.specs.Answers.{answered}
 use Rattle.turning.specs.Lines.{got_line}
 use Rattle.uci_lines.specs.View.{texts}
@@ -51,6 +53,23 @@ pub begins : (sections : List Section) (rules : Rules) → found (entries sectio
     → first_state sections ≡ Some (state_by sections rules)
 unfolding first_state
 begins sections rules is = ap (λ f. option_map (state_by sections) (rules_said f)) is
+
+-- the game that another one begins is at the start of its variant
+pub started_again : (rules given : Rules) (other game : Played) → other ≡ started rules rules.start → given ≡ other.rules
+    → game ≡ record { rules = other.rules; start = given.start; moves = [] } → game ≡ started rules rules.start
+started_again rules given other game other_is given_is game_is =
+    game_is ∙ ap (λ (r : Rules). started other.rules r.start) given_is
+    ∙ ap (λ (g : Played). started g.rules g.rules.start) other_is
+
+-- `new` begins with chess
+pub renewed_chess : (seen old : State) (rules : Rules) (game : Played) (line : Line) (text : List ℕ) → seen ≡ old
+    → found (entries seen.sections) (codes "chess") ≡ Some (Ok rules) → game ≡ started rules rules.start → text ≡ []
+    → answered (with_game (renewed seen) game) text ≡ answer_to old line New
+renewed_chess seen old rules game line text seen_is chess game_is silent_is =
+    ap (λ (g : Played). answered (with_game (renewed seen) g) text) game_is
+    ∙ ap (answered (with_game (renewed seen) (started rules rules.start))) silent_is
+    ∙ sym (ap (set_variant seen renewed line) chess)
+    ∙ ap (λ (s : State). answer_to s line New) seen_is
 
 -- ---- names
 

@@ -4,6 +4,7 @@ ghost use Rattle.cecp_lines.specs.View.{command_seen, limit_seen};
 ghost use Rattle.foundation.specs.Member.{Member};
 ghost use Rattle.game_play.specs.Played.{legal_in, longer, shorter};
 ghost use Rattle.game_text.specs.Playing.{most_plies, move_of};
+ghost use Rattle.io_ports.specs.Lines as lines;
 ghost use Rattle.io_ports.specs.Lines.{Text as TextLine};
 ghost use Rattle.session_model.specs.CecpLines as CecpLines;
 ghost use Rattle.session_model.specs.CecpSession.{answer_of};
@@ -81,13 +82,12 @@ impl CecpSession {
     }
 
     // `new`.
-    fn renew(&mut self, alloc: Global, line: &[u8]) -> Result<Text, Memory>
-        ensures { IfOk result (λ text. answered self.new text
-            ≡ CecpState.answer_to self.old (TextLine line.now) CecpLines.New) }
+    fn renew(&mut self, alloc: Global) -> Result<Text, Memory>
+        ensures { (line : lines.Line) → IfOk result (λ text. answered self.new text
+            ≡ CecpState.answer_to self.old line CecpLines.New) }
     {
-        if !self.begin(alloc, b"chess")? {
-            return error_line(alloc, b"unknown variant", line);
-        }
+        self.game = self.chess.another(alloc, &self.chess.rules().start)?;
+        self.is_over = false;
         self.plays = Some(Side::Black);
         self.sd = None;
         Ok(silent(alloc))
@@ -114,7 +114,7 @@ impl CecpSession {
         let Ok(position) = read_fen(self.game.rules(), fen) else {
             return error_line(alloc, b"illegal position", line);
         };
-        self.game = Game::new(alloc, self.game.rules(), &position)?;
+        self.game = self.game.another(alloc, &position)?;
         self.is_over = false;
         Ok(silent(alloc))
     }
@@ -216,7 +216,7 @@ impl CecpSession {
         match command {
             Command::Idle | Command::Quit => Ok(silent(alloc)),
             Command::Protover => feature_line(alloc, &self.variants),
-            Command::New => self.renew(alloc, line),
+            Command::New => self.renew(alloc),
             Command::Variant(name) => self.set_variant(alloc, line, name),
             Command::Force => {
                 self.plays = None;

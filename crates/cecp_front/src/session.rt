@@ -20,6 +20,8 @@ pub struct CecpSession {
     pub(crate) sections: Sections,
     pub(crate) variants: Variants,
     pub(crate) game: Game,
+    /// A game of chess, by whose rules and tables `new` begins one.
+    pub(crate) chess: Game,
     /// The side that the engine plays, if any.
     pub(crate) plays: Option<Side>,
     /// Thinking output is on.
@@ -36,9 +38,8 @@ pub struct CecpSession {
 }
 
 impl Model for CecpSession {
-    ghost use Rattle.std.specs.Prelude.{◌≡◌};
     ghost use Rattle.session_model.specs.CecpState.{State};
-    ghost use Rattle.variant_rules.specs.Entries.{entries};
+    ghost use Rattle.cecp_front.specs.SessionView.{IsSession};
 
     ghost Value = { State };
 
@@ -54,7 +55,7 @@ impl Model for CecpSession {
       is_over = s.is_over;
     } };
 
-    ghost invariant = { λ s. s.variants ≡ entries s.sections };
+    ghost invariant = { λ s. IsSession s.sections s.variants s.chess };
 }
 
 impl CecpSession {
@@ -73,14 +74,16 @@ impl CecpSession {
         ensures { IfOk result (λ session. CecpState.first_state sections ≡ Some session) }
     {
         let mind = EngineState::new(alloc, threads)?;
-        let game = match variants.find(b"chess") {
+        let chess = match variants.find(b"chess") {
             Found::Rules(rules) => Game::new(alloc, rules, &rules.start)?,
             Found::Refused(_) | Found::Unknown => unreachable!(),
         };
+        let game = chess.another(alloc, &chess.rules().start)?;
         Ok(CecpSession {
             sections,
             variants,
             game,
+            chess,
             plays: Some(Side::Black),
             posts: false,
             sd: None,

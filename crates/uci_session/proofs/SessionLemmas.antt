@@ -1,11 +1,13 @@
 -- What is true of a session, and of what lines set.
-use Rattle.std.proofs.Common.{◌≡◌, ◌∙◌, ℕ, ◌<◌, List, length, Option, Some, None, Result, Ok, Err, inr, sym, ap, subst}
+use Rattle.std.proofs.Common.{◌≡◌, ◌∙◌, ◌==◌, ℕ, ◌<◌, List, length, Option, Some, None, Result, Ok, Err, true, inr, sym, ap, subst}
+use Rattle.std.proofs.lemmas.Bool.{eqb-true}
+use Rattle.std.specs.Option.{option_eq}
 use Rattle.std.specs.Prelude.{codes, option_map, unwrap_or}
 use Rattle.io_ports.specs.Files.{Found, Read}
 use Rattle.rules_model.specs.declared.rules.Rules.{Rules}
 use Rattle.game_play.specs.Played.{Played}
 use Rattle.game_text.specs.GameText.{started}
-use Rattle.session_model.proofs.Variants.{variant_places}
+use Rattle.session_model.proofs.Variants.{found_at, variant_places}
 use Rattle.session_model.specs.UciState.{State, in_variant, load, loaded, set_variant, with_rules}
 use Rattle.uci_session.specs.declared.refusal.Refusal.{Refusal}
 use Rattle.uci_session.specs.declared.refusal.Refusal.TheVariants.{Fault, Memory}
@@ -31,6 +33,23 @@ starts_at sections name place game rules first is first_is place_is game_is =
     let (at, at_is, there, accepted) = variant_places sections name rules is in
     let same : place ≡ at = place_is ∙ ap (λ f. unwrap_or f 0) (first_is ∙ at_is) in
     record { rules = rules; found_is = is; place_is = at_is ∙ ap (λ n. Some n) (sym same); game_is = game_is }
+
+-- a place that is said to be this one is
+pub same_place : (first : Option ℕ) (place : ℕ) → option_eq ◌==◌ first (Some place) ≡ true → first ≡ Some place
+same_place None place h = cc
+same_place (Some at) place h = ap (λ n. Some n) (eqb-true at place h)
+
+-- the variant that is set already, whose rules are those of the game
+pub starts_again : (sections : List Section) (name : List ℕ) (place : ℕ) (rules : Rules) (game : Played)
+    → first_named sections name ≡ Some place → entry sections place ≡ Ok rules → game ≡ started rules rules.start
+    → StartsIn sections name place game
+starts_again sections name place rules game place_is accepted game_is = record {
+  rules = rules;
+  found_is =
+      found_at sections name ∙ ap (option_map (λ k. entry sections k)) place_is ∙ ap (λ e. Some e) accepted;
+  place_is = place_is;
+  game_is = game_is;
+}
 
 -- the session of a variant that is found, at the start of its game
 pub session_starts : (sections : List Section) (variants : List Named) (name : List ℕ) (place : ℕ) (game : Played)

@@ -138,6 +138,18 @@ impl UciSession {
         })
     }
 
+    // The place of the variant of this name, and the start of a game by its rules: by those of the game where the
+    // variant is set already, so that no tables are made.
+    fn start_of(&self, alloc: Global, name: &[u8]) -> Result<(usize, Game), Refusal>
+        ensures { Starts self.now.sections name.now result }
+    {
+        if self.sections.place_of(name) == Some(self.place) {
+            let game = self.game.another(alloc, &self.game.rules().start)?;
+            return Ok((self.place, game));
+        }
+        start_in(alloc, &self.sections, &self.variants, name)
+    }
+
     /// Sets the variant of this name, at its start.
     ///
     /// # Errors
@@ -148,7 +160,7 @@ impl UciSession {
         ensures outcome { IsOutcome (UciState.set_variant self.old self.old.sections name.now) self.new result }
         ensures refused { OnErr result (self.new ≡ self.old) }
     {
-        let (place, game) = start_in(alloc, &self.sections, &self.variants, name)?;
+        let (place, game) = self.start_of(alloc, name)?;
         self.place = place;
         self.game = game;
         self.kept = None;
@@ -217,7 +229,7 @@ impl UciSession {
         ensures outcome { IsOutcome (UciState.place self.old (placing_seen placing.now)) self.new result }
         ensures refused { OnErr result (self.new ≡ self.old) }
     {
-        self.game = placed(alloc, self.game.rules(), placing)?;
+        self.game = placed(alloc, &self.game, placing)?;
         self.kept = None;
         Ok(())
     }
@@ -228,8 +240,7 @@ impl UciSession {
         ensures begun { OnOk result (self.new ≡ UciState.new_game self.old) }
         ensures refused { OnErr result (self.new ≡ self.old) }
     {
-        let rules = self.game.rules();
-        self.game = Game::new(alloc, rules, &rules.start)?;
+        self.game = self.game.another(alloc, &self.game.rules().start)?;
         self.kept = None;
         self.mind.forget_hints();
         Ok(())

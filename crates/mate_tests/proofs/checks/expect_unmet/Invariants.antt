@@ -1,5 +1,0 @@
-use Rattle.check_moves.specs.Flights.{AreFlights}
-use Rattle.mate_tests.proofs.checks.expect_unmet.Given as goal
-
-abbrev pub invariant-loop-m : goal.invariant-loop-m
-invariant-loop-m l = AreFlights l.board l.flights
