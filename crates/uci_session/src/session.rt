@@ -19,6 +19,10 @@ use foundation::{Memory, Text};
 use game_play::Game;
 use proof_text::write_proof;
 use seeking::EngineState;
+use session_model::options::{
+    HASH, LEAST_HASH, LEAST_MATE_FACTS, LEAST_THREADS, MATE_FACTS, MOST_HASH, MOST_MATE_FACTS,
+    MOST_THREADS, THREADS,
+};
 use std::alloc::Global;
 use std::marker::Model;
 use thinking::Kept;
@@ -187,17 +191,23 @@ impl UciSession {
     {
         match setting {
             Setting::Threads(value) => {
-                let threads = number_or_bad(alloc, b"Threads", 1, 64, value)?;
+                let threads = number_or_bad(alloc, THREADS, LEAST_THREADS, MOST_THREADS, value)?;
                 self.mind.set_threads(threads);
                 Ok(())
             }
             Setting::Hash(value) => {
-                let mib = number_or_bad(alloc, b"Hash", 1, 1024, value)?;
+                let mib = number_or_bad(alloc, HASH, LEAST_HASH, MOST_HASH, value)?;
                 self.mind.set_hash(alloc, mib)?;
                 Ok(())
             }
             Setting::MateFacts(value) => {
-                let facts = number_or_bad(alloc, b"MateFacts", 16, 65536, value)?;
+                let facts = number_or_bad(
+                    alloc,
+                    MATE_FACTS,
+                    LEAST_MATE_FACTS,
+                    MOST_MATE_FACTS,
+                    value,
+                )?;
                 self.mind.set_mate_facts(facts);
                 Ok(())
             }
