@@ -18,7 +18,7 @@ use std::sync::Wait;
 use std::thread::Threads;
 use strategy::{Counters, Nodes, Strategy};
 use thinking::{
-    Depths, Evidence, Found, Score, Style, Task, Tried, begin, depth_lines, iterative_deepening,
+    Depths, Evidence, DepthResult, Score, Style, Task, MateAttempt, begin, depth_lines, iterative_deepening,
     try_mates, unsettled_line,
 };
 use watching::Cut;
@@ -41,7 +41,7 @@ enum Scored {
 }
 
 /// What is found where the best move is e2e4, after 77 nodes.
-fn found(alloc: Global, scored: Scored) -> Found
+fn found(alloc: Global, scored: Scored) -> DepthResult
     ensures { result.unsettled ≡ None }
 {
     let score = match scored {
@@ -49,7 +49,7 @@ fn found(alloc: Global, scored: Scored) -> Found
         Scored::Mates(moves) => Score::Mates(moves, no_strategy(alloc)),
         Scored::Mated(moves) => Score::Mated(moves, no_strategy(alloc)),
     };
-    Found {
+    DepthResult {
         score,
         best: go("e2e4"),
         unsettled: None,
@@ -292,12 +292,12 @@ enum Answer {
     Fault(SearchFault),
 }
 
-fn answer_of(tried: &Result<Tried, SearchFault>) -> Answer {
+fn answer_of(tried: &Result<MateAttempt, SearchFault>) -> Answer {
     match tried {
-        Ok(Tried::Shown { moves, best, .. }) => Answer::Shown(*moves, *best),
-        Ok(Tried::Unsettled { moves, .. }) => Answer::Unsettled(*moves),
-        Ok(Tried::Stopped { moves, why }) => Answer::Stopped(*moves, *why),
-        Ok(Tried::NoMate) => Answer::NoMate,
+        Ok(MateAttempt::Shown { moves, best, .. }) => Answer::Shown(*moves, *best),
+        Ok(MateAttempt::Unsettled { moves, .. }) => Answer::Unsettled(*moves),
+        Ok(MateAttempt::Stopped { moves, why }) => Answer::Stopped(*moves, *why),
+        Ok(MateAttempt::NoMate) => Answer::NoMate,
         Err(fault) => Answer::Fault(*fault),
     }
 }

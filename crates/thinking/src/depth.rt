@@ -9,7 +9,7 @@ ghost use Rattle.thinking.specs.Depths.{BrokeDepth, Deeper, cut_in};
 ghost use Rattle.thinking.specs.Tells.{reads_by};
 ghost use Rattle.thinking.specs.Views.{IsTask, task_seen};
 
-use crate::found::{CutSolve, Found};
+use crate::depth_result::{CutSolve, DepthResult};
 use crate::judging::{DepthJudged, DepthSearched, search_and_judge};
 use crate::lines::depth_lines;
 use crate::style::Style;
@@ -27,7 +27,7 @@ pub enum Depth {
     /// It was searched: what was found, the reading of the clock after it in milliseconds where lines have times, and
     /// the solve that was cut after its search, where one was.
     Done {
-        found: Found,
+        found: DepthResult,
         clock: u64,
         cut: Option<CutSolve>,
     },

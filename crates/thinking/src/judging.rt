@@ -11,7 +11,7 @@ ghost use Rattle.turning.specs.Lines.{Causes};
 ghost use Rattle.thinking.specs.Judging.{IsJudged, IsExplored, explored_cut, solve_cut};
 ghost use Rattle.thinking.specs.Views.{IsTask, task_seen};
 
-use crate::found::{CutSolve, Evidence, Found, Score, evidence_at};
+use crate::depth_result::{CutSolve, Evidence, DepthResult, Score, evidence_at};
 use crate::scores::{favoured, mate_sought, root_move};
 use crate::task::{Task, quota_left};
 use io_ports::{Clock, Dialect, Gate, Limits, LineBuf, SearchFault, Sink, Source};
@@ -26,7 +26,7 @@ use watching::{Cut, Halt};
 /// What is found at a depth, and the solve that was cut after its search, where one was.
 #[derive(Drop)]
 pub struct DepthJudged {
-    pub found: Found,
+    pub found: DepthResult,
     pub cut: Option<CutSolve>,
 }
 
@@ -42,7 +42,7 @@ fn settled(score: Score, best: Move, unsettled: Option<Evidence>, nodes: u64) ->
     ensures found { result.found ≡ record { score = score; best = best; unsettled = unsettled; nodes = nodes } }
     ensures cut { result.cut ≡ None }
 {
-    let found = Found {
+    let found = DepthResult {
         score,
         best,
         unsettled,

@@ -40,7 +40,7 @@ use Rattle.uci_session.specs.declared.searching.GoResult.{GoResult}
 use Rattle.uci_session.specs.Searched.{BrokeGoing, Completes, Gone}
 use Rattle.uci_session.specs.TextView.{last_line}
 use Rattle.uci_session.specs.PlanView.{IsPlan, SaidAtOnce, SaidBy}
-use Rattle.thinking.specs.Views.{kept_seen}
+use Rattle.thinking.specs.Views.{announced_seen}
 use Rattle.uci_front.proofs.Unanswered.{unserved_quiet}
 
 -- ---- the line
@@ -144,7 +144,7 @@ module _ (owed : Owed) (state : State) (plan : GoPlan) (came : GoResult) (text :
 
   -- what it answers
   pub told_goes : (asked : Go) (after : State) (line : Line) (events : List Event) (following : List Line) → IsPlan state asked plan
-      → after ≡ announced state (kept_seen came.kept) → Told events
+      → after ≡ announced state (announced_seen came.kept) → Told events
       → (is_held asked (mover state.game) ≡ true → IsStopped Uci following) → Follows came.why text following
       → Goes (Lacks owed (go_bound state asked)) state asked (turn_of line events after) following
   unfolding turn_of
@@ -189,7 +189,7 @@ module _ {moved : Moved} {owed owed' : Owed} (state after : State) (plan : GoPla
     (line : Line) (asked : Go) (asks : command_of line ≡ UciLines.Go asked) (is : IsPlan state asked plan) where
   -- a best move was told, and the next line is there
   pub served_told : {next : Got} {text' : List ℕ} → Ran Uci moved (got_lines next text') (Told owed state plan came text)
-      → after ≡ announced state (kept_seen came.kept)
+      → after ≡ announced state (announced_seen came.kept)
       → ((following : List Line) → MayFollow next following → is_held asked (mover state.game) ≡ true → IsStopped Uci (got_lines next text' ++ following))
       → ((following : List Line) → MayFollow next following → Follows came.why text (got_lines next text' ++ following))
       → Spends owed owed' (go_bound state asked)
@@ -210,11 +210,11 @@ module _ {moved : Moved} {owed : Owed} (state : State) (plan : GoPlan) (came : G
       → (is_held asked (mover state.game) ≡ true → IsStopped Uci behind) → Follows came.why text behind
       → Unserved uci moved (λ reads. reads ≡ []) contents state line
   unserved_told contents {behind = behind} part single stopped follows =
-      unserved_part uci (λ reads. reads ≡ []) (announced state (kept_seen came.kept)) part single refl (told_shut owed state plan came text)
+      unserved_part uci (λ reads. reads ≡ []) (announced state (announced_seen came.kept)) part single refl (told_shut owed state plan came text)
       (λ events told.
-      uci_is_wider (Lacks owed (go_bound state asked)) (Unit {0}) (λ few. tt) state (turn_of line events (announced state (kept_seen came.kept))) behind
-      (as_go (Lacks owed (go_bound state asked)) state (announced state (kept_seen came.kept)) line asked events behind asks
-      (told_goes owed state plan came text asked (announced state (kept_seen came.kept)) line events behind is refl told stopped follows)))
+      uci_is_wider (Lacks owed (go_bound state asked)) (Unit {0}) (λ few. tt) state (turn_of line events (announced state (announced_seen came.kept))) behind
+      (as_go (Lacks owed (go_bound state asked)) state (announced state (announced_seen came.kept)) line asked events behind asks
+      (told_goes owed state plan came text asked (announced state (announced_seen came.kept)) line events behind is refl told stopped follows)))
       (further_none contents)
 
 -- a search that broke off, with its best move

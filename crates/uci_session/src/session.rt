@@ -9,7 +9,7 @@ ghost use Rattle.session_model.specs.UciTexts as UciTexts;
 ghost use Rattle.uci_lines.specs.SettingView.{placing_seen, setting_seen};
 ghost use Rattle.uci_session.specs.Outcomes.{IsNumber, IsOutcome, Starts};
 ghost use Rattle.session_model.specs.UciSession.{announced, forgotten};
-ghost use Rattle.thinking.specs.Views.{kept_seen};
+ghost use Rattle.thinking.specs.Views.{announced_seen};
 ghost use Rattle.uci_session.specs.SessionView.{BeginsBuiltIn, IsPrintable};
 
 use crate::moves::placed;
@@ -25,7 +25,7 @@ use session_model::options::{
 };
 use std::alloc::Global;
 use std::marker::Model;
-use thinking::Kept;
+use thinking::AnnouncedMate;
 use uci_lines::{Placing, Setting, number};
 use variant_ini::Sections;
 use variant_rules::{Found, Variants, builtin, load};
@@ -39,7 +39,7 @@ pub struct UciSession {
     place: usize,
     pub(crate) game: Game,
     pub(crate) mind: EngineState,
-    kept: Option<Kept>,
+    kept: Option<AnnouncedMate>,
 }
 
 impl Model for UciSession {
@@ -278,9 +278,9 @@ impl UciSession {
     }
 
     /// Keeps the mate that was announced last, if any.
-    pub fn keep(&mut self, kept: Option<Kept>)
+    pub fn keep(&mut self, kept: Option<AnnouncedMate>)
         requires { IsPrintable self.old.game.rules kept }
-        ensures { self.new ≡ announced self.old (kept_seen kept) }
+        ensures { self.new ≡ announced self.old (announced_seen kept) }
     {
         self.kept = kept;
     }
