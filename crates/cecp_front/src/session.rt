@@ -32,7 +32,7 @@ pub struct CecpSession {
     pub(crate) time: Option<u64>,
     /// A move ended the game, which has not changed since but by moves.
     pub(crate) is_over: bool,
-    pub(crate) mind: EngineState,
+    pub(crate) engine: EngineState,
 }
 
 impl Model for CecpSession {
@@ -72,7 +72,7 @@ impl CecpSession {
         requires threads { (1 ≤ threads) × (threads ≤ 64) }
         ensures { IfOk result (λ session. CecpState.first_state sections ≡ Some session) }
     {
-        let mind = EngineState::new(alloc, threads)?;
+        let engine = EngineState::new(alloc, threads)?;
         let game = match variants.find(b"chess") {
             Found::Rules(rules) => Game::new(alloc, rules, &rules.start)?,
             Found::Refused(_) | Found::Unknown => unreachable!(),
@@ -88,7 +88,7 @@ impl CecpSession {
             level: None,
             time: None,
             is_over: false,
-            mind,
+            engine,
         })
     }
 }

@@ -157,7 +157,7 @@ fn deepened<R: Threads + Wait + Abort + Sync>(
     let mut sink = MemSink::new(alloc, 1000)?;
     let mut clock = ListClock::new(alloc, &[100, 130, 90])?;
     let mut line = LineBuf::new(alloc)?;
-    let mut mind = EngineState::new(alloc, 1)?;
+    let mut engine = EngineState::new(alloc, 1)?;
     let game = Game::new(alloc, &rules, &start)?;
     let roots = legal_moves(alloc, game.rules(), game.tables(), game.position())?;
     assert!(rt; 0 < roots.items.len());
@@ -173,7 +173,7 @@ fn deepened<R: Threads + Wait + Abort + Sync>(
     let depths = iterative_deepening(
         rt,
         alloc,
-        &mut mind,
+        &mut engine,
         &task,
         style,
         begun,
@@ -319,7 +319,7 @@ fn tried<R: Threads + Wait + Abort + Sync>(
     let mut sink = MemSink::new(alloc, 1000).expect(rt, "no fault");
     let mut clock = ListClock::new(alloc, &[130, 90]).expect(rt, "no fault");
     let mut line = LineBuf::new(alloc).expect(rt, "no fault");
-    let mut mind = EngineState::new(alloc, 1).expect(rt, "no fault");
+    let mut engine = EngineState::new(alloc, 1).expect(rt, "no fault");
     let game = Game::new(alloc, &rules, &start).expect(rt, "no fault");
     let roots = legal_moves(alloc, game.rules(), game.tables(), game.position()).expect(
         rt, "no fault",
@@ -328,7 +328,7 @@ fn tried<R: Threads + Wait + Abort + Sync>(
     let tried = try_mates(
         rt,
         alloc,
-        &mut mind,
+        &mut engine,
         &game,
         last,
         limits,

@@ -41,7 +41,7 @@ pub struct Depths {
 pub fn iterative_deepening<R: Threads + Wait + Sync, S: Source, K: Sink, C: Clock, G: Gate + Sync>(
     rt: &R,
     alloc: Global,
-    mind: &mut EngineState,
+    engine: &mut EngineState,
     task: &Task,
     style: Style,
     start: Start,
@@ -64,7 +64,7 @@ pub fn iterative_deepening<R: Threads + Wait + Sync, S: Source, K: Sink, C: Cloc
     ensures end { IfOk result (λ depths. depths.why ≡ Some Cut.End → IsAtEnd (S.left source.new)) }
     ensures causes { Causes (S.faults source.old) (S.faults source.new) (K.faults sink.old) (K.faults sink.new)
         (IsErrOf result) }
-    ensures same { mind.new ≡ mind.old }
+    ensures same { engine.new ≡ engine.old }
 {
     let mut best = task.roots[0];
     let mut kept = None;
@@ -77,7 +77,7 @@ pub fn iterative_deepening<R: Threads + Wait + Sync, S: Source, K: Sink, C: Cloc
         let depth = search_depth(
             rt,
             alloc,
-            mind,
+            engine,
             task,
             style,
             start.first,

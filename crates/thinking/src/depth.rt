@@ -56,7 +56,7 @@ fn reading_for<C: Clock>(style: Style, clock: &mut C) -> u64
 pub fn search_depth<R: Threads + Wait + Sync, S: Source, K: Sink, C: Clock, G: Gate + Sync>(
     rt: &R,
     alloc: Global,
-    mind: &mut EngineState,
+    engine: &mut EngineState,
     task: &Task,
     style: Style,
     first: u64,
@@ -81,10 +81,10 @@ pub fn search_depth<R: Threads + Wait + Sync, S: Source, K: Sink, C: Clock, G: G
     ensures end { IfOk result (λ d. cut_in d ≡ Some Cut.End → IsAtEnd (S.left source.new)) }
     ensures causes { Causes (S.faults source.old) (S.faults source.new) (K.faults sink.old) (K.faults sink.new)
         (IsErrOf result) }
-    ensures same { mind.new ≡ mind.old }
+    ensures same { engine.new ≡ engine.old }
 {
     let explored = search_and_judge(
-        rt, alloc, mind, task, depth, limits, source, sink, clock, gate, dialect, line,
+        rt, alloc, engine, task, depth, limits, source, sink, clock, gate, dialect, line,
     )?;
     match explored {
         DepthSearched::Off(why) => Ok(Depth::Off(why)),

@@ -52,7 +52,7 @@ pub enum MateAttempt {
 pub fn try_mates<R: Threads + Wait + Sync, S: Source, K: Sink, C: Clock, G: Gate + Sync>(
     rt: &R,
     alloc: Global,
-    mind: &mut EngineState,
+    engine: &mut EngineState,
     game: &Game,
     last: u16,
     limits: Limits,
@@ -75,13 +75,13 @@ pub fn try_mates<R: Threads + Wait + Sync, S: Source, K: Sink, C: Clock, G: Gate
     ensures end { IfOk result (λ tried. cut_in tried ≡ Some Cut.End → IsAtEnd (S.left source.new)) }
     ensures causes { Causes (S.faults source.old) (S.faults source.new) (K.faults sink.old) (K.faults sink.new)
         (IsErrOf result) }
-    ensures same { mind.new ≡ mind.old }
+    ensures same { engine.new ≡ engine.old }
 {
     let mover = game.position().side;
     for before in 0..last {
         let moves = before + 1;
         let solved = solve_once(
-            rt, alloc, mind, game, mover, moves, limits, source, sink, clock, gate, dialect, line,
+            rt, alloc, engine, game, mover, moves, limits, source, sink, clock, gate, dialect, line,
         );
         match solved {
             Ok(Settled::NoMate) => {}

@@ -13,13 +13,13 @@ use Rattle.variant_model.specs.Entry.{entry}
 use Rattle.variant_rules.specs.Entries.{Named, entries}
 
 abbrev pub state_of : List Section → ℕ → Played → Settings → Option AnnouncedMate → State
-state_of sections place game mind kept = record {
+state_of sections place game engine kept = record {
   sections = sections;
   place = place;
   game = game;
-  threads = mind.threads;
-  hash = mind.hash;
-  mate_facts = mind.mate_facts;
+  threads = engine.threads;
+  hash = engine.hash;
+  mate_facts = engine.mate_facts;
   kept = announced_seen kept;
 }
 

@@ -87,7 +87,7 @@ fn search_depths<R: Threads + Wait + Sync, S: Source, K: Sink, C: Clock, G: Gate
     let depths = iterative_deepening(
         rt,
         alloc,
-        &mut session.mind,
+        &mut session.engine,
         &task,
         Style::Uci,
         start,
@@ -184,7 +184,7 @@ fn search_mate<R: Threads + Wait + Sync, S: Source, K: Sink, C: Clock, G: Gate +
     let tried = try_mates(
         rt,
         alloc,
-        &mut session.mind,
+        &mut session.engine,
         &session.game,
         last,
         limits,
@@ -215,7 +215,7 @@ fn search_mate<R: Threads + Wait + Sync, S: Source, K: Sink, C: Clock, G: Gate +
     let depths = iterative_deepening(
         rt,
         alloc,
-        &mut session.mind,
+        &mut session.engine,
         &task,
         Style::Uci,
         start,

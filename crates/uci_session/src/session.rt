@@ -38,7 +38,7 @@ pub struct UciSession {
     variants: Variants,
     place: usize,
     pub(crate) game: Game,
-    pub(crate) mind: EngineState,
+    pub(crate) engine: EngineState,
     kept: Option<AnnouncedMate>,
 }
 
@@ -48,7 +48,7 @@ impl Model for UciSession {
 
     ghost Value = { State };
 
-    ghost view = { λ s. state_of s.sections s.place s.game s.mind s.kept };
+    ghost view = { λ s. state_of s.sections s.place s.game s.engine s.kept };
 
     ghost invariant = { λ s. IsSession s.sections s.variants s.place s.game s.kept };
 }
@@ -127,7 +127,7 @@ impl UciSession {
         requires threads { (1 ≤ threads) × (threads ≤ 64) }
         ensures { IfOk result (λ session. first_state sections threads ≡ Some session) }
     {
-        let mind = EngineState::new(alloc, threads)?;
+        let engine = EngineState::new(alloc, threads)?;
         let (place, game) = match start_in(alloc, &sections, &variants, b"chess") {
             Ok(start) => start,
             Err(_) => return Err(Memory),
@@ -137,7 +137,7 @@ impl UciSession {
             variants,
             place,
             game,
-            mind,
+            engine,
             kept: None,
         })
     }
@@ -192,12 +192,12 @@ impl UciSession {
         match setting {
             Setting::Threads(value) => {
                 let threads = number_or_bad(alloc, THREADS, LEAST_THREADS, MOST_THREADS, value)?;
-                self.mind.set_threads(threads);
+                self.engine.set_threads(threads);
                 Ok(())
             }
             Setting::Hash(value) => {
                 let mib = number_or_bad(alloc, HASH, LEAST_HASH, MOST_HASH, value)?;
-                self.mind.set_hash(alloc, mib)?;
+                self.engine.set_hash(alloc, mib)?;
                 Ok(())
             }
             Setting::MateFacts(value) => {
@@ -208,7 +208,7 @@ impl UciSession {
                     MOST_MATE_FACTS,
                     value,
                 )?;
-                self.mind.set_mate_facts(facts);
+                self.engine.set_mate_facts(facts);
                 Ok(())
             }
             Setting::VariantPath(_) => self.load(alloc, builtin(alloc)?),
@@ -241,7 +241,7 @@ impl UciSession {
         let rules = self.game.rules();
         self.game = Game::new(alloc, rules, &rules.start)?;
         self.kept = None;
-        self.mind.forget_hints();
+        self.engine.forget_hints();
         Ok(())
     }
 
@@ -297,6 +297,6 @@ impl UciSession {
         ensures is { result ≡ self.now.threads }
         ensures in_range { (1 ≤ result) × (result ≤ 64) }
     {
-        self.mind.threads()
+        self.engine.threads()
     }
 }

@@ -11,7 +11,7 @@ invariant-loop-done g l = record {
   so_far : (other : Move) → Deepening l.dialect l.style
       (Moves g.S.Source.left g.K.Sink.taken g.C.Clock.given g.C.Clock.count g.C.Clock.last l.fn.source l.source l.fn.sink l.sink l.fn.clock l.clock)
       (g.S.Source.owed l.fn.source) (g.S.Source.owed l.source) (task_seen l.task) (first_of other l.task.roots.now) l.start.first l.done l.entered l.best (announced_seen l.kept);
-  same : l.mind ≡ l.fn.mind;
+  same : l.engine ≡ l.fn.engine;
   source_later : g.S.Source.faults l.fn.source ≤ g.S.Source.faults l.source;
   sink_later : g.K.Sink.faults l.fn.sink ≤ g.K.Sink.faults l.sink;
 }
