@@ -30,7 +30,7 @@ use Rattle.session_model.specs.UciLines.{Command, command_of}
 use Rattle.session_model.specs.UciSession.{Answers, Goes, GoesBy, GoesNowhere, IsPlain, announced, bound_of, forgotten, go_bound, is_quit, uci}
 use Rattle.session_model.specs.UciState.{State}
 use Rattle.session_model.specs.UciTexts.{no_best_line, perft_line}
-use Rattle.turning.specs.Lines.{Follows, Held, MayFollow, Settled, SettledBy, must_wait}
+use Rattle.turning.specs.Lines.{Follows, Held, MayFollow, WaitedIfHeld, WaitedIfMust, must_wait}
 use Rattle.turning.specs.Turned.{RanPart, Served, Unserved, turn_of}
 use Rattle.turning.proofs.Ending.{further_none}
 use Rattle.turning.proofs.Lawful.{uci_is_lawful}
@@ -166,22 +166,22 @@ waits_follow holds (Some (cut.Deadline reading)) text following e = tt
 
 -- what follows a wait follows what cut the search before it
 pub settled_follows : (holds : Bool) (moved : Moved) (why : Option Cut) (text text' : List ℕ) (why' : Option Cut) (following : List Line)
-    → Settled Uci moved holds text why text' why' → Follows why' text' following → Follows why text following
+    → WaitedIfHeld Uci moved holds text why text' why' → Follows why' text' following → Follows why text following
 settled_follows holds moved why text text' why' following settled follows = by_wait (must_wait holds why) refl settled
   where
-    by_wait : (b : Bool) → must_wait holds why ≡ b → SettledBy b Uci moved text why text' why' → Follows why text following
+    by_wait : (b : Bool) → must_wait holds why ≡ b → WaitedIfMust b Uci moved text why text' why' → Follows why text following
     by_wait true e s = waits_follow holds why text following e
     by_wait false e s =
         subst (λ t. Follows why t following) s.1 (subst (λ w. Follows w text' following) s.2 follows)
 
 -- a best move that is held back is stopped
 pub settled_stopped : (state : State) (plan : GoPlan) (asked : Go) (moved : Moved) (why : Option Cut) (text : List ℕ) (why' : Option Cut)
-    (text' : List ℕ) (following : List Line) → IsPlan state asked plan → Settled Uci moved plan.holds text why text' why'
+    (text' : List ℕ) (following : List Line) → IsPlan state asked plan → WaitedIfHeld Uci moved plan.holds text why text' why'
     → (why ≡ Some cut.Line → stops Uci (Text text) ≡ true) → Follows why' text' following
     → is_held asked (mover state.game) ≡ true → IsStopped Uci following
 settled_stopped state plan asked moved why text why' text' following is settled stops follows holds =
     settled_stops Uci moved why text why' text' following
-    (subst (λ b. Settled Uci moved b text why text' why') (is.held_is ∙ holds) settled) stops follows
+    (subst (λ b. WaitedIfHeld Uci moved b text why text' why') (is.held_is ∙ holds) settled) stops follows
 
 -- ---- the answer
 
