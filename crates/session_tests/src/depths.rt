@@ -18,8 +18,8 @@ use std::sync::Wait;
 use std::thread::Threads;
 use strategy::{Counters, Nodes, Strategy};
 use thinking::{
-    Depths, Evidence, DepthResult, Score, Style, Task, MateAttempt, begin, depth_lines, iterative_deepening,
-    try_mates, unsettled_line,
+    DepthResult, Depths, Evidence, MateAttempt, Score, Style, Task, begin, depth_lines,
+    iterative_deepening, try_mates, unsettled_line,
 };
 use watching::Cut;
 

@@ -19,7 +19,8 @@ use std::alloc::Global;
 use std::sync::Wait;
 use std::thread::Threads;
 use thinking::{
-    Depths, AnnouncedMate, Start, Style, Task, MateAttempt, begin, iterative_deepening, try_mates, unsettled_line,
+    AnnouncedMate, Depths, MateAttempt, Start, Style, Task, begin, iterative_deepening, try_mates,
+    unsettled_line,
 };
 use watching::{Cut, say};
 
