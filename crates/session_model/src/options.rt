@@ -1,5 +1,5 @@
-//! The options of UCI: the name of each, and the default and the range of those that are numbers. What `uci` prints, how
-//! `setoption` is read and what a session begins with follow from these.
+//! The options of UCI: the name of each, and the default and the range of those that are numbers. What `uci` prints,
+//! how `setoption` is read and what a session begins with follow from these.
 
 /// How many workers search.
 pub const THREADS: &[u8] = b"Threads";
