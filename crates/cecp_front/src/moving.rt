@@ -147,7 +147,7 @@ impl CecpSession {
         iterative_deepening(
             rt,
             alloc,
-            &mut self.mind,
+            &mut self.engine,
             &task,
             style_of(self.posts),
             start,

@@ -34,7 +34,7 @@ pub struct CecpSession {
     pub(crate) time: Option<u64>,
     /// A move ended the game, which has not changed since but by moves.
     pub(crate) is_over: bool,
-    pub(crate) mind: EngineState,
+    pub(crate) engine: EngineState,
 }
 
 impl Model for CecpSession {
@@ -73,7 +73,7 @@ impl CecpSession {
         requires threads { (1 ≤ threads) × (threads ≤ 64) }
         ensures { IfOk result (λ session. CecpState.first_state sections ≡ Some session) }
     {
-        let mind = EngineState::new(alloc, threads)?;
+        let engine = EngineState::new(alloc, threads)?;
         let chess = match variants.find(b"chess") {
             Found::Rules(rules) => Game::new(alloc, rules, &rules.start)?,
             Found::Refused(_) | Found::Unknown => unreachable!(),
@@ -91,7 +91,7 @@ impl CecpSession {
             level: None,
             time: None,
             is_over: false,
-            mind,
+            engine,
         })
     }
 }

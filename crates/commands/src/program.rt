@@ -118,6 +118,6 @@ where
                 status_of(ended)
             }
         },
-        Err(halt) => finish(answer_of(alloc, Err(halt)), sink),
+        Err(no_answer) => finish(answer_of(alloc, Err(no_answer)), sink),
     }
 }

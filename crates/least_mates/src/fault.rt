@@ -1,9 +1,5 @@
 //! Why a game is not asked for the first moves that win it.
-ghost use Rattle.std.specs.Prelude.{◌≡◌, IfOk};
-ghost use Rattle.least_mates.specs.FirstMoves.{keys_fault_text};
-
-use foundation::{Memory, Text};
-use std::alloc::{AllocError, Global};
+use std::fmt;
 
 /// Why a game is not asked which first moves win it. `Ended` is tested first, and `TooLong` last.
 #[derive(Clone, Copy, PartialEq, Eq)]
@@ -16,25 +12,18 @@ pub enum KeysFault {
     TooLong,
 }
 
-// As the fault prints, as bytes.
-fn fault_bytes(alloc: Global, fault: &KeysFault) -> Result<Vec<u8>, AllocError>
-    ensures { IfOk result (λ bytes. bytes.items ≡ keys_fault_text fault.now) }
-{
-    match fault {
-        KeysFault::NearCount => b"KeysFault 1 NearCount".to_vec(alloc),
-        KeysFault::Ended => b"KeysFault 2 Ended".to_vec(alloc),
-        KeysFault::TooLong => b"KeysFault 3 TooLong".to_vec(alloc),
-    }
-}
+impl fmt::Display for KeysFault {
+    ghost use Rattle.std.specs.Prelude.{Some};
+    ghost use Rattle.least_mates.specs.FirstMoves.{keys_fault_text};
 
-/// As the fault prints: the type's name, the fault's number and its name, as `KeysFault 1 NearCount`.
-///
-/// # Errors
-///
-/// `Memory` where there is none.
-pub fn write_keys_fault(alloc: Global, fault: &KeysFault) -> Result<Text, Memory>
-    ensures { IfOk result (λ text. text ≡ keys_fault_text fault.now) }
-{
-    let items = fault_bytes(alloc, fault)?;
-    Ok(Text { items })
+    ghost output = { λ fault. Some (keys_fault_text fault) };
+
+    /// The type's name, the fault's number and its name, as `KeysFault 1 NearCount`.
+    fn fmt<W: fmt::Write>(&self, f: &mut fmt::Formatter<W>) -> fmt::Result {
+        f.write_str(match *self {
+            KeysFault::NearCount => "KeysFault 1 NearCount",
+            KeysFault::Ended => "KeysFault 2 Ended",
+            KeysFault::TooLong => "KeysFault 3 TooLong",
+        })
+    }
 }

@@ -9,7 +9,7 @@ mod playing_on;
 mod report;
 mod winning;
 
-pub use fault::{KeysFault, write_keys_fault};
+pub use fault::KeysFault;
 pub use first_moves::{Key, Keys, mate_keys};
 pub use report::write_keys;
 pub use winning::{LeastWin, least_win};

@@ -12,7 +12,7 @@ use game_play::Game;
 use mate_core::Frame;
 use mate_search::{frame_of as frame_for, is_counted};
 use mate_shards::Shards;
-use pn_search::{Grew, INFINITE, PnFault, Tree, find, least_mate, root_end, write_pn_fault};
+use pn_search::{Grew, INFINITE, PnFault, Tree, find, least_mate, root_end};
 use rules_model::{Outcome, Position, Side, sound};
 use sample_rules::{chess, position};
 use std::alloc::Global;
@@ -228,11 +228,8 @@ fn least_mates(rt: HostRuntime) {
 
 #[test]
 fn faults_print(rt: HostRuntime) {
-    let near = write_pn_fault(rt.alloc(), &PnFault::NearCount).expect(&rt, "no fault");
-    expect(
-        &rt,
-        near.items.as_slice() == b"PnFault 1 NearCount".as_slice(),
-    );
-    let ended = write_pn_fault(rt.alloc(), &PnFault::Ended).expect(&rt, "no fault");
-    expect(&rt, ended.items.as_slice() == b"PnFault 2 Ended".as_slice());
+    let near = format!(in rt.alloc(); "{}", PnFault::NearCount).expect(&rt, "no fault");
+    expect(&rt, near.as_bytes() == b"PnFault 1 NearCount".as_slice());
+    let ended = format!(in rt.alloc(); "{}", PnFault::Ended).expect(&rt, "no fault");
+    expect(&rt, ended.as_bytes() == b"PnFault 2 Ended".as_slice());
 }

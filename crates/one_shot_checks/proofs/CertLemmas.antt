@@ -44,12 +44,12 @@ use Rattle.one_shot_checks.specs.Certificates.{IsMet, Meets, PrintsHelp, PrintsS
 use Rattle.one_shot_checks.specs.CertView.{States}
 use Rattle.one_shot_faults.specs.Fault.{error_line, fault_status, fault_text}
 use Rattle.one_shot_checks.specs.GameTexts.{cert_or_none, help_mate_of, self_mate_of}
-use Rattle.one_shot_faults.specs.NoAnswerView.{Answers, IsUnheard, cert_halt, game_halt}
+use Rattle.one_shot_faults.specs.NoAnswerView.{Answers, IsUnheard, cert_no_answer, game_no_answer}
 
 -- ---- what was read, where it gives no answer
 
 -- of a problem
-pub problem_bad : (input : List Line) (r : Result (Problem Stipulation) GameFault) (why : NoGame) → read.Tells {A = Problem Stipulation} r (Err why) → States (by_problem r input) (Err (game_halt why))
+pub problem_bad : (input : List Line) (r : Result (Problem Stipulation) GameFault) (why : NoGame) → read.Tells {A = Problem Stipulation} r (Err why) → States (by_problem r input) (Err (game_no_answer why))
 problem_bad input r (no_game.Faulty bad) is = ap (λ x. by_problem x input) is
 problem_bad input r no_game.Unread is = tt
 problem_bad input r no_game.Memory is = tt
@@ -58,7 +58,7 @@ problem_bad input r no_game.Memory is = tt
 cert_fault : (p : Problem Stipulation) (r : Result Cert CertFault) (bad : CertFault) → r ≡ Err bad → with_cert p r ≡ Err (fault.Cert bad)
 cert_fault p r bad is = ap (with_cert p) is
 
-pub cert_bad : (p : Problem Stipulation) (r : Result Cert CertFault) (why : NoCert) → HasWhy r why → States (with_cert p r) (Err (cert_halt why))
+pub cert_bad : (p : Problem Stipulation) (r : Result Cert CertFault) (why : NoCert) → HasWhy r why → States (with_cert p r) (Err (cert_no_answer why))
 cert_bad p r Unread says = tt
 cert_bad p r (Faulty Memory) says = tt
 cert_bad p r (Faulty (BadLine line)) says = cert_fault p r (BadLine line) says
@@ -69,12 +69,12 @@ cert_good p r cert is = ap (with_cert p) is
 
 -- ---- why nothing was read
 
-pub problem_unheard : (why : NoGame) → IsUnheard {A = Stipulated} (Err (game_halt why)) → read.IsUnread {A = Problem Stipulation} (Err why)
+pub problem_unheard : (why : NoGame) → IsUnheard {A = Stipulated} (Err (game_no_answer why)) → read.IsUnread {A = Problem Stipulation} (Err why)
 problem_unheard (no_game.Faulty bad) unheard = absurd unheard
 problem_unheard no_game.Unread unheard = tt
 problem_unheard no_game.Memory unheard = absurd unheard
 
-pub cert_unheard : (why : NoCert) → IsUnheard {A = Stipulated} (Err (cert_halt why)) → IsUnread {A = Cert} (Err why)
+pub cert_unheard : (why : NoCert) → IsUnheard {A = Stipulated} (Err (cert_no_answer why)) → IsUnread {A = Cert} (Err why)
 cert_unheard Unread unheard = tt
 cert_unheard (Faulty Memory) unheard = absurd unheard
 cert_unheard (Faulty (BadLine line)) unheard = absurd unheard

@@ -50,12 +50,12 @@ use Rattle.one_shot_checks.specs.Checking.{Good, IsWon, SaysCheck, SaysStated, S
 use Rattle.proof_text.specs.StrategyView.{HasWhy, IsUnread}
 use Rattle.one_shot_checks.specs.CheckView.{Prints, States, losing, winning}
 use Rattle.one_shot_faults.specs.Fault.{error_line, fault_status, fault_text}
-use Rattle.one_shot_faults.specs.NoAnswerView.{Answers, IsUnheard, game_halt, proof_halt, strategy_halt}
+use Rattle.one_shot_faults.specs.NoAnswerView.{Answers, IsUnheard, game_no_answer, proof_no_answer, strategy_no_answer}
 
 -- ---- what was read, where it gives no answer
 
 -- of a problem
-pub problem_bad : (input : List Line) (r : Result (Problem Goal) GameFault) (why : NoGame) → read.Tells {A = Problem Goal} r (Err why) → States (by_problem r input) (Err (game_halt why))
+pub problem_bad : (input : List Line) (r : Result (Problem Goal) GameFault) (why : NoGame) → read.Tells {A = Problem Goal} r (Err why) → States (by_problem r input) (Err (game_no_answer why))
 problem_bad input r (no_game.Faulty bad) is = ap (λ x. by_problem x input) is
 problem_bad input r no_game.Unread is = tt
 problem_bad input r no_game.Memory is = tt
@@ -64,7 +64,7 @@ problem_bad input r no_game.Memory is = tt
 strategy_fault : (p : Problem Goal) (r : Result Strategy StrategyFault) (bad : StrategyFault) → r ≡ Err bad → with_strategy p r ≡ Err (fault.Strategy bad)
 strategy_fault p r bad is = ap (with_strategy p) is
 
-pub strategy_bad : (p : Problem Goal) (r : Result Strategy StrategyFault) (why : NoStrategy) → HasWhy r why → States (with_strategy p r) (Err (strategy_halt why))
+pub strategy_bad : (p : Problem Goal) (r : Result Strategy StrategyFault) (why : NoStrategy) → HasWhy r why → States (with_strategy p r) (Err (strategy_no_answer why))
 strategy_bad p r Unread says = tt
 strategy_bad p r (Faulty Memory) says = tt
 strategy_bad p r (Faulty (Header line)) says = strategy_fault p r (Header line) says
@@ -81,7 +81,7 @@ strategy_good p r s is = ap (with_strategy p) is
 proof_faulty : (r : Result Proof ProofFault) (bad : ProofFault) → r ≡ Err bad → by_proof r ≡ Err (fault.Proof bad)
 proof_faulty r bad is = ap by_proof is
 
-pub proof_bad : (r : Result Proof ProofFault) (why : NoProof) → taking.SaysProof {A = Proof} r (Err why) → States (by_proof r) (Err (proof_halt why))
+pub proof_bad : (r : Result Proof ProofFault) (why : NoProof) → taking.SaysProof {A = Proof} r (Err why) → States (by_proof r) (Err (proof_no_answer why))
 proof_bad r no_proof.Unread says = tt
 proof_bad r (no_proof.Faulty proof_fault.Memory) says = tt
 proof_bad r (no_proof.Faulty (proof_fault.Header line)) says = proof_faulty r (proof_fault.Header line) says
@@ -96,12 +96,12 @@ proof_good r p is = ap by_proof is
 
 -- ---- why nothing was read
 
-pub problem_unheard : (why : NoGame) → IsUnheard {A = Proof} (Err (game_halt why)) → read.IsUnread {A = Problem Goal} (Err why)
+pub problem_unheard : (why : NoGame) → IsUnheard {A = Proof} (Err (game_no_answer why)) → read.IsUnread {A = Problem Goal} (Err why)
 problem_unheard (no_game.Faulty bad) unheard = absurd unheard
 problem_unheard no_game.Unread unheard = tt
 problem_unheard no_game.Memory unheard = absurd unheard
 
-pub strategy_unheard : (why : NoStrategy) → IsUnheard {A = Proof} (Err (strategy_halt why)) → IsUnread {A = Strategy} (Err why)
+pub strategy_unheard : (why : NoStrategy) → IsUnheard {A = Proof} (Err (strategy_no_answer why)) → IsUnread {A = Strategy} (Err why)
 strategy_unheard Unread unheard = tt
 strategy_unheard (Faulty Memory) unheard = absurd unheard
 strategy_unheard (Faulty (Header line)) unheard = absurd unheard
@@ -111,7 +111,7 @@ strategy_unheard (Faulty (BadMove line)) unheard = absurd unheard
 strategy_unheard (Faulty (BadNumber line)) unheard = absurd unheard
 strategy_unheard (Faulty (Ended line)) unheard = absurd unheard
 
-pub proof_unheard : (why : NoProof) → IsUnheard {A = Proof} (Err (proof_halt why)) → taking.IsUnread {A = Proof} (Err why)
+pub proof_unheard : (why : NoProof) → IsUnheard {A = Proof} (Err (proof_no_answer why)) → taking.IsUnread {A = Proof} (Err why)
 proof_unheard no_proof.Unread unheard = tt
 proof_unheard (no_proof.Faulty proof_fault.Memory) unheard = absurd unheard
 proof_unheard (no_proof.Faulty (proof_fault.Header line)) unheard = absurd unheard

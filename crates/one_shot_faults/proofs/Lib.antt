@@ -1,1 +1,1 @@
-pub mod HaltLemmas
+pub mod NoAnswerLemmas

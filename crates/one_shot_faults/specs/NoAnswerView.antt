@@ -25,63 +25,63 @@ use Rattle.one_shot_faults.specs.declared.stop.Stop.TheVariants as stop
 use Rattle.one_shot_faults.specs.Fault.{error_line, fault_status, fault_text, usage_line}
 
 -- out of memory is no fault of a word
-abbrev pub betza_halt : BetzaFault → NoAnswer
-betza_halt betza.Memory = no_answer.Stop stop.Memory
-betza_halt (betza.Empty place) = no_answer.Fault (Betza (betza.Empty place))
-betza_halt (betza.TooLong place) = no_answer.Fault (Betza (betza.TooLong place))
-betza_halt (betza.UnknownAtom place) = no_answer.Fault (Betza (betza.UnknownAtom place))
-betza_halt (betza.UnsupportedModifier place) = no_answer.Fault (Betza (betza.UnsupportedModifier place))
-betza_halt (betza.DoubledModifier place) = no_answer.Fault (Betza (betza.DoubledModifier place))
-betza_halt (betza.AmbiguousDirection place) = no_answer.Fault (Betza (betza.AmbiguousDirection place))
-betza_halt (betza.BadLame place) = no_answer.Fault (Betza (betza.BadLame place))
-betza_halt (betza.BadHopper place) = no_answer.Fault (Betza (betza.BadHopper place))
-betza_halt (betza.BadNumber place) = no_answer.Fault (Betza (betza.BadNumber place))
-betza_halt (betza.TooManyTerms place) = no_answer.Fault (Betza (betza.TooManyTerms place))
+abbrev pub betza_no_answer : BetzaFault → NoAnswer
+betza_no_answer betza.Memory = no_answer.Stop stop.Memory
+betza_no_answer (betza.Empty place) = no_answer.Fault (Betza (betza.Empty place))
+betza_no_answer (betza.TooLong place) = no_answer.Fault (Betza (betza.TooLong place))
+betza_no_answer (betza.UnknownAtom place) = no_answer.Fault (Betza (betza.UnknownAtom place))
+betza_no_answer (betza.UnsupportedModifier place) = no_answer.Fault (Betza (betza.UnsupportedModifier place))
+betza_no_answer (betza.DoubledModifier place) = no_answer.Fault (Betza (betza.DoubledModifier place))
+betza_no_answer (betza.AmbiguousDirection place) = no_answer.Fault (Betza (betza.AmbiguousDirection place))
+betza_no_answer (betza.BadLame place) = no_answer.Fault (Betza (betza.BadLame place))
+betza_no_answer (betza.BadHopper place) = no_answer.Fault (Betza (betza.BadHopper place))
+betza_no_answer (betza.BadNumber place) = no_answer.Fault (Betza (betza.BadNumber place))
+betza_no_answer (betza.TooManyTerms place) = no_answer.Fault (Betza (betza.TooManyTerms place))
 
 -- nor of the file of variants
-abbrev pub load_halt : NoSections → NoAnswer
-load_halt (no_sections.Fault fault) = no_answer.Fault (Load fault)
-load_halt no_sections.Memory = no_answer.Stop stop.Memory
+abbrev pub load_no_answer : NoSections → NoAnswer
+load_no_answer (no_sections.Fault fault) = no_answer.Fault (Load fault)
+load_no_answer no_sections.Memory = no_answer.Stop stop.Memory
 
-abbrev pub game_halt : NoGame → NoAnswer
-game_halt (no_game.Faulty fault) = no_answer.Fault (Game fault)
-game_halt no_game.Unread = no_answer.Stop stop.Source
-game_halt no_game.Memory = no_answer.Stop stop.Memory
+abbrev pub game_no_answer : NoGame → NoAnswer
+game_no_answer (no_game.Faulty fault) = no_answer.Fault (Game fault)
+game_no_answer no_game.Unread = no_answer.Stop stop.Source
+game_no_answer no_game.Memory = no_answer.Stop stop.Memory
 
 -- out of memory is no fault of a strategy
-abbrev pub strategy_halt : NoStrategy → NoAnswer
-strategy_halt no_strategy.Unread = no_answer.Stop stop.Source
-strategy_halt (no_strategy.Faulty strategy.Memory) = no_answer.Stop stop.Memory
-strategy_halt (no_strategy.Faulty (strategy.Header line)) = no_answer.Fault (Strategy (strategy.Header line))
-strategy_halt (no_strategy.Faulty (strategy.BadLine line)) = no_answer.Fault (Strategy (strategy.BadLine line))
-strategy_halt (no_strategy.Faulty (strategy.BadPosition line fault)) =
+abbrev pub strategy_no_answer : NoStrategy → NoAnswer
+strategy_no_answer no_strategy.Unread = no_answer.Stop stop.Source
+strategy_no_answer (no_strategy.Faulty strategy.Memory) = no_answer.Stop stop.Memory
+strategy_no_answer (no_strategy.Faulty (strategy.Header line)) = no_answer.Fault (Strategy (strategy.Header line))
+strategy_no_answer (no_strategy.Faulty (strategy.BadLine line)) = no_answer.Fault (Strategy (strategy.BadLine line))
+strategy_no_answer (no_strategy.Faulty (strategy.BadPosition line fault)) =
     no_answer.Fault (Strategy (strategy.BadPosition line fault))
-strategy_halt (no_strategy.Faulty (strategy.BadMove line)) = no_answer.Fault (Strategy (strategy.BadMove line))
-strategy_halt (no_strategy.Faulty (strategy.BadNumber line)) = no_answer.Fault (Strategy (strategy.BadNumber line))
-strategy_halt (no_strategy.Faulty (strategy.Ended line)) = no_answer.Fault (Strategy (strategy.Ended line))
+strategy_no_answer (no_strategy.Faulty (strategy.BadMove line)) = no_answer.Fault (Strategy (strategy.BadMove line))
+strategy_no_answer (no_strategy.Faulty (strategy.BadNumber line)) = no_answer.Fault (Strategy (strategy.BadNumber line))
+strategy_no_answer (no_strategy.Faulty (strategy.Ended line)) = no_answer.Fault (Strategy (strategy.Ended line))
 
 -- nor of a proof text
-abbrev pub proof_halt : NoProof → NoAnswer
-proof_halt no_proof.Unread = no_answer.Stop stop.Source
-proof_halt (no_proof.Faulty proof.Memory) = no_answer.Stop stop.Memory
-proof_halt (no_proof.Faulty (proof.Header line)) = no_answer.Fault (Proof (proof.Header line))
-proof_halt (no_proof.Faulty (proof.BadRules line)) = no_answer.Fault (Proof (proof.BadRules line))
-proof_halt (no_proof.Faulty (proof.RefusedRules why)) = no_answer.Fault (Proof (proof.RefusedRules why))
-proof_halt (no_proof.Faulty (proof.BadStart line why)) = no_answer.Fault (Proof (proof.BadStart line why))
-proof_halt (no_proof.Faulty (proof.BadHistory line)) = no_answer.Fault (Proof (proof.BadHistory line))
-proof_halt (no_proof.Faulty (proof.BadBody why)) = no_answer.Fault (Proof (proof.BadBody why))
+abbrev pub proof_no_answer : NoProof → NoAnswer
+proof_no_answer no_proof.Unread = no_answer.Stop stop.Source
+proof_no_answer (no_proof.Faulty proof.Memory) = no_answer.Stop stop.Memory
+proof_no_answer (no_proof.Faulty (proof.Header line)) = no_answer.Fault (Proof (proof.Header line))
+proof_no_answer (no_proof.Faulty (proof.BadRules line)) = no_answer.Fault (Proof (proof.BadRules line))
+proof_no_answer (no_proof.Faulty (proof.RefusedRules why)) = no_answer.Fault (Proof (proof.RefusedRules why))
+proof_no_answer (no_proof.Faulty (proof.BadStart line why)) = no_answer.Fault (Proof (proof.BadStart line why))
+proof_no_answer (no_proof.Faulty (proof.BadHistory line)) = no_answer.Fault (Proof (proof.BadHistory line))
+proof_no_answer (no_proof.Faulty (proof.BadBody why)) = no_answer.Fault (Proof (proof.BadBody why))
 
 -- nor of a certificate
-abbrev pub cert_halt : NoCert → NoAnswer
-cert_halt no_cert.Unread = no_answer.Stop stop.Source
-cert_halt (no_cert.Faulty cert.Memory) = no_answer.Stop stop.Memory
-cert_halt (no_cert.Faulty (cert.BadLine line)) = no_answer.Fault (Cert (cert.BadLine line))
-cert_halt (no_cert.Faulty (cert.Ended line)) = no_answer.Fault (Cert (cert.Ended line))
+abbrev pub cert_no_answer : NoCert → NoAnswer
+cert_no_answer no_cert.Unread = no_answer.Stop stop.Source
+cert_no_answer (no_cert.Faulty cert.Memory) = no_answer.Stop stop.Memory
+cert_no_answer (no_cert.Faulty (cert.BadLine line)) = no_answer.Fault (Cert (cert.BadLine line))
+cert_no_answer (no_cert.Faulty (cert.Ended line)) = no_answer.Fault (Cert (cert.Ended line))
 
-abbrev pub suite_halt : NoSuite → NoAnswer
-suite_halt (no_suite.Faulty fault) = no_answer.Fault (Suite fault)
-suite_halt no_suite.Unread = no_answer.Stop stop.Source
-suite_halt no_suite.Memory = no_answer.Stop stop.Memory
+abbrev pub suite_no_answer : NoSuite → NoAnswer
+suite_no_answer (no_suite.Faulty fault) = no_answer.Fault (Suite fault)
+suite_no_answer no_suite.Unread = no_answer.Stop stop.Source
+suite_no_answer no_suite.Memory = no_answer.Stop stop.Memory
 
 -- this holds of the status and the text of the outcome. A run that was cut short has none. The sink has not cut it
 -- short, since it was given nothing yet

@@ -1,8 +1,6 @@
 //! What is answered in place of a text: a line `error FAULT`.
 ghost use Rattle.std.specs.Prelude.{◌≡◌, IfOk};
 ghost use Rattle.game_text.specs.Fault.{fault_text as game_fault_text};
-ghost use Rattle.least_mates.specs.FirstMoves.{keys_fault_text};
-ghost use Rattle.pn_search.specs.MateCount.{pn_fault_text};
 ghost use Rattle.suite.specs.Fault.{fault_text as suite_fault_text};
 ghost use Rattle.one_shot_faults.specs.Fault.{error_line, fault_status, fault_text};
 
@@ -10,9 +8,9 @@ use betza_text::BetzaFault;
 use cert_text::CertFault;
 use foundation::{Memory, Text};
 use game_text::{GameFault, write_fault};
-use least_mates::{KeysFault, write_keys_fault};
+use least_mates::KeysFault;
 use piece_reach::ReachFault;
-use pn_search::{PnFault, write_pn_fault};
+use pn_search::PnFault;
 use proof_text::ProofFault;
 use std::alloc::{AllocError, Global};
 use stipulation::CertVerdict;
@@ -76,22 +74,6 @@ fn suite_line(alloc: Global, fault: &SuiteFault) -> Result<Vec<u8>, Memory>
     Ok(line_with(alloc, &text)?)
 }
 
-// The line of why `pnmate` does not ask a game.
-fn pn_mate_line(alloc: Global, fault: &PnFault) -> Result<Vec<u8>, Memory>
-    ensures { IfOk result (λ line. line.items ≡ error_line (pn_fault_text fault.now)) }
-{
-    let text = write_pn_fault(alloc, fault)?;
-    Ok(line_with(alloc, &text)?)
-}
-
-// The line of why `keys` does not ask a game.
-fn keys_line(alloc: Global, fault: &KeysFault) -> Result<Vec<u8>, Memory>
-    ensures { IfOk result (λ line. line.items ≡ error_line (keys_fault_text fault.now)) }
-{
-    let text = write_keys_fault(alloc, fault)?;
-    Ok(line_with(alloc, &text)?)
-}
-
 impl<'a> Fault<'a> {
     /// The status of a run with this fault: 6 where a file was not read, else 3.
     pub fn status(&self) -> u8
@@ -117,8 +99,8 @@ impl<'a> Fault<'a> {
             Fault::Cert(fault) => format!(in alloc; "error {fault}\n")?.into_bytes(),
             Fault::CertFailure(verdict) => format!(in alloc; "error {verdict}\n")?.into_bytes(),
             Fault::Suite(fault) => suite_line(alloc, fault)?,
-            Fault::PnMate(fault) => pn_mate_line(alloc, fault)?,
-            Fault::Keys(fault) => keys_line(alloc, fault)?,
+            Fault::PnMate(fault) => format!(in alloc; "error {fault}\n")?.into_bytes(),
+            Fault::Keys(fault) => format!(in alloc; "error {fault}\n")?.into_bytes(),
             Fault::Load(fault) => format!(in alloc; "error {fault}\n")?.into_bytes(),
         };
         Ok(Text { items })

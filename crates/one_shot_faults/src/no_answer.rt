@@ -3,8 +3,8 @@ ghost use Rattle.std.specs.Prelude.{◌≡◌};
 ghost use Rattle.one_shot_faults.specs.declared.no_answer.NoAnswer.TheVariants as no_answer;
 ghost use Rattle.one_shot_faults.specs.declared.fault.Fault.TheVariants as fault;
 ghost use Rattle.one_shot_faults.specs.declared.stop.Stop.TheVariants as stop;
-ghost use Rattle.one_shot_faults.specs.NoAnswerView.{betza_halt, cert_halt, game_halt, load_halt, proof_halt, strategy_halt};
-ghost use Rattle.one_shot_faults.specs.NoAnswerView.{suite_halt};
+ghost use Rattle.one_shot_faults.specs.NoAnswerView.{betza_no_answer, cert_no_answer, game_no_answer, load_no_answer, proof_no_answer, strategy_no_answer};
+ghost use Rattle.one_shot_faults.specs.NoAnswerView.{suite_no_answer};
 
 use crate::fault::Fault;
 use crate::stop::Stop;
@@ -55,7 +55,7 @@ impl<'a> From<ReachFault<'a>> for NoAnswer<'a> {
 }
 
 impl<'a> From<BetzaFault> for NoAnswer<'a> {
-    ghost from_gives = { λ why given. given ≡ betza_halt why };
+    ghost from_gives = { λ why given. given ≡ betza_no_answer why };
 
     fn from(why: BetzaFault) -> Self {
         match why {
@@ -66,7 +66,7 @@ impl<'a> From<BetzaFault> for NoAnswer<'a> {
 }
 
 impl<'a> From<NoSections> for NoAnswer<'a> {
-    ghost from_gives = { λ why given. given ≡ load_halt why };
+    ghost from_gives = { λ why given. given ≡ load_no_answer why };
 
     fn from(why: NoSections) -> Self {
         match why {
@@ -77,7 +77,7 @@ impl<'a> From<NoSections> for NoAnswer<'a> {
 }
 
 impl<'a> From<NoGame> for NoAnswer<'a> {
-    ghost from_gives = { λ why given. given ≡ game_halt why };
+    ghost from_gives = { λ why given. given ≡ game_no_answer why };
 
     fn from(why: NoGame) -> Self {
         match why {
@@ -89,7 +89,7 @@ impl<'a> From<NoGame> for NoAnswer<'a> {
 }
 
 impl<'a> From<NoStrategy> for NoAnswer<'a> {
-    ghost from_gives = { λ why given. given ≡ strategy_halt why };
+    ghost from_gives = { λ why given. given ≡ strategy_no_answer why };
 
     fn from(why: NoStrategy) -> Self {
         match why {
@@ -101,7 +101,7 @@ impl<'a> From<NoStrategy> for NoAnswer<'a> {
 }
 
 impl<'a> From<NoProof> for NoAnswer<'a> {
-    ghost from_gives = { λ why given. given ≡ proof_halt why };
+    ghost from_gives = { λ why given. given ≡ proof_no_answer why };
 
     fn from(why: NoProof) -> Self {
         match why {
@@ -113,7 +113,7 @@ impl<'a> From<NoProof> for NoAnswer<'a> {
 }
 
 impl<'a> From<NoCert> for NoAnswer<'a> {
-    ghost from_gives = { λ why given. given ≡ cert_halt why };
+    ghost from_gives = { λ why given. given ≡ cert_no_answer why };
 
     fn from(why: NoCert) -> Self {
         match why {
@@ -125,7 +125,7 @@ impl<'a> From<NoCert> for NoAnswer<'a> {
 }
 
 impl<'a> From<NoSuite> for NoAnswer<'a> {
-    ghost from_gives = { λ why given. given ≡ suite_halt why };
+    ghost from_gives = { λ why given. given ≡ suite_no_answer why };
 
     fn from(why: NoSuite) -> Self {
         match why {

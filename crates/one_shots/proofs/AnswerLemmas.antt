@@ -25,13 +25,13 @@ use Rattle.one_shot_faults.specs.declared.stop.Stop.{Stop as Cut}
 use Rattle.one_shot_faults.specs.declared.stop.Stop.TheVariants as stop
 use Rattle.one_shot_faults.specs.Fault.{error_line, fault_status, fault_text}
 use Rattle.one_shots.specs.GameView.{SaysGame}
-use Rattle.one_shot_faults.specs.NoAnswerView.{Answers, IsUnheard, betza_halt, game_halt}
+use Rattle.one_shot_faults.specs.NoAnswerView.{Answers, IsUnheard, betza_no_answer, game_no_answer}
 use Rattle.one_shots.specs.OutcomeView.{OutcomeOf}
 use Rattle.piece_reach.specs.ReachText.{reach_text}
 use Rattle.piece_reach.specs.Setup.{setup_of}
 use Rattle.one_shots.specs.Shot.{SaysOf, SaysReach, reached, faulty_word}
 use Rattle.one_shot_faults.specs.StopView.{IsUnread, IsUnsaid}
-use Rattle.one_shot_faults.proofs.HaltLemmas.{says_at}
+use Rattle.one_shot_faults.proofs.NoAnswerLemmas.{says_at}
 
 -- ---- the commands
 
@@ -39,7 +39,7 @@ pub reach_answers : (word square own enemy : List ℕ) (b : List Part) (from : S
     → text ≡ reach_text cells (terms b) from → SaysReach word square own enemy 0 text
 reach_answers word square own enemy b from cells text spells set is = says_at (SaysReach word square own enemy) 0 0 _ text refl is (reached b from cells spells set)
 
-pub word_answers : (word square own enemy : List ℕ) (why : BetzaFault) → ((why ≡ betza.Memory → ⊥) → BetzaBad word why) → Answers (Err (betza_halt why)) (SaysReach word square own enemy)
+pub word_answers : (word square own enemy : List ℕ) (why : BetzaFault) → ((why ≡ betza.Memory → ⊥) → BetzaBad word why) → Answers (Err (betza_no_answer why)) (SaysReach word square own enemy)
 word_answers word square own enemy betza.Memory bad = tt
 word_answers word square own enemy (betza.Empty place) bad = faulty_word _ (bad (λ e. cc))
 word_answers word square own enemy (betza.TooLong place) bad = faulty_word _ (bad (λ e. cc))
@@ -69,7 +69,7 @@ no_game_answers print said (Stop stop.Sink) says = absurd says
 no_game_answers print said (Stop stop.Memory) says = tt
 
 -- why no game was read
-pub no_game_says : (said : Result Played GameFault) (why : NoGame) → read.SaysGame said (Err why) → SaysGame said (Err (game_halt why))
+pub no_game_says : (said : Result Played GameFault) (why : NoGame) → read.SaysGame said (Err why) → SaysGame said (Err (game_no_answer why))
 no_game_says said (Faulty why) says = record { why = why; has = says; is = refl }
 no_game_says said Unread says = tt
 no_game_says said Memory says = tt
@@ -82,7 +82,7 @@ pub read_heard : (l l' : Option (List ℕ)) (variants variants' : List Named) (r
     → HeardLines l l' (lines_of_game variants) (λ lines. read.SaysGame (game_of variants lines) r) → HeardLines l l' (lines_of_game variants') (λ lines. read.SaysGame (game_of variants' lines) r)
 read_heard l l' variants variants' r is heard = subst (λ (x : List Named). HeardLines l l' (lines_of_game x) (λ lines. read.SaysGame (game_of x lines) r)) is heard
 
-pub no_game_unheard : (why : NoGame) → IsUnheard {A = Played} (Err (game_halt why)) → read.IsUnread {A = Played} (Err why)
+pub no_game_unheard : (why : NoGame) → IsUnheard {A = Played} (Err (game_no_answer why)) → read.IsUnread {A = Played} (Err why)
 no_game_unheard (Faulty why) unheard = absurd unheard
 no_game_unheard Unread unheard = tt
 no_game_unheard Memory unheard = absurd unheard
@@ -120,7 +120,7 @@ outcome_unsaid (Err (Stop stop.Sink)) (Err stop.Sink) Says is says unsaid = says
 outcome_unsaid (Err (Stop stop.Memory)) (Err stop.Sink) Says is says unsaid = cc
 outcome_unsaid o (Err stop.Memory) Says is says unsaid = unsaid
 
-pub word_heard : (why : BetzaFault) → IsUnheard {A = List ℕ} (Err (betza_halt why)) → ⊥
+pub word_heard : (why : BetzaFault) → IsUnheard {A = List ℕ} (Err (betza_no_answer why)) → ⊥
 word_heard betza.Memory unheard = unheard
 word_heard (betza.Empty place) unheard = unheard
 word_heard (betza.TooLong place) unheard = unheard

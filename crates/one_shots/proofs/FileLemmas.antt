@@ -14,7 +14,7 @@ use Rattle.variant_rules.specs.declared.fault.NoSections.TheVariants as no_secti
 use Rattle.variant_rules.specs.Looked.{HasSections as Loads}
 use Rattle.one_shots.specs.Commands.{asks_file}
 use Rattle.one_shot_faults.specs.Fault.{fault_status}
-use Rattle.one_shot_faults.specs.NoAnswerView.{load_halt}
+use Rattle.one_shot_faults.specs.NoAnswerView.{load_no_answer}
 use Rattle.one_shots.specs.OpeningView.{AreFirstOrNone, HasSections}
 use Rattle.one_shots.specs.Looked.{IsTooLarge, TellsReads}
 use Rattle.turning.specs.Turned.{Further}
@@ -100,7 +100,7 @@ reads_of_name : (name : Text) (reads : List Read) (found : Found) → reads ≡ 
 reads_of_name name reads found are = subst (AreReadsOf (Some name)) (sym are) refl
 
 -- it is the reason of the run
-pub load_refused : (name : Text) (reads : List Read) (why : NoSections) → Loads name reads (Err why) → HasSections (Some name) reads (Err (load_halt why))
+pub load_refused : (name : Text) (reads : List Read) (why : NoSections) → Loads name reads (Err why) → HasSections (Some name) reads (Err (load_no_answer why))
 load_refused name reads (no_sections.Fault fault) has = (reads_of_name name reads has.found has.reads_are, ap (fault_in (Some name)) has.reads_are ∙ ap (option_map Load) has.holds)
 load_refused name reads no_sections.Memory (inl none) = inl none
 load_refused name reads no_sections.Memory (inr one) = inr (reads_of_name name reads one.found one.reads_are)

@@ -12,7 +12,7 @@ use Rattle.suite.specs.ReadView as read
 use Rattle.suite.specs.Report.{suite_report}
 use Rattle.suite.specs.Suite.{lines_of_suite}
 use Rattle.one_shot_faults.specs.Fault.{error_line}
-use Rattle.one_shot_faults.specs.NoAnswerView.{Answers, IsUnheard, suite_halt}
+use Rattle.one_shot_faults.specs.NoAnswerView.{Answers, IsUnheard, suite_no_answer}
 use Rattle.one_shots.specs.Suites.{SaysReport, SaysSuite}
 
 -- ---- what was read, where it gives no answer
@@ -20,12 +20,12 @@ use Rattle.one_shots.specs.Suites.{SaysReport, SaysSuite}
 pub report_answers : (said : Result (List ℕ) SuiteFault) (text : List ℕ) → said ≡ Ok text → SaysReport said 0 text
 report_answers said text is = subst (λ (x : Result (List ℕ) SuiteFault). SaysReport x 0 text) (sym is) (refl, refl)
 
-pub no_suite_answers : (said : Result (List ℕ) SuiteFault) (why : NoSuite) → read.Tells {A = List ℕ} said (Err why) → Answers (Err (suite_halt why)) (SaysReport said)
+pub no_suite_answers : (said : Result (List ℕ) SuiteFault) (why : NoSuite) → read.Tells {A = List ℕ} said (Err why) → Answers (Err (suite_no_answer why)) (SaysReport said)
 no_suite_answers said (Faulty fault) is = subst (λ (x : Result (List ℕ) SuiteFault). SaysReport x 3 (error_line (fault_text fault))) (sym is) (refl, refl)
 no_suite_answers said Unread is = tt
 no_suite_answers said Memory is = tt
 
-pub no_suite_unheard : (why : NoSuite) → IsUnheard {A = List ℕ} (Err (suite_halt why)) → read.IsUnread {A = List ℕ} (Err why)
+pub no_suite_unheard : (why : NoSuite) → IsUnheard {A = List ℕ} (Err (suite_no_answer why)) → read.IsUnread {A = List ℕ} (Err why)
 no_suite_unheard (Faulty fault) unheard = absurd unheard
 no_suite_unheard Unread unheard = tt
 no_suite_unheard Memory unheard = absurd unheard

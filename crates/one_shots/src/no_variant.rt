@@ -9,7 +9,7 @@ use variant_model::SectionFault;
 
 /// That no section has this name.
 pub(crate) fn unknown_variant(alloc: Global, name: &str) -> Result<NoAnswer<'static>, AllocError>
-    ensures { IfOk result (λ halt. halt ≡ NoAnswer.Fault (Fault.Game (GameFault.UnknownVariant name.now))) }
+    ensures { IfOk result (λ given. given ≡ NoAnswer.Fault (Fault.Game (GameFault.UnknownVariant name.now))) }
 {
     let items = name.as_bytes().to_vec(alloc)?;
     Ok(NoAnswer::Fault(Fault::Game(GameFault::UnknownVariant(Text { items }))))
@@ -20,7 +20,7 @@ pub(crate) fn refused_variant(
     alloc: Global,
     why: &SectionFault,
 ) -> Result<NoAnswer<'static>, AllocError>
-    ensures { IfOk result (λ halt. halt ≡ NoAnswer.Fault (Fault.Game (GameFault.RefusedVariant why.now))) }
+    ensures { IfOk result (λ given. given ≡ NoAnswer.Fault (Fault.Game (GameFault.RefusedVariant why.now))) }
 {
     let why = copy_of(alloc, why)?;
     Ok(NoAnswer::Fault(Fault::Game(GameFault::RefusedVariant(why))))

@@ -14,7 +14,7 @@ mod numbers;
 mod tree;
 
 pub use expanding::root_end;
-pub use fault::{PnFault, write_pn_fault};
+pub use fault::PnFault;
 pub use finding::{Found, find};
 pub use grew::Grew;
 pub use mating::least_mate;

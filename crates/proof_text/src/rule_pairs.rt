@@ -22,7 +22,7 @@ fn told_value<'a>(sections: &LetteredSections<'a>, section: usize, key: &[u8]) -
 }
 
 /// Adds a key with its value, where it has one.
-fn push_told<'a>(
+fn push_rule_pair<'a>(
     pairs: &mut Vec<Pair<'a>>,
     key: &'a [u8],
     value: Option<&'a [u8]>,
@@ -37,7 +37,7 @@ fn push_told<'a>(
 }
 
 /// The pairs that tell a section's rules, in byte order of their keys.
-pub(crate) fn told<'a>(
+pub(crate) fn rule_pairs<'a>(
     alloc: Global,
     sections: &LetteredSections<'a>,
     section: usize,
@@ -48,7 +48,7 @@ pub(crate) fn told<'a>(
     let mut pairs = Vec::new(alloc);
     for place in 0..KEYS {
         let key = key_at(place);
-        push_told(&mut pairs, key, told_value(sections, section, key))?;
+        push_rule_pair(&mut pairs, key, told_value(sections, section, key))?;
     }
     Ok(pairs)
 }

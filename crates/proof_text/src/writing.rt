@@ -15,7 +15,7 @@ ghost use Rattle.proof_text.specs.Reading.{proof_of};
 ghost use Rattle.proof_text.specs.Writing as Writing;
 
 use crate::laws::written_proofs_are_read_back;
-use crate::rule_pairs::told;
+use crate::rule_pairs::rule_pairs;
 use foundation::{Memory, Text};
 use game_play::Game;
 use move_text::write_move;
@@ -194,7 +194,7 @@ fn push_section(
         OnOk result (text.new.items ≡ text.old.items ++ ended_lines lines) }
 {
     let lettered = LetteredSections::new(alloc, sections)?;
-    let pairs = told(alloc, &lettered, section)?;
+    let pairs = rule_pairs(alloc, &lettered, section)?;
     push_rules(text, pairs.as_slice())?;
     Ok(())
 }
@@ -212,7 +212,7 @@ pub fn write_rules(alloc: Global, sections: &Sections, section: usize) -> Result
     ensures { IfOk result (λ text. text ≡ Writing.section_text sections.now section) }
 {
     let lettered = LetteredSections::new(alloc, sections)?;
-    let pairs = told(alloc, &lettered, section)?;
+    let pairs = rule_pairs(alloc, &lettered, section)?;
     let mut items = Vec::new(alloc);
     push_pairs(&mut items, pairs.as_slice())?;
     Ok(Text { items })

@@ -1,5 +1,6 @@
 -- What a session sets for its searches.
 use Rattle.std.specs.Prelude.{ℕ, ◌≤◌}
+use Rattle.session_model.specs.declared.options.TheConstants.{DEFAULT_HASH, DEFAULT_MATE_FACTS}
 
 -- how many workers search, the MiB of hints, and how many facts of mates a shard keeps
 pub record Settings : Type 0 where
@@ -14,4 +15,4 @@ pub record AreInRange (s : Settings) : Type 0 where
 
 -- those of a new session
 abbrev pub first_settings : ℕ → Settings
-first_settings threads = record { threads = threads; hash = 16; mate_facts = 4096 }
+first_settings threads = record { threads = threads; hash = DEFAULT_HASH; mate_facts = DEFAULT_MATE_FACTS }

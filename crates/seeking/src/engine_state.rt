@@ -6,6 +6,7 @@ use crate::shared_facts::SharedFacts;
 use foundation::Memory;
 use hint_table::HintTable;
 use mate_core::Frame;
+use session_model::options::{DEFAULT_HASH, DEFAULT_MATE_FACTS};
 use std::alloc::Global;
 use std::marker::Model;
 
@@ -46,8 +47,8 @@ impl EngineState {
             is_made: false,
             pool: None,
             threads,
-            hash: 16,
-            mate_facts: 4096,
+            hash: DEFAULT_HASH,
+            mate_facts: DEFAULT_MATE_FACTS,
         })
     }
 

@@ -27,7 +27,7 @@ use watching::{Caller, Halt};
 pub fn search_once<R: Threads + Sync, S: Source, K: Sink, C: Clock, G: Gate + Sync>(
     rt: &R,
     alloc: Global,
-    mind: &mut EngineState,
+    engine: &mut EngineState,
     game: &Game,
     roots: &[Move],
     depth: u8,
@@ -46,9 +46,9 @@ pub fn search_once<R: Threads + Sync, S: Source, K: Sink, C: Clock, G: Gate + Sy
     ensures sought { Partly (world S.left S.owed S.faults K.taken K.faults C.given C.count C.last) dialect limits
         (moment source.old sink.old clock.old 0) source.new sink.new clock.new line.new
         (search_bound game.now.rules depth (story game.now)) result }
-    ensures same { mind.new ≡ mind.old }
+    ensures same { engine.new ≡ engine.old }
 {
-    mind.make_hints(alloc)?;
+    engine.make_hints(alloc)?;
     let mut watch = Caller {
         source,
         sink,
@@ -64,9 +64,9 @@ pub fn search_once<R: Threads + Sync, S: Source, K: Sink, C: Clock, G: Gate + Sy
         game,
         depth,
         roots,
-        mind.hints(),
+        engine.hints(),
         limits.quota,
-        mind.threads(),
+        engine.threads(),
         gate,
         &mut watch,
     )

@@ -26,7 +26,7 @@ use watching::{Caller, Halt};
 pub fn solve_once<R: Threads + Wait + Sync, S: Source, K: Sink, C: Clock, G: Gate + Sync>(
     rt: &R,
     alloc: Global,
-    mind: &mut EngineState,
+    engine: &mut EngineState,
     game: &Game,
     attacker: Side,
     n: u16,
@@ -43,11 +43,11 @@ pub fn solve_once<R: Threads + Wait + Sync, S: Source, K: Sink, C: Clock, G: Gat
     ensures sought { Partly (world S.left S.owed S.faults K.taken K.faults C.given C.count C.last) dialect limits
         (moment source.old sink.old clock.old 0) source.new sink.new clock.new line.new
         (solve_bound game.now.rules n (story game.now)) result }
-    ensures same { mind.new ≡ mind.old }
+    ensures same { engine.new ≡ engine.old }
 {
-    mind.make_hints(alloc)?;
+    engine.make_hints(alloc)?;
     let frame = frame_of(alloc, game, attacker)?;
-    let (shards, passes) = mind.take_facts(alloc, frame)?.into_parts();
+    let (shards, passes) = engine.take_facts(alloc, frame)?.into_parts();
     let mut watch = Caller {
         source,
         sink,
@@ -64,12 +64,12 @@ pub fn solve_once<R: Threads + Wait + Sync, S: Source, K: Sink, C: Clock, G: Gat
         n,
         &shards,
         passes,
-        mind.hints(),
+        engine.hints(),
         limits.quota,
-        mind.threads(),
+        engine.threads(),
         gate,
         &mut watch,
     );
-    mind.put_facts(SharedFacts::of(shards, passes));
+    engine.put_facts(SharedFacts::of(shards, passes));
     settled
 }

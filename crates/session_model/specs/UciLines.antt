@@ -1,7 +1,7 @@
 -- What a UCI line asks: its command, which is the first word that is a command word, and the words after it.
 use Rattle.std.specs.Prelude.{ℕ, List, [], ◌∷◌, filter, Option, Some, None, option_and_then, unwrap_or, bytes_eq, codes, if◌then◌else◌}
 use Rattle.std.specs.List.{slice_split}
-use Rattle.std.specs.Str.{str_to_ascii_lowercase}
+use Rattle.std.specs.Str.{str_eq_ignore_ascii_case}
 use Rattle.foundation.specs.Cuts.{is_blank}
 use Rattle.io_ports.specs.Command.{first_command}
 use Rattle.io_ports.specs.declared.command.UciWord.{UciWord}
@@ -9,6 +9,7 @@ use Rattle.io_ports.specs.declared.command.UciWord.TheVariants as word
 use Rattle.io_ports.specs.Lines as lines
 use Rattle.io_ports.specs.Lines.{Line, Text}
 use Rattle.game_text.specs.Playing.{is_word}
+use Rattle.session_model.specs.declared.options.TheConstants.{THREADS, HASH, MATE_FACTS, VARIANT_PATH, UCI_VARIANT}
 use Rattle.session_model.specs.UciGo.{Go as Asked, go_of}
 use Rattle.session_model.specs.UciWords.{Word, joined, words_before, words_behind}
 
@@ -37,17 +38,17 @@ value_text (Some (word ∷ words)) = Some (joined (word ∷ words))
 abbrev pub value_said : List Word → Option (List ℕ)
 value_said words = value_text (option_and_then (words_behind (codes "value")) (words_behind (codes "name") words))
 
--- by the name in small letters
+-- by the name, in small letters or capitals
 abbrev pub setting_named : List ℕ → Option (List ℕ) → Setting
 setting_named name value =
-    if bytes_eq name (codes "threads") then Threads value
-    else (if bytes_eq name (codes "hash") then Hash value
-    else (if bytes_eq name (codes "matefacts") then MateFacts value
-    else (if bytes_eq name (codes "variantpath") then VariantPath value
-    else (if bytes_eq name (codes "uci_variant") then Variant value else Unknown))))
+    if str_eq_ignore_ascii_case name THREADS.now then Threads value
+    else (if str_eq_ignore_ascii_case name HASH.now then Hash value
+    else (if str_eq_ignore_ascii_case name MATE_FACTS.now then MateFacts value
+    else (if str_eq_ignore_ascii_case name VARIANT_PATH.now then VariantPath value
+    else (if str_eq_ignore_ascii_case name UCI_VARIANT.now then Variant value else Unknown))))
 
 unfoldable pub setting_of : List Word → Setting
-setting_of words = setting_named (str_to_ascii_lowercase (joined (name_words words))) (value_said words)
+setting_of words = setting_named (joined (name_words words)) (value_said words)
 
 -- ---- `position`
 

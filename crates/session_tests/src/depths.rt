@@ -18,8 +18,8 @@ use std::sync::Wait;
 use std::thread::Threads;
 use strategy::{Counters, Nodes, Strategy};
 use thinking::{
-    Depths, Evidence, Found, Score, Style, Task, Tried, begin, depth_lines, iterative_deepening,
-    try_mates, unsettled_line,
+    DepthResult, Depths, Evidence, MateAttempt, Score, Style, Task, begin, depth_lines,
+    iterative_deepening, try_mates, unsettled_line,
 };
 use watching::Cut;
 
@@ -41,7 +41,7 @@ enum Scored {
 }
 
 /// What is found where the best move is e2e4, after 77 nodes.
-fn found(alloc: Global, scored: Scored) -> Found
+fn found(alloc: Global, scored: Scored) -> DepthResult
     ensures { result.unsettled ≡ None }
 {
     let score = match scored {
@@ -49,7 +49,7 @@ fn found(alloc: Global, scored: Scored) -> Found
         Scored::Mates(moves) => Score::Mates(moves, no_strategy(alloc)),
         Scored::Mated(moves) => Score::Mated(moves, no_strategy(alloc)),
     };
-    Found {
+    DepthResult {
         score,
         best: go("e2e4"),
         unsettled: None,
@@ -157,7 +157,7 @@ fn deepened<R: Threads + Wait + Abort + Sync>(
     let mut sink = MemSink::new(alloc, 1000)?;
     let mut clock = ListClock::new(alloc, &[100, 130, 90])?;
     let mut line = LineBuf::new(alloc)?;
-    let mut mind = EngineState::new(alloc, 1)?;
+    let mut engine = EngineState::new(alloc, 1)?;
     let game = Game::new(alloc, &rules, &start)?;
     let roots = legal_moves(alloc, game.rules(), game.tables(), game.position())?;
     assert!(rt; 0 < roots.items.len());
@@ -173,7 +173,7 @@ fn deepened<R: Threads + Wait + Abort + Sync>(
     let depths = iterative_deepening(
         rt,
         alloc,
-        &mut mind,
+        &mut engine,
         &task,
         style,
         begun,
@@ -292,12 +292,12 @@ enum Answer {
     Fault(SearchFault),
 }
 
-fn answer_of(tried: &Result<Tried, SearchFault>) -> Answer {
+fn answer_of(tried: &Result<MateAttempt, SearchFault>) -> Answer {
     match tried {
-        Ok(Tried::Shown { moves, best, .. }) => Answer::Shown(*moves, *best),
-        Ok(Tried::Unsettled { moves, .. }) => Answer::Unsettled(*moves),
-        Ok(Tried::Stopped { moves, why }) => Answer::Stopped(*moves, *why),
-        Ok(Tried::NoMate) => Answer::NoMate,
+        Ok(MateAttempt::Shown { moves, best, .. }) => Answer::Shown(*moves, *best),
+        Ok(MateAttempt::Unsettled { moves, .. }) => Answer::Unsettled(*moves),
+        Ok(MateAttempt::Stopped { moves, why }) => Answer::Stopped(*moves, *why),
+        Ok(MateAttempt::NoMate) => Answer::NoMate,
         Err(fault) => Answer::Fault(*fault),
     }
 }
@@ -319,7 +319,7 @@ fn tried<R: Threads + Wait + Abort + Sync>(
     let mut sink = MemSink::new(alloc, 1000).expect(rt, "no fault");
     let mut clock = ListClock::new(alloc, &[130, 90]).expect(rt, "no fault");
     let mut line = LineBuf::new(alloc).expect(rt, "no fault");
-    let mut mind = EngineState::new(alloc, 1).expect(rt, "no fault");
+    let mut engine = EngineState::new(alloc, 1).expect(rt, "no fault");
     let game = Game::new(alloc, &rules, &start).expect(rt, "no fault");
     let roots = legal_moves(alloc, game.rules(), game.tables(), game.position()).expect(
         rt, "no fault",
@@ -328,7 +328,7 @@ fn tried<R: Threads + Wait + Abort + Sync>(
     let tried = try_mates(
         rt,
         alloc,
-        &mut mind,
+        &mut engine,
         &game,
         last,
         limits,

@@ -74,14 +74,14 @@ fn searched<R: Threads + Wait + Abort + Sync>(
     let mut sink = MemSink::new(alloc, 100)?;
     let mut clock = ListClock::new(alloc, &[5])?;
     let mut source = MemSource::new(alloc, lines, owed, &[])?;
-    let mut mind = EngineState::new(alloc, 1)?;
+    let mut engine = EngineState::new(alloc, 1)?;
     let game = Game::new(alloc, &rules, &p)?;
     let roots = Board::new(game.tables(), game.position()).legal_moves(alloc)?;
     assert!(rt; !roots.items.is_empty());
     let searched = search_once(
         rt,
         alloc,
-        &mut mind,
+        &mut engine,
         &game,
         roots.items.as_slice(),
         2,
@@ -110,12 +110,12 @@ fn solved<R: Threads + Wait + Abort + Sync>(
     let mut sink = MemSink::new(alloc, 100).expect(rt, "no fault");
     let mut clock = ListClock::new(alloc, &[5]).expect(rt, "no fault");
     let mut source = MemSource::new(alloc, lines, owed, &[]).expect(rt, "no fault");
-    let mut mind = EngineState::new(alloc, 1).expect(rt, "no fault");
+    let mut engine = EngineState::new(alloc, 1).expect(rt, "no fault");
     let game = Game::new(alloc, &rules, &p).expect(rt, "no fault");
     let solved = solve_once(
         rt,
         alloc,
-        &mut mind,
+        &mut engine,
         &game,
         Side::White,
         2,
@@ -180,11 +180,11 @@ fn limits_of_a_search_and_a_solve(rt: HostRuntime) {
 
 #[test]
 fn settings_change(rt: HostRuntime) {
-    let mut mind = EngineState::new(rt.alloc(), 2).expect(&rt, "no fault");
-    mind.set_hash(rt.alloc(), 1).expect(&rt, "no fault");
-    mind.set_mate_facts(16);
-    mind.forget_hints();
-    expect_eq(&rt, mind.threads(), 2);
-    mind.set_threads(64);
-    expect_eq(&rt, mind.threads(), 64);
+    let mut engine = EngineState::new(rt.alloc(), 2).expect(&rt, "no fault");
+    engine.set_hash(rt.alloc(), 1).expect(&rt, "no fault");
+    engine.set_mate_facts(16);
+    engine.forget_hints();
+    expect_eq(&rt, engine.threads(), 2);
+    engine.set_threads(64);
+    expect_eq(&rt, engine.threads(), 64);
 }

@@ -4,7 +4,7 @@ use foundation::Memory;
 use io_ports::{Dialect, Got, LineBuf, MAX_LINE, MemSink, MemSource, PollsOwed, SearchFault};
 use std::alloc::Global;
 use std::process::Abort;
-use turning::{next_of, settle, wait};
+use turning::{next_of, wait, wait_if_held};
 use watching::Cut;
 
 /// Asserts what is left of the input, and what was written.
@@ -100,7 +100,7 @@ fn expect_settled(
     );
     let mut sink = MemSink::new(alloc, 100).expect(rt, "no fault");
     let mut line = LineBuf::new(alloc).expect(rt, "no fault");
-    let answer = settle(&mut source, &mut sink, Dialect::Uci, &mut line, holds, why);
+    let answer = wait_if_held(&mut source, &mut sink, Dialect::Uci, &mut line, holds, why);
     expect_eq(rt, answer, Ok(settled));
     let (left, written) = leaves_and_writes;
     leaves(rt, &source, &sink, left, written);
@@ -187,7 +187,7 @@ fn expect_fault(
     );
     let mut sink = MemSink::new(alloc, room).expect(rt, "no fault");
     let mut line = LineBuf::new(alloc).expect(rt, "no fault");
-    let answer = settle(&mut source, &mut sink, Dialect::Uci, &mut line, true, None);
+    let answer = wait_if_held(&mut source, &mut sink, Dialect::Uci, &mut line, true, None);
     expect_eq(rt, answer, Err(fault));
     leaves(rt, &source, &sink, left, written);
 }

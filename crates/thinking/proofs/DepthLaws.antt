@@ -27,15 +27,15 @@ use Rattle.session_model.specs.UciSession.{first_of}
 use Rattle.turning.specs.Lines.{Follows, Held, none, one}
 use Rattle.thinking.specs.declared.depth.Depth.{Depth}
 use Rattle.thinking.specs.declared.depth.Depth.TheVariants.{Done, Off}
-use Rattle.thinking.specs.declared.found.CutSolve.{CutSolve}
-use Rattle.thinking.specs.declared.found.Found.{Found}
-use Rattle.thinking.specs.declared.found.Kept.{Kept}
+use Rattle.thinking.specs.declared.depth_result.CutSolve.{CutSolve}
+use Rattle.thinking.specs.declared.depth_result.DepthResult.{DepthResult}
+use Rattle.thinking.specs.declared.depth_result.AnnouncedMate.{AnnouncedMate}
 use Rattle.thinking.specs.declared.style.Style.{Style}
 use Rattle.thinking.specs.Cuts.{CutsBy, cause_of}
 use Rattle.thinking.specs.Depths.{BrokeDepth, BrokeOff, Deepened, Deepening, Deeper, IsDepth, cut_in, reach_at, reports_in}
 use Rattle.thinking.specs.Judging.{bound_at}
 use Rattle.thinking.specs.Tells.{BrokeHeld, Tells}
-use Rattle.thinking.specs.Views.{kept_seen, report_of}
+use Rattle.thinking.specs.Views.{announced_seen, report_of}
 use Rattle.thinking.proofs.CutLaws.{cuts_after, cuts_as, cuts_wider}
 use Rattle.thinking.proofs.RanLaws.{broke_held_more}
 use Rattle.thinking.proofs.TellLaws.{tells_more, tells_none}
@@ -167,7 +167,7 @@ module _ {S K C : Type 0} {left : S → Option (List ℕ)} {taken : K → Option
   module _ {s s' s'' : S} {k k' k'' : K} {c c' c'' : C} {o o' : Owed} (t : Task) (root : Move) (first done entered : ℕ) (best : Move) (kept : Option Announced)
       (so : Deepening dialect style (Moves left taken given count last s s' k k' c c') o o' t root first done entered best kept) where
     -- a depth is done
-    pub deepening_more : {o'' : Owed} (limits : Limits) (text : List ℕ) (found : Found) (clock entered' : ℕ)
+    pub deepening_more : {o'' : Owed} (limits : Limits) (text : List ℕ) (found : DepthResult) (clock entered' : ℕ)
         → Deeper dialect style (Moves left taken given count last s' s'' k' k'' c' c'') o' o'' t first (done + 1) limits text (Done found clock None)
         → entered' ≤ entered + found.nodes
         → Deepening dialect style (Moves left taken given count last s s'' k k'' c c'') o o'' t root first (done + 1) entered' found.best (announced_by (report_of found clock).score kept)
@@ -189,7 +189,7 @@ module _ {S K C : Type 0} {left : S → Option (List ℕ)} {taken : K → Option
     module _ (limits : Limits) (text : List ℕ) (le : done + 1 ≤ t.depths) (quota_is : limits.quota ≡ option_map (λ number. number - entered) t.share)
         (start : (more : List ℕ) → limits.deadline ≡ deadline_of t.time (first ∷ more)) where
       -- its search was cut
-      pub deepening_off : {o'' : Owed} (kept_at : Option Kept) (why : Cut) → kept ≡ kept_seen kept_at
+      pub deepening_off : {o'' : Owed} (kept_at : Option AnnouncedMate) (why : Cut) → kept ≡ announced_seen kept_at
           → Deeper dialect style (Moves left taken given count last s' s'' k' k'' c' c'') o' o'' t first (done + 1) limits text (Off why)
           → Deepened dialect style (Moves left taken given count last s s'' k k'' c c'') o o'' t root first text (record { best = best; kept = kept_at; why = Some why })
       deepening_off {o'' = o''} kept_at why kept_is d = record {
@@ -209,7 +209,7 @@ module _ {S K C : Type 0} {left : S → Option (List ℕ)} {taken : K → Option
       }
 
       -- the solve after it was cut
-      pub deepening_left : {o'' : Owed} (found : Found) (clock : ℕ) (solve : CutSolve) (kept_at : Option Kept) → announced_by (report_of found clock).score kept ≡ kept_seen kept_at
+      pub deepening_left : {o'' : Owed} (found : DepthResult) (clock : ℕ) (solve : CutSolve) (kept_at : Option AnnouncedMate) → announced_by (report_of found clock).score kept ≡ announced_seen kept_at
           → Deeper dialect style (Moves left taken given count last s' s'' k' k'' c' c'') o' o'' t first (done + 1) limits text (Done found clock (Some solve))
           → Deepened dialect style (Moves left taken given count last s s'' k k'' c c'') o o'' t root first text (record { best = found.best; kept = kept_at; why = Some solve.why })
       deepening_left {o'' = o''} found clock solve kept_at kept_is d =

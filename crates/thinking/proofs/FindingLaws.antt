@@ -16,11 +16,11 @@ use Rattle.session_model.specs.Mates.{IsEvidence, IsShown, counters_of, favoured
 use Rattle.session_model.specs.Thinking.{Task, AttainsAt, IsAhead, IsBehind, IsReport, IsScore, IsSettled, mate_sought, value_at}
 use Rattle.session_model.specs.Thinking as Thinking
 use Rattle.strategy.specs.declared.nodes.Strategy.{Strategy}
-use Rattle.thinking.specs.declared.found.CutSolve.{CutSolve}
-use Rattle.thinking.specs.declared.found.Evidence.{Evidence}
-use Rattle.thinking.specs.declared.found.Found.{Found}
-use Rattle.thinking.specs.declared.found.Score.{Score}
-use Rattle.thinking.specs.declared.found.Score.TheVariants as score
+use Rattle.thinking.specs.declared.depth_result.CutSolve.{CutSolve}
+use Rattle.thinking.specs.declared.depth_result.Evidence.{Evidence}
+use Rattle.thinking.specs.declared.depth_result.DepthResult.{DepthResult}
+use Rattle.thinking.specs.declared.depth_result.Score.{Score}
+use Rattle.thinking.specs.declared.depth_result.Score.TheVariants as score
 use Rattle.thinking.specs.declared.task.Task.{Task as Asked}
 use Rattle.thinking.specs.Judging.{IsFinding, search_at}
 use Rattle.thinking.specs.Views.{IsTask, evidence_of, evidence_seen, score_seen}
@@ -153,7 +153,7 @@ scored_there t depth (score.Mated n s) best e h = let no = h.4 in absurd (cc)
 abbrev IsThere : Task → Option Evidence → Type 0
 IsThere t unsettled = IfSome unsettled (λ e. (n : ℕ) × (a : Side) × IsEvidence t.game n a (evidence_of e))
 
-evidence_there : (t : Task) (depth : ℕ) (found : Found) (cut : Option CutSolve) → IsFinding t depth found cut → IsThere t found.unsettled
+evidence_there : (t : Task) (depth : ℕ) (found : DepthResult) (cut : Option CutSolve) → IsFinding t depth found cut → IsThere t found.unsettled
 evidence_there t depth found None is = by_unsettled found.unsettled (is 0).scored
   where
     by_unsettled : (unsettled : Option Evidence) → IsScore t depth (score_seen found.score) found.best (evidence_seen unsettled) → IsThere t unsettled
@@ -166,7 +166,7 @@ evidence_there t depth found (Some cut) is = by_unsettled found.unsettled (is 0)
     by_unsettled (Some e) h = absurd (cc)
 
 -- the position of evidence is sound
-pub finding_sound : (t : Task) (depth : ℕ) (found : Found) (cut : Option CutSolve) → IsPlayed t.game → IsFinding t depth found cut
+pub finding_sound : (t : Task) (depth : ℕ) (found : DepthResult) (cut : Option CutSolve) → IsPlayed t.game → IsFinding t depth found cut
     → IfSome found.unsettled (λ e. is_sound t.game.rules (position_at e.repeat e.first) ≡ true)
 finding_sound t depth found cut played is = by_unsettled found.unsettled (evidence_there t depth found cut is)
   where

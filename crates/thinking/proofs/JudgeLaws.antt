@@ -26,8 +26,8 @@ use Rattle.session_model.proofs.Reports.{solve_bound-some, sought_is_near}
 use Rattle.session_model.specs.Thinking.{Task, mate_sought, solve_within}
 use Rattle.turning.specs.Lines.{Causes}
 use Rattle.thinking.specs.declared.depth.Depth.TheVariants.{Done, Off}
-use Rattle.thinking.specs.declared.found.CutSolve.{CutSolve}
-use Rattle.thinking.specs.declared.found.Found.{Found}
+use Rattle.thinking.specs.declared.depth_result.CutSolve.{CutSolve}
+use Rattle.thinking.specs.declared.depth_result.DepthResult.{DepthResult}
 use Rattle.thinking.specs.declared.judging.DepthSearched.TheVariants as explored
 use Rattle.thinking.specs.declared.judging.DepthJudged.{DepthJudged}
 use Rattle.thinking.specs.declared.style.Style.{Style}
@@ -41,10 +41,10 @@ use Rattle.thinking.proofs.RanLaws.{broke_held, broke_told, ran_told, told, told
 use Rattle.thinking.proofs.TellLaws.{listens_none, listens_tells, tells_told}
 
 -- what holds of a judgement with these parts
-judged_is : (P : DepthJudged → Type 0) (j : DepthJudged) {found : Found} {cut : Option CutSolve} → j.found ≡ found → j.cut ≡ cut
+judged_is : (P : DepthJudged → Type 0) (j : DepthJudged) {found : DepthResult} {cut : Option CutSolve} → j.found ≡ found → j.cut ≡ cut
     → P (record { found = found; cut = cut }) → P j
 judged_is P j {found = found} {cut = cut} f e p =
-    subst (λ (x : Found). P (record { found = x; cut = j.cut })) (sym f) (subst (λ (y : Option CutSolve). P (record { found = found; cut = y })) (sym e) p)
+    subst (λ (x : DepthResult). P (record { found = x; cut = j.cut })) (sym f) (subst (λ (y : Option CutSolve). P (record { found = found; cut = y })) (sym e) p)
 
 -- a solve for the mate that a value stands for stays within what its depth allows
 pub near_of : (t : Task) (depth n : ℕ) → 0 < length t.roots → 0 < depth → mate_sought t depth ≡ Some n → solve_within t n ≤ asked_at t depth
@@ -82,7 +82,7 @@ module _ {S K C : Type 0} (w : World S K C) (dialect : Dialect) where
     -- ---- a solve
 
     -- it came to its end
-    pub judged_solved : (n : ℕ) (judged : DepthJudged) {found : Found} → judged.found ≡ found → judged.cut ≡ None → Gone w dialect limits a b text (solve_within t n) None → solve_within t n ≤ asked_at t depth
+    pub judged_solved : (n : ℕ) (judged : DepthJudged) {found : DepthResult} → judged.found ≡ found → judged.cut ≡ None → Gone w dialect limits a b text (solve_within t n) None → solve_within t n ≤ asked_at t depth
         → IsFinding t depth found None
         → IsJudged dialect (MovesOn w a b) (w.owed a.source) (w.owed b.source) t depth limits text judged
     judged_solved n judged f e gone near is = judged_is (IsJudged dialect (MovesOn w a b) (w.owed a.source) (w.owed b.source) t depth limits text) judged f e (record {
@@ -92,7 +92,7 @@ module _ {S K C : Type 0} (w : World S K C) (dialect : Dialect) where
     })
 
     -- it was cut
-    pub judged_cut : (solve : CutSolve) {found found' : Found} → found' ≡ found → Gone w dialect limits a b text (solve_within t solve.moves) (Some solve.why) → solve_within t solve.moves ≤ asked_at t depth
+    pub judged_cut : (solve : CutSolve) {found found' : DepthResult} → found' ≡ found → Gone w dialect limits a b text (solve_within t solve.moves) (Some solve.why) → solve_within t solve.moves ≤ asked_at t depth
         → IsFinding t depth found (Some solve)
         → IsJudged dialect (MovesOn w a b) (w.owed a.source) (w.owed b.source) t depth limits text (record { found = found'; cut = Some solve })
     judged_cut solve {found' = found'} f gone near is = judged_is (IsJudged dialect (MovesOn w a b) (w.owed a.source) (w.owed b.source) t depth limits text) (record { found = found'; cut = Some solve }) f refl (record {
@@ -147,7 +147,7 @@ module _ {S K C : Type 0} (w : World S K C) (dialect : Dialect) where
     explored_broke d gone broke = broke_more dialect (Listens dialect) (λ x y p q. listens_more dialect x y p.0 q) gone.looked.ran broke
 
   -- no mate is looked for
-  pub judged_none : (a : Moment S K C) (t : Task) (depth : ℕ) (limits : Limits) (text : List ℕ) (judged : DepthJudged) {found : Found} → judged.found ≡ found → judged.cut ≡ None
+  pub judged_none : (a : Moment S K C) (t : Task) (depth : ℕ) (limits : Limits) (text : List ℕ) (judged : DepthJudged) {found : DepthResult} → judged.found ≡ found → judged.cut ≡ None
       → IsFinding t depth found None
       → IsJudged dialect (MovesOn w a a) (w.owed a.source) (w.owed a.source) t depth limits text judged
   judged_none a t depth limits text judged f e is = judged_is (IsJudged dialect (MovesOn w a a) (w.owed a.source) (w.owed a.source) t depth limits text) judged f e (record {
@@ -159,19 +159,19 @@ module _ {S K C : Type 0} (w : World S K C) (dialect : Dialect) where
 -- ---- and its lines
 
 module _ (dialect : Dialect) (style : Style) (t : Task) (first depth : ℕ) (limits : Limits) (text : List ℕ) where
-  abbrev Told : Owed → Found → ℕ → Option CutSolve → List Event → Type 0
+  abbrev Told : Owed → DepthResult → ℕ → Option CutSolve → List Event → Type 0
   Told owed found reading cut events =
       Tells dialect style t.game.rules first depth (report_of found reading ∷ []) events
       × IfSome (solve_cut cut) (CutsBy dialect owed (bound_at t depth) limits.quota limits.deadline (search_at t depth + solve_reach t cut) (readings events) text)
 
-  abbrev texts_of : Found → ℕ → List (List ℕ)
+  abbrev texts_of : DepthResult → ℕ → List (List ℕ)
   texts_of found reading = lines_by style t.game.rules first depth (report_of found reading ∷ [])
 
-  is_depth : (found : Found) (reading : ℕ) (cut : Option CutSolve) → IsFinding t depth found cut → IsDepth t depth (Done found reading cut)
+  is_depth : (found : DepthResult) (reading : ℕ) (cut : Option CutSolve) → IsFinding t depth found cut → IsDepth t depth (Done found reading cut)
   is_depth found reading None is = is reading
   is_depth found reading (Some solve) is = is reading
 
-  told_then : (o o' : Owed) (found : Found) (reading : ℕ) (cut : Option CutSolve) (a : List Event)
+  told_then : (o o' : Owed) (found : DepthResult) (reading : ℕ) (cut : Option CutSolve) (a : List Event)
       → ((why : Cut) (reach : ℕ) → CutsBy dialect o (bound_at t depth) limits.quota limits.deadline reach (readings a) text why → CutsBy dialect o' (bound_at t depth) limits.quota limits.deadline reach (readings a) text why)
       → Listens dialect a × IfSome (solve_cut cut) (CutsBy dialect o (bound_at t depth) limits.quota limits.deadline (search_at t depth + solve_reach t cut) (readings a) text)
       → Told o' found reading cut (a ++ told style reading (texts_of found reading))

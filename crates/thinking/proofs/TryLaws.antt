@@ -16,7 +16,7 @@ use Rattle.watching.specs.Watched.{World, Moment, MovesOn, Gone, moment}
 use Rattle.session_model.proofs.Shown.{no_shorter_more}
 use Rattle.session_model.specs.Mates.{IsNoWin, mover}
 use Rattle.session_model.specs.UciSession.{Decides}
-use Rattle.thinking.specs.declared.mates.Tried.{Tried}
+use Rattle.thinking.specs.declared.mates.MateAttempt.{MateAttempt}
 use Rattle.thinking.specs.Cuts.{CutsBy}
 use Rattle.thinking.specs.Tries.{BrokeTrying, IsCutBy, IsMate, IsTried, Trying, answer_seen, cut_in}
 use Rattle.thinking.proofs.CutLaws.{cuts_later, cuts_of_watch, cuts_wider}
@@ -79,7 +79,7 @@ module _ {S K C : Type 0} (w : World S K C) (dialect : Dialect) (g : Played) (la
         uncut (Some why) is ran = absurd (cc)
 
     -- an answer
-    pub trying_done : (tried : Tried) → before + 1 ≤ last → cut_in tried ≡ why → IsMate g last (answer_seen tried)
+    pub trying_done : (tried : MateAttempt) → before + 1 ≤ last → cut_in tried ≡ why → IsMate g last (answer_seen tried)
         → ((taken : List ℕ) (first : List ℕ) → MayCut dialect (w.owed b.source) (solve_bound g.rules (before + 1) (story g)) limits (solve_bound g.rules (before + 1) (story g)) d.nodes taken text why → IsCutBy dialect (w.owed a.source) limits g last (first ++ taken) text tried)
         → IsTried dialect (MovesOn w a d) (w.owed a.source) (w.owed d.source) limits g last text tried
     trying_done tried le cut_is is cuts = record {

@@ -18,7 +18,7 @@ use Rattle.turning.specs.Lines.{Follows, Held}
 use Rattle.thinking.specs.Cuts.{CutsBy, IsEndedBy}
 use Rattle.thinking.specs.Judging.{bound_at, search_at, solve_cut, solve_reach}
 use Rattle.thinking.specs.Tells.{BrokeHeld, Tells}
-use Rattle.thinking.specs.Views.{kept_seen, report_of}
+use Rattle.thinking.specs.Views.{announced_seen, report_of}
 use Rattle.thinking.specs.declared.deepening.Depths.{Depths}
 use Rattle.thinking.specs.declared.depth.Depth.{Depth}
 use Rattle.thinking.specs.declared.depth.Depth.TheVariants.{Done, Off}
@@ -93,7 +93,7 @@ pub record Deepened (dialect : Dialect) (style : Style) (moved : Moved) (owed ow
       (first ∷ readings events) following))
   pub ended : IsEndedBy depths.why ending
   pub best_is : depths.best ≡ last_best root (reported reports ending)
-  pub kept_is : kept_seen depths.kept ≡ last_announced None (reported reports ending)
+  pub kept_is : announced_seen depths.kept ≡ last_announced None (reported reports ending)
   pub spends : Spends owed owed' (depths_bound t.game.rules t.depths (story t.game))
 
 -- A fault came, completed: no line is left, unless one that stops a search cut what was being told.

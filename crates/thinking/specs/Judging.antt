@@ -12,8 +12,8 @@ use Rattle.watching.specs.Looks.{Moved, Ran, held}
 use Rattle.session_model.specs.Thinking.{Task, IsOpen, IsReport, solve_within}
 use Rattle.thinking.specs.Cuts.{CutsBy}
 use Rattle.thinking.specs.Views.{report_of}
-use Rattle.thinking.specs.declared.found.CutSolve.{CutSolve}
-use Rattle.thinking.specs.declared.found.Found.{Found}
+use Rattle.thinking.specs.declared.depth_result.CutSolve.{CutSolve}
+use Rattle.thinking.specs.declared.depth_result.DepthResult.{DepthResult}
 use Rattle.thinking.specs.declared.judging.DepthSearched.{DepthSearched}
 use Rattle.thinking.specs.declared.judging.DepthSearched.TheVariants as explored
 use Rattle.thinking.specs.declared.judging.DepthJudged.{DepthJudged}
@@ -33,7 +33,7 @@ bound_at t depth = search_at t depth + asked_at t depth
 -- ---- the mate that a value stands for
 
 -- a report, whatever the clock says after it; or one that a cut solve leaves open
-abbrev pub IsFinding : Task → ℕ → Found → Option CutSolve → Type 0
+abbrev pub IsFinding : Task → ℕ → DepthResult → Option CutSolve → Type 0
 IsFinding t depth found None = (clock : ℕ) → IsReport t depth (report_of found clock)
 IsFinding t depth found (Some cut) = (clock : ℕ) → IsOpen t depth cut.moves (report_of found clock)
 

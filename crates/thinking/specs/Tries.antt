@@ -14,16 +14,16 @@ use Rattle.session_model.specs.UciSession as answer
 use Rattle.session_model.specs.UciSession.{Decides, MateAnswer}
 use Rattle.thinking.specs.Cuts.{CutsBy, cause_of}
 use Rattle.thinking.specs.Views.{evidence_of}
-use Rattle.thinking.specs.declared.mates.Tried.{Tried}
-use Rattle.thinking.specs.declared.mates.Tried.TheVariants.{Shown, Unsettled, Stopped, NoMate}
+use Rattle.thinking.specs.declared.mates.MateAttempt.{MateAttempt}
+use Rattle.thinking.specs.declared.mates.MateAttempt.TheVariants.{Shown, Unsettled, Stopped, NoMate}
 
-abbrev pub answer_seen : Tried → MateAnswer
+abbrev pub answer_seen : MateAttempt → MateAnswer
 answer_seen (Shown moves strategy best) = answer.Shown moves strategy best
 answer_seen (Unsettled moves unsettled) = answer.Unsettled moves (evidence_of unsettled)
 answer_seen (Stopped moves why) = answer.Stopped moves (cause_of why)
 answer_seen NoMate = answer.NoMate
 
-abbrev pub cut_in : Tried → Option Cut
+abbrev pub cut_in : MateAttempt → Option Cut
 cut_in (Shown moves strategy best) = None
 cut_in (Unsettled moves unsettled) = None
 cut_in (Stopped moves why) = Some why
@@ -38,7 +38,7 @@ IsMate g last (answer.Stopped n cause) = Decides g last n
 IsMate g last answer.NoMate = HasNoShorter g (last + 1)
 
 -- a solve that was stopped was cut
-abbrev pub IsCutBy : Dialect → Owed → Limits → Played → ℕ → List ℕ → List ℕ → Tried → Type 0
+abbrev pub IsCutBy : Dialect → Owed → Limits → Played → ℕ → List ℕ → List ℕ → MateAttempt → Type 0
 IsCutBy dialect owed limits g last taken text (Shown moves strategy best) = Unit {0}
 IsCutBy dialect owed limits g last taken text (Unsettled moves unsettled) = Unit {0}
 IsCutBy dialect owed limits g last taken text (Stopped moves why) =
@@ -47,7 +47,7 @@ IsCutBy dialect owed limits g last taken text (Stopped moves why) =
 IsCutBy dialect owed limits g last taken text NoMate = Unit {0}
 
 pub record IsTried (dialect : Dialect) (moved : Moved) (owed owed' : Owed) (limits : Limits) (g : Played) (last : ℕ)
-    (text : List ℕ) (tried : Tried) : Type 0 where
+    (text : List ℕ) (tried : MateAttempt) : Type 0 where
   pub ran : Ran dialect moved (held (cut_in tried) text)
       (λ events. Listens dialect events × IsCutBy dialect owed limits g last (readings events) text tried)
   pub is : IsMate g last (answer_seen tried)

@@ -9,11 +9,11 @@ use Rattle.session_model.specs.Mates as Mates
 use Rattle.session_model.specs.Mates.{Announced}
 use Rattle.session_model.specs.Thinking as Thinking
 use Rattle.session_model.specs.Thinking.{Report}
-use Rattle.thinking.specs.declared.found.Evidence.{Evidence}
-use Rattle.thinking.specs.declared.found.Found.{Found}
-use Rattle.thinking.specs.declared.found.Kept.{Kept}
-use Rattle.thinking.specs.declared.found.Score.{Score}
-use Rattle.thinking.specs.declared.found.Score.TheVariants as score
+use Rattle.thinking.specs.declared.depth_result.Evidence.{Evidence}
+use Rattle.thinking.specs.declared.depth_result.DepthResult.{DepthResult}
+use Rattle.thinking.specs.declared.depth_result.AnnouncedMate.{AnnouncedMate}
+use Rattle.thinking.specs.declared.depth_result.Score.{Score}
+use Rattle.thinking.specs.declared.depth_result.Score.TheVariants as score
 use Rattle.thinking.specs.declared.task.Start.{Start}
 use Rattle.thinking.specs.declared.task.Task.{Task}
 
@@ -49,7 +49,7 @@ abbrev pub evidence_seen : Option Evidence → Option Mates.Evidence
 evidence_seen unsettled = option_map evidence_of unsettled
 
 -- with the reading of the clock after the depth
-abbrev pub report_of : Found → ℕ → Report
+abbrev pub report_of : DepthResult → ℕ → Report
 report_of found clock = record {
   score = score_seen found.score;
   best = found.best;
@@ -58,8 +58,8 @@ report_of found clock = record {
   clock = clock;
 }
 
-abbrev pub announced_of : Kept → Announced
+abbrev pub announced_of : AnnouncedMate → Announced
 announced_of kept = record { strategy = kept.strategy; moves = kept.moves }
 
-abbrev pub kept_seen : Option Kept → Option Announced
-kept_seen kept = option_map announced_of kept
+abbrev pub announced_seen : Option AnnouncedMate → Option Announced
+announced_seen kept = option_map announced_of kept

@@ -10,7 +10,7 @@ ghost use Rattle.thinking.specs.Depths.{BrokeOff, Deepened};
 ghost use Rattle.thinking.specs.Views.{IsStart, IsTask, task_seen};
 
 use crate::depth::{Depth, search_depth};
-use crate::found::{Found, Kept, kept_by};
+use crate::depth_result::{DepthResult, AnnouncedMate, announced_by};
 use crate::style::Style;
 use crate::task::{Start, Task, quota_left};
 use io_ports::{Clock, Dialect, Gate, Limits, LineBuf, SearchFault, Sink, Source};
@@ -27,7 +27,7 @@ pub struct Depths {
     /// The move of the last depth, else the first root move.
     pub best: Move,
     /// The mate that was announced last, where one was.
-    pub kept: Option<Kept>,
+    pub kept: Option<AnnouncedMate>,
     /// What cut the search, or a solve after it.
     pub why: Option<Cut>,
 }
@@ -41,7 +41,7 @@ pub struct Depths {
 pub fn iterative_deepening<R: Threads + Wait + Sync, S: Source, K: Sink, C: Clock, G: Gate + Sync>(
     rt: &R,
     alloc: Global,
-    mind: &mut EngineState,
+    engine: &mut EngineState,
     task: &Task,
     style: Style,
     start: Start,
@@ -64,7 +64,7 @@ pub fn iterative_deepening<R: Threads + Wait + Sync, S: Source, K: Sink, C: Cloc
     ensures end { IfOk result (λ depths. depths.why ≡ Some Cut.End → IsAtEnd (S.left source.new)) }
     ensures causes { Causes (S.faults source.old) (S.faults source.new) (K.faults sink.old) (K.faults sink.new)
         (IsErrOf result) }
-    ensures same { mind.new ≡ mind.old }
+    ensures same { engine.new ≡ engine.old }
 {
     let mut best = task.roots[0];
     let mut kept = None;
@@ -77,7 +77,7 @@ pub fn iterative_deepening<R: Threads + Wait + Sync, S: Source, K: Sink, C: Cloc
         let depth = search_depth(
             rt,
             alloc,
-            mind,
+            engine,
             task,
             style,
             start.first,
@@ -99,14 +99,14 @@ pub fn iterative_deepening<R: Threads + Wait + Sync, S: Source, K: Sink, C: Cloc
                 });
             }
             Depth::Done { found, cut, .. } => {
-                let Found {
+                let DepthResult {
                     score,
                     best: chosen,
                     nodes,
                     ..
                 } = found;
                 best = chosen;
-                kept = kept_by(kept, score);
+                kept = announced_by(kept, score);
                 entered = entered.saturating_add(nodes);
                 if let Some(solve) = cut {
                     return Ok(Depths {

@@ -9,7 +9,7 @@ ghost use Rattle.thinking.specs.Depths.{BrokeDepth, Deeper, cut_in};
 ghost use Rattle.thinking.specs.Tells.{reads_by};
 ghost use Rattle.thinking.specs.Views.{IsTask, task_seen};
 
-use crate::found::{CutSolve, Found};
+use crate::depth_result::{CutSolve, DepthResult};
 use crate::judging::{DepthJudged, DepthSearched, search_and_judge};
 use crate::lines::depth_lines;
 use crate::style::Style;
@@ -27,7 +27,7 @@ pub enum Depth {
     /// It was searched: what was found, the reading of the clock after it in milliseconds where lines have times, and
     /// the solve that was cut after its search, where one was.
     Done {
-        found: Found,
+        found: DepthResult,
         clock: u64,
         cut: Option<CutSolve>,
     },
@@ -56,7 +56,7 @@ fn reading_for<C: Clock>(style: Style, clock: &mut C) -> u64
 pub fn search_depth<R: Threads + Wait + Sync, S: Source, K: Sink, C: Clock, G: Gate + Sync>(
     rt: &R,
     alloc: Global,
-    mind: &mut EngineState,
+    engine: &mut EngineState,
     task: &Task,
     style: Style,
     first: u64,
@@ -81,10 +81,10 @@ pub fn search_depth<R: Threads + Wait + Sync, S: Source, K: Sink, C: Clock, G: G
     ensures end { IfOk result (λ d. cut_in d ≡ Some Cut.End → IsAtEnd (S.left source.new)) }
     ensures causes { Causes (S.faults source.old) (S.faults source.new) (K.faults sink.old) (K.faults sink.new)
         (IsErrOf result) }
-    ensures same { mind.new ≡ mind.old }
+    ensures same { engine.new ≡ engine.old }
 {
     let explored = search_and_judge(
-        rt, alloc, mind, task, depth, limits, source, sink, clock, gate, dialect, line,
+        rt, alloc, engine, task, depth, limits, source, sink, clock, gate, dialect, line,
     )?;
     match explored {
         DepthSearched::Off(why) => Ok(Depth::Off(why)),

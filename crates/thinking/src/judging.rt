@@ -11,7 +11,7 @@ ghost use Rattle.turning.specs.Lines.{Causes};
 ghost use Rattle.thinking.specs.Judging.{IsJudged, IsExplored, explored_cut, solve_cut};
 ghost use Rattle.thinking.specs.Views.{IsTask, task_seen};
 
-use crate::found::{CutSolve, Evidence, Found, Score, evidence_at};
+use crate::depth_result::{CutSolve, Evidence, DepthResult, Score, evidence_at};
 use crate::scores::{favoured, mate_sought, root_move};
 use crate::task::{Task, quota_left};
 use io_ports::{Clock, Dialect, Gate, Limits, LineBuf, SearchFault, Sink, Source};
@@ -26,7 +26,7 @@ use watching::{Cut, Halt};
 /// What is found at a depth, and the solve that was cut after its search, where one was.
 #[derive(Drop)]
 pub struct DepthJudged {
-    pub found: Found,
+    pub found: DepthResult,
     pub cut: Option<CutSolve>,
 }
 
@@ -42,7 +42,7 @@ fn settled(score: Score, best: Move, unsettled: Option<Evidence>, nodes: u64) ->
     ensures found { result.found ≡ record { score = score; best = best; unsettled = unsettled; nodes = nodes } }
     ensures cut { result.cut ≡ None }
 {
-    let found = Found {
+    let found = DepthResult {
         score,
         best,
         unsettled,
@@ -60,7 +60,7 @@ fn settled(score: Score, best: Move, unsettled: Option<Evidence>, nodes: u64) ->
 pub fn seek_mate<R: Threads + Wait + Sync, S: Source, K: Sink, C: Clock, G: Gate + Sync>(
     rt: &R,
     alloc: Global,
-    mind: &mut EngineState,
+    engine: &mut EngineState,
     task: &Task,
     depth: u8,
     value: i32,
@@ -88,14 +88,14 @@ pub fn seek_mate<R: Threads + Wait + Sync, S: Source, K: Sink, C: Clock, G: Gate
     ensures end { IfOk result (λ judged. solve_cut judged.cut ≡ Some Cut.End → IsAtEnd (S.left source.new)) }
     ensures causes { Causes (S.faults source.old) (S.faults source.new) (K.faults sink.old) (K.faults sink.new)
         (IsErrOf result) }
-    ensures same { mind.new ≡ mind.old }
+    ensures same { engine.new ≡ engine.old }
 {
     let Some(moves) = mate_sought(task, value) else {
         return Ok(settled(Score::Points(value), best, None, nodes));
     };
     let side = favoured(task.game.position().side, value);
     let solved = solve_once(
-        rt, alloc, mind, task.game, side, moves, limits, source, sink, clock, gate, dialect, line,
+        rt, alloc, engine, task.game, side, moves, limits, source, sink, clock, gate, dialect, line,
     );
     match solved {
         Ok(Settled::NoMate) => Ok(settled(Score::Points(value), best, None, nodes)),
@@ -132,7 +132,7 @@ pub fn seek_mate<R: Threads + Wait + Sync, S: Source, K: Sink, C: Clock, G: Gate
 pub fn search_and_judge<R: Threads + Wait + Sync, S: Source, K: Sink, C: Clock, G: Gate + Sync>(
     rt: &R,
     alloc: Global,
-    mind: &mut EngineState,
+    engine: &mut EngineState,
     task: &Task,
     depth: u8,
     limits: Limits,
@@ -155,10 +155,10 @@ pub fn search_and_judge<R: Threads + Wait + Sync, S: Source, K: Sink, C: Clock, 
     ensures end { IfOk result (λ e. explored_cut e ≡ Some Cut.End → IsAtEnd (S.left source.new)) }
     ensures causes { Causes (S.faults source.old) (S.faults source.new) (K.faults sink.old) (K.faults sink.new)
         (IsErrOf result) }
-    ensures same { mind.new ≡ mind.old }
+    ensures same { engine.new ≡ engine.old }
 {
     let searched = search_once(
-        rt, alloc, mind, task.game, task.roots, depth, limits, source, sink, clock, gate, dialect,
+        rt, alloc, engine, task.game, task.roots, depth, limits, source, sink, clock, gate, dialect,
         line,
     );
     match searched {
@@ -169,7 +169,7 @@ pub fn search_and_judge<R: Threads + Wait + Sync, S: Source, K: Sink, C: Clock, 
                 deadline: limits.deadline,
             };
             let judged = seek_mate(
-                rt, alloc, mind, task, depth, value, best, nodes, left, source, sink, clock, gate,
+                rt, alloc, engine, task, depth, value, best, nodes, left, source, sink, clock, gate,
                 dialect, line,
             )?;
             Ok(DepthSearched::Found(judged))

@@ -4,7 +4,7 @@
 
 mod deepening;
 mod depth;
-mod found;
+mod depth_result;
 mod judging;
 mod lines;
 mod mates;
@@ -14,10 +14,10 @@ mod task;
 
 pub use deepening::{Depths, iterative_deepening};
 pub use depth::{Depth, search_depth};
-pub use found::{CutSolve, Evidence, Found, Kept, Score, evidence_at};
+pub use depth_result::{CutSolve, Evidence, DepthResult, AnnouncedMate, Score, evidence_at};
 pub use judging::{DepthJudged, DepthSearched, search_and_judge, seek_mate};
 pub use lines::{depth_line, depth_lines, unsettled_line};
-pub use mates::{Tried, try_mates};
+pub use mates::{MateAttempt, try_mates};
 pub use scores::{favoured, mate_in, mate_sought, root_move};
 pub use style::Style;
 pub use task::{Start, Task, begin, quota_left};

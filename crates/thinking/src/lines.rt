@@ -9,7 +9,7 @@ ghost use Rattle.session_model.specs.UciTexts as UciTexts;
 ghost use Rattle.thinking.specs.Tells.{lines_by};
 ghost use Rattle.thinking.specs.Views.{evidence_of, report_of, score_seen};
 
-use crate::found::{Evidence, Found, Score};
+use crate::depth_result::{Evidence, DepthResult, Score};
 use crate::style::Style;
 use foundation::{Memory, Text};
 use move_text::write_move;
@@ -101,7 +101,7 @@ fn post_line(
     alloc: Global,
     first: u64,
     depth: u8,
-    found: &Found,
+    found: &DepthResult,
     clock: u64,
 ) -> Result<Text, Memory>
     ensures { IfOk result (λ text. text ≡ CecpSession.post_line first depth (report_of found.now clock)) }
@@ -115,7 +115,7 @@ fn post_line(
     Ok(Text { items })
 }
 
-fn uci_lines(alloc: Global, rules: &Rules, depth: u8, found: &Found) -> Result<Text, Memory>
+fn uci_lines(alloc: Global, rules: &Rules, depth: u8, found: &DepthResult) -> Result<Text, Memory>
     requires fit { IsFit rules.now }
     requires sound { IfSome found.now.unsettled
         (λ e. is_sound rules.now (Mates.position_at e.repeat e.first) ≡ true) }
@@ -140,7 +140,7 @@ pub fn depth_lines(
     rules: &Rules,
     first: u64,
     depth: u8,
-    found: &Found,
+    found: &DepthResult,
     clock: u64,
 ) -> Result<Text, Memory>
     requires fit { IsFit rules.now }

@@ -7,7 +7,7 @@ ghost use Rattle.game_play.specs.Played.{legal_in};
 ghost use Rattle.turning.specs.Lines.{Causes};
 ghost use Rattle.thinking.specs.Tries.{BrokeTrying, IsTried, cut_in};
 
-use crate::found::{Evidence, evidence_at};
+use crate::depth_result::{Evidence, evidence_at};
 use crate::scores::root_move;
 use game_play::Game;
 use io_ports::{Clock, Dialect, Gate, Limits, LineBuf, SearchFault, Sink, Source};
@@ -22,7 +22,7 @@ use watching::{Cut, Halt};
 
 /// The first answer of solves within 1, 2, .. moves that is not that there is no mate; or that there is none.
 #[derive(Drop)]
-pub enum Tried {
+pub enum MateAttempt {
     /// The mover mates within this number of moves, and so, with this move first.
     Shown {
         moves: u16,
@@ -52,7 +52,7 @@ pub enum Tried {
 pub fn try_mates<R: Threads + Wait + Sync, S: Source, K: Sink, C: Clock, G: Gate + Sync>(
     rt: &R,
     alloc: Global,
-    mind: &mut EngineState,
+    engine: &mut EngineState,
     game: &Game,
     last: u16,
     limits: Limits,
@@ -62,7 +62,7 @@ pub fn try_mates<R: Threads + Wait + Sync, S: Source, K: Sink, C: Clock, G: Gate
     gate: &G,
     dialect: Dialect,
     line: &mut LineBuf,
-) -> Result<Tried, SearchFault>
+) -> Result<MateAttempt, SearchFault>
     requires some { 0 < length (legal_in game.now) }
     requires least { 1 ≤ last }
     requires most { last ≤ 100 }
@@ -75,13 +75,13 @@ pub fn try_mates<R: Threads + Wait + Sync, S: Source, K: Sink, C: Clock, G: Gate
     ensures end { IfOk result (λ tried. cut_in tried ≡ Some Cut.End → IsAtEnd (S.left source.new)) }
     ensures causes { Causes (S.faults source.old) (S.faults source.new) (K.faults sink.old) (K.faults sink.new)
         (IsErrOf result) }
-    ensures same { mind.new ≡ mind.old }
+    ensures same { engine.new ≡ engine.old }
 {
     let mover = game.position().side;
     for before in 0..last {
         let moves = before + 1;
         let solved = solve_once(
-            rt, alloc, mind, game, mover, moves, limits, source, sink, clock, gate, dialect, line,
+            rt, alloc, engine, game, mover, moves, limits, source, sink, clock, gate, dialect, line,
         );
         match solved {
             Ok(Settled::NoMate) => {}
@@ -89,21 +89,21 @@ pub fn try_mates<R: Threads + Wait + Sync, S: Source, K: Sink, C: Clock, G: Gate
                 let Some(best) = root_move(&strategy) else {
                     unreachable!();
                 };
-                return Ok(Tried::Shown {
+                return Ok(MateAttempt::Shown {
                     moves,
                     strategy,
                     best,
                 });
             }
             Ok(Settled::Unsettled { repeat, counters }) => {
-                return Ok(Tried::Unsettled {
+                return Ok(MateAttempt::Unsettled {
                     moves,
                     unsettled: evidence_at(repeat, counters),
                 });
             }
-            Err(Halt::Cut(why)) => return Ok(Tried::Stopped { moves, why }),
+            Err(Halt::Cut(why)) => return Ok(MateAttempt::Stopped { moves, why }),
             Err(Halt::Fault(why)) => return Err(why),
         }
     }
-    Ok(Tried::NoMate)
+    Ok(MateAttempt::NoMate)
 }

@@ -23,7 +23,7 @@ use Rattle.watching.specs.EventLaws.{heard_lines-append, readings-append, writte
 use Rattle.watching.specs.Looks.{Broke, Moved, Ran, held}
 use Rattle.session_model.specs.Events.{IsStopped}
 use Rattle.session_model.specs.Turns.{Protocol}
-use Rattle.turning.specs.Lines.{Exchanges, Follows, HeardPart, Held, IsNext, MayFollow, Settled, SettledBy, StopsBy, is_interrupted, must_wait, none, one}
+use Rattle.turning.specs.Lines.{Exchanges, Follows, HeardPart, Held, IsNext, MayFollow, WaitedIfHeld, WaitedIfMust, StopsBy, is_interrupted, must_wait, none, one}
 use Rattle.turning.specs.Turned.{Further, RanPart, Served, Unserved, turn_of}
 
 -- ---- the line that comes next
@@ -211,11 +211,11 @@ interrupted_stops dialect (Some (cut.Deadline reading)) text following e stopped
 
 -- the lines that follow a best move that was held back begin with one that stops a search, or are none
 pub settled_stops : (dialect : Dialect) (moved : Moved) (why : Option Cut) (text : List ℕ) (why' : Option Cut) (text' : List ℕ) (following : List Line)
-    → Settled dialect moved true text why text' why' → (why ≡ Some cut.Line → stops dialect (Text text) ≡ true)
+    → WaitedIfHeld dialect moved true text why text' why' → (why ≡ Some cut.Line → stops dialect (Text text) ≡ true)
     → Follows why' text' following → IsStopped dialect following
 settled_stops dialect moved why text why' text' following settled stopped follows = by_wait (must_wait true why) refl why' settled follows
   where
-    by_wait : (b : Bool) → must_wait true why ≡ b → (why' : Option Cut) → SettledBy b dialect moved text why text' why'
+    by_wait : (b : Bool) → must_wait true why ≡ b → (why' : Option Cut) → WaitedIfMust b dialect moved text why text' why'
         → Follows why' text' following → IsStopped dialect following
     by_wait true e None s f = absurd s
     by_wait true e (Some cut) s f = waited_stops dialect cut text' following s.stopped f
@@ -228,11 +228,11 @@ module _ {S K C : Type 0} {left : S → Option (List ℕ)} {taken : K → Option
     (f : (a b : List Event) → P a → Listens dialect b → R (a ++ b)) (holds : Bool) (why : Option Cut) (text : List ℕ)
     (a : Ran dialect (Moves left taken given count last s s' k k' c c') (held why text) P) where
   -- a search, and then a wait for its best move to be told, if any
-  pub ran_settled : (text' : List ℕ) (why' : Option Cut) → Settled dialect (Exchanges left taken s' s'' k' k'') holds text why text' why'
+  pub ran_settled : (text' : List ℕ) (why' : Option Cut) → WaitedIfHeld dialect (Exchanges left taken s' s'' k' k'') holds text why text' why'
       → Ran dialect (Moves left taken given count last s s'' k k'' c c') (held why' text') R
   ran_settled text' why' settled = by_wait (must_wait holds why) refl why' settled
     where
-      by_wait : (b : Bool) → must_wait holds why ≡ b → (why' : Option Cut) → SettledBy b dialect (Exchanges left taken s' s'' k' k'') text why text' why'
+      by_wait : (b : Bool) → must_wait holds why ≡ b → (why' : Option Cut) → WaitedIfMust b dialect (Exchanges left taken s' s'' k' k'') text why text' why'
           → Ran dialect (Moves left taken given count last s s'' k k'' c c') (held why' text') R
       by_wait true e None w = absurd w
       by_wait true e (Some cut) w =

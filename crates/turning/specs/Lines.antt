@@ -100,13 +100,13 @@ abbrev pub must_wait : Bool → Option Cut → Bool
 must_wait holds why = holds && not (is_interrupted why)
 
 -- nothing was done, or it was waited for
-abbrev pub SettledBy : Bool → Dialect → Moved → List ℕ → Option Cut → List ℕ → Option Cut → Type 0
-SettledBy false dialect moved text why text' why' = moved [] [] [] × (text' ≡ text) × (why' ≡ why)
-SettledBy true dialect moved text why text' why' = IsSomeAnd why' (Waited dialect moved text')
+abbrev pub WaitedIfMust : Bool → Dialect → Moved → List ℕ → Option Cut → List ℕ → Option Cut → Type 0
+WaitedIfMust false dialect moved text why text' why' = moved [] [] [] × (text' ≡ text) × (why' ≡ why)
+WaitedIfMust true dialect moved text why text' why' = IsSomeAnd why' (Waited dialect moved text')
 
 -- a best move may be told, which was held back or not
-abbrev pub Settled : Dialect → Moved → Bool → List ℕ → Option Cut → List ℕ → Option Cut → Type 0
-Settled dialect moved holds text why text' why' = SettledBy (must_wait holds why) dialect moved text why text' why'
+abbrev pub WaitedIfHeld : Dialect → Moved → Bool → List ℕ → Option Cut → List ℕ → Option Cut → Type 0
+WaitedIfHeld dialect moved holds text why text' why' = WaitedIfMust (must_wait holds why) dialect moved text why text' why'
 
 -- ---- faults
 

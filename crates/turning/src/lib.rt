@@ -12,4 +12,4 @@ mod waiting;
 
 pub use ended::Ended;
 pub use next_line::next_of;
-pub use waiting::{settle, wait};
+pub use waiting::{wait, wait_if_held};

@@ -1,7 +1,7 @@
 //! Lines that are heard while a best move is held back.
 ghost use Rattle.std.specs.Prelude.{◌≡◌, true, IfOk, IfErr, OnErr, IsErrOf, Some};
 ghost use Rattle.std.specs.Io.KnownBytes.{IsAtEnd};
-ghost use Rattle.turning.specs.Lines.{Causes, Exchanges, HeardPart, Settled, Waited, must_wait};
+ghost use Rattle.turning.specs.Lines.{Causes, Exchanges, HeardPart, WaitedIfHeld, Waited, must_wait};
 
 use io_ports::{Dialect, LineBuf, SearchFault, Sink, Source};
 use watching::{Cut, Halt, heed};
@@ -44,7 +44,7 @@ pub fn wait<S: Source, K: Sink>(
 /// # Errors
 ///
 /// As `wait` has them.
-pub fn settle<S: Source, K: Sink>(
+pub fn wait_if_held<S: Source, K: Sink>(
     source: &mut S,
     sink: &mut K,
     dialect: Dialect,
@@ -52,7 +52,7 @@ pub fn settle<S: Source, K: Sink>(
     holds: bool,
     why: Option<Cut>,
 ) -> Result<Option<Cut>, SearchFault>
-    ensures settled { IfOk result (Settled dialect
+    ensures settled { IfOk result (WaitedIfHeld dialect
         (Exchanges S.left K.taken source.old source.new sink.old sink.new) holds line.old why line.new) }
     ensures broken { IfErr result
         (HeardPart dialect (Exchanges S.left K.taken source.old source.new sink.old sink.new)) }

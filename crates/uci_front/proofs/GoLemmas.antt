@@ -30,7 +30,7 @@ use Rattle.session_model.specs.UciLines.{Command, command_of}
 use Rattle.session_model.specs.UciSession.{Answers, Goes, GoesBy, GoesNowhere, IsPlain, announced, bound_of, forgotten, go_bound, is_quit, uci}
 use Rattle.session_model.specs.UciState.{State}
 use Rattle.session_model.specs.UciTexts.{no_best_line, perft_line}
-use Rattle.turning.specs.Lines.{Follows, Held, MayFollow, Settled, SettledBy, must_wait}
+use Rattle.turning.specs.Lines.{Follows, Held, MayFollow, WaitedIfHeld, WaitedIfMust, must_wait}
 use Rattle.turning.specs.Turned.{RanPart, Served, Unserved, turn_of}
 use Rattle.turning.proofs.Ending.{further_none}
 use Rattle.turning.proofs.Lawful.{uci_is_lawful}
@@ -40,7 +40,7 @@ use Rattle.uci_session.specs.declared.searching.GoResult.{GoResult}
 use Rattle.uci_session.specs.Searched.{BrokeGoing, Completes, Gone}
 use Rattle.uci_session.specs.TextView.{last_line}
 use Rattle.uci_session.specs.PlanView.{IsPlan, SaidAtOnce, SaidBy}
-use Rattle.thinking.specs.Views.{kept_seen}
+use Rattle.thinking.specs.Views.{announced_seen}
 use Rattle.uci_front.proofs.Unanswered.{unserved_quiet}
 
 -- ---- the line
@@ -144,7 +144,7 @@ module _ (owed : Owed) (state : State) (plan : GoPlan) (came : GoResult) (text :
 
   -- what it answers
   pub told_goes : (asked : Go) (after : State) (line : Line) (events : List Event) (following : List Line) → IsPlan state asked plan
-      → after ≡ announced state (kept_seen came.kept) → Told events
+      → after ≡ announced state (announced_seen came.kept) → Told events
       → (is_held asked (mover state.game) ≡ true → IsStopped Uci following) → Follows came.why text following
       → Goes (Lacks owed (go_bound state asked)) state asked (turn_of line events after) following
   unfolding turn_of
@@ -166,22 +166,22 @@ waits_follow holds (Some (cut.Deadline reading)) text following e = tt
 
 -- what follows a wait follows what cut the search before it
 pub settled_follows : (holds : Bool) (moved : Moved) (why : Option Cut) (text text' : List ℕ) (why' : Option Cut) (following : List Line)
-    → Settled Uci moved holds text why text' why' → Follows why' text' following → Follows why text following
+    → WaitedIfHeld Uci moved holds text why text' why' → Follows why' text' following → Follows why text following
 settled_follows holds moved why text text' why' following settled follows = by_wait (must_wait holds why) refl settled
   where
-    by_wait : (b : Bool) → must_wait holds why ≡ b → SettledBy b Uci moved text why text' why' → Follows why text following
+    by_wait : (b : Bool) → must_wait holds why ≡ b → WaitedIfMust b Uci moved text why text' why' → Follows why text following
     by_wait true e s = waits_follow holds why text following e
     by_wait false e s =
         subst (λ t. Follows why t following) s.1 (subst (λ w. Follows w text' following) s.2 follows)
 
 -- a best move that is held back is stopped
 pub settled_stopped : (state : State) (plan : GoPlan) (asked : Go) (moved : Moved) (why : Option Cut) (text : List ℕ) (why' : Option Cut)
-    (text' : List ℕ) (following : List Line) → IsPlan state asked plan → Settled Uci moved plan.holds text why text' why'
+    (text' : List ℕ) (following : List Line) → IsPlan state asked plan → WaitedIfHeld Uci moved plan.holds text why text' why'
     → (why ≡ Some cut.Line → stops Uci (Text text) ≡ true) → Follows why' text' following
     → is_held asked (mover state.game) ≡ true → IsStopped Uci following
 settled_stopped state plan asked moved why text why' text' following is settled stops follows holds =
     settled_stops Uci moved why text why' text' following
-    (subst (λ b. Settled Uci moved b text why text' why') (is.held_is ∙ holds) settled) stops follows
+    (subst (λ b. WaitedIfHeld Uci moved b text why text' why') (is.held_is ∙ holds) settled) stops follows
 
 -- ---- the answer
 
@@ -189,7 +189,7 @@ module _ {moved : Moved} {owed owed' : Owed} (state after : State) (plan : GoPla
     (line : Line) (asked : Go) (asks : command_of line ≡ UciLines.Go asked) (is : IsPlan state asked plan) where
   -- a best move was told, and the next line is there
   pub served_told : {next : Got} {text' : List ℕ} → Ran Uci moved (got_lines next text') (Told owed state plan came text)
-      → after ≡ announced state (kept_seen came.kept)
+      → after ≡ announced state (announced_seen came.kept)
       → ((following : List Line) → MayFollow next following → is_held asked (mover state.game) ≡ true → IsStopped Uci (got_lines next text' ++ following))
       → ((following : List Line) → MayFollow next following → Follows came.why text (got_lines next text' ++ following))
       → Spends owed owed' (go_bound state asked)
@@ -210,11 +210,11 @@ module _ {moved : Moved} {owed : Owed} (state : State) (plan : GoPlan) (came : G
       → (is_held asked (mover state.game) ≡ true → IsStopped Uci behind) → Follows came.why text behind
       → Unserved uci moved (λ reads. reads ≡ []) contents state line
   unserved_told contents {behind = behind} part single stopped follows =
-      unserved_part uci (λ reads. reads ≡ []) (announced state (kept_seen came.kept)) part single refl (told_shut owed state plan came text)
+      unserved_part uci (λ reads. reads ≡ []) (announced state (announced_seen came.kept)) part single refl (told_shut owed state plan came text)
       (λ events told.
-      uci_is_wider (Lacks owed (go_bound state asked)) (Unit {0}) (λ few. tt) state (turn_of line events (announced state (kept_seen came.kept))) behind
-      (as_go (Lacks owed (go_bound state asked)) state (announced state (kept_seen came.kept)) line asked events behind asks
-      (told_goes owed state plan came text asked (announced state (kept_seen came.kept)) line events behind is refl told stopped follows)))
+      uci_is_wider (Lacks owed (go_bound state asked)) (Unit {0}) (λ few. tt) state (turn_of line events (announced state (announced_seen came.kept))) behind
+      (as_go (Lacks owed (go_bound state asked)) state (announced state (announced_seen came.kept)) line asked events behind asks
+      (told_goes owed state plan came text asked (announced state (announced_seen came.kept)) line events behind is refl told stopped follows)))
       (further_none contents)
 
 -- a search that broke off, with its best move

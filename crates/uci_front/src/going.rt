@@ -14,7 +14,7 @@ use io_ports::{Clock, Dialect, Gate, Got, LineBuf, SearchFault, Sink, Source};
 use std::alloc::Global;
 use std::sync::Wait;
 use std::thread::Threads;
-use turning::{next_of, settle};
+use turning::{next_of, wait_if_held};
 use uci_session::{GoPlan, GoResult, UciSession, last_line, perft_line, search};
 use watching::say;
 
@@ -62,7 +62,7 @@ fn go_on<R: Threads + Wait + Sync, S: Source, K: Sink, C: Clock, G: Gate + Sync>
         rt, alloc, session, plan, source, sink, clock, gate, line,
     )?;
     let text = last_line(alloc, best)?;
-    let why = settle(source, sink, Dialect::Uci, line, plan.holds, why)?;
+    let why = wait_if_held(source, sink, Dialect::Uci, line, plan.holds, why)?;
     say(sink, text.items.as_slice())?;
     session.keep(kept);
     Ok(next_of(source, line, why))

@@ -12,6 +12,7 @@ ghost use Rattle.uci_session.specs.PlanView.{words_said};
 use foundation::{Memory, Text};
 use game_text::{moves_of, status_of};
 use io_ports::{Dialect, Files, too_long_answer};
+use session_model::options::NO_FILE;
 use std::alloc::Global;
 use uci_lines::{Kind, Setting, read_placing, read_setting, words_in};
 use uci_session::{READY, Refusal, UciSession, error_line, refused_file};
@@ -43,11 +44,7 @@ fn file_named(setting: &Setting) -> Option<&[u8]>
         return None;
     };
     let name = name.items.as_slice();
-    if name == b"<empty>".as_slice() {
-        None
-    } else {
-        Some(name)
-    }
+    if name == NO_FILE { None } else { Some(name) }
 }
 
 // Sets an option.

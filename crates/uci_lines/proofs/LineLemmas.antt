@@ -1,7 +1,6 @@
 -- The words of a line, one after another.
 use Rattle.std.proofs.Common.{◌≡◌, ◌∙◌, ℕ, Option, zero, suc, ◌+◌, ◌-◌, ◌*◌, ◌/◌, ◌%◌, ◌≤◌, ◌<◌, min, ◌||◌, arith, List, [], ◌∷◌, ◌++◌, length, take, drop, Bool, true, false, if◌then◌else◌, append_assoc, get_or, Some, None, refl, sym, ap, add-one}
 use Rattle.std.specs.Prelude.{codes, option_and_then, unwrap_or}
-use Rattle.std.specs.Str.{str_to_ascii_lowercase}
 use Rattle.std.specs.Option.{option_map}
 use Rattle.std.specs.Borrow.{Bor}
 use Rattle.std.specs.Str.{bytes_eq}
@@ -205,13 +204,12 @@ value_where name (Some words) = refl
 
 pub setting_from : (words said : List Word) (name : List ℕ) (value : Option (List ℕ))
     → said ≡ unwrap_or (words_behind (codes "name") words) []
-    → name ≡ str_to_ascii_lowercase (joined (words_before (codes "value") said))
+    → name ≡ joined (words_before (codes "value") said)
     → value ≡ value_text (words_behind (codes "value") said) → setting_named name value ≡ setting_of words
 unfolding setting_of
 setting_from words said name value are named valued =
-    let same_name : name ≡ str_to_ascii_lowercase (joined (name_words words)) =
-    named ∙ ap (λ ws. str_to_ascii_lowercase (joined (words_before (codes "value") ws))) are in
+    let same_name : name ≡ joined (name_words words) = named ∙ ap (λ ws. joined (words_before (codes "value") ws)) are in
     let same_value : value ≡ value_said words =
     valued ∙ ap (λ ws. value_text (words_behind (codes "value") ws)) are
     ∙ ap value_text (value_where (codes "value") (words_behind (codes "name") words)) in
-    ap (λ n. setting_named n value) same_name ∙ ap (setting_named (str_to_ascii_lowercase (joined (name_words words)))) same_value
+    ap (λ n. setting_named n value) same_name ∙ ap (setting_named (joined (name_words words))) same_value

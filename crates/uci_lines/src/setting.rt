@@ -1,16 +1,16 @@
 //! What `setoption` sets, and where `position` begins.
 ghost use Rattle.std.specs.Prelude.{◌≡◌, IfOk, unwrap_or, []};
 ghost use Rattle.std.specs.Option.{option_map};
-ghost use Rattle.std.specs.Str.{str_to_ascii_lowercase};
+ghost use Rattle.std.specs.Str.{str_eq_ignore_ascii_case};
 ghost use Rattle.session_model.specs.UciLines as UciLines;
 ghost use Rattle.session_model.specs.UciLines.{placing_of, setting_of, value_text};
-ghost use Rattle.session_model.specs.UciWords as UciWords;
 ghost use Rattle.session_model.specs.UciWords.{words_behind};
 ghost use Rattle.uci_lines.specs.SettingView.{placing_seen, setting_seen};
 ghost use Rattle.uci_lines.specs.View.{texts};
 
 use crate::words::{before, behind, is_text, joined};
 use foundation::{Memory, Text};
+use session_model::options::{HASH, MATE_FACTS, THREADS, UCI_VARIANT, VARIANT_PATH};
 use std::alloc::Global;
 
 /// An option, and its value where one is given.
@@ -34,15 +34,6 @@ pub enum Placing<'b, 'a> {
     NoPosition,
 }
 
-// The words, joined, in small letters.
-fn name_of(alloc: Global, words: &[&[u8]]) -> Result<Text, Memory>
-    ensures { IfOk result (λ name. name ≡ str_to_ascii_lowercase (UciWords.joined (texts words.now))) }
-{
-    let name = joined(alloc, words)?;
-    let items = name.items.as_slice().to_ascii_lowercase(alloc)?;
-    Ok(Text { items })
-}
-
 // No words are no value.
 fn value_of(alloc: Global, words: Option<&[&[u8]]>) -> Result<Option<Text>, Memory>
     ensures { IfOk result (λ value. value ≡ value_text (option_map (λ ws. texts ws.now) words.entry)) }
@@ -57,18 +48,25 @@ fn value_of(alloc: Global, words: Option<&[&[u8]]>) -> Result<Option<Text>, Memo
     }
 }
 
+// Whether a name is that of an option, in small letters or capitals.
+fn is_option(name: &[u8], option: &[u8]) -> bool
+    ensures { result ≡ str_eq_ignore_ascii_case name.now option.now }
+{
+    name.eq_ignore_ascii_case(option)
+}
+
 fn setting_named(name: &[u8], value: Option<Text>) -> Setting
     ensures { setting_seen result ≡ UciLines.setting_named name.now value }
 {
-    if name == b"threads".as_slice() {
+    if is_option(name, THREADS) {
         Setting::Threads(value)
-    } else if name == b"hash".as_slice() {
+    } else if is_option(name, HASH) {
         Setting::Hash(value)
-    } else if name == b"matefacts".as_slice() {
+    } else if is_option(name, MATE_FACTS) {
         Setting::MateFacts(value)
-    } else if name == b"variantpath".as_slice() {
+    } else if is_option(name, VARIANT_PATH) {
         Setting::VariantPath(value)
-    } else if name == b"uci_variant".as_slice() {
+    } else if is_option(name, UCI_VARIANT) {
         Setting::Variant(value)
     } else {
         Setting::Unknown
@@ -89,7 +87,7 @@ pub fn read_setting(alloc: Global, words: &[&[u8]]) -> Result<Setting, Memory>
     ensures { IfOk result (λ setting. setting_seen setting ≡ setting_of (texts words.now)) }
 {
     let said = behind_or_none(words, b"name");
-    let name = name_of(alloc, before(said, b"value"))?;
+    let name = joined(alloc, before(said, b"value"))?;
     let value = value_of(alloc, behind(said, b"value"))?;
     Ok(setting_named(name.items.as_slice(), value))
 }

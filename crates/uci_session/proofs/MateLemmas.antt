@@ -33,13 +33,13 @@ use Rattle.strategy.specs.declared.nodes.Strategy.{Strategy}
 use Rattle.thinking.proofs.CutLaws.{cuts_as}
 use Rattle.thinking.specs.Cuts.{CutsBy, cause_of}
 use Rattle.thinking.specs.declared.deepening.Depths.{Depths}
-use Rattle.thinking.specs.declared.mates.Tried.{Tried}
-use Rattle.thinking.specs.declared.mates.Tried.TheVariants as tried
+use Rattle.thinking.specs.declared.mates.MateAttempt.{MateAttempt}
+use Rattle.thinking.specs.declared.mates.MateAttempt.TheVariants as tried
 use Rattle.thinking.specs.declared.style.Style.TheVariants as style
 use Rattle.thinking.specs.Depths.{BrokeOff, Deepened}
 use Rattle.thinking.specs.Tells.{Tells}
 use Rattle.thinking.specs.Tries.{BrokeTrying, IsCutBy, IsMate, IsTried, answer_seen, cut_in}
-use Rattle.thinking.specs.Views.{kept_seen}
+use Rattle.thinking.specs.Views.{announced_seen}
 use Rattle.turning.proofs.Saying.{broke_say, held_cut, part_more, part_of_broke, part_then, ran_say, unsaid}
 use Rattle.turning.specs.Lines.{Follows, none}
 use Rattle.turning.specs.Turned.{RanPart}
@@ -179,14 +179,14 @@ both_bounds rules n g = refl
 -- ---- what was tried, and told
 
 -- the first reading, what was heard while a mate was looked for, and what is told of it
-pub record MateTold (owed : Owed) (limits : Limits) (g : Played) (last reading : ℕ) (text : List ℕ) (t : Tried) (said : List ℕ)
+pub record MateTold (owed : Owed) (limits : Limits) (g : Played) (last reading : ℕ) (text : List ℕ) (t : MateAttempt) (said : List ℕ)
     (events : List Event) : Type 0 where
   pub heard : List Event
   pub events_are : events ≡ mate_events reading heard said
   pub listens : Listens Uci heard
   pub cut : IsCutBy Uci owed limits g last (readings heard) text t
 
-pub told_mate : (owed : Owed) (limits : Limits) (g : Played) (last reading : ℕ) (text : List ℕ) (t : Tried) (said : List ℕ) (events : List Event)
+pub told_mate : (owed : Owed) (limits : Limits) (g : Played) (last reading : ℕ) (text : List ℕ) (t : MateAttempt) (said : List ℕ) (events : List Event)
     → (heard : List Event) × (events ≡ Reads reading ∷ heard) × Listens Uci heard × IsCutBy Uci owed limits g last (readings heard) text t
     → MateTold owed limits g last reading text t said (events ++ Says said ∷ [])
 told_mate owed limits g last reading text t said events (heard, are, listens, cut) =
@@ -267,7 +267,7 @@ module _ (owed : Owed) (state : State) (plan : GoPlan) (perft : plan.perft ≡ N
   }
 
   -- depth 1 was not searched
-  unsearched : {moved : Moved} (t : Tried) → IsMate state.game last (answer_seen t) → IsAfter (answer_seen t) → said ≡ mate_said state.game.rules last (answer_seen t)
+  unsearched : {moved : Moved} (t : MateAttempt) → IsMate state.game last (answer_seen t) → IsAfter (answer_seen t) → said ≡ mate_said state.game.rules last (answer_seen t)
       → RanPart Uci moved [] (MateTold owed limits state.game last reading text t said) → BrokeGoing moved state plan
   unsearched t m is_after said_is part = record {
     best = Some first;
@@ -292,7 +292,7 @@ module _ (owed : Owed) (state : State) (plan : GoPlan) (perft : plan.perft ≡ N
   }
 
   -- a front part of what is told of it was written
-  pub told_broke : {moved : Moved} (t : Tried) → IsMate state.game last (answer_seen t) → said ≡ mate_said state.game.rules last (answer_seen t)
+  pub told_broke : {moved : Moved} (t : MateAttempt) → IsMate state.game last (answer_seen t) → said ≡ mate_said state.game.rules last (answer_seen t)
       → RanPart Uci moved (held (cut_in t) text) (MateTold owed limits state.game last reading text t said)
       → BrokeGoing moved state plan
   told_broke (tried.Shown n s best) m said_is part = record {
@@ -339,7 +339,7 @@ module _ (owed : Owed) (state : State) (plan : GoPlan) (perft : plan.perft ≡ N
   told_broke tried.NoMate m said_is part = unsearched tried.NoMate m tt said_is part
 
   -- what was tried ends the search
-  pub mate_comes : {moved : Moved} {owed' : Owed} → Spends owed owed' (solves_bound state.game.rules last (story state.game)) → (t : Tried) (came : GoResult) → came_by first t ≡ Some came → IsMate state.game last (answer_seen t)
+  pub mate_comes : {moved : Moved} {owed' : Owed} → Spends owed owed' (solves_bound state.game.rules last (story state.game)) → (t : MateAttempt) (came : GoResult) → came_by first t ≡ Some came → IsMate state.game last (answer_seen t)
       → said ≡ mate_said state.game.rules last (answer_seen t)
       → Ran Uci moved (held (cut_in t) text) (MateTold owed limits state.game last reading text t said)
       → HasCome moved owed owed' state plan text came
@@ -355,7 +355,7 @@ module _ (owed : Owed) (state : State) (plan : GoPlan) (perft : plan.perft ≡ N
   mate_comes spends tried.NoMate came is m said_is ran = cc
 
 -- or depth 1 is searched after it
-pub searched_after : (t : Tried) (first : Move) → came_by first t ≡ None → IsAfter (answer_seen t)
+pub searched_after : (t : MateAttempt) (first : Move) → came_by first t ≡ None → IsAfter (answer_seen t)
 searched_after (tried.Shown n s best) first is = cc
 searched_after (tried.Stopped n why) first is = cc
 searched_after (tried.Unsettled n e) first is = tt
@@ -365,7 +365,7 @@ searched_after tried.NoMate first is = tt
 pub ran_unheld : {moved : Moved} {behind : List Line} {P : List Event → Type 0} → behind ≡ [] → Ran Uci moved behind P → Ran Uci moved [] P
 ran_unheld {moved = moved} {P = P} is ran = subst (λ behind. Ran Uci moved behind P) is ran
 
-pub uncut_after : (t : Tried) (first : Move) (text : List ℕ) → came_by first t ≡ None → held (cut_in t) text ≡ []
+pub uncut_after : (t : MateAttempt) (first : Move) (text : List ℕ) → came_by first t ≡ None → held (cut_in t) text ≡ []
 uncut_after (tried.Shown n s best) first text is = cc
 uncut_after (tried.Stopped n why) first text is = cc
 uncut_after (tried.Unsettled n e) first text is = refl
@@ -384,7 +384,7 @@ one_is state plan asked is = ap at is.legal_is
 module _ {S K C : Type 0} {left : S → Option (List ℕ)} {taken : K → Option (List ℕ)} {given : C → Option (List ℕ)} {count last_of : C → ℕ}
     (state : State) (plan : GoPlan) (perft : plan.perft ≡ None) (last : ℕ) (mate : plan.mate ≡ Some last)
     (first : Move) (more : List Move) (legal : plan.legal ≡ first ∷ more) (reading : ℕ) where
-  module _ {s s' s'' : S} {k k' k'' : K} {c c' c'' : C} {owed : Owed} (limits : Limits) (text' said : List ℕ) (t : Tried) (m : IsMate state.game last (answer_seen t)) (is_after : IsAfter (answer_seen t))
+  module _ {s s' s'' : S} {k k' k'' : K} {c c' c'' : C} {owed : Owed} (limits : Limits) (text' said : List ℕ) (t : MateAttempt) (m : IsMate state.game last (answer_seen t)) (is_after : IsAfter (answer_seen t))
       (said_is : said ≡ mate_said state.game.rules last (answer_seen t))
       (told : Ran Uci (Moves left taken given count last_of s s' k k' c c') [] (MateTold owed limits state.game last reading text' t said)) where
     -- depth 1 was searched, or cut
@@ -405,7 +405,7 @@ module _ {S K C : Type 0} {left : S → Option (List ℕ)} {taken : K → Option
           stops = depths_stop _ (depth_one state plan) d.reports d.ending (reading ∷ readings d.ran.events) text depths.why d.ran.holds.1 d.ended;
           answers = λ asked is heard later turn following events_are after stopped follows.
               depth_answer (Lacks owed (go_bound state asked)) state plan asked is perft last mate first more legal reading told.holds.heard heard told.holds.listens later turn following stopped
-              (answer_seen t) m is_after d.reports d.ending d.ran.events depths.best (kept_seen depths.kept) (reading ∷ readings d.ran.events)
+              (answer_seen t) m is_after d.reports d.ending d.ran.events depths.best (announced_seen depths.kept) (reading ∷ readings d.ran.events)
               (deepens_wider (Lacks owed' (depths_bound state.game.rules 1 (story state.game))) (Lacks owed (go_bound state asked))
               (λ few. subst (λ n. Lacks owed n)
               (both_bounds state.game.rules last (story state.game) ∙ sym (mate_go_bound ⊥ state plan asked is perft last mate first more legal))
@@ -477,7 +477,7 @@ module _ {S K C : Type 0} {left : S → Option (List ℕ)} {taken : K → Option
 
 -- ---- what was tried
 
-pub tried_at : {moved : Moved} {owed owed' : Owed} {limits : Limits} {last : ℕ} {text : List ℕ} {t : Tried} (g g' : Played) → g ≡ g'
+pub tried_at : {moved : Moved} {owed owed' : Owed} {limits : Limits} {last : ℕ} {text : List ℕ} {t : MateAttempt} (g g' : Played) → g ≡ g'
     → IsTried Uci moved owed owed' limits g last text t → IsTried Uci moved owed owed' limits g' last text t
 tried_at {moved = moved} {owed = owed} {owed' = owed'} {limits = limits} {last = last} {text = text} {t = t} g g' same h =
     subst (λ g. IsTried Uci moved owed owed' limits g last text t) same h
@@ -486,7 +486,7 @@ pub trying_at : {moved : Moved} {last : ℕ} (g g' : Played) → g ≡ g' → Br
 trying_at {moved = moved} {last = last} g g' same h = subst (λ g. BrokeTrying Uci moved g last) same h
 
 module _ {S K C : Type 0} {left : S → Option (List ℕ)} {taken : K → Option (List ℕ)} {given : C → Option (List ℕ)} {count last_of : C → ℕ}
-    {s s' : S} {k k' : K} {c c' c'' : C} {owed owed' : Owed} (limits : Limits) (g : Played) (last reading : ℕ) (text : List ℕ) (t : Tried)
+    {s s' : S} {k k' : K} {c c' c'' : C} {owed owed' : Owed} (limits : Limits) (g : Played) (last reading : ℕ) (text : List ℕ) (t : MateAttempt)
     (start : Moves left taken given count last_of s s k k c c' [] [] (reading ∷ []))
     (h : IsTried Uci (Moves left taken given count last_of s s' k k' c' c'') owed owed' limits g last text t) where
   tried_heard : Ran Uci (Moves left taken given count last_of s s' k k' c c'') (held (cut_in t) text)

@@ -12,8 +12,8 @@ use Rattle.strategy.specs.declared.nodes.Strategy.{Strategy}
 use Rattle.game_text.specs.GameTexts.{perft_of}
 use Rattle.variant_ini.specs.Section.{Section}
 use Rattle.variant_rules.specs.Entries.{Named, entries, is_accepted}
-use Rattle.session_model.specs.UciTexts.{depth_line, perft_line, uci_text, variant_choice}
-use Rattle.uci_session.specs.TextView.{choice_at, choice_of, introduction}
+use Rattle.session_model.specs.UciTexts.{depth_line, introduction, options_text, perft_line, uci_text, variant_choice}
+use Rattle.uci_session.specs.TextView.{choice_at, choice_of}
 
 choices-more : (variants : List Named) (place : ℕ) → place < length variants
     → flat_map choice_of (take (suc place) variants) ≡ flat_map choice_of (take place variants) ++ choice_at variants place
@@ -50,15 +50,18 @@ pub choices_all : (old text : List ℕ) (variants : List Named) (n : ℕ) → n 
 choices_all old text variants n all is =
     is ∙ ap (λ (l : List ℕ). old ++ l) (ap (flat_map choice_of) (take_all n variants (omega (arith, all))) ∙ accepted_choices variants)
 
--- an introduction, the choices and the end
-pub introduced : (variants : List Named) (sections : List Section) (first second last : List ℕ) → variants ≡ entries sections
-    → first ≡ introduction → second ≡ first ++ flat_map variant_choice (filter is_accepted variants)
-    → last ≡ second ++ codes "\nuciok\n" → last ≡ uci_text sections
-introduced variants sections first second last is one two three =
-    three
-    ∙ ap (λ t. t ++ codes "\nuciok\n") (two ∙ ap (λ t. t ++ flat_map variant_choice (filter is_accepted variants)) one)
-    ∙ append_assoc introduction (flat_map variant_choice (filter is_accepted variants)) (codes "\nuciok\n")
-    ∙ ap (λ vs. introduction ++ (flat_map variant_choice (filter is_accepted vs) ++ codes "\nuciok\n")) is
+-- an introduction, the options, the choices and the end
+pub introduced : (variants : List Named) (sections : List Section) (first second third last : List ℕ) → variants ≡ entries sections
+    → first ≡ introduction → second ≡ first ++ options_text
+    → third ≡ second ++ flat_map variant_choice (filter is_accepted variants)
+    → last ≡ third ++ codes "\nuciok\n" → last ≡ uci_text sections
+introduced variants sections first second third last is one two three four =
+    let choices : List ℕ = flat_map variant_choice (filter is_accepted variants) in
+    four
+    ∙ ap (λ t. t ++ codes "\nuciok\n") (three ∙ ap (λ t. t ++ choices) (two ∙ ap (λ t. t ++ options_text) one))
+    ∙ append_assoc (introduction ++ options_text) choices (codes "\nuciok\n")
+    ∙ append_assoc introduction options_text (choices ++ codes "\nuciok\n")
+    ∙ ap (λ vs. introduction ++ (options_text ++ (flat_map variant_choice (filter is_accepted vs) ++ codes "\nuciok\n"))) is
 
 -- a count behind its introduction
 pub perft_said : (plies : ℕ) (g : Played) (first count whole : List ℕ)

@@ -28,12 +28,12 @@ use Rattle.session_model.specs.UciState.{State}
 use Rattle.session_model.specs.UciTexts.{best_line}
 use Rattle.thinking.specs.Cuts.{IsEndedBy}
 use Rattle.thinking.specs.declared.deepening.Depths.{Depths}
-use Rattle.thinking.specs.declared.found.Kept.{Kept}
+use Rattle.thinking.specs.declared.depth_result.AnnouncedMate.{AnnouncedMate}
 use Rattle.thinking.specs.declared.style.Style.TheVariants as style
 use Rattle.thinking.specs.Depths.{BrokeOff, Deepened}
 use Rattle.thinking.specs.Tells.{Tells}
 use Rattle.thinking.specs.declared.task.Task.{Task as Lent}
-use Rattle.thinking.specs.Views.{IsTask, kept_seen}
+use Rattle.thinking.specs.Views.{IsTask, announced_seen}
 use Rattle.turning.specs.Lines.{Follows}
 use Rattle.turning.specs.Turned.{RanPart}
 use Rattle.uci_session.specs.declared.plan.GoPlan.{GoPlan}
@@ -134,10 +134,10 @@ depths_stop A t reports ending taken text why deepens ended is =
 
 -- ---- printable
 
-pub printable_of : (rules : Rules) (kept : Option Kept) (a : Option Announced) → kept_seen kept ≡ a → AreKept rules a → IsPrintable rules kept
+pub printable_of : (rules : Rules) (kept : Option AnnouncedMate) (a : Option Announced) → announced_seen kept ≡ a → AreKept rules a → IsPrintable rules kept
 printable_of rules kept a is h = by_kept kept (subst (AreKept rules) (sym is) h)
   where
-    by_kept : (kept : Option Kept) → AreKept rules (kept_seen kept) → IsPrintable rules kept
+    by_kept : (kept : Option AnnouncedMate) → AreKept rules (announced_seen kept) → IsPrintable rules kept
     by_kept None h = tt
     by_kept (Some kept) h = (h.least, h.most, h.sound)
 
@@ -182,7 +182,7 @@ module _ {S K C : Type 0} {left : S → Option (List ℕ)} {taken : K → Option
       unstopped = (tt, holds.0.unstopped);
       stops = depths_stop _ (plan_task state plan) d.reports d.ending (reading ∷ readings events) text depths.why holds.1 d.ended;
       answers = λ asked is heard listens turn following events_are after stopped follows.
-          depths_answer (Lacks owed (go_bound state asked)) state plan asked is perft mate first more legal reading d.reports d.ending events heard depths.best (kept_seen depths.kept) turn following
+          depths_answer (Lacks owed (go_bound state asked)) state plan asked is perft mate first more legal reading d.reports d.ending events heard depths.best (announced_seen depths.kept) turn following
           (subst (λ n. Deepens Uci (Lacks owed n) (plan_task state plan) d.reports d.ending (reading ∷ readings events) following)
           (sym (depths_go_bound ⊥ state plan asked is perft mate first more legal)) (holds.1 following follows))
           holds.0 listens d.best_is d.kept_is events_are after stopped;

@@ -15,7 +15,7 @@ use Rattle.session_model.specs.Turns.{Turn}
 use Rattle.session_model.specs.UciGo.{Go, is_held}
 use Rattle.session_model.specs.UciSession.{Goes, announced, go_bound}
 use Rattle.session_model.specs.UciState.{State}
-use Rattle.thinking.specs.Views.{kept_seen}
+use Rattle.thinking.specs.Views.{announced_seen}
 use Rattle.turning.specs.Lines.{Follows, Held}
 use Rattle.turning.specs.Turned.{RanPart}
 use Rattle.uci_session.specs.declared.plan.GoPlan.{GoPlan}
@@ -33,7 +33,7 @@ pub record Gone (owed : Owed) (state : State) (plan : GoPlan) (came : GoResult) 
   pub answers : (asked : Go) → IsPlan state asked plan → (heard : List Event) → Listens Uci heard
       → (turn : Turn State) (following : List Line)
       → turn.events ≡ (events ++ heard) ++ Says (last_line came.best) ∷ []
-      → turn.after ≡ announced state (kept_seen came.kept)
+      → turn.after ≡ announced state (announced_seen came.kept)
       → (is_held asked (mover state.game) ≡ true → IsStopped Uci following)
       → Follows came.why text following
       → Goes (Lacks owed (go_bound state asked)) state asked turn following

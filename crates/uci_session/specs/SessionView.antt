@@ -5,32 +5,32 @@ use Rattle.game_play.specs.Played.{Played}
 use Rattle.seeking.specs.Settings.{Settings}
 use Rattle.session_model.specs.UciState.{State}
 use Rattle.strategy.specs.Reading.{AreSound}
-use Rattle.thinking.specs.declared.found.Kept.{Kept}
-use Rattle.thinking.specs.Views.{kept_seen}
+use Rattle.thinking.specs.declared.depth_result.AnnouncedMate.{AnnouncedMate}
+use Rattle.thinking.specs.Views.{announced_seen}
 use Rattle.variant_ini.specs.Section.{Section}
 use Rattle.variant_model.specs.Builtin.{builtin_sections}
 use Rattle.variant_model.specs.Entry.{entry}
 use Rattle.variant_rules.specs.Entries.{Named, entries}
 
-abbrev pub state_of : List Section → ℕ → Played → Settings → Option Kept → State
-state_of sections place game mind kept = record {
+abbrev pub state_of : List Section → ℕ → Played → Settings → Option AnnouncedMate → State
+state_of sections place game engine kept = record {
   sections = sections;
   place = place;
   game = game;
-  threads = mind.threads;
-  hash = mind.hash;
-  mate_facts = mind.mate_facts;
-  kept = kept_seen kept;
+  threads = engine.threads;
+  hash = engine.hash;
+  mate_facts = engine.mate_facts;
+  kept = announced_seen kept;
 }
 
 -- the mate that was announced can be printed: it has from 1 to 100 moves, and the positions of its strategy are sound
-abbrev pub IsPrintable : Rules → Option Kept → Type 0
+abbrev pub IsPrintable : Rules → Option AnnouncedMate → Type 0
 IsPrintable rules None = Unit {0}
 IsPrintable rules (Some kept) = (1 ≤ kept.moves) × (kept.moves ≤ 100) × AreSound rules kept.strategy.nodes
 
 -- the variants are those of the sections, and the game goes by the rules of the section at the place
 pub record IsSession (sections : List Section) (variants : List Named) (place : ℕ) (game : Played)
-    (kept : Option Kept) : Type 0 where
+    (kept : Option AnnouncedMate) : Type 0 where
   pub judged : variants ≡ entries sections
   pub there : place < length sections
   pub accepted : entry sections place ≡ Ok game.rules

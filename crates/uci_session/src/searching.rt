@@ -19,7 +19,8 @@ use std::alloc::Global;
 use std::sync::Wait;
 use std::thread::Threads;
 use thinking::{
-    Depths, Kept, Start, Style, Task, Tried, begin, iterative_deepening, try_mates, unsettled_line,
+    AnnouncedMate, Depths, MateAttempt, Start, Style, Task, begin, iterative_deepening, try_mates,
+    unsettled_line,
 };
 use watching::{Cut, say};
 
@@ -29,7 +30,7 @@ pub struct GoResult {
     /// The best move, where one is legal.
     pub best: Option<Move>,
     /// The mate that was announced last, where one was.
-    pub kept: Option<Kept>,
+    pub kept: Option<AnnouncedMate>,
     /// What cut it, if anything.
     pub why: Option<Cut>,
 }
@@ -87,7 +88,7 @@ fn search_depths<R: Threads + Wait + Sync, S: Source, K: Sink, C: Clock, G: Gate
     let depths = iterative_deepening(
         rt,
         alloc,
-        &mut session.mind,
+        &mut session.engine,
         &task,
         Style::Uci,
         start,
@@ -102,46 +103,46 @@ fn search_depths<R: Threads + Wait + Sync, S: Source, K: Sink, C: Clock, G: Gate
 }
 
 // What is told of a mate that was looked for, up to N moves.
-fn mate_text(alloc: Global, rules: &Rules, last: u16, tried: &Tried) -> Result<Text, Memory>
+fn mate_text(alloc: Global, rules: &Rules, last: u16, tried: &MateAttempt) -> Result<Text, Memory>
     requires fit { IsFit rules.now }
     requires sayable { IsSayable rules.now (answer_seen tried.now) }
     ensures { IfOk result (λ text. text ≡ mate_said rules.now last (answer_seen tried.now)) }
 {
     match tried {
-        Tried::Shown { moves, best, .. } => mate_line(alloc, *moves, best),
-        Tried::Unsettled { unsettled, .. } => unsettled_line(alloc, rules, unsettled),
-        Tried::Stopped { .. } => {
+        MateAttempt::Shown { moves, best, .. } => mate_line(alloc, *moves, best),
+        MateAttempt::Unsettled { unsettled, .. } => unsettled_line(alloc, rules, unsettled),
+        MateAttempt::Stopped { .. } => {
             let items = STOPPED.to_vec(alloc)?;
             Ok(Text { items })
         }
-        Tried::NoMate => no_mate_line(alloc, last),
+        MateAttempt::NoMate => no_mate_line(alloc, last),
     }
 }
 
 // What a mate that was looked for came to, or none where depth 1 is searched after it.
-fn ended_by(tried: Tried, first: Move) -> Option<GoResult>
+fn ended_by(tried: MateAttempt, first: Move) -> Option<GoResult>
     ensures { result ≡ came_by first tried }
 {
     match tried {
-        Tried::Shown {
+        MateAttempt::Shown {
             moves,
             strategy,
             best,
         } => Some(GoResult {
             best: Some(best),
-            kept: Some(Kept { strategy, moves }),
+            kept: Some(AnnouncedMate { strategy, moves }),
             why: None,
         }),
-        Tried::Stopped { moves: _moves, why } => Some(GoResult {
+        MateAttempt::Stopped { moves: _moves, why } => Some(GoResult {
             best: Some(first),
             kept: None,
             why: Some(why),
         }),
-        Tried::Unsettled {
+        MateAttempt::Unsettled {
             moves: _moves,
             unsettled: _unsettled,
         } => None,
-        Tried::NoMate => None,
+        MateAttempt::NoMate => None,
     }
 }
 
@@ -184,7 +185,7 @@ fn search_mate<R: Threads + Wait + Sync, S: Source, K: Sink, C: Clock, G: Gate +
     let tried = try_mates(
         rt,
         alloc,
-        &mut session.mind,
+        &mut session.engine,
         &session.game,
         last,
         limits,
@@ -215,7 +216,7 @@ fn search_mate<R: Threads + Wait + Sync, S: Source, K: Sink, C: Clock, G: Gate +
     let depths = iterative_deepening(
         rt,
         alloc,
-        &mut session.mind,
+        &mut session.engine,
         &task,
         Style::Uci,
         start,

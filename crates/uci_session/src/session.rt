@@ -9,7 +9,7 @@ ghost use Rattle.session_model.specs.UciTexts as UciTexts;
 ghost use Rattle.uci_lines.specs.SettingView.{placing_seen, setting_seen};
 ghost use Rattle.uci_session.specs.Outcomes.{IsNumber, IsOutcome, Starts};
 ghost use Rattle.session_model.specs.UciSession.{announced, forgotten};
-ghost use Rattle.thinking.specs.Views.{kept_seen};
+ghost use Rattle.thinking.specs.Views.{announced_seen};
 ghost use Rattle.uci_session.specs.SessionView.{BeginsBuiltIn, IsPrintable};
 
 use crate::moves::placed;
@@ -19,9 +19,13 @@ use foundation::{Memory, Text};
 use game_play::Game;
 use proof_text::write_proof;
 use seeking::EngineState;
+use session_model::options::{
+    HASH, LEAST_HASH, LEAST_MATE_FACTS, LEAST_THREADS, MATE_FACTS, MOST_HASH, MOST_MATE_FACTS,
+    MOST_THREADS, THREADS,
+};
 use std::alloc::Global;
 use std::marker::Model;
-use thinking::Kept;
+use thinking::AnnouncedMate;
 use uci_lines::{Placing, Setting, number};
 use variant_ini::Sections;
 use variant_rules::{Found, Variants, builtin, load};
@@ -34,8 +38,8 @@ pub struct UciSession {
     variants: Variants,
     place: usize,
     pub(crate) game: Game,
-    pub(crate) mind: EngineState,
-    kept: Option<Kept>,
+    pub(crate) engine: EngineState,
+    kept: Option<AnnouncedMate>,
 }
 
 impl Model for UciSession {
@@ -44,7 +48,7 @@ impl Model for UciSession {
 
     ghost Value = { State };
 
-    ghost view = { λ s. state_of s.sections s.place s.game s.mind s.kept };
+    ghost view = { λ s. state_of s.sections s.place s.game s.engine s.kept };
 
     ghost invariant = { λ s. IsSession s.sections s.variants s.place s.game s.kept };
 }
@@ -123,7 +127,7 @@ impl UciSession {
         requires threads { (1 ≤ threads) × (threads ≤ 64) }
         ensures { IfOk result (λ session. first_state sections threads ≡ Some session) }
     {
-        let mind = EngineState::new(alloc, threads)?;
+        let engine = EngineState::new(alloc, threads)?;
         let (place, game) = match start_in(alloc, &sections, &variants, b"chess") {
             Ok(start) => start,
             Err(_) => return Err(Memory),
@@ -133,7 +137,7 @@ impl UciSession {
             variants,
             place,
             game,
-            mind,
+            engine,
             kept: None,
         })
     }
@@ -199,18 +203,24 @@ impl UciSession {
     {
         match setting {
             Setting::Threads(value) => {
-                let threads = number_or_bad(alloc, b"Threads", 1, 64, value)?;
-                self.mind.set_threads(threads);
+                let threads = number_or_bad(alloc, THREADS, LEAST_THREADS, MOST_THREADS, value)?;
+                self.engine.set_threads(threads);
                 Ok(())
             }
             Setting::Hash(value) => {
-                let mib = number_or_bad(alloc, b"Hash", 1, 1024, value)?;
-                self.mind.set_hash(alloc, mib)?;
+                let mib = number_or_bad(alloc, HASH, LEAST_HASH, MOST_HASH, value)?;
+                self.engine.set_hash(alloc, mib)?;
                 Ok(())
             }
             Setting::MateFacts(value) => {
-                let facts = number_or_bad(alloc, b"MateFacts", 16, 65536, value)?;
-                self.mind.set_mate_facts(facts);
+                let facts = number_or_bad(
+                    alloc,
+                    MATE_FACTS,
+                    LEAST_MATE_FACTS,
+                    MOST_MATE_FACTS,
+                    value,
+                )?;
+                self.engine.set_mate_facts(facts);
                 Ok(())
             }
             Setting::VariantPath(_) => self.load(alloc, builtin(alloc)?),
@@ -242,7 +252,7 @@ impl UciSession {
     {
         self.game = self.game.another(alloc, &self.game.rules().start)?;
         self.kept = None;
-        self.mind.forget_hints();
+        self.engine.forget_hints();
         Ok(())
     }
 
@@ -279,9 +289,9 @@ impl UciSession {
     }
 
     /// Keeps the mate that was announced last, if any.
-    pub fn keep(&mut self, kept: Option<Kept>)
+    pub fn keep(&mut self, kept: Option<AnnouncedMate>)
         requires { IsPrintable self.old.game.rules kept }
-        ensures { self.new ≡ announced self.old (kept_seen kept) }
+        ensures { self.new ≡ announced self.old (announced_seen kept) }
     {
         self.kept = kept;
     }
@@ -298,6 +308,6 @@ impl UciSession {
         ensures is { result ≡ self.now.threads }
         ensures in_range { (1 ≤ result) × (result ≤ 64) }
     {
-        self.mind.threads()
+        self.engine.threads()
     }
 }

@@ -4,29 +4,26 @@ ghost use Rattle.std.specs.List.{filter, flat_map};
 ghost use Rattle.session_model.specs.Thinking.{Mates};
 ghost use Rattle.session_model.specs.UciTexts as UciTexts;
 ghost use Rattle.strategy.specs.declared.nodes.Strategy.{Strategy};
-ghost use Rattle.session_model.specs.UciTexts.{variant_choice};
+ghost use Rattle.session_model.specs.UciTexts.{introduction, number_line, option_line, options_text, path_line, variant_choice};
 ghost use Rattle.variant_ini.specs.Section.{Section};
 ghost use Rattle.variant_rules.specs.Entries.{entries, is_accepted};
-ghost use Rattle.uci_session.specs.TextView.{last_line};
-ghost use Rattle.uci_session.specs.TextView.{choice_at, introduction};
+ghost use Rattle.uci_session.specs.TextView.{choice_at, last_line};
 
 use foundation::{Memory, Text};
 use game_play::Game;
 use game_text::perft_of;
 use move_text::write_move;
 use rules_model::Move;
+use session_model::options::{
+    DEFAULT_HASH, DEFAULT_MATE_FACTS, DEFAULT_THREADS, HASH, LEAST_HASH, LEAST_MATE_FACTS,
+    LEAST_THREADS, MATE_FACTS, MOST_HASH, MOST_MATE_FACTS, MOST_THREADS, NO_FILE, THREADS,
+    UCI_VARIANT, VARIANT_PATH,
+};
 use std::alloc::{AllocError, Global};
 use variant_rules::Variants;
 
-// What `uci` answers before the names of the variants.
-const INTRODUCTION: &[u8] = b"\
-    id name vengine\n\
-    id author vengine\n\
-    option name Threads type spin default 1 min 1 max 64\n\
-    option name Hash type spin default 16 min 1 max 1024\n\
-    option name MateFacts type spin default 4096 min 16 max 65536\n\
-    option name VariantPath type string default <empty>\n\
-    option name UCI_Variant type combo default chess";
+// What `uci` answers before the options.
+const INTRODUCTION: &[u8] = b"id name vengine\nid author vengine\n";
 
 /// What `isready` answers.
 pub const READY: &[u8] = b"readyok\n";
@@ -71,6 +68,68 @@ fn push_choices(text: &mut Vec<u8>, variants: &Variants) -> Result<(), AllocErro
     Ok(())
 }
 
+// Appends the line of an option, by its name and what is said of its values.
+#[tactic(auto, unfolding(session_model::specs::UciTexts::option_line))]
+fn push_option(text: &mut Vec<u8>, name: &[u8], values: &[u8]) -> Result<(), AllocError>
+    ensures { OnOk result (text.new.items ≡ text.old.items ++ option_line name.now values.now) }
+{
+    text.extend_from_slice(b"option name ")?;
+    text.extend_from_slice(name)?;
+    text.extend_from_slice(values)
+}
+
+// Appends the line of an option whose values are numbers.
+#[tactic(auto, unfolding(session_model::specs::UciTexts::number_line))]
+fn push_number(
+    alloc: Global,
+    text: &mut Vec<u8>,
+    name: &[u8],
+    default: u32,
+    least: u32,
+    most: u32,
+) -> Result<(), AllocError>
+    ensures { OnOk result (text.new.items ≡ text.old.items ++ number_line name.now default least most) }
+{
+    let values = format!(in alloc; " type spin default {default} min {least} max {most}\n")?;
+    push_option(text, name, values.as_bytes())
+}
+
+// Appends the line of `VariantPath`.
+#[tactic(auto, unfolding(session_model::specs::UciTexts::path_line))]
+fn push_path(alloc: Global, text: &mut Vec<u8>) -> Result<(), AllocError>
+    ensures { OnOk result (text.new.items ≡ text.old.items ++ path_line) }
+{
+    let mut values = b" type string default ".to_vec(alloc)?;
+    values.extend_from_slice(NO_FILE)?;
+    values.extend_from_slice(b"\n")?;
+    push_option(text, VARIANT_PATH, values.as_slice())
+}
+
+// Appends the options, the last of them up to its choices.
+fn push_options(alloc: Global, text: &mut Vec<u8>) -> Result<(), AllocError>
+    ensures { OnOk result (text.new.items ≡ text.old.items ++ options_text) }
+{
+    push_number(
+        alloc,
+        text,
+        THREADS,
+        DEFAULT_THREADS,
+        LEAST_THREADS,
+        MOST_THREADS,
+    )?;
+    push_number(alloc, text, HASH, DEFAULT_HASH, LEAST_HASH, MOST_HASH)?;
+    push_number(
+        alloc,
+        text,
+        MATE_FACTS,
+        DEFAULT_MATE_FACTS,
+        LEAST_MATE_FACTS,
+        MOST_MATE_FACTS,
+    )?;
+    push_path(alloc, text)?;
+    push_option(text, UCI_VARIANT, b" type combo default chess")
+}
+
 fn introduction() -> &'static [u8]
     ensures { result.now ≡ introduction }
 {
@@ -83,6 +142,7 @@ pub fn uci_text(alloc: Global, variants: &Variants) -> Result<Text, Memory>
         → IfOk result (λ text. text ≡ UciTexts.uci_text sections) }
 {
     let mut items = introduction().to_vec(alloc)?;
+    push_options(alloc, &mut items)?;
     push_choices(&mut items, variants)?;
     items.extend_from_slice(b"\nuciok\n")?;
     Ok(Text { items })

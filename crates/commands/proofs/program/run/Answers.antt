@@ -84,20 +84,20 @@ returns-in-Some-clause-complete g c =
 pub returns-in-Err-clause-done : goal.returns-in-Err-clause-done
 returns-in-Err-clause-done g c =
     λ done. run_did c.args.source.now c.args.source.now c.args.sink.now c.finish-in-Err.new.sink c.args.clock.now c.args.files.now c.open.new.files _ _ _ _ c.answer_of.result c.finish-in-Err.result
-    (refused (g.F.Files.contents c.args.files.now) _ (g.S.Source.left c.args.source.now) (map string_bytes c.args.words.now) c.in-Err.halt c.answer_of.result c.in-Err.ensures.opens c.answer_of.ensures)
+    (refused (g.F.Files.contents c.args.files.now) _ (g.S.Source.left c.args.source.now) (map string_bytes c.args.words.now) c.in-Err.no_answer c.answer_of.result c.in-Err.ensures.opens c.answer_of.ensures)
     c.finish-in-Err.ensures.finishes done
 
 pub returns-in-Err-clause-cut : goal.returns-in-Err-clause-cut
 returns-in-Err-clause-cut g c =
     λ cut. part_by (to_do (map string_bytes c.args.words.now)) _ _
     (λ one. run_part c.args.source.now c.args.source.now c.args.sink.now c.finish-in-Err.new.sink c.args.clock.now c.args.files.now c.open.new.files _ _ _ c.answer_of.result c.finish-in-Err.result one
-    (refused (g.F.Files.contents c.args.files.now) _ (g.S.Source.left c.args.source.now) (map string_bytes c.args.words.now) c.in-Err.halt c.answer_of.result c.in-Err.ensures.opens c.answer_of.ensures)
+    (refused (g.F.Files.contents c.args.files.now) _ (g.S.Source.left c.args.source.now) (map string_bytes c.args.words.now) c.in-Err.no_answer c.answer_of.result c.in-Err.ensures.opens c.answer_of.ensures)
     c.finish-in-Err.ensures.finishes cut)
-    (λ a is session. refused_part c.args.source.now c.args.sink.now c.finish-in-Err.new.sink c.args.clock.now c.args.files.now c.open.new.files _ a c.in-Err.halt _ _ c.answer_of.result c.finish-in-Err.result is session
+    (λ a is session. refused_part c.args.source.now c.args.sink.now c.finish-in-Err.new.sink c.args.clock.now c.args.files.now c.open.new.files _ a c.in-Err.no_answer _ _ c.answer_of.result c.finish-in-Err.result is session
     c.in-Err.ensures.opens c.answer_of.ensures c.finish-in-Err.ensures.finishes cut)
 
 pub returns-in-Err-clause-complete : goal.returns-in-Err-clause-complete
 returns-in-Err-clause-complete g c =
     run_complete (g.F.Files.contents c.args.files.now) _ _ _ (map string_bytes c.args.words.now) c.answer_of.result
-    (refused (g.F.Files.contents c.args.files.now) _ (g.S.Source.left c.args.source.now) (map string_bytes c.args.words.now) c.in-Err.halt c.answer_of.result c.in-Err.ensures.opens c.answer_of.ensures)
+    (refused (g.F.Files.contents c.args.files.now) _ (g.S.Source.left c.args.source.now) (map string_bytes c.args.words.now) c.in-Err.no_answer c.answer_of.result c.in-Err.ensures.opens c.answer_of.ensures)
     _ _ _ _ c.finish-in-Err.result c.finish-in-Err.ensures.finishes _ _ (λ reads asks. asks.failed) (λ reads asks. asks.found)

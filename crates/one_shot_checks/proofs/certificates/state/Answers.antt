@@ -8,7 +8,7 @@ use Rattle.game_text.proofs.HeardLemmas.{heard_nothing, heard_so}
 use Rattle.one_shot_checks.specs.declared.certificates.Stipulated.{Stipulated}
 use Rattle.one_shot_faults.specs.declared.fault.Fault.{Fault}
 use Rattle.one_shot_checks.specs.CertView.{States}
-use Rattle.one_shot_faults.specs.NoAnswerView.{cert_halt}
+use Rattle.one_shot_faults.specs.NoAnswerView.{cert_no_answer}
 use Rattle.one_shot_checks.proofs.CertLemmas.{cert_bad, cert_good, cert_unheard, problem_bad, problem_first, problem_unheard, stated_heard, variants_heard}
 use Rattle.one_shot_checks.proofs.certificates.state.Goals as goal
 
@@ -32,7 +32,7 @@ pub returns-in_err-cert-clause-heard : goal.returns-in_err-cert-clause-heard
 returns-in_err-cert-clause-heard g c =
     let p = err_from_is_err_and c.from_residual-in_err-cert.result c.from_residual-in_err-cert.ensures.1 in
     rw (p.1, p.2) (stated_heard _ _ _ _ c.in_ok-problem.problem (λ (r : Result Cert CertFault). HasWhy r c.in_err-cert.field-0.0)
-    (λ (r : Result Stipulated Fault). States r (Err (cert_halt c.in_err-cert.field-0.0)))
+    (λ (r : Result Stipulated Fault). States r (Err (cert_no_answer c.in_err-cert.field-0.0)))
     (variants_heard _ _ _ _ (Ok c.in_ok-problem.problem) c.in_ok-variants.ensures c.in_ok-problem.ensures.heard)
     c.in_err-cert.ensures.heard
     (λ r says. cert_bad c.in_ok-problem.problem r c.in_err-cert.field-0.0 says))

@@ -1,7 +1,7 @@
 use Rattle.std.proofs.Common.{arith}
 use Rattle.std.proofs.lemmas.Result.{err_from_is_err_and}
 use Rattle.game_text.proofs.HeardLemmas.{heard_so, same_needed}
-use Rattle.one_shot_faults.proofs.HaltLemmas.{answers_so}
+use Rattle.one_shot_faults.proofs.NoAnswerLemmas.{answers_so}
 use Rattle.one_shot_checks.proofs.CheckLemmas.{printed, states_bad}
 use Rattle.one_shot_checks.proofs.checking.check_text.Goals as goal
 

@@ -1,6 +1,6 @@
 use Rattle.std.proofs.Common.{refl}
 use Rattle.one_shot_checks.specs.CheckView.{Prints, losing, winning}
-use Rattle.one_shot_faults.proofs.HaltLemmas.{says_at}
+use Rattle.one_shot_faults.proofs.NoAnswerLemmas.{says_at}
 use Rattle.one_shot_checks.proofs.checking.print.Goals as goal
 
 pub returns-in_ok-wins-in-Wins-clause-prints : goal.returns-in_ok-wins-in-Wins-clause-prints

@@ -12,7 +12,7 @@ use Rattle.one_shot_faults.specs.declared.fault.Fault.{Fault}
 use Rattle.game_text.proofs.HeardLemmas.{heard_nothing, heard_so}
 use Rattle.proof_text.specs.StrategyView.{HasWhy}
 use Rattle.one_shot_checks.specs.CheckView.{States}
-use Rattle.one_shot_faults.specs.NoAnswerView.{strategy_halt}
+use Rattle.one_shot_faults.specs.NoAnswerView.{strategy_no_answer}
 use Rattle.one_shot_checks.specs.Checking.{stated}
 use Rattle.one_shot_checks.proofs.CheckLemmas.{problem_bad, problem_first, problem_unheard, rules_heard, stated_heard, strategy_bad, strategy_good, strategy_unheard, variants_heard}
 use Rattle.one_shot_checks.proofs.checking.state_problem.Goals as goal
@@ -40,7 +40,7 @@ pub returns-in_err-strategy-clause-heard : goal.returns-in_err-strategy-clause-h
 returns-in_err-strategy-clause-heard g c =
     let p = err_from_is_err_and c.from_residual-in_err-strategy.result c.from_residual-in_err-strategy.ensures.1 in
     rw (p.1, p.2) (stated_heard _ _ _ _ (Text c.args.line.now) c.in_ok-problem.problem (λ (r : Result Strategy StrategyFault). HasWhy r c.in_err-strategy.field-0.0)
-    (λ (r : Result Proof Fault). States r (Err (strategy_halt c.in_err-strategy.field-0.0)))
+    (λ (r : Result Proof Fault). States r (Err (strategy_no_answer c.in_err-strategy.field-0.0)))
     (variants_heard _ _ _ _ (Text c.args.line.now) (Ok c.in_ok-problem.problem) c.in_ok-variants.ensures c.in_ok-problem.ensures.heard)
     (rules_heard _ _ _ _ (λ (r : Result Strategy StrategyFault). HasWhy r c.in_err-strategy.field-0.0) c.rules.ensures c.in_err-strategy.ensures.heard)
     (λ r says. strategy_bad c.in_ok-problem.problem r c.in_err-strategy.field-0.0 says))

@@ -6,8 +6,8 @@ use Rattle.strategy.specs.Writing.{ended_lines}
 use Rattle.proof_text.specs.Writing.{rules_texts}
 use Rattle.proof_text.proofs.writing.push_section.Goals as goal
 
-pub told-requires : goal.told-requires
-told-requires c = subst (λ (ss : List Section). c.args.section < length ss) (sym c.in_ok-lettered.ensures) c.requires
+pub rule_pairs-requires : goal.rule_pairs-requires
+rule_pairs-requires c = subst (λ (ss : List Section). c.args.section < length ss) (sym c.in_ok-lettered.ensures) c.requires
 
 pub returns : goal.returns
 returns c =

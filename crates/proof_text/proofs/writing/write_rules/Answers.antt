@@ -5,8 +5,8 @@ use Rattle.variant_model.specs.Told.{told}
 use Rattle.proof_text.proofs.WriteLemmas.{section-pushed}
 use Rattle.proof_text.proofs.writing.write_rules.Goals as goal
 
-pub told-requires : goal.told-requires
-told-requires c = subst (λ (ss : List Section). c.args.section < length ss) (sym c.in_ok-lettered.ensures) c.requires
+pub rule_pairs-requires : goal.rule_pairs-requires
+rule_pairs-requires c = subst (λ (ss : List Section). c.args.section < length ss) (sym c.in_ok-lettered.ensures) c.requires
 
 pub returns : goal.returns
 returns c =

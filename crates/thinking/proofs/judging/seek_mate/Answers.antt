@@ -13,7 +13,7 @@ use Rattle.session_model.proofs.Reports.{sought_range}
 use Rattle.session_model.specs.Mates.{IsNoWin, IsEvidence, IsShown, favoured, mover}
 use Rattle.session_model.specs.Mates as Mates
 use Rattle.session_model.specs.Thinking.{mate_sought}
-use Rattle.thinking.specs.declared.found.CutSolve.{CutSolve}
+use Rattle.thinking.specs.declared.depth_result.CutSolve.{CutSolve}
 use Rattle.thinking.specs.declared.judging.DepthJudged.{DepthJudged}
 use Rattle.thinking.specs.Views.{evidence_of, task_seen}
 use Rattle.thinking.proofs.FindingLaws.{evidence_same, favours_mover, finding_mated, finding_mates, finding_open, finding_points, legal_some, root_there, settled_by, settled_none}

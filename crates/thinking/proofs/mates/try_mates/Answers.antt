@@ -7,8 +7,8 @@ use Rattle.watching.specs.declared.halt.Halt.TheVariants as halt
 use Rattle.watching.specs.Watched.{moment, world}
 use Rattle.session_model.specs.Mates as Mates
 use Rattle.session_model.specs.Mates.{IsEvidence, IsNoWin, IsShown}
-use Rattle.thinking.specs.declared.mates.Tried.{Tried}
-use Rattle.thinking.specs.declared.mates.Tried.TheVariants.{Shown, Unsettled, Stopped}
+use Rattle.thinking.specs.declared.mates.MateAttempt.{MateAttempt}
+use Rattle.thinking.specs.declared.mates.MateAttempt.TheVariants.{Shown, Unsettled, Stopped}
 use Rattle.thinking.specs.Views.{evidence_of}
 use Rattle.thinking.proofs.FindingLaws.{evidence_same, root_there}
 use Rattle.thinking.proofs.JudgeLaws.{failed_causes, ok_causes}
@@ -24,7 +24,7 @@ returns-in-Err-Fault-clause-broke g c why is =
 pub returns-in-Err-Fault-clause-causes : goal.returns-in-Err-Fault-clause-causes
 returns-in-Err-Fault-clause-causes g c =
     let end : c.solve_once-solved.result ≡ Err (halt.Fault c.in-Err-Fault.why) = search rules in
-    let causes = failed_causes {T = Tried} (world g.S.Source.left g.S.Source.owed g.S.Source.faults g.K.Sink.taken g.K.Sink.faults g.C.Clock.given g.C.Clock.count g.C.Clock.last) (moment c.loop-before.source c.loop-before.sink c.loop-before.clock 0) (moment c.solve_once-solved.new.source c.solve_once-solved.new.sink c.solve_once-solved.new.clock c.solve_once-solved.ensures.sought.entered) c.args.dialect _ c.in-Err-Fault.why (Err c.in-Err-Fault.why) refl
+    let causes = failed_causes {T = MateAttempt} (world g.S.Source.left g.S.Source.owed g.S.Source.faults g.K.Sink.taken g.K.Sink.faults g.C.Clock.given g.C.Clock.count g.C.Clock.last) (moment c.loop-before.source c.loop-before.sink c.loop-before.clock 0) (moment c.solve_once-solved.new.source c.solve_once-solved.new.sink c.solve_once-solved.new.clock c.solve_once-solved.ensures.sought.entered) c.args.dialect _ c.in-Err-Fault.why (Err c.in-Err-Fault.why) refl
     (c.solve_once-solved.ensures.sought.watched.ended (halt.Fault c.in-Err-Fault.why) end) in
     let source = causes.source_later in let sink = causes.sink_later in
     record {

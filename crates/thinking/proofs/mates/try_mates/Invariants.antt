@@ -9,7 +9,7 @@ invariant-loop-before g l = record {
       (MovesOn (world g.S.Source.left g.S.Source.owed g.S.Source.faults g.K.Sink.taken g.K.Sink.faults g.C.Clock.given g.C.Clock.count g.C.Clock.last)
       (moment l.fn.source l.fn.sink l.fn.clock 0) (moment l.source l.sink l.clock 0))
       (g.S.Source.owed l.fn.source) (g.S.Source.owed l.source) l.game l.before;
-  same : l.mind ≡ l.fn.mind;
+  same : l.engine ≡ l.fn.engine;
   source_later : g.S.Source.faults l.fn.source ≤ g.S.Source.faults l.source;
   sink_later : g.K.Sink.faults l.fn.sink ≤ g.K.Sink.faults l.sink;
 }

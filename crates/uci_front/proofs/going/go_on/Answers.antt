@@ -7,7 +7,7 @@ use Rattle.turning.specs.Lines.{Exchanges, none}
 use Rattle.watching.specs.Events.{Event, Says}
 use Rattle.uci_session.specs.Searched.{Completes}
 use Rattle.uci_session.specs.TextView.{last_line}
-use Rattle.thinking.specs.Views.{kept_seen}
+use Rattle.thinking.specs.Views.{announced_seen}
 use Rattle.uci_front.proofs.GoLemmas.{Heard, Told, gone_told, heard_then, served_told, settled_follows, settled_stopped, told_then, unserved_broke, unserved_told, waits_follow}
 use Rattle.uci_session.proofs.HeldLemmas.{held_follows, held_stopped, on_err}
 use Rattle.uci_front.proofs.going.go_on.Goals as goal
@@ -52,10 +52,10 @@ returns-in_err-say-clause-unserved g c =
     let came = c.in_ok-best.field-0 in
     let ran = c.in_ok-best.ensures.came.ran in
     let text = c.search.new.line in
-    let text' = c.settle.new.line in
+    let text' = c.wait_if_held.new.line in
     let why = c.in_ok-why.why in
     let said : c.as_slice.result.now ≡ last_line came.best = c.as_slice.ensures.value ∙ c.text.view_is ∙ c.in_ok-text.ensures in
-    let moved = Exchanges g.S.Source.left g.K.Sink.taken c.search.new.source c.settle.new.source c.search.new.sink c.settle.new.sink in
+    let moved = Exchanges g.S.Source.left g.K.Sink.taken c.search.new.source c.wait_if_held.new.source c.search.new.sink c.wait_if_held.new.sink in
     on_err c.from_residual-in_err-say.result (λ contents line asked asks is.
     unserved_told c.args.session.now c.args.plan.now came text line asked asks is contents
     (broke_say Uci (Told owed c.args.session.now c.args.plan.now came text) c.as_slice.result.now
@@ -72,12 +72,12 @@ returns-clause-served g c = λ line asked asks is.
     let came = c.in_ok-best.field-0 in
     let ran = c.in_ok-best.ensures.came.ran in
     let text = c.search.new.line in
-    let text' = c.settle.new.line in
+    let text' = c.wait_if_held.new.line in
     let why = c.in_ok-why.why in
     let said : c.as_slice.result.now ≡ last_line came.best = c.as_slice.ensures.value ∙ c.text.view_is ∙ c.in_ok-text.ensures in
-    let moved = Exchanges g.S.Source.left g.K.Sink.taken c.search.new.source c.settle.new.source c.search.new.sink c.settle.new.sink in
-    let after : c.keep.new.self ≡ announced c.args.session.now (kept_seen came.kept) =
-    c.keep.ensures ∙ ap (λ (s : State). announced s (kept_seen came.kept)) c.in_ok-best.ensures.same in
+    let moved = Exchanges g.S.Source.left g.K.Sink.taken c.search.new.source c.wait_if_held.new.source c.search.new.sink c.wait_if_held.new.sink in
+    let after : c.keep.new.self ≡ announced c.args.session.now (announced_seen came.kept) =
+    c.keep.ensures ∙ ap (λ (s : State). announced s (announced_seen came.kept)) c.in_ok-best.ensures.same in
     served_told c.args.session.now c.keep.new.self c.args.plan.now came text line asked asks is
     (ran_next_of Uci why text'
     (ran_say Uci (Told owed c.args.session.now c.args.plan.now came text) c.as_slice.result.now

@@ -3,7 +3,7 @@ use Rattle.std.specs.List.{flat_map}
 use Rattle.variant_ini.specs.LineView.{pair_view}
 use Rattle.variant_options.specs.Keys.{ordered_keys}
 use Rattle.variant_model.specs.Told.{told_of}
-use Rattle.proof_text.proofs.rule_pairs.told.Given as goal
+use Rattle.proof_text.proofs.rule_pairs.rule_pairs.Given as goal
 
 abbrev pub invariant-loop-place : goal.invariant-loop-place
 invariant-loop-place l =

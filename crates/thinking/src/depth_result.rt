@@ -2,7 +2,7 @@
 ghost use Rattle.std.specs.Prelude.{◌≡◌, ◌<◌, length, None};
 ghost use Rattle.session_model.specs.Mates.{counters_of};
 ghost use Rattle.session_model.specs.Thinking.{announced_by};
-ghost use Rattle.thinking.specs.Views.{evidence_of, kept_seen, score_seen};
+ghost use Rattle.thinking.specs.Views.{evidence_of, announced_seen, score_seen};
 
 use rules_model::{Move, Repeat};
 use strategy::{Counters, Strategy};
@@ -30,7 +30,7 @@ pub struct Evidence {
 
 /// What is found at a depth.
 #[derive(Drop)]
-pub struct Found {
+pub struct DepthResult {
     pub score: Score,
     pub best: Move,
     pub unsettled: Option<Evidence>,
@@ -47,7 +47,7 @@ pub struct CutSolve {
 
 /// The strategy of the mate that was announced last, and its number of moves.
 #[derive(Drop)]
-pub struct Kept {
+pub struct AnnouncedMate {
     pub strategy: Strategy,
     pub moves: u16,
 }
@@ -67,13 +67,13 @@ pub fn evidence_at(repeat: Repeat, mut counters: Counters) -> Evidence
 }
 
 /// The mate that is kept after one more depth.
-pub(crate) fn kept_by(kept: Option<Kept>, score: Score) -> Option<Kept>
-    ensures { kept_seen result ≡ announced_by (score_seen score) (kept_seen kept) }
+pub(crate) fn announced_by(kept: Option<AnnouncedMate>, score: Score) -> Option<AnnouncedMate>
+    ensures { announced_seen result ≡ announced_by (score_seen score) (announced_seen kept) }
 {
     match score {
         Score::Points(_) => kept,
         Score::Mates(moves, strategy) | Score::Mated(moves, strategy) => {
-            Some(Kept { strategy, moves })
+            Some(AnnouncedMate { strategy, moves })
         }
     }
 }
