@@ -10,10 +10,10 @@ use Rattle.rules_model.specs.Games.{Story}
 use Rattle.rules_model.specs.Legal.{legal}
 use Rattle.rules_model.specs.Repeats.{repeat_of}
 use Rattle.game_play.specs.Played.{Played, story}
-use Rattle.game_values.specs.Bounds.{search_bound}
-use Rattle.game_values.specs.Values.{play, root_score, root_value, tree_size, value_of, worst}
-use Rattle.game_values.proofs.Greatest.{greatest-set}
-use Rattle.game_values.proofs.TreeLaws.{roots-lines}
+use Rattle.evaluation.specs.Bounds.{search_bound}
+use Rattle.evaluation.specs.Values.{play, root_score, root_value, tree_size, value_of, worst}
+use Rattle.evaluation.proofs.Greatest.{greatest-set}
+use Rattle.evaluation.proofs.TreeLaws.{roots-lines}
 use Rattle.negamax.specs.RootFacts.{root_tree}
 use Rattle.alpha_beta.specs.Roots.{AreDistinct, AreLegal, root_lines}
 use Rattle.alpha_beta.specs.Bests.{IsBest}

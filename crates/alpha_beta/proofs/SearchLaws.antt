@@ -5,7 +5,7 @@ use Rattle.std.specs.declared.result.Result.{Result}
 use Rattle.std.proofs.lemmas.List.Elements.{recursion_from_All}
 use Rattle.rules_model.specs.declared.moves.Move.{Move}
 use Rattle.game_play.specs.Played.{Played, story}
-use Rattle.game_values.specs.Values.{Attains, value_of}
+use Rattle.evaluation.specs.Values.{Attains, value_of}
 use Rattle.negamax.specs.declared.facts.Best.{Best}
 use Rattle.watching.specs.declared.caller.Caller.{Caller}
 use Rattle.watching.specs.declared.halt.Halt.{Halt}

@@ -2,7 +2,7 @@
 use Rattle.std.specs.Prelude.{◌≡◌, ℕ, List, ℤ}
 use Rattle.rules_model.specs.declared.moves.Move.{Move}
 use Rattle.game_play.specs.Played.{Played, story}
-use Rattle.game_values.specs.Values.{Attains, value_of}
+use Rattle.evaluation.specs.Values.{Attains, value_of}
 
 -- the value over the root moves, and one of them that attains it
 pub record IsBest (game : Played) (depth : ℕ) (roots : List Move) (value : ℤ) (best : Move) : Type 0 where

@@ -4,7 +4,7 @@ use Rattle.rules_model.specs.declared.moves.Move.{Move}
 use Rattle.io_ports.specs.declared.dialect.Dialect.{Dialect}
 use Rattle.io_ports.specs.declared.limits.Limits.{Limits}
 use Rattle.game_play.specs.Played.{Played, story}
-use Rattle.game_values.specs.Bounds.{search_bound}
+use Rattle.evaluation.specs.Bounds.{search_bound}
 use Rattle.watching.specs.declared.halt.Cut.{Cut}
 use Rattle.watching.specs.Stopping.{IsStop}
 use Rattle.watching.specs.Watched.{World, Moment, moment, Gone}

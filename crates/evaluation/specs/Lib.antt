@@ -1,4 +1,7 @@
+pub mod Bounds
 pub mod Evaluation
-pub mod Tallies
+pub mod Laws
 pub mod PieceValues
+pub mod Tallies
+pub mod Values
 pub mod Writes

@@ -8,9 +8,9 @@ use Rattle.io_ports.specs.declared.limits.Stopped.TheVariants as stopped
 use Rattle.rules_model.specs.declared.rules.Rules.{Rules}
 use Rattle.rules_model.specs.Games.{Story}
 use Rattle.game_play.specs.Played.{Played, story}
-use Rattle.game_values.specs.Bounds.{solve_bound}
-use Rattle.game_values.specs.Values.{play}
-use Rattle.game_values.proofs.TreeLaws.{tree-some}
+use Rattle.evaluation.specs.Bounds.{solve_bound}
+use Rattle.evaluation.specs.Values.{play}
+use Rattle.evaluation.proofs.TreeLaws.{tree-some}
 use Rattle.watching.specs.declared.halt.Cut.TheVariants as cut
 use Rattle.watching.specs.CallerLaws.{gone_none, ended_memory}
 use Rattle.watching.specs.LookLaws.{looked_none}

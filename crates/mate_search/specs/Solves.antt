@@ -7,7 +7,7 @@ use Rattle.io_ports.specs.declared.ports.Ports.{Ports}
 use Rattle.rules_model.specs.declared.board.Side.{Side}
 use Rattle.forced_wins.specs.Wins.{wins}
 use Rattle.game_play.specs.Played.{Played, story}
-use Rattle.game_values.specs.Bounds.{solve_bound}
+use Rattle.evaluation.specs.Bounds.{solve_bound}
 use Rattle.mate_core.specs.declared.frame.Frame.{Frame}
 use Rattle.watching.specs.declared.halt.Cut.{Cut}
 use Rattle.watching.specs.Stopping.{IsStop}

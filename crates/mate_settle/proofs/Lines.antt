@@ -6,7 +6,7 @@ use Rattle.std.proofs.lemmas.Option.{slice_get_within, get_or_from_slice_get}
 use Rattle.foundation.specs.Member.{Member, Lists}
 use Rattle.forced_wins.specs.Games.{Game, GameLaws}
 use Rattle.forced_wins.proofs.Counts.{by_cases}
-use Rattle.game_values.proofs.TreeLaws.{sum_by-once}
+use Rattle.evaluation.proofs.TreeLaws.{sum_by-once}
 use Rattle.rules_model.specs.declared.board.Position.{Position}
 use Rattle.rules_model.specs.declared.moves.Move.{Move}
 use Rattle.mate_core.specs.declared.frame.Frame.{Frame}

@@ -33,8 +33,8 @@ use Rattle.forced_wins.proofs.Played.{game-played}
 use Rattle.forced_wins.proofs.Rules.{laws, times-is}
 use Rattle.forced_wins.proofs.StrategyLaws.{of_own}
 use Rattle.game_play.specs.Played.{Played, IsPlayed, story}
-use Rattle.game_values.specs.Bounds.{solve_bound}
-use Rattle.game_values.specs.Values.{play, tree}
+use Rattle.evaluation.specs.Bounds.{solve_bound}
+use Rattle.evaluation.specs.Values.{play, tree}
 use Rattle.mate_core.specs.declared.frame.Frame.{Frame}
 use Rattle.mate_fact.specs.InFrame as In
 use Rattle.mate_settle.specs.Choices.{some_wins, all_win, IsChoice}

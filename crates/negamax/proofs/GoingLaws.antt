@@ -9,8 +9,8 @@ use Rattle.std.proofs.lemmas.List.Sorted.{IsPermutation-sym}
 use Rattle.foundation.specs.Member.{Member}
 use Rattle.foundation.proofs.Members.{member-map, member-permutation}
 use Rattle.rules_model.specs.declared.moves.Move.{Move}
-use Rattle.game_values.specs.Laws.{Within}
-use Rattle.game_values.specs.Values.{greatest}
+use Rattle.evaluation.specs.Laws.{Within}
+use Rattle.evaluation.specs.Values.{greatest}
 use Rattle.negamax.specs.declared.scored_moves.ScoredMove.{ScoredMove}
 use Rattle.negamax.specs.Trials.{Entered, Pushes, Takes, Trial}
 use Rattle.negamax.specs.Windows.{Bounds}

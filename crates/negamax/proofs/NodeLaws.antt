@@ -2,10 +2,10 @@
 use Rattle.std.proofs.Common.{◌≡◌, ◌⊎◌, inl, inr, ◌∙◌, ℕ, zero, suc, ◌+◌, ◌-◌, ◌<◌, ◌≤◌, Bool, not, Option, Some, None, filter, sum_by, refl, subst, arith}
 use Rattle.std.specs.Prelude.{ℤ, neg_ℤ, ◌<ℤ◌, ◌≤ℤ◌}
 use Rattle.std.proofs.lemmas.List.Filters.{sum_by-filter_both}
-use Rattle.game_values.specs.Laws.{PlayLaws, Within}
-use Rattle.game_values.specs.Values.{greatest, Play, quiet, tree, value, worst}
-use Rattle.game_values.proofs.Greatest.{greatest-floor}
-use Rattle.game_values.proofs.ScoreLaws.{quiet-ended, quiet-score, score_within, value-ended}
+use Rattle.evaluation.specs.Laws.{PlayLaws, Within}
+use Rattle.evaluation.specs.Values.{greatest, Play, quiet, tree, value, worst}
+use Rattle.evaluation.proofs.Greatest.{greatest-floor}
+use Rattle.evaluation.proofs.ScoreLaws.{quiet-ended, quiet-score, score_within, value-ended}
 use Rattle.negamax.specs.Windows.{Bounds}
 use Rattle.negamax.proofs.WindowLaws.{cut, same}
 

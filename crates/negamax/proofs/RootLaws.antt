@@ -14,11 +14,11 @@ use Rattle.rules_model.specs.declared.moves.Promo.TheVariants.{Stays}
 use Rattle.rules_model.specs.declared.rules.Rules.{Rules}
 use Rattle.rules_model.specs.Games.{Story, played}
 use Rattle.game_line.specs.Lined.{Lined, story_of_line}
-use Rattle.game_values.specs.Laws.{Within}
-use Rattle.game_values.specs.Values.{greatest, play, root_score, root_value, tree_size, value, value_of, worst}
-use Rattle.game_values.proofs.GamesByRules.{play_laws}
-use Rattle.game_values.proofs.Greatest.{greatest-member}
-use Rattle.game_values.proofs.ScoreLaws.{root_score-score, score_within}
+use Rattle.evaluation.specs.Laws.{Within}
+use Rattle.evaluation.specs.Values.{greatest, play, root_score, root_value, tree_size, value, value_of, worst}
+use Rattle.evaluation.proofs.GamesByRules.{play_laws}
+use Rattle.evaluation.proofs.Greatest.{greatest-member}
+use Rattle.evaluation.proofs.ScoreLaws.{root_score-score, score_within}
 use Rattle.negamax.specs.declared.facts.Best.{Best}
 use Rattle.negamax.specs.declared.facts.RootFact.{RootFact}
 use Rattle.negamax.specs.RootFacts.{IsTrueFact, Leads, Raises, root_tree, Settles, score_of}

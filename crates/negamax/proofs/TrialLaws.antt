@@ -7,10 +7,10 @@ use Rattle.std.proofs.lemmas.List.Sorted.{IsPermutation-sym, sum_by-IsPermutatio
 use Rattle.std.proofs.lemmas.List.Sums.{sum_by-cons}
 use Rattle.foundation.specs.Member.{Lists, Member}
 use Rattle.foundation.proofs.Members.{member-permutation}
-use Rattle.game_values.specs.Laws.{Within}
-use Rattle.game_values.specs.Values.{greatest}
-use Rattle.game_values.proofs.Greatest.{greatest-floor, greatest-set}
-use Rattle.game_values.proofs.TreeLaws.{sum_by-once}
+use Rattle.evaluation.specs.Laws.{Within}
+use Rattle.evaluation.specs.Values.{greatest}
+use Rattle.evaluation.proofs.Greatest.{greatest-floor, greatest-set}
+use Rattle.evaluation.proofs.TreeLaws.{sum_by-once}
 use Rattle.negamax.specs.Trials.{Entered, Trial}
 use Rattle.negamax.specs.Windows.{Bounds}
 use Rattle.negamax.proofs.WindowLaws.{cut, flip, same, step, within_larger, within_other}

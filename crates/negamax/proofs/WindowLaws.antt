@@ -4,7 +4,7 @@ use Rattle.std.specs.Prelude.{ℤ, neg_ℤ, ◌≤ℤ◌, ◌<ℤ◌}
 use Rattle.std.specs.Int.{int_max}
 use Rattle.std.proofs.lemmas.Int.{ints, clamps}
 use lib.Signed.{lt_z}
-use Rattle.game_values.specs.Laws.{Within}
+use Rattle.evaluation.specs.Laws.{Within}
 use Rattle.negamax.specs.Windows.{Bounds}
 
 -- a window seen from the other side

@@ -4,8 +4,8 @@ use Rattle.foundation.specs.Member.{Member}
 use Rattle.rules_model.specs.declared.moves.Move.{Move}
 use Rattle.rules_model.specs.declared.rules.Rules.{Rules}
 use Rattle.rules_model.specs.Games.{Story, played}
-use Rattle.game_values.specs.Laws.{Within}
-use Rattle.game_values.specs.Values.{play, root_score, tree_size, value_of}
+use Rattle.evaluation.specs.Laws.{Within}
+use Rattle.evaluation.specs.Values.{play, root_score, tree_size, value_of}
 use Rattle.negamax.specs.declared.facts.Best.{Best}
 use Rattle.negamax.specs.declared.facts.RootFact.{RootFact}
 

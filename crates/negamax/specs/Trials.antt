@@ -5,8 +5,8 @@ use Rattle.foundation.specs.Member.{Lists}
 use Rattle.rules_model.specs.declared.moves.Move.{Move}
 use Rattle.rules_model.specs.Next.{captures}
 use Rattle.legality.specs.Stance.{Stance, legal_in, repeat_in}
-use Rattle.game_values.specs.Laws.{Within}
-use Rattle.game_values.specs.Values.{greatest}
+use Rattle.evaluation.specs.Laws.{Within}
+use Rattle.evaluation.specs.Values.{greatest}
 use Rattle.negamax.specs.declared.scored_moves.ScoredMove.{ScoredMove}
 use Rattle.negamax.specs.Windows.{Bounds}
 

@@ -2,8 +2,8 @@
 ghost use Rattle.std.specs.Prelude.{◌≡◌, ◌+◌, ◌<◌, ◌≤◌, ◌<ℤ◌, true, All, length, sum_by, IfOk, OnOk, IsErrOf};
 ghost use Rattle.foundation.specs.Member.{Member};
 ghost use Rattle.game_line.specs.Lined.{legal_in, story_of_line};
-ghost use Rattle.game_values.specs.Laws.{Within};
-ghost use Rattle.game_values.specs.Values.{Attains, value_of};
+ghost use Rattle.evaluation.specs.Laws.{Within};
+ghost use Rattle.evaluation.specs.Values.{Attains, value_of};
 ghost use Rattle.watching.specs.declared.halt.Halt.{Halt};
 ghost use Rattle.negamax.specs.RootFacts.{IsTrueFact, Settles, root_tree};
 

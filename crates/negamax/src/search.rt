@@ -2,8 +2,8 @@
 ghost use Rattle.std.specs.Prelude.{◌≡◌, ◌+◌, ◌≤◌, length, IfOk, OnOk, IsErrOf};
 ghost use Rattle.evaluation.specs.Tallies.{IsTally};
 ghost use Rattle.game_line.specs.Lined.{story_of_line};
-ghost use Rattle.game_values.specs.Laws.{Within};
-ghost use Rattle.game_values.specs.Values.{play, tree_size, value};
+ghost use Rattle.evaluation.specs.Laws.{Within};
+ghost use Rattle.evaluation.specs.Values.{play, tree_size, value};
 ghost use Rattle.watching.specs.declared.halt.Halt.{Halt};
 ghost use Rattle.negamax.specs.Windows.{Bounds};
 

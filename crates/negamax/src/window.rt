@@ -1,7 +1,7 @@
 //! Windows of a search.
 ghost use Rattle.std.specs.Prelude.{◌≡◌, pos, negsuc, neg_ℤ, ◌<ℤ◌, ◌≤ℤ◌};
 ghost use Rattle.std.specs.Int.{int_max, int_min};
-ghost use Rattle.game_values.specs.Laws.{Within};
+ghost use Rattle.evaluation.specs.Laws.{Within};
 
 /// Below every value.
 pub(crate) const WORST: i32 = -32_001;

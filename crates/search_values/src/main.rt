@@ -6,7 +6,7 @@ ghost use Rattle.std.specs.Prelude.{◌≡◌, ◌<◌, ◌≤◌, true, [], IfO
 ghost use Rattle.rules_model.specs.Fit.{IsFit};
 ghost use Rattle.rules_model.specs.Sound.{is_sound};
 ghost use Rattle.game_play.specs.Played.{legal_in, story};
-ghost use Rattle.game_values.specs.Values as Values;
+ghost use Rattle.evaluation.specs.Values as Values;
 
 use alpha_beta::search_unwatched;
 use foundation::Memory;

@@ -4,8 +4,8 @@ use Rattle.rules_model.specs.declared.board.Repeat.{Repeat}
 use Rattle.rules_model.specs.declared.board.Side.{Side}
 use Rattle.rules_model.specs.declared.moves.Move.{Move}
 use Rattle.game_play.specs.Played.{Played, story}
-use Rattle.game_values.specs.Bounds.{search_bound}
-use Rattle.game_values.specs.Values.{Attains, value_of}
+use Rattle.evaluation.specs.Bounds.{search_bound}
+use Rattle.evaluation.specs.Values.{Attains, value_of}
 use Rattle.session_model.specs.Mates.{Evidence, IsEvidence, IsNoWin, IsShown, counters_of}
 use Rattle.alpha_beta.specs.declared.searching.Found.{Found}
 use Rattle.mate_showing.specs.declared.answer.Settled.{Settled}

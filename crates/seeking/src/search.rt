@@ -3,7 +3,7 @@ ghost use Rattle.std.specs.Prelude.{◌≡◌, ◌<◌, ◌≤◌, length, IfOk}
 ghost use Rattle.std.specs.List.{All};
 ghost use Rattle.foundation.specs.Member.{Member};
 ghost use Rattle.game_play.specs.Played.{legal_in, story};
-ghost use Rattle.game_values.specs.Bounds.{search_bound};
+ghost use Rattle.evaluation.specs.Bounds.{search_bound};
 ghost use Rattle.watching.specs.Stopping.{Partly};
 ghost use Rattle.watching.specs.Watched.{moment, world};
 ghost use Rattle.seeking.specs.Seeks.{IsFound};

@@ -1,7 +1,7 @@
 //! One solve.
 ghost use Rattle.std.specs.Prelude.{◌≡◌, ◌≤◌, IfOk};
 ghost use Rattle.game_play.specs.Played.{story};
-ghost use Rattle.game_values.specs.Bounds.{solve_bound};
+ghost use Rattle.evaluation.specs.Bounds.{solve_bound};
 ghost use Rattle.watching.specs.Stopping.{Partly};
 ghost use Rattle.watching.specs.Watched.{moment, world};
 ghost use Rattle.seeking.specs.Seeks.{IsRight};

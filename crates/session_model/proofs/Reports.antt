@@ -10,12 +10,12 @@ use Rattle.rules_model.specs.declared.moves.Move.{Move}
 use Rattle.rules_model.specs.declared.rules.Rules.{Rules}
 use Rattle.rules_model.specs.Games.{Story}
 use Rattle.game_play.specs.Played.{legal_in, story}
-use Rattle.game_values.specs.Bounds.{asked_bound, depths_bound, search_bound, searches_bound, solve_bound}
-use Rattle.game_values.specs.Laws.{IsWorthAt}
-use Rattle.game_values.specs.Values.{play}
-use Rattle.game_values.proofs.GamesByRules.{play_laws}
-use Rattle.game_values.proofs.ScoreLaws.{large_score, root_value-score}
-use Rattle.game_values.proofs.TreeLaws.{mates_near, tree-some}
+use Rattle.evaluation.specs.Bounds.{asked_bound, depths_bound, search_bound, searches_bound, solve_bound}
+use Rattle.evaluation.specs.Laws.{IsWorthAt}
+use Rattle.evaluation.specs.Values.{play}
+use Rattle.evaluation.proofs.GamesByRules.{play_laws}
+use Rattle.evaluation.proofs.ScoreLaws.{large_score, root_value-score}
+use Rattle.evaluation.proofs.TreeLaws.{mates_near, tree-some}
 use Rattle.session_model.proofs.Joined.{reached_before}
 use Rattle.session_model.specs.CecpSession.{post_lines}
 use Rattle.session_model.specs.Deadlines.{deadline_of}

@@ -18,7 +18,7 @@ use Rattle.session_model.specs.Laws.{RunsWhole, MatesAreShown, ShowsWhereWon, Ma
 use Rattle.session_model.specs.Mates.{Evidence, IsShown, IsWin, mover}
 use Rattle.session_model.specs.Thinking.{Task, Report, Score, Points, Mates, Mated, Cause, Interrupted, OutOfNodes, OutOfTime, MayCut, IsShort, Ending, Whole, InSearch, InSolve, MayEnd, IsScore, last_best, reported}
 use Rattle.io_ports.specs.declared.dialect.Dialect.TheVariants.{Uci, Cecp}
-use Rattle.game_values.specs.Bounds.{solve_bound}
+use Rattle.evaluation.specs.Bounds.{solve_bound}
 use Rattle.watching.specs.Events.{Event, Hears, Says, Reads, Opens, readings, said}
 use Rattle.session_model.specs.UciGo.{Go, last_depth, last_mate, share_of, time_for}
 use Rattle.session_model.specs.UciSession.{Answers, AnswersMate, GoesBy, MateAnswer, Searches, Shown, Unsettled, Stopped, NoMate, first_of, task_after_mate, task_of}

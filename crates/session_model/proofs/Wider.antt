@@ -5,7 +5,7 @@ use Rattle.io_ports.specs.Lines.{Line}
 use Rattle.rules_model.specs.declared.moves.Move.{Move}
 use Rattle.game_play.specs.Played.{legal_in, story}
 use Rattle.io_ports.specs.declared.dialect.Dialect.TheVariants.{Uci}
-use Rattle.game_values.specs.Bounds.{solve_bound}
+use Rattle.evaluation.specs.Bounds.{solve_bound}
 use Rattle.watching.specs.Events.{readings}
 use Rattle.session_model.specs.Mates.{mover}
 use Rattle.session_model.specs.CecpSession as CecpSession

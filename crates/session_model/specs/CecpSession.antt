@@ -6,7 +6,7 @@ use Rattle.io_ports.specs.Lines.{Line}
 use Rattle.rules_model.specs.declared.moves.Move.{Move}
 use Rattle.rules_model.specs.MoveText.{text_of}
 use Rattle.game_play.specs.Played.{legal_in, story}
-use Rattle.game_values.specs.Bounds.{depths_bound}
+use Rattle.evaluation.specs.Bounds.{depths_bound}
 use Rattle.session_model.specs.CecpLines as line
 use Rattle.session_model.specs.CecpLines.{Command, command_of, gives_up}
 use Rattle.session_model.specs.CecpState.{State, Answer, answer_to, played, thinks}

@@ -17,7 +17,7 @@ use Rattle.game_text.specs.GameText.{started}
 use Rattle.fen_model.specs.Printing.{fen_text}
 use Rattle.game_text.specs.GameTexts.{perft_of}
 use Rattle.game_text.specs.OutcomeText.{outcome_text}
-use Rattle.game_values.specs.Values.{value_of}
+use Rattle.evaluation.specs.Values.{value_of}
 
 -- ---- the game
 

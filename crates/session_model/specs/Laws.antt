@@ -15,7 +15,7 @@ use Rattle.rules_model.specs.declared.moves.Move.{Move}
 use Rattle.rules_model.specs.Sides.{other}
 use Rattle.rules_model.specs.Sound.{is_sound}
 use Rattle.foundation.specs.Member.{Member}
-use Rattle.game_values.specs.Bounds.{asked_bound}
+use Rattle.evaluation.specs.Bounds.{asked_bound}
 use Rattle.game_play.specs.Played.{Played, IsPlayed, legal_in, story}
 use Rattle.variant_rules.specs.Loading.{found_fault}
 use Rattle.session_model.specs.Mates.{Evidence, HasNoShorter, IsEvidence, IsShown, IsWin, mover, position_at, root_move}

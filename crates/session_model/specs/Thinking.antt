@@ -6,11 +6,11 @@ use Rattle.rules_model.specs.declared.moves.Move.{Move}
 use Rattle.rules_model.specs.Sides.{other}
 use Rattle.game_play.specs.Played.{Played, legal_in, story}
 use Rattle.strategy.specs.declared.nodes.Strategy.{Strategy}
-use Rattle.game_values.specs.Bounds.{search_bound, searches_bound, solve_bound}
+use Rattle.evaluation.specs.Bounds.{search_bound, searches_bound, solve_bound}
 use Rattle.session_model.specs.Deadlines.{IsReached, deadline_of}
 use Rattle.session_model.specs.Events.{IsStopped}
 use Rattle.session_model.specs.Mates.{Announced, Evidence, IsEvidence, IsNoWin, IsShown, favoured, mate_in, mover, root_move}
-use Rattle.game_values.specs.Values.{Attains, value_of}
+use Rattle.evaluation.specs.Values.{Attains, value_of}
 
 -- ---- what is searched
 

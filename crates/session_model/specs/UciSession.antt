@@ -6,7 +6,7 @@ use Rattle.io_ports.specs.Lines.{Line}
 use Rattle.rules_model.specs.declared.moves.Move.{Move}
 use Rattle.game_play.specs.Played.{Played, legal_in, story}
 use Rattle.strategy.specs.declared.nodes.Strategy.{Strategy}
-use Rattle.game_values.specs.Bounds.{depths_bound, mates_bound, solve_bound}
+use Rattle.evaluation.specs.Bounds.{depths_bound, mates_bound, solve_bound}
 use Rattle.io_ports.specs.Heard.{too_long}
 use Rattle.watching.specs.Events.{Event, Says, Opens, AreUnstopped, readings, said}
 use Rattle.session_model.specs.Events.{IsStopped}

@@ -12,7 +12,7 @@ use Rattle.io_ports.specs.Trace.{Moves}
 use Rattle.io_ports.proofs.Owing.{spends_more, spends_none, spends_wider}
 use Rattle.rules_model.specs.declared.moves.Move.{Move}
 use Rattle.game_play.specs.Played.{story}
-use Rattle.game_values.specs.Bounds.{depths_bound, search_bound}
+use Rattle.evaluation.specs.Bounds.{depths_bound, search_bound}
 use Rattle.watching.specs.declared.halt.Cut.{Cut}
 use Rattle.watching.specs.declared.halt.Cut.TheVariants as cut
 use Rattle.watching.specs.EventLaws.{ran_more, ran_none, readings-append}

@@ -7,7 +7,7 @@ use Rattle.io_ports.proofs.Owing.{spends_more, spends_wider}
 use Rattle.rules_model.specs.declared.rules.Rules.{Rules}
 use Rattle.rules_model.specs.Games.{Story}
 use Rattle.game_play.specs.Played.{Played, story}
-use Rattle.game_values.specs.Bounds.{solve_bound, solves_bound}
+use Rattle.evaluation.specs.Bounds.{solve_bound, solves_bound}
 use Rattle.watching.specs.declared.halt.Cut.{Cut}
 use Rattle.watching.specs.EventLaws.{broke_more, listens_more, ran_more, readings-append}
 use Rattle.watching.specs.Events.{Event, Listens, readings}

@@ -7,7 +7,7 @@ use Rattle.io_ports.specs.Owing.{Lacks, Spends}
 use Rattle.io_ports.specs.Source.{Owed, Untold}
 use Rattle.rules_model.specs.declared.moves.Move.{Move}
 use Rattle.game_play.specs.Played.{story}
-use Rattle.game_values.specs.Bounds.{depths_bound}
+use Rattle.evaluation.specs.Bounds.{depths_bound}
 use Rattle.watching.specs.declared.halt.Cut.{Cut}
 use Rattle.watching.specs.Events.{readings}
 use Rattle.watching.specs.Looks.{Moved, Ran, held}

@@ -5,7 +5,7 @@ use Rattle.io_ports.specs.declared.limits.Limits.{Limits}
 use Rattle.io_ports.specs.Owing.{Spends}
 use Rattle.io_ports.specs.Source.{Owed}
 use Rattle.game_play.specs.Played.{Played, story}
-use Rattle.game_values.specs.Bounds.{solve_bound, solves_bound}
+use Rattle.evaluation.specs.Bounds.{solve_bound, solves_bound}
 use Rattle.watching.specs.declared.halt.Cut.{Cut}
 use Rattle.watching.specs.Events.{Listens, readings}
 use Rattle.watching.specs.Looks.{Broke, Moved, Ran, held}

@@ -3,7 +3,7 @@ ghost use Rattle.std.specs.Prelude.{◌≡◌, ◌≤◌, ◌<◌, IfOk, OnErr, 
 ghost use Rattle.std.specs.Io.KnownBytes.{IsAtEnd};
 ghost use Rattle.io_ports.specs.Trace.{Moves};
 ghost use Rattle.game_play.specs.Played.{story};
-ghost use Rattle.game_values.specs.Bounds.{search_bound};
+ghost use Rattle.evaluation.specs.Bounds.{search_bound};
 ghost use Rattle.watching.specs.Events.{Listens};
 ghost use Rattle.watching.specs.Looks.{Broke};
 ghost use Rattle.session_model.specs.Thinking as Thinking;

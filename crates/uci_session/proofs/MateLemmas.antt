@@ -13,7 +13,7 @@ use Rattle.io_ports.specs.Sink.{AppendsFront}
 use Rattle.io_ports.specs.Trace.{Moves}
 use Rattle.std.specs.Io.KnownBytes.{Appends}
 use Rattle.game_play.specs.Played.{Played, IsPlayed, story}
-use Rattle.game_values.specs.Bounds.{depths_bound, mates_bound, solve_bound, solves_bound}
+use Rattle.evaluation.specs.Bounds.{depths_bound, mates_bound, solve_bound, solves_bound}
 use Rattle.rules_model.specs.declared.moves.Move.{Move}
 use Rattle.rules_model.specs.declared.rules.Rules.{Rules}
 use Rattle.rules_model.specs.Games.{Story}

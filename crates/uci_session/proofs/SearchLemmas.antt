@@ -7,7 +7,7 @@ use Rattle.io_ports.specs.declared.dialect.Dialect.TheVariants.{Uci}
 use Rattle.io_ports.specs.Lines.{Line}
 use Rattle.foundation.specs.Member.{Member}
 use Rattle.game_play.specs.Played.{Played, legal_in, story}
-use Rattle.game_values.specs.Bounds.{depths_bound, mates_bound}
+use Rattle.evaluation.specs.Bounds.{depths_bound, mates_bound}
 use Rattle.rules_model.specs.declared.moves.Move.{Move}
 use Rattle.rules_model.specs.declared.rules.Rules.{Rules}
 use Rattle.rules_model.specs.Sound.{is_sound}

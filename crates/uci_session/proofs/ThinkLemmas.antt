@@ -14,7 +14,7 @@ use Rattle.io_ports.specs.Owing.{Lacks, Spends}
 use Rattle.io_ports.specs.Source.{Owed}
 use Rattle.io_ports.specs.Trace.{Moves}
 use Rattle.game_play.specs.Played.{Played, legal_in, story}
-use Rattle.game_values.specs.Bounds.{depths_bound}
+use Rattle.evaluation.specs.Bounds.{depths_bound}
 use Rattle.rules_model.specs.declared.moves.Move.{Move}
 use Rattle.rules_model.specs.declared.rules.Rules.{Rules}
 use Rattle.session_model.proofs.Lists.{roots_legal, roots_some}

@@ -1,7 +1,7 @@
 use Rattle.std.proofs.Common.{IfOk, OnOk}
 use Rattle.std.specs.List.{All}
 use Rattle.foundation.specs.Member.{Member}
-use Rattle.game_values.specs.Values.{Attains, value_of}
+use Rattle.evaluation.specs.Values.{Attains, value_of}
 use Rattle.negamax.specs.RootFacts.{IsTrueFact}
 use Rattle.negamax.specs.declared.facts.Best.{Best}
 use Rattle.rules_model.specs.Legal.{legal}

@@ -1,9 +1,9 @@
 use Rattle.std.proofs.Common.{◌∙◌, sym, arith}
 use Rattle.std.proofs.lemmas.Int.{ints}
 use Rattle.game_line.specs.Lined.{story_of_line}
-use Rattle.game_values.specs.Values.{play}
-use Rattle.game_values.proofs.GamesByRules.{play_laws}
-use Rattle.game_values.proofs.ScoreLaws.{quiet-ended}
+use Rattle.evaluation.specs.Values.{play}
+use Rattle.evaluation.proofs.GamesByRules.{play_laws}
+use Rattle.evaluation.proofs.ScoreLaws.{quiet-ended}
 use Rattle.negamax.proofs.NodeLaws.{is_none, quiet_within, quiet_zero}
 use Rattle.negamax.proofs.ends.resting.Goals as goal
 

@@ -1,7 +1,7 @@
 use Rattle.std.proofs.Common.{ap, ◌∙◌, sym, arith}
 use Rattle.std.proofs.lemmas.Int.{ints}
 use Rattle.game_line.specs.Lined.{story_of_line}
-use Rattle.game_values.proofs.GamesByRules.{play_laws}
+use Rattle.evaluation.proofs.GamesByRules.{play_laws}
 use Rattle.negamax.proofs.ends.stand_pat.Goals as goal
 
 pub returns-clause-is : goal.returns-clause-is

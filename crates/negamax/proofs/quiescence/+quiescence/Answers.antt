@@ -6,10 +6,10 @@ use Rattle.foundation.specs.Member.{Member}
 use Rattle.foundation.proofs.Members.{filter-member}
 use Rattle.game_line.specs.Lined.{legal_in, pushed, shorter, stance_of_line, story_of_line}
 use Rattle.game_line.proofs.LineLaws.{shorter-pushed}
-use Rattle.game_values.specs.Values.{greatest, play, quiet, tree_size}
-use Rattle.game_values.proofs.GamesByRules.{play_laws}
-use Rattle.game_values.proofs.ScoreLaws.{quiet-ended}
-use Rattle.game_values.proofs.TreeLaws.{tree-some}
+use Rattle.evaluation.specs.Values.{greatest, play, quiet, tree_size}
+use Rattle.evaluation.proofs.GamesByRules.{play_laws}
+use Rattle.evaluation.proofs.ScoreLaws.{quiet-ended}
+use Rattle.evaluation.proofs.TreeLaws.{tree-some}
 use Rattle.rules_model.specs.Games.{played}
 use Rattle.rules_model.specs.Legal.{is_stuck}
 use Rattle.legality.specs.Stance.{repeat_in}

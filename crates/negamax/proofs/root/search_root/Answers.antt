@@ -3,7 +3,7 @@ use Rattle.std.specs.Prelude.{◌<ℤ◌, neg_ℤ}
 use Rattle.std.proofs.lemmas.Int.{ints}
 use Rattle.game_line.specs.Lined.{shorter, story_of_line}
 use Rattle.game_line.proofs.LineLaws.{shorter-pushed}
-use Rattle.game_values.specs.Values.{play, value}
+use Rattle.evaluation.specs.Values.{play, value}
 use mir.Val.{to_z, of_z}
 use mir.Syntax.{w32}
 use Rattle.negamax.specs.Windows.{Bounds}

@@ -5,10 +5,10 @@ use Rattle.std.proofs.lemmas.Int.{ints, clamps}
 use Rattle.foundation.specs.Member.{Member}
 use Rattle.game_line.specs.Lined.{legal_in, pushed, shorter, story_of_line}
 use Rattle.game_line.proofs.LineLaws.{shorter-pushed}
-use Rattle.game_values.specs.Values.{play, tree_size, value}
-use Rattle.game_values.proofs.GamesByRules.{play_laws}
-use Rattle.game_values.proofs.ScoreLaws.{quiet-ended}
-use Rattle.game_values.proofs.TreeLaws.{tree-some}
+use Rattle.evaluation.specs.Values.{play, tree_size, value}
+use Rattle.evaluation.proofs.GamesByRules.{play_laws}
+use Rattle.evaluation.proofs.ScoreLaws.{quiet-ended}
+use Rattle.evaluation.proofs.TreeLaws.{tree-some}
 use Rattle.rules_model.specs.Games.{played}
 use Rattle.rules_model.specs.Legal.{is_stuck}
 use Rattle.legality.specs.Stance as Stance

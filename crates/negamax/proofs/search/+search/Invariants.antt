@@ -1,6 +1,6 @@
 use Rattle.std.proofs.Common.{◌≡◌, ◌+◌, ◌-◌, length}
 use Rattle.game_line.specs.Lined.{legal_in, story_of_line}
-use Rattle.game_values.specs.Values.{play, tree_size, value}
+use Rattle.evaluation.specs.Values.{play, tree_size, value}
 use Rattle.rules_model.specs.Games.{played}
 use Rattle.negamax.proofs.GoingLaws.{Going}
 use Rattle.negamax.proofs.search.+search.Given as goal

@@ -19,9 +19,9 @@ use Rattle.rules_model.specs.Next.{captures}
 use Rattle.rules_model.specs.Repeats.{repeat_of}
 use Rattle.rules_model.specs.Sides.{other, same_side}
 use Rattle.rules_model.proofs.PlayLaws.{own_end-stuck}
-use Rattle.game_values.specs.Laws.{IsCalm, IsWorthAt, PlayLaws}
-use Rattle.game_values.specs.Values.{Attains, play, value_of, worth}
-use Rattle.game_values.proofs.ScoreLaws.{roots_attain}
+use Rattle.evaluation.specs.Laws.{IsCalm, IsWorthAt, PlayLaws}
+use Rattle.evaluation.specs.Values.{Attains, play, value_of, worth}
+use Rattle.evaluation.proofs.ScoreLaws.{roots_attain}
 
 some_inj : (v w : ℤ) → Some v ≡ Some w → v ≡ w
 some_inj v w e = cc

@@ -1,5 +1,5 @@
-use Rattle.game_values.proofs.ScoreLaws.{quiet-score, score_within, value-score}
-use Rattle.game_values.proofs.laws.values_stay_in_range.Goals as goal
+use Rattle.evaluation.proofs.ScoreLaws.{quiet-score, score_within, value-score}
+use Rattle.evaluation.proofs.laws.values_stay_in_range.Goals as goal
 
 pub returns : goal.returns
 returns g c = record {

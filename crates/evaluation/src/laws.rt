@@ -2,8 +2,8 @@
 ghost use Rattle.std.specs.Prelude.{◌≡◌, ℕ, Some};
 ghost use Rattle.std.specs.Prelude.{ℤ, ◌≤◌};
 ghost use Rattle.rules_model.specs.declared.rules.Rules.{Rules};
-ghost use Rattle.game_values.specs.Laws.{IsAttained, LargeScoresAreEnds, MatesAreNear, PlayLaws, QuietValuesAreScores, RootsAreASet, RootsAreLines, RootsAttain, RootValuesAreScores, TreesGrow, ValuesAreScores, Within};
-ghost use Rattle.game_values.specs.Values.{play, Play, quiet, tree, value};
+ghost use Rattle.evaluation.specs.Laws.{IsAttained, LargeScoresAreEnds, MatesAreNear, PlayLaws, QuietValuesAreScores, RootsAreASet, RootsAreLines, RootsAttain, RootValuesAreScores, TreesGrow, ValuesAreScores, Within};
+ghost use Rattle.evaluation.specs.Values.{play, Play, quiet, tree, value};
 
 /// Games by the rules of play meet what the laws ask of a game: an ended game is drawn or won, and an ongoing one has
 /// a legal move.

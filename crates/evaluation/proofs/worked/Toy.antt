@@ -1,7 +1,7 @@
 -- The values of a toy game: a pile of stones, from which a move takes one, two or three; who cannot move has lost, and taking three is a capture.
 use Rattle.std.proofs.Common.{◌≡◌, ℕ, ◌-◌, ◌%◌, List, [], ◌∷◌, Some, None, pos, negsuc, neg_ℤ, refl, take, filter, ◌==◌, if◌then◌else◌}
 use Rattle.std.specs.Prelude.{min}
-use Rattle.game_values.specs.Values.{Play, greatest, quiet, value, root_score, root_value, tree, worst}
+use Rattle.evaluation.specs.Values.{Play, greatest, quiet, value, root_score, root_value, tree, worst}
 
 abbrev pile_moves : ℕ → List ℕ
 pile_moves pile = take (min pile 3) (1 ∷ 2 ∷ 3 ∷ [])

@@ -1,5 +1,5 @@
-use Rattle.game_values.proofs.TreeLaws.{roots-lines, tree-grows, tree-some}
-use Rattle.game_values.proofs.laws.trees_grow.Goals as goal
+use Rattle.evaluation.proofs.TreeLaws.{roots-lines, tree-grows, tree-some}
+use Rattle.evaluation.proofs.laws.trees_grow.Goals as goal
 
 pub returns : goal.returns
 returns g c = record {

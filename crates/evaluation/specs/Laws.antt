@@ -4,8 +4,8 @@ use Rattle.foundation.specs.Member.{Member, IsEachOnce}
 use Rattle.rules_model.specs.declared.rules.Rules.{Rules}
 use Rattle.rules_model.specs.declared.moves.Move.{Move}
 use Rattle.rules_model.specs.Games.{Story}
-use Rattle.game_values.specs.Bounds.{asked_bound, solve_bound}
-use Rattle.game_values.specs.Values.{Attains, Play, quiet, root_score, root_value, tree, value, value_of}
+use Rattle.evaluation.specs.Bounds.{asked_bound, solve_bound}
+use Rattle.evaluation.specs.Values.{Attains, Play, quiet, root_score, root_value, tree, value, value_of}
 
 -- ---- scores
 

@@ -4,7 +4,7 @@ use Rattle.std.specs.Prelude.{ℤ, ◌≤ℤ◌, int_lt}
 use Rattle.std.specs.Int.{int_max}
 use Rattle.std.proofs.lemmas.Int.{ints, clamps}
 use Rattle.foundation.specs.Member.{Member}
-use Rattle.game_values.specs.Values.{greatest}
+use Rattle.evaluation.specs.Values.{greatest}
 
 max_of : (v w : ℤ) → (int_max v w ≡ v) ⊎ (int_max v w ≡ w)
 max_of v w = by_order (int_lt w v) refl

@@ -3,9 +3,9 @@ use Rattle.std.proofs.Common.{◌≡◌, ◌⊎◌, inl, inr, ℕ, zero, suc, �
 use Rattle.std.specs.Prelude.{nat_abs, ℤ, pos, negsuc, neg_ℤ, ◌<ℤ◌}
 use Rattle.std.proofs.lemmas.Int.{ints}
 use Rattle.foundation.specs.Member.{Member}
-use Rattle.game_values.specs.Values.{Play, greatest, quiet, root_score, root_value, settled, value, worst}
-use Rattle.game_values.specs.Laws.{IsCalm, IsEnd, IsScore, IsWorthAt, PlayLaws, Within}
-use Rattle.game_values.proofs.Greatest.{Scores, greatest-is, greatest-member}
+use Rattle.evaluation.specs.Values.{Play, greatest, quiet, root_score, root_value, settled, value, worst}
+use Rattle.evaluation.specs.Laws.{IsCalm, IsEnd, IsScore, IsWorthAt, PlayLaws, Within}
+use Rattle.evaluation.proofs.Greatest.{Scores, greatest-is, greatest-member}
 
 -- ---- scores
 

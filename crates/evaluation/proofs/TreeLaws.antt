@@ -6,8 +6,8 @@ use Rattle.foundation.specs.Member.{Member, IsEachOnce}
 use Rattle.foundation.proofs.Members.{member-append, member-left, member-right}
 use Rattle.rules_model.specs.declared.rules.Rules.{Rules}
 use Rattle.rules_model.specs.Games.{Story}
-use Rattle.game_values.specs.Bounds.{asked_bound, solve_bound}
-use Rattle.game_values.specs.Values.{Play, play, tree}
+use Rattle.evaluation.specs.Bounds.{asked_bound, solve_bound}
+use Rattle.evaluation.specs.Values.{Play, play, tree}
 
 -- ---- lists whose elements are in another
 

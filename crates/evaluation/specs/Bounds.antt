@@ -2,7 +2,7 @@
 use Rattle.std.specs.Prelude.{ℕ, zero, suc, ◌+◌, ◌*◌}
 use Rattle.rules_model.specs.declared.rules.Rules.{Rules}
 use Rattle.rules_model.specs.Games.{Story}
-use Rattle.game_values.specs.Values.{tree_size}
+use Rattle.evaluation.specs.Values.{tree_size}
 
 -- a search of this depth
 unfoldable pub search_bound : Rules → ℕ → Story → ℕ

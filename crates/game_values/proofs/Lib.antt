@@ -1,5 +1,0 @@
-pub mod Greatest
-pub mod ScoreLaws
-pub mod TreeLaws
-pub mod GamesByRules
-mod worked

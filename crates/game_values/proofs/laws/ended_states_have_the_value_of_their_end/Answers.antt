@@ -1,8 +1,0 @@
-use Rattle.game_values.proofs.ScoreLaws.{quiet-ended, value-ended}
-use Rattle.game_values.proofs.laws.ended_states_have_the_value_of_their_end.Goals as goal
-
-pub returns : goal.returns
-returns g c = record {
-  values = λ play. value-ended play;
-  quiet_values = λ play. quiet-ended play;
-}
