@@ -32,7 +32,7 @@ use Rattle.thinking.specs.Depths.{BrokeOff, Deepened}
 use Rattle.thinking.specs.Tells.{Tells}
 use Rattle.thinking.specs.declared.deepening.Depths.{Depths}
 use Rattle.thinking.specs.declared.style.Style.{Style}
-use Rattle.turning.specs.Lines.{none}
+use Rattle.session_model.specs.Lines.{none}
 use Rattle.cecp_front.specs.Thought.{BrokeSeeking, IsFirst, Sought, style_of}
 use Rattle.cecp_front.proofs.ThoughtLaws.{follows_held}
 

@@ -36,7 +36,7 @@ use Rattle.session_model.specs.CecpLines.{command_of, New}
 use Rattle.session_model.specs.CecpSession.{answer_of}
 use Rattle.session_model.specs.CecpState.{State, answer_to, first_state, renewed, rules_said, set_variant, shown_name, state_by, with_game, without_last}
 use Rattle.cecp_front.specs.Answers.{answered}
-use Rattle.turning.specs.Lines.{got_line}
+use Rattle.session_model.specs.Lines.{got_line}
 use Rattle.uci_lines.specs.View.{texts}
 
 -- ---- the start

@@ -22,8 +22,8 @@ use Rattle.session_model.specs.CecpState.{State, played}
 use Rattle.session_model.specs.Thinking.{Interrupted, Deepens, Ending, Whole, InSearch, InSolve, Report, last_best, reported}
 use Rattle.session_model.proofs.Wider.{deepens_wider}
 use Rattle.thinking.specs.Cuts.{IsEndedBy, cause_of}
-use Rattle.turning.specs.Lines.{Follows, Held, IsNext, MayFollow, none, one}
-use Rattle.turning.specs.Turned.{turn_of}
+use Rattle.session_model.specs.Lines.{Follows, Held, IsNext, MayFollow, none, one}
+use Rattle.session_model.specs.Turned.{turn_of}
 use Rattle.cecp_front.specs.Thought.{BrokeSeeking, Sought, Thought, Unthought, is_dropped, move_text}
 
 -- ---- events of a search

@@ -28,8 +28,8 @@ use Rattle.session_model.specs.CecpState.{State, is_turn, thinks}
 use Rattle.session_model.specs.Events.{clocked}
 use Rattle.session_model.specs.Mates.{mover}
 use Rattle.session_model.specs.Thinking.{Interrupted, InSearch}
-use Rattle.turning.specs.Lines.{HasLine, got_line, none}
-use Rattle.turning.specs.Turned.{Further, Served, Unserved, turn_of}
+use Rattle.session_model.specs.Lines.{HasLine, got_line, none}
+use Rattle.session_model.specs.Turned.{Further, Served, Unserved, turn_of}
 use Rattle.cecp_front.specs.Reading.{NoReads}
 use Rattle.cecp_front.specs.Thought.{IsFirst, Thought, Unthought}
 use Rattle.cecp_front.proofs.ThoughtLaws.{closed, closing, thinks_at}

@@ -19,8 +19,8 @@ use Rattle.session_model.specs.Thinking.{Deepens, Ending, Report, last_best, rep
 use Rattle.thinking.specs.Cuts.{IsEndedBy}
 use Rattle.thinking.specs.declared.style.Style.{Style}
 use Rattle.thinking.specs.declared.style.Style.TheVariants as style
-use Rattle.turning.specs.Lines.{Follows, Held, MayFollow}
-use Rattle.turning.specs.Turned.{turn_of}
+use Rattle.session_model.specs.Lines.{Follows, Held, MayFollow}
+use Rattle.session_model.specs.Turned.{turn_of}
 
 -- the first legal move
 abbrev pub IsFirst : State → Move → Type 0

@@ -10,7 +10,7 @@ ghost use Rattle.session_model.specs.CecpLines as CecpLines;
 ghost use Rattle.session_model.specs.CecpSession.{answer_of};
 ghost use Rattle.session_model.specs.CecpState as CecpState;
 ghost use Rattle.session_model.specs.Mates.{mover};
-ghost use Rattle.turning.specs.Lines.{got_line};
+ghost use Rattle.session_model.specs.Lines.{got_line};
 ghost use Rattle.cecp_front.specs.Answers.{answered, begun, is_known};
 
 use crate::session::CecpSession;

@@ -11,7 +11,7 @@ ghost use Rattle.io_ports.specs.Trace.{Moves};
 ghost use Rattle.rules_model.specs.declared.moves.Move as moves;
 ghost use Rattle.session_model.specs.CecpState as CecpState;
 ghost use Rattle.session_model.specs.Mates.{mover};
-ghost use Rattle.turning.specs.Lines.{Causes};
+ghost use Rattle.session_model.specs.Lines.{Causes};
 ghost use Rattle.cecp_front.specs.Thought.{BrokeSeeking, IsFirst, Sought, Thought, Unthought, is_dropped, move_text, style_of};
 
 use crate::session::CecpSession;
@@ -25,7 +25,7 @@ use std::alloc::Global;
 use std::sync::Wait;
 use std::thread::Threads;
 use thinking::{Depths, Style, Task, begin, iterative_deepening};
-use turning::next_of;
+use session_model::next_of;
 use watching::{Cut, say};
 
 // Whether the line that cut the search gives it up.

@@ -6,9 +6,9 @@ ghost use Rattle.io_ports.specs.Files.{Contents};
 ghost use Rattle.io_ports.specs.Sink.{AppendsFront};
 ghost use Rattle.io_ports.specs.Trace.{Moves};
 ghost use Rattle.session_model.specs.CecpSession.{answer_of, cecp};
-ghost use Rattle.turning.specs.Lines.{Causes, got_line};
-ghost use Rattle.turning.specs.Spoken.{Spoke, SpokePart, TookQuit};
-ghost use Rattle.turning.specs.Turned.{Served, Unserved};
+ghost use Rattle.session_model.specs.Lines.{Causes, got_line};
+ghost use Rattle.session_model.specs.Spoken.{Spoke, SpokePart, TookQuit};
+ghost use Rattle.session_model.specs.Turned.{Served, Unserved};
 ghost use Rattle.watching.specs.Stopping.{AreSamePorts};
 ghost use Rattle.cecp_front.specs.Reading.{NoReads};
 
@@ -18,7 +18,7 @@ use io_ports::{Clock, Dialect, Gate, Got, LineBuf, Ports, SearchFault, Sink, Sou
 use std::alloc::Global;
 use std::sync::Wait;
 use std::thread::Threads;
-use turning::Ended;
+use session_model::Ended;
 use watching::say_some;
 
 // Answers the line that was taken, before the engine thinks.

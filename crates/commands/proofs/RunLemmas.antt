@@ -27,8 +27,8 @@ use Rattle.one_shots.specs.OpeningView.{Opens}
 use Rattle.one_shots.specs.OutcomeView.{Finishes, OutcomeOf}
 use Rattle.game_text.specs.HeardLines.{HeardLines}
 use Rattle.game_text.proofs.HeardLemmas.{heard_nothing, heard_so}
-use Rattle.turning.specs.Spoken.{Decide, IsInput}
-use Rattle.turning.specs.Turned.{Further}
+use Rattle.session_model.specs.Spoken.{Decide, IsInput}
+use Rattle.session_model.specs.Turned.{Further}
 use Rattle.variant_rules.specs.Looked.{Looked}
 use Rattle.one_shots.specs.Looked.{TellsReads}
 use Rattle.commands.specs.Run.{Completes, Did, FilesFailed, HasFileCause, May, PartBy, PartOf, ShotPart, TellsInput}

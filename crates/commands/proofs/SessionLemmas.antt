@@ -25,8 +25,8 @@ use Rattle.session_model.specs.Turns as turns
 use Rattle.session_model.specs.UciSession.{uci}
 use Rattle.session_model.specs.UciState as UciState
 use Rattle.session_model.proofs.Variants.{sessions_begin}
-use Rattle.turning.specs.Spoken.{Spoke, SpokePart}
-use Rattle.turning.proofs.Ending.{further_none, part_none}
+use Rattle.session_model.specs.Spoken.{Spoke, SpokePart}
+use Rattle.session_model.proofs.Ending.{further_none, part_none}
 use Rattle.variant_rules.specs.Loading.{found_sections}
 use Rattle.variant_rules.specs.Looked.{Looked}
 use Rattle.variant_ini.specs.Section.{Section}

@@ -6,8 +6,8 @@ use Rattle.io_ports.specs.Files.{Contents, Read}
 use Rattle.io_ports.specs.Lines.{Line, lines_of}
 use Rattle.io_ports.specs.Source.{Owed, Untold}
 use Rattle.session_model.specs.Speaks.{Speaks}
-use Rattle.turning.specs.Spoken.{Decide, IsInput}
-use Rattle.turning.specs.Turned.{Further}
+use Rattle.session_model.specs.Spoken.{Decide, IsInput}
+use Rattle.session_model.specs.Turned.{Further}
 use Rattle.one_shots.specs.Commands.{asks_file, asks_input, lines_asked}
 use Rattle.one_shots.specs.Looked.{TellsReads}
 use Rattle.one_shots.specs.Sessions.{dialect_of, is_session, to_do}

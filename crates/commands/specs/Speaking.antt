@@ -13,7 +13,7 @@ use Rattle.session_model.specs.CecpState as CecpState
 use Rattle.session_model.specs.Turns.{Protocol}
 use Rattle.session_model.specs.UciSession.{uci}
 use Rattle.session_model.specs.UciState as UciState
-use Rattle.turning.specs.Spoken.{Spoke, SpokePart}
+use Rattle.session_model.specs.Spoken.{Spoke, SpokePart}
 use Rattle.variant_ini.specs.Section.{Section}
 use Rattle.variant_model.specs.Builtin.{builtin_sections}
 use Rattle.watching.specs.Looks.{Moved}

@@ -1,7 +1,7 @@
 //! Sessions: runs that answer the lines of their input as these come, each from the start of its protocol to its end.
 ghost use Rattle.std.specs.Prelude.{◌≡◌, ◌≤◌, IsErrOf};
 ghost use Rattle.io_ports.specs.Trace.{Moves, Reads};
-ghost use Rattle.turning.specs.Lines.{Causes};
+ghost use Rattle.session_model.specs.Lines.{Causes};
 ghost use Rattle.one_shots.specs.Sessions as sessions;
 ghost use Rattle.commands.specs.Speaking.{BeginsBuiltIn, Talks, ended_status, moved_between};
 ghost use Rattle.watching.specs.Stopping.{AreSamePorts};

@@ -17,7 +17,7 @@ use Rattle.one_shot_faults.specs.Fault.{fault_status}
 use Rattle.one_shot_faults.specs.NoAnswerView.{load_no_answer}
 use Rattle.one_shots.specs.OpeningView.{AreFirstOrNone, HasSections}
 use Rattle.one_shots.specs.Looked.{IsTooLarge, TellsReads}
-use Rattle.turning.specs.Turned.{Further}
+use Rattle.session_model.specs.Turned.{Further}
 use Rattle.one_shots.specs.Statuses.{IsUnreadable}
 use Rattle.one_shots.specs.Variants.{AreFirstReads, AreReadsOf, fault_found, fault_in, sections_in}
 use Rattle.words.specs.Asked.{Asked}

@@ -4,7 +4,7 @@ use Rattle.io_ports.specs.Lines.{Line, lines_of, pieces_of, line_of}
 use Rattle.io_ports.proofs.Moved.{map_line-append}
 use Rattle.game_text.specs.HeardLines.{HeardLines}
 use Rattle.std.proofs.lemmas.List.{append-nil}
-use Rattle.turning.specs.Spoken.{IsInput, Decide}
+use Rattle.session_model.specs.Spoken.{IsInput, Decide}
 
 -- ---- the lines of an input
 

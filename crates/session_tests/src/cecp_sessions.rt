@@ -7,7 +7,7 @@ use std::alloc::Global;
 use std::process::Abort;
 use std::sync::Wait;
 use std::thread::Threads;
-use turning::Ended;
+use session_model::Ended;
 use variant_rules::{builtin, load};
 
 /// The line of the variants that are built in.

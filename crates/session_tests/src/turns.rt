@@ -4,7 +4,7 @@ use foundation::Memory;
 use io_ports::{Dialect, Got, LineBuf, MAX_LINE, MemSink, MemSource, PollsOwed, SearchFault};
 use std::alloc::Global;
 use std::process::Abort;
-use turning::{next_of, wait, wait_if_held};
+use session_model::{next_of, wait, wait_if_held};
 use watching::Cut;
 
 /// Asserts what is left of the input, and what was written.

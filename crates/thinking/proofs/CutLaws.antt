@@ -14,7 +14,7 @@ use Rattle.session_model.proofs.Joined.{reached_before, reached_behind}
 use Rattle.session_model.specs.Deadlines.{IsReached, deadline_of}
 use Rattle.session_model.specs.Events.{IsStopped}
 use Rattle.session_model.specs.Thinking.{IsShort, MayCut}
-use Rattle.turning.specs.Lines.{Follows}
+use Rattle.session_model.specs.Lines.{Follows}
 use Rattle.thinking.specs.Cuts.{CutsBy, cause_of}
 
 -- what is left of a share is short, and so is the share

@@ -24,7 +24,7 @@ use Rattle.session_model.specs.Mates.{Announced}
 use Rattle.session_model.specs.Events.{IsStopped}
 use Rattle.session_model.specs.Thinking.{Task, Report, Cause, Ending, Interrupted, Whole, InSearch, InSolve, AreReports, Deepens, IsOpen, IsReport, MayCut, MayEnd, announced_by, last_announced, last_best, open_report, searches_upto, solve_within}
 use Rattle.session_model.specs.UciSession.{first_of}
-use Rattle.turning.specs.Lines.{Follows, Held, none, one}
+use Rattle.session_model.specs.Lines.{Follows, Held, none, one}
 use Rattle.thinking.specs.declared.depth.Depth.{Depth}
 use Rattle.thinking.specs.declared.depth.Depth.TheVariants.{Done, Off}
 use Rattle.thinking.specs.declared.depth_result.CutSolve.{CutSolve}

@@ -24,7 +24,7 @@ use Rattle.watching.specs.Looks.{Broke, IsCaused}
 use Rattle.watching.specs.Watched.{World, Moment, MovesOn, Later, Failed, Gone}
 use Rattle.session_model.proofs.Reports.{solve_bound-some, sought_is_near}
 use Rattle.session_model.specs.Thinking.{Task, mate_sought, solve_within}
-use Rattle.turning.specs.Lines.{Causes}
+use Rattle.session_model.specs.Lines.{Causes}
 use Rattle.thinking.specs.declared.depth.Depth.TheVariants.{Done, Off}
 use Rattle.thinking.specs.declared.depth_result.CutSolve.{CutSolve}
 use Rattle.thinking.specs.declared.depth_result.DepthResult.{DepthResult}

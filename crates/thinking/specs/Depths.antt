@@ -14,7 +14,7 @@ use Rattle.watching.specs.Looks.{Moved, Ran, held}
 use Rattle.session_model.specs.Events.{IsStopped}
 use Rattle.session_model.specs.Mates.{Announced}
 use Rattle.session_model.specs.Thinking.{Task, Report, Ending, AreReports, Deepens, IsOpen, IsReport, last_announced, last_best, reported, searches_upto}
-use Rattle.turning.specs.Lines.{Follows, Held}
+use Rattle.session_model.specs.Lines.{Follows, Held}
 use Rattle.thinking.specs.Cuts.{CutsBy, IsEndedBy}
 use Rattle.thinking.specs.Judging.{bound_at, search_at, solve_cut, solve_reach}
 use Rattle.thinking.specs.Tells.{BrokeHeld, Tells}

@@ -5,7 +5,7 @@ ghost use Rattle.io_ports.specs.Trace.{Moves};
 ghost use Rattle.rules_model.specs.declared.moves.Move.{Move};
 ghost use Rattle.io_ports.specs.declared.limits.SearchFault.{SearchFault};
 ghost use Rattle.session_model.specs.UciSession.{first_of};
-ghost use Rattle.turning.specs.Lines.{Causes};
+ghost use Rattle.session_model.specs.Lines.{Causes};
 ghost use Rattle.thinking.specs.Depths.{BrokeOff, Deepened};
 ghost use Rattle.thinking.specs.Views.{IsStart, IsTask, task_seen};
 

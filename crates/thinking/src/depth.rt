@@ -4,7 +4,7 @@ ghost use Rattle.std.specs.Io.KnownBytes.{IsAtEnd};
 ghost use Rattle.io_ports.specs.Clock.{GivesReadings, count_after, last_after};
 ghost use Rattle.io_ports.specs.Trace.{Moves};
 ghost use Rattle.io_ports.specs.declared.limits.SearchFault.{SearchFault};
-ghost use Rattle.turning.specs.Lines.{Causes};
+ghost use Rattle.session_model.specs.Lines.{Causes};
 ghost use Rattle.thinking.specs.Depths.{BrokeDepth, Deeper, cut_in};
 ghost use Rattle.thinking.specs.Tells.{reads_by};
 ghost use Rattle.thinking.specs.Views.{IsTask, task_seen};

@@ -7,7 +7,7 @@ ghost use Rattle.evaluation.specs.Bounds.{search_bound};
 ghost use Rattle.watching.specs.Events.{Listens};
 ghost use Rattle.watching.specs.Looks.{Broke};
 ghost use Rattle.session_model.specs.Thinking as Thinking;
-ghost use Rattle.turning.specs.Lines.{Causes};
+ghost use Rattle.session_model.specs.Lines.{Causes};
 ghost use Rattle.thinking.specs.Judging.{IsJudged, IsExplored, explored_cut, solve_cut};
 ghost use Rattle.thinking.specs.Views.{IsTask, task_seen};
 

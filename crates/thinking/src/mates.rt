@@ -4,7 +4,7 @@ ghost use Rattle.std.specs.Io.KnownBytes.{IsAtEnd};
 ghost use Rattle.io_ports.specs.Trace.{Moves};
 ghost use Rattle.io_ports.specs.declared.limits.SearchFault.{SearchFault};
 ghost use Rattle.game_play.specs.Played.{legal_in};
-ghost use Rattle.turning.specs.Lines.{Causes};
+ghost use Rattle.session_model.specs.Lines.{Causes};
 ghost use Rattle.thinking.specs.Tries.{BrokeTrying, IsTried, cut_in};
 
 use crate::depth_result::{Evidence, evidence_at};

@@ -17,14 +17,14 @@ use Rattle.session_model.specs.UciLines.{Command, command_of}
 use Rattle.session_model.specs.UciSession.{Answers, LoadsFrom, Sets, is_quit, uci}
 use Rattle.session_model.specs.UciState.{State, Outcome, load}
 use Rattle.session_model.specs.UciTexts.{error_line}
-use Rattle.turning.proofs.Ending.{further_none}
-use Rattle.turning.proofs.Lawful.{uci_is_lawful}
+use Rattle.session_model.proofs.Ending.{further_none}
+use Rattle.session_model.proofs.Lawful.{uci_is_lawful}
 use Rattle.io_ports.proofs.Moved.{appends_none}
 use Rattle.uci_front.proofs.Unanswered.{unserved_quiet}
 use Rattle.watching.specs.Looks.{Moved}
-use Rattle.turning.proofs.Saying.{AnswersAlways, served_plain, unserved_plain}
-use Rattle.turning.specs.Lines.{got_line}
-use Rattle.turning.specs.Turned.{Served, Unserved, turn_of}
+use Rattle.session_model.proofs.Saying.{AnswersAlways, served_plain, unserved_plain}
+use Rattle.session_model.specs.Lines.{got_line}
+use Rattle.session_model.specs.Turned.{Served, Unserved, turn_of}
 use Rattle.uci_front.proofs.PlainLemmas.{plain_lines, plain_opened, plain_readings, plain_written}
 use Rattle.uci_front.specs.Plain.{Answering, IsNamedRead, plain_events, saying, text_said}
 use Rattle.uci_lines.specs.declared.line.Kind.{Kind}

@@ -30,11 +30,11 @@ use Rattle.session_model.specs.UciLines.{Command, command_of}
 use Rattle.session_model.specs.UciSession.{Answers, Goes, GoesBy, GoesNowhere, IsPlain, announced, bound_of, forgotten, go_bound, is_quit, uci}
 use Rattle.session_model.specs.UciState.{State}
 use Rattle.session_model.specs.UciTexts.{no_best_line, perft_line}
-use Rattle.turning.specs.Lines.{Follows, Held, MayFollow, WaitedIfHeld, WaitedIfMust, must_wait}
-use Rattle.turning.specs.Turned.{RanPart, Served, Unserved, turn_of}
-use Rattle.turning.proofs.Ending.{further_none}
-use Rattle.turning.proofs.Lawful.{uci_is_lawful}
-use Rattle.turning.proofs.Saying.{AnswersAlways, served_ran, served_said, settled_stops, unserved_part, unserved_said}
+use Rattle.session_model.specs.Lines.{Follows, Held, MayFollow, WaitedIfHeld, WaitedIfMust, must_wait}
+use Rattle.session_model.specs.Turned.{RanPart, Served, Unserved, turn_of}
+use Rattle.session_model.proofs.Ending.{further_none}
+use Rattle.session_model.proofs.Lawful.{uci_is_lawful}
+use Rattle.session_model.proofs.Saying.{AnswersAlways, served_ran, served_said, settled_stops, unserved_part, unserved_said}
 use Rattle.uci_session.specs.declared.plan.GoPlan.{GoPlan}
 use Rattle.uci_session.specs.declared.searching.GoResult.{GoResult}
 use Rattle.uci_session.specs.Searched.{BrokeGoing, Completes, Gone}

@@ -10,8 +10,8 @@ use Rattle.session_model.proofs.Joined.{quiet_output}
 use Rattle.session_model.specs.Laws.{HasOutput}
 use Rattle.session_model.specs.Turns.{Protocol, Turn, Turns, IsOver, Session, lines_in, reads_in, readings_in}
 use Rattle.io_ports.proofs.Moved.{moves_at, moves_none}
-use Rattle.turning.specs.Lines.{none}
-use Rattle.turning.specs.Turned.{Further, Unserved, turn_of}
+use Rattle.session_model.specs.Lines.{none}
+use Rattle.session_model.specs.Turned.{Further, Unserved, turn_of}
 
 module _ {S : Type 0} (p : Protocol S) where
   -- an answer of a line that takes no line and no reading, where the lines end after it

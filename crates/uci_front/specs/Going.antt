@@ -10,7 +10,7 @@ use Rattle.session_model.specs.UciLines as UciLines
 use Rattle.session_model.specs.UciLines.{command_of}
 use Rattle.session_model.specs.UciSession.{uci}
 use Rattle.session_model.specs.UciState.{State}
-use Rattle.turning.specs.Turned.{Served, Unserved}
+use Rattle.session_model.specs.Turned.{Served, Unserved}
 use Rattle.uci_session.specs.declared.plan.GoPlan.{GoPlan}
 use Rattle.uci_session.specs.PlanView.{IsPlan}
 

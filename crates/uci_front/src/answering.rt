@@ -4,8 +4,8 @@ ghost use Rattle.std.specs.Io.KnownBytes.{IsAtEnd};
 ghost use Rattle.io_ports.specs.Cause.{Rose};
 ghost use Rattle.io_ports.specs.Trace.{Moves, Reads};
 ghost use Rattle.session_model.specs.UciSession.{uci};
-ghost use Rattle.turning.specs.Lines.{Causes, HasLine, got_line};
-ghost use Rattle.turning.specs.Turned.{Served, Unserved};
+ghost use Rattle.session_model.specs.Lines.{Causes, HasLine, got_line};
+ghost use Rattle.session_model.specs.Turned.{Served, Unserved};
 
 use crate::going::answer_go;
 use crate::reply::tell;

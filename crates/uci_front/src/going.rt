@@ -3,7 +3,7 @@ ghost use Rattle.std.specs.Prelude.{◌≡◌, [], true, None, IfOk, OnErr, IsEr
 ghost use Rattle.std.specs.Io.KnownBytes.{IsAtEnd};
 ghost use Rattle.io_ports.specs.Cause.{Rose};
 ghost use Rattle.io_ports.specs.Trace.{Moves};
-ghost use Rattle.turning.specs.Lines.{Causes};
+ghost use Rattle.session_model.specs.Lines.{Causes};
 ghost use Rattle.uci_front.specs.Going.{ServesGo, UnservesGo};
 ghost use Rattle.uci_session.specs.PlanView.{ArePlies, IsAsked, SaidAtOnce};
 
@@ -14,7 +14,7 @@ use io_ports::{Clock, Dialect, Gate, Got, LineBuf, SearchFault, Sink, Source};
 use std::alloc::Global;
 use std::sync::Wait;
 use std::thread::Threads;
-use turning::{next_of, wait_if_held};
+use session_model::{next_of, wait_if_held};
 use uci_session::{GoPlan, GoResult, UciSession, last_line, perft_line, search};
 use watching::say;
 

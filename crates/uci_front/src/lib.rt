@@ -8,5 +8,5 @@ mod serving;
 mod without_search;
 
 pub use serving::serve;
-pub use turning::Ended;
+pub use session_model::Ended;
 pub use uci_session::UciSession;

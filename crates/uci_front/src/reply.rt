@@ -5,7 +5,7 @@ ghost use Rattle.std.specs.Option.{option_copied};
 ghost use Rattle.io_ports.specs.Cause.{Rose};
 ghost use Rattle.io_ports.specs.Sink.{AppendsFront};
 ghost use Rattle.io_ports.specs.Source.{Takes, got_lines};
-ghost use Rattle.turning.specs.Lines.{Causes};
+ghost use Rattle.session_model.specs.Lines.{Causes};
 ghost use Rattle.uci_front.specs.Plain.{text_said};
 
 use io_ports::{Got, LineBuf, SearchFault, Sink, Source};

@@ -3,9 +3,9 @@ ghost use Rattle.std.specs.Prelude.{◌≡◌, Ok, OnOk, OnErr, IsErrOf};
 ghost use Rattle.std.specs.Io.KnownBytes.{IsAtEnd};
 ghost use Rattle.io_ports.specs.Trace.{Moves, Reads};
 ghost use Rattle.session_model.specs.UciSession.{uci};
-ghost use Rattle.turning.specs.Lines.{Causes};
-ghost use Rattle.turning.specs.Spoken.{Spoke, SpokePart, TookQuit};
-ghost use Rattle.turning.specs.declared.ended.Ended.TheVariants as Ended;
+ghost use Rattle.session_model.specs.Lines.{Causes};
+ghost use Rattle.session_model.specs.Spoken.{Spoke, SpokePart, TookQuit};
+ghost use Rattle.session_model.specs.declared.ended.Ended.TheVariants as Ended;
 ghost use Rattle.watching.specs.Stopping.{AreSamePorts};
 
 use crate::answering::{answer, quits};
@@ -13,7 +13,7 @@ use io_ports::{Clock, Files, Gate, Got, LineBuf, Ports, SearchFault, Sink, Sourc
 use std::alloc::Global;
 use std::sync::Wait;
 use std::thread::Threads;
-use turning::Ended;
+use session_model::Ended;
 use uci_session::UciSession;
 
 /// The same with the ports lent singly.

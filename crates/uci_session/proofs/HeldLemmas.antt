@@ -5,7 +5,7 @@ use Rattle.io_ports.specs.declared.dialect.Dialect.TheVariants.{Uci}
 use Rattle.io_ports.specs.Heard.{stops}
 use Rattle.io_ports.specs.Lines.{Text}
 use Rattle.session_model.specs.Events.{IsStopped}
-use Rattle.turning.specs.Lines.{Follows}
+use Rattle.session_model.specs.Lines.{Follows}
 use Rattle.watching.specs.declared.halt.Cut.{Cut}
 use Rattle.watching.specs.declared.halt.Cut.TheVariants as cut
 use Rattle.watching.specs.Looks.{held}

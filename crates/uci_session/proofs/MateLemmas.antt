@@ -40,9 +40,9 @@ use Rattle.thinking.specs.Depths.{BrokeOff, Deepened}
 use Rattle.thinking.specs.Tells.{Tells}
 use Rattle.thinking.specs.Tries.{BrokeTrying, IsCutBy, IsMate, IsTried, answer_seen, cut_in}
 use Rattle.thinking.specs.Views.{announced_seen}
-use Rattle.turning.proofs.Saying.{broke_say, held_cut, part_more, part_of_broke, part_then, ran_say, unsaid}
-use Rattle.turning.specs.Lines.{Follows, none}
-use Rattle.turning.specs.Turned.{RanPart}
+use Rattle.session_model.proofs.Saying.{broke_say, held_cut, part_more, part_of_broke, part_then, ran_say, unsaid}
+use Rattle.session_model.specs.Lines.{Follows, none}
+use Rattle.session_model.specs.Turned.{RanPart}
 use Rattle.uci_session.specs.declared.plan.GoPlan.{GoPlan}
 use Rattle.uci_session.specs.declared.searching.GoResult.{GoResult}
 use Rattle.uci_session.specs.Searched.{BrokeGoing, Completes, HasCome}

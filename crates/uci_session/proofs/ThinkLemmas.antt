@@ -34,8 +34,8 @@ use Rattle.thinking.specs.Depths.{BrokeOff, Deepened}
 use Rattle.thinking.specs.Tells.{Tells}
 use Rattle.thinking.specs.declared.task.Task.{Task as Lent}
 use Rattle.thinking.specs.Views.{IsTask, announced_seen}
-use Rattle.turning.specs.Lines.{Follows}
-use Rattle.turning.specs.Turned.{RanPart}
+use Rattle.session_model.specs.Lines.{Follows}
+use Rattle.session_model.specs.Turned.{RanPart}
 use Rattle.uci_session.specs.declared.plan.GoPlan.{GoPlan}
 use Rattle.uci_session.specs.declared.searching.GoResult.{GoResult}
 use Rattle.uci_session.specs.Searched.{BrokeGoing, Completes, Gone, HasCome}

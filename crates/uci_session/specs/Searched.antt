@@ -16,8 +16,8 @@ use Rattle.session_model.specs.UciGo.{Go, is_held}
 use Rattle.session_model.specs.UciSession.{Goes, announced, go_bound}
 use Rattle.session_model.specs.UciState.{State}
 use Rattle.thinking.specs.Views.{announced_seen}
-use Rattle.turning.specs.Lines.{Follows, Held}
-use Rattle.turning.specs.Turned.{RanPart}
+use Rattle.session_model.specs.Lines.{Follows, Held}
+use Rattle.session_model.specs.Turned.{RanPart}
 use Rattle.uci_session.specs.declared.plan.GoPlan.{GoPlan}
 use Rattle.uci_session.specs.declared.searching.GoResult.{GoResult}
 use Rattle.uci_session.specs.PlanView.{IsPlan}

@@ -2,7 +2,7 @@
 ghost use Rattle.std.specs.Prelude.{◌≡◌, ◌<◌, [], None, Some, true, IfOk, OnErr, IsErrOf, length};
 ghost use Rattle.std.specs.Io.KnownBytes.{IsAtEnd};
 ghost use Rattle.io_ports.specs.Trace.{Moves};
-ghost use Rattle.turning.specs.Lines.{Causes};
+ghost use Rattle.session_model.specs.Lines.{Causes};
 ghost use Rattle.rules_model.specs.Fit.{IsFit};
 ghost use Rattle.thinking.specs.Tries.{answer_seen};
 ghost use Rattle.uci_session.specs.Searched.{BrokeGoing, HasCome};

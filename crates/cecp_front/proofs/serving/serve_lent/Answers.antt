@@ -1,9 +1,9 @@
 use Rattle.std.proofs.Common.{true, false, refl, arith}
 use Rattle.session_model.proofs.Wider.{cecp_is_wider}
 use Rattle.session_model.specs.CecpSession.{cecp}
-use Rattle.turning.proofs.Ending.{nothing_found, nothing_more, part_broken, part_here, part_none, spoke_end, spoke_quit}
-use Rattle.turning.proofs.Lawful.{cecp_is_lawful}
-use Rattle.turning.proofs.Turning.{first_turn, next_turn}
+use Rattle.session_model.proofs.Ending.{nothing_found, nothing_more, part_broken, part_here, part_none, spoke_end, spoke_quit}
+use Rattle.session_model.proofs.Lawful.{cecp_is_lawful}
+use Rattle.session_model.proofs.Turning.{first_turn, next_turn}
 use Rattle.cecp_front.specs.Reading.{NoReads}
 use Rattle.cecp_front.proofs.SeekLaws.{on_error}
 use Rattle.cecp_front.proofs.TurnLaws.{is_line, last_as, rose_later}

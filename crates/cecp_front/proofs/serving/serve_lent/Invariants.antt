@@ -4,7 +4,7 @@ use Rattle.io_ports.specs.Cause.{Rose}
 use Rattle.io_ports.specs.Trace.{Moves}
 use Rattle.io_ports.specs.declared.source.Got.TheVariants as got
 use Rattle.session_model.specs.CecpSession.{cecp}
-use Rattle.turning.specs.Turned.{Turned}
+use Rattle.session_model.specs.Turned.{Turned}
 use Rattle.cecp_front.specs.Reading.{NoReads}
 use Rattle.cecp_front.proofs.serving.serve_lent.Given as goal
 

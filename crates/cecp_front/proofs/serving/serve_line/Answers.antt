@@ -1,4 +1,4 @@
-use Rattle.turning.specs.Lines.{got_line}
+use Rattle.session_model.specs.Lines.{got_line}
 use Rattle.cecp_front.proofs.SeekLaws.{on_error}
 use Rattle.cecp_front.proofs.TurnLaws.{line_silent, line_thought, line_unthought, unserved_answer}
 use Rattle.cecp_front.proofs.serving.serve_line.Goals as goal

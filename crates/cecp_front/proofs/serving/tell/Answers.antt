@@ -1,5 +1,5 @@
 use Rattle.session_model.specs.CecpSession.{answer_of}
-use Rattle.turning.specs.Lines.{got_line}
+use Rattle.session_model.specs.Lines.{got_line}
 use Rattle.cecp_front.proofs.SeekLaws.{on_error}
 use Rattle.cecp_front.proofs.TurnLaws.{front_none}
 use Rattle.cecp_front.proofs.serving.tell.Goals as goal

@@ -4,8 +4,8 @@ use Rattle.io_ports.specs.Trace.{Reads}
 use Rattle.session_model.specs.UciGo.{go_of}
 use Rattle.session_model.specs.UciLines as UciLines
 use Rattle.session_model.specs.UciLines.{command_of}
-use Rattle.turning.proofs.Lawful.{uci_is_lawful}
-use Rattle.turning.specs.Lines.{got_line}
+use Rattle.session_model.proofs.Lawful.{uci_is_lawful}
+use Rattle.session_model.specs.Lines.{got_line}
 use Rattle.uci_lines.specs.View.{command_with, line_got}
 use Rattle.session_model.specs.UciSession.{uci}
 use Rattle.uci_session.specs.PlanView.{words_said}

@@ -2,8 +2,8 @@ use Rattle.std.proofs.Common.{◌≡◌, ◌∙◌, [], ◌∷◌, ◌++◌, Lis
 use Rattle.io_ports.specs.declared.dialect.Dialect.TheVariants.{Uci}
 use Rattle.session_model.specs.UciSession.{announced}
 use Rattle.session_model.specs.UciState.{State}
-use Rattle.turning.proofs.Saying.{broke_say, held_cut, next_follows, part_settled, part_then, ran_next_of, ran_say, ran_settled, unsaid}
-use Rattle.turning.specs.Lines.{Exchanges, none}
+use Rattle.session_model.proofs.Saying.{broke_say, held_cut, next_follows, part_settled, part_then, ran_next_of, ran_say, ran_settled, unsaid}
+use Rattle.session_model.specs.Lines.{Exchanges, none}
 use Rattle.watching.specs.Events.{Event, Says}
 use Rattle.uci_session.specs.Searched.{Completes}
 use Rattle.uci_session.specs.TextView.{last_line}

@@ -1,6 +1,6 @@
 use Rattle.io_ports.proofs.Asked.{reads_none}
 use Rattle.session_model.specs.UciSession.{uci}
-use Rattle.turning.proofs.Ending.{part_none}
+use Rattle.session_model.proofs.Ending.{part_none}
 use Rattle.uci_session.proofs.HeldLemmas.{on_err}
 use Rattle.uci_front.proofs.serving.serve.Goals as goal
 

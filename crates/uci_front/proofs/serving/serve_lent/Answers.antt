@@ -4,10 +4,10 @@ use Rattle.io_ports.specs.declared.source.Got.{Got}
 use Rattle.io_ports.specs.declared.source.Got.TheVariants as got
 use Rattle.session_model.proofs.Wider.{uci_is_wider}
 use Rattle.session_model.specs.UciSession.{uci}
-use Rattle.turning.proofs.Ending.{part_broken, part_here, spoke_end, spoke_quit, took_quit}
-use Rattle.turning.proofs.Lawful.{uci_is_lawful}
-use Rattle.turning.specs.Lines.{HasLine}
-use Rattle.turning.proofs.Turning.{first_turn, next_turn}
+use Rattle.session_model.proofs.Ending.{part_broken, part_here, spoke_end, spoke_quit, took_quit}
+use Rattle.session_model.proofs.Lawful.{uci_is_lawful}
+use Rattle.session_model.specs.Lines.{HasLine}
+use Rattle.session_model.proofs.Turning.{first_turn, next_turn}
 use Rattle.uci_session.proofs.HeldLemmas.{on_err}
 use Rattle.uci_front.proofs.serving.serve_lent.Goals as goal
 

@@ -4,7 +4,7 @@ use Rattle.io_ports.specs.Cause.{Rose}
 use Rattle.io_ports.specs.Trace.{Moves, Reads}
 use Rattle.io_ports.specs.declared.source.Got.TheVariants as got
 use Rattle.session_model.specs.UciSession.{uci}
-use Rattle.turning.specs.Turned.{Turned}
+use Rattle.session_model.specs.Turned.{Turned}
 use Rattle.uci_front.proofs.serving.serve_lent.Given as goal
 
 -- the turns so far, and the next line is there

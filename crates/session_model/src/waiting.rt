@@ -1,7 +1,7 @@
 //! Lines that are heard while a best move is held back.
 ghost use Rattle.std.specs.Prelude.{◌≡◌, true, IfOk, IfErr, OnErr, IsErrOf, Some};
 ghost use Rattle.std.specs.Io.KnownBytes.{IsAtEnd};
-ghost use Rattle.turning.specs.Lines.{Causes, Exchanges, HeardPart, WaitedIfHeld, Waited, must_wait};
+ghost use Rattle.session_model.specs.Lines.{Causes, Exchanges, HeardPart, WaitedIfHeld, Waited, must_wait};
 
 use io_ports::{Dialect, LineBuf, SearchFault, Sink, Source};
 use watching::{Cut, Halt, heed};

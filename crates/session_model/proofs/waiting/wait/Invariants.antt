@@ -1,8 +1,8 @@
 use Rattle.std.proofs.Common.{◌≡◌, ◌≤◌, []}
 use Rattle.watching.specs.Events.{Listens}
 use Rattle.watching.specs.Looks.{Ran}
-use Rattle.turning.specs.Lines.{Exchanges}
-use Rattle.turning.proofs.waiting.wait.Given as goal
+use Rattle.session_model.specs.Lines.{Exchanges}
+use Rattle.session_model.proofs.waiting.wait.Given as goal
 
 abbrev pub invariant-loop : goal.invariant-loop
 invariant-loop g l = record {

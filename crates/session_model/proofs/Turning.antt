@@ -15,8 +15,8 @@ use Rattle.io_ports.proofs.Owing.{lacks_before, spends_more, spends_none}
 use Rattle.watching.specs.Events.{heard_lines as heard, opened, readings, written}
 use Rattle.session_model.specs.Laws.{IsWider}
 use Rattle.session_model.specs.Turns.{Protocol, Turn, Turns, after_turns, bound_in, lines_in, reads_in}
-use Rattle.turning.specs.Lines.{HasLine, MayFollow, got_line}
-use Rattle.turning.specs.Turned.{Served, Turned, turn_of}
+use Rattle.session_model.specs.Lines.{HasLine, MayFollow, got_line}
+use Rattle.session_model.specs.Turned.{Served, Turned, turn_of}
 
 -- ---- the next line
 

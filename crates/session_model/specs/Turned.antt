@@ -12,7 +12,7 @@ use Rattle.watching.specs.Events.{Event, heard_lines, opened, readings, written}
 use Rattle.watching.specs.Looks.{Moved}
 use Rattle.session_model.specs.Laws.{HasOutput, IsWider, LinesAreWanted}
 use Rattle.session_model.specs.Turns.{Protocol, Turn, Turns, after_turns, bound_in, lines_in, output_in, reads_in, readings_in}
-use Rattle.turning.specs.Lines.{Held, MayFollow}
+use Rattle.session_model.specs.Lines.{Held, MayFollow}
 
 -- the laws of a protocol on which the frame rests
 pub record IsLawful {State : Type 0} (p : Protocol State) : Type 1 where

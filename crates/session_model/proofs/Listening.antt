@@ -17,7 +17,7 @@ use Rattle.watching.specs.declared.halt.Cut.TheVariants as cut
 use Rattle.watching.specs.Events.{Event, Listens, heard_lines, readings, written}
 use Rattle.watching.specs.EventLaws.{heard_lines-append, listens_more, readings-append, written-append}
 use Rattle.watching.specs.Looks.{Broke, Heeds, IsHeardAs, IsWholeBut, Ran, Replies, held}
-use Rattle.turning.specs.Lines.{Exchanges, HeardPart, StopsBy}
+use Rattle.session_model.specs.Lines.{Exchanges, HeardPart, StopsBy}
 
 -- a poll would have taken the same lines
 polled_as_got : (answer : Got) (text : List ℕ) → polled_lines (polled_of answer) text ≡ got_lines answer text

@@ -5,7 +5,7 @@ use Rattle.io_ports.specs.Lines.{Line, lines_of}
 use Rattle.io_ports.specs.Source.{Owed, Untold}
 use Rattle.watching.specs.Looks.{Moved}
 use Rattle.session_model.specs.Turns.{Protocol, Session, lines_wanted}
-use Rattle.turning.specs.Turned.{Further}
+use Rattle.session_model.specs.Turned.{Further}
 
 -- the input, where the source tells its bytes: their lines; any, where it tells none
 abbrev pub IsInput : Option (List ℕ) → List Line → Type 0

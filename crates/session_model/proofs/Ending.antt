@@ -17,10 +17,10 @@ use Rattle.watching.specs.Events.{heard_lines as heard, opened, readings, writte
 use Rattle.watching.specs.Looks.{Moved}
 use Rattle.session_model.specs.Turns.{Protocol, Session, Turn, Turns, after_turns, bound_in, ending_lines, lines_in, lines_wanted, output_in, reads_in, readings_in}
 use Rattle.session_model.proofs.Joined.{quiet_output, turns_joined, turns_untold}
-use Rattle.turning.specs.Lines.{HasLine, Held, none, one, got_line}
-use Rattle.turning.specs.Turned.{Further, IsLawful, Turned, Unserved, turn_of}
-use Rattle.turning.specs.Spoken.{IsInput, Spoke, SpokePart, TookQuit}
-use Rattle.turning.proofs.Turning.{flat_more, line_followed, line_taken, lines_since, none_follows, turns_more}
+use Rattle.session_model.specs.Lines.{HasLine, Held, none, one, got_line}
+use Rattle.session_model.specs.Turned.{Further, IsLawful, Turned, Unserved, turn_of}
+use Rattle.session_model.specs.Spoken.{IsInput, Spoke, SpokePart, TookQuit}
+use Rattle.session_model.proofs.Turning.{flat_more, line_followed, line_taken, lines_since, none_follows, turns_more}
 
 -- ---- reads
 

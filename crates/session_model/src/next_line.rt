@@ -2,7 +2,7 @@
 ghost use Rattle.std.specs.Prelude.{◌≡◌, None, Some};
 ghost use Rattle.std.specs.Io.KnownBytes.{IsAtEnd};
 ghost use Rattle.io_ports.specs.Cause.{HasCause};
-ghost use Rattle.turning.specs.Lines.{IsNext};
+ghost use Rattle.session_model.specs.Lines.{IsNext};
 
 use io_ports::{Got, LineBuf, Source};
 use watching::Cut;

@@ -1,8 +1,8 @@
 use Rattle.std.proofs.Common.{◌≡◌, Err, ap, sym, ◌∙◌, arith, Some, None}
 use Rattle.io_ports.specs.declared.limits.SearchFault.TheVariants as fault
 use Rattle.watching.specs.declared.halt.Halt.TheVariants as halt
-use Rattle.turning.proofs.Listening.{heard_more, heard_broke, heard_off, stops_by, ends_by, failed_by}
-use Rattle.turning.proofs.waiting.wait.Goals as goal
+use Rattle.session_model.proofs.Listening.{heard_more, heard_broke, heard_off, stops_by, ends_by, failed_by}
+use Rattle.session_model.proofs.waiting.wait.Goals as goal
 
 pub returns-in-Err-Cut-clause-waited : goal.returns-in-Err-Cut-clause-waited
 returns-in-Err-Cut-clause-waited g c =

@@ -5,7 +5,7 @@ use Rattle.session_model.proofs.Wanted.{cecp_hears_unstopping, cecp_quits_stop, 
 use Rattle.session_model.proofs.Wider.{cecp_is_wider, uci_is_wider}
 use Rattle.session_model.specs.CecpSession.{cecp}
 use Rattle.session_model.specs.UciSession.{uci}
-use Rattle.turning.specs.Turned.{IsLawful}
+use Rattle.session_model.specs.Turned.{IsLawful}
 
 pub uci_is_lawful : IsLawful uci
 uci_is_lawful = record {

@@ -23,8 +23,8 @@ use Rattle.watching.specs.EventLaws.{heard_lines-append, readings-append, writte
 use Rattle.watching.specs.Looks.{Broke, Moved, Ran, held}
 use Rattle.session_model.specs.Events.{IsStopped}
 use Rattle.session_model.specs.Turns.{Protocol}
-use Rattle.turning.specs.Lines.{Exchanges, Follows, HeardPart, Held, IsNext, MayFollow, WaitedIfHeld, WaitedIfMust, StopsBy, is_interrupted, must_wait, none, one}
-use Rattle.turning.specs.Turned.{Further, RanPart, Served, Unserved, turn_of}
+use Rattle.session_model.specs.Lines.{Exchanges, Follows, HeardPart, Held, IsNext, MayFollow, WaitedIfHeld, WaitedIfMust, StopsBy, is_interrupted, must_wait, none, one}
+use Rattle.session_model.specs.Turned.{Further, RanPart, Served, Unserved, turn_of}
 
 -- ---- the line that comes next
 

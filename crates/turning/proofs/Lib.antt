@@ -1,5 +1,0 @@
-pub mod Listening
-pub mod Turning
-pub mod Ending
-pub mod Saying
-pub mod Lawful
