@@ -8,7 +8,7 @@ ghost use Rattle.variant_rules.specs.Entries.{entries};
 use foundation::Memory;
 use game_play::Game;
 use rules_model::Side;
-use seeking::EngineState;
+use thinking::EngineState;
 use std::alloc::Global;
 use std::marker::Model;
 use variant_ini::Sections;

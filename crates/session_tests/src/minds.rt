@@ -11,7 +11,7 @@ use mate_showing::Settled;
 use playing::Board;
 use rules_model::{Move, Side, sound};
 use sample_rules::{chess, position};
-use seeking::{EngineState, search_once, solve_once};
+use thinking::{EngineState, search_once, solve_once};
 use std::alloc::Global;
 use std::process::Abort;
 use std::sync::Wait;

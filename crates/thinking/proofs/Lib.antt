@@ -1,7 +1,9 @@
-pub mod RanLaws
+mod AnswerLaws
 pub mod CutLaws
-pub mod TellLaws
+pub mod DepthLaws
 pub mod FindingLaws
 pub mod JudgeLaws
-pub mod DepthLaws
+pub mod RanLaws
+mod SeekCutLaws
+pub mod TellLaws
 pub mod TryLaws

@@ -1,6 +1,9 @@
-pub mod Views
 pub mod Cuts
-pub mod Tells
-pub mod Judging
 pub mod Depths
+pub mod Judging
+pub mod Pools
+pub mod Seeks
+pub mod Settings
+pub mod Tells
 pub mod Tries
+pub mod Views

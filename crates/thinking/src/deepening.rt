@@ -15,7 +15,7 @@ use crate::style::Style;
 use crate::task::{Start, Task, quota_left};
 use io_ports::{Clock, Dialect, Gate, Limits, LineBuf, SearchFault, Sink, Source};
 use rules_model::Move;
-use seeking::EngineState;
+use crate::EngineState;
 use std::alloc::Global;
 use std::sync::Wait;
 use std::thread::Threads;

@@ -15,7 +15,7 @@ use crate::lines::depth_lines;
 use crate::style::Style;
 use crate::task::Task;
 use io_ports::{Clock, Dialect, Gate, Limits, LineBuf, SearchFault, Sink, Source};
-use seeking::EngineState;
+use crate::EngineState;
 use std::alloc::Global;
 use std::sync::Wait;
 use std::thread::Threads;

@@ -17,7 +17,7 @@ use crate::task::{Task, quota_left};
 use io_ports::{Clock, Dialect, Gate, Limits, LineBuf, SearchFault, Sink, Source};
 use mate_showing::Settled;
 use rules_model::Move;
-use seeking::{EngineState, search_once, solve_once};
+use crate::{EngineState, search_once, solve_once};
 use std::alloc::Global;
 use std::sync::Wait;
 use std::thread::Threads;

@@ -5,10 +5,14 @@
 mod deepening;
 mod depth;
 mod depth_result;
+mod engine_state;
 mod judging;
 mod lines;
 mod mates;
 mod scores;
+mod search;
+mod shared_facts;
+mod solve;
 mod style;
 mod task;
 
@@ -21,3 +25,6 @@ pub use mates::{MateAttempt, try_mates};
 pub use scores::{favoured, mate_in, mate_sought, root_move};
 pub use style::Style;
 pub use task::{Start, Task, begin, quota_left};
+pub use engine_state::EngineState;
+pub use search::search_once;
+pub use solve::solve_once;

@@ -13,7 +13,7 @@ use game_play::Game;
 use io_ports::{Clock, Dialect, Gate, Limits, LineBuf, SearchFault, Sink, Source};
 use mate_showing::Settled;
 use rules_model::Move;
-use seeking::{EngineState, solve_once};
+use crate::{EngineState, solve_once};
 use std::alloc::Global;
 use std::sync::Wait;
 use std::thread::Threads;

@@ -2,7 +2,7 @@
 use Rattle.std.specs.Prelude.{◌≡◌, ℕ, ◌<◌, ◌≤◌, List, ◌++◌, length, Option, Some, None, Ok}
 use Rattle.rules_model.specs.declared.rules.Rules.{Rules}
 use Rattle.game_play.specs.Played.{Played}
-use Rattle.seeking.specs.Settings.{Settings}
+use Rattle.thinking.specs.Settings.{Settings}
 use Rattle.session_model.specs.UciState.{State}
 use Rattle.strategy.specs.Reading.{AreSound}
 use Rattle.thinking.specs.declared.depth_result.AnnouncedMate.{AnnouncedMate}

@@ -16,7 +16,7 @@ use Rattle.session_model.specs.Mates.{Evidence, IsShown}
 use Rattle.strategy.specs.declared.nodes.Strategy.{Strategy}
 use Rattle.strategy_check.specs.Verdicts.{as_verdict}
 use Rattle.watching.specs.declared.halt.Halt.{Halt}
-use Rattle.seeking.specs.Seeks.{IsFound, IsRight, IsUnsettledAt}
+use Rattle.thinking.specs.Seeks.{IsFound, IsRight, IsUnsettledAt}
 
 pub shown_of_solved : (game : Played) (n : ℕ) (attacker : Side) (s : Strategy)
     → Solved.IsShown game.rules (story game) attacker n s → IsShown game n attacker s

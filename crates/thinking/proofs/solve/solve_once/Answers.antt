@@ -8,9 +8,9 @@ use Rattle.mate_search.specs.Solves.{bound_of}
 use Rattle.mate_showing.specs.Answers as Solved
 use Rattle.watching.specs.Stopping.{Partly}
 use Rattle.watching.specs.Watched.{moment, world}
-use Rattle.seeking.proofs.AnswerLaws.{right_by}
-use Rattle.seeking.proofs.CutLaws.{sought_memory, sought_of}
-use Rattle.seeking.proofs.solve.solve_once.Goals as goal
+use Rattle.thinking.proofs.AnswerLaws.{right_by}
+use Rattle.thinking.proofs.SeekCutLaws.{sought_memory, sought_of}
+use Rattle.thinking.proofs.solve.solve_once.Goals as goal
 
 pub returns-in_err-make_hints-clause-sought : goal.returns-in_err-make_hints-clause-sought
 returns-in_err-make_hints-clause-sought g c =

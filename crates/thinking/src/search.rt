@@ -6,7 +6,7 @@ ghost use Rattle.game_play.specs.Played.{legal_in, story};
 ghost use Rattle.evaluation.specs.Bounds.{search_bound};
 ghost use Rattle.watching.specs.Stopping.{Partly};
 ghost use Rattle.watching.specs.Watched.{moment, world};
-ghost use Rattle.seeking.specs.Seeks.{IsFound};
+ghost use Rattle.thinking.specs.Seeks.{IsFound};
 
 use crate::engine_state::EngineState;
 use alpha_beta::{Found, search_watched};

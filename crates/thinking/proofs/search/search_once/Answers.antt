@@ -3,9 +3,9 @@ use Rattle.alpha_beta.specs.Searches.{bound_of}
 use Rattle.alpha_beta.proofs.SearchLaws.{lent_of}
 use Rattle.watching.specs.Stopping.{Partly}
 use Rattle.watching.specs.Watched.{moment, world}
-use Rattle.seeking.proofs.AnswerLaws.{found_by}
-use Rattle.seeking.proofs.CutLaws.{sought_memory, sought_of}
-use Rattle.seeking.proofs.search.search_once.Goals as goal
+use Rattle.thinking.proofs.AnswerLaws.{found_by}
+use Rattle.thinking.proofs.SeekCutLaws.{sought_memory, sought_of}
+use Rattle.thinking.proofs.search.search_once.Goals as goal
 
 pub returns-in_err-make_hints-clause-sought : goal.returns-in_err-make_hints-clause-sought
 returns-in_err-make_hints-clause-sought g c =

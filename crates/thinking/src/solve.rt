@@ -4,7 +4,7 @@ ghost use Rattle.game_play.specs.Played.{story};
 ghost use Rattle.evaluation.specs.Bounds.{solve_bound};
 ghost use Rattle.watching.specs.Stopping.{Partly};
 ghost use Rattle.watching.specs.Watched.{moment, world};
-ghost use Rattle.seeking.specs.Seeks.{IsRight};
+ghost use Rattle.thinking.specs.Seeks.{IsRight};
 
 use crate::engine_state::EngineState;
 use crate::shared_facts::SharedFacts;

@@ -1,6 +1,6 @@
 //! What a session keeps for its searches.
 ghost use Rattle.std.specs.Prelude.{◌≡◌, ◌≤◌, OnOk, OnErr, IfOk};
-ghost use Rattle.seeking.specs.Settings.{first_settings};
+ghost use Rattle.thinking.specs.Settings.{first_settings};
 
 use crate::shared_facts::SharedFacts;
 use foundation::Memory;
@@ -27,7 +27,7 @@ pub struct EngineState {
 }
 
 impl Model for EngineState {
-    ghost use Rattle.seeking.specs.Settings.{Settings, AreInRange};
+    ghost use Rattle.thinking.specs.Settings.{Settings, AreInRange};
 
     ghost Value = { Settings };
 

@@ -22,7 +22,7 @@ pub(crate) struct SharedFacts {
 
 impl Model for SharedFacts {
     ghost use Rattle.mate_core.specs.declared.frame.Frame.{Frame};
-    ghost use Rattle.seeking.specs.Pools.{AreWhole};
+    ghost use Rattle.thinking.specs.Pools.{AreWhole};
 
     ghost Value = { Frame };
 
