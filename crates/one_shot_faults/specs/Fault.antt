@@ -10,7 +10,7 @@ use Rattle.stipulation.specs.Verdicts as stipulation
 use Rattle.cert_text.specs.Fault as cert
 use Rattle.suite.specs.Fault as suite
 use Rattle.pn_search.specs.MateCount.{pn_fault_text}
-use Rattle.least_mates.specs.FirstMoves.{keys_fault_text}
+use Rattle.suite.specs.FirstMoves.{keys_fault_text}
 use Rattle.variant_rules.specs.declared.fault.LoadFault.TheVariants.{File, Ini}
 use Rattle.variant_rules.specs.Loading.{file_fault_text, ini_fault_text}
 use Rattle.one_shot_faults.specs.declared.fault.Fault.{Fault}

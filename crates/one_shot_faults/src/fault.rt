@@ -8,7 +8,7 @@ use betza_text::BetzaFault;
 use cert_text::CertFault;
 use foundation::{Memory, Text};
 use game_text::{GameFault, write_fault};
-use least_mates::KeysFault;
+use suite::{KeysFault, SuiteFault, write_fault as write_suite_fault};
 use piece_reach::ReachFault;
 use pn_search::PnFault;
 use proof_text::ProofFault;
@@ -16,7 +16,6 @@ use std::alloc::{AllocError, Global};
 use stipulation::CertVerdict;
 use strategy::StrategyFault;
 use strategy_check::Verdict;
-use suite::{SuiteFault, write_fault as write_suite_fault};
 use variant_rules::LoadFault;
 
 /// The fault of an argument, of the file of variants, or of the input.

@@ -7,10 +7,10 @@ use Rattle.game_play.specs.Played.{Played}
 use Rattle.game_text.specs.declared.fault.GameFault.{GameFault}
 use Rattle.game_text.specs.Fault as game
 use Rattle.game_text.specs.GameText.{game_of}
-use Rattle.least_mates.specs.declared.fault.KeysFault.{KeysFault}
-use Rattle.least_mates.specs.declared.first_moves.Key.{Key}
-use Rattle.least_mates.specs.FirstMoves.{keys_fault_text, mate_keys}
-use Rattle.least_mates.specs.KeysText.{keys_text}
+use Rattle.suite.specs.declared.keys_fault.KeysFault.{KeysFault}
+use Rattle.suite.specs.declared.first_moves.Key.{Key}
+use Rattle.suite.specs.FirstMoves.{keys_fault_text, mate_keys}
+use Rattle.suite.specs.KeysText.{keys_text}
 use Rattle.one_shot_faults.specs.declared.fault.Fault.{Fault as Why}
 use Rattle.one_shot_faults.specs.declared.no_answer.NoAnswer.{NoAnswer}
 use Rattle.one_shot_faults.specs.declared.no_answer.NoAnswer.TheVariants.{Usage, Fault, Stop}

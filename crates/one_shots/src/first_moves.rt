@@ -4,7 +4,7 @@ ghost use Rattle.io_ports.specs.Cause.{HasCause};
 ghost use Rattle.variant_rules.specs.Entries.{entries};
 ghost use Rattle.game_text.specs.GameText.{lines_of_game};
 ghost use Rattle.game_text.specs.HeardLines.{HeardLines};
-ghost use Rattle.least_mates.specs.FirstMoves.{mate_keys};
+ghost use Rattle.suite.specs.FirstMoves.{mate_keys};
 ghost use Rattle.one_shot_faults.specs.NoAnswerView.{Answers, IsUnheard};
 ghost use Rattle.one_shots.specs.FirstMoves.{SaysKeyList, SaysKeys};
 
@@ -12,7 +12,7 @@ use crate::game::game_in;
 use foundation::Text;
 use game_play::Game;
 use io_ports::Source;
-use least_mates::{mate_keys, write_keys};
+use suite::{mate_keys, write_keys};
 use one_shot_faults::{Fault, NoAnswer};
 use std::alloc::Global;
 use std::sync::Wait;

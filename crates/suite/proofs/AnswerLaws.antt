@@ -4,8 +4,8 @@ use Rattle.rules_model.specs.Games.{Story, story_from}
 use Rattle.forced_wins.specs.Wins.{IsInLimit}
 use Rattle.game_play.specs.Played.{Played, story}
 use Rattle.mate_search.specs.Least.{least}
-use Rattle.least_mates.specs.declared.winning.LeastWin.{LeastWin}
-use Rattle.least_mates.specs.Winning.{IsLeastWin, least_for}
+use Rattle.suite.specs.declared.winning.LeastWin.{LeastWin}
+use Rattle.suite.specs.Winning.{IsLeastWin, least_for}
 use Rattle.suite.specs.declared.problem.Answer.{Answer}
 use Rattle.suite.specs.declared.problem.Problem.{Problem}
 use Rattle.suite.specs.Answers.{IsAnswer}

@@ -1,4 +1,7 @@
 pub mod AnswerLaws
-pub mod SlotLaws
+mod AtOnceLaws
+mod KeyLaws
+pub mod LeastFor
 pub mod ReadLemmas
 pub mod ReportLemmas
+pub mod SlotLaws

@@ -1,8 +1,12 @@
-pub mod Problems
 pub mod Answers
-pub mod Workers
-pub mod Suite
-pub mod Leasts
-pub mod Report
+pub mod AtOnce
 pub mod Fault
+pub mod FirstMoves
+pub mod KeysText
+pub mod Leasts
+pub mod Problems
 pub mod ReadView
+pub mod Report
+pub mod Suite
+pub mod Winning
+pub mod Workers

@@ -1,7 +1,12 @@
 //! Suites: many mate problems, solved by workers beside each other, and the report on them.
 #![tactic(auto)]
 
+mod at_once;
 mod fault;
+mod first_moves;
+mod keys_fault;
+mod keys_report;
+mod playing_on;
 mod problem;
 mod queue;
 mod race;
@@ -11,6 +16,7 @@ mod reporting;
 mod row;
 mod settling;
 mod solving;
+mod winning;
 mod work;
 
 pub use fault::{NoSuite, SuiteFault, write_fault};
@@ -19,3 +25,7 @@ pub use reading::{MOST_PROBLEMS, Suite, read_suite};
 pub use report::write_report;
 pub use reporting::solve_suite;
 pub use solving::solve_all;
+pub use keys_fault::KeysFault;
+pub use first_moves::{Key, Keys, mate_keys};
+pub use keys_report::write_keys;
+pub use winning::{LeastWin, least_win};

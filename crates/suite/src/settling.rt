@@ -1,12 +1,12 @@
 //! One problem, solved by one worker.
 ghost use Rattle.std.specs.Prelude.{◌≡◌, IfOk};
-ghost use Rattle.least_mates.specs.Winning.{IsLeastWin};
+ghost use Rattle.suite.specs.Winning.{IsLeastWin};
 ghost use Rattle.suite.specs.Answers.{IsAnswer};
 ghost use Rattle.suite.specs.Problems.{IsFair, game_of};
 
 use crate::problem::{Answer, Problem};
 use game_play::Game;
-use least_mates::{LeastWin, least_win};
+use crate::{LeastWin, least_win};
 use rules_model::Memory;
 use std::alloc::Global;
 use std::sync::Wait;

@@ -1,3 +1,0 @@
-pub mod LeastFor
-mod AtOnceLaws
-mod KeyLaws

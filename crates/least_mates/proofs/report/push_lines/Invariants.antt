@@ -1,7 +1,0 @@
-use Rattle.std.proofs.Common.{◌≡◌, ◌++◌, take}
-use Rattle.std.specs.List.{flat_map}
-use Rattle.least_mates.specs.KeysText.{key_line}
-use Rattle.least_mates.proofs.report.push_lines.Given as goal
-
-abbrev pub invariant-loop-key : goal.invariant-loop-key
-invariant-loop-key l = l.text.items ≡ l.initial.text.items ++ flat_map key_line (take l.key-index l.keys)

@@ -1,4 +1,0 @@
-pub mod Winning
-pub mod AtOnce
-pub mod FirstMoves
-pub mod KeysText
