@@ -1,4 +1,5 @@
+mod LineLaws
+mod SeekLaws
 mod SessionLaws
 mod ThoughtLaws
 mod TurnLaws
-mod SeekLaws

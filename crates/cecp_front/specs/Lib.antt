@@ -1,4 +1,5 @@
 pub mod Answers
 pub mod Reading
-pub mod Thought
 pub mod SessionView
+pub mod Thought
+pub mod View

@@ -1,6 +1,6 @@
 //! What the lines of a session set, and what they answer before the engine thinks.
 ghost use Rattle.std.specs.Prelude.{◌≡◌, ◌<◌, ◌≤◌, [], IfOk, IfSome, OnErr, OnOk, length};
-ghost use Rattle.cecp_lines.specs.View.{command_seen, limit_seen};
+ghost use Rattle.cecp_front.specs.View.{command_seen, limit_seen};
 ghost use Rattle.foundation.specs.Member.{Member};
 ghost use Rattle.game_play.specs.Played.{legal_in, longer, shorter};
 ghost use Rattle.game_text.specs.Playing.{most_plies, move_of};
@@ -15,7 +15,7 @@ ghost use Rattle.cecp_front.specs.Answers.{answered, begun, is_known};
 
 use crate::session::CecpSession;
 use crate::texts::{error_line, feature_line, illegal_line, long_line, pong_line, result_line};
-use cecp_lines::{Command, Limit, read_line};
+use crate::{Command, Limit, read_line};
 use foundation::{Memory, Text};
 use game_play::{Game, MOST_PLIES, PlayFault};
 use io_ports::Got;

@@ -2,10 +2,16 @@
 #![tactic(auto)]
 
 mod answers;
+mod command;
+mod limits;
 mod moving;
 mod serving;
 mod session;
 mod texts;
+mod verb;
+mod words;
 
 pub use serving::serve;
 pub use session::CecpSession;
+pub use command::{Command, Limit, gives_up, quits, read_line};
+pub use limits::{depth_for, time_for};

@@ -16,7 +16,7 @@ ghost use Rattle.cecp_front.specs.Thought.{BrokeSeeking, IsFirst, Sought, Though
 
 use crate::session::CecpSession;
 use crate::texts::move_lines;
-use cecp_lines::{depth_for, gives_up, time_for};
+use crate::{depth_for, gives_up, time_for};
 use game_play::MOST_PLIES;
 use io_ports::{Clock, Dialect, Gate, Got, LineBuf, SearchFault, Sink, Source};
 use legality::{any_legal, legal_moves};

@@ -13,7 +13,7 @@ ghost use Rattle.watching.specs.Stopping.{AreSamePorts};
 ghost use Rattle.cecp_front.specs.Reading.{NoReads};
 
 use crate::session::CecpSession;
-use cecp_lines::quits;
+use crate::quits;
 use io_ports::{Clock, Dialect, Gate, Got, LineBuf, Ports, SearchFault, Sink, Source};
 use std::alloc::Global;
 use std::sync::Wait;

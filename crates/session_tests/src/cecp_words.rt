@@ -1,6 +1,6 @@
 //! Tests of `cecp_lines`.
 use crate::expect::expect_of;
-use cecp_lines::{Command, Limit, depth_for, gives_up, read_line, time_for};
+use cecp_front::{Command, Limit, depth_for, gives_up, read_line, time_for};
 use io_ports::Got;
 use std::alloc::Global;
 use std::process::Abort;

@@ -13,9 +13,9 @@ use Rattle.session_model.specs.CecpLines as CecpLines
 use Rattle.session_model.specs.CecpSession.{is_quit}
 use Rattle.session_model.specs.Numbers.{number_read}
 use Rattle.session_model.specs.UciWords.{Word, first_word}
-use Rattle.cecp_lines.specs.View.{command_by, verb_gives_up, verb_quits}
-use Rattle.cecp_lines.specs.declared.verb.Verb.{Verb}
-use Rattle.cecp_lines.specs.declared.verb.Verb.TheVariants as verb
+use Rattle.cecp_front.specs.View.{command_by, verb_gives_up, verb_quits}
+use Rattle.cecp_front.specs.declared.verb.Verb.{Verb}
+use Rattle.cecp_front.specs.declared.verb.Verb.TheVariants as verb
 
 -- ---- searches that are given up
 

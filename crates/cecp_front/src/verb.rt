@@ -2,7 +2,7 @@
 ghost use Rattle.std.specs.Prelude.{◌≡◌, List};
 ghost use Rattle.session_model.specs.CecpLines as CecpLines;
 ghost use Rattle.session_model.specs.UciWords.{Word};
-ghost use Rattle.cecp_lines.specs.View.{command_by, limit_named, verb_gives_up, verb_quits};
+ghost use Rattle.cecp_front.specs.View.{command_by, limit_named, verb_gives_up, verb_quits};
 
 /// What the first word of a line asks.
 #[derive(Clone, Copy, PartialEq, Eq)]

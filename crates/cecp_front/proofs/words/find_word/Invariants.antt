@@ -3,7 +3,7 @@ use Rattle.std.specs.List.{filter}
 use Rattle.std.specs.Option.{option_copied}
 use Rattle.foundation.specs.Cuts.{is_blank, parts_after}
 use Rattle.game_text.specs.Playing.{is_word, words_of}
-use Rattle.cecp_lines.proofs.words.find_word.Given as goal
+use Rattle.cecp_front.proofs.words.find_word.Given as goal
 
 -- the words of what is left are those of the text
 abbrev pub invariant-loop-left : goal.invariant-loop-left

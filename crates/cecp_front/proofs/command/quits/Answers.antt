@@ -4,8 +4,8 @@ use Rattle.std.specs.Option.{option_copied}
 use Rattle.foundation.specs.Cuts.{is_blank, parts_after}
 use Rattle.game_text.specs.Playing.{is_word}
 use Rattle.session_model.specs.CecpSession.{is_quit}
-use Rattle.cecp_lines.proofs.LineLaws.{ended_by, text_by}
-use Rattle.cecp_lines.proofs.command.quits.Goals as goal
+use Rattle.cecp_front.proofs.LineLaws.{ended_by, text_by}
+use Rattle.cecp_front.proofs.command.quits.Goals as goal
 
 pub returns-in-Some : goal.returns-in-Some
 returns-in-Some c =

@@ -3,12 +3,12 @@ use Rattle.std.specs.Prelude.{Bool, true, false, List, bytes_eq, codes, if◌the
 use Rattle.session_model.specs.CecpLines as CecpLines
 use Rattle.session_model.specs.CecpLines.{level_of, ping_of, with_number}
 use Rattle.session_model.specs.UciWords.{Word, first_word, joined}
-use Rattle.cecp_lines.specs.declared.command.Command.{Command}
-use Rattle.cecp_lines.specs.declared.command.Command.TheVariants as command
-use Rattle.cecp_lines.specs.declared.command.Limit.{Limit}
-use Rattle.cecp_lines.specs.declared.command.Limit.TheVariants as limit
-use Rattle.cecp_lines.specs.declared.verb.Verb.{Verb}
-use Rattle.cecp_lines.specs.declared.verb.Verb.TheVariants as verb
+use Rattle.cecp_front.specs.declared.command.Command.{Command}
+use Rattle.cecp_front.specs.declared.command.Command.TheVariants as command
+use Rattle.cecp_front.specs.declared.command.Limit.{Limit}
+use Rattle.cecp_front.specs.declared.command.Limit.TheVariants as limit
+use Rattle.cecp_front.specs.declared.verb.Verb.{Verb}
+use Rattle.cecp_front.specs.declared.verb.Verb.TheVariants as verb
 
 abbrev pub limit_seen : Limit → CecpLines.Command
 limit_seen (limit.St seconds) = CecpLines.St seconds

@@ -1,8 +1,8 @@
 use Rattle.std.proofs.Common.{◌≡◌, ◌∙◌, true, false, ap, sym}
 use Rattle.std.specs.Prelude.{◌&&◌, is_some}
 use Rattle.session_model.specs.Numbers.{number_read}
-use Rattle.cecp_lines.proofs.LineLaws.{base_long, base_two}
-use Rattle.cecp_lines.proofs.words.is_base.Goals as goal
+use Rattle.cecp_front.proofs.LineLaws.{base_long, base_two}
+use Rattle.cecp_front.proofs.words.is_base.Goals as goal
 
 pub returns-then-is_some : goal.returns-then-is_some
 returns-then-is_some c =
