@@ -35,11 +35,11 @@ use Rattle.session_model.specs.Turned.{RanPart, Served, Unserved, turn_of}
 use Rattle.session_model.proofs.Ending.{further_none}
 use Rattle.session_model.proofs.Lawful.{uci_is_lawful}
 use Rattle.session_model.proofs.Saying.{AnswersAlways, served_ran, served_said, settled_stops, unserved_part, unserved_said}
-use Rattle.uci_session.specs.declared.plan.GoPlan.{GoPlan}
-use Rattle.uci_session.specs.declared.searching.GoResult.{GoResult}
-use Rattle.uci_session.specs.Searched.{BrokeGoing, Completes, Gone}
-use Rattle.uci_session.specs.TextView.{last_line}
-use Rattle.uci_session.specs.PlanView.{IsPlan, SaidAtOnce, SaidBy}
+use Rattle.uci_front.specs.declared.plan.GoPlan.{GoPlan}
+use Rattle.uci_front.specs.declared.searching.GoResult.{GoResult}
+use Rattle.uci_front.specs.Searched.{BrokeGoing, Completes, Gone}
+use Rattle.uci_front.specs.TextView.{last_line}
+use Rattle.uci_front.specs.PlanView.{IsPlan, SaidAtOnce, SaidBy}
 use Rattle.thinking.specs.Views.{announced_seen}
 use Rattle.uci_front.proofs.Unanswered.{unserved_quiet}
 

@@ -9,9 +9,9 @@ use Rattle.session_model.specs.UciLines as line
 use Rattle.session_model.specs.UciLines.{Setting}
 use Rattle.session_model.specs.UciSession.{IsPlain, JustSays, Loads, LoadsFrom, Sets, SetsOption}
 use Rattle.session_model.specs.UciState.{State, Outcome, file_named, load, set}
-use Rattle.uci_session.specs.declared.refusal.Refusal.{Refusal}
-use Rattle.uci_session.specs.declared.refusal.Refusal.TheVariants.{Fault, Memory}
-use Rattle.uci_session.specs.Outcomes.{IsOutcome, LoadsFile, SetsBy}
+use Rattle.uci_front.specs.declared.refusal.Refusal.{Refusal}
+use Rattle.uci_front.specs.declared.refusal.Refusal.TheVariants.{Fault, Memory}
+use Rattle.uci_front.specs.Outcomes.{IsOutcome, LoadsFile, SetsBy}
 use Rattle.uci_front.specs.Plain.{IsNamedRead, IsTold, Plainly, file_of, outcome_said, plain_events, saying, text_said}
 use Rattle.variant_rules.specs.Looked.{OneRead}
 use Rattle.watching.specs.Events.{Event, Says, Opens, heard_lines, opened, readings, written}

@@ -11,8 +11,8 @@ use Rattle.session_model.specs.UciLines.{command_of}
 use Rattle.session_model.specs.UciSession.{uci}
 use Rattle.session_model.specs.UciState.{State}
 use Rattle.session_model.specs.Turned.{Served, Unserved}
-use Rattle.uci_session.specs.declared.plan.GoPlan.{GoPlan}
-use Rattle.uci_session.specs.PlanView.{IsPlan}
+use Rattle.uci_front.specs.declared.plan.GoPlan.{GoPlan}
+use Rattle.uci_front.specs.PlanView.{IsPlan}
 
 -- the line that asks this `go` was answered, and the next one is there; no file was read
 abbrev pub ServesGo : Moved → Owed → Owed → State → State → GoPlan → Got → List ℕ → Type 0

@@ -13,8 +13,8 @@ use Rattle.session_model.specs.UciLines.{Command, Setting}
 use Rattle.session_model.specs.UciSession.{Answers}
 use Rattle.session_model.specs.UciState.{State, file_named}
 use Rattle.session_model.specs.UciTexts.{error_line}
-use Rattle.uci_session.specs.declared.refusal.Refusal.{Refusal}
-use Rattle.uci_session.specs.declared.refusal.Refusal.TheVariants.{Fault, Memory}
+use Rattle.uci_front.specs.declared.refusal.Refusal.{Refusal}
+use Rattle.uci_front.specs.declared.refusal.Refusal.TheVariants.{Fault, Memory}
 use Rattle.uci_lines.specs.declared.line.Kind.{Kind}
 use Rattle.uci_lines.specs.declared.line.Kind.TheVariants as kind
 use Rattle.watching.specs.Events.{Event, Says, Opens}

@@ -15,7 +15,7 @@ use std::alloc::Global;
 use std::sync::Wait;
 use std::thread::Threads;
 use uci_lines::{Kind, read_line};
-use uci_session::{UciSession, bytes_of, read_plan};
+use crate::{UciSession, bytes_of, read_plan};
 
 /// Whether the line ends the session.
 pub(crate) fn quits(next: Got, line: &LineBuf) -> bool

@@ -5,7 +5,7 @@ ghost use Rattle.io_ports.specs.Cause.{Rose};
 ghost use Rattle.io_ports.specs.Trace.{Moves};
 ghost use Rattle.session_model.specs.Lines.{Causes};
 ghost use Rattle.uci_front.specs.Going.{ServesGo, UnservesGo};
-ghost use Rattle.uci_session.specs.PlanView.{ArePlies, IsAsked, SaidAtOnce};
+ghost use Rattle.uci_front.specs.PlanView.{ArePlies, IsAsked, SaidAtOnce};
 
 use crate::reply::tell;
 use foundation::{Memory, Text};
@@ -15,7 +15,7 @@ use std::alloc::Global;
 use std::sync::Wait;
 use std::thread::Threads;
 use session_model::{next_of, wait_if_held};
-use uci_session::{GoPlan, GoResult, UciSession, last_line, perft_line, search};
+use crate::{GoPlan, GoResult, UciSession, last_line, perft_line, search};
 use watching::say;
 
 // What is said at once, without a search: a count, or that no move is legal where no best move is held back.

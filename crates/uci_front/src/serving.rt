@@ -14,7 +14,7 @@ use std::alloc::Global;
 use std::sync::Wait;
 use std::thread::Threads;
 use session_model::Ended;
-use uci_session::UciSession;
+use crate::UciSession;
 
 /// The same with the ports lent singly.
 fn serve_lent<R, S, K, C, G, F>(

@@ -8,10 +8,10 @@ use Rattle.session_model.proofs.Lawful.{uci_is_lawful}
 use Rattle.session_model.specs.Lines.{got_line}
 use Rattle.uci_lines.specs.View.{command_with, line_got}
 use Rattle.session_model.specs.UciSession.{uci}
-use Rattle.uci_session.specs.PlanView.{words_said}
+use Rattle.uci_front.specs.PlanView.{words_said}
 use Rattle.uci_front.proofs.AnswerLemmas.{line_is, served_plainly, served_unread, unserved_plainly, unserved_read, unserved_unread}
 use Rattle.uci_front.proofs.GoLemmas.{if_told, if_untold, if_ok}
-use Rattle.uci_session.proofs.HeldLemmas.{on_err}
+use Rattle.uci_front.proofs.HeldLemmas.{on_err}
 use Rattle.uci_front.proofs.Unanswered.{unserved_quiet}
 use Rattle.uci_front.proofs.answering.answer.Goals as goal
 

@@ -1,6 +1,6 @@
 use Rattle.std.proofs.Common.{◌∙◌}
 use Rattle.uci_front.proofs.GoLemmas.{if_told, if_untold, served_once, unserved_once, unserved_still}
-use Rattle.uci_session.proofs.HeldLemmas.{on_err}
+use Rattle.uci_front.proofs.HeldLemmas.{on_err}
 use Rattle.uci_front.proofs.going.answer_go.Goals as goal
 
 pub returns-in_err-text-clause-unserved : goal.returns-in_err-text-clause-unserved

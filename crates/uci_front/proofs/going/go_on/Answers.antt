@@ -5,11 +5,11 @@ use Rattle.session_model.specs.UciState.{State}
 use Rattle.session_model.proofs.Saying.{broke_say, held_cut, next_follows, part_settled, part_then, ran_next_of, ran_say, ran_settled, unsaid}
 use Rattle.session_model.specs.Lines.{Exchanges, none}
 use Rattle.watching.specs.Events.{Event, Says}
-use Rattle.uci_session.specs.Searched.{Completes}
-use Rattle.uci_session.specs.TextView.{last_line}
+use Rattle.uci_front.specs.Searched.{Completes}
+use Rattle.uci_front.specs.TextView.{last_line}
 use Rattle.thinking.specs.Views.{announced_seen}
 use Rattle.uci_front.proofs.GoLemmas.{Heard, Told, gone_told, heard_then, served_told, settled_follows, settled_stopped, told_then, unserved_broke, unserved_told, waits_follow}
-use Rattle.uci_session.proofs.HeldLemmas.{held_follows, held_stopped, on_err}
+use Rattle.uci_front.proofs.HeldLemmas.{held_follows, held_stopped, on_err}
 use Rattle.uci_front.proofs.going.go_on.Goals as goal
 
 pub returns-in_err-best-clause-unserved : goal.returns-in_err-best-clause-unserved

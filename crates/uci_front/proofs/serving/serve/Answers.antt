@@ -1,7 +1,7 @@
 use Rattle.io_ports.proofs.Asked.{reads_none}
 use Rattle.session_model.specs.UciSession.{uci}
 use Rattle.session_model.proofs.Ending.{part_none}
-use Rattle.uci_session.proofs.HeldLemmas.{on_err}
+use Rattle.uci_front.proofs.HeldLemmas.{on_err}
 use Rattle.uci_front.proofs.serving.serve.Goals as goal
 
 pub returns-in_err-line-clause-part : goal.returns-in_err-line-clause-part

@@ -8,7 +8,7 @@ use Rattle.session_model.proofs.Ending.{part_broken, part_here, spoke_end, spoke
 use Rattle.session_model.proofs.Lawful.{uci_is_lawful}
 use Rattle.session_model.specs.Lines.{HasLine}
 use Rattle.session_model.proofs.Turning.{first_turn, next_turn}
-use Rattle.uci_session.proofs.HeldLemmas.{on_err}
+use Rattle.uci_front.proofs.HeldLemmas.{on_err}
 use Rattle.uci_front.proofs.serving.serve_lent.Goals as goal
 
 got_one : (next : Got) → (next ≡ got.Line) ⊎ (next ≡ got.TooLong) → HasLine next

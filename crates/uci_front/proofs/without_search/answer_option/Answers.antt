@@ -2,7 +2,7 @@ use Rattle.std.proofs.Common.{◌≡◌, ◌∙◌, ap}
 use Rattle.session_model.specs.UciLines.{setting_of}
 use Rattle.uci_lines.specs.SettingView.{setting_seen}
 use Rattle.uci_lines.specs.View.{texts}
-use Rattle.uci_session.specs.PlanView.{words_said}
+use Rattle.uci_front.specs.PlanView.{words_said}
 use Rattle.variant_rules.proofs.FileLemmas.{looked_so}
 use Rattle.uci_front.proofs.PlainLemmas.{option_answered}
 use Rattle.uci_front.proofs.without_search.answer_option.Goals as goal

@@ -2,7 +2,7 @@ use Rattle.std.specs.Prelude.{Err}
 use Rattle.variant_rules.specs.declared.fault.NoSections.TheVariants as no_sections
 use Rattle.variant_rules.specs.Looked.{HasSections}
 use Rattle.variant_rules.proofs.FileLemmas.{looked_so}
-use Rattle.uci_session.proofs.SessionLemmas.{file_refused, file_taken}
+use Rattle.uci_front.proofs.SessionLemmas.{file_refused, file_taken}
 use Rattle.uci_front.proofs.without_search.load_file.Goals as goal
 
 pub returns-in-Ok-clause-loads : goal.returns-in-Ok-clause-loads

@@ -1,4 +1,0 @@
-use Rattle.uci_session.proofs.searching.mate_text.Goals as goal
-
-pub returns-in-Shown : goal.returns-in-Shown
-returns-in-Shown c = rw c.in-Shown.is (c.mate_line.ensures c.in-Shown.strategy)
