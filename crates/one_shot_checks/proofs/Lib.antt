@@ -1,2 +1,0 @@
-pub mod CertLemmas
-pub mod CheckLemmas

@@ -1,3 +1,0 @@
-pub mod ReachText
-pub mod Setup
-pub mod UnplacedView
