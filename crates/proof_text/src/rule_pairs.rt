@@ -5,7 +5,7 @@ ghost use Rattle.variant_ini.specs.LineView.{pair_view};
 ghost use Rattle.variant_model.specs.Told as Told;
 
 use foundation::Memory;
-use section_rules::LetteredSections;
+use variant_rules::LetteredSections;
 use std::alloc::Global;
 use variant_ini::Pair;
 use variant_options::keys::{KEYS, key_at};

@@ -20,7 +20,7 @@ use foundation::{Memory, Text};
 use game_play::Game;
 use move_text::write_move;
 use rules_model::{Move, Position, Rules, Side};
-use section_rules::LetteredSections;
+use variant_rules::LetteredSections;
 use std::alloc::Global;
 use strategy::{Strategy, push_line, push_number, push_text, write};
 use variant_fen::write_fen;

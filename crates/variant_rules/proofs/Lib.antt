@@ -1,5 +1,10 @@
 pub mod BuiltInLaws
+pub mod ChainLaws
 pub mod EntryLemmas
 pub mod FileLemmas
+pub mod FitLaws
+pub mod LetterLemmas
 pub mod PlayableLaws
 pub mod StartLaws
+pub mod TableLemmas
+pub mod TermLaws

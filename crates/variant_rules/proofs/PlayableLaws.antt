@@ -13,7 +13,7 @@ use Rattle.variant_model.specs.declared.fault.SectionFault.{SectionFault}
 use Rattle.variant_model.specs.Entry as section
 use Rattle.variant_model.specs.Made.{no_position, resolved, start_text}
 use Rattle.variant_model.proofs.EntryLaws.{entry_by_fault}
-use Rattle.section_rules.proofs.FitLaws.{accepted_fits, faultless_fits}
+use Rattle.variant_rules.proofs.FitLaws.{accepted_fits, faultless_fits}
 use Rattle.variant_rules.proofs.StartLaws.{sound_at_any_start}
 use Rattle.variant_rules.specs.Playable.{IsPlayable}
 

@@ -1,6 +1,10 @@
 pub mod Entries
 pub mod FaultView
+pub mod Faultless
+pub mod Letters
 pub mod Loading
 pub mod Looked
+pub mod Own
 pub mod Playable
+pub mod Said
 pub mod View

@@ -2,11 +2,21 @@
 #![tactic(auto)]
 
 mod built_in;
+mod contradictions;
 mod fault;
 mod found;
+mod kinds;
 pub mod laws;
+mod lettered;
+mod letters;
+mod lines;
 mod loading;
 mod named;
+mod options;
+mod regions;
+mod resolved;
+mod rules;
+pub mod section_laws;
 mod sections;
 mod variants;
 
@@ -17,3 +27,8 @@ pub use loading::load;
 pub use sections::read_sections;
 pub use variant_model::SectionFault;
 pub use variants::Variants;
+pub use contradictions::{contradiction, rules_fault};
+pub use lettered::LetteredSections;
+pub use lines::own_fault;
+pub use resolved::Resolved;
+pub use rules::bare_rules;

@@ -11,7 +11,7 @@ use crate::named::{Entry, NamedEntry};
 use crate::variants::Variants;
 use foundation::Memory;
 use rules_model::Rules;
-use section_rules::{LetteredSections, Resolved, bare_rules, own_fault, rules_fault};
+use crate::{LetteredSections, Resolved, bare_rules, own_fault, rules_fault};
 use std::alloc::Global;
 use variant_fen::read_fen;
 use variant_ini::Sections;

@@ -1,7 +1,7 @@
 //! Tests of `section_rules`.
 use crate::expect::{expect, expect_eq};
 use rules_model::{Kind, KindRule, Memory, Rules, Square};
-use section_rules::{LetteredSections, Resolved, bare_rules, own_fault, rules_fault};
+use variant_rules::{LetteredSections, Resolved, bare_rules, own_fault, rules_fault};
 use std::alloc::Global;
 use std::io::Write;
 use std::process::Abort;

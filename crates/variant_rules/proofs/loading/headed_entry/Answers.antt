@@ -6,8 +6,8 @@ use Rattle.fen_model.specs.Reading.{fen_of}
 use Rattle.variant_ini.specs.Section.{section_at}
 use Rattle.variant_model.specs.Entry as section
 use Rattle.variant_model.specs.Made.{no_position, resolved, start_text}
-use Rattle.section_rules.specs.Said.{resolved_at}
-use Rattle.section_rules.proofs.FitLaws.{faultless_fits}
+use Rattle.variant_rules.specs.Said.{resolved_at}
+use Rattle.variant_rules.proofs.FitLaws.{faultless_fits}
 use Rattle.variant_rules.proofs.EntryLemmas.{by_own, by_rules, by_start, faultless}
 use Rattle.variant_rules.proofs.loading.headed_entry.Goals as goal
 

@@ -1,4 +1,0 @@
-pub mod Own
-pub mod Letters
-pub mod Said
-pub mod Faultless
