@@ -1,7 +1,10 @@
 //! What a position is worth at a glance: the sum of the pieces of the side to move less that of the other side, each
-//! piece by its kind and by how near it stands to the centre.
+//! piece by its kind and by how near it stands to the centre. The two sums are kept through moves: `Tally::after` looks
+//! at the squares that a move writes, and not at the board.
 //!
-//! The two sums are kept through moves: `Tally::after` looks at the squares that a move writes, and not at the board.
+//! What the value of a game at a depth is, and how many lines a search of it goes along, are definitions
+//! (`specs/Values.antt`, `specs/Bounds.antt`), over any game of two sides and over games by the rules of play with
+//! their whole history. Their laws are the contracts of functions without code (`laws`).
 #![tactic(auto)]
 
 mod after;

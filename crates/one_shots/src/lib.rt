@@ -1,4 +1,10 @@
-//! The answers of one-shot commands: what the words of a command line ask, and the one text that it prints.
+//! The answers of one-shot commands: what the words of a command line ask, and the one text that it prints, or the
+//! fault in its place. `Fault` has the line and the status of each fault, and `Stop` what cuts a run short.
+//!
+//! Some commands have their text from a file of their own: `reach` the squares that a Betza word reaches on a board
+//! that words set up, `random_play` and `report` games of random legal moves, the same on every machine, `checking` and
+//! `certificates` whether a strategy or a certificate of the input holds in its game, `stipulating` the certificates of
+//! a game.
 #![tactic(auto)]
 
 mod answers;

@@ -1,4 +1,6 @@
-//! Suites: many mate problems, solved by workers beside each other, and the report on them.
+//! Mates with their least numbers of moves. `least_win` says within how many of its moves a side wins a game, and how;
+//! `mate_keys` which first moves of a game win it, each within how many; `solve_suite` reads a suite of many mate
+//! problems, has workers solve them beside each other, and makes the report on them.
 #![tactic(auto)]
 
 mod at_once;

@@ -1,5 +1,7 @@
-//! What both protocols share of a search: one depth after another, with a line for each; scores that stand for mates,
-//! and the strategies that show them; mates that are looked for within 1, 2, .. moves; and what cuts all this.
+//! What both protocols share of a search. `search_once` and `solve_once` are one search and one solve of a session, by
+//! what it keeps for them (`EngineState`), over a watch of its ports, and say why they end. `iterative_deepening`
+//! searches one depth after another, with a line for each, and shows scores that stand for mates by a strategy;
+//! `try_mates` looks for mates within 1, 2, .. moves. A line, a limit or a fault cuts all this.
 #![tactic(auto)]
 
 mod deepening;

@@ -1,4 +1,5 @@
-//! A UCI session: one line after another, and what it answers to each.
+//! UCI sessions: what a session keeps between lines, what lines set, and what `go` searches. `serve` answers one line
+//! after another.
 #![tactic(auto)]
 
 mod answering;

@@ -1,4 +1,6 @@
-//! The variants of a variants file: the rules of each section, or its first fault.
+//! The variants that are built in and those of a variants file. `read_sections` reads the file whole and puts its
+//! sections after those that are built in. `load` judges each section: it finds its first fault, in its own lines or
+//! where its options and pieces contradict each other, or makes its rules of these and of what it inherits.
 #![tactic(auto)]
 
 mod built_in;
