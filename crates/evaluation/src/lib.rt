@@ -18,13 +18,13 @@ ghost use Rattle.std.specs.Prelude.{◌≡◌};
 ghost use Rattle.rules_model.specs.Fit.{IsFit};
 ghost use Rattle.evaluation.specs.Evaluation.{evaluation};
 
-pub use piece_values::PieceValues;
-use rules_model::{Position, Rules};
-pub use tally::Tally;
 pub use laws::{
     ended_states_have_the_value_of_their_end, games_are_play, mates_are_near, roots_are_a_set,
     some_root_move_attains_the_value, trees_grow, values_are_scores, values_stay_in_range,
 };
+pub use piece_values::PieceValues;
+use rules_model::{Position, Rules};
+pub use tally::Tally;
 
 /// What the position is worth to the side to move, from -30,000 to 30,000. No memory is taken.
 ///

@@ -22,12 +22,12 @@ mod winning;
 mod work;
 
 pub use fault::{NoSuite, SuiteFault, write_fault};
+pub use first_moves::{Key, Keys, mate_keys};
+pub use keys_fault::KeysFault;
+pub use keys_report::write_keys;
 pub use problem::{Answer, Problem, Solved};
 pub use reading::{MOST_PROBLEMS, Suite, read_suite};
 pub use report::write_report;
 pub use reporting::solve_suite;
 pub use solving::solve_all;
-pub use keys_fault::KeysFault;
-pub use first_moves::{Key, Keys, mate_keys};
-pub use keys_report::write_keys;
 pub use winning::{LeastWin, least_win};
