@@ -1,4 +1,4 @@
-//! Tests of `seeking`.
+//! Tests of one search and one solve of a session, of `thinking`.
 use crate::expect::expect_eq;
 use crate::helpers::go;
 use alpha_beta::Found;

@@ -1,4 +1,4 @@
-//! Tests of `turning`.
+//! Tests of the frame of a session, of `session_model`.
 use crate::expect::{expect, expect_eq};
 use foundation::Memory;
 use io_ports::{Dialect, Got, LineBuf, MAX_LINE, MemSink, MemSource, PollsOwed, SearchFault};

@@ -1,4 +1,4 @@
-//! Tests of `section_rules`.
+//! Tests of the faults and the rules of a section, of `variant_rules`.
 use crate::expect::{expect, expect_eq};
 use rules_model::{Kind, KindRule, Memory, Rules, Square};
 use variant_rules::{LetteredSections, Resolved, bare_rules, own_fault, rules_fault};
