@@ -5,8 +5,8 @@ use Rattle.mate_settle.specs.Tried.{AreTried}
 use Rattle.mate_settle.proofs.TriedLaws.{checks_listed}
 use Rattle.mate_settle.proofs.last_replies.last_moves.Goals as goal
 
-pub returns-in-Some : goal.returns-in-Some
-returns-in-Some c =
+pub returns-in_ok-push_checks-in-Some : goal.returns-in_ok-push_checks-in-Some
+returns-in_ok-push_checks-in-Some c =
     let s = c.args.board.now in
     let Tried : Option Checks → Type 0 = λ o. AreTried s o c.push_checks.new.out in
     subst Tried (sym c.in-Some.is) (checks_listed s _ c.push_checks.new.out (search rules) c.in_ok-push_checks.ensures.ok)
