@@ -17,7 +17,7 @@ use uci_lines::{joined, number, words_in};
 /// The most digits of a `ping`.
 const MOST_DIGITS: usize = 20;
 
-/// A limit of the thinkings after it.
+/// A limit of the searches that follow.
 #[derive(Clone, Copy, PartialEq, Eq)]
 pub enum Limit {
     /// The seconds a move.

@@ -1,4 +1,4 @@
-//! The limits of a thinking.
+//! The limits of a search.
 ghost use Rattle.std.specs.Prelude.{◌≡◌, is_some, if◌then◌else◌};
 ghost use Rattle.session_model.specs.CecpSession as CecpSession;
 
@@ -10,7 +10,7 @@ const MOST_DEPTH: u64 = 64;
 /// The last depth where there is none.
 const SHORT_DEPTH: u64 = 4;
 
-/// The time of a thinking in milliseconds, where it has a deadline: the seconds a move, or else by the level, which is
+/// The time of a search in milliseconds, where it has a deadline: the seconds a move, or else by the level, which is
 /// the moves of a session and the increment in seconds, and the centiseconds that are left.
 pub fn time_for(st: Option<u64>, level: Option<(u64, u64)>, left: Option<u64>) -> Option<u64>
     ensures { result ≡ CecpSession.time_by st level left }
@@ -23,7 +23,7 @@ pub fn time_for(st: Option<u64>, level: Option<(u64, u64)>, left: Option<u64>) -
     Some(allowance(left, increment.saturating_mul(1000), Some(moves)))
 }
 
-/// The last depth of a thinking: 64 where it has a deadline, else 4. A depth that is set lowers it.
+/// The last depth of a search: 64 where it has a deadline, else 4. A depth that is set lowers it.
 pub fn depth_for(time: Option<u64>, depth: Option<u64>) -> u8
     ensures { result ≡ CecpSession.lowered (if is_some time then 64 else 4) depth }
 {

@@ -9,11 +9,11 @@ mod cecp_words;
 #[cfg(test)]
 mod depths;
 #[cfg(test)]
+mod engine_states;
+#[cfg(test)]
 mod expect;
 #[cfg(test)]
 mod helpers;
-#[cfg(test)]
-mod minds;
 #[cfg(test)]
 mod turns;
 #[cfg(test)]

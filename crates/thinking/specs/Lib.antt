@@ -1,9 +1,9 @@
 pub mod Cuts
 pub mod Depths
 pub mod Judging
-pub mod Pools
 pub mod Seeks
 pub mod Settings
 pub mod Tells
 pub mod Tries
 pub mod Views
+pub mod WholeShards

@@ -20,7 +20,7 @@ pub struct EngineState {
     /// Whether the hints are as large as is set. At first they are not: making them would take most of a session's
     /// start.
     is_made: bool,
-    pool: Option<SharedFacts>,
+    facts: Option<SharedFacts>,
     threads: u32,
     hash: u32,
     mate_facts: u32,
@@ -45,7 +45,7 @@ impl EngineState {
         Ok(EngineState {
             hints: HintTable::new(alloc, 1)?,
             is_made: false,
-            pool: None,
+            facts: None,
             threads,
             hash: DEFAULT_HASH,
             mate_facts: DEFAULT_MATE_FACTS,
@@ -106,7 +106,7 @@ impl EngineState {
         requires facts { (16 ≤ mate_facts) × (mate_facts ≤ 65536) }
         ensures { self.new ≡ record self.old { mate_facts = mate_facts } }
     {
-        self.pool = None;
+        self.facts = None;
         self.mate_facts = mate_facts;
     }
 
@@ -120,18 +120,18 @@ impl EngineState {
     /// Takes out the facts that are true in the frame. Out of memory, they are forgotten.
     pub(crate) fn take_facts(&mut self, alloc: Global, frame: Frame) -> Result<SharedFacts, Memory>
         ensures same { self.new ≡ self.old }
-        ensures frame { IfOk result (λ pool. pool ≡ frame) }
+        ensures frame { IfOk result (λ facts. facts ≡ frame) }
     {
-        match self.pool.take() {
-            Some(pool) => pool.rebased(frame),
+        match self.facts.take() {
+            Some(facts) => facts.rebased(frame),
             None => SharedFacts::new(alloc, frame, self.mate_facts),
         }
     }
 
     /// Keeps facts for the next solve.
-    pub(crate) fn put_facts(&mut self, pool: SharedFacts)
+    pub(crate) fn put_facts(&mut self, facts: SharedFacts)
         ensures { self.new ≡ self.old }
     {
-        self.pool = Some(pool);
+        self.facts = Some(facts);
     }
 }

@@ -22,20 +22,20 @@ pub(crate) struct SharedFacts {
 
 impl Model for SharedFacts {
     ghost use Rattle.mate_core.specs.declared.frame.Frame.{Frame};
-    ghost use Rattle.thinking.specs.Pools.{AreWhole};
+    ghost use Rattle.thinking.specs.WholeShards.{AreWhole};
 
     ghost Value = { Frame };
 
-    ghost view = { λ pool. pool.shards.frame };
+    ghost view = { λ facts. facts.shards.frame };
 
-    ghost invariant = { λ pool. AreWhole pool.shards pool.passes };
+    ghost invariant = { λ facts. AreWhole facts.shards facts.passes };
 }
 
 impl SharedFacts {
     /// Without facts, with room for N in a shard.
     pub fn new(alloc: Global, frame: Frame, capacity: u32) -> Result<SharedFacts, Memory>
         requires { (16 ≤ capacity) × (capacity ≤ 65536) }
-        ensures { IfOk result (λ pool. pool ≡ frame) }
+        ensures { IfOk result (λ facts. facts ≡ frame) }
     {
         let (shards, passes) = Shards::new(alloc, frame, SHARDS, capacity)?;
         Ok(SharedFacts { shards, passes })
@@ -43,7 +43,7 @@ impl SharedFacts {
 
     /// With the facts that are still true in another frame, as far as the shards know.
     pub fn rebased(self, frame: Frame) -> Result<SharedFacts, Memory>
-        ensures { IfOk result (λ pool. pool ≡ frame) }
+        ensures { IfOk result (λ facts. facts ≡ frame) }
     {
         let (shards, passes) = self.into_parts();
         let (shards, passes) = shards.rebase(passes, frame)?;

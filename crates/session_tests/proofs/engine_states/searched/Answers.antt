@@ -5,7 +5,7 @@ use Rattle.foundation.specs.Member.{Member}
 use Rattle.foundation.proofs.Members.{member-contains}
 use Rattle.rules_model.specs.declared.moves.Move.{Move}
 use Rattle.game_play.specs.Played.{legal_in}
-use Rattle.session_tests.proofs.minds.searched.Goals as goal
+use Rattle.session_tests.proofs.engine_states.searched.Goals as goal
 
 all-members : (ms : List Move) → All (λ m. Member m ms) ms
 all-members ms = λ k d lt. member-contains (get_or ms k d) ms (Contains-get_or ms k d lt)
