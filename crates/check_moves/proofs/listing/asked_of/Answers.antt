@@ -1,10 +1,9 @@
 use Rattle.std.proofs.Common.{◌≡◌, ℕ, ◌<◌, ◌≤◌, rules, true, length, refl, sym, ◌∙◌, subst, arith}
-use Rattle.std.proofs.lemmas.Bool.{or_left, or_parts, or_right}
+use Rattle.std.proofs.lemmas.Bool.{or_parts, or_right}
 use Rattle.rules_model.specs.declared.board.Position.{Position}
 use Rattle.rules_model.specs.declared.rules.Rules.{Rules}
 use Rattle.rules_model.specs.Pawns.{is_ep}
 use Rattle.rules_model.specs.Sides.{other}
-use Rattle.square_set.specs.declared.Set.{Set}
 use Rattle.square_set.specs.Members.{has}
 use Rattle.attack_tables.proofs.AttackLaws.{kings_small}
 use Rattle.check_moves.specs.Listing.{AreTakers}
@@ -34,9 +33,9 @@ loop-kind-preserved c =
     record {
       whole = search rules;
       kinds = set_more (λ k set. AreTakers s.rules s.position.side k kings set) sets kind new small c.loop-kind.invariant.kinds
-      (λ king member from low out. takers king member from low (or_parts (has c.takers_of_kings.result from) (has c.passed_square-passed.result from) (sym (c.or.ensures from) ∙ out)).0);
+          (λ king member from low out. takers king member from low (or_parts (has c.takers_of_kings.result from) (has c.passed_square-passed.result from) (sym (c.or.ensures from) ∙ out)).0);
       passed = set_more (λ k set. (at : ℕ) → at < 120 → is_ep s.position.ep at ≡ true → has set at ≡ true) sets kind new small c.loop-kind.invariant.passed
-      (λ at low ep. c.or.ensures at ∙ or_right (has c.takers_of_kings.result at) (has c.passed_square-passed.result at) (passed at ep low));
+          (λ at low ep. c.or.ensures at ∙ or_right (has c.takers_of_kings.result at) (has c.passed_square-passed.result at) (passed at ep low));
     }
 
 pub returns : goal.returns

@@ -9,7 +9,7 @@ pub returns-in_ok-push_checks-in-Some : goal.returns-in_ok-push_checks-in-Some
 returns-in_ok-push_checks-in-Some c =
     let s = c.args.board.now in
     let Tried : Option Checks → Type 0 = λ o. AreTried s o c.push_checks.new.out in
-    subst Tried (sym c.in-Some.is) (checks_listed s _ c.push_checks.new.out (search rules) c.in_ok-push_checks.ensures.ok)
+    subst Tried (sym c.in-Some.is) (checks_listed s _ c.push_checks.new.out (search rules) c.in_ok-push_checks-in-Some.ensures.ok)
 
 pub returns-in-None : goal.returns-in-None
 returns-in-None c =
