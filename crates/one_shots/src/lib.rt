@@ -2,40 +2,22 @@
 #![tactic(auto)]
 
 mod answers;
-mod certificates;
-mod check_laws;
-mod checking;
-mod fault;
 mod first_moves;
 mod game;
 mod generating;
 mod laws;
-mod no_answer;
 mod no_variant;
 mod opening;
 mod pn_mate_text;
 mod random_play;
-mod reach;
 mod report;
 mod rules_text;
 mod sections;
-mod setup;
-mod stipulating;
-mod stop;
 mod suite_text;
 mod variants;
 
 pub use answers::{Answer, answer_of, answer_to};
 pub use laws::{printed_rules_are_read_back, words_have_one_answer};
 pub use opening::{Opened, open};
-pub use certificates::cert_check_text;
-pub use checking::check_text;
-pub use check_laws::{checked_certificates_hold, checked_games_are_won, printed_certificates_hold};
-pub use stipulating::{help_mate_of, self_mate_of};
-pub use fault::Fault;
-pub use no_answer::NoAnswer;
-pub use stop::{NO_MEMORY, SINK_FAILED, SOURCE_FAILED, Stop};
-pub use reach::reach_text;
-pub use setup::{ReachFault, Setup, set_up};
 pub use random_play::random_game;
 pub use report::report_of;

@@ -3,7 +3,7 @@ ghost use Rattle.std.specs.Prelude.{◌≡◌, IfOk};
 
 use foundation::Text;
 use game_text::{GameFault, copy_of};
-use crate::{Fault, NoAnswer};
+use one_shot_checks::{Fault, NoAnswer};
 use std::alloc::{AllocError, Global};
 use variant_model::SectionFault;
 

@@ -6,7 +6,7 @@ ghost use Rattle.one_shots.specs.OpeningView.{HasSections};
 ghost use Rattle.words.specs.View.{text_in};
 
 use io_ports::Files;
-use crate::NoAnswer;
+use one_shot_checks::NoAnswer;
 use std::alloc::Global;
 use variant_rules::{builtin, read_sections};
 use variant_ini::Sections;
