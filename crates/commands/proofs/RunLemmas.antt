@@ -17,11 +17,11 @@ use Rattle.words.specs.Command.{Command, Uci, Xboard, Moves as MovesOf, Status, 
 use Rattle.words.specs.Options.{Text}
 use Rattle.words.specs.View.{asked_seen, command_seen}
 use Rattle.one_shots.specs.declared.answers.Answer.{Answer}
-use Rattle.one_shots.specs.declared.no_answer.NoAnswer.{NoAnswer}
-use Rattle.one_shots.specs.declared.no_answer.NoAnswer.TheVariants as no_answer
+use Rattle.one_shot_checks.specs.declared.no_answer.NoAnswer.{NoAnswer}
+use Rattle.one_shot_checks.specs.declared.no_answer.NoAnswer.TheVariants as no_answer
 use Rattle.one_shots.specs.declared.opening.Opened.{Opened}
-use Rattle.one_shots.specs.declared.stop.Stop.{Stop}
-use Rattle.one_shots.specs.declared.stop.Stop.TheVariants as stop
+use Rattle.one_shot_checks.specs.declared.stop.Stop.{Stop}
+use Rattle.one_shot_checks.specs.declared.stop.Stop.TheVariants as stop
 use Rattle.one_shots.specs.Commands.{IsOneShot, asks_file, asks_input, lines_asked, lines_needed}
 use Rattle.one_shots.specs.OpeningView.{Opens}
 use Rattle.one_shots.specs.OutcomeView.{Finishes, OutcomeOf}
@@ -35,7 +35,7 @@ use Rattle.commands.specs.Run.{Completes, Did, FilesFailed, HasFileCause, May, P
 use Rattle.one_shots.specs.Statuses.{IsCut, IsDone}
 use Rattle.one_shots.specs.Sessions.{is_session, to_do}
 use Rattle.one_shots.specs.Shot.{Shot, Says, SaysCommand}
-use Rattle.one_shots.specs.StopView.{IsUnread, IsUnsaid}
+use Rattle.one_shot_checks.specs.StopView.{IsUnread, IsUnsaid}
 use Rattle.one_shots.specs.Variants.{AreFirstReads, fault_in, sections_in}
 use Rattle.one_shots.proofs.FileLemmas.{no_further, reads_on, same_reads}
 use Rattle.one_shots.proofs.HeardLemmas.{settle}

@@ -37,13 +37,13 @@ use Rattle.words.specs.Command.{Command, Uci, Xboard, Moves as MovesOf, Status, 
 use Rattle.words.specs.Options.{Text}
 use Rattle.words.specs.View.{asked_seen, command_seen}
 use Rattle.one_shots.specs.declared.answers.Answer.{Answer}
-use Rattle.one_shots.specs.declared.fault.Fault.{Fault}
-use Rattle.one_shots.specs.declared.no_answer.NoAnswer.{NoAnswer}
+use Rattle.one_shot_checks.specs.declared.fault.Fault.{Fault}
+use Rattle.one_shot_checks.specs.declared.no_answer.NoAnswer.{NoAnswer}
 use Rattle.one_shots.specs.declared.opening.Opened.{Opened}
-use Rattle.one_shots.specs.declared.stop.Stop.{Stop}
-use Rattle.one_shots.specs.declared.stop.Stop.TheVariants as stop
+use Rattle.one_shot_checks.specs.declared.stop.Stop.{Stop}
+use Rattle.one_shot_checks.specs.declared.stop.Stop.TheVariants as stop
 use Rattle.one_shots.specs.Commands.{IsOneShot, asks_file, lines_asked, lines_needed}
-use Rattle.one_shots.specs.Fault.{error_line, fault_status, fault_text}
+use Rattle.one_shot_checks.specs.Fault.{error_line, fault_status, fault_text}
 use Rattle.one_shots.specs.OpeningView.{Opens}
 use Rattle.one_shots.specs.OutcomeView.{Finishes, OutcomeOf}
 use Rattle.one_shots.specs.Looked.{TellsReads}

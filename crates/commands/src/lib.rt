@@ -4,5 +4,5 @@
 mod program;
 mod sessions;
 
-pub use one_shots::NO_MEMORY;
+pub use one_shot_checks::NO_MEMORY;
 pub use program::run;

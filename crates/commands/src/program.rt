@@ -10,7 +10,8 @@ ghost use Rattle.one_shots.specs.Sessions.{to_do};
 
 use crate::sessions::{dialect_of, speak, status_of};
 use io_ports::{Clock, Files, Gate, Sink, Source};
-use one_shots::{Answer, NO_MEMORY, SINK_FAILED, SOURCE_FAILED, Stop, answer_of, answer_to, open};
+use one_shot_checks::{NO_MEMORY, SINK_FAILED, SOURCE_FAILED, Stop};
+use one_shots::{Answer, answer_of, answer_to, open};
 use std::alloc::Global;
 use std::sync::Wait;
 use std::thread::Threads;

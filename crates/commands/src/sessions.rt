@@ -9,7 +9,7 @@ ghost use Rattle.words.specs.View.{command_seen};
 
 use cecp_front::CecpSession;
 use io_ports::{Clock, Dialect, Files, Gate, Ports, SearchFault, Sink, Source};
-use one_shots::{NO_MEMORY, SINK_FAILED, SOURCE_FAILED};
+use one_shot_checks::{NO_MEMORY, SINK_FAILED, SOURCE_FAILED};
 use session_model::laws::variants_have_places;
 use std::alloc::Global;
 use std::sync::Wait;

@@ -18,20 +18,20 @@ use Rattle.game_text.specs.GameText.{game_of, lines_of_game}
 use Rattle.game_text.specs.HeardLines.{HeardLines}
 use Rattle.game_text.specs.ReadView as read
 use Rattle.one_shots.specs.declared.answers.Answer.{Answer}
-use Rattle.one_shots.specs.declared.no_answer.NoAnswer.{NoAnswer}
-use Rattle.one_shots.specs.declared.no_answer.NoAnswer.TheVariants.{Usage, Fault, Stop}
-use Rattle.one_shots.specs.declared.fault.Fault.{Fault as Why}
-use Rattle.one_shots.specs.declared.stop.Stop.{Stop as Cut}
-use Rattle.one_shots.specs.declared.stop.Stop.TheVariants as stop
-use Rattle.one_shots.specs.Fault.{error_line, fault_status, fault_text}
+use Rattle.one_shot_checks.specs.declared.no_answer.NoAnswer.{NoAnswer}
+use Rattle.one_shot_checks.specs.declared.no_answer.NoAnswer.TheVariants.{Usage, Fault, Stop}
+use Rattle.one_shot_checks.specs.declared.fault.Fault.{Fault as Why}
+use Rattle.one_shot_checks.specs.declared.stop.Stop.{Stop as Cut}
+use Rattle.one_shot_checks.specs.declared.stop.Stop.TheVariants as stop
+use Rattle.one_shot_checks.specs.Fault.{error_line, fault_status, fault_text}
 use Rattle.one_shots.specs.GameView.{SaysGame}
-use Rattle.one_shots.specs.NoAnswerView.{Answers, IsUnheard, betza_no_answer, game_no_answer}
+use Rattle.one_shot_checks.specs.NoAnswerView.{Answers, IsUnheard, betza_no_answer, game_no_answer}
 use Rattle.one_shots.specs.OutcomeView.{OutcomeOf}
-use Rattle.one_shots.specs.ReachText.{reach_text}
-use Rattle.one_shots.specs.Setup.{setup_of}
+use Rattle.one_shot_checks.specs.ReachText.{reach_text}
+use Rattle.one_shot_checks.specs.Setup.{setup_of}
 use Rattle.one_shots.specs.Shot.{SaysOf, SaysReach, reached, faulty_word}
-use Rattle.one_shots.specs.StopView.{IsUnread, IsUnsaid}
-use Rattle.one_shots.proofs.NoAnswerLemmas.{says_at}
+use Rattle.one_shot_checks.specs.StopView.{IsUnread, IsUnsaid}
+use Rattle.one_shot_checks.proofs.NoAnswerLemmas.{says_at}
 
 -- ---- the commands
 

@@ -6,15 +6,15 @@ use Rattle.io_ports.specs.Files.{Contents, Read, Found, Bytes, Missing, TooLarge
 use Rattle.variant_ini.specs.declared.fault.IniFault.{IniFault}
 use Rattle.variant_ini.specs.Reading.{fault_of}
 use Rattle.variant_ini.specs.Section.{Section}
-use Rattle.one_shots.specs.declared.fault.Fault.{Fault as Why}
-use Rattle.one_shots.specs.declared.fault.Fault.TheVariants.{Load}
+use Rattle.one_shot_checks.specs.declared.fault.Fault.{Fault as Why}
+use Rattle.one_shot_checks.specs.declared.fault.Fault.TheVariants.{Load}
 use Rattle.variant_rules.specs.declared.fault.LoadFault.TheVariants.{Ini}
 use Rattle.variant_rules.specs.declared.fault.NoSections.{NoSections}
 use Rattle.variant_rules.specs.declared.fault.NoSections.TheVariants as no_sections
 use Rattle.variant_rules.specs.Looked.{HasSections as Loads}
 use Rattle.one_shots.specs.Commands.{asks_file}
-use Rattle.one_shots.specs.Fault.{fault_status}
-use Rattle.one_shots.specs.NoAnswerView.{load_no_answer}
+use Rattle.one_shot_checks.specs.Fault.{fault_status}
+use Rattle.one_shot_checks.specs.NoAnswerView.{load_no_answer}
 use Rattle.one_shots.specs.OpeningView.{AreFirstOrNone, HasSections}
 use Rattle.one_shots.specs.Looked.{IsTooLarge, TellsReads}
 use Rattle.session_model.specs.Turned.{Further}

@@ -8,8 +8,8 @@ use Rattle.session_model.specs.Generate.{SaysGenerate, SaysGenerated, generated,
 use Rattle.variant_ini.specs.Section.{Section}
 use Rattle.variant_model.specs.declared.fault.SectionFault.{SectionFault}
 use Rattle.variant_rules.specs.Entries.{entries, found}
-use Rattle.one_shots.specs.declared.no_answer.NoAnswer.{NoAnswer}
-use Rattle.one_shots.specs.NoAnswerView.{Answers}
+use Rattle.one_shot_checks.specs.declared.no_answer.NoAnswer.{NoAnswer}
+use Rattle.one_shot_checks.specs.NoAnswerView.{Answers}
 
 module _ (name : List ℕ) (number plies : ℕ) where
   some_of : (o : Option (Result Rules SectionFault)) → (status : ℕ) × (text : List ℕ) × SaysGenerated name number plies o status text

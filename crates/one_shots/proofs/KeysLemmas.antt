@@ -11,13 +11,13 @@ use Rattle.suite.specs.declared.keys_fault.KeysFault.{KeysFault}
 use Rattle.suite.specs.declared.first_moves.Key.{Key}
 use Rattle.suite.specs.FirstMoves.{keys_fault_text, mate_keys}
 use Rattle.suite.specs.KeysText.{keys_text}
-use Rattle.one_shots.specs.declared.fault.Fault.{Fault as Why}
-use Rattle.one_shots.specs.declared.no_answer.NoAnswer.{NoAnswer}
-use Rattle.one_shots.specs.declared.no_answer.NoAnswer.TheVariants.{Usage, Fault, Stop}
-use Rattle.one_shots.specs.declared.stop.Stop.TheVariants as stop
-use Rattle.one_shots.specs.Fault.{error_line, fault_status, fault_text}
+use Rattle.one_shot_checks.specs.declared.fault.Fault.{Fault as Why}
+use Rattle.one_shot_checks.specs.declared.no_answer.NoAnswer.{NoAnswer}
+use Rattle.one_shot_checks.specs.declared.no_answer.NoAnswer.TheVariants.{Usage, Fault, Stop}
+use Rattle.one_shot_checks.specs.declared.stop.Stop.TheVariants as stop
+use Rattle.one_shot_checks.specs.Fault.{error_line, fault_status, fault_text}
 use Rattle.one_shots.specs.GameView.{SaysGame}
-use Rattle.one_shots.specs.NoAnswerView.{Answers}
+use Rattle.one_shot_checks.specs.NoAnswerView.{Answers}
 use Rattle.one_shots.specs.FirstMoves.{SaysKeyList, SaysKeys, SaysKeysOf}
 
 -- ---- what was read, where it gives no answer

@@ -9,13 +9,13 @@ use Rattle.game_text.specs.Fault as game
 use Rattle.game_text.specs.GameText.{game_of}
 use Rattle.pn_search.specs.declared.fault.PnFault.{PnFault}
 use Rattle.pn_search.specs.MateCount.{mate_count, pn_fault_text}
-use Rattle.one_shots.specs.declared.fault.Fault.{Fault as Why}
-use Rattle.one_shots.specs.declared.no_answer.NoAnswer.{NoAnswer}
-use Rattle.one_shots.specs.declared.no_answer.NoAnswer.TheVariants.{Usage, Fault, Stop}
-use Rattle.one_shots.specs.declared.stop.Stop.TheVariants as stop
-use Rattle.one_shots.specs.Fault.{error_line, fault_status, fault_text}
+use Rattle.one_shot_checks.specs.declared.fault.Fault.{Fault as Why}
+use Rattle.one_shot_checks.specs.declared.no_answer.NoAnswer.{NoAnswer}
+use Rattle.one_shot_checks.specs.declared.no_answer.NoAnswer.TheVariants.{Usage, Fault, Stop}
+use Rattle.one_shot_checks.specs.declared.stop.Stop.TheVariants as stop
+use Rattle.one_shot_checks.specs.Fault.{error_line, fault_status, fault_text}
 use Rattle.one_shots.specs.GameView.{SaysGame}
-use Rattle.one_shots.specs.NoAnswerView.{Answers}
+use Rattle.one_shot_checks.specs.NoAnswerView.{Answers}
 use Rattle.one_shots.specs.PnMates.{SaysMateCount, SaysMateOf, SaysPnMate, mate_line}
 
 -- ---- what was read, where it gives no answer

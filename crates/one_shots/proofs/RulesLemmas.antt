@@ -12,9 +12,9 @@ use Rattle.game_text.specs.Fault.{fault_text}
 use Rattle.game_text.specs.declared.fault.GameFault.TheVariants.{UnknownVariant, RefusedVariant}
 use Rattle.session_model.proofs.Variants.{variant_places}
 use Rattle.session_model.specs.Laws.{VariantPlaces}
-use Rattle.one_shots.specs.declared.no_answer.NoAnswer.{NoAnswer}
-use Rattle.one_shots.specs.Fault.{error_line}
-use Rattle.one_shots.specs.NoAnswerView.{Answers}
+use Rattle.one_shot_checks.specs.declared.no_answer.NoAnswer.{NoAnswer}
+use Rattle.one_shot_checks.specs.Fault.{error_line}
+use Rattle.one_shot_checks.specs.NoAnswerView.{Answers}
 use Rattle.one_shots.specs.RulesTold.{SaysRules, SaysTold}
 
 -- ---- exactly one answer

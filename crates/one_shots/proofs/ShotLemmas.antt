@@ -25,26 +25,26 @@ use Rattle.game_text.specs.GameText.{game_of}
 use Rattle.words.specs.Asked.{Asked}
 use Rattle.words.specs.Command.{Command, Uci, Xboard, Moves, Status, Perft, Check, SelfMate, HelpMate, CheckCert, Variants, Reach, Generate, RulesOf, Suite, PnMate, Keys}
 use Rattle.words.specs.Options.{Text}
-use Rattle.one_shots.specs.declared.fault.Fault.{Fault}
-use Rattle.one_shots.specs.declared.fault.Fault.TheVariants as fault
+use Rattle.one_shot_checks.specs.declared.fault.Fault.{Fault}
+use Rattle.one_shot_checks.specs.declared.fault.Fault.TheVariants as fault
 use Rattle.variant_rules.specs.declared.fault.FileFault.TheVariants.{Failed}
 use Rattle.variant_rules.specs.declared.fault.LoadFault.TheVariants.{File}
 use Rattle.one_shots.specs.Commands.{IsOneShot, asks_input, reads_input}
-use Rattle.one_shots.specs.Fault.{FaultClass, OfFile, OfInput, class_status, error_line, facts, fault_status, fault_text}
-use Rattle.one_shots.specs.Setup.{unplaced_text}
+use Rattle.one_shot_checks.specs.Fault.{FaultClass, OfFile, OfInput, class_status, error_line, facts, fault_status, fault_text}
+use Rattle.one_shot_checks.specs.Setup.{unplaced_text}
 use Rattle.game_text.specs.GameTexts.{moves_of, status_of, perft_of}
-use Rattle.one_shots.specs.GameTexts.{self_mate_of, help_mate_of}
-use Rattle.one_shots.specs.ReachText.{reach_text}
+use Rattle.one_shot_checks.specs.GameTexts.{self_mate_of, help_mate_of}
+use Rattle.one_shot_checks.specs.ReachText.{reach_text}
 use Rattle.one_shots.specs.Looked.{TellsReads}
 use Rattle.one_shots.specs.Statuses.{IsCut, IsDone, IsUnreadable, NamesFile}
 use Rattle.one_shots.specs.Sessions.{is_session, to_do}
-use Rattle.one_shots.specs.Setup.{Unplaced, setup_of}
+use Rattle.one_shot_checks.specs.Setup.{Unplaced, setup_of}
 use Rattle.one_shots.specs.Shot.{Shot, Says, SaysAsked, SaysCommand, SaysFault, SaysLoaded, SaysOf, SaysReach, reached, faulty_word, faulty_square}
-use Rattle.one_shots.specs.Fault.{usage_line}
+use Rattle.one_shot_checks.specs.Fault.{usage_line}
 use Rattle.one_shots.specs.Variants.{AreFirstReads, AreReadsOf, fault_found, fault_in, sections_in}
 use Rattle.one_shots.specs.VariantsText.{variants_text}
-use Rattle.one_shots.proofs.CertLemmas.{cert_done, cert_once, cert_some}
-use Rattle.one_shots.proofs.CheckLemmas.{check_done, check_once, check_some}
+use Rattle.one_shot_checks.proofs.CertLemmas.{cert_done, cert_once, cert_some}
+use Rattle.one_shot_checks.proofs.CheckLemmas.{check_done, check_once, check_some}
 use Rattle.one_shots.proofs.FileLemmas.{same_reads, why_unread}
 use Rattle.one_shots.proofs.GenerateLemmas.{generate_done, generate_once, generate_some}
 use Rattle.one_shots.proofs.KeysLemmas.{keys_done, keys_once, keys_some}

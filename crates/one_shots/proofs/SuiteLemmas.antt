@@ -11,8 +11,8 @@ use Rattle.suite.specs.Fault.{fault_text}
 use Rattle.suite.specs.ReadView as read
 use Rattle.suite.specs.Report.{suite_report}
 use Rattle.suite.specs.Suite.{lines_of_suite}
-use Rattle.one_shots.specs.Fault.{error_line}
-use Rattle.one_shots.specs.NoAnswerView.{Answers, IsUnheard, suite_no_answer}
+use Rattle.one_shot_checks.specs.Fault.{error_line}
+use Rattle.one_shot_checks.specs.NoAnswerView.{Answers, IsUnheard, suite_no_answer}
 use Rattle.one_shots.specs.Suites.{SaysReport, SaysSuite}
 
 -- ---- what was read, where it gives no answer

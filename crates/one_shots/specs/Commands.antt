@@ -9,9 +9,9 @@ use Rattle.game_text.specs.GameText.{lines_of_game}
 use Rattle.suite.specs.Suite.{lines_of_suite}
 use Rattle.words.specs.Asked.{Asked}
 use Rattle.words.specs.Command.{Command, Uci, Xboard, Moves, Status, Perft, Check, SelfMate, HelpMate, CheckCert, Variants, Reach, Generate, RulesOf, Suite, PnMate, Keys}
-use Rattle.one_shots.specs.declared.fault.Fault.{Fault}
-use Rattle.one_shots.specs.Checking.{lines_of_check}
-use Rattle.one_shots.specs.Certificates.{lines_of_cert_check}
+use Rattle.one_shot_checks.specs.declared.fault.Fault.{Fault}
+use Rattle.one_shot_checks.specs.Checking.{lines_of_check}
+use Rattle.one_shot_checks.specs.Certificates.{lines_of_cert_check}
 use Rattle.one_shots.specs.Sessions.{is_session, lines_wanted}
 use Rattle.one_shots.specs.Variants.{fault_in, sections_in}
 

@@ -11,7 +11,7 @@ use Rattle.suite.specs.declared.keys_fault.KeysFault.{KeysFault}
 use Rattle.suite.specs.declared.first_moves.Key.{Key}
 use Rattle.suite.specs.FirstMoves.{keys_fault_text, mate_keys}
 use Rattle.suite.specs.KeysText.{keys_text}
-use Rattle.one_shots.specs.Fault.{error_line}
+use Rattle.one_shot_checks.specs.Fault.{error_line}
 
 -- the moves, each within how many moves, or why the game is not asked
 abbrev pub SaysKeyList : Result (List Key) KeysFault → ℕ → List ℕ → Type 0

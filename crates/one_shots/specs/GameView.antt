@@ -2,11 +2,11 @@
 use Rattle.std.specs.Prelude.{◌≡◌, Result, Ok, Err, ⊤}
 use Rattle.game_play.specs.Played.{Played}
 use Rattle.game_text.specs.declared.fault.GameFault.{GameFault}
-use Rattle.one_shots.specs.declared.fault.Fault.{Fault}
-use Rattle.one_shots.specs.declared.fault.Fault.TheVariants.{Game}
-use Rattle.one_shots.specs.declared.no_answer.NoAnswer.{NoAnswer}
-use Rattle.one_shots.specs.declared.no_answer.NoAnswer.TheVariants as no_answer
-use Rattle.one_shots.specs.declared.stop.Stop.TheVariants as stop
+use Rattle.one_shot_checks.specs.declared.fault.Fault.{Fault}
+use Rattle.one_shot_checks.specs.declared.fault.Fault.TheVariants.{Game}
+use Rattle.one_shot_checks.specs.declared.no_answer.NoAnswer.{NoAnswer}
+use Rattle.one_shot_checks.specs.declared.no_answer.NoAnswer.TheVariants as no_answer
+use Rattle.one_shot_checks.specs.declared.stop.Stop.TheVariants as stop
 
 -- the game text has this fault
 pub record IsGameFault (said : Result Played GameFault) (fault : Fault) : Type 0 where

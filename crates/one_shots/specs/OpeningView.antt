@@ -2,10 +2,10 @@
 use Rattle.std.specs.Prelude.{◌≡◌, ◌⊎◌, List, [], Option, Some, None, Result, Ok, Err, ⊤}
 use Rattle.io_ports.specs.Files.{Read}
 use Rattle.variant_ini.specs.Section.{Section}
-use Rattle.one_shots.specs.declared.fault.Fault.{Fault}
-use Rattle.one_shots.specs.declared.no_answer.NoAnswer.{NoAnswer}
-use Rattle.one_shots.specs.declared.no_answer.NoAnswer.TheVariants as no_answer
-use Rattle.one_shots.specs.declared.stop.Stop.TheVariants as stop
+use Rattle.one_shot_checks.specs.declared.fault.Fault.{Fault}
+use Rattle.one_shot_checks.specs.declared.no_answer.NoAnswer.{NoAnswer}
+use Rattle.one_shot_checks.specs.declared.no_answer.NoAnswer.TheVariants as no_answer
+use Rattle.one_shot_checks.specs.declared.stop.Stop.TheVariants as stop
 use Rattle.one_shots.specs.declared.opening.Opened.{Opened}
 use Rattle.one_shots.specs.Variants.{Accepts, AreFirstReads, AreReadsOf, Refuses, sections_in}
 use Rattle.words.specs.declared.reading.Asked.{Asked as GivenAsked}

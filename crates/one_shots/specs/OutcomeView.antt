@@ -3,11 +3,11 @@ use Rattle.std.specs.Prelude.{◌≡◌, ◌⊎◌, ℕ, List, [], Option, Resul
 use Rattle.std.specs.Io.KnownBytes.{Appends}
 use Rattle.io_ports.specs.Cause.{Rose}
 use Rattle.io_ports.specs.Sink.{AppendsFront}
-use Rattle.one_shots.specs.declared.no_answer.NoAnswer.{NoAnswer}
-use Rattle.one_shots.specs.declared.no_answer.NoAnswer.TheVariants as no_answer
-use Rattle.one_shots.specs.declared.stop.Stop.{Stop}
-use Rattle.one_shots.specs.declared.stop.Stop.TheVariants as stop
-use Rattle.one_shots.specs.Fault.{error_line, fault_status, fault_text, usage_line}
+use Rattle.one_shot_checks.specs.declared.no_answer.NoAnswer.{NoAnswer}
+use Rattle.one_shot_checks.specs.declared.no_answer.NoAnswer.TheVariants as no_answer
+use Rattle.one_shot_checks.specs.declared.stop.Stop.{Stop}
+use Rattle.one_shot_checks.specs.declared.stop.Stop.TheVariants as stop
+use Rattle.one_shot_checks.specs.Fault.{error_line, fault_status, fault_text, usage_line}
 use Rattle.one_shots.specs.declared.answers.Answer.{Answer}
 
 -- the answer has the status and the text of the outcome. A run that was cut short stays so, and any other may be out

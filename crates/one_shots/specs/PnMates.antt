@@ -10,7 +10,7 @@ use Rattle.game_text.specs.Fault as game
 use Rattle.game_text.specs.GameText.{game_of}
 use Rattle.pn_search.specs.declared.fault.PnFault.{PnFault}
 use Rattle.pn_search.specs.MateCount.{mate_count, pn_fault_text}
-use Rattle.one_shots.specs.Fault.{error_line}
+use Rattle.one_shot_checks.specs.Fault.{error_line}
 
 -- a number of moves, or that there is none
 abbrev pub mate_line : Option ℕ → List ℕ

@@ -8,7 +8,7 @@ use Rattle.variant_rules.specs.Entries.{entries, found}
 use Rattle.proof_text.specs.Writing.{header_text, section_text}
 use Rattle.game_text.specs.Fault.{fault_text}
 use Rattle.game_text.specs.declared.fault.GameFault.TheVariants.{UnknownVariant, RefusedVariant}
-use Rattle.one_shots.specs.Fault.{error_line}
+use Rattle.one_shot_checks.specs.Fault.{error_line}
 
 -- A fault of the variant, or the lines that its section tells. A variant that is found has a section, at a place.
 abbrev pub SaysTold : List Section → List ℕ → Option (Result Rules SectionFault) → Option ℕ → ℕ → List ℕ → Type 0

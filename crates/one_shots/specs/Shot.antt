@@ -18,18 +18,18 @@ use Rattle.game_text.specs.GameText.{game_of}
 use Rattle.session_model.specs.Generate.{SaysGenerate}
 use Rattle.words.specs.Asked.{Asked}
 use Rattle.words.specs.Command.{Command, Uci, Xboard, Moves, Status, Perft, Check, SelfMate, HelpMate, CheckCert, Variants, Reach, Generate, RulesOf, Suite, PnMate, Keys}
-use Rattle.one_shots.specs.declared.fault.Fault.{Fault}
-use Rattle.one_shots.specs.Certificates.{SaysCertCheck}
-use Rattle.one_shots.specs.Checking.{SaysCheck}
-use Rattle.one_shots.specs.Fault.{error_line, fault_status, fault_text, usage_line}
-use Rattle.one_shots.specs.Setup.{unplaced_text}
+use Rattle.one_shot_checks.specs.declared.fault.Fault.{Fault}
+use Rattle.one_shot_checks.specs.Certificates.{SaysCertCheck}
+use Rattle.one_shot_checks.specs.Checking.{SaysCheck}
+use Rattle.one_shot_checks.specs.Fault.{error_line, fault_status, fault_text, usage_line}
+use Rattle.one_shot_checks.specs.Setup.{unplaced_text}
 use Rattle.game_text.specs.GameTexts.{moves_of, status_of, perft_of}
-use Rattle.one_shots.specs.GameTexts.{self_mate_of, help_mate_of}
-use Rattle.one_shots.specs.ReachText.{reach_text}
+use Rattle.one_shot_checks.specs.GameTexts.{self_mate_of, help_mate_of}
+use Rattle.one_shot_checks.specs.ReachText.{reach_text}
 use Rattle.one_shots.specs.Sessions.{to_do}
 use Rattle.one_shots.specs.FirstMoves.{SaysKeys}
 use Rattle.one_shots.specs.PnMates.{SaysPnMate}
-use Rattle.one_shots.specs.Setup.{Unplaced, setup_of}
+use Rattle.one_shot_checks.specs.Setup.{Unplaced, setup_of}
 use Rattle.one_shots.specs.RulesTold.{SaysRules}
 use Rattle.one_shots.specs.Suites.{SaysSuite}
 use Rattle.one_shots.specs.Variants.{AreFirstReads, fault_in, sections_in}

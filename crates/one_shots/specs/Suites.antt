@@ -5,7 +5,7 @@ use Rattle.variant_rules.specs.Entries.{Named}
 use Rattle.suite.specs.declared.fault.SuiteFault.{SuiteFault}
 use Rattle.suite.specs.Fault as suite
 use Rattle.suite.specs.Report.{suite_report}
-use Rattle.one_shots.specs.Fault.{error_line}
+use Rattle.one_shot_checks.specs.Fault.{error_line}
 
 -- a report, or the fault of lines that ask for none
 abbrev pub SaysReport : Result (List ℕ) SuiteFault → ℕ → List ℕ → Type 0

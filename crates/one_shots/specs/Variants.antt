@@ -4,8 +4,8 @@ use Rattle.io_ports.specs.Files.{Found, Read}
 use Rattle.variant_rules.specs.Loading.{refusal, sections_with}
 use Rattle.variant_ini.specs.Section.{Section}
 use Rattle.variant_model.specs.Builtin.{builtin_sections}
-use Rattle.one_shots.specs.declared.fault.Fault.{Fault}
-use Rattle.one_shots.specs.declared.fault.Fault.TheVariants.{Load}
+use Rattle.one_shot_checks.specs.declared.fault.Fault.{Fault}
+use Rattle.one_shot_checks.specs.declared.fault.Fault.TheVariants.{Load}
 use Rattle.words.specs.Asked.{Asked}
 use Rattle.words.specs.Options.{Text}
 

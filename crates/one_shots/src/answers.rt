@@ -6,13 +6,13 @@ ghost use Rattle.variant_rules.specs.Entries.{entries};
 ghost use Rattle.game_text.specs.GameText.{lines_of_game};
 ghost use Rattle.game_text.specs.HeardLines.{HeardLines};
 ghost use Rattle.game_text.specs.GameTexts as print;
-ghost use Rattle.one_shots.specs.GameTexts as stipulate;
-ghost use Rattle.one_shots.specs.NoAnswerView.{Answers, IsUnheard};
+ghost use Rattle.one_shot_checks.specs.GameTexts as stipulate;
+ghost use Rattle.one_shot_checks.specs.NoAnswerView.{Answers, IsUnheard};
 ghost use Rattle.one_shots.specs.OutcomeView.{OutcomeOf};
 ghost use Rattle.one_shots.specs.Sessions.{is_session};
 ghost use Rattle.one_shots.specs.Shot.{SaysCommand, SaysOfGame, SaysReach};
-ghost use Rattle.one_shots.specs.Fault.{usage_line};
-ghost use Rattle.one_shots.specs.StopView.{IsUnread, IsUnsaid};
+ghost use Rattle.one_shot_checks.specs.Fault.{usage_line};
+ghost use Rattle.one_shot_checks.specs.StopView.{IsUnread, IsUnsaid};
 ghost use Rattle.one_shots.specs.VariantsText.{variants_text};
 ghost use Rattle.words.specs.View.{HasPlies, command_seen};
 
@@ -32,6 +32,9 @@ use betza_text::parse;
 use foundation::Text;
 use game_text::{moves_of, perft_of, status_of};
 use io_ports::{Gate, Source};
+use one_shot_checks::{
+    NoAnswer, Stop, cert_check_text, check_text, help_mate_of, reach_text, self_mate_of, set_up,
+};
 use std::alloc::{AllocError, Global};
 use std::sync::Wait;
 use std::thread::Threads;

@@ -4,12 +4,13 @@ ghost use Rattle.variant_rules.specs.Entries.{entries};
 ghost use Rattle.game_text.specs.GameText.{game_of, lines_of_game};
 ghost use Rattle.game_text.specs.HeardLines.{HeardLines};
 ghost use Rattle.one_shots.specs.GameView.{SaysGame};
-ghost use Rattle.one_shots.specs.NoAnswerView.{IsUnheard};
+ghost use Rattle.one_shot_checks.specs.NoAnswerView.{IsUnheard};
 
 use crate::NoAnswer;
 use game_play::Game;
 use game_text::read_game;
 use io_ports::Source;
+use one_shot_checks::NoAnswer;
 use std::alloc::Global;
 use variant_ini::Sections;
 use variant_rules::load;

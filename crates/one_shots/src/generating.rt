@@ -3,11 +3,12 @@ ghost use Rattle.std.specs.Prelude.{◌≤◌};
 ghost use Rattle.session_model.specs.Generate.{SaysGenerate, SaysGenerated};
 ghost use Rattle.variant_rules.specs.Playable.{IsPlayable};
 ghost use Rattle.variant_rules.specs.View.{IfRules, found_view};
-ghost use Rattle.one_shots.specs.NoAnswerView.{Answers, IsUnheard};
+ghost use Rattle.one_shot_checks.specs.NoAnswerView.{Answers, IsUnheard};
 
 use crate::no_variant::{refused_variant, unknown_variant};
-use crate::{NoAnswer, random_game, report_of};
+use crate::{random_game, report_of};
 use foundation::Text;
+use one_shot_checks::NoAnswer;
 use std::alloc::Global;
 use std::thread::Threads;
 use variant_ini::Sections;

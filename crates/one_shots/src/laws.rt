@@ -14,7 +14,7 @@ ghost use Rattle.variant_rules.specs.Entries.{entries, found};
 ghost use Rattle.proof_text.specs.Writing.{section_texts};
 ghost use Rattle.variant_rules.specs.declared.fault.FileFault.TheVariants.{Failed};
 ghost use Rattle.variant_rules.specs.declared.fault.LoadFault.TheVariants.{File};
-ghost use Rattle.one_shots.specs.declared.fault.Fault.TheVariants.{Load};
+ghost use Rattle.one_shot_checks.specs.declared.fault.Fault.TheVariants.{Load};
 ghost use Rattle.one_shots.specs.Commands.{IsOneShot};
 ghost use Rattle.one_shots.specs.Looked.{TellsReads};
 ghost use Rattle.one_shots.specs.RulesTold.{SaysRules, below_header};

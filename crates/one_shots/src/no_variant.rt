@@ -4,6 +4,7 @@ ghost use Rattle.std.specs.Prelude.{◌≡◌, IfOk};
 use crate::{Fault, NoAnswer};
 use foundation::Text;
 use game_text::{GameFault, copy_of};
+use one_shot_checks::{Fault, NoAnswer};
 use std::alloc::{AllocError, Global};
 use variant_model::SectionFault;
 

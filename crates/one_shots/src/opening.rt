@@ -10,6 +10,7 @@ ghost use Rattle.words.specs.View.{HasPlies};
 use crate::NoAnswer;
 use crate::sections::sections_with;
 use io_ports::Files;
+use one_shot_checks::NoAnswer;
 use std::alloc::Global;
 use variant_ini::Sections;
 use words::{Asked, read_words};

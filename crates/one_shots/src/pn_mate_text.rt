@@ -4,13 +4,14 @@ ghost use Rattle.io_ports.specs.Cause.{HasCause};
 ghost use Rattle.variant_rules.specs.Entries.{entries};
 ghost use Rattle.game_text.specs.GameText.{lines_of_game};
 ghost use Rattle.game_text.specs.HeardLines.{HeardLines};
-ghost use Rattle.one_shots.specs.NoAnswerView.{Answers, IsUnheard};
+ghost use Rattle.one_shot_checks.specs.NoAnswerView.{Answers, IsUnheard};
 ghost use Rattle.one_shots.specs.PnMates.{SaysMateCount, SaysPnMate, mate_line};
 
 use crate::game::game_in;
 use crate::{Fault, NoAnswer};
 use foundation::Text;
 use io_ports::Source;
+use one_shot_checks::{Fault, NoAnswer};
 use pn_search::{PnFault, least_mate};
 use std::alloc::{AllocError, Global};
 use std::sync::Wait;

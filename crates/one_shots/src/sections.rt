@@ -5,8 +5,8 @@ ghost use Rattle.variant_rules.specs.Looked.{Looked};
 ghost use Rattle.one_shots.specs.OpeningView.{HasSections};
 ghost use Rattle.words.specs.View.{text_in};
 
-use crate::NoAnswer;
 use io_ports::Files;
+use one_shot_checks::NoAnswer;
 use std::alloc::Global;
 use variant_ini::Sections;
 use variant_rules::{builtin, read_sections};

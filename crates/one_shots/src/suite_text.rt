@@ -4,12 +4,13 @@ ghost use Rattle.io_ports.specs.Cause.{HasCause};
 ghost use Rattle.variant_rules.specs.Entries.{entries};
 ghost use Rattle.game_text.specs.HeardLines.{HeardLines};
 ghost use Rattle.suite.specs.Suite.{lines_of_suite};
-ghost use Rattle.one_shots.specs.NoAnswerView.{Answers, IsUnheard};
+ghost use Rattle.one_shot_checks.specs.NoAnswerView.{Answers, IsUnheard};
 ghost use Rattle.one_shots.specs.Suites.{SaysSuite};
 
 use crate::NoAnswer;
 use foundation::Text;
 use io_ports::{Gate, Source};
+use one_shot_checks::NoAnswer;
 use std::alloc::Global;
 use std::sync::Wait;
 use std::thread::Threads;

@@ -1,9 +1,9 @@
 use Rattle.std.proofs.Common.{List, ap, ◌∙◌}
 use Rattle.std.proofs.lemmas.Result.{err_from_is_err_and}
 use Rattle.rules_model.specs.declared.rules.Term.{Term}
-use Rattle.one_shots.specs.ReachText.{reach_text}
+use Rattle.one_shot_checks.specs.ReachText.{reach_text}
 use Rattle.one_shots.specs.Shot.{faulty_square}
-use Rattle.one_shots.specs.UnplacedView.{unplaced_of}
+use Rattle.one_shot_checks.specs.UnplacedView.{unplaced_of}
 use Rattle.one_shots.proofs.AnswerLemmas.{reach_answers, word_answers, word_heard}
 use Rattle.one_shots.proofs.answers.reach.Goals as goal
 

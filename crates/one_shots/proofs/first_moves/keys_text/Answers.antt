@@ -1,7 +1,7 @@
 use Rattle.std.proofs.Common.{arith}
 use Rattle.std.proofs.lemmas.Result.{err_from_is_err_and}
 use Rattle.game_text.proofs.HeardLemmas.{heard_so, same_needed}
-use Rattle.one_shots.proofs.NoAnswerLemmas.{answers_so}
+use Rattle.one_shot_checks.proofs.NoAnswerLemmas.{answers_so}
 use Rattle.one_shots.proofs.KeysLemmas.{keys_answers, no_keys_answers}
 use Rattle.one_shots.proofs.first_moves.keys_text.Goals as goal
 

@@ -1,7 +1,7 @@
 use Rattle.std.proofs.Common.{arith}
 use Rattle.std.proofs.lemmas.Result.{err_from_is_err_and}
 use Rattle.game_text.proofs.HeardLemmas.{heard_so, same_needed}
-use Rattle.one_shots.proofs.NoAnswerLemmas.{answers_so}
+use Rattle.one_shot_checks.proofs.NoAnswerLemmas.{answers_so}
 use Rattle.one_shots.proofs.PnMateLemmas.{mate_answers, no_mate_answers}
 use Rattle.one_shots.proofs.pn_mate_text.pn_mate_text.Goals as goal
 

@@ -1,0 +1,4 @@
+pub mod CertLemmas
+pub mod CheckLemmas
+pub mod NoAnswerLemmas
+mod SetupLemmas

@@ -1,0 +1,11 @@
+pub mod CertView
+pub mod Certificates
+pub mod CheckView
+pub mod Checking
+pub mod Fault
+pub mod GameTexts
+pub mod NoAnswerView
+pub mod ReachText
+pub mod Setup
+pub mod StopView
+pub mod UnplacedView

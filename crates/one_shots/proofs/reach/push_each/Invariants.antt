@@ -1,7 +1,0 @@
-use Rattle.std.proofs.Common.{◌≡◌, ◌++◌, take}
-use Rattle.std.specs.List.{flat_map}
-use Rattle.one_shots.specs.ReachText.{blank_square}
-use Rattle.one_shots.proofs.reach.push_each.Given as goal
-
-abbrev pub invariant-loop-square : goal.invariant-loop-square
-invariant-loop-square l = l.text.items ≡ l.initial.text.items ++ flat_map blank_square (take l.square-index l.squares)

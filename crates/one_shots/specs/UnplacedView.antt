@@ -1,8 +1,0 @@
--- Why no piece is put on a square: the fault that the code gives, as the definitions have it.
-use Rattle.one_shots.specs.declared.setup.ReachFault.{ReachFault}
-use Rattle.one_shots.specs.declared.setup.ReachFault.TheVariants as reach
-use Rattle.one_shots.specs.Setup.{Unplaced, NoSquare, Taken}
-
-abbrev pub unplaced_of : ReachFault → Unplaced
-unplaced_of (reach.BadSquare text) = NoSquare text.now
-unplaced_of (reach.SquareTwice text) = Taken text.now
