@@ -24,9 +24,6 @@ use crate::pn_mate_text::pn_mate_text;
 use crate::rules_text::rules_text;
 use crate::suite_text::suite_text;
 use crate::variants::variants_of;
-use crate::{
-    NoAnswer, Stop, cert_check_text, check_text, help_mate_of, reach_text, self_mate_of, set_up,
-};
 use betza_compile::compile;
 use betza_text::parse;
 use foundation::Text;

@@ -6,7 +6,6 @@ ghost use Rattle.game_text.specs.HeardLines.{HeardLines};
 ghost use Rattle.one_shots.specs.GameView.{SaysGame};
 ghost use Rattle.one_shot_checks.specs.NoAnswerView.{IsUnheard};
 
-use crate::NoAnswer;
 use game_play::Game;
 use game_text::read_game;
 use io_ports::Source;

@@ -1,7 +1,6 @@
 //! Why there is no variant of a name.
 ghost use Rattle.std.specs.Prelude.{◌≡◌, IfOk};
 
-use crate::{Fault, NoAnswer};
 use foundation::Text;
 use game_text::{GameFault, copy_of};
 use one_shot_checks::{Fault, NoAnswer};

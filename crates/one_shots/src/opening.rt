@@ -7,7 +7,6 @@ ghost use Rattle.variant_rules.specs.Looked.{Looked};
 ghost use Rattle.one_shots.specs.Sessions.{to_do};
 ghost use Rattle.words.specs.View.{HasPlies};
 
-use crate::NoAnswer;
 use crate::sections::sections_with;
 use io_ports::Files;
 use one_shot_checks::NoAnswer;

@@ -8,7 +8,6 @@ ghost use Rattle.one_shot_checks.specs.NoAnswerView.{Answers, IsUnheard};
 ghost use Rattle.one_shots.specs.PnMates.{SaysMateCount, SaysPnMate, mate_line};
 
 use crate::game::game_in;
-use crate::{Fault, NoAnswer};
 use foundation::Text;
 use io_ports::Source;
 use one_shot_checks::{Fault, NoAnswer};

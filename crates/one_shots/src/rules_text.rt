@@ -6,7 +6,6 @@ ghost use Rattle.variant_rules.specs.View.{found_view};
 ghost use Rattle.one_shot_checks.specs.NoAnswerView.{Answers, IsUnheard};
 ghost use Rattle.one_shots.specs.RulesTold.{SaysRules, SaysTold};
 
-use crate::NoAnswer;
 use crate::no_variant::{refused_variant, unknown_variant};
 use foundation::Text;
 use one_shot_checks::NoAnswer;

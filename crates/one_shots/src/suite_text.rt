@@ -7,7 +7,6 @@ ghost use Rattle.suite.specs.Suite.{lines_of_suite};
 ghost use Rattle.one_shot_checks.specs.NoAnswerView.{Answers, IsUnheard};
 ghost use Rattle.one_shots.specs.Suites.{SaysSuite};
 
-use crate::NoAnswer;
 use foundation::Text;
 use io_ports::{Gate, Source};
 use one_shot_checks::NoAnswer;
