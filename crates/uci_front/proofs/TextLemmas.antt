@@ -1,6 +1,7 @@
 -- The choices among variants, one after another.
-use Rattle.std.proofs.Common.{◌≡◌, ◌<◌, ◌+◌, ℕ, zero, suc, List, [], ◌∷◌, ◌++◌, length, take, Bool, true, false, refl, sym, ap, ◌∙◌, append_assoc, add-one, arith}
-use Rattle.std.specs.Prelude.{codes, if◌then◌else◌}
+use Rattle.std.proofs.Common.{◌≡◌, ◌<◌, ◌+◌, ℕ, zero, suc, List, [], ◌∷◌, ◌++◌, length, take, Bool, true, false, Result, Ok, Err, refl, sym, ap, ◌∙◌, append_assoc, add-one, arith}
+use Rattle.std.specs.Prelude.{codes, if◌then◌else◌, OnOk}
+use Rattle.std.specs.Result.{is_ok}
 use Rattle.std.specs.List.{filter, flat_map}
 use Rattle.std.specs.Fmt.{decimal}
 use Rattle.std.proofs.lemmas.List.{append-nil, take_all}
@@ -12,7 +13,7 @@ use Rattle.strategy.specs.declared.nodes.Strategy.{Strategy}
 use Rattle.game_text.specs.GameTexts.{perft_of}
 use Rattle.variant_ini.specs.Section.{Section}
 use Rattle.variant_rules.specs.Entries.{Named, entries, is_accepted}
-use Rattle.session_model.specs.UciTexts.{depth_line, introduction, options_text, perft_line, uci_text, variant_choice}
+use Rattle.session_model.specs.UciTexts.{depth_line, introduction, option_line, options_text, perft_line, uci_text, variant_choice}
 use Rattle.uci_front.specs.TextView.{choice_at, choice_of}
 
 choices-more : (variants : List Named) (place : ℕ) → place < length variants
@@ -49,6 +50,18 @@ pub choices_all : (old text : List ℕ) (variants : List Named) (n : ℕ) → n 
     → text ≡ old ++ flat_map variant_choice (filter is_accepted variants)
 choices_all old text variants n all is =
     is ∙ ap (λ (l : List ℕ). old ++ l) (ap (flat_map choice_of) (take_all n variants (omega (arith, all))) ∙ accepted_choices variants)
+
+-- the line of an option: what every one begins with, its name and what is said of its values
+pub option_said : {T E : Type 0} (appended : Result T E) (old first second last name values : List ℕ)
+    → first ≡ old ++ codes "option name " → second ≡ first ++ name
+    → last ≡ (if is_ok appended then second ++ values else second)
+    → OnOk appended (last ≡ old ++ option_line name values)
+unfolding option_line
+option_said (Ok done) old first second last name values one two three =
+    three ∙ ap (λ t. t ++ values) (two ∙ ap (λ t. t ++ name) one)
+    ∙ append_assoc (old ++ codes "option name ") name values
+    ∙ append_assoc old (codes "option name ") (name ++ values)
+option_said (Err why) old first second last name values one two three = tt
 
 -- an introduction, the options, the choices and the end
 pub introduced : (variants : List Named) (sections : List Section) (first second third last : List ℕ) → variants ≡ entries sections
