@@ -9,11 +9,15 @@ mod laws;
 mod no_variant;
 mod opening;
 mod pn_mate_text;
+mod refereed;
 mod rules_text;
 mod sections;
 mod suite_text;
 mod variants;
 
-pub use answers::{Answer, answer_of, answer_to};
+pub use answers::{Answer, answer_of, answer_refereed, answer_to};
+pub use game::game_in;
 pub use laws::words_have_one_answer;
 pub use opening::{Opened, open};
+pub use refereed::is_refereed;
+pub use sections::sections_with;

@@ -2,7 +2,7 @@ use Rattle.std.proofs.lemmas.Result.{err_from_is_err_and}
 use Rattle.game_text.proofs.HeardLemmas.{heard_so, same_needed}
 use Rattle.game_reports.specs.GameTexts.{perft_of}
 use Rattle.one_shots.proofs.AnswerLemmas.{game_answers, no_game_answers}
-use Rattle.one_shots.proofs.answers.perft.Goals as goal
+use Rattle.one_shots.proofs.refereed.perft.Goals as goal
 
 pub returns-in_err-game-clause-heard : goal.returns-in_err-game-clause-heard
 returns-in_err-game-clause-heard g c =

@@ -5,7 +5,7 @@ use Rattle.piece_reach.specs.ReachText.{reach_text}
 use Rattle.one_shots.specs.Shot.{faulty_square}
 use Rattle.piece_reach.specs.UnplacedView.{unplaced_of}
 use Rattle.one_shots.proofs.AnswerLemmas.{reach_answers, word_answers, word_heard}
-use Rattle.one_shots.proofs.answers.reach.Goals as goal
+use Rattle.one_shots.proofs.refereed.reach.Goals as goal
 
 pub returns-in_err-betza-clause-answers : goal.returns-in_err-betza-clause-answers
 returns-in_err-betza-clause-answers c =
