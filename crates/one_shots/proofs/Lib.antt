@@ -6,6 +6,7 @@ mod GenerateLemmas
 pub mod HeardLemmas
 mod KeysLemmas
 pub mod NoAnswerLemmas
+pub mod OpeningLemmas
 mod PnMateLemmas
 mod RulesLemmas
 mod SetupLemmas

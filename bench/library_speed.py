@@ -1,0 +1,70 @@
+#!/usr/bin/env python3
+"""How many positions a second the legal moves and the result are told of: by the library, by a session, and by another program.
+
+Usage: bench/library_speed.py LIBRARY.so [--positions N] [--variant NAME ..]     (10,000 positions in all, of chess, crazyhouse, xiangqi, capablanca and
+       losalamos; VENGINE, or the program of these sources in release/out or release)
+
+The positions are those of random games from the start, up to 100 plies long, each asked with the moves that led to it. In one run, one after the other for
+each variant: the commands `moves` and `status` by the library; `position` of a session of clients/vengine.py; and, where it can be had, pyffish, or else a
+session of Debian's fairy-stockfish, which is asked for its legal moves alone, by `go perft 1`. Ends with an error where library and session say
+different things.
+"""
+import argparse
+import sys
+import time
+
+from client_speed import games
+from moves_agree import Other
+from programs import OTHER, built
+from vengine import Engine, Referee, VengineError
+
+try:
+    import pyffish
+except ImportError:
+    pyffish = None
+
+
+def seconds(ask, positions):
+    """The seconds of all positions, and what was said of each."""
+    begun = time.perf_counter()
+    said = [ask(moves) for moves in positions]
+    return time.perf_counter() - begun, said
+
+
+def peer_of(variant):
+    """The name of the other program, and what it is asked of a position; or None."""
+    if pyffish is not None:
+        start = pyffish.start_fen(variant)
+        return "pyffish", lambda moves: (pyffish.legal_moves(variant, start, moves), pyffish.game_result(variant, start, moves))
+    if OTHER is not None:
+        other = Other(variant)
+        return "fairy-stockfish (moves alone)", other.moves
+    return None
+
+
+def main():
+    parser = argparse.ArgumentParser(description=__doc__, formatter_class=argparse.RawDescriptionHelpFormatter)
+    parser.add_argument("library")
+    parser.add_argument("--positions", type=int, default=10_000)
+    parser.add_argument("--variant", nargs="*", default=["chess", "crazyhouse", "xiangqi", "capablanca", "losalamos"])
+    given = parser.parse_args()
+    referee = Referee(library=given.library)
+    with Engine(built()) as engine:
+        for variant in given.variant:
+            positions = games(engine, variant, given.positions // len(given.variant))
+            library, said = seconds(lambda moves: referee.position(variant, moves=moves), positions)
+            session, again = seconds(lambda moves: engine.position(variant, moves=moves), positions)
+            if said != again:
+                sys.exit(f"library_speed: {variant}: the library and the session say different things")
+            rates = {"the library": library, "a session": session}
+            peer = peer_of(variant)
+            if peer is not None:
+                rates[peer[0]] = seconds(peer[1], positions)[0]
+            print(f"{variant}: " + ", ".join(f"{len(positions) / took:.0f} a second by {name}" for name, took in rates.items()), flush=True)
+
+
+if __name__ == "__main__":
+    try:
+        main()
+    except VengineError as error:
+        sys.exit(f"library_speed: {error}")
