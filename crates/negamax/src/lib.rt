@@ -1,7 +1,7 @@
 //! The exact value of a game at a depth, by negamax with windows (Knuth and Moore, "An analysis of alpha-beta pruning",
 //! 1975): the recursion, the search of one root move, and what the facts of root moves come to.
 //!
-//! The value is that of `game_values`: plain negamax over the whole history, with a search of captures at the end of
+//! The value is that of `evaluation`: plain negamax over the whole history, with a search of captures at the end of
 //! each line. Windows, hints and the order of moves change how many nodes are entered and nothing else.
 #![tactic(auto)]
 
