@@ -67,7 +67,18 @@ fn searched_text<'a, R: Threads + Wait + Sync, S: Source, G: Gate + Sync>(
         Command::Suite => suite_text(rt, alloc, sections, source, threads, gate),
         Command::PnMate(moves) => pn_mate_text(rt, alloc, moves, sections, source),
         Command::Keys(moves) => keys_text(rt, alloc, moves, sections, source),
-        _ => unreachable!(),
+        Command::Uci
+        | Command::Xboard
+        | Command::Moves
+        | Command::Status
+        | Command::Perft(_)
+        | Command::Check
+        | Command::SelfMate(_)
+        | Command::HelpMate(_)
+        | Command::CheckCert
+        | Command::Variants
+        | Command::Reach { .. }
+        | Command::RulesOf(_) => unreachable!(),
     }
 }
 

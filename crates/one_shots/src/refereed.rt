@@ -142,7 +142,16 @@ pub fn is_refereed(command: &Command) -> bool
         | Command::Suite
         | Command::PnMate(_)
         | Command::Keys(_) => false,
-        _ => true,
+        Command::Moves
+        | Command::Status
+        | Command::Perft(_)
+        | Command::Check
+        | Command::SelfMate(_)
+        | Command::HelpMate(_)
+        | Command::CheckCert
+        | Command::Variants
+        | Command::Reach { .. }
+        | Command::RulesOf(_) => true,
     }
 }
 

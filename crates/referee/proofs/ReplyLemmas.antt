@@ -2,8 +2,6 @@
 use Rattle.std.proofs.Common.{◌≡◌, ◌+◌, ◌-◌, ◌^◌, ◌≤◌, ℕ, List, min, refl, sym, subst, arith, Option, Some, Ok, Err, IfOk}
 use Rattle.std.specs.Prelude.{IsSomeAnd, false}
 use Rattle.std.specs.declared.result.Result.{Result}
-use Rattle.foundation.specs.declared.Memory.{Memory}
-use Rattle.io_ports.specs.Cause.{RoseBy}
 use Rattle.io_ports.specs.Files.{Contents, Finds, Read}
 use Rattle.io_ports.specs.Lines.{Line, lines_of}
 use Rattle.io_ports.specs.Trace.{Reads, faults_in}

@@ -6,12 +6,12 @@ use Rattle.game_text.specs.declared.fault.GameFault.{GameFault}
 use Rattle.one_shots.specs.declared.answers.Answer.{Answer}
 use Rattle.referee.specs.Games.{Begins, IsRefused, IsUnplayed}
 use Rattle.referee_c.specs.declared.Reply.{Reply}
-use Rattle.referee_c.specs.Written.{HasNoText, Tells}
+use Rattle.referee_c.specs.Written.{HasNoText, Tells, done, no_memory}
 
 -- the game is kept; or there was no memory, and none is
 abbrev pub KeepsHeld : Played → Option Played → Reply → Type 0
 KeepsHeld g held reply =
-    ((held ≡ Some g) × HasNoText 0 reply) ⊎ ((held ≡ None) × HasNoText 7 reply)
+    ((held ≡ Some g) × HasNoText done reply) ⊎ ((held ≡ None) × HasNoText no_memory reply)
 
 -- the game is held that the input says
 pub record IsHeldOf (file : Option (List ℕ)) (input : List ℕ) (held : Option Played) : Type 0 where
@@ -29,9 +29,9 @@ pub record TellsRefusal (file : Option (List ℕ)) (input : List ℕ) (room room
 -- no memory.
 abbrev pub BeginsHeld : Option (List ℕ) → List ℕ → Option Played → List ℕ → List ℕ → Reply → Type 0
 BeginsHeld file input held room room' reply =
-    (IsHeldOf file input held × HasNoText 0 reply × (room' ≡ room))
+    (IsHeldOf file input held × HasNoText done reply × (room' ≡ room))
     ⊎ ((held ≡ None) × TellsRefusal file input room room' reply)
-    ⊎ ((held ≡ None) × HasNoText 7 reply × (room' ≡ room))
+    ⊎ ((held ≡ None) × HasNoText no_memory reply × (room' ≡ room))
 
 -- the game is held that is said
 pub record GoesOn (said : Result Played GameFault) (held : Option Played) : Type 0 where
@@ -48,9 +48,9 @@ pub record TellsUnplayed (said : Result Played GameFault) (room room' : List ℕ
 -- The game goes on as it is said. Or it is what it was: the reply tells why, or there was no memory.
 abbrev pub PlaysHeld : Result Played GameFault → Played → Option Played → List ℕ → List ℕ → Reply → Type 0
 PlaysHeld said g held room room' reply =
-    (GoesOn said held × HasNoText 0 reply × (room' ≡ room))
+    (GoesOn said held × HasNoText done reply × (room' ≡ room))
     ⊎ ((held ≡ Some g) × TellsUnplayed said room room' reply)
-    ⊎ ((held ≡ Some g) × HasNoText 7 reply × (room' ≡ room))
+    ⊎ ((held ≡ Some g) × HasNoText no_memory reply × (room' ≡ room))
 
 -- the last move is taken back, where there is one
 abbrev pub TakesBack : Played → Option Played → Bool → Type 0
@@ -60,9 +60,9 @@ TakesBack g held false = (held ≡ Some g) × (g.moves ≡ [])
 -- the reply tells this text; or there was no memory
 abbrev pub TellsHeld : List ℕ → List ℕ → List ℕ → Reply → Type 0
 TellsHeld text room room' reply =
-    Tells 0 text room room' reply ⊎ (HasNoText 7 reply × (room' ≡ room))
+    Tells done text room room' reply ⊎ (HasNoText no_memory reply × (room' ≡ room))
 
 -- the same of a text that was made, where there was memory
 abbrev pub IsTold : Result (List ℕ) Memory → List ℕ → List ℕ → Reply → Type 0
-IsTold (Ok text) room room' reply = Tells 0 text room room' reply
-IsTold (Err why) room room' reply = HasNoText 7 reply × (room' ≡ room)
+IsTold (Ok text) room room' reply = Tells done text room room' reply
+IsTold (Err why) room room' reply = HasNoText no_memory reply × (room' ≡ room)

@@ -91,9 +91,12 @@ pub extern "C" fn vengine_undo(alloc: Global, game: &mut HeldGame) -> bool
     ensures { TakesBack g game.new.game result }
 {
     let mut kept = game.take(alloc);
-    let undone = kept.undo().is_ok();
+    let undone = kept.undo();
     game.put(kept);
-    undone
+    match undone {
+        Ok(()) => true,
+        Err(_) => false,
+    }
 }
 
 /// The legal moves of the last position, and then their number, as `moves` prints them.

@@ -1,7 +1,6 @@
 //! The referee for C: commands over bytes that the caller lends, and games that it holds.
 #![tactic(auto)]
 
-ghost use Rattle.std.specs.Prelude.{◌≡◌};
 ghost use Rattle.referee.specs.Refereed.{words_of};
 ghost use Rattle.referee_c.specs.Written.{Answers, HasNoText, Tells, file_of};
 

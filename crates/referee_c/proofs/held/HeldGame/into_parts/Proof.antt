@@ -8,7 +8,7 @@ use Rattle.referee_c.specs.Held.{held_owns}
 use contract.Monad.{fact}
 use types.Kit.{rewrite}
 use denote.Steps.{heard}
-use base.Logic.{SProp, ent, emp, id⊢}
+use base.Logic.{SProp, ent, id⊢}
 use base.Fml.{ftrue, fsep}
 use prog.Memory.{Memory}
 use prog.Routine.{Routine}
