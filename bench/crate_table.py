@@ -21,7 +21,7 @@ def crates():
         for line in file:
             name, colon, below = line.split("#")[0].partition(":")
             if colon:
-                found[name.strip()] = below.split()
+                found[name.split()[0]] = below.split()
     return found
 
 

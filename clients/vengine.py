@@ -11,6 +11,7 @@ played from it; what it answers is what the program says, and nothing is worked 
 what several threads may do, and what is proved.
 """
 import contextlib
+import ctypes
 import os
 import re
 import select
@@ -29,11 +30,13 @@ HERE = os.path.dirname(os.path.realpath(__file__))
 LONGEST_LINE = 131_072
 LONGEST_ANSWER = 1 << 20
 GREATEST = 2**64 - 1
+# The most bytes that a file of variants has.
+LARGEST_FILE = 1_048_576
 # The values of pyffish: of a game that the side to move has won, of a draw, and of a FEN that is one.
 VALUE_MATE, VALUE_DRAW, FEN_OK = 32000, 0, 1
 
 OUT_OF_MEMORY = 7
-USAGE, REFUSED, NO_FILE = 2, 3, 6
+NOT_REFEREED, USAGE, REFUSED, NO_FILE = 1, 2, 3, 6
 STATUSES = {4: "its input failed", 5: "its output failed", OUT_OF_MEMORY: "it was out of memory"}
 
 
@@ -450,19 +453,203 @@ def run(words, text="", timeout=None):
     """
     given, process = bytes_of(text), started(words)
     try:
-        said = process.communicate(given, timeout)[0].decode("ascii", "replace")
+        said = process.communicate(given, timeout)[0]
     except subprocess.TimeoutExpired:
         raise TimedOut(f"the command did not end within {timeout} s") from None
     finally:
         release(process, os.getpid())
-    if process.returncode in (REFUSED, NO_FILE) and said.startswith("error "):
+    return printed(process.returncode, said)
+
+
+def printed(status, said):
+    """The text that a command printed, where its status says that it did what was asked."""
+    said = said.decode("ascii", "replace")
+    if status in (REFUSED, NO_FILE) and said.startswith("error "):
         raise Fault(said[len("error "):].rstrip("\n"))
-    if process.returncode == USAGE:
+    if status == USAGE:
         raise Unsupported(said.rstrip("\n"))
-    if process.returncode != 0:
-        why = STATUSES.get(process.returncode, f"its status is {process.returncode}")
-        raise Ended(f"the command failed: {why}", process.returncode, said.splitlines())
+    if status != 0:
+        why = STATUSES.get(status, f"its status is {status}")
+        raise Ended(f"the command failed: {why}", status, said.splitlines())
     return said
+
+
+# ---- a referee in this process
+
+
+class Reply(ctypes.Structure):
+    """`struct vengine_reply` of include/vengine.h."""
+
+    _fields_ = [("length", ctypes.c_size_t), ("status", ctypes.c_uint32)]
+
+
+class Kept(ctypes.Structure):
+    """`struct vengine_game` of include/vengine.h."""
+
+    _fields_ = [("at", ctypes.c_void_p)]
+
+
+class Library:
+    """The library of include/vengine.h. Any number of threads may call it at once."""
+
+    def __init__(self, path):
+        given, file, game = (ctypes.c_char_p, ctypes.c_size_t), (ctypes.c_bool, ctypes.c_char_p, ctypes.c_size_t), ctypes.POINTER(Kept)
+        types = {"answer": (Reply, *given, *file, *given, *given), "begin": (Reply, game, *file, *given, *given), "play": (Reply, game, *given, *given),
+                 "moves": (Reply, game, *given), "status": (Reply, game, *given), "undo": (ctypes.c_bool, game), "end": (None, game)}
+        try:
+            library = ctypes.CDLL(path)
+            self.calls = {name: library[f"vengine_{name}"] for name in types}
+        except (OSError, AttributeError) as error:
+            raise BadInput(f"{path} is not the library: {error}") from None
+        for name, (result, *parameters) in types.items():
+            self.calls[name].restype, self.calls[name].argtypes = result, parameters
+        self._rooms = threading.local()
+
+    def text(self, name, *given):
+        """The status and the text of a call, whose last two parameters are the room."""
+        room = getattr(self._rooms, "room", None) or ctypes.create_string_buffer(4096)
+        reply = self.calls[name](*given, room, len(room))
+        if reply.length > len(room):
+            room = ctypes.create_string_buffer(reply.length)
+            reply = self.calls[name](*given, room, len(room))
+        self._rooms.room = room
+        return reply.status, ctypes.string_at(room, reply.length)
+
+    def answer(self, words, file=None, given=b""):
+        """The status and the text of the program that is run with these words, where the file that they name has these bytes and the
+        input those. Status 1: the words are of a session or a search, which the library does not do."""
+        words = b"\n".join(map(bytes_of, words))
+        return self.text("answer", words, len(words), file is not None, file or b"", len(file or b""), given, len(given))
+
+
+class HeldGame:
+    """A game that the library holds: moves are played and taken back, and each question is asked of the game as it stands. Its calls are made by
+    the thread that began it. `end` frees it, as does the end of a `with`."""
+
+    def __init__(self, library, variant, fen="startpos", moves=(), file=None):
+        self._library, self._kept, self.moves = library, Kept(), list(moves_of(moves))
+        given = bytes_of(game_text(variant, fen, self.moves))
+        printed(*library.text("begin", self._kept, file is not None, file or b"", len(file or b""), given, len(given)))
+
+    def play(self, move):
+        """Plays a move. One that is not legal is a `Fault`, and leaves the game as it was."""
+        (move,) = moves_of([move])
+        text = bytes_of(move)
+        self._ask("play", text, len(text))
+        self.moves.append(move)
+
+    def undo(self):
+        """Takes the last move back."""
+        self._begun()
+        if not self._library.calls["undo"](self._kept):
+            raise BadInput("there is no move to take back")
+        if self.moves:
+            self.moves.pop()
+
+    def legal_moves(self):
+        """The texts of the legal moves, in their order."""
+        return self._ask("moves").splitlines()[:-1]
+
+    def status(self):
+        """How the game stands, and its position."""
+        result, fen = self._ask("status").splitlines()
+        return result_of(result), fen
+
+    def end(self):
+        """Frees the game, where it was not freed."""
+        if self._kept.at:
+            self._library.calls["end"](self._kept)
+
+    def __enter__(self):
+        return self
+
+    def __exit__(self, *why):
+        self.end()
+
+    def __del__(self):
+        if hasattr(self, "_kept"):
+            self.end()
+
+    def _begun(self):
+        if not self._kept.at:
+            raise BadInput("this game has ended")
+
+    def _ask(self, name, *given):
+        self._begun()
+        return printed(*self._library.text(name, self._kept, *given))
+
+
+def find_library():
+    """The library: VENGINE_LIBRARY, or `libvengine.so` beside this file; else None."""
+    beside = os.path.join(HERE, "libvengine.so")
+    return os.environ.get("VENGINE_LIBRARY") or (beside if os.path.exists(beside) else None)
+
+
+class Referee:
+    """Legal moves and results, without a session: by the library in this process, where it is found, and else by a process of the program
+    for each call. Both say the same.
+
+    `library` is by default what `find_library()` finds, "" being none; `program` what `find_program()` finds; `variants` is a file of variants, which is
+    read once. Any number of threads may call it. What the library has begun it ends: a call takes no time limit.
+    """
+
+    def __init__(self, library=None, program=None, variants=None):
+        library = find_library() if library is None else library
+        self._library = Library(library) if library else None
+        self._program = None if library else (program or find_program())
+        self._words, self._file = [], None
+        if variants is not None:
+            self._words = ["--variants", os.path.abspath(variants)]
+            self._file = read_file(variants)
+
+    def command(self, *words, text=""):
+        """What a command prints that reads this text: moves, status, perft, check, stipulate, reach, variants or rules."""
+        words = [*self._words, *map(str, words)]
+        if any(letter in word for word in words for letter in "\0\n"):
+            raise BadInput("a word of a command has no zero byte and no end of a line")
+        if self._library is None:
+            return run([self._program, *words], text)
+        status, said = self._library.answer(words, self._file, bytes_of(text))
+        if status == NOT_REFEREED:
+            raise Unsupported("a referee does not answer this command")
+        return printed(status, said)
+
+    def position(self, variant, fen="startpos", moves=()):
+        """The position after the moves, its legal moves, and how the game stands."""
+        game = game_text(variant, fen, moves)
+        result, fen = self.command("status", text=game).splitlines()
+        return Position(fen, self.command("moves", text=game).splitlines()[:-1], result_of(result))
+
+    def legal_moves(self, variant, fen="startpos", moves=()):
+        """The texts of the legal moves after the moves, in their order."""
+        return self.command("moves", text=game_text(variant, fen, moves)).splitlines()[:-1]
+
+    def result(self, variant, fen="startpos", moves=()):
+        """How the game stands after the moves."""
+        return result_of(self.command("status", text=game_text(variant, fen, moves)).splitlines()[0])
+
+    def get_fen(self, variant, fen="startpos", moves=()):
+        """The position after the moves."""
+        return self.command("status", text=game_text(variant, fen, moves)).splitlines()[1]
+
+    def game(self, variant, fen="startpos", moves=()):
+        """A `HeldGame`, for which the library is needed."""
+        if self._library is None:
+            raise Unsupported("a game is held by the library alone")
+        return HeldGame(self._library, variant, fen, moves, self._file)
+
+    def check(self, text):
+        """True where a strategy wins: the text is a proof text, or a problem with a strategy after it. Else Fault says why not."""
+        return self.command("check", text=text) == "wins\n"
+
+
+def read_file(path):
+    """The bytes of a file, or as many as show that it is too large."""
+    try:
+        with open(path, "rb") as file:
+            return file.read(LARGEST_FILE + 1)
+    except OSError as error:
+        raise BadInput(f"the file of variants cannot be read: {error}") from None
 
 
 # ---- a search

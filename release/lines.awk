@@ -1,4 +1,4 @@
-# Prints the lines of crates.txt of the program vengine and of the crates that it depends on, as they are.
+# Prints the lines of crates.txt of the program vengine, of the library referee_c and of the crates that they depend on, as they are.
 /^[^#]*:/ {
     split($0, part, ":")
     split(part[1], word, " ")
@@ -18,6 +18,7 @@ function visit(name,    i, count, below) {
 
 END {
     visit("vengine")
+    visit("referee_c")
     for (i = 1; i <= lines; i++)
         if (named[i] in seen)
             print line[i]

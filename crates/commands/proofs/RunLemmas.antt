@@ -39,6 +39,7 @@ use Rattle.one_shot_checks.specs.StopView.{IsUnread, IsUnsaid}
 use Rattle.one_shots.specs.Variants.{AreFirstReads, fault_in, sections_in}
 use Rattle.one_shots.proofs.FileLemmas.{no_further, reads_on, same_reads}
 use Rattle.one_shots.proofs.HeardLemmas.{settle}
+use Rattle.one_shots.proofs.OpeningLemmas.{if_so, loaded_says, refused_first, refused_says}
 use Rattle.one_shots.proofs.ShotLemmas.{command_done, done_whole, says_done, says_failing, says_once, says_shot, says_since, says_usage, says_without, shot_asks, shot_says, shot_some}
 
 -- ---- what a run does
@@ -70,16 +71,8 @@ pub record Answered (contents : Option Contents) (asks : List Read → Type 0) (
   pub first : AreFirstReads (to_do words) all
   pub heard : HeardLines left left' (lines_asked (to_do words) all) (λ lines. IfOk r (λ answer. Says (to_do words) all lines answer.status answer.text))
 
-loaded_so : (c : Option Asked) (a : Asked) (reads : List Read) → c ≡ Some a → fault_in a.variants reads ≡ None → (input : List Line) (status : ℕ) (text : List ℕ) → SaysCommand (sections_in a.variants reads) a.command input status text
-    → Says c reads input status text
-loaded_so c a reads is none input status text says = subst (λ (x : Option Asked). Says x reads input status text) (sym is) (rw none says)
-
 loaded_need : (c : Option Asked) (a : Asked) (reads : List Read) → c ≡ Some a → fault_in a.variants reads ≡ None → (lines : List Line) → lines_needed (sections_in a.variants reads) a.command lines ≤ lines_asked c reads lines
 loaded_need c a reads is none lines = subst (λ (x : Option Asked). lines_needed (sections_in a.variants reads) a.command lines ≤ lines_asked x reads lines) (sym is) (rw none (omega arith))
-
-if_so : {A : Type 0} {E : Type 0} (r : Result A E) (P Q : A → Type 0) → ((x : A) → P x → Q x) → IfOk r P → IfOk r Q
-if_so (Ok x) P Q so holds = so x holds
-if_so (Err why) P Q so holds = tt
 
 if_all : {A : Type 0} {E : Type 0} (r : Result A E) (P : A → Type 0) → ((x : A) → P x) → IfOk r P
 if_all (Ok x) P all = all x
@@ -104,26 +97,8 @@ reached contents asks left left' words o r looked heard =
       whole = if_all r _ (λ answer. refl);
       first = subst (λ (x : Option Asked). AreFirstReads x looked.reads) (sym is) accepted.0;
       heard = heard_so _ _ _ _ _ _ here (loaded_need (to_do words) a looked.reads is accepted.1)
-          (λ lines says. if_so r _ _ (λ answer said. loaded_so (to_do words) a looked.reads is accepted.1 lines answer.status answer.text said) says);
+          (λ lines says. if_so r _ _ (λ answer said. loaded_says (to_do words) a looked.reads is accepted.1 lines answer.status answer.text said) says);
     }
-
--- none was
-pub refused_says : (c : Option Asked) (reads : List Read) (why : NoAnswer) (r : Result Answer Stop) (lines : List Line) → Opens c reads (Err why) → OutcomeOf (Err why) r
-    → IfOk r (λ answer. Says c reads lines answer.status answer.text)
-refused_says c reads why (Err cut) lines opens is = tt
-refused_says None reads no_answer.Usage (Ok answer) lines opens is = is
-refused_says (Some a) reads no_answer.Usage (Ok answer) lines opens is = cc
-refused_says None reads (no_answer.Fault fault) (Ok answer) lines opens is = absurd opens
-refused_says (Some a) reads (no_answer.Fault fault) (Ok answer) lines opens is = rw opens.1 is
-refused_says c reads (no_answer.Stop why) (Ok answer) lines opens is = absurd is
-
-pub refused_first : (c : Option Asked) (reads : List Read) (why : NoAnswer) (r : Result Answer Stop) (answer : Answer) → Opens c reads (Err why) → OutcomeOf (Err why) r → r ≡ Ok answer → AreFirstReads c reads
-refused_first None reads no_answer.Usage r answer opens is ok = opens.1
-refused_first (Some a) reads no_answer.Usage r answer opens is ok = cc
-refused_first None reads (no_answer.Fault fault) r answer opens is ok = absurd opens
-refused_first (Some a) reads (no_answer.Fault fault) r answer opens is ok = opens.0
-refused_first c reads (no_answer.Stop why) (Ok x) answer opens is ok = absurd is
-refused_first c reads (no_answer.Stop why) (Err x) answer opens is ok = cc
 
 -- the reads that were done, or none of them
 pub some_reads : (c : Option Asked) (reads : List Read) (why : NoAnswer) → Opens c reads (Err why) → (reads ≡ []) ⊎ AreFirstReads c reads

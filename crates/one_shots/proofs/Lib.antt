@@ -3,6 +3,7 @@ pub mod FileLemmas
 mod GenerateLemmas
 pub mod HeardLemmas
 mod KeysLemmas
+pub mod OpeningLemmas
 mod PnMateLemmas
 mod RulesLemmas
 pub mod ShotLemmas

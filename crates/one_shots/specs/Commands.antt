@@ -34,6 +34,25 @@ reads_input Suite = true
 reads_input (PnMate moves) = true
 reads_input (Keys moves) = true
 
+-- A referee answers the command: it is no session, and one thread works it out without waiting.
+abbrev pub is_refereed : Command → Bool
+is_refereed Uci = false
+is_refereed Xboard = false
+is_refereed Moves = true
+is_refereed Status = true
+is_refereed (Perft plies) = true
+is_refereed Check = true
+is_refereed (SelfMate moves) = true
+is_refereed (HelpMate moves) = true
+is_refereed CheckCert = true
+is_refereed Variants = true
+is_refereed (Reach word square own enemy) = true
+is_refereed (Generate name number plies) = false
+is_refereed (RulesOf name) = true
+is_refereed Suite = false
+is_refereed (PnMate moves) = false
+is_refereed (Keys moves) = false
+
 abbrev pub asks_input : Option Asked → Bool
 asks_input None = false
 asks_input (Some a) = reads_input a.command

@@ -1,0 +1,2 @@
+mod GameLemmas
+mod ReplyLemmas
