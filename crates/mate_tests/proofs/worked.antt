@@ -1,6 +1,4 @@
 -- Worked cases, each with its near miss: they hold by computing.
-mod Answers
-mod Events
 mod Numbers
 mod Sums
 mod SmallTrees

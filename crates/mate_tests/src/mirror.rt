@@ -1,7 +1,6 @@
 //! A tree that is kept beside the one that is tested: each node has its position, and the numbers of all nodes are
 //! worked out anew from their definition each time.
 use attack_tables::Tables;
-use foundation::Memory;
 use playing::Board;
 use pn_search::{INFINITE, Tree};
 use rules_model::{Outcome, Position, Side, repeats, sound};
@@ -100,23 +99,28 @@ fn best_child(node: &Twin, numbers: &[Numbers], at: usize) -> Option<usize> {
 
 impl Mirror {
     /// The open root of a win within n moves.
-    pub fn new(alloc: Global, again: &Position, root: &Position, n: u16) -> Result<Mirror, Memory> {
-        let mut nodes = Vec::new(alloc);
-        nodes.push(Twin {
+    pub fn new(
+        rt: &impl Abort,
+        alloc: Global,
+        again: &Position,
+        root: &Position,
+        n: u16,
+    ) -> Mirror {
+        let root = Twin {
             position: *root,
             left: n,
             known: Known::Open,
-        })?;
-        Ok(Mirror {
+        };
+        Mirror {
             again: *again,
-            nodes,
-        })
+            nodes: vec![in alloc; root].expect(rt, "no fault"),
+        }
     }
 
     /// The numbers of all nodes: those of a node's children come after it, so the last node is the first that is
     /// worked out.
-    pub fn numbers(&self, alloc: Global) -> Result<Vec<Numbers>, Memory> {
-        let mut numbers = vec![in alloc; (1u32, 1u32); self.nodes.len()]?;
+    pub fn numbers(&self, rt: &impl Abort, alloc: Global) -> Vec<Numbers> {
+        let mut numbers = vec![in alloc; (1u32, 1u32); self.nodes.len()].expect(rt, "no fault");
         for back in 0..self.nodes.len() {
             let at = self.nodes.len() - 1 - back;
             let node = &self.nodes[at];
@@ -132,7 +136,7 @@ impl Mirror {
                 *slot = pair;
             }
         }
-        Ok(numbers)
+        numbers
     }
 
     /// The leaf to which the best children lead.
@@ -151,45 +155,47 @@ impl Mirror {
     }
 
     /// Makes a child for each legal move.
-    fn add_children(&mut self, alloc: Global, board: &Board, left: u16) -> Result<Known, Memory> {
+    fn add_children(&mut self, rt: &impl Abort, alloc: Global, board: &Board, left: u16) -> Known {
         let first = self.nodes.len();
-        let legal = board.legal_moves(alloc)?;
+        let legal = board.legal_moves(alloc).expect(rt, "no fault");
         for i in 0..legal.items.len() {
             let m = legal.items[i];
             // Always so: the test tells the prover.
             if board.is_legal(&m) {
                 let next = board.after(&m);
-                self.nodes.push(Twin {
+                let child = Twin {
                     position: *next.position(),
                     left,
                     known: Known::Open,
-                })?;
+                };
+                self.nodes.push(child).expect(rt, "no fault");
             }
         }
-        Ok(Known::Inner(first, self.nodes.len()))
+        Known::Inner(first, self.nodes.len())
     }
 
     /// What becomes of a node that is expanded.
     fn known_of(
         &mut self,
+        rt: &impl Abort,
         alloc: Global,
         board: &Board,
         at: usize,
         left: u16,
-    ) -> Result<Known, Memory> {
+    ) -> Known {
         let attacking = board.position().side.is(Side::White);
         match board.own_end() {
-            Outcome::Won(Side::White, _) => return Ok(Known::Won),
-            Outcome::Won(Side::Black, _) | Outcome::Drawn(_) => return Ok(Known::Lost),
+            Outcome::Won(Side::White, _) => return Known::Won,
+            Outcome::Won(Side::Black, _) | Outcome::Drawn(_) => return Known::Lost,
             Outcome::Ongoing => {}
         }
         if at != 0 && repeats(board.position(), &self.again) {
-            return Ok(Known::Lost);
+            return Known::Lost;
         }
         match (attacking, left) {
-            (true, 0) => Ok(Known::Lost),
-            (true, _) => self.add_children(alloc, board, left.saturating_sub(1)),
-            (false, _) => self.add_children(alloc, board, left),
+            (true, 0) => Known::Lost,
+            (true, _) => self.add_children(rt, alloc, board, left.saturating_sub(1)),
+            (false, _) => self.add_children(rt, alloc, board, left),
         }
     }
 
@@ -198,9 +204,7 @@ impl Mirror {
         let node = *self.nodes.get(at).expect(rt, "no such node");
         assert!(rt; sound(tables.rules(), &node.position));
         let board = Board::new(tables, &node.position);
-        let known = self
-            .known_of(alloc, &board, at, node.left)
-            .expect(rt, "no fault");
+        let known = self.known_of(rt, alloc, &board, at, node.left);
         if let Some(node) = self.nodes.get_mut(at) {
             node.known = known;
         }

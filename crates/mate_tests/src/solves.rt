@@ -1,21 +1,22 @@
 //! Tests of `mate_search`.
-ghost use Rattle.std.specs.Prelude.{◌≡◌, ◌<◌, ◌≤◌, IfOk};
+ghost use Rattle.std.specs.Prelude.{◌≡◌, ◌<◌, ◌≤◌};
 ghost use Rattle.mate_search.specs.Solves.{IsFrameFor};
 ghost use Rattle.mate_shards.specs.Grown.{HaveParts};
 ghost use Rattle.mate_shards.specs.Views.{ArePassesOf};
 
 use crate::expect::{expect_eq, expect_of};
+use crate::helpers::{game_from, placed, shards_for};
 use game_play::Game;
 use hint_table::HintTable;
 use io_ports::{
     Dialect, Gate, HoldingGate, Limits, ListClock, MemSink, MemSource, OpenGate, PollsOwed, Ports,
     SearchFault, Stopped,
 };
-use mate_search::{Mate, Settled, frame_of, settle, solve};
+use mate_search::{Mate, Settled, settle, solve};
 use mate_shards::{Passes, Shards};
 use playing::Board;
-use rules_model::{Memory, Move, Position, Promo, Side, sound};
-use sample_rules::{chess, position, square};
+use rules_model::{Move, Position, Promo, Side};
+use sample_rules::{position, square};
 use std::alloc::Global;
 use std::process::Abort;
 use std::sync::Wait;
@@ -52,16 +53,6 @@ fn told_of(answer: &Result<Mate, SearchFault>) -> Told {
     }
 }
 
-fn shards_for(alloc: Global, game: &Game, attacker: Side) -> Result<(Shards, Passes), Memory>
-    ensures frame { IfOk result (λ made. IsFrameFor game.now attacker made.0.frame) }
-    ensures passes { IfOk result (λ made. ArePassesOf made.0 made.1) }
-    ensures parts { IfOk result (λ made. HaveParts 65536 made.1) }
-{
-    let frame = frame_of(alloc, game, attacker)?;
-    let (shards, passes) = Shards::new(alloc, frame, 4, 4096)?;
-    Ok((shards, passes))
-}
-
 /// A table of hints of which every word is this one.
 fn hints_of(rt: &impl Abort, alloc: Global, word: u64) -> HintTable {
     let hints = HintTable::new(alloc, 1024).expect(rt, "no fault");
@@ -81,7 +72,7 @@ struct Run<'l> {
 }
 
 /// What the solve answers for a side, with these shards.
-fn answer_with<R: Threads + Wait + Sync, G: Gate + Sync>(
+fn answer_with<R: Threads + Wait + Abort + Sync, G: Gate + Sync>(
     rt: &R,
     alloc: Global,
     game: &Game,
@@ -90,21 +81,20 @@ fn answer_with<R: Threads + Wait + Sync, G: Gate + Sync>(
     shards: &Shards,
     passes: Passes,
     gate: &G,
-) -> Result<(Passes, Told), Memory>
+) -> (Passes, Told)
     requires frame { IsFrameFor game.now attacker shards.now.frame }
     requires passes { ArePassesOf shards.now passes }
     requires parts { HaveParts 65536 passes }
     requires some { 0 < run.n }
     requires small { run.n ≤ 100 }
     requires workers { (0 < run.workers) × (run.workers ≤ 64) }
-    ensures passes { IfOk result (λ answer. ArePassesOf shards.now answer.0) }
-    ensures parts { IfOk result (λ answer. HaveParts 65536 answer.0) }
+    ensures passes { ArePassesOf shards.now result.0 }
+    ensures parts { HaveParts 65536 result.0 }
 {
-    let hints = HintTable::new(alloc, 1024)?;
-    hints.fill(run.hint);
-    let mut source = MemSource::new(alloc, run.lines, run.owed, &[])?;
-    let mut sink = MemSink::new(alloc, 100)?;
-    let mut clock = ListClock::new(alloc, &[5, 7])?;
+    let hints = hints_of(rt, alloc, run.hint);
+    let mut source = MemSource::new(alloc, run.lines, run.owed, &[]).expect(rt, "no fault");
+    let mut sink = MemSink::new(alloc, 100).expect(rt, "no fault");
+    let mut clock = ListClock::new(alloc, &[5, 7]).expect(rt, "no fault");
     let (passes, answer) = {
         let mut ports = Ports {
             source: &mut source,
@@ -127,7 +117,7 @@ fn answer_with<R: Threads + Wait + Sync, G: Gate + Sync>(
             &mut ports,
         )
     };
-    Ok((passes, told_of(&answer)))
+    (passes, told_of(&answer))
 }
 
 /// A solve that nothing cuts.
@@ -185,9 +175,7 @@ fn solved<R: Threads + Wait + Abort + Sync>(
     assert!(rt; 0 < run.n && run.n <= 100);
     assert!(rt; 0 < run.workers && run.workers <= 64);
     let (shards, passes) = shards_for(alloc, game, attacker).expect(rt, "no fault");
-    let (_, told) = answer_with(rt, alloc, game, attacker, run, &shards, passes, &OpenGate).expect(
-        rt, "no fault",
-    );
+    let (_, told) = answer_with(rt, alloc, game, attacker, run, &shards, passes, &OpenGate);
     told
 }
 
@@ -212,21 +200,6 @@ fn expect<R: Threads + Wait + Abort + Sync>(
         alone == end && by_one == end && by_four == end,
         "within {n}"
     );
-}
-
-/// The pieces, with this side to move.
-fn placed(pieces: &str, side: Side) -> Position {
-    Position {
-        side,
-        ..position(pieces)
-    }
-}
-
-/// The game of chess from the position, without a move.
-fn game_from(rt: &impl Abort, alloc: Global, p: &Position) -> Game {
-    let rules = chess();
-    assert!(rt; sound(&rules, p));
-    Game::new(alloc, &rules, p).expect(rt, "no fault")
 }
 
 /// Asserts whether White, who is to move at the counter, mates within n moves.
@@ -390,22 +363,22 @@ fn limits_cut_a_solve(rt: HostRuntime) {
 }
 
 /// What the solve answers for White.
-fn here<R: Threads + Wait + Sync>(
+fn here<R: Threads + Wait + Abort + Sync>(
     rt: &R,
     alloc: Global,
     game: &Game,
     run: Run,
     shards: &Shards,
     passes: Passes,
-) -> Result<(Passes, Told), Memory>
+) -> (Passes, Told)
     requires frame { IsFrameFor game.now Side.White shards.now.frame }
     requires passes { ArePassesOf shards.now passes }
     requires parts { HaveParts 65536 passes }
     requires some { 0 < run.n }
     requires small { run.n ≤ 100 }
     requires workers { (0 < run.workers) × (run.workers ≤ 64) }
-    ensures passes { IfOk result (λ answer. ArePassesOf shards.now answer.0) }
-    ensures parts { IfOk result (λ answer. HaveParts 65536 answer.0) }
+    ensures passes { ArePassesOf shards.now result.0 }
+    ensures parts { HaveParts 65536 result.0 }
 {
     answer_with(rt, alloc, game, Side::White, run, shards, passes, &OpenGate)
 }
@@ -430,15 +403,9 @@ fn shards_know_a_refuted_root(rt: HostRuntime) {
     let alloc = rt.alloc();
     let game = game_from(&rt, alloc, &position("Kf6 Ra7 kh8"));
     let (shards, passes) = shards_for(alloc, &game, Side::White).expect(&rt, "no fault");
-    let (passes, before) = here(&rt, alloc, &game, unsearched(1), &shards, passes).expect(
-        &rt, "no fault",
-    );
-    let (passes, searched) = here(&rt, alloc, &game, whole(1, 1), &shards, passes).expect(
-        &rt, "no fault",
-    );
-    let (_, after) = here(&rt, alloc, &game, unsearched(1), &shards, passes).expect(
-        &rt, "no fault",
-    );
+    let (passes, before) = here(&rt, alloc, &game, unsearched(1), &shards, passes);
+    let (passes, searched) = here(&rt, alloc, &game, whole(1, 1), &shards, passes);
+    let (_, after) = here(&rt, alloc, &game, unsearched(1), &shards, passes);
     assert!(rt; before == Told::Quota(0));
     assert!(rt; searched == Told::NoMate && after == Told::NoMate);
 }
@@ -450,12 +417,8 @@ fn shards_know_a_won_root(rt: HostRuntime) {
     let p = position("Kf6 Ra7 kh8");
     let game = game_from(&rt, alloc, &p);
     let (shards, passes) = shards_for(alloc, &game, Side::White).expect(&rt, "no fault");
-    let (passes, shown) = here(&rt, alloc, &game, whole(2, 1), &shards, passes).expect(
-        &rt, "no fault",
-    );
-    let (mut passes, won) = here(&rt, alloc, &game, unsearched(2), &shards, passes).expect(
-        &rt, "no fault",
-    );
+    let (passes, shown) = here(&rt, alloc, &game, whole(2, 1), &shards, passes);
+    let (mut passes, won) = here(&rt, alloc, &game, unsearched(2), &shards, passes);
     assert!(rt; shown == Told::Shown && won == Told::Quota(0));
     let root = shards.look(&rt, &mut passes, &p, 2);
     assert!(rt; root.is_some_and(|fact| fact.wins));
@@ -484,9 +447,7 @@ fn two_workers_run_beside_each_other(rt: HostRuntime) {
     let (shards, passes) = shards_for(alloc, &game, Side::White).expect(&rt, "no fault");
     let gate = HoldingGate::new();
     let run = whole(2, 2);
-    let (_, told) = answer_with(&rt, alloc, &game, Side::White, run, &shards, passes, &gate).expect(
-        &rt, "no fault",
-    );
+    let (_, told) = answer_with(&rt, alloc, &game, Side::White, run, &shards, passes, &gate);
     assert!(rt; !gate.gave_up());
     expect_eq(&rt, told, Told::NoMate);
 }

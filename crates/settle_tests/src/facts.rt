@@ -1,0 +1,56 @@
+//! Tests of `mate_fact`.
+use crate::expect::expect_eq;
+use crate::helpers::frame_of;
+use attack_tables::Tables;
+use mate_fact::{refuted_now, won_by, won_now};
+use rules_model::{Cause, Outcome, Position, Side, repeat_of, sound};
+use sample_rules::position;
+use std::alloc::Global;
+use std::process::Abort;
+
+/// The position with this side to move, at this counter.
+fn placed(pieces: &str, side: Side, counter: u16) -> Position {
+    Position {
+        side,
+        counter,
+        ..position(pieces)
+    }
+}
+
+/// The number of moves of a fact, and its counter.
+type Told = Option<(u16, u16)>;
+
+/// Asserts what White, who attacks, has won by the end of the position, and what is refuted by it.
+fn expect(rt: &impl Abort, alloc: Global, p: &Position, won: Told, refuted: Told) {
+    let again = placed("Kh1 kh3 Ra1", Side::White, 0);
+    let frame = frame_of(vec![in alloc; repeat_of(&again)].expect(rt, "no fault"));
+    let tables = Tables::new(alloc, &frame.rules).expect(rt, "no fault");
+    assert!(rt; sound(&frame.rules, p));
+    let found = won_now(&frame, &tables, p).map(|fact| (fact.moves, fact.counter));
+    expect_eq(rt, found, won);
+    let found = refuted_now(&frame, &tables, p).map(|fact| (fact.moves, fact.counter));
+    expect_eq(rt, found, refuted);
+}
+
+// A mated side, a stalemate, and a position that is not ended; the count of moves, and a position that is barred.
+#[test]
+fn ends_of_positions(rt: HostRuntime) {
+    let (alloc, white, black) = (rt.alloc(), Side::White, Side::Black);
+    let ended = Some((65535, 7));
+    let mated = placed("Kg6 Ra8 kh8", black, 7);
+    expect(&rt, alloc, &mated, Some((0, 9999)), None);
+    expect(&rt, alloc, &placed("Kh1 qg2 kg3", white, 7), None, ended);
+    expect(&rt, alloc, &placed("Kh1 qg3 kf2", white, 7), None, ended);
+    let open = Some((0, 7));
+    expect(&rt, alloc, &placed("Kg6 Ra1 kh8", white, 7), None, open);
+    expect(&rt, alloc, &placed("Kg6 Ra1 kh8", black, 7), None, None);
+    let late = placed("Kg6 Ra1 kh8", black, 100);
+    expect(&rt, alloc, &late, None, Some((65535, 100)));
+    expect(&rt, alloc, &placed("Kh1 kh3 Ra1", white, 7), None, ended);
+}
+
+#[test]
+fn a_repetition_is_no_win(rt: HostRuntime) {
+    let repeated = Outcome::Won(Side::White, Cause::Repetition);
+    expect_eq(&rt, won_by(Side::White, repeated), Some(false));
+}

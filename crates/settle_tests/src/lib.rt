@@ -1,0 +1,13 @@
+//! Tests of what settles a position: moves that may check or leave no step, ends, and the search over facts.
+#![tactic(auto)]
+
+#[cfg(test)]
+mod checks;
+#[cfg(test)]
+mod expect;
+#[cfg(test)]
+mod facts;
+#[cfg(test)]
+mod helpers;
+#[cfg(test)]
+mod settled;
