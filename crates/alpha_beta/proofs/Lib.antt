@@ -1,4 +1,3 @@
 pub mod DistinctLemmas
-pub mod LineLemmas
 pub mod RootLaws
 pub mod SearchLaws
