@@ -3,6 +3,7 @@
 #![tactic(auto)]
 
 mod jobs;
+mod left;
 mod plan;
 mod race;
 mod roots;

@@ -15,6 +15,7 @@ ghost use Rattle.alpha_beta.specs.Searches.{Finds, Heard, IsCount, bound_of};
 ghost use Rattle.alpha_beta.specs.Workers.{IsNew, most_nodes};
 
 use crate::jobs::{Job, greatest_count, jobs_for};
+use crate::left::left;
 use crate::plan::Team;
 use crate::roots::ordered;
 use crate::sharing::share;
@@ -22,7 +23,7 @@ use game_line::Line;
 use game_play::Game;
 use hint_table::HintTable;
 use io_ports::{Clock, Gate, Limits, LineBuf, Ports, SearchFault, Sink, Source, Stopped};
-use negamax::{Best, SearchState, Window, score_move};
+use negamax::{Best, SearchState, Window};
 use rules_model::Move;
 use std::alloc::Global;
 use std::thread::Threads;
@@ -78,13 +79,17 @@ fn best_root<R: Threads + Sync, W: Watch, G: Gate + Sync>(
 {
     let chosen = moves[0];
     let window = Window::open();
-    let value = score_move(line, desk, watch, depth, 0, &chosen, window)?;
+    line.push(&chosen);
+    let asked = window.turned();
+    let found = left(rt, team, line, desk, jobs, watch, depth - 1, 1, asked)?;
+    line.back();
+    let value = -found;
     let first = Best { value, chosen };
     let rest = &moves[1..];
     let best = share(
         rt, team, line, desk, jobs, watch, depth, 0, rest, window, first,
     )?;
-    desk.leave_root(line.key(), depth, &best);
+    desk.leave_best(line.key(), depth, &best);
     Ok(best)
 }
 

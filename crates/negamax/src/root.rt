@@ -8,9 +8,8 @@ ghost use Rattle.watching.specs.declared.halt.Halt.{Halt};
 ghost use Rattle.negamax.specs.RootFacts.{Chooses, IsTrueFact, Settles, root_tree, score_of};
 ghost use Rattle.negamax.specs.Windows.{Bounds};
 
-use crate::ends::{play, worths_of};
 use crate::facts::{Best, Fact, fact_of, known_score};
-use crate::search::search;
+use crate::search::value_within;
 use crate::search_state::SearchState;
 use crate::window::Window;
 use game_line::Line;
@@ -45,12 +44,8 @@ pub fn score_move<W: Watch>(
         → W.ended watch.old watch.new (root_tree line.old.rules depth (story_of_line line.old) chosen.now) why }
     ensures kept { OnOk result (line.new ≡ line.old) }
 {
-    desk.clear();
-    let worths = worths_of(line);
-    let tally = worths.tally(line.board().position());
-    let next = play(line, &worths, tally, chosen);
-    let asked = window.turned();
-    let found = search(line, &worths, desk, watch, next, depth - 1, ply + 1, asked)?;
+    line.push(chosen);
+    let found = value_within(line, desk, watch, depth - 1, ply + 1, window.turned())?;
     line.back();
     Ok(-found)
 }

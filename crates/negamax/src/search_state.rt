@@ -60,7 +60,7 @@ impl<'h> SearchState<'h> {
     }
 
     /// Leaves in the table what the position of the key came to at a depth.
-    pub fn leave_root(&self, key: u64, depth: u8, best: &Best) {
+    pub fn leave_best(&self, key: u64, depth: u8, best: &Best) {
         self.hints
             .put(key, hint_of(depth, slot_of(&best.chosen), best.value));
     }

@@ -46,7 +46,7 @@ impl Window {
     }
 
     /// The same window, seen from the other side.
-    pub(crate) fn turned(self) -> Window
+    pub fn turned(self) -> Window
         ensures alpha { result.alpha ≡ neg_ℤ self.beta }
         ensures beta { result.beta ≡ neg_ℤ self.alpha }
     {
