@@ -1,6 +1,6 @@
 //! The leftmost line: at each of its positions the first move, whose value all others are held against.
-ghost use Rattle.std.specs.Prelude.{◌≡◌, ◌+◌, ◌*◌, ◌≤◌, length, IfOk, OnOk, IsErrOf};
-ghost use Rattle.foundation.specs.Member.{Lists, Member};
+ghost use Rattle.std.specs.Prelude.{◌≡◌, ◌+◌, ◌*◌, ◌<◌, ◌≤◌, length, IfOk, OnOk, IsErrOf};
+ghost use Rattle.std.specs.List.Sorted.{IsPermutation};
 ghost use Rattle.game_line.specs.Lined.{legal_in, story_of_line};
 ghost use Rattle.game_values.specs.Laws.{Within};
 ghost use Rattle.game_values.specs.Values.{play, tree_size, value};
@@ -26,11 +26,15 @@ const LEAST_SHARED: u8 = 4;
 
 /// The legal moves after the line, those first that promise most by the hints.
 fn ranked(alloc: Global, line: &Line, hints: &HintTable) -> Result<MoveList, Memory>
-    ensures { IfOk result (λ moves. Lists (λ m. Member m (legal_in line.now)) moves) }
+    requires some { 0 < length (legal_in line.now) }
+    ensures order { IfOk result (λ moves. IsPermutation (legal_in line.now) moves) }
+    ensures some { IfOk result (λ moves. 0 < length moves) }
 {
     let board = line.board();
     let mut moves = board.legal_moves(alloc)?;
-    moves.items.sort_by_cached_key(|m: &Move| root_rank(board, hints, m))?;
+    moves
+        .items
+        .sort_by_cached_key(|m: &Move| root_rank(board, hints, m))?;
     Ok(moves)
 }
 
@@ -66,10 +70,11 @@ pub(crate) fn left<R: Threads + Sync, W: Watch, G: Gate + Sync>(
         return value_within(line, desk, watch, depth, ply, window);
     }
     watch.enter()?;
-    let moves = ranked(team.alloc, line, team.hints)?;
-    if let Some(worth) = end_where(line, ply, !moves.items.is_empty()) {
+    let any = line.board().any_legal();
+    if let Some(worth) = end_where(line, ply, any) {
         return Ok(worth);
     }
+    let moves = ranked(team.alloc, line, team.hints)?;
     let chosen = moves.items[0];
     line.push(&chosen);
     let asked = window.turned();

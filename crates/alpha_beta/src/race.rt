@@ -1,8 +1,9 @@
 //! The worker in the caller, and the others beside it.
-ghost use Rattle.std.specs.Prelude.{◌≡◌, ◌+◌, ◌≤◌, ◌<◌, [], length, OnOk, IsErrOf};
+ghost use Rattle.std.specs.Prelude.{◌≡◌, ℕ, ◌≤◌, ◌<◌, [], get_or, length, OnOk, IsErrOf};
 ghost use Rattle.std.specs.List.{All};
 ghost use Rattle.watching.specs.declared.halt.Halt.{Halt};
-ghost use Rattle.alpha_beta.specs.Workers.{AreTrueFacts, IsPlan, IsSound, HasEntered, lines_in, most_nodes};
+ghost use Rattle.alpha_beta.specs.declared.jobs.Job.{Job};
+ghost use Rattle.alpha_beta.specs.Workers.{AreTrueFacts, HasEntered, IsPlan, IsSound, lines_in};
 
 use crate::jobs::Job;
 use crate::plan::Plan;
@@ -49,7 +50,8 @@ pub(crate) fn race<R: Threads + Sync, W: Watch, G: Gate + Sync>(
     requires none { facts.old.items ≡ [] }
     requires count { length jobs.old ≤ 63 }
     ensures sound { All (IsSound plan.now) jobs.new }
-    ensures few { most_nodes 0 jobs.new ≤ most_nodes 0 jobs.old + lines_in plan.now }
+    ensures entered { (i : ℕ) (d : Job) → i < length jobs.old
+        → HasEntered (lines_in plan.now) (get_or jobs.old i d) (get_or jobs.new i d) }
     ensures count { length jobs.new ≡ length jobs.old }
     ensures known { AreTrueFacts plan.now facts.new.items }
     ensures gone { OnOk result (W.gone watch.old watch.new (lines_in plan.now)) }

@@ -117,7 +117,7 @@ pub(crate) fn share<R: Threads + Sync, W: Watch, G: Gate + Sync>(
         (2 * root_lines line.old.rules depth (story_of_line line.old) moves.now) why }
     ensures kept { OnOk result (line.new ≡ line.old) }
 {
-    if first.value >= window.beta || moves.is_empty() {
+    if first.value >= window.beta {
         return Ok(first);
     }
     let asked = window.above(first.value).null();

@@ -1,5 +1,5 @@
 //! What is known of the moves of a position.
-ghost use Rattle.std.specs.Prelude.{◌≡◌, All, IfSome};
+ghost use Rattle.std.specs.Prelude.{◌≡◌, ℤ, ◌≤ℤ◌, All, IfSome, IsTrue};
 ghost use Rattle.game_line.specs.Lined.{story_of_line};
 ghost use Rattle.game_values.specs.Laws.{Within};
 ghost use Rattle.negamax.specs.RootFacts.{IsTrueFact, score_of};
@@ -24,6 +24,30 @@ pub struct Best {
     pub chosen: Move,
 }
 
+fn are_same(a: &Move, b: &Move) -> bool
+    ensures { IsTrue result → a.now ≡ b.now }
+{
+    a == b
+}
+
+/// The least that a value is, of which the window asked this.
+fn least_of(window: Window, asked: i32) -> i32
+    requires within { Within asked }
+    ensures least { (v : ℤ) → Within v → Bounds window.alpha window.beta asked v → result ≤ℤ v }
+    ensures within { Within result }
+{
+    if asked > window.alpha { asked } else { WORST }
+}
+
+/// The most that a value is, of which the window asked this.
+fn most_of(window: Window, asked: i32) -> i32
+    requires within { Within asked }
+    ensures most { (v : ℤ) → Within v → Bounds window.alpha window.beta asked v → v ≤ℤ result }
+    ensures within { Within result }
+{
+    if asked < window.beta { asked } else { BEST }
+}
+
 /// What the answer of a search within the window says of the move's score.
 pub(crate) fn fact_of(
     line: &Line,
@@ -41,20 +65,31 @@ pub(crate) fn fact_of(
 {
     Fact {
         chosen: *chosen,
-        least: if score > window.alpha { score } else { WORST },
-        most: if score < window.beta { score } else { BEST },
+        least: least_of(window, score),
+        most: most_of(window, score),
     }
 }
 
-/// What the fact says of its move within the window, if it says enough.
-fn says(fact: &Fact, window: Window) -> Option<i32> {
-    if fact.most <= window.alpha {
-        Some(fact.most)
-    } else if fact.least >= window.beta || fact.least == fact.most {
-        Some(fact.least)
-    } else {
-        None
+/// What the window asks of the move's score, if the fact is of that move and says it.
+fn says(line: &Line, depth: u8, ply: u8, fact: &Fact, chosen: &Move, window: Window) -> Option<i32>
+    requires { IsTrueFact line.now.rules depth ply (story_of_line line.now) fact.now }
+    ensures bounds { IfSome result (λ score. Bounds window.alpha window.beta score
+        (score_of line.now.rules depth ply (story_of_line line.now) chosen.now)) }
+    ensures within { IfSome result Within }
+{
+    if !are_same(&fact.chosen, chosen) {
+        return None;
     }
+    if fact.most <= window.alpha {
+        return Some(fact.most);
+    }
+    if fact.least >= window.beta {
+        return Some(fact.least);
+    }
+    if fact.least == fact.most {
+        return Some(fact.most);
+    }
+    None
 }
 
 /// What the window asks of the move's score, where one of the facts says it.
@@ -72,11 +107,9 @@ pub(crate) fn known_score(
     ensures within { IfSome result Within }
 {
     for fact in facts {
-        if fact.chosen == *chosen {
-            let said = says(fact, window);
-            if said.is_some() {
-                return said;
-            }
+        let said = says(line, depth, ply, fact, chosen, window);
+        if said.is_some() {
+            return said;
         }
     }
     None

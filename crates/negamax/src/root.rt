@@ -1,5 +1,6 @@
 //! Moves of a position, one by one, and the best of them.
-ghost use Rattle.std.specs.Prelude.{◌≡◌, ◌+◌, ◌≤◌, ℤ, All, length, sum_by, IfOk, OnOk, IsErrOf};
+ghost use Rattle.std.specs.Prelude.{◌≡◌, ◌⊎◌, ◌+◌, ◌≤◌, ℤ, ◌<ℤ◌, ◌≤ℤ◌, All, length, sum_by, IfOk, OnOk, IsErrOf};
+ghost use Rattle.std.specs.Int.{int_max};
 ghost use Rattle.foundation.specs.Member.{Member};
 ghost use Rattle.game_line.specs.Lined.{legal_in, story_of_line};
 ghost use Rattle.game_values.specs.Laws.{Within};
@@ -81,8 +82,44 @@ pub fn search_move<W: Watch>(
     Ok(fact_of(line, depth, ply, chosen, window, score))
 }
 
+/// What the window asks of the score of one move: what a fact says, or what a search does.
+fn score_in<W: Watch>(
+    line: &mut Line,
+    desk: &mut SearchState,
+    watch: &mut W,
+    depth: u8,
+    ply: u8,
+    chosen: &Move,
+    facts: &[Fact],
+    window: Window,
+) -> Result<i32, Halt>
+    requires least { 1 ≤ depth }
+    requires plies { ply + depth ≤ 64 }
+    requires room { length line.old.moves + depth + 4 ≤ line.old.room }
+    requires legal { Member chosen.now (legal_in line.old) }
+    requires known { All (IsTrueFact line.old.rules depth ply (story_of_line line.old)) facts.now }
+    ensures bounds { IfOk result (λ score. Bounds window.alpha window.beta score
+        (score_of line.old.rules depth ply (story_of_line line.old) chosen.now)) }
+    ensures within { IfOk result Within }
+    ensures gone { OnOk result
+        (W.gone watch.old watch.new (root_tree line.old.rules depth (story_of_line line.old) chosen.now)) }
+    ensures ended { (why : Halt) → IsErrOf result why
+        → W.ended watch.old watch.new (root_tree line.old.rules depth (story_of_line line.old) chosen.now) why }
+    ensures kept { OnOk result (line.new ≡ line.old) }
+{
+    match known_score(line, depth, ply, facts, chosen, window) {
+        Some(score) => Ok(score),
+        None => score_move(line, desk, watch, depth, ply, chosen, window),
+    }
+}
+
 /// The better of the best so far and of a move, of whose score the window above the best asked this.
-fn better_of(best: Best, chosen: &Move, floor: i32, score: i32) -> Best {
+fn better_of(best: Best, chosen: &Move, floor: i32, score: i32) -> Best
+    requires low { best.value ≤ℤ floor }
+    ensures value { result.value ≡ int_max best.value score }
+    ensures chosen { ((result.chosen ≡ best.chosen) × (result.value ≤ℤ floor))
+        ⊎ ((result.chosen ≡ chosen.now) × (floor <ℤ result.value) × (result.value ≡ score)) }
+{
     if score > floor {
         Best {
             value: score,
@@ -126,10 +163,7 @@ fn settle<W: Watch>(
         return Ok(best);
     }
     let asked = window.above(best.value);
-    let score = match known_score(line, depth, ply, facts, chosen, asked) {
-        Some(score) => score,
-        None => score_move(line, desk, watch, depth, ply, chosen, asked)?,
-    };
+    let score = score_in(line, desk, watch, depth, ply, chosen, facts, asked)?;
     Ok(better_of(best, chosen, asked.alpha, score))
 }
 

@@ -3,18 +3,16 @@ use Rattle.watching.specs.Helping.{Helps, HelpEnds}
 use Rattle.watching.specs.declared.halt.Halt.{Halt}
 use Rattle.watching.specs.declared.helper.Helper.{Helper}
 use Rattle.alpha_beta.specs.Workers.{lines_in}
-use Rattle.alpha_beta.proofs.root_moves.help.Goals as goal
+use Rattle.alpha_beta.proofs.taking.help.Goals as goal
 
 few : (a b : Helper) (n : ℕ) (r : Result (Unit {0}) Halt) → OnOk r (Helps a b n)
     → ((why : Halt) → IsErrOf r why → HelpEnds a b n why) → b.nodes ≤ a.nodes + n
 few a b n (Ok done) gone ended = gone.counts.1
 few a b n (Err why) gone ended = (ended why refl).helps.counts.1
 
-pub returns : goal.returns
-returns g c =
+pub returns-clause-nodes : goal.returns-clause-nodes
+returns-clause-nodes g c =
     let n : ℕ = lines_in c.args.plan.now in
-    let bound =
-    few c.new-watch.result c.take_free.new.watch n c.take_free.result c.take_free.ensures.gone c.take_free.ensures.ended in
-    let none = c.new-watch.ensures.none in
+    let bound = few _ c.take_some.new.watch n c.take_some.result c.take_some.ensures.gone c.take_some.ensures.ended in
     let is = c.nodes-job.ensures in
-    record { sound = record { facts = c.take_free.ensures.known; nodes = omega (arith, bound, none, is) } }
+    omega (arith, bound, is)

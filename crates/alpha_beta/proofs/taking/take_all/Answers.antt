@@ -1,30 +1,29 @@
-use Rattle.std.proofs.Common.{◌≡◌, ◌≤◌, ◌*◌, ℕ, Err, arith, rules, subst}
-use Rattle.io_ports.specs.declared.limits.SearchFault.TheVariants as fault
+use Rattle.std.proofs.Common.{◌≡◌, ◌+◌, ◌≤◌, Err, rules, subst, sum_by, sym, arith}
+use Rattle.std.specs.List.{All}
+use Rattle.foundation.specs.Member.{Member}
+use Rattle.game_line.specs.Lined.{legal_in}
 use Rattle.watching.specs.declared.halt.Halt.{Halt}
-use Rattle.watching.specs.declared.halt.Halt.TheVariants as halt
 use Rattle.watching.specs.LookLaws.{on_ok_of}
-use Rattle.alpha_beta.specs.Workers.{lines_in}
-use Rattle.alpha_beta.proofs.root_moves.take_all.Goals as goal
+use Rattle.alpha_beta.specs.Workers.{lines_after, lines_in}
+use Rattle.alpha_beta.proofs.taking.take_all.Goals as goal
 
-pub returns-in_err-seat-clause-ended : goal.returns-in_err-seat-clause-ended
-returns-in_err-seat-clause-ended g c why is =
-    let same : halt.Fault fault.Memory ≡ why = search rules in
-    let n : ℕ = 2 * lines_in c.args.plan.now in
-    let le : 0 ≤ n = omega arith in
-    let a = c.args.watch.now in
-    subst (λ (w : Halt). g.W.Watch.ended a a n w) same (g.met.W.Watch.memory a a n (g.met.W.Watch.wider a a 0 n (g.met.W.Watch.none a) le))
+pub take_unfinished-requires-clause-legal : goal.take_unfinished-requires-clause-legal
+take_unfinished-requires-clause-legal g c =
+    subst (λ os. All (λ o. Member o.chosen (legal_in c.args.plan.now.line.now)) os) (sym c.as_slice.ensures.value) c.in_ok-take_free.ensures.legal
 
-pub returns-in_err-take_roots-clause-ended : goal.returns-in_err-take_roots-clause-ended
-returns-in_err-take_roots-clause-ended g c why is =
-    let back : c.take_roots.result ≡ Err why = search rules in
-    let n : ℕ = lines_in c.args.plan.now in
-    let le : n ≤ 2 * n = omega arith in
-    g.met.W.Watch.ends_wider _ _ n (2 * n) why (c.take_roots.ensures.ended why back) le
+pub returns-in_err-take_free-clause-ended : goal.returns-in_err-take_free-clause-ended
+returns-in_err-take_free-clause-ended g c why is =
+    let back : c.take_free.result ≡ Err why = search rules in
+    c.take_free.ensures.ended why back
 
 pub returns-clause-gone : goal.returns-clause-gone
 returns-clause-gone g c =
-    on_ok_of c.take_roots-2.result c.take_roots-2.ensures.gone (λ gone. g.met.W.Watch.wider _ _ _ _ (g.met.W.Watch.more _ _ _ _ _ c.in_ok-take_roots.ensures.gone gone) (omega arith))
+    let e = c.in_ok-take_free.ensures.gone in
+    let fits = subst (λ os. e.nodes + sum_by (λ o. lines_after c.args.plan.now o.chosen) os ≤ lines_in c.args.plan.now) (sym c.as_slice.ensures.value) e.fits in
+    on_ok_of c.take_unfinished.result c.take_unfinished.ensures.gone (λ gone. g.met.W.Watch.wider _ _ _ _ (g.met.W.Watch.more _ _ _ _ _ e.went gone) fits)
 
 pub returns-clause-ended : goal.returns-clause-ended
 returns-clause-ended g c why is =
-    g.met.W.Watch.ends_wider _ _ _ _ why (g.met.W.Watch.ends _ _ _ _ _ why c.in_ok-take_roots.ensures.gone (c.take_roots-2.ensures.ended why is)) (omega arith)
+    let e = c.in_ok-take_free.ensures.gone in
+    let fits = subst (λ os. e.nodes + sum_by (λ o. lines_after c.args.plan.now o.chosen) os ≤ lines_in c.args.plan.now) (sym c.as_slice.ensures.value) e.fits in
+    g.met.W.Watch.ends_wider _ _ _ _ why (g.met.W.Watch.ends _ _ _ _ _ why e.went (c.take_unfinished.ensures.ended why is)) fits
