@@ -1,5 +1,5 @@
 //! In which order the moves of a position are tried: a move that is named comes first.
-ghost use Rattle.std.specs.Prelude.{◌≡◌, ◌↔◌, None, Some, IsTrue, IfOk, IfSome, slice_get};
+ghost use Rattle.std.specs.Prelude.{◌≡◌, None, Some, IfOk, IfSome, slice_get};
 ghost use Rattle.foundation.specs.Member.{Lists, Member};
 ghost use Rattle.mate_showing.specs.Fronts as Fronts;
 ghost use Rattle.legality.specs.Stance.{legal_in};
@@ -7,7 +7,7 @@ ghost use Rattle.legality.specs.Stance.{legal_in};
 use mate_core::Fact;
 use mate_settle::{FactTable, moves_to_try};
 use playing::Board;
-use rules_model::{Memory, Move};
+use rules_model::{Memory, Move, is_same_move};
 use std::alloc::Global;
 
 /// The legal moves in the order of the definition; or `Memory`.
@@ -31,19 +31,13 @@ pub fn to_front(moves: &mut [Move], place: Option<usize>)
     }
 }
 
-fn is_same(a: &Move, b: &Move) -> bool
-    ensures { IsTrue result ↔ (a.now ≡ b.now) }
-{
-    a == b
-}
-
 /// The place of the move, if it is one of these.
 fn place_of(moves: &[Move], named: &Move) -> Option<usize>
     ensures here { IfSome result (λ at. slice_get moves.now at ≡ Some named.now) }
     ensures none { result ≡ None → Member named.now moves.now → ⊥ }
 {
     for i in 0..moves.len() {
-        if is_same(&moves[i], named) {
+        if is_same_move(&moves[i], named) {
             return Some(i);
         }
     }

@@ -1,9 +1,11 @@
-//! Whether two positions are one, as a repetition compares them.
+//! Whether two positions are one, as a repetition compares them, and whether two moves are.
 ghost use Rattle.std.specs.Prelude.{◌≡◌, ◌↔◌, IsTrue};
 ghost use Rattle.rules_model.specs.Games.{same_repeat};
+ghost use Rattle.rules_model.specs.Moves as Moves;
 ghost use Rattle.rules_model.specs.Repeats as Repeats;
 
 use crate::board::{Cell, Position, Repeat, Square};
+use crate::moves::Move;
 
 // What differs most often comes first.
 fn are_equal(a: &Repeat, b: &Repeat) -> bool
@@ -70,4 +72,18 @@ fn are_same_squares(a: Option<Square>, b: Option<Square>) -> bool
     ensures { IsTrue result ↔ (a ≡ b) }
 {
     a == b
+}
+
+fn are_equal_moves(a: &Move, b: &Move) -> bool
+    ensures { IsTrue result ↔ (a.now ≡ b.now) }
+{
+    a == b
+}
+
+/// Whether the two are one move.
+pub fn is_same_move(a: &Move, b: &Move) -> bool
+    ensures is { result ≡ Moves.same_move a.now b.now }
+    ensures same { IsTrue result ↔ (a.now ≡ b.now) }
+{
+    are_equal_moves(a, b)
 }

@@ -26,7 +26,7 @@ pub use board::{
     Side, Square, Wing, cell_at, repeat_of,
 };
 pub use copy::copy_of_rules;
-pub use equal::{are_same_hands, are_same_rights, is_same_repeat, repeats};
+pub use equal::{are_same_hands, are_same_rights, is_same_move, is_same_repeat, repeats};
 pub use moves::{Cause, Move, MoveList, Outcome, Placed, Promo, Value};
 pub use reach::{Ray, reaches_plain};
 pub use rules::{KindRule, Rules, Term, Terms, Way};

@@ -1,5 +1,5 @@
 //! The steps around a step in a certificate's tree.
-ghost use Rattle.std.specs.Prelude.{◌≡◌, ◌↔◌, IsTrue, reverse, not};
+ghost use Rattle.std.specs.Prelude.{◌≡◌, reverse};
 ghost use Rattle.std.specs.List.{list_any};
 ghost use Rattle.foundation.specs.Tests.{is_nil};
 ghost use Rattle.rules_model.specs.Moves as Moves;
@@ -7,19 +7,7 @@ ghost use Rattle.stipulation.specs.Trees.{moves_at};
 ghost use Rattle.stipulation.specs.Verdicts as Verdicts;
 
 use crate::cert::Step;
-use rules_model::Move;
-
-fn are_equal(a: &Move, b: &Move) -> bool
-    ensures { IsTrue result ↔ (a.now ≡ b.now) }
-{
-    a == b
-}
-
-fn is_same_move(a: &Move, b: &Move) -> bool
-    ensures { result ≡ Moves.same_move a.now b.now }
-{
-    are_equal(a, b)
-}
+use rules_model::{Move, is_same_move};
 
 /// Whether one of the steps of the ply, before the first step of a lower one, has the move.
 #[tactic(auto, unfolding(crate::specs::Trees::moves_at))]

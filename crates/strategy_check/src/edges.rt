@@ -1,5 +1,5 @@
 //! The edges of a node.
-ghost use Rattle.std.specs.Prelude.{◌≡◌, ◌↔◌, IsTrue, true, false};
+ghost use Rattle.std.specs.Prelude.{◌≡◌, true, false};
 ghost use Rattle.std.specs.List.{list_any, list_all};
 ghost use Rattle.foundation.specs.Member.{Member};
 ghost use Rattle.rules_model.specs.Moves as Moves;
@@ -14,21 +14,8 @@ ghost use Rattle.strategy_check.specs.AtTable as At;
 use crate::table::Table;
 use forced_wins::is_falling;
 use legality::{apply, is_legal};
-use rules_model::{Move, Position, repeats};
+use rules_model::{Move, Position, is_same_move, repeats};
 use strategy::{Edge, Node};
-
-fn are_equal(a: &Move, b: &Move) -> bool
-    ensures { IsTrue result ↔ (a.now ≡ b.now) }
-{
-    a == b
-}
-
-/// Whether the two are one move.
-pub(crate) fn is_same_move(a: &Move, b: &Move) -> bool
-    ensures { result ≡ Moves.same_move a.now b.now }
-{
-    are_equal(a, b)
-}
 
 /// Whether two of the edges have one move. Each is compared with those before it, so that where all moves are legal no
 /// more edges are looked at than there are legal moves, and one.

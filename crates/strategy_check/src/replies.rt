@@ -9,10 +9,9 @@ ghost use Rattle.forced_wins.specs.Views.{seen_by};
 ghost use Rattle.strategy_check.specs.Rows.{kept};
 ghost use Rattle.strategy_check.specs.AtTable as At;
 
-use crate::edges::is_same_move;
 use crate::table::Table;
 use legality::legal_moves;
-use rules_model::{Memory, Move};
+use rules_model::{Memory, Move, is_same_move};
 use std::alloc::Global;
 use strategy::Node;
 
