@@ -7,7 +7,7 @@ ghost use Rattle.evaluation.specs.Values.{play, tree_size, value};
 ghost use Rattle.watching.specs.declared.halt.Halt.{Halt};
 ghost use Rattle.negamax.specs.Windows.{Bounds};
 
-use crate::ends::{end_where, play, piece_values_of};
+use crate::ends::{end_where, piece_values_of, play};
 use crate::move_order::better;
 use crate::quiescence::quiescence;
 use crate::scored_moves::take_best;
