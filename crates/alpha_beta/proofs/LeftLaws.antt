@@ -2,6 +2,7 @@
 use Rattle.std.proofs.Common.{◌≡◌, ◌∙◌, inl, inr, ℕ, ◌+◌, ◌*◌, ◌-◌, ◌<◌, ◌≤◌, List, [], ◌∷◌, None, drop, get_or, length, sum_by, refl, sym, subst, arith}
 use Rattle.std.specs.Prelude.{ℤ, neg_ℤ}
 use Rattle.std.proofs.lemmas.List.Sums.{sum_by-cons}
+use Rattle.std.specs.List.{All}
 use Rattle.std.specs.List.Sorted.{IsPermutation}
 use Rattle.std.proofs.lemmas.List.Sorted.{IsPermutation-sym, sum_by-IsPermutation}
 use Rattle.foundation.specs.Member.{Member}
@@ -47,6 +48,12 @@ some_legal rules ply g on =
 pub permuted_legal : (xs ys : List Move) (i : ℕ) (d : Move) → IsPermutation xs ys → i < length ys → Member (get_or ys i d) xs
 permuted_legal xs ys i d h lt =
     member-permutation _ ys xs (IsPermutation-sym xs ys h) (member-contains _ ys (Contains-get_or ys i d lt))
+
+-- and so is each but the first
+pub rest_legal : (xs ys : List Move) → IsPermutation xs ys → All (λ m. Member m xs) (drop 1 ys)
+rest_legal xs [] h = λ i d lt. absurd (omega (arith, lt))
+rest_legal xs (y ∷ ys) h =
+    λ i d lt. member-permutation _ (y ∷ ys) xs (IsPermutation-sym xs (y ∷ ys) h) (inr (member-contains _ ys (Contains-get_or ys i d lt)))
 
 module _ (rules : Rules) (depth ply : ℕ) (g : Story) (m : Move) (ms : List Move) (on : (play rules).ended g ply ≡ None) (some : 0 < depth)
     (all : IsPermutation (legal rules (repeat_of g.last)) (m ∷ ms)) where

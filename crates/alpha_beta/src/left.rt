@@ -78,7 +78,17 @@ pub(crate) fn left<R: Threads + Sync, W: Watch, G: Gate + Sync>(
     let chosen = moves.items[0];
     line.push(&chosen);
     let asked = window.turned();
-    let found = left(rt, team, line, state, jobs, watch, depth - 1, ply + 1, asked)?;
+    let found = left(
+        rt,
+        team,
+        line,
+        state,
+        jobs,
+        watch,
+        depth - 1,
+        ply + 1,
+        asked,
+    )?;
     line.back();
     let value = -found;
     let first = Best { value, chosen };

@@ -1,5 +1,5 @@
-//! The search: the exact value of a game at a depth, by workers that race over root moves. The first of them runs
-//! in the caller and asks a watch that is lent; what the watch hears is its own matter.
+//! The search: the exact value of a game at a depth, by workers that race over the moves beside the leftmost line. The
+//! first of them runs in the caller and asks a watch that is lent; what the watch hears is its own matter.
 #![tactic(auto)]
 
 mod jobs;

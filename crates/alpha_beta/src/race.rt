@@ -35,7 +35,8 @@ fn lead<W: Watch, G: Gate>(
     end
 }
 
-/// The worker in the caller and the others, each with a line and a search state of its own. It returns once all have ended.
+/// The worker in the caller and the others, each with a line and a search state of its own. It returns once all have
+/// ended.
 pub(crate) fn race<R: Threads + Sync, W: Watch, G: Gate + Sync>(
     rt: &R,
     plan: &Plan<G>,

@@ -63,7 +63,15 @@ fn take<W: Watch, G: Gate>(
     ensures kept { OnOk result (line.new ≡ plan.now.line.now) }
 {
     plan.team.gate.pass(number, facts.len() as u64);
-    let fact = search_move(line, state, watch, plan.depth, plan.ply, chosen, plan.window)?;
+    let fact = search_move(
+        line,
+        state,
+        watch,
+        plan.depth,
+        plan.ply,
+        chosen,
+        plan.window,
+    )?;
     plan.shared.finish(place);
     remember(facts, fact)?;
     Ok(())

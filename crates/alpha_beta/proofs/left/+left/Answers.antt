@@ -1,5 +1,6 @@
 use Rattle.std.proofs.Common.{◌≡◌, ◌+◌, ◌*◌, ◌-◌, ◌<◌, ◌≤◌, ◌∙◌, ◌∷◌, ℕ, Err, drop, get_or, length, ap, not, rules, subst, sym, arith}
 use Rattle.std.proofs.lemmas.Int.{ints}
+use Rattle.std.specs.List.{All}
 use Rattle.std.specs.List.Sorted.{IsPermutation}
 use Rattle.foundation.specs.Member.{Member}
 use Rattle.rules_model.specs.Legal.{is_stuck}
@@ -20,7 +21,7 @@ use Rattle.negamax.specs.RootFacts.{score_of}
 use Rattle.negamax.specs.Windows.{Bounds}
 use Rattle.negamax.proofs.NodeLaws.{is_none, quiet_within, value_end}
 use Rattle.negamax.proofs.RootLaws.{no_move, root_lines, score-bounds}
-use Rattle.alpha_beta.proofs.LeftLaws.{first_and_rest, left-bounds, lines-listed, permuted_legal, some_legal}
+use Rattle.alpha_beta.proofs.LeftLaws.{first_and_rest, left-bounds, lines-listed, permuted_legal, rest_legal, some_legal}
 use Rattle.alpha_beta.specs.Roots as Roots
 use Rattle.alpha_beta.proofs.left.+left.Goals as goal
 
@@ -84,7 +85,10 @@ returns-in_err-found-clause-ended g t c why is =
     g.met.W.Watch.ends_wider _ _ _ _ why (g.met.W.Watch.ends _ _ _ _ _ why c.in_ok-enter.ensures.gone end) (omega (arith, all))
 
 pub share-best-requires-clause-legal : goal.share-best-requires-clause-legal
-share-best-requires-clause-legal g t c = λ i d lt. search rules
+share-best-requires-clause-legal g t c =
+    let line = c.args.line.now in let m = get_or c.in_ok-moves.moves 0 no_move in
+    let kept = c.back.ensures ∙ ap shorter (c.in_ok-found.ensures.kept ∙ c.push.ensures) ∙ shorter-pushed line m in
+    subst (λ l. All (λ n. Member n (legal_in l)) (drop 1 c.in_ok-moves.moves)) (sym kept) (rest_legal (legal_in line) c.in_ok-moves.moves c.in_ok-moves.ensures.order)
 
 pub returns-in_err-best-clause-ended : goal.returns-in_err-best-clause-ended
 returns-in_err-best-clause-ended g t c why is =
