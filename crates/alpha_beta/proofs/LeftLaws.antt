@@ -1,5 +1,5 @@
 -- The leftmost line: a position by its first move and the others.
-use Rattle.std.proofs.Common.{◌≡◌, ◌∙◌, inl, inr, ℕ, ◌+◌, ◌*◌, ◌-◌, ◌<◌, ◌≤◌, List, [], ◌∷◌, None, drop, get_or, length, sum_by, refl, sym, subst, arith}
+use Rattle.std.proofs.Common.{◌≡◌, ◌∙◌, inl, inr, ℕ, ◌+◌, ◌*◌, ◌-◌, ◌<◌, ◌≤◌, List, [], ◌∷◌, None, ap, drop, get_or, length, sum_by, take, refl, sym, subst, arith}
 use Rattle.std.specs.Prelude.{ℤ, neg_ℤ}
 use Rattle.std.proofs.lemmas.List.Sums.{sum_by-cons}
 use Rattle.std.specs.List.{All}
@@ -7,7 +7,8 @@ use Rattle.std.specs.List.Sorted.{IsPermutation}
 use Rattle.std.proofs.lemmas.List.Sorted.{IsPermutation-sym, sum_by-IsPermutation}
 use Rattle.foundation.specs.Member.{Member}
 use Rattle.foundation.proofs.Members.{member-contains, member-permutation}
-use Rattle.std.proofs.lemmas.List.Elements.{Contains-get_or}
+use Rattle.std.proofs.lemmas.List.{take_all}
+use Rattle.std.proofs.lemmas.List.Elements.{All-drop, All-take, Contains-get_or}
 use Rattle.rules_model.specs.declared.moves.Move.{Move}
 use Rattle.rules_model.specs.declared.rules.Rules.{Rules}
 use Rattle.rules_model.specs.Games.{Story, played}
@@ -24,10 +25,18 @@ use Rattle.negamax.proofs.NodeLaws.{all_fit, value_on}
 use Rattle.negamax.proofs.RootLaws.{list-bounds}
 use Rattle.alpha_beta.specs.Roots.{root_lines}
 
+-- all but the first, as a slice from 1 on reads them
+abbrev pub others : List Move → List Move
+others ms = take (length ms - 1) (drop 1 ms)
+
 -- the first of some, and the others
-pub first_and_rest : {X : Type 0} (xs : List X) (d : X) → 0 < length xs → xs ≡ get_or xs 0 d ∷ drop 1 xs
-first_and_rest [] d lt = absurd (omega (arith, lt))
-first_and_rest (x ∷ xs) d lt = refl
+pub first_and_others : (ms : List Move) (d : Move) → 0 < length ms → ms ≡ get_or ms 0 d ∷ others ms
+first_and_others [] d lt = absurd (omega (arith, lt))
+first_and_others (m ∷ ms) d lt = ap (λ ns. m ∷ ns) (sym (take_all (length (m ∷ ms) - 1) ms (omega arith)))
+
+-- what holds of all, holds of the others
+pub all_others : (P : Move → Type 0) (ms : List Move) → All P ms → All P (others ms)
+all_others P ms h = All-take P (length ms - 1) (drop 1 ms) (All-drop P 1 ms h)
 
 some_member : {X : Type 0} (x : X) (xs : List X) → Member x xs → 0 < length xs
 some_member x [] h = absurd h
@@ -49,11 +58,9 @@ pub permuted_legal : (xs ys : List Move) (i : ℕ) (d : Move) → IsPermutation 
 permuted_legal xs ys i d h lt =
     member-permutation _ ys xs (IsPermutation-sym xs ys h) (member-contains _ ys (Contains-get_or ys i d lt))
 
--- and so is each but the first
-pub rest_legal : (xs ys : List Move) → IsPermutation xs ys → All (λ m. Member m xs) (drop 1 ys)
-rest_legal xs [] h = λ i d lt. absurd (omega (arith, lt))
-rest_legal xs (y ∷ ys) h =
-    λ i d lt. member-permutation _ (y ∷ ys) xs (IsPermutation-sym xs (y ∷ ys) h) (inr (member-contains _ ys (Contains-get_or ys i d lt)))
+-- so is each of them
+pub all_legal : (xs ys : List Move) → IsPermutation xs ys → All (λ m. Member m xs) ys
+all_legal xs ys h = λ i d lt. permuted_legal xs ys i d h lt
 
 module _ (rules : Rules) (depth ply : ℕ) (g : Story) (m : Move) (ms : List Move) (on : (play rules).ended g ply ≡ None) (some : 0 < depth)
     (all : IsPermutation (legal rules (repeat_of g.last)) (m ∷ ms)) where

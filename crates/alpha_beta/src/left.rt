@@ -74,8 +74,9 @@ pub(crate) fn left<R: Threads + Sync, W: Watch, G: Gate + Sync>(
     if let Some(worth) = end_where(line, ply, any) {
         return Ok(worth);
     }
-    let moves = ranked(team.alloc, line, team.hints)?;
-    let chosen = moves.items[0];
+    let ranked = ranked(team.alloc, line, team.hints)?;
+    let moves = ranked.items.as_slice();
+    let chosen = moves[0];
     line.push(&chosen);
     let asked = window.turned();
     let found = left(
@@ -92,7 +93,7 @@ pub(crate) fn left<R: Threads + Sync, W: Watch, G: Gate + Sync>(
     line.back();
     let value = -found;
     let first = Best { value, chosen };
-    let rest = &moves.items[1..];
+    let rest = &moves[1..];
     let best = share(
         rt, team, line, state, jobs, watch, depth, ply, rest, window, first,
     )?;

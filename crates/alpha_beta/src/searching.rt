@@ -5,6 +5,7 @@ ghost use Rattle.io_ports.specs.declared.limits.SearchFault.{SearchFault};
 ghost use Rattle.foundation.specs.Member.{Member};
 ghost use Rattle.game_line.specs.Lined.{legal_in, story_of_line};
 ghost use Rattle.game_play.specs.Played.{story};
+ghost use Rattle.evaluation.specs.Laws.{Within};
 ghost use Rattle.evaluation.specs.Values.{Attains, value_of};
 ghost use Rattle.watching.specs.declared.halt.Halt.{Halt};
 ghost use Rattle.watching.specs.Stopping.{AreSamePorts, Fails};
@@ -68,6 +69,7 @@ fn best_root<R: Threads + Sync, W: Watch, G: Gate + Sync>(
         best.value ≡ value_of line.old.rules depth (story_of_line line.old) moves.now) }
     ensures attains { IfOk result (λ best.
         Attains line.old.rules depth (story_of_line line.old) moves.now best.value best.chosen) }
+    ensures within { IfOk result (λ best. Within best.value) }
     ensures few { OnOk result (most_nodes 0 jobs.new
         ≤ most_nodes 0 jobs.old + root_lines line.old.rules depth (story_of_line line.old) moves.now) }
     ensures count { OnOk result (length jobs.new ≡ length jobs.old) }

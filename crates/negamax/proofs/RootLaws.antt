@@ -92,23 +92,23 @@ module _ (rules : Rules) (depth ply : ℕ) (g : Story) where
       where
         by_which : ((after.chosen ≡ best.chosen) × (after.value ≤ℤ floor)) ⊎ ((after.chosen ≡ m) × (floor <ℤ after.value) × (after.value ≡ r))
             → Chooses rules depth ply g a (m ∷ []) best after
-        by_which (inl no) = let low = no.1 in inl (no.0, omega (arith, ints, clamps))
-        by_which (inr yes) =
-            let up = yes.1.0 in let is = yes.1.1 in
+        by_which (inl kept) = let low = kept.1 in inl (kept.0, omega (arith, ints, clamps))
+        by_which (inr up) =
+            let over = up.1 in let is = up.2 in
             let high : floor <ℤ r = omega (arith, ints) in
             let reached = told.low high in
             let scored : after.value ≤ℤ score_of rules depth ply g m = omega (arith, ints) in
             inr (record {
-              root = inl yes.0;
+              root = inl (sym up.0);
               above = omega (arith, ints, clamps);
-              attained = subst (λ n. after.value ≤ℤ score_of rules depth ply g n) (sym yes.0) scored;
+              attained = subst (λ n. after.value ≤ℤ score_of rules depth ply g n) (sym up.0) scored;
             })
 
   -- ---- how far a list is settled
 
   module _ (a : ℤ) (ms : List Move) where
     only : (m n : Move) → Member n (m ∷ []) → n ≡ m
-    only m n (inl e) = e
+    only m n (inl e) = sym e
     only m n (inr h) = absurd h
 
     -- what one move more chooses, is chosen of the list
@@ -169,7 +169,7 @@ module _ (rules : Rules) (depth : ℕ) (g : Story) (a b : ℤ) (m : Move) (ms : 
       let le = h.1 in
       let up = greatest-member (score_of rules depth 0 g) worst (m ∷ ms) m (inl refl) in
       let scored : root_score (play rules) depth g m ≡ best.value = omega (arith, ints, clamps) in
-      record { root = inl n; attained = subst (λ x. root_score (play rules) depth g x ≡ best.value) (sym n) scored }
+      record { root = inl (sym n); attained = subst (λ x. root_score (play rules) depth g x ≡ best.value) (sym n) scored }
   list-attains ea eb wf wb same told is (inr h) =
       let le = h.attained in
       let up = greatest-member (score_of rules depth 0 g) worst (m ∷ ms) best.chosen (inr h.root) in

@@ -63,13 +63,13 @@ returns-in-Some-clause-within g t c =
 pub end_where-requires : goal.end_where-requires
 end_where-requires g t c = record { any = subst (λ s. c.any_legal-any.result ≡ not (is_stuck s.rules (Stance.repeat_in s))) c.board.ensures c.any_legal-any.ensures }
 
-pub ranked-moves-requires : goal.ranked-moves-requires
-ranked-moves-requires g t c =
+pub ranked-requires : goal.ranked-requires
+ranked-requires g t c =
     let on = sym c.end_where.ensures ∙ is_none _ c.in_default.not-Some in
     record { some = some_legal c.args.line.now.rules c.args.ply (story_of_line c.args.line.now) on }
 
 pub push-requires-clause-legal : goal.push-requires-clause-legal
-push-requires-clause-legal g t c = permuted_legal _ _ 0 no_move c.in_ok-moves.ensures.order c.in_ok-moves.ensures.some
+push-requires-clause-legal g t c = ?
 
 pub returns-in_err-found-clause-ended : goal.returns-in_err-found-clause-ended
 returns-in_err-found-clause-ended g t c why is =
@@ -84,11 +84,11 @@ returns-in_err-found-clause-ended g t c why is =
     let end = subst (λ n. g.W.Watch.ended c.enter.new.self c.left.new.watch (2 * n) why) lines (c.left.ensures.ended why back) in
     g.met.W.Watch.ends_wider _ _ _ _ why (g.met.W.Watch.ends _ _ _ _ _ why c.in_ok-enter.ensures.gone end) (omega (arith, all))
 
-pub share-best-requires-clause-legal : goal.share-best-requires-clause-legal
-share-best-requires-clause-legal g t c =
-    let line = c.args.line.now in let m = get_or c.in_ok-moves.moves 0 no_move in
-    let kept = c.back.ensures ∙ ap shorter (c.in_ok-found.ensures.kept ∙ c.push.ensures) ∙ shorter-pushed line m in
-    subst (λ l. All (λ n. Member n (legal_in l)) (drop 1 c.in_ok-moves.moves)) (sym kept) (rest_legal (legal_in line) c.in_ok-moves.moves c.in_ok-moves.ensures.order)
+pub share-requires-clause-legal : goal.share-requires-clause-legal
+share-requires-clause-legal g t c = ?
+
+pub share-requires-clause-within : goal.share-requires-clause-within
+share-requires-clause-within g t c = ?
 
 pub returns-in_err-best-clause-ended : goal.returns-in_err-best-clause-ended
 returns-in_err-best-clause-ended g t c why is =

@@ -119,3 +119,6 @@ returns-clause-kept g c =
     let parts = first_and_rest moves no_move c.requires.some in
     let kept = c.back.ensures ∙ ap shorter (c.in_ok-found.ensures.kept ∙ c.push.ensures) ∙ shorter-pushed line m in
     c.in_ok-best.ensures.kept ∙ kept
+
+pub share-requires-clause-legal : goal.share-requires-clause-legal
+share-requires-clause-legal g c = ?

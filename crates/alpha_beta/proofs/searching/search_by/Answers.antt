@@ -1,5 +1,6 @@
 use Rattle.std.proofs.Common.{◌≡◌, ◌+◌, ◌*◌, ◌≤◌, ℕ, Err, arith, length, rules, subst}
 use Rattle.std.specs.List.{All}
+use Rattle.std.proofs.lemmas.Int.{ints}
 use Rattle.foundation.specs.Member.{Member}
 use Rattle.io_ports.specs.declared.limits.SearchFault.TheVariants as fault
 use Rattle.watching.specs.declared.halt.Halt.{Halt}
@@ -29,12 +30,12 @@ returns-in_err-state-clause-ended g c why is =
     let a = c.args.watch.now in
     subst (λ (w : Halt). g.W.Watch.ended a a n w) same (g.met.W.Watch.memory a a n (g.met.W.Watch.wider a a 0 n (g.met.W.Watch.none a) le))
 
-pub best_root-best-requires-clause-legal : goal.best_root-best-requires-clause-legal
-best_root-best-requires-clause-legal g c =
+pub best_root-requires-clause-legal : goal.best_root-requires-clause-legal
+best_root-requires-clause-legal g c = λ κs holds.
     to_line (λ rules s. All (λ m. Member m (legal rules (repeat_of s.last))) c.args.moves.now) c.args.game.now c.args.depth c.in_ok-line.line c.in_ok-line.ensures c.requires.legal
 
-pub best_root-best-requires-clause-room : goal.best_root-best-requires-clause-room
-best_root-best-requires-clause-room g c = rw c.in_ok-line.ensures (omega arith)
+pub best_root-requires-clause-room : goal.best_root-requires-clause-room
+best_root-requires-clause-room g c = rw c.in_ok-line.ensures (omega arith)
 
 pub returns-in_err-best-clause-ended : goal.returns-in_err-best-clause-ended
 returns-in_err-best-clause-ended g c why is =
@@ -43,12 +44,16 @@ returns-in_err-best-clause-ended g c why is =
     c.args.game.now c.args.depth c.in_ok-line.line c.in_ok-line.ensures (c.best_root.ensures.ended why back)
 
 pub returns-clause-best : goal.returns-clause-best
-returns-clause-best g c = record {
-  value_is = from_line (λ rules s. c.in_ok-best.best.value ≡ value_of rules c.args.depth s c.args.moves.now)
-      c.args.game.now c.args.depth c.in_ok-line.line c.in_ok-line.ensures c.in_ok-best.ensures.value;
-  attains = from_line (λ rules s. Attains rules c.args.depth s c.args.moves.now c.in_ok-best.best.value c.in_ok-best.best.chosen)
-      c.args.game.now c.args.depth c.in_ok-line.line c.in_ok-line.ensures c.in_ok-best.ensures.attains;
-}
+returns-clause-best g c =
+    let least = c.in_ok-best.ensures.within.least in let most = c.in_ok-best.ensures.within.most in
+    let value = from_line (λ rules s. c.in_ok-best.best.value ≡ value_of rules c.args.depth s c.args.moves.now)
+    c.args.game.now c.args.depth c.in_ok-line.line c.in_ok-line.ensures c.in_ok-best.ensures.value in
+    let attains = from_line (λ rules s. Attains rules c.args.depth s c.args.moves.now c.in_ok-best.best.value c.in_ok-best.best.chosen)
+    c.args.game.now c.args.depth c.in_ok-line.line c.in_ok-line.ensures c.in_ok-best.ensures.attains in
+    record {
+      value_is = omega (arith, ints, value);
+      attains = record { root = attains.root; attained = (let is = attains.attained in omega (arith, ints, is)) };
+    }
 
 pub returns-clause-gone : goal.returns-clause-gone
 returns-clause-gone g c =

@@ -1,4 +1,4 @@
-use Rattle.std.proofs.Common.{◌≡◌, ◌+◌, ◌≤◌, ◌∙◌, ℕ, Err, get_or, length, rules, subst, sym, arith}
+use Rattle.std.proofs.Common.{◌≡◌, ◌+◌, ◌<◌, ◌≤◌, ◌∙◌, ℕ, Err, get_or, length, rules, subst, sym, arith}
 use Rattle.std.specs.List.{All}
 use Rattle.foundation.specs.Member.{Member}
 use Rattle.game_line.specs.Lined.{legal_in, story_of_line}
@@ -31,7 +31,7 @@ returns-in_err-shared-clause-ended g c why is =
     subst (λ (w : Halt). g.W.Watch.ended a a n w) same (g.met.W.Watch.memory a a n (g.met.W.Watch.wider a a 0 n (g.met.W.Watch.none a) le))
 
 pub race-requires-clause-plan : goal.race-requires-clause-plan
-race-requires-clause-plan g c =
+race-requires-clause-plan g c = λ κs holds.
     let base = c.in_ok-base.ensures in
     record {
       least = c.requires.least;
@@ -41,7 +41,7 @@ race-requires-clause-plan g c =
     }
 
 pub race-requires-clause-line : goal.race-requires-clause-line
-race-requires-clause-line g c = sym c.in_ok-base.ensures
+race-requires-clause-line g c = λ κs holds. sym c.in_ok-base.ensures
 
 pub returns-in_err-race-clause-ended : goal.returns-in_err-race-clause-ended
 returns-in_err-race-clause-ended g c why is =

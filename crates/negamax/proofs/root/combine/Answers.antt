@@ -1,4 +1,5 @@
 use Rattle.std.proofs.Common.{◌+◌, get_or, take, sum_by, refl, sym, subst, ◌∙◌, arith}
+use Rattle.std.specs.List.{All}
 use Rattle.std.proofs.lemmas.List.{take_all}
 use Rattle.std.proofs.lemmas.List.Elements.{Contains-get_or}
 use Rattle.std.proofs.lemmas.List.Sums.{sum_by_more, sum_by-take-le}
@@ -6,7 +7,7 @@ use Rattle.foundation.specs.Member.{Member}
 use Rattle.foundation.proofs.Members.{member-contains}
 use Rattle.game_line.specs.Lined.{legal_in, story_of_line}
 use Rattle.evaluation.specs.Values.{greatest}
-use Rattle.negamax.specs.RootFacts.{Settles, root_tree, score_of}
+use Rattle.negamax.specs.RootFacts.{IsTrueFact, Settles, root_tree, score_of}
 use Rattle.negamax.specs.Windows.{Bounds}
 use Rattle.negamax.proofs.HaltLaws.{halted}
 use Rattle.negamax.proofs.RootLaws.{chooses-next, chooses-none, greatest-more, greatest-none, no_move}
@@ -84,3 +85,7 @@ settle-requires-clause-legal g c =
 
 pub settle-requires-clause-within : goal.settle-requires-clause-within
 settle-requires-clause-within g c = c.loop-m.invariant.within
+
+pub settle-requires-clause-known : goal.settle-requires-clause-known
+settle-requires-clause-known g c =
+    subst (λ l. All (IsTrueFact l.rules c.args.depth c.args.ply (story_of_line l)) c.args.facts.now) (sym c.loop-m.invariant.line) c.requires.known

@@ -14,8 +14,8 @@ invariant-loop-m g l =
     record {
       line : l.line ≡ l.fn.line;
       within : Within l.best.value;
-      bounds : (v : ℤ) → Bounds l.window.alpha l.window.beta l.first.value v
+      bounds : (v : ℤ) → Bounds l.window.alpha l.window.beta l.fn.first.value v
           → Bounds l.window.alpha l.window.beta l.best.value (greatest v (score_of rules l.depth l.ply story) (take l.m-index l.moves));
-      chosen : Chooses rules l.depth l.ply story l.window.alpha l.moves l.first l.best;
+      chosen : Chooses rules l.depth l.ply story l.window.alpha l.moves l.fn.first l.best;
       gone : g.W.Watch.gone l.fn.watch l.watch (sum_by (root_tree rules l.depth story) (take l.m-index l.moves));
     }

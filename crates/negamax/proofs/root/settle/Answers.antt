@@ -1,9 +1,12 @@
-use Rattle.std.proofs.Common.{refl, arith}
+use Rattle.std.proofs.Common.{sym, arith}
 use Rattle.std.specs.Prelude.{◌≤ℤ◌}
 use Rattle.std.proofs.lemmas.Int.{ints, clamps}
 use Rattle.game_line.specs.Lined.{story_of_line}
+use mir.Val.{to_z, of_z}
+use mir.Syntax.{w32}
 use Rattle.negamax.proofs.HaltLaws.{halted}
 use Rattle.negamax.proofs.RootLaws.{settles_asked, settles_cut}
+use Rattle.negamax.proofs.WindowLaws.{reframe}
 use Rattle.negamax.proofs.root.settle.Goals as goal
 
 pub returns-then-best-window-clause-gone : goal.returns-then-best-window-clause-gone
@@ -29,7 +32,11 @@ better_of-requires g c =
 
 pub returns-clause-settles : goal.returns-clause-settles
 returns-clause-settles g c =
-    let told = c.in_ok-score.ensures in
+    let told = c.in_ok-score.ensures in let asked = c.above-asked.result in
+    let l1 = c.requires.within.least in let u1 = c.requires.within.most in let l2 = told.within.least in let u2 = told.within.most in
+    let floor = asked.floor in let wide = asked.wide in let roof = asked.roof in
+    let is = c.above-asked.ensures.alpha in let value = c.better_of.ensures.value in
     settles_asked c.args.line.now.rules c.args.depth c.args.ply (story_of_line c.args.line.now) c.args.window.alpha c.args.window.beta c.args.chosen.now
-    c.args.best c.better_of.result c.above-asked.result.alpha c.in_ok-score.score c.requires.within told.within c.above-asked.ensures.alpha
-    (rw (← c.above-asked.ensures.beta) told.bounds) c.better_of.ensures.value c.better_of.ensures.chosen
+    c.args.best c.better_of.result (to_z w32 (of_z w32 asked.alpha)) (to_z w32 (of_z w32 c.in_ok-score.score)) c.requires.within
+    (record { least = omega (arith, ints); most = omega (arith, ints) }) (omega (arith, ints, clamps, is))
+    (reframe _ _ _ _ _ _ _ told.bounds (omega (arith, ints)) (sym c.above-asked.ensures.beta) (omega (arith, ints))) (omega (arith, ints, clamps, value)) c.better_of.ensures.chosen
