@@ -1,4 +1,6 @@
-//! CECP sessions: a session's state, what its lines set and answer, and how the engine thinks and moves.
+//! CECP sessions: what their lines ask (`read_line`), which lines give a search up, and the limits of a search; a
+//! session's state, what its lines set and answer, and how the engine thinks and moves. `serve` answers one line after
+//! another.
 #![tactic(auto)]
 
 mod answers;
@@ -11,7 +13,7 @@ mod texts;
 mod verb;
 mod words;
 
-pub use serving::serve;
-pub use session::CecpSession;
 pub use command::{Command, Limit, gives_up, quits, read_line};
 pub use limits::{depth_for, time_for};
+pub use serving::serve;
+pub use session::CecpSession;

@@ -21,11 +21,11 @@ use game_play::MOST_PLIES;
 use io_ports::{Clock, Dialect, Gate, Got, LineBuf, SearchFault, Sink, Source};
 use legality::{any_legal, legal_moves};
 use rules_model::Move;
+use session_model::next_of;
 use std::alloc::Global;
 use std::sync::Wait;
 use std::thread::Threads;
 use thinking::{Depths, Style, Task, begin, iterative_deepening};
-use session_model::next_of;
 use watching::{Cut, say};
 
 // Whether the line that cut the search gives it up.

@@ -12,13 +12,13 @@ ghost use Rattle.session_model.specs.Turned.{Served, Unserved};
 ghost use Rattle.watching.specs.Stopping.{AreSamePorts};
 ghost use Rattle.cecp_front.specs.Reading.{NoReads};
 
-use crate::session::CecpSession;
 use crate::quits;
+use crate::session::CecpSession;
 use io_ports::{Clock, Dialect, Gate, Got, LineBuf, Ports, SearchFault, Sink, Source};
+use session_model::Ended;
 use std::alloc::Global;
 use std::sync::Wait;
 use std::thread::Threads;
-use session_model::Ended;
 use watching::say_some;
 
 // Answers the line that was taken, before the engine thinks.

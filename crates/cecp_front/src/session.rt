@@ -8,9 +8,9 @@ ghost use Rattle.variant_rules.specs.Entries.{entries};
 use foundation::Memory;
 use game_play::Game;
 use rules_model::Side;
-use thinking::EngineState;
 use std::alloc::Global;
 use std::marker::Model;
+use thinking::EngineState;
 use variant_ini::Sections;
 use variant_rules::{Found, Variants};
 

@@ -1,9 +1,9 @@
 -- What is not asked for gives no check.
-use Rattle.std.proofs.Common.{◌≡◌, ℕ, ◌+◌, ◌<◌, ◌≤◌, Bool, true, false, not, ◌||◌, Option, Some, None, List, length, slice_index_or, refl, sym, ap, ◌∙◌, subst, arith}
+use Rattle.std.proofs.Common.{◌≡◌, ℕ, ◌+◌, ◌<◌, Bool, true, false, not, ◌||◌, Option, Some, None, List, length, slice_index_or, refl, sym, ◌∙◌, subst, arith}
 use Rattle.std.specs.Prelude.{slice_set}
 use Rattle.std.proofs.lemmas.Bool.{or_parts}
 use Rattle.std.proofs.lemmas.List.{get_or-set_same, get_or-set_other}
-use Rattle.foundation.specs.Member.{Member, Appends, Lists}
+use Rattle.foundation.specs.Member.{Member, Appends}
 use Rattle.rules_model.specs.declared.board.Cell.{Cell}
 use Rattle.rules_model.specs.declared.board.Kind.{Kind}
 use Rattle.rules_model.specs.declared.board.Square.{Square}
@@ -26,7 +26,7 @@ use Rattle.legality.specs.Stance.{Stance, legal_in, repeat_in}
 use Rattle.legality.proofs.AskingLaws.{is_to-above, is_to-letter}
 use Rattle.check_moves.specs.declared.checks.Checks.{Checks}
 use Rattle.check_moves.specs.Checks.{AreChecksIn, ComesQuietly, ReachesNone}
-use Rattle.check_moves.specs.Listing.{AppendsChecks, IsAskedOf, ListsChecks, MakesSets}
+use Rattle.check_moves.specs.Listing.{AppendsChecks, IsAskedOf, MakesSets}
 use Rattle.check_moves.proofs.ComeLaws.{comes_quietly, drop_is_quiet, go_is_quiet, same_is}
 
 not_false : (b : Bool) → not b ≡ false → b ≡ true

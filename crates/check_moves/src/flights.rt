@@ -21,7 +21,7 @@ use rules_model::sizes::prove_position_sizes;
 use rules_model::{Cell, Kind, Move, Promo, Rules, Side, Square};
 use square_set::{EMPTY, Set};
 
-/// So many steps of a king are kept.
+/// The most steps of a king that are kept.
 const FLIGHTS: usize = 8;
 
 /// The only king of the side that is not to move.

@@ -44,6 +44,7 @@ fn asked_of(board: &Board, checks: &Checks) -> Asked
 {
     let p = board.position();
     let tables = board.tables();
+    prove_position_sizes(p);
     let passed = passed_square(p.ep);
     let mut to = [EMPTY; KINDS];
     for kind in 0..26u8 {

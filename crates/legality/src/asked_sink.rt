@@ -12,12 +12,12 @@ use square_set::{Set, Shift};
 
 /// Puts the candidates that are chosen and asked for at the end of a list. The others are not looked at.
 #[derive(Drop)]
-pub(crate) struct AskedSink<'a> {
+pub(crate) struct AskedSink<'a, 'b> {
     pub keeper: ListSink<'a>,
-    pub asked: &'a Asked,
+    pub asked: &'b Asked,
 }
 
-impl<'a> AskedSink<'a> {
+impl<'a, 'b> AskedSink<'a, 'b> {
     ghost use Rattle.legality.specs.AskedChoices.{filter_of};
 
     /// Whether the move is chosen and asked for.
@@ -29,7 +29,7 @@ impl<'a> AskedSink<'a> {
     }
 }
 
-impl<'a> MoveSink for AskedSink<'a> {
+impl<'a, 'b> MoveSink for AskedSink<'a, 'b> {
     ghost use Rattle.legality.specs.AskedChoices.{filter_of};
 
     ghost takes = { Kept filter_of (λ sink. sink.keeper.list) asked_by };

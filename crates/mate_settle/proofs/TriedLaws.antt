@@ -1,5 +1,5 @@
 -- Of the moves that are tried as the attacker's last: each that wins at once is one of them.
-use Rattle.std.proofs.Common.{◌≡◌, Bool, true, false, not, Option, Some, None, List, [], ◌∷◌, inl, refl, sym, ap, ◌∙◌, subst}
+use Rattle.std.proofs.Common.{◌≡◌, Bool, true, false, not, Option, Some, None, List, [], ◌∷◌, ◌++◌, inl, refl, sym, ap, ◌∙◌, subst}
 use Rattle.std.specs.Prelude.{OnSome}
 use Rattle.foundation.specs.Member.{Member, Lists}
 use Rattle.foundation.specs.Tests.{is_nil}
@@ -11,7 +11,7 @@ use Rattle.rules_model.specs.Repeats.{repeat_of}
 use Rattle.legality.specs.Stance.{Stance, legal_in, repeat_in}
 use Rattle.square_set.proofs.Cases.{by_bool}
 use Rattle.check_moves.specs.declared.checks.Checks.{Checks}
-use Rattle.check_moves.specs.Listing.{ListsChecks}
+use Rattle.check_moves.specs.Listing.{AppendsChecks, ListsChecks}
 use Rattle.mate_core.specs.declared.frame.Frame.{Frame}
 use Rattle.mate_fact.specs.InFrame as In
 use Rattle.mate_settle.specs.LastMoves.{only_checks_win}
@@ -50,6 +50,10 @@ none_wins f s ms holds none m legal =
     by_bool (In.near_in f 0 (next f.rules s.position m)) (In.near_in f 0 (next f.rules s.position m) ≡ false)
     (λ wins. none m (holds.complete m legal wins))
     (λ loses. loses)
+
+-- what was appended to nothing
+pub checks_listed : (s : Stance) (old new : List Move) → old ≡ [] → AppendsChecks s old new → ListsChecks s new
+checks_listed s old new e a = subst (ListsChecks s) (sym (a.is ∙ ap (λ l. l ++ a.added) e)) a.each
 
 -- they are legal
 pub tried_legal : (s : Stance) (o : Option Checks) (ms : List Move) → AreTried s o ms → (m : Move) → Member m ms → Member m (legal_in s)

@@ -99,7 +99,7 @@ fn leaves_step(frame: &Frame, board: &Board, m: &Move, flights: &mut KnownFlight
     requires attack { In.IsAttackIn frame.now board.now.position }
     requires legal { Member m.now (In.legal_in frame.now board.now.position) }
     ensures flights { AreFlights board.now flights.new }
-    ensures vain { OnTrue result (In.near_in frame.now 0 (next frame.now.rules board.now.position m.now) ≡ false) }
+    ensures no_win { OnTrue result (In.near_in frame.now 0 (next frame.now.rules board.now.position m.now) ≡ false) }
 {
     if frame.rules.check_counting {
         return false;
@@ -108,8 +108,8 @@ fn leaves_step(frame: &Frame, board: &Board, m: &Move, flights: &mut KnownFlight
 }
 
 /// Whether it is known before the attacker's move is made that it does not win at once: only checks do, and it gives
-/// none, or leaves the king a step.
-fn is_vain(
+/// none, or is a check that leaves the king a step.
+fn cannot_win_at_once(
     frame: &Frame,
     board: &Board,
     m: &Move,
@@ -123,7 +123,7 @@ fn is_vain(
     requires attack { In.IsAttackIn frame.now board.now.position }
     requires legal { Member m.now (In.legal_in frame.now board.now.position) }
     ensures flights { AreFlights board.now flights.new }
-    ensures vain { OnTrue result (In.near_in frame.now 0 (next frame.now.rules board.now.position m.now) ≡ false) }
+    ensures no_win { OnTrue result (In.near_in frame.now 0 (next frame.now.rules board.now.position m.now) ≡ false) }
 {
     match checks {
         Some(checks) => {
@@ -150,7 +150,7 @@ fn wins_once_made(frame: &Frame, board: &Board, m: &Move) -> bool
     wins_at_once(frame, &next)
 }
 
-/// Whether the attacker's move wins at once. One that is known before it is made to be vain is not made.
+/// Whether the attacker's move wins at once. It is not made where `cannot_win_at_once` says so before.
 fn wins_by(
     frame: &Frame,
     board: &Board,
@@ -168,7 +168,7 @@ fn wins_by(
     ensures flights { AreFlights board.now flights.new }
     ensures wins { result ≡ In.near_in frame.now 0 (next frame.now.rules board.now.position m.now) }
 {
-    if is_vain(frame, board, m, checks, flights) {
+    if cannot_win_at_once(frame, board, m, checks, flights) {
         return false;
     }
     wins_once_made(frame, board, m)

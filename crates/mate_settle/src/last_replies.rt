@@ -25,7 +25,7 @@ use std::alloc::Global;
 /// Legal moves, each that gives check among them where only checks win, and all where not; or `Memory`.
 fn last_moves(alloc: Global, board: &Board, checks: &Option<Checks>) -> Result<MoveList, Memory>
     requires known { IfSome checks.now (λ checks. AreChecksIn board.now checks) }
-    ensures { IfOk result (λ ms. Tried.AreTried board.now checks.now ms.items) }
+    ensures { IfOk result (λ ms. Tried.AreTried board.now checks.now ms) }
 {
     match checks {
         Some(checks) => {

@@ -6,11 +6,11 @@ use crate::helpers::{go, halves};
 use attack_tables::Tables;
 use board_sets::sets_of;
 use foundation::Memory;
-use special_moves::{is_pawn_candidate, push_pawn_moves};
 use rules_model::{Move, MoveList, Position, Promo, Rules, Side};
 use sample_rules::{
     capablanca, chess, kind, leapers, position, shouse, square, wide_chess, xiangqi,
 };
+use special_moves::{is_pawn_candidate, push_pawn_moves};
 use std::alloc::Global;
 use std::process::Abort;
 

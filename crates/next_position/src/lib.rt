@@ -18,8 +18,8 @@ mod passing;
 mod pieces;
 mod rights;
 
-pub use hands::hand_kind;
 pub use counts::count_check;
+pub use hands::hand_kind;
 pub use pieces::{behind, fresh, gated, promote};
 use rules_model::{Cells, Move, Position, Rules, Side};
 

@@ -24,12 +24,14 @@ use crate::pn_mate_text::pn_mate_text;
 use crate::rules_text::rules_text;
 use crate::suite_text::suite_text;
 use crate::variants::variants_of;
+use crate::{
+    NoAnswer, Stop, cert_check_text, check_text, help_mate_of, reach_text, self_mate_of, set_up,
+};
 use betza_compile::compile;
 use betza_text::parse;
 use foundation::Text;
 use game_text::{moves_of, perft_of, status_of};
 use io_ports::{Gate, Source};
-use crate::{NoAnswer, Stop, cert_check_text, check_text, help_mate_of, reach_text, self_mate_of, set_up};
 use std::alloc::{AllocError, Global};
 use std::sync::Wait;
 use std::thread::Threads;

@@ -7,11 +7,11 @@ ghost use Rattle.one_shots.specs.Certificates as Said;
 ghost use Rattle.one_shots.specs.CertView.{States};
 ghost use Rattle.one_shots.specs.NoAnswerView.{Answers, IsUnheard};
 
+use crate::{Fault, NoAnswer};
 use cert_text::read_cert_lines;
 use foundation::{Memory, Text};
 use game_text::{Problem, Stipulation, read_problem};
 use io_ports::Source;
-use crate::{Fault, NoAnswer};
 use std::alloc::{AllocError, Global};
 use stipulation::{Cert, CertVerdict, check_help, check_self};
 use variant_ini::Sections;

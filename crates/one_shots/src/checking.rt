@@ -10,10 +10,10 @@ ghost use Rattle.one_shots.specs.Checking as Said;
 ghost use Rattle.one_shots.specs.CheckView.{Prints, States};
 ghost use Rattle.one_shots.specs.NoAnswerView.{Answers, IsUnheard};
 
+use crate::{Fault, NoAnswer, Stop};
 use foundation::{Memory, Text};
 use game_text::{GameFault, Goal, Problem, read_problem_after};
 use io_ports::{Got, LineBuf, Source};
-use crate::{Fault, NoAnswer, Stop};
 use proof_text::{Proof, is_version, read_proof_after, read_strategy};
 use std::alloc::{AllocError, Global};
 use strategy_check::{Verdict, check};

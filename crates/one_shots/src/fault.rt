@@ -4,18 +4,18 @@ ghost use Rattle.game_text.specs.Fault.{fault_text as game_fault_text};
 ghost use Rattle.suite.specs.Fault.{fault_text as suite_fault_text};
 ghost use Rattle.one_shots.specs.Fault.{error_line, fault_status, fault_text};
 
+use crate::ReachFault;
 use betza_text::BetzaFault;
 use cert_text::CertFault;
 use foundation::{Memory, Text};
 use game_text::{GameFault, write_fault};
-use suite::{KeysFault, SuiteFault, write_fault as write_suite_fault};
-use crate::ReachFault;
 use pn_search::PnFault;
 use proof_text::ProofFault;
 use std::alloc::{AllocError, Global};
 use stipulation::CertVerdict;
 use strategy::StrategyFault;
 use strategy_check::Verdict;
+use suite::{KeysFault, SuiteFault, write_fault as write_suite_fault};
 use variant_rules::LoadFault;
 
 /// The fault of an argument, of the file of variants, or of the input.

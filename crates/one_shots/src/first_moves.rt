@@ -9,13 +9,13 @@ ghost use Rattle.one_shots.specs.NoAnswerView.{Answers, IsUnheard};
 ghost use Rattle.one_shots.specs.FirstMoves.{SaysKeyList, SaysKeys};
 
 use crate::game::game_in;
+use crate::{Fault, NoAnswer};
 use foundation::Text;
 use game_play::Game;
 use io_ports::Source;
-use suite::{mate_keys, write_keys};
-use crate::{Fault, NoAnswer};
 use std::alloc::Global;
 use std::sync::Wait;
+use suite::{mate_keys, write_keys};
 use variant_ini::Sections;
 
 // The moves of a game, or why it is not asked.

@@ -6,10 +6,10 @@ ghost use Rattle.game_text.specs.HeardLines.{HeardLines};
 ghost use Rattle.one_shots.specs.GameView.{SaysGame};
 ghost use Rattle.one_shots.specs.NoAnswerView.{IsUnheard};
 
+use crate::NoAnswer;
 use game_play::Game;
 use game_text::read_game;
 use io_ports::Source;
-use crate::NoAnswer;
 use std::alloc::Global;
 use variant_ini::Sections;
 use variant_rules::load;

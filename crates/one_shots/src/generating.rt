@@ -6,8 +6,8 @@ ghost use Rattle.variant_rules.specs.View.{IfRules, found_view};
 ghost use Rattle.one_shots.specs.NoAnswerView.{Answers, IsUnheard};
 
 use crate::no_variant::{refused_variant, unknown_variant};
-use foundation::Text;
 use crate::{NoAnswer, random_game, report_of};
+use foundation::Text;
 use std::alloc::Global;
 use std::thread::Threads;
 use variant_ini::Sections;

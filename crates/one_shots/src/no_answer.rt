@@ -6,13 +6,13 @@ ghost use Rattle.one_shots.specs.declared.stop.Stop.TheVariants as stop;
 ghost use Rattle.one_shots.specs.NoAnswerView.{betza_no_answer, cert_no_answer, game_no_answer, load_no_answer, proof_no_answer, strategy_no_answer};
 ghost use Rattle.one_shots.specs.NoAnswerView.{suite_no_answer};
 
+use crate::ReachFault;
 use crate::fault::Fault;
 use crate::stop::Stop;
 use betza_text::BetzaFault;
 use cert_text::{CertFault, NoCert};
 use foundation::Memory;
 use game_text::NoGame;
-use crate::ReachFault;
 use proof_text::{NoProof, NoStrategy, ProofFault};
 use std::alloc::AllocError;
 use strategy::StrategyFault;

@@ -1,9 +1,9 @@
 //! Why there is no variant of a name.
 ghost use Rattle.std.specs.Prelude.{◌≡◌, IfOk};
 
+use crate::{Fault, NoAnswer};
 use foundation::Text;
 use game_text::{GameFault, copy_of};
-use crate::{Fault, NoAnswer};
 use std::alloc::{AllocError, Global};
 use variant_model::SectionFault;
 

@@ -7,9 +7,9 @@ ghost use Rattle.variant_rules.specs.Looked.{Looked};
 ghost use Rattle.one_shots.specs.Sessions.{to_do};
 ghost use Rattle.words.specs.View.{HasPlies};
 
+use crate::NoAnswer;
 use crate::sections::sections_with;
 use io_ports::Files;
-use crate::NoAnswer;
 use std::alloc::Global;
 use variant_ini::Sections;
 use words::{Asked, read_words};

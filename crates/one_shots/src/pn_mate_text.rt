@@ -8,9 +8,9 @@ ghost use Rattle.one_shots.specs.NoAnswerView.{Answers, IsUnheard};
 ghost use Rattle.one_shots.specs.PnMates.{SaysMateCount, SaysPnMate, mate_line};
 
 use crate::game::game_in;
+use crate::{Fault, NoAnswer};
 use foundation::Text;
 use io_ports::Source;
-use crate::{Fault, NoAnswer};
 use pn_search::{PnFault, least_mate};
 use std::alloc::{AllocError, Global};
 use std::sync::Wait;

@@ -6,9 +6,9 @@ ghost use Rattle.variant_rules.specs.View.{found_view};
 ghost use Rattle.one_shots.specs.NoAnswerView.{Answers, IsUnheard};
 ghost use Rattle.one_shots.specs.RulesTold.{SaysRules, SaysTold};
 
+use crate::NoAnswer;
 use crate::no_variant::{refused_variant, unknown_variant};
 use foundation::Text;
-use crate::NoAnswer;
 use proof_text::write_rules;
 use session_model::laws::variants_have_places;
 use std::alloc::Global;

@@ -5,11 +5,11 @@ ghost use Rattle.variant_rules.specs.Looked.{Looked};
 ghost use Rattle.one_shots.specs.OpeningView.{HasSections};
 ghost use Rattle.words.specs.View.{text_in};
 
-use io_ports::Files;
 use crate::NoAnswer;
+use io_ports::Files;
 use std::alloc::Global;
-use variant_rules::{builtin, read_sections};
 use variant_ini::Sections;
+use variant_rules::{builtin, read_sections};
 
 /// The sections that are built in, and after them those of the file of variants of this name, where one is named. Where
 /// none is, no file is read.

@@ -7,9 +7,9 @@ ghost use Rattle.suite.specs.Suite.{lines_of_suite};
 ghost use Rattle.one_shots.specs.NoAnswerView.{Answers, IsUnheard};
 ghost use Rattle.one_shots.specs.Suites.{SaysSuite};
 
+use crate::NoAnswer;
 use foundation::Text;
 use io_ports::{Gate, Source};
-use crate::NoAnswer;
 use std::alloc::Global;
 use std::sync::Wait;
 use std::thread::Threads;

@@ -1,4 +1,5 @@
-//! What takes the moves of a generator, and the ordinary moves of pieces that are not the chess pawn, without gating.
+//! The ordinary moves of pieces that are not the chess pawn, without gating; and what takes the moves of a generator
+//! (`MoveSink`): a list, a count, or a test that stops at the first.
 #![tactic(auto)]
 
 pub mod candidate;

@@ -5,10 +5,10 @@ ghost use Rattle.variant_ini.specs.LineView.{pair_view};
 ghost use Rattle.variant_model.specs.Told as Told;
 
 use foundation::Memory;
-use variant_rules::LetteredSections;
 use std::alloc::Global;
 use variant_ini::Pair;
 use variant_options::keys::{KEYS, key_at};
+use variant_rules::LetteredSections;
 
 /// The value of a key in a section; none of a piece that the section does not have.
 fn told_value<'a>(sections: &LetteredSections<'a>, section: usize, key: &[u8]) -> Option<&'a [u8]>

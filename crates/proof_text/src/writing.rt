@@ -20,11 +20,11 @@ use foundation::{Memory, Text};
 use game_play::Game;
 use move_text::write_move;
 use rules_model::{Move, Position, Rules, Side};
-use variant_rules::LetteredSections;
 use std::alloc::Global;
 use strategy::{Strategy, push_line, push_number, push_text, write};
 use variant_fen::write_fen;
 use variant_ini::{Pair, Sections};
+use variant_rules::LetteredSections;
 
 /// The bytes of `strategy 1` and of its line feed.
 const FIRST_LINE: usize = 11;

@@ -3,11 +3,11 @@ use crate::expect::{expect, expect_eq_at, expect_of};
 use cecp_front::{CecpSession, serve};
 use foundation::Memory;
 use io_ports::{Dialect, ListClock, MemSink, MemSource, OpenGate, PollsOwed, Ports, SearchFault};
+use session_model::Ended;
 use std::alloc::Global;
 use std::process::Abort;
 use std::sync::Wait;
 use std::thread::Threads;
-use session_model::Ended;
 use variant_rules::{builtin, load};
 
 /// The line of the variants that are built in.

@@ -1,4 +1,4 @@
-//! Tests of `cecp_lines`.
+//! Tests of the lines of CECP and their limits, of `cecp_front`.
 use crate::expect::expect_of;
 use cecp_front::{Command, Limit, depth_for, gives_up, read_line, time_for};
 use io_ports::Got;

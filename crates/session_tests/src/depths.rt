@@ -11,12 +11,15 @@ use io_ports::{
 use legality::legal_moves;
 use rules_model::{Move, Position, Side, repeat_of, sound};
 use sample_rules::{chess, position};
-use thinking::{DepthResult, Depths, EngineState, Evidence, MateAttempt, Score, Style, Task, begin, depth_lines, iterative_deepening, try_mates, unsettled_line};
 use std::alloc::Global;
 use std::process::Abort;
 use std::sync::Wait;
 use std::thread::Threads;
 use strategy::{Counters, Nodes, Strategy};
+use thinking::{
+    DepthResult, Depths, EngineState, Evidence, MateAttempt, Score, Style, Task, begin,
+    depth_lines, iterative_deepening, try_mates, unsettled_line,
+};
 use watching::Cut;
 
 fn no_strategy(alloc: Global) -> Strategy {

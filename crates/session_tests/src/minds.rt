@@ -1,4 +1,4 @@
-//! Tests of `seeking`.
+//! Tests of one search and one solve of a session, of `thinking`.
 use crate::expect::expect_eq;
 use crate::helpers::go;
 use alpha_beta::Found;
@@ -11,11 +11,11 @@ use mate_showing::Settled;
 use playing::Board;
 use rules_model::{Move, Side, sound};
 use sample_rules::{chess, position};
-use thinking::{EngineState, search_once, solve_once};
 use std::alloc::Global;
 use std::process::Abort;
 use std::sync::Wait;
 use std::thread::Threads;
+use thinking::{EngineState, search_once, solve_once};
 use watching::{Cut, Halt};
 
 const NONE: Limits = Limits {

@@ -1,10 +1,10 @@
-//! Tests of `turning`.
+//! Tests of the frame of a session, of `session_model`.
 use crate::expect::{expect, expect_eq};
 use foundation::Memory;
 use io_ports::{Dialect, Got, LineBuf, MAX_LINE, MemSink, MemSource, PollsOwed, SearchFault};
+use session_model::{next_of, wait, wait_if_held};
 use std::alloc::Global;
 use std::process::Abort;
-use session_model::{next_of, wait, wait_if_held};
 use watching::Cut;
 
 /// Asserts what is left of the input, and what was written.

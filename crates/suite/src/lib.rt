@@ -1,4 +1,6 @@
-//! Suites: many mate problems, solved by workers beside each other, and the report on them.
+//! Mates with their least numbers of moves. `least_win` says within how many of its moves a side wins a game, and how;
+//! `mate_keys` which first moves of a game win it, each within how many; `solve_suite` reads a suite of many mate
+//! problems, has workers solve them beside each other, and makes the report on them.
 #![tactic(auto)]
 
 mod at_once;
@@ -20,12 +22,12 @@ mod winning;
 mod work;
 
 pub use fault::{NoSuite, SuiteFault, write_fault};
+pub use first_moves::{Key, Keys, mate_keys};
+pub use keys_fault::KeysFault;
+pub use keys_report::write_keys;
 pub use problem::{Answer, Problem, Solved};
 pub use reading::{MOST_PROBLEMS, Suite, read_suite};
 pub use report::write_report;
 pub use reporting::solve_suite;
 pub use solving::solve_all;
-pub use keys_fault::KeysFault;
-pub use first_moves::{Key, Keys, mate_keys};
-pub use keys_report::write_keys;
 pub use winning::{LeastWin, least_win};

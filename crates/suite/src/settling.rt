@@ -5,8 +5,8 @@ ghost use Rattle.suite.specs.Answers.{IsAnswer};
 ghost use Rattle.suite.specs.Problems.{IsFair, game_of};
 
 use crate::problem::{Answer, Problem};
-use game_play::Game;
 use crate::{LeastWin, least_win};
+use game_play::Game;
 use rules_model::Memory;
 use std::alloc::Global;
 use std::sync::Wait;

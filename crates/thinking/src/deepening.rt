@@ -9,13 +9,13 @@ ghost use Rattle.session_model.specs.Lines.{Causes};
 ghost use Rattle.thinking.specs.Depths.{BrokeOff, Deepened};
 ghost use Rattle.thinking.specs.Views.{IsStart, IsTask, task_seen};
 
+use crate::EngineState;
 use crate::depth::{Depth, search_depth};
-use crate::depth_result::{DepthResult, AnnouncedMate, announced_by};
+use crate::depth_result::{AnnouncedMate, DepthResult, announced_by};
 use crate::style::Style;
 use crate::task::{Start, Task, quota_left};
 use io_ports::{Clock, Dialect, Gate, Limits, LineBuf, SearchFault, Sink, Source};
 use rules_model::Move;
-use crate::EngineState;
 use std::alloc::Global;
 use std::sync::Wait;
 use std::thread::Threads;

@@ -9,13 +9,13 @@ ghost use Rattle.thinking.specs.Depths.{BrokeDepth, Deeper, cut_in};
 ghost use Rattle.thinking.specs.Tells.{reads_by};
 ghost use Rattle.thinking.specs.Views.{IsTask, task_seen};
 
+use crate::EngineState;
 use crate::depth_result::{CutSolve, DepthResult};
 use crate::judging::{DepthJudged, DepthSearched, search_and_judge};
 use crate::lines::depth_lines;
 use crate::style::Style;
 use crate::task::Task;
 use io_ports::{Clock, Dialect, Gate, Limits, LineBuf, SearchFault, Sink, Source};
-use crate::EngineState;
 use std::alloc::Global;
 use std::sync::Wait;
 use std::thread::Threads;

@@ -11,13 +11,13 @@ ghost use Rattle.session_model.specs.Lines.{Causes};
 ghost use Rattle.thinking.specs.Judging.{IsJudged, IsExplored, explored_cut, solve_cut};
 ghost use Rattle.thinking.specs.Views.{IsTask, task_seen};
 
-use crate::depth_result::{CutSolve, Evidence, DepthResult, Score, evidence_at};
+use crate::depth_result::{CutSolve, DepthResult, Evidence, Score, evidence_at};
 use crate::scores::{favoured, mate_sought, root_move};
 use crate::task::{Task, quota_left};
+use crate::{EngineState, search_once, solve_once};
 use io_ports::{Clock, Dialect, Gate, Limits, LineBuf, SearchFault, Sink, Source};
 use mate_showing::Settled;
 use rules_model::Move;
-use crate::{EngineState, search_once, solve_once};
 use std::alloc::Global;
 use std::sync::Wait;
 use std::thread::Threads;
@@ -158,8 +158,8 @@ pub fn search_and_judge<R: Threads + Wait + Sync, S: Source, K: Sink, C: Clock, 
     ensures same { engine.new ≡ engine.old }
 {
     let searched = search_once(
-        rt, alloc, engine, task.game, task.roots, depth, limits, source, sink, clock, gate, dialect,
-        line,
+        rt, alloc, engine, task.game, task.roots, depth, limits, source, sink, clock, gate,
+        dialect, line,
     );
     match searched {
         Ok(found) => {
@@ -169,8 +169,8 @@ pub fn search_and_judge<R: Threads + Wait + Sync, S: Source, K: Sink, C: Clock, 
                 deadline: limits.deadline,
             };
             let judged = seek_mate(
-                rt, alloc, engine, task, depth, value, best, nodes, left, source, sink, clock, gate,
-                dialect, line,
+                rt, alloc, engine, task, depth, value, best, nodes, left, source, sink, clock,
+                gate, dialect, line,
             )?;
             Ok(DepthSearched::Found(judged))
         }

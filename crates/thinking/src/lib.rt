@@ -1,5 +1,7 @@
-//! What both protocols share of a search: one depth after another, with a line for each; scores that stand for mates,
-//! and the strategies that show them; mates that are looked for within 1, 2, .. moves; and what cuts all this.
+//! What both protocols share of a search. `search_once` and `solve_once` are one search and one solve of a session, by
+//! what it keeps for them (`EngineState`), over a watch of its ports, and say why they end. `iterative_deepening`
+//! searches one depth after another, with a line for each, and shows scores that stand for mates by a strategy;
+//! `try_mates` looks for mates within 1, 2, .. moves. A line, a limit or a fault cuts all this.
 #![tactic(auto)]
 
 mod deepening;
@@ -18,13 +20,13 @@ mod task;
 
 pub use deepening::{Depths, iterative_deepening};
 pub use depth::{Depth, search_depth};
-pub use depth_result::{CutSolve, Evidence, DepthResult, AnnouncedMate, Score, evidence_at};
+pub use depth_result::{AnnouncedMate, CutSolve, DepthResult, Evidence, Score, evidence_at};
+pub use engine_state::EngineState;
 pub use judging::{DepthJudged, DepthSearched, search_and_judge, seek_mate};
 pub use lines::{depth_line, depth_lines, unsettled_line};
 pub use mates::{MateAttempt, try_mates};
 pub use scores::{favoured, mate_in, mate_sought, root_move};
-pub use style::Style;
-pub use task::{Start, Task, begin, quota_left};
-pub use engine_state::EngineState;
 pub use search::search_once;
 pub use solve::solve_once;
+pub use style::Style;
+pub use task::{Start, Task, begin, quota_left};

@@ -9,7 +9,7 @@ ghost use Rattle.session_model.specs.UciTexts as UciTexts;
 ghost use Rattle.thinking.specs.Tells.{lines_by};
 ghost use Rattle.thinking.specs.Views.{evidence_of, report_of, score_seen};
 
-use crate::depth_result::{Evidence, DepthResult, Score};
+use crate::depth_result::{DepthResult, Evidence, Score};
 use crate::style::Style;
 use foundation::{Memory, Text};
 use move_text::write_move;

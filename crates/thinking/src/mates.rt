@@ -9,11 +9,11 @@ ghost use Rattle.thinking.specs.Tries.{BrokeTrying, IsTried, cut_in};
 
 use crate::depth_result::{Evidence, evidence_at};
 use crate::scores::root_move;
+use crate::{EngineState, solve_once};
 use game_play::Game;
 use io_ports::{Clock, Dialect, Gate, Limits, LineBuf, SearchFault, Sink, Source};
 use mate_showing::Settled;
 use rules_model::Move;
-use crate::{EngineState, solve_once};
 use std::alloc::Global;
 use std::sync::Wait;
 use std::thread::Threads;

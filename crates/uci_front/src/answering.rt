@@ -10,12 +10,12 @@ ghost use Rattle.session_model.specs.Turned.{Served, Unserved};
 use crate::going::answer_go;
 use crate::reply::tell;
 use crate::without_search::answer_plain;
+use crate::{UciSession, bytes_of, read_plan};
 use io_ports::{Clock, Files, Gate, Got, LineBuf, SearchFault, Sink, Source};
 use std::alloc::Global;
 use std::sync::Wait;
 use std::thread::Threads;
 use uci_lines::{Kind, read_line};
-use crate::{UciSession, bytes_of, read_plan};
 
 /// Whether the line ends the session.
 pub(crate) fn quits(next: Got, line: &LineBuf) -> bool

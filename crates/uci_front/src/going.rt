@@ -8,14 +8,14 @@ ghost use Rattle.uci_front.specs.Going.{ServesGo, UnservesGo};
 ghost use Rattle.uci_front.specs.PlanView.{ArePlies, IsAsked, SaidAtOnce};
 
 use crate::reply::tell;
+use crate::{GoPlan, GoResult, UciSession, last_line, perft_line, search};
 use foundation::{Memory, Text};
 use game_play::Game;
 use io_ports::{Clock, Dialect, Gate, Got, LineBuf, SearchFault, Sink, Source};
+use session_model::{next_of, wait_if_held};
 use std::alloc::Global;
 use std::sync::Wait;
 use std::thread::Threads;
-use session_model::{next_of, wait_if_held};
-use crate::{GoPlan, GoResult, UciSession, last_line, perft_line, search};
 use watching::say;
 
 // What is said at once, without a search: a count, or that no move is legal where no best move is held back.

@@ -10,8 +10,8 @@ use foundation::{Memory, Text};
 use game_text::GameFault;
 use std::alloc::{AllocError, Global};
 use variant_fen::FenFault;
-use variant_rules::LoadFault;
 use variant_model::SectionFault;
+use variant_rules::LoadFault;
 
 /// Why a line sets nothing: its fault in words, or there was no memory.
 #[derive(Drop)]

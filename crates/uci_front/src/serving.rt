@@ -8,13 +8,13 @@ ghost use Rattle.session_model.specs.Spoken.{Spoke, SpokePart, TookQuit};
 ghost use Rattle.session_model.specs.declared.ended.Ended.TheVariants as Ended;
 ghost use Rattle.watching.specs.Stopping.{AreSamePorts};
 
+use crate::UciSession;
 use crate::answering::{answer, quits};
 use io_ports::{Clock, Files, Gate, Got, LineBuf, Ports, SearchFault, Sink, Source};
+use session_model::Ended;
 use std::alloc::Global;
 use std::sync::Wait;
 use std::thread::Threads;
-use session_model::Ended;
-use crate::UciSession;
 
 /// The same with the ports lent singly.
 fn serve_lent<R, S, K, C, G, F>(

@@ -18,13 +18,13 @@ use crate::texts::{NO_STRATEGY, uci_text};
 use foundation::{Memory, Text};
 use game_play::Game;
 use proof_text::write_proof;
-use thinking::{AnnouncedMate, EngineState};
 use session_model::options::{
     HASH, LEAST_HASH, LEAST_MATE_FACTS, LEAST_THREADS, MATE_FACTS, MOST_HASH, MOST_MATE_FACTS,
     MOST_THREADS, THREADS,
 };
 use std::alloc::Global;
 use std::marker::Model;
+use thinking::{AnnouncedMate, EngineState};
 use uci_lines::{Placing, Setting, number};
 use variant_ini::Sections;
 use variant_rules::{Found, Variants, builtin, load};

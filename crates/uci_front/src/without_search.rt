@@ -9,13 +9,13 @@ ghost use Rattle.uci_front.specs.Outcomes.{LoadsFile, SetsBy};
 ghost use Rattle.uci_front.specs.Plain.{IsAtOnce, IsPlainKind, IsTold, Plainly, file_of, outcome_said};
 ghost use Rattle.uci_front.specs.PlanView.{words_said};
 
+use crate::{READY, Refusal, UciSession, error_line, refused_file};
 use foundation::{Memory, Text};
 use game_text::{moves_of, status_of};
 use io_ports::{Dialect, Files, too_long_answer};
 use session_model::options::NO_FILE;
 use std::alloc::Global;
 use uci_lines::{Kind, Setting, read_placing, read_setting, words_in};
-use crate::{READY, Refusal, UciSession, error_line, refused_file};
 use variant_rules::{NoSections, read_sections};
 
 // Loads the sections that are built in and those of a file, and sets chess.

@@ -1,4 +1,6 @@
-//! The variants of a variants file: the rules of each section, or its first fault.
+//! The variants that are built in and those of a variants file. `read_sections` reads the file whole and puts its
+//! sections after those that are built in. `load` judges each section: it finds its first fault, in its own lines or
+//! where its options and pieces contradict each other, or makes its rules of these and of what it inherits.
 #![tactic(auto)]
 
 mod built_in;
@@ -21,14 +23,14 @@ mod sections;
 mod variants;
 
 pub use built_in::builtin;
+pub use contradictions::{contradiction, rules_fault};
 pub use fault::{FileFault, LoadFault, NoSections, PrintedIni};
 pub use found::Found;
+pub use lettered::LetteredSections;
+pub use lines::own_fault;
 pub use loading::load;
+pub use resolved::Resolved;
+pub use rules::bare_rules;
 pub use sections::read_sections;
 pub use variant_model::SectionFault;
 pub use variants::Variants;
-pub use contradictions::{contradiction, rules_fault};
-pub use lettered::LetteredSections;
-pub use lines::own_fault;
-pub use resolved::Resolved;
-pub use rules::bare_rules;

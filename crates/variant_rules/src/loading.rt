@@ -9,9 +9,9 @@ ghost use Rattle.variant_rules.specs.View.{unboxed};
 
 use crate::named::{Entry, NamedEntry};
 use crate::variants::Variants;
+use crate::{LetteredSections, Resolved, bare_rules, own_fault, rules_fault};
 use foundation::Memory;
 use rules_model::Rules;
-use crate::{LetteredSections, Resolved, bare_rules, own_fault, rules_fault};
 use std::alloc::Global;
 use variant_fen::read_fen;
 use variant_ini::Sections;

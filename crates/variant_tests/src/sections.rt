@@ -1,13 +1,13 @@
-//! Tests of `section_rules`.
+//! Tests of the faults and the rules of a section, of `variant_rules`.
 use crate::expect::{expect, expect_eq};
 use rules_model::{Kind, KindRule, Memory, Rules, Square};
-use variant_rules::{LetteredSections, Resolved, bare_rules, own_fault, rules_fault};
 use std::alloc::Global;
 use std::io::Write;
 use std::process::Abort;
 use std::test::Fail;
 use variant_ini::Sections;
 use variant_model::SectionFault;
+use variant_rules::{LetteredSections, Resolved, bare_rules, own_fault, rules_fault};
 
 fn sections_of(alloc: Global, text: &[u8]) -> Result<Sections, Fail> {
     let mut sections = Sections::new(alloc);

@@ -1,12 +1,10 @@
 use Rattle.std.proofs.Common.{◌≡◌, ◌≤◌, ◌<◌, ◌+◌, length, get_or, take, Some, Err, refl, ◌∙◌, arith, rules, slice_get}
 use Rattle.std.specs.List.{sum_by}
-use Rattle.game_play.specs.Played.{story}
 use Rattle.mate_settle.proofs.Lines.{part-more, part-whole, same-lines}
 use Rattle.mate_settle.proofs.Settled.{after-is, moves-of, member-at}
 use Rattle.mate_settle.specs.Choices.{lines_of_moves}
 use Rattle.mate_settle.specs.Lines.{lines_within, lines_after, seen_in}
 use Rattle.rules_model.specs.Next.{next}
-use Rattle.rules_model.specs.Sides.{same_side}
 use Rattle.mate_search.specs.Races.{root_lines}
 use Rattle.mate_search.proofs.HandedLaws.{handed_none, handed_more}
 use Rattle.mate_search.proofs.RaceLaws.{part-skip, root-moves, root-rules, root-within}

@@ -1,4 +1,4 @@
-use Rattle.std.proofs.Common.{◌≡◌, ◌∙◌, get_or, slice_get, Some, rules}
+use Rattle.std.proofs.Common.{◌≡◌, ◌∙◌, get_or, slice_get, Some}
 use Rattle.mate_settle.proofs.Settled.{member-at}
 use Rattle.mate_search.proofs.HandedLaws.{handed_more}
 use Rattle.mate_search.proofs.RaceLaws.{root-moves}

@@ -14,9 +14,9 @@ use Rattle.mate_settle.proofs.last_moves.leaves_step.Goals as goal
 pub meets-requires-clause-move_fits : goal.meets-requires-clause-move_fits
 meets-requires-clause-move_fits c = (legal-member _ _ _ c.requires.legal).0
 
-pub returns-clause-vain : goal.returns-clause-vain
+pub returns-clause-no_win : goal.returns-clause-no_win
 unfolding next
-returns-clause-vain c =
+returns-clause-no_win c =
     let f = c.args.frame.now in
     let p = c.args.board.now.position in
     let m = c.args.m.now in

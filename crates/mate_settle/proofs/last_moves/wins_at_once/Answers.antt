@@ -21,6 +21,6 @@ returns c =
     let f = c.args.frame.now in
     let p = c.args.board.now.position in
     let is : c.is_won-2.result ≡ is_won (won_by f.attacker (early_end c.args.board.now.rules (repeat_of p))) = search rules in
-    let vain : is_loss f.rules.stalemate ≡ false = search rules in
+    let no_loss : is_loss f.rules.stalemate ≡ false = search rules in
     let quiet : king_attacked f.rules p.cells p.side ≡ false = search rules in
-    is ∙ ap (λ (x : Rules). is_won (won_by f.attacker (early_end x (repeat_of p)))) c.requires.rules ∙ early-at-once f p c.requires.movers c.requires.turn vain quiet
+    is ∙ ap (λ (x : Rules). is_won (won_by f.attacker (early_end x (repeat_of p)))) c.requires.rules ∙ early-at-once f p c.requires.movers c.requires.turn no_loss quiet

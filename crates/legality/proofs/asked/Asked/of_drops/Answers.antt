@@ -1,4 +1,4 @@
-use Rattle.std.proofs.Common.{◌&&◌, ◌||◌, not, ap, sym, ◌∙◌}
+use Rattle.std.proofs.Common.{◌&&◌, ◌||◌, not, ap, ◌∙◌}
 use Rattle.square_set.specs.Members.{has}
 use Rattle.legality.specs.Asking.{is_to}
 use Rattle.legality.proofs.AskingLaws.{either_of}

@@ -7,13 +7,13 @@ use Rattle.rules_model.proofs.LegalLaws.{legal-member}
 use Rattle.check_moves.specs.declared.checks.Checks.{Checks}
 use Rattle.mate_settle.specs.LastMoves.{only_checks_win}
 use Rattle.mate_settle.proofs.LastMoves.{quiet-loses}
-use Rattle.mate_settle.proofs.last_moves.is_vain.Goals as goal
+use Rattle.mate_settle.proofs.last_moves.cannot_win_at_once.Goals as goal
 
 pub may_check-requires-clause-move_fits : goal.may_check-requires-clause-move_fits
 may_check-requires-clause-move_fits c = (legal-member _ _ _ c.requires.legal).0
 
-pub returns-then-not-may_check-clause-vain : goal.returns-then-not-may_check-clause-vain
-returns-then-not-may_check-clause-vain c =
+pub returns-then-not-may_check-clause-no_win : goal.returns-then-not-may_check-clause-no_win
+returns-then-not-may_check-clause-no_win c =
     let f = c.args.frame.now in
     let p = c.args.board.now.position in
     let m = c.args.m.now in
