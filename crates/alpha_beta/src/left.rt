@@ -74,8 +74,8 @@ pub(crate) fn left<R: Threads + Sync, W: Watch, G: Gate + Sync>(
     if let Some(worth) = end_where(line, ply, any) {
         return Ok(worth);
     }
-    let ranked = ranked(team.alloc, line, team.hints)?;
-    let moves = ranked.items.as_slice();
+    let listed = ranked(team.alloc, line, team.hints)?;
+    let moves = listed.items.as_slice();
     let chosen = moves[0];
     line.push(&chosen);
     let asked = window.turned();
