@@ -4,9 +4,9 @@ use Rattle.std.specs.List.{All}
 use Rattle.std.specs.List.Sorted.{IsPermutation}
 use Rattle.foundation.specs.Member.{Member}
 use Rattle.rules_model.specs.Legal.{is_stuck}
+use Rattle.rules_model.specs.Repeats.{repeat_of}
 use Rattle.rules_model.specs.Games.{played}
 use Rattle.alpha_beta.specs.Workers.{most_nodes}
-use Rattle.legality.specs.Stance as Stance
 use Rattle.game_line.specs.Lined.{legal_in, pushed, shorter, story_of_line}
 use Rattle.game_line.proofs.LineLaws.{shorter-pushed, story-pushed}
 use Rattle.std.specs.Prelude.{ℤ, pos, ◌-ℤ◌}
@@ -70,7 +70,7 @@ returns-in-Some-clause-within g t c =
     record { least = omega (arith, ints, end); most = omega (arith, ints, end) }
 
 pub end_where-requires : goal.end_where-requires
-end_where-requires g t c = record { any = subst (λ s. c.any_legal-any.result ≡ not (is_stuck s.rules (Stance.repeat_in s))) c.board.ensures c.any_legal-any.ensures }
+end_where-requires g t c = record { any = c.any_legal-any.ensures ∙ ap (λ s. not (is_stuck s.rules (repeat_of s.position))) c.board.ensures }
 
 pub ranked-requires : goal.ranked-requires
 ranked-requires g t c =
