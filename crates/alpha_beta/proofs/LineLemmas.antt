@@ -1,18 +1,14 @@
 -- A line of no moves after a game stands as the game.
-use Rattle.std.proofs.Common.{◌≡◌, ℕ, None, sym, subst}
-use Rattle.rules_model.specs.declared.moves.Move.{Move}
-use Rattle.rules_model.specs.declared.moves.Move.TheVariants.{Go}
-use Rattle.rules_model.specs.declared.moves.Promo.TheVariants.{Stays}
+use Rattle.std.proofs.Common.{◌≡◌, ℕ, ◌+◌, [], sym, subst}
 use Rattle.rules_model.specs.declared.rules.Rules.{Rules}
 use Rattle.rules_model.specs.Games.{Story}
 use Rattle.rules_model.proofs.ResultLaws.{story_from-none}
 use Rattle.game_play.specs.Played.{Played, story}
-use Rattle.game_line.specs.Lined.{Lined, story_of_line}
-use Rattle.alpha_beta.specs.Workers.{line_after}
+use Rattle.game_line.specs.Lined.{Lined, line_of, story_of_line}
 
--- what a read past the end of a list of moves gives
-abbrev pub no_move : Move
-no_move = Go (record { 0 = 0 }) (record { 0 = 0 }) Stays None
+-- the line of no moves after the game, with room for a search of this depth
+abbrev pub line_after : Played → ℕ → Lined
+line_after game depth = line_of game [] (depth + 4)
 
 module _ (P : Rules → Story → Type 0) (game : Played) (depth : ℕ) (l : Lined) (is : l ≡ line_after game depth) where
   -- what holds of the one holds of the other

@@ -1,7 +1,7 @@
 -- Root moves that are searched once each.
 use Rattle.std.proofs.Common.{◌≡◌, ℕ, ◌+◌, ◌*◌, ◌≤◌, ◌<◌, List, [], ◌∷◌, length, take, get_or, ap, ◌∙◌, arith, ℤ, inl, refl}
 use Rattle.std.proofs.lemmas.List.Elements.{All-contains, Contains-get_or}
-use Rattle.std.proofs.lemmas.List.Sums.{sum_by_more, sum_by-take-le}
+use Rattle.std.proofs.lemmas.List.Sums.{sum_by-cons, sum_by_more, sum_by-take-le}
 use Rattle.foundation.specs.Member.{Member}
 use Rattle.foundation.proofs.Members.{contains-member, member-contains}
 use Rattle.rules_model.specs.declared.moves.Move.{Move}
@@ -38,8 +38,8 @@ module _ (roots distinct : List Move) (h : AreDistinct roots distinct) where
     pub legal-distinct : AreLegal rules g roots → AreLegal rules g distinct
     legal-distinct legal' = λ k d lt. All-contains (λ x. Member x (legal rules (repeat_of g.last))) roots (get_or distinct k d) legal' (contains-member (get_or distinct k d) roots (h.sound (get_or distinct k d) (member-contains (get_or distinct k d) distinct (Contains-get_or distinct k d lt))))
 
-    -- each of them is searched at most three times
-    pub lines-within : AreLegal rules g distinct → 3 * root_lines rules depth g distinct ≤ search_bound rules depth g
+    -- each of them is searched at most twice
+    pub lines-within : AreLegal rules g distinct → 2 * root_lines rules depth g distinct ≤ search_bound rules depth g
     unfolding search_bound
     lines-within h' =
         let all = roots-lines (play rules) (depth + 3) g distinct h.once (λ m k. All-contains (λ x. Member x (legal rules (repeat_of g.last))) distinct m h' (contains-member m distinct k)) in
@@ -71,3 +71,7 @@ module _ (rules : Rules) (depth : ℕ) (g : Story) (roots : List Move) where
 
   pub lines-part : (i : ℕ) → root_lines rules depth g (take i roots) ≤ root_lines rules depth g roots
   lines-part i = sum_by-take-le after_root roots i
+
+  -- the lines behind the first, and behind the others
+  pub lines-first : (m : Move) (ms : List Move) → root_lines rules depth g (m ∷ ms) ≡ after_root m + root_lines rules depth g ms
+  lines-first m ms = sum_by-cons after_root m ms

@@ -1,41 +1,46 @@
 -- What workers hand back.
-use Rattle.std.specs.Prelude.{◌≡◌, ℕ, ◌+◌, ◌≤◌, List, [], fold, max}
+use Rattle.std.specs.Prelude.{◌≡◌, ℕ, ◌+◌, ◌≤◌, List, [], fold, length, max}
 use Rattle.std.specs.List.{All}
-use Rattle.game_play.specs.Played.{Played, story}
-use Rattle.game_line.specs.Lined.{Lined, line_of}
-use Rattle.negamax.specs.declared.facts.RootFact.{RootFact}
-use Rattle.negamax.specs.RootFacts.{IsTrueFact}
+use Rattle.foundation.specs.Member.{Member}
+use Rattle.rules_model.specs.declared.moves.Move.{Move}
+use Rattle.game_line.specs.Lined.{legal_in, story_of_line}
+use Rattle.negamax.specs.declared.facts.Fact.{Fact}
+use Rattle.negamax.specs.RootFacts.{IsTrueFact, root_tree}
+use Rattle.alpha_beta.specs.declared.jobs.Job.{Job}
 use Rattle.alpha_beta.specs.declared.plan.Plan.{Plan}
-use Rattle.alpha_beta.specs.declared.root_moves.HelperFacts.{HelperFacts}
-use Rattle.alpha_beta.specs.Roots.{AreLegal, root_lines}
+use Rattle.alpha_beta.specs.Roots.{root_lines}
 
--- the line of no moves after the game, with room for a search of this depth
-abbrev pub line_after : Played → ℕ → Lined
-line_after game depth = line_of game [] (depth + 4)
-
--- these facts are true of the game's moves
-abbrev pub AreTrueFacts : Played → ℕ → List RootFact → Type 0
-AreTrueFacts game depth facts = All (IsTrueFact game.rules depth (story game)) facts
-
--- the depth is from 1 to 64, and the root moves are legal
+-- the depth is at least 1, it and the plies from the root are at most 64, the line has room, and the moves are legal
 pub record IsPlan {G : Type 0} (plan : Plan G) : Type 0 where
   pub least : 1 ≤ plan.depth
-  pub most : plan.depth ≤ 64
-  pub legal : AreLegal plan.game.now.rules (story plan.game.now) plan.roots.now
+  pub plies : plan.ply + plan.depth ≤ 64
+  pub room : length plan.line.now.moves + plan.depth + 4 ≤ plan.line.now.room
+  pub legal : All (λ m. Member m (legal_in plan.line.now)) plan.moves.now
 
--- how many lines a search of its root moves goes along at most
+-- these facts are true of the moves after its line
+abbrev pub AreTrueFacts : {G : Type 0} → Plan G → List Fact → Type 0
+AreTrueFacts plan facts = All (IsTrueFact plan.line.now.rules plan.depth plan.ply (story_of_line plan.line.now)) facts
+
+-- how many lines a search of the move goes along at most
+abbrev pub lines_after : {G : Type 0} → Plan G → Move → ℕ
+lines_after plan m = root_tree plan.line.now.rules plan.depth (story_of_line plan.line.now) m
+
+-- how many lines a search of its moves goes along at most
 abbrev pub lines_in : {G : Type 0} → Plan G → ℕ
-lines_in plan = root_lines plan.game.now.rules plan.depth (story plan.game.now) plan.roots.now
+lines_in plan = root_lines plan.line.now.rules plan.depth (story_of_line plan.line.now) plan.moves.now
 
--- it has found nothing yet
-abbrev pub HasNone : HelperFacts → Type 0
-HasNone job = job.facts.items ≡ []
+-- it has entered no node
+abbrev pub IsNew : Job → Type 0
+IsNew job = job.nodes ≡ 0
 
--- what a worker found is true, and it entered no more nodes than there are lines after the root moves
-pub record IsSound {G : Type 0} (plan : Plan G) (job : HelperFacts) : Type 0 where
-  pub facts : AreTrueFacts plan.game.now plan.depth job.facts.items
-  pub nodes : job.nodes ≤ lines_in plan
+-- what a worker found is true
+abbrev pub IsSound : {G : Type 0} → Plan G → Job → Type 0
+IsSound plan job = AreTrueFacts plan job.facts.items
+
+-- it entered at most so many nodes more
+abbrev pub HasEntered : ℕ → Job → Job → Type 0
+HasEntered n before after = after.nodes ≤ before.nodes + n
 
 -- the greatest of a count and those of the others
-abbrev pub most_nodes : ℕ → List HelperFacts → ℕ
-most_nodes nodes jobs = fold (λ most (job : HelperFacts). max most job.nodes) nodes jobs
+abbrev pub most_nodes : ℕ → List Job → ℕ
+most_nodes nodes jobs = fold (λ most (job : Job). max most job.nodes) nodes jobs

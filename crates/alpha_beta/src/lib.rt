@@ -1,13 +1,16 @@
-//! The search: the exact value of a game at a depth, by workers that race over the root moves. The first of them runs
-//! in the caller and asks a watch that is lent; what the watch hears is its own matter.
+//! The search: the exact value of a game at a depth, by workers that race over the moves beside the leftmost line. The
+//! first of them runs in the caller and asks a watch that is lent; what the watch hears is its own matter.
 #![tactic(auto)]
 
+mod jobs;
+mod left;
 mod plan;
 mod race;
-mod root_moves;
 mod roots;
 mod searching;
 mod shared;
+mod sharing;
+mod taking;
 mod unwatched;
 
 pub use io_ports::{Limits, SearchFault, Stopped};

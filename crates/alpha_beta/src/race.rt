@@ -1,58 +1,71 @@
 //! The worker in the caller, and the others beside it.
-ghost use Rattle.std.specs.Prelude.{◌≡◌, ◌*◌, ◌≤◌, ◌<◌, [], length, OnOk, IsErrOf};
+ghost use Rattle.std.specs.Prelude.{◌≡◌, ℕ, ◌≤◌, ◌<◌, [], get_or, length, OnOk, IsErrOf};
 ghost use Rattle.std.specs.List.{All};
 ghost use Rattle.watching.specs.declared.halt.Halt.{Halt};
-ghost use Rattle.alpha_beta.specs.Workers.{AreTrueFacts, HasNone, IsPlan, IsSound, lines_in};
+ghost use Rattle.alpha_beta.specs.declared.jobs.Job.{Job};
+ghost use Rattle.alpha_beta.specs.Workers.{AreTrueFacts, HasEntered, IsPlan, IsSound, lines_in};
 
+use crate::jobs::Job;
 use crate::plan::Plan;
-use crate::root_moves::{HelperFacts, help, take_all};
+use crate::taking::{help, take_all};
+use game_line::Line;
 use io_ports::Gate;
-use negamax::RootFact;
+use negamax::{Fact, SearchState};
 use std::thread::Threads;
 use watching::{Halt, Watch};
 
 /// The worker in the caller. When it ends, whatever the reason, the others are told to stop.
 fn lead<W: Watch, G: Gate>(
     plan: &Plan<G>,
-    facts: &mut Vec<RootFact>,
+    line: &mut Line,
+    state: &mut SearchState,
+    facts: &mut Vec<Fact>,
     watch: &mut W,
 ) -> Result<(), Halt>
     requires plan { IsPlan plan.now }
+    requires line { line.old ≡ plan.now.line.now }
     requires none { facts.old.items ≡ [] }
-    ensures known { AreTrueFacts plan.now.game.now plan.now.depth facts.new.items }
-    ensures gone { OnOk result (W.gone watch.old watch.new (2 * lines_in plan.now)) }
-    ensures ended { (why : Halt) → IsErrOf result why → W.ended watch.old watch.new (2 * lines_in plan.now) why }
+    ensures known { AreTrueFacts plan.now facts.new.items }
+    ensures gone { OnOk result (W.gone watch.old watch.new (lines_in plan.now)) }
+    ensures ended { (why : Halt) → IsErrOf result why → W.ended watch.old watch.new (lines_in plan.now) why }
+    ensures kept { OnOk result (line.new ≡ plan.now.line.now) }
 {
-    let end = take_all(plan, facts, watch);
+    let end = take_all(plan, line, state, facts, watch);
     plan.shared.flag.raise();
     end
 }
 
-/// The worker in the caller and the others, each with a line and a search state of its own. It returns once all have ended.
+/// The worker in the caller and the others, each with a line and a search state of its own. It returns once all have
+/// ended.
 pub(crate) fn race<R: Threads + Sync, W: Watch, G: Gate + Sync>(
     rt: &R,
     plan: &Plan<G>,
-    jobs: &mut [HelperFacts],
-    facts: &mut Vec<RootFact>,
+    line: &mut Line,
+    state: &mut SearchState,
+    jobs: &mut [Job],
+    facts: &mut Vec<Fact>,
     watch: &mut W,
 ) -> Result<(), Halt>
     requires plan { IsPlan plan.now }
+    requires line { line.old ≡ plan.now.line.now }
     requires none { facts.old.items ≡ [] }
-    requires ready { All HasNone jobs.old }
     requires count { length jobs.old ≤ 63 }
     ensures sound { All (IsSound plan.now) jobs.new }
+    ensures entered { (i : ℕ) (d : Job) → i < length jobs.old
+        → HasEntered (lines_in plan.now) (get_or jobs.old i d) (get_or jobs.new i d) }
     ensures count { length jobs.new ≡ length jobs.old }
-    ensures known { AreTrueFacts plan.now.game.now plan.now.depth facts.new.items }
-    ensures gone { OnOk result (W.gone watch.old watch.new (2 * lines_in plan.now)) }
-    ensures ended { (why : Halt) → IsErrOf result why → W.ended watch.old watch.new (2 * lines_in plan.now) why }
+    ensures known { AreTrueFacts plan.now facts.new.items }
+    ensures gone { OnOk result (W.gone watch.old watch.new (lines_in plan.now)) }
+    ensures ended { (why : Halt) → IsErrOf result why → W.ended watch.old watch.new (lines_in plan.now) why }
+    ensures kept { OnOk result (line.new ≡ plan.now.line.now) }
 {
     watching::race(
         rt,
         jobs,
-        &|k: usize, job: &mut HelperFacts|
-            requires { HasNone job.now × IsPlan plan.now × (k < 63) }
-            ensures { IsSound plan.entry.now job.exit.now }
+        &|k: usize, job: &mut Job|
+            requires { IsPlan plan.now × (k < 63) }
+            ensures { IsSound plan.entry.now job.exit.now × HasEntered (lines_in plan.entry.now) job.entry.now job.exit.now }
         { help(plan, k as u32 + 1, job) },
-        &mut || lead(plan, facts, watch),
+        &mut || lead(plan, line, state, facts, watch),
     )
 }

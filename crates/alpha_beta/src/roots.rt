@@ -3,11 +3,10 @@ ghost use Rattle.std.specs.Prelude.{◌↔◌, IsTrue, IfOk};
 ghost use Rattle.std.specs.List.{Contains};
 ghost use Rattle.alpha_beta.specs.Roots.{AreDistinct};
 
-use crate::shared::WORST;
 use foundation::Memory;
 use game_play::Game;
 use hint_table::HintTable;
-use negamax::{aspiration_floor, root_rank};
+use negamax::root_rank;
 use playing::Board;
 use rules_model::Move;
 use std::alloc::Global;
@@ -45,10 +44,4 @@ pub(crate) fn ordered(
     moves.extend_from_slice(roots)?;
     moves.sort_by_cached_key(|m: &Move| root_rank(&board, hints, m))?;
     distinct(alloc, &moves)
-}
-
-/// What the best score is taken to be above, before any is known.
-pub(crate) fn floor_for(game: &Game, hints: &HintTable, depth: u8) -> i32 {
-    let board = Board::new(game.tables(), game.position());
-    aspiration_floor(&board, hints, depth).unwrap_or(WORST)
 }

@@ -1,26 +1,30 @@
 //! The whole search.
-ghost use Rattle.std.specs.Prelude.{◌≡◌, ◌<◌, ◌+◌, ◌*◌, ◌≤◌, length, vec_len, OnOk, IfOk, IsErrOf};
+ghost use Rattle.std.specs.Prelude.{◌≡◌, ◌<◌, ◌+◌, ◌*◌, ◌≤◌, length, OnOk, IfOk, IsErrOf};
 ghost use Rattle.std.specs.List.{All};
 ghost use Rattle.io_ports.specs.declared.limits.SearchFault.{SearchFault};
+ghost use Rattle.foundation.specs.Member.{Member};
+ghost use Rattle.game_line.specs.Lined.{legal_in, story_of_line};
 ghost use Rattle.game_play.specs.Played.{story};
+ghost use Rattle.evaluation.specs.Laws.{Within};
+ghost use Rattle.evaluation.specs.Values.{Attains, value_of};
 ghost use Rattle.watching.specs.declared.halt.Halt.{Halt};
 ghost use Rattle.watching.specs.Stopping.{AreSamePorts, Fails};
 ghost use Rattle.watching.specs.Watched.{moment, world};
 ghost use Rattle.alpha_beta.specs.Bests.{IsBest};
-ghost use Rattle.alpha_beta.specs.Roots.{AreLegal};
+ghost use Rattle.alpha_beta.specs.Roots.{AreLegal, lines_of, root_lines};
 ghost use Rattle.alpha_beta.specs.Searches.{Finds, Heard, IsCount, bound_of};
-ghost use Rattle.alpha_beta.specs.Workers.{AreTrueFacts, HasNone, IsPlan, IsSound, lines_in, most_nodes};
+ghost use Rattle.alpha_beta.specs.Workers.{IsNew, most_nodes};
 
-use crate::plan::Plan;
-use crate::race::race;
-use crate::root_moves::{HelperFacts, combine_facts};
-use crate::roots::{floor_for, ordered};
-use crate::shared::SharedRoots;
-use foundation::Memory;
+use crate::jobs::{Job, greatest_count, jobs_for};
+use crate::left::left;
+use crate::plan::Team;
+use crate::roots::ordered;
+use crate::sharing::share;
+use game_line::Line;
 use game_play::Game;
 use hint_table::HintTable;
 use io_ports::{Clock, Gate, Limits, LineBuf, Ports, SearchFault, Sink, Source, Stopped};
-use negamax::RootFact;
+use negamax::{Best, SearchState, Window};
 use rules_model::Move;
 use std::alloc::Global;
 use std::thread::Threads;
@@ -44,71 +48,81 @@ pub enum Searched {
     Stopped(Stopped),
 }
 
-/// N workers beside the first, or fewer where there is no memory for more.
-fn jobs_for(alloc: Global, count: u32) -> Vec<HelperFacts>
-    ensures none { All HasNone result.items }
-    ensures count { vec_len result ≤ count }
+/// The best of the root moves: the first one is searched, and the workers race over the others.
+fn best_root<R: Threads + Sync, W: Watch, G: Gate + Sync>(
+    rt: &R,
+    team: &Team<G>,
+    line: &mut Line,
+    state: &mut SearchState,
+    jobs: &mut [Job],
+    watch: &mut W,
+    depth: u8,
+    moves: &[Move],
+) -> Result<Best, Halt>
+    requires least { 1 ≤ depth }
+    requires most { depth ≤ 64 }
+    requires room { length line.old.moves + depth + 4 ≤ line.old.room }
+    requires legal { All (λ m. Member m (legal_in line.old)) moves.now }
+    requires some { 0 < length moves.now }
+    requires count { length jobs.old ≤ 63 }
+    ensures value { IfOk result (λ best.
+        best.value ≡ value_of line.old.rules depth (story_of_line line.old) moves.now) }
+    ensures attains { IfOk result (λ best.
+        Attains line.old.rules depth (story_of_line line.old) moves.now best.value best.chosen) }
+    ensures within { IfOk result (λ best. Within best.value) }
+    ensures few { OnOk result (most_nodes 0 jobs.new
+        ≤ most_nodes 0 jobs.old + root_lines line.old.rules depth (story_of_line line.old) moves.now) }
+    ensures count { OnOk result (length jobs.new ≡ length jobs.old) }
+    ensures gone { OnOk result (W.gone watch.old watch.new
+        (2 * root_lines line.old.rules depth (story_of_line line.old) moves.now)) }
+    ensures ended { (why : Halt) → IsErrOf result why → W.ended watch.old watch.new
+        (2 * root_lines line.old.rules depth (story_of_line line.old) moves.now) why }
+    ensures kept { OnOk result (line.new ≡ line.old) }
 {
-    let mut jobs = Vec::new(alloc);
-    for _job in 0..count {
-        let job = HelperFacts {
-            facts: Vec::new(alloc),
-            nodes: 0,
-        };
-        if jobs.push(job).is_err() {
-            return jobs;
-        }
-    }
-    jobs
+    let chosen = moves[0];
+    let window = Window::open();
+    line.push(&chosen);
+    let asked = window.turned();
+    let found = left(rt, team, line, state, jobs, watch, depth - 1, 1, asked)?;
+    line.back();
+    let value = -found;
+    let first = Best { value, chosen };
+    let rest = &moves[1..];
+    let best = share(
+        rt, team, line, state, jobs, watch, depth, 0, rest, window, first,
+    )?;
+    state.leave_best(line.key(), depth, &best);
+    Ok(best)
 }
 
-/// Adds what the others found.
-fn gather<G>(plan: &Plan<G>, jobs: &[HelperFacts], facts: &mut Vec<RootFact>) -> Result<(), Memory>
-    requires known { AreTrueFacts plan.now.game.now plan.now.depth facts.old.items }
-    requires sound { All (IsSound plan.now) jobs.now }
-    ensures { OnOk result (AreTrueFacts plan.now.game.now plan.now.depth facts.new.items) }
-{
-    for job in jobs {
-        facts.extend_from_slice(job.facts.as_slice())?;
-    }
-    Ok(())
-}
-
-/// The greatest of a count and those of the others.
-fn greatest_count(nodes: u64, jobs: &[HelperFacts]) -> u64
-    ensures { result ≡ most_nodes nodes jobs.now }
-{
-    let mut most = nodes;
-    for job in jobs {
-        most = most.max(job.nodes);
-    }
-    most
-}
-
-/// The search of all workers: they race over the root moves, and the one in the caller combines what they found.
+/// The search of all workers, and the greatest count of nodes of one of them.
 fn search_by<R: Threads + Sync, W: Watch, G: Gate + Sync>(
     rt: &R,
-    plan: &Plan<G>,
-    jobs: &mut [HelperFacts],
+    team: &Team<G>,
+    game: &Game,
+    jobs: &mut [Job],
     watch: &mut W,
+    depth: u8,
+    moves: &[Move],
 ) -> Result<Found, Halt>
-    requires plan { IsPlan plan.now }
-    requires some { 0 < length plan.now.roots.now }
-    requires ready { All HasNone jobs.old }
+    requires least { 1 ≤ depth }
+    requires most { depth ≤ 64 }
+    requires legal { AreLegal game.now.rules (story game.now) moves.now }
+    requires some { 0 < length moves.now }
+    requires ready { All IsNew jobs.old }
     requires count { length jobs.old ≤ 63 }
-    ensures best { IfOk result (λ found.
-        IsBest plan.now.game.now plan.now.depth plan.now.roots.now found.value found.best) }
-    ensures few { IfOk result (λ found. found.nodes ≤ 3 * lines_in plan.now) }
+    ensures best { IfOk result (λ found. IsBest game.now depth moves.now found.value found.best) }
+    ensures few { IfOk result (λ found. found.nodes ≤ 2 * lines_of game.now depth moves.now) }
     ensures counted { IfOk result (λ found.
         IsCount (length jobs.old + 1) (W.entered watch.old) (W.entered watch.new) found.nodes) }
-    ensures gone { OnOk result (W.gone watch.old watch.new (3 * lines_in plan.now)) }
-    ensures ended { (why : Halt) → IsErrOf result why → W.ended watch.old watch.new (3 * lines_in plan.now) why }
+    ensures gone { OnOk result (W.gone watch.old watch.new (2 * lines_of game.now depth moves.now)) }
+    ensures ended { (why : Halt) → IsErrOf result why
+        → W.ended watch.old watch.new (2 * lines_of game.now depth moves.now) why }
 {
     let before = watch.nodes();
-    let mut facts = Vec::new(plan.alloc);
-    race(rt, plan, jobs, &mut facts, watch)?;
-    gather(plan, jobs, &mut facts)?;
-    let best = combine_facts(plan, facts.as_slice(), watch)?;
+    let mut line = Line::new(team.alloc, game, depth as usize + 4)?;
+    let mut state = SearchState::new(team.alloc, team.hints)?;
+    let best = best_root(rt, team, &mut line, &mut state, jobs, watch, depth, moves)?;
     let nodes = watch.nodes().saturating_sub(before);
     Ok(Found {
         value: best.value,
@@ -154,19 +168,14 @@ pub fn search_watched<R: Threads + Sync, W: Watch, G: Gate + Sync>(
     ensures ended { (why : Halt) → IsErrOf result why → W.ended watch.old watch.new (bound_of game.now depth) why }
 {
     let tried = ordered(alloc, game, roots, hints)?;
-    let shared = SharedRoots::new(alloc, tried.len(), floor_for(game, hints, depth))?;
-    let plan = Plan {
+    let team = Team {
         alloc,
-        game,
-        depth,
-        roots: tried.as_slice(),
         hints,
         gate,
-        shared: &shared,
         quota,
     };
-    let mut jobs = jobs_for(alloc, workers - 1);
-    search_by(rt, &plan, &mut jobs, watch)
+    let mut jobs = jobs_for(alloc, hints, workers - 1);
+    search_by(rt, &team, game, &mut jobs, watch, depth, tried.as_slice())
 }
 
 /// As `search_watched`, over ports. The first worker polls the source each 1,024 nodes, answers the lines that it

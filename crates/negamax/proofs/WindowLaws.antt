@@ -1,9 +1,8 @@
 -- Windows.
-use Rattle.std.proofs.Common.{◌≡◌, false, arith}
+use Rattle.std.proofs.Common.{◌≡◌, arith}
 use Rattle.std.specs.Prelude.{ℤ, neg_ℤ, ◌≤ℤ◌, ◌<ℤ◌}
 use Rattle.std.specs.Int.{int_max}
 use Rattle.std.proofs.lemmas.Int.{ints, clamps}
-use lib.Signed.{lt_z}
 use Rattle.evaluation.specs.Laws.{Within}
 use Rattle.negamax.specs.Windows.{Bounds}
 
@@ -42,7 +41,3 @@ pub within_larger : (v w : ℤ) → Within v → Within w → Within (int_max v 
 within_larger v w h k =
     let p = h.least in let q = h.most in let r = k.least in let s = k.most in
     record { least = omega (arith, ints, clamps); most = omega (arith, ints, clamps) }
-
--- a test that failed
-pub not_below : (a b x y : ℤ) → lt_z a b ≡ false → x ≡ a → y ≡ b → y ≤ℤ x
-not_below a b x y h ea eb = grind (arith, ints)

@@ -1,45 +1,47 @@
--- What is known of the moves at the root.
-use Rattle.std.specs.Prelude.{◌≡◌, ◌⊎◌, ℕ, ◌+◌, true, List, take, ℤ, ◌≤ℤ◌}
+-- What is known of the moves of a position.
+use Rattle.std.specs.Prelude.{◌≡◌, ◌⊎◌, ℕ, ◌+◌, ◌-◌, List, [], ◌∷◌, ℤ, neg_ℤ, ◌<ℤ◌, ◌≤ℤ◌}
+use Rattle.std.specs.Int.{int_max}
 use Rattle.foundation.specs.Member.{Member}
 use Rattle.rules_model.specs.declared.moves.Move.{Move}
 use Rattle.rules_model.specs.declared.rules.Rules.{Rules}
 use Rattle.rules_model.specs.Games.{Story, played}
 use Rattle.evaluation.specs.Laws.{Within}
-use Rattle.evaluation.specs.Values.{play, root_score, tree_size, value_of}
+use Rattle.evaluation.specs.Values.{play, tree_size, value}
 use Rattle.negamax.specs.declared.facts.Best.{Best}
-use Rattle.negamax.specs.declared.facts.RootFact.{RootFact}
+use Rattle.negamax.specs.declared.facts.Fact.{Fact}
+use Rattle.negamax.specs.Windows.{Bounds}
 
--- what a move scores at a depth
-abbrev pub score_of : Rules → ℕ → Story → Move → ℤ
-score_of rules depth g m = root_score (play rules) depth g m
+-- what a move scores at a depth, so many plies from the root
+abbrev pub score_of : Rules → ℕ → ℕ → Story → Move → ℤ
+score_of rules depth ply g m = neg_ℤ (value (play rules) (depth - 1) (ply + 1) (played rules g m))
 
--- the move scores at most the value, and exactly the value where the fact is exact
-pub record IsTrueFact (rules : Rules) (depth : ℕ) (g : Story) (fact : RootFact) : Type 0 where
-  pub most : score_of rules depth g fact.chosen ≤ℤ fact.value
-  pub least : fact.exact ≡ true → fact.value ≤ℤ score_of rules depth g fact.chosen
-  pub within : Within fact.value
+-- the move scores at least the one value and at most the other
+pub record IsTrueFact (rules : Rules) (depth ply : ℕ) (g : Story) (fact : Fact) : Type 0 where
+  pub least : fact.least ≤ℤ score_of rules depth ply g fact.chosen
+  pub most : score_of rules depth ply g fact.chosen ≤ℤ fact.most
+  pub least_within : Within fact.least
+  pub most_within : Within fact.most
 
 -- how many lines a search of the move goes along at most
 abbrev pub root_tree : Rules → ℕ → Story → Move → ℕ
 root_tree rules depth g m = tree_size rules (depth + 3) (played rules g m)
 
--- the move is better
-pub record Raises (rules : Rules) (depth : ℕ) (g : Story) (m : Move) (before after : Best) : Type 0 where
+-- the best is one of these moves, is above the floor, and scores at least its value
+pub record Scores (rules : Rules) (depth ply : ℕ) (g : Story) (floor : ℤ) (moves : List Move) (best : Best) : Type 0 where
+  pub root : Member best.chosen moves
+  pub above : floor <ℤ best.value
+  pub attained : best.value ≤ℤ score_of rules depth ply g best.chosen
+
+-- the best has the move of before and is no better than that and the floor, or it is one of these moves
+abbrev pub Chooses : Rules → ℕ → ℕ → Story → ℤ → List Move → Best → Best → Type 0
+Chooses rules depth ply g floor moves before after =
+    ((after.chosen ≡ before.chosen) × (after.value ≤ℤ int_max floor before.value))
+    ⊎ Scores rules depth ply g floor moves after
+
+-- one move more is settled within a window from a to b: what the best before tells of a value, the best tells of the
+-- greater of that and of the move's score
+pub record Settles (rules : Rules) (depth ply : ℕ) (g : Story) (a b : ℤ) (m : Move) (before after : Best) : Type 0 where
   pub within : Within after.value
-  pub chosen : after.chosen ≡ m
-  pub above : before.value ≤ℤ after.value
-  pub attained : after.value ≤ℤ score_of rules depth g m
-
--- one move more is settled: the best is no lower than it was, and than the move's score; it is what it was, or it is
--- the move and its score
-pub record Settles (rules : Rules) (depth : ℕ) (g : Story) (m : Move) (before after : Best) : Type 0 where
-  pub most : score_of rules depth g m ≤ℤ after.value
-  pub best : (after ≡ before) ⊎ Raises rules depth g m before after
-
--- how far the root moves are settled: this move scores at least the best, and the first N at most the best
-pub record Leads (rules : Rules) (depth : ℕ) (g : Story) (roots : List Move) (settled : ℕ) (best : ℤ)
-    (chosen : Move) : Type 0 where
-  pub within : Within best
-  pub root : Member chosen roots
-  pub attained : best ≤ℤ score_of rules depth g chosen
-  pub most : value_of rules depth g (take settled roots) ≤ℤ best
+  pub rises : before.value ≤ℤ after.value
+  pub bounds : (v : ℤ) → Bounds a b before.value v → Bounds a b after.value (int_max v (score_of rules depth ply g m))
+  pub chosen : Chooses rules depth ply g a (m ∷ []) before after

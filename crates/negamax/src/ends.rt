@@ -38,7 +38,7 @@ pub(crate) fn end_of(line: &Line, ply: u8) -> Option<i32>
 }
 
 /// The same, for a caller who knows whether some move is legal.
-pub(crate) fn end_where(line: &Line, ply: u8, any: bool) -> Option<i32>
+pub fn end_where(line: &Line, ply: u8, any: bool) -> Option<i32>
     requires any { any ≡ not (is_stuck line.now.rules (repeat_of (story_of_line line.now).last)) }
     ensures { result ≡ (Values.play line.now.rules).ended (story_of_line line.now) ply }
 {

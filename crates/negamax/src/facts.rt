@@ -1,22 +1,23 @@
-//! What is known of moves at the root.
-ghost use Rattle.std.specs.Prelude.{◌≡◌, ◌<◌, ◌≤ℤ◌, All, length, IsTrue};
-ghost use Rattle.foundation.specs.Member.{Member};
+//! What is known of the moves of a position.
+ghost use Rattle.std.specs.Prelude.{◌≡◌, ℤ, ◌≤ℤ◌, All, IfSome, IsTrue};
 ghost use Rattle.game_line.specs.Lined.{story_of_line};
-ghost use Rattle.negamax.specs.RootFacts.{IsTrueFact, Leads, score_of};
+ghost use Rattle.evaluation.specs.Laws.{Within};
+ghost use Rattle.negamax.specs.RootFacts.{IsTrueFact, score_of};
+ghost use Rattle.negamax.specs.Windows.{Bounds};
 
-use crate::window::WORST;
+use crate::window::{BEST, WORST, Window};
 use game_line::Line;
 use rules_model::Move;
 
-/// What a search of a root move found: the move scores at most the value, and exactly the value where it is exact.
+/// What a search of a move found: it scores at least the one value and at most the other.
 #[derive(Clone, Copy)]
-pub struct RootFact {
+pub struct Fact {
     pub chosen: Move,
-    pub exact: bool,
-    pub value: i32,
+    pub least: i32,
+    pub most: i32,
 }
 
-/// The best score of the root moves, and a move that has it.
+/// The best score of the moves, and a move that has it.
 #[derive(Clone, Copy)]
 pub struct Best {
     pub value: i32,
@@ -29,74 +30,87 @@ fn are_same(a: &Move, b: &Move) -> bool
     a == b
 }
 
-fn is_root(roots: &[Move], chosen: &Move) -> bool
-    ensures { IsTrue result → Member chosen.now roots.now }
+/// The least that a value is, of which the window asked this.
+fn least_of(window: Window, asked: i32) -> i32
+    requires within { Within asked }
+    ensures least { (v : ℤ) → Within v → Bounds window.alpha window.beta asked v → result ≤ℤ v }
+    ensures within { Within result }
 {
-    for m in roots {
-        if are_same(m, chosen) {
-            return true;
-        }
-    }
-    false
+    if asked > window.alpha { asked } else { WORST }
 }
 
-/// Whether the fact says that the move scores no more than the best.
-fn covers(fact: &RootFact, chosen: &Move, best: i32) -> bool
-    ensures same { IsTrue result → fact.now.chosen ≡ chosen.now }
-    ensures low { IsTrue result → fact.now.value ≤ℤ best }
+/// The most that a value is, of which the window asked this.
+fn most_of(window: Window, asked: i32) -> i32
+    requires within { Within asked }
+    ensures most { (v : ℤ) → Within v → Bounds window.alpha window.beta asked v → v ≤ℤ result }
+    ensures within { Within result }
 {
-    are_same(&fact.chosen, chosen) && fact.value <= best
+    if asked < window.beta { asked } else { BEST }
 }
 
-/// Whether one of the facts says that the move scores no more than the best.
-pub(crate) fn is_covered(
+/// What the answer of a search within the window says of the move's score.
+pub(crate) fn fact_of(
     line: &Line,
     depth: u8,
-    facts: &[RootFact],
+    ply: u8,
     chosen: &Move,
-    best: i32,
-) -> bool
-    requires { All (IsTrueFact line.now.rules depth (story_of_line line.now)) facts.now }
-    ensures { IsTrue result → score_of line.now.rules depth (story_of_line line.now) chosen.now ≤ℤ best }
+    window: Window,
+    score: i32,
+) -> Fact
+    requires within { Within score }
+    requires bounds { Bounds window.alpha window.beta score
+        (score_of line.now.rules depth ply (story_of_line line.now) chosen.now) }
+    ensures fact { IsTrueFact line.now.rules depth ply (story_of_line line.now) result }
+    ensures chosen { result.chosen ≡ chosen.now }
+{
+    Fact {
+        chosen: *chosen,
+        least: least_of(window, score),
+        most: most_of(window, score),
+    }
+}
+
+/// What the window asks of the move's score, if the fact is of that move and says it.
+fn says(line: &Line, depth: u8, ply: u8, fact: &Fact, chosen: &Move, window: Window) -> Option<i32>
+    requires { IsTrueFact line.now.rules depth ply (story_of_line line.now) fact.now }
+    ensures bounds { IfSome result (λ score. Bounds window.alpha window.beta score
+        (score_of line.now.rules depth ply (story_of_line line.now) chosen.now)) }
+    ensures within { IfSome result Within }
+{
+    if !are_same(&fact.chosen, chosen) {
+        return None;
+    }
+    if fact.most <= window.alpha {
+        return Some(fact.most);
+    }
+    if fact.least >= window.beta {
+        return Some(fact.least);
+    }
+    if fact.least == fact.most {
+        return Some(fact.most);
+    }
+    None
+}
+
+/// What the window asks of the move's score, where one of the facts says it.
+pub(crate) fn known_score(
+    line: &Line,
+    depth: u8,
+    ply: u8,
+    facts: &[Fact],
+    chosen: &Move,
+    window: Window,
+) -> Option<i32>
+    requires { All (IsTrueFact line.now.rules depth ply (story_of_line line.now)) facts.now }
+    ensures bounds { IfSome result (λ score. Bounds window.alpha window.beta score
+        (score_of line.now.rules depth ply (story_of_line line.now) chosen.now)) }
+    ensures within { IfSome result Within }
 {
     for fact in facts {
-        if covers(fact, chosen, best) {
-            return true;
+        let said = says(line, depth, ply, fact, chosen, window);
+        if said.is_some() {
+            return said;
         }
     }
-    false
-}
-
-/// The better of the best so far and of a fact, if that is exact and of a root move.
-fn with_fact(line: &Line, depth: u8, roots: &[Move], fact: &RootFact, best: Best) -> Best
-    requires known { IsTrueFact line.now.rules depth (story_of_line line.now) fact.now }
-    requires leads { Leads line.now.rules depth (story_of_line line.now) roots.now 0 best.value best.chosen }
-    ensures { Leads line.now.rules depth (story_of_line line.now) roots.now 0 result.value result.chosen }
-{
-    if !fact.exact || fact.value <= best.value {
-        return best;
-    }
-    if !is_root(roots, &fact.chosen) {
-        return best;
-    }
-    Best {
-        value: fact.value,
-        chosen: fact.chosen,
-    }
-}
-
-/// The best of the exact facts of root moves, or the first root move and less than it can score.
-pub(crate) fn best_known(line: &Line, depth: u8, roots: &[Move], facts: &[RootFact]) -> Best
-    requires some { 0 < length roots.now }
-    requires known { All (IsTrueFact line.now.rules depth (story_of_line line.now)) facts.now }
-    ensures { Leads line.now.rules depth (story_of_line line.now) roots.now 0 result.value result.chosen }
-{
-    let mut best = Best {
-        value: WORST,
-        chosen: roots[0],
-    };
-    for fact in facts {
-        best = with_fact(line, depth, roots, fact, best);
-    }
-    best
+    None
 }

@@ -1,5 +1,5 @@
 //! The exact value of a game at a depth, by negamax with windows (Knuth and Moore, "An analysis of alpha-beta pruning",
-//! 1975): the recursion, the search of one root move, and what the facts of root moves come to.
+//! 1975): the recursion, the search of one move, and what the facts of moves come to.
 //!
 //! The value is that of `evaluation`: plain negamax over the whole history, with a search of captures at the end of
 //! each line. Windows, hints and the order of moves change how many nodes are entered and nothing else.
@@ -15,7 +15,10 @@ mod search;
 mod search_state;
 mod window;
 
-pub use facts::{Best, RootFact};
-pub use move_order::{aspiration_floor, root_rank};
-pub use root::{combine, search_root};
+pub use ends::end_where;
+pub use facts::{Best, Fact};
+pub use move_order::root_rank;
+pub use root::{combine, score_move, search_move};
+pub use search::value_within;
 pub use search_state::SearchState;
+pub use window::Window;

@@ -171,29 +171,6 @@ pub(crate) fn better(slot: Slot, m: &Move, floor: i32, answered: i32) -> Slot {
     }
 }
 
-/// What is added to the key of a root, so that its value at even depths and at odd ones stands in words of its own:
-/// values swing from one depth to the next.
-const PARITIES: [u64; 2] = [0x9e37_79b9_7f4a_7c15, 0x3c6e_f372_fe94_f82b];
-
-/// The key under which the value of a root is left.
-pub(crate) fn root_key(key: u64, depth: u8) -> u64 {
-    key.wrapping_add(PARITIES[(depth % 2) as usize])
-}
-
-/// How far a root's value may fall in two depths, and the guess for it still is below it.
-const MARGIN: i32 = 40;
-
-/// A guess that is somewhat below the value of the position at the depth, from what it was worth two depths before; or
-/// `None`.
-pub fn aspiration_floor(board: &Board, hints: &HintTable, depth: u8) -> Option<i32> {
-    let hint = hints.get(root_key(board.key(), depth))?;
-    if hint.depth < depth && depth - hint.depth == 2 {
-        Some(i32::from(hint.bound) - MARGIN)
-    } else {
-        None
-    }
-}
-
 /// What the position seems worth to the side to move: by a hint for it, or at a glance.
 fn guessed_value(board: &Board, hints: &HintTable) -> i32 {
     match hints.get(board.key()) {

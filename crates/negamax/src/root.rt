@@ -1,102 +1,174 @@
-//! Moves at the root.
-ghost use Rattle.std.specs.Prelude.{◌≡◌, ◌+◌, ◌<◌, ◌≤◌, ◌<ℤ◌, true, All, length, sum_by, IfOk, OnOk, IsErrOf};
+//! Moves of a position, one by one, and the best of them.
+ghost use Rattle.std.specs.Prelude.{◌≡◌, ◌⊎◌, ◌+◌, ◌≤◌, ℤ, ◌<ℤ◌, ◌≤ℤ◌, All, length, sum_by, IfOk, OnOk, IsErrOf};
+ghost use Rattle.std.specs.Int.{int_max};
 ghost use Rattle.foundation.specs.Member.{Member};
 ghost use Rattle.game_line.specs.Lined.{legal_in, story_of_line};
 ghost use Rattle.evaluation.specs.Laws.{Within};
-ghost use Rattle.evaluation.specs.Values.{Attains, value_of};
+ghost use Rattle.evaluation.specs.Values.{greatest};
 ghost use Rattle.watching.specs.declared.halt.Halt.{Halt};
-ghost use Rattle.negamax.specs.RootFacts.{IsTrueFact, Settles, root_tree};
+ghost use Rattle.negamax.specs.RootFacts.{Chooses, IsTrueFact, Settles, root_tree, score_of};
+ghost use Rattle.negamax.specs.Windows.{Bounds};
 
-use crate::ends::{piece_values_of, play};
-use crate::facts::{Best, RootFact, best_known, is_covered};
-use crate::search::search;
+use crate::facts::{Best, Fact, fact_of, known_score};
+use crate::search::value_within;
 use crate::search_state::SearchState;
 use crate::window::Window;
 use game_line::Line;
 use rules_model::Move;
 use watching::{Halt, Watch};
 
-/// Searches one root move at a depth from 1 to 64, and asks only how far it is above the floor, which may be any
-/// number: a value above it is exact. The line needs room for the depth and four moves more.
+/// What the window asks of the score of one move at a depth from 1 to 64, at a number of plies from the root. The line
+/// needs room for the depth and four moves more.
 ///
 /// # Errors
 ///
 /// What ended the watch; nothing is said then of the line and the search state.
-pub fn search_root<W: Watch>(
+pub fn score_move<W: Watch>(
     line: &mut Line,
     state: &mut SearchState,
     watch: &mut W,
     depth: u8,
+    ply: u8,
     chosen: &Move,
-    floor: i32,
-) -> Result<RootFact, Halt>
+    window: Window,
+) -> Result<i32, Halt>
     requires least { 1 ≤ depth }
-    requires most { depth ≤ 64 }
+    requires plies { ply + depth ≤ 64 }
     requires room { length line.old.moves + depth + 4 ≤ line.old.room }
     requires legal { Member chosen.now (legal_in line.old) }
-    ensures fact { IfOk result (λ fact. IsTrueFact line.old.rules depth (story_of_line line.old) fact) }
-    ensures chosen { IfOk result (λ fact. fact.chosen ≡ chosen.now) }
-    ensures exact { IfOk result (λ fact. floor <ℤ fact.value → fact.exact ≡ true) }
+    ensures bounds { IfOk result (λ score. Bounds window.alpha window.beta score
+        (score_of line.old.rules depth ply (story_of_line line.old) chosen.now)) }
+    ensures within { IfOk result Within }
     ensures gone { OnOk result
         (W.gone watch.old watch.new (root_tree line.old.rules depth (story_of_line line.old) chosen.now)) }
     ensures ended { (why : Halt) → IsErrOf result why
         → W.ended watch.old watch.new (root_tree line.old.rules depth (story_of_line line.old) chosen.now) why }
     ensures kept { OnOk result (line.new ≡ line.old) }
 {
-    state.clear();
-    let values = piece_values_of(line);
-    let tally = values.tally(line.board().position());
-    let window = Window::above(floor);
-    let next = play(line, &values, tally, chosen);
-    let found = search(line, &values, state, watch, next, depth - 1, 1, window)?;
+    line.push(chosen);
+    let found = value_within(line, state, watch, depth - 1, ply + 1, window.turned())?;
     line.back();
-    Ok(RootFact {
-        chosen: *chosen,
-        exact: found < window.beta,
-        value: -found,
-    })
+    Ok(-found)
 }
 
-/// Settles one root move: it is covered by a fact, or searched.
+/// Searches one move at a depth from 1 to 64, at a number of plies from the root, and tells what the answer within the
+/// window says of it. The line needs room for the depth and four moves more.
+///
+/// # Errors
+///
+/// What ended the watch; nothing is said then of the line and the search state.
+pub fn search_move<W: Watch>(
+    line: &mut Line,
+    state: &mut SearchState,
+    watch: &mut W,
+    depth: u8,
+    ply: u8,
+    chosen: &Move,
+    window: Window,
+) -> Result<Fact, Halt>
+    requires least { 1 ≤ depth }
+    requires plies { ply + depth ≤ 64 }
+    requires room { length line.old.moves + depth + 4 ≤ line.old.room }
+    requires legal { Member chosen.now (legal_in line.old) }
+    ensures fact { IfOk result (λ fact. IsTrueFact line.old.rules depth ply (story_of_line line.old) fact) }
+    ensures chosen { IfOk result (λ fact. fact.chosen ≡ chosen.now) }
+    ensures gone { OnOk result
+        (W.gone watch.old watch.new (root_tree line.old.rules depth (story_of_line line.old) chosen.now)) }
+    ensures ended { (why : Halt) → IsErrOf result why
+        → W.ended watch.old watch.new (root_tree line.old.rules depth (story_of_line line.old) chosen.now) why }
+    ensures kept { OnOk result (line.new ≡ line.old) }
+{
+    let score = score_move(line, state, watch, depth, ply, chosen, window)?;
+    Ok(fact_of(line, depth, ply, chosen, window, score))
+}
+
+/// What the window asks of the score of one move: what a fact says, or what a search does.
+fn score_in<W: Watch>(
+    line: &mut Line,
+    state: &mut SearchState,
+    watch: &mut W,
+    depth: u8,
+    ply: u8,
+    chosen: &Move,
+    facts: &[Fact],
+    window: Window,
+) -> Result<i32, Halt>
+    requires least { 1 ≤ depth }
+    requires plies { ply + depth ≤ 64 }
+    requires room { length line.old.moves + depth + 4 ≤ line.old.room }
+    requires legal { Member chosen.now (legal_in line.old) }
+    requires known { All (IsTrueFact line.old.rules depth ply (story_of_line line.old)) facts.now }
+    ensures bounds { IfOk result (λ score. Bounds window.alpha window.beta score
+        (score_of line.old.rules depth ply (story_of_line line.old) chosen.now)) }
+    ensures within { IfOk result Within }
+    ensures gone { OnOk result
+        (W.gone watch.old watch.new (root_tree line.old.rules depth (story_of_line line.old) chosen.now)) }
+    ensures ended { (why : Halt) → IsErrOf result why
+        → W.ended watch.old watch.new (root_tree line.old.rules depth (story_of_line line.old) chosen.now) why }
+    ensures kept { OnOk result (line.new ≡ line.old) }
+{
+    match known_score(line, depth, ply, facts, chosen, window) {
+        Some(score) => Ok(score),
+        None => score_move(line, state, watch, depth, ply, chosen, window),
+    }
+}
+
+/// The better of the best so far and of a move, of whose score the window above the best asked this.
+fn better_of(best: Best, chosen: &Move, floor: i32, score: i32) -> Best
+    requires low { best.value ≤ℤ floor }
+    ensures value { result.value ≡ int_max best.value score }
+    ensures chosen { ((result.chosen ≡ best.chosen) × (result.value ≤ℤ floor))
+        ⊎ ((result.chosen ≡ chosen.now) × (floor <ℤ result.value) × (result.value ≡ score)) }
+{
+    if score > floor {
+        Best {
+            value: score,
+            chosen: *chosen,
+        }
+    } else {
+        Best {
+            value: best.value.max(score),
+            chosen: best.chosen,
+        }
+    }
+}
+
+/// Settles one move: a fact says enough of it, or it is searched.
 fn settle<W: Watch>(
     line: &mut Line,
     state: &mut SearchState,
     watch: &mut W,
     depth: u8,
+    ply: u8,
     chosen: &Move,
-    facts: &[RootFact],
+    facts: &[Fact],
+    window: Window,
     best: Best,
 ) -> Result<Best, Halt>
     requires least { 1 ≤ depth }
-    requires most { depth ≤ 64 }
+    requires plies { ply + depth ≤ 64 }
     requires room { length line.old.moves + depth + 4 ≤ line.old.room }
     requires legal { Member chosen.now (legal_in line.old) }
     requires within { Within best.value }
-    requires known { All (IsTrueFact line.old.rules depth (story_of_line line.old)) facts.now }
-    ensures settles { IfOk result
-        (λ after. Settles line.old.rules depth (story_of_line line.old) chosen.now best after) }
+    requires known { All (IsTrueFact line.old.rules depth ply (story_of_line line.old)) facts.now }
+    ensures settles { IfOk result (λ after.
+        Settles line.old.rules depth ply (story_of_line line.old) window.alpha window.beta chosen.now best after) }
     ensures gone { OnOk result
         (W.gone watch.old watch.new (root_tree line.old.rules depth (story_of_line line.old) chosen.now)) }
     ensures ended { (why : Halt) → IsErrOf result why
         → W.ended watch.old watch.new (root_tree line.old.rules depth (story_of_line line.old) chosen.now) why }
     ensures kept { OnOk result (line.new ≡ line.old) }
 {
-    if is_covered(line, depth, facts, chosen, best.value) {
+    if best.value >= window.beta {
         return Ok(best);
     }
-    let fact = search_root(line, state, watch, depth, chosen, best.value)?;
-    if best.value < fact.value {
-        Ok(Best {
-            value: fact.value,
-            chosen: *chosen,
-        })
-    } else {
-        Ok(best)
-    }
+    let asked = window.above(best.value);
+    let score = score_in(line, state, watch, depth, ply, chosen, facts, asked)?;
+    Ok(better_of(best, chosen, asked.alpha, score))
 }
 
-/// The value over the root moves and a move that attains it, whatever windows the facts are from. Root moves of which
-/// the facts do not say enough are searched.
+/// The best of the moves and of a best before them, as far as the window asks, whatever windows the facts are from.
+/// Moves of which the facts do not say enough are searched.
 ///
 /// # Errors
 ///
@@ -106,29 +178,33 @@ pub fn combine<W: Watch>(
     state: &mut SearchState,
     watch: &mut W,
     depth: u8,
-    roots: &[Move],
-    facts: &[RootFact],
+    ply: u8,
+    moves: &[Move],
+    facts: &[Fact],
+    window: Window,
+    first: Best,
 ) -> Result<Best, Halt>
     requires least { 1 ≤ depth }
-    requires most { depth ≤ 64 }
+    requires plies { ply + depth ≤ 64 }
     requires room { length line.old.moves + depth + 4 ≤ line.old.room }
-    requires some { 0 < length roots.now }
-    requires legal { All (λ m. Member m (legal_in line.old)) roots.now }
-    requires known { All (IsTrueFact line.old.rules depth (story_of_line line.old)) facts.now }
-    ensures value { IfOk result
-        (λ best. best.value ≡ value_of line.old.rules depth (story_of_line line.old) roots.now) }
-    ensures attains { IfOk result (λ best.
-        Attains line.old.rules depth (story_of_line line.old) roots.now best.value best.chosen) }
+    requires legal { All (λ m. Member m (legal_in line.old)) moves.now }
+    requires within { Within first.value }
+    requires known { All (IsTrueFact line.old.rules depth ply (story_of_line line.old)) facts.now }
+    ensures bounds { IfOk result (λ best. (v : ℤ) → Bounds window.alpha window.beta first.value v
+        → Bounds window.alpha window.beta best.value
+        (greatest v (score_of line.old.rules depth ply (story_of_line line.old)) moves.now)) }
+    ensures within { IfOk result (λ best. Within best.value) }
+    ensures chosen { IfOk result
+        (Chooses line.old.rules depth ply (story_of_line line.old) window.alpha moves.now first) }
     ensures gone { OnOk result (W.gone watch.old watch.new
-        (sum_by (root_tree line.old.rules depth (story_of_line line.old)) roots.now)) }
+        (sum_by (root_tree line.old.rules depth (story_of_line line.old)) moves.now)) }
     ensures ended { (why : Halt) → IsErrOf result why → W.ended watch.old watch.new
-        (sum_by (root_tree line.old.rules depth (story_of_line line.old)) roots.now) why }
+        (sum_by (root_tree line.old.rules depth (story_of_line line.old)) moves.now) why }
     ensures kept { OnOk result (line.new ≡ line.old) }
 {
-    let mut best = best_known(line, depth, roots, facts);
-    for m in roots {
-        best = settle(line, state, watch, depth, m, facts, best)?;
+    let mut best = first;
+    for m in moves {
+        best = settle(line, state, watch, depth, ply, m, facts, window, best)?;
     }
-    state.leave_root(line.key(), depth, &best);
     Ok(best)
 }

@@ -7,7 +7,7 @@ ghost use Rattle.evaluation.specs.Values.{play, tree_size, value};
 ghost use Rattle.watching.specs.declared.halt.Halt.{Halt};
 ghost use Rattle.negamax.specs.Windows.{Bounds};
 
-use crate::ends::{end_where, play};
+use crate::ends::{end_where, piece_values_of, play};
 use crate::move_order::better;
 use crate::quiescence::quiescence;
 use crate::scored_moves::take_best;
@@ -81,4 +81,35 @@ pub(crate) fn search<W: Watch>(
     let cuts = best >= window.beta;
     state.leave(line.board().position(), key, ply, hint, cuts);
     Ok(best)
+}
+
+/// What the window asks of the value of the line at a depth and at a number of plies from the root, which are together
+/// at most 70. The line needs room for the depth and four moves more.
+///
+/// # Errors
+///
+/// What ended the watch; nothing is said then of the line and the search state.
+pub fn value_within<W: Watch>(
+    line: &mut Line,
+    state: &mut SearchState,
+    watch: &mut W,
+    depth: u8,
+    ply: u8,
+    window: Window,
+) -> Result<i32, Halt>
+    requires room { length line.old.moves + depth + 4 ≤ line.old.room }
+    requires plies { ply + depth ≤ 70 }
+    ensures bounds { IfOk result (λ v. Bounds window.alpha window.beta v
+        (value (play line.old.rules) depth ply (story_of_line line.old))) }
+    ensures within { IfOk result Within }
+    ensures gone { OnOk result
+        (W.gone watch.old watch.new (tree_size line.old.rules (depth + 4) (story_of_line line.old))) }
+    ensures ended { (why : Halt) → IsErrOf result why
+        → W.ended watch.old watch.new (tree_size line.old.rules (depth + 4) (story_of_line line.old)) why }
+    ensures kept { OnOk result (line.new ≡ line.old) }
+{
+    state.clear();
+    let values = piece_values_of(line);
+    let tally = values.tally(line.board().position());
+    search(line, &values, state, watch, tally, depth, ply, window)
 }

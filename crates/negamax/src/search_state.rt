@@ -9,7 +9,7 @@ ghost use Rattle.watching.specs.declared.halt.Halt.TheVariants as halt;
 ghost use Rattle.negamax.specs.Trials.{captures_in, Copies, Pushes};
 
 use crate::facts::Best;
-use crate::move_order::{MoveOrder, mvv_lva, root_key};
+use crate::move_order::{MoveOrder, mvv_lva};
 use crate::scored_moves::ScoredMove;
 use evaluation::PieceValues;
 use foundation::Memory;
@@ -59,11 +59,10 @@ impl<'h> SearchState<'h> {
         }
     }
 
-    /// Leaves in the table what a root came to.
-    pub(crate) fn leave_root(&self, key: u64, depth: u8, best: &Best) {
-        let hint = hint_of(depth, slot_of(&best.chosen), best.value);
-        self.hints.put(key, hint);
-        self.hints.put(root_key(key, depth), hint);
+    /// Leaves in the table what the position of the key came to at a depth.
+    pub fn leave_best(&self, key: u64, depth: u8, best: &Best) {
+        self.hints
+            .put(key, hint_of(depth, slot_of(&best.chosen), best.value));
     }
 
     /// No move waits.

@@ -1,5 +1,5 @@
 //! Tests of `negamax`.
-ghost use Rattle.std.specs.Prelude.{◌≤◌, All, IfOk};
+ghost use Rattle.std.specs.Prelude.{◌+◌, ◌<◌, ◌≤◌, All, IfOk, length};
 ghost use Rattle.foundation.specs.Member.{Member};
 ghost use Rattle.game_line.specs.Lined.{legal_in};
 ghost use Rattle.rules_model.specs.Fit.{IsFit};
@@ -9,7 +9,7 @@ use foundation::Memory;
 use game_line::Line;
 use game_play::Game;
 use hint_table::HintTable;
-use negamax::{Best, SearchState, combine, search_root};
+use negamax::{Best, SearchState, Window, combine, score_move, search_move};
 use rules_model::{Move, MoveList, Position, Promo, Rules, sound};
 use sample_rules::{capablanca, chess, position, square, xiangqi};
 use std::alloc::Global;
@@ -69,15 +69,30 @@ fn search_all<R: Abort>(
         panic!(rt; "no memory");
     };
     assert!(rt; roots.items.len() > 0);
-    let best = combine(
-        &mut line,
-        &mut state,
-        &mut watch,
-        depth,
-        roots.items.as_slice(),
-        &[],
-    );
+    let best = best_of(&mut line, &mut state, &mut watch, depth, &roots);
     (best, watch.nodes())
+}
+
+/// The best of the moves at a depth, the first of them searched alone.
+fn best_of(
+    line: &mut Line,
+    state: &mut SearchState,
+    watch: &mut Helper,
+    depth: u8,
+    roots: &MoveList,
+) -> Result<Best, Halt>
+    requires least { 1 ≤ depth }
+    requires most { depth ≤ 9 }
+    requires room { length line.old.moves + depth + 4 ≤ line.old.room }
+    requires legal { All (λ m. Member m (legal_in line.old)) roots.now }
+    requires some { 0 < length roots.now }
+{
+    let open = Window::open();
+    let chosen = roots.items[0];
+    let value = score_move(line, state, watch, depth, 0, &chosen, open)?;
+    let first = Best { value, chosen };
+    let others = &roots.items[1..];
+    combine(line, state, watch, depth, 0, others, &[], open, first)
 }
 
 /// Asserts what the game is worth at the first three depths.
@@ -128,31 +143,40 @@ fn a_watch_ends_a_search(rt: HostRuntime) {
     expect_eq(&rt, nodes, 100);
 }
 
-/// What a search of the root move above the floor answers: whether it is exact, and its value.
-fn fact_above<R: Abort>(
+/// What a search of the move above the floor and below the roof says: the least and the most that it scores.
+fn fact_between<R: Abort>(
     rt: &R,
     alloc: Global,
     game: &Game,
     chosen: &Move,
     floor: i32,
-) -> (bool, i32) {
+    roof: i32,
+) -> (i32, i32) {
     let hints = HintTable::new(alloc, 1000).expect(rt, "no fault");
     let flag = StopFlag::new();
     let mut watch = Helper::new(&flag, None);
     let mut line = Line::new(alloc, game, 20).expect(rt, "no fault");
     let mut state = SearchState::new(alloc, &hints).expect(rt, "no fault");
     assert!(rt; line.board().is_legal(chosen));
-    let fact = search_root(&mut line, &mut state, &mut watch, 2, chosen, floor);
-    fact.map_or((false, 0), |fact| (fact.exact, fact.value))
+    let window = Window::between(floor, roof);
+    let fact = search_move(&mut line, &mut state, &mut watch, 2, 0, chosen, window);
+    fact.map_or((0, 0), |fact| (fact.least, fact.most))
 }
 
 #[test]
-fn facts_above_floors(rt: HostRuntime) {
+fn facts_within_windows(rt: HostRuntime) {
     let game = game(&rt, rt.alloc(), &chess(), &position("Kg1 kg8 Qd1 rd8"), "");
     let takes = go("d1-d8");
     // the queen is worth 800, and 12 more on d8
-    for (floor, exact) in [(i32::MIN, true), (811, true), (812, false)] {
-        let fact = fact_above(&rt, rt.alloc(), &game, &takes, floor);
-        expect_of(&rt, &floor, fact == (exact, 812));
+    let rows = [
+        (i32::MIN, i32::MAX, (812, 812)),
+        (811, 813, (812, 812)),
+        (811, 812, (812, 32_001)),
+        (812, 813, (-32_001, 812)),
+        (812, i32::MAX, (-32_001, 812)),
+    ];
+    for (floor, roof, says) in rows {
+        let fact = fact_between(&rt, rt.alloc(), &game, &takes, floor, roof);
+        expect_of(&rt, &floor, fact == says);
     }
 }

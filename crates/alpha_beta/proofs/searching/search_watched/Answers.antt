@@ -19,28 +19,15 @@ returns-in_err-tried-clause-ended g c why is =
     let a = c.args.watch.now in
     subst (λ (w : Halt). g.W.Watch.ended a a n w) same (g.met.W.Watch.memory a a n (g.met.W.Watch.wider a a 0 n (g.met.W.Watch.none a) le))
 
-pub returns-in_err-shared-clause-ended : goal.returns-in_err-shared-clause-ended
-returns-in_err-shared-clause-ended g c why is =
-    let same : halt.Fault fault.Memory ≡ why = search rules in
-    let n : ℕ = bound_of c.args.game.now c.args.depth in
-    let le : 0 ≤ n = omega arith in
-    let a = c.args.watch.now in
-    subst (λ (w : Halt). g.W.Watch.ended a a n w) same (g.met.W.Watch.memory a a n (g.met.W.Watch.wider a a 0 n (g.met.W.Watch.none a) le))
-
-pub search_by-requires-clause-plan : goal.search_by-requires-clause-plan
-search_by-requires-clause-plan g c κs within =
+pub search_by-requires-clause-legal : goal.search_by-requires-clause-legal
+search_by-requires-clause-legal g c =
     let game = c.args.game.now in
     let roots = c.as_slice.result.now in
     let d : AreDistinct c.args.roots.now roots = subst (λ (ms : List Move). AreDistinct c.args.roots.now ms) (sym c.as_slice.ensures.value) c.in_ok-tried.ensures in
-    record {
-      least = c.requires.least;
-      most = c.requires.most;
-      legal = legal-distinct c.args.roots.now roots d game.rules c.args.depth (story game) c.requires.legal;
-    }
+    legal-distinct c.args.roots.now roots d game.rules c.args.depth (story game) c.requires.legal
 
 pub search_by-requires-clause-some : goal.search_by-requires-clause-some
-search_by-requires-clause-some g c κs within =
-    let game = c.args.game.now in
+search_by-requires-clause-some g c =
     let roots = c.as_slice.result.now in
     let d : AreDistinct c.args.roots.now roots = subst (λ (ms : List Move). AreDistinct c.args.roots.now ms) (sym c.as_slice.ensures.value) c.in_ok-tried.ensures in
     distinct-some c.args.roots.now roots d c.requires.some

@@ -1,35 +1,42 @@
-use Rattle.std.proofs.Common.{refl, arith}
-use Rattle.std.specs.Prelude.{◌<ℤ◌}
-use Rattle.std.proofs.lemmas.Int.{ints}
+use Rattle.std.proofs.Common.{sym, arith}
+use Rattle.std.specs.Prelude.{◌≤ℤ◌}
+use Rattle.std.proofs.lemmas.Int.{ints, clamps}
 use Rattle.game_line.specs.Lined.{story_of_line}
 use mir.Val.{to_z, of_z}
 use mir.Syntax.{w32}
 use Rattle.negamax.proofs.HaltLaws.{halted}
-use Rattle.negamax.proofs.RootLaws.{settles_not, settles_up}
-use Rattle.negamax.proofs.WindowLaws.{not_below}
+use Rattle.negamax.proofs.RootLaws.{settles_asked, settles_cut}
+use Rattle.negamax.proofs.WindowLaws.{reframe}
 use Rattle.negamax.proofs.root.settle.Goals as goal
 
-pub returns-then-is_covered-clause-gone : goal.returns-then-is_covered-clause-gone
-returns-then-is_covered-clause-gone g c = g.met.W.Watch.wider _ _ _ _ (g.met.W.Watch.none c.args.watch.now) (omega arith)
+pub returns-then-best-window-clause-gone : goal.returns-then-best-window-clause-gone
+returns-then-best-window-clause-gone g c = g.met.W.Watch.wider _ _ _ _ (g.met.W.Watch.none c.args.watch.now) (omega arith)
 
-pub returns-in_err-fact-clause-ended : goal.returns-in_err-fact-clause-ended
-returns-in_err-fact-clause-ended g c why is =
-    c.search_root.ensures.ended why (halted c.search_root.result c.from_residual.result _ why c.in_err-fact.was c.from_residual.ensures.1 is)
+pub returns-then-best-window-clause-settles : goal.returns-then-best-window-clause-settles
+returns-then-best-window-clause-settles g c =
+    let l = c.requires.within.least in let u = c.requires.within.most in
+    let test = c.if-best-window.true in
+    let high : c.args.window.beta ≤ℤ c.args.best.value = grind (arith, ints, test) in
+    settles_cut c.args.line.now.rules c.args.depth c.args.ply (story_of_line c.args.line.now) c.args.window.alpha c.args.window.beta c.args.chosen.now c.args.best
+    c.requires.within c.args.window.wide high
 
-pub returns-then-best-fact-clause-settles : goal.returns-then-best-fact-clause-settles
-returns-then-best-fact-clause-settles g c =
-    let fact = c.in_ok-fact.ensures in
-    let least = fact.fact.within.least in let most = fact.fact.within.most in
-    let low = c.requires.within.least in let high = c.requires.within.most in
-    let test = c.if-best-fact.true in
-    let up : c.args.best.value <ℤ c.in_ok-fact.fact.value = grind (arith, ints, test) in
-    settles_up c.args.line.now.rules c.args.depth (story_of_line c.args.line.now) c.args.chosen.now c.args.best _ c.in_ok-fact.fact fact.fact fact.chosen
-    (λ h. fact.exact (omega (arith, ints))) up (omega (arith, ints))
+pub returns-in_err-score-clause-ended : goal.returns-in_err-score-clause-ended
+returns-in_err-score-clause-ended g c why is =
+    c.score_in.ensures.ended why (halted c.score_in.result c.from_residual.result _ why c.in_err-score.was c.from_residual.ensures.1 is)
 
-pub returns-else-best-fact-clause-settles : goal.returns-else-best-fact-clause-settles
-returns-else-best-fact-clause-settles g c =
-    let fact = c.in_ok-fact.ensures in
-    let least = fact.fact.within.least in let most = fact.fact.within.most in
-    let low = c.requires.within.least in let high = c.requires.within.most in
-    settles_not c.args.line.now.rules c.args.depth (story_of_line c.args.line.now) c.args.chosen.now c.args.best c.args.best c.in_ok-fact.fact fact.fact fact.chosen
-    (not_below (to_z w32 (of_z w32 c.args.best.value)) (to_z w32 (of_z w32 c.in_ok-fact.fact.value)) c.args.best.value c.in_ok-fact.fact.value c.if-best-fact.false (omega (arith, ints)) (omega (arith, ints))) refl
+pub better_of-requires : goal.better_of-requires
+better_of-requires g c =
+    let l = c.requires.within.least in let u = c.requires.within.most in
+    let is = c.above-asked.ensures.alpha in
+    record { low = omega (arith, ints, clamps) }
+
+pub returns-clause-settles : goal.returns-clause-settles
+returns-clause-settles g c =
+    let told = c.in_ok-score.ensures in let asked = c.above-asked.result in
+    let l1 = c.requires.within.least in let u1 = c.requires.within.most in let l2 = told.within.least in let u2 = told.within.most in
+    let floor = asked.floor in let wide = asked.wide in let roof = asked.roof in
+    let is = c.above-asked.ensures.alpha in let value = c.better_of.ensures.value in
+    settles_asked c.args.line.now.rules c.args.depth c.args.ply (story_of_line c.args.line.now) c.args.window.alpha c.args.window.beta c.args.chosen.now
+    c.args.best c.better_of.result (to_z w32 (of_z w32 asked.alpha)) (to_z w32 (of_z w32 c.in_ok-score.score)) c.requires.within
+    (record { least = omega (arith, ints); most = omega (arith, ints) }) (omega (arith, ints, clamps, is))
+    (reframe _ _ _ _ _ _ _ told.bounds (omega (arith, ints)) (sym c.above-asked.ensures.beta) (omega (arith, ints))) (omega (arith, ints, clamps, value)) c.better_of.ensures.chosen

@@ -1,5 +1,0 @@
-use Rattle.alpha_beta.specs.Workers.{AreTrueFacts}
-use Rattle.alpha_beta.proofs.searching.gather.Given as goal
-
-abbrev pub invariant-loop-job : goal.invariant-loop-job
-invariant-loop-job g l = AreTrueFacts l.plan.game.now l.plan.depth l.facts.items
