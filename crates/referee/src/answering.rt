@@ -24,7 +24,7 @@ pub enum Reply {
 
 // Nothing but memory can be missing, since the source never fails and there is no sink.
 fn said(answer: Result<Answer, Stop>) -> Result<Reply, Memory>
-    ensures { IsSaid answer.entry result }
+    ensures { IsSaid answer result }
 {
     match answer {
         Ok(answer) => Ok(Reply::Said(answer)),

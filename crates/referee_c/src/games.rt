@@ -30,7 +30,7 @@ fn keep(alloc: Global, game: &mut HeldGame, kept: Game) -> Reply
 
 // The text of a game, where there was memory for it.
 fn told(text: Result<Text, Memory>, room: &mut [u8]) -> Reply
-    ensures { IsTold text.entry room.old room.new result }
+    ensures { IsTold text room.old room.new result }
 {
     match text {
         Ok(text) => write(0, text.items.as_slice(), room),
