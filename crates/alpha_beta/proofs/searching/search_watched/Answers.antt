@@ -20,14 +20,14 @@ returns-in_err-tried-clause-ended g c why is =
     subst (λ (w : Halt). g.W.Watch.ended a a n w) same (g.met.W.Watch.memory a a n (g.met.W.Watch.wider a a 0 n (g.met.W.Watch.none a) le))
 
 pub search_by-requires-clause-legal : goal.search_by-requires-clause-legal
-search_by-requires-clause-legal g c =
+search_by-requires-clause-legal g c = λ κs holds.
     let game = c.args.game.now in
     let roots = c.as_slice.result.now in
     let d : AreDistinct c.args.roots.now roots = subst (λ (ms : List Move). AreDistinct c.args.roots.now ms) (sym c.as_slice.ensures.value) c.in_ok-tried.ensures in
     legal-distinct c.args.roots.now roots d game.rules c.args.depth (story game) c.requires.legal
 
 pub search_by-requires-clause-some : goal.search_by-requires-clause-some
-search_by-requires-clause-some g c =
+search_by-requires-clause-some g c = λ κs holds.
     let roots = c.as_slice.result.now in
     let d : AreDistinct c.args.roots.now roots = subst (λ (ms : List Move). AreDistinct c.args.roots.now ms) (sym c.as_slice.ensures.value) c.in_ok-tried.ensures in
     distinct-some c.args.roots.now roots d c.requires.some
