@@ -1,5 +1,5 @@
 -- A game that is kept.
-use Rattle.std.specs.Prelude.{◌≡◌, ◌⊎◌, ℕ, List, [], Option, Some, None, Result, Ok, Err, ⊤, ⊥}
+use Rattle.std.specs.Prelude.{◌≡◌, ◌⊎◌, ℕ, List, [], Option, Some, None, Result, Ok, Err, ⊤}
 use Rattle.io_ports.specs.Files.{Read}
 use Rattle.io_ports.specs.Lines.{Line, lines_of}
 use Rattle.variant_ini.specs.Section.{Section}

@@ -1,5 +1,5 @@
 -- What the referee answers.
-use Rattle.std.specs.Prelude.{◌≡◌, ℕ, List, Option, Result, Ok, Err, false, ⊤, ⊥}
+use Rattle.std.specs.Prelude.{◌≡◌, ℕ, List, Option, Result, Ok, Err, false, ⊤}
 use Rattle.io_ports.specs.Lines.{lines_of}
 use Rattle.one_shot_checks.specs.declared.stop.Stop.{Stop}
 use Rattle.one_shots.specs.Commands.{is_refereed}
