@@ -55,7 +55,8 @@ use Rattle.one_shots.specs.Shot.{Says}
 use Rattle.commands.specs.Speaking.{BeginsBuiltIn, BrokeFrom, BrokeIn, SpokeFrom, SpokeIn, Talks, ended_status}
 use Rattle.one_shots.specs.Variants.{Accepts, AreFirstReads, AreReadsOf, fault_found, fault_in, sections_in}
 use Rattle.one_shots.proofs.FileLemmas.{no_further, reads_on, same_reads}
-use Rattle.commands.proofs.RunLemmas.{decide_so, four, five, seven, may_shot, part_by, refused_first, refused_heard, refused_said, refused_says, session_says, some_reads, tells_found}
+use Rattle.one_shots.proofs.OpeningLemmas.{refused_first, refused_says}
+use Rattle.commands.proofs.RunLemmas.{decide_so, four, five, seven, may_shot, part_by, refused_heard, refused_said, session_says, some_reads, tells_found}
 use Rattle.one_shots.proofs.ShotLemmas.{done_whole, says_done, says_shot, shot_asks, shot_says}
 
 -- ---- the start of a session

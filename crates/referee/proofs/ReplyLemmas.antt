@@ -52,6 +52,11 @@ tells_reads contents file files files' is reads asks =
 
 -- ---- the replies
 
+-- what was read of these words was read of those that they are
+pub of_words : (asks : List Read → Type 0) (given words : List Text) (answer : Result Opened NoAnswer) → given ≡ words → Looked asks (λ reads. Opens (to_do given) reads answer)
+    → Looked asks (λ reads. Opens (to_do words) reads answer)
+of_words asks given words answer are looked = subst (λ (ws : List Text). Looked asks (λ reads. Opens (to_do ws) reads answer)) are looked
+
 -- where the words were read, and the file
 pub opened_replies : (words : List Text) (file : Option (List ℕ)) (input : List ℕ) (asks : List Read → Type 0) (o : Opened) (reply : Reply)
     → ((reads : List Read) → asks reads → TellsReads (Some (all_have file)) reads) → Looked asks (λ reads. Opens (to_do words) reads (Ok o)) → RepliesTo o input reply → Replies words file input reply
