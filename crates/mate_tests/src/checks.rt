@@ -3,10 +3,11 @@ ghost use Rattle.foundation.specs.Member.{Member};
 ghost use Rattle.rules_model.specs.Fit.{IsFit};
 ghost use Rattle.legality.specs.Stance as Stance;
 ghost use Rattle.check_moves.specs.Checks.{AreChecksIn};
+ghost use Rattle.check_moves.specs.Flights.{AreFlights};
 
 use crate::expect::expect_eq;
 use attack_tables::Tables;
-use check_moves::{Checks, checks_of, gives_check, may_check};
+use check_moves::{Checks, KnownFlights, checks_of, gives_check, may_check};
 use playing::Board;
 use rules_model::{Move, Position, Rules, sound};
 use sample_rules::{chess, hand_of, position, shouse, square, xiangqi};
@@ -117,4 +118,64 @@ fn cannons_and_horses_are_uncovered(rt: HostRuntime) {
 fn every_move_beside_flying_kings_is_asked(rt: HostRuntime) {
     let rules = xiangqi();
     expect(&rt, rt.alloc(), &rules, &rules.start, 44);
+}
+
+/// Whether a step of the other side's king is known to meet the legal move.
+fn is_met(board: &Board, flights: &mut KnownFlights, m: &Move) -> bool
+    requires legal { Member m.now (Stance.legal_in board.now) }
+    requires flights { AreFlights board.now flights.old }
+    ensures { AreFlights board.now flights.new }
+{
+    flights.meets(board, m)
+}
+
+/// Asserts that of White's moves this many are not known to be met by a step of the king, and that after each of the
+/// others there is a legal move.
+fn expect_unmet(rt: &impl Abort, alloc: Global, rules: &Rules, p: &Position, wanted: u32)
+    requires { IsFit rules.now }
+{
+    let tables = Tables::new(alloc, rules).expect(rt, "no fault");
+    assert!(rt; sound(tables.rules(), p));
+    let board = Board::new(&tables, p);
+    let mut flights = KnownFlights::of(&board);
+    let moves = board.legal_moves(alloc).expect(rt, "no fault");
+    let mut unmet = 0u32;
+    for m in &moves.items {
+        assert!(rt; board.is_legal(m));
+        if is_met(&board, &mut flights, m) {
+            assert!(rt; board.after(m).any_legal());
+        } else {
+            unmet = unmet.saturating_add(1);
+        }
+    }
+    expect_eq(rt, unmet, wanted);
+}
+
+/// The same in chess.
+fn expect_chess_unmet(rt: &impl Abort, alloc: Global, p: &Position, wanted: u32) {
+    expect_unmet(rt, alloc, &chess(), p, wanted);
+}
+
+// A check along the rank leaves steps off it, and every other move leaves some; where another king takes those away, one
+// move mates. A lone step is closed along its rank, and along its file without a check. A pawn promotes far from it.
+#[test]
+fn checks_that_leave_a_step_are_met(rt: HostRuntime) {
+    let alloc = rt.alloc();
+    expect_chess_unmet(&rt, alloc, &position("Ke1 Ra1 ke8"), 0);
+    expect_chess_unmet(&rt, alloc, &position("Kg6 Ra1 kg8"), 1);
+    expect_chess_unmet(&rt, alloc, &position("Kh6 Rf1 kh8"), 2);
+    expect_chess_unmet(&rt, alloc, &position("Ke1 Pa7 kh8"), 0);
+}
+
+// What is dropped leaves steps too. Where kings fly none is known.
+#[test]
+fn drops_leave_steps_and_flying_kings_have_none(rt: HostRuntime) {
+    let rules = shouse();
+    let dropping = Position {
+        hands: [hand_of(b"n"), [0; 26]],
+        ..position("Ke1 ke8")
+    };
+    expect_unmet(&rt, rt.alloc(), &rules, &dropping, 0);
+    let flying = xiangqi();
+    expect_unmet(&rt, rt.alloc(), &flying, &flying.start, 44);
 }
