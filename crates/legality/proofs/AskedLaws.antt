@@ -75,7 +75,7 @@ module _ (s : AskedSink) where
     others_left =
         let ms = others make targets targets narrow narrow asked_of (λ k e. e) (λ to. is to.0) worth_is in
         let none : (m : Move) → Member m ms → asked_by (filter_of s) m ≡ false = λ m h.
-            and_right (chosen_by s.keeper.move_filter m) (asked_of m) (not_passed make targets targets narrow narrow asked_of (λ k e. e) (λ to. is to.0) worth_is goes_there small m h) in
+        and_right (chosen_by s.keeper.move_filter m) (asked_of m) (not_passed make targets targets narrow narrow asked_of (λ k e. e) (λ to. is to.0) worth_is goes_there small m h) in
         record {
           moves = ms;
           taken = (refl, sym (ap (λ l. s.keeper.list ++ l) (none_kept (asked_by (filter_of s)) ms none) ∙ append-nil s.keeper.list));

@@ -29,15 +29,15 @@ loop-to-preserved c =
       within = λ s e. c.loop-to.invariant.within s (and_parts (has c.loop-to.left s) (not (s == to)) (sym (c.in-Some.ensures.rest s) ∙ e)).0;
       done = λ s.
           let one : has c.of_targets.result s ≡ ((s == to) && is_asked_by asked r shift s) =
-              by_equal s to (has c.of_targets.result s ≡ ((s == to) && is_asked_by asked r shift s))
-              (λ q e.
-              let from : c.origin.result ≡ origin shift s = c.origin.ensures ∙ ap (origin shift) (sym e) in
-              c.of_targets.ensures s
-              ∙ ap (λ b. b && is_asked_to asked r (record { 0 = c.origin.result }) None s) (c.with-one.ensures s ∙ rw (has-zero _ refl s) refl)
-              ∙ ap (λ o. (s == to) && is_asked_to asked r (record { 0 = o }) None s) from)
-              (λ q e. c.of_targets.ensures s
-              ∙ ap (λ b. b && is_asked_to asked r (record { 0 = c.origin.result }) None s) (c.with-one.ensures s ∙ rw (has-zero _ refl s, q) refl)
-              ∙ rw q refl) in
+          by_equal s to (has c.of_targets.result s ≡ ((s == to) && is_asked_by asked r shift s))
+          (λ q e.
+          let from : c.origin.result ≡ origin shift s = c.origin.ensures ∙ ap (origin shift) (sym e) in
+          c.of_targets.ensures s
+          ∙ ap (λ b. b && is_asked_to asked r (record { 0 = c.origin.result }) None s) (c.with-one.ensures s ∙ rw (has-zero _ refl s) refl)
+          ∙ ap (λ o. (s == to) && is_asked_to asked r (record { 0 = o }) None s) from)
+          (λ q e. c.of_targets.ensures s
+          ∙ ap (λ b. b && is_asked_to asked r (record { 0 = c.origin.result }) None s) (c.with-one.ensures s ∙ rw (has-zero _ refl s, q) refl)
+          ∙ rw q refl) in
           c.or-asked.ensures s
           ∙ next_asked (has c.args.targets s) (has c.loop-to.left s) (s == to) (is_asked_by asked r shift s) (has c.loop-to.asked s) (has c.of_targets.result s) _
           (c.loop-to.invariant.within s)
