@@ -1,15 +1,16 @@
-//! The sets of a board's pieces, and what they become once a square is written.
-ghost use Rattle.std.specs.Prelude.{◌≡◌, ℕ, ◌<◌, true, slice_set};
+//! The sets of a board's pieces, and those of a board that differs on a few squares.
+ghost use Rattle.std.specs.Prelude.{◌≡◌, ℕ, ◌<◌, true};
 ghost use Rattle.rules_model.specs.Attacks.{is_own};
 ghost use Rattle.square_set.specs.Members.{has};
 ghost use Rattle.board_sets.specs.Sets.{AreSets, AreSetsAfter, AreTurned, IsOccupiedBy, SetsStayOnBoard};
 ghost use Rattle.board_sets.specs.Sets.{HoldsPawns, HoldsPieces, is_any_pawn};
-ghost use Rattle.board_sets.specs.Written.{AreCarried, AreWith, AreWithout, IsCarried, IsWithIf};
+ghost use Rattle.board_sets.specs.Written.{AreMinus, AreWith, IsWithIf};
 
 use rules_model::attacks::is_own_king;
 use rules_model::kinds::names;
-use rules_model::{Cell, Cells, Rules, Side, Square};
-use square_set::{EMPTY, Set};
+use rules_model::sizes::prove_board_size;
+use rules_model::{Cell, Cells, Rules, Side, Square, cell_at};
+use square_set::{BOARD, EMPTY, Set};
 
 /// The squares of the pieces on a board, by whose move it is.
 #[derive(Clone, Copy, PartialEq, Eq)]
@@ -61,26 +62,12 @@ fn with_if(set: Set, at: u8, wanted: bool) -> Set
     if wanted { set.with(at) } else { set }
 }
 
-/// The set once what stands on a square has gone to another.
-fn carried(set: Set, from: u8, to: u8) -> Set
-    requires from { from < 128 }
-    requires to { to < 128 }
-    ensures { IsCarried set from to result }
-{
-    let others = set.without(from).without(to);
-    with_if(others, to, set.has(from))
-}
-
 /// The sets of a board.
 pub fn sets_of(rules: &Rules, cells: &Cells, side: Side) -> BoardSets
     ensures { AreSets rules.now side cells.now result }
 {
-    let _first = cells[0];
-    let mut sets = NONE;
-    for at in 0..120u8 {
-        sets = sets.with(rules, side, at, cells[at as usize]);
-    }
-    sets
+    prove_board_size(cells);
+    NONE.after(rules, side, cells, BOARD)
 }
 
 impl BoardSets {
@@ -120,17 +107,16 @@ impl BoardSets {
         }
     }
 
-    /// The sets without the square.
-    fn without(self, at: u8) -> BoardSets
-        requires { at < 128 }
-        ensures { AreWithout self at result }
+    /// The sets without the squares.
+    fn minus(self, squares: Set) -> BoardSets
+        ensures { AreMinus self squares result }
     {
         BoardSets {
-            own: self.own.without(at),
-            enemies: self.enemies.without(at),
-            kings: self.kings.without(at),
-            enemy_kings: self.enemy_kings.without(at),
-            pawns: self.pawns.without(at),
+            own: self.own.minus(squares),
+            enemies: self.enemies.minus(squares),
+            kings: self.kings.minus(squares),
+            enemy_kings: self.enemy_kings.minus(squares),
+            pawns: self.pawns.minus(squares),
         }
     }
 
@@ -151,30 +137,17 @@ impl BoardSets {
         }
     }
 
-    /// The sets once what stands on a square has gone to another. What it is need not be looked at.
-    pub(crate) fn carried(self, from: Square, to: Square) -> BoardSets
-        requires from { from.0 < 120 }
-        requires to { to.0 < 120 }
-        ensures { AreCarried self from.0 to.0 result }
+    /// The sets of the second board, from those of a first one that agrees with it outside the touched squares. The
+    /// first one is not looked at, and of the second no other square.
+    pub fn after(self, rules: &Rules, side: Side, next: &Cells, touched: Set) -> BoardSets
+        ensures { AreSetsAfter rules.now side touched next.now self result }
     {
-        BoardSets {
-            own: carried(self.own, from.0, to.0),
-            enemies: carried(self.enemies, from.0, to.0),
-            kings: carried(self.kings, from.0, to.0),
-            enemy_kings: carried(self.enemy_kings, from.0, to.0),
-            pawns: carried(self.pawns, from.0, to.0),
+        let mut sets = self.minus(touched);
+        let mut left = touched;
+        while let Some(at) = left.take_first() {
+            sets = sets.with(rules, side, at, cell_at(next, Square(at)));
         }
-    }
-
-    /// The sets once this stands on the square.
-    pub fn put(self, rules: &Rules, side: Side, at: Square, cell: Option<Cell>) -> BoardSets
-        ensures { AreSetsAfter rules.now side self (λ cells. slice_set cells at.0 cell) result }
-    {
-        if at.0 < 120 {
-            self.without(at.0).with(rules, side, at.0, cell)
-        } else {
-            self
-        }
+        sets
     }
 }
 

@@ -1,24 +1,28 @@
--- The sums of a board of which a square is written, and of hands of which a count is.
-use Rattle.std.proofs.Common.{◌≡◌, ◌≢◌, ℕ, ◌+◌, ◌*◌, ◌^◌, ◌<◌, ◌≤◌, Bool, true, false, Option, Some, None, List, length, sum_by, refl, sym, ap, ◌∙◌, arith, w64}
-use Rattle.std.specs.Prelude.{slice_set, ℤ, pos, negsuc, if◌then◌else◌}
+-- The sums of a board of which a square is written, and of hands.
+use Rattle.std.proofs.Common.{◌≡◌, ◌≢◌, ℕ, ◌+◌, ◌*◌, ◌^◌, ◌<◌, ◌≤◌, Bool, true, false, Option, Some, None, List, sum_by, refl, sym, ap, subst, ◌∙◌, arith, w64, slice_index}
+use Rattle.std.specs.Prelude.{ℤ, pos, negsuc, if◌then◌else◌}
 use Rattle.std.specs.Int.{saturate_signed}
 use Rattle.std.proofs.lemmas.Int.{ints, clamps}
 use Rattle.std.proofs.Math.Nat.{mul-le-mul_left, mul-le-mul_right}
 use Rattle.foundation.specs.Count.{below}
-use Rattle.foundation.proofs.SetLemmas.{slice_get-set_same, slice_get-set_other}
 use Rattle.rules_model.specs.declared.board.Cell.{Cell}
 use Rattle.rules_model.specs.declared.board.Side.{Side}
 use Rattle.rules_model.specs.declared.board.Side.TheVariants.{White, Black}
 use Rattle.rules_model.specs.declared.rules.Rules.{Rules}
-use Rattle.rules_model.specs.Hands.{in_hand}
+use Rattle.rules_model.specs.Hands.{hand_of, in_hand}
 use Rattle.rules_model.specs.Sides.{same_side}
-use Rattle.rules_model.specs.Squares.{cell_at, flat}
+use Rattle.rules_model.specs.Squares.{cell_at}
+use Rattle.square_set.proofs.Cases.{by_order}
+use Rattle.square_set.specs.declared.Set.{Set}
+use Rattle.square_set.specs.Members.{has, IsWithout}
+use Rattle.next_position.specs.Changed.{AgreeOutside}
+use Rattle.next_position.proofs.BetweenLaws.{between, between-all, between-none, inside, others, taken-out}
 use Rattle.evaluation.specs.declared.tally.Tally.{Tally}
 use Rattle.evaluation.specs.Evaluation.{board_worth, clamped, evaluation, hand_worth, kind_worth, piece_worth, worth_on}
 use Rattle.evaluation.specs.Tallies.{AreSums, tally_value, ValuesPositions}
 use Rattle.evaluation.specs.PieceValues.{AreFew}
-use Rattle.evaluation.specs.Writes.{AddsPiece, Counts, DropsPiece, HoldsFew, IsMore, IsSmall, PutsOn}
-use Rattle.evaluation.proofs.SumLaws.{sum-but-one, sum-few, sum-more, sum-none}
+use Rattle.evaluation.specs.Writes.{AddsPiece, Counts, GoesTo, HandsGoTo, HoldsFew, IsLess, IsMore, IsSmall, PutsOn}
+use Rattle.evaluation.proofs.SumLaws.{sum-few, sum-more, sum-none, sum-same, sums-apart}
 
 -- ---- how large they are
 
@@ -38,83 +42,135 @@ board_few rules cells side few =
     let h = sum-few (λ s. piece_worth rules side s (cell_at cells s)) 120 7780 (λ s l. piece_few rules side s (cell_at cells s) few l) in
     omega (arith, h)
 
-pub held_few : (number worth most : ℕ) → number ≤ most → worth ≤ 7700 → number * worth ≤ most * 7700
+held_few : (number worth most : ℕ) → number ≤ most → worth ≤ 7700 → number * worth ≤ most * 7700
 held_few number worth most few small =
     let a = mul-le-mul_right worth few in
     let b = mul-le-mul_left most small in
     omega (arith, a, b)
 
-pub hand_few : (rules : Rules) (hands : List (List ℕ)) (side : Side) → AreFew rules → HoldsFew 1000 hands
-    → hand_worth rules hands side ≤ 200200000
+pub hand_few : (rules : Rules) (hands : List (List ℕ)) (side : Side) → AreFew rules → HoldsFew hands
+    → hand_worth rules hands side ≤ 51051000
 unfolding hand_worth
 hand_few rules hands side few held =
-    let h = sum-few (λ k. in_hand hands side (record { 0 = k }) * kind_worth rules (record { 0 = k })) 26 7700000
-    (λ k l. held_few _ _ 1000 (held side (record { 0 = k })) (few.kinds (record { 0 = k }))) in
+    let h = sum-few (λ k. in_hand hands side (record { 0 = k }) * kind_worth rules (record { 0 = k })) 26 1963500
+    (λ k l. held_few _ _ 255 (held side (record { 0 = k })) (few.kinds (record { 0 = k }))) in
     omega (arith, h)
 
--- ---- a square is written
+pub few_held : (hands : List (List ℕ)) → ((k : ℕ) → slice_index (hand_of hands White) k ≤ 255) → ((k : ℕ) → slice_index (hand_of hands Black) k ≤ 255) → HoldsFew hands
+few_held hands white black White kind = white kind.0
+few_held hands white black Black kind = black kind.0
 
-cell_same : (cells : List (Option Cell)) (at : ℕ) (c : Option Cell) → at < length cells
-    → cell_at (slice_set cells at c) at ≡ c
-cell_same cells at c l = ap flat (slice_get-set_same cells at c l)
+-- ---- one square after another is of the second board
 
-pub cell_other : (cells : List (Option Cell)) (at s : ℕ) (c : Option Cell) → s ≢ at
-    → cell_at cells s ≡ cell_at (slice_set cells at c) s
-cell_other cells at s c other = ap flat (sym (slice_get-set_other cells at s c (λ e. other (sym e))))
+unfoldable pub between_worth : Rules → Set → List (Option Cell) → List (Option Cell) → Side → ℕ
+between_worth rules left before next side = sum_by (λ s. piece_worth rules side s (between left before next s)) (below 120)
 
-pub board-set : (rules : Rules) (side : Side) (cells : List (Option Cell)) (at : ℕ) (c : Option Cell) → at < 120
-    → length cells ≡ 120
-    → board_worth rules (slice_set cells at c) side + piece_worth rules side at (cell_at cells at) ≡ board_worth rules cells side + piece_worth rules side at c
-unfolding board_worth
-board-set rules side cells at c l size =
-    let f : ℕ → ℕ = λ s. piece_worth rules side s (cell_at cells s) in
-    let g : ℕ → ℕ = λ s. piece_worth rules side s (cell_at (slice_set cells at c) s) in
-    let h = sum-but-one f g 120 at l (λ s other. ap (piece_worth rules side s) (cell_other cells at s c other)) in
-    let e : g at ≡ piece_worth rules side at c = ap (piece_worth rules side at) (cell_same cells at c (omega (arith, l, size))) in
-    h ∙ ap (λ n. sum_by f (below 120) + n) e
+-- the sums of the board that has the squares of the set from the first board, and elsewhere those of the second
+pub record AreBetween (rules : Rules) (left : Set) (before next : List (Option Cell)) (hands : List (List ℕ)) (tally : Tally) : Type 0 where
+  pub counts : Counts tally (between_worth rules left before next White + hand_worth rules hands White) (between_worth rules left before next Black + hand_worth rules hands Black)
 
--- the sums without what stands on the square
-abbrev rest : Rules → List (Option Cell) → List (List ℕ) → ℕ → Side → ℕ
-rest rules cells hands at side = board_worth rules (slice_set cells at None) side + hand_worth rules hands side
+-- what is invariant
+abbrev pub GoesBetween : Rules → Set → List (Option Cell) → List (Option Cell) → Tally → Tally → Type 0
+GoesBetween rules left before next old new =
+    (hands : List (List ℕ)) → HoldsFew hands → AreSums rules before hands old → AreBetween rules left before next hands new
 
-counts : (tally : Tally) (a b c d : ℕ) → a ≡ c → b ≡ d → Counts tally a b → Counts tally c d
-counts tally a b c d p q h = rw (← p, ← q) h
+recounted : (tally : Tally) (a b c d : ℕ) → a ≡ c → b ≡ d → Counts tally a b → Counts tally c d
+recounted tally a b c d p q h = rw (← p, ← q) h
 
-sums_at : (rules : Rules) (cells : List (Option Cell)) (hands : List (List ℕ)) (side : Side) (at : ℕ) (c : Option Cell)
-    → at < 120 → length cells ≡ 120
-    → board_worth rules (slice_set cells at c) side + hand_worth rules hands side ≡ rest rules cells hands at side + piece_worth rules side at c
-sums_at rules cells hands side at c l size =
-    let a = board-set rules side cells at None l size in
-    let b = board-set rules side cells at c l size in
-    omega (arith, a, b)
+same_worth : (rules : Rules) (side : Side) (left : Set) (before next cells : List (Option Cell)) → ((s : ℕ) → between left before next s ≡ cell_at cells s) → between_worth rules left before next side ≡ board_worth rules cells side
+unfolding between_worth board_worth
+same_worth rules side left before next cells same = sum-same _ _ 120 (λ s l. ap (piece_worth rules side s) (same s))
 
-sums_now : (rules : Rules) (cells : List (Option Cell)) (hands : List (List ℕ)) (side : Side) (at : ℕ) (c : Option Cell)
-    → at < 120 → length cells ≡ 120 → cell_at cells at ≡ c
-    → board_worth rules cells side + hand_worth rules hands side ≡ rest rules cells hands at side + piece_worth rules side at c
-sums_now rules cells hands side at c l size is =
-    let a = board-set rules side cells at None l size in
-    let b : board_worth rules (slice_set cells at None) side + piece_worth rules side at c ≡ board_worth rules cells side + 0 = rw (← is) a in
-    omega (arith, b)
+pub goes_start : (rules : Rules) (left : Set) (before next : List (Option Cell)) (tally : Tally) → AgreeOutside left before next → GoesBetween rules left before next tally tally
+goes_start rules left before next tally agree hands held sums =
+    let same = between-all left before next agree in
+    let w = same_worth rules White left before next before same in
+    let b = same_worth rules Black left before next before same in
+    record { counts = record { white_is = sums.white ∙ ap pos (omega (arith, w)); black_is = sums.black ∙ ap pos (omega (arith, b)) } }
 
-pub puts_on : (rules : Rules) (at : ℕ) (before after : Option Cell) (old mid new : Tally) → at < 120 → AreFew rules
-    → DropsPiece rules at before old mid → AddsPiece rules at after mid new → PutsOn rules at before after old new
-puts_on rules at before after old mid new l few drops adds cells hands size held is sums =
-    let w = rest rules cells hands at White in
-    let b = rest rules cells hands at Black in
-    let small : IsSmall w b = (
-      omega (arith, board_few rules (slice_set cells at None) White few, hand_few rules hands White few held),
-      omega (arith, board_few rules (slice_set cells at None) Black few, hand_few rules hands Black few held),
-    ) in
-    let now : Counts old (w + piece_worth rules White at before) (b + piece_worth rules Black at before) =
-    record {
-      white_is = sums.white ∙ ap pos (sums_now rules cells hands White at before l size is);
-      black_is = sums.black ∙ ap pos (sums_now rules cells hands Black at before l size is);
-    } in
-    let there = adds w b small (drops w b now) in
-    record {
-      white = there.white_is ∙ sym (ap pos (sums_at rules cells hands White at after l size));
-      black = there.black_is ∙ sym (ap pos (sums_at rules cells hands Black at after l size));
-    }
+pub goes_end : (rules : Rules) (left : Set) (before next : List (Option Cell)) (old new : Tally) → ((s : ℕ) → has left s ≡ false) → GoesBetween rules left before next old new → GoesTo rules before next old new
+goes_end rules left before next old new none goes hands held sums =
+    let there = (goes hands held sums).counts in
+    let same = between-none left before next none in
+    let w = same_worth rules White left before next next same in
+    let b = same_worth rules Black left before next next same in
+    record { white = there.white_is ∙ ap pos (omega (arith, w)); black = there.black_is ∙ ap pos (omega (arith, b)) }
+
+module _ (rules : Rules) (left now : Set) (before next : List (Option Cell)) (at : ℕ) (without : IsWithout left at now) where
+  same_piece : (side : Side) (s : ℕ) → s ≢ at → piece_worth rules side s (between left before next s) ≡ piece_worth rules side s (between now before next s)
+  same_piece side s d = ap (piece_worth rules side s) (others left now before next at without s d)
+
+  -- what else there is, on both boards
+  rest_of : (side : Side) → at < 120 → has left at ≡ true
+      → (rest : ℕ) × (between_worth rules left before next side ≡ rest + piece_worth rules side at (cell_at before at)) × (between_worth rules now before next side ≡ rest + piece_worth rules side at (cell_at next at))
+  unfolding between_worth
+  rest_of side l member =
+      let d = sums-apart (λ s. piece_worth rules side s (between left before next s)) (λ s. piece_worth rules side s (between now before next s)) 120 at l (same_piece side) in (
+        d.rest,
+        d.first ∙ ap (λ c. d.rest + piece_worth rules side at c) (inside left before next at member),
+        d.second ∙ ap (λ c. d.rest + piece_worth rules side at c) (taken-out left now before next at without),
+      )
+
+  worth_few : (side : Side) → AreFew rules → between_worth rules left before next side ≤ 933600
+  unfolding between_worth
+  worth_few side few =
+      let h = sum-few (λ s. piece_worth rules side s (between left before next s)) 120 7780 (λ s l. piece_few rules side s (between left before next s) few l) in
+      omega (arith, h)
+
+  -- a square that the board has
+  goes_within : (old mid new : Tally) → at < 120 → AreFew rules → has left at ≡ true → GoesBetween rules left before next old mid → PutsOn rules at (cell_at before at) (cell_at next at) mid new → GoesBetween rules now before next old new
+  goes_within old mid new l few member goes puts hands held sums =
+      let here = (goes hands held sums).counts in
+      let w = rest_of White l member in
+      let b = rest_of Black l member in
+      let white = hand_worth rules hands White in
+      let black = hand_worth rules hands Black in
+      let small : IsSmall (w.0 + white) (b.0 + black) = (
+        omega (arith, w.1, worth_few White few, hand_few rules hands White few held),
+        omega (arith, b.1, worth_few Black few, hand_few rules hands Black few held),
+      ) in
+      let was_white : between_worth rules left before next White + white ≡ w.0 + white + piece_worth rules White at (cell_at before at) = omega (arith, w.1) in
+      let was_black : between_worth rules left before next Black + black ≡ b.0 + black + piece_worth rules Black at (cell_at before at) = omega (arith, b.1) in
+      let is_white : w.0 + white + piece_worth rules White at (cell_at next at) ≡ between_worth rules now before next White + white = omega (arith, w.2) in
+      let is_black : b.0 + black + piece_worth rules Black at (cell_at next at) ≡ between_worth rules now before next Black + black = omega (arith, b.2) in
+      let there = puts (w.0 + white) (b.0 + black) small (recounted mid _ _ _ _ was_white was_black here) in
+      record { counts = recounted new _ _ _ _ is_white is_black there }
+
+  -- and one beyond it
+  same_between : (side : Side) → 120 ≤ at → between_worth rules left before next side ≡ between_worth rules now before next side
+  unfolding between_worth
+  same_between side l = sum-same _ _ 120 (λ s m. same_piece side s (λ e. omega (arith, l, m, e)))
+
+  goes_beyond : (old mid : Tally) → 120 ≤ at → GoesBetween rules left before next old mid → GoesBetween rules now before next old mid
+  goes_beyond old mid l goes hands held sums =
+      let here = (goes hands held sums).counts in
+      let white : between_worth rules left before next White + hand_worth rules hands White ≡ between_worth rules now before next White + hand_worth rules hands White = omega (arith, same_between White l) in
+      let black : between_worth rules left before next Black + hand_worth rules hands Black ≡ between_worth rules now before next Black + hand_worth rules hands Black = omega (arith, same_between Black l) in
+      record { counts = recounted mid _ _ _ _ white black here }
+
+  pub goes_on : (old mid new : Tally) → AreFew rules → has left at ≡ true → GoesBetween rules left before next old mid
+      → (at < 120 → PutsOn rules at (cell_at before at) (cell_at next at) mid new) → (120 ≤ at → new ≡ mid)
+      → GoesBetween rules now before next old new
+  goes_on old mid new few member goes puts same =
+      by_order at 120 (GoesBetween rules now before next old new)
+      (λ l. goes_within old mid new l few member goes (puts l))
+      (λ l. subst (GoesBetween rules now before next old) (sym (same l)) (goes_beyond old mid l goes))
+
+-- ---- the hands
+
+pub hands_go : (rules : Rules) (before after : List (List ℕ)) (white black then_white then_black : ℕ) (old one two three new : Tally) → AreFew rules
+    → white ≡ hand_worth rules before White → black ≡ hand_worth rules before Black
+    → then_white ≡ hand_worth rules after White → then_black ≡ hand_worth rules after Black → then_white ≤ 52000000
+    → IsLess White white old one → IsLess Black black one two → IsMore White then_white two three → IsMore Black then_black three new
+    → HandsGoTo rules before after old new
+hands_go rules before after white black then_white then_black old one two three new few p q r s small first second third last cells sums =
+    let w = board_worth rules cells White in
+    let b = board_worth rules cells Black in
+    let less = first w (b + black) (record { white_is = sums.white ∙ ap pos (omega (arith, p)); black_is = sums.black ∙ ap pos (omega (arith, q)) }) in
+    let none = second w b (record { white_is = less.white_is ∙ ap pos (omega arith); black_is = less.black_is ∙ ap pos (omega arith) }) in
+    let more = third w b (omega (arith, board_few rules cells White few), omega (arith, board_few rules cells Black few)) none in
+    let all = last (w + then_white) b (omega (arith, small, board_few rules cells White few), omega (arith, board_few rules cells Black few)) (record { white_is = more.white_is ∙ ap pos (omega arith); black_is = more.black_is ∙ ap pos (omega arith) }) in
+    record { white = all.white_is ∙ ap pos (omega (arith, r)); black = all.black_is ∙ ap pos (omega (arith, s)) }
 
 -- ---- a board and a hand are gone through
 

@@ -11,9 +11,9 @@ ghost use Rattle.board_sets.specs.Sets.{AreSets};
 
 use attack_tables::Tables;
 use board_sets::{BoardSets, sets_are_on_board};
-use next_position::{count_check, make_but_checks, make_move, sound_positions_take_moves};
-use rules_model::sizes::prove_position_sizes;
-use rules_model::{Move, Position, Rules};
+use next_position::{count_check, make_but_checks, make_move, sound_positions_take_moves, touched};
+use rules_model::sizes::prove_board_size;
+use rules_model::{Cells, Move, Position, Rules, Side};
 use sound_play::legal_moves_keep_soundness;
 
 /// Makes the legal move: the position is the one after it, and is sound again. The tables are not read.
@@ -28,15 +28,15 @@ pub fn apply(rules: &Rules, tables: &Tables, p: &mut Position, m: &Move)
     make_move(rules, p, m);
 }
 
-/// Whether the king of the side to move is attacked, by the sets of the board.
-fn is_checked(tables: &Tables, p: &Position, sets: &BoardSets) -> bool
-    requires { AreSets tables.now p.now.side p.now.cells sets.now }
-    ensures { result ≡ Attacks.king_attacked tables.now p.now.cells p.now.side }
+/// Whether the side's king is attacked, by the sets of the board.
+pub(crate) fn king_attacked_on(tables: &Tables, cells: &Cells, side: Side, sets: &BoardSets) -> bool
+    requires { AreSets tables.now side cells.now sets.now }
+    ensures { result ≡ Attacks.king_attacked tables.now cells.now side }
 {
-    prove_position_sizes(p);
+    prove_board_size(cells);
     sets_are_on_board();
     let occupied = sets.occupied();
-    tables.king_attacked_by(&p.cells, sets.kings, sets.enemies, occupied, p.side)
+    tables.king_attacked_by(cells, sets.kings, sets.enemies, occupied, side)
 }
 
 /// Whether the king of the side to move is attacked, by the sets of the board, which the caller has.
@@ -45,7 +45,7 @@ pub fn king_attacked_with(rules: &Rules, tables: &Tables, p: &Position, sets: &B
     requires sets { AreSets rules.now p.now.side p.now.cells sets.now }
     ensures { result ≡ Attacks.king_attacked rules.now p.now.cells p.now.side }
 {
-    is_checked(tables, p, sets)
+    king_attacked_on(tables, &p.cells, p.side, sets)
 }
 
 /// Whether the king of the side to move is attacked, and such a check counts.
@@ -76,8 +76,9 @@ pub fn apply_with(
     sound_positions_take_moves();
     legal_moves_keep_soundness();
     let side = p.side;
-    let sets = sets.after(rules, p, m).turned();
+    let touched = touched(rules, p, m);
     make_but_checks(rules, p, m);
+    let sets = sets.after(rules, side, &p.cells, touched).turned();
     let gives = is_check_counted(rules, tables, p, &sets);
     count_check(p, side, gives);
     sets

@@ -1,2 +1,4 @@
 pub mod PartLaws
 pub mod RoomLaws
+pub mod TouchedLemmas
+pub mod BetweenLaws

@@ -17,11 +17,11 @@ mod hands;
 mod passing;
 mod pieces;
 mod rights;
+mod written;
 
 pub use counts::count_check;
-pub use hands::hand_kind;
-pub use pieces::{behind, fresh, gated, promote};
 use rules_model::{Cells, Move, Position, Rules, Side};
+pub use written::touched;
 
 /// Makes of the pieces of a position those that stand there after a move.
 ///

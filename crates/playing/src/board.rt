@@ -12,6 +12,7 @@ ghost use Rattle.legality.specs.Stance as Stance;
 use attack_tables::Tables;
 use board_sets::{BoardSets, sets_of};
 use legality::{MoveGen, apply_with};
+use next_position::touched;
 use position_key::BoardKey;
 use rules_model::{Move, Position, Rules, repeats};
 use std::marker::Model;
@@ -58,9 +59,10 @@ impl<'t> Board<'t> {
         ensures { result ≡ Stance.after self.now m.now }
     {
         let rules = self.tables.rules();
+        let touched = touched(rules, &self.position, m);
         let mut position = self.position;
         let sets = apply_with(rules, self.tables, &mut position, &self.sets, m);
-        let key = self.key.after_move(rules, &self.position, m, &position);
+        let key = self.key.after(&self.position, &position, touched);
         Board {
             tables: self.tables,
             position,

@@ -1,18 +1,14 @@
 //! The key of a board and its hands, kept through moves, and the key of a whole position.
 ghost use Rattle.std.specs.Prelude.{◌≡◌, ◌+◌, ◌%◌, ◌^◌};
-ghost use Rattle.rules_model.specs.Fit.{IsFit};
-ghost use Rattle.rules_model.specs.Moves.{IsFitMove};
-ghost use Rattle.rules_model.specs.Next as Next;
 ghost use Rattle.rules_model.specs.Repeats.{repeat_of};
-ghost use Rattle.position_key.specs.Changed.{AgreeOutside};
+ghost use Rattle.next_position.specs.Changed.{AgreeOutside};
 ghost use Rattle.position_key.specs.Key as Key;
 ghost use Rattle.position_key.specs.Key.{IsBoardKey};
 ghost use Rattle.position_key.specs.Words as Words;
 
 use crate::sums::{cells_sum, hand_sum, with_cells, with_hands};
 use crate::words::{folded, rest_number, word};
-use crate::written::touched;
-use rules_model::{Cells, KINDS, Move, Position, Repeat, Rules, Side, Square};
+use rules_model::{Cells, KINDS, Position, Repeat, Side, Square};
 use square_set::Set;
 
 /// The key of a board and of what both sides hold. A move changes it in few places.
@@ -61,17 +57,6 @@ impl BoardKey {
     {
         let moved = with_cells(self.0, &before.cells, &next.cells, touched);
         BoardKey(with_hands(moved, &before.hands, &next.hands))
-    }
-
-    /// The key after the move, which leads from the one position to the next.
-    pub fn after_move(self, rules: &Rules, p: &Position, m: &Move, next: &Position) -> BoardKey
-        requires fit { IsFit rules.now }
-        requires move_fits { IsFitMove m.now }
-        requires key { IsBoardKey self (repeat_of p.now) }
-        requires next { next.now ≡ Next.next rules.now p.now m.now }
-        ensures { IsBoardKey result (repeat_of next.now) }
-    {
-        self.after(p, next, touched(rules, p, m))
     }
 
     /// The key of all that a repetition compares of the position.

@@ -1,6 +1,7 @@
 //! The sums of words: those of a whole board and of whole hands, and how they change.
 ghost use Rattle.std.specs.Prelude.{◌≡◌, ◌+◌, ◌%◌, ◌^◌};
-ghost use Rattle.position_key.specs.Changed.{AgreeOutside, IsExchanged};
+ghost use Rattle.next_position.specs.Changed.{AgreeOutside};
+ghost use Rattle.position_key.specs.Changed.{IsExchanged};
 ghost use Rattle.position_key.specs.Key as Key;
 
 use crate::words::{cell_word, hand_word};

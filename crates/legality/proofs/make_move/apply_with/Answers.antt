@@ -7,12 +7,13 @@ use Rattle.rules_model.specs.Next.{cells_after, next, next_repeat}
 use Rattle.rules_model.specs.Repeats.{repeat_of}
 use Rattle.rules_model.specs.Sides.{other}
 use Rattle.rules_model.specs.Sound.{is_sound}
+use Rattle.next_position.specs.Changed.{AgreeOutside}
 use Rattle.next_position.proofs.PartLaws.{next-by}
 use Rattle.board_sets.specs.Sets.{AreSets}
 use Rattle.legality.proofs.make_move.apply_with.Goals as goal
 
-pub after-requires-clause-move_fits : goal.after-requires-clause-move_fits
-after-requires-clause-move_fits c = (legal-member _ _ _ c.requires.legal).0
+pub touched-touched-requires-clause-move_fits : goal.touched-touched-requires-clause-move_fits
+touched-touched-requires-clause-move_fits c = (legal-member _ _ _ c.requires.legal).0
 
 pub make_but_checks-requires-clause-move_fits : goal.make_but_checks-requires-clause-move_fits
 make_but_checks-requires-clause-move_fits c = (legal-member _ _ _ c.requires.legal).0
@@ -22,9 +23,12 @@ unfolding next next_repeat
 is_check_counted-gives-requires-clause-sets c =
     let rules = c.args.rules.now in
     let p = c.args.p.now in
-    let Sets : Position → Type 0 = λ q. AreSets rules q.side q.cells c.turned-sets.result in
-    let there : Sets (next rules p c.args.m.now) = c.turned-sets.ensures rules p.side (cells_after rules (repeat_of p) c.args.m.now) c.after.ensures in
-    subst Sets (sym c.make_but_checks.ensures) there
+    let made = c.make_but_checks.new.p in
+    let cells : made.cells ≡ cells_after rules (repeat_of p) c.args.m.now = ap (λ (q : Position). q.cells) c.make_but_checks.ensures in
+    let side : made.side ≡ other p.side = ap (λ (q : Position). q.side) c.make_but_checks.ensures in
+    let agree = subst (AgreeOutside c.touched-touched.result p.cells) (sym cells) c.touched-touched.ensures in
+    let Sets : Side → Type 0 = λ to_move. AreSets rules to_move made.cells c.turned-sets.result in
+    subst Sets (sym side) (c.turned-sets.ensures _ _ _ (c.after.ensures p.cells c.requires.sets agree))
 
 pub returns-clause-next : goal.returns-clause-next
 unfolding next next_repeat
@@ -49,7 +53,11 @@ unfolding next next_repeat
 returns-clause-sets c =
     let rules = c.args.rules.now in
     let p = c.args.p.now in
+    let made = c.make_but_checks.new.p in
+    let cells : made.cells ≡ cells_after rules (repeat_of p) c.args.m.now = ap (λ (q : Position). q.cells) c.make_but_checks.ensures in
+    let side : made.side ≡ other p.side = ap (λ (q : Position). q.side) c.make_but_checks.ensures in
+    let agree = subst (AgreeOutside c.touched-touched.result p.cells) (sym cells) c.touched-touched.ensures in
     let Sets : Position → Type 0 = λ q. AreSets rules q.side q.cells c.turned-sets.result in
-    let there : Sets (next rules p c.args.m.now) = c.turned-sets.ensures rules p.side (cells_after rules (repeat_of p) c.args.m.now) c.after.ensures in
-    let made : Sets c.make_but_checks.new.p = subst Sets (sym c.make_but_checks.ensures) there in
-    subst Sets (sym c.count_check.ensures) made
+    let Turned : Side → Type 0 = λ to_move. AreSets rules to_move made.cells c.turned-sets.result in
+    let there : Sets made = subst Turned (sym side) (c.turned-sets.ensures _ _ _ (c.after.ensures p.cells c.requires.sets agree)) in
+    subst Sets (sym c.count_check.ensures) there

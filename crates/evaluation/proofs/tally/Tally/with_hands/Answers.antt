@@ -1,11 +1,14 @@
-use Rattle.rules_model.specs.Next.{hands_after}
-use Rattle.evaluation.proofs.HandLaws.{sized, taken_and_placed}
+use Rattle.std.proofs.Common.{ℕ, List, subst}
+use Rattle.evaluation.specs.Tallies.{AreSums}
+use Rattle.evaluation.proofs.PutLaws.{hands_go}
 use Rattle.evaluation.proofs.tally.Tally.with_hands.Goals as goal
 
-pub returns-in-Some : goal.returns-in-Some
-unfolding hands_after
-returns-in-Some c =
-    rw (c.in-Go.is, c.in-Some.is, ← c.taken-taken.ensures)
-    (taken_and_placed c.args.rules.now c.args.p.now.hands c.args.p.now.side c.taken-taken.result c.in-Some.kind _ _ _ _
-    (sized c.args.p.now c.prove_position_sizes.ensures) c.took-took.ensures c.holds_then-held.ensures
-    (rw c.requires.values at c.put_down.ensures))
+pub returns-then-are_same_hands : goal.returns-then-are_same_hands
+returns-then-are_same_hands c =
+    let same = c.are_same_hands.ensures.0 c.if-are_same_hands.true in
+    λ cells sums. subst (λ (hands : List (List ℕ)). AreSums c.args.values.now cells hands c.args.self) same sums
+
+pub returns : goal.returns
+returns c =
+    hands_go _ _ _ _ _ _ _ _ _ _ _ _ c.prove_few.ensures c.hand.ensures.is c.hand-2.ensures.is c.hand-3.ensures.is c.hand-4.ensures.is c.hand-3.ensures.few
+    c.less.ensures c.less-2.ensures c.more.ensures c.more-2.ensures

@@ -2,9 +2,9 @@ use Rattle.std.proofs.Common.{sym, subst}
 use Rattle.rules_model.specs.declared.moves.Move.{Move}
 use Rattle.rules_model.specs.Next.{cells_after}
 use Rattle.rules_model.specs.Repeats.{repeat_of}
-use Rattle.position_key.specs.Changed.{AgreeOutside}
-use Rattle.position_key.proofs.TouchedLemmas.{agree-go, agree-castle, agree-drop, with-has, with-keeps}
-use Rattle.position_key.proofs.written.touched.Goals as goal
+use Rattle.next_position.specs.Changed.{AgreeOutside}
+use Rattle.next_position.proofs.TouchedLemmas.{agree-go, agree-castle, agree-drop, with-has, with-keeps}
+use Rattle.next_position.proofs.written.touched.Goals as goal
 
 pub returns-in-Go : goal.returns-in-Go
 returns-in-Go c =

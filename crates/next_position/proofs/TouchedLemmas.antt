@@ -21,7 +21,7 @@ use Rattle.rules_model.specs.Squares.{flat}
 use Rattle.square_set.specs.declared.Set.{Set}
 use Rattle.square_set.specs.Members.{has, IsWith}
 use Rattle.square_set.proofs.Cases.{by_equal}
-use Rattle.position_key.specs.Changed.{AgreeOutside}
+use Rattle.next_position.specs.Changed.{AgreeOutside}
 
 true-is-not-false : {P : Type 0} → true ≡ false → P
 true-is-not-false e = absurd cc

@@ -6,11 +6,10 @@ ghost use Rattle.rules_model.specs.Moves.{IsFitMove, IsFitPlaced};
 ghost use Rattle.rules_model.specs.Next as Next;
 ghost use Rattle.rules_model.specs.Repeats.{repeat_of};
 ghost use Rattle.square_set.specs.Members.{has};
-ghost use Rattle.position_key.specs.Changed.{AgreeOutside, HasAllOf};
+ghost use Rattle.next_position.specs.Changed.{AgreeOutside, HasAllOf};
 
-use rules_model::attacks::ahead;
+use crate::pieces::behind;
 use rules_model::castling::rook_target;
-use rules_model::kinds::board_of;
 use rules_model::passing::passes_by;
 use rules_model::{Move, Placed, Position, Rules, Square};
 use square_set::{EMPTY, Set};
@@ -34,7 +33,7 @@ fn with_passed(squares: Set, rules: &Rules, p: &Position, from: Square, to: Squa
     ensures passed { AgreeOutside result p.now.cells (Next.without_passed rules.now (repeat_of p.now) from to) }
 {
     if passes_by(rules, p, from, to) {
-        with_some(squares, ahead(board_of(rules), p.side.other(), to, 1))
+        with_some(squares, behind(rules, p.side, to))
     } else {
         squares
     }
