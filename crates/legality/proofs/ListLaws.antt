@@ -4,7 +4,7 @@ use Rattle.std.specs.Bool.{OnTrue}
 use Rattle.std.specs.List.{list_any, filter}
 use Rattle.std.specs.Result.{OnErr, OnOk}
 use Rattle.std.specs.List.Sorted.{IsPermutation, IsStrictlySortedBy}
-use Rattle.std.proofs.lemmas.Bool.{and_from, and_parts, not-true, or_cases, or_left, or_right}
+use Rattle.std.proofs.lemmas.Bool.{and_from, and_left, and_parts, not-true, or_cases, or_left, or_right}
 use Rattle.std.proofs.lemmas.List.Sorted.{IsPermutation-sym}
 use Rattle.foundation.specs.Member.{Member, IsEachOnce, Lists, Appends}
 use Rattle.foundation.specs.Tests.{is_nil}
@@ -106,6 +106,11 @@ module _ (rules : Rules) (r : Repeat) (gen_type : GenType) where
   pub chosen_fit : (m : Move) → is_chosen rules r gen_type m ≡ true → IsFitMove m
   unfolding is_chosen
   chosen_fit m e = fit_from m (and_parts (is_fit_move m) (is_wanted rules r gen_type m && is_sane rules r m) e).0
+
+  -- what is not fit is not chosen
+  pub unfit-passed : (m : Move) → is_fit_move m ≡ false → is_chosen rules r gen_type m ≡ false
+  unfolding is_chosen
+  unfit-passed m e = and_left (is_fit_move m) (is_wanted rules r gen_type m && is_sane rules r m) e
 
   from_parts : (m : Move) → IsFitMove m → is_sane rules r m ≡ true → is_wanted rules r gen_type m ≡ true → is_chosen rules r gen_type m ≡ true
   unfolding is_chosen

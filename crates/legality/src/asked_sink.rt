@@ -5,6 +5,7 @@ ghost use Rattle.legality.specs.Sinks.{Kept, keeper_is_sink};
 
 use crate::asked::Asked;
 use crate::list_sink::ListSink;
+use crate::move_filter::is_fit_move;
 use foundation::Memory;
 use piece_moves::MoveSink;
 use rules_model::{Kind, Move, Square};
@@ -20,12 +21,18 @@ pub(crate) struct AskedSink<'a, 'b> {
 impl<'a, 'b> AskedSink<'a, 'b> {
     ghost use Rattle.legality.specs.AskedChoices.{filter_of};
 
-    /// Whether the move is chosen and asked for.
+    /// Whether the move is chosen and asked for. What is asked costs less.
     fn chooses(&self, m: &Move) -> bool
         ensures { result ≡ asked_by (filter_of self.now) m.now }
     {
+        if !is_fit_move(m) {
+            return false;
+        }
         let move_filter = &self.keeper.move_filter;
-        move_filter.holds(m) && self.asked.asks(move_filter.pin_info.p, m)
+        if !self.asked.asks(move_filter.pin_info.p, m) {
+            return false;
+        }
+        move_filter.holds(m)
     }
 }
 
