@@ -13,6 +13,7 @@ use Rattle.square_set.proofs.Cases.{by_bool}
 use Rattle.piece_moves.specs.InTurn.{MadeTo, Outside, target_of}
 use Rattle.piece_moves.specs.Taking.{IsSink, TakesAll, TakesSome}
 use Rattle.piece_moves.proofs.TakingLemmas.{all-join}
+use Rattle.piece_moves.proofs.TurnLemmas.{turn-all}
 use Rattle.legality.specs.declared.asked_sink.AskedSink.{AskedSink}
 use Rattle.legality.specs.declared.list_sink.ListSink.{ListSink}
 use Rattle.legality.specs.AskedChoices.{KeepsAsked, asked_by, filter_of}
@@ -80,6 +81,10 @@ module _ (s : AskedSink) where
           taken = (refl, sym (ap (λ l. s.keeper.list ++ l) (none_kept (asked_by (filter_of s)) ms none) ∙ append-nil s.keeper.list));
           each = others_each make targets targets narrow narrow asked_of (λ k e. e) (λ to. is to.0) worth_is goes_there small;
         }
+
+    -- where none is asked for, all are taken, and none of them is kept
+    pub narrow_none : ((k : ℕ) → has narrow k ≡ false) → TakesAll KeepsAsked (MadeTo make targets) s s
+    narrow_none none = turn-all KeepsAsked (MadeTo make targets) target_of narrow s s none others_left
 
     -- all moves to the targets are taken where the list within took those to the narrower ones
     pub narrow_all : (k : ListSink) → TakesAll Keeps (MadeTo make narrow) s.keeper k → TakesAll KeepsAsked (MadeTo make targets) s (record s { keeper = k })

@@ -57,17 +57,26 @@ impl<'a, 'b> MoveSink for AskedSink<'a, 'b> {
     fn take_all(&mut self, from: Square, gate: Option<Kind>, targets: Set) -> Result<(), Memory> {
         let p = self.keeper.move_filter.pin_info.p;
         let asked = self.asked.of_targets(p, from, gate, targets);
+        if asked.is_empty() {
+            return Ok(());
+        }
         self.keeper.take_all(from, gate, asked)
     }
 
     fn take_shifted(&mut self, shift: Shift, targets: Set) -> Result<(), Memory> {
         let p = self.keeper.move_filter.pin_info.p;
         let asked = self.asked.of_shift(p, shift, targets);
+        if asked.is_empty() {
+            return Ok(());
+        }
         self.keeper.take_shifted(shift, asked)
     }
 
     fn take_drops(&mut self, kind: Kind, targets: Set) -> Result<(), Memory> {
         let asked = self.asked.of_drops(kind, targets);
+        if asked.is_empty() {
+            return Ok(());
+        }
         self.keeper.take_drops(kind, asked)
     }
 }

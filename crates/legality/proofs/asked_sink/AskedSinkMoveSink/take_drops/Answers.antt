@@ -3,8 +3,12 @@ use Rattle.std.proofs.lemmas.Bool.{and_parts}
 use Rattle.std.proofs.lemmas.Result.{on_err_weaker, on_ok_weaker}
 use Rattle.rules_model.specs.declared.moves.Move.TheVariants.{Drop}
 use Rattle.square_set.specs.Members.{has}
-use Rattle.legality.proofs.AskedLaws.{narrow_all, narrow_some}
+use Rattle.legality.proofs.AskedLaws.{narrow_all, narrow_none, narrow_some}
 use Rattle.legality.proofs.asked_sink.AskedSinkMoveSink.take_drops.Goals as goal
+
+pub returns-then-is_empty-clause-ok : goal.returns-then-is_empty-clause-ok
+returns-then-is_empty-clause-ok c =
+    narrow_none c.args.self.now (Drop c.args.kind) c.args.targets c.of_drops-asked.result (λ to. refl) (λ k e. let l = c.requires.targets k e in omega (arith, l)) c.of_drops-asked.ensures c.if-is_empty.ensures.empty
 
 pub returns-clause-ok : goal.returns-clause-ok
 returns-clause-ok c =
