@@ -11,7 +11,8 @@ use rules_model::sizes::prove_board_size;
 use rules_model::{Cells, Side, Square};
 use square_set::{ALL, EMPTY, Set};
 
-/// The squares that guard the king from each piece of the side that stays on its square.
+/// The squares that guard the king from each piece of the side that stays on its square. Where one attacks it, they are
+/// all, and no other is asked.
 fn guards_of_king(
     tables: &Tables,
     cells: &Cells,
@@ -30,6 +31,9 @@ fn guards_of_king(
     let mut near = tables.takers(by, king).and(men);
     while let Some(from) = near.take_first() {
         guards = guards.or(guards_from(tables, cells, occupied, king, by, from));
+        if ALL.minus(guards).is_empty() {
+            return guards;
+        }
     }
     guards
 }

@@ -1,12 +1,13 @@
 use Rattle.std.proofs.Common.{◌≡◌, ◌==◌, not, false, ap, sym, ◌∙◌}
-use Rattle.std.proofs.lemmas.Bool.{and_parts, or_parts}
+use Rattle.std.proofs.lemmas.Bool.{and_parts, lt-ltb, or_parts}
 use Rattle.rules_model.specs.Attacks.{attacks_from}
 use Rattle.rules_model.specs.Squares.{cell_at}
 use Rattle.square_set.specs.Members.{has}
 use Rattle.square_set.proofs.Cases.{by_equal}
 use Rattle.attack_tables.proofs.AttackLaws.{men_small}
 use Rattle.attack_tables.proofs.MaskLaws.{and_not}
-use Rattle.check_moves.proofs.ShutLaws.{no_stayer}
+use Rattle.pins.proofs.GuardLaws.{every_square}
+use Rattle.check_moves.proofs.ShutLaws.{no_stayer, none-left}
 use Rattle.check_moves.proofs.shut.guards_of_king.Goals as goal
 
 pub loop-from-init : goal.loop-from-init
@@ -19,6 +20,10 @@ loop-from-init c = record {
 pub guards_from-requires-clause-from : goal.guards_from-requires-clause-from
 guards_from-requires-clause-from c =
     men_small c.args.by c.args.cells.now c.args.men c.in-Some.from c.prove_board_size.ensures (λ s h. sym (c.requires.men s) ∙ h) (c.loop-from.invariant.inside c.in-Some.from c.in-Some.ensures.some.member)
+
+pub returns-then-is_empty : goal.returns-then-is_empty
+returns-then-is_empty c = λ from to moved board l out gone is.
+    absurd (none-left _ _ (every_square from ∙ lt-ltb from 128 l) out (sym (c.minus.ensures from) ∙ c.if-is_empty.ensures.empty from))
 
 pub loop-from-preserved : goal.loop-from-preserved
 loop-from-preserved c = record {
