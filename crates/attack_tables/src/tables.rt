@@ -207,25 +207,42 @@ impl Tables {
         }
     }
 
-    /// The squares that the piece on `from` reaches. In `Mode::Quiet` they are those of its quiet terms, in
-    /// `Mode::Take` those of its terms that take; a pawn reaches its two diagonals to take. It does not matter what
-    /// stands on them. Where nothing stands on `from` there are none. No memory is taken.
+    /// The same as `reaches`, by the occupied squares.
     #[tactic(auto, unfolding(move_tables::specs::Reached::reaches_in))]
-    pub fn reaches(&self, p: &Position, from: Square, mode: Mode) -> Set
+    fn reached(&self, p: &Position, occupied: Set, from: Square, mode: Mode) -> Set
+        requires { IsOccupied occupied p.now.cells }
         ensures { (s : ℕ) → has result s ≡ Reached.reaches_in self.now p.now.cells from mode s }
     {
         match p.cells.get(from.0 as usize) {
-            Some(Some(piece)) => self.reach_of(*piece, from, mode, occupied(&p.cells)),
+            Some(Some(piece)) => self.reach_of(*piece, from, mode, occupied),
             Some(None) => EMPTY,
             None => EMPTY,
         }
     }
 
-    /// Whether the square is one of those that `reaches` answers. No memory is taken.
-    pub fn reaches_square(&self, p: &Position, from: Square, mode: Mode, to: Square) -> bool
+    /// The squares that the piece on `from` reaches. In `Mode::Quiet` they are those of its quiet terms, in
+    /// `Mode::Take` those of its terms that take; a pawn reaches its two diagonals to take. It does not matter what
+    /// stands on them. Where nothing stands on `from` there are none. No memory is taken.
+    pub fn reaches(&self, p: &Position, from: Square, mode: Mode) -> Set
+        ensures { (s : ℕ) → has result s ≡ Reached.reaches_in self.now p.now.cells from mode s }
+    {
+        self.reached(p, occupied(&p.cells), from, mode)
+    }
+
+    /// Whether the square is one of those that `reaches` answers, by the occupied squares, which the caller has. No memory
+    /// is taken.
+    pub fn reaches_square(
+        &self,
+        p: &Position,
+        occupied: Set,
+        from: Square,
+        mode: Mode,
+        to: Square,
+    ) -> bool
+        requires { IsOccupied occupied p.now.cells }
         ensures { result ≡ Reached.reaches_in self.now p.now.cells from mode to.0 }
     {
-        let reached = self.reaches(p, from, mode);
+        let reached = self.reached(p, occupied, from, mode);
         to.0 < 128 && reached.has(to.0)
     }
 

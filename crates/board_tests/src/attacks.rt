@@ -51,8 +51,9 @@ fn expect_reach(
     for (from, mode, squares) in rows {
         let reached = tables.reaches(&p, square(*from), *mode);
         expect_eq_at(rt, from, reached, set_of(*squares));
+        let occupied = tables.occupied(&p);
         for to in 0..120 {
-            let one = tables.reaches_square(&p, square(*from), *mode, Square(to));
+            let one = tables.reaches_square(&p, occupied, square(*from), *mode, Square(to));
             expect_eq(rt, one, reached.has(to));
         }
     }

@@ -38,13 +38,20 @@ pub(crate) fn push_candidates<S: MoveSink>(
 
 /// Whether the move is a candidate.
 #[tactic(auto, unfolding(rules_model::specs::Candidates::is_candidate))]
-pub(crate) fn is_candidate(rules: &Rules, tables: &Tables, p: &Position, m: &Move) -> bool
+pub(crate) fn is_candidate(
+    rules: &Rules,
+    tables: &Tables,
+    p: &Position,
+    sets: &BoardSets,
+    m: &Move,
+) -> bool
     requires fit { IsFit rules.now }
     requires tables { tables.now ≡ rules.now }
+    requires sets { AreSets rules.now p.now.side p.now.cells sets.now }
     ensures { result ≡ Candidates.is_candidate rules.now (repeat_of p.now) m.now }
 {
-    piece_moves::is_candidate(rules, tables, p, m)
-        || special_moves::is_candidate(rules, tables, p, m)
+    piece_moves::is_candidate(rules, tables, p, sets, m)
+        || special_moves::is_candidate(rules, tables, p, sets, m)
 }
 
 /// A mask has a place for each letter.

@@ -137,7 +137,7 @@ fn is_allowed(rules: &Rules, tables: &Tables, p: &Position, sets: &BoardSets, m:
     ensures fit { OnTrue result (IsFitMove m.now) }
 {
     prove_candidates_fit(rules, p);
-    is_candidate(rules, tables, p, m) && PinInfo::of_few(rules, tables, p, sets).is_sane(m)
+    is_candidate(rules, tables, p, sets, m) && PinInfo::of_few(rules, tables, p, sets).is_sane(m)
 }
 
 /// Whether the fit move captures, or need not.

@@ -1,12 +1,13 @@
 //! Tests of `piece_moves`.
+ghost use Rattle.std.specs.Prelude.{◌≡◌};
 ghost use Rattle.rules_model.specs.Fit.{IsFit};
 
 use crate::expect::{expect, expect_eq, expect_eq_at, expect_of};
 use crate::helpers::{go, halves};
 use attack_tables::Tables;
 use board_sets::sets_of;
-use piece_moves::{is_candidate, mover_on, push_mover, push_moves};
-use rules_model::{Kind, Move, MoveList, Promo, Rules};
+use piece_moves::{mover_on, push_mover, push_moves};
+use rules_model::{Kind, Move, MoveList, Position, Promo, Rules};
 use sample_rules::{chess, position, square, xiangqi};
 use std::alloc::Global;
 use std::process::Abort;
@@ -15,6 +16,14 @@ use std::process::Abort;
 fn move_of(text: &str) -> Move {
     let (from, to) = text.split_at_checked(2).unwrap_or(("", ""));
     go(from, to, Promo::Stays)
+}
+
+fn is_candidate(rules: &Rules, tables: &Tables, p: &Position, m: &Move) -> bool
+    requires fit { IsFit rules.now }
+    requires tables { tables.now ≡ rules.now }
+{
+    let sets = sets_of(rules, &p.cells, p.side);
+    piece_moves::is_candidate(rules, tables, p, &sets, m)
 }
 
 /// The moves of the pieces are those of the texts as `e2e4`, each once, and no others.

@@ -8,9 +8,17 @@ use board_sets::sets_of;
 use foundation::Memory;
 use rules_model::{Kind, Move, MoveList, Placed, Position, Promo, Rules};
 use sample_rules::{chess, hand_of, kind, position, shouse, square};
-use special_moves::{is_candidate, push_moves};
+use special_moves::push_moves;
 use std::alloc::Global;
 use std::process::Abort;
+
+fn is_candidate(rules: &Rules, tables: &Tables, p: &Position, m: &Move) -> bool
+    requires fit { IsFit rules.now }
+    requires tables { tables.now ≡ rules.now }
+{
+    let sets = sets_of(rules, &p.cells, p.side);
+    special_moves::is_candidate(rules, tables, p, &sets, m)
+}
 
 /// How many moves are given.
 fn count(alloc: Global, rules: &Rules, tables: &Tables, p: &Position) -> Result<usize, Memory>

@@ -5,12 +5,14 @@ ghost use Rattle.rules_model.specs.Fit.{IsFit};
 ghost use Rattle.rules_model.specs.Pieces.{piece_moves};
 ghost use Rattle.rules_model.specs.Repeats.{repeat_of};
 ghost use Rattle.rules_model.specs.Squares.{cell_at};
+ghost use Rattle.board_sets.specs.Sets.{AreSets};
 ghost use Rattle.piece_moves.specs.Goals as Goals;
 
 use crate::goal::goes;
 use crate::piece::own_piece;
 use crate::promotion::{becomes, may_plus, means_castling};
 use attack_tables::Tables;
+use board_sets::BoardSets;
 use rules_model::{Cell, Move, Position, Promo, Rules, Square};
 
 /// Whether the own piece on `from` makes the move.
@@ -19,6 +21,7 @@ fn makes(
     rules: &Rules,
     tables: &Tables,
     p: &Position,
+    sets: &BoardSets,
     piece: Cell,
     from: Square,
     to: Square,
@@ -26,10 +29,11 @@ fn makes(
 ) -> bool
     requires fit { IsFit rules.now }
     requires tables { tables.now ≡ rules.now }
+    requires sets { AreSets rules.now p.now.side p.now.cells sets.now }
     requires own { Goals.own_piece rules.now p.now.side (cell_at p.now.cells from.0) ≡ Some piece }
     ensures { result ≡ piece_moves rules.now (repeat_of p.now) piece from to promo }
 {
-    goes(tables, p, piece, from, to)
+    goes(tables, p, sets, piece, from, to)
         && becomes(rules, may_plus(rules, p.side, piece.kind, from, to), promo)
         && !means_castling(rules, p, piece.kind, from, to)
 }
@@ -38,17 +42,19 @@ fn moves(
     rules: &Rules,
     tables: &Tables,
     p: &Position,
+    sets: &BoardSets,
     from: Square,
     to: Square,
     promo: Promo,
 ) -> bool
     requires fit { IsFit rules.now }
     requires tables { tables.now ≡ rules.now }
+    requires sets { AreSets rules.now p.now.side p.now.cells sets.now }
     ensures { result ≡ own_piece_moves rules.now (repeat_of p.now) from to promo (cell_at p.now.cells from.0) }
 {
     match own_piece(rules, p, from) {
         None => false,
-        Some(piece) => makes(rules, tables, p, piece, from, to, promo),
+        Some(piece) => makes(rules, tables, p, sets, piece, from, to, promo),
     }
 }
 
@@ -56,9 +62,16 @@ fn moves(
 /// reaches quietly, or to an enemy's that it reaches to take; and with a promotion where it must promote, or may. The
 /// king's move that means castling is none. Whether it leaves the king safe is not asked.
 #[tactic(auto, unfolding(rules_model::specs::Candidates::is_piece_move))]
-pub fn is_candidate(rules: &Rules, tables: &Tables, p: &Position, m: &Move) -> bool
+pub fn is_candidate(
+    rules: &Rules,
+    tables: &Tables,
+    p: &Position,
+    sets: &BoardSets,
+    m: &Move,
+) -> bool
     requires fit { IsFit rules.now }
     requires tables { tables.now ≡ rules.now }
+    requires sets { AreSets rules.now p.now.side p.now.cells sets.now }
     ensures { result ≡ is_piece_move rules.now (repeat_of p.now) m.now }
 {
     match *m {
@@ -67,7 +80,7 @@ pub fn is_candidate(rules: &Rules, tables: &Tables, p: &Position, m: &Move) -> b
             to,
             promo,
             gate: None,
-        } => moves(rules, tables, p, from, to, promo),
+        } => moves(rules, tables, p, sets, from, to, promo),
         Move::Go { .. } | Move::Castle { .. } | Move::Drop { .. } => false,
     }
 }

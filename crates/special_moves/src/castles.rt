@@ -16,7 +16,7 @@ ghost use Rattle.special_moves.specs.Parts.{IsCastle, IsCastleOf, IsCastleTo, Is
 
 use crate::way::{holds_own_king, way_is_open};
 use attack_tables::{Tables, cell_on};
-use board_sets::{BoardSets, sets_of};
+use board_sets::BoardSets;
 use piece_moves::{MoveSink, holds_a_right, push_if};
 use rules_model::castling::{
     CastleSquares, castle_of, castling_square, holds_right, is_rook, rook_target, rook_to_file,
@@ -105,6 +105,7 @@ fn castles_on(
     rules: &Rules,
     tables: &Tables,
     p: &Position,
+    sets: &BoardSets,
     from: Square,
     to: Square,
     rook: Square,
@@ -112,6 +113,7 @@ fn castles_on(
 ) -> bool
     requires fit { IsFit rules.now }
     requires tables { tables.now ≡ rules.now }
+    requires sets { AreSets rules.now p.now.side p.now.cells sets.now }
     requires on { castling_on rules.now ≡ true }
     ensures is { result ≡ Castling.castles_on rules.now (repeat_of p.now) from to rook wing }
     ensures on_board { OnTrue result (to.0 < 120) }
@@ -125,8 +127,7 @@ fn castles_on(
             if !is_castle(&castle, from, to, rook) {
                 return false;
             }
-            let sets = sets_of(rules, &p.cells, p.side);
-            is_open(rules, tables, p, &sets, &castle)
+            is_open(rules, tables, p, sets, &castle)
         }
     }
 }
@@ -137,18 +138,20 @@ pub(crate) fn castles(
     rules: &Rules,
     tables: &Tables,
     p: &Position,
+    sets: &BoardSets,
     from: Square,
     to: Square,
     rook: Square,
 ) -> bool
     requires fit { IsFit rules.now }
     requires tables { tables.now ≡ rules.now }
+    requires sets { AreSets rules.now p.now.side p.now.cells sets.now }
     ensures is { result ≡ Castling.castles rules.now (repeat_of p.now) from to rook }
     ensures on_board { OnTrue result (to.0 < 120) }
 {
     tables.castling_on()
-        && (castles_on(rules, tables, p, from, to, rook, Wing::Kingside)
-            || castles_on(rules, tables, p, from, to, rook, Wing::Queenside))
+        && (castles_on(rules, tables, p, sets, from, to, rook, Wing::Kingside)
+            || castles_on(rules, tables, p, sets, from, to, rook, Wing::Queenside))
 }
 
 // ---- gates

@@ -63,6 +63,7 @@ pub(crate) fn moves_and_gates(
     rules: &Rules,
     tables: &Tables,
     p: &Position,
+    sets: &BoardSets,
     from: Square,
     to: Square,
     promo: Promo,
@@ -70,6 +71,7 @@ pub(crate) fn moves_and_gates(
 ) -> bool
     requires fit { IsFit rules.now }
     requires tables { tables.now ≡ rules.now }
+    requires sets { AreSets rules.now p.now.side p.now.cells sets.now }
     ensures { result ≡ Parts.moves_and_gates rules.now (repeat_of p.now) from to promo kind }
 {
     let plain = Move::Go {
@@ -79,7 +81,7 @@ pub(crate) fn moves_and_gates(
         gate: None,
     };
     let may = may_gate(rules, p, from, kind);
-    may && piece_moves::is_candidate(rules, tables, p, &plain)
+    may && piece_moves::is_candidate(rules, tables, p, sets, &plain)
 }
 
 /// Gives the moves of the piece that place a piece of these kinds on the square that it leaves.
