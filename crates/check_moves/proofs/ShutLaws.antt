@@ -1,5 +1,5 @@
 -- What attacks no king, by the squares that are occupied.
-use Rattle.std.proofs.Common.{◌≡◌, ℕ, ◌<◌, Bool, true, false, not, ◌&&◌, ◌||◌, ◌==◌, Option, Some, None, List, inl, inr, refl, sym, ap, ◌∙◌}
+use Rattle.std.proofs.Common.{◌≡◌, ℕ, ◌<◌, true, false, not, ◌&&◌, ◌||◌, ◌==◌, Option, Some, None, List, inl, inr, refl, sym, ap, ◌∙◌}
 use Rattle.std.proofs.lemmas.Bool.{and_cases, and_right}
 use Rattle.rules_model.specs.declared.board.Cell.{Cell}
 use Rattle.rules_model.specs.declared.board.Side.{Side}
@@ -42,12 +42,6 @@ module _ (rules : Rules) (fit : IsFit rules) (board cells : List (Option Cell)) 
   -- no attack from a square that the masks leave out, nor from one where no man stays
   pub no_stayer : attacks_from rules board by at s ≡ false
   no_stayer = unmanned (cell_at board s) refl
-
--- what all have and no other is left of is had
-pub none-left : (a b : Bool) → a ≡ true → b ≡ false → (a && not b) ≡ false → ⊥
-none-left true true e f h = cc
-none-left true false e f h = cc
-none-left false b e f h = cc
 
 -- a set of the occupied squares is as good as another
 pub by_any_set : (rules : Rules) (by : Side) (cells : List (Option Cell)) (a b kings shut : Set) → IsOccupied a cells → IsOccupied b cells → AreShut rules by cells a kings shut → AreShut rules by cells b kings shut

@@ -59,7 +59,8 @@ pub fn guards_from(
     }
 }
 
-/// The squares that guard the king from the pieces of the side. The king that flies is not asked.
+/// The squares that guard the king from the pieces of the side. Where one attacks it, they are all, and no other is
+/// asked. The king that flies is not asked.
 fn guards_from_pieces(
     tables: &Tables,
     cells: &Cells,
@@ -78,6 +79,9 @@ fn guards_from_pieces(
     let mut near = tables.takers(by, king).and(enemies);
     while let Some(from) = near.take_first() {
         guards = guards.or(guards_from(tables, cells, occupied, king, by, from));
+        if all().minus(guards).is_empty() {
+            return guards;
+        }
     }
     guards
 }

@@ -6,8 +6,8 @@ use Rattle.square_set.specs.Members.{has}
 use Rattle.square_set.proofs.Cases.{by_equal}
 use Rattle.attack_tables.proofs.AttackLaws.{men_small}
 use Rattle.attack_tables.proofs.MaskLaws.{and_not}
-use Rattle.pins.proofs.GuardLaws.{every_square}
-use Rattle.check_moves.proofs.ShutLaws.{no_stayer, none-left}
+use Rattle.pins.proofs.GuardLaws.{every_square, none-left}
+use Rattle.check_moves.proofs.ShutLaws.{no_stayer}
 use Rattle.check_moves.proofs.shut.guards_of_king.Goals as goal
 
 pub loop-from-init : goal.loop-from-init

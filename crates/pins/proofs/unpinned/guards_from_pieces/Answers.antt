@@ -1,12 +1,12 @@
 use Rattle.std.proofs.Common.{◌≡◌, ◌==◌, ◌&&◌, not, false, ap, sym, ◌∙◌}
-use Rattle.std.proofs.lemmas.Bool.{and_parts, and_right, or_parts}
+use Rattle.std.proofs.lemmas.Bool.{and_parts, and_right, lt-ltb, or_parts}
 use Rattle.foundation.proofs.CountLemmas.{any_below-none}
 use Rattle.rules_model.specs.Attacks.{attacks_from}
 use Rattle.square_set.specs.Members.{has}
 use Rattle.square_set.proofs.Cases.{by_bool, by_equal}
 use Rattle.attack_tables.proofs.AttackLaws.{men_small}
 use Rattle.attack_tables.proofs.MaskLaws.{and_not, none_there}
-use Rattle.pins.proofs.GuardLaws.{fewer_both}
+use Rattle.pins.proofs.GuardLaws.{fewer_both, none-left}
 use Rattle.pins.proofs.unpinned.guards_from_pieces.Goals as goal
 
 pub loop-from-init : goal.loop-from-init
@@ -19,6 +19,10 @@ loop-from-init c = record {
 
 pub guards_from-requires-clause-from : goal.guards_from-requires-clause-from
 guards_from-requires-clause-from c = men_small c.args.by c.args.cells.now c.args.enemies c.in-Some.from c.prove_board_size.ensures c.requires.enemies (c.loop-from.invariant.inside c.in-Some.from c.in-Some.ensures.some.member)
+
+pub returns-then-is_empty : goal.returns-then-is_empty
+returns-then-is_empty c = λ from to men moved board l out taken gone is.
+    absurd (none-left _ _ (c.all.ensures from ∙ lt-ltb from 128 l) out (sym (c.minus.ensures from) ∙ c.if-is_empty.ensures.empty from))
 
 pub loop-from-preserved : goal.loop-from-preserved
 loop-from-preserved c =
