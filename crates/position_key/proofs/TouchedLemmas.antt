@@ -1,6 +1,7 @@
 -- The squares that a move writes.
-use Rattle.std.proofs.Common.{◌≡◌, ℕ, Bool, true, false, ◌||◌, ◌==◌, Option, Some, None, List, refl, ap, sym, ◌∙◌}
+use Rattle.std.proofs.Common.{◌≡◌, ℕ, Bool, true, false, not, ◌||◌, ◌==◌, Option, Some, None, List, refl, ap, sym, ◌∙◌}
 use Rattle.std.specs.Prelude.{slice_set, IfSome}
+use Rattle.std.proofs.lemmas.Bool.{and_parts}
 use Rattle.foundation.proofs.SetLemmas.{slice_get-set_other}
 use Rattle.rules_model.specs.declared.board.Cell.{Cell}
 use Rattle.rules_model.specs.declared.board.Kind.{Kind}
@@ -14,14 +15,14 @@ use Rattle.rules_model.specs.declared.moves.Placed.{Placed}
 use Rattle.rules_model.specs.declared.moves.Promo.{Promo}
 use Rattle.rules_model.specs.declared.rules.Rules.{Rules}
 use Rattle.rules_model.specs.Castling.{rook_target}
-use Rattle.rules_model.specs.Next.{cells_after, castled, emptied, gated, next, next_repeat, placed_on, without_passed}
+use Rattle.rules_model.specs.Next.{cells_after, castled, emptied, gated, hands_after, next, next_repeat, placed_on, take_into, taken, without_passed}
 use Rattle.rules_model.specs.Pawns.{behind, passes_by}
 use Rattle.rules_model.specs.Repeats.{repeat_of}
 use Rattle.rules_model.specs.Squares.{flat}
 use Rattle.square_set.specs.declared.Set.{Set}
 use Rattle.square_set.specs.Members.{has, IsWith}
 use Rattle.square_set.proofs.Cases.{by_equal}
-use Rattle.position_key.specs.Changed.{AgreeOutside}
+use Rattle.position_key.specs.Changed.{AgreeOutside, keeps_hands}
 
 true-is-not-false : {P : Type 0} → true ≡ false → P
 true-is-not-false e = absurd cc
@@ -81,6 +82,24 @@ module _ (touched : Set) (rules : Rules) (r : Repeat) where
   agree-drop kind to entered = agree-write touched r.cells r.cells to.0 _ entered (agree-none touched r.cells)
 
 -- the board of the next position
+pub next-hands : (rules : Rules) (p q : Position) (m : Move) → q ≡ next rules p m → q.hands ≡ hands_after rules (repeat_of p) m
+unfolding next next_repeat
+next-hands rules p q m e = ap (λ (n : Position). n.hands) e
+
+-- what is taken goes to no hand
+to-none : (hand : Bool) (hands : List (List ℕ)) (side : Side) (c : Option Cell) → not hand ≡ true → take_into hand hands side c ≡ hands
+to-none hand hands side None e = refl
+to-none true hands side (Some c) e = cc
+to-none false hands side (Some c) e = refl
+
+pub kept-hands : (rules : Rules) (r : Repeat) (m : Move) → keeps_hands rules m ≡ true → hands_after rules r m ≡ r.hands
+unfolding hands_after
+kept-hands rules r (Go from to promo None) e = to-none rules.to_hand r.hands r.side (taken rules r from to) (and_parts (not rules.to_hand) true e).0
+kept-hands rules r (Go from to promo (Some kind)) e = true-is-not-false (sym (and_parts (not rules.to_hand) false e).1)
+kept-hands rules r (Castle from to rook None) e = refl
+kept-hands rules r (Castle from to rook (Some placed)) e = cc
+kept-hands rules r (Drop kind to) e = cc
+
 pub next-cells : (rules : Rules) (p q : Position) (m : Move) → q ≡ next rules p m → q.cells ≡ cells_after rules (repeat_of p) m
 unfolding next next_repeat
 next-cells rules p q m e = ap (λ (n : Position). n.cells) e

@@ -4,6 +4,7 @@ ghost use Rattle.rules_model.specs.Fit.{IsFit};
 ghost use Rattle.rules_model.specs.Moves.{IsFitMove};
 ghost use Rattle.rules_model.specs.Next as Next;
 ghost use Rattle.rules_model.specs.Repeats.{repeat_of};
+ghost use Rattle.position_key.specs.Changed as Changed;
 ghost use Rattle.position_key.specs.Changed.{AgreeOutside};
 ghost use Rattle.position_key.specs.Key as Key;
 ghost use Rattle.position_key.specs.Key.{IsBoardKey};
@@ -36,6 +37,18 @@ fn mixed(key: BoardKey, rest: u64) -> u64
     folded(key.0.wrapping_add(word(rest)))
 }
 
+/// Whether the rules and the move alone tell that both hands stay as they are: it drops and places nothing, and what it
+/// takes goes to no hand.
+fn keeps_hands(rules: &Rules, m: &Move) -> bool
+    ensures { result ≡ Changed.keeps_hands rules.now m.now }
+{
+    match *m {
+        Move::Go { gate, .. } => !rules.to_hand && gate.is_none(),
+        Move::Castle { gate, .. } => gate.is_none(),
+        Move::Drop { .. } => false,
+    }
+}
+
 impl BoardKey {
     /// The key of the position's board and hands, from all squares.
     pub fn of(p: &Position) -> BoardKey
@@ -63,7 +76,8 @@ impl BoardKey {
         BoardKey(with_hands(moved, &before.hands, &next.hands))
     }
 
-    /// The key after the move, which leads from the one position to the next.
+    /// The key after the move, which leads from the one position to the next. Hands are looked at only where the move may
+    /// change one.
     pub fn after_move(self, rules: &Rules, p: &Position, m: &Move, next: &Position) -> BoardKey
         requires fit { IsFit rules.now }
         requires move_fits { IsFitMove m.now }
@@ -71,7 +85,11 @@ impl BoardKey {
         requires next { next.now ≡ Next.next rules.now p.now m.now }
         ensures { IsBoardKey result (repeat_of next.now) }
     {
-        self.after(p, next, touched(rules, p, m))
+        let touched = touched(rules, p, m);
+        if keeps_hands(rules, m) {
+            return BoardKey(with_cells(self.0, &p.cells, &next.cells, touched));
+        }
+        self.after(p, next, touched)
     }
 
     /// The key of all that a repetition compares of the position.
