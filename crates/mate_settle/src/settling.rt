@@ -13,6 +13,7 @@ ghost use Rattle.rules_model.specs.Sides.{same_side};
 ghost use Rattle.watching.specs.declared.halt.Halt.{Halt};
 
 use crate::fact_table::FactTable;
+use crate::last_moves::only_movers_win;
 use crate::last_replies::known_before;
 use crate::ordering::{comer, in_order};
 use mate_core::{Fact, Frame};
@@ -145,8 +146,20 @@ fn learn(facts: &mut FactTable, board: &Board, attacking: bool, n: u16, chosen: 
     }
 }
 
+/// Keeps the fact, unless it says that a reply refutes the attacker's last move: that is found again as fast, and would
+/// push out facts that are not.
+fn keep_dear(facts: &mut FactTable, board: &Board, n: u16, fact: Fact)
+    requires { IsTrueIn facts.old fact }
+    ensures { facts.new ≡ facts.old }
+{
+    if n == 1 && only_movers_win(&facts.frame().rules) {
+        return;
+    }
+    facts.keep(board, fact);
+}
+
 /// What one move decides, where the known fact on the position after it is what the side to move wants: a fact that
-/// answers for the position. The fact is kept, and so is the move.
+/// answers for the position. The fact is kept where it is dear, and so is the move.
 #[inline]
 pub(crate) fn decide(
     facts: &mut FactTable,
@@ -171,7 +184,7 @@ pub(crate) fn decide(
 {
     let found = by_one(facts.frame(), board, &chosen, attacking, known);
     learn(facts, board, attacking, n, chosen);
-    facts.keep(board, found);
+    keep_dear(facts, board, n, found);
     found
 }
 
