@@ -39,13 +39,13 @@ pub fewer_both : (a b c : Bool) → (a && b) ≡ false → (a && (b && c)) ≡ f
 fewer_both true b c e = rw e refl
 fewer_both false b c e = refl
 
--- every square
 -- what all have, and no other lacks, is had
 pub none-left : (a b : Bool) → a ≡ true → b ≡ false → (a && not b) ≡ false → ⊥
 none-left true true e f h = cc
 none-left true false e f h = cc
 none-left false b e f h = cc
 
+-- every square
 pub every_square : (s : ℕ) → bit (2 ^ 128 - 1) s ≡ nat_lt s 128
 every_square s =
     by_order s 128 (bit (2 ^ 128 - 1) s ≡ nat_lt s 128)
