@@ -22,6 +22,9 @@ use playing::Board;
 use rules_model::{Memory, Move, MoveList, Outcome};
 use std::alloc::Global;
 
+/// Most positions have no more moves that may give check.
+const CHECKS: usize = 16;
+
 /// Legal moves, each that gives check among them where only checks win, and all where not; or `Memory`.
 fn last_moves(alloc: Global, board: &Board, checks: &Option<Checks>) -> Result<MoveList, Memory>
     requires known { IfSome checks.now (λ checks. AreChecksIn board.now checks) }
@@ -30,7 +33,7 @@ fn last_moves(alloc: Global, board: &Board, checks: &Option<Checks>) -> Result<M
     match checks {
         Some(checks) => {
             let mut moves = MoveList {
-                items: Vec::new(alloc),
+                items: Vec::with_capacity(alloc, CHECKS)?,
             };
             push_checks(board, checks, &mut moves)?;
             Ok(moves)

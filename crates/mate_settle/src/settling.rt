@@ -26,12 +26,15 @@ use rules_model::{Memory, Move, MoveList, Position};
 use std::alloc::Global;
 use watching::{Halt, Watch};
 
+/// Most positions have no more legal moves.
+const LEGAL: usize = 64;
+
 // The legal moves, each once.
 pub(crate) fn legal_list(alloc: Global, board: &Board) -> Result<MoveList, Memory>
     ensures { IfOk result (Lists (λ m. Member m (legal_in board.now))) }
 {
     let mut moves = MoveList {
-        items: Vec::new(alloc),
+        items: Vec::with_capacity(alloc, LEGAL)?,
     };
     board.push_legal(&mut moves)?;
     Ok(moves)
