@@ -11,12 +11,12 @@ use Rattle.rules_model.specs.declared.board.Side.TheVariants.{White, Black}
 use Rattle.rules_model.specs.declared.board.Square.{Square}
 use Rattle.rules_model.specs.declared.moves.Move.TheVariants.{Go, Drop}
 use Rattle.rules_model.specs.declared.moves.Promo.{Promo}
-use Rattle.rules_model.specs.declared.moves.Promo.TheVariants.{Stays}
+use Rattle.rules_model.specs.declared.moves.Promo.TheVariants.{Stays, Pawn, Plus}
 use Rattle.rules_model.specs.declared.rules.Rules.{Rules}
 use Rattle.rules_model.specs.Attacks.{attacks, attacks_from, is_own_king, king_attacked, king_attacked_at}
-use Rattle.rules_model.specs.Kinds.{is_king}
+use Rattle.rules_model.specs.Kinds.{is_king, promoted_of}
 use Rattle.rules_model.specs.Legal.{gives_check}
-use Rattle.rules_model.specs.Next.{after_promo, cells_after, emptied, fresh, next_repeat, promote}
+use Rattle.rules_model.specs.Next.{after_promo, cells_after, emptied, fresh, next_repeat, plus, promote}
 use Rattle.rules_model.specs.Pawns.{behind, is_ep, passes_by}
 use Rattle.rules_model.specs.Sides.{other, same_side}
 use Rattle.rules_model.specs.Squares.{cell_at}
@@ -115,6 +115,15 @@ module _ (rules : Rules) (side : Side) (kind : Kind) (cells : List (Option Cell)
 
 -- ---- the moves
 
+plus_side : (c : Cell) (o : Option Kind) → (plus c o).side ≡ c.side
+plus_side c None = refl
+plus_side c (Some kind) = refl
+
+pub promo_side : (rules : Rules) (c : Cell) (promo : Promo) → (after_promo rules c promo).side ≡ c.side
+promo_side rules c Stays = refl
+promo_side rules c (Pawn kind) = refl
+promo_side rules c Plus = plus_side c (promoted_of rules c.kind)
+
 module _ (rules : Rules) (r : Repeat) (size : length r.cells ≡ 120) where
   pub goes : (from to : Square) (promo : Promo) (x : Cell) → cell_at r.cells from.0 ≡ Some x → passes_by rules r from to.0 ≡ false → cells_after rules r (Go from to promo None) ≡ moved r.cells from.0 to.0 (after_promo rules x promo)
   unfolding cells_after
@@ -132,11 +141,12 @@ module _ (rules : Rules) (r : Repeat) (size : length r.cells ≡ 120) where
     others = λ s f e. moved-other r.cells from.0 to.0 s x (λ g. f (sym g)) (λ g. e (sym g));
   }
 
-  pub go_is_quiet : (from to : Square) (x : Cell) → from.0 < 120 → to.0 < 120 → cell_at r.cells from.0 ≡ Some x → x.side ≡ r.side → is_ep r.ep to.0 ≡ false → ComesQuietly rules r.side x.kind r.cells from.0 to.0 → gives_check rules r (Go from to Stays None) ≡ false
+  pub go_is_quiet : (from to : Square) (promo : Promo) (x : Cell) → from.0 < 120 → to.0 < 120 → cell_at r.cells from.0 ≡ Some x → x.side ≡ r.side → is_ep r.ep to.0 ≡ false → ComesQuietly rules r.side (after_promo rules x promo).kind r.cells from.0 to.0 → gives_check rules r (Go from to promo None) ≡ false
   unfolding gives_check next_repeat
-  go_is_quiet from to x l m there own no_ep quiet =
-      ap (λ cells. king_attacked rules cells (other r.side)) (goes from to Stays x there (not_passing rules r from to.0 no_ep))
-      ∙ quiet (moved r.cells from.0 to.0 x) (went from to x l m own)
+  go_is_quiet from to promo x l m there own no_ep quiet =
+      let y = after_promo rules x promo in
+      ap (λ cells. king_attacked rules cells (other r.side)) (goes from to promo x there (not_passing rules r from to.0 no_ep))
+      ∙ quiet (moved r.cells from.0 to.0 y) (went from to y l m (promo_side rules x promo ∙ own))
 
   pub dropped : (kind : Kind) (to : Square) → to.0 < 120 → ComesTo r.side kind r.cells to.0 to.0 (slice_set r.cells to.0 (Some (fresh r.side kind)))
   dropped kind to m = record {

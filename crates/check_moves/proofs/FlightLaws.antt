@@ -13,17 +13,17 @@ use Rattle.rules_model.specs.declared.board.Wing.TheVariants.{Kingside, Queensid
 use Rattle.rules_model.specs.declared.moves.Move.{Move}
 use Rattle.rules_model.specs.declared.moves.Move.TheVariants.{Go, Drop}
 use Rattle.rules_model.specs.declared.moves.Promo.{Promo}
-use Rattle.rules_model.specs.declared.moves.Promo.TheVariants.{Stays, Pawn, Plus}
+use Rattle.rules_model.specs.declared.moves.Promo.TheVariants.{Stays}
 use Rattle.rules_model.specs.declared.rules.Rules.{Rules}
 use Rattle.rules_model.specs.Allowed.{can_capture, is_legal}
 use Rattle.rules_model.specs.Attacks.{attacks, attacks_from, is_own_king, is_own_pawn, king_attacked, king_attacked_at}
 use Rattle.rules_model.specs.Castling.{holds_right}
 use Rattle.rules_model.specs.Candidates.{is_candidate, is_piece_move}
 use Rattle.rules_model.specs.Ends.{early_end, is_ongoing}
-use Rattle.rules_model.specs.Kinds.{is_king, is_pawn, promoted_of}
+use Rattle.rules_model.specs.Kinds.{is_king, is_pawn}
 use Rattle.rules_model.specs.Legal.{gives_check, is_allowed, is_safe, is_sane, legal, may_check, stays_mobile}
 use Rattle.rules_model.specs.Movement.{kind_reaches}
-use Rattle.rules_model.specs.Next.{after_promo, captures, cells_after, fresh, next_repeat, plus}
+use Rattle.rules_model.specs.Next.{after_promo, captures, cells_after, fresh, next_repeat}
 use Rattle.rules_model.specs.Pawns.{is_ep, passes_by}
 use Rattle.rules_model.specs.Pieces as Pieces
 use Rattle.rules_model.specs.Pieces.{may_plus, means_castling, piece_goes, piece_moves}
@@ -48,7 +48,7 @@ use Rattle.check_moves.specs.declared.flights.LoneKing.{LoneKing}
 use Rattle.check_moves.specs.Checks.{ComesTo, ReachesNone}
 use Rattle.check_moves.specs.Shut.{AreShut}
 use Rattle.check_moves.specs.Flights.{IsFlight, IsLoneKing, IsOnlyKing, IsOpen, LeavesStep, StaysOpen, are_steps_plain, carried, is_castling_step, repeat_after}
-use Rattle.check_moves.proofs.ComeLaws.{by_place, dropped, goes, kept_there, later_occupied, left_there, no_other_king, same_is, taken_there, went}
+use Rattle.check_moves.proofs.ComeLaws.{by_place, dropped, goes, kept_there, later_occupied, left_there, no_other_king, promo_side, same_is, taken_there, went}
 
 unlike : (a b : ℕ) → (a == b) ≡ false → a ≢ b
 unlike a b n e = let t : (a == b) ≡ true = eq-eqb a b e in cc
@@ -295,15 +295,6 @@ open_leaves s flight is m later e long opened on =
     is.no_castling
     (subst (λ (c : List (Option Cell)). king_attacked s.rules (carried c flight.king.at flight.to) (other s.position.side) ≡ false) back opened.safe)
     is.king.small is.small on
-
-plus_side : (c : Cell) (o : Option Kind) → (plus c o).side ≡ c.side
-plus_side c None = refl
-plus_side c (Some kind) = refl
-
-promo_side : (rules : Rules) (c : Cell) (promo : Promo) → (after_promo rules c promo).side ≡ c.side
-promo_side rules c Stays = refl
-promo_side rules c (Pawn kind) = refl
-promo_side rules c Plus = plus_side c (promoted_of rules c.kind)
 
 module _ (s : Stance) (flight : Flight) (is : IsFlight s flight) (size : length s.position.cells ≡ 120) where
   pub go-leaves : (from to : Square) (promo : Promo) (x : Cell) → from.0 < 120 → to.0 < 120 → cell_at s.position.cells from.0 ≡ Some x → x.side ≡ s.position.side → is_ep s.position.ep to.0 ≡ false → StaysOpen s flight (after_promo s.rules x promo).kind from.0 to.0 → LeavesStep s flight (Go from to promo None)

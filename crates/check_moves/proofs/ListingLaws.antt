@@ -79,7 +79,7 @@ module _ (s : Stance) (checks : Checks) (asked : Asked) (are : AreChecksIn s che
       let out = outside x.kind to.0 p.1 in
       by_bool (is_ep s.position.ep to.0) (gives_check s.rules (repeat_in s) (Go from to Stays None) ≡ false)
       (λ ep. absurd (never (has (to_of x.kind) to.0) (of.passed x.kind.0 out.0 (record { 0 = 0 }) to.0 tl ep) out.1))
-      (λ no_ep. go_is_quiet s.rules (repeat_in s) size from to x fl tl there (same_is x.side s.position.side (not_false _ p.0)) no_ep
+      (λ no_ep. go_is_quiet s.rules (repeat_in s) size from to Stays x fl tl there (same_is x.side s.position.side (not_false _ p.0)) no_ep
       (quiet_come x.kind from.0 to.0 fl tl out.0 closed out.1))
 
   cell_quiet : (from to : Square) (o : Option Cell) → from.0 < 120 → to.0 < 120 → cell_at s.position.cells from.0 ≡ o → has asked.shut from.0 ≡ true → is_to_of asked s.position.side o to.0 ≡ false → gives_check s.rules (repeat_in s) (Go from to Stays None) ≡ false

@@ -2,9 +2,9 @@
 ghost use Rattle.std.specs.Prelude.{◌≡◌, ◌<◌, false, None};
 ghost use Rattle.foundation.specs.Member.{Member};
 ghost use Rattle.rules_model.specs.declared.moves.Move.TheVariants.{Go};
-ghost use Rattle.rules_model.specs.declared.moves.Promo.TheVariants.{Stays};
 ghost use Rattle.rules_model.specs.Legal as Legal;
 ghost use Rattle.rules_model.specs.Moves.{IsFitMove};
+ghost use Rattle.rules_model.specs.Next as Next;
 ghost use Rattle.rules_model.specs.Repeats.{repeat_of};
 ghost use Rattle.move_tables.specs.Occupied.{IsOccupied};
 ghost use Rattle.legality.specs.Stance as Stance;
@@ -14,9 +14,10 @@ use crate::shut::shut;
 use attack_tables::{Mode, Tables, cell_on};
 use board_sets::sets_are_on_board;
 use playing::Board;
-use rules_model::passing::{is_ep, is_stays};
+use rules_model::kinds::promoted_of;
+use rules_model::passing::is_ep;
 use rules_model::sizes::prove_position_sizes;
-use rules_model::{Kind, Move, Position, Side, Square};
+use rules_model::{Cell, Kind, Move, Position, Promo, Rules, Side, Square};
 use square_set::Set;
 
 /// What is known of the checks that the side to move may give.
@@ -100,7 +101,21 @@ fn may_come(
     reaches_some(tables, p.side, kind, to, moved, checks.kings)
 }
 
-/// Whether the piece that goes from the one square to the other and stays what it is may give check.
+/// The kind of the piece after its move.
+pub(crate) fn kind_after(rules: &Rules, piece: Cell, promo: Promo) -> Kind
+    ensures { result ≡ (Next.after_promo rules.now piece promo).kind }
+{
+    match promo {
+        Promo::Stays => piece.kind,
+        Promo::Pawn(kind) => kind,
+        Promo::Plus => match promoted_of(rules, piece.kind) {
+            Some(kind) => kind,
+            None => piece.kind,
+        },
+    }
+}
+
+/// Whether the piece that goes from the one square to the other, and becomes what the move says, may give check.
 fn go_may_check(
     tables: &Tables,
     p: &Position,
@@ -108,12 +123,13 @@ fn go_may_check(
     checks: &Checks,
     from: Square,
     to: Square,
+    promo: Promo,
 ) -> bool
     requires occupied { IsOccupied occupied p.now.cells }
     requires checks { Spec.AreChecks tables.now p.now.side p.now.cells checks.now }
     requires from { from.0 < 120 }
     requires to { to.0 < 120 }
-    ensures { result ≡ false → Legal.gives_check tables.now (repeat_of p.now) (Go from to Stays None) ≡ false }
+    ensures { result ≡ false → Legal.gives_check tables.now (repeat_of p.now) (Go from to promo None) ≡ false }
 {
     prove_position_sizes(p);
     match cell_on(&p.cells, from.0) {
@@ -122,7 +138,8 @@ fn go_may_check(
             if !piece.side.is(p.side) || is_ep(p.ep, to) {
                 return true;
             }
-            may_come(tables, p, occupied, checks, piece.kind, from.0, to.0)
+            let kind = kind_after(tables.rules(), piece, promo);
+            may_come(tables, p, occupied, checks, kind, from.0, to.0)
         }
     }
 }
@@ -142,18 +159,18 @@ fn move_may_check(tables: &Tables, p: &Position, occupied: Set, checks: &Checks,
             promo,
             gate,
         } => {
-            if !is_stays(promo) || gate.is_some() {
+            if gate.is_some() {
                 return true;
             }
-            go_may_check(tables, p, occupied, checks, from, to)
+            go_may_check(tables, p, occupied, checks, from, to, promo)
         }
         Move::Castle { .. } => true,
         Move::Drop { kind, to } => may_come(tables, p, occupied, checks, kind, to.0, to.0),
     }
 }
 
-/// Whether the move may give check: where the answer is no it gives none. The answer is always yes for castles,
-/// promotions and gates, for what goes to the square of en passant, and where kings fly.
+/// Whether the move may give check: where the answer is no it gives none. The answer is always yes for castles
+/// and gates, for what goes to the square of en passant, and where kings fly.
 pub fn may_check(board: &Board, checks: &Checks, m: &Move) -> bool
     requires move_fits { IsFitMove m.now }
     requires checks { Spec.AreChecksIn board.now checks.now }

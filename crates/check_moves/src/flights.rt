@@ -5,20 +5,19 @@ ghost use Rattle.std.specs.List.{All};
 ghost use Rattle.rules_model.specs.declared.moves.Move.TheVariants.{Go};
 ghost use Rattle.rules_model.specs.Fit.{IsFit};
 ghost use Rattle.rules_model.specs.Moves.{IsFitMove};
-ghost use Rattle.rules_model.specs.Next as Next;
 ghost use Rattle.legality.specs.Stance.{Stance};
 ghost use Rattle.check_moves.specs.Flights as Spec;
 
-use crate::checks::reaches_some;
+use crate::checks::{kind_after, reaches_some};
 use crate::shut::shut;
 use attack_tables::{Mode, cell_on};
 use board_sets::sets_are_on_board;
 use playing::Board;
 use rules_model::castling::castling_square;
-use rules_model::kinds::{names, promoted_of};
+use rules_model::kinds::names;
 use rules_model::passing::is_ep;
 use rules_model::sizes::prove_position_sizes;
-use rules_model::{Cell, Kind, Move, Promo, Rules, Side, Square};
+use rules_model::{Kind, Move, Promo, Rules, Side, Square};
 use square_set::{EMPTY, Set};
 
 /// The most steps of a king that are kept.
@@ -150,20 +149,6 @@ fn flight_to(board: &Board, king: &LoneKing, to: u8) -> Option<Flight>
         stepped,
         shut,
     })
-}
-
-/// The kind of the piece after its move.
-fn kind_after(rules: &Rules, piece: Cell, promo: Promo) -> Kind
-    ensures { result ≡ (Next.after_promo rules.now piece promo).kind }
-{
-    match promo {
-        Promo::Stays => piece.kind,
-        Promo::Pawn(kind) => kind,
-        Promo::Plus => match promoted_of(rules, piece.kind) {
-            Some(kind) => kind,
-            None => piece.kind,
-        },
-    }
 }
 
 /// Whether the king may step to the square once a piece of the kind has left the one square for the other. One that is

@@ -59,7 +59,7 @@ fn expect_chess(rt: &impl Abort, alloc: Global, p: &Position, wanted: u32) {
 }
 
 // A rook's, a knight's, what uncovers and a pawn that stays in the way, a king that uncovers; of two pieces in the way
-// neither does. A promotion is always asked.
+// neither does. A promotion is asked by what the pawn becomes: queen and rook.
 #[test]
 fn few_moves_of_chess_are_asked(rt: HostRuntime) {
     let alloc = rt.alloc();
@@ -69,7 +69,7 @@ fn few_moves_of_chess_are_asked(rt: HostRuntime) {
     expect_chess(&rt, alloc, &position("Ke1 Re2 Pe4 ke8"), 1);
     expect_chess(&rt, alloc, &position("Ke4 Re1 ke8"), 8);
     expect_chess(&rt, alloc, &position("Ke1 Ra8 Nb8 nd8 kh8"), 0);
-    expect_chess(&rt, alloc, &position("Ke1 Pa7 kh8"), 4);
+    expect_chess(&rt, alloc, &position("Ke1 Pa7 kh8"), 2);
 }
 
 // The castling rook checks. En passant takes two pieces out of the way.
