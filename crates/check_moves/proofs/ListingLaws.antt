@@ -21,7 +21,7 @@ use Rattle.square_set.specs.Members.{has}
 use Rattle.square_set.proofs.Cases.{by_bool, by_equal, by_order}
 use Rattle.move_tables.specs.Occupied.{IsOccupied}
 use Rattle.legality.specs.declared.asked.Asked.{Asked}
-use Rattle.legality.specs.Asking.{IsAskedIn, is_asked, is_to, is_to_of}
+use Rattle.legality.specs.Asking.{IsAskedIn, is_asked, is_to, is_to_as, is_to_of}
 use Rattle.legality.specs.Stance.{Stance, legal_in, repeat_in}
 use Rattle.legality.proofs.AskingLaws.{is_to-above, is_to-letter}
 use Rattle.check_moves.specs.declared.checks.Checks.{Checks}
@@ -86,13 +86,26 @@ module _ (s : Stance) (checks : Checks) (asked : Asked) (are : AreChecksIn s che
   cell_quiet from to None fl tl there closed e = cc
   cell_quiet from to (Some x) fl tl there closed e = man_quiet from to x fl tl there closed e
 
+  promoted_quiet : (from to : Square) (kind : Kind) (o : Option Cell) → from.0 < 120 → to.0 < 120 → cell_at s.position.cells from.0 ≡ o → has asked.shut from.0 ≡ true → is_to_as asked s.position.side kind o to.0 ≡ false → gives_check s.rules (repeat_in s) (Go from to (Pawn kind) None) ≡ false
+  promoted_quiet from to kind None fl tl there closed e = cc
+  promoted_quiet from to kind (Some x) fl tl there closed e =
+      let p = or_parts (not (same_side x.side s.position.side)) (is_to asked kind to.0) e in
+      let out = outside kind to.0 p.1 in
+      by_bool (is_ep s.position.ep to.0) (gives_check s.rules (repeat_in s) (Go from to (Pawn kind) None) ≡ false)
+      (λ ep. absurd (never (has (to_of kind) to.0) (of.passed kind.0 out.0 (record { 0 = 0 }) to.0 tl ep) out.1))
+      (λ no_ep. go_is_quiet s.rules (repeat_in s) size from to (Pawn kind) x fl tl there (same_is x.side s.position.side (not_false _ p.0)) no_ep
+      (quiet_come kind from.0 to.0 fl tl out.0 closed out.1))
+
   -- a legal move that is not asked for gives no check
   pub unasked_quiet : (m : Move) → IsFitMove m → is_asked asked (repeat_in s) m ≡ false → gives_check s.rules (repeat_in s) m ≡ false
   unasked_quiet (Go from to Stays None) fit e =
       let p = or_parts (not (has asked.shut from.0)) (is_to_of asked s.position.side (cell_at s.position.cells from.0) to.0) e in
       cell_quiet from to (cell_at s.position.cells from.0) fit.0 fit.1 refl (not_false _ p.0) p.1
   unasked_quiet (Go from to Stays (Some kind)) fit e = cc
-  unasked_quiet (Go from to (Pawn kind) gate) fit e = cc
+  unasked_quiet (Go from to (Pawn kind) None) fit e =
+      let p = or_parts (not (has asked.shut from.0)) (is_to_as asked s.position.side kind (cell_at s.position.cells from.0) to.0) e in
+      promoted_quiet from to kind (cell_at s.position.cells from.0) fit.0 fit.1 refl (not_false _ p.0) p.1
+  unasked_quiet (Go from to (Pawn kind) (Some placed)) fit e = cc
   unasked_quiet (Go from to Plus gate) fit e = cc
   unasked_quiet (Castle from to rook gate) fit e = cc
   unasked_quiet (Drop kind to) fit e =

@@ -6,12 +6,11 @@ ghost use Rattle.rules_model.specs.Repeats.{repeat_of};
 ghost use Rattle.legality.specs.Asking as Asking;
 
 use attack_tables::cell_on;
-use rules_model::passing::is_stays;
-use rules_model::{KINDS, Kind, Move, Position, Square};
+use rules_model::{KINDS, Kind, Move, Position, Promo, Square};
 use square_set::{EMPTY, Set, Shift};
 
-/// Which moves are asked for: of those that leave a square of `shut`, or are dropped on one, and stay what they are
-/// without a gate, only those to the squares of their kind; castles and all other moves.
+/// Which moves are asked for: of those that leave a square of `shut`, or are dropped on one, and place nothing there, only
+/// those to the squares of their kind, a pawn's promotion to those of its new kind; castles and all other moves.
 #[derive(Clone, Copy)]
 pub struct Asked {
     /// Squares from which not all moves are asked for.
@@ -84,6 +83,49 @@ impl Asked {
         targets.minus(self.shut).or(self.of_kind(kind, targets))
     }
 
+    /// Whether the square is one of the kind's. A kind above 25 has none of its own: all are asked for.
+    fn is_to(&self, kind: Kind, to: Square) -> bool
+        requires { to.0 < 120 }
+        ensures { result ≡ Asking.is_to self.now kind to.0 }
+    {
+        if kind.0 < 26 {
+            self.to[kind.0 as usize].has(to.0)
+        } else {
+            true
+        }
+    }
+
+    /// Whether the move is asked for by which the piece on the square becomes one of the kind.
+    fn asks_promoted(
+        &self,
+        p: &Position,
+        from: Square,
+        to: Square,
+        kind: Kind,
+        gate: Option<Kind>,
+    ) -> bool
+        requires from { from.0 < 120 }
+        requires to { to.0 < 120 }
+        ensures { result ≡ Asking.is_asked_as self.now (repeat_of p.now) from kind gate to.0 }
+    {
+        if gate.is_some() {
+            return true;
+        }
+        if !self.shut.has(from.0) {
+            return true;
+        }
+        match cell_on(&p.cells, from.0) {
+            None => true,
+            Some(piece) => {
+                if piece.side.is(p.side) {
+                    self.is_to(kind, to)
+                } else {
+                    true
+                }
+            }
+        }
+    }
+
     /// Whether the fit move is asked for.
     pub(crate) fn asks(&self, p: &Position, m: &Move) -> bool
         requires { IsFitMove m.now }
@@ -95,10 +137,14 @@ impl Asked {
                 to,
                 promo,
                 gate,
-            } => {
-                let one = EMPTY.with(to.0);
-                !is_stays(promo) || self.of_targets(p, from, gate, one).has(to.0)
-            }
+            } => match promo {
+                Promo::Stays => {
+                    let one = EMPTY.with(to.0);
+                    self.of_targets(p, from, gate, one).has(to.0)
+                }
+                Promo::Pawn(kind) => self.asks_promoted(p, from, to, kind, gate),
+                Promo::Plus => true,
+            },
             Move::Castle { .. } => true,
             Move::Drop { kind, to } => self.of_drops(kind, EMPTY.with(to.0)).has(to.0),
         }
