@@ -36,7 +36,9 @@ use Rattle.square_set.specs.Members.{IsWith, IsWithout, has}
 use Rattle.square_set.proofs.Cases.{by_bool, by_equal}
 use Rattle.move_tables.specs.declared.mode.Mode.TheVariants.{Quiet, Take}
 use Rattle.move_tables.specs.Occupied.{AreKings, IsOccupied}
-use Rattle.move_tables.specs.Reached.{AreReached, reaches_as}
+use Rattle.move_tables.specs.declared.spot.Spot.{Spot}
+use Rattle.move_tables.specs.Lines.{by_spot}
+use Rattle.move_tables.specs.Reached.{reaches_as}
 use Rattle.attack_tables.proofs.AttackLaws.{attacks_by_parts, king_at, no_king_at, other_other}
 use Rattle.attack_tables.proofs.MaskLaws.{from_man, from_none}
 use Rattle.pins.specs.Guards.{IsMoved}
@@ -334,13 +336,17 @@ moved-by old left new from to without with t = with t ∙ ap (λ (b : Bool). b |
 
 module _ (s : Stance) (flight : Flight) (is : IsFlight s flight) (kind : Kind) (from to : ℕ) (from_king : (from == flight.king.at) ≡ false) (from_at : (from == flight.to) ≡ false) (to_king : (to == flight.king.at) ≡ false) (to_at : (to == flight.to) ≡ false) (closed : has flight.shut from ≡ true) where
   -- no line is opened, the piece does not attack the square, and the king reaches it
-  pub stays-open : (occupied later_set reach moved_on : Set) → IsOccupied occupied s.position.cells → IsMoved occupied from to later_set → AreReached s.rules (other s.position.side) flight.king.kind (record { 0 = flight.king.at }) Quiet later_set reach → has reach flight.to ≡ true → IsMoved flight.stepped from to moved_on → ReachesNone s.rules s.position.side kind to moved_on flight.target → StaysOpen s flight kind from to
-  stays-open occupied later_set reach moved_on all went_on are hit gone none later long come = record {
+  pub stays-open : (occupied later_set moved_on : Set) → IsOccupied occupied s.position.cells → IsMoved occupied from to later_set → ((board : List (Option Cell)) → IsOccupied later_set board → reaches_as s.rules board (other s.position.side) flight.king.kind (record { 0 = flight.king.at }) Quiet flight.to ≡ true) → IsMoved flight.stepped from to moved_on → ReachesNone s.rules s.position.side kind to moved_on flight.target → StaysOpen s flight kind from to
+  stays-open occupied later_set moved_on all went_on hit gone none later long come = record {
     stays = king_stays s flight is kind from to from_king from_at to_king to_at later long come;
     empty = stays_empty s flight is kind from to from_king from_at to_king to_at later long come;
-    reached = sym (are later (later_occupied s.rules s.position.side kind s.position.cells from to later come occupied later_set all went_on) flight.to) ∙ hit;
+    reached = hit later (later_occupied s.rules s.position.side kind s.position.cells from to later come occupied later_set all went_on);
     safe = is_safe_there s flight is kind from to from_king from_at to_king to_at later long come moved_on gone closed none;
   }
+
+-- a leap is made whatever stands on the board
+pub leaps-reach : (spot : Spot) (occupied : Set) (t : ℕ) → (has spot.leaps t && has spot.within t) ≡ true → by_spot spot occupied t ≡ true
+leaps-reach spot occupied t e = let p = and_parts (has spot.leaps t) (has spot.within t) e in rw (p.0, p.1) refl
 
 -- a step to an empty square, as the code makes it
 pub flight-of : (s : Stance) (king : LoneKing) (to : ℕ) (occupied left stepped target closed : Set) → IsLoneKing s king → to < 120 → is_some (cell_at s.position.cells to) ≡ false → is_castling_step s.rules (other s.position.side) king.at to ≡ false → IsOccupied occupied s.position.cells → IsWithout occupied king.at left → IsWith left to stepped → has target to ≡ true → AreShut s.rules s.position.side s.position.cells stepped target closed → IsFlight s (record { king = king; to = to; target = target; stepped = stepped; shut = closed })

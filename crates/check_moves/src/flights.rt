@@ -9,6 +9,7 @@ ghost use Rattle.legality.specs.Stance.{Stance};
 ghost use Rattle.check_moves.specs.Flights as Spec;
 
 use crate::checks::{kind_after, reaches_some};
+use crate::listing::prove_moved;
 use crate::shut::shut;
 use attack_tables::{Mode, cell_on};
 use board_sets::sets_are_on_board;
@@ -152,7 +153,7 @@ fn flight_to(board: &Board, king: &LoneKing, to: u8) -> Option<Flight>
 }
 
 /// Whether the king may step to the square once a piece of the kind has left the one square for the other. One that is
-/// dropped leaves the square to which it comes.
+/// dropped leaves the square to which it comes. A step that is no leap is not known to be open.
 fn stays_open(board: &Board, flight: &Flight, kind: Kind, from: u8, to: u8) -> bool
     requires flight { Spec.IsFlight board.now flight.now }
     requires from { from < 120 }
@@ -168,11 +169,11 @@ fn stays_open(board: &Board, flight: &Flight, kind: Kind, from: u8, to: u8) -> b
     }
     let tables = board.tables();
     let side = board.position().side;
-    let later = board.sets().occupied().without(from).with(to);
-    let steps = tables.reach_set(side.other(), king.kind, Square(king.at), Mode::Quiet, later);
-    if !steps.has(flight.to) {
+    let spot = tables.spot(side.other(), king.kind, Square(king.at), Mode::Quiet);
+    if !spot.leaps.and(spot.within).has(flight.to) {
         return false;
     }
+    prove_moved(board.sets().occupied());
     let moved = flight.stepped.without(from).with(to);
     !reaches_some(tables, side, kind, to, moved, flight.target)
 }

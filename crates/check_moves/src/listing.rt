@@ -57,7 +57,7 @@ fn asked_of(board: &Board, checks: &Checks) -> Asked
 }
 
 /// A piece that goes from one square to another makes a set of the occupied ones. Nothing is done: the call tells a proof.
-fn prove_moved(occupied: Set)
+pub(crate) fn prove_moved(occupied: Set)
     ensures { Spec.MakesSets occupied }
 {
     let _none = occupied.is_empty();
