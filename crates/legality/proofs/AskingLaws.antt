@@ -1,6 +1,6 @@
 -- Which moves are asked for.
-use Rattle.std.proofs.Common.{◌≡◌, ℕ, ◌<◌, ◌≤◌, ◌+◌, nat_lt, Bool, true, false, ◌&&◌, ◌||◌, ◌==◌, not, List, length, slice_index_or, refl, sym, ap, ◌∙◌, arith}
-use Rattle.std.proofs.lemmas.Bool.{eq-eqb, le-ltb, lt-ltb}
+use Rattle.std.proofs.Common.{◌≡◌, ℕ, ◌<◌, ◌≤◌, Bool, true, false, ◌&&◌, ◌||◌, not, slice_index_or, refl, sym, ap}
+use Rattle.std.proofs.lemmas.Bool.{le-ltb, lt-ltb}
 use Rattle.std.proofs.Math.Bool.{or-false}
 use Rattle.rules_model.specs.declared.board.Kind.{Kind}
 use Rattle.square_set.specs.declared.Set.{Set}
@@ -15,10 +15,6 @@ is_to-letter asked kind s l those e = rw (lt-ltb kind.0 26 l) (ap (λ x. has x s
 
 pub is_to-above : (asked : Asked) (kind : Kind) (s : ℕ) → 26 ≤ kind.0 → is_to asked kind s ≡ true
 is_to-above asked kind s l = rw (le-ltb kind.0 26 l) refl
-
--- of the one square
-pub one_of : (has_one : ℕ → Bool) (to : ℕ) (b : Bool) → ((s : ℕ) → has_one s ≡ (false || (s == to))) → (has_one to && b) ≡ b
-one_of has_one to b is = rw (is to ∙ eq-eqb to to refl) refl
 
 -- those of two tests, either of which holds
 pub either_of : (a shut b : Bool) → ((a && not shut) || (a && b)) ≡ (a && (not shut || b))

@@ -27,7 +27,7 @@ use Rattle.legality.specs.Chosen.{AppendsChosen, FitCandidates, can_go, is_chose
 use Rattle.legality.specs.declared.asked.Asked.{Asked}
 use Rattle.legality.specs.AskedChoices.{AppendsAsked}
 use Rattle.legality.specs.Asking.{is_asked}
-use Rattle.legality.proofs.FitLaws.{fit_from, from_fit}
+use Rattle.legality.proofs.FitLaws.{from_fit}
 
 -- a legal capture
 abbrev pub IsLegalCapture : Rules → Repeat → Move → Type 0
@@ -102,10 +102,6 @@ module _ (rules : Rules) (r : Repeat) (gen_type : GenType) where
   unfolding is_chosen
   chosen_parts m e =
       let k = and_parts (is_wanted rules r gen_type m) (is_sane rules r m) (and_parts (is_fit_move m) (is_wanted rules r gen_type m && is_sane rules r m) e).1 in (k.1, k.0)
-
-  pub chosen_fit : (m : Move) → is_chosen rules r gen_type m ≡ true → IsFitMove m
-  unfolding is_chosen
-  chosen_fit m e = fit_from m (and_parts (is_fit_move m) (is_wanted rules r gen_type m && is_sane rules r m) e).0
 
   -- what is not fit is not chosen
   pub unfit-passed : (m : Move) → is_fit_move m ≡ false → is_chosen rules r gen_type m ≡ false
