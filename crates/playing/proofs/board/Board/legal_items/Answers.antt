@@ -1,5 +1,5 @@
 use Rattle.std.proofs.Common.{◌∙◌}
-use Rattle.mate_showing.proofs.ordering.legal_list.Goals as goal
+use Rattle.playing.proofs.board.Board.legal_items.Goals as goal
 
 pub returns : goal.returns
 returns c = c.moves.view_is ∙ c.in_ok-moves.ensures
