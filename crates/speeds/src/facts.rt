@@ -154,15 +154,19 @@ fn calls_a_second(spent: Duration) -> u64 {
 }
 
 /// Prints the publishes and looks a second of one and of four threads, the best of so many rounds.
-pub(crate) fn measure(rt: &HostRuntime, rounds: u32) -> io::Result<()> {
+pub(crate) fn measure<H: Threads + Wait + Clock + Sync>(
+    rt: &HostRuntime,
+    handle: &H,
+    rounds: u32,
+) -> io::Result<()> {
     let alloc = rt.alloc();
     let positions = positions(alloc)?;
     for threads in [1, 4] {
-        let mut shards = time_shards(rt, alloc, threads, &positions)?;
-        let mut maps = time_maps(rt, alloc, threads, &positions)?;
+        let mut shards = time_shards(handle, alloc, threads, &positions)?;
+        let mut maps = time_maps(handle, alloc, threads, &positions)?;
         for _ in 1..rounds {
-            shards = shards.least(time_shards(rt, alloc, threads, &positions)?);
-            maps = maps.least(time_maps(rt, alloc, threads, &positions)?);
+            shards = shards.least(time_shards(handle, alloc, threads, &positions)?);
+            maps = maps.least(time_maps(handle, alloc, threads, &positions)?);
         }
         println!(rt;
             "publishes of {threads} threads: {} and {} a second",

@@ -97,11 +97,15 @@ fn calls_a_second(calls: u32, spent: Duration) -> u64 {
 }
 
 /// Prints the calls a second of one, two and four threads, by so many calls each time.
-pub(crate) fn measure(rt: &HostRuntime, calls: u32) -> io::Result<()> {
+pub(crate) fn measure<H: Threads + Wait + Sync>(
+    rt: &HostRuntime,
+    handle: &H,
+    calls: u32,
+) -> io::Result<()> {
     for threads in [1, 2, 4] {
         let (lock, pass) = Lock::new(rt.alloc(), Tally::new()).map_err(|_| AllocError)?;
         let start = Instant::now(rt)?;
-        call_from(rt, threads, &lock, pass, calls);
+        call_from(handle, threads, &lock, pass, calls);
         let rate = calls_a_second(calls, start.elapsed(rt)?);
         println!(rt; "{threads} threads: {rate} calls a second")?;
     }

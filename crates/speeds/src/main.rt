@@ -11,6 +11,9 @@ mod question;
 mod store;
 mod tally;
 
+use std::sync::Wait;
+use std::thread::Threads;
+use std::time::Clock;
 use std::{env, io};
 
 fn usage(rt: &HostRuntime) -> io::Result<()> {
@@ -18,15 +21,20 @@ fn usage(rt: &HostRuntime) -> io::Result<()> {
 }
 
 // Measures the part of this name, so many times.
-fn measure(rt: &HostRuntime, part: &str, number: u32) -> io::Result<()> {
+fn measure<H: Threads + Wait + Clock + Sync>(
+    rt: &HostRuntime,
+    handle: &H,
+    part: &str,
+    number: u32,
+) -> io::Result<()> {
     if part == "legal" {
         return legal::measure_all(rt, number);
     }
     if part == "lock" {
-        return lock::measure(rt, number);
+        return lock::measure(rt, handle, number);
     }
     if part == "facts" {
-        return facts::measure(rt, number);
+        return facts::measure(rt, handle, number);
     }
     usage(rt)
 }
@@ -44,6 +52,6 @@ fn main(rt: HostRuntime) -> io::Result<()> {
     };
     match words.next() {
         Some(question) => legal::measure_named(&rt, number, &question),
-        None => measure(&rt, &part, number),
+        None => measure(&rt, &rt, &part, number),
     }
 }
