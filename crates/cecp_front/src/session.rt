@@ -1,6 +1,7 @@
 //! What a session keeps between lines.
 ghost use Rattle.std.specs.Prelude.{◌≡◌, ◌++◌, ◌≤◌, IfOk, List, Some};
 ghost use Rattle.session_model.specs.CecpState as CecpState;
+ghost use Rattle.session_model.specs.declared.options.TheConstants.{LEAST_THREADS, MOST_THREADS};
 ghost use Rattle.variant_ini.specs.Section.{Section};
 ghost use Rattle.variant_model.specs.Builtin.{builtin_sections};
 ghost use Rattle.variant_rules.specs.Entries.{entries};
@@ -70,7 +71,7 @@ impl CecpSession {
     ) -> Result<CecpSession, Memory>
         requires begins { (more : List Section) × (sections ≡ builtin_sections ++ more) }
         requires loaded { variants ≡ entries sections }
-        requires threads { (1 ≤ threads) × (threads ≤ 64) }
+        requires threads { (LEAST_THREADS ≤ threads) × (threads ≤ MOST_THREADS) }
         ensures { IfOk result (λ session. CecpState.first_state sections ≡ Some session) }
     {
         let engine = EngineState::new(alloc, threads)?;

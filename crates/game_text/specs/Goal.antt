@@ -6,6 +6,7 @@ use Rattle.rules_model.specs.declared.board.Side.TheVariants.{White, Black}
 use Rattle.foundation.specs.Numbers.{number_of}
 use Rattle.game_text.specs.declared.goal.Goal.{Goal}
 use Rattle.game_text.specs.declared.goal.Stipulation.{Stipulation}
+use Rattle.game_text.specs.declared.goal.TheConstants.{MOST_MOVES, MOST_STIPULATED}
 
 -- what stands after these words, where the text begins with them
 abbrev pub after_words : List ℕ → List ℕ → Option (List ℕ)
@@ -15,7 +16,7 @@ after_words words text = if bytes_eq (take (length words) text) words then Some 
 abbrev pub within : Side → Option ℕ → Option Goal
 within side None = None
 within side (Some moves) =
-    if nat_le 1 moves && nat_le moves 100 then Some (record { attacker = side; moves = moves }) else None
+    if nat_le 1 moves && nat_le moves MOST_MOVES then Some (record { attacker = side; moves = moves }) else None
 
 -- by what stands after the words of White, and else by what stands after those of Black
 abbrev pub goal_by : Option (List ℕ) → Option (List ℕ) → Option Goal
@@ -33,7 +34,7 @@ goal_said text = goal_by (after_words (codes "mate white ") text) (after_words (
 abbrev pub stipulated : Bool → Option ℕ → Option Stipulation
 stipulated help None = None
 stipulated help (Some moves) =
-    if nat_le 1 moves && nat_le moves 6 then Some (record { help = help; moves = moves }) else None
+    if nat_le 1 moves && nat_le moves MOST_STIPULATED then Some (record { help = help; moves = moves }) else None
 
 abbrev pub stipulation_by : Option (List ℕ) → Option (List ℕ) → Option Stipulation
 stipulation_by (Some number) help = stipulated false (number_of number)

@@ -17,4 +17,4 @@ mod shard;
 mod shards;
 
 pub use published::Published;
-pub use shards::{Passes, Shards};
+pub use shards::{Passes, Shards, USUAL_FACTS, USUAL_SHARDS};

@@ -26,6 +26,12 @@ use std::alloc::Global;
 use std::marker::Model;
 use std::sync::Wait;
 
+/// How many shards hold the facts that many workers share.
+pub const USUAL_SHARDS: u32 = 16;
+
+/// How many facts a shard keeps where no number is set.
+pub const USUAL_FACTS: u32 = 4096;
+
 /// Lists of facts that are true in one frame, each list under a lock of its own. A fact stands in the shard of its
 /// repeat. Contracts see the frame, the capacity of each shard and the names of the locks.
 #[derive(Drop)]

@@ -9,7 +9,7 @@ ghost use Rattle.rules_model.specs.Next.{next};
 ghost use Rattle.watching.specs.declared.halt.Halt.{Halt};
 
 use crate::node_table::{NodeTable, no_edges};
-use crate::ordering::{best_of_win, legal_list, moves_from};
+use crate::ordering::{best_of_win, moves_from};
 use mate_fact::won_by;
 use mate_settle::{FactTable, choose};
 use playing::Board;
@@ -126,7 +126,7 @@ fn defence_edges<W: Watch>(
         W.ended watch.old watch.new ((n + 1) * lines_within (seen_in facts.old) n board.now.position - 1) why }
 {
     let mut edges = no_edges(alloc);
-    let moves = legal_list(alloc, board)?;
+    let moves = board.legal_items(alloc)?;
     for i in 0..moves.len() {
         let edge = edge_to(alloc, board, moves[i], n, table, facts, watch)?;
         edges.push(edge)?;

@@ -10,14 +10,6 @@ use playing::Board;
 use rules_model::{Memory, Move, is_same_move};
 use std::alloc::Global;
 
-/// The legal moves in the order of the definition; or `Memory`.
-pub(crate) fn legal_list(alloc: Global, board: &Board) -> Result<Vec<Move>, Memory>
-    ensures { IfOk result (λ ms. ms.items ≡ legal_in board.now) }
-{
-    let moves = board.legal_moves(alloc)?;
-    Ok(moves.items)
-}
-
 /// Puts the move at the place first; the others stay in their order. With no place, or one past the end, nothing
 /// changes.
 pub fn to_front(moves: &mut [Move], place: Option<usize>)

@@ -1,6 +1,6 @@
 //! The legal moves.
 ghost use Rattle.std.specs.Prelude.{◌≡◌, ◌↔◌, ◌-◌, ◌^◌, min, not, length, IsTrue, OnOk, OnErr, IfOk};
-ghost use Rattle.foundation.specs.Member.{Member, Appends};
+ghost use Rattle.foundation.specs.Member.{Member, Appends, Lists};
 ghost use Rattle.rules_model.specs.Allowed as Allowed;
 ghost use Rattle.rules_model.specs.Legal as Legal;
 ghost use Rattle.rules_model.specs.Next as Next;
@@ -11,6 +11,9 @@ use crate::board::Board;
 use legality::{Asked, captures, is_legal_with};
 use rules_model::{Memory, Move, MoveList};
 use std::alloc::Global;
+
+/// Most positions have no more legal moves.
+const MOST_LEGAL: usize = 64;
 
 impl Board<'_> {
     /// Whether the move is legal. Every value of `Move` may be asked for.
@@ -44,6 +47,17 @@ impl Board<'_> {
         self.known().push_legal(out)
     }
 
+    /// The legal moves, each once and in no special order, or `Memory`.
+    pub fn list_legal(&self, alloc: Global) -> Result<MoveList, Memory>
+        ensures { IfOk result (Lists (λ m. Member m (Stance.legal_in self.now))) }
+    {
+        let mut moves = MoveList {
+            items: Vec::with_capacity(alloc, MOST_LEGAL)?,
+        };
+        self.push_legal(&mut moves)?;
+        Ok(moves)
+    }
+
     /// Appends the legal moves that are asked for, each once and in no special order. Without memory the list is as it
     /// was.
     pub fn push_asked(&self, asked: &Asked, out: &mut MoveList) -> Result<(), Memory>
@@ -75,6 +89,14 @@ impl Board<'_> {
         ensures { IfOk result (λ ms. ms ≡ Stance.legal_in self.now) }
     {
         self.known().legal_moves(alloc)
+    }
+
+    /// The same as a vector of moves, or `Memory`.
+    pub fn legal_items(&self, alloc: Global) -> Result<Vec<Move>, Memory>
+        ensures { IfOk result (λ ms. ms.items ≡ Stance.legal_in self.now) }
+    {
+        let moves = self.legal_moves(alloc)?;
+        Ok(moves.items)
     }
 
     /// Whether the legal move captures. En passant is a capture.

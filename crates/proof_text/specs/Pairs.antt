@@ -4,6 +4,7 @@ use Rattle.std.specs.Str.{bytes_eq}
 use Rattle.variant_ini.specs.declared.key_line.KeyLine.{KeyLine}
 use Rattle.variant_ini.specs.LineKind.{LineKind, comment, foreign, header, pair, bad, line_kind, pair_of}
 use Rattle.variant_ini.specs.Section.{key_line}
+use Rattle.proof_text.specs.declared.pairs.TheConstants.{LONGEST_LINE}
 
 -- a pair as a line without blanks at the ends and beside the `=`
 abbrev pub compact : List ℕ × List ℕ → List ℕ
@@ -19,7 +20,7 @@ is_pair words bad = false
 
 -- the compact line is not too long for a variants file, and says the same pair there
 unfoldable pub is_read_back : List ℕ × List ℕ → Bool
-is_read_back words = nat_le (length (compact words)) 1024 && is_pair words (line_kind (compact words))
+is_read_back words = nat_le (length (compact words)) LONGEST_LINE && is_pair words (line_kind (compact words))
 
 abbrev pub if_read_back : List ℕ × List ℕ → Option KeyLine
 if_read_back words = if is_read_back words then Some (key_line words.0 words.1) else None

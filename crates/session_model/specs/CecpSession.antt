@@ -7,6 +7,7 @@ use Rattle.rules_model.specs.declared.moves.Move.{Move}
 use Rattle.rules_model.specs.MoveText.{text_of}
 use Rattle.game_play.specs.Played.{legal_in, story}
 use Rattle.evaluation.specs.Bounds.{depths_bound}
+use Rattle.session_model.specs.declared.limits.TheConstants.{MOST_DEPTH, SHORT_DEPTH}
 use Rattle.session_model.specs.CecpLines as line
 use Rattle.session_model.specs.CecpLines.{Command, command_of, gives_up}
 use Rattle.session_model.specs.CecpState.{State, Answer, answer_to, played, thinks}
@@ -33,11 +34,11 @@ time_for state = time_by state.st state.level state.time
 
 abbrev pub lowered : ℕ → Option ℕ → ℕ
 lowered depth None = depth
-lowered depth (Some sd) = min depth (cut_to 64 sd)
+lowered depth (Some sd) = min depth (cut_to MOST_DEPTH sd)
 
 -- 64 where there is a deadline, else 4; `sd` lowers it
 abbrev pub depth_for : State → ℕ
-depth_for state = lowered (if is_some (time_for state) then 64 else 4) state.sd
+depth_for state = lowered (if is_some (time_for state) then MOST_DEPTH else SHORT_DEPTH) state.sd
 
 abbrev pub task_of : State → Task
 task_of state = record {

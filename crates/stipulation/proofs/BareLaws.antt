@@ -2,7 +2,7 @@
 use Rattle.std.proofs.Common.{◌≡◌, ◌⊎◌, inl, inr, ℕ, zero, suc, ◌+◌, ◌<◌, nat_le, List, [], ◌∷◌, ◌++◌, length, take, get_or, Bool, true, false, not, ◌&&◌, ◌||◌, is_some, if◌then◌else◌, Option, Some, None, refl, ap, sym, ◌∙◌, subst, add-one, arith}
 use Rattle.std.specs.List.{list_any, list_all}
 use Rattle.std.proofs.lemmas.Bool.Decides.{nat_tests}
-use Rattle.foundation.specs.Member.{Member, Lists, Appends}
+use Rattle.foundation.specs.Member.{Member, Lists}
 use Rattle.rules_model.specs.declared.board.Position.{Position}
 use Rattle.rules_model.specs.declared.board.Repeat.{Repeat}
 use Rattle.rules_model.specs.declared.board.Side.{Side}
@@ -171,9 +171,6 @@ member-next ms i d m l k = here ms i d m l (subst (λ n. Member m (take n ms)) (
         split : Member m (take i ms) ⊎ (get_or ms i d ≡ m) → Member m (take (suc i) (x ∷ ms)) ⊎ (get_or (x ∷ ms) (suc i) d ≡ m)
         split (inl a) = inl (inr a)
         split (inr b) = inr b
-
-pub appended-all : (P : Move → Type 0) (old new : List Move) → old ≡ [] → Appends P old new → Lists P new
-appended-all P old new e a = subst (Lists P) (sym (a.is ∙ ap (λ ms. ms ++ a.added) e)) a.each
 
 -- the list says whether some move is legal
 pub listed-stuck : (rules : Rules) (r : Repeat) (ms : List Move) → Lists (λ m. Member m (legal rules r)) ms → is_nil ms ≡ is_stuck rules r

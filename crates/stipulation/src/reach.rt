@@ -9,19 +9,8 @@ ghost use Rattle.stipulation.specs.Bare.{bare, reaches, IsOf};
 use crate::line::mated_by;
 use crate::reach_facts::ReachFacts;
 use playing::Board;
-use rules_model::{Memory, Move, MoveList, Outcome};
+use rules_model::{Memory, Move, Outcome};
 use std::alloc::Global;
-
-/// The legal moves, each once and in no special order.
-fn legal_list(alloc: Global, board: &Board) -> Result<MoveList, Memory>
-    ensures { IfOk result (Lists (λ m. Member m (legal_in board.now))) }
-{
-    let mut moves = MoveList {
-        items: Vec::new(alloc),
-    };
-    board.push_legal(&mut moves)?;
-    Ok(moves)
-}
 
 impl ReachFacts<'_> {
     /// Whether it is reached where the position is ended by itself, as its own end says.
@@ -82,7 +71,7 @@ impl ReachFacts<'_> {
         ensures is { IfOk result (λ b. b ≡ reaches self.old plies (repeat_in board.now)) }
         ensures same { self.new ≡ self.old }
     {
-        let moves = legal_list(alloc, board)?;
+        let moves = board.list_legal(alloc)?;
         let moves = moves.items.as_slice();
         match self.ended(board, board.end_where(!moves.is_empty())) {
             Some(won) => Ok(won),

@@ -10,14 +10,11 @@ use forced_wins::by_rules::good_strategies_win;
 use game_play::Game;
 use hint_table::HintTable;
 use mate_search::{Settled, frame_of, settle};
-use mate_shards::{Passes, Shards};
+use mate_shards::{Passes, Shards, USUAL_FACTS};
 use rules_model::{Memory, Side};
 use std::alloc::Global;
 use std::sync::Wait;
 use strategy::{Edge, Node, Strategy};
-
-/// How many facts are kept of a game, in one shard.
-const FACTS: u32 = 4096;
 
 /// How many hints: one, on its root.
 const HINTS: usize = 1;
@@ -111,6 +108,6 @@ pub fn least_win<R: Wait>(
     ensures { IfOk result (IsLeastWin game.now.rules (story game.now) side n) }
 {
     let frame = frame_of(alloc, game, side)?;
-    let (shards, passes) = Shards::new(alloc, frame, 1, FACTS)?;
+    let (shards, passes) = Shards::new(alloc, frame, 1, USUAL_FACTS)?;
     least_over(rt, alloc, game, side, n, &shards, passes)
 }

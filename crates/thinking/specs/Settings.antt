@@ -1,6 +1,6 @@
 -- What a session sets for its searches.
 use Rattle.std.specs.Prelude.{ℕ, ◌≤◌}
-use Rattle.session_model.specs.declared.options.TheConstants.{DEFAULT_HASH, DEFAULT_MATE_FACTS}
+use Rattle.session_model.specs.declared.options.TheConstants.{DEFAULT_HASH, DEFAULT_MATE_FACTS, LEAST_HASH, LEAST_MATE_FACTS, LEAST_THREADS, MOST_HASH, MOST_MATE_FACTS, MOST_THREADS}
 
 -- how many workers search, the MiB of hints, and how many facts of mates a shard keeps
 pub record Settings : Type 0 where
@@ -9,9 +9,9 @@ pub record Settings : Type 0 where
   pub mate_facts : ℕ
 
 pub record AreInRange (s : Settings) : Type 0 where
-  pub threads : (1 ≤ s.threads) × (s.threads ≤ 64)
-  pub hash : (1 ≤ s.hash) × (s.hash ≤ 1024)
-  pub mate_facts : (16 ≤ s.mate_facts) × (s.mate_facts ≤ 65536)
+  pub threads : (LEAST_THREADS ≤ s.threads) × (s.threads ≤ MOST_THREADS)
+  pub hash : (LEAST_HASH ≤ s.hash) × (s.hash ≤ MOST_HASH)
+  pub mate_facts : (LEAST_MATE_FACTS ≤ s.mate_facts) × (s.mate_facts ≤ MOST_MATE_FACTS)
 
 -- those of a new session
 abbrev pub first_settings : ℕ → Settings

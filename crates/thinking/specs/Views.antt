@@ -4,6 +4,7 @@ use Rattle.std.specs.List.{All}
 use Rattle.std.specs.Option.{option_map}
 use Rattle.foundation.specs.Member.{Member}
 use Rattle.game_play.specs.Played.{legal_in}
+use Rattle.session_model.specs.declared.limits.TheConstants.{MOST_DEPTH}
 use Rattle.session_model.specs.Deadlines.{deadline_of}
 use Rattle.session_model.specs.Mates as Mates
 use Rattle.session_model.specs.Mates.{Announced}
@@ -29,7 +30,7 @@ pub record IsTask (t : Task) : Type 0 where
   pub some : 0 < length t.roots.now
   pub all : t.all ≡ (length t.roots.now == length (legal_in t.game.now))
   pub least : 1 ≤ t.depths
-  pub most : t.depths ≤ 64
+  pub most : t.depths ≤ MOST_DEPTH
 
 -- the deadline of a search that began with its first reading
 abbrev pub IsStart : Option ℕ → Start → Type 0

@@ -1,5 +1,6 @@
 //! One depth, with its lines.
 ghost use Rattle.std.specs.Prelude.{◌≡◌, ◌≤◌, IfOk, IsErrOf, Some};
+ghost use Rattle.session_model.specs.declared.limits.TheConstants.{MOST_DEPTH};
 ghost use Rattle.std.specs.Io.KnownBytes.{IsAtEnd};
 ghost use Rattle.io_ports.specs.Clock.{GivesReadings, count_after, last_after};
 ghost use Rattle.io_ports.specs.Trace.{Moves};
@@ -71,7 +72,7 @@ pub fn search_depth<R: Threads + Wait + Sync, S: Source, K: Sink, C: Clock, G: G
 ) -> Result<Depth, SearchFault>
     requires task { IsTask task.now }
     requires least { 1 ≤ depth }
-    requires most { depth ≤ 64 }
+    requires most { depth ≤ MOST_DEPTH }
     ensures search_depth { IfOk result (Deeper dialect style
         (Moves S.left K.taken C.given C.count C.last source.old source.new sink.old sink.new clock.old clock.new)
         (S.owed source.old) (S.owed source.new) (task_seen task.now) first depth limits line.new) }

@@ -1,5 +1,6 @@
 //! What a session keeps for its searches.
 ghost use Rattle.std.specs.Prelude.{◌≡◌, ◌≤◌, OnOk, OnErr, IfOk};
+ghost use Rattle.session_model.specs.declared.options.TheConstants.{LEAST_HASH, LEAST_MATE_FACTS, LEAST_THREADS, MOST_HASH, MOST_MATE_FACTS, MOST_THREADS};
 ghost use Rattle.thinking.specs.Settings.{first_settings};
 
 use crate::shared_facts::SharedFacts;
@@ -39,7 +40,7 @@ impl Model for EngineState {
 impl EngineState {
     /// Without a hint, with 4,096 facts a shard and 16 MiB for hints, which the first search or solve takes.
     pub fn new(alloc: Global, threads: u32) -> Result<EngineState, Memory>
-        requires threads { (1 ≤ threads) × (threads ≤ 64) }
+        requires threads { (LEAST_THREADS ≤ threads) × (threads ≤ MOST_THREADS) }
         ensures { IfOk result (λ m. m ≡ first_settings threads) }
     {
         Ok(EngineState {
@@ -55,7 +56,7 @@ impl EngineState {
     /// How many workers search.
     pub fn threads(&self) -> u32
         ensures is { result ≡ self.now.threads }
-        ensures in_range { (1 ≤ result) × (result ≤ 64) }
+        ensures in_range { (LEAST_THREADS ≤ result) × (result ≤ MOST_THREADS) }
     {
         self.threads
     }
@@ -81,7 +82,7 @@ impl EngineState {
 
     /// Sets how many workers search, from 1 to 64.
     pub fn set_threads(&mut self, threads: u32)
-        requires threads { (1 ≤ threads) × (threads ≤ 64) }
+        requires threads { (LEAST_THREADS ≤ threads) × (threads ≤ MOST_THREADS) }
         ensures { self.new ≡ record self.old { threads = threads } }
     {
         self.threads = threads;
@@ -90,7 +91,7 @@ impl EngineState {
     /// Sets the MiB of hints, from 1 to 1,024, takes them at once, and forgets the hints. Out of memory, all stays as
     /// it was.
     pub fn set_hash(&mut self, alloc: Global, hash: u32) -> Result<(), Memory>
-        requires hash { (1 ≤ hash) × (hash ≤ 1024) }
+        requires hash { (LEAST_HASH ≤ hash) × (hash ≤ MOST_HASH) }
         ensures ok { OnOk result (self.new ≡ record self.old { hash = hash }) }
         ensures err { OnErr result (self.new ≡ self.old) }
     {
@@ -103,7 +104,7 @@ impl EngineState {
 
     /// Sets how many facts of mates a shard keeps, from 16 to 65,536, and forgets them.
     pub fn set_mate_facts(&mut self, mate_facts: u32)
-        requires facts { (16 ≤ mate_facts) × (mate_facts ≤ 65536) }
+        requires facts { (LEAST_MATE_FACTS ≤ mate_facts) × (mate_facts ≤ MOST_MATE_FACTS) }
         ensures { self.new ≡ record self.old { mate_facts = mate_facts } }
     {
         self.facts = None;

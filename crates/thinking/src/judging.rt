@@ -1,5 +1,6 @@
 //! Mates that the value of a depth stands for.
 ghost use Rattle.std.specs.Prelude.{◌≡◌, ◌≤◌, ◌<◌, IfOk, OnErr, IsErrOf, Some, None};
+ghost use Rattle.session_model.specs.declared.limits.TheConstants.{MOST_DEPTH};
 ghost use Rattle.std.specs.Io.KnownBytes.{IsAtEnd};
 ghost use Rattle.io_ports.specs.Trace.{Moves};
 ghost use Rattle.game_play.specs.Played.{story};
@@ -145,7 +146,7 @@ pub fn search_and_judge<R: Threads + Wait + Sync, S: Source, K: Sink, C: Clock, 
 ) -> Result<DepthSearched, SearchFault>
     requires task { IsTask task.now }
     requires least { 1 ≤ depth }
-    requires most { depth ≤ 64 }
+    requires most { depth ≤ MOST_DEPTH }
     ensures explored { IfOk result (IsExplored dialect
         (Moves S.left K.taken C.given C.count C.last source.old source.new sink.old sink.new clock.old clock.new)
         (S.owed source.old) (S.owed source.new) (task_seen task.now) depth limits line.new) }

@@ -1,5 +1,6 @@
 //! Mates that are looked for within 1, 2, .. moves.
 ghost use Rattle.std.specs.Prelude.{◌≡◌, ◌≤◌, ◌<◌, IfOk, IsErrOf, Some, length};
+ghost use Rattle.session_model.specs.declared.limits.TheConstants.{MOST_MATE};
 ghost use Rattle.std.specs.Io.KnownBytes.{IsAtEnd};
 ghost use Rattle.io_ports.specs.Trace.{Moves};
 ghost use Rattle.io_ports.specs.declared.limits.SearchFault.{SearchFault};
@@ -65,7 +66,7 @@ pub fn try_mates<R: Threads + Wait + Sync, S: Source, K: Sink, C: Clock, G: Gate
 ) -> Result<MateAttempt, SearchFault>
     requires some { 0 < length (legal_in game.now) }
     requires least { 1 ≤ last }
-    requires most { last ≤ 100 }
+    requires most { last ≤ MOST_MATE }
     ensures tried { IfOk result (IsTried dialect
         (Moves S.left K.taken C.given C.count C.last source.old source.new sink.old sink.new clock.old clock.new)
         (S.owed source.old) (S.owed source.new) limits game.now last line.new) }

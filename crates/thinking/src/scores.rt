@@ -6,15 +6,8 @@ ghost use Rattle.thinking.specs.Views.{IsTask, task_seen};
 
 use crate::task::Task;
 use rules_model::{Move, Side};
+use session_model::limits::{LEAST_MATE, MOST_MATE, WON};
 use strategy::Strategy;
-
-/// The least value either way that stands for a mate.
-const LEAST_MATE: u32 = 31_000;
-
-/// What a win is worth that stands already.
-const WON: u32 = 32_000;
-
-const MOST_MOVES: u32 = 100;
 
 /// The number of moves of the mate that a value stands for: 31,000 or more either way, and from 1 to 100 moves.
 #[tactic(auto, unfolding(session_model::specs::Mates::mate_in))]
@@ -31,7 +24,7 @@ pub fn mate_in(value: i32) -> Option<u16>
         (WON + 1).saturating_sub(size)
     };
     let moves = plies / 2;
-    if 1 <= moves && moves <= MOST_MOVES {
+    if 1 <= moves && moves <= MOST_MATE {
         Some(moves as u16)
     } else {
         None

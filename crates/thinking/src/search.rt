@@ -1,5 +1,6 @@
 //! One search.
 ghost use Rattle.std.specs.Prelude.{◌≡◌, ◌<◌, ◌≤◌, length, IfOk};
+ghost use Rattle.session_model.specs.declared.limits.TheConstants.{MOST_DEPTH};
 ghost use Rattle.std.specs.List.{All};
 ghost use Rattle.foundation.specs.Member.{Member};
 ghost use Rattle.game_play.specs.Played.{legal_in, story};
@@ -39,7 +40,7 @@ pub fn search_once<R: Threads + Sync, S: Source, K: Sink, C: Clock, G: Gate + Sy
     dialect: Dialect,
     line: &mut LineBuf,
 ) -> Result<Found, Halt>
-    requires depth { (1 ≤ depth) × (depth ≤ 64) }
+    requires depth { (1 ≤ depth) × (depth ≤ MOST_DEPTH) }
     requires legal { All (λ m. Member m (legal_in game.now)) roots.now }
     requires some { 0 < length roots.now }
     ensures found { IfOk result (IsFound game.now roots.now depth) }

@@ -3,15 +3,13 @@ ghost use Rattle.std.specs.Prelude.{◌≡◌, ◌≤◌, IfOk};
 ghost use Rattle.fact_lock.specs.Passes.{all_parts};
 ghost use Rattle.mate_shards.specs.Grown.{HaveParts};
 ghost use Rattle.mate_shards.specs.Views.{ArePassesOf};
+ghost use Rattle.session_model.specs.declared.options.TheConstants.{LEAST_MATE_FACTS, MOST_MATE_FACTS};
 
 use foundation::Memory;
 use mate_core::Frame;
-use mate_shards::{Passes, Shards};
+use mate_shards::{Passes, Shards, USUAL_SHARDS};
 use std::alloc::Global;
 use std::marker::Model;
-
-/// How many shards the facts stand in.
-const SHARDS: u32 = 16;
 
 /// Shards and all passes for them. Contracts see the frame of the shards.
 #[derive(Drop)]
@@ -34,10 +32,10 @@ impl Model for SharedFacts {
 impl SharedFacts {
     /// Without facts, with room for N in a shard.
     pub fn new(alloc: Global, frame: Frame, capacity: u32) -> Result<SharedFacts, Memory>
-        requires { (16 ≤ capacity) × (capacity ≤ 65536) }
+        requires { (LEAST_MATE_FACTS ≤ capacity) × (capacity ≤ MOST_MATE_FACTS) }
         ensures { IfOk result (λ facts. facts ≡ frame) }
     {
-        let (shards, passes) = Shards::new(alloc, frame, SHARDS, capacity)?;
+        let (shards, passes) = Shards::new(alloc, frame, USUAL_SHARDS, capacity)?;
         Ok(SharedFacts { shards, passes })
     }
 

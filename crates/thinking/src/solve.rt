@@ -1,5 +1,6 @@
 //! One solve.
 ghost use Rattle.std.specs.Prelude.{◌≡◌, ◌≤◌, IfOk};
+ghost use Rattle.session_model.specs.declared.limits.TheConstants.{MOST_MATE};
 ghost use Rattle.game_play.specs.Played.{story};
 ghost use Rattle.evaluation.specs.Bounds.{solve_bound};
 ghost use Rattle.watching.specs.Stopping.{Partly};
@@ -38,7 +39,7 @@ pub fn solve_once<R: Threads + Wait + Sync, S: Source, K: Sink, C: Clock, G: Gat
     dialect: Dialect,
     line: &mut LineBuf,
 ) -> Result<Settled, Halt>
-    requires n { (1 ≤ n) × (n ≤ 100) }
+    requires n { (1 ≤ n) × (n ≤ MOST_MATE) }
     ensures right { IfOk result (IsRight game.now attacker n) }
     ensures sought { Partly (world S.left S.owed S.faults K.taken K.faults C.given C.count C.last) dialect limits
         (moment source.old sink.old clock.old 0) source.new sink.new clock.new line.new

@@ -9,6 +9,7 @@ use Rattle.game_text.specs.Playing.{is_word}
 use Rattle.rules_model.specs.declared.moves.Move.{Move}
 use Rattle.rules_model.specs.declared.rules.Rules.{Rules}
 use Rattle.rules_model.specs.Sound.{is_sound}
+use Rattle.session_model.specs.declared.limits.TheConstants.{MOST_MATE}
 use Rattle.session_model.specs.Mates.{mover, position_at}
 use Rattle.session_model.specs.Thinking.{Task, Mates}
 use Rattle.session_model.specs.UciSession.{MateAnswer, Shown, Unsettled, Stopped, NoMate}
@@ -75,7 +76,7 @@ mate_said rules last NoMate = no_mate_line last
 
 -- the position that the line names is sound
 abbrev pub IsSayable : Rules → MateAnswer → Type 0
-IsSayable rules (Shown n s best) = (1 ≤ n) × (n ≤ 100)
+IsSayable rules (Shown n s best) = (1 ≤ n) × (n ≤ MOST_MATE)
 IsSayable rules (Unsettled n e) = is_sound rules (position_at e.repeat e.first) ≡ true
 IsSayable rules (Stopped n cause) = Unit {0}
 IsSayable rules NoMate = Unit {0}

@@ -3,6 +3,7 @@ use Rattle.std.specs.Prelude.{◌≡◌, ℕ, ◌<◌, ◌≤◌, List, ◌++◌
 use Rattle.rules_model.specs.declared.rules.Rules.{Rules}
 use Rattle.game_play.specs.Played.{Played}
 use Rattle.thinking.specs.Settings.{Settings}
+use Rattle.session_model.specs.declared.limits.TheConstants.{MOST_MATE}
 use Rattle.session_model.specs.UciState.{State}
 use Rattle.strategy.specs.Reading.{AreSound}
 use Rattle.thinking.specs.declared.depth_result.AnnouncedMate.{AnnouncedMate}
@@ -26,7 +27,7 @@ state_of sections place game engine kept = record {
 -- the mate that was announced can be printed: it has from 1 to 100 moves, and the positions of its strategy are sound
 abbrev pub IsPrintable : Rules → Option AnnouncedMate → Type 0
 IsPrintable rules None = Unit {0}
-IsPrintable rules (Some kept) = (1 ≤ kept.moves) × (kept.moves ≤ 100) × AreSound rules kept.strategy.nodes
+IsPrintable rules (Some kept) = (1 ≤ kept.moves) × (kept.moves ≤ MOST_MATE) × AreSound rules kept.strategy.nodes
 
 -- the variants are those of the sections, and the game goes by the rules of the section at the place
 pub record IsSession (sections : List Section) (variants : List Named) (place : ℕ) (game : Played)

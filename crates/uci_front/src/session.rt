@@ -1,5 +1,6 @@
 //! What a UCI session keeps between lines, and what lines set.
 ghost use Rattle.std.specs.Prelude.{◌≡◌, ◌≤◌, ℕ, IfOk, OnOk, OnErr, Some, codes, unwrap_or, [], List};
+ghost use Rattle.session_model.specs.declared.options.TheConstants.{LEAST_THREADS, MOST_THREADS};
 ghost use Rattle.std.specs.Option.{option_copied};
 ghost use Rattle.variant_ini.specs.Section.{Section};
 ghost use Rattle.variant_rules.specs.Entries.{entries};
@@ -123,7 +124,7 @@ impl UciSession {
     ) -> Result<UciSession, Memory>
         requires begins { BeginsBuiltIn sections }
         requires judged { variants ≡ entries sections }
-        requires threads { (1 ≤ threads) × (threads ≤ 64) }
+        requires threads { (LEAST_THREADS ≤ threads) × (threads ≤ MOST_THREADS) }
         ensures { IfOk result (λ session. first_state sections threads ≡ Some session) }
     {
         let engine = EngineState::new(alloc, threads)?;
@@ -305,7 +306,7 @@ impl UciSession {
     /// The number of threads.
     pub fn threads(&self) -> u32
         ensures is { result ≡ self.now.threads }
-        ensures in_range { (1 ≤ result) × (result ≤ 64) }
+        ensures in_range { (LEAST_THREADS ≤ result) × (result ≤ MOST_THREADS) }
     {
         self.engine.threads()
     }

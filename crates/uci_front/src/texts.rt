@@ -1,5 +1,6 @@
 //! The lines that a UCI session writes.
 ghost use Rattle.std.specs.Prelude.{◌≡◌, ◌≤◌, ◌<◌, ◌-◌, ◌*◌, ◌++◌, IfOk, List, OnOk, length};
+ghost use Rattle.session_model.specs.declared.limits.TheConstants.{MOST_MATE};
 ghost use Rattle.std.specs.List.{filter, flat_map};
 ghost use Rattle.session_model.specs.Thinking.{Mates};
 ghost use Rattle.session_model.specs.UciTexts as UciTexts;
@@ -164,7 +165,7 @@ pub fn perft_line(alloc: Global, plies: u8, game: &Game) -> Result<Text, Memory>
 /// That the mover mates within this number of moves, with this move first.
 pub fn mate_line(alloc: Global, moves: u16, best: &Move) -> Result<Text, Memory>
     requires some { 1 ≤ moves }
-    requires few { moves ≤ 100 }
+    requires few { moves ≤ MOST_MATE }
     ensures { (s : Strategy) → IfOk result
         (λ text. text ≡ UciTexts.depth_line (2 * moves - 1) (Mates moves s) best.now) }
 {

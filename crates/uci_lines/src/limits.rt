@@ -12,11 +12,8 @@ use crate::words::is_text;
 use foundation::Memory;
 use move_text::write_move;
 use rules_model::{Move, Side};
+use session_model::limits::{MOST_DEPTH, MOST_MATE};
 use std::alloc::Global;
-
-const MOST_DEPTH: u64 = 64;
-
-const MOST_MATE: u64 = 100;
 
 const MOVES_TO_GO: u64 = 30;
 
@@ -31,7 +28,7 @@ pub fn last_depth(go: &Go) -> u8
 pub fn last_mate(n: u64) -> u16
     ensures { result ≡ UciGo.last_mate n }
 {
-    n.min(MOST_MATE).max(1) as u16
+    n.min(u64::from(MOST_MATE)).max(1) as u16
 }
 
 /// The nodes that each worker may enter, rounded up, where `nodes` sets a limit.

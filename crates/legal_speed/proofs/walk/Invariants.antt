@@ -1,5 +1,0 @@
-use Rattle.std.proofs.Common.{◌≡◌}
-use Rattle.legal_speed.proofs.walk.Given as goal
-
-abbrev pub invariant-loop : goal.invariant-loop
-invariant-loop l = l.board.rules ≡ l.tables

@@ -1,5 +1,0 @@
-use Rattle.fact_lock.specs.Passes.{IsPassOf}
-use Rattle.lock_speed.proofs.call_often.Given as goal
-
-abbrev pub invariant-loop-i : goal.invariant-loop-i
-invariant-loop-i g l = IsPassOf l.lock l.pass
