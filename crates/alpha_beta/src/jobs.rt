@@ -1,5 +1,5 @@
 //! The workers beside the first.
-ghost use Rattle.std.specs.Prelude.{◌≡◌, ◌≤◌, vec_len, IfOk};
+ghost use Rattle.std.specs.Prelude.{◌≡◌, ◌≤◌, vec_len};
 ghost use Rattle.std.specs.List.{All};
 ghost use Rattle.alpha_beta.specs.Workers.{IsNew, most_nodes};
 
@@ -8,25 +8,38 @@ use hint_table::HintTable;
 use negamax::{Fact, SearchState};
 use std::alloc::Global;
 
-/// What a worker beside the first keeps from one race to the next, what it found in the last one, and how many nodes it
-/// has entered in all.
+/// What a worker beside the first keeps from one race to the next, once it has found a move to search; what it found in
+/// the last one; and how many nodes it has entered in all.
 #[derive(Drop)]
 pub(crate) struct Job<'h> {
-    pub state: SearchState<'h>,
+    hints: &'h HintTable,
+    pub state: Option<SearchState<'h>>,
     pub facts: Vec<Fact>,
     pub nodes: u64,
 }
 
 impl<'h> Job<'h> {
     /// It has entered no node.
-    fn new(alloc: Global, hints: &'h HintTable) -> Result<Job<'h>, Memory>
-        ensures { IfOk result IsNew }
+    fn new(alloc: Global, hints: &'h HintTable) -> Job<'h>
+        ensures { IsNew result }
     {
-        Ok(Job {
-            state: SearchState::new(alloc, hints)?,
+        Job {
+            hints,
+            state: None,
             facts: Vec::new(alloc),
             nodes: 0,
-        })
+        }
+    }
+
+    /// Has a search state, or there is no memory for one.
+    pub fn prepare(&mut self, alloc: Global) -> Result<(), Memory>
+        ensures facts { self.new.facts ≡ self.old.facts }
+        ensures nodes { self.new.nodes ≡ self.old.nodes }
+    {
+        if self.state.is_none() {
+            self.state = Some(SearchState::new(alloc, self.hints)?);
+        }
+        Ok(())
     }
 }
 
@@ -37,10 +50,7 @@ pub(crate) fn jobs_for<'h>(alloc: Global, hints: &'h HintTable, count: u32) -> V
 {
     let mut jobs = Vec::new(alloc);
     for _job in 0..count {
-        let Ok(job) = Job::new(alloc, hints) else {
-            return jobs;
-        };
-        if jobs.push(job).is_err() {
+        if jobs.push(Job::new(alloc, hints)).is_err() {
             return jobs;
         }
     }

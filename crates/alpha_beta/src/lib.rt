@@ -6,6 +6,7 @@ mod jobs;
 mod left;
 mod plan;
 mod race;
+mod repeat_watch;
 mod roots;
 mod searching;
 mod shared;

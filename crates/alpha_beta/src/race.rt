@@ -15,9 +15,9 @@ use std::thread::Threads;
 use watching::{Halt, Watch};
 
 /// The worker in the caller. When it ends, whatever the reason, the others are told to stop.
-fn lead<W: Watch, G: Gate>(
-    plan: &Plan<G>,
-    line: &mut Line,
+fn lead<'g, W: Watch, G: Gate>(
+    plan: &Plan<'_, 'g, G>,
+    line: &mut Line<'g>,
     state: &mut SearchState,
     facts: &mut Vec<Fact>,
     watch: &mut W,
@@ -35,12 +35,18 @@ fn lead<W: Watch, G: Gate>(
     end
 }
 
+/// On how many threads beside the caller's a race is run: one over few moves, or with few plies left, is over soon, and
+/// more would cost more than they bring.
+fn threads_for(depth: u8, moves: usize) -> usize {
+    moves.min((1usize << depth.min(7)) / 2)
+}
+
 /// The worker in the caller and the others, each with a line and a search state of its own. It returns once all have
 /// ended.
-pub(crate) fn race<R: Threads + Sync, W: Watch, G: Gate + Sync>(
+pub(crate) fn race<'g, R: Threads + Sync, W: Watch, G: Gate + Sync>(
     rt: &R,
-    plan: &Plan<G>,
-    line: &mut Line,
+    plan: &Plan<'_, 'g, G>,
+    line: &mut Line<'g>,
     state: &mut SearchState,
     jobs: &mut [Job],
     facts: &mut Vec<Fact>,
@@ -59,9 +65,11 @@ pub(crate) fn race<R: Threads + Sync, W: Watch, G: Gate + Sync>(
     ensures ended { (why : Halt) → IsErrOf result why → W.ended watch.old watch.new (lines_in plan.now) why }
     ensures kept { OnOk result (line.new ≡ plan.now.line.now) }
 {
+    let threads = threads_for(plan.depth, plan.moves.len());
     watching::race(
         rt,
         jobs,
+        threads,
         &|k: usize, job: &mut Job|
             requires { IsPlan plan.now × (k < 63) }
             ensures { IsSound plan.entry.now job.exit.now × HasEntered (lines_in plan.entry.now) job.entry.now job.exit.now }

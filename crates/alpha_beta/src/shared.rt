@@ -24,6 +24,11 @@ impl SharedMoves {
         self.marks.takes(i, round)
     }
 
+    /// Whether some move is free, as far as this worker sees.
+    pub fn has_free(&self) -> bool {
+        self.marks.has_free()
+    }
+
     /// The move is finished.
     pub fn finish(&self, i: usize) {
         self.marks.finish(i);

@@ -9,6 +9,7 @@ ghost use Rattle.alpha_beta.specs.Workers.{AreTrueFacts, IsPlan, lines_after, li
 
 use crate::jobs::Job;
 use crate::plan::Plan;
+use crate::repeat_watch::RepeatWatch;
 use foundation::Memory;
 use game_line::Line;
 use io_ports::Gate;
@@ -109,10 +110,52 @@ fn take_free<W: Watch, G: Gate>(
     Ok(())
 }
 
+/// Searches a move that another worker has begun, unless that one finishes it meanwhile: then its fact serves.
+fn repeat<'g, W: Watch, G: Gate>(
+    plan: &Plan<'_, 'g, G>,
+    line: &mut Line<'g>,
+    state: &mut SearchState,
+    other: &Other,
+    facts: &mut Vec<Fact>,
+    watch: &mut W,
+) -> Result<(), Halt>
+    requires plan { IsPlan plan.now }
+    requires line { line.old ≡ plan.now.line.now }
+    requires legal { Member other.now.chosen (legal_in plan.now.line.now) }
+    requires known { AreTrueFacts plan.now facts.old.items }
+    ensures known { AreTrueFacts plan.now facts.new.items }
+    ensures gone { OnOk result (W.gone watch.old watch.new (lines_after plan.now other.now.chosen)) }
+    ensures ended { (why : Halt) → IsErrOf result why
+        → W.ended watch.old watch.new (lines_after plan.now other.now.chosen) why }
+    ensures kept { OnOk result (line.new ≡ plan.now.line.now) }
+{
+    let mut racer = RepeatWatch {
+        watch,
+        shared: plan.shared,
+        place: other.place,
+        told: false,
+    };
+    let end = take(
+        plan,
+        0,
+        line,
+        state,
+        other.place,
+        &other.chosen,
+        facts,
+        &mut racer,
+    );
+    if racer.told {
+        *line = plan.line.copied(plan.team.alloc)?;
+        return Ok(());
+    }
+    end
+}
+
 /// Takes those of the moves that are not finished. None of them did this worker take before.
-fn take_unfinished<W: Watch, G: Gate>(
-    plan: &Plan<G>,
-    line: &mut Line,
+fn take_unfinished<'g, W: Watch, G: Gate>(
+    plan: &Plan<'_, 'g, G>,
+    line: &mut Line<'g>,
     state: &mut SearchState,
     facts: &mut Vec<Fact>,
     others: &[Other],
@@ -131,16 +174,7 @@ fn take_unfinished<W: Watch, G: Gate>(
 {
     for other in others {
         if plan.shared.takes(other.place, Round::Unfinished) {
-            take(
-                plan,
-                0,
-                line,
-                state,
-                other.place,
-                &other.chosen,
-                facts,
-                watch,
-            )?;
+            repeat(plan, line, state, other, facts, watch)?;
         }
     }
     Ok(())
@@ -148,9 +182,9 @@ fn take_unfinished<W: Watch, G: Gate>(
 
 /// Takes the moves that are free, and then those that the others have not finished: so it waits for nobody. It takes
 /// each move at most once.
-pub(crate) fn take_all<W: Watch, G: Gate>(
-    plan: &Plan<G>,
-    line: &mut Line,
+pub(crate) fn take_all<'g, W: Watch, G: Gate>(
+    plan: &Plan<'_, 'g, G>,
+    line: &mut Line<'g>,
     state: &mut SearchState,
     facts: &mut Vec<Fact>,
     watch: &mut W,
@@ -195,11 +229,17 @@ pub(crate) fn help<G: Gate>(plan: &Plan<G>, number: u32, job: &mut Job)
     ensures nodes { job.new.nodes ≤ job.old.nodes + lines_in plan.now }
 {
     job.facts.clear();
+    if !plan.shared.has_free() || job.prepare(plan.team.alloc).is_err() {
+        return;
+    }
+    let Some(state) = &mut job.state else {
+        return;
+    };
     let mut watch = Helper {
         flag: &plan.shared.flag,
         quota: plan.team.quota,
         nodes: job.nodes,
     };
-    let _ = take_some(plan, number, &mut job.state, &mut job.facts, &mut watch);
+    let _ = take_some(plan, number, state, &mut job.facts, &mut watch);
     job.nodes = watch.nodes();
 }

@@ -69,9 +69,11 @@ pub(crate) fn run_all<R: Threads + Wait + Sync, W: Watch, G: Gate + Sync>(
     ensures gone { OnOk result (W.gone watch.old watch.new (race_lines race.now)) }
     ensures ended { (why : Halt) → IsErrOf result why → W.ended watch.old watch.new (race_lines race.now) why }
 {
+    let threads = jobs.len();
     watching::race(
         rt,
         jobs,
+        threads,
         &|_, job: &mut WorkerPasses|
             requires { IsLent race.now.shards.now job.now × IsReady race.now }
             ensures { IsLent race.entry.now.shards.now job.exit.now }

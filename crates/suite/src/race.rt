@@ -29,9 +29,11 @@ pub(crate) fn race<R: Threads + Wait + Sync, G: Gate + Sync>(
     ensures mine { HasFound problems.now mine.new }
     ensures found { HaveFound problems.now jobs.new }
 {
+    let threads = jobs.len();
     watching::race(
         rt,
         jobs,
+        threads,
         &|k: usize, job: &mut Job|
             requires { HasFound problems.now job.now × All IsFair problems.now × (k < 63) }
             ensures { HasFound problems.entry.now job.exit.now }

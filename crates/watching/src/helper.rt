@@ -5,6 +5,11 @@ ghost use Rattle.watching.specs.Helping.{Helps, HelpEnds, helps_none, helps_more
 use crate::flag::StopFlag;
 use crate::halt::{Cut, Halt};
 use crate::watch::Watch;
+use std::thread::yield_now;
+
+/// After how many nodes a worker lets others run, the first one among them: where there are more workers than processors,
+/// that one would else be heard late.
+const NODES_IN_TURN: u64 = 256;
 
 /// The watch of a worker that hears only that it is to stop, and counts nodes.
 #[derive(Drop)]
@@ -47,6 +52,9 @@ impl Watch for Helper<'_> {
             }
         }
         self.nodes = self.nodes.saturating_add(1);
+        if self.nodes % NODES_IN_TURN == 0 {
+            yield_now();
+        }
         Ok(())
     }
 

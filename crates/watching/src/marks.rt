@@ -50,6 +50,16 @@ impl RootMarks {
         }
     }
 
+    /// Whether no worker has taken some root move, as far as this one sees.
+    pub fn has_free(&self) -> bool {
+        for mark in &self.marks {
+            if mark.load(Ordering::SeqCst) == FREE {
+                return true;
+            }
+        }
+        false
+    }
+
     /// Marks the root move as finished. Whether no worker had finished it.
     pub fn finish(&self, i: usize) -> bool {
         match self.marks.get(i) {
