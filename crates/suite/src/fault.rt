@@ -2,7 +2,8 @@
 ghost use Rattle.std.specs.Prelude.{◌≡◌, ◌++◌, IfOk};
 ghost use Rattle.suite.specs.Fault.{fault_text};
 
-use foundation::{Memory as NoMemory, Text};
+use foundation::Text;
+use game_text::Unmade;
 use std::alloc::{AllocError, Global};
 use variant_fen::FenFault;
 use variant_model::SectionFault;
@@ -28,37 +29,7 @@ pub enum SuiteFault {
 }
 
 /// Why a suite has no report.
-#[derive(Drop)]
-pub enum NoSuite {
-    /// The lines have this fault.
-    Faulty(SuiteFault),
-    /// The source failed.
-    Unread,
-    /// There was no memory.
-    Memory,
-}
-
-impl From<NoMemory> for NoSuite {
-    ghost use Rattle.std.specs.Prelude.{◌≡◌};
-    ghost use Rattle.suite.specs.declared.fault.NoSuite.TheVariants as no_suite;
-
-    ghost from_gives = { λ _ given. given ≡ no_suite.Memory };
-
-    fn from(_error: NoMemory) -> Self {
-        NoSuite::Memory
-    }
-}
-
-impl From<AllocError> for NoSuite {
-    ghost use Rattle.std.specs.Prelude.{◌≡◌};
-    ghost use Rattle.suite.specs.declared.fault.NoSuite.TheVariants as no_suite;
-
-    ghost from_gives = { λ _ given. given ≡ no_suite.Memory };
-
-    fn from(_error: AllocError) -> Self {
-        NoSuite::Memory
-    }
-}
+pub type NoSuite = Unmade<SuiteFault>;
 
 // The text with bytes after it.
 fn followed(mut text: Vec<u8>, bytes: &[u8]) -> Result<Vec<u8>, AllocError>
