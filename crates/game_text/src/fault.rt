@@ -3,7 +3,7 @@ ghost use Rattle.std.specs.Prelude.{◌≡◌, ◌++◌, IfOk};
 ghost use Rattle.game_text.specs.Fault.{fault_text};
 
 use crate::unmade::Unmade;
-use foundation::Text;
+use foundation::{Memory as NoMemory, Text};
 use std::alloc::{AllocError, Global};
 use variant_fen::FenFault;
 use variant_model::SectionFault;

@@ -2,7 +2,7 @@
 ghost use Rattle.std.specs.Prelude.{◌≡◌, ◌++◌, IfOk};
 ghost use Rattle.suite.specs.Fault.{fault_text};
 
-use foundation::Text;
+use foundation::{Memory as NoMemory, Text};
 use game_text::Unmade;
 use std::alloc::{AllocError, Global};
 use variant_fen::FenFault;
