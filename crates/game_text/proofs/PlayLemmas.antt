@@ -18,10 +18,9 @@ use Rattle.move_text.proofs.ReadLaws.{names-read}
 use Rattle.game_play.specs.Played.{IsPlayed, Played, legal_in, longer, story}
 use Rattle.game_text.specs.declared.fault.GameFault.{GameFault}
 use Rattle.game_text.specs.declared.fault.GameFault.TheVariants.{BadMove, TooManyMoves}
-use Rattle.game_text.specs.declared.fault.NoGame.{NoGame}
-use Rattle.game_text.specs.declared.fault.NoGame.TheVariants.{Faulty, Unread, Memory}
+use Rattle.game_text.specs.declared.unmade.Unmade.TheVariants.{Faulty, Unread, Memory}
 use Rattle.game_text.specs.Playing.{and_then, goes_on, is_word, move_in, move_of, play, play_all}
-use Rattle.game_text.specs.ReadView.{Plays}
+use Rattle.game_text.specs.ReadView.{NoGame, Plays}
 use Rattle.game_text.proofs.FindLemmas.{found-in, found-only, found-none}
 
 -- ---- the move of a text

@@ -5,13 +5,12 @@ use Rattle.variant_rules.specs.Entries.{Named, found}
 use Rattle.game_play.specs.Played.{Played}
 use Rattle.game_text.specs.declared.fault.GameFault.{GameFault}
 use Rattle.game_text.specs.declared.fault.GameFault.TheVariants.{BadGoal, Missing, LineTooLong}
-use Rattle.game_text.specs.declared.fault.NoGame.{NoGame}
-use Rattle.game_text.specs.declared.fault.NoGame.TheVariants.{Faulty, Unread, Memory}
+use Rattle.game_text.specs.declared.unmade.Unmade.TheVariants.{Faulty, Unread, Memory}
 use Rattle.game_text.specs.declared.problem.Problem.{Problem}
 use Rattle.game_text.specs.GameText.{game_of, lines_in, lines_of_game, unless_faulty}
 use Rattle.game_text.specs.Playing.{and_then, play_all, words_of}
 use Rattle.game_text.specs.Problem.{goal_on, lines_of_problem, lines_on_problem, moves_on, or_bad, problem_of, problem_on, with_goal}
-use Rattle.game_text.specs.ReadView.{Plays, Says}
+use Rattle.game_text.specs.ReadView.{NoGame, Plays, Says}
 use Rattle.game_text.proofs.StartLemmas.{start-most, start-needs, start-there}
 
 -- ---- line 4

@@ -14,12 +14,11 @@ use Rattle.variant_rules.specs.Entries.{Named, found}
 use Rattle.game_play.specs.Played.{Played}
 use Rattle.game_text.specs.declared.fault.GameFault.{GameFault}
 use Rattle.game_text.specs.declared.fault.GameFault.TheVariants.{Missing, UnknownVariant, RefusedVariant, BadPosition, LineTooLong}
-use Rattle.game_text.specs.declared.fault.NoGame.{NoGame}
-use Rattle.game_text.specs.declared.fault.NoGame.TheVariants.{Faulty, Unread, Memory}
+use Rattle.game_text.specs.declared.unmade.Unmade.TheVariants.{Faulty, Unread, Memory}
 use Rattle.game_text.specs.GameText.{game_by, game_from, game_in, game_of, game_on, lines_by, lines_in, lines_of_game, lines_on, position_of, started, unless_faulty}
 use Rattle.game_text.specs.HeardLines.{HeardLines}
 use Rattle.game_text.specs.Playing.{and_then, play_all, words_of}
-use Rattle.game_text.specs.ReadView.{IsUnread, Plays, Says, SaysGame, Tells}
+use Rattle.game_text.specs.ReadView.{IsUnread, NoGame, Plays, Says, SaysGame, Tells}
 
 -- ---- from line 3 on, line by line
 

@@ -2,8 +2,12 @@
 use Rattle.std.specs.Prelude.{◌≡◌, Result, Ok, Err, ⊤}
 use Rattle.game_play.specs.Played.{Played}
 use Rattle.game_text.specs.declared.fault.GameFault.{GameFault}
-use Rattle.game_text.specs.declared.fault.NoGame.{NoGame}
-use Rattle.game_text.specs.declared.fault.NoGame.TheVariants.{Faulty, Unread, Memory}
+use Rattle.game_text.specs.declared.unmade.Unmade.{Unmade}
+use Rattle.game_text.specs.declared.unmade.Unmade.TheVariants.{Faulty, Unread, Memory}
+
+-- why no game was read
+abbrev pub NoGame : Type 0
+NoGame = Unmade GameFault
 
 -- the source failed
 abbrev pub IsOfSource : NoGame → Type 0

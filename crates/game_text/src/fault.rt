@@ -2,6 +2,7 @@
 ghost use Rattle.std.specs.Prelude.{◌≡◌, ◌++◌, IfOk};
 ghost use Rattle.game_text.specs.Fault.{fault_text};
 
+use crate::unmade::Unmade;
 use foundation::{Memory as NoMemory, Text};
 use std::alloc::{AllocError, Global};
 use variant_fen::FenFault;
@@ -29,37 +30,7 @@ pub enum GameFault {
 }
 
 /// Why no game was read.
-#[derive(Drop)]
-pub enum NoGame {
-    /// The text has this fault.
-    Faulty(GameFault),
-    /// The source failed.
-    Unread,
-    /// There was no memory.
-    Memory,
-}
-
-impl From<NoMemory> for NoGame {
-    ghost use Rattle.std.specs.Prelude.{◌≡◌};
-    ghost use Rattle.game_text.specs.declared.fault.NoGame.TheVariants as no_game;
-
-    ghost from_gives = { λ _ given. given ≡ no_game.Memory };
-
-    fn from(_error: NoMemory) -> Self {
-        NoGame::Memory
-    }
-}
-
-impl From<AllocError> for NoGame {
-    ghost use Rattle.std.specs.Prelude.{◌≡◌};
-    ghost use Rattle.game_text.specs.declared.fault.NoGame.TheVariants as no_game;
-
-    ghost from_gives = { λ _ given. given ≡ no_game.Memory };
-
-    fn from(_error: AllocError) -> Self {
-        NoGame::Memory
-    }
-}
+pub type NoGame = Unmade<GameFault>;
 
 // The text with bytes after it that may be any.
 fn followed(mut text: Vec<u8>, bytes: &[u8]) -> Result<Vec<u8>, AllocError>

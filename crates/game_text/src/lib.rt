@@ -18,6 +18,7 @@ mod outcome;
 mod play;
 mod problem;
 mod read;
+mod unmade;
 
 pub use copies::copy_of;
 pub use fault::{GameFault, NoGame, write_fault};
@@ -28,3 +29,4 @@ pub use outcome::{Printed, cause_name};
 pub use play::play_move;
 pub use problem::{Problem, read_problem, read_problem_after};
 pub use read::{position_of, read_game};
+pub use unmade::Unmade;

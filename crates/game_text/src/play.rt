@@ -1,5 +1,6 @@
 //! Plays the moves of a line of a game text.
 ghost use Rattle.std.specs.Prelude.{◌≡◌, ◌+◌, ◌∷◌, [], filter, length, IfOk};
+ghost use Rattle.game_text.specs.declared.unmade.Unmade.TheVariants as NoGame;
 ghost use Rattle.game_text.specs.Playing.{is_word, play, play_all, words_of};
 ghost use Rattle.game_text.specs.ReadView.{Plays};
 

@@ -1,5 +1,6 @@
 //! Reads a game text from a source.
 ghost use Rattle.std.specs.Prelude.{◌≡◌, ◌∷◌, [], take, true, IfOk};
+ghost use Rattle.game_text.specs.declared.unmade.Unmade.TheVariants as NoGame;
 ghost use Rattle.io_ports.specs.Cause.{HasCause};
 ghost use Rattle.io_ports.specs.Lines.{Text};
 ghost use Rattle.rules_model.specs.Fit.{IsFit};

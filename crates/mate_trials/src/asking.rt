@@ -26,6 +26,14 @@ pub enum Call {
     Solve { workers: u32, hint: u64 },
 }
 
+/// Whether a side wins a game within n of its moves.
+#[derive(Clone, Copy)]
+pub struct Asked<'g> {
+    pub game: &'g Game,
+    pub attacker: Side,
+    pub n: u16,
+}
+
 /// What the solver says of a win within some number of moves.
 #[derive(Clone, Copy, PartialEq, Eq)]
 pub enum Said {
@@ -46,24 +54,31 @@ fn said_of(settled: &Settled) -> Said {
 fn by_settle<R: Wait>(
     rt: &R,
     alloc: Global,
-    game: &Game,
-    attacker: Side,
-    n: u16,
+    asked: Asked,
     hint: u64,
     shards: &Shards,
     passes: Passes,
 ) -> Result<(Passes, Said), Memory>
-    requires frame { IsFrameFor game.now attacker shards.now.frame }
+    requires frame { IsFrameFor asked.game.now asked.attacker shards.now.frame }
     requires passes { ArePassesOf shards.now passes }
     requires parts { HaveParts 65536 passes }
-    requires some { 0 < n }
-    requires small { n ≤ 100 }
+    requires some { 0 < asked.n }
+    requires small { asked.n ≤ 100 }
     ensures passes { IfOk result (λ told. ArePassesOf shards.now told.0) }
     ensures parts { IfOk result (λ told. HaveParts 65536 told.0) }
 {
     let hints = HintTable::new(alloc, 1024)?;
     hints.fill(hint);
-    let (passes, answer) = settle(rt, alloc, game, attacker, n, shards, passes, &hints);
+    let (passes, answer) = settle(
+        rt,
+        alloc,
+        asked.game,
+        asked.attacker,
+        asked.n,
+        shards,
+        passes,
+        &hints,
+    );
     let settled = answer?;
     Ok((passes, said_of(&settled)))
 }
@@ -72,18 +87,17 @@ fn by_settle<R: Wait>(
 fn by_solve<R: Threads + Wait + Sync>(
     rt: &R,
     alloc: Global,
-    game: &Game,
-    n: u16,
+    asked: Asked,
     workers: u32,
     hint: u64,
     shards: &Shards,
     passes: Passes,
 ) -> Result<(Passes, Said), Memory>
-    requires frame { IsFrameOf game.now shards.now.frame }
+    requires frame { IsFrameOf asked.game.now shards.now.frame }
     requires passes { ArePassesOf shards.now passes }
     requires parts { HaveParts 65536 passes }
-    requires some { 0 < n }
-    requires small { n ≤ 100 }
+    requires some { 0 < asked.n }
+    requires small { asked.n ≤ 100 }
     requires workers { (0 < workers) × (workers ≤ 64) }
     ensures passes { IfOk result (λ told. ArePassesOf shards.now told.0) }
     ensures parts { IfOk result (λ told. HaveParts 65536 told.0) }
@@ -92,7 +106,8 @@ fn by_solve<R: Threads + Wait + Sync>(
     hints.fill(hint);
     let mut watch = Unwatched::new();
     let (passes, answer) = solve_watched(
-        rt, alloc, game, n, shards, passes, &hints, None, workers, &OpenGate, &mut watch,
+        rt, alloc, asked.game, asked.n, shards, passes, &hints, None, workers, &OpenGate,
+        &mut watch,
     );
     match answer {
         Ok(settled) => Ok((passes, said_of(&settled))),
@@ -101,32 +116,29 @@ fn by_solve<R: Threads + Wait + Sync>(
     }
 }
 
-/// What the call says of a win of the game by the side within `n` of its moves, and the passes again. A solve has at
-/// least 1 worker and at most 64.
+/// What the call says of what is asked, and the passes again. A solve has at least 1 worker and at most 64.
 pub fn ask<R: Threads + Wait + Sync>(
     rt: &R,
     alloc: Global,
-    game: &Game,
-    attacker: Side,
-    n: u16,
+    asked: Asked,
     call: Call,
     shards: &Shards,
     passes: Passes,
 ) -> Result<(Passes, Said), Memory>
-    requires frame { IsFrameFor game.now attacker shards.now.frame }
+    requires frame { IsFrameFor asked.game.now asked.attacker shards.now.frame }
     requires passes { ArePassesOf shards.now passes }
     requires parts { HaveParts 65536 passes }
-    requires some { 0 < n }
-    requires small { n ≤ 100 }
+    requires some { 0 < asked.n }
+    requires small { asked.n ≤ 100 }
     ensures passes { IfOk result (λ told. ArePassesOf shards.now told.0) }
     ensures parts { IfOk result (λ told. HaveParts 65536 told.0) }
 {
     match call {
-        Call::Settle { hint } => by_settle(rt, alloc, game, attacker, n, hint, shards, passes),
+        Call::Settle { hint } => by_settle(rt, alloc, asked, hint, shards, passes),
         Call::Solve { workers, hint } => {
             // A solve has from 1 to 64 workers, and the type of a call does not say so.
             let workers = workers.max(1).min(64);
-            by_solve(rt, alloc, game, n, workers, hint, shards, passes)
+            by_solve(rt, alloc, asked, workers, hint, shards, passes)
         }
     }
 }

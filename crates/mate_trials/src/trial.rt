@@ -4,7 +4,7 @@ ghost use Rattle.mate_search.specs.Solves.{IsFrameFor};
 ghost use Rattle.mate_shards.specs.Grown.{HaveParts};
 ghost use Rattle.mate_shards.specs.Views.{ArePassesOf};
 
-use crate::asking::{Call, Said, ask};
+use crate::asking::{Asked, Call, Said, ask};
 use crate::plain::is_won;
 use foundation::Memory;
 use game_play::Game;
@@ -80,7 +80,8 @@ pub fn by_solver<R: Threads + Wait + Sync>(
     let (shards, mut passes) = shards_for(alloc, game, attacker)?;
     let mut answers = [false; 3];
     for n in 1..most.min(MOST) + 1 {
-        let (handed_back, said) = ask(rt, alloc, game, attacker, n, call, &shards, passes)?;
+        let asked = Asked { game, attacker, n };
+        let (handed_back, said) = ask(rt, alloc, asked, call, &shards, passes)?;
         passes = handed_back;
         let place = usize::from(n) - 1;
         answers[place] = match said {
@@ -105,6 +106,7 @@ pub fn leaves_open<R: Threads + Wait + Sync>(
     requires small { n ≤ 100 }
 {
     let (shards, passes) = shards_for(alloc, game, attacker)?;
-    let (_, said) = ask(rt, alloc, game, attacker, n, call, &shards, passes)?;
+    let asked = Asked { game, attacker, n };
+    let (_, said) = ask(rt, alloc, asked, call, &shards, passes)?;
     Ok(said == Said::Unsettled)
 }

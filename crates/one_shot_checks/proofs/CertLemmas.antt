@@ -9,8 +9,8 @@ use Rattle.variant_rules.specs.Entries.{Named}
 use Rattle.forced_wins.proofs.Counts.{true_false}
 use Rattle.game_play.specs.Played.{Played, story}
 use Rattle.game_text.specs.declared.fault.GameFault.{GameFault}
-use Rattle.game_text.specs.declared.fault.NoGame.{NoGame}
-use Rattle.game_text.specs.declared.fault.NoGame.TheVariants as no_game
+use Rattle.game_text.specs.ReadView.{NoGame}
+use Rattle.game_text.specs.declared.unmade.Unmade.TheVariants as no_game
 use Rattle.game_text.specs.declared.goal.Stipulation.{Stipulation}
 use Rattle.game_text.specs.declared.problem.Problem.{Problem}
 use Rattle.game_text.specs.Goal.{stipulation_said}

@@ -9,8 +9,8 @@ use Rattle.rules_model.specs.declared.rules.Rules.{Rules}
 use Rattle.game_play.specs.Played.{story}
 use Rattle.game_text.specs.declared.fault.GameFault.{GameFault}
 use Rattle.game_text.specs.declared.fault.GameFault.TheVariants.{LineTooLong, Missing}
-use Rattle.game_text.specs.declared.fault.NoGame.{NoGame}
-use Rattle.game_text.specs.declared.fault.NoGame.TheVariants as no_game
+use Rattle.game_text.specs.ReadView.{NoGame}
+use Rattle.game_text.specs.declared.unmade.Unmade.TheVariants as no_game
 use Rattle.game_text.specs.declared.goal.Goal.{Goal}
 use Rattle.game_text.specs.declared.problem.Problem.{Problem}
 use Rattle.game_text.specs.GameText.{game_of, lines_of_game}

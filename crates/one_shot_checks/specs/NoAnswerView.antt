@@ -6,8 +6,8 @@ use Rattle.variant_rules.specs.declared.fault.NoSections.{NoSections}
 use Rattle.variant_rules.specs.declared.fault.NoSections.TheVariants as no_sections
 use Rattle.one_shot_checks.specs.declared.fault.Fault.{Fault}
 use Rattle.one_shot_checks.specs.declared.fault.Fault.TheVariants.{Betza, Game, Strategy, Proof, Cert, Suite, Load}
-use Rattle.game_text.specs.declared.fault.NoGame.{NoGame}
-use Rattle.game_text.specs.declared.fault.NoGame.TheVariants as no_game
+use Rattle.game_text.specs.ReadView.{NoGame}
+use Rattle.game_text.specs.declared.unmade.Unmade.TheVariants as unmade
 use Rattle.strategy.specs.declared.fault.StrategyFault.TheVariants as strategy
 use Rattle.proof_text.specs.declared.fault.ProofFault.TheVariants as proof
 use Rattle.proof_text.specs.declared.source_lines.NoProof.{NoProof}
@@ -15,8 +15,7 @@ use Rattle.proof_text.specs.declared.source_lines.NoProof.TheVariants as no_proo
 use Rattle.cert_text.specs.declared.fault.CertFault.TheVariants as cert
 use Rattle.cert_text.specs.declared.fault.NoCert.{NoCert}
 use Rattle.cert_text.specs.declared.fault.NoCert.TheVariants as no_cert
-use Rattle.suite.specs.declared.fault.NoSuite.{NoSuite}
-use Rattle.suite.specs.declared.fault.NoSuite.TheVariants as no_suite
+use Rattle.suite.specs.ReadView.{NoSuite}
 use Rattle.one_shot_checks.specs.declared.no_answer.NoAnswer.{NoAnswer}
 use Rattle.one_shot_checks.specs.declared.no_answer.NoAnswer.TheVariants as no_answer
 use Rattle.proof_text.specs.declared.strategy_lines.NoStrategy.{NoStrategy}
@@ -44,9 +43,9 @@ load_no_answer (no_sections.Fault fault) = no_answer.Fault (Load fault)
 load_no_answer no_sections.Memory = no_answer.Stop stop.Memory
 
 abbrev pub game_no_answer : NoGame → NoAnswer
-game_no_answer (no_game.Faulty fault) = no_answer.Fault (Game fault)
-game_no_answer no_game.Unread = no_answer.Stop stop.Source
-game_no_answer no_game.Memory = no_answer.Stop stop.Memory
+game_no_answer (unmade.Faulty fault) = no_answer.Fault (Game fault)
+game_no_answer unmade.Unread = no_answer.Stop stop.Source
+game_no_answer unmade.Memory = no_answer.Stop stop.Memory
 
 -- out of memory is no fault of a strategy
 abbrev pub strategy_no_answer : NoStrategy → NoAnswer
@@ -79,9 +78,9 @@ cert_no_answer (no_cert.Faulty (cert.BadLine line)) = no_answer.Fault (Cert (cer
 cert_no_answer (no_cert.Faulty (cert.Ended line)) = no_answer.Fault (Cert (cert.Ended line))
 
 abbrev pub suite_no_answer : NoSuite → NoAnswer
-suite_no_answer (no_suite.Faulty fault) = no_answer.Fault (Suite fault)
-suite_no_answer no_suite.Unread = no_answer.Stop stop.Source
-suite_no_answer no_suite.Memory = no_answer.Stop stop.Memory
+suite_no_answer (unmade.Faulty fault) = no_answer.Fault (Suite fault)
+suite_no_answer unmade.Unread = no_answer.Stop stop.Source
+suite_no_answer unmade.Memory = no_answer.Stop stop.Memory
 
 -- this holds of the status and the text of the outcome. A run that was cut short has none. The sink has not cut it
 -- short, since it was given nothing yet

@@ -1,7 +1,6 @@
 //! What is answered in place of a text: a line `error FAULT`.
 ghost use Rattle.std.specs.Prelude.{◌≡◌, IfOk};
 ghost use Rattle.game_text.specs.Fault.{fault_text as game_fault_text};
-ghost use Rattle.suite.specs.Fault.{fault_text as suite_fault_text};
 ghost use Rattle.one_shot_checks.specs.Fault.{error_line, fault_status, fault_text};
 
 use crate::ReachFault;
@@ -15,7 +14,7 @@ use std::alloc::{AllocError, Global};
 use stipulation::CertVerdict;
 use strategy::StrategyFault;
 use strategy_check::Verdict;
-use suite::{KeysFault, SuiteFault, write_fault as write_suite_fault};
+use suite::{KeysFault, SuiteFault};
 use variant_rules::LoadFault;
 
 /// The fault of an argument, of the file of variants, or of the input.
@@ -65,14 +64,6 @@ fn game_line(alloc: Global, fault: &GameFault) -> Result<Vec<u8>, Memory>
     Ok(line_with(alloc, &text)?)
 }
 
-// The line of the fault of a suite.
-fn suite_line(alloc: Global, fault: &SuiteFault) -> Result<Vec<u8>, Memory>
-    ensures { IfOk result (λ line. line.items ≡ error_line (suite_fault_text fault.now)) }
-{
-    let text = write_suite_fault(alloc, fault)?;
-    Ok(line_with(alloc, &text)?)
-}
-
 impl<'a> Fault<'a> {
     /// The status of a run with this fault: 6 where a file was not read, else 3.
     pub fn status(&self) -> u8
@@ -97,7 +88,7 @@ impl<'a> Fault<'a> {
             Fault::Verdict(verdict) => format!(in alloc; "error {verdict}\n")?.into_bytes(),
             Fault::Cert(fault) => format!(in alloc; "error {fault}\n")?.into_bytes(),
             Fault::CertFailure(verdict) => format!(in alloc; "error {verdict}\n")?.into_bytes(),
-            Fault::Suite(fault) => suite_line(alloc, fault)?,
+            Fault::Suite(fault) => format!(in alloc; "error {fault}\n")?.into_bytes(),
             Fault::PnMate(fault) => format!(in alloc; "error {fault}\n")?.into_bytes(),
             Fault::Keys(fault) => format!(in alloc; "error {fault}\n")?.into_bytes(),
             Fault::Load(fault) => format!(in alloc; "error {fault}\n")?.into_bytes(),

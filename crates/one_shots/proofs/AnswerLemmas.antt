@@ -11,8 +11,8 @@ use Rattle.rules_model.specs.declared.board.Square.{Square}
 use Rattle.variant_rules.specs.Entries.{Named}
 use Rattle.game_play.specs.Played.{Played}
 use Rattle.game_text.specs.declared.fault.GameFault.{GameFault}
-use Rattle.game_text.specs.declared.fault.NoGame.{NoGame}
-use Rattle.game_text.specs.declared.fault.NoGame.TheVariants.{Faulty, Unread, Memory}
+use Rattle.game_text.specs.ReadView.{NoGame}
+use Rattle.game_text.specs.declared.unmade.Unmade.TheVariants.{Faulty, Unread, Memory}
 use Rattle.game_text.specs.Fault as game
 use Rattle.game_text.specs.GameText.{game_of, lines_of_game}
 use Rattle.game_text.specs.HeardLines.{HeardLines}

@@ -4,8 +4,8 @@ use Rattle.std.specs.declared.result.Result.{Result}
 use Rattle.io_ports.specs.Lines.{Line}
 use Rattle.variant_rules.specs.Entries.{Named}
 use Rattle.game_text.specs.HeardLines.{HeardLines}
-use Rattle.suite.specs.declared.fault.NoSuite.{NoSuite}
-use Rattle.suite.specs.declared.fault.NoSuite.TheVariants.{Faulty, Unread, Memory}
+use Rattle.suite.specs.ReadView.{NoSuite}
+use Rattle.game_text.specs.declared.unmade.Unmade.TheVariants.{Faulty, Unread, Memory}
 use Rattle.suite.specs.declared.fault.SuiteFault.{SuiteFault}
 use Rattle.suite.specs.Fault.{fault_text}
 use Rattle.suite.specs.ReadView as read

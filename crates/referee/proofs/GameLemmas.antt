@@ -7,10 +7,9 @@ use Rattle.variant_ini.specs.Section.{Section}
 use Rattle.variant_rules.specs.Entries.{entries}
 use Rattle.game_play.specs.Played.{Played}
 use Rattle.game_text.specs.GameText.{game_of}
-use Rattle.game_text.specs.ReadView.{Plays}
+use Rattle.game_text.specs.ReadView.{NoGame, Plays}
 use Rattle.game_text.specs.declared.fault.GameFault.{GameFault}
-use Rattle.game_text.specs.declared.fault.NoGame.{NoGame}
-use Rattle.game_text.specs.declared.fault.NoGame.TheVariants as no_game
+use Rattle.game_text.specs.declared.unmade.Unmade.TheVariants as no_game
 use Rattle.one_shot_checks.specs.NoAnswerView.{game_no_answer}
 use Rattle.one_shot_checks.specs.declared.no_answer.NoAnswer.{NoAnswer}
 use Rattle.one_shot_checks.specs.declared.no_answer.NoAnswer.TheVariants as no_answer

@@ -1,5 +1,6 @@
 //! A game that is kept: begun by a game text, and moved on by the texts of moves.
 ghost use Rattle.std.specs.Prelude.{◌≡◌, ◌+◌, IfOk, OnErr, length};
+ghost use Rattle.game_text.specs.declared.unmade.Unmade.TheVariants as NoGame;
 ghost use Rattle.std.specs.Option.{option_copied};
 ghost use Rattle.game_text.specs.Playing.{play};
 ghost use Rattle.game_text.specs.ReadView.{Plays};

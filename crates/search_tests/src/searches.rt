@@ -151,14 +151,14 @@ fn ends<R: Threads + Abort + Sync, G: Gate + Sync>(
     hints: &HintTable,
     run: Run,
     gate: &G,
-    end: Told,
-    text: &[u8],
+    ending: (Told, &[u8]),
 )
     requires { (1 ≤ run.depth) × (run.depth ≤ 64) }
 {
     assert!(rt; 0 < run.workers && run.workers <= 64);
     let mut written = Vec::new(alloc);
     let told = answer_to(rt, alloc, game, hints, run, gate, &mut written);
+    let (end, text) = ending;
     expect_eq(rt, uncounted(told), end);
     expect(rt, written.as_slice() == text);
 }
@@ -216,8 +216,7 @@ fn each_number_of_workers_finds_the_mate(rt: HostRuntime) {
             &hints,
             whole(3, workers),
             &OpenGate,
-            mate,
-            b"",
+            (mate, b""),
         );
         hints.fill(u64::MAX);
     }
@@ -292,7 +291,15 @@ fn is_cut<R: Threads + Abort + Sync>(
         limits,
         ..whole(6, workers)
     };
-    ends(rt, alloc, game, hints, run, &gate, end, written.as_bytes());
+    ends(
+        rt,
+        alloc,
+        game,
+        hints,
+        run,
+        &gate,
+        (end, written.as_bytes()),
+    );
 }
 
 // Polls come at the first node and each 1,024 nodes.

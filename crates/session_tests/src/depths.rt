@@ -196,8 +196,8 @@ fn kept_moves(depths: &Depths) -> u16 {
     }
 }
 
-/// The best move of a search, what cut it, and the number of moves of the mate that is kept, or 0.
-type Told = (&'static str, Option<Cut>, u16);
+/// The best move of a search, what cut it, the number of moves of the mate that is kept, or 0, and what is written.
+type Told = (&'static str, Option<Cut>, u16, &'static str);
 
 /// Asserts what one depth after another comes to, and what is written.
 fn expect_told<R: Threads + Wait + Abort + Sync>(
@@ -208,7 +208,6 @@ fn expect_told<R: Threads + Wait + Abort + Sync>(
     depths: u8,
     heard: Heard,
     told: Told,
-    lines: &str,
 ) {
     assert!(rt; 1 <= depths && depths <= 64);
     let mut written = Vec::new(alloc);
@@ -216,8 +215,8 @@ fn expect_told<R: Threads + Wait + Abort + Sync>(
         .expect(rt, "no fault")
         .ok()
         .expect(rt, "no fault");
+    let (best, why, kept, lines) = told;
     expect(rt, written.as_slice() == lines.as_bytes());
-    let (best, why, kept) = told;
     expect(rt, found.best == go(best) && found.why == why);
     expect_eq(rt, kept_moves(&found), kept);
 }
@@ -226,12 +225,12 @@ fn expect_told<R: Threads + Wait + Abort + Sync>(
 #[test]
 fn depths_are_told(rt: HostRuntime) {
     let (alloc, silent) = (rt.alloc(), Style::Silent);
-    let mate = ("g6g7", None, 1);
     let lines = "info depth 1 score mate 1 pv g6g7\ninfo depth 2 score mate 1 pv g6g7\n";
-    expect_told(&rt, alloc, MATE, Style::Uci, 2, NOTHING, mate, lines);
-    expect_told(&rt, alloc, MATE, silent, 2, NOTHING, mate, "");
-    let mated = ("a1b1", None, 1);
-    expect_told(&rt, alloc, "Ka1 kb3 rh8", silent, 2, NOTHING, mated, "");
+    let (shown, mate) = (("g6g7", None, 1, lines), ("g6g7", None, 1, ""));
+    expect_told(&rt, alloc, MATE, Style::Uci, 2, NOTHING, shown);
+    expect_told(&rt, alloc, MATE, silent, 2, NOTHING, mate);
+    let mated = ("a1b1", None, 1, "");
+    expect_told(&rt, alloc, "Ka1 kb3 rh8", silent, 2, NOTHING, mated);
 }
 
 #[test]
@@ -241,21 +240,21 @@ fn depths_are_cut(rt: HostRuntime) {
         share: Some(1),
         ..NOTHING
     };
-    let quota = ("f6e5", Some(Cut::Quota(1)), 0);
-    expect_told(&rt, alloc, MATE, silent, 2, one_node, quota, "");
+    let quota = ("f6e5", Some(Cut::Quota(1)), 0, "");
+    expect_told(&rt, alloc, MATE, silent, 2, one_node, quota);
     let soon = Heard {
         deadline: Some(20),
         ..NOTHING
     };
-    let late = ("f6e5", Some(Cut::Deadline(130)), 0);
-    expect_told(&rt, alloc, MATE, silent, 2, soon, late, "");
+    let late = ("f6e5", Some(Cut::Deadline(130)), 0, "");
+    expect_told(&rt, alloc, MATE, silent, 2, soon, late);
     let stop = Heard {
         lines: b"isready\nstop\n",
         owed: PollsOwed::Number(0),
         ..NOTHING
     };
-    let line = ("g6g7", Some(Cut::Line), 0);
-    expect_told(&rt, alloc, MATE, silent, 3, stop, line, "readyok\n");
+    let line = ("g6g7", Some(Cut::Line), 0, "readyok\n");
+    expect_told(&rt, alloc, MATE, silent, 3, stop, line);
 }
 
 /// Asserts a line of each of two depths, with a score, a time and nodes, and with one move.

@@ -9,12 +9,11 @@ use Rattle.io_ports.proofs.Moved.{takes_none, takes_more}
 use Rattle.variant_rules.specs.Entries.{Named}
 use Rattle.game_text.specs.HeardLines.{HeardLines}
 use Rattle.game_text.proofs.HeardLemmas.{heard_so, same_needed}
-use Rattle.suite.specs.declared.fault.NoSuite.{NoSuite}
-use Rattle.suite.specs.declared.fault.NoSuite.TheVariants.{Faulty, Unread, Memory}
+use Rattle.game_text.specs.declared.unmade.Unmade.TheVariants.{Faulty, Unread, Memory}
 use Rattle.suite.specs.declared.fault.SuiteFault.{SuiteFault}
 use Rattle.suite.specs.declared.fault.SuiteFault.TheVariants.{LineTooLong}
 use Rattle.suite.specs.declared.problem.Problem.{Problem}
-use Rattle.suite.specs.ReadView.{Adds, IsUnread, Reads, Says, Tells}
+use Rattle.suite.specs.ReadView.{Adds, IsUnread, NoSuite, Reads, Says, Tells}
 use Rattle.suite.specs.Suite.{Listed, and_then, is_skipped, lines_of_suite, lines_on, nothing_listed, problem_of, suite_of, suite_on, unless_faulty, with_line, with_problem}
 
 module _ (v : List Named) where

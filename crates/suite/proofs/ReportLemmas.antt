@@ -6,15 +6,14 @@ use Rattle.foundation.proofs.SetLemmas.{count_by-cons}
 use Rattle.game_text.specs.HeardLines.{HeardLines}
 use Rattle.game_text.proofs.HeardLemmas.{heard_so, same_needed}
 use Rattle.variant_rules.specs.Entries.{Named}
-use Rattle.suite.specs.declared.fault.NoSuite.{NoSuite}
-use Rattle.suite.specs.declared.fault.NoSuite.TheVariants.{Faulty, Unread, Memory}
+use Rattle.game_text.specs.declared.unmade.Unmade.TheVariants.{Faulty, Unread, Memory}
 use Rattle.suite.specs.declared.fault.SuiteFault.{SuiteFault}
 use Rattle.suite.specs.declared.problem.Answer.{Answer}
 use Rattle.suite.specs.declared.problem.Problem.{Problem}
 use Rattle.suite.specs.Answers.{AreAnswers}
 use Rattle.suite.specs.Leasts.{leasts}
 use Rattle.suite.specs.Problems.{least_of}
-use Rattle.suite.specs.ReadView.{Tells}
+use Rattle.suite.specs.ReadView.{NoSuite, Tells}
 use Rattle.suite.specs.Report.{report, report_of, solved_of, suite_report, told_of, told_of_all}
 use Rattle.suite.specs.Suite.{Listed, and_then, lines_of_suite, suite_of}
 use Rattle.suite.proofs.SlotLaws.{answers-length, leasts-are}

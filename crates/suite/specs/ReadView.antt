@@ -1,9 +1,13 @@
 -- What the code answers of the lines of a suite, as the definitions have it.
 use Rattle.std.specs.Prelude.{◌≡◌, Result, Ok, Err, ⊤}
-use Rattle.suite.specs.declared.fault.NoSuite.{NoSuite}
-use Rattle.suite.specs.declared.fault.NoSuite.TheVariants.{Faulty, Unread, Memory}
+use Rattle.game_text.specs.declared.unmade.Unmade.{Unmade}
+use Rattle.game_text.specs.declared.unmade.Unmade.TheVariants.{Faulty, Unread, Memory}
 use Rattle.suite.specs.declared.fault.SuiteFault.{SuiteFault}
 use Rattle.suite.specs.Suite.{Listed}
+
+-- why a suite has no report
+abbrev pub NoSuite : Type 0
+NoSuite = Unmade SuiteFault
 
 -- the source failed
 abbrev pub IsOfSource : NoSuite → Type 0

@@ -1,9 +1,6 @@
 //! The faults of a suite.
-ghost use Rattle.std.specs.Prelude.{◌≡◌, ◌++◌, IfOk};
-ghost use Rattle.suite.specs.Fault.{fault_text};
-
-use foundation::{Memory as NoMemory, Text};
-use std::alloc::{AllocError, Global};
+use game_text::Unmade;
+use std::fmt;
 use variant_fen::FenFault;
 use variant_model::SectionFault;
 
@@ -28,83 +25,28 @@ pub enum SuiteFault {
 }
 
 /// Why a suite has no report.
-#[derive(Drop)]
-pub enum NoSuite {
-    /// The lines have this fault.
-    Faulty(SuiteFault),
-    /// The source failed.
-    Unread,
-    /// There was no memory.
-    Memory,
-}
+pub type NoSuite = Unmade<SuiteFault>;
 
-impl From<NoMemory> for NoSuite {
-    ghost use Rattle.std.specs.Prelude.{◌≡◌};
-    ghost use Rattle.suite.specs.declared.fault.NoSuite.TheVariants as no_suite;
+impl fmt::Display for SuiteFault {
+    ghost use Rattle.std.specs.Prelude.{Some};
+    ghost use Rattle.suite.specs.Fault.{fault_text};
 
-    ghost from_gives = { λ _ given. given ≡ no_suite.Memory };
+    ghost output = { λ fault. Some (fault_text fault) };
 
-    fn from(_error: NoMemory) -> Self {
-        NoSuite::Memory
-    }
-}
-
-impl From<AllocError> for NoSuite {
-    ghost use Rattle.std.specs.Prelude.{◌≡◌};
-    ghost use Rattle.suite.specs.declared.fault.NoSuite.TheVariants as no_suite;
-
-    ghost from_gives = { λ _ given. given ≡ no_suite.Memory };
-
-    fn from(_error: AllocError) -> Self {
-        NoSuite::Memory
-    }
-}
-
-// The text with bytes after it.
-fn followed(mut text: Vec<u8>, bytes: &[u8]) -> Result<Vec<u8>, AllocError>
-    ensures { IfOk result (λ whole. whole.items ≡ text.items ++ bytes.now) }
-{
-    text.extend_from_slice(bytes)?;
-    Ok(text)
-}
-
-// As the fault prints, as bytes.
-fn fault_bytes(alloc: Global, fault: &SuiteFault) -> Result<Vec<u8>, AllocError>
-    ensures { IfOk result (λ bytes. bytes.items ≡ fault_text fault.now) }
-{
-    match fault {
-        SuiteFault::BadLine(line) => {
-            Ok(format!(in alloc; "SuiteFault 1 BadLine {line}")?.into_bytes())
-        }
-        SuiteFault::UnknownVariant(line) => {
-            Ok(format!(in alloc; "SuiteFault 2 UnknownVariant {line}")?.into_bytes())
-        }
-        SuiteFault::RefusedVariant { line, why } => {
-            let front = format!(in alloc; "SuiteFault 3 RefusedVariant {line} ")?;
-            let why = format!(in alloc; "{why}")?;
-            followed(front.into_bytes(), why.as_bytes())
-        }
-        SuiteFault::BadPosition { line, why } => {
-            let front = format!(in alloc; "SuiteFault 4 BadPosition {line} ")?;
-            let why = format!(in alloc; "{why}")?;
-            followed(front.into_bytes(), why.as_bytes())
-        }
-        SuiteFault::NearCount(line) => {
-            Ok(format!(in alloc; "SuiteFault 5 NearCount {line}")?.into_bytes())
-        }
-        SuiteFault::TooMany(line) => {
-            Ok(format!(in alloc; "SuiteFault 6 TooMany {line}")?.into_bytes())
-        }
-        SuiteFault::LineTooLong(line) => {
-            Ok(format!(in alloc; "SuiteFault 7 LineTooLong {line}")?.into_bytes())
+    /// The type's name, the fault's number, its name and its fields, as `SuiteFault 5 NearCount 1`.
+    fn fmt<W: fmt::Write>(&self, f: &mut fmt::Formatter<W>) -> fmt::Result {
+        match self {
+            SuiteFault::BadLine(line) => write!(f, "SuiteFault 1 BadLine {line}"),
+            SuiteFault::UnknownVariant(line) => write!(f, "SuiteFault 2 UnknownVariant {line}"),
+            SuiteFault::RefusedVariant { line, why } => {
+                write!(f, "SuiteFault 3 RefusedVariant {line} {why}")
+            }
+            SuiteFault::BadPosition { line, why } => {
+                write!(f, "SuiteFault 4 BadPosition {line} {why}")
+            }
+            SuiteFault::NearCount(line) => write!(f, "SuiteFault 5 NearCount {line}"),
+            SuiteFault::TooMany(line) => write!(f, "SuiteFault 6 TooMany {line}"),
+            SuiteFault::LineTooLong(line) => write!(f, "SuiteFault 7 LineTooLong {line}"),
         }
     }
-}
-
-/// As the fault prints: the type's name, the fault's number, its name and its fields, as `SuiteFault 5 NearCount 1`.
-pub fn write_fault(alloc: Global, fault: &SuiteFault) -> Result<Text, NoMemory>
-    ensures { IfOk result (λ text. text ≡ fault_text fault.now) }
-{
-    let items = fault_bytes(alloc, fault)?;
-    Ok(Text { items })
 }

@@ -21,7 +21,7 @@ mod solving;
 mod winning;
 mod work;
 
-pub use fault::{NoSuite, SuiteFault, write_fault};
+pub use fault::{NoSuite, SuiteFault};
 pub use first_moves::{Key, Keys, mate_keys};
 pub use keys_fault::KeysFault;
 pub use keys_report::write_keys;

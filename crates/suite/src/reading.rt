@@ -1,5 +1,6 @@
 //! Reads a suite from a source.
 ghost use Rattle.std.specs.Prelude.{◌≡◌, ◌≤◌, ◌++◌, ◌∷◌, [], nat_lt, length, IfOk, OnOk};
+ghost use Rattle.game_text.specs.declared.unmade.Unmade.TheVariants as NoSuite;
 ghost use Rattle.io_ports.specs.Cause.{HasCause};
 ghost use Rattle.variant_rules.specs.Entries.{found};
 ghost use Rattle.variant_rules.specs.Playable.{IsPlayable};

@@ -6,7 +6,7 @@ use std::alloc::Global;
 use std::process::Abort;
 use std::sync::Wait;
 use std::thread::Threads;
-use suite::{Answer, NoSuite, read_suite, solve_all, solve_suite, write_fault};
+use suite::{Answer, NoSuite, read_suite, solve_all, solve_suite};
 use variant_rules::{Variants, builtin, load};
 
 /// The variants that are built in, and one that is refused.
@@ -28,7 +28,11 @@ fn source(rt: &impl Abort, alloc: Global, text: &[u8]) -> MemSource {
 fn told(rt: &impl Abort, alloc: Global, answer: Result<Text, NoSuite>) -> Text {
     match answer {
         Ok(text) => text,
-        Err(NoSuite::Faulty(fault)) => write_fault(alloc, &fault).expect(rt, "no fault"),
+        Err(NoSuite::Faulty(fault)) => Text {
+            items: format!(in alloc; "{fault}")
+                .expect(rt, "no fault")
+                .into_bytes(),
+        },
         Err(NoSuite::Unread) => panic!(rt; "unread"),
         Err(NoSuite::Memory) => panic!(rt; "no memory"),
     }

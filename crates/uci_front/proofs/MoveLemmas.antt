@@ -11,10 +11,9 @@ use Rattle.game_play.specs.Played.{Played, longer}
 use Rattle.game_text.specs.GameText.{started}
 use Rattle.game_text.specs.declared.fault.GameFault.{GameFault}
 use Rattle.game_text.specs.declared.fault.GameFault.TheVariants.{TooManyMoves}
-use Rattle.game_text.specs.declared.fault.NoGame.{NoGame}
-use Rattle.game_text.specs.declared.fault.NoGame.TheVariants.{Faulty, Unread, Memory}
+use Rattle.game_text.specs.declared.unmade.Unmade.TheVariants.{Faulty, Unread, Memory}
 use Rattle.game_text.specs.Playing.{and_then, goes_on, most_plies, move_of, play, play_all}
-use Rattle.game_text.specs.ReadView.{Plays}
+use Rattle.game_text.specs.ReadView.{NoGame, Plays}
 use Rattle.session_model.specs.UciLines.{Fen, Startpos}
 use Rattle.session_model.specs.UciState.{State, Outcome, after_moves, from_position, move_fault, place, with_game}
 use Rattle.uci_lines.specs.View.{texts}
