@@ -1,13 +1,13 @@
 //! What the workers of a race share. No cell has a rule: any value at any time does no harm.
 use foundation::Memory;
 use std::alloc::Global;
-use watching::{RootMarks, Round, StopFlag};
+use watching::{MoveMarks, Round, StopFlag};
 
 /// What the workers tell each other: whether they are to stop, and what became of each move.
 #[derive(Drop)]
 pub(crate) struct SharedMoves {
     pub flag: StopFlag,
-    marks: RootMarks,
+    marks: MoveMarks,
 }
 
 impl SharedMoves {
@@ -15,7 +15,7 @@ impl SharedMoves {
     pub fn new(alloc: Global, count: usize) -> Result<SharedMoves, Memory> {
         Ok(SharedMoves {
             flag: StopFlag::new(),
-            marks: RootMarks::new(alloc, count)?,
+            marks: MoveMarks::new(alloc, count)?,
         })
     }
 

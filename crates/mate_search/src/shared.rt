@@ -2,7 +2,7 @@
 use rules_model::Memory;
 use std::alloc::Global;
 use std::sync::atomic::{AtomicU64, Ordering};
-use watching::{RootMarks, Round, StopFlag};
+use watching::{MoveMarks, Round, StopFlag};
 
 /// What a worker found of a root move: whether it decides the root, and whether the shards tell all workers so.
 #[derive(Clone, Copy)]
@@ -15,7 +15,7 @@ pub(crate) struct Outcome {
 #[derive(Drop)]
 pub(crate) struct Shared {
     pub over: StopFlag,
-    marks: RootMarks,
+    marks: MoveMarks,
     open: AtomicU64,
 }
 
@@ -24,7 +24,7 @@ impl Shared {
     pub fn new(alloc: Global, roots: usize) -> Result<Shared, Memory> {
         Ok(Shared {
             over: StopFlag::new(),
-            marks: RootMarks::new(alloc, roots)?,
+            marks: MoveMarks::new(alloc, roots)?,
             open: AtomicU64::new(roots as u64),
         })
     }

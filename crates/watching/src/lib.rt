@@ -2,8 +2,8 @@
 //!
 //! A search knows the world outside by `Watch` alone. The worker in the caller has a `Caller`, which polls for lines,
 //! answers them, reads the clock and heeds limits; the workers beside it have a `Helper`, which knows a flag and a
-//! quota; and one that nothing disturbs is `Unwatched`. What ends a worker is a `Halt`. Which root moves are taken and
-//! finished, workers tell by `RootMarks`.
+//! quota; and one that nothing disturbs is `Unwatched`. What ends a worker is a `Halt`. Which moves are taken and
+//! finished, workers tell by `MoveMarks`.
 #![tactic(auto)]
 
 mod caller;
@@ -22,7 +22,7 @@ pub use flag::StopFlag;
 pub use halt::{Cut, Halt};
 pub use helper::Helper;
 pub use listen::{heed, say, say_some};
-pub use marks::{RootMarks, Round};
+pub use marks::{MoveMarks, Round};
 pub use racing::race;
 pub use stopping::stopped_by;
 pub use unwatched::Unwatched;
