@@ -1,1 +1,2 @@
+mod EarlyLaws
 mod TallyLaws

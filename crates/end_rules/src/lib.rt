@@ -6,7 +6,9 @@ mod checks;
 mod extinction;
 mod flag;
 
-ghost use Rattle.std.specs.Prelude.{◌≡◌};
+ghost use Rattle.std.specs.Prelude.{◌≡◌, false};
+ghost use Rattle.rules_model.specs.declared.board.Repeat.{Repeat};
+ghost use Rattle.rules_model.specs.declared.moves.Outcome.TheVariants.{Ongoing};
 ghost use Rattle.rules_model.specs.Ends as Ends;
 ghost use Rattle.rules_model.specs.Games as Games;
 ghost use Rattle.rules_model.specs.Repeats.{repeat_of};
@@ -57,6 +59,13 @@ pub fn early_end(rules: &Rules, p: &Position) -> Outcome
 {
     let flag = has_flag(rules, &p.cells, p.side.other());
     early_end_by(rules, p, occupied(&p.cells), flag)
+}
+
+/// Whether the variant has any early end: a flag, counted checks or extinction. Where it has none, no position has one.
+pub fn can_end_early(rules: &Rules) -> bool
+    ensures { result ≡ false → (r : Repeat) → Ends.early_end rules.now r ≡ Ongoing }
+{
+    rules.flag_kind.is_some() || rules.check_counting || rules.extinction.is_some()
 }
 
 /// The end where the side to move has no legal move: checkmate where its king is attacked, else stalemate, with the
