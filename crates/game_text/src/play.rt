@@ -1,5 +1,5 @@
 //! Plays the moves of a line of a game text.
-ghost use Rattle.std.specs.Prelude.{◌≡◌, ◌+◌, ◌∷◌, [], filter, length, IfOk};
+ghost use Rattle.std.specs.Prelude.{◌≡◌, ◌+◌, ◌∷◌, [], filter, length, IfOk, OnErr};
 ghost use Rattle.game_text.specs.declared.unmade.Unmade.TheVariants as NoGame;
 ghost use Rattle.game_text.specs.Playing.{is_word, play, play_all, words_of};
 ghost use Rattle.game_text.specs.ReadView.{Plays};
@@ -29,7 +29,8 @@ fn bad_move(alloc: Global, game: &Game, text: &[u8]) -> Result<NoGame, AllocErro
 /// `Faulty` with `TooManyMoves` behind 8,192 plies, or with `BadMove` where the text names no legal move; or `Memory`.
 /// The game is then what it was.
 pub fn play_move(alloc: Global, game: &mut Game, text: &[u8]) -> Result<(), NoGame>
-    ensures { Plays (play game.old text.now) game.new result }
+    ensures plays { Plays (play game.old text.now) game.new result }
+    ensures refused { OnErr result (game.new ≡ game.old) }
 {
     // Tells the prover that the game's rules are fit and that it has at most 8,192 plies. Nothing is done.
     game.prove_played();

@@ -1,20 +1,17 @@
 //! A game that is kept: begun by a game text, and moved on by the texts of moves.
-ghost use Rattle.std.specs.Prelude.{◌≡◌, ◌+◌, IfOk, OnErr, length};
-ghost use Rattle.game_text.specs.declared.unmade.Unmade.TheVariants as NoGame;
+ghost use Rattle.std.specs.Prelude.{◌≡◌, IfOk, OnErr};
 ghost use Rattle.std.specs.Option.{option_copied};
 ghost use Rattle.game_text.specs.Playing.{play};
-ghost use Rattle.game_text.specs.ReadView.{Plays};
 ghost use Rattle.referee.specs.Games.{Begins, HasGiven, IsBegun, MovesOn, SaysInput};
 
 use crate::given_file::GivenFile;
-use foundation::{Memory, Text};
-use game_play::{Game, PlayFault};
-use game_text::{GameFault, NoGame};
+use foundation::Memory;
+use game_play::Game;
+use game_text::play_move;
 use io_ports::{MemSource, PollsOwed};
-use move_text::read_move;
 use one_shot_checks::NoAnswer;
 use one_shots::{Answer, answer_of, game_in, sections_with};
-use std::alloc::{AllocError, Global};
+use std::alloc::Global;
 use variant_ini::Sections;
 
 /// What a game text begins.
@@ -73,38 +70,6 @@ pub fn begin(alloc: Global, file: Option<&[u8]>, input: &[u8]) -> Result<Begun, 
     }
 }
 
-// The text is not that of a legal move of the game.
-fn bad_move(alloc: Global, game: &Game, text: &[u8]) -> Result<NoGame, AllocError>
-    ensures { IfOk result (λ why. why ≡ NoGame.Faulty (GameFault.BadMove (length game.now.moves + 1) text.now)) }
-{
-    // Tells the prover that the game's rules are fit and that it has at most 8,192 plies. Nothing is done.
-    game.prove_played();
-    let number = game.moves().len() as u64 + 1;
-    let items = text.to_vec(alloc)?;
-    Ok(NoGame::Faulty(GameFault::BadMove {
-        number,
-        text: Text { items },
-    }))
-}
-
-// Plays the legal move with this text. After an error the game is what it was.
-fn play_text(alloc: Global, game: &mut Game, text: &[u8]) -> Result<(), NoGame>
-    ensures plays { Plays (play game.old text.now) game.new result }
-    ensures refused { OnErr result (game.new ≡ game.old) }
-{
-    // Tells the prover that the game's rules are fit and that it has at most 8,192 plies. Nothing is done.
-    game.prove_played();
-    let Some(m) = read_move(game.rules(), game.position(), text) else {
-        return Err(bad_move(alloc, game, text)?);
-    };
-    match game.play(&m) {
-        Ok(()) => Ok(()),
-        Err(PlayFault::Illegal) => Err(bad_move(alloc, game, text)?),
-        Err(PlayFault::TooLong) => Err(NoGame::Faulty(GameFault::TooManyMoves)),
-        Err(PlayFault::Memory) => Err(NoGame::Memory),
-    }
-}
-
 /// Plays the legal move with this text, which is all of the text. Where it is none, the answer is what the program
 /// says of it, and the game is what it was.
 ///
@@ -115,7 +80,7 @@ pub fn play(alloc: Global, game: &mut Game, text: &[u8]) -> Result<Option<Answer
     ensures plays { IfOk result (MovesOn (play game.old text.now) game.old game.new) }
     ensures refused { OnErr result (game.new ≡ game.old) }
 {
-    match play_text(alloc, game, text) {
+    match play_move(alloc, game, text) {
         Ok(()) => Ok(None),
         Err(why) => match answer_of(alloc, Err(NoAnswer::from(why))) {
             Ok(answer) => Ok(Some(answer)),

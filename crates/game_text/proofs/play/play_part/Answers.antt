@@ -14,4 +14,4 @@ returns-then-is_empty c =
 pub returns-else-is_empty : goal.returns-else-is_empty
 returns-else-is_empty c =
     let some : is_word c.args.part.now ≡ true = search rules in
-    subst (λ (x : Result Played GameFault). Plays x c.play_move.new.game c.play_move.result) (sym (word-part c.args.game.now c.args.part.now some)) c.play_move.ensures
+    subst (λ (x : Result Played GameFault). Plays x c.play_move.new.game c.play_move.result) (sym (word-part c.args.game.now c.args.part.now some)) c.play_move.ensures.plays
