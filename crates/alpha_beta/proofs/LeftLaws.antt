@@ -1,6 +1,6 @@
 -- The leftmost line: a position by its first move and the others.
-use Rattle.std.proofs.Common.{◌≡◌, ◌∙◌, inl, inr, ℕ, ◌+◌, ◌*◌, ◌-◌, ◌<◌, ◌≤◌, List, [], ◌∷◌, None, ap, drop, get_or, length, sum_by, take, refl, sym, subst, arith}
-use Rattle.std.specs.Prelude.{ℤ, neg_ℤ}
+use Rattle.std.proofs.Common.{◌≡◌, ◌∙◌, inl, ℕ, ◌+◌, ◌-◌, ◌<◌, ◌≤◌, List, [], ◌∷◌, None, ap, drop, get_or, length, take, refl, sym, subst, arith}
+use Rattle.std.specs.Prelude.{ℤ}
 use Rattle.std.proofs.lemmas.List.Sums.{sum_by-cons}
 use Rattle.std.specs.List.{All}
 use Rattle.std.specs.List.Sorted.{IsPermutation}
@@ -11,10 +11,9 @@ use Rattle.std.proofs.lemmas.List.{take_all}
 use Rattle.std.proofs.lemmas.List.Elements.{All-drop, All-take, Contains-get_or}
 use Rattle.rules_model.specs.declared.moves.Move.{Move}
 use Rattle.rules_model.specs.declared.rules.Rules.{Rules}
-use Rattle.rules_model.specs.Games.{Story, played}
+use Rattle.rules_model.specs.Games.{Story}
 use Rattle.rules_model.specs.Legal.{legal}
 use Rattle.rules_model.specs.Repeats.{repeat_of}
-use Rattle.evaluation.specs.Laws.{Within}
 use Rattle.evaluation.specs.Values.{greatest, play, tree_size, value, worst}
 use Rattle.evaluation.proofs.GamesByRules.{play_laws}
 use Rattle.evaluation.proofs.Greatest.{greatest-set}

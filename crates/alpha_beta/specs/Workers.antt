@@ -1,5 +1,5 @@
 -- What workers hand back.
-use Rattle.std.specs.Prelude.{◌≡◌, ℕ, ◌+◌, ◌≤◌, List, [], fold, length, max}
+use Rattle.std.specs.Prelude.{◌≡◌, ℕ, ◌+◌, ◌≤◌, List, fold, length, max}
 use Rattle.std.specs.List.{All}
 use Rattle.foundation.specs.Member.{Member}
 use Rattle.rules_model.specs.declared.moves.Move.{Move}

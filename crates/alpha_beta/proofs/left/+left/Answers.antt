@@ -1,13 +1,12 @@
-use Rattle.std.proofs.Common.{◌≡◌, ◌+◌, ◌*◌, ◌-◌, ◌<◌, ◌≤◌, ◌∙◌, ◌∷◌, ℕ, Err, get_or, length, ap, not, refl, rules, subst, sym, arith}
+use Rattle.std.proofs.Common.{◌≡◌, ◌+◌, ◌*◌, ◌-◌, ◌<◌, ◌≤◌, ◌∙◌, ℕ, Err, get_or, length, ap, not, refl, rules, subst, sym, arith}
 use Rattle.std.proofs.lemmas.Int.{ints}
 use Rattle.std.specs.List.{All}
 use Rattle.std.specs.List.Sorted.{IsPermutation}
 use Rattle.foundation.specs.Member.{Member}
 use Rattle.rules_model.specs.Legal.{is_stuck}
 use Rattle.rules_model.specs.Repeats.{repeat_of}
-use Rattle.rules_model.specs.Games.{played}
 use Rattle.alpha_beta.specs.Workers.{most_nodes}
-use Rattle.game_line.specs.Lined.{legal_in, pushed, shorter, story_of_line}
+use Rattle.game_line.specs.Lined.{legal_in, shorter, story_of_line}
 use Rattle.game_line.proofs.LineLaws.{shorter-pushed, story-pushed}
 use Rattle.std.specs.Prelude.{ℤ, pos, ◌-ℤ◌}
 use Rattle.evaluation.specs.Values.{greatest, play, tree_size, value}

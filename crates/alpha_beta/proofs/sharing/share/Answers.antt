@@ -1,4 +1,4 @@
-use Rattle.std.proofs.Common.{◌≡◌, ◌+◌, ◌*◌, ◌≤◌, ◌∙◌, Err, IfOk, OnOk, length, rules, subst, sym, arith}
+use Rattle.std.proofs.Common.{◌≡◌, ◌+◌, ◌≤◌, ◌∙◌, Err, IfOk, OnOk, length, rules, subst, sym, arith}
 use Rattle.std.specs.Prelude.{ℤ, ◌≤ℤ◌}
 use Rattle.std.specs.List.{All}
 use Rattle.std.proofs.lemmas.Int.{ints}
@@ -6,7 +6,6 @@ use Rattle.foundation.specs.Member.{Member}
 use Rattle.game_line.specs.Lined.{legal_in, story_of_line}
 use Rattle.evaluation.specs.Values.{greatest}
 use Rattle.evaluation.proofs.Greatest.{greatest-floor}
-use Rattle.watching.specs.declared.halt.Halt.{Halt}
 use Rattle.watching.specs.LookLaws.{on_ok_of}
 use Rattle.negamax.specs.declared.facts.Best.{Best}
 use Rattle.negamax.specs.RootFacts.{Chooses, IsTrueFact, score_of}

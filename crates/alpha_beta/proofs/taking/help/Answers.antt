@@ -1,4 +1,4 @@
-use Rattle.std.proofs.Common.{◌≡◌, ◌+◌, ◌≤◌, ℕ, Result, Ok, Err, OnOk, IsErrOf, arith, refl}
+use Rattle.std.proofs.Common.{◌+◌, ◌≤◌, ℕ, Result, Ok, Err, OnOk, IsErrOf, arith, refl}
 use Rattle.watching.specs.Helping.{Helps, HelpEnds}
 use Rattle.watching.specs.declared.halt.Halt.{Halt}
 use Rattle.watching.specs.declared.helper.Helper.{Helper}

@@ -1,8 +1,7 @@
-use Rattle.std.proofs.Common.{◌≡◌, ◌+◌, ◌≤◌, Err, rules, subst, sum_by, sym, arith}
+use Rattle.std.proofs.Common.{◌≡◌, ◌+◌, ◌≤◌, Err, rules, subst, sum_by, sym}
 use Rattle.std.specs.List.{All}
 use Rattle.foundation.specs.Member.{Member}
 use Rattle.game_line.specs.Lined.{legal_in}
-use Rattle.watching.specs.declared.halt.Halt.{Halt}
 use Rattle.watching.specs.LookLaws.{on_ok_of}
 use Rattle.alpha_beta.specs.Workers.{lines_after, lines_in}
 use Rattle.alpha_beta.proofs.taking.take_all.Goals as goal

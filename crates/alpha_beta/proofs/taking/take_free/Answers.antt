@@ -1,4 +1,4 @@
-use Rattle.std.proofs.Common.{◌≡◌, ◌+◌, ◌∙◌, Err, get_or, rules, subst, sum_by, take, arith}
+use Rattle.std.proofs.Common.{◌≡◌, ◌+◌, Err, get_or, rules, subst, take, arith}
 use Rattle.std.proofs.lemmas.List.Elements.{All-push}
 use Rattle.foundation.specs.Member.{Member}
 use Rattle.game_line.specs.Lined.{legal_in, story_of_line}
@@ -6,7 +6,6 @@ use Rattle.io_ports.specs.declared.limits.SearchFault.TheVariants as fault
 use Rattle.watching.specs.declared.halt.Halt.{Halt}
 use Rattle.watching.specs.declared.halt.Halt.TheVariants as halt
 use Rattle.negamax.proofs.RootLaws.{no_move}
-use Rattle.alpha_beta.specs.Roots.{root_lines}
 use Rattle.alpha_beta.specs.Workers.{lines_after, lines_in}
 use Rattle.alpha_beta.proofs.EnteredLaws.{entered-left, entered-took}
 use Rattle.alpha_beta.proofs.RootLaws.{lines-more, lines-part}

@@ -1,6 +1,5 @@
-use Rattle.std.proofs.Common.{◌≡◌, ◌+◌, Err, get_or, rules, sum_by, take, arith}
+use Rattle.std.proofs.Common.{◌≡◌, ◌+◌, Err, rules, take, arith}
 use Rattle.std.proofs.lemmas.List.Sums.{sum_by_more, sum_by-take-le}
-use Rattle.watching.specs.declared.halt.Halt.{Halt}
 use Rattle.negamax.proofs.RootLaws.{no_move}
 use Rattle.alpha_beta.specs.declared.taking.Other.{Other}
 use Rattle.alpha_beta.specs.Workers.{lines_after}
