@@ -22,7 +22,7 @@ use std::thread::Threads;
 use watching::{Halt, Watch};
 
 /// How many plies a position has left at least, where its moves are shared. Less is not worth the start of the workers.
-pub(crate) const LEAST_SHARED: u8 = 4;
+const LEAST_SHARED: u8 = 4;
 
 /// The legal moves after the line, those first that promise most by the hints.
 fn ranked(alloc: Global, line: &Line, hints: &HintTable) -> Result<MoveList, Memory>

@@ -16,7 +16,7 @@ ghost use Rattle.alpha_beta.specs.Searches.{Finds, Heard, IsCount, bound_of};
 ghost use Rattle.alpha_beta.specs.Workers.{IsNew, most_nodes};
 
 use crate::jobs::{Job, greatest_count, jobs_for};
-use crate::left::{LEAST_SHARED, left};
+use crate::left::left;
 use crate::plan::Team;
 use crate::roots::ordered;
 use crate::sharing::share;
@@ -174,8 +174,7 @@ pub fn search_watched<R: Threads + Sync, W: Watch, G: Gate + Sync>(
         gate,
         quota,
     };
-    let helpers = if depth < LEAST_SHARED { 0 } else { workers - 1 };
-    let mut jobs = jobs_for(alloc, hints, helpers);
+    let mut jobs = jobs_for(alloc, hints, workers - 1);
     search_by(rt, &team, game, &mut jobs, watch, depth, tried.as_slice())
 }
 
