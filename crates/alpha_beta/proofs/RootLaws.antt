@@ -38,8 +38,8 @@ module _ (roots distinct : List Move) (h : AreDistinct roots distinct) where
     pub legal-distinct : AreLegal rules g roots → AreLegal rules g distinct
     legal-distinct legal' = λ k d lt. All-contains (λ x. Member x (legal rules (repeat_of g.last))) roots (get_or distinct k d) legal' (contains-member (get_or distinct k d) roots (h.sound (get_or distinct k d) (member-contains (get_or distinct k d) distinct (Contains-get_or distinct k d lt))))
 
-    -- each of them is searched at most twice
-    pub lines-within : AreLegal rules g distinct → 2 * root_lines rules depth g distinct ≤ search_bound rules depth g
+    -- each of them is searched at most three times
+    pub lines-within : AreLegal rules g distinct → 3 * root_lines rules depth g distinct ≤ search_bound rules depth g
     unfolding search_bound
     lines-within h' =
         let all = roots-lines (play rules) (depth + 3) g distinct h.once (λ m k. All-contains (λ x. Member x (legal rules (repeat_of g.last))) distinct m h' (contains-member m distinct k)) in

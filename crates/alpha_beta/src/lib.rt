@@ -9,6 +9,7 @@ mod race;
 mod repeat_watch;
 mod roots;
 mod searching;
+mod settling;
 mod shared;
 mod sharing;
 mod taking;

@@ -16,10 +16,10 @@ ghost use Rattle.alpha_beta.specs.Searches.{Finds, Heard, IsCount, bound_of};
 ghost use Rattle.alpha_beta.specs.Workers.{IsNew, most_nodes};
 
 use crate::jobs::{Job, greatest_count, jobs_for};
-use crate::left::left;
 use crate::plan::Team;
 use crate::roots::ordered;
-use crate::sharing::share;
+use crate::settling::{score_root, settle_all};
+use crate::sharing::facts_of;
 use game_line::Line;
 use game_play::Game;
 use hint_table::HintTable;
@@ -48,7 +48,8 @@ pub enum Searched {
     Stopped(Stopped),
 }
 
-/// The best of the root moves: the first one is searched, and the workers race over the others.
+/// The best of the root moves: the first one is searched, the workers race over the others, and those that seem better
+/// are searched as the first was.
 fn best_root<R: Threads + Sync, W: Watch, G: Gate + Sync>(
     rt: &R,
     team: &Team<G>,
@@ -71,25 +72,24 @@ fn best_root<R: Threads + Sync, W: Watch, G: Gate + Sync>(
         Attains line.old.rules depth (story_of_line line.old) moves.now best.value best.chosen) }
     ensures within { IfOk result (λ best. Within best.value) }
     ensures few { OnOk result (most_nodes 0 jobs.new
-        ≤ most_nodes 0 jobs.old + root_lines line.old.rules depth (story_of_line line.old) moves.now) }
+        ≤ most_nodes 0 jobs.old + 2 * root_lines line.old.rules depth (story_of_line line.old) moves.now) }
     ensures count { OnOk result (length jobs.new ≡ length jobs.old) }
     ensures gone { OnOk result (W.gone watch.old watch.new
-        (2 * root_lines line.old.rules depth (story_of_line line.old) moves.now)) }
+        (3 * root_lines line.old.rules depth (story_of_line line.old) moves.now)) }
     ensures ended { (why : Halt) → IsErrOf result why → W.ended watch.old watch.new
-        (2 * root_lines line.old.rules depth (story_of_line line.old) moves.now) why }
+        (3 * root_lines line.old.rules depth (story_of_line line.old) moves.now) why }
     ensures kept { OnOk result (line.new ≡ line.old) }
 {
     let chosen = moves[0];
     let window = Window::open();
-    line.push(&chosen);
-    let asked = window.turned();
-    let found = left(rt, team, line, state, jobs, watch, depth - 1, 1, asked)?;
-    line.back();
-    let value = -found;
+    let value = score_root(rt, team, line, state, jobs, watch, depth, &chosen, window)?;
     let first = Best { value, chosen };
     let rest = &moves[1..];
-    let best = share(
-        rt, team, line, state, jobs, watch, depth, 0, rest, window, first,
+    let asked = window.above(value).null();
+    let found = facts_of(rt, team, line, state, jobs, watch, depth, 0, rest, asked)?;
+    let facts = found.as_slice();
+    let best = settle_all(
+        rt, team, line, state, jobs, watch, depth, rest, facts, first,
     )?;
     state.leave_best(line.key(), depth, &best);
     Ok(best)
@@ -112,12 +112,12 @@ fn search_by<R: Threads + Sync, W: Watch, G: Gate + Sync>(
     requires ready { All IsNew jobs.old }
     requires count { length jobs.old ≤ 63 }
     ensures best { IfOk result (λ found. IsBest game.now depth moves.now found.value found.best) }
-    ensures few { IfOk result (λ found. found.nodes ≤ 2 * lines_of game.now depth moves.now) }
+    ensures few { IfOk result (λ found. found.nodes ≤ 3 * lines_of game.now depth moves.now) }
     ensures counted { IfOk result (λ found.
         IsCount (length jobs.old + 1) (W.entered watch.old) (W.entered watch.new) found.nodes) }
-    ensures gone { OnOk result (W.gone watch.old watch.new (2 * lines_of game.now depth moves.now)) }
+    ensures gone { OnOk result (W.gone watch.old watch.new (3 * lines_of game.now depth moves.now)) }
     ensures ended { (why : Halt) → IsErrOf result why
-        → W.ended watch.old watch.new (2 * lines_of game.now depth moves.now) why }
+        → W.ended watch.old watch.new (3 * lines_of game.now depth moves.now) why }
 {
     let before = watch.nodes();
     let mut line = Line::new(team.alloc, game, depth as usize + 4)?;

@@ -36,7 +36,7 @@ fn gather<G>(plan: &Plan<G>, jobs: &[Job], facts: &mut Vec<Fact>) -> Result<(), 
 }
 
 /// What the workers find of the moves within the null window above the best: they race over them, each move once.
-fn facts_of<R: Threads + Sync, W: Watch, G: Gate + Sync>(
+pub(crate) fn facts_of<R: Threads + Sync, W: Watch, G: Gate + Sync>(
     rt: &R,
     team: &Team<G>,
     line: &mut Line,

@@ -92,8 +92,9 @@ fn says(line: &Line, depth: u8, ply: u8, fact: &Fact, chosen: &Move, window: Win
     None
 }
 
-/// What the window asks of the move's score, where one of the facts says it.
-pub(crate) fn known_score(
+/// What the window asks of the move's score at a depth, at a number of plies from the root, where one of the facts says
+/// it.
+pub fn known_score(
     line: &Line,
     depth: u8,
     ply: u8,

@@ -16,9 +16,9 @@ mod search_state;
 mod window;
 
 pub use ends::end_where;
-pub use facts::{Best, Fact};
+pub use facts::{Best, Fact, known_score};
 pub use move_order::root_rank;
-pub use root::{combine, score_move, search_move};
+pub use root::{better_of, combine, score_move, search_move};
 pub use search::value_within;
 pub use search_state::SearchState;
 pub use window::Window;

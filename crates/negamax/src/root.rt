@@ -113,8 +113,8 @@ fn score_in<W: Watch>(
     }
 }
 
-/// The better of the best so far and of a move, of whose score the window above the best asked this.
-fn better_of(best: Best, chosen: &Move, floor: i32, score: i32) -> Best
+/// The better of the best so far and of a move, of whose score a window above the best, from the floor on, asked this.
+pub fn better_of(best: Best, chosen: &Move, floor: i32, score: i32) -> Best
     requires low { best.value ≤ℤ floor }
     ensures value { result.value ≡ int_max best.value score }
     ensures chosen { ((result.chosen ≡ best.chosen) × (result.value ≤ℤ floor))

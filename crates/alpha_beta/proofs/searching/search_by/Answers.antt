@@ -17,7 +17,7 @@ use Rattle.alpha_beta.proofs.searching.search_by.Goals as goal
 pub returns-in_err-line-clause-ended : goal.returns-in_err-line-clause-ended
 returns-in_err-line-clause-ended g c why is =
     let same : halt.Fault fault.Memory ≡ why = search rules in
-    let n : ℕ = 2 * lines_of c.args.game.now c.args.depth c.args.moves.now in
+    let n : ℕ = 3 * lines_of c.args.game.now c.args.depth c.args.moves.now in
     let le : 0 ≤ n = omega arith in
     let a = c.args.watch.now in
     subst (λ (w : Halt). g.W.Watch.ended a a n w) same (g.met.W.Watch.memory a a n (g.met.W.Watch.wider a a 0 n (g.met.W.Watch.none a) le))
@@ -25,7 +25,7 @@ returns-in_err-line-clause-ended g c why is =
 pub returns-in_err-state-clause-ended : goal.returns-in_err-state-clause-ended
 returns-in_err-state-clause-ended g c why is =
     let same : halt.Fault fault.Memory ≡ why = search rules in
-    let n : ℕ = 2 * lines_of c.args.game.now c.args.depth c.args.moves.now in
+    let n : ℕ = 3 * lines_of c.args.game.now c.args.depth c.args.moves.now in
     let le : 0 ≤ n = omega arith in
     let a = c.args.watch.now in
     subst (λ (w : Halt). g.W.Watch.ended a a n w) same (g.met.W.Watch.memory a a n (g.met.W.Watch.wider a a 0 n (g.met.W.Watch.none a) le))
@@ -40,7 +40,7 @@ best_root-requires-clause-room g c = rw c.in_ok-line.ensures (omega arith)
 pub returns-in_err-best-clause-ended : goal.returns-in_err-best-clause-ended
 returns-in_err-best-clause-ended g c why is =
     let back : c.best_root.result ≡ Err why = search rules in
-    from_line (λ rules s. g.W.Watch.ended c.args.watch.now c.best_root.new.watch (2 * root_lines rules c.args.depth s c.args.moves.now) why)
+    from_line (λ rules s. g.W.Watch.ended c.args.watch.now c.best_root.new.watch (3 * root_lines rules c.args.depth s c.args.moves.now) why)
     c.args.game.now c.args.depth c.in_ok-line.line c.in_ok-line.ensures (c.best_root.ensures.ended why back)
 
 pub returns-clause-best : goal.returns-clause-best
@@ -57,14 +57,14 @@ returns-clause-best g c =
 
 pub returns-clause-gone : goal.returns-clause-gone
 returns-clause-gone g c =
-    from_line (λ rules s. g.W.Watch.gone c.args.watch.now c.best_root.new.watch (2 * root_lines rules c.args.depth s c.args.moves.now))
+    from_line (λ rules s. g.W.Watch.gone c.args.watch.now c.best_root.new.watch (3 * root_lines rules c.args.depth s c.args.moves.now))
     c.args.game.now c.args.depth c.in_ok-line.line c.in_ok-line.ensures c.in_ok-best.ensures.gone
 
 pub returns-clause-few : goal.returns-clause-few
 returns-clause-few g c =
-    let gone = from_line (λ rules s. g.W.Watch.gone c.args.watch.now c.best_root.new.watch (2 * root_lines rules c.args.depth s c.args.moves.now))
+    let gone = from_line (λ rules s. g.W.Watch.gone c.args.watch.now c.best_root.new.watch (3 * root_lines rules c.args.depth s c.args.moves.now))
     c.args.game.now c.args.depth c.in_ok-line.line c.in_ok-line.ensures c.in_ok-best.ensures.gone in
-    let some = from_line (λ rules s. most_nodes 0 c.best_root.new.jobs ≤ most_nodes 0 c.args.jobs.now + root_lines rules c.args.depth s c.args.moves.now)
+    let some = from_line (λ rules s. most_nodes 0 c.best_root.new.jobs ≤ most_nodes 0 c.args.jobs.now + 2 * root_lines rules c.args.depth s c.args.moves.now)
     c.args.game.now c.args.depth c.in_ok-line.line c.in_ok-line.ensures c.in_ok-best.ensures.few in
     let counts = g.met.W.Watch.counts _ _ _ gone in
     let more = counts.1 in let after = c.nodes.ensures in let before = c.nodes-before.ensures in let nodes = c.saturating_sub-nodes.ensures in

@@ -1,4 +1,4 @@
-use Rattle.std.proofs.Common.{◌≡◌, ◌+◌, Err, get_or, rules, subst, take, arith}
+use Rattle.std.proofs.Common.{◌≡◌, ◌+◌, Err, get_or, rules, subst, arith}
 use Rattle.std.proofs.lemmas.List.Elements.{All-push}
 use Rattle.foundation.specs.Member.{Member}
 use Rattle.game_line.specs.Lined.{legal_in, story_of_line}

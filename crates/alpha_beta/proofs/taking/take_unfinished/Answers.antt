@@ -1,4 +1,4 @@
-use Rattle.std.proofs.Common.{◌≡◌, ◌+◌, Err, rules, take, arith}
+use Rattle.std.proofs.Common.{◌≡◌, ◌+◌, Err, rules, arith}
 use Rattle.std.proofs.lemmas.List.Sums.{sum_by_more, sum_by-take-le}
 use Rattle.negamax.proofs.RootLaws.{no_move}
 use Rattle.alpha_beta.specs.declared.taking.Other.{Other}
