@@ -180,11 +180,13 @@ fn winning_move(
     board: &Board,
     moves: &[Move],
     checks: &Option<Checks>,
+    flights: &mut KnownFlights,
 ) -> Option<Move>
     requires rules { board.now.rules ≡ frame.now.rules }
     requires movers { Last.only_movers_win frame.now.rules ≡ true }
     requires only { OnSome checks.now (Last.only_checks_win frame.now.rules ≡ true) }
     requires known { IfSome checks.now (λ checks. AreChecksIn board.now checks) }
+    requires flights { AreFlights board.now flights.old }
     requires attack { In.IsAttackIn frame.now board.now.position }
     requires legal { (m : Move) → Member m moves.now → Member m (In.legal_in frame.now board.now.position) }
     ensures listed { IfSome result (λ m. Member m moves.now) }
@@ -192,10 +194,9 @@ fn winning_move(
     ensures none { result ≡ None → (m : Move) → Member m moves.now →
         In.near_in frame.now 0 (next frame.now.rules board.now.position m) ≡ false }
 {
-    let mut flights = KnownFlights::of(board);
     for i in 0..moves.len() {
         let chosen = moves[i];
-        if wins_by(frame, board, &chosen, checks, &mut flights) {
+        if wins_by(frame, board, &chosen, checks, flights) {
             return Some(chosen);
         }
     }
@@ -224,18 +225,20 @@ pub(crate) fn by_last_move(
     board: &Board,
     moves: &[Move],
     checks: &Option<Checks>,
+    flights: &mut KnownFlights,
 ) -> Fact
     requires rules { board.now.rules ≡ frame.now.rules }
     requires movers { Last.only_movers_win frame.now.rules ≡ true }
     requires only { OnSome checks.now (Last.only_checks_win frame.now.rules ≡ true) }
     requires known { IfSome checks.now (λ checks. AreChecksIn board.now checks) }
+    requires flights { AreFlights board.now flights.old }
     requires attack { In.IsAttackIn frame.now board.now.position }
     requires moves { Tried.HoldsWins frame.now board.now.position moves.now }
     ensures serves { Answers board.now 1 result }
     ensures truth { IsTrueIn frame.now result }
 {
     let p = board.position();
-    match winning_move(frame, board, moves, checks) {
+    match winning_move(frame, board, moves, checks, flights) {
         Some(chosen) => win_in_one(frame, p, chosen),
         None => refuted_by_all_within(frame, p, 0),
     }

@@ -5,6 +5,7 @@ ghost use Rattle.legality.specs.Stance.{legal_in, repeat_in};
 ghost use Rattle.rules_model.specs.declared.moves.Move.{Move};
 ghost use Rattle.rules_model.specs.Legal.{is_stuck};
 ghost use Rattle.check_moves.specs.Checks.{AreChecksIn};
+ghost use Rattle.check_moves.specs.Flights.{AreFlights};
 ghost use Rattle.mate_core.specs.Runs.{IsTrueIn};
 ghost use Rattle.mate_settle.specs.Known.{Answers};
 ghost use Rattle.mate_settle.specs.LastMoves as Last;
@@ -15,7 +16,7 @@ ghost use Rattle.rules_model.specs.Sides.{same_side};
 use crate::fact_table::{FactTable, REFUTERS};
 use crate::last_moves::{by_last_move, only_movers_win, winning_checks};
 use crate::settling::{decide, known_now, legal_list};
-use check_moves::{Checks, push_checks};
+use check_moves::{Checks, KnownFlights, push_checks};
 use mate_core::{Fact, Frame};
 use mate_fact::end_of;
 use playing::Board;
@@ -25,17 +26,24 @@ use std::alloc::Global;
 /// Most positions have no more moves that may give check.
 const CHECKS: usize = 16;
 
-/// Legal moves, each that gives check among them where only checks win, and all where not; or `Memory`.
-fn last_moves(alloc: Global, board: &Board, checks: &Option<Checks>) -> Result<MoveList, Memory>
+/// Legal moves, each check among them that may mate where only checks win, and all where not; or `Memory`.
+fn last_moves(
+    alloc: Global,
+    board: &Board,
+    checks: &Option<Checks>,
+    flights: &mut KnownFlights,
+) -> Result<MoveList, Memory>
     requires known { IfSome checks.now (λ checks. AreChecksIn board.now checks) }
-    ensures { IfOk result (λ ms. Tried.AreTried board.now checks.now ms) }
+    requires flights { AreFlights board.now flights.old }
+    ensures flights { AreFlights board.now flights.new }
+    ensures tried { IfOk result (λ ms. Tried.AreTried board.now checks.now ms) }
 {
     match checks {
         Some(checks) => {
             let mut moves = MoveList {
                 items: Vec::with_capacity(alloc, CHECKS)?,
             };
-            push_checks(board, checks, &mut moves)?;
+            push_checks(board, checks, flights, &mut moves)?;
             Ok(moves)
         }
         None => legal_list(alloc, board),
@@ -62,11 +70,12 @@ fn by_one_move(alloc: Global, frame: &Frame, board: &Board) -> Result<Fact, Memo
     ensures serves { IfOk result (Answers board.now 1) }
 {
     let checks = winning_checks(frame, board);
-    let moves = last_moves(alloc, board, &checks)?;
+    let mut flights = KnownFlights::of(board);
+    let moves = last_moves(alloc, board, &checks, &mut flights)?;
     let list = moves.items.as_slice();
     match known_now(frame, board, 1, some_legal(board, list)) {
         Some(fact) => Ok(fact),
-        None => Ok(by_last_move(frame, board, list, &checks)),
+        None => Ok(by_last_move(frame, board, list, &checks, &mut flights)),
     }
 }
 
