@@ -1,6 +1,6 @@
 -- Of the moves that are tried as the attacker's last: each that wins at once is one of them.
 use Rattle.std.proofs.Common.{◌≡◌, Bool, true, false, not, Option, Some, None, List, [], ◌∷◌, ◌++◌, inl, refl, sym, ap, ◌∙◌, subst}
-use Rattle.std.specs.Prelude.{OnSome}
+use Rattle.std.specs.Prelude.{IfSome, OnSome}
 use Rattle.foundation.specs.Member.{Member, Lists}
 use Rattle.foundation.specs.Tests.{is_nil}
 use Rattle.rules_model.specs.declared.moves.Move.{Move}
@@ -9,6 +9,7 @@ use Rattle.rules_model.specs.Ends.{early_end, is_ongoing}
 use Rattle.rules_model.specs.Legal.{gives_check, is_stuck, legal}
 use Rattle.rules_model.specs.Next.{next, next_repeat}
 use Rattle.rules_model.specs.Repeats.{repeat_of}
+use Rattle.rules_model.specs.Sides.{same_side}
 use Rattle.legality.specs.Stance.{Stance, legal_in, repeat_in}
 use Rattle.square_set.proofs.Cases.{by_bool}
 use Rattle.check_moves.specs.declared.checks.Checks.{Checks}
@@ -16,8 +17,9 @@ use Rattle.check_moves.specs.Listing.{AppendsChecks, ListsChecks}
 use Rattle.mate_core.specs.declared.frame.Frame.{Frame}
 use Rattle.mate_fact.specs.InFrame as In
 use Rattle.mate_settle.specs.LastMoves.{only_checks_win}
+use Rattle.mate_settle.specs.Refuters.{IsRefuter}
 use Rattle.mate_settle.specs.Tried.{AreTried, HoldsWins}
-use Rattle.mate_settle.proofs.LastMoves.{met-loses, quiet-loses}
+use Rattle.mate_settle.proofs.LastMoves.{met-loses, one-reply, quiet-loses}
 use Rattle.mate_settle.proofs.Settled.{moves-of}
 
 never : (b : Bool) → b ≡ true → b ≡ false → ⊥
@@ -59,6 +61,18 @@ none_wins f s ms holds none m legal =
     by_bool (In.near_in f 0 (next f.rules s.position m)) (In.near_in f 0 (next f.rules s.position m) ≡ false)
     (λ wins. none m (holds.complete m legal wins))
     (λ loses. loses)
+
+-- a move that is one of them is legal
+pub some_held : (f : Frame) (s : Stance) (ms : List Move) → HoldsWins f s.position ms → (o : Option Move) → IfSome o (λ m. Member m ms) → IfSome o (λ m. Member m (In.legal_in f s.position))
+some_held f s ms holds None listed = listed
+some_held f s ms holds (Some m) listed = holds.sound m listed
+
+-- a position with such a reply is not won by one move
+pub reply_refutes : (f : Frame) (s : Stance) (m : Move) → s.rules ≡ f.rules → same_side s.position.side f.attacker ≡ false → IsRefuter f s m → In.near_in f 1 s.position ≡ false
+reply_refutes f s m same turn is =
+    let Legal : Rules → Type 0 = λ x. Member m (legal x (repeat_of s.position)) in
+    let Lost : Rules → Type 0 = λ x. In.near_in f 1 (next x s.position m) ≡ false in
+    one-reply f s.position m is.ongoing turn (subst Legal same is.legal) (subst Lost same is.lost)
 
 -- what was appended to nothing
 pub checks_listed : (s : Stance) (old new : List Move) → old ≡ [] → AppendsChecks s old new → ListsChecks s new
