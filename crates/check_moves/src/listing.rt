@@ -105,7 +105,8 @@ fn asked_to(board: &Board, checks: &Checks, step: &Option<Flight>, passed: Set, 
     takers.and(closers(board, kind, step)).or(passed)
 }
 
-/// Which moves are asked for, so that each of the others gives no check where kings do not fly, or leaves the step open.
+/// Which moves are asked for, so that each of the others gives no check where kings do not fly, or leaves the step
+/// open.
 fn asked_of(board: &Board, checks: &Checks, step: &Option<Flight>) -> Asked
     requires checks { AreChecksIn board.now checks.now }
     requires step { IfSome step.now (Spec.IsToClose board.now) }
@@ -131,9 +132,10 @@ pub(crate) fn prove_moved(occupied: Set)
     let _none = occupied.is_empty();
 }
 
-/// Appends legal moves, each once and in no special order, and among them each that gives check, but where checks are not
-/// counted one that leaves the king a step need not be: those are left out that are known to give none, or to leave a step,
-/// by the square that is left, the kind, and the square that is entered. Without memory the list is as it was.
+/// Appends legal moves, each once and in no special order, and among them each that gives check; but where checks are
+/// not counted one that leaves the king a step need not be among them. Those are left out that are known to give none,
+/// or to leave a step, by the square that is left, the kind, and the square that is entered. Without memory the list is
+/// as it was.
 pub fn push_checks(
     board: &Board,
     checks: &Checks,
