@@ -47,10 +47,15 @@ use Rattle.legality.specs.Stance.{Stance, repeat_in}
 use Rattle.legality.proofs.PinLaws.{not_passing}
 use Rattle.check_moves.specs.declared.flights.Flight.{Flight}
 use Rattle.check_moves.specs.declared.flights.LoneKing.{LoneKing}
-use Rattle.check_moves.specs.Checks.{ComesTo, ReachesNone}
+use Rattle.check_moves.specs.Checks.{ComesTo}
 use Rattle.check_moves.specs.Shut.{AreShut}
 use Rattle.check_moves.specs.Flights.{IsFlight, IsLoneKing, IsOnlyKing, IsOpen, LeavesStep, StaysOpen, are_steps_plain, carried, is_castling_step, repeat_after}
 use Rattle.check_moves.proofs.ComeLaws.{by_place, dropped, goes, kept_there, later_occupied, left_there, no_other_king, promo_side, same_is, taken_there, went}
+
+-- on a board with these occupied squares a piece of the kind does not attack the step's square
+abbrev pub SparesStep : Stance → Flight → Kind → ℕ → Set → Type 0
+SparesStep s flight kind from occupied =
+    (board : List (Option Cell)) → IsOccupied occupied board → reaches_as s.rules board s.position.side kind (record { 0 = from }) Take flight.to ≡ false
 
 unlike : (a b : ℕ) → (a == b) ≡ false → a ≢ b
 unlike a b n e = let t : (a == b) ≡ true = eq-eqb a b e in cc
@@ -150,7 +155,7 @@ module _ (s : Stance) (flight : Flight) (is : IsFlight s flight) (kind : Kind) (
         (λ a. left_there (has flight.stepped from) (from == from) (from == to) (eq-eqb from from refl) (ne_eqb from to a))
         (λ u e f g h. kept_there (has flight.stepped u) (u == from) (u == to) e f ∙ is.stepped u ∙ kept_there (is_some (cell_at cells u)) (u == king) (u == at) g h) t
 
-    module _ (closed : has flight.shut from ≡ true) (none : ReachesNone s.rules side kind to moved_on flight.target) where
+    module _ (closed : has flight.shut from ≡ true) (none : SparesStep s flight kind to moved_on) where
       no_attack : (t : ℕ) → t < 120 → attacks_from s.rules after side at t ≡ false
       unfolding steps
       no_attack t l =
@@ -167,7 +172,7 @@ module _ (s : Stance) (flight : Flight) (is : IsFlight s flight) (kind : Kind) (
               by_equal t to (attacks_from s.rules after side at t ≡ false)
               (λ q e.
               let stands : cell_at after to ≡ Some come.piece = ap (cell_at after) (sym e) ∙ same ∙ ap (cell_at later) e ∙ come.there in
-              let reach = ap (λ (x : Kind). reaches_as s.rules after side x (record { 0 = to }) Take at) come.of_kind ∙ none after occupied_after at is.target in
+              let reach = ap (λ (x : Kind). reaches_as s.rules after side x (record { 0 = to }) Take at) come.of_kind ∙ none after occupied_after in
               ap (attacks_from s.rules after side at) e ∙ from_man s.rules after side at to come.piece stands
               ∙ and_right (same_side come.piece.side side) (reaches_as s.rules after side come.piece.kind (record { 0 = to }) Take at) reach)
               (λ q e. by_equal t from (attacks_from s.rules after side at t ≡ false)
@@ -336,7 +341,7 @@ moved-by old left new from to without with t = with t ∙ ap (λ (b : Bool). b |
 
 module _ (s : Stance) (flight : Flight) (is : IsFlight s flight) (kind : Kind) (from to : ℕ) (from_king : (from == flight.king.at) ≡ false) (from_at : (from == flight.to) ≡ false) (to_king : (to == flight.king.at) ≡ false) (to_at : (to == flight.to) ≡ false) (closed : has flight.shut from ≡ true) where
   -- no line is opened, the piece does not attack the square, and the king reaches it
-  pub stays-open : (occupied later_set moved_on : Set) → IsOccupied occupied s.position.cells → IsMoved occupied from to later_set → ((board : List (Option Cell)) → IsOccupied later_set board → reaches_as s.rules board (other s.position.side) flight.king.kind (record { 0 = flight.king.at }) Quiet flight.to ≡ true) → IsMoved flight.stepped from to moved_on → ReachesNone s.rules s.position.side kind to moved_on flight.target → StaysOpen s flight kind from to
+  pub stays-open : (occupied later_set moved_on : Set) → IsOccupied occupied s.position.cells → IsMoved occupied from to later_set → ((board : List (Option Cell)) → IsOccupied later_set board → reaches_as s.rules board (other s.position.side) flight.king.kind (record { 0 = flight.king.at }) Quiet flight.to ≡ true) → IsMoved flight.stepped from to moved_on → SparesStep s flight kind to moved_on → StaysOpen s flight kind from to
   stays-open occupied later_set moved_on all went_on hit gone none later long come = record {
     stays = king_stays s flight is kind from to from_king from_at to_king to_at later long come;
     empty = stays_empty s flight is kind from to from_king from_at to_king to_at later long come;

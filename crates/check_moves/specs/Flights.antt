@@ -18,8 +18,10 @@ use Rattle.rules_model.specs.Next.{next_repeat}
 use Rattle.rules_model.specs.Regions.{castling_square}
 use Rattle.rules_model.specs.Sides.{other}
 use Rattle.rules_model.specs.Squares.{cell_at}
+use Rattle.square_set.specs.declared.Set.{Set}
 use Rattle.square_set.specs.Members.{has}
 use Rattle.move_tables.specs.declared.mode.Mode.TheVariants.{Quiet}
+use Rattle.move_tables.specs.Occupied.{IsOccupied}
 use Rattle.move_tables.specs.Reached.{reaches_as}
 use Rattle.legality.specs.Stance.{Stance, repeat_in}
 use Rattle.check_moves.specs.declared.flights.Flight.{Flight}
@@ -108,6 +110,13 @@ abbrev pub LeavesStep : Stance → Flight → Move → Type 0
 LeavesStep s flight m =
     is_ongoing (early_end s.rules (repeat_after s m)) ≡ true
     → Member (step_of flight) (legal s.rules (repeat_after s m))
+
+-- the king makes the step whatever stands on the board
+abbrev pub IsLeap : Stance → Flight → Type 0
+IsLeap s flight =
+    (occupied : Set) (board : List (Option Cell)) → IsOccupied occupied board
+    → reaches_as s.rules board (other s.position.side) flight.king.kind (record { 0 = flight.king.at }) Quiet flight.to
+    ≡ true
 
 -- after the move the other side has a legal move, if the game goes on
 pub record IsMet (s : Stance) (m : Move) : Type 0 where

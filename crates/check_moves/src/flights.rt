@@ -152,6 +152,19 @@ fn flight_to(board: &Board, king: &LoneKing, to: u8) -> Option<Flight>
     })
 }
 
+/// Whether the step is a leap, which the king makes whatever stands on the board.
+pub(crate) fn is_leap(board: &Board, flight: &Flight) -> bool
+    requires { Spec.IsFlight board.now flight.now }
+    ensures { OnTrue result (Spec.IsLeap board.now flight.now) }
+{
+    let king = flight.king;
+    let by = board.position().side.other();
+    let spot = board
+        .tables()
+        .spot(by, king.kind, Square(king.at), Mode::Quiet);
+    spot.leaps.and(spot.within).has(flight.to)
+}
+
 /// Whether the king may step to the square once a piece of the kind has left the one square for the other. One that is
 /// dropped leaves the square to which it comes. A step that is no leap is not known to be open.
 fn stays_open(board: &Board, flight: &Flight, kind: Kind, from: u8, to: u8) -> bool
@@ -169,8 +182,7 @@ fn stays_open(board: &Board, flight: &Flight, kind: Kind, from: u8, to: u8) -> b
     }
     let tables = board.tables();
     let side = board.position().side;
-    let spot = tables.spot(side.other(), king.kind, Square(king.at), Mode::Quiet);
-    if !spot.leaps.and(spot.within).has(flight.to) {
+    if !is_leap(board, flight) {
         return false;
     }
     prove_moved(board.sets().occupied());
@@ -263,7 +275,7 @@ impl KnownFlights {
     }
 
     /// The step that is kept at the place, or one that is looked for where none is.
-    fn step_at(&mut self, board: &Board, place: usize) -> Option<Flight>
+    pub(crate) fn step_at(&mut self, board: &Board, place: usize) -> Option<Flight>
         requires place { place < 8 }
         requires flights { Spec.AreFlights board.now self.old }
         ensures kept { Spec.AreFlights board.now self.new }

@@ -1,6 +1,7 @@
 -- What wins by the attacker's last move.
-use Rattle.std.proofs.Common.{◌≡◌, ℕ, List, [], ◌∷◌, Bool, true, false, Option, Some, None, not, is_some, ◌&&◌, ◌==◌, if◌then◌else◌, slice_index, slice_set, inl, refl, ap, sym, ◌∙◌}
-use Rattle.std.specs.List.{list_all}
+use Rattle.std.proofs.Common.{◌≡◌, ℕ, List, [], ◌∷◌, Bool, true, false, Option, Some, None, not, is_some, ◌&&◌, ◌==◌, if◌then◌else◌, slice_index, slice_set, inl, inr, refl, ap, sym, ◌∙◌}
+use Rattle.std.specs.List.{list_all, list_any}
+use Rattle.std.specs.Prelude.{IfSome}
 use Rattle.std.proofs.lemmas.Bool.{and_left, and_parts}
 use Rattle.std.proofs.lemmas.List.{get_or-set_other}
 use Rattle.foundation.specs.Member.{Member}
@@ -282,6 +283,15 @@ end_cases None f g h = f refl
 end_cases (Some true) f g h = g refl
 end_cases (Some false) f g h = h refl
 
+none_passes : (g : Move → Bool) (ms : List Move) → ((m : Move) → Member m ms → g m ≡ false) → list_any g ms ≡ false
+none_passes g [] none = refl
+none_passes g (x ∷ ms) none = rw (none x (inl refl), none_passes g ms (λ m k. none m (inr k))) refl
+
+one_fails : (g : Move → Bool) (m : Move) (ms : List Move) → Member m ms → g m ≡ false → list_all g ms ≡ false
+one_fails g m [] k fails = absurd k
+one_fails g m (x ∷ ms) (inl s) fails = let e : g x ≡ false = ap g s ∙ fails in rw e
+one_fails g m (x ∷ ms) (inr k) fails = let e = one_fails g m ms k fails in by_cases (g x) (λ t. rw (t, e)) (λ t. rw t)
+
 module _ (f : Frame) where
   abbrev G : Contest Position Move
   G = positions f.rules f.blocked f.attacker
@@ -366,6 +376,29 @@ module _ (f : Frame) where
   one-move p m d is won =
       C.forced-attack G (laws f.rules f.attacker).turns 0 p d.ongoing d.turn
       ∙ any_intro (λ x. In.near_in f 0 (after p x)) m (In.legal_in f p) is won
+
+  -- it does not win at once where a reply is legal
+  pub reply-loses : (p : Position) (reply : Move) → only_movers_win f.rules ≡ true → same_side p.side f.attacker ≡ false → Member reply (legal f.rules (repeat_of p)) → In.near_in f 0 p ≡ false
+  reply-loses p reply movers t is =
+      let own = own-ongoing f.rules (repeat_of p) reply is in
+      lost-at-once p movers t (λ h. let u = sym (ap (won_by f.attacker) own) ∙ h in cc)
+
+  -- an ended position is won as it is ended
+  pub ended-near : (p : Position) (won : Bool) → In.end_in f p ≡ Some won → won ≡ In.near_in f 1 p
+  ended-near p won e = sym (C.forced-ended G 1 p won e)
+
+  -- one that goes on is won by one move where some move wins at once
+  pub one-or-none : (p : Position) → In.IsAttackIn f p → (o : Option Move) → IfSome o (λ m. Member m (In.legal_in f p)) → IfSome o (λ m. In.near_in f 0 (after p m) ≡ true) → (o ≡ None → (m : Move) → Member m (In.legal_in f p) → In.near_in f 0 (after p m) ≡ false) → is_some o ≡ In.near_in f 1 p
+  one-or-none p d None is won none =
+      sym (C.forced-attack G (laws f.rules f.attacker).turns 0 p d.ongoing d.turn
+      ∙ none_passes (λ m. In.near_in f 0 (after p m)) (In.legal_in f p) (none refl))
+  one-or-none p d (Some m) is won none = sym (one-move p m d is won)
+
+  -- and is not won where the other side has a reply after which it is not
+  pub one-reply : (p : Position) (m : Move) → In.end_in f p ≡ None → same_side p.side f.attacker ≡ false → Member m (In.legal_in f p) → In.near_in f 1 (after p m) ≡ false → In.near_in f 1 p ≡ false
+  one-reply p m on t is lost =
+      C.forced-defence G (laws f.rules f.attacker).turns 1 p on t
+      ∙ one_fails (λ x. In.near_in f 1 (after p x)) m (In.legal_in f p) is lost
 
   pub turn-after : (p q : Position) (m : Move) → q ≡ after p m → same_side p.side f.attacker ≡ true → same_side q.side f.attacker ≡ false
   turn-after p q m e t = ap (λ (x : Position). same_side x.side f.attacker) e ∙ (laws f.rules f.attacker).turns p m ∙ ap not t

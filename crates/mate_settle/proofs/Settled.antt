@@ -395,10 +395,13 @@ win-answers f p n best =
     let x = fact_of p f.attacker n best true in
     serves-from x (repeat_of p) p.counter n refl (covers-from x true p.counter n (record { won = λ e. (omega arith, omega arith); lost = λ e. absurd (let z = e in cc) }))
 
-pub loss-answers : (f : Frame) (p : Position) → serves (fact_of p f.attacker (smaller (0 + 1) 65535) None false) (repeat_of p) p.counter 1 ≡ true
-loss-answers f p =
-    let x = fact_of p f.attacker 1 None false in
+pub refutation-answers : (f : Frame) (p : Position) (best : Option Move) → serves (fact_of p f.attacker 1 best false) (repeat_of p) p.counter 1 ≡ true
+refutation-answers f p best =
+    let x = fact_of p f.attacker 1 best false in
     serves-from x (repeat_of p) p.counter 1 refl (covers-from x false p.counter 1 (record { won = λ e. absurd (let z = e in cc); lost = λ e. (omega arith, omega arith) }))
+
+pub loss-answers : (f : Frame) (p : Position) → serves (fact_of p f.attacker (smaller (0 + 1) 65535) None false) (repeat_of p) p.counter 1 ≡ true
+loss-answers f p = refutation-answers f p None
 
 -- where some move is listed, some move is legal
 pub some-listed : (legal ms : List Move) → Lists (λ m. Member m legal) ms → is_nil ms ≡ is_nil legal

@@ -1,13 +1,15 @@
 -- Of the moves that are tried as the attacker's last: each that wins at once is one of them.
 use Rattle.std.proofs.Common.{◌≡◌, Bool, true, false, not, Option, Some, None, List, [], ◌∷◌, ◌++◌, inl, refl, sym, ap, ◌∙◌, subst}
-use Rattle.std.specs.Prelude.{OnSome}
+use Rattle.std.specs.Prelude.{IfSome, OnSome}
 use Rattle.foundation.specs.Member.{Member, Lists}
 use Rattle.foundation.specs.Tests.{is_nil}
 use Rattle.rules_model.specs.declared.moves.Move.{Move}
 use Rattle.rules_model.specs.declared.rules.Rules.{Rules}
+use Rattle.rules_model.specs.Ends.{early_end, is_ongoing}
 use Rattle.rules_model.specs.Legal.{gives_check, is_stuck, legal}
-use Rattle.rules_model.specs.Next.{next}
+use Rattle.rules_model.specs.Next.{next, next_repeat}
 use Rattle.rules_model.specs.Repeats.{repeat_of}
+use Rattle.rules_model.specs.Sides.{same_side}
 use Rattle.legality.specs.Stance.{Stance, legal_in, repeat_in}
 use Rattle.square_set.proofs.Cases.{by_bool}
 use Rattle.check_moves.specs.declared.checks.Checks.{Checks}
@@ -15,8 +17,9 @@ use Rattle.check_moves.specs.Listing.{AppendsChecks, ListsChecks}
 use Rattle.mate_core.specs.declared.frame.Frame.{Frame}
 use Rattle.mate_fact.specs.InFrame as In
 use Rattle.mate_settle.specs.LastMoves.{only_checks_win}
+use Rattle.mate_settle.specs.Refuters.{IsRefuter}
 use Rattle.mate_settle.specs.Tried.{AreTried, HoldsWins}
-use Rattle.mate_settle.proofs.LastMoves.{quiet-loses}
+use Rattle.mate_settle.proofs.LastMoves.{met-loses, one-reply, quiet-loses}
 use Rattle.mate_settle.proofs.Settled.{moves-of}
 
 never : (b : Bool) → b ≡ true → b ≡ false → ⊥
@@ -28,16 +31,24 @@ module _ (f : Frame) (s : Stance) (ms : List Move) (same : s.rules ≡ f.rules) 
   of_all all = let those = moves-of f s ms same all in record { sound = those.sound; complete = λ m legal wins. those.complete m legal }
 
   of_checks : only_checks_win f.rules ≡ true → ListsChecks s ms → HoldsWins f s.position ms
+  unfolding next
   of_checks only listed =
-      let Of : Rules → Type 0 = λ x. (m : Move) → Member m ms → Member m (legal x (repeat_of s.position)) in
-      let Has : Rules → Type 0 = λ x. (m : Move) → Member m (legal x (repeat_of s.position)) → gives_check x (repeat_of s.position) m ≡ true → Member m ms in
-      let complete = subst Has same listed.complete in
+      let p = s.position in
+      let Of : Rules → Type 0 = λ x. (m : Move) → Member m ms → Member m (legal x (repeat_of p)) in
       record {
         sound = subst Of same listed.sound;
-        complete = λ m legal wins.
-            by_bool (gives_check f.rules (repeat_of s.position) m) (Member m ms)
-            (λ check. complete m legal check)
-            (λ quiet. absurd (never (In.near_in f 0 (next f.rules s.position m)) wins (quiet-loses f s.position m only attack.ongoing attack.turn quiet)));
+        complete = λ m legal_move wins.
+            let Legal : Rules → Type 0 = λ x. Member m (legal x (repeat_of p)) in
+            let Quiet : Rules → Type 0 = λ x. gives_check x (repeat_of p) m ≡ false in
+            let no_loss = never (In.near_in f 0 (next f.rules p m)) wins in
+            listed.complete m (subst Legal (sym same) legal_move) (record {
+              checks = by_bool (gives_check s.rules (repeat_of p) m) (gives_check s.rules (repeat_of p) m ≡ true)
+                  (λ check. check)
+                  (λ quiet. absurd (no_loss (quiet-loses f p m only attack.ongoing attack.turn (subst Quiet same quiet))));
+              unmet = λ uncounted met.
+                  let Leaves : Rules → Type 0 = λ x. is_ongoing (early_end x (next_repeat x (repeat_of p) m)) ≡ true → Member met.reply (legal x (next_repeat x (repeat_of p) m)) in
+                  no_loss (met-loses f p m met.reply only (subst (λ (x : Rules). x.check_counting ≡ false) same uncounted) attack.turn (subst Leaves same met.legal));
+            });
       }
 
   pub holds_wins : (o : Option Checks) → OnSome o (only_checks_win f.rules ≡ true) → AreTried s o ms → HoldsWins f s.position ms
@@ -50,6 +61,18 @@ none_wins f s ms holds none m legal =
     by_bool (In.near_in f 0 (next f.rules s.position m)) (In.near_in f 0 (next f.rules s.position m) ≡ false)
     (λ wins. none m (holds.complete m legal wins))
     (λ loses. loses)
+
+-- a move that is one of them is legal
+pub some_held : (f : Frame) (s : Stance) (ms : List Move) → HoldsWins f s.position ms → (o : Option Move) → IfSome o (λ m. Member m ms) → IfSome o (λ m. Member m (In.legal_in f s.position))
+some_held f s ms holds None listed = listed
+some_held f s ms holds (Some m) listed = holds.sound m listed
+
+-- a position with such a reply is not won by one move
+pub reply_refutes : (f : Frame) (s : Stance) (m : Move) → s.rules ≡ f.rules → same_side s.position.side f.attacker ≡ false → IsRefuter f s m → In.near_in f 1 s.position ≡ false
+reply_refutes f s m same turn is =
+    let Legal : Rules → Type 0 = λ x. Member m (legal x (repeat_of s.position)) in
+    let Lost : Rules → Type 0 = λ x. In.near_in f 1 (next x s.position m) ≡ false in
+    one-reply f s.position m is.ongoing turn (subst Legal same is.legal) (subst Lost same is.lost)
 
 -- what was appended to nothing
 pub checks_listed : (s : Stance) (old new : List Move) → old ≡ [] → AppendsChecks s old new → ListsChecks s new

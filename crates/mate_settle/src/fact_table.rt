@@ -41,6 +41,8 @@ pub struct FactTable<'f> {
     killers: [Option<Move>; KILLERS],
     /// The replies that refuted the attacker's last move, the newest first.
     refuters: [Option<Move>; REFUTERS],
+    /// For each square the legal reply that met a check last which was given by a move to it.
+    meeters: [Option<Move>; SQUARES],
     /// How often replies refuted, by the attacker's moves, the kind and the target: as many counters as there is room for
     /// facts, and no more than `COUNTERS`.
     counters: Vec<u8>,
@@ -123,6 +125,7 @@ impl<'f> FactTable<'f> {
             kept,
             killers: [None; KILLERS],
             refuters: [None; REFUTERS],
+            meeters: [None; SQUARES],
             counters,
         })
     }
@@ -247,6 +250,23 @@ impl<'f> FactTable<'f> {
         ensures { self.new ≡ self.old }
     {
         bring_to_front(&mut self.refuters, reply);
+    }
+
+    /// The legal reply that met a check last which was given by a move to the square. It may be of another position.
+    pub(crate) fn meeter(&self, to: Square) -> Option<Move> {
+        match self.meeters.get(usize::from(to.0)) {
+            Some(meeter) => *meeter,
+            None => None,
+        }
+    }
+
+    /// Keeps a legal reply to a check by a move to the square.
+    pub(crate) fn keep_meeter(&mut self, to: Square, reply: Move)
+        ensures { self.new ≡ self.old }
+    {
+        if let Some(meeter) = self.meeters.get_mut(usize::from(to.0)) {
+            *meeter = Some(reply);
+        }
     }
 
     /// How often a reply by which a piece of the kind came to the square refuted, where the attacker had this many moves

@@ -14,11 +14,14 @@ ghost use Rattle.rules_model.specs.declared.moves.Move.{Move};
 ghost use Rattle.rules_model.specs.Next.{next};
 ghost use Rattle.rules_model.specs.Sides.{same_side};
 
+use crate::fact_table::FactTable;
+use crate::settling::legal_list;
 use check_moves::{Checks, KnownFlights, checks_of, may_check};
 use mate_core::{Fact, Frame};
 use mate_fact::{refuted_by_all_within, won_by};
 use playing::Board;
-use rules_model::{Move, Position, Rules, Value, repeat_of};
+use rules_model::{Move, Position, Rules, Square, Value, repeat_of};
+use std::alloc::Global;
 
 fn is_win(value: Value) -> bool
     ensures { result ≡ Last.is_win value }
@@ -136,27 +139,79 @@ fn cannot_win_at_once(
     }
 }
 
-/// Whether the attacker's move wins at once: it is made. The position after it is no local of the caller, which makes few
-/// of its moves.
+/// The square to which the move leads.
+fn target_of(m: &Move) -> Square {
+    match *m {
+        Move::Go { to, .. } => to,
+        Move::Castle { to, .. } => to,
+        Move::Drop { to, .. } => to,
+    }
+}
+
+/// Whether the reply is legal that met a check last which was given by a move to the square: then the attacker, who has
+/// no move left, does not win the position.
+fn is_met(frame: &Frame, board: &Board, to: Square, facts: &FactTable) -> bool
+    requires rules { board.now.rules ≡ frame.now.rules }
+    requires movers { Last.only_movers_win frame.now.rules ≡ true }
+    requires turn { same_side board.now.position.side frame.now.attacker ≡ false }
+    ensures { OnTrue result (In.near_in frame.now 0 board.now.position ≡ false) }
+{
+    match facts.meeter(to) {
+        Some(reply) => board.is_legal(&reply),
+        None => false,
+    }
+}
+
+/// Keeps a legal reply to the check that was given by a move to the square, where there is memory for the list of them.
+fn keep_reply(alloc: Global, board: &Board, to: Square, facts: &mut FactTable)
+    ensures { facts.new ≡ facts.old }
+{
+    let Ok(replies) = legal_list(alloc, board) else {
+        return;
+    };
+    if let Some(reply) = replies.items.first() {
+        facts.keep_meeter(to, *reply);
+    }
+}
+
+/// Whether the attacker's move wins at once: it is made. Before the replies to a check are looked for, the one is tried
+/// that met such a check last. The position after the move is no local of the caller, which makes few of its moves.
 #[inline(never)]
-fn wins_once_made(frame: &Frame, board: &Board, m: &Move) -> bool
+fn wins_once_made(
+    alloc: Global,
+    frame: &Frame,
+    board: &Board,
+    m: &Move,
+    facts: &mut FactTable,
+) -> bool
     requires rules { board.now.rules ≡ frame.now.rules }
     requires movers { Last.only_movers_win frame.now.rules ≡ true }
     requires attack { In.IsAttackIn frame.now board.now.position }
     requires legal { Member m.now (In.legal_in frame.now board.now.position) }
-    ensures { result ≡ In.near_in frame.now 0 (next frame.now.rules board.now.position m.now) }
+    ensures kept { facts.new ≡ facts.old }
+    ensures wins { result ≡ In.near_in frame.now 0 (next frame.now.rules board.now.position m.now) }
 {
     let next = board.after(m);
-    wins_at_once(frame, &next)
+    let to = target_of(m);
+    if is_met(frame, &next, to, facts) {
+        return false;
+    }
+    let wins = wins_at_once(frame, &next);
+    if !wins && next.in_check() {
+        keep_reply(alloc, &next, to, facts);
+    }
+    wins
 }
 
 /// Whether the attacker's move wins at once. It is not made where `cannot_win_at_once` says so before.
 fn wins_by(
+    alloc: Global,
     frame: &Frame,
     board: &Board,
     m: &Move,
     checks: &Option<Checks>,
     flights: &mut KnownFlights,
+    facts: &mut FactTable,
 ) -> bool
     requires rules { board.now.rules ≡ frame.now.rules }
     requires movers { Last.only_movers_win frame.now.rules ≡ true }
@@ -166,36 +221,41 @@ fn wins_by(
     requires attack { In.IsAttackIn frame.now board.now.position }
     requires legal { Member m.now (In.legal_in frame.now board.now.position) }
     ensures flights { AreFlights board.now flights.new }
+    ensures kept { facts.new ≡ facts.old }
     ensures wins { result ≡ In.near_in frame.now 0 (next frame.now.rules board.now.position m.now) }
 {
     if cannot_win_at_once(frame, board, m, checks, flights) {
         return false;
     }
-    wins_once_made(frame, board, m)
+    wins_once_made(alloc, frame, board, m, facts)
 }
 
 /// A move that wins at once, if there is one among these.
-fn winning_move(
+pub(crate) fn winning_move(
+    alloc: Global,
     frame: &Frame,
     board: &Board,
     moves: &[Move],
     checks: &Option<Checks>,
+    flights: &mut KnownFlights,
+    facts: &mut FactTable,
 ) -> Option<Move>
     requires rules { board.now.rules ≡ frame.now.rules }
     requires movers { Last.only_movers_win frame.now.rules ≡ true }
     requires only { OnSome checks.now (Last.only_checks_win frame.now.rules ≡ true) }
     requires known { IfSome checks.now (λ checks. AreChecksIn board.now checks) }
+    requires flights { AreFlights board.now flights.old }
     requires attack { In.IsAttackIn frame.now board.now.position }
     requires legal { (m : Move) → Member m moves.now → Member m (In.legal_in frame.now board.now.position) }
+    ensures kept { facts.new ≡ facts.old }
     ensures listed { IfSome result (λ m. Member m moves.now) }
     ensures wins { IfSome result (λ m. In.near_in frame.now 0 (next frame.now.rules board.now.position m) ≡ true) }
     ensures none { result ≡ None → (m : Move) → Member m moves.now →
         In.near_in frame.now 0 (next frame.now.rules board.now.position m) ≡ false }
 {
-    let mut flights = KnownFlights::of(board);
     for i in 0..moves.len() {
         let chosen = moves[i];
-        if wins_by(frame, board, &chosen, checks, &mut flights) {
+        if wins_by(alloc, frame, board, &chosen, checks, flights, facts) {
             return Some(chosen);
         }
     }
@@ -218,24 +278,45 @@ fn win_in_one(frame: &Frame, p: &Position, m: Move) -> Fact
     }
 }
 
+/// The refutation of a position before the attacker's last move, by this reply.
+pub(crate) fn refuted_in_one(frame: &Frame, p: &Position, m: Move) -> Fact
+    requires { In.near_in frame.now 1 p.now ≡ false }
+    ensures is { result ≡ Facts.fact_of p.now frame.now.attacker 1 (Some m) false }
+    ensures truth { IsTrueIn frame.now result }
+{
+    Fact {
+        repeat: repeat_of(p),
+        attacker: frame.attacker,
+        moves: 1,
+        counter: p.counter,
+        best: Some(m),
+        wins: false,
+    }
+}
+
 /// Whether the attacker wins by his last move, where each that does so is one of these: a true fact that says it.
 pub(crate) fn by_last_move(
+    alloc: Global,
     frame: &Frame,
     board: &Board,
     moves: &[Move],
     checks: &Option<Checks>,
+    flights: &mut KnownFlights,
+    facts: &mut FactTable,
 ) -> Fact
     requires rules { board.now.rules ≡ frame.now.rules }
     requires movers { Last.only_movers_win frame.now.rules ≡ true }
     requires only { OnSome checks.now (Last.only_checks_win frame.now.rules ≡ true) }
     requires known { IfSome checks.now (λ checks. AreChecksIn board.now checks) }
+    requires flights { AreFlights board.now flights.old }
     requires attack { In.IsAttackIn frame.now board.now.position }
     requires moves { Tried.HoldsWins frame.now board.now.position moves.now }
+    ensures kept { facts.new ≡ facts.old }
     ensures serves { Answers board.now 1 result }
     ensures truth { IsTrueIn frame.now result }
 {
     let p = board.position();
-    match winning_move(frame, board, moves, checks) {
+    match winning_move(alloc, frame, board, moves, checks, flights, facts) {
         Some(chosen) => win_in_one(frame, p, chosen),
         None => refuted_by_all_within(frame, p, 0),
     }

@@ -164,7 +164,7 @@ fn keep_dear(facts: &mut FactTable, board: &Board, n: u16, fact: Fact)
 /// What one move decides, where the known fact on the position after it is what the side to move wants: a fact that
 /// answers for the position. The fact is kept where it is dear, and so is the move.
 #[inline]
-pub(crate) fn decide(
+fn decide(
     facts: &mut FactTable,
     board: &Board,
     attacking: bool,

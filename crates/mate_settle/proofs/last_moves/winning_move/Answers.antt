@@ -25,5 +25,6 @@ loop-i-preserved c =
     let i = c.loop-i.i in
     record {
       flights = c.wins_by.ensures.flights;
+      kept = c.wins_by.ensures.kept ∙ c.loop-i.invariant.kept;
       none = each-more {Q = λ m. In.near_in f 0 (next f.rules p m) ≡ false} ms i _ (slice_get-get_or ms i _ c.loop-i-test.true) c.loop-i.invariant.none (sym c.wins_by.ensures.wins ∙ c.if-wins_by.false);
     }

@@ -9,5 +9,6 @@ use Rattle.mate_settle.proofs.last_moves.winning_move.Given as goal
 abbrev pub invariant-loop-i : goal.invariant-loop-i
 invariant-loop-i l = record {
   flights : AreFlights l.board l.flights;
+  kept : l.facts ≡ l.fn.facts;
   none : (m : Move) → Member m (take l.i l.moves) → near_in l.frame 0 (next l.frame.rules l.board.position m) ≡ false;
 }
