@@ -1,17 +1,22 @@
 //! How a line stands.
 ghost use Rattle.std.specs.Prelude.{◌≡◌, ◌<◌, ◌≤◌, not, false, length};
+ghost use Rattle.std.specs.Bool.{OnTrue};
+ghost use Rattle.rules_model.specs.declared.board.Repeat.{Repeat};
+ghost use Rattle.rules_model.specs.declared.moves.Outcome.TheVariants.{Ongoing};
+ghost use Rattle.rules_model.specs.Ends.{early_end};
 ghost use Rattle.rules_model.specs.Games as Games;
 ghost use Rattle.rules_model.specs.Games.{times};
 ghost use Rattle.rules_model.specs.Legal as Legal;
 ghost use Rattle.rules_model.specs.Repeats.{repeat_of};
 ghost use Rattle.position_key.specs.Key.{key_of};
 ghost use Rattle.game_play.specs.Played.{keys_of};
+ghost use Rattle.game_line.specs.Lined as Lined;
 ghost use Rattle.game_line.specs.Lined.{positions_of, story_of_line};
 
 use crate::line::Line;
 use game_play::counted_end;
 use playing::Board;
-use rules_model::{Outcome, Position};
+use rules_model::{Outcome, Position, Rules};
 
 /// Whether a board of this key repeats the position, which has the other.
 #[tactic(auto, using(position_key::proofs::KeyLaws::unequal_keys))]
@@ -41,6 +46,14 @@ fn standings(boards: &[Board], keys: &[u64], p: &Position, key: u64) -> u32
         }
     }
     count
+}
+
+/// Whether the variant has any end by the position itself, before its moves are looked at: a flag, counted checks or
+/// extinction.
+fn can_end_early(rules: &Rules) -> bool
+    ensures { result ≡ false → (r : Repeat) → early_end rules.now r ≡ Ongoing }
+{
+    rules.flag_kind.is_some() || rules.check_counting || rules.extinction.is_some()
 }
 
 impl Line<'_> {
@@ -104,5 +117,31 @@ impl Line<'_> {
             ),
             end => end,
         }
+    }
+
+    /// Whether it is known of every move that no repetition ends the game after it. Where some position may have stood
+    /// twice it is not.
+    fn repeats_after_none(&self) -> bool
+        ensures { OnTrue result (Lined.RepeatsAfterNone self.now) }
+    {
+        let fold = self.rules().n_fold;
+        fold == 0 || (fold >= 3 && self.slots.are_sparse())
+    }
+
+    /// Whether it is known of every move that the move count does not end the game after it.
+    fn runs_out_after_none(&self) -> bool
+        ensures { OnTrue result (Lined.RunsOutAfterNone self.now) }
+    {
+        let most = self.rules().n_move;
+        let counter = self.board().position().counter;
+        most == 0 || u32::from(counter) + 1 < 2 * u32::from(most)
+    }
+
+    /// Whether it is known of every move, before it is made, that it ends the game only where it leaves the other side no
+    /// legal move. No key is made: where some position may have stood twice it is not known.
+    pub fn ends_by_stuck_alone(&self) -> bool
+        ensures { OnTrue result (Lined.EndsByStuckAlone self.now) }
+    {
+        !can_end_early(self.rules()) && self.runs_out_after_none() && self.repeats_after_none()
     }
 }
