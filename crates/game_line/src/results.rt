@@ -125,7 +125,13 @@ impl Line<'_> {
         ensures { OnTrue result (Lined.RepeatsAfterNone self.now) }
     {
         let fold = self.rules().n_fold;
-        fold == 0 || (fold >= 3 && self.slots.are_sparse())
+        if fold == 0 {
+            return true;
+        }
+        if fold < 3 {
+            return false;
+        }
+        self.slots.are_sparse()
     }
 
     /// Whether it is known of every move that the move count does not end the game after it.
@@ -133,8 +139,11 @@ impl Line<'_> {
         ensures { OnTrue result (Lined.RunsOutAfterNone self.now) }
     {
         let most = self.rules().n_move;
+        if most == 0 {
+            return true;
+        }
         let counter = self.board().position().counter;
-        most == 0 || u32::from(counter) + 1 < 2 * u32::from(most)
+        u32::from(counter) + 1 < 2 * u32::from(most)
     }
 
     /// Whether it is known of every move, before it is made, that it ends the game only where it leaves the other side no
@@ -142,6 +151,12 @@ impl Line<'_> {
     pub fn ends_by_stuck_alone(&self) -> bool
         ensures { OnTrue result (Lined.EndsByStuckAlone self.now) }
     {
-        !can_end_early(self.rules()) && self.runs_out_after_none() && self.repeats_after_none()
+        if can_end_early(self.rules()) {
+            return false;
+        }
+        if !self.runs_out_after_none() {
+            return false;
+        }
+        self.repeats_after_none()
     }
 }

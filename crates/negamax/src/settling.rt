@@ -74,10 +74,13 @@ impl Settling {
         ensures within { IfSome result Within }
         ensures most { IfSome result (ScoresMost line.now m.now) }
     {
-        let value = sums.value(line.board().position().side.other());
-        if floor < -value || !self.goes_on(line, m) {
+        let most = -sums.value(line.board().position().side.other());
+        if floor < most {
             return None;
         }
-        Some(-value)
+        if !self.goes_on(line, m) {
+            return None;
+        }
+        Some(most)
     }
 }

@@ -4,6 +4,7 @@ use Rattle.check_moves.specs.Flights.{AreFlights, IsMet}
 use Rattle.game_line.specs.Lined.{story_of_line}
 use Rattle.rules_model.specs.Repeats.{repeat_of}
 use Rattle.rules_model.proofs.LegalLaws.{legal-member}
+use Rattle.negamax.specs.Settling.{AreKnown, GoesOn}
 use Rattle.negamax.proofs.SettledLaws.{goes_on_met}
 use Rattle.negamax.proofs.settling.Settling.goes_on.Goals as goal
 
@@ -16,12 +17,12 @@ meets-requires-clause-flights c =
     subst (λ s. AreFlights s c.args.self.now.flights) (sym c.board.ensures) (OnTrue_at c.if-not-sure.false c.requires.known).steps
 
 pub returns-clause-known : goal.returns-clause-known
-returns-clause-known c = OnTrue_from _ _ (λ told. record {
+returns-clause-known c = OnTrue_from _ (AreKnown c.args.line.now c.meets.new.self) (λ told. record {
   ends = (OnTrue_at c.if-not-sure.false c.requires.known).ends;
   steps = subst (λ s. AreFlights s c.meets.new.self) c.board.ensures c.meets.ensures.kept;
 })
 
 pub returns-clause-on : goal.returns-clause-on
-returns-clause-on c = OnTrue_from _ _ (λ told.
+returns-clause-on c = OnTrue_from _ (GoesOn c.args.line.now c.args.m.now) (λ told.
     let met = subst (λ s. IsMet s c.args.m.now) c.board.ensures (OnTrue_at told c.meets.ensures.met) in
     goes_on_met c.args.line.now c.args.m.now (OnTrue_at c.if-not-sure.false c.requires.known).ends met)
