@@ -1,4 +1,4 @@
-use Rattle.std.proofs.Common.{◌≡◌, false, sym, ◌∙◌}
+use Rattle.std.proofs.Common.{sym, ◌∙◌}
 use Rattle.game_line.proofs.EarlyLaws.{none, none_early}
 use Rattle.game_line.proofs.results.can_end_early.Goals as goal
 use Rattle.game_line.proofs.results.can_end_early.Goals.{then-is_some, else-is_some}

@@ -1,4 +1,4 @@
-use Rattle.std.proofs.Common.{rules, sym, ◌∙◌}
+use Rattle.std.proofs.Common.{rules, sym}
 use Rattle.game_line.proofs.SlotLemmas.{crowded-none, no-counts}
 use Rattle.game_line.proofs.slots.Slots.none.Goals as goal
 
