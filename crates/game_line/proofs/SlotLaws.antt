@@ -13,7 +13,7 @@ use Rattle.position_key.specs.Key.{key_of}
 use Rattle.game_play.specs.Played.{Played, story, keys_of}
 use Rattle.legality.specs.Stance.{Stance}
 use Rattle.game_line.specs.Lined.{Lined, all_keys, line_of, positions_since, story_of_line, IsHeld}
-use Rattle.game_line.specs.Slots.{in_slot, AreCounts}
+use Rattle.game_line.specs.Slots.{in_slot, AreCounts, AreSparse}
 use Rattle.game_line.proofs.LineLaws.{history-since}
 use Rattle.game_line.proofs.SlotLemmas.{few, some}
 
@@ -94,4 +94,11 @@ module _ (game : Played) (ms : List Move) (room : ℕ) (bs : List Stance) (keys 
       let t = times-slot r (history (story_of_line l)) in
       let slot : in_slot (key_of r % 4096) (keys_of (history (story_of_line l))) ≡ in_slot (key % 4096) (all_keys (story game) keys) = ap (λ ks. in_slot (key_of r % 4096) ks) all ∙ ap (λ k. in_slot (k % 4096) (all_keys (story game) keys)) (sym e) in
       let each = h.each (key % 4096) (omega arith) in
+      omega arith
+
+  -- where no slot has more than one key, nothing has stood twice
+  pub times-once : AreSparse counts → (r : Repeat) → times r (history (story_of_line l)) ≤ 1
+  times-once once r =
+      let most = times-most r (key_of r) refl in
+      let few = once (key_of r % 4096) (omega arith) in
       omega arith

@@ -1,10 +1,11 @@
 -- Keys counted in slots and taken back.
-use Rattle.std.proofs.Common.{◌≡◌, ℕ, ◌+◌, ◌-◌, ◌%◌, ◌<◌, ◌≤◌, ◌==◌, cond, inl, inr, true, false, List, [], ◌∷◌, ◌++◌, length, replicate, slice_index, get_or, set, ap, sym, ◌∙◌, arith}
+use Rattle.std.proofs.Common.{◌≡◌, ℕ, zero, suc, refl, ◌+◌, ◌-◌, ◌%◌, ◌<◌, ◌≤◌, ◌==◌, cond, inl, inr, true, false, List, [], ◌∷◌, ◌++◌, length, replicate, slice_index, get_or, set, ap, sym, ◌∙◌, arith}
 use Rattle.std.proofs.lemmas.List.{get_or_read, length-set, get_or-set_same, get_or-set_other, get_or-replicate, length-replicate}
-use Rattle.std.proofs.lemmas.List.Sums.{sum_by_push, count_by-le-length}
+use Rattle.std.proofs.lemmas.List.Folds.{sum_by-replicate}
+use Rattle.std.proofs.lemmas.List.Sums.{sum_by_push, sum_by-set, count_by-le-length}
 use Rattle.std.proofs.lemmas.Bool.{cases_eq}
 use Rattle.std.proofs.lemmas.Bool.Decides.{nat_tests}
-use Rattle.game_line.specs.Slots.{in_slot, AreCounts}
+use Rattle.game_line.specs.Slots.{in_slot, AreCounts, AreSparse, crowded_in, is_crowded}
 
 -- one key more
 in_slot-here : (keys : List ℕ) (key slot : ℕ) → slot ≡ key % 4096 → in_slot slot (keys ++ key ∷ []) ≡ in_slot slot keys + 1
@@ -62,3 +63,77 @@ few keys counts slot h lt = let e = h.each slot lt in let l = count_by-le-length
 -- the last key is in its slot
 pub some : (keys counts : List ℕ) (key slot : ℕ) → AreCounts (keys ++ key ∷ []) counts → slot ≡ key % 4096 → slot < 4096 → 0 < slice_index counts slot
 some keys counts key slot h is lt = let e = h.each slot lt ∙ in_slot-here keys key slot is in omega arith
+
+-- ---- how many slots are crowded
+
+abbrev one_if : ℕ → ℕ
+one_if n = cond (is_crowded n) 1 0
+
+more_crowded : (n : ℕ) → (n ≡ 1 → ⊥) → one_if (n + 1) ≡ one_if n
+more_crowded zero apart = refl
+more_crowded (suc zero) apart = absurd (apart refl)
+more_crowded (suc (suc n)) apart =
+    let a : is_crowded (suc (suc n) + 1) ≡ true = grind (arith, nat_tests) in
+    let b : is_crowded (suc (suc n)) ≡ true = grind (arith, nat_tests) in
+    rw (a, b) refl
+
+module _ (counts : List ℕ) (slot had : ℕ) (below : slot < length counts) (read : had ≡ get_or counts slot had) where
+  crowded-set : (n : ℕ) → crowded_in (set counts slot n) + one_if had ≡ crowded_in counts + one_if n
+  unfolding crowded_in
+  crowded-set n =
+      ap (λ k. crowded_in (set counts slot n) + one_if k) read ∙ sum_by-set one_if counts slot n had below
+
+  pub crowded-first : had ≡ 1 → crowded_in (set counts slot (had + 1)) ≡ crowded_in counts + 1
+  crowded-first one =
+      let e = crowded-set (had + 1) in
+      let a : one_if had ≡ 0 = rw one refl in
+      let b : one_if (had + 1) ≡ 1 = rw one refl in
+      omega arith
+
+  pub crowded-next : (had ≡ 1 → ⊥) → crowded_in (set counts slot (had + 1)) ≡ crowded_in counts
+  crowded-next apart =
+      let e = crowded-set (had + 1) in
+      let same = more_crowded had apart in
+      omega arith
+
+  pub crowded-last : had ≡ 2 → crowded_in (set counts slot (had - 1)) + 1 ≡ crowded_in counts
+  crowded-last two =
+      let e = crowded-set (had - 1) in
+      let a : one_if had ≡ 1 = rw two refl in
+      let b : one_if (had - 1) ≡ 0 = rw two refl in
+      omega arith
+
+  pub crowded-less : (had ≡ 2 → ⊥) → 0 < had → crowded_in (set counts slot (had - 1)) ≡ crowded_in counts
+  crowded-less apart some =
+      let e = crowded-set (had - 1) in
+      let back : had - 1 + 1 ≡ had = omega arith in
+      let same = more_crowded (had - 1) (λ k. apart (omega arith)) in
+      let this = ap one_if back in
+      omega arith
+
+pub crowded-few : (counts : List ℕ) → crowded_in counts ≤ length counts
+unfolding crowded_in
+crowded-few counts = count_by-le-length is_crowded counts
+
+pub crowded-none : (counts : List ℕ) → counts ≡ replicate 4096 0 → crowded_in counts ≡ 0
+unfolding crowded_in
+crowded-none counts e =
+    let none : ℕ = 0 in
+    let sum = sum_by-replicate one_if 4096 none in
+    ap crowded_in e ∙ sum
+
+at_most_one : (n : ℕ) → one_if n ≡ 0 → n ≤ 1
+at_most_one zero e = omega arith
+at_most_one (suc zero) e = omega arith
+at_most_one (suc (suc n)) e =
+    let b : is_crowded (suc (suc n)) ≡ true = grind (arith, nat_tests) in
+    let one : one_if (suc (suc n)) ≡ 1 = rw b refl in
+    absurd (omega arith)
+
+-- where none is crowded, each has one key at most
+pub sparse : (counts : List ℕ) → length counts ≡ 4096 → crowded_in counts ≡ 0 → AreSparse counts
+unfolding crowded_in
+sparse counts long none slot below =
+    let e = sum_by-set one_if counts slot 0 0 (omega arith) in
+    let kept : one_if 0 ≡ 0 = refl in
+    at_most_one (get_or counts slot 0) (omega arith)

@@ -1,10 +1,14 @@
 -- A line of moves that goes on from a game.
-use Rattle.std.specs.Prelude.{◌≡◌, ℕ, ◌+◌, ◌-◌, ◌≤◌, true, List, [], ◌∷◌, ◌++◌, map, length, take}
+use Rattle.std.specs.Prelude.{◌≡◌, ℕ, ◌+◌, ◌-◌, ◌≤◌, true, false, List, [], ◌∷◌, ◌++◌, map, length, take}
 use Rattle.rules_model.specs.declared.board.Position.{Position}
+use Rattle.rules_model.specs.declared.board.Repeat.{Repeat}
 use Rattle.rules_model.specs.declared.moves.Move.{Move}
+use Rattle.rules_model.specs.declared.moves.Outcome.TheVariants.{Ongoing}
 use Rattle.rules_model.specs.declared.rules.Rules.{Rules}
-use Rattle.rules_model.specs.Games.{Story, history, story_from, are_legal}
-use Rattle.rules_model.specs.Legal.{legal}
+use Rattle.rules_model.specs.Ends.{early_end}
+use Rattle.rules_model.specs.Games.{Story, history, played, story_from, are_legal, is_repeated, is_run_out, result}
+use Rattle.rules_model.specs.Legal.{is_stuck, legal}
+use Rattle.rules_model.specs.Next.{next}
 use Rattle.rules_model.specs.Repeats.{repeat_of}
 use Rattle.game_play.specs.Played.{Played, story, keys_of}
 use Rattle.legality.specs.Stance.{Stance}
@@ -43,6 +47,22 @@ pushed l m = record { rules = l.rules; base = l.base; moves = l.moves ++ m ∷ [
 -- the line without its last move
 abbrev pub shorter : Lined → Lined
 shorter l = record { rules = l.rules; base = l.base; moves = take (length l.moves - 1) l.moves; room = l.room }
+
+-- ---- ends that no move brings about
+
+-- after no move has the position stood often enough
+abbrev pub RepeatsAfterNone : Lined → Type 0
+RepeatsAfterNone l = (m : Move) → is_repeated l.rules (played l.rules (story_of_line l) m) ≡ false
+
+-- after no move has the counter reached the move-count rule
+abbrev pub RunsOutAfterNone : Lined → Type 0
+RunsOutAfterNone l = (m : Move) → is_run_out l.rules (next l.rules (story_of_line l).last m).counter ≡ false
+
+-- no position has an early end, and a move ends the game only where it leaves the other side no legal move
+pub record EndsByStuckAlone (l : Lined) : Type 0 where
+  pub early : (r : Repeat) → early_end l.rules r ≡ Ongoing
+  pub later : (m : Move) → is_stuck l.rules (repeat_of (next l.rules (story_of_line l).last m)) ≡ false
+      → result l.rules (played l.rules (story_of_line l) m) ≡ Ongoing
 
 -- ---- what a `Line` holds
 

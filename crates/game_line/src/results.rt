@@ -1,14 +1,17 @@
 //! How a line stands.
 ghost use Rattle.std.specs.Prelude.{◌≡◌, ◌<◌, ◌≤◌, not, false, length};
+ghost use Rattle.std.specs.Bool.{OnTrue};
 ghost use Rattle.rules_model.specs.Games as Games;
 ghost use Rattle.rules_model.specs.Games.{times};
 ghost use Rattle.rules_model.specs.Legal as Legal;
 ghost use Rattle.rules_model.specs.Repeats.{repeat_of};
 ghost use Rattle.position_key.specs.Key.{key_of};
 ghost use Rattle.game_play.specs.Played.{keys_of};
+ghost use Rattle.game_line.specs.Lined as Lined;
 ghost use Rattle.game_line.specs.Lined.{positions_of, story_of_line};
 
 use crate::line::Line;
+use end_rules::can_end_early;
 use game_play::counted_end;
 use playing::Board;
 use rules_model::{Outcome, Position};
@@ -104,5 +107,46 @@ impl Line<'_> {
             ),
             end => end,
         }
+    }
+
+    /// Whether it is known of every move that no repetition ends the game after it. Where some position may have stood
+    /// twice it is not.
+    fn repeats_after_none(&self) -> bool
+        ensures { OnTrue result (Lined.RepeatsAfterNone self.now) }
+    {
+        let fold = self.rules().n_fold;
+        if fold == 0 {
+            return true;
+        }
+        if fold < 3 {
+            return false;
+        }
+        self.slots.are_sparse()
+    }
+
+    /// Whether it is known of every move that the move count does not end the game after it.
+    fn runs_out_after_none(&self) -> bool
+        ensures { OnTrue result (Lined.RunsOutAfterNone self.now) }
+    {
+        let most = self.rules().n_move;
+        if most == 0 {
+            return true;
+        }
+        let counter = self.board().position().counter;
+        u32::from(counter) + 1 < 2 * u32::from(most)
+    }
+
+    /// Whether it is known of every move, before it is made, that it ends the game only where it leaves the other side no
+    /// legal move. No key is made: where some position may have stood twice it is not known.
+    pub fn ends_by_stuck_alone(&self) -> bool
+        ensures { OnTrue result (Lined.EndsByStuckAlone self.now) }
+    {
+        if can_end_early(self.rules()) {
+            return false;
+        }
+        if !self.runs_out_after_none() {
+            return false;
+        }
+        self.repeats_after_none()
     }
 }

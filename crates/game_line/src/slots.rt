@@ -1,6 +1,7 @@
 //! Keys counted by slots.
 ghost use Rattle.std.specs.Prelude.{◌≡◌, ℕ, ◌+◌, ◌%◌, ◌<◌, ◌≤◌, List, [], ◌∷◌, ◌++◌, length, slice_index, IfOk};
-ghost use Rattle.game_line.specs.Slots.{AreCounts};
+ghost use Rattle.std.specs.Bool.{OnTrue};
+ghost use Rattle.game_line.specs.Slots.{AreCounts, AreSparse};
 
 use foundation::Memory;
 use std::alloc::Global;
@@ -13,16 +14,19 @@ const SLOTS: usize = 4096;
 #[derive(Drop)]
 pub(crate) struct Slots {
     counts: Vec<u16>,
+    /// How many slots have more than one key.
+    crowded: u32,
 }
 
 impl Model for Slots {
     ghost use Rattle.std.specs.Prelude.{◌≡◌, ℕ, List, length};
+    ghost use Rattle.game_line.specs.Slots.{crowded_in};
 
     ghost Value = { List ℕ };
 
     ghost view = { λ s. s.counts.items };
 
-    ghost invariant = { λ s. length s.counts.items ≡ 4096 };
+    ghost invariant = { λ s. (length s.counts.items ≡ 4096) × (s.crowded ≡ crowded_in s.counts.items) };
 }
 
 fn slot_of(key: u64) -> usize
@@ -39,6 +43,7 @@ impl Slots {
     {
         Ok(Slots {
             counts: vec![in alloc; 0; SLOTS]?,
+            crowded: 0,
         })
     }
 
@@ -61,12 +66,27 @@ impl Slots {
         self.counts[slot_of(key)]
     }
 
+    /// Whether no slot has more than one key.
+    pub fn are_sparse(&self) -> bool
+        ensures { OnTrue result (AreSparse self.now) }
+    {
+        self.crowded == 0
+    }
+
     /// Counts a key.
     pub fn count(&mut self, key: u64)
         requires { slice_index self.old (key % 4096) < 65535 }
         ensures { (keys : List ℕ) → AreCounts keys self.old → AreCounts (keys ++ key ∷ []) self.new }
     {
-        self.counts[slot_of(key)] += 1;
+        let slot = slot_of(key);
+        let had = self.counts[slot];
+        let crowded = if had == 1 {
+            self.crowded + 1
+        } else {
+            self.crowded
+        };
+        self.counts[slot] = had + 1;
+        self.crowded = crowded;
     }
 
     /// Takes the count of the last key back.
@@ -74,6 +94,14 @@ impl Slots {
         requires { 0 < slice_index self.old (key % 4096) }
         ensures { (keys : List ℕ) → AreCounts (keys ++ key ∷ []) self.old → AreCounts keys self.new }
     {
-        self.counts[slot_of(key)] -= 1;
+        let slot = slot_of(key);
+        let had = self.counts[slot];
+        let crowded = if had == 2 {
+            self.crowded - 1
+        } else {
+            self.crowded
+        };
+        self.counts[slot] = had - 1;
+        self.crowded = crowded;
     }
 }

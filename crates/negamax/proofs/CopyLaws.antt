@@ -50,7 +50,7 @@ pub lists-stuck : (rules : Rules) (r : Repeat) (ms : List Move) → Lists (λ m.
 unfolding is_stuck
 lists-stuck rules r ms h = length-nil ms ∙ lists-empty (legal rules r) ms h
 
-no_nil : {X : Type 0} (x : X) (xs : List X) → Member x xs → is_nil xs ≡ false
+pub no_nil : {X : Type 0} (x : X) (xs : List X) → Member x xs → is_nil xs ≡ false
 no_nil x [] h = absurd h
 no_nil x (y ∷ xs) h = refl
 

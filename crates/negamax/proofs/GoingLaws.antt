@@ -14,7 +14,7 @@ use Rattle.evaluation.specs.Values.{greatest}
 use Rattle.negamax.specs.declared.scored_moves.ScoredMove.{ScoredMove}
 use Rattle.negamax.specs.Trials.{Entered, Pushes, Takes, Trial}
 use Rattle.negamax.specs.Windows.{Bounds}
-use Rattle.negamax.proofs.TrialLaws.{entered_fits, entered_next, entered_start, lists-greatest, lists-sum, trial_cut, trial_end, trial_next, trial_start}
+use Rattle.negamax.proofs.TrialLaws.{entered_fits, entered_next, entered_start, lists-greatest, lists-sum, trial_cut, trial_end, trial_next, trial_score, trial_start}
 
 -- How far the loop has come: behind the candidates of the plies before, those that are left wait.
 pub record Going {W X : Type 0} (gone : W → W → ℕ → Type 0) (legal : List Move) (after : Move → X) (score : X → ℤ) (size : X → ℕ)
@@ -85,6 +85,22 @@ module _ {W X : Type 0} (gone : W → W → ℕ → Type 0) (legal : List Move) 
             legal_moves = λ c m. h.legal_moves c (member-permutation c (t.taken ∷ t.rest) h.rest (IsPermutation-sym h.rest (t.taken ∷ t.rest) are) (inr m));
             trial = trial_next a b v _ best s r (score y) low high t.taken h.rest t.rest h.trial are (ap (λ z. neg_ℤ (score z)) (sym at)) told within el eh es;
             entered = entered_next gone _ most more before now then (size y) t.taken h.rest t.rest h.entered are le went;
+          }
+
+      -- one move more was scored
+      pub going_score : (first : ℕ) (list' list'' : List ScoredMove) (m : Move) (then : W) (low high r s : ℤ) → first ≡ length front
+          → Takes first list list' m → list'' ≡ list' → ((a b c : W) (m n : ℕ) → gone a b m → gone b c n → gone a c (m + n))
+          → gone now then (size (after m)) → Bounds low high r (neg_ℤ (score (after m))) → Within r → low ≡ int_max a best → high ≡ b
+          → s ≡ int_max best r → Going gone legal after score size front a b v most before then list'' s
+      going_score first list' list'' m then low high r s e t same more went told within el eh es =
+          let are = are_left first list' m e t in
+          let le : size (after m) ≤ size (after t.taken.chosen) = rw t.chosen (omega arith) in
+          record {
+            rest = t.rest;
+            is = same ∙ t.is ∙ ap (λ xs. xs ++ t.rest) (front_of first e);
+            legal_moves = λ c m. h.legal_moves c (member-permutation c (t.taken ∷ t.rest) h.rest (IsPermutation-sym h.rest (t.taken ∷ t.rest) are) (inr m));
+            trial = trial_score a b v _ best s r (neg_ℤ (score (after m))) low high t.taken h.rest t.rest h.trial are (ap (λ n. neg_ℤ (score (after n))) (sym t.chosen)) told within el eh es;
+            entered = entered_next gone _ most more before now then (size (after m)) t.taken h.rest t.rest h.entered are le went;
           }
 
       empty : (xs : List ScoredMove) → length xs ≤ 0 → xs ≡ []

@@ -6,3 +6,4 @@ pub mod GoingLaws
 pub mod HaltLaws
 pub mod CopyLaws
 pub mod ListLaws
+pub mod SettledLaws

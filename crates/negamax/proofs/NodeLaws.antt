@@ -1,6 +1,7 @@
 -- Values and trees of a state, by those of the states after its moves.
 use Rattle.std.proofs.Common.{◌≡◌, ◌⊎◌, inl, inr, ◌∙◌, ℕ, zero, suc, ◌+◌, ◌-◌, ◌<◌, ◌≤◌, Bool, not, Option, Some, None, filter, sum_by, refl, subst, arith}
 use Rattle.std.specs.Prelude.{ℤ, neg_ℤ, ◌<ℤ◌, ◌≤ℤ◌}
+use Rattle.std.proofs.lemmas.Int.{ints}
 use Rattle.std.proofs.lemmas.List.Filters.{sum_by-filter_both}
 use Rattle.evaluation.specs.Laws.{PlayLaws, Within}
 use Rattle.evaluation.specs.Values.{greatest, Play, quiet, tree, value, worst}
@@ -29,6 +30,19 @@ module _ {X M : Type 0} (g : Play X M) where
   unfolding value
   value_on zero ply x on some = absurd (omega arith)
   value_on (suc depth) ply x on some = let e : suc depth - 1 ≡ depth = omega arith in rw (on, e) refl
+
+  -- where nothing has ended, standing pat is the least
+  pub quiet_floor : (limit ply : ℕ) (x : X) → g.ended x ply ≡ None → g.eval x ≤ℤ quiet g limit ply x
+  quiet_floor zero ply x on = rw (quiet_zero ply x on) (omega (arith, ints))
+  quiet_floor (suc limit) ply x on =
+      let f = λ (m : M). neg_ℤ (quiet g (suc limit - 1) (ply + 1) (g.after x m)) in
+      rw (quiet_on (suc limit) ply x on (omega arith)) (greatest-floor f (g.eval x) (g.captures x))
+
+  -- after the last ply only captures are searched
+  pub value_last : (ply : ℕ) (x : X) → g.ended x ply ≡ None
+      → value g 1 ply x ≡ greatest worst (λ m. neg_ℤ (quiet g 4 (ply + 1) (g.after x m))) (g.moves x)
+  unfolding value
+  value_last ply x on = rw on refl
 
   pub tree_on : (n k : ℕ) (x : X) → n ≡ k + 1 → tree g n x ≡ 1 + sum_by (λ m. tree g k (g.after x m)) (g.moves x)
   unfolding tree

@@ -41,22 +41,30 @@ module _ {C : Type 0} (a b v : ℤ) (score : C → ℤ) where
   pub trial_start : (best : ℤ) (rest : List C) → Within best → greatest best score rest ≡ v → Trial a b best v score rest
   trial_start best rest h e = record { so_far = best; bounds = same a b best; within = h; value = e }
 
+  -- One candidate more was scored: r is what the window above the best asks of its score.
+  pub trial_score : (best s r w low high : ℤ) (c : C) (rest left : List C) → Trial a b best v score rest → IsPermutation rest (c ∷ left)
+      → score c ≡ w → Bounds low high r w → Within r → low ≡ int_max a best → high ≡ b → s ≡ int_max best r → Trial a b s v score left
+  trial_score best s r w low high c rest left t are scored told within el eh es =
+      let seen : Bounds (int_max a best) b r w = rw (← el, ← eh) told in
+      let more = step a b best t.so_far r w t.bounds seen in
+      let value : greatest (int_max t.so_far w) score left ≡ v =
+      ap (λ z. greatest (int_max t.so_far z) score left) (sym scored)
+      ∙ sym (greatest-cons score t.so_far c left) ∙ sym (greatest-permuted score t.so_far rest (c ∷ left) are) ∙ t.value in
+      record {
+        so_far = int_max t.so_far w;
+        bounds = rw es more;
+        within = rw es (within_larger best r t.within within);
+        value = value;
+      }
+
   -- One candidate more was tried: r is what the other side answers within its window.
   pub trial_next : (best s r w low high : ℤ) (c : C) (rest left : List C) → Trial a b best v score rest → IsPermutation rest (c ∷ left)
       → score c ≡ neg_ℤ w → Bounds low high r w → Within r → low ≡ neg_ℤ b → high ≡ neg_ℤ (int_max a best)
       → s ≡ int_max best (neg_ℤ r) → Trial a b s v score left
   trial_next best s r w low high c rest left t are scored told within el eh es =
       let seen : Bounds (neg_ℤ b) (neg_ℤ (int_max a best)) r w = rw (← el, ← eh) told in
-      let more = step a b best t.so_far (neg_ℤ r) (neg_ℤ w) t.bounds (flip (int_max a best) b r w seen) in
-      let value : greatest (int_max t.so_far (neg_ℤ w)) score left ≡ v =
-      ap (λ z. greatest (int_max t.so_far z) score left) (sym scored)
-      ∙ sym (greatest-cons score t.so_far c left) ∙ sym (greatest-permuted score t.so_far rest (c ∷ left) are) ∙ t.value in
-      record {
-        so_far = int_max t.so_far (neg_ℤ w);
-        bounds = rw es more;
-        within = rw es (within_larger best (neg_ℤ r) t.within (within_other r within));
-        value = value;
-      }
+      trial_score best s (neg_ℤ r) (neg_ℤ w) (int_max a best) b c rest left t are scored (flip (int_max a best) b r w seen)
+      (within_other r within) refl refl es
 
   pub trial_cut : (best : ℤ) (rest : List C) → Trial a b best v score rest → a <ℤ b → b ≤ℤ best → Bounds a b best v
   trial_cut best rest t p q =

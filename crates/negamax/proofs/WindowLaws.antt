@@ -27,6 +27,10 @@ cut a b r v w p q h le = let low = h.low in record {
   high = λ k. absurd (omega (arith, ints));
 }
 
+-- what is known to be no more than the floor
+pub below : (a b r v : ℤ) → r ≤ℤ a → v ≤ℤ r → Bounds a b r v
+below a b r v low le = record { low = λ k. absurd (omega (arith, ints)); high = λ k. le }
+
 pub same : (a b v : ℤ) → Bounds a b v v
 same a b v = record { low = λ p. omega (arith, ints); high = λ p. omega (arith, ints) }
 

@@ -1,3 +1,4 @@
 pub mod Windows
 pub mod RootFacts
 pub mod Trials
+pub mod Settling

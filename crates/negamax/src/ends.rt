@@ -1,5 +1,6 @@
 //! What ends are worth, and moves on the line.
 ghost use Rattle.std.specs.Prelude.{◌≡◌, ◌<◌, length, not};
+ghost use Rattle.evaluation.specs.declared.tally.Tally.{Tally};
 ghost use Rattle.evaluation.specs.Tallies.{IsTally};
 ghost use Rattle.foundation.specs.Member.{Member};
 ghost use Rattle.game_line.specs.Lined.{legal_in, pushed, story_of_line};
@@ -7,6 +8,7 @@ ghost use Rattle.evaluation.specs.Laws.{Within};
 ghost use Rattle.evaluation.specs.Values as Values;
 ghost use Rattle.rules_model.specs.Games.{played};
 ghost use Rattle.rules_model.specs.Legal.{is_stuck};
+ghost use Rattle.rules_model.specs.Next.{next};
 ghost use Rattle.rules_model.specs.Repeats.{repeat_of};
 
 use evaluation::{PieceValues, Tally};
@@ -76,6 +78,30 @@ pub(crate) fn resting(line: &Line, ply: u8, glance: i32) -> i32
     }
 }
 
+/// The sums of the position after the legal move.
+pub(crate) fn sums_after(line: &Line, values: &PieceValues, tally: Tally, m: &Move) -> Tally
+    requires values { values.now ≡ line.now.rules }
+    requires tally { IsTally line.now.rules (story_of_line line.now).last tally }
+    requires legal { Member m.now (legal_in line.now) }
+    ensures { IsTally line.now.rules (next line.now.rules (story_of_line line.now).last m.now) result }
+{
+    let board = line.board();
+    board.prove_ready();
+    values.tally_after(tally, board.rules(), board.position(), m)
+}
+
+/// Puts the legal move on the line.
+pub(crate) fn put(line: &mut Line, m: &Move)
+    requires legal { Member m.now (legal_in line.old) }
+    requires room { length line.old.moves < line.old.room }
+    ensures line { line.new ≡ pushed line.old m.now }
+    ensures story { story_of_line line.new ≡ played line.old.rules (story_of_line line.old) m.now }
+    ensures sums { (sums : Tally) → IsTally line.old.rules (next line.old.rules (story_of_line line.old).last m.now) sums
+        → IsTally line.new.rules (story_of_line line.new).last sums }
+{
+    line.push(m);
+}
+
 /// Plays the legal move, and gives the sums of the position after it.
 pub(crate) fn play(line: &mut Line, values: &PieceValues, tally: Tally, m: &Move) -> Tally
     requires values { values.now ≡ line.old.rules }
@@ -86,9 +112,7 @@ pub(crate) fn play(line: &mut Line, values: &PieceValues, tally: Tally, m: &Move
     ensures story { story_of_line line.new ≡ played line.old.rules (story_of_line line.old) m.now }
     ensures tally { IsTally line.new.rules (story_of_line line.new).last result }
 {
-    let board = line.board();
-    board.prove_ready();
-    let next = values.tally_after(tally, board.rules(), board.position(), m);
-    line.push(m);
-    next
+    let sums = sums_after(line, values, tally, m);
+    put(line, m);
+    sums
 }

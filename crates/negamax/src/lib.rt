@@ -7,12 +7,14 @@
 
 mod ends;
 mod facts;
+mod last_ply;
 mod move_order;
 mod quiescence;
 mod root;
 mod scored_moves;
 mod search;
 mod search_state;
+mod settling;
 mod window;
 
 pub use ends::end_where;

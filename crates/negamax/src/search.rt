@@ -8,17 +8,15 @@ ghost use Rattle.watching.specs.declared.halt.Halt.{Halt};
 ghost use Rattle.negamax.specs.Windows.{Bounds};
 
 use crate::ends::{end_where, piece_values_of, play};
+use crate::last_ply::last_ply;
 use crate::move_order::better;
-use crate::quiescence::quiescence;
+use crate::quiescence::{CAPTURES, quiescence};
 use crate::scored_moves::take_best;
 use crate::search_state::{SearchState, hint_of};
 use crate::window::{WORST, Window, raised};
 use evaluation::{PieceValues, Tally};
 use game_line::Line;
 use watching::{Halt, Watch};
-
-/// How many captures are searched behind the last ply.
-const CAPTURES: u8 = 4;
 
 /// What the window asks of the value of the line at a depth, at a number of plies from the root.
 pub(crate) fn search<W: Watch>(
@@ -48,6 +46,9 @@ pub(crate) fn search<W: Watch>(
     if depth == 0 {
         let resting = quiescence(line, values, state, watch, tally, CAPTURES, ply, window)?;
         return Ok(resting);
+    }
+    if depth == 1 {
+        return last_ply(line, values, state, watch, tally, ply, window);
     }
     watch.enter()?;
     let key = line.key();

@@ -94,6 +94,16 @@ impl Window {
     }
 }
 
+/// The greater of the best score so far and of one more.
+pub(crate) fn greater(best: i32, score: i32) -> i32
+    requires best { Within best }
+    requires score { Within score }
+    ensures is { result ≡ int_max best score }
+    ensures within { Within result }
+{
+    best.max(score)
+}
+
 /// The best score, where the other side answers one more move by this.
 pub(crate) fn raised(best: i32, answered: i32) -> i32
     requires best { Within best }

@@ -143,15 +143,16 @@ fn a_watch_ends_a_search(rt: HostRuntime) {
     expect_eq(&rt, nodes, 100);
 }
 
-/// What a search of the move above the floor and below the roof says: the least and the most that it scores.
-fn fact_between<R: Abort>(
+/// What a search of the move above the floor and below the roof says: the least and the most that it scores; and how many
+/// nodes it enters.
+fn search_between<R: Abort>(
     rt: &R,
     alloc: Global,
     game: &Game,
     chosen: &Move,
     floor: i32,
     roof: i32,
-) -> (i32, i32) {
+) -> ((i32, i32), u64) {
     let hints = HintTable::new(alloc, 1000).expect(rt, "no fault");
     let flag = StopFlag::new();
     let mut watch = Helper::new(&flag, None);
@@ -160,7 +161,8 @@ fn fact_between<R: Abort>(
     assert!(rt; line.board().is_legal(chosen));
     let window = Window::between(floor, roof);
     let fact = search_move(&mut line, &mut state, &mut watch, 2, 0, chosen, window);
-    fact.map_or((0, 0), |fact| (fact.least, fact.most))
+    let says = fact.map_or((0, 0), |fact| (fact.least, fact.most));
+    (says, watch.nodes())
 }
 
 #[test]
@@ -176,7 +178,27 @@ fn facts_within_windows(rt: HostRuntime) {
         (812, i32::MAX, (-32_001, 812)),
     ];
     for (floor, roof, says) in rows {
-        let fact = fact_between(&rt, rt.alloc(), &game, &takes, floor, roof);
+        let (fact, _nodes) = search_between(&rt, rt.alloc(), &game, &takes, floor, roof);
         expect_of(&rt, &floor, fact == says);
     }
+}
+
+/// The black king alone against king and queen, after so many plies without a capture.
+fn bare_king<R: Abort>(rt: &R, alloc: Global, counter: u16) -> Game {
+    let mut p = position("Kg1 kg8 Qd1");
+    p.counter = counter;
+    game(rt, alloc, &chess(), &p, "")
+}
+
+// The replies to the move are worth so little to the black king that none is entered, but where they end the game: the
+// hundredth ply is a draw.
+#[test]
+fn replies_are_settled_unentered(rt: HostRuntime) {
+    let chosen = go("d1-d2");
+    let game = bare_king(&rt, rt.alloc(), 0);
+    let ((least, most), nodes) = search_between(&rt, rt.alloc(), &game, &chosen, 10, 20);
+    assert!(rt; least > 700 && most == 32_001 && nodes == 1);
+    let late = bare_king(&rt, rt.alloc(), 98);
+    let (says, nodes) = search_between(&rt, rt.alloc(), &late, &chosen, 10, 20);
+    assert!(rt; says == (-32_001, 0) && nodes > 1);
 }

@@ -1,4 +1,4 @@
-use Rattle.std.proofs.Common.{◌≡◌, inl, inr, ◌+◌, ◌-◌, length, not, refl, ap, sym, ◌∙◌, subst, arith}
+use Rattle.std.proofs.Common.{◌≡◌, inl, inr, ◌+◌, ◌-◌, length, not, IfOk, OnOk, refl, ap, sym, ◌∙◌, subst, arith}
 use Rattle.std.specs.Prelude.{neg_ℤ}
 use Rattle.std.specs.Int.{int_max}
 use Rattle.std.proofs.lemmas.Int.{ints, clamps}
@@ -44,6 +44,24 @@ returns-then-depth-eq0-clause-gone g t c =
     let last : 4 ≡ c.args.depth + 4 = omega arith in
     subst (λ n. g.W.Watch.gone c.args.watch.now c.quiescence.new.watch (tree_size c.args.line.now.rules n (story_of_line c.args.line.now))) last
     c.in_ok-resting.ensures.gone
+
+pub returns-then-depth-eq1-clause-bounds : goal.returns-then-depth-eq1-clause-bounds
+returns-then-depth-eq1-clause-bounds g t c =
+    let last : 1 ≡ c.args.depth = omega arith in
+    subst (λ n. IfOk c.last_ply.result (λ v. Bounds c.args.window.alpha c.args.window.beta v (value (play c.args.line.now.rules) n c.args.ply (story_of_line c.args.line.now)))) last
+    c.last_ply.ensures.bounds
+
+pub returns-then-depth-eq1-clause-gone : goal.returns-then-depth-eq1-clause-gone
+returns-then-depth-eq1-clause-gone g t c =
+    let last : 5 ≡ c.args.depth + 4 = omega arith in
+    subst (λ n. OnOk c.last_ply.result (g.W.Watch.gone c.args.watch.now c.last_ply.new.watch (tree_size c.args.line.now.rules n (story_of_line c.args.line.now)))) last
+    c.last_ply.ensures.gone
+
+pub returns-then-depth-eq1-clause-ended : goal.returns-then-depth-eq1-clause-ended
+returns-then-depth-eq1-clause-ended g t c why is =
+    let last : 5 ≡ c.args.depth + 4 = omega arith in
+    subst (λ n. g.W.Watch.ended c.args.watch.now c.last_ply.new.watch (tree_size c.args.line.now.rules n (story_of_line c.args.line.now)) why) last
+    (c.last_ply.ensures.ended why is)
 
 pub returns-in_err-enter-clause-ended : goal.returns-in_err-enter-clause-ended
 returns-in_err-enter-clause-ended g t c why is =
