@@ -136,8 +136,8 @@ impl Line<'_> {
         u32::from(counter) + 1 < 2 * u32::from(most)
     }
 
-    /// Whether it is known of every move, before it is made, that it ends the game only where it leaves the other side no
-    /// legal move. No key is made: where some position may have stood twice it is not known.
+    /// Whether it is known of every move, before it is made, that it ends the game only where it leaves the other side
+    /// no legal move. No key is made: where some position may have stood twice it is not known.
     pub fn ends_by_stuck_alone(&self) -> bool
         ensures { OnTrue result (Lined.EndsByStuckAlone self.now) }
     {

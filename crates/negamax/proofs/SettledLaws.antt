@@ -1,5 +1,5 @@
 -- Moves that are settled without being entered.
-use Rattle.std.proofs.Common.{◌≡◌, ℕ, true, false, None, refl, ap, sym, subst, arith}
+use Rattle.std.proofs.Common.{◌≡◌, true, false, None, refl, ap, sym, subst, arith}
 use Rattle.std.specs.Prelude.{ℤ, neg_ℤ, ◌≤ℤ◌}
 use Rattle.std.proofs.lemmas.Int.{ints}
 use Rattle.foundation.specs.Member.{Member}

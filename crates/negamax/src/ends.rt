@@ -96,7 +96,8 @@ pub(crate) fn put(line: &mut Line, m: &Move)
     requires room { length line.old.moves < line.old.room }
     ensures line { line.new ≡ pushed line.old m.now }
     ensures story { story_of_line line.new ≡ played line.old.rules (story_of_line line.old) m.now }
-    ensures sums { (sums : Tally) → IsTally line.old.rules (next line.old.rules (story_of_line line.old).last m.now) sums
+    ensures sums { (sums : Tally)
+        → IsTally line.old.rules (next line.old.rules (story_of_line line.old).last m.now) sums
         → IsTally line.new.rules (story_of_line line.new).last sums }
 {
     line.push(m);

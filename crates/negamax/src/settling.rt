@@ -1,5 +1,5 @@
-//! Moves that are settled without being entered. Where the game surely goes on after a move, the other side may stand pat:
-//! the move scores no more than what the position is worth then at a glance, to the side that made it.
+//! Moves that are settled without being entered. Where the game surely goes on after a move, the other side may stand
+//! pat: the move scores no more than what the position is worth then at a glance, to the side that made it.
 ghost use Rattle.std.specs.Prelude.{◌≡◌, ◌≤ℤ◌, IfSome};
 ghost use Rattle.std.specs.Bool.{OnTrue};
 ghost use Rattle.foundation.specs.Member.{Member};

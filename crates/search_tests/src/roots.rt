@@ -143,8 +143,8 @@ fn a_watch_ends_a_search(rt: HostRuntime) {
     expect_eq(&rt, nodes, 100);
 }
 
-/// What a search of the move above the floor and below the roof says: the least and the most that it scores; and how many
-/// nodes it enters.
+/// What a search of the move above the floor and below the roof says: the least and the most that it scores; and how
+/// many nodes it enters.
 fn search_between<R: Abort>(
     rt: &R,
     alloc: Global,

@@ -1,11 +1,10 @@
 use Rattle.std.proofs.Common.{◌≡◌, inl, inr, ◌+◌, ◌-◌, [], ◌∷◌, length, not, refl, ap, sym, ◌∙◌, subst, arith}
 use Rattle.std.specs.Prelude.{neg_ℤ}
-use Rattle.std.specs.Int.{int_max}
 use Rattle.std.proofs.lemmas.Int.{ints, clamps}
 use Rattle.std.proofs.lemmas.List.{length-append}
 use Rattle.foundation.specs.Member.{Member}
 use Rattle.foundation.proofs.Members.{filter-member}
-use Rattle.game_line.specs.Lined.{legal_in, pushed, shorter, stance_of_line, story_of_line}
+use Rattle.game_line.specs.Lined.{legal_in, shorter, stance_of_line, story_of_line}
 use Rattle.game_line.proofs.LineLaws.{shorter-pushed}
 use Rattle.evaluation.specs.Tallies.{IsTally}
 use Rattle.evaluation.specs.Values.{greatest, play, quiet, tree_size}
