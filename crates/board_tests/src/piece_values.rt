@@ -6,7 +6,7 @@ ghost use Rattle.rules_model.specs.Moves.{IsFitMove};
 use crate::expect::expect_eq;
 use crate::helpers::go;
 use evaluation::{PieceValues, Tally, evaluate};
-use next_position::{make_move, sound_positions_take_moves};
+use next_position::{make_move, sound_positions_take_moves, touched};
 use rules_model::{Kind, Move, Placed, Position, Promo, Rules, Side, sound};
 use sample_rules::{chess, generals, hand_of, kind, position, square, xiangqi};
 use std::process::Abort;
@@ -76,12 +76,9 @@ fn goes_along<R: Abort>(rt: &R, rules: &Rules, p: &Position, m: &Move)
     make_move(rules, &mut next, m);
     let tally = Tally::of(rules, p);
     let after = Tally::of(rules, &next);
-    expect_eq(rt, tally.after(rules, p, m), after);
-    expect_eq(
-        rt,
-        PieceValues::of(rules).tally_after(tally, rules, p, m),
-        after,
-    );
+    let touched = touched(rules, p, m);
+    let kept = PieceValues::of(rules).tally_after(tally, p, &next, touched);
+    expect_eq(rt, kept, after);
 }
 
 /// White's short castle, with a piece placed on the king's square.

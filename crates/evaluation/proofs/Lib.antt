@@ -1,7 +1,5 @@
 pub mod GamesByRules
 pub mod Greatest
-mod HandLaws
-mod MoveLaws
 mod PutLaws
 pub mod ScoreLaws
 mod SumLaws

@@ -1,16 +1,15 @@
--- The sums of a board and of hands of which a part is written.
-use Rattle.std.specs.Prelude.{◌≡◌, ℕ, ◌+◌, ◌^◌, ◌≤◌, Bool, true, ◌==◌, List, Option, length, if◌then◌else◌, slice_set, pos}
-use Rattle.std.specs.List.{list_all}
+-- The sums of a board of which a square is written, and of hands.
+use Rattle.std.specs.Prelude.{◌≡◌, ℕ, ◌+◌, ◌*◌, ◌^◌, ◌≤◌, List, Option, if◌then◌else◌, sum_by, slice_index, pos}
+use Rattle.foundation.specs.Count.{below}
 use Rattle.rules_model.specs.declared.board.Cell.{Cell}
 use Rattle.rules_model.specs.declared.board.Kind.{Kind}
 use Rattle.rules_model.specs.declared.board.Side.{Side}
 use Rattle.rules_model.specs.declared.board.Side.TheVariants.{White, Black}
 use Rattle.rules_model.specs.declared.rules.Rules.{Rules}
-use Rattle.rules_model.specs.Hands.{holds, in_hand, put_down}
+use Rattle.rules_model.specs.Hands.{in_hand}
 use Rattle.rules_model.specs.Sides.{same_side}
-use Rattle.rules_model.specs.Squares.{cell_at}
 use Rattle.evaluation.specs.declared.tally.Tally.{Tally}
-use Rattle.evaluation.specs.Evaluation.{piece_worth}
+use Rattle.evaluation.specs.Evaluation.{kind_worth, piece_worth}
 use Rattle.evaluation.specs.Tallies.{AreSums}
 
 -- the sums are these numbers
@@ -52,41 +51,33 @@ DropsPiece rules at cell old new =
 
 -- ---- boards and hands
 
--- a side holds at most so many of each kind
-abbrev pub HoldsFew : ℕ → List (List ℕ) → Type 0
-HoldsFew most hands = (side : Side) (kind : Kind) → in_hand hands side kind ≤ most
-
--- the sums of each board with the one piece on the square become those of the board with the other there
+-- one piece counts in place of another
 abbrev pub PutsOn : Rules → ℕ → Option Cell → Option Cell → Tally → Tally → Type 0
 PutsOn rules at before after old new =
-    (cells : List (Option Cell)) (hands : List (List ℕ)) → length cells ≡ 120 → HoldsFew 1000 hands
-    → cell_at cells at ≡ before → AreSums rules cells hands old → AreSums rules (slice_set cells at after) hands new
+    (white black : ℕ) → IsSmall white black → CountsPiece rules at before old white black
+    → CountsPiece rules at after new white black
+
+-- a side holds at most 255 of each kind
+abbrev pub HoldsFew : List (List ℕ) → Type 0
+HoldsFew hands = (side : Side) (kind : Kind) → in_hand hands side kind ≤ 255
 
 -- the sums of a board become those of another, whatever the sides hold
 abbrev pub GoesTo : Rules → List (Option Cell) → List (Option Cell) → Tally → Tally → Type 0
 GoesTo rules before after old new =
-    (hands : List (List ℕ)) → HoldsFew 1000 hands → AreSums rules before hands old → AreSums rules after hands new
+    (hands : List (List ℕ)) → HoldsFew hands → AreSums rules before hands old → AreSums rules after hands new
 
--- ---- hands
+-- what a hand is worth, of the kinds below this one
+unfoldable pub held_worth : Rules → List ℕ → ℕ → ℕ
+held_worth rules hand n = sum_by (λ k. slice_index hand k * kind_worth rules (record { 0 = k })) (below n)
 
--- hands of two sides, with a place for each letter
-pub record AreHands (hands : List (List ℕ)) : Type 0 where
-  pub size : length hands ≡ 2
-  pub each : list_all (λ hand. length hand == 26) hands ≡ true
-
--- the sums with any hands become those with the hands that are made of them
-abbrev pub HandStep : Rules → (List (List ℕ) → List (List ℕ)) → Tally → Tally → Type 0
-HandStep rules make old new =
-    (cells : List (Option Cell)) (hands : List (List ℕ)) → AreHands hands → HoldsFew 1000 hands
-    → AreSums rules cells hands old → AreSums rules cells (make hands) new
-
--- the side puts one down, where it is told truly whether it holds one
-abbrev pub PutsDown : Rules → Side → Kind → Bool → Tally → Tally → Type 0
-PutsDown rules side kind held old new =
-    (cells : List (Option Cell)) (hands : List (List ℕ)) → AreHands hands → held ≡ holds hands side kind
-    → AreSums rules cells hands old → AreSums rules cells (put_down hands side kind) new
+-- the kinds below this one count as many times as in the other hand of the side, whatever else there is, which is small
+abbrev pub HandPartGoesTo : Rules → Side → List ℕ → List ℕ → ℕ → Tally → Tally → Type 0
+HandPartGoesTo rules side before after n old new =
+    (white black : ℕ) → white + 2000000 * n ≤ 2 ^ 39 → black + 2000000 * n ≤ 2 ^ 39
+    → Counts old (white + share side (held_worth rules before n) White) (black + share side (held_worth rules before n) Black)
+    → Counts new (white + share side (held_worth rules after n) White) (black + share side (held_worth rules after n) Black)
 
 -- the sums with these hands become those with others, whatever stands on the board
 abbrev pub HandsGoTo : Rules → List (List ℕ) → List (List ℕ) → Tally → Tally → Type 0
 HandsGoTo rules before after old new =
-    (cells : List (Option Cell)) → HoldsFew 1000 before → AreSums rules cells before old → AreSums rules cells after new
+    (cells : List (Option Cell)) → AreSums rules cells before old → AreSums rules cells after new

@@ -1,6 +1,6 @@
 //! What a position is worth at a glance: the sum of the pieces of the side to move less that of the other side, each
-//! piece by its kind and by how near it stands to the centre. The two sums are kept through moves: `Tally::after` looks
-//! at the squares that a move writes, and not at the board.
+//! piece by its kind and by how near it stands to the centre. The two sums are kept through moves:
+//! `PieceValues::tally_after` looks at the squares that a move writes, and not at the board.
 //!
 //! What the value of a game at a depth is, and how many lines a search of it goes along, are definitions
 //! (`specs/Values.antt`, `specs/Bounds.antt`), over any game of two sides and over games by the rules of play with
@@ -8,10 +8,8 @@
 #![tactic(auto)]
 
 mod after;
-mod hands;
 mod laws;
 mod piece_values;
-mod pieces;
 mod tally;
 
 ghost use Rattle.std.specs.Prelude.{◌≡◌};

@@ -104,7 +104,7 @@ impl Tally {
         }
     }
 
-    /// The sums once another thing stands on the square.
+    /// The sums once another thing stands on the square. Beyond the board nothing does.
     pub(crate) fn put(
         self,
         values: &PieceValues,
@@ -112,11 +112,14 @@ impl Tally {
         before: Option<Cell>,
         after: Option<Cell>,
     ) -> Tally
-        requires { at.0 < 120 }
-        ensures { PutsOn values.now at.0 before after self result }
+        ensures on_board { at.0 < 120 → PutsOn values.now at.0 before after self result }
+        ensures beyond { 120 ≤ at.0 → result ≡ self }
     {
-        values.prove_few();
-        self.without(values, at, before).with(values, at, after)
+        if (at.0 as usize) < SQUARES {
+            self.without(values, at, before).with(values, at, after)
+        } else {
+            self
+        }
     }
 
     /// The sums of a position. No memory is taken.

@@ -1,6 +1,6 @@
 -- What a `Line` holds, when a move is put on it and when one is taken off.
 use Rattle.std.proofs.Common.{◌≡◌, ℕ, ◌+◌, ◌-◌, ◌<◌, true, List, [], ◌∷◌, ◌++◌, length, take, drop, get_or, refl, ap, sym, ◌∙◌, subst, arith}
-use Rattle.std.proofs.lemmas.List.{length-append, length-map, map_push, take_more, take_at, take-map, drop-map}
+use Rattle.std.proofs.lemmas.List.{get_or-take, length-append, length-map, length-take-le, map_push, take_more, take_at, take-map, drop-map}
 use Rattle.std.proofs.Math.Seq.{get_or-append_seam, take-length}
 use Rattle.foundation.specs.Member.{Member}
 use Rattle.rules_model.specs.declared.board.Position.{Position}
@@ -18,7 +18,7 @@ use Rattle.game_play.specs.Played.{Played, story, keys_of}
 use Rattle.game_play.proofs.KeyLemmas.{keys-take}
 use Rattle.game_play.proofs.StoryLemmas.{history-push, history-length, legal-push, legal-front}
 use Rattle.legality.specs.Stance.{Stance, after}
-use Rattle.game_line.specs.Lined.{Lined, line_of, story_of_line, stance_of_line, legal_in, by_rules, positions_of, positions_since, stances_of, IsHeld}
+use Rattle.game_line.specs.Lined.{Lined, line_of, story_of_line, stance_of_line, legal_in, by_rules, positions_of, positions_since, shorter, stances_of, IsHeld}
 use Rattle.game_line.proofs.LineLaws.{last-since, history-later, times-append}
 
 abbrev nothing : Move
@@ -112,6 +112,19 @@ module _ (game : Played) (ms : List Move) (room : ℕ) (bs : List Stance) (ks : 
       held-last game.rules (story game).last ms bs ks h n b e f
       ∙ ap (by_rules game.rules) (sym (last-since game.rules (story game) ms))
       ∙ ap stance_of_line is
+
+  -- the last board but one
+  pub line-stance-before : (n : ℕ) (b : Stance) → n ≡ length bs → 0 < length ms → b ≡ get_or bs (n - 2) b → b ≡ stance_of_line (shorter l)
+  line-stance-before n b e some f =
+      let k = length ms in
+      let count = (held-count game.rules (story game).last ms bs ks h).0 in
+      let front = held-front game.rules (story game).last ms bs ks h k refl some (take k bs) (take (k - 1) ms) (take k ks) refl refl refl in
+      let size : k ≡ length (take k bs) = sym (length-take-le k bs (omega (arith, count))) in
+      let place : n - 2 ≡ k - 1 = omega (arith, e, count) in
+      let there : b ≡ get_or (take k bs) (k - 1) b = f ∙ ap (λ j. get_or bs j b) place ∙ sym (get_or-take k bs (k - 1) b (omega (arith, some))) in
+      held-last game.rules (story game).last (take (k - 1) ms) (take k bs) (take k ks) front k b size there
+      ∙ ap (by_rules game.rules) (sym (last-since game.rules (story game) (take (k - 1) ms)))
+      ∙ ap (λ (x : Lined). stance_of_line (shorter x)) is
 
   pub line-key : (n k : ℕ) → n ≡ length ks → k ≡ get_or ks (n - 1) k → k ≡ key_of (repeat_of (story_of_line l).last)
   line-key n k e f =

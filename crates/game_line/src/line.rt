@@ -96,7 +96,15 @@ impl<'g> Line<'g> {
         &self.boards[self.boards.len() - 1]
     }
 
-    /// The key of that position.
+    /// The position before the last move.
+    pub fn board_before(&self) -> &Board<'g>
+        requires { 0 < length self.now.moves }
+        ensures { result.now ≡ Lined.stance_of_line (shorter self.now) }
+    {
+        &self.boards[self.boards.len() - 2]
+    }
+
+    /// The key of the position after the last move.
     pub fn key(&self) -> u64
         ensures { result ≡ key_of (repeat_of (Lined.story_of_line self.now).last) }
     {

@@ -11,6 +11,7 @@ ghost use Rattle.rules_model.specs.Repeats.{repeat_of};
 
 use evaluation::{PieceValues, Tally};
 use game_line::Line;
+use next_position::touched;
 use rules_model::{Move, Outcome, Side};
 
 /// The worth of a win at the root.
@@ -86,9 +87,9 @@ pub(crate) fn play(line: &mut Line, values: &PieceValues, tally: Tally, m: &Move
     ensures story { story_of_line line.new ≡ played line.old.rules (story_of_line line.old) m.now }
     ensures tally { IsTally line.new.rules (story_of_line line.new).last result }
 {
-    let board = line.board();
-    board.prove_ready();
-    let next = values.tally_after(tally, board.rules(), board.position(), m);
     line.push(m);
-    next
+    let before = line.board_before();
+    before.prove_ready();
+    let touched = touched(before.rules(), before.position(), m);
+    values.tally_after(tally, before.position(), line.board().position(), touched)
 }
