@@ -9,7 +9,7 @@ ghost use Rattle.game_line.specs.Lined.{legal_in, story_of_line};
 ghost use Rattle.rules_model.specs.Next.{next};
 ghost use Rattle.negamax.specs.Settling.{GoesOn, Knows, ScoresMost};
 
-use check_moves::KnownFlights;
+use check_moves::{KnownFlights, Replies};
 use evaluation::Tally;
 use game_line::Line;
 use rules_model::Move;
@@ -19,8 +19,10 @@ use square_set::EMPTY;
 /// game going on, and then the steps of the other side's king.
 #[derive(Drop)]
 pub(crate) struct Settling {
+    /// Whether anything is known.
     sure: bool,
     flights: KnownFlights,
+    replies: Option<Replies>,
 }
 
 /// No step is known.
@@ -37,14 +39,13 @@ impl Settling {
     {
         if line.ends_by_stuck_alone() {
             let flights = KnownFlights::of(line.board());
-            Settling {
-                sure: true,
-                flights,
-            }
+            let sure = true;
+            Settling { sure, flights, replies: None }
         } else {
             Settling {
                 sure: false,
                 flights: NO_FLIGHTS,
+                replies: None,
             }
         }
     }
@@ -60,7 +61,15 @@ impl Settling {
         if !sure {
             return false;
         }
-        self.flights.meets(line.board(), m)
+        if self.flights.meets(line.board(), m) {
+            return true;
+        }
+        let replies = match self.replies {
+            Some(r) => r,
+            None => Replies::of(line.board()),
+        };
+        self.replies = Some(replies);
+        replies.meets(line.board(), m)
     }
 
     /// What the legal move scores at most, at the last ply or as a capture, where this is known without a look at the
@@ -74,6 +83,10 @@ impl Settling {
         ensures within { IfSome result Within }
         ensures most { IfSome result (ScoresMost line.now m.now) }
     {
+        let sure = self.sure;
+        if !sure {
+            return None;
+        }
         let most = -sums.value(line.board().position().side.other());
         if floor < most {
             return None;
