@@ -1,5 +1,5 @@
 //! A worker's state, and how it goes over the root moves.
-ghost use Rattle.std.specs.Prelude.{◌≡◌, ◌≤◌, OnOk, IsErrOf};
+ghost use Rattle.std.specs.Prelude.{◌≡◌, ◌*◌, ◌≤◌, OnOk, IsErrOf};
 ghost use Rattle.mate_settle.specs.Lines.{lines_within, seen_in};
 ghost use Rattle.mate_shards.specs.Views.{ArePassesOf};
 ghost use Rattle.watching.specs.declared.halt.Halt.{Halt};

@@ -6,10 +6,6 @@ use Rattle.mate_search.proofs.RaceLaws.{root-rules}
 use Rattle.mate_search.specs.Races.{race_lines, root_lines, tree_lines}
 use Rattle.mate_search.proofs.job.take_all.Goals as goal
 
-pub grow_tree-grown-requires-clause-rules : goal.grow_tree-grown-requires-clause-rules
-grow_tree-grown-requires-clause-rules g c =
-    root-rules c.args.race.now c.requires.ready c.args.race.now.shards.now.frame c.board-board.result refl c.board-board.ensures
-
 pub returns-in_err-grown-clause-ended : goal.returns-in_err-grown-clause-ended
 returns-in_err-grown-clause-ended g c why is =
     let race = c.args.race.now in

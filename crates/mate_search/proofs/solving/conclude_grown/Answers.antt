@@ -5,9 +5,6 @@ use Rattle.mate_search.specs.Races.{closing_lines, tree_lines}
 use Rattle.mate_search.proofs.HandedLaws.{handed_more}
 use Rattle.mate_search.proofs.solving.conclude_grown.Goals as goal
 
-pub grow_tree-best-requires-clause-rules : goal.grow_tree-best-requires-clause-rules
-grow_tree-best-requires-clause-rules g c = ap (λ (x : Stance). x.rules) c.new-board.ensures ∙ sym c.requires.frame.rules
-
 pub returns-in_err-best-clause-ended : goal.returns-in_err-best-clause-ended
 returns-in_err-best-clause-ended g c why is =
     let f = c.args.shards.now.frame in

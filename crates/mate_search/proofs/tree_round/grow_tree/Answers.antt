@@ -22,8 +22,8 @@ returns-in_err-roots-clause-ended g c why is =
     let memory = g.met.W.Watch.memory _ _ most (g.met.W.Watch.wider _ _ 0 most (g.met.W.Watch.none c.args.watch.now) (omega arith)) in
     search rules
 
-pub loop-_step-init : goal.loop-_step-init
-loop-_step-init g c = record {
+pub loop-step-init : goal.loop-step-init
+loop-step-init g c = record {
   facts = refl;
   handed = handed_none c.args.shards.now _ c.requires.passes;
   less = leaves-lines c.args.shards.now.frame c.args.board.now c.args.n c.in_ok-roots.roots.items c.requires.rules c.requires.some c.in_ok-roots.ensures;
@@ -31,43 +31,43 @@ loop-_step-init g c = record {
 }
 
 pub returns-then-is_empty-clause-gone : goal.returns-then-is_empty-clause-gone
-returns-then-is_empty-clause-gone g c = g.met.W.Watch.wider _ _ _ _ c.loop-_step.invariant.gone (omega arith)
+returns-then-is_empty-clause-gone g c = g.met.W.Watch.wider _ _ _ _ c.loop-step.invariant.gone (omega arith)
 
 pub returns-in_err-grown-clause-handed : goal.returns-in_err-grown-clause-handed
-returns-in_err-grown-clause-handed g c = handed_more c.args.shards.now _ _ _ c.loop-_step.invariant.handed c.grow_once.ensures.handed
+returns-in_err-grown-clause-handed g c = handed_more c.args.shards.now _ _ _ c.loop-step.invariant.handed c.grow_once.ensures.handed
 
 pub returns-in_err-grown-clause-ended : goal.returns-in_err-grown-clause-ended
 returns-in_err-grown-clause-ended g c why is =
-    let old = c.loop-_step.invariant in
+    let old = c.loop-step.invariant in
     let n = c.args.n in
     let p = c.args.board.now.position in
-    let before = ap (λ (f : Frame). forest f n p c.loop-_step.roots.items) (old.facts ∙ c.requires.facts) in
+    let before = ap (λ (f : Frame). forest f n p c.loop-step.roots.items) (old.facts ∙ c.requires.facts) in
     let less = old.less in
     let back : c.grow_once.result ≡ Err why = search rules in
     g.met.W.Watch.ends_wider _ _ _ (tree_lines c.args.shards.now.frame n p) why
     (g.met.W.Watch.ends _ _ _ _ _ why old.gone (c.grow_once.ensures.ended why back)) (omega (arith, before, less))
 
 pub returns-then-is_some-clause-handed : goal.returns-then-is_some-clause-handed
-returns-then-is_some-clause-handed g c = handed_more c.args.shards.now _ _ _ c.loop-_step.invariant.handed c.in_ok-grown.ensures.handed
+returns-then-is_some-clause-handed g c = handed_more c.args.shards.now _ _ _ c.loop-step.invariant.handed c.in_ok-grown.ensures.handed
 
 pub returns-then-is_some-clause-gone : goal.returns-then-is_some-clause-gone
 returns-then-is_some-clause-gone g c =
-    let old = c.loop-_step.invariant in
+    let old = c.loop-step.invariant in
     let n = c.args.n in
     let p = c.args.board.now.position in
-    let before = ap (λ (f : Frame). forest f n p c.loop-_step.roots.items) (old.facts ∙ c.requires.facts) in
+    let before = ap (λ (f : Frame). forest f n p c.loop-step.roots.items) (old.facts ∙ c.requires.facts) in
     let less = old.less in
     let went = c.in_ok-grown.ensures.gone in
     let fewer = went.0 in
     g.met.W.Watch.wider _ _ _ (tree_lines c.args.shards.now.frame n p) (g.met.W.Watch.more _ _ _ _ _ old.gone went.1) (omega (arith, before, less, fewer))
 
-pub loop-_step-preserved : goal.loop-_step-preserved
-loop-_step-preserved g c =
-    let old = c.loop-_step.invariant in
+pub loop-step-preserved : goal.loop-step-preserved
+loop-step-preserved g c =
+    let old = c.loop-step.invariant in
     let n = c.args.n in
     let p = c.args.board.now.position in
-    let kept : c.loop-_step.facts ≡ c.args.shards.now.frame = old.facts ∙ c.requires.facts in
-    let before = ap (λ (f : Frame). forest f n p c.loop-_step.roots.items) kept in
+    let kept : c.loop-step.facts ≡ c.args.shards.now.frame = old.facts ∙ c.requires.facts in
+    let before = ap (λ (f : Frame). forest f n p c.loop-step.roots.items) kept in
     let after = ap (λ (f : Frame). forest f n p c.grow_once.new.roots.items) kept in
     let less = old.less in
     let e = c.in_ok-grown.ensures in
@@ -80,4 +80,4 @@ loop-_step-preserved g c =
     }
 
 pub returns-clause-gone : goal.returns-clause-gone
-returns-clause-gone g c = g.met.W.Watch.wider _ _ _ _ c.loop-_step.invariant.gone (omega arith)
+returns-clause-gone g c = g.met.W.Watch.wider _ _ _ _ c.loop-step.invariant.gone (omega arith)

@@ -11,7 +11,7 @@ use Rattle.mate_search.proofs.HandedLaws.{claimed_true}
 use Rattle.mate_search.proofs.tree_round.publish_step.Goals as goal
 
 pub publish_by_key-requires-clause-truth : goal.publish_by_key-requires-clause-truth
-publish_by_key-requires-clause-truth c =
+publish_by_key-requires-clause-truth g c =
     let f = c.args.shards.now.frame in
     let s = c.args.board.now in
     let step = c.args.step.now in
@@ -22,7 +22,7 @@ publish_by_key-requires-clause-truth c =
     subst (λ (x : Claim). IsTrueIn f (fact_with (repeat_of p) x)) (sym c.of.ensures) claimed
 
 pub returns : goal.returns
-returns c = record {
+returns g c = record {
   passes = c.publish_by_key.ensures.passes;
   parts = c.publish_by_key.ensures.parts;
   grown = c.publish_by_key.ensures.grown;
