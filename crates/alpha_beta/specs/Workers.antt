@@ -1,5 +1,5 @@
 -- What workers hand back.
-use Rattle.std.specs.Prelude.{◌≡◌, ℕ, ◌+◌, ◌≤◌, List, fold, length, max}
+use Rattle.std.specs.Prelude.{◌≡◌, ℕ, ◌+◌, ◌≤◌, List, [], ◌∷◌, ◌++◌, fold, length, max}
 use Rattle.std.specs.List.{All}
 use Rattle.foundation.specs.Member.{Member}
 use Rattle.rules_model.specs.declared.moves.Move.{Move}
@@ -8,6 +8,7 @@ use Rattle.negamax.specs.declared.facts.Fact.{Fact}
 use Rattle.negamax.specs.RootFacts.{IsTrueFact, root_tree}
 use Rattle.alpha_beta.specs.declared.jobs.Job.{Job}
 use Rattle.alpha_beta.specs.declared.plan.Plan.{Plan}
+use Rattle.alpha_beta.specs.declared.taking.Other.{Other}
 use Rattle.alpha_beta.specs.Roots.{root_lines}
 
 -- the depth is at least 1, it and the plies from the root are at most 64, the line has room, and the moves are legal
@@ -40,6 +41,14 @@ IsSound plan job = AreTrueFacts plan job.facts.items
 -- it entered at most so many nodes more
 abbrev pub HasEntered : ℕ → Job → Job → Type 0
 HasEntered n before after = after.nodes ≤ before.nodes + n
+
+-- what a worker beside the first found is true, and it entered at most the lines of the race
+abbrev pub HasHelped : {G : Type 0} → Plan G → Job → Job → Type 0
+HasHelped plan before after = IsSound plan after × HasEntered (lines_in plan) before after
+
+-- the move at this place was added to those that another worker had taken
+abbrev pub IsSetAside : List Other → List Other → ℕ → Move → Type 0
+IsSetAside before after place chosen = after ≡ before ++ record { place = place; chosen = chosen } ∷ []
 
 -- the greatest of a count and those of the others
 abbrev pub most_nodes : ℕ → List Job → ℕ

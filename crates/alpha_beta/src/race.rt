@@ -3,7 +3,7 @@ ghost use Rattle.std.specs.Prelude.{◌≡◌, ℕ, ◌≤◌, ◌<◌, [], get_
 ghost use Rattle.std.specs.List.{All};
 ghost use Rattle.watching.specs.declared.halt.Halt.{Halt};
 ghost use Rattle.alpha_beta.specs.declared.jobs.Job.{Job};
-ghost use Rattle.alpha_beta.specs.Workers.{AreTrueFacts, HasEntered, IsPlan, IsSound, lines_in};
+ghost use Rattle.alpha_beta.specs.Workers.{AreTrueFacts, HasEntered, HasHelped, IsPlan, IsSound, lines_in};
 
 use crate::jobs::Job;
 use crate::plan::Plan;
@@ -72,7 +72,7 @@ pub(crate) fn race<'g, R: Threads + Sync, W: Watch, G: Gate + Sync>(
         threads,
         &|k: usize, job: &mut Job|
             requires { IsPlan plan.now × (k < 63) }
-            ensures { IsSound plan.entry.now job.exit.now × HasEntered (lines_in plan.entry.now) job.entry.now job.exit.now }
+            ensures { HasHelped plan.entry.now job.entry.now job.exit.now }
         { help(plan, k as u32 + 1, job) },
         &mut || lead(plan, line, state, facts, watch),
     )

@@ -5,7 +5,7 @@ ghost use Rattle.foundation.specs.Member.{Member};
 ghost use Rattle.game_line.specs.Lined.{legal_in};
 ghost use Rattle.negamax.specs.Trials.{Entered};
 ghost use Rattle.watching.specs.declared.halt.Halt.{Halt};
-ghost use Rattle.alpha_beta.specs.Workers.{AreTrueFacts, IsPlan, lines_after, lines_in};
+ghost use Rattle.alpha_beta.specs.Workers.{AreTrueFacts, IsSetAside, IsPlan, lines_after, lines_in};
 
 use crate::jobs::Job;
 use crate::plan::Plan;
@@ -33,7 +33,7 @@ fn remember(facts: &mut Vec<Fact>, fact: Fact) -> Result<(), Memory>
 }
 
 fn leave(others: &mut Vec<Other>, place: usize, chosen: &Move) -> Result<(), Memory>
-    ensures ok { OnOk result (others.new.items ≡ others.old.items ++ record { place = place; chosen = chosen.now } ∷ []) }
+    ensures ok { OnOk result (IsSetAside others.old.items others.new.items place chosen.now) }
 {
     others.push(Other {
         place,
