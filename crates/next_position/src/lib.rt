@@ -9,6 +9,7 @@ ghost use Rattle.rules_model.specs.Moves.{IsFitMove};
 ghost use Rattle.rules_model.specs.Next as Next;
 ghost use Rattle.rules_model.specs.Repeats.{repeat_of};
 ghost use Rattle.rules_model.specs.Sound.{is_sound};
+ghost use Rattle.next_position.specs.Changed.{Covers};
 ghost use Rattle.next_position.specs.Room.{HasRoom, RightsHaveRooks};
 
 mod counts;
@@ -17,11 +18,11 @@ mod hands;
 mod passing;
 mod pieces;
 mod rights;
+mod written;
 
 pub use counts::count_check;
-pub use hands::hand_kind;
-pub use pieces::{behind, fresh, gated, promote};
 use rules_model::{Cells, Move, Position, Rules, Side};
+pub use written::{OnePut, Writes, one_put, touched};
 
 /// Makes of the pieces of a position those that stand there after a move.
 ///
@@ -38,17 +39,19 @@ pub fn move_pieces(rules: &Rules, p: &Position, m: &Move, cells: &mut Cells)
 
 /// Makes the move: pieces, hands, rights, gates, the en passant square, both counts and the side to move are those of
 /// the position after it. The checks left stay those before it: where the variant counts them, `count_check` does the
-/// rest.
-pub fn make_but_checks(rules: &Rules, p: &mut Position, m: &Move)
+/// rest. Answered is what it may have written, as by `touched`.
+pub fn make_but_checks(rules: &Rules, p: &mut Position, m: &Move) -> Writes
     requires fit { IsFit rules.now }
     requires move_fits { IsFitMove m.now }
     requires room { HasRoom p.old }
     requires rooks { RightsHaveRooks rules.now p.old }
-    ensures { p.new ≡ record (Next.next rules.now p.old m.now) { checks = p.old.checks } }
+    ensures position { p.new ≡ record (Next.next rules.now p.old m.now) { checks = p.old.checks } }
+    ensures touched { Covers result p.old p.new }
 {
     let side = p.side;
     let passing = passing::is_passing(rules, p, m);
     let taken = pieces::taken(rules, p, passing, m);
+    let touched = written::touched_by(rules, p, passing, taken, m);
     let passed = passing::passed_over(rules, p, m);
     let white = rights::rights_left(rules, p, passing, m, Side::White);
     let black = rights::rights_left(rules, p, passing, m, Side::Black);
@@ -63,6 +66,7 @@ pub fn make_but_checks(rules: &Rules, p: &mut Position, m: &Move)
     ];
     p.ep = passing::ep_square(rules, &p.cells, side, passed);
     p.side = side.other();
+    touched
 }
 
 /// Makes the move: pieces, hands, rights, gates, the checks left, the en passant square, both counts and the side to
@@ -75,7 +79,7 @@ pub fn make_move(rules: &Rules, p: &mut Position, m: &Move)
     ensures { p.new ≡ Next.next rules.now p.old m.now }
 {
     let side = p.side;
-    make_but_checks(rules, p, m);
+    let _touched = make_but_checks(rules, p, m);
     let gives = counts::is_counted(rules, &p.cells, side);
     count_check(p, side, gives);
 }
