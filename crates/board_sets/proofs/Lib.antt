@@ -1,3 +1,2 @@
-pub mod AfterLaws
 pub mod PawnLaws
 pub mod WriteLaws

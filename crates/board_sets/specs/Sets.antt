@@ -1,17 +1,17 @@
 -- The sets of a board's pieces, by whose move it is.
 use Rattle.std.specs.Prelude.{◌≡◌, ℕ, Bool, false, not, length, Option, Some, None, List}
 use Rattle.rules_model.specs.declared.board.Cell.{Cell}
-use Rattle.rules_model.specs.declared.board.Repeat.{Repeat}
 use Rattle.rules_model.specs.declared.board.Side.{Side}
-use Rattle.rules_model.specs.declared.moves.Move.{Move}
 use Rattle.rules_model.specs.declared.rules.Rules.{Rules}
 use Rattle.rules_model.specs.Attacks.{is_own, is_own_pawn}
 use Rattle.rules_model.specs.Kinds.{is_pawn}
-use Rattle.rules_model.specs.Next.{cells_after}
 use Rattle.rules_model.specs.Sides.{other}
 use Rattle.rules_model.specs.Squares.{cell_at}
 use Rattle.square_set.specs.declared.Set.{Set}
 use Rattle.square_set.specs.Members.{has, OnSquares}
+use Rattle.next_position.specs.declared.written.OnePut.{OnePut}
+use Rattle.next_position.specs.Changed.{AgreeOutside}
+use Rattle.next_position.specs.Puts.{put_on}
 use Rattle.move_tables.specs.Occupied.{AreKings, AreMen, IsOccupied}
 use Rattle.board_sets.specs.declared.sets.BoardSets.{BoardSets}
 
@@ -41,15 +41,19 @@ AreOwnPieces rules side cells pieces =
 abbrev pub AreOwnPawns : Rules → Side → List (Option Cell) → Set → Type 0
 AreOwnPawns rules side cells pawns = (s : ℕ) → has pawns s ≡ is_own_pawn rules side (cell_at cells s)
 
--- where the old sets are those of a board, the new ones are those of the board that is made of it
-abbrev pub AreSetsAfter : Rules → Side → BoardSets → (List (Option Cell) → List (Option Cell)) → BoardSets → Type 0
-AreSetsAfter rules side old make new =
-    (cells : List (Option Cell)) → length cells ≡ 120 → AreSets rules side cells old
-    → AreSets rules side (make cells) new
+-- of each board whose sets the old ones are, and that agrees with this one outside the touched squares, the new ones are
+-- those of this one
+abbrev pub AreSetsAfter : Rules → Side → Set → List (Option Cell) → BoardSets → BoardSets → Type 0
+AreSetsAfter rules side touched next old new =
+    (before : List (Option Cell)) → AreSets rules side before old → AgreeOutside touched before next
+    → AreSets rules side next new
 
--- the sets are those of the board after the move, by the side that moved
-abbrev pub AreSetsAfterMove : Rules → Repeat → Move → BoardSets → Type 0
-AreSetsAfterMove rules r m sets = AreSets rules r.side (cells_after rules r m) sets
+-- of each board whose sets the old ones are, the new ones are those once one square is left and something is put on
+-- another
+abbrev pub AreSetsPut : Rules → Side → OnePut → BoardSets → BoardSets → Type 0
+AreSetsPut rules side put old new =
+    (cells : List (Option Cell)) → length cells ≡ 120 → AreSets rules side cells old
+    → AreSets rules side (put_on put cells) new
 
 -- the squares of the sets are squares of the largest board
 pub record AreOnBoard (sets : BoardSets) : Type 0 where

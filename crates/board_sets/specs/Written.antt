@@ -1,20 +1,18 @@
--- The sets of a board of which a square is written, or two where a piece goes as it is.
-use Rattle.std.specs.Prelude.{◌≡◌, ℕ, Bool, true, not, ◌&&◌, ◌||◌, ◌==◌, is_some, Option, None, List, slice_set}
+-- Sets without some squares, and with what stands on one of them.
+use Rattle.std.specs.Prelude.{◌≡◌, ℕ, Bool, true, false, not, ◌&&◌, ◌||◌, ◌==◌, Option, Some, None}
 use Rattle.rules_model.specs.declared.board.Cell.{Cell}
 use Rattle.rules_model.specs.declared.board.Kind.{Kind}
-use Rattle.rules_model.specs.declared.board.Repeat.{Repeat}
 use Rattle.rules_model.specs.declared.board.Side.{Side}
 use Rattle.rules_model.specs.declared.board.Square.{Square}
-use Rattle.rules_model.specs.declared.moves.Promo.{Promo}
 use Rattle.rules_model.specs.declared.rules.Rules.{Rules}
 use Rattle.rules_model.specs.Attacks.{is_own, is_own_king}
-use Rattle.rules_model.specs.Pawns.{is_stays, passes_by}
+use Rattle.rules_model.specs.Kinds.{is_king, is_pawn}
 use Rattle.rules_model.specs.Sides.{other}
-use Rattle.rules_model.specs.Squares.{cell_at}
 use Rattle.square_set.specs.declared.Set.{Set}
-use Rattle.square_set.specs.Members.{has, IsWithout}
+use Rattle.square_set.specs.Members.{has, IsWith}
+use Rattle.next_position.specs.declared.written.OnePut.{OnePut}
 use Rattle.board_sets.specs.declared.sets.BoardSets.{BoardSets}
-use Rattle.board_sets.specs.Sets.{AreSetsAfter, is_any_pawn}
+use Rattle.board_sets.specs.Sets.{is_any_pawn}
 
 -- the new set has the squares of the old one, and this one besides where it is wanted
 abbrev pub IsWithIf : Set → ℕ → Bool → Set → Type 0
@@ -29,30 +27,38 @@ pub record AreWith (rules : Rules) (side : Side) (old : BoardSets) (at : ℕ) (c
   pub enemy_kings : IsWithIf old.enemy_kings at (is_own_king rules (other side) cell) new.enemy_kings
   pub pawns : IsWithIf old.pawns at (is_any_pawn rules cell) new.pawns
 
--- the square is in none of the sets
-pub record AreWithout (old : BoardSets) (at : ℕ) (new : BoardSets) : Type 0 where
-  pub own : IsWithout old.own at new.own
-  pub enemies : IsWithout old.enemies at new.enemies
-  pub kings : IsWithout old.kings at new.kings
-  pub enemy_kings : IsWithout old.enemy_kings at new.enemy_kings
-  pub pawns : IsWithout old.pawns at new.pawns
+-- the square is in each of the sets to which an own piece of the kind belongs, and the others are as they were
+pub record AreWithOwn (rules : Rules) (old : BoardSets) (at : ℕ) (kind : Kind) (new : BoardSets) : Type 0 where
+  pub own : IsWith old.own at new.own
+  pub enemies : new.enemies ≡ old.enemies
+  pub kings : IsWithIf old.kings at (is_king rules kind) new.kings
+  pub enemy_kings : new.enemy_kings ≡ old.enemy_kings
+  pub pawns : IsWithIf old.pawns at (is_pawn rules kind) new.pawns
 
--- ---- a piece goes as it is
+-- the same of a piece of the other side
+pub record AreWithEnemy (rules : Rules) (old : BoardSets) (at : ℕ) (kind : Kind) (new : BoardSets) : Type 0 where
+  pub own : new.own ≡ old.own
+  pub enemies : IsWith old.enemies at new.enemies
+  pub kings : new.kings ≡ old.kings
+  pub enemy_kings : IsWithIf old.enemy_kings at (is_king rules kind) new.enemy_kings
+  pub pawns : IsWithIf old.pawns at (is_pawn rules kind) new.pawns
 
--- the board, once what stands on a square has gone to another
-abbrev pub carried : ℕ → ℕ → List (Option Cell) → List (Option Cell)
-carried from to cells = slice_set (slice_set cells from None) to (cell_at cells from)
+-- the set has the two squares that are written
+abbrev pub is_left : Option Square → ℕ → Bool
+is_left None s = false
+is_left (Some from) s = s == from.0
 
--- the square where the piece went is in the new set exactly if the one that it left was in the old one; that one, if it
--- is another, is out; the others stay
-abbrev pub IsCarried : Set → ℕ → ℕ → Set → Type 0
-IsCarried old from to new =
-    (s : ℕ) → has new s ≡ (((has old s && not (s == from)) && not (s == to)) || (has old from && (s == to)))
+abbrev pub IsWritten : OnePut → Set → Type 0
+IsWritten put set = (s : ℕ) → has set s ≡ ((s == put.at.0) || is_left put.left s)
 
--- of each board whose sets the old ones are, the new ones are those once the piece has gone
-abbrev pub AreCarried : BoardSets → ℕ → ℕ → BoardSets → Type 0
-AreCarried old from to new = (rules : Rules) (side : Side) → AreSetsAfter rules side old (carried from to) new
+-- the new set has the squares of the old one that are not among these
+abbrev pub IsMinus : Set → Set → Set → Type 0
+IsMinus old squares new = (s : ℕ) → has new s ≡ (has old s && not (has squares s))
 
--- a move that carries a piece as it is writes no square but its two
-abbrev pub carries : Rules → Repeat → Square → Square → Promo → Option Kind → Bool
-carries rules r from to promo gate = is_stays promo && not (is_some gate) && not (passes_by rules r from to.0)
+-- none of the squares is in any of the sets
+pub record AreMinus (old : BoardSets) (squares : Set) (new : BoardSets) : Type 0 where
+  pub own : IsMinus old.own squares new.own
+  pub enemies : IsMinus old.enemies squares new.enemies
+  pub kings : IsMinus old.kings squares new.kings
+  pub enemy_kings : IsMinus old.enemy_kings squares new.enemy_kings
+  pub pawns : IsMinus old.pawns squares new.pawns

@@ -1,15 +1,16 @@
-//! The sets of a board's pieces, and what they become once a square is written.
-ghost use Rattle.std.specs.Prelude.{◌≡◌, ℕ, ◌<◌, true, slice_set};
-ghost use Rattle.rules_model.specs.Attacks.{is_own};
+//! The sets of a board's pieces, and those of a board that differs on a few squares.
+ghost use Rattle.std.specs.Prelude.{◌≡◌, ℕ, ◌<◌, true};
 ghost use Rattle.square_set.specs.Members.{has};
-ghost use Rattle.board_sets.specs.Sets.{AreSets, AreSetsAfter, AreTurned, IsOccupiedBy, SetsStayOnBoard};
-ghost use Rattle.board_sets.specs.Sets.{HoldsPawns, HoldsPieces, is_any_pawn};
-ghost use Rattle.board_sets.specs.Written.{AreCarried, AreWith, AreWithout, IsCarried, IsWithIf};
+ghost use Rattle.next_position.specs.Puts.{IsOnBoard};
+ghost use Rattle.board_sets.specs.Sets.{AreSets, AreSetsAfter, AreSetsPut, AreTurned, IsOccupiedBy, SetsStayOnBoard};
+ghost use Rattle.board_sets.specs.Sets.{HoldsPawns, HoldsPieces};
+ghost use Rattle.board_sets.specs.Written.{AreMinus, AreWith, AreWithEnemy, AreWithOwn, IsWithIf, IsWritten};
 
-use rules_model::attacks::is_own_king;
+use next_position::OnePut;
 use rules_model::kinds::names;
-use rules_model::{Cell, Cells, Rules, Side, Square};
-use square_set::{EMPTY, Set};
+use rules_model::sizes::prove_board_size;
+use rules_model::{Cell, Cells, Kind, Rules, Side, Square, cell_at};
+use square_set::{BOARD, EMPTY, Set};
 
 /// The squares of the pieces on a board, by whose move it is.
 #[derive(Clone, Copy, PartialEq, Eq)]
@@ -34,25 +35,6 @@ const NONE: BoardSets = BoardSets {
     pawns: EMPTY,
 };
 
-fn is_man(side: Side, cell: Option<Cell>) -> bool
-    ensures { result ≡ is_own side (λ kind. true) cell }
-{
-    match cell {
-        None => false,
-        Some(cell) => cell.side.is(side),
-    }
-}
-
-/// Whether a pawn stands there, of either side.
-fn is_pawn(rules: &Rules, cell: Option<Cell>) -> bool
-    ensures { result ≡ is_any_pawn rules.now cell }
-{
-    match cell {
-        None => false,
-        Some(cell) => names(rules.pawn, cell.kind),
-    }
-}
-
 /// The set, with the square besides where that is wanted.
 fn with_if(set: Set, at: u8, wanted: bool) -> Set
     requires { at < 128 }
@@ -61,26 +43,24 @@ fn with_if(set: Set, at: u8, wanted: bool) -> Set
     if wanted { set.with(at) } else { set }
 }
 
-/// The set once what stands on a square has gone to another.
-fn carried(set: Set, from: u8, to: u8) -> Set
-    requires from { from < 128 }
-    requires to { to < 128 }
-    ensures { IsCarried set from to result }
+/// The two squares, or the one, that are written.
+fn squares_of(put: OnePut) -> Set
+    requires { IsOnBoard put }
+    ensures { IsWritten put result }
 {
-    let others = set.without(from).without(to);
-    with_if(others, to, set.has(from))
+    let entered = EMPTY.with(put.at.0);
+    match put.left {
+        None => entered,
+        Some(from) => entered.with(from.0),
+    }
 }
 
 /// The sets of a board.
 pub fn sets_of(rules: &Rules, cells: &Cells, side: Side) -> BoardSets
     ensures { AreSets rules.now side cells.now result }
 {
-    let _first = cells[0];
-    let mut sets = NONE;
-    for at in 0..120u8 {
-        sets = sets.with(rules, side, at, cells[at as usize]);
-    }
-    sets
+    prove_board_size(cells);
+    NONE.after(rules, side, cells, BOARD)
 }
 
 impl BoardSets {
@@ -120,61 +100,74 @@ impl BoardSets {
         }
     }
 
-    /// The sets without the square.
-    fn without(self, at: u8) -> BoardSets
+    /// The sets without the squares.
+    fn minus(&self, squares: Set) -> BoardSets
+        ensures { AreMinus self.now squares result }
+    {
+        BoardSets {
+            own: self.own.minus(squares),
+            enemies: self.enemies.minus(squares),
+            kings: self.kings.minus(squares),
+            enemy_kings: self.enemy_kings.minus(squares),
+            pawns: self.pawns.minus(squares),
+        }
+    }
+
+    /// Puts the square into the sets to which an own piece belongs.
+    fn add_own(&mut self, rules: &Rules, at: u8, kind: Kind)
         requires { at < 128 }
-        ensures { AreWithout self at result }
+        ensures { AreWithOwn rules.now self.old at kind self.new }
     {
-        BoardSets {
-            own: self.own.without(at),
-            enemies: self.enemies.without(at),
-            kings: self.kings.without(at),
-            enemy_kings: self.enemy_kings.without(at),
-            pawns: self.pawns.without(at),
-        }
+        self.own = self.own.with(at);
+        self.kings = with_if(self.kings, at, names(rules.king, kind));
+        self.pawns = with_if(self.pawns, at, names(rules.pawn, kind));
     }
 
-    /// The sets with the square in those to which what stands there belongs.
-    fn with(self, rules: &Rules, side: Side, at: u8, cell: Option<Cell>) -> BoardSets
+    /// Puts the square into the sets to which a piece of the other side belongs.
+    fn add_enemy(&mut self, rules: &Rules, at: u8, kind: Kind)
         requires { at < 128 }
-        ensures { AreWith rules.now side self at cell result }
+        ensures { AreWithEnemy rules.now self.old at kind self.new }
     {
-        if cell.is_none() {
-            return self;
-        }
-        BoardSets {
-            own: with_if(self.own, at, is_man(side, cell)),
-            enemies: with_if(self.enemies, at, is_man(side.other(), cell)),
-            kings: with_if(self.kings, at, is_own_king(rules, side, cell)),
-            enemy_kings: with_if(self.enemy_kings, at, is_own_king(rules, side.other(), cell)),
-            pawns: with_if(self.pawns, at, is_pawn(rules, cell)),
+        self.enemies = self.enemies.with(at);
+        self.enemy_kings = with_if(self.enemy_kings, at, names(rules.king, kind));
+        self.pawns = with_if(self.pawns, at, names(rules.pawn, kind));
+    }
+
+    /// Puts the square into the sets to which what stands there belongs.
+    fn add(&mut self, rules: &Rules, side: Side, at: u8, cell: Option<Cell>)
+        requires { at < 128 }
+        ensures { AreWith rules.now side self.old at cell self.new }
+    {
+        if let Some(piece) = cell {
+            if piece.side.is(side) {
+                self.add_own(rules, at, piece.kind);
+            } else {
+                self.add_enemy(rules, at, piece.kind);
+            }
         }
     }
 
-    /// The sets once what stands on a square has gone to another. What it is need not be looked at.
-    pub(crate) fn carried(self, from: Square, to: Square) -> BoardSets
-        requires from { from.0 < 120 }
-        requires to { to.0 < 120 }
-        ensures { AreCarried self from.0 to.0 result }
+    /// The sets of the second board, from those of a first one that agrees with it outside the touched squares. The
+    /// first one is not looked at, and of the second no other square.
+    pub fn after(&self, rules: &Rules, side: Side, next: &Cells, touched: Set) -> BoardSets
+        ensures { AreSetsAfter rules.now side touched next.now self.now result }
     {
-        BoardSets {
-            own: carried(self.own, from.0, to.0),
-            enemies: carried(self.enemies, from.0, to.0),
-            kings: carried(self.kings, from.0, to.0),
-            enemy_kings: carried(self.enemy_kings, from.0, to.0),
-            pawns: carried(self.pawns, from.0, to.0),
+        let mut sets = self.minus(touched);
+        let mut left = touched;
+        while let Some(at) = left.take_first() {
+            sets.add(rules, side, at, cell_at(next, Square(at)));
         }
+        sets
     }
 
-    /// The sets once this stands on the square.
-    pub fn put(self, rules: &Rules, side: Side, at: Square, cell: Option<Cell>) -> BoardSets
-        ensures { AreSetsAfter rules.now side self (λ cells. slice_set cells at.0 cell) result }
+    /// The sets once one square is left and something is put on another.
+    pub fn put(&self, rules: &Rules, side: Side, put: OnePut) -> BoardSets
+        requires { IsOnBoard put }
+        ensures { AreSetsPut rules.now side put self.now result }
     {
-        if at.0 < 120 {
-            self.without(at.0).with(rules, side, at.0, cell)
-        } else {
-            self
-        }
+        let mut sets = self.minus(squares_of(put));
+        sets.add(rules, side, put.at.0, put.cell);
+        sets
     }
 }
 

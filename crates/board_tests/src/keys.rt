@@ -4,8 +4,8 @@ ghost use Rattle.rules_model.specs.Moves.{IsFitMove};
 
 use crate::expect::{expect, expect_eq};
 use crate::helpers::{castle, go};
-use next_position::{make_move, sound_positions_take_moves};
-use position_key::{BoardKey, Packed, key_of, key_of_repeat, touched};
+use next_position::{make_move, sound_positions_take_moves, touched};
+use position_key::{BoardKey, Packed, key_of, key_of_repeat};
 use rules_model::{Cell, Kind, Move, Position, Promo, Repeat, Rules, Side, repeat_of, sound};
 use sample_rules::{hand_of, kind, position, shouse, square};
 use square_set::EMPTY;
@@ -85,7 +85,7 @@ fn is_kept<R: Abort>(rt: &R, rules: &Rules, p: &Position, m: &Move)
     let mut next = *p;
     make_move(rules, &mut next, m);
     let key = BoardKey::of(p);
-    let kept = key.after_move(rules, p, m, &next);
+    let kept = key.after(p, &next, touched(rules, p, m));
     let whole = key_of(&next);
     let found = [
         kept != key,
@@ -134,8 +134,8 @@ fn moves_touch_few_squares(rt: HostRuntime) {
     }
     expect_eq(
         &rt,
-        touched(&rules, &p, &go("e5", "d6", Promo::Stays, None)),
+        touched(&rules, &p, &go("e5", "d6", Promo::Stays, None)).squares,
         passing,
     );
-    expect_eq(&rt, touched(&rules, &p, &castle()).count(), 4);
+    expect_eq(&rt, touched(&rules, &p, &castle()).squares.count(), 4);
 }

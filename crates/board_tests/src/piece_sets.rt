@@ -1,11 +1,13 @@
 //! Tests of `board_sets`.
 ghost use Rattle.std.specs.Prelude.{◌≤◌, ◌<◌};
+ghost use Rattle.rules_model.specs.Fit.{IsFit};
 ghost use Rattle.rules_model.specs.Moves.{IsFitMove};
 
 use crate::expect::{expect_eq, expect_of};
 use crate::helpers::{castle, go, quiet, set_of};
-use board_sets::sets_of;
-use rules_model::{Move, Position, Promo, Side, Square};
+use board_sets::{BoardSets, sets_of};
+use next_position::{move_pieces, touched};
+use rules_model::{Move, Position, Promo, Rules, Side};
 use sample_rules::{chess, kind, position, shouse, square};
 use square_set::{EMPTY, Set};
 use std::process::Abort;
@@ -21,6 +23,16 @@ fn drop_of(letter: u8, to: &str) -> Move
     }
 }
 
+/// The sets after the move, by the side that made it.
+fn sets_after(rules: &Rules, p: &Position, m: &Move) -> BoardSets
+    requires fit { IsFit rules.now }
+    requires move_fits { IsFitMove m.now }
+{
+    let mut next = p.cells;
+    move_pieces(rules, p, m, &mut next);
+    sets_of(rules, &p.cells, p.side).after(rules, p.side, &next, touched(rules, p, m).squares)
+}
+
 /// White's pieces, Black's and White's kings are these after the move, where d6 is the en passant square. Black's king
 /// is on d8.
 fn leads_to<R: Abort>(rt: &R, pieces: &str, m: &Move, own: &str, enemies: &str, kings: &str)
@@ -31,7 +43,7 @@ fn leads_to<R: Abort>(rt: &R, pieces: &str, m: &Move, own: &str, enemies: &str, 
         ep: Some(square("d6")),
         ..position(pieces)
     };
-    let sets = sets_of(&rules, &p.cells, p.side).after(&rules, &p, m);
+    let sets = sets_after(&rules, &p, m);
     let found = [sets.own, sets.enemies, sets.kings, sets.enemy_kings];
     let wanted = [set_of(own), set_of(enemies), set_of(kings), set_of("d8")];
     expect_of(rt, &pieces, found == wanted);
@@ -58,16 +70,17 @@ fn sets_are_those_of_the_board(rt: HostRuntime) {
 }
 
 #[test]
-fn sets_are_turned_and_put(rt: HostRuntime) {
+fn sets_are_turned_and_follow_a_board(rt: HostRuntime) {
     let rules = chess();
     let p = position("Ke1 Pe4 Ke5 kd8 pd5 qh5");
     let white = sets_of(&rules, &p.cells, Side::White);
     expect_eq(&rt, white.turned(), sets_of(&rules, &p.cells, Side::Black));
-    let empty = white.put(&rules, Side::White, square("d8"), None);
+    let mut next = p.cells;
+    next[square("d8").0 as usize] = None;
+    let empty = white.after(&rules, Side::White, &next, set_of("d8 a1"));
     let found = [empty.enemies, empty.enemy_kings];
     expect_eq(&rt, found, [set_of("d5 h5"), EMPTY]);
-    let beyond = white.put(&rules, Side::White, Square(120), p.cells[0]);
-    expect_eq(&rt, beyond, white);
+    expect_eq(&rt, white.after(&rules, Side::White, &next, EMPTY), white);
 }
 
 #[test]
@@ -96,7 +109,7 @@ fn leaves_pawns<R: Abort>(rt: &R, pieces: &str, m: &Move, pawns: &str)
         ep: Some(square("d6")),
         ..position(pieces)
     };
-    let sets = sets_of(&rules, &p.cells, p.side).after(&rules, &p, m);
+    let sets = sets_after(&rules, &p, m);
     expect_of(rt, &pieces, sets.pawns == set_of(pawns));
 }
 

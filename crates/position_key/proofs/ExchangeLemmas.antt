@@ -1,14 +1,19 @@
 -- Keys in which one number stands in the place of another.
-use Rattle.std.proofs.Common.{◌≡◌, ◌≢◌, ℕ, ◌+◌, ◌-◌, ◌%◌, ◌^◌, ◌<◌, ◌≤◌, Bool, true, false, ◌&&◌, not, ◌==◌, if◌then◌else◌, Option, None, List, length, refl, ap, sym, ◌∙◌, arith}
+use Rattle.std.proofs.Common.{◌≡◌, ◌≢◌, ℕ, ◌+◌, ◌-◌, ◌%◌, ◌^◌, ◌<◌, ◌≤◌, true, false, Option, List, length, ap, sym, ◌∙◌, arith}
 use Rattle.std.proofs.Math.Nat.{mod-add-mod, add-mod-mod, add-mod_right}
-use Rattle.std.proofs.lemmas.Option.{slice_get_past}
-use Rattle.square_set.proofs.Cases.{by_bool, by_equal, by_order}
+use Rattle.square_set.proofs.Cases.{by_order}
 use Rattle.square_set.specs.declared.Set.{Set}
 use Rattle.square_set.specs.Members.{has, IsWithout}
 use Rattle.rules_model.specs.declared.board.Cell.{Cell}
-use Rattle.rules_model.specs.Squares.{cell_at, flat}
-use Rattle.position_key.specs.Changed.{AgreeOutside, IsExchanged}
-use Rattle.position_key.specs.Key.{sum_below, cells_sum}
+use Rattle.rules_model.specs.declared.board.Side.{Side}
+use Rattle.rules_model.specs.declared.board.Side.TheVariants.{White, Black}
+use Rattle.rules_model.specs.Hands.{hand_of}
+use Rattle.rules_model.specs.Sides.{other}
+use Rattle.rules_model.specs.Squares.{cell_at}
+use Rattle.next_position.specs.Changed.{AgreeOutside}
+use Rattle.next_position.proofs.BetweenLaws.{between, between-all, between-none, beyond, inside, others, taken-out}
+use Rattle.position_key.specs.Changed.{IsExchanged}
+use Rattle.position_key.specs.Key.{sum_below, cells_sum, hand_sum, hands_sum}
 use Rattle.position_key.specs.Words.{cell_word}
 use Rattle.position_key.proofs.SumLemmas.{sum_below-zero, sum_below-more, sum_below-same, sums-apart}
 
@@ -83,67 +88,41 @@ sums-step f g n key mid new x y first second was is =
 pub same-exchanged : (key x y : ℕ) → x ≡ y → IsExchanged key x y key
 same-exchanged key x y e rest is = is ∙ ap (λ k. (rest + k) % 2 ^ 64) e
 
--- ---- squares taken out of a set
+-- ---- hands
 
--- the board that has the old squares where the set has them, and the new ones elsewhere
-abbrev pub between : Set → List (Option Cell) → List (Option Cell) → ℕ → Option Cell
-between left before next s = if has left s then cell_at before s else cell_at next s
+-- of the one side, where the other's stays
+pub one-hand : (key new : ℕ) (side : Side) (before next : List (List ℕ)) → hand_of next (other side) ≡ hand_of before (other side)
+    → IsExchanged key (hand_sum side (hand_of before side)) (hand_sum side (hand_of next side)) new → IsExchanged key (hands_sum before) (hands_sum next) new
+one-hand key new White before next same exchanged =
+    both-exchanged key new new _ _ _ _ exchanged (same-exchanged new _ _ (ap (hand_sum Black) (sym same)))
+one-hand key new Black before next same exchanged =
+    both-exchanged key key new _ _ _ _ (same-exchanged key _ _ (ap (hand_sum White) (sym same))) exchanged
+
+-- ---- squares taken out of a set
 
 abbrev pub between_sum : Set → List (Option Cell) → List (Option Cell) → ℕ
 between_sum left before next = sum_below (λ s. cell_word s (between left before next s)) 120
 
-word-of : (s : ℕ) (a b : Option Cell) → a ≡ b → cell_word s a ≡ cell_word s b
-word-of s a b e = ap (cell_word s) e
-
-outside : (left : Set) (before next : List (Option Cell)) (s : ℕ) → has left s ≡ false → between left before next s ≡ cell_at next s
-outside left before next s e = rw e
-
-inside : (left : Set) (before next : List (Option Cell)) (s : ℕ) → has left s ≡ true → between left before next s ≡ cell_at before s
-inside left before next s e = rw e
-
 -- before any square is taken out
-pub between-all : (left : Set) (before next : List (Option Cell)) → AgreeOutside left before next → between_sum left before next ≡ cells_sum before
-between-all left before next agree =
-    sum_below-same _ _ 120 (λ s l. word-of s _ _ (by_bool (has left s) _ (inside left before next s) (λ e. outside left before next s e ∙ sym (agree s e))))
+pub sum-of-all : (left : Set) (before next : List (Option Cell)) → AgreeOutside left before next → between_sum left before next ≡ cells_sum before
+sum-of-all left before next agree = sum_below-same _ _ 120 (λ s l. ap (cell_word s) (between-all left before next agree s))
 
 -- once none is left
-pub between-none : (left : Set) (before next : List (Option Cell)) → ((s : ℕ) → has left s ≡ false) → between_sum left before next ≡ cells_sum next
-between-none left before next none = sum_below-same _ _ 120 (λ s l. word-of s _ _ (outside left before next s (none s)))
-
-not-same : (a b : Bool) → b ≡ false → (a && not b) ≡ a
-not-same true b e = rw e
-not-same false b e = refl
-
-is-same : (a b : Bool) → b ≡ true → (a && not b) ≡ false
-is-same true b e = rw e
-is-same false b e = refl
-
-apart : (s at : ℕ) → s ≢ at → (s == at) ≡ false
-apart s at d = by_equal s at _ (λ q e. absurd (d e)) (λ q e. q)
-
-here : (at : ℕ) → (at == at) ≡ true
-here at = by_equal at at _ (λ q e. q) (λ q d. absurd (d refl))
-
-beyond : (cells : List (Option Cell)) (s : ℕ) → length cells ≤ s → cell_at cells s ≡ None
-beyond cells s l = ap flat (slice_get_past cells s l)
+pub sum-of-none : (left : Set) (before next : List (Option Cell)) → ((s : ℕ) → has left s ≡ false) → between_sum left before next ≡ cells_sum next
+sum-of-none left before next none = sum_below-same _ _ 120 (λ s l. ap (cell_word s) (between-none left before next none s))
 
 module _ (left now : Set) (before next : List (Option Cell)) (at : ℕ) (member : has left at ≡ true) (without : IsWithout left at now) where
-  others : (s : ℕ) → s ≢ at → cell_word s (between left before next s) ≡ cell_word s (between now before next s)
-  others s d =
-      let same : has now s ≡ has left s = without s ∙ not-same (has left s) (s == at) (apart s at d) in
-      ap (λ b. cell_word s (if b then cell_at before s else cell_at next s)) (sym same)
-
-  taken-out : between now before next at ≡ cell_at next at
-  taken-out = outside now before next at (without at ∙ is-same (has left at) (at == at) (here at))
+  same-word : (s : ℕ) → s ≢ at → cell_word s (between left before next s) ≡ cell_word s (between now before next s)
+  same-word s d = ap (cell_word s) (others left now before next at without s d)
 
   pub between-less : (key mid new : ℕ) → length before ≡ 120 → length next ≡ 120 → IsExchanged key (cells_sum before) (between_sum left before next) mid → IsExchanged mid (cell_word at (cell_at before at)) (cell_word at (cell_at next at)) new → IsExchanged key (cells_sum before) (between_sum now before next) new
   between-less key mid new sizes sizes_too first second =
       by_order at 120 _
       (λ l.
-      let d = sums-apart (λ s. cell_word s (between left before next s)) (λ s. cell_word s (between now before next s)) 120 at l others in
-      exchanged-within key mid new _ _ _ _ _ d.rest first second (d.first ∙ ap (λ c. d.rest + cell_word at c) (inside left before next at member)) (d.second ∙ ap (λ c. d.rest + cell_word at c) taken-out))
+      let d = sums-apart (λ s. cell_word s (between left before next s)) (λ s. cell_word s (between now before next s)) 120 at l same-word in
+      exchanged-within key mid new _ _ _ _ _ d.rest first second (d.first ∙ ap (λ c. d.rest + cell_word at c) (inside left before next at member)) (d.second ∙ ap (λ c. d.rest + cell_word at c) (taken-out left now before next at without)))
       (λ l.
-      let same = sum_below-same (λ s. cell_word s (between left before next s)) (λ s. cell_word s (between now before next s)) 120 (λ s m. others s (λ e. omega (arith, l, m, e))) in
+      let same = sum_below-same (λ s. cell_word s (between left before next s)) (λ s. cell_word s (between now before next s)) 120 (λ s m. same-word s (λ e. omega (arith, l, m, e))) in
       let was = beyond before at (omega (arith, l, sizes)) in
       let is = beyond next at (omega (arith, l, sizes_too)) in
       exchanged-within key mid new _ _ _ _ _ (between_sum left before next) first second (rw was (omega arith)) (rw is (omega (arith, same))))

@@ -1,5 +1,4 @@
 pub mod KeyLaws
 pub mod SumLemmas
 pub mod ExchangeLemmas
-pub mod TouchedLemmas
 pub mod PackedLemmas

@@ -9,10 +9,8 @@ mod packed;
 mod rest;
 mod sums;
 mod words;
-mod written;
 
 pub use board_key::{BoardKey, key_of, key_of_repeat};
 pub use laws::equal_repeats_have_equal_keys;
 pub use packed::Packed;
 pub use rest::Rest;
-pub use written::touched;

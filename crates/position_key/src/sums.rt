@@ -1,10 +1,13 @@
 //! The sums of words: those of a whole board and of whole hands, and how they change.
 ghost use Rattle.std.specs.Prelude.{◌≡◌, ◌+◌, ◌%◌, ◌^◌};
-ghost use Rattle.position_key.specs.Changed.{AgreeOutside, IsExchanged};
+ghost use Rattle.rules_model.specs.Hands.{hand_of};
+ghost use Rattle.rules_model.specs.Sides.{other};
+ghost use Rattle.next_position.specs.Changed.{AgreeOutside};
+ghost use Rattle.position_key.specs.Changed.{IsExchanged};
 ghost use Rattle.position_key.specs.Key as Key;
 
 use crate::words::{cell_word, hand_word};
-use rules_model::{Cells, KINDS, SQUARES, Side, Square, are_same_hands, cell_at};
+use rules_model::{Cells, KINDS, SQUARES, Side, Square, cell_at};
 use square_set::Set;
 
 /// The key with the second number in the place of the first.
@@ -66,13 +69,18 @@ fn with_hand(mut key: u64, side: Side, before: &[u8; KINDS], next: &[u8; KINDS])
     key
 }
 
-/// The key once the hands are the second ones.
-pub(crate) fn with_hands(key: u64, before: &[[u8; KINDS]; 2], next: &[[u8; KINDS]; 2]) -> u64
+/// The key once the hands are the second ones, where that of the other side stays as it is.
+pub(crate) fn with_hands(
+    key: u64,
+    side: Side,
+    before: &[[u8; KINDS]; 2],
+    next: &[[u8; KINDS]; 2],
+) -> u64
+    requires { hand_of next.now (other side) ≡ hand_of before.now (other side) }
     ensures { IsExchanged key (Key.hands_sum before.now) (Key.hands_sum next.now) result }
 {
-    if are_same_hands(before, next) {
-        return key;
+    match side {
+        Side::White => with_hand(key, Side::White, &before[0], &next[0]),
+        Side::Black => with_hand(key, Side::Black, &before[1], &next[1]),
     }
-    let white = with_hand(key, Side::White, &before[0], &next[0]);
-    with_hand(white, Side::Black, &before[1], &next[1])
 }

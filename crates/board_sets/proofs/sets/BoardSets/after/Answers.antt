@@ -1,22 +1,13 @@
-use Rattle.std.proofs.Common.{sym, subst, ◌∙◌}
-use Rattle.rules_model.specs.declared.moves.Move.{Move}
-use Rattle.rules_model.specs.Next.{cells_after}
-use Rattle.rules_model.specs.Repeats.{repeat_of}
-use Rattle.board_sets.specs.Sets.{AreSets}
-use Rattle.board_sets.proofs.AfterLaws.{carry_sets, castle_sets, drop_sets}
+use Rattle.board_sets.proofs.WriteLaws.{all_end, all_start, all_step}
 use Rattle.board_sets.proofs.sets.BoardSets.after.Goals as goal
 
-pub returns-then-carries : goal.returns-then-carries
-returns-then-carries c =
-    let P : Move → Type 0 = λ m. AreSets c.args.rules.now c.args.p.now.side (cells_after c.args.rules.now (repeat_of c.args.p.now) m) c.carried.result in
-    subst P (sym c.in-Go.is) (carry_sets _ (repeat_of c.args.p.now) c.prove_position_sizes.ensures.cells _ _ _ _ _ _ (sym c.carries.ensures ∙ c.if-carries.true) c.requires.sets c.carried.ensures)
+pub loop-at-init : goal.loop-at-init
+loop-at-init c = λ before are agree. all_start _ _ _ before _ _ _ are agree c.minus-sets.ensures
 
-pub returns-in-Castle : goal.returns-in-Castle
-returns-in-Castle c =
-    let P : Move → Type 0 = λ m. AreSets c.args.rules.now c.args.p.now.side (cells_after c.args.rules.now (repeat_of c.args.p.now) m) c.placed.result in
-    subst P (sym c.in-Castle.is) (castle_sets _ (repeat_of c.args.p.now) c.prove_position_sizes.ensures.cells _ _ _ _ _ _ c.castled-sets.ensures c.placed.ensures)
+pub loop-at-preserved : goal.loop-at-preserved
+loop-at-preserved c =
+    λ before are agree.
+    all_step _ _ _ _ _ _ _ _ c.in-Some.ensures.some.member c.in-Some.ensures.rest (c.loop-at.invariant before are agree) (rw c.cell_at.ensures at c.add.ensures)
 
-pub returns-in-Drop : goal.returns-in-Drop
-returns-in-Drop c =
-    let P : Move → Type 0 = λ m. AreSets c.args.rules.now c.args.p.now.side (cells_after c.args.rules.now (repeat_of c.args.p.now) m) c.put.result in
-    subst P (sym c.in-Drop.is) (drop_sets _ (repeat_of c.args.p.now) c.prove_position_sizes.ensures.cells _ _ _ _ c.requires.sets (rw c.fresh.ensures at c.put.ensures))
+pub returns : goal.returns
+returns c = λ before are agree. all_end _ _ _ _ _ c.in_default.ensures.none (c.loop-at.invariant before are agree)

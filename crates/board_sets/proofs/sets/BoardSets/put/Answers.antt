@@ -1,5 +1,5 @@
-use Rattle.board_sets.proofs.WriteLaws.{put_sets}
+use Rattle.board_sets.proofs.WriteLaws.{all_put}
 use Rattle.board_sets.proofs.sets.BoardSets.put.Goals as goal
 
-pub returns-then-at-lt120 : goal.returns-then-at-lt120
-returns-then-at-lt120 c = put_sets _ _ _ _ _ _ _ c.if-at-lt120.true c.without.ensures c.with.ensures
+pub returns : goal.returns
+returns c = λ cells size are. all_put _ cells size c.requires _ c.squares_of.ensures _ _ _ _ _ are c.minus-sets.ensures c.add.ensures
