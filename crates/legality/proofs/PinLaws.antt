@@ -1,5 +1,5 @@
 -- Moves that leave the own king safe, by the sets of the board.
-use Rattle.std.proofs.Common.{◌≡◌, ℕ, Bool, true, false, not, ◌&&◌, ◌||◌, if◌then◌else◌, Option, Some, None, List, length, refl, sym, ap, ◌∙◌, subst, arith, length-set}
+use Rattle.std.proofs.Common.{◌≡◌, ℕ, Bool, true, false, not, ◌&&◌, ◌||◌, Option, Some, None, List, length, refl, sym, ap, ◌∙◌, subst, arith, length-set}
 use Rattle.std.specs.Prelude.{slice_set}
 use Rattle.std.proofs.lemmas.Bool.{and_parts, not-true}
 use Rattle.std.proofs.lemmas.Option.{slice_get_past}
@@ -14,23 +14,23 @@ use Rattle.rules_model.specs.declared.board.Side.TheVariants.{White, Black}
 use Rattle.rules_model.specs.declared.board.Square.{Square}
 use Rattle.rules_model.specs.declared.moves.Move.{Move}
 use Rattle.rules_model.specs.declared.moves.Move.TheVariants.{Go, Castle, Drop}
-use Rattle.rules_model.specs.declared.moves.Promo.{Promo}
 use Rattle.rules_model.specs.declared.moves.Promo.TheVariants.{Stays, Pawn, Plus}
 use Rattle.rules_model.specs.declared.rules.Rules.{Rules}
 use Rattle.rules_model.specs.Attacks.{is_diagonal, is_own, is_own_pawn}
-use Rattle.rules_model.specs.Kinds.{board_of, is_king, promoted_of}
+use Rattle.rules_model.specs.Kinds.{board_of, is_king}
 use Rattle.rules_model.specs.Legal.{gives_check, is_drop, is_safe, is_sane, may_check, stays_mobile}
-use Rattle.rules_model.specs.Next.{cells_after, emptied, fresh, gated, plus, promote, without_passed}
 use Rattle.rules_model.specs.Moves.{IsFitMove}
-use Rattle.rules_model.specs.Pawns.{behind, is_ep, passes_by}
+use Rattle.rules_model.specs.Pawns.{is_ep, passes_by}
 use Rattle.rules_model.specs.Sides.{other, same_side}
 use Rattle.rules_model.specs.Squares.{cell_at, flat}
 use Rattle.move_tables.specs.Occupied.{IsOccupied}
 use Rattle.attack_tables.specs.Boards.{HoldsMen, IsBoardBy}
+use Rattle.next_position.specs.declared.written.OnePut.{OnePut}
+use Rattle.next_position.specs.Puts.{left_by, put_on}
+use Rattle.sound_play.proofs.CellLemmas.{cell_at-set_other, cell_at-set_same}
 use Rattle.board_sets.specs.declared.sets.BoardSets.{BoardSets}
 use Rattle.board_sets.specs.Sets.{AreSets}
-use Rattle.sound_play.proofs.CellLemmas.{cell_at-set_other, cell_at-set_same}
-use Rattle.legality.specs.Moved.{DropFreely, DropWithoutEvading, GateWithoutEvading, GoFreely, GoWithoutEvading, HoldsMenOf, asks_more, is_free_go, is_free_drop, is_no_evasion, leaves_another, moves_own}
+use Rattle.legality.specs.Moved.{DropFreely, DropWithoutEvading, GateWithoutEvading, GoFreely, GoWithoutEvading, asks_more, is_free_go, is_free_drop, is_no_evasion, leaves_another}
 
 -- ---- where the variant asks no more than a safe king
 
@@ -64,26 +64,11 @@ pub own_apart : (side : Side) (c : Option Cell) → is_own side any_kind c ≡ t
 own_apart side None e = refl
 own_apart side (Some x) e = apart x.side side e
 
-itself : (side : Side) → (same_side side (other side) && true) ≡ false
-itself White = refl
-itself Black = refl
-
-gated_own : (side : Side) (gate : Option Kind) → is_own (other side) any_kind (gated side gate) ≡ false
-gated_own side None = refl
-gated_own side (Some kind) = itself side
-
-plus_own : (by : Side) (x : Cell) (kind : Option Kind) → is_own by any_kind (Some (plus x kind)) ≡ is_own by any_kind (Some x)
-plus_own by x None = refl
-plus_own by x (Some kind) = refl
-
--- what a piece becomes is of its side
-promoted_own : (rules : Rules) (by : Side) (c : Option Cell) (promo : Promo) → is_own by any_kind (promote rules c promo) ≡ is_own by any_kind c
-promoted_own rules by None promo = refl
-promoted_own rules by (Some x) Stays = refl
-promoted_own rules by (Some x) (Pawn kind) = refl
-promoted_own rules by (Some x) Plus = plus_own by x (promoted_of rules x.kind)
-
 -- ---- the men of the other side stay where they are
+
+-- the cells hold each piece of the side that is on the board
+abbrev pub HoldsMenOf : Side → List (Option Cell) → List (Option Cell) → Type 0
+HoldsMenOf side board cells = (s : ℕ) → is_own side any_kind (cell_at board s) ≡ true → cell_at board s ≡ cell_at cells s
 
 module _ (by : Side) (cells : List (Option Cell)) where
   no_man : (board : List (Option Cell)) (at : ℕ) (c : Option Cell) → is_own by any_kind c ≡ false → is_own by any_kind (cell_at (slice_set board at c) at) ≡ false
@@ -98,32 +83,16 @@ module _ (by : Side) (cells : List (Option Cell)) where
       (λ q e. absurd (let no = no_man board at c none in let yes = subst (λ t. is_own by any_kind (cell_at (slice_set board at c) t) ≡ true) (sym e) own in let f : ⊥ = cc in f))
       (λ q e. let same = cell_at-set_other board at s c e in same ∙ h s (subst (λ (x : Option Cell). is_own by any_kind x ≡ true) same own))
 
-  itself_held : HoldsMenOf by cells cells
+  pub itself_held : HoldsMenOf by cells cells
   itself_held s own = refl
 
-  emptied_held : (at : Option ℕ) → HoldsMenOf by (emptied cells at) cells
-  emptied_held None = itself_held
-  emptied_held (Some at) = written cells at None itself_held refl
+  left_held : (left : Option Square) → HoldsMenOf by (left_by left cells) cells
+  left_held None = itself_held
+  left_held (Some from) = written cells from.0 None itself_held refl
 
-passed_held : (rules : Rules) (r : Repeat) (from to : Square) (by : Side) (b : Bool) → HoldsMenOf by (if b then emptied r.cells (behind rules r.side to) else r.cells) r.cells
-passed_held rules r from to by true = emptied_held by r.cells (behind rules r.side to)
-passed_held rules r from to by false = itself_held by r.cells
-
--- where an own piece moves, the cells before the move hold the other side's pieces as they are after it
-pub enemies_held : (rules : Rules) (r : Repeat) (m : Move) → moves_own r m ≡ true → HoldsMenOf (other r.side) (cells_after rules r m) r.cells
-unfolding cells_after
-enemies_held rules r (Go from to promo gate) e =
-    let by = other r.side in
-    let board = without_passed rules r from to in
-    let left = written by r.cells board from.0 (gated r.side gate) (passed_held rules r from to by (passes_by rules r from to.0)) (gated_own r.side gate) in
-    written by r.cells (slice_set board from.0 (gated r.side gate)) to.0 (promote rules (cell_at r.cells from.0) promo) left
-    (promoted_own rules by (cell_at r.cells from.0) promo ∙ own_apart r.side (cell_at r.cells from.0) e)
-enemies_held rules r (Castle from to rook gate) e = cc
-enemies_held rules r (Drop kind to) e =
-    written (other r.side) r.cells r.cells to.0 (Some (fresh r.side kind)) (itself_held (other r.side) r.cells) (itself r.side)
-
-pub same_held : (by : Side) (board cells : List (Option Cell)) → cells ≡ board → HoldsMenOf by board cells
-same_held by board cells e s own = ap (λ cs. cell_at cs s) (sym e)
+  -- where what is put is no piece of the side
+  pub put_held : (put : OnePut) → is_own by any_kind put.cell ≡ false → HoldsMenOf by (put_on put cells) cells
+  put_held put none = written (left_by put.left cells) put.at.0 put.cell (left_held put.left) none
 
 -- ---- the board by its sets
 

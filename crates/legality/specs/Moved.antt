@@ -1,9 +1,7 @@
 -- What is known of a move before its position is made.
-use Rattle.std.specs.Prelude.{◌≡◌, ℕ, ◌<◌, Bool, true, false, ◌&&◌, ◌||◌, not, ◌==◌, is_none, Option, Some, None, List}
-use Rattle.rules_model.specs.declared.board.Cell.{Cell}
+use Rattle.std.specs.Prelude.{◌≡◌, ℕ, ◌<◌, Bool, true, false, ◌&&◌, ◌||◌, not, ◌==◌, is_none, Option, Some, None}
 use Rattle.rules_model.specs.declared.board.Kind.{Kind}
 use Rattle.rules_model.specs.declared.board.Repeat.{Repeat}
-use Rattle.rules_model.specs.declared.board.Side.{Side}
 use Rattle.rules_model.specs.declared.board.Square.{Square}
 use Rattle.rules_model.specs.declared.moves.Move.{Move}
 use Rattle.rules_model.specs.declared.moves.Move.TheVariants.{Go, Castle, Drop}
@@ -12,9 +10,7 @@ use Rattle.rules_model.specs.declared.rules.Rules.{Rules}
 use Rattle.rules_model.specs.Attacks.{is_own, is_own_king}
 use Rattle.rules_model.specs.Kinds.{is_king}
 use Rattle.rules_model.specs.Legal.{is_drop, is_safe, is_sane}
-use Rattle.rules_model.specs.Next.{cells_after}
 use Rattle.rules_model.specs.Pawns.{is_ep, is_stays, passes_by}
-use Rattle.rules_model.specs.Sides.{other}
 use Rattle.rules_model.specs.Squares.{cell_at}
 use Rattle.square_set.specs.declared.Set.{Set}
 use Rattle.square_set.specs.declared.Shift.{Shift}
@@ -23,12 +19,6 @@ use Rattle.square_set.specs.Members.{has, origin}
 -- the variant asks more of the move than that it leaves the own king safe
 abbrev pub asks_more : Rules → Move → Bool
 asks_more rules m = rules.immobile_bad || not (rules.checking && (rules.drop_checks || not (is_drop m)))
-
--- a piece of the mover goes, or is dropped, and no other piece but one that it takes
-abbrev pub moves_own : Repeat → Move → Bool
-moves_own r (Go from to promo gate) = is_own r.side (λ kind. true) (cell_at r.cells from.0)
-moves_own r (Castle from to rook gate) = false
-moves_own r (Drop kind to) = true
 
 -- a piece of the free squares goes without a gate and stays what it is, to a square without an own piece and not to
 -- that of en passant
@@ -43,15 +33,6 @@ abbrev pub is_free_drop : Rules → Set → Move → Bool
 is_free_drop rules enter (Go from to promo gate) = false
 is_free_drop rules enter (Castle from to rook gate) = false
 is_free_drop rules enter (Drop kind to) = has enter to.0 && not (is_king rules kind)
-
--- the cells hold each piece of the side that is on the board
-abbrev pub HoldsMenOf : Side → List (Option Cell) → List (Option Cell) → Type 0
-HoldsMenOf side board cells =
-    (s : ℕ) → is_own side (λ kind. true) (cell_at board s) ≡ true → cell_at board s ≡ cell_at cells s
-
--- the cells hold each piece of the other side that is on the board after the move
-abbrev pub HoldsEnemiesAfter : Rules → Repeat → Move → List (Option Cell) → Type 0
-HoldsEnemiesAfter rules r m cells = HoldsMenOf (other r.side) (cells_after rules r m) cells
 
 -- a piece that goes from a square of the set without a gate and stays what it is leaves its king safe, unless it
 -- takes in passing or takes its own

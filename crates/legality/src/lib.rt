@@ -25,7 +25,7 @@ pub use asked::Asked;
 pub use capture::captures;
 pub use early_end::early_end_with;
 pub use list::legal_moves;
-pub use make_move::{apply, apply_with, king_attacked_with};
+pub use make_move::{apply, apply_on, apply_with, king_attacked_with};
 pub use move_gen::MoveGen;
 pub use queries::{
     any_legal, end_where, free, gives_check, gives_check_with, is_legal, is_legal_with, own_end,

@@ -1,6 +1,6 @@
 //! What is asked of a candidate: that the own king is safe after it, that it gives no check that the variant forbids,
 //! and that the piece can move on.
-ghost use Rattle.std.specs.Prelude.{◌≡◌, ℕ, ◌<◌, true, IfSome};
+ghost use Rattle.std.specs.Prelude.{◌≡◌, ℕ, ◌<◌, true, false, IfSome};
 ghost use Rattle.std.specs.Bool.{OnTrue};
 ghost use Rattle.square_set.specs.Members.{has, length_of, HasOrigin};
 ghost use Rattle.rules_model.specs.Kinds.{is_king};
@@ -8,9 +8,13 @@ ghost use Rattle.rules_model.specs.Legal as Legal;
 ghost use Rattle.rules_model.specs.Moves.{IsFitMove};
 ghost use Rattle.rules_model.specs.Next as Next;
 ghost use Rattle.rules_model.specs.Repeats.{repeat_of};
+ghost use Rattle.rules_model.specs.Attacks.{is_own};
+ghost use Rattle.rules_model.specs.Sides.{other};
+ghost use Rattle.next_position.specs.Puts.{IsOnBoard, put_on};
 ghost use Rattle.board_sets.specs.Sets.{AreSets};
 ghost use Rattle.legality.specs.Moved as Moved;
 
+use crate::make_move::king_attacked_on;
 use crate::mobile::stays_mobile;
 use crate::pin_squares::{
     NONE_FREE, NONE_NON_EVADING, NonEvadingSquares, UnpinnedSquares, barred_at_once, free_at_once,
@@ -18,11 +22,11 @@ use crate::pin_squares::{
 };
 use attack_tables::Tables;
 use board_sets::{BoardSets, sets_are_on_board};
-use next_position::move_pieces;
+use next_position::{OnePut, move_pieces, one_put, touched};
 use rules_model::kinds::names;
 use rules_model::passing::{is_ep, is_stays};
 use rules_model::sizes::prove_position_sizes;
-use rules_model::{Cells, Kind, Move, Position, Rules, Square};
+use rules_model::{Cell, Cells, Kind, Move, Position, Rules, Side, Square};
 use square_set::{EMPTY, Set, Shift};
 
 /// A position, with what tells of its candidates whether they are sane.
@@ -58,6 +62,16 @@ fn is_drop(m: &Move) -> bool
         Move::Go { .. } => false,
         Move::Castle { .. } => false,
         Move::Drop { .. } => true,
+    }
+}
+
+/// Whether a piece of the side stands there.
+fn is_man(side: Side, cell: Option<Cell>) -> bool
+    ensures { result ≡ is_own side (λ kind. true) cell }
+{
+    match cell {
+        None => false,
+        Some(cell) => cell.side.is(side),
     }
 }
 
@@ -118,18 +132,6 @@ impl<'a> PinInfo<'a> {
     {
         let rules = self.tables.rules();
         rules.immobile_bad || !(rules.checking && (rules.drop_checks || !is_drop(m)))
-    }
-
-    /// Whether a piece of the mover goes or is dropped, and no other one with it.
-    fn moves_own(&self, m: &Move) -> bool
-        requires { IsFitMove m.now }
-        ensures { result ≡ Moved.moves_own (repeat_of self.now.p.now) m.now }
-    {
-        match *m {
-            Move::Go { from, .. } => self.sets.own.has(from.0),
-            Move::Castle { .. } => false,
-            Move::Drop { .. } => true,
-        }
     }
 
     /// Whether a free piece goes without a gate and stays what it is, to a square without an own piece, and not to
@@ -338,20 +340,43 @@ impl<'a> PinInfo<'a> {
         move_pieces(self.tables.rules(), self.p, m, cells);
     }
 
-    /// Whether the move leaves the own king safe, by cells that hold the other side's pieces as they are after it.
+    /// The sets of the cells after the move, by the side that made it.
+    fn sets_after(&self, m: &Move, cells: &Cells) -> BoardSets
+        requires move_fits { IsFitMove m.now }
+        requires after { cells.now ≡ Next.cells_after self.now.tables.now (repeat_of self.now.p.now) m.now }
+        ensures { AreSets self.now.tables.now self.now.p.now.side cells.now result }
+    {
+        let rules = self.tables.rules();
+        let touched = touched(rules, self.p, m);
+        self.sets.after(rules, self.p.side, cells, touched.squares)
+    }
+
+    /// Whether the move leaves the own king safe. The cells are those after the move.
     fn is_safe_on(&self, m: &Move, cells: &Cells) -> bool
         requires move_fits { IsFitMove m.now }
-        requires enemies { Moved.HoldsEnemiesAfter self.now.tables.now (repeat_of self.now.p.now) m.now cells.now }
+        requires after { cells.now ≡ Next.cells_after self.now.tables.now (repeat_of self.now.p.now) m.now }
+        ensures { result ≡ Legal.is_safe self.now.tables.now (repeat_of self.now.p.now) m.now }
+    {
+        let sets = self.sets_after(m, cells);
+        !king_attacked_on(self.tables, cells, self.p.side, &sets)
+    }
+
+    /// Whether the move leaves the own king safe, which puts this, that is no piece of the other side. Those of the
+    /// other side that are not taken stand where they stood, so no copy of the board is made.
+    fn is_safe_put(&self, m: &Move, put: OnePut) -> bool
+        requires on_board { IsOnBoard put }
+        requires own { is_own (other self.now.p.now.side) (λ kind. true) put.cell ≡ false }
+        requires after { Next.cells_after self.now.tables.now (repeat_of self.now.p.now) m.now ≡ put_on put self.now.p.now.cells }
         ensures { result ≡ Legal.is_safe self.now.tables.now (repeat_of self.now.p.now) m.now }
     {
         prove_position_sizes(self.p);
         sets_are_on_board();
-        let p = self.p;
-        let sets = self.sets.after(self.tables.rules(), p, m);
+        let side = self.p.side;
+        let sets = self.sets.put(self.tables.rules(), side, put);
         let occupied = sets.occupied();
         !self
             .tables
-            .king_attacked_by(cells, sets.kings, sets.enemies, occupied, p.side)
+            .king_attacked_by(&self.p.cells, sets.kings, sets.enemies, occupied, side)
     }
 
     /// Whether the move leaves the own king safe.
@@ -359,15 +384,16 @@ impl<'a> PinInfo<'a> {
         requires { IsFitMove m.now }
         ensures { result ≡ Legal.is_safe self.now.tables.now (repeat_of self.now.p.now) m.now }
     {
-        prove_position_sizes(self.p);
         if self.is_free_go(m) {
             return true;
         }
         if self.is_free_drop(m) {
             return true;
         }
-        if self.moves_own(m) {
-            return self.is_safe_on(m, &self.p.cells);
+        if let Some(put) = one_put(self.tables.rules(), self.p, m) {
+            if !is_man(self.p.side.other(), put.cell) {
+                return self.is_safe_put(m, put);
+            }
         }
         let mut cells = self.p.cells;
         self.move_on(m, &mut cells);
@@ -375,19 +401,13 @@ impl<'a> PinInfo<'a> {
     }
 
     /// Whether the move attacks the other king. The cells are those after the move.
-    #[tactic(auto, unfolding(rules_model::specs::Legal::gives_check, rules_model::specs::Next::next_repeat))]
     fn checks(&self, m: &Move, cells: &Cells) -> bool
         requires move_fits { IsFitMove m.now }
         requires after { cells.now ≡ Next.cells_after self.now.tables.now (repeat_of self.now.p.now) m.now }
         ensures { result ≡ Legal.gives_check self.now.tables.now (repeat_of self.now.p.now) m.now }
     {
-        prove_position_sizes(self.p);
-        sets_are_on_board();
-        let p = self.p;
-        let sets = self.sets.after(self.tables.rules(), p, m).turned();
-        let occupied = sets.occupied();
-        self.tables
-            .king_attacked_by(cells, sets.kings, sets.enemies, occupied, p.side.other())
+        let sets = self.sets_after(m, cells).turned();
+        king_attacked_on(self.tables, cells, self.p.side.other(), &sets)
     }
 
     /// Whether the variant lets the move give check, or it gives none. The cells are those after the move.
@@ -420,7 +440,7 @@ impl<'a> PinInfo<'a> {
     /// Whether the move leaves the own king safe, gives no check that the variant forbids, and, where the variant asks
     /// it, leaves a piece on its target that can ever move. Whether it is a candidate is not asked. Where the variant
     /// asks no more than a safe king, a free piece, a drop on a free square and what is no evasion need no look at the
-    /// board, and only a castle a copy of it.
+    /// board, and only a castle, a gate and a capture in passing a copy of it.
     pub fn is_sane(&self, m: &Move) -> bool
         requires { IsFitMove m.now }
         ensures { result ≡ Legal.is_sane self.now.tables.now (repeat_of self.now.p.now) m.now }

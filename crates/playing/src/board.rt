@@ -11,7 +11,7 @@ ghost use Rattle.legality.specs.Stance as Stance;
 
 use attack_tables::Tables;
 use board_sets::{BoardSets, sets_of};
-use legality::{MoveGen, apply_with};
+use legality::{MoveGen, apply_on};
 use position_key::BoardKey;
 use rules_model::{Move, Position, Rules, repeats};
 use std::marker::Model;
@@ -59,8 +59,8 @@ impl<'t> Board<'t> {
     {
         let rules = self.tables.rules();
         let mut position = self.position;
-        let sets = apply_with(rules, self.tables, &mut position, &self.sets, m);
-        let key = self.key.after_move(rules, &self.position, m, &position);
+        let (sets, touched) = apply_on(rules, self.tables, &mut position, &self.sets, m);
+        let key = self.key.after(&self.position, &position, touched);
         Board {
             tables: self.tables,
             position,

@@ -3,7 +3,7 @@ use Rattle.rules_model.specs.declared.rules.Rules.{Rules}
 use Rattle.board_sets.specs.Sets.{AreSets}
 use Rattle.legality.proofs.make_move.king_attacked_with.Goals as goal
 
-pub is_checked-requires : goal.is_checked-requires
-is_checked-requires c =
+pub king_attacked_on-requires : goal.king_attacked_on-requires
+king_attacked_on-requires c =
     let Sets : Rules → Type 0 = λ rules. AreSets rules c.args.p.now.side c.args.p.now.cells c.args.sets.now in
     subst Sets (sym c.requires.tables) c.requires.sets
