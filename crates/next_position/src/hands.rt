@@ -46,7 +46,7 @@ fn put_at_gate(hands: &mut [[u8; 26]; 2], side: Side, gate: Option<Kind>)
 }
 
 /// The kind that a taken piece has in a hand.
-fn hand_kind(piece: Cell) -> Kind
+pub fn hand_kind(piece: Cell) -> Kind
     ensures { result ≡ Next.hand_kind piece }
 {
     piece.origin.unwrap_or(piece.kind)

@@ -21,6 +21,8 @@ mod rights;
 mod written;
 
 pub use counts::count_check;
+pub use hands::hand_kind;
+pub use pieces::{behind, fresh, gated, promote};
 use rules_model::{Cells, Move, Position, Rules, Side};
 pub use written::{OnePut, Writes, one_put, touched};
 

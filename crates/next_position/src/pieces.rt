@@ -13,7 +13,7 @@ use rules_model::kinds::{board_of, promoted_of};
 use rules_model::{Cell, Cells, Kind, Move, Placed, Position, Promo, Rules, Side, Square};
 
 /// A piece from the hand.
-pub(crate) fn fresh(side: Side, kind: Kind) -> Cell
+pub fn fresh(side: Side, kind: Kind) -> Cell
     ensures { result ≡ Next.fresh side kind }
 {
     Cell {
@@ -24,7 +24,7 @@ pub(crate) fn fresh(side: Side, kind: Kind) -> Cell
 }
 
 /// What a gate leaves on the start.
-fn gated(side: Side, gate: Option<Kind>) -> Option<Cell>
+pub fn gated(side: Side, gate: Option<Kind>) -> Option<Cell>
     ensures { result ≡ Next.gated side gate }
 {
     match gate {
@@ -66,7 +66,7 @@ fn after_promo(rules: &Rules, piece: Cell, promo: Promo) -> Cell
 }
 
 /// What a move places on its target.
-pub(crate) fn promote(rules: &Rules, cell: Option<Cell>, promo: Promo) -> Option<Cell>
+pub fn promote(rules: &Rules, cell: Option<Cell>, promo: Promo) -> Option<Cell>
     ensures { result ≡ Next.promote rules.now cell promo }
 {
     match cell {
@@ -76,7 +76,7 @@ pub(crate) fn promote(rules: &Rules, cell: Option<Cell>, promo: Promo) -> Option
 }
 
 /// The square one step behind a square, as the side sees it.
-pub(crate) fn behind(rules: &Rules, side: Side, to: Square) -> Option<u8>
+pub fn behind(rules: &Rules, side: Side, to: Square) -> Option<u8>
     requires { IsFit rules.now }
     ensures is { result ≡ Pawns.behind rules.now side to }
     ensures on_board { IfSome result (λ s. s < 120) }
