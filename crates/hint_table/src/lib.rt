@@ -33,6 +33,7 @@ pub struct Hint {
 #[derive(Drop)]
 pub struct HintTable {
     words: Vec<AtomicCell<u64>>,
+    nodes: AtomicCell<u64>,
     ghost some: { 0 < vec_len words },
     ghost few: { vec_len words ≤ 2 ^ 27 },
 }
@@ -69,15 +70,29 @@ impl HintTable {
         for _ in 0..words {
             cells.push(AtomicCell::new(0u64))?;
         }
-        Ok(HintTable { words: cells })
+        Ok(HintTable {
+            words: cells,
+            nodes: AtomicCell::new(0u64),
+        })
     }
 
     /// Writes each word of the table: a table of 0 has no hint, and any other word may be taken for a hint of any
-    /// position.
+    /// position, and for the nodes of the last solve.
     pub fn fill(&self, word: u64) {
+        self.nodes.store(word);
         for cell in &self.words {
             cell.store(word);
         }
+    }
+
+    /// How many nodes the last solve of mates entered, as far as is known.
+    pub fn nodes(&self) -> u64 {
+        self.nodes.load()
+    }
+
+    /// Leaves how many nodes a solve of mates entered.
+    pub fn put_nodes(&self, nodes: u64) {
+        self.nodes.store(nodes);
     }
 
     /// The word of a key, by the key's low bits.

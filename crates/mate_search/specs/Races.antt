@@ -35,9 +35,13 @@ pub record IsTaskOf {G : Type 0} (race : Race G) (task : RootTask) : Type 0 wher
 abbrev pub root_lines : {G : Type 0} → Race G → ℕ
 root_lines race = lines_within (seen_in race.shards.now.frame) race.n (story race.game.now).last
 
--- those of its moves, once in each round of the race
+-- those of a tree: each line once for each ply, to settle the nodes whose children are all settled
+abbrev pub tree_lines : Frame → ℕ → Position → ℕ
+tree_lines f n p = (2 * n + 1) * lines_within (seen_in f) n p
+
+-- those of a tree, and those of its moves, once in each round of the race
 abbrev pub race_lines : {G : Type 0} → Race G → ℕ
-race_lines race = 2 * root_lines race
+race_lines race = (2 * race.n + 3) * root_lines race
 
 -- those of the root, and those of its table
 abbrev pub closing_lines : Frame → ℕ → Position → ℕ
@@ -45,7 +49,7 @@ closing_lines f n p = (n + 2) * lines_within (seen_in f) n p
 
 -- all of them
 abbrev pub raced_lines : {G : Type 0} → Race G → ℕ
-raced_lines race = (race.n + 4) * root_lines race
+raced_lines race = (3 * race.n + 5) * root_lines race
 
 -- a worker beside the first has passes of one part for the shards
 pub record IsLent (s : ShardsView) (job : WorkerPasses) : Type 0 where

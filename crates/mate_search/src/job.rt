@@ -1,5 +1,5 @@
 //! A worker's state, and how it goes over the root moves.
-ghost use Rattle.std.specs.Prelude.{◌≡◌, ◌≤◌, OnOk, IsErrOf};
+ghost use Rattle.std.specs.Prelude.{◌≡◌, ◌*◌, ◌≤◌, OnOk, IsErrOf};
 ghost use Rattle.mate_settle.specs.Lines.{lines_within, seen_in};
 ghost use Rattle.mate_shards.specs.Views.{ArePassesOf};
 ghost use Rattle.watching.specs.declared.halt.Halt.{Halt};
@@ -9,6 +9,7 @@ ghost use Rattle.mate_search.specs.Races.{IsLent, IsReady, race_lines, root_line
 use crate::race::{Race, RootTask};
 use crate::shared::Outcome;
 use crate::solving::room_for;
+use crate::tree_round::grow_tree;
 use io_ports::Gate;
 use mate_core::Claim;
 use mate_settle::{FactTable, settle};
@@ -95,7 +96,28 @@ fn take_roots<R: Wait, W: Watch, G: Gate>(
     Ok(())
 }
 
-/// Takes the root moves that are free, and then those that no worker has settled: so it waits for nobody.
+/// Takes the root moves that are free, and then those that no worker has settled.
+fn take_rounds<R: Wait, W: Watch, G: Gate>(
+    rt: &R,
+    race: &Race<G>,
+    job: &mut WorkerPasses,
+    facts: &mut FactTable,
+    watch: &mut W,
+) -> Result<(), Halt>
+    requires ready { IsReady race.now }
+    requires facts { facts.old ≡ race.now.shards.now.frame }
+    requires passes { ArePassesOf race.now.shards.now job.old.passes }
+    ensures facts { facts.new ≡ facts.old }
+    ensures handed { AreHandedBack race.now.shards.now job.old.passes job.new.passes }
+    ensures gone { OnOk result (W.gone watch.old watch.new (2 * root_lines race.now)) }
+    ensures ended { (why : Halt) → IsErrOf result why → W.ended watch.old watch.new (2 * root_lines race.now) why }
+{
+    take_roots(rt, race, Round::Free, job, facts, watch)?;
+    take_roots(rt, race, Round::Unfinished, job, facts, watch)
+}
+
+/// Grows a tree, and then takes the root moves that are free, and those that no worker has settled: so it waits for
+/// nobody.
 pub(crate) fn take_all<R: Wait, W: Watch, G: Gate>(
     rt: &R,
     race: &Race<G>,
@@ -111,8 +133,23 @@ pub(crate) fn take_all<R: Wait, W: Watch, G: Gate>(
     ensures gone { OnOk result (W.gone watch.old watch.new (race_lines race.now)) }
     ensures ended { (why : Halt) → IsErrOf result why → W.ended watch.old watch.new (race_lines race.now) why }
 {
-    take_roots(rt, race, Round::Free, job, facts, watch)?;
-    take_roots(rt, race, Round::Unfinished, job, facts, watch)
+    let board = race.board();
+    let grown = grow_tree(
+        rt,
+        race.alloc,
+        race.shards,
+        &board,
+        race.n,
+        race.tree_nodes,
+        &mut job.passes,
+        facts,
+        watch,
+    )?;
+    if let Some(best) = grown {
+        race.favour(&best);
+        return Ok(());
+    }
+    take_rounds(rt, race, job, facts, watch)
 }
 
 /// Takes the root moves that are free, with a table of its own.

@@ -16,6 +16,7 @@ mod shared;
 mod shared_root;
 mod solve_memory;
 mod solving;
+mod tree_round;
 mod whole;
 
 pub use answer::Mate;

@@ -23,6 +23,8 @@ pub(crate) struct Race<'r, G> {
     pub gate: &'r G,
     /// How many nodes each worker beside the first may enter.
     pub quota: Option<u64>,
+    /// For how many nodes the worker in the caller grows a tree first.
+    pub tree_nodes: u64,
 }
 
 /// What a worker is to settle: the moves of a position, with N moves left for the attacker after each.
@@ -38,6 +40,20 @@ impl<G> Race<'_, G> {
         ensures { result ≡ root_of self.now }
     {
         Board::new(self.game.tables(), self.game.position())
+    }
+
+    /// Tells that the root move wins.
+    pub fn favour(&self, chosen: &Move) {
+        for i in 0..self.roots.len() {
+            if self.roots[i] == *chosen {
+                self.shared.favour(i);
+            }
+        }
+    }
+
+    /// The root move that is to be tried first: one that wins, as far as is known.
+    pub fn first(&self) -> Option<Move> {
+        self.roots.get(self.shared.favoured()).copied()
     }
 
     /// What the root moves are to be settled for.

@@ -11,12 +11,14 @@ pub(crate) struct Outcome {
     pub published: bool,
 }
 
-/// Whether the race is over, what became of each root move, and how many are not settled, which is to be finished.
+/// Whether the race is over, what became of each root move, how many are not settled, and which is to be tried first in
+/// the end.
 #[derive(Drop)]
 pub(crate) struct Shared {
     pub over: StopFlag,
     marks: MoveMarks,
     open: AtomicU64,
+    favoured: AtomicU64,
 }
 
 impl Shared {
@@ -26,6 +28,7 @@ impl Shared {
             over: StopFlag::new(),
             marks: MoveMarks::new(alloc, roots)?,
             open: AtomicU64::new(roots as u64),
+            favoured: AtomicU64::new(0),
         })
     }
 
@@ -35,6 +38,16 @@ impl Shared {
             return false;
         }
         self.marks.takes(i, round)
+    }
+
+    /// The root move is to be tried first in the end.
+    pub fn favour(&self, i: usize) {
+        self.favoured.store(i as u64, Ordering::SeqCst);
+    }
+
+    /// Which root move is to be tried first: the first one, if none was named.
+    pub fn favoured(&self) -> usize {
+        self.favoured.load(Ordering::SeqCst) as usize
     }
 
     /// The worker of this number has settled the root move. The race is over where it decides the root, and where no

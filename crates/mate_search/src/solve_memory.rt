@@ -148,7 +148,7 @@ pub(crate) fn run<R: Threads + Wait + Sync, W: Watch, G: Gate + Sync>(
         Err(why) => (all, Err(why)),
         Ok(()) => {
             let decides = gather(rt, race, &mut all, facts);
-            let first = decides.or(race.roots.first().copied());
+            let first = decides.or(race.first());
             let end = conclude(
                 rt,
                 race.alloc,

@@ -71,6 +71,7 @@ pub fn solve_watched<R: Threads + Wait + Sync, W: Watch, G: Gate + Sync>(
     ensures ended { (why : Halt) → IsErrOf result.1 why → W.ended watch.old watch.new (bound_of game.now n) why }
 {
     let mut passes = passes;
+    let before = watch.nodes();
     if is_refuted(rt, shards, &mut passes, game, n) {
         return (passes, Ok(Settled::NoMate));
     }
@@ -92,9 +93,11 @@ pub fn solve_watched<R: Threads + Wait + Sync, W: Watch, G: Gate + Sync>(
         shared: &shared,
         gate,
         quota,
+        tree_nodes: hints.nodes(),
     };
     let (passes, end) = run(rt, &race, passes, jobs, workers, &mut facts, watch);
     leave_hint(hints, game, n, &end);
+    hints.put_nodes(watch.nodes().saturating_sub(before));
     (passes, end)
 }
 

@@ -54,7 +54,7 @@ module _ {P R M : Type 0} (r : Game P R M) where
   pub within-mono : (k n : ℕ) (p : P) → k ≤ n → lines_within r k p ≤ lines_within r n p
   within-mono k n p h = lines-mono (plies r k p) (plies r n p) p (plies-up k n p h)
 
-  plies_some : (a : Bool) (p : P) (n : ℕ) → r.attacking p ≡ a → (a ≡ true → 0 < n) → 0 < plies r n p
+  pub plies_some : (a : Bool) (p : P) (n : ℕ) → r.attacking p ≡ a → (a ≡ true → 0 < n) → 0 < plies r n p
   plies_some true p n e f = let z = f refl in rw e (omega arith)
   plies_some false p n e f = rw e (omega arith)
 

@@ -8,7 +8,9 @@ mod last_moves;
 mod last_replies;
 mod ordering;
 mod settling;
+mod weighing;
 
 pub use choosing::{WinningMove, all_won, choose};
 pub use fact_table::FactTable;
-pub use settling::{moves_to_try, settle};
+pub use settling::{decide, known_now, moves_to_try, settle};
+pub use weighing::{WeighedMove, weighed_moves};

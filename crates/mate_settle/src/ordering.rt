@@ -26,7 +26,7 @@ const CHECK: u32 = 100;
 const CAPTURING_CHECK: u32 = 80;
 
 /// So much is taken from the attacker by a reply that checks him, and at most by another.
-const CHECKED: u32 = 1000;
+pub(crate) const CHECKED: u32 = 1000;
 
 /// So many squares are guessed to be reached by a pawn.
 const PAWN_FREEDOM: u32 = 2;
@@ -40,10 +40,10 @@ pub(crate) struct Ranked {
 
 /// What a position's moves are ranked by.
 #[derive(Clone, Copy)]
-struct Order<'a, 'f> {
+pub(crate) struct Order<'a, 'f> {
     facts: &'a FactTable<'f>,
     /// The attacker is to move.
-    attacking: bool,
+    pub attacking: bool,
     /// How many moves he has left.
     moves: u16,
     /// The attacker's move that won last where he had as many moves left.
@@ -53,7 +53,7 @@ struct Order<'a, 'f> {
     /// The rank of the replies that refuted the attacker's last move lately.
     refuter: u32,
     /// The checks that the side to move may give.
-    checks: Checks,
+    pub checks: Checks,
     /// The squares that the other side's kings reach.
     ring: Set,
 }
@@ -87,7 +87,7 @@ fn reached(board: &Board, side: Side, kind: Kind, from: u8) -> Set {
 }
 
 /// How many squares the other side's man on the square reaches, by a guess for a pawn.
-fn freedom_of(board: &Board, from: u8) -> u32 {
+pub(crate) fn freedom_of(board: &Board, from: u8) -> u32 {
     let p = board.position();
     let sets = board.sets();
     if from >= 120 {
@@ -118,7 +118,7 @@ fn ring(board: &Board) -> Set {
 }
 
 /// How many squares the man reaches that the move takes.
-fn freedom_taken(board: &Board, m: &Move) -> u32 {
+pub(crate) fn freedom_taken(board: &Board, m: &Move) -> u32 {
     match *m {
         Move::Go { to, .. } => {
             let enemies = board.sets().enemies;
@@ -134,7 +134,7 @@ fn freedom_taken(board: &Board, m: &Move) -> u32 {
 }
 
 /// How much of what the attacker may do the reply is guessed to take from him, up to `CHECKED`.
-fn taken(board: &Board, m: &Move, order: &Order) -> u32
+pub(crate) fn taken(board: &Board, m: &Move, order: &Order) -> u32
     requires legal { Member m.now (legal_in board.now) }
     requires checks { AreChecksIn board.now order.now.checks }
 {
@@ -153,13 +153,18 @@ fn refutations(board: &Board, m: &Move, order: &Order) -> u32 {
 }
 
 /// Those first that are guessed to leave the attacker the fewest moves, and of these those that refuted most: a reply
-/// that refuted elsewhere and does not here would be searched at length.
+/// that refuted elsewhere and does not here would be searched at length. The move is guessed to take so much from him.
+pub(crate) fn early_reply_rank_by(board: &Board, m: &Move, order: &Order, taken: u32) -> u32 {
+    let left = CHECKED.saturating_sub(taken);
+    (left.saturating_add(1).saturating_mul(64)).saturating_sub(refutations(board, m, order))
+}
+
 fn early_reply_rank(board: &Board, m: &Move, order: &Order) -> u32
     requires legal { Member m.now (legal_in board.now) }
     requires checks { AreChecksIn board.now order.now.checks }
 {
-    let left = CHECKED.saturating_sub(taken(board, m, order));
-    ((left + 1) * 64).saturating_sub(refutations(board, m, order))
+    let taken = taken(board, m, order);
+    early_reply_rank_by(board, m, order, taken)
 }
 
 /// Before the attacker's last move the replies that refuted lately come first, but last where they were tried already.
@@ -177,7 +182,7 @@ fn last_reply_rank(board: &Board, m: &Move, order: &Order) -> u32
 }
 
 /// The replies to a check are counted, but before the last move but one, where captures come first.
-fn check_rank(board: &Board, m: &Move, order: &Order) -> u32
+pub(crate) fn check_rank(board: &Board, m: &Move, order: &Order) -> u32
     requires { Member m.now (legal_in board.now) }
 {
     if order.moves > 2 {
@@ -215,19 +220,32 @@ fn gain(board: &Board, m: &Move, order: &Order) -> u32
         .saturating_add(near.saturating_mul(10))
 }
 
-/// The move that won last, and the one that is best by a fact, come first, then checks, and of the others those that
-/// gain most.
+impl Order<'_, '_> {
+    /// Whether the attacker's move won last, or is best by a fact.
+    pub fn is_first(&self, m: &Move) -> bool {
+        self.killer == Some(*m) || self.best == Some(*m)
+    }
+}
+
+/// Of the moves that give no check those come first that gain most.
+pub(crate) fn quiet_rank(board: &Board, m: &Move, order: &Order) -> u32
+    requires { Member m.now (legal_in board.now) }
+{
+    (2 * QUIET).saturating_sub(gain(board, m, order))
+}
+
+/// The move that won last, and the one that is best by a fact, come first, then checks, and then the others.
 fn attack_rank(board: &Board, m: &Move, order: &Order) -> u32
     requires legal { Member m.now (legal_in board.now) }
     requires checks { AreChecksIn board.now order.now.checks }
 {
-    if order.killer == Some(*m) || order.best == Some(*m) {
+    if order.is_first(m) {
         return 0;
     }
     if gives_check(board, &order.checks, m) {
         return check_rank(board, m, order);
     }
-    (2 * QUIET).saturating_sub(gain(board, m, order))
+    quiet_rank(board, m, order)
 }
 
 fn rank(board: &Board, m: &Move, order: &Order) -> u32
@@ -244,7 +262,7 @@ fn rank(board: &Board, m: &Move, order: &Order) -> u32
 }
 
 /// What the moves are ranked by where the attacker has n left.
-fn order_for<'a, 'f>(board: &Board, n: u16, facts: &'a FactTable<'f>) -> Order<'a, 'f>
+pub(crate) fn order_for<'a, 'f>(board: &Board, n: u16, facts: &'a FactTable<'f>) -> Order<'a, 'f>
     ensures { AreChecksIn board.now result.checks }
 {
     let frame = facts.frame();

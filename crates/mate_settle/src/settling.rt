@@ -65,7 +65,7 @@ pub fn moves_to_try(
 
 /// The fact that needs no other: the position is ended, or the attacker, who is to move, has no move left. `any` says
 /// whether some move is legal.
-pub(crate) fn known_now(frame: &Frame, board: &Board, n: u16, any: bool) -> Option<Fact>
+pub fn known_now(frame: &Frame, board: &Board, n: u16, any: bool) -> Option<Fact>
     requires rules { board.now.rules ≡ frame.now.rules }
     requires any { any ≡ not (is_stuck board.now.rules (repeat_in board.now)) }
     ensures serves { IfSome result (Answers board.now n) }
@@ -164,7 +164,7 @@ fn keep_dear(facts: &mut FactTable, board: &Board, n: u16, fact: Fact)
 /// What one move decides, where the known fact on the position after it is what the side to move wants: a fact that
 /// answers for the position. The fact is kept where it is dear, and so is the move.
 #[inline]
-fn decide(
+pub fn decide(
     facts: &mut FactTable,
     board: &Board,
     attacking: bool,

@@ -321,18 +321,17 @@ module _ (r : Game Position Repeat Move) (l : GameLaws Position Repeat Move r) (
 
 -- ---- the bound
 
-module _ (r : Game Position Repeat Move) where
-  -- the race, the search of the root, and the walk
-  pub whole-lines : (n : ℕ) (p : Position) → (n + 4) * lines_within r n p ≤ 4 * (n + 1) * lines r (2 * n + 1) p
-  whole-lines n p =
-      let fit : plies r n p ≤ 2 * n + 1 = by_cases (r.attacking p) (λ e. rw e (omega arith)) (λ e. rw e (omega arith)) in
-      total n (lines_within r n p) (lines r (2 * n + 1) p) (lines-mono r (plies r n p) (2 * n + 1) p fit)
-    where
-      mul_le : (k x y : ℕ) → x ≤ y → k * x ≤ k * y
-      mul_le k x y h = grind arith
+more-times : (k x y : ℕ) → x ≤ y → k * x ≤ k * y
+more-times zero x y h = omega arith
+more-times (suc k) x y h = let rest = more-times k x y h in omega arith
 
-      total : (n x y : ℕ) → x ≤ y → (n + 4) * x ≤ 4 * (n + 1) * y
-      total n x y u =
-          let k = mul_le (n + 4) x y u in
-          let d : (n + 4) * y ≡ n * y + 4 * y = omega arith in
-          let e : 4 * (n + 1) * y ≡ 4 * (n * y) + 4 * y = omega arith in omega arith
+bound-times : (n x y : ℕ) → 0 < n → x ≤ y → (3 * n + 5) * x ≤ 4 * (n + 1) * y
+bound-times zero x y some h = absurd (omega arith)
+bound-times (suc n) x y some h = let more = more-times n x y h in omega arith
+
+module _ (r : Game Position Repeat Move) where
+  -- the tree, the race, the search of the root, and the walk
+  pub whole-lines : (n : ℕ) (p : Position) → 0 < n → (3 * n + 5) * lines_within r n p ≤ 4 * (n + 1) * lines r (2 * n + 1) p
+  whole-lines n p some =
+      let fit : plies r n p ≤ 2 * n + 1 = by_cases (r.attacking p) (λ e. rw e (omega arith)) (λ e. rw e (omega arith)) in
+      bound-times n (lines_within r n p) (lines r (2 * n + 1) p) some (lines-mono r (plies r n p) (2 * n + 1) p fit)

@@ -221,10 +221,10 @@ lines-tree by a zero g = refl
 lines-tree by a (suc t) g = ap (λ h. 1 + sum_by h (legal by (repeat_of g.last))) (λ i m. lines-tree by a t (played by g m) i)
 
 -- all lines of a solve are within its bound
-pub solve-lines : (rules : Rules) (f : Frame) (g : Story) (n : ℕ) (p : Position) → f.rules ≡ rules → p ≡ g.last → (n + 4) * lines_within (seen_in f) n p ≤ solve_bound rules n g
+pub solve-lines : (rules : Rules) (f : Frame) (g : Story) (n : ℕ) (p : Position) → f.rules ≡ rules → p ≡ g.last → 0 < n → (3 * n + 5) * lines_within (seen_in f) n p ≤ solve_bound rules n g
 unfolding solve_bound
-solve-lines rules f g n p e d =
-    let h = whole-lines (seen_in f) n p in
+solve-lines rules f g n p e d some =
+    let h = whole-lines (seen_in f) n p some in
     let same : lines (seen_in f) (2 * n + 1) p ≡ tree (play rules) (2 * n + 1) g = ap (lines (seen_in f) (2 * n + 1)) d ∙ lines-tree f.rules f.attacker (2 * n + 1) g ∙ ap (λ x. tree (play x) (2 * n + 1) g) e in
     let k : 4 * (n + 1) * lines (seen_in f) (2 * n + 1) p ≡ 4 * (n + 1) * tree (play rules) (2 * n + 1) g = ap (λ z. 4 * (n + 1) * z) same in
     omega arith

@@ -15,7 +15,7 @@ returns-then-is_refuted-clause-right g c =
     (not-won f game bl c.args.n (sym (c.is_refuted.ensures.lost c.if-is_refuted.true)))
 
 pub returns-in-Ok-clause-handed : goal.returns-in-Ok-clause-handed
-returns-in-Ok-clause-handed g c = handed_more c.args.shards.now _ _ _ c.is_refuted.ensures.handed c.conclude-end.ensures.handed
+returns-in-Ok-clause-handed g c = handed_more c.args.shards.now _ _ _ c.is_refuted.ensures.handed c.conclude_grown-end.ensures.handed
 
 pub returns-in-Err-Fault-clause-handed : goal.returns-in-Err-Fault-clause-handed
-returns-in-Err-Fault-clause-handed g c = handed_more c.args.shards.now _ _ _ c.is_refuted.ensures.handed c.conclude-end.ensures.handed
+returns-in-Err-Fault-clause-handed g c = handed_more c.args.shards.now _ _ _ c.is_refuted.ensures.handed c.conclude_grown-end.ensures.handed

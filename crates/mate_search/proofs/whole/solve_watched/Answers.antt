@@ -50,7 +50,7 @@ returns-clause-gone g c =
     let f = c.args.shards.now.frame in
     let game = c.args.game.now in
     let n = c.args.n in
-    let le = solve-lines game.rules f (story game) n (story game).last c.requires.frame.rules refl in
+    let le = solve-lines game.rules f (story game) n (story game).last c.requires.frame.rules refl c.requires.some in
     on_ok_of c.run-passes.result.1 c.run-passes.ensures.gone (λ gone. g.met.W.Watch.wider _ _ _ (bound_of game n) gone le)
 
 pub returns-clause-ended : goal.returns-clause-ended
@@ -58,5 +58,5 @@ returns-clause-ended g c why is =
     let f = c.args.shards.now.frame in
     let game = c.args.game.now in
     let n = c.args.n in
-    let le = solve-lines game.rules f (story game) n (story game).last c.requires.frame.rules refl in
+    let le = solve-lines game.rules f (story game) n (story game).last c.requires.frame.rules refl c.requires.some in
     g.met.W.Watch.ends_wider _ _ _ (bound_of game n) why (c.run-passes.ensures.ended why is) le

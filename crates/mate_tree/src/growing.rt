@@ -1,0 +1,142 @@
+//! How a tree grows.
+ghost use Rattle.std.specs.Prelude.{◌≡◌, ◌≤◌, true, false, IfOk, IfSome, OnOk, IsErrOf};
+ghost use Rattle.foundation.specs.Member.{Member};
+ghost use Rattle.legality.specs.Stance.{legal_in};
+ghost use Rattle.mate_core.specs.Runs.{IsTrueIn};
+ghost use Rattle.mate_settle.specs.Known.{Answers};
+ghost use Rattle.mate_settle.specs.Steps as Steps;
+ghost use Rattle.rules_model.specs.Sides.{same_side};
+ghost use Rattle.mate_tree.specs.Shapes as Shapes;
+ghost use Rattle.mate_tree.specs.Weights as Weights;
+ghost use Rattle.watching.specs.declared.halt.Halt.{Halt};
+
+use crate::node::{Node, renumber};
+use crate::numbers::best_child;
+use crate::opening::open;
+use mate_core::Fact;
+use mate_settle::{FactTable, decide, known_now, settle};
+use playing::Board;
+use rules_model::Move;
+use std::alloc::Global;
+use watching::{Halt, Watch};
+
+/// A legal move, and the fact that settles the position after it.
+#[derive(Clone, Copy)]
+pub struct Step {
+    pub chosen: Move,
+    pub fact: Fact,
+}
+
+fn left_after(attacking: bool, n: u16) -> u16
+    ensures { result ≡ Steps.left_after attacking n }
+{
+    if attacking { n.saturating_sub(1) } else { n }
+}
+
+/// The fact on a position of which one move is known to lead where the side to move wants.
+fn by_step(facts: &mut FactTable, board: &Board, attacking: bool, n: u16, step: &Step) -> Fact
+    requires rules { board.now.rules ≡ facts.old.rules }
+    requires turn { same_side board.now.position.side facts.old.attacker ≡ attacking }
+    requires small { n ≤ 1000 }
+    requires step { Shapes.IsStep facts.old board.now n step.now }
+    requires wins { step.now.fact.wins ≡ attacking }
+    ensures frame { facts.new ≡ facts.old }
+    ensures truth { IsTrueIn facts.old result }
+    ensures serves { Answers board.now n result }
+{
+    if let Some(told) = known_now(facts.frame(), board, n, true) {
+        return told;
+    }
+    decide(facts, board, attacking, n, step.chosen, &step.fact)
+}
+
+/// Grows the child by which the way goes on to the leaf that proves most. Where that settles the child, it is taken
+/// out, and its move is answered with the fact.
+///
+/// # Errors
+///
+/// What ends the watch; or `Memory`.
+#[cycle(grow)]
+pub fn grow_child<W: Watch>(
+    alloc: Global,
+    board: &Board,
+    n: u16,
+    children: &mut Vec<Node>,
+    room: &mut u64,
+    facts: &mut FactTable,
+    watch: &mut W,
+) -> Result<Option<Step>, Halt>
+    requires rules { board.now.rules ≡ facts.old.rules }
+    requires small { n ≤ 1000 }
+    ensures frame { facts.new ≡ facts.old }
+    ensures step { IfOk result (λ o. IfSome o (Shapes.IsStep facts.old board.now n)) }
+    ensures gone { OnOk result (Weights.Leaves (W.gone watch.old watch.new)
+        (Weights.forest facts.old n board.now.position children.old.items)
+        (Weights.forest facts.old n board.now.position children.new.items)) }
+    ensures ended { (why : Halt) → IsErrOf result why → W.ended watch.old watch.new
+        (Weights.forest facts.old n board.now.position children.old.items) why }
+{
+    let attacking = board.position().side.is(facts.frame().attacker);
+    let at = best_child(attacking, children.as_slice()).place;
+    if at >= children.len() {
+        return Ok(None);
+    }
+    let chosen = children[at].chosen;
+    if !board.is_legal(&chosen) {
+        let _other = children.remove(at);
+        return Ok(None);
+    }
+    let next = board.after(&chosen);
+    let left = left_after(attacking, n);
+    match grow(alloc, &next, left, &mut children[at], room, facts, watch)? {
+        Some(fact) => {
+            let _settled = children.remove(at);
+            Ok(Some(Step { chosen, fact }))
+        }
+        None => Ok(None),
+    }
+}
+
+/// Grows the tree below a node by one leaf. A fact, where that settles the node's position.
+///
+/// # Errors
+///
+/// What ends the watch; or `Memory`.
+#[cycle(grow)]
+fn grow<W: Watch>(
+    alloc: Global,
+    board: &Board,
+    n: u16,
+    node: &mut Node,
+    room: &mut u64,
+    facts: &mut FactTable,
+    watch: &mut W,
+) -> Result<Option<Fact>, Halt>
+    requires rules { board.now.rules ≡ facts.old.rules }
+    requires small { n ≤ 1000 }
+    ensures frame { facts.new ≡ facts.old }
+    ensures chosen { OnOk result (Shapes.chosen_at node.new ≡ Shapes.chosen_at node.old) }
+    ensures truth { IfOk result (λ o. IfSome o (IsTrueIn facts.old)) }
+    ensures serves { IfOk result (λ o. IfSome o (Answers board.now n)) }
+    ensures gone { IfOk result (Weights.Spends (W.gone watch.old watch.new)
+        (Weights.lines_at facts.old n board.now.position node.old)
+        (Weights.lines_at facts.old n board.now.position node.new)) }
+    ensures ended { (why : Halt) → IsErrOf result why → W.ended watch.old watch.new
+        (Weights.lines_at facts.old n board.now.position node.old) why }
+{
+    if !node.opened {
+        return open(alloc, board, n, node, room, facts, watch);
+    }
+    let attacking = board.position().side.is(facts.frame().attacker);
+    if let Some(step) = grow_child(alloc, board, n, &mut node.children, room, facts, watch)? {
+        if step.fact.wins == attacking {
+            return Ok(Some(by_step(facts, board, attacking, n, &step)));
+        }
+    }
+    if node.children.is_empty() {
+        let fact = settle(alloc, board, n, facts, watch)?;
+        return Ok(Some(fact));
+    }
+    renumber(node, attacking);
+    Ok(None)
+}

@@ -1,0 +1,43 @@
+//! Proof and disproof numbers.
+ghost use Rattle.std.specs.Prelude.{◌<◌, ◌≤◌, length};
+
+use crate::node::Node;
+
+/// No number is greater.
+const MOST: u32 = 1 << 30;
+
+/// The place of the child by which the way goes on to the leaf that proves most, and the numbers of the node.
+#[derive(Clone, Copy)]
+pub(crate) struct BestChild {
+    pub place: usize,
+    /// The least number of a child that the side to move wants small.
+    pub own: u32,
+    /// The sum of the children's other numbers.
+    pub others: u32,
+}
+
+// The number that the side to move wants small: the proof number where the attacker moves, else the disproof number.
+fn own_number(attacking: bool, node: &Node) -> u32 {
+    if attacking { node.proof } else { node.disproof }
+}
+
+/// The first child whose own number is the least, with what the children's numbers come to.
+pub(crate) fn best_child(attacking: bool, children: &[Node]) -> BestChild
+    ensures { result.place ≤ length children.now }
+{
+    let mut best = BestChild {
+        place: 0,
+        own: MOST,
+        others: 0,
+    };
+    for i in 0..children.len() {
+        let own = own_number(attacking, &children[i]);
+        let other = own_number(!attacking, &children[i]);
+        best.others = best.others.saturating_add(other).min(MOST);
+        if own < best.own {
+            best.own = own;
+            best.place = i;
+        }
+    }
+    best
+}
