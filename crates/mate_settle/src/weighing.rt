@@ -20,8 +20,8 @@ use std::alloc::Global;
 /// So many moves are guessed to be left to the attacker who is in check.
 const REPLIES_TO_CHECK: u32 = 4;
 
-/// A move, its rank, and how many moves it is guessed to leave to the other side, one at the least: those after a check
-/// of the attacker are counted.
+/// A move, its rank, and how many moves it leaves to the other side. After a check of the attacker who has three moves
+/// or more left they are counted; else they are guessed, one at the least.
 #[derive(Clone, Copy)]
 pub struct WeighedMove {
     pub rank: u32,

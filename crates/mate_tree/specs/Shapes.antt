@@ -9,6 +9,7 @@ use Rattle.mate_settle.specs.Known.{Answers}
 use Rattle.mate_settle.specs.Steps.{left_after}
 use Rattle.mate_tree.specs.declared.growing.Step.{Step}
 use Rattle.mate_tree.specs.declared.node.Node.{Node, out-Node}
+use Rattle.mate_tree.specs.Numbers.{IsNumbered}
 use Rattle.rules_model.specs.declared.board.Position.{Position}
 use Rattle.rules_model.specs.declared.moves.Move.{Move}
 use Rattle.rules_model.specs.Sides.{same_side}
@@ -27,17 +28,19 @@ pub record IsLeafOf (m : Move) (v : Node) : Type 0 where
   pub chosen : chosen_at v ≡ m
   pub closed : is_opened v ≡ false
 
--- it has become an opened node with these children
-pub record IsOpenedWith (old : Node) (vs : List Node) (new : Node) : Type 0 where
+-- it has become an opened node with these children, and has their numbers
+pub record IsOpenedWith (attacking : Bool) (old : Node) (vs : List Node) (new : Node) : Type 0 where
   pub chosen : chosen_at new ≡ chosen_at old
   pub opened : is_opened new ≡ true
   pub children : children_at new ≡ vs
+  pub numbers : IsNumbered attacking new
 
--- its numbers alone may differ
-pub record IsRenumbered (old new : Node) : Type 0 where
+-- its numbers alone may differ, and are those of its children
+pub record IsRenumbered (attacking : Bool) (old new : Node) : Type 0 where
   pub chosen : chosen_at new ≡ chosen_at old
   pub opened : is_opened new ≡ is_opened old
   pub children : children_at new ≡ children_at old
+  pub numbers : IsNumbered attacking new
 
 -- a leaf for each legal move
 pub record AreLeavesOf (s : Stance) (vs : List Node) : Type 0 where

@@ -20,13 +20,14 @@ use rules_model::Move;
 use std::alloc::Global;
 use watching::{Halt, Watch};
 
-/// A legal move, and the fact that settles the position after it.
+/// A move of a position, and the fact that settles the position after it.
 #[derive(Clone, Copy)]
 pub struct Step {
     pub chosen: Move,
     pub fact: Fact,
 }
 
+/// How many moves the attacker has left after a move.
 fn left_after(attacking: bool, n: u16) -> u16
     ensures { result ≡ Steps.left_after attacking n }
 {
@@ -50,8 +51,10 @@ fn by_step(facts: &mut FactTable, board: &Board, attacking: bool, n: u16, step: 
     decide(facts, board, attacking, n, step.chosen, &step.fact)
 }
 
-/// Grows the child by which the way goes on to the leaf that proves most. Where that settles the child, it is taken
-/// out, and its move is answered with the fact.
+/// Grows a tree by one leaf. The attacker has n moves left in the position, and the children are nodes for moves of it,
+/// as `leaves_of` makes them. The child by which the way goes on to the leaf that proves most is looked at: where its
+/// position is settled it is taken out, and its move is answered with the fact. A child whose move is not legal is
+/// taken out without an answer. The nodes that are made are taken from the room, down to 0.
 ///
 /// # Errors
 ///
@@ -97,7 +100,8 @@ pub fn grow_child<W: Watch>(
     }
 }
 
-/// Grows the tree below a node by one leaf. A fact, where that settles the node's position.
+/// Grows the tree below a node by one leaf. A fact, where that settles the node's position, which the board is: whether
+/// the attacker wins from it within n moves.
 ///
 /// # Errors
 ///

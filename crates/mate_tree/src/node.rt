@@ -36,7 +36,7 @@ pub(crate) fn leaf(alloc: Global, chosen: Move, proof: u32, disproof: u32) -> No
 
 /// Opens a node.
 pub(crate) fn open_with(node: &mut Node, attacking: bool, children: Vec<Node>)
-    ensures { Shapes.IsOpenedWith node.old children.items node.new }
+    ensures { Shapes.IsOpenedWith attacking node.old children.items node.new }
 {
     node.opened = true;
     node.children = children;
@@ -45,7 +45,7 @@ pub(crate) fn open_with(node: &mut Node, attacking: bool, children: Vec<Node>)
 
 /// Works out the numbers of a node from those of its children.
 pub(crate) fn renumber(node: &mut Node, attacking: bool)
-    ensures { Shapes.IsRenumbered node.old node.new }
+    ensures { Shapes.IsRenumbered attacking node.old node.new }
 {
     let best = best_child(attacking, node.children.as_slice());
     if attacking {

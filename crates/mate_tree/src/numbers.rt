@@ -1,5 +1,6 @@
 //! Proof and disproof numbers.
-ghost use Rattle.std.specs.Prelude.{◌<◌, ◌≤◌, length};
+ghost use Rattle.std.specs.Prelude.{◌≡◌, ◌≤◌, length, not};
+ghost use Rattle.mate_tree.specs.Numbers as Numbers;
 
 use crate::node::Node;
 
@@ -17,13 +18,17 @@ pub(crate) struct BestChild {
 }
 
 // The number that the side to move wants small: the proof number where the attacker moves, else the disproof number.
-fn own_number(attacking: bool, node: &Node) -> u32 {
+fn own_number(attacking: bool, node: &Node) -> u32
+    ensures { result ≡ Numbers.own_number attacking node.now }
+{
     if attacking { node.proof } else { node.disproof }
 }
 
 /// The first child whose own number is the least, with what the children's numbers come to.
 pub(crate) fn best_child(attacking: bool, children: &[Node]) -> BestChild
-    ensures { result.place ≤ length children.now }
+    ensures place { result.place ≤ length children.now }
+    ensures own { result.own ≡ Numbers.least_of attacking children.now }
+    ensures others { result.others ≡ Numbers.sum_of (not attacking) children.now }
 {
     let mut best = BestChild {
         place: 0,

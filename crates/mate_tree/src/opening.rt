@@ -14,7 +14,9 @@ use rules_model::Memory;
 use std::alloc::Global;
 use watching::{Halt, Watch};
 
-/// A leaf for each legal move of the position, in which the attacker has n moves left, the likeliest first.
+/// A leaf for each legal move of the position, in which the attacker has n moves left, in the order in which moves are
+/// tried. As much is to prove after a move of the attacker as it is guessed to leave replies, and to disprove after a
+/// move of the other side; the other number is 1.
 ///
 /// # Errors
 ///
@@ -50,7 +52,7 @@ fn is_last(attacking: bool, n: u16) -> bool
 }
 
 /// Looks at a node for the first time. A fact, where that settles it: by the last moves, by what is known of its
-/// position, or by its end.
+/// position, or by its end. Else it has a leaf for each legal move, and they are taken from the room.
 ///
 /// # Errors
 ///

@@ -1,4 +1,4 @@
-//! Tests of what settles a position: moves that may check or leave no step, ends, and the search over facts.
+//! Tests of what settles a position: moves that may check or leave no step, ends, the search over facts, and trees.
 #![tactic(auto)]
 
 #[cfg(test)]
@@ -11,3 +11,5 @@ mod facts;
 mod helpers;
 #[cfg(test)]
 mod settled;
+#[cfg(test)]
+mod trees;

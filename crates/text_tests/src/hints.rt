@@ -74,6 +74,18 @@ fn hints_of_other_positions(rt: HostRuntime) {
     expect_eq(&rt, table.get(u64::MAX), Some(every));
 }
 
+// The next solve of mates reads them; hints that are put leave them.
+#[test]
+fn nodes_of_a_solve_are_kept(rt: HostRuntime) {
+    let table = HintTable::new(rt.alloc(), 1).expect(&rt, "no fault");
+    expect_eq(&rt, table.nodes(), 0);
+    table.put_nodes(1 << 40);
+    table.put(7, HINTS[0]);
+    expect_eq(&rt, table.nodes(), 1 << 40);
+    table.fill(0);
+    expect_eq(&rt, table.nodes(), 0);
+}
+
 fn put_many(table: &HintTable) {
     for key in 0..1000u64 {
         table.put(key << 32, HINTS[0]);
