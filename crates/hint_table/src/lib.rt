@@ -3,7 +3,9 @@
 //!
 //! A table is a row of words of 64 bits. A word holds a hint of 40 bits and 24 bits of the key of its position, and
 //! the newest hint is kept. Workers read and write words at any time and nobody waits. So a search may use what it
-//! gets to choose what it looks at first, and for nothing else: no contract says what a table answers.
+//! gets to choose what it looks at first, and for nothing else: no contract says what a table answers. Beside the
+//! words it keeps how many nodes the last solve of mates entered, which a solve uses to choose how large a tree it
+//! grows first.
 #![tactic(auto)]
 
 ghost use Rattle.std.specs.Prelude.{◌<◌, ◌≤◌, ◌^◌, vec_len};

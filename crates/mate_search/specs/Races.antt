@@ -35,7 +35,7 @@ pub record IsTaskOf {G : Type 0} (race : Race G) (task : RootTask) : Type 0 wher
 abbrev pub root_lines : {G : Type 0} → Race G → ℕ
 root_lines race = lines_within (seen_in race.shards.now.frame) race.n (story race.game.now).last
 
--- those of a tree: each line once for each ply, to settle the nodes whose children are all settled
+-- those of a tree: each line once for each of at most 2 n + 1 plies, to settle the nodes whose children are all settled
 abbrev pub tree_lines : Frame → ℕ → Position → ℕ
 tree_lines f n p = (2 * n + 1) * lines_within (seen_in f) n p
 

@@ -20,7 +20,7 @@ use watching::{Halt, Watch};
 /// A tree is grown for so many nodes, or for as many as the last solve entered, if these are more.
 const LEAST_NODES: u64 = 1000;
 
-/// So many nodes a tree may make.
+/// A tree that has made so many nodes grows no more. Its last step may have made some beyond them.
 const ROOM: u64 = 1 << 19;
 
 /// Where fewer moves are asked for there is nothing above the last moves.
@@ -93,9 +93,10 @@ fn grow_once<R: Wait, W: Watch>(
     }
 }
 
-/// Grows a tree from the position until its moves are settled, or one of them wins, or it has entered as many nodes as
-/// are said. What it settles of the position's moves is published, and the facts that it finds are kept. The move that
-/// wins is answered.
+/// Grows a tree from the position until its moves are settled, or one of them wins, or it has entered about as many
+/// nodes as are said (at least 1,000), or has made about half a million. No tree is grown where the defender is to move
+/// or fewer than three moves are asked for. What it settles of the position's moves is published, and the facts that it
+/// finds are kept. The move that wins is answered.
 ///
 /// # Errors
 ///
