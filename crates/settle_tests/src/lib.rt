@@ -1,4 +1,4 @@
-//! Tests of what settles a position: moves that may check or leave no step, ends, and the search over facts.
+//! Tests of what settles a position: moves that may check or leave no step and no leap, ends, and the search over facts.
 #![tactic(auto)]
 
 #[cfg(test)]
@@ -9,5 +9,7 @@ mod expect;
 mod facts;
 #[cfg(test)]
 mod helpers;
+#[cfg(test)]
+mod replies;
 #[cfg(test)]
 mod settled;
