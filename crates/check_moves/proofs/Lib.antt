@@ -1,4 +1,6 @@
 pub mod ShutLaws
 pub mod ComeLaws
+pub mod StepLaws
 pub mod FlightLaws
+pub mod ReplyLaws
 pub mod ListingLaws

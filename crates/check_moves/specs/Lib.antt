@@ -1,4 +1,5 @@
 pub mod Shut
 pub mod Checks
 pub mod Flights
+pub mod Replies
 pub mod Listing

@@ -57,9 +57,10 @@ pub struct KnownFlights {
     pub found: [Option<Flight>; FLIGHTS],
 }
 
-/// Whether a step of a king is legal wherever it is a move of its kind after which the king is not attacked.
+/// Whether a quiet move of a piece but a pawn is legal wherever it is a move of its kind, no castle, after which no king of
+/// its side is attacked.
 #[tactic(auto, unfolding(crate::specs::Flights::are_steps_plain))]
-fn are_steps_plain(rules: &Rules) -> bool
+pub(crate) fn are_steps_plain(rules: &Rules) -> bool
     ensures { result ≡ Spec.are_steps_plain rules.now }
 {
     rules.checking

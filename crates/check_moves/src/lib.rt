@@ -5,8 +5,10 @@
 mod checks;
 mod flights;
 mod listing;
+mod replies;
 mod shut;
 
 pub use checks::{Checks, checks_of, gives_check, may_check};
 pub use flights::{Flight, KnownFlights, LoneKing};
 pub use listing::push_checks;
+pub use replies::{Leaper, Replies, Reply};

@@ -5,22 +5,25 @@ ghost use Rattle.std.specs.Bool.{OnTrue};
 ghost use Rattle.foundation.specs.Member.{Member};
 ghost use Rattle.evaluation.specs.Laws.{Within};
 ghost use Rattle.evaluation.specs.Tallies.{IsTally};
-ghost use Rattle.game_line.specs.Lined.{legal_in, story_of_line};
+ghost use Rattle.check_moves.specs.Replies.{AreReplies};
+ghost use Rattle.game_line.specs.Lined.{legal_in, stance_of_line, story_of_line};
 ghost use Rattle.rules_model.specs.Next.{next};
-ghost use Rattle.negamax.specs.Settling.{GoesOn, Knows, ScoresMost};
+ghost use Rattle.negamax.specs.Settling.{AreKnown, GoesOn, Knows, ScoresMost};
 
-use check_moves::KnownFlights;
+use check_moves::{KnownFlights, Replies};
 use evaluation::Tally;
 use game_line::Line;
 use rules_model::Move;
 use square_set::EMPTY;
 
 /// What is known of the moves of a position together: whether each that leaves the other side a legal move leaves the
-/// game going on, and then the steps of the other side's king.
+/// game going on, and then the steps of the other side's king and leaps of its other pieces.
 #[derive(Drop)]
 pub(crate) struct Settling {
     sure: bool,
     flights: KnownFlights,
+    /// None as long as no move was asked that no step meets.
+    replies: Option<Replies>,
 }
 
 /// No step is known.
@@ -40,13 +43,31 @@ impl Settling {
             Settling {
                 sure: true,
                 flights,
+                replies: None,
             }
         } else {
             Settling {
                 sure: false,
                 flights: NO_FLIGHTS,
+                replies: None,
             }
         }
+    }
+
+    /// The leaps of the other side's pieces, which are looked for once.
+    fn replies_in(&mut self, line: &Line) -> Replies
+        requires known { AreKnown line.now self.old.flights self.old.replies }
+        ensures known { AreKnown line.now self.new.flights self.new.replies }
+        ensures sure { self.new.sure ≡ self.old.sure }
+        ensures found { AreReplies (stance_of_line line.now) result }
+    {
+        let known = self.replies;
+        if let Some(replies) = known {
+            return replies;
+        }
+        let replies = Replies::of(line.board());
+        self.replies = Some(replies);
+        replies
     }
 
     /// Whether it is known that the game goes on after the legal move.
@@ -60,7 +81,11 @@ impl Settling {
         if !sure {
             return false;
         }
-        self.flights.meets(line.board(), m)
+        if self.flights.meets(line.board(), m) {
+            return true;
+        }
+        let replies = self.replies_in(line);
+        replies.meets(line.board(), m)
     }
 
     /// What the legal move scores at most, at the last ply or as a capture, where this is known without a look at the
@@ -74,6 +99,10 @@ impl Settling {
         ensures within { IfSome result Within }
         ensures most { IfSome result (ScoresMost line.now m.now) }
     {
+        let sure = self.sure;
+        if !sure {
+            return None;
+        }
         let most = -sums.value(line.board().position().side.other());
         if floor < most {
             return None;

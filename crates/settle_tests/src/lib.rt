@@ -1,4 +1,5 @@
-//! Tests of what settles a position: moves that may check or leave no step, ends, the search over facts, and trees.
+//! Tests of what settles a position: moves that may check or leave no step and no leap, ends, the search over facts, and
+//! trees.
 #![tactic(auto)]
 
 #[cfg(test)]
@@ -9,6 +10,8 @@ mod expect;
 mod facts;
 #[cfg(test)]
 mod helpers;
+#[cfg(test)]
+mod replies;
 #[cfg(test)]
 mod settled;
 #[cfg(test)]

@@ -1,6 +1,7 @@
 use Rattle.std.proofs.Common.{subst, sym}
 use Rattle.std.proofs.lemmas.Bool.{OnTrue_at, OnTrue_from}
 use Rattle.check_moves.specs.Flights.{AreFlights, IsMet}
+use Rattle.check_moves.specs.Replies.{AreReplies}
 use Rattle.game_line.specs.Lined.{story_of_line}
 use Rattle.rules_model.specs.Repeats.{repeat_of}
 use Rattle.rules_model.proofs.LegalLaws.{legal-member}
@@ -16,13 +17,41 @@ pub meets-requires-clause-flights : goal.meets-requires-clause-flights
 meets-requires-clause-flights c =
     subst (λ s. AreFlights s c.args.self.now.flights) (sym c.board.ensures) (OnTrue_at c.if-not-sure.false c.requires.known).steps
 
+pub returns-then-meets-clause-known : goal.returns-then-meets-clause-known
+returns-then-meets-clause-known c =
+    let known = OnTrue_at c.if-not-sure.false c.requires.known in
+    OnTrue_from _ (AreKnown c.args.line.now c.meets.new.self c.args.self.now.replies) (λ told. record {
+      ends = known.ends;
+      steps = subst (λ s. AreFlights s c.meets.new.self) c.board.ensures c.meets.ensures.kept;
+      leaps = known.leaps;
+    })
+
+pub returns-then-meets-clause-on : goal.returns-then-meets-clause-on
+returns-then-meets-clause-on c = OnTrue_from _ (GoesOn c.args.line.now c.args.m.now) (λ told.
+    let met = subst (λ s. IsMet s c.args.m.now) c.board.ensures (OnTrue_at c.if-meets.true c.meets.ensures.met) in
+    goes_on_met c.args.line.now c.args.m.now (OnTrue_at c.if-not-sure.false c.requires.known).ends met)
+
+pub replies_in-requires : goal.replies_in-requires
+replies_in-requires c =
+    let known = OnTrue_at c.if-not-sure.false c.requires.known in
+    record {
+      ends = known.ends;
+      steps = subst (λ s. AreFlights s c.meets.new.self) c.board.ensures c.meets.ensures.kept;
+      leaps = known.leaps;
+    }
+
+pub meets-2-requires-clause-move_fits : goal.meets-2-requires-clause-move_fits
+meets-2-requires-clause-move_fits c =
+    (legal-member c.args.line.now.rules (repeat_of (story_of_line c.args.line.now).last) c.args.m.now c.requires.legal).0
+
+pub meets-2-requires-clause-replies : goal.meets-2-requires-clause-replies
+meets-2-requires-clause-replies c = subst (λ s. AreReplies s c.replies_in-replies.result) (sym c.board-2.ensures) c.replies_in-replies.ensures.found
+
 pub returns-clause-known : goal.returns-clause-known
-returns-clause-known c = OnTrue_from _ (AreKnown c.args.line.now c.meets.new.self) (λ told. record {
-  ends = (OnTrue_at c.if-not-sure.false c.requires.known).ends;
-  steps = subst (λ s. AreFlights s c.meets.new.self) c.board.ensures c.meets.ensures.kept;
-})
+returns-clause-known c =
+    OnTrue_from _ (AreKnown c.args.line.now c.replies_in-replies.new.self.flights c.replies_in-replies.new.self.replies) (λ told. c.replies_in-replies.ensures.known)
 
 pub returns-clause-on : goal.returns-clause-on
 returns-clause-on c = OnTrue_from _ (GoesOn c.args.line.now c.args.m.now) (λ told.
-    let met = subst (λ s. IsMet s c.args.m.now) c.board.ensures (OnTrue_at told c.meets.ensures.met) in
+    let met = subst (λ s. IsMet s c.args.m.now) c.board-2.ensures (OnTrue_at told c.meets-2.ensures) in
     goes_on_met c.args.line.now c.args.m.now (OnTrue_at c.if-not-sure.false c.requires.known).ends met)

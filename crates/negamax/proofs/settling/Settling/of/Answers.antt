@@ -7,4 +7,5 @@ pub returns-then-ends_by_stuck_alone : goal.returns-then-ends_by_stuck_alone
 returns-then-ends_by_stuck_alone c = record {
   ends = OnTrue_at c.if-ends_by_stuck_alone.true c.ends_by_stuck_alone.ensures;
   steps = subst (λ s. AreFlights s c.of-flights.result) c.board.ensures c.of-flights.ensures;
+  leaps = tt;
 }
