@@ -57,17 +57,17 @@ abbrev pub SparesStep : Stance → Flight → Kind → ℕ → Set → Type 0
 SparesStep s flight kind from occupied =
     (board : List (Option Cell)) → IsOccupied occupied board → reaches_as s.rules board s.position.side kind (record { 0 = from }) Take flight.to ≡ false
 
-unlike : (a b : ℕ) → (a == b) ≡ false → a ≢ b
+pub unlike : (a b : ℕ) → (a == b) ≡ false → a ≢ b
 unlike a b n e = let t : (a == b) ≡ true = eq-eqb a b e in cc
 
-turned_about : (a b : ℕ) → (a == b) ≡ false → (b == a) ≡ false
+pub turned_about : (a b : ℕ) → (a == b) ≡ false → (b == a) ≡ false
 turned_about a b n = ne_eqb b a (λ e. unlike a b n (sym e))
 
 same_itself : (side : Side) → same_side side side ≡ true
 same_itself White = refl
 same_itself Black = refl
 
-other_differs : (side : Side) (b : Bool) → (same_side (other side) side && b) ≡ false
+pub other_differs : (side : Side) (b : Bool) → (same_side (other side) side && b) ≡ false
 other_differs White b = refl
 other_differs Black b = refl
 
@@ -213,6 +213,14 @@ legal_parts true true true d e f g h = cc
 legal_parts true false c d e f g h = cc
 legal_parts false b c d e f g h = cc
 
+-- a kind that is not the pawn goes to an empty square that it reaches quietly
+walks_quietly : (rules : Rules) (cells : List (Option Cell)) (side : Side) (kind : Kind) (from : Square) (to : ℕ) → cell_at cells to ≡ None → is_pawn rules kind ≡ false → reaches_as rules cells side kind from Quiet to ≡ true → piece_goes rules cells side kind from to ≡ true
+unfolding piece_goes
+walks_quietly rules cells side kind from to empty no_pawn reached =
+    ap (λ (c : Option Cell). kind_reaches rules cells side kind (Pieces.serves side c) from to) empty
+    ∙ ap (λ (b : Bool). if b then false else kind_reaches rules cells side kind (λ t. t.quiet) from to) (sym no_pawn)
+    ∙ reached
+
 module _ (rules : Rules) (r : Repeat) (size : length r.cells ≡ 120) (king at : ℕ) (x : Cell) (there : cell_at r.cells king ≡ Some x) (own : x.side ≡ r.side) (no_pawn : is_pawn rules x.kind ≡ false) (plain : ArePlain rules) where
   abbrev step : Move
   step = Go (record { 0 = king }) (record { 0 = at }) Stays None
@@ -231,14 +239,7 @@ module _ (rules : Rules) (r : Repeat) (size : length r.cells ≡ 120) (king at :
       goes rules r size (record { 0 = king }) (record { 0 = at }) Stays x there no_passing
       ∙ ap (λ (c : Option Cell). slice_set (slice_set r.cells king None) at c) (sym there)
 
-  module _ (empty : cell_at r.cells at ≡ None) (reached : reaches_as rules r.cells r.side x.kind (record { 0 = king }) Quiet at ≡ true) (no_castling : is_castling_step rules r.side king at ≡ false) where
-    walks_there : piece_goes rules r.cells r.side x.kind (record { 0 = king }) at ≡ true
-    unfolding piece_goes
-    walks_there =
-        ap (λ (c : Option Cell). kind_reaches rules r.cells r.side x.kind (Pieces.serves r.side c) (record { 0 = king }) at) empty
-        ∙ ap (λ (b : Bool). if b then false else kind_reaches rules r.cells r.side x.kind (λ t. t.quiet) (record { 0 = king }) at) (sym no_pawn)
-        ∙ reached
-
+  module _ (walks_there : piece_goes rules r.cells r.side x.kind (record { 0 = king }) at ≡ true) (no_castling : is_castling_step rules r.side king at ≡ false) where
     no_castle : (k d a b near far : Bool) → (k && (near || far)) ≡ false → (d && ((a && k && near) || (b && k && far))) ≡ false
     no_castle k false a b near far h = refl
     no_castle false true true true near far h = refl
@@ -294,11 +295,14 @@ open_leaves s flight is m later e long opened on =
     let back = sym e in
     let there = subst (λ (c : List (Option Cell)). cell_at c flight.king.at ≡ Some is.king.piece) back (opened.stays ∙ is.king.there) in
     let kind = is.king.of_kind in
+    let no_pawn = ap (is_pawn s.rules) kind ∙ is.king.no_pawn in
     step_is_legal s.rules r (ap (λ (c : List (Option Cell)). length c) e ∙ long) flight.king.at flight.to is.king.piece there is.king.of_side
-    (ap (is_pawn s.rules) kind ∙ is.king.no_pawn) (plain-rules s.rules is.king.plain)
+    no_pawn (plain-rules s.rules is.king.plain)
+    (walks_quietly s.rules r.cells r.side is.king.piece.kind (record { 0 = flight.king.at }) flight.to
     (subst (λ (c : List (Option Cell)). cell_at c flight.to ≡ None) back opened.empty)
+    no_pawn
     (ap (λ (k : Kind). reaches_as s.rules r.cells r.side k (record { 0 = flight.king.at }) Quiet flight.to) kind
-    ∙ subst (λ (c : List (Option Cell)). reaches_as s.rules c (other s.position.side) flight.king.kind (record { 0 = flight.king.at }) Quiet flight.to ≡ true) back opened.reached)
+    ∙ subst (λ (c : List (Option Cell)). reaches_as s.rules c (other s.position.side) flight.king.kind (record { 0 = flight.king.at }) Quiet flight.to ≡ true) back opened.reached))
     is.no_castling
     (subst (λ (c : List (Option Cell)). king_attacked s.rules (carried c flight.king.at flight.to) (other s.position.side) ≡ false) back opened.safe)
     is.king.small is.small on

@@ -1,4 +1,5 @@
 pub mod ShutLaws
 pub mod ComeLaws
 pub mod FlightLaws
+pub mod TakeLaws
 pub mod ListingLaws
