@@ -37,7 +37,7 @@ use Rattle.check_moves.specs.Checks.{ComesTo}
 use Rattle.check_moves.specs.Shut.{AreShut}
 use Rattle.check_moves.specs.Flights.{IsFlight, IsLoneKing, IsOnlyKing, IsOpen, LeavesStep, StaysOpen, carried, is_castling_step, repeat_after}
 use Rattle.check_moves.proofs.ComeLaws.{by_place, dropped, goes, kept_there, later_occupied, left_there, no_other_king, promo_side, same_is, taken_there, went}
-use Rattle.check_moves.proofs.StepLaws.{no_castles, plain-rules, step_is_legal}
+use Rattle.check_moves.proofs.StepLaws.{no_castles, plain-rules, step_is_legal, walks_quietly}
 
 -- on a board with these occupied squares a piece of the kind does not attack the step's square
 abbrev pub SparesStep : Stance → Flight → Kind → ℕ → Set → Type 0
@@ -174,11 +174,14 @@ open_leaves s flight is m later e long opened on =
     let back = sym e in
     let there = subst (λ (c : List (Option Cell)). cell_at c flight.king.at ≡ Some is.king.piece) back (opened.stays ∙ is.king.there) in
     let kind = is.king.of_kind in
+    let no_pawn = ap (is_pawn s.rules) kind ∙ is.king.no_pawn in
     step_is_legal s.rules r (ap (λ (c : List (Option Cell)). length c) e ∙ long) flight.king.at flight.to is.king.piece there is.king.of_side
-    (ap (is_pawn s.rules) kind ∙ is.king.no_pawn) (plain-rules s.rules is.king.plain)
+    no_pawn (plain-rules s.rules is.king.plain)
+    (walks_quietly s.rules r.cells r.side is.king.piece.kind (record { 0 = flight.king.at }) flight.to
     (subst (λ (c : List (Option Cell)). cell_at c flight.to ≡ None) back opened.empty)
+    no_pawn
     (ap (λ (k : Kind). reaches_as s.rules r.cells r.side k (record { 0 = flight.king.at }) Quiet flight.to) kind
-    ∙ subst (λ (c : List (Option Cell)). reaches_as s.rules c (other s.position.side) flight.king.kind (record { 0 = flight.king.at }) Quiet flight.to ≡ true) back opened.reached)
+    ∙ subst (λ (c : List (Option Cell)). reaches_as s.rules c (other s.position.side) flight.king.kind (record { 0 = flight.king.at }) Quiet flight.to ≡ true) back opened.reached))
     (no_castles s.rules r is.king.piece.kind flight.king.at flight.to is.no_castling)
     (subst (λ (c : List (Option Cell)). king_attacked s.rules (carried c flight.king.at flight.to) (other s.position.side) ≡ false) back opened.safe)
     is.king.small is.small on

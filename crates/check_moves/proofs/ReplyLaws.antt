@@ -39,7 +39,7 @@ use Rattle.check_moves.specs.Shut.{AreShut}
 use Rattle.check_moves.proofs.ComeLaws.{comes_quietly, dropped, goes, kept_there, later_occupied, left_there, promo_side, taken_there, went}
 use Rattle.check_moves.proofs.FlightLaws.{moved-by, other_differs, unlike}
 use Rattle.check_moves.proofs.ShutLaws.{by_any_set}
-use Rattle.check_moves.proofs.StepLaws.{no_king_castles, plain-rules, step_is_legal}
+use Rattle.check_moves.proofs.StepLaws.{no_king_castles, plain-rules, step_is_legal, walks_quietly}
 
 -- ---- the board once the piece has leapt
 
@@ -187,14 +187,17 @@ module _ (s : Stance) (reply : Reply) (is : IsReply s reply) (size : length s.po
       let later = cells_after s.rules (repeat_in s) m in
       let come = move.comes in
       let kind = is.leaper.of_kind in
+      let no_pawn = ap (is_pawn s.rules) kind ∙ is.leaper.no_pawn in
       let on_board = later_occupied s.rules s.position.side coming.kind s.position.cells coming.from coming.to later come occupied later_set all went_on in
       step_is_legal s.rules r move.long reply.leaper.from reply.to is.leaper.piece
       (start_stays s reply is size coming.kind coming.from coming.to from_start from_at to_start to_at later move.long come ∙ is.leaper.there)
       is.leaper.of_side
-      (ap (is_pawn s.rules) kind ∙ is.leaper.no_pawn) (plain-rules s.rules is.leaper.plain)
+      no_pawn (plain-rules s.rules is.leaper.plain)
+      (walks_quietly s.rules later (other s.position.side) is.leaper.piece.kind (record { 0 = reply.leaper.from }) reply.to
       (stays_empty s reply is size coming.kind coming.from coming.to from_start from_at to_start to_at later move.long come)
+      no_pawn
       (ap (λ (k : Kind). reaches_as s.rules later (other s.position.side) k (record { 0 = reply.leaper.from }) Quiet reply.to) kind
-      ∙ is.leap.reached later_set later on_board)
+      ∙ is.leap.reached later_set later on_board))
       (no_king_castles s.rules r is.leaper.piece.kind reply.leaper.from reply.to (ap (is_king s.rules) kind ∙ is.leaper.no_king))
       (is_safe_after s reply is size coming.kind coming.from coming.to from_start from_at to_start to_at later move.long come moved_on gone closed none)
       is.leaper.small is.small on

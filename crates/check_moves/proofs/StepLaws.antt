@@ -90,6 +90,14 @@ no_castles rules r kind king at = no_castle (king == castling_square rules r.sid
 pub no_king_castles : (rules : Rules) (r : Repeat) (kind : Kind) (from to : ℕ) → is_king rules kind ≡ false → means_castling rules r kind from to ≡ false
 no_king_castles rules r kind from to no_king = rw no_king refl
 
+-- a kind that is not the pawn goes to an empty square that it reaches quietly
+pub walks_quietly : (rules : Rules) (cells : List (Option Cell)) (side : Side) (kind : Kind) (from : Square) (to : ℕ) → cell_at cells to ≡ None → is_pawn rules kind ≡ false → reaches_as rules cells side kind from Quiet to ≡ true → piece_goes rules cells side kind from to ≡ true
+unfolding piece_goes
+walks_quietly rules cells side kind from to empty no_pawn reached =
+    ap (λ (c : Option Cell). kind_reaches rules cells side kind (Pieces.serves side c) from to) empty
+    ∙ ap (λ (b : Bool). if b then false else kind_reaches rules cells side kind (λ t. t.quiet) from to) (sym no_pawn)
+    ∙ reached
+
 module _ (rules : Rules) (r : Repeat) (size : length r.cells ≡ 120) (king at : ℕ) (x : Cell) (there : cell_at r.cells king ≡ Some x) (own : x.side ≡ r.side) (no_pawn : is_pawn rules x.kind ≡ false) (plain : ArePlain rules) where
   abbrev step : Move
   step = Go (record { 0 = king }) (record { 0 = at }) Stays None
@@ -108,14 +116,7 @@ module _ (rules : Rules) (r : Repeat) (size : length r.cells ≡ 120) (king at :
       goes rules r size (record { 0 = king }) (record { 0 = at }) Stays x there no_passing
       ∙ ap (λ (c : Option Cell). slice_set (slice_set r.cells king None) at c) (sym there)
 
-  module _ (empty : cell_at r.cells at ≡ None) (reached : reaches_as rules r.cells r.side x.kind (record { 0 = king }) Quiet at ≡ true) (uncastled : means_castling rules r x.kind king at ≡ false) where
-    walks_there : piece_goes rules r.cells r.side x.kind (record { 0 = king }) at ≡ true
-    unfolding piece_goes
-    walks_there =
-        ap (λ (c : Option Cell). kind_reaches rules r.cells r.side x.kind (Pieces.serves r.side c) (record { 0 = king }) at) empty
-        ∙ ap (λ (b : Bool). if b then false else kind_reaches rules r.cells r.side x.kind (λ t. t.quiet) (record { 0 = king }) at) (sym no_pawn)
-        ∙ reached
-
+  module _ (walks_there : piece_goes rules r.cells r.side x.kind (record { 0 = king }) at ≡ true) (uncastled : means_castling rules r x.kind king at ≡ false) where
     stays_promo : (b : Bool) → not (b && rules.must_promote_piece) ≡ true
     stays_promo true = rw plain.stays refl
     stays_promo false = refl

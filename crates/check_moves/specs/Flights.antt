@@ -20,7 +20,7 @@ use Rattle.rules_model.specs.Sides.{other}
 use Rattle.rules_model.specs.Squares.{cell_at}
 use Rattle.square_set.specs.declared.Set.{Set}
 use Rattle.square_set.specs.Members.{has}
-use Rattle.move_tables.specs.declared.mode.Mode.TheVariants.{Quiet}
+use Rattle.move_tables.specs.declared.mode.Mode.TheVariants.{Quiet, Take}
 use Rattle.move_tables.specs.Occupied.{IsOccupied}
 use Rattle.move_tables.specs.Reached.{reaches_as}
 use Rattle.legality.specs.Stance.{Stance, repeat_in}
@@ -99,6 +99,23 @@ StaysOpen s flight kind from to =
     (later : List (Option Cell)) → length later ≡ 120
     → ComesTo s.position.side kind s.position.cells from to later → IsOpen s flight later
 
+-- on these later cells the king still stands there and takes a piece on the square, after which it is not attacked
+pub record MayBeTaken (s : Stance) (flight : Flight) (later : List (Option Cell)) : Type 0 where
+  pub stays : cell_at later flight.king.at ≡ cell_at s.position.cells flight.king.at
+  pub piece : Cell
+  pub there : cell_at later flight.to ≡ Some piece
+  pub of_side : piece.side ≡ s.position.side
+  pub reached :
+      reaches_as s.rules later (other s.position.side) flight.king.kind (record { 0 = flight.king.at }) Take flight.to
+      ≡ true
+  pub safe : king_attacked s.rules (carried later flight.king.at flight.to) (other s.position.side) ≡ false
+
+-- so it is once a piece of the side to move has left the one square for that of the step
+abbrev pub IsTaken : Stance → Flight → ℕ → Type 0
+IsTaken s flight from =
+    (kind : Kind) (later : List (Option Cell)) → length later ≡ 120
+    → ComesTo s.position.side kind s.position.cells from flight.to later → MayBeTaken s flight later
+
 abbrev pub step_of : Flight → Move
 step_of flight = Go (record { 0 = flight.king.at }) (record { 0 = flight.to }) Stays None
 
@@ -117,6 +134,13 @@ abbrev pub IsLeap : Stance → Flight → Type 0
 IsLeap s flight =
     (occupied : Set) (board : List (Option Cell)) → IsOccupied occupied board
     → reaches_as s.rules board (other s.position.side) flight.king.kind (record { 0 = flight.king.at }) Quiet flight.to
+    ≡ true
+
+-- the king takes on the step's square whatever stands on the board
+abbrev pub TakesThere : Stance → Flight → Type 0
+TakesThere s flight =
+    (occupied : Set) (board : List (Option Cell)) → IsOccupied occupied board
+    → reaches_as s.rules board (other s.position.side) flight.king.kind (record { 0 = flight.king.at }) Take flight.to
     ≡ true
 
 -- after the move the other side has a legal move, if the game goes on

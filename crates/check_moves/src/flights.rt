@@ -7,6 +7,7 @@ ghost use Rattle.rules_model.specs.Fit.{IsFit};
 ghost use Rattle.rules_model.specs.Moves.{IsFitMove};
 ghost use Rattle.legality.specs.Stance.{Stance};
 ghost use Rattle.check_moves.specs.Flights as Spec;
+ghost use Rattle.check_moves.specs.Listing.{MakesSets};
 
 use crate::checks::{kind_after, reaches_some};
 use crate::listing::prove_moved;
@@ -191,6 +192,45 @@ fn stays_open(board: &Board, flight: &Flight, kind: Kind, from: u8, to: u8) -> b
     !reaches_some(tables, side, kind, to, moved, flight.target)
 }
 
+/// The step's squares once a piece has moved besides. Nothing is done: the call tells a proof.
+fn prove_stepped(flight: &Flight)
+    ensures { MakesSets flight.now.stepped }
+{
+    prove_moved(flight.stepped);
+}
+
+/// Whether the king takes on the step's square by a leap, whatever stands on the board.
+fn takes_there(board: &Board, flight: &Flight) -> bool
+    requires { Spec.IsFlight board.now flight.now }
+    ensures { OnTrue result (Spec.TakesThere board.now flight.now) }
+{
+    let king = flight.king;
+    let by = board.position().side.other();
+    let spot = board
+        .tables()
+        .spot(by, king.kind, Square(king.at), Mode::Take);
+    spot.leaps.and(spot.within).has(flight.to)
+}
+
+/// Whether the king may take by the step the piece that has left the square for that of the step. One that is dropped
+/// leaves the square to which it comes. A step that is no leap is not known to take.
+fn may_take(board: &Board, flight: &Flight, from: u8) -> bool
+    requires flight { Spec.IsFlight board.now flight.now }
+    requires from { from < 120 }
+    ensures { OnTrue result (Spec.IsTaken board.now flight.now from) }
+{
+    let king = flight.king;
+    if from == king.at {
+        return false;
+    }
+    if !flight.shut.has(from) {
+        return false;
+    }
+    prove_moved(board.sets().occupied());
+    prove_stepped(flight);
+    takes_there(board, flight)
+}
+
 /// Whether the piece that goes from the one square to the other leaves the step open.
 fn go_leaves(board: &Board, flight: &Flight, from: Square, to: Square, promo: Promo) -> bool
     requires flight { Spec.IsFlight board.now flight.now }
@@ -205,6 +245,9 @@ fn go_leaves(board: &Board, flight: &Flight, from: Square, to: Square, promo: Pr
         Some(piece) => {
             if !piece.side.is(p.side) || is_ep(p.ep, to) {
                 return false;
+            }
+            if to.0 == flight.to {
+                return may_take(board, flight, from.0);
             }
             let kind = kind_after(board.rules(), piece, promo);
             stays_open(board, flight, kind, from.0, to.0)
@@ -228,7 +271,13 @@ fn leaves_step(board: &Board, flight: &Flight, m: &Move) -> bool
             gate,
         } => gate.is_none() && go_leaves(board, flight, from, to, promo),
         Move::Castle { .. } => false,
-        Move::Drop { kind, to } => stays_open(board, flight, kind, to.0, to.0),
+        Move::Drop { kind, to } => {
+            if to.0 == flight.to {
+                may_take(board, flight, to.0)
+            } else {
+                stays_open(board, flight, kind, to.0, to.0)
+            }
+        }
     }
 }
 

@@ -41,8 +41,9 @@ pub struct FactTable<'f> {
     killers: [Option<Move>; KILLERS],
     /// The replies that refuted the attacker's last move, the newest first.
     refuters: [Option<Move>; REFUTERS],
-    /// For each square the legal reply that met a check last which was given by a move to it.
+    /// For each square the legal reply that met a check last which was given by a move to it, and the one before.
     meeters: [Option<Move>; SQUARES],
+    elder_meeters: [Option<Move>; SQUARES],
     /// How often replies refuted, by the attacker's moves, the kind and the target: as many counters as there is room for
     /// facts, and no more than `COUNTERS`.
     counters: Vec<u8>,
@@ -126,6 +127,7 @@ impl<'f> FactTable<'f> {
             killers: [None; KILLERS],
             refuters: [None; REFUTERS],
             meeters: [None; SQUARES],
+            elder_meeters: [None; SQUARES],
             counters,
         })
     }
@@ -260,10 +262,31 @@ impl<'f> FactTable<'f> {
         }
     }
 
+    /// The one before it.
+    pub(crate) fn elder_meeter(&self, to: Square) -> Option<Move> {
+        match self.elder_meeters.get(usize::from(to.0)) {
+            Some(meeter) => *meeter,
+            None => None,
+        }
+    }
+
+    /// Makes the one before the last the last.
+    pub(crate) fn bring_meeter(&mut self, to: Square)
+        ensures { self.new ≡ self.old }
+    {
+        if let Some(reply) = self.elder_meeter(to) {
+            self.keep_meeter(to, reply);
+        }
+    }
+
     /// Keeps a legal reply to a check by a move to the square.
     pub(crate) fn keep_meeter(&mut self, to: Square, reply: Move)
         ensures { self.new ≡ self.old }
     {
+        let last = self.meeter(to);
+        if let Some(elder) = self.elder_meeters.get_mut(usize::from(to.0)) {
+            *elder = last;
+        }
         if let Some(meeter) = self.meeters.get_mut(usize::from(to.0)) {
             *meeter = Some(reply);
         }

@@ -15,12 +15,13 @@ ghost use Rattle.rules_model.specs.Next.{next};
 ghost use Rattle.rules_model.specs.Sides.{same_side};
 
 use crate::fact_table::FactTable;
+use crate::ordering::reached;
 use crate::settling::legal_list;
 use check_moves::{Checks, KnownFlights, checks_of, may_check};
 use mate_core::{Fact, Frame};
 use mate_fact::{refuted_by_all_within, won_by};
 use playing::Board;
-use rules_model::{Move, Position, Rules, Square, Value, repeat_of};
+use rules_model::{Memory, Move, Position, Promo, Rules, Square, Value, cell_at, repeat_of};
 use std::alloc::Global;
 
 fn is_win(value: Value) -> bool
@@ -148,29 +149,79 @@ fn target_of(m: &Move) -> Square {
     }
 }
 
-/// Whether the reply is legal that met a check last which was given by a move to the square: then the attacker, who has
-/// no move left, does not win the position.
-fn is_met(frame: &Frame, board: &Board, to: Square, facts: &FactTable) -> bool
+/// Whether the reply is legal: then the attacker, who has no move left, does not win the position.
+fn is_met(frame: &Frame, board: &Board, reply: Option<Move>) -> bool
     requires rules { board.now.rules ≡ frame.now.rules }
     requires movers { Last.only_movers_win frame.now.rules ≡ true }
     requires turn { same_side board.now.position.side frame.now.attacker ≡ false }
     ensures { OnTrue result (In.near_in frame.now 0 board.now.position ≡ false) }
 {
-    match facts.meeter(to) {
+    match reply {
         Some(reply) => board.is_legal(&reply),
         None => false,
     }
 }
 
-/// Keeps a legal reply to the check that was given by a move to the square, where there is memory for the list of them.
+/// Whether a reply is legal that met a check lately which was given by a move to the square. The one before the last is
+/// the last then.
+fn is_met_again(frame: &Frame, board: &Board, to: Square, facts: &mut FactTable) -> bool
+    requires rules { board.now.rules ≡ frame.now.rules }
+    requires movers { Last.only_movers_win frame.now.rules ≡ true }
+    requires turn { same_side board.now.position.side frame.now.attacker ≡ false }
+    ensures kept { facts.new ≡ facts.old }
+    ensures met { OnTrue result (In.near_in frame.now 0 board.now.position ≡ false) }
+{
+    if is_met(frame, board, facts.meeter(to)) {
+        return true;
+    }
+    let elder = facts.elder_meeter(to);
+    let met = is_met(frame, board, elder);
+    if met {
+        facts.bring_meeter(to);
+    }
+    met
+}
+
+/// A legal step of the king that is attacked, or a capture by it, if there is one.
+fn king_reply(board: &Board) -> Option<Move> {
+    let p = board.position();
+    let at = board.sets().kings.first()?;
+    let king = cell_at(&p.cells, Square(at))?;
+    let mut steps = reached(board, king.side, king.kind, at).minus(board.sets().own);
+    while let Some(to) = steps.take_first() {
+        let step = Move::Go {
+            from: Square(at),
+            to: Square(to),
+            promo: Promo::Stays,
+            gate: None,
+        };
+        if board.is_legal(&step) {
+            return Some(step);
+        }
+    }
+    None
+}
+
+/// The first of the legal moves, or `Memory`.
+fn first_reply(alloc: Global, board: &Board) -> Result<Option<Move>, Memory> {
+    let replies = legal_list(alloc, board)?;
+    match replies.items.first() {
+        Some(reply) => Ok(Some(*reply)),
+        None => Ok(None),
+    }
+}
+
+/// Keeps a legal reply to the check that was given by a move to the square: one of the king, if there is one; or the
+/// first that is listed, where there is memory for the list of them.
 fn keep_reply(alloc: Global, board: &Board, to: Square, facts: &mut FactTable)
     ensures { facts.new ≡ facts.old }
 {
-    let Ok(replies) = legal_list(alloc, board) else {
+    if let Some(reply) = king_reply(board) {
+        facts.keep_meeter(to, reply);
         return;
-    };
-    if let Some(reply) = replies.items.first() {
-        facts.keep_meeter(to, *reply);
+    }
+    if let Ok(Some(reply)) = first_reply(alloc, board) {
+        facts.keep_meeter(to, reply);
     }
 }
 
@@ -193,7 +244,7 @@ fn wins_once_made(
 {
     let next = board.after(m);
     let to = target_of(m);
-    if is_met(frame, &next, to, facts) {
+    if is_met_again(frame, &next, to, facts) {
         return false;
     }
     let wins = wins_at_once(frame, &next);

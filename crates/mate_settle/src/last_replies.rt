@@ -165,6 +165,7 @@ fn last_refuter(alloc: Global, board: &Board, facts: &mut FactTable) -> Result<O
 
 /// The refutation of a position before the attacker's last move by a reply that refuted such a position lately, if one
 /// does: no list of moves is made. Or `Memory`.
+#[inline(never)]
 fn refuted_again(
     alloc: Global,
     board: &Board,
@@ -188,6 +189,7 @@ fn refuted_again(
 
 /// The attacker's last move, where only movers win: a true fact that says whether he wins by it; or `Memory`. A win is
 /// kept.
+#[inline(never)]
 fn settled_last(alloc: Global, board: &Board, facts: &mut FactTable) -> Result<Fact, Memory>
     requires rules { board.now.rules ≡ facts.old.rules }
     requires movers { Last.only_movers_win facts.old.rules ≡ true }

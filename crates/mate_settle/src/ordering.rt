@@ -76,7 +76,7 @@ pub(crate) fn comer(board: &Board, m: &Move) -> Option<(Kind, Square)> {
 }
 
 /// The squares on which a piece of the kind and the side may take from the square.
-fn reached(board: &Board, side: Side, kind: Kind, from: u8) -> Set {
+pub(crate) fn reached(board: &Board, side: Side, kind: Kind, from: u8) -> Set {
     if kind.0 >= 26 || from >= 120 {
         return EMPTY;
     }
