@@ -14,7 +14,7 @@ use Rattle.rules_model.specs.declared.moves.Move.TheVariants.{Go, Drop}
 use Rattle.rules_model.specs.declared.moves.Promo.{Promo}
 use Rattle.rules_model.specs.declared.rules.Rules.{Rules}
 use Rattle.rules_model.specs.declared.rules.Term.{Term}
-use Rattle.rules_model.specs.Attacks.{attacks, attacks_from, is_own_king, king_attacked, king_attacked_at}
+use Rattle.rules_model.specs.Attacks.{attacks, attacks_from, is_diagonal, is_own_king, king_attacked, king_attacked_at}
 use Rattle.rules_model.specs.Kinds.{board_of, is_king, is_pawn}
 use Rattle.rules_model.specs.Movement.{in_mobility, kind_reaches, reaches_by, terms_from}
 use Rattle.rules_model.specs.Next.{after_promo, cells_after, fresh, next_repeat}
@@ -63,7 +63,7 @@ walks_taking rules cells side kind from to y there enemy no_pawn reached =
     ap (λ (c : Option Cell). kind_reaches rules cells side kind (Pieces.serves side c) from to) there
     ∙ ap (λ (b : Bool). in_mobility rules side kind to && list_any (λ t. t.takes && not b && reaches (board_of rules) cells side t from to) (terms_from rules side kind from)) enemy
     ∙ ap (λ (b : Bool). in_mobility rules side kind to && b) (onto_enemy rules cells side from to (terms_from rules side kind from))
-    ∙ ap (λ (b : Bool). if b then false else kind_reaches rules cells side kind (serves Take) from to) (sym no_pawn)
+    ∙ ap (λ (b : Bool). if b then is_diagonal (board_of rules) side from to else kind_reaches rules cells side kind (serves Take) from to) (sym no_pawn)
     ∙ reached
 
 -- ---- the king once it has taken

@@ -9,8 +9,8 @@ use Rattle.check_moves.proofs.FlightLaws.{drop-leaves}
 use Rattle.check_moves.proofs.TakeLaws.{drop-is-taken}
 use Rattle.check_moves.proofs.flights.leaves_step.Goals as goal
 
-pub returns-in-Drop-then-to-flight : goal.returns-in-Drop-then-to-flight
-returns-in-Drop-then-to-flight c =
+pub returns-then-to-flight : goal.returns-then-to-flight
+returns-then-to-flight c =
     let s = c.args.board.now in
     let flight = c.args.flight.now in
     let size = subst (λ (x : Position). length x.cells ≡ 120) c.position.ensures c.prove_position_sizes.ensures.cells in
@@ -18,8 +18,8 @@ returns-in-Drop-then-to-flight c =
     subst (λ (x : Move). OnTrue c.may_take.result (LeavesStep s flight x)) (sym c.in-Drop.is)
     (on_true c.may_take.result c.may_take.ensures (drop-is-taken s flight c.requires.flight size c.in-Drop.kind c.in-Drop.to fit.1 c.if-to-flight.true))
 
-pub returns-in-Drop-else-to-flight : goal.returns-in-Drop-else-to-flight
-returns-in-Drop-else-to-flight c =
+pub returns-else-to-flight : goal.returns-else-to-flight
+returns-else-to-flight c =
     let s = c.args.board.now in
     let flight = c.args.flight.now in
     let size = subst (λ (x : Position). length x.cells ≡ 120) c.position.ensures c.prove_position_sizes.ensures.cells in
