@@ -1,4 +1,4 @@
-use Rattle.std.proofs.Common.{subst, sym}
+use Rattle.std.proofs.Common.{true, subst, sym}
 use Rattle.std.proofs.lemmas.Bool.{OnTrue_at, OnTrue_from}
 use Rattle.check_moves.specs.Flights.{AreFlights, IsMet}
 use Rattle.check_moves.specs.Replies.{AreReplies}
@@ -27,25 +27,27 @@ returns-then-meets-clause-known c =
     })
 
 pub returns-then-meets-clause-on : goal.returns-then-meets-clause-on
-returns-then-meets-clause-on c = OnTrue_from _ (GoesOn c.args.line.now c.args.m.now) (λ told.
+returns-then-meets-clause-on c = OnTrue_from true (GoesOn c.args.line.now c.args.m.now) (λ told.
     let met = subst (λ s. IsMet s c.args.m.now) c.board.ensures (OnTrue_at c.if-meets.true c.meets.ensures.met) in
     goes_on_met c.args.line.now c.args.m.now (OnTrue_at c.if-not-sure.false c.requires.known).ends met)
 
-pub replies_in-requires : goal.replies_in-requires
-replies_in-requires c =
+pub replies_in-replies-requires : goal.replies_in-replies-requires
+replies_in-replies-requires c =
     let known = OnTrue_at c.if-not-sure.false c.requires.known in
     record {
-      ends = known.ends;
-      steps = subst (λ s. AreFlights s c.meets.new.self) c.board.ensures c.meets.ensures.kept;
-      leaps = known.leaps;
+      known = record {
+        ends = known.ends;
+        steps = subst (λ s. AreFlights s c.meets.new.self) c.board.ensures c.meets.ensures.kept;
+        leaps = known.leaps;
+      };
     }
 
-pub meets-2-requires-clause-move_fits : goal.meets-2-requires-clause-move_fits
-meets-2-requires-clause-move_fits c =
+pub meets-requires-2-clause-move_fits : goal.meets-requires-2-clause-move_fits
+meets-requires-2-clause-move_fits c =
     (legal-member c.args.line.now.rules (repeat_of (story_of_line c.args.line.now).last) c.args.m.now c.requires.legal).0
 
-pub meets-2-requires-clause-replies : goal.meets-2-requires-clause-replies
-meets-2-requires-clause-replies c = subst (λ s. AreReplies s c.replies_in-replies.result) (sym c.board-2.ensures) c.replies_in-replies.ensures.found
+pub meets-requires-2-clause-replies : goal.meets-requires-2-clause-replies
+meets-requires-2-clause-replies c = subst (λ s. AreReplies s c.replies_in-replies.result) (sym c.board-2.ensures) c.replies_in-replies.ensures.found
 
 pub returns-clause-known : goal.returns-clause-known
 returns-clause-known c =
