@@ -1,6 +1,7 @@
 -- What is known of a move before its position is made.
 use Rattle.std.specs.Prelude.{◌≡◌, ℕ, ◌<◌, Bool, true, false, ◌&&◌, ◌||◌, not, ◌==◌, is_none, Option, Some, None}
 use Rattle.rules_model.specs.declared.board.Kind.{Kind}
+use Rattle.rules_model.specs.declared.board.Position.{Position}
 use Rattle.rules_model.specs.declared.board.Repeat.{Repeat}
 use Rattle.rules_model.specs.declared.board.Square.{Square}
 use Rattle.rules_model.specs.declared.moves.Move.{Move}
@@ -10,8 +11,12 @@ use Rattle.rules_model.specs.declared.rules.Rules.{Rules}
 use Rattle.rules_model.specs.Attacks.{is_own, is_own_king}
 use Rattle.rules_model.specs.Kinds.{is_king}
 use Rattle.rules_model.specs.Legal.{is_drop, is_safe, is_sane}
+use Rattle.rules_model.specs.Next.{cells_after}
 use Rattle.rules_model.specs.Pawns.{is_ep, is_stays, passes_by}
+use Rattle.rules_model.specs.Repeats.{repeat_of}
 use Rattle.rules_model.specs.Squares.{cell_at}
+use Rattle.next_position.specs.declared.written.OnePut.{OnePut}
+use Rattle.next_position.specs.Puts.{put_on}
 use Rattle.square_set.specs.declared.Set.{Set}
 use Rattle.square_set.specs.declared.Shift.{Shift}
 use Rattle.square_set.specs.Members.{has, origin}
@@ -19,6 +24,10 @@ use Rattle.square_set.specs.Members.{has, origin}
 -- the variant asks more of the move than that it leaves the own king safe
 abbrev pub asks_more : Rules → Move → Bool
 asks_more rules m = rules.immobile_bad || not (rules.checking && (rules.drop_checks || not (is_drop m)))
+
+-- the board after the move is the one before it with this put
+abbrev pub IsPutBy : Rules → Position → Move → OnePut → Type 0
+IsPutBy rules p m put = cells_after rules (repeat_of p) m ≡ put_on put p.cells
 
 -- a piece of the free squares goes without a gate and stays what it is, to a square without an own piece and not to
 -- that of en passant

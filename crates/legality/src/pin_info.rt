@@ -10,7 +10,7 @@ ghost use Rattle.rules_model.specs.Next as Next;
 ghost use Rattle.rules_model.specs.Repeats.{repeat_of};
 ghost use Rattle.rules_model.specs.Attacks.{is_own};
 ghost use Rattle.rules_model.specs.Sides.{other};
-ghost use Rattle.next_position.specs.Puts.{IsOnBoard, put_on};
+ghost use Rattle.next_position.specs.Puts.{IsOnBoard};
 ghost use Rattle.board_sets.specs.Sets.{AreSets};
 ghost use Rattle.legality.specs.Moved as Moved;
 
@@ -361,12 +361,12 @@ impl<'a> PinInfo<'a> {
         !king_attacked_on(self.tables, cells, self.p.side, &sets)
     }
 
-    /// Whether the move leaves the own king safe, which puts this, that is no piece of the other side. Those of the
-    /// other side that are not taken stand where they stood, so no copy of the board is made.
+    /// Whether the move leaves the own king safe. It puts this and nothing else, and what it puts is no piece of the
+    /// other side. So pieces of the other side that are not taken stand where they stood, and no board is copied.
     fn is_safe_put(&self, m: &Move, put: OnePut) -> bool
         requires on_board { IsOnBoard put }
         requires own { is_own (other self.now.p.now.side) (λ kind. true) put.cell ≡ false }
-        requires after { Next.cells_after self.now.tables.now (repeat_of self.now.p.now) m.now ≡ put_on put self.now.p.now.cells }
+        requires after { Moved.IsPutBy self.now.tables.now self.now.p.now m.now put }
         ensures { result ≡ Legal.is_safe self.now.tables.now (repeat_of self.now.p.now) m.now }
     {
         prove_position_sizes(self.p);
