@@ -5,7 +5,7 @@ ghost use Rattle.foundation.specs.Member.{Member};
 ghost use Rattle.game_line.specs.Lined.{legal_in};
 ghost use Rattle.negamax.specs.Trials.{Entered};
 ghost use Rattle.watching.specs.declared.halt.Halt.{Halt};
-ghost use Rattle.alpha_beta.specs.Workers.{AreTrueFacts, IsSetAside, IsPlan, lines_after, lines_in};
+ghost use Rattle.alpha_beta.specs.Workers.{AreTrueFacts, IsPlan, IsSetAside, lines_after, lines_in};
 
 use crate::jobs::Job;
 use crate::plan::Plan;

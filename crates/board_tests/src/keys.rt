@@ -138,4 +138,15 @@ fn moves_touch_few_squares(rt: HostRuntime) {
         passing,
     );
     expect_eq(&rt, touched(&rules, &p, &castle()).squares.count(), 4);
+    let drop = Move::Drop {
+        kind: kind(b'h'),
+        to: square("h4"),
+    };
+    let hands = [
+        touched(&rules, &p, &go("e1", "e2", Promo::Stays, None)).hands,
+        touched(&rules, &p, &go("e5", "d6", Promo::Stays, None)).hands,
+        touched(&rules, &p, &castle()).hands,
+        touched(&rules, &p, &drop).hands,
+    ];
+    expect_eq(&rt, hands, [false, true, true, true]);
 }

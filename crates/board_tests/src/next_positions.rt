@@ -4,7 +4,7 @@ ghost use Rattle.rules_model.specs.Fit.{IsFit};
 ghost use Rattle.rules_model.specs.Moves.{IsFitMove};
 
 use crate::expect::{expect, expect_eq};
-use crate::helpers::{go, quiet};
+use crate::helpers::{go, quiet, set_of};
 use next_position::{
     count_check, make_but_checks, make_move, move_pieces, sound_positions_take_moves,
 };
@@ -89,8 +89,9 @@ fn checks_are_counted_last(rt: HostRuntime) {
     let mut p = rules.start;
     assert!(rt; sound(&rules, &p));
     sound_positions_take_moves();
-    make_but_checks(&rules, &mut p, &quiet("a1", "a8"));
+    let touched = make_but_checks(&rules, &mut p, &quiet("a1", "a8"));
     expect_eq(&rt, (p.side, p.checks), (Side::Black, [3, 3]));
+    expect_eq(&rt, touched.squares, set_of("a1 a8"));
     let left = [
         checks_after(&p, 3, false),
         checks_after(&p, 3, true),

@@ -6,7 +6,7 @@ ghost use Rattle.rules_model.specs.Moves.{IsFitMove};
 use crate::expect::{expect_eq, expect_of};
 use crate::helpers::{castle, go, quiet, set_of};
 use board_sets::{BoardSets, sets_of};
-use next_position::{move_pieces, touched};
+use next_position::{move_pieces, one_put, touched};
 use rules_model::{Move, Position, Promo, Rules, Side};
 use sample_rules::{chess, kind, position, shouse, square};
 use square_set::{EMPTY, Set};
@@ -44,9 +44,37 @@ fn leads_to<R: Abort>(rt: &R, pieces: &str, m: &Move, own: &str, enemies: &str, 
         ..position(pieces)
     };
     let sets = sets_after(&rules, &p, m);
+    if let Some(put) = one_put(&rules, &p, m) {
+        let kept = sets_of(&rules, &p.cells, p.side).put(&rules, p.side, put);
+        expect_of(rt, &pieces, kept == sets);
+    }
     let found = [sets.own, sets.enemies, sets.kings, sets.enemy_kings];
     let wanted = [set_of(own), set_of(enemies), set_of(kings), set_of("d8")];
     expect_of(rt, &pieces, found == wanted);
+}
+
+/// Whether the move of White puts one piece, where d6 is the en passant square.
+fn puts_one(m: &Move) -> bool
+    requires { IsFitMove m.now }
+{
+    let p = Position {
+        ep: Some(square("d6")),
+        ..position("Ke1 Rh1 Pe5 kg8 pd5")
+    };
+    one_put(&shouse(), &p, m).is_some()
+}
+
+// Not a gate, a capture in passing or a castle.
+#[test]
+fn plain_moves_and_drops_put_one_piece(rt: HostRuntime) {
+    let found = [
+        puts_one(&quiet("h1", "h4")),
+        puts_one(&drop_of(b'h', "h4")),
+        puts_one(&go("e1", "e2", Promo::Stays, Some(kind(b'h')))),
+        puts_one(&go("e5", "d6", Promo::Stays, None)),
+        puts_one(&castle()),
+    ];
+    expect_eq(&rt, found, [true, true, false, false, false]);
 }
 
 #[test]
