@@ -1,11 +1,11 @@
 -- Keys counted in slots and taken back.
-use Rattle.std.proofs.Common.{◌≡◌, ℕ, zero, suc, refl, ◌+◌, ◌-◌, ◌%◌, ◌<◌, ◌≤◌, ◌==◌, cond, inl, inr, true, false, List, [], ◌∷◌, ◌++◌, length, replicate, slice_index, get_or, set, ap, sym, ◌∙◌, arith}
-use Rattle.std.proofs.lemmas.List.{get_or_read, length-set, get_or-set_same, get_or-set_other, get_or-replicate, length-replicate}
-use Rattle.std.proofs.lemmas.List.Folds.{sum_by-replicate}
-use Rattle.std.proofs.lemmas.List.Sums.{sum_by_push, sum_by-set, count_by-le-length}
+use Rattle.std.proofs.Common.{◌≡◌, ℕ, zero, suc, refl, ◌+◌, ◌-◌, ◌%◌, ◌<◌, ◌≤◌, ◌==◌, ◌||◌, Bool, cond, inl, inr, true, false, true≢false, List, [], ◌∷◌, ◌++◌, length, take, replicate, slice_index, get_or, set, ap, sym, ◌∙◌, arith}
+use Rattle.std.proofs.lemmas.List.{get_or_read, length-set, take_more, get_or-set_same, get_or-set_other, get_or-replicate, length-replicate}
+use Rattle.std.specs.List.{list_any}
+use Rattle.std.proofs.lemmas.List.Sums.{sum_by_push, sum_by-append, sum_by-cons, sum_by-take-le, count_by-le-length}
 use Rattle.std.proofs.lemmas.Bool.{cases_eq}
 use Rattle.std.proofs.lemmas.Bool.Decides.{nat_tests}
-use Rattle.game_line.specs.Slots.{in_slot, AreCounts, AreSparse, crowded_in, is_crowded}
+use Rattle.game_line.specs.Slots.{in_slot, key_times, AreApart, AreCounts}
 
 -- one key more
 in_slot-here : (keys : List ℕ) (key slot : ℕ) → slot ≡ key % 4096 → in_slot slot (keys ++ key ∷ []) ≡ in_slot slot keys + 1
@@ -64,76 +64,77 @@ few keys counts slot h lt = let e = h.each slot lt in let l = count_by-le-length
 pub some : (keys counts : List ℕ) (key slot : ℕ) → AreCounts (keys ++ key ∷ []) counts → slot ≡ key % 4096 → slot < 4096 → 0 < slice_index counts slot
 some keys counts key slot h is lt = let e = h.each slot lt ∙ in_slot-here keys key slot is in omega arith
 
--- ---- how many slots are crowded
+-- ---- keys that are apart
 
-abbrev one_if : ℕ → ℕ
-one_if n = cond (is_crowded n) 1 0
+pub apart-none : AreApart []
+unfolding key_times
+apart-none key = omega arith
 
-more_crowded : (n : ℕ) → (n ≡ 1 → ⊥) → one_if (n + 1) ≡ one_if n
-more_crowded zero apart = refl
-more_crowded (suc zero) apart = absurd (apart refl)
-more_crowded (suc (suc n)) apart =
-    let a : is_crowded (suc (suc n) + 1) ≡ true = grind (arith, nat_tests) in
-    let b : is_crowded (suc (suc n)) ≡ true = grind (arith, nat_tests) in
-    rw (a, b) refl
+pub none-times : (key : ℕ) (keys : List ℕ) → list_any (λ k. k == key) keys ≡ false → key_times key keys ≡ 0
+unfolding key_times
+none-times key [] e = refl
+none-times key (k ∷ ks) e =
+    sum_by-cons (λ j. cond (j == key) 1 0) k ks ∙ here (k == key) e (none-times key ks)
+  where
+    here : (b : Bool) → (b || list_any (λ j. j == key) ks) ≡ false → (list_any (λ j. j == key) ks ≡ false → key_times key ks ≡ 0)
+        → cond b 1 0 + key_times key ks ≡ 0
+    here true f rest = absurd (true≢false f)
+    here false f rest = let none = rest f in omega (arith, none)
 
-module _ (counts : List ℕ) (slot had : ℕ) (below : slot < length counts) (read : had ≡ get_or counts slot had) where
-  crowded-set : (n : ℕ) → crowded_in (set counts slot n) + one_if had ≡ crowded_in counts + one_if n
-  unfolding crowded_in
-  crowded-set n =
-      ap (λ k. crowded_in (set counts slot n) + one_if k) read ∙ sum_by-set one_if counts slot n had below
+-- a key is in its slot
+pub times-in_slot : (key : ℕ) (keys : List ℕ) → key_times key keys ≤ in_slot (key % 4096) keys
+unfolding key_times in_slot
+times-in_slot key [] = omega arith
+times-in_slot key (k ∷ ks) =
+    let t = sum_by-cons (λ j. cond (j == key) 1 0) k ks in
+    let s = sum_by-cons (λ j. cond (j % 4096 == key % 4096) 1 0) k ks in
+    let one = here (k == key) refl in
+    let rest = times-in_slot key ks in
+    omega arith
+  where
+    here : (b : Bool) → (k == key) ≡ b → cond b 1 0 ≤ cond (k % 4096 == key % 4096) 1 0
+    here true e =
+        let at : k ≡ key = grind (arith, nat_tests, e) in
+        let slot : k % 4096 ≡ key % 4096 = ap (λ j. j % 4096) at in
+        let same : (k % 4096 == key % 4096) ≡ true = grind (arith, nat_tests, slot) in
+        rw same (omega arith)
+    here false e = omega arith
 
-  pub crowded-first : had ≡ 1 → crowded_in (set counts slot (had + 1)) ≡ crowded_in counts + 1
-  crowded-first one =
-      let e = crowded-set (had + 1) in
-      let a : one_if had ≡ 0 = rw one refl in
-      let b : one_if (had + 1) ≡ 1 = rw one refl in
-      omega arith
+pub apart-push : (keys : List ℕ) (key : ℕ) → AreApart keys → key_times key keys ≡ 0 → AreApart (keys ++ key ∷ [])
+unfolding key_times
+apart-push keys key apart none k =
+    let p = sum_by_push (λ j. cond (j == k) 1 0) keys key in
+    let one = here (key == k) refl in
+    omega arith
+  where
+    here : (b : Bool) → (key == k) ≡ b → key_times k keys + cond b 1 0 ≤ 1
+    here true e =
+        let at : key ≡ k = grind (arith, nat_tests, e) in
+        let same : key_times k keys ≡ key_times key keys = ap (λ j. key_times j keys) (sym at) in
+        omega (arith, same, none)
+    here false e = let few = apart k in omega (arith, few)
 
-  pub crowded-next : (had ≡ 1 → ⊥) → crowded_in (set counts slot (had + 1)) ≡ crowded_in counts
-  crowded-next apart =
-      let e = crowded-set (had + 1) in
-      let same = more_crowded had apart in
-      omega arith
+pub times-both : (key : ℕ) (xs ys : List ℕ) → key_times key (xs ++ ys) ≡ key_times key xs + key_times key ys
+unfolding key_times
+times-both key xs ys = sum_by-append (λ k. cond (k == key) 1 0) xs ys
 
-  pub crowded-last : had ≡ 2 → crowded_in (set counts slot (had - 1)) + 1 ≡ crowded_in counts
-  crowded-last two =
-      let e = crowded-set (had - 1) in
-      let a : one_if had ≡ 1 = rw two refl in
-      let b : one_if (had - 1) ≡ 0 = rw two refl in
-      omega arith
+pub apart-front : (keys more : List ℕ) → AreApart (keys ++ more) → AreApart keys
+apart-front keys more apart key =
+    let all = times-both key keys more in
+    let few = apart key in
+    omega (arith, all, few)
 
-  pub crowded-less : (had ≡ 2 → ⊥) → 0 < had → crowded_in (set counts slot (had - 1)) ≡ crowded_in counts
-  crowded-less apart some =
-      let e = crowded-set (had - 1) in
-      let back : had - 1 + 1 ≡ had = omega arith in
-      let same = more_crowded (had - 1) (λ k. apart (omega arith)) in
-      let this = ap one_if back in
-      omega arith
+slot-part : (keys : List ℕ) (slot n : ℕ) → in_slot slot (take n keys) ≤ in_slot slot keys
+unfolding in_slot
+slot-part keys slot n = sum_by-take-le (λ key. cond (key % 4096 == slot) 1 0) keys n
 
-pub crowded-few : (counts : List ℕ) → crowded_in counts ≤ length counts
-unfolding crowded_in
-crowded-few counts = count_by-le-length is_crowded counts
-
-pub crowded-none : (counts : List ℕ) → counts ≡ replicate 4096 0 → crowded_in counts ≡ 0
-unfolding crowded_in
-crowded-none counts e =
-    let none : ℕ = 0 in
-    let sum = sum_by-replicate one_if 4096 none in
-    ap crowded_in e ∙ sum
-
-at_most_one : (n : ℕ) → one_if n ≡ 0 → n ≤ 1
-at_most_one zero e = omega arith
-at_most_one (suc zero) e = omega arith
-at_most_one (suc (suc n)) e =
-    let b : is_crowded (suc (suc n)) ≡ true = grind (arith, nat_tests) in
-    let one : one_if (suc (suc n)) ≡ 1 = rw b refl in
-    absurd (omega arith)
-
--- where none is crowded, each has one key at most
-pub sparse : (counts : List ℕ) → length counts ≡ 4096 → crowded_in counts ≡ 0 → AreSparse counts
-unfolding crowded_in
-sparse counts long none slot below =
-    let e = sum_by-set one_if counts slot 0 0 (omega arith) in
-    let kept : one_if 0 ≡ 0 = refl in
-    at_most_one (get_or counts slot 0) (omega arith)
+-- what was read at a place is none of those before it, where its slot has one key at most
+pub alone-first : (keys counts : List ℕ) (i key : ℕ) → AreCounts keys counts → i < length keys → key ≡ slice_index keys i
+    → slice_index counts (key % 4096) < 2 → key_times key (take i keys) ≡ 0
+alone-first keys counts i key h lt is alone =
+    let front : take (i + 1) keys ≡ take i keys ++ key ∷ [] = take_more keys i 0 lt ∙ ap (λ k. take i keys ++ k ∷ []) (sym is) in
+    let part = slot-part keys (key % 4096) (i + 1) in
+    let here = ap (in_slot (key % 4096)) front ∙ in_slot-here (take i keys) key (key % 4096) refl in
+    let all = h.each (key % 4096) (omega arith) in
+    let few = times-in_slot key (take i keys) in
+    omega (arith, part, here, all, few, alone)

@@ -1,5 +1,5 @@
 -- A line of moves that goes on from a game.
-use Rattle.std.specs.Prelude.{◌≡◌, ℕ, ◌+◌, ◌-◌, ◌≤◌, true, false, List, [], ◌∷◌, ◌++◌, map, length, take}
+use Rattle.std.specs.Prelude.{◌≡◌, ℕ, ◌+◌, ◌-◌, ◌<◌, ◌≤◌, true, false, List, [], ◌∷◌, ◌++◌, map, length, take}
 use Rattle.rules_model.specs.declared.board.Position.{Position}
 use Rattle.rules_model.specs.declared.board.Repeat.{Repeat}
 use Rattle.rules_model.specs.declared.moves.Move.{Move}
@@ -12,6 +12,7 @@ use Rattle.rules_model.specs.Next.{next}
 use Rattle.rules_model.specs.Repeats.{repeat_of}
 use Rattle.game_play.specs.Played.{Played, story, keys_of}
 use Rattle.legality.specs.Stance.{Stance}
+use Rattle.game_line.specs.Slots.{AreApart}
 
 -- a line: the rules, the game from which it goes on, the moves since, in order, and how many moves it holds at most
 pub record Lined : Type 0 where
@@ -39,6 +40,10 @@ stance_of_line l = by_rules l.rules (story_of_line l).last
 -- the moves that are legal after it
 abbrev pub legal_in : Lined → List Move
 legal_in l = legal l.rules (repeat_of (story_of_line l).last)
+
+-- the keys of its positions and of the game's
+abbrev pub keys_in : Lined → List ℕ
+keys_in l = keys_of (history (story_of_line l))
 
 -- the line one move longer
 abbrev pub pushed : Lined → Move → Lined
@@ -86,6 +91,11 @@ pub record IsHeld (rules : Rules) (base : Position) (moves : List Move) (boards 
   pub are_legal : are_legal rules base moves ≡ true
   pub are_boards : boards ≡ stances_of rules (positions_since rules base moves)
   pub are_keys : keys ≡ keys_of (positions_since rules base moves)
+
+-- so many of the keys are apart, together with all of the game's before them
+pub record IsApart (base : Story) (keys : List ℕ) (apart : ℕ) : Type 0 where
+  pub low : apart ≤ length keys
+  pub each : 0 < apart → AreApart (all_keys base (take apart keys))
 
 -- no more moves than there is room for, and memory for each; the game is not too long
 pub record HasRoom (earlier moves room boards_capacity moves_capacity keys_capacity : ℕ) : Type 0 where

@@ -25,6 +25,9 @@ pub struct Line<'g> {
     pub(crate) keys: Vec<u64>,
     /// How many keys of the game and of the line are in each slot.
     pub(crate) slots: Slots,
+    /// How many of the line's keys, from the first, are known to be apart: no two of them, and of those of the game
+    /// before them, are equal. None is known to be where the game has equal keys.
+    pub(crate) apart: usize,
     room: usize,
 }
 
@@ -32,7 +35,7 @@ impl<'g> Model for Line<'g> {
     ghost use Rattle.std.specs.Prelude.{length};
     ghost use Rattle.std.specs.Vec.{vec_capacity};
     ghost use Rattle.game_play.specs.Played.{story};
-    ghost use Rattle.game_line.specs.Lined.{Lined, all_keys, line_of, IsHeld, HasRoom};
+    ghost use Rattle.game_line.specs.Lined.{Lined, all_keys, line_of, IsApart, IsHeld, HasRoom};
     ghost use Rattle.game_line.specs.Slots.{AreCounts};
 
     ghost Value = { Lined };
@@ -42,7 +45,8 @@ impl<'g> Model for Line<'g> {
     ghost invariant = { λ l. IsHeld l.game.now.rules (story l.game.now).last l.moves.items l.boards.items l.keys.items
         × HasRoom (length (story l.game.now).earlier) (length l.moves.items) l.room (vec_capacity l.boards)
         (vec_capacity l.moves) (vec_capacity l.keys)
-        × AreCounts (all_keys (story l.game.now) l.keys.items) l.slots };
+        × AreCounts (all_keys (story l.game.now) l.keys.items) l.slots
+        × IsApart (story l.game.now) l.keys.items l.apart };
 }
 
 impl<'g> Line<'g> {
@@ -56,6 +60,7 @@ impl<'g> Line<'g> {
         let mut boards = Vec::with_capacity(alloc, room + 1)?;
         let moves = Vec::with_capacity(alloc, room)?;
         let slots = Slots::of(alloc, game.keys())?;
+        let apart: usize = if slots.keep_apart(game.keys()) { 1 } else { 0 };
         keys.push_reserved(board.key());
         boards.push_reserved(board);
         Ok(Line {
@@ -64,6 +69,7 @@ impl<'g> Line<'g> {
             moves,
             keys,
             slots,
+            apart,
             room,
         })
     }
@@ -111,10 +117,16 @@ impl<'g> Line<'g> {
     {
         let next = self.boards[self.boards.len() - 1].after(m);
         let key = next.key();
+        let apart = if self.stays_apart(key) {
+            self.keys.len() + 1
+        } else {
+            self.apart
+        };
         self.slots.count(key);
         self.keys.push_reserved(key);
         self.boards.push_reserved(next);
         self.moves.push_reserved(*m);
+        self.apart = apart;
     }
 
     /// Takes the last move off the line.
@@ -123,10 +135,13 @@ impl<'g> Line<'g> {
         ensures { self.new ≡ shorter self.old }
     {
         let plies = self.moves.len();
+        let known = self.apart;
+        let apart = if known > plies { plies } else { known };
         self.slots.uncount(self.keys[plies]);
         self.moves.truncate(plies - 1);
         self.boards.truncate(plies);
         self.keys.truncate(plies);
+        self.apart = apart;
     }
 
     /// The same line in memory of its own, or `Memory`.

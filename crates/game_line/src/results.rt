@@ -1,5 +1,5 @@
 //! How a line stands.
-ghost use Rattle.std.specs.Prelude.{◌≡◌, ◌<◌, ◌≤◌, not, false, length};
+ghost use Rattle.std.specs.Prelude.{◌≡◌, ◌<◌, ◌≤◌, not, false, [], ◌∷◌, ◌++◌, length};
 ghost use Rattle.std.specs.Bool.{OnTrue};
 ghost use Rattle.rules_model.specs.Games as Games;
 ghost use Rattle.rules_model.specs.Games.{times};
@@ -9,8 +9,10 @@ ghost use Rattle.position_key.specs.Key.{key_of};
 ghost use Rattle.game_play.specs.Played.{keys_of};
 ghost use Rattle.game_line.specs.Lined as Lined;
 ghost use Rattle.game_line.specs.Lined.{positions_of, story_of_line};
+ghost use Rattle.game_line.specs.Slots.{AreApart};
 
 use crate::line::Line;
+use crate::slots::is_among;
 use end_rules::can_end_early;
 use game_play::counted_end;
 use playing::Board;
@@ -109,8 +111,31 @@ impl Line<'_> {
         }
     }
 
-    /// Whether it is known of every move that no repetition ends the game after it. Where some position may have stood
-    /// twice it is not.
+    /// Whether no two positions of the game and the line have one key.
+    fn is_apart(&self) -> bool
+        ensures { OnTrue result (AreApart (Lined.keys_in self.now)) }
+    {
+        self.apart == self.keys.len()
+    }
+
+    /// Whether this is so, and a position of this key after them has another one.
+    pub(crate) fn stays_apart(&self, key: u64) -> bool
+        ensures { OnTrue result (AreApart (Lined.keys_in self.now ++ key ∷ [])) }
+    {
+        if !self.is_apart() {
+            return false;
+        }
+        if self.slots.at(key) == 0 {
+            return true;
+        }
+        if is_among(self.game.keys(), key) {
+            return false;
+        }
+        !is_among(&self.keys, key)
+    }
+
+    /// Whether it is known of every move that no repetition ends the game after it. Where some position has stood twice
+    /// it is not.
     fn repeats_after_none(&self) -> bool
         ensures { OnTrue result (Lined.RepeatsAfterNone self.now) }
     {
@@ -121,7 +146,7 @@ impl Line<'_> {
         if fold < 3 {
             return false;
         }
-        self.slots.are_sparse()
+        self.is_apart()
     }
 
     /// Whether it is known of every move that the move count does not end the game after it.
@@ -137,7 +162,7 @@ impl Line<'_> {
     }
 
     /// Whether it is known of every move, before it is made, that it ends the game only where it leaves the other side
-    /// no legal move. No key is made: where some position may have stood twice it is not known.
+    /// no legal move. No key is made: where some position has stood twice it is not known.
     pub fn ends_by_stuck_alone(&self) -> bool
         ensures { OnTrue result (Lined.EndsByStuckAlone self.now) }
     {

@@ -1,7 +1,8 @@
 //! Keys counted by slots.
-ghost use Rattle.std.specs.Prelude.{◌≡◌, ℕ, ◌+◌, ◌%◌, ◌<◌, ◌≤◌, List, [], ◌∷◌, ◌++◌, length, slice_index, IfOk};
+ghost use Rattle.std.specs.Prelude.{◌≡◌, ℕ, ◌%◌, ◌==◌, ◌<◌, ◌≤◌, List, [], ◌∷◌, ◌++◌, length, take, slice_index, IfOk};
 ghost use Rattle.std.specs.Bool.{OnTrue};
-ghost use Rattle.game_line.specs.Slots.{AreCounts, AreSparse};
+ghost use Rattle.std.specs.List.{list_any};
+ghost use Rattle.game_line.specs.Slots.{key_times, AreApart, AreCounts};
 
 use foundation::Memory;
 use std::alloc::Global;
@@ -14,19 +15,16 @@ const SLOTS: usize = 4096;
 #[derive(Drop)]
 pub(crate) struct Slots {
     counts: Vec<u16>,
-    /// How many slots have more than one key.
-    crowded: u32,
 }
 
 impl Model for Slots {
     ghost use Rattle.std.specs.Prelude.{◌≡◌, ℕ, List, length};
-    ghost use Rattle.game_line.specs.Slots.{crowded_in};
 
     ghost Value = { List ℕ };
 
     ghost view = { λ s. s.counts.items };
 
-    ghost invariant = { λ s. (length s.counts.items ≡ 4096) × (s.crowded ≡ crowded_in s.counts.items) };
+    ghost invariant = { λ s. length s.counts.items ≡ 4096 };
 }
 
 fn slot_of(key: u64) -> usize
@@ -36,6 +34,13 @@ fn slot_of(key: u64) -> usize
     (key % SLOTS as u64) as usize
 }
 
+/// Whether the key is one of the keys.
+pub(crate) fn is_among(keys: &[u64], key: u64) -> bool
+    ensures { result ≡ list_any (λ k. k == key) keys.now }
+{
+    keys.contains(&key)
+}
+
 impl Slots {
     /// No key is in any slot.
     fn none(alloc: Global) -> Result<Slots, Memory>
@@ -43,7 +48,6 @@ impl Slots {
     {
         Ok(Slots {
             counts: vec![in alloc; 0; SLOTS]?,
-            crowded: 0,
         })
     }
 
@@ -66,11 +70,30 @@ impl Slots {
         self.counts[slot_of(key)]
     }
 
-    /// Whether no slot has more than one key.
-    pub fn are_sparse(&self) -> bool
-        ensures { OnTrue result (AreSparse self.now) }
+    /// Whether none of the keys before the one at the place is equal to it. They are looked at where its slot has more.
+    fn comes_first(&self, keys: &[u64], place: usize) -> bool
+        requires counts { AreCounts keys.now self.now }
+        requires there { place < length keys.now }
+        ensures { OnTrue result (key_times (slice_index keys.now place) (take place keys.now) ≡ 0) }
     {
-        self.crowded == 0
+        let key = keys[place];
+        if self.at(key) < 2 {
+            return true;
+        }
+        !is_among(&keys[..place], key)
+    }
+
+    /// Whether no two of the keys are equal, which are those that are counted.
+    pub fn keep_apart(&self, keys: &[u64]) -> bool
+        requires { AreCounts keys.now self.now }
+        ensures { OnTrue result (AreApart keys.now) }
+    {
+        for i in 0..keys.len() {
+            if !self.comes_first(keys, i) {
+                return false;
+            }
+        }
+        true
     }
 
     /// Counts a key.
@@ -80,13 +103,7 @@ impl Slots {
     {
         let slot = slot_of(key);
         let had = self.counts[slot];
-        let crowded = if had == 1 {
-            self.crowded + 1
-        } else {
-            self.crowded
-        };
         self.counts[slot] = had + 1;
-        self.crowded = crowded;
     }
 
     /// Takes the count of the last key back.
@@ -96,12 +113,6 @@ impl Slots {
     {
         let slot = slot_of(key);
         let had = self.counts[slot];
-        let crowded = if had == 2 {
-            self.crowded - 1
-        } else {
-            self.crowded
-        };
         self.counts[slot] = had - 1;
-        self.crowded = crowded;
     }
 }

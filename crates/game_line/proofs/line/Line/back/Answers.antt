@@ -2,8 +2,9 @@ use Rattle.std.proofs.Common.{◌≡◌, length, ap, arith}
 use Rattle.game_play.specs.Played.{story}
 use Rattle.game_line.specs.Lined.{Lined}
 use Rattle.game_line.proofs.HeldLemmas.{held-count, held-front}
-use Rattle.game_line.proofs.SlotLaws.{slots-back, slots-some}
+use Rattle.game_line.proofs.SlotLaws.{apart-back, slots-back, slots-some}
 use Rattle.game_line.proofs.line.Line.back.Goals as goal
+use Rattle.game_line.proofs.line.Line.back.Goals.{then-known-plies, else-known-plies}
 
 pub invariant_of-self : goal.invariant_of-self
 invariant_of-self c =
@@ -23,6 +24,14 @@ invariant_of-self c =
         for_keys = (let a = has.for_keys in let b = c.truncate-3.ensures.capacity in omega arith);
       },
       slots-back (story i.game.now) i.keys.items i.slots c.self.invariant.2 c.len-plies.result _ (omega arith) c.index.ensures _ _ c.truncate-3.ensures.items c.uncount.ensures,
+      elim c.if-known-plies.branch [
+        | then-known-plies w ↦
+            let over = w.if-known-plies.true in
+            rw w.apart-is (apart-back (story i.game.now) i.keys.items i.apart c.self.invariant.3 c.len-plies.result c.len-plies.result _ c.truncate-3.ensures.items (omega arith) (omega arith) (omega (arith, over)))
+        | else-known-plies w ↦
+            let most = w.if-known-plies.false in
+            rw w.apart-is (apart-back (story i.game.now) i.keys.items i.apart c.self.invariant.3 c.len-plies.result i.apart _ c.truncate-3.ensures.items (omega arith) (omega (arith, most)) (omega arith))
+      ],
     )
 
 pub uncount-requires : goal.uncount-requires

@@ -1,12 +1,15 @@
-use Rattle.std.proofs.Common.{◌≡◌, length, ap, sym, subst, arith, ◌∙◌}
+use Rattle.std.proofs.Common.{◌≡◌, ℕ, List, [], ◌∷◌, ◌++◌, length, ap, sym, subst, arith, ◌∙◌}
+use Rattle.std.proofs.lemmas.Bool.{OnTrue_at}
 use Rattle.foundation.specs.Member.{Member}
 use Rattle.game_play.specs.Played.{story}
 use Rattle.legality.specs.Stance.{Stance, after}
 use Rattle.legality.specs.Stance as Stance
 use Rattle.game_line.specs.Lined.{Lined}
+use Rattle.game_line.specs.Slots.{AreApart}
 use Rattle.game_line.proofs.HeldLemmas.{line-stance, line-legal, held-last, held-push, held-count}
-use Rattle.game_line.proofs.SlotLaws.{slots-few, slots-push}
+use Rattle.game_line.proofs.SlotLaws.{apart-more, apart-same, line-keys, slots-few, slots-push}
 use Rattle.game_line.proofs.line.Line.push.Goals as goal
+use Rattle.game_line.proofs.line.Line.push.Goals.{then-stays_apart, else-stays_apart}
 
 pub after-next-requires : goal.after-next-requires
 after-next-requires c =
@@ -57,6 +60,13 @@ invariant_of-self c =
         for_keys = (let a = has.for_keys in let b = c.push_reserved.ensures.capacity in omega arith);
       },
       slots-push (story i.game.now) i.keys.items i.slots c.self.invariant.2 c.key-key.result _ _ c.push_reserved.ensures.items c.count.ensures,
+      elim c.if-stays_apart.branch [
+        | then-stays_apart w ↦
+            let keys = line-keys i.game.now i.moves.items i.room i.boards.items i.keys.items i.slots held c.self.invariant.2 c.args.self.now c.self.view_is in
+            let apart = subst (λ (ks : List ℕ). AreApart (ks ++ c.key-key.result ∷ [])) keys (OnTrue_at w.if-stays_apart.true c.stays_apart.ensures) in
+            rw w.apart-is (apart-more (story i.game.now) i.keys.items c.key-key.result _ _ c.push_reserved.ensures.items (omega arith) apart)
+        | else-stays_apart w ↦ rw w.apart-is (apart-same (story i.game.now) i.keys.items i.apart c.self.invariant.3 c.key-key.result _ c.push_reserved.ensures.items)
+      ],
     )
 
 pub count-requires : goal.count-requires

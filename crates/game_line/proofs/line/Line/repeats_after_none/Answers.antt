@@ -1,6 +1,7 @@
 use Rattle.std.proofs.Common.{true, inl, inr, ap, sym, ◌∙◌, arith}
 use Rattle.std.proofs.lemmas.Bool.{OnTrue_at, OnTrue_from}
 use Rattle.rules_model.specs.declared.rules.Rules.{Rules}
+use Rattle.rules_model.specs.Games.{history}
 use Rattle.game_line.specs.Lined.{RepeatsAfterNone, story_of_line}
 use Rattle.game_line.proofs.OngoingLaws.{none_repeats}
 use Rattle.game_line.proofs.SlotLaws.{times-once}
@@ -13,9 +14,8 @@ returns-then-fold-eq0 c = OnTrue_from true (RepeatsAfterNone c.args.self.now) (�
 
 pub returns : goal.returns
 returns c = OnTrue_from _ (RepeatsAfterNone c.args.self.now) (λ told m.
-    let i = c.self.inside in
     let l = c.args.self.now in
-    let once = times-once i.game.now i.moves.items i.room i.boards.items i.keys.items i.slots c.self.invariant.0 c.self.invariant.2 l c.self.view_is (OnTrue_at told c.are_sparse.ensures) in
+    let apart = OnTrue_at told c.is_apart.ensures in
     let same = ap (λ (r : Rules). r.n_fold) c.rules.ensures in
     let three = c.if-fold-lt3.false in
-    none_repeats l.rules (story_of_line l) m (inr (omega (arith, same, three), once)))
+    none_repeats l.rules (story_of_line l) m (inr (omega (arith, same, three), λ r. times-once r (history (story_of_line l)) apart)))
