@@ -46,20 +46,20 @@ fn weighed(
 
 /// Asserts how many moves there are, and how many replies they are guessed to leave in all. White attacks and has two
 /// moves left, and one more where he is to move.
-fn expect_weighed(rt: &impl Abort, alloc: Global, p: &Position, moves: usize, replies: u32) {
+fn expect_weighed(rt: &impl Abort, alloc: Global, p: &Position, moves: u32, replies: u32) {
     let frame = frame_of(Vec::new(alloc));
     let tables = Tables::new(alloc, &frame.rules).expect(rt, "no fault");
     assert!(rt; sound(&frame.rules, p));
     let board = Board::new(&tables, p);
     let facts = FactTable::new(alloc, &frame, 0).expect(rt, "no fault");
-    let ones = moves as u32;
+    let many = moves as usize;
     let (n, sums) = if p.side.is(Side::White) {
-        (3, (moves, replies, ones))
+        (3, (many, replies, moves))
     } else {
-        (2, (moves, ones, replies))
+        (2, (many, moves, replies))
     };
     let found = weighed(rt, alloc, &board, n, &facts);
-    expect_eq(rt, found, (moves, replies, sums));
+    expect_eq(rt, found, (many, replies, sums));
 }
 
 /// The pieces, with Black to move.
