@@ -41,8 +41,8 @@ AreOwnPieces rules side cells pieces =
 abbrev pub AreOwnPawns : Rules → Side → List (Option Cell) → Set → Type 0
 AreOwnPawns rules side cells pawns = (s : ℕ) → has pawns s ≡ is_own_pawn rules side (cell_at cells s)
 
--- of each board whose sets the old ones are, and that agrees with this one outside the touched squares, the new ones are
--- those of this one
+-- of each board whose sets the old ones are, and that agrees with this one outside the touched squares: the new ones
+-- are those of this one
 abbrev pub AreSetsAfter : Rules → Side → Set → List (Option Cell) → BoardSets → BoardSets → Type 0
 AreSetsAfter rules side touched next old new =
     (before : List (Option Cell)) → AreSets rules side before old → AgreeOutside touched before next

@@ -43,11 +43,12 @@ pub record AreWithEnemy (rules : Rules) (old : BoardSets) (at : ℕ) (kind : Kin
   pub enemy_kings : IsWithIf old.enemy_kings at (is_king rules kind) new.enemy_kings
   pub pawns : IsWithIf old.pawns at (is_pawn rules kind) new.pawns
 
--- the set has the two squares that are written
+-- the square is the one that is left
 abbrev pub is_left : Option Square → ℕ → Bool
 is_left None s = false
 is_left (Some from) s = s == from.0
 
+-- the set has the squares that are written, and no other
 abbrev pub IsWritten : OnePut → Set → Type 0
 IsWritten put set = (s : ℕ) → has set s ≡ ((s == put.at.0) || is_left put.left s)
 

@@ -50,7 +50,7 @@ impl<'a> MoveSink for AnySink<'a> {
         self.see(m, false)
     }
 
-    /// Those are not looked at of which it is told at once whether they are chosen.
+    /// A move is looked at only where the sets do not say whether it is chosen.
     fn take_all(&mut self, from: Square, gate: Option<Kind>, targets: Set) -> Result<(), Found> {
         let told = self.move_filter.told_from(from, gate, targets);
         let mut left = told.worth(targets);
@@ -66,7 +66,7 @@ impl<'a> MoveSink for AnySink<'a> {
         Ok(())
     }
 
-    /// Those are not looked at of which it is told at once whether they are chosen.
+    /// A move is looked at only where the sets do not say whether it is chosen.
     fn take_shifted(&mut self, shift: Shift, targets: Set) -> Result<(), Found> {
         let told = self.move_filter.told_by(shift, targets);
         let mut left = told.worth(targets);
@@ -82,7 +82,7 @@ impl<'a> MoveSink for AnySink<'a> {
         Ok(())
     }
 
-    /// Those are not looked at of which it is told at once whether they are chosen.
+    /// A move is looked at only where the sets do not say whether it is chosen.
     fn take_drops(&mut self, kind: Kind, targets: Set) -> Result<(), Found> {
         let told = self.move_filter.told_drops(kind, targets);
         let mut left = told.worth(targets);

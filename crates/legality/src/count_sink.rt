@@ -66,7 +66,7 @@ impl<'a> MoveSink for CountSink<'a> {
         Ok(())
     }
 
-    /// Where it is told at once which of them are chosen, these are counted at once.
+    /// Where the sets say which of them are chosen, these are counted at once.
     fn take_all(&mut self, from: Square, gate: Option<Kind>, targets: Set) -> Result<(), ()> {
         if let Some(chosen) = self.move_filter.chosen_at_once(from, gate, targets) {
             self.count = self.count.saturating_add(u128::from(chosen.count()));
@@ -84,14 +84,14 @@ impl<'a> MoveSink for CountSink<'a> {
         Ok(())
     }
 
-    /// Those are counted at once of which it is told at once whether they are chosen.
+    /// Those of which the sets say whether they are chosen are counted at once.
     fn take_shifted(&mut self, shift: Shift, targets: Set) -> Result<(), ()> {
         let told = self.move_filter.told_by(shift, targets);
         self.count_told(shift, told);
         self.take_each(shift, targets.minus(told.targets))
     }
 
-    /// Those are counted at once of which it is told at once whether they are chosen.
+    /// Those of which the sets say whether they are chosen are counted at once.
     fn take_drops(&mut self, kind: Kind, targets: Set) -> Result<(), ()> {
         let told = self.move_filter.told_drops(kind, targets);
         self.count = self.count.saturating_add(u128::from(told.chosen.count()));

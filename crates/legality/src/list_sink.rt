@@ -47,7 +47,7 @@ impl<'a> MoveSink for ListSink<'a> {
         self.keep(m, false)
     }
 
-    /// Those are not looked at of which it is told at once whether they are chosen.
+    /// A move is looked at only where the sets do not say whether it is chosen.
     fn take_all(&mut self, from: Square, gate: Option<Kind>, targets: Set) -> Result<(), Memory> {
         let told = self.move_filter.told_from(from, gate, targets);
         let mut left = told.worth(targets);
@@ -63,7 +63,7 @@ impl<'a> MoveSink for ListSink<'a> {
         Ok(())
     }
 
-    /// Those are not looked at of which it is told at once whether they are chosen.
+    /// A move is looked at only where the sets do not say whether it is chosen.
     fn take_shifted(&mut self, shift: Shift, targets: Set) -> Result<(), Memory> {
         let told = self.move_filter.told_by(shift, targets);
         let mut left = told.worth(targets);
@@ -79,7 +79,7 @@ impl<'a> MoveSink for ListSink<'a> {
         Ok(())
     }
 
-    /// Those are not looked at of which it is told at once whether they are chosen.
+    /// A move is looked at only where the sets do not say whether it is chosen.
     fn take_drops(&mut self, kind: Kind, targets: Set) -> Result<(), Memory> {
         let told = self.move_filter.told_drops(kind, targets);
         let mut left = told.worth(targets);

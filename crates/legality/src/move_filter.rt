@@ -1,4 +1,4 @@
-//! Which of the candidates are wanted, and what is told of them at once.
+//! Which of the candidates are wanted, and what the sets say of them.
 ghost use Rattle.std.specs.Prelude.{◌≡◌, ◌<◌, ℕ, true, false, not, ◌&&◌, ◌||◌, IfSome};
 ghost use Rattle.std.specs.Bool.{OnTrue};
 ghost use Rattle.square_set.specs.Members.{has, length_of, HasOrigin};
@@ -95,7 +95,7 @@ impl GenType {
     }
 }
 
-/// Of the targets of moves, those of which it is told at once whether the moves are chosen.
+/// Of the targets of moves, those of which the sets say whether the moves are chosen.
 #[derive(Clone, Copy)]
 pub(crate) struct ToldTargets {
     pub targets: Set,
@@ -175,7 +175,7 @@ impl<'a> MoveFilter<'a> {
         }
     }
 
-    /// Whether it is told at once that all moves from the square to these, which are wanted, are chosen.
+    /// Whether the sets say that all moves from the square to these, which are wanted, are chosen.
     fn holds_all(&self, from: Square, gate: Option<Kind>, targets: Set) -> bool
         requires from { from.0 < 120 }
         requires targets { (s : ℕ) → has targets s ≡ true → s < 120 }
@@ -188,7 +188,7 @@ impl<'a> MoveFilter<'a> {
         }
     }
 
-    /// Whether it is told at once that no move from the square to these is chosen.
+    /// Whether the sets say that no move from the square to these is chosen.
     fn holds_none(&self, from: Square, gate: Option<Kind>, targets: Set) -> bool
         requires from { from.0 < 120 }
         requires targets { (s : ℕ) → has targets s ≡ true → s < 120 }
@@ -219,7 +219,7 @@ impl<'a> MoveFilter<'a> {
         }
     }
 
-    /// Of the targets, those to which the moves from the square are chosen, where this is told at once.
+    /// Of the targets, those to which the moves from the square are chosen, where the sets say so.
     pub fn chosen_at_once(&self, from: Square, gate: Option<Kind>, targets: Set) -> Option<Set>
         requires from { from.0 < 120 }
         requires targets { (s : ℕ) → has targets s ≡ true → s < 120 }
@@ -235,7 +235,7 @@ impl<'a> MoveFilter<'a> {
         self.chosen_of(from, gate, split.wanted)
     }
 
-    /// Which of the moves from the square to the targets are chosen, as far as this is told at once.
+    /// Which of the moves from the square to the targets are chosen, as far as the sets say.
     pub fn told_from(&self, from: Square, gate: Option<Kind>, targets: Set) -> ToldTargets
         requires from { from.0 < 120 }
         requires targets { (s : ℕ) → has targets s ≡ true → s < 120 }
@@ -252,7 +252,7 @@ impl<'a> MoveFilter<'a> {
         }
     }
 
-    /// Which of the moves by the shift to the targets are chosen, as far as this is told at once.
+    /// Which of the moves by the shift to the targets are chosen, as far as the sets say.
     pub fn told_by(&self, shift: Shift, targets: Set) -> ToldTargets
         requires length { length_of shift < 128 }
         requires targets { (s : ℕ) → has targets s ≡ true → s < 120 }
@@ -270,7 +270,7 @@ impl<'a> MoveFilter<'a> {
         }
     }
 
-    /// Which of the drops of the kind on the targets are chosen, as far as this is told at once: none, where only
+    /// Which of the drops of the kind on the targets are chosen, as far as the sets say: none, where only
     /// captures are wanted.
     pub fn told_drops(&self, kind: Kind, targets: Set) -> ToldTargets
         requires kind { kind.0 < 26 }

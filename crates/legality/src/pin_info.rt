@@ -39,7 +39,7 @@ pub(crate) struct PinInfo<'a> {
     pub free: UnpinnedSquares,
     /// The free squares, where the variant asks of a move no more than a safe king; else none.
     pub at_once: UnpinnedSquares,
-    /// The squares of own pieces, and that of en passant: what goes there is not told at once.
+    /// The squares of own pieces, and that of en passant: what goes there has to be looked at.
     pub barred: Set,
     /// The squares from which and to which pieces are known to evade no check: to none where no piece attacks a king.
     pub non_evading: NonEvadingSquares,
@@ -196,7 +196,7 @@ impl<'a> PinInfo<'a> {
         }
     }
 
-    /// Whether it is told at once that the move leaves a king attacked: a piece goes so and stays what it is, or one
+    /// Whether the sets say that the move leaves a king attacked: a piece goes so and stays what it is, or one
     /// other than a king is dropped.
     fn is_no_evasion(&self, m: &Move) -> bool
         requires { IsFitMove m.now }
@@ -221,7 +221,7 @@ impl<'a> PinInfo<'a> {
         }
     }
 
-    /// Whether it is told at once that a piece that goes from the square, and stays what it is, may go to each of these
+    /// Whether the sets say that a piece that goes from the square, and stays what it is, may go to each of these
     /// squares.
     pub fn lets_go(&self, from: Square, targets: Set) -> bool
         requires from { from.0 < 120 }
@@ -230,7 +230,7 @@ impl<'a> PinInfo<'a> {
         self.at_once.to_leave.has(from.0) && targets.and(self.barred).is_empty()
     }
 
-    /// Whether it is told at once that a piece that goes from the square, and stays what it is, may go to none of these
+    /// Whether the sets say that a piece that goes from the square, and stays what it is, may go to none of these
     /// squares.
     #[tactic(auto, using(crate::proofs::PinLaws::not_safe_not_sane))]
     pub fn bars_go(&self, from: Square, targets: Set) -> bool
@@ -240,7 +240,7 @@ impl<'a> PinInfo<'a> {
         self.non_evading.to_leave.has(from.0) && targets.minus(self.non_evading.to_enter).is_empty()
     }
 
-    /// Some of the targets, as far as is told at once: a piece that goes to one of them by the shift, and stays what it
+    /// Some of the targets, as far as the sets say: a piece that goes to one of them by the shift, and stays what it
     /// is, makes a sane move.
     pub fn lets_shift(&self, shift: Shift, targets: Set) -> Set
         requires length { length_of shift < 128 }
@@ -252,7 +252,7 @@ impl<'a> PinInfo<'a> {
         targets.and(led).minus(self.barred)
     }
 
-    /// Some of the targets, as far as is told at once: a piece that goes to one of them by the shift, and stays what it
+    /// Some of the targets, as far as the sets say: a piece that goes to one of them by the shift, and stays what it
     /// is, makes no sane move.
     pub fn bars_shift(&self, shift: Shift, targets: Set) -> Set
         requires length { length_of shift < 128 }
@@ -264,7 +264,7 @@ impl<'a> PinInfo<'a> {
         targets.and(self.non_evading.to_enter).and(led)
     }
 
-    /// Of the targets, those to which the king on the square may go, where this is told at once.
+    /// Of the targets, those to which the king on the square may go, where the sets say so.
     pub fn lets_king(&self, from: Square, targets: Set) -> Option<Set>
         requires from { from.0 < 120 }
         requires targets { (s : ℕ) → has targets s ≡ true → s < 120 }
@@ -274,7 +274,7 @@ impl<'a> PinInfo<'a> {
         king_at_once(self.tables, self.p, &self.sets, from, targets)
     }
 
-    /// Whether it is told at once that a piece that goes from the square, stays what it is and leaves a piece of the
+    /// Whether the sets say that a piece that goes from the square, stays what it is and leaves a piece of the
     /// kind behind, may go to each of these squares.
     pub fn lets_gate(&self, from: Square, kind: Kind, targets: Set) -> bool
         requires from { from.0 < 120 }
@@ -283,7 +283,7 @@ impl<'a> PinInfo<'a> {
         self.leaves_another(from, kind) && targets.minus(self.at_once.to_enter).is_empty()
     }
 
-    /// Whether it is told at once that a piece that goes from the square, stays what it is and leaves a piece of the
+    /// Whether the sets say that a piece that goes from the square, stays what it is and leaves a piece of the
     /// kind behind, may go to none of these squares.
     pub fn bars_gate(&self, from: Square, kind: Kind, targets: Set) -> bool
         requires from { from.0 < 120 }
@@ -307,7 +307,7 @@ impl<'a> PinInfo<'a> {
         names(self.tables.rules().king, kind)
     }
 
-    /// Some of the targets, as far as is told at once: a piece of the kind that is dropped on one of them makes a sane
+    /// Some of the targets, as far as the sets say: a piece of the kind that is dropped on one of them makes a sane
     /// move.
     pub fn lets_drop(&self, kind: Kind, targets: Set) -> Set
         ensures within { (s : ℕ) → has result s ≡ true → has targets s ≡ true }
@@ -319,7 +319,7 @@ impl<'a> PinInfo<'a> {
         targets.and(self.free.to_enter)
     }
 
-    /// Some of the targets, as far as is told at once: a piece of the kind that is dropped on one of them makes no sane
+    /// Some of the targets, as far as the sets say: a piece of the kind that is dropped on one of them makes no sane
     /// move.
     pub fn bars_drop(&self, kind: Kind, targets: Set) -> Set
         ensures within { (s : ℕ) → has result s ≡ true → has targets s ≡ true }

@@ -1,5 +1,5 @@
 -- What a move puts, where it puts one piece at most.
-use Rattle.std.proofs.Common.{◌≡◌, Bool, false, Option, Some, None, refl, ap}
+use Rattle.std.proofs.Common.{◌≡◌, false, Option, Some, None, refl, ap}
 use Rattle.std.specs.Prelude.{is_some, slice_set, if◌then◌else◌}
 use Rattle.rules_model.specs.declared.board.Kind.{Kind}
 use Rattle.rules_model.specs.declared.board.Repeat.{Repeat}

@@ -18,7 +18,6 @@ use Rattle.rules_model.specs.declared.moves.Promo.{Promo}
 use Rattle.rules_model.specs.declared.rules.Rules.{Rules}
 use Rattle.rules_model.specs.Castling.{rook_target}
 use Rattle.rules_model.specs.Next.{cells_after, castled, emptied, gated, hand_kind, hands_after, next, next_repeat, placed_kind, placed_on, take_into, taken, without_passed}
-use Rattle.rules_model.specs.Pawns.{behind, passes_by}
 use Rattle.rules_model.specs.Repeats.{repeat_of}
 use Rattle.rules_model.specs.Hands.{hand_of, in_hand, put_at_gate, with_hand}
 use Rattle.rules_model.specs.Sides.{other, side_index}
@@ -70,12 +69,6 @@ module _ (touched : Set) (before : List (Option Cell)) where
   agree-placed side (Some placed) cells member agree = agree-write cells placed.at.0 _ member agree
 
 module _ (touched : Set) (rules : Rules) (r : Repeat) where
-  pub agree-passed : (from to : Square) → passes_by rules r from to.0 ≡ true → IfSome (behind rules r.side to) (λ s. has touched s ≡ true) → AgreeOutside touched r.cells (without_passed rules r from to)
-  agree-passed from to passes member = rw passes (agree-emptied touched r.cells (behind rules r.side to) member)
-
-  pub agree-not_passed : (from to : Square) → passes_by rules r from to.0 ≡ false → AgreeOutside touched r.cells (without_passed rules r from to)
-  agree-not_passed from to passes = rw passes (agree-none touched r.cells)
-
   pub agree-go : (from to : Square) (promo : Promo) (gate : Option Kind) → has touched from.0 ≡ true → has touched to.0 ≡ true → AgreeOutside touched r.cells (without_passed rules r from to) → AgreeOutside touched r.cells (cells_after rules r (Go from to promo gate))
   unfolding cells_after
   agree-go from to promo gate left entered passed =

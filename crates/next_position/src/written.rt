@@ -31,8 +31,11 @@ pub struct Writes {
 /// One square that is left, where there is one, and then one on which this stands.
 #[derive(Clone, Copy)]
 pub struct OnePut {
+    /// The square that is left; None for a drop.
     pub left: Option<Square>,
+    /// The square on which something stands then.
     pub at: Square,
+    /// What stands on it.
     pub cell: Option<Cell>,
 }
 
@@ -157,7 +160,7 @@ pub fn touched(rules: &Rules, p: &Position, m: &Move) -> Writes
 }
 
 /// What the move does to the board, where it puts one piece at most, and takes none in passing. A castle puts two, and
-/// so may a gate.
+/// so may a gate. None tells nothing of the move.
 pub fn one_put(rules: &Rules, p: &Position, m: &Move) -> Option<OnePut>
     requires fit { IsFit rules.now }
     requires move_fits { IsFitMove m.now }

@@ -43,9 +43,6 @@ both-summed a b k l m e f = rw (e, f) (mod-add-mod a m (b % m) ∙ add-mod-mod a
 
 -- ---- one exchange after another
 
-pub no-exchange : (key a : ℕ) → IsExchanged key a a key
-no-exchange key a rest e = e
-
 -- in two places
 pub both-exchanged : (key mid new a b x y : ℕ) → IsExchanged key a b mid → IsExchanged mid x y new → IsExchanged key (a + x) (b + y) new
 both-exchanged key mid new a b x y first second rest e =

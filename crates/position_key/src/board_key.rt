@@ -47,8 +47,7 @@ impl BoardKey {
         board_key(&r.cells, &r.hands)
     }
 
-    /// The key of the next position, from that of the one before and what may have changed. No other square and no other
-    /// hand is looked at.
+    /// The key of the next position, from that of the one before and what may have changed. Nothing else is looked at.
     #[tactic(auto, unfolding(crate::specs::Key::board_key))]
     pub fn after(self, before: &Position, next: &Position, touched: Writes) -> BoardKey
         requires key { IsBoardKey self (repeat_of before.now) }

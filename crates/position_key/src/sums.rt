@@ -1,5 +1,5 @@
 //! The sums of words: those of a whole board and of whole hands, and how they change.
-ghost use Rattle.std.specs.Prelude.{◌≡◌, ◌+◌, ◌%◌, ◌^◌};
+ghost use Rattle.std.specs.Prelude.{◌≡◌, ◌%◌, ◌^◌};
 ghost use Rattle.rules_model.specs.Hands.{hand_of};
 ghost use Rattle.rules_model.specs.Sides.{other};
 ghost use Rattle.next_position.specs.Changed.{AgreeOutside};
