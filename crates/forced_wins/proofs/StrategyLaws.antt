@@ -71,7 +71,7 @@ module _ (rules : Rules) (a : Side) where
       counter = ap (λ (p : Position). p.counter) (behind-is g.last h.line) ∙ h.counter;
     }
 
-    pub unsettled : (n : ℕ) → AnyLines.IsUnsettled Position Repeat Move (seen_by rules a) n (as_any g) → IsUnsettled rules n g a
+    unfoldable pub unsettled : (n : ℕ) → AnyLines.IsUnsettled Position Repeat Move (seen_by rules a) n (as_any g) → IsUnsettled rules n g a
     unsettled n h =
         let counted = h.counted in
         let near = h.close in
