@@ -7,7 +7,7 @@ ghost use Rattle.mate_search.specs.Handed.{AreHandedBack};
 ghost use Rattle.mate_search.specs.Races.{IsLent, IsReady, race_lines, root_lines};
 
 use crate::race::{Race, RootTask};
-use crate::shared::Outcome;
+use crate::shared::RootFinding;
 use crate::solving::room_for;
 use crate::tree_round::grow_tree;
 use io_ports::Gate;
@@ -36,7 +36,7 @@ fn settle_next<R: Wait, W: Watch, G>(
     passes: &mut Passes,
     facts: &mut FactTable,
     watch: &mut W,
-) -> Result<Outcome, Halt>
+) -> Result<RootFinding, Halt>
     requires rules { next.now.rules ≡ facts.old.rules }
     requires frame { facts.old ≡ race.now.shards.now.frame }
     requires passes { ArePassesOf race.now.shards.now passes.old }
@@ -51,14 +51,14 @@ fn settle_next<R: Wait, W: Watch, G>(
     let shards = race.shards;
     let p = next.position();
     if let Some(known) = shards.look_by_key(rt, passes, p, next.board_key(), task.left) {
-        return Ok(Outcome {
+        return Ok(RootFinding {
             decides: known.wins == task.attacking,
             published: true,
         });
     }
     let fact = settle(race.alloc, next, task.left, facts, watch)?;
     let published = shards.publish_by_key(rt, passes, p, next.board_key(), Claim::of(&fact));
-    Ok(Outcome {
+    Ok(RootFinding {
         decides: fact.wins == task.attacking,
         published: !matches!(published, Published::Full),
     })

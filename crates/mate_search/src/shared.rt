@@ -6,7 +6,7 @@ use watching::{MoveMarks, Round, StopFlag};
 
 /// What a worker found of a root move: whether it decides the root, and whether the shards tell all workers so.
 #[derive(Clone, Copy)]
-pub(crate) struct Outcome {
+pub(crate) struct RootFinding {
     pub decides: bool,
     pub published: bool,
 }
@@ -53,7 +53,7 @@ impl Shared {
     /// The worker of this number has settled the root move. The race is over where it decides the root, and where no
     /// other is left. What a worker beside the first has found counts only where the first can learn it from the
     /// shards.
-    pub fn tell(&self, i: usize, outcome: Outcome, number: u32) {
+    pub fn tell(&self, i: usize, outcome: RootFinding, number: u32) {
         if number != 0 && !outcome.published {
             return;
         }

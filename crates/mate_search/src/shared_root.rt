@@ -16,7 +16,7 @@ use mate_core::{Fact, Frame};
 use mate_fact::is_blocked;
 use mate_settle::FactTable;
 use mate_shards::{Passes, Shards};
-use mate_showing::Verdict;
+use mate_showing::Decision;
 use playing::Board;
 use rules_model::{Position, repeat_of};
 use std::sync::Wait;
@@ -47,7 +47,7 @@ pub(crate) fn is_refuted<R: Wait>(
 }
 
 /// What is known of the position: that it is won within n moves, or that it is not.
-fn fact_on(frame: &Frame, p: &Position, n: u16, verdict: Verdict) -> Fact
+fn fact_on(frame: &Frame, p: &Position, n: u16, verdict: Decision) -> Fact
     requires { near_in frame.now n p.now ≡ verdict.won }
     ensures is { result ≡ Facts.fact_of p.now frame.now.attacker n verdict.best verdict.won }
     ensures truth { IsTrueIn frame.now result }
@@ -72,7 +72,7 @@ pub(crate) fn publish_root<R: Wait>(
     game: &Game,
     board: &Board,
     n: u16,
-    verdict: Verdict,
+    verdict: Decision,
     facts: &mut FactTable,
 )
     requires frame { IsFrameOf game.now shards.now.frame }

@@ -12,4 +12,4 @@ mod solving;
 
 pub use answer::Settled;
 pub use ordering::to_front;
-pub use solving::{Verdict, decide, show};
+pub use solving::{Decision, decide, show};

@@ -29,7 +29,7 @@ use watching::{Halt, Watch};
 
 /// Whether a game is won by the attacker.
 #[derive(Clone, Copy)]
-pub struct Verdict {
+pub struct Decision {
     pub won: bool,
     /// A move that wins. There is none where the game is not won or has ended, nor where the defender is to move.
     pub best: Option<Move>,
@@ -49,7 +49,7 @@ pub fn decide<W: Watch>(
     first: Option<Move>,
     facts: &mut FactTable,
     watch: &mut W,
-) -> Result<Verdict, Halt>
+) -> Result<Decision, Halt>
     requires frame { IsFrameOf game.now facts.old }
     requires board { board.now ≡ record { rules = game.now.rules; position = (story game.now).last } }
     requires some { 0 < n }
@@ -64,19 +64,19 @@ pub fn decide<W: Watch>(
 {
     let frame = facts.frame();
     if let Some(won) = won_by(frame.attacker, game.outcome()) {
-        return Ok(Verdict { won, best: None });
+        return Ok(Decision { won, best: None });
     }
     let order = moves_from(alloc, board, n, facts, first)?;
     if board.position().side.is(frame.attacker) {
         match choose(alloc, board, &order, n, facts, watch)? {
             Some(choice) => {
-                return Ok(Verdict {
+                return Ok(Decision {
                     won: true,
                     best: Some(choice.chosen),
                 });
             }
             None => {
-                return Ok(Verdict {
+                return Ok(Decision {
                     won: false,
                     best: None,
                 });
@@ -84,7 +84,7 @@ pub fn decide<W: Watch>(
         }
     }
     let won = all_won(alloc, board, &order, n, facts, watch)?;
-    Ok(Verdict { won, best: None })
+    Ok(Decision { won, best: None })
 }
 
 /// The plan for a win of the game, whose last position the board has, within n moves.

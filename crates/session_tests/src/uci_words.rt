@@ -7,8 +7,8 @@ use rules_model::{Move, Side};
 use std::alloc::Global;
 use std::process::Abort;
 use uci_lines::{
-    Go, Kind, Placing, Setting, is_held, joined, last_depth, last_mate, number, read_go, read_line,
-    read_placing, read_setting, roots_of, share_of, time_for, words_in,
+    CommandKind, Go, Placing, Setting, is_held, joined, last_depth, last_mate, number, read_go,
+    read_line, read_placing, read_setting, roots_of, share_of, time_for, words_in,
 };
 
 // The `go` of a line.
@@ -35,7 +35,7 @@ fn shown(setting: &Setting) -> (&'static str, Option<&Text>) {
 }
 
 /// Asserts the command of a line, and the words after that, joined again.
-fn expect(rt: &impl Abort, alloc: Global, line: &str, want: Kind, rest: &str) {
+fn expect(rt: &impl Abort, alloc: Global, line: &str, want: CommandKind, rest: &str) {
     let (kind, after) = read_line(Got::Line, line.as_bytes());
     assert!(rt; kind == want, "{line}");
     let words = words_in(alloc, after)
@@ -50,34 +50,46 @@ fn expect(rt: &impl Abort, alloc: Global, line: &str, want: Kind, rest: &str) {
 #[test]
 fn commands(rt: HostRuntime) {
     let alloc = rt.alloc();
-    expect(&rt, alloc, "uci", Kind::Uci, "");
-    expect(&rt, alloc, " \t isready now", Kind::IsReady, "now");
-    expect(&rt, alloc, "ucinewgame", Kind::NewGame, "");
+    expect(&rt, alloc, "uci", CommandKind::Uci, "");
+    expect(&rt, alloc, " \t isready now", CommandKind::IsReady, "now");
+    expect(&rt, alloc, "ucinewgame", CommandKind::NewGame, "");
     let option = "setoption name Hash  value\t7";
-    expect(&rt, alloc, option, Kind::SetOption, "name Hash value 7");
-    expect(&rt, alloc, "position startpos", Kind::Position, "startpos");
-    expect(&rt, alloc, "please go depth 3", Kind::Go, "depth 3");
-    expect(&rt, alloc, "stop", Kind::Stop, "");
-    expect(&rt, alloc, "ponderhit", Kind::Stop, "");
+    expect(
+        &rt,
+        alloc,
+        option,
+        CommandKind::SetOption,
+        "name Hash value 7",
+    );
+    expect(
+        &rt,
+        alloc,
+        "position startpos",
+        CommandKind::Position,
+        "startpos",
+    );
+    expect(&rt, alloc, "please go depth 3", CommandKind::Go, "depth 3");
+    expect(&rt, alloc, "stop", CommandKind::Stop, "");
+    expect(&rt, alloc, "ponderhit", CommandKind::Stop, "");
 }
 
 #[test]
 fn other_commands(rt: HostRuntime) {
     let alloc = rt.alloc();
-    expect(&rt, alloc, "debug on", Kind::Idle, "on");
-    expect(&rt, alloc, "register later", Kind::Idle, "later");
-    expect(&rt, alloc, "moves status", Kind::Moves, "status");
-    expect(&rt, alloc, "status", Kind::Status, "");
-    expect(&rt, alloc, "strategy", Kind::Strategy, "");
-    expect(&rt, alloc, "x quit y", Kind::Quit, "y");
-    expect(&rt, alloc, "QUIT", Kind::Idle, "");
-    expect(&rt, alloc, "", Kind::Idle, "");
+    expect(&rt, alloc, "debug on", CommandKind::Idle, "on");
+    expect(&rt, alloc, "register later", CommandKind::Idle, "later");
+    expect(&rt, alloc, "moves status", CommandKind::Moves, "status");
+    expect(&rt, alloc, "status", CommandKind::Status, "");
+    expect(&rt, alloc, "strategy", CommandKind::Strategy, "");
+    expect(&rt, alloc, "x quit y", CommandKind::Quit, "y");
+    expect(&rt, alloc, "QUIT", CommandKind::Idle, "");
+    expect(&rt, alloc, "", CommandKind::Idle, "");
 }
 
 #[test]
 fn a_long_line(rt: HostRuntime) {
     let (kind, _rest) = read_line(Got::TooLong, b"quit");
-    assert!(rt; kind == Kind::TooLong);
+    assert!(rt; kind == CommandKind::TooLong);
 }
 
 /// Asserts the last depth of a `go`, and the share of each of four workers.

@@ -27,8 +27,8 @@ use Rattle.session_model.specs.Lines.{got_line}
 use Rattle.session_model.specs.Turned.{Served, Unserved, turn_of}
 use Rattle.uci_front.proofs.PlainLemmas.{plain_lines, plain_opened, plain_readings, plain_written}
 use Rattle.uci_front.specs.Plain.{Answering, IsNamedRead, plain_events, saying, text_said}
-use Rattle.uci_lines.specs.declared.line.Kind.{Kind}
-use Rattle.uci_lines.specs.declared.line.Kind.TheVariants as kind
+use Rattle.uci_lines.specs.declared.line.CommandKind.{CommandKind}
+use Rattle.uci_lines.specs.declared.line.CommandKind.TheVariants as kind
 use Rattle.uci_lines.specs.View.{command_with, line_got}
 use Rattle.watching.specs.Events.{Event, Opens}
 
@@ -39,12 +39,12 @@ line_is got.TooLong text = refl
 line_is got.End text = refl
 line_is got.Failed text = refl
 
-abbrev pub is_quit_kind : Kind → Bool
+abbrev pub is_quit_kind : CommandKind → Bool
 is_quit_kind kind.Quit = true
 is_quit_kind k = false
 
 -- the kind of a line that ends the session
-pub quit_is : (kind : Kind) (words : List (List ℕ)) → is_quit (command_with kind words) ≡ is_quit_kind kind
+pub quit_is : (kind : CommandKind) (words : List (List ℕ)) → is_quit (command_with kind words) ≡ is_quit_kind kind
 quit_is kind.Uci words = refl
 quit_is kind.IsReady words = refl
 quit_is kind.NewGame words = refl

@@ -15,8 +15,8 @@ use Rattle.session_model.specs.UciState.{State, file_named}
 use Rattle.session_model.specs.UciTexts.{error_line}
 use Rattle.uci_front.specs.declared.refusal.Refusal.{Refusal}
 use Rattle.uci_front.specs.declared.refusal.Refusal.TheVariants.{Fault, Memory}
-use Rattle.uci_lines.specs.declared.line.Kind.{Kind}
-use Rattle.uci_lines.specs.declared.line.Kind.TheVariants as kind
+use Rattle.uci_lines.specs.declared.line.CommandKind.{CommandKind}
+use Rattle.uci_lines.specs.declared.line.CommandKind.TheVariants as kind
 use Rattle.watching.specs.Events.{Event, Says, Opens}
 
 -- the file that a setting reads, where it reads one
@@ -25,13 +25,13 @@ file_of (line.VariantPath value) = file_named value
 file_of setting = None
 
 -- neither `go` nor `quit`
-abbrev pub IsPlainKind : Kind → Type 0
+abbrev pub IsPlainKind : CommandKind → Type 0
 IsPlainKind kind.Go = ⊥
 IsPlainKind kind.Quit = ⊥
 IsPlainKind k = Unit {0}
 
 -- nor does it read a file
-abbrev pub IsAtOnce : Kind → Type 0
+abbrev pub IsAtOnce : CommandKind → Type 0
 IsAtOnce kind.SetOption = ⊥
 IsAtOnce k = IsPlainKind k
 

@@ -15,14 +15,14 @@ use io_ports::{Clock, Files, Gate, Got, LineBuf, SearchFault, Sink, Source};
 use std::alloc::Global;
 use std::sync::Wait;
 use std::thread::Threads;
-use uci_lines::{Kind, read_line};
+use uci_lines::{CommandKind, read_line};
 
 /// Whether the line ends the session.
 pub(crate) fn quits(next: Got, line: &LineBuf) -> bool
     ensures { result ≡ uci.quits (got_line next line.now) }
 {
     let (kind, _) = read_line(next, line.text());
-    matches!(kind, Kind::Quit)
+    matches!(kind, CommandKind::Quit)
 }
 
 /// Answers a line that does not end the session, and takes the next line, which a search may have heard already.
@@ -66,7 +66,7 @@ where
 {
     let (kind, rest) = read_line(next, line.text());
     match kind {
-        Kind::Go => {
+        CommandKind::Go => {
             let plan = read_plan(alloc, session, rest)?;
             answer_go(rt, alloc, session, &plan, source, sink, clock, gate, line)
         }

@@ -15,7 +15,7 @@ use game_text::{moves_of, status_of};
 use io_ports::{Dialect, Files, too_long_answer};
 use session_model::options::NO_FILE;
 use std::alloc::Global;
-use uci_lines::{Kind, Setting, read_placing, read_setting, words_in};
+use uci_lines::{CommandKind, Setting, read_placing, read_setting, words_in};
 use variant_rules::{NoSections, read_sections};
 
 // Loads the sections that are built in and those of a file, and sets chess.
@@ -84,7 +84,7 @@ fn answer_option<F: Files>(
     rest: Option<&[u8]>,
 ) -> Result<Option<Text>, Memory>
     ensures { Looked (Reads F.contents F.faults files.old files.new)
-        (λ reads. Plainly session.old session.new (command_with Kind.SetOption (words_said rest.entry)) reads result) }
+        (λ reads. Plainly session.old session.new (command_with CommandKind.SetOption (words_said rest.entry)) reads result) }
 {
     let words = words_in(alloc, rest)?;
     let setting = read_setting(alloc, &words)?;
@@ -98,7 +98,7 @@ fn answer_position(
     session: &mut UciSession,
     rest: Option<&[u8]>,
 ) -> Result<Option<Text>, Memory>
-    ensures { Plainly session.old session.new (command_with Kind.Position (words_said rest.entry)) [] result }
+    ensures { Plainly session.old session.new (command_with CommandKind.Position (words_said rest.entry)) [] result }
 {
     let words = words_in(alloc, rest)?;
     let placing = read_placing(alloc, &words)?;
@@ -117,26 +117,26 @@ fn copy_of(alloc: Global, bytes: &[u8]) -> Result<Text, Memory>
 fn answer_at_once(
     alloc: Global,
     session: &mut UciSession,
-    kind: Kind,
+    kind: CommandKind,
     rest: Option<&[u8]>,
 ) -> Result<Option<Text>, Memory>
     requires { IsAtOnce kind }
     ensures { Plainly session.old session.new (command_with kind (words_said rest.entry)) [] result }
 {
     match kind {
-        Kind::Uci => Ok(Some(session.uci_text(alloc)?)),
-        Kind::IsReady => Ok(Some(copy_of(alloc, READY)?)),
-        Kind::NewGame => {
+        CommandKind::Uci => Ok(Some(session.uci_text(alloc)?)),
+        CommandKind::IsReady => Ok(Some(copy_of(alloc, READY)?)),
+        CommandKind::NewGame => {
             session.new_game(alloc)?;
             Ok(None)
         }
-        Kind::Position => answer_position(alloc, session, rest),
-        Kind::Stop | Kind::Idle => Ok(None),
-        Kind::Moves => Ok(Some(moves_of(alloc, session.game())?)),
-        Kind::Status => Ok(Some(status_of(alloc, session.game())?)),
-        Kind::Strategy => Ok(Some(session.strategy_text(alloc)?)),
-        Kind::TooLong => Ok(Some(copy_of(alloc, too_long_answer(Dialect::Uci))?)),
-        Kind::SetOption | Kind::Go | Kind::Quit => unreachable!(),
+        CommandKind::Position => answer_position(alloc, session, rest),
+        CommandKind::Stop | CommandKind::Idle => Ok(None),
+        CommandKind::Moves => Ok(Some(moves_of(alloc, session.game())?)),
+        CommandKind::Status => Ok(Some(status_of(alloc, session.game())?)),
+        CommandKind::Strategy => Ok(Some(session.strategy_text(alloc)?)),
+        CommandKind::TooLong => Ok(Some(copy_of(alloc, too_long_answer(Dialect::Uci))?)),
+        CommandKind::SetOption | CommandKind::Go | CommandKind::Quit => unreachable!(),
     }
 }
 
@@ -145,7 +145,7 @@ pub(crate) fn answer_plain<F: Files>(
     alloc: Global,
     session: &mut UciSession,
     files: &mut F,
-    kind: Kind,
+    kind: CommandKind,
     rest: Option<&[u8]>,
 ) -> Result<Option<Text>, Memory>
     requires { IsPlainKind kind }
@@ -153,7 +153,7 @@ pub(crate) fn answer_plain<F: Files>(
         (λ reads. Plainly session.old session.new (command_with kind (words_said rest.entry)) reads result) }
 {
     match kind {
-        Kind::SetOption => answer_option(alloc, session, files, rest),
+        CommandKind::SetOption => answer_option(alloc, session, files, rest),
         _ => answer_at_once(alloc, session, kind, rest),
     }
 }

@@ -11,8 +11,8 @@ use Rattle.session_model.specs.UciGo.{go_of}
 use Rattle.session_model.specs.UciLines as UciLines
 use Rattle.session_model.specs.UciLines.{Command, placing_of, setting_of}
 use Rattle.session_model.specs.UciWords.{Word}
-use Rattle.uci_lines.specs.declared.line.Kind.{Kind}
-use Rattle.uci_lines.specs.declared.line.Kind.TheVariants as kind
+use Rattle.uci_lines.specs.declared.line.CommandKind.{CommandKind}
+use Rattle.uci_lines.specs.declared.line.CommandKind.TheVariants as kind
 
 -- the texts of words
 abbrev pub texts : List (Bor (List ℕ)) → List Word
@@ -25,7 +25,7 @@ line_got got.TooLong text = lines.TooLong
 line_got got.End text = lines.TooLong
 line_got got.Failed text = lines.TooLong
 
-abbrev pub kind_named : UciWord → Kind
+abbrev pub kind_named : UciWord → CommandKind
 kind_named word.Uci = kind.Uci
 kind_named word.IsReady = kind.IsReady
 kind_named word.UciNewGame = kind.NewGame
@@ -42,7 +42,7 @@ kind_named word.Strategy = kind.Strategy
 kind_named word.Quit = kind.Quit
 
 -- the command of a kind, with the words after its word
-abbrev pub command_with : Kind → List Word → Command
+abbrev pub command_with : CommandKind → List Word → Command
 command_with kind.Uci words = UciLines.Uci
 command_with kind.IsReady words = UciLines.IsReady
 command_with kind.NewGame words = UciLines.NewGame

@@ -11,7 +11,7 @@ mod words;
 
 pub use go_words::{Go, read_go};
 pub use limits::{allowance, is_held, last_depth, last_mate, roots_of, share_of, time_for};
-pub use line::{Kind, read_line};
+pub use line::{CommandKind, read_line};
 pub use numbers::number;
 pub use setting::{Placing, Setting, read_placing, read_setting};
 pub use words::{joined, joined_by, words_in};

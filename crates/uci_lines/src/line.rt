@@ -11,7 +11,7 @@ use io_ports::{Got, UciWord, find_command};
 
 /// What a line asks, but for what the words after its command say.
 #[derive(Clone, Copy, PartialEq, Eq)]
-pub enum Kind {
+pub enum CommandKind {
     Uci,
     IsReady,
     NewGame,
@@ -30,38 +30,38 @@ pub enum Kind {
     TooLong,
 }
 
-fn kind_named(word: UciWord) -> Kind
+fn kind_named(word: UciWord) -> CommandKind
     ensures { result ≡ kind_named word }
 {
     match word {
-        UciWord::Uci => Kind::Uci,
-        UciWord::IsReady => Kind::IsReady,
-        UciWord::UciNewGame => Kind::NewGame,
-        UciWord::SetOption => Kind::SetOption,
-        UciWord::Position => Kind::Position,
-        UciWord::Go => Kind::Go,
-        UciWord::Stop => Kind::Stop,
-        UciWord::PonderHit => Kind::Stop,
-        UciWord::Debug => Kind::Idle,
-        UciWord::Register => Kind::Idle,
-        UciWord::Moves => Kind::Moves,
-        UciWord::Status => Kind::Status,
-        UciWord::Strategy => Kind::Strategy,
-        UciWord::Quit => Kind::Quit,
+        UciWord::Uci => CommandKind::Uci,
+        UciWord::IsReady => CommandKind::IsReady,
+        UciWord::UciNewGame => CommandKind::NewGame,
+        UciWord::SetOption => CommandKind::SetOption,
+        UciWord::Position => CommandKind::Position,
+        UciWord::Go => CommandKind::Go,
+        UciWord::Stop => CommandKind::Stop,
+        UciWord::PonderHit => CommandKind::Stop,
+        UciWord::Debug => CommandKind::Idle,
+        UciWord::Register => CommandKind::Idle,
+        UciWord::Moves => CommandKind::Moves,
+        UciWord::Status => CommandKind::Status,
+        UciWord::Strategy => CommandKind::Strategy,
+        UciWord::Quit => CommandKind::Quit,
     }
 }
 
 /// The command of the line that was taken, and the text after its command word, where the line goes on. What stands
 /// before the command word is skipped.
-pub fn read_line<'a>(next: Got, line: &'a [u8]) -> (Kind, Option<&'a [u8]>)
+pub fn read_line<'a>(next: Got, line: &'a [u8]) -> (CommandKind, Option<&'a [u8]>)
     ensures { command_with result.0 (filter is_word (parts_after is_blank (option_copied result.1)))
         ≡ command_of (line_got next line.now) }
 {
     match next {
         Got::Line => match find_command(line) {
             Some((word, after)) => (kind_named(word), after),
-            None => (Kind::Idle, None),
+            None => (CommandKind::Idle, None),
         },
-        Got::TooLong | Got::End | Got::Failed => (Kind::TooLong, None),
+        Got::TooLong | Got::End | Got::Failed => (CommandKind::TooLong, None),
     }
 }
